@@ -1,0 +1,176 @@
+-- Verdicts on small instances, decided by computing: each test, where it is true, gives the fact.
+use Rattle.std.proofs.Common.{◌≡◌, ℕ, zero, suc, ◌<◌, inl, inr, Bool, true, not, ◌&&◌, ◌||◌, eqb}
+use Rattle.std.proofs.Common.{ltb, leb, List, [], length, slice_index_or, refl, sym, ap, arith}
+use Rattle.std.proofs.lemmas.Bool.{and_parts, or_cases, not-true, both_ways, leb-true, eqb-true, eqb-false, lt-ltb}
+use Rattle.std.proofs.lemmas.Bool.{eq-eqb, and_from, or_left, or_right, cases_eq, cases_lt}
+use Rattle.std.proofs.lemmas.List.{get_or_past}
+use Rattle.shop_model.specs.Shop.{Shop, ShopJob, Starts, no_job, route_of, machine_of, finish_of, IsOperation}
+use Rattle.shop_model.specs.Shop.{IsFeasible}
+use Rattle.shop_model.specs.Checking.{HasShape, earliest_of, NoneEarly, IsBefore, AreApart, IsFirstEarly}
+use Rattle.shop_model.specs.Checking.{IsFirstOverlap}
+use Rattle.shop_model.proofs.Ends.{IsOperation-job, feasible_from}
+
+-- p holds of each number below n
+abbrev pub each_below : ℕ → (ℕ → Bool) → Bool
+each_below zero p = true
+each_below (suc n) p = each_below n p && p n
+
+each_below-true : (n : ℕ) (p : ℕ → Bool) (i : ℕ) → each_below n p ≡ true → i < n → p i ≡ true
+each_below-true zero p i h below = absurd (omega arith)
+each_below-true (suc n) p i h below = let both = and_parts (each_below n p) (p n) h in elim (cases_eq i n) [
+  | inl e ↦ rw e both.1
+  | inr ne ↦ each_below-true n p i both.0 (omega arith)
+]
+
+-- p holds of each operation
+abbrev pub each_operation : Shop → (ℕ → ℕ → Bool) → Bool
+each_operation shop p = each_below (length shop.jobs) (λ j. each_below (length (route_of shop j)) (λ k. p j k))
+
+each_operation-true : (shop : Shop) (p : ℕ → ℕ → Bool) (j k : ℕ) → each_operation shop p ≡ true → IsOperation shop j k
+    → p j k ≡ true
+each_operation-true shop p j k h op =
+    each_below-true (length (route_of shop j)) (λ k. p j k) k
+    (each_below-true (length shop.jobs) (λ j. each_below (length (route_of shop j)) (λ k. p j k)) j h
+    (IsOperation-job shop j k op)) op
+
+-- (j, k) begins in time; two operations are apart; one stands before the other
+abbrev pub is_in_time : Shop → Starts → ℕ → ℕ → Bool
+is_in_time shop starts j k = leb (earliest_of shop starts j k) (starts j k)
+
+abbrev pub are_apart : Shop → Starts → ℕ → ℕ → ℕ → ℕ → Bool
+are_apart shop starts j k i l =
+    not (eqb (machine_of shop j k) (machine_of shop i l))
+    || (leb (finish_of shop starts j k) (starts i l) || leb (finish_of shop starts i l) (starts j k))
+
+abbrev pub is_before : ℕ → ℕ → ℕ → ℕ → Bool
+is_before j k i l = ltb j i || (eqb j i && ltb k l)
+
+abbrev pub is_same : ℕ → ℕ → ℕ → ℕ → Bool
+is_same j k i l = eqb j i && eqb k l
+
+are_apart-true : (shop : Shop) (starts : Starts) (j k i l : ℕ) → are_apart shop starts j k i l ≡ true
+    → AreApart shop starts j k i l
+are_apart-true shop starts j k i l h e =
+    elim (or_cases (not (eqb (machine_of shop j k) (machine_of shop i l)))
+    (leb (finish_of shop starts j k) (starts i l) || leb (finish_of shop starts i l) (starts j k)) h) [
+      | inl other ↦ absurd (eqb-false (machine_of shop j k) (machine_of shop i l)
+          (not-true (eqb (machine_of shop j k) (machine_of shop i l)) other) e)
+      | inr clear ↦ elim (or_cases (leb (finish_of shop starts j k) (starts i l))
+          (leb (finish_of shop starts i l) (starts j k)) clear) [
+            | inl a ↦ inl (leb-true (finish_of shop starts j k) (starts i l) a)
+            | inr b ↦ inr (leb-true (finish_of shop starts i l) (starts j k) b)
+          ]
+    ]
+
+is_before-true : (j k i l : ℕ) → IsBefore j k i l → is_before j k i l ≡ true
+is_before-true j k i l before = elim before [
+  | inl h ↦ or_left (ltb j i) (eqb j i && ltb k l) (lt-ltb j i h)
+  | inr h ↦ or_right (ltb j i) (eqb j i && ltb k l) (and_from (eqb j i) (ltb k l) (eq-eqb j i h.0) (lt-ltb k l h.1))
+]
+
+-- what is no case, or is true
+unless : (a b : Bool) → (not a || b) ≡ true → a ≡ true → b ≡ true
+unless a b h is = elim (or_cases (not a) b h) [ inl other ↦ absurd (both_ways a (not-true a other) is) | inr so ↦ so ]
+
+-- the rows have the instance's shape
+abbrev pub has_shape : Shop → List (List ℕ) → Bool
+has_shape shop rows = eqb (length rows) (length shop.jobs)
+    && each_below (length shop.jobs) (λ j. eqb (length (slice_index_or rows j [])) (length (route_of shop j)))
+
+pub shape_by_test : (shop : Shop) (rows : List (List ℕ)) → has_shape shop rows ≡ true → HasShape shop rows
+shape_by_test shop rows h =
+    let both = and_parts (eqb (length rows) (length shop.jobs))
+    (each_below (length shop.jobs) (λ j. eqb (length (slice_index_or rows j [])) (length (route_of shop j)))) h
+    in let many = eqb-true (length rows) (length shop.jobs) both.0
+    in record {
+      jobs = many;
+      steps = λ j. elim (cases_lt j (length shop.jobs)) [
+        | inl below ↦ eqb-true (length (slice_index_or rows j [])) (length (route_of shop j))
+            (each_below-true (length shop.jobs)
+            (λ j. eqb (length (slice_index_or rows j [])) (length (route_of shop j))) j both.1 below)
+        | inr past ↦ rw (get_or_past rows j [] (omega arith))
+            (sym (ap (λ (x : ShopJob). length x.route) (get_or_past shop.jobs j no_job past)))
+      ];
+    }
+
+-- no operation begins too early
+pub in_time_by_test : (shop : Shop) (starts : Starts) → each_operation shop (is_in_time shop starts) ≡ true
+    → NoneEarly shop starts
+in_time_by_test shop starts h j k op =
+    leb-true (earliest_of shop starts j k) (starts j k) (each_operation-true shop (is_in_time shop starts) j k h op)
+
+-- of any two different operations one is apart from the other
+abbrev pub all_apart : Shop → Starts → Bool
+all_apart shop starts = each_operation shop
+    (λ j k. each_operation shop (λ i l. is_same j k i l || are_apart shop starts j k i l))
+
+pub feasible_by_test : (shop : Shop) (starts : Starts) → each_operation shop (is_in_time shop starts) ≡ true
+    → all_apart shop starts ≡ true → IsFeasible shop starts
+feasible_by_test shop starts early apart = feasible_from shop starts (in_time_by_test shop starts early)
+    (λ j k i l op other e different.
+    let pair = each_operation-true shop (λ i l. is_same j k i l || are_apart shop starts j k i l) i l
+    (each_operation-true shop (λ j k. each_operation shop
+    (λ i l. is_same j k i l || are_apart shop starts j k i l)) j k apart op) other
+    in elim (or_cases (is_same j k i l) (are_apart shop starts j k i l) pair) [
+      | inl same ↦ (let both = and_parts (eqb j i) (eqb k l) same
+          in absurd (different (eqb-true j i both.0, eqb-true k l both.1)))
+      | inr clear ↦ are_apart-true shop starts j k i l clear e
+    ])
+
+-- all operations before (j, k) begin in time
+abbrev pub in_time_before : Shop → Starts → ℕ → ℕ → Bool
+in_time_before shop starts j k = each_operation shop (λ i l. not (is_before i l j k) || is_in_time shop starts i l)
+
+pub first_early_by_test : (shop : Shop) (starts : Starts) (j k : ℕ) → IsOperation shop j k
+    → starts j k < earliest_of shop starts j k
+    → in_time_before shop starts j k ≡ true → IsFirstEarly shop starts j k
+first_early_by_test shop starts j k op early h = record {
+  operation = op;
+  early = early;
+  first = λ i l other before. leb-true (earliest_of shop starts i l) (starts i l)
+      (unless (is_before i l j k) (is_in_time shop starts i l)
+      (each_operation-true shop (λ i l. not (is_before i l j k) || is_in_time shop starts i l) i l h other)
+      (is_before-true i l j k before));
+}
+
+-- the pairs that stand before (j, k) with (i, l) are apart
+abbrev pub is_earlier_pair : ℕ → ℕ → ℕ → ℕ → ℕ → ℕ → ℕ → ℕ → Bool
+is_earlier_pair a b c d j k i l = is_before a b j k || (is_same a b j k && is_before c d i l)
+
+abbrev pub apart_before : Shop → Starts → ℕ → ℕ → ℕ → ℕ → Bool
+apart_before shop starts j k i l = each_operation shop (λ a b. each_operation shop (λ c d.
+    not (is_before a b c d && is_earlier_pair a b c d j k i l) || are_apart shop starts a b c d))
+
+module _ (shop : Shop) (starts : Starts) (j k i l : ℕ) (op : IsOperation shop j k) (other : IsOperation shop i l)
+    (before : IsBefore j k i l)
+    (same : machine_of shop j k ≡ machine_of shop i l) (second : starts i l < finish_of shop starts j k)
+    (first : starts j k < finish_of shop starts i l) (h : apart_before shop starts j k i l ≡ true) where
+  pair : (a b c d : ℕ) → IsOperation shop a b → IsOperation shop c d → IsBefore a b c d
+      → is_earlier_pair a b c d j k i l ≡ true
+      → AreApart shop starts a b c d
+  pair a b c d one two in_order earlier = are_apart-true shop starts a b c d
+      (unless (is_before a b c d && is_earlier_pair a b c d j k i l) (are_apart shop starts a b c d)
+      (each_operation-true shop (λ c d. not (is_before a b c d && is_earlier_pair a b c d j k i l)
+      || are_apart shop starts a b c d) c d
+      (each_operation-true shop (λ a b. each_operation shop
+      (λ c d. not (is_before a b c d && is_earlier_pair a b c d j k i l) || are_apart shop starts a b c d)) a b h
+      one) two)
+      (and_from (is_before a b c d) (is_earlier_pair a b c d j k i l) (is_before-true a b c d in_order) earlier))
+
+  pub first_overlap_by_test : IsFirstOverlap shop starts j k i l
+  first_overlap_by_test = record {
+    operation = op;
+    second = record {
+      operation = other;
+      after = before;
+      same_machine = same;
+      second_begins = second;
+      first_begins = first;
+      first = λ c d two in_order earlier. pair j k c d op two in_order
+          (or_right (is_before j k j k) (is_same j k j k && is_before c d i l)
+          (and_from (is_same j k j k) (is_before c d i l)
+          (and_from (eqb j j) (eqb k k) (eq-eqb j j refl) (eq-eqb k k refl)) (is_before-true c d i l earlier)));
+    };
+    first = λ a b c d one two earlier in_order. pair a b c d one two in_order
+        (or_left (is_before a b j k) (is_same a b j k && is_before c d i l) (is_before-true a b j k earlier));
+  }

@@ -1,0 +1,60 @@
+-- The end of a table, and feasible tables by when each operation may begin.
+use Rattle.std.proofs.Common.{◌≡◌, ℕ, zero, suc, ◌≤◌, ◌<◌, ◌⊎◌, inl, inr, length, ap, arith}
+use Rattle.std.proofs.Common.{add-one}
+use Rattle.std.proofs.lemmas.Bool.{cases_eq, cases_lt}
+use Rattle.std.proofs.lemmas.List.{get_or_past}
+use Rattle.shop_model.specs.Shop.{Shop, ShopJob, Starts, no_job, route_of, machine_of, IsOperation}
+use Rattle.shop_model.specs.Shop.{IsFeasible, finish_of, AreDifferent, end_of, greatest_below}
+use Rattle.shop_model.specs.Checking.{NoneEarly}
+use Rattle.shop_model.proofs.Greatest.{le-greatest_below, greatest_below-le}
+
+-- an operation is one of a job
+pub IsOperation-job : (shop : Shop) (i l : ℕ) → IsOperation shop i l → i < length shop.jobs
+IsOperation-job shop i l op = elim (cases_lt i (length shop.jobs)) [
+  | inl h ↦ h
+  | inr h ↦ (let e : length (route_of shop i) ≡ 0 =
+      ap (λ (j : ShopJob). length j.route) (get_or_past shop.jobs i no_job h) in absurd (omega arith))
+]
+
+-- each operation ends by the end
+pub le-end_of : (shop : Shop) (starts : Starts) (i l : ℕ) → IsOperation shop i l
+    → finish_of shop starts i l ≤ end_of shop starts
+le-end_of shop starts i l op =
+    let steps = le-greatest_below (λ k. finish_of shop starts i k) (length (route_of shop i)) l op
+    in let jobs = le-greatest_below (λ j. greatest_below (length (route_of shop j)) (λ k. finish_of shop starts j k))
+    (length shop.jobs) i (IsOperation-job shop i l op)
+    in omega arith
+
+-- and where each ends by b, so does the table
+pub end_of-le : (shop : Shop) (starts : Starts) (b : ℕ)
+    → ((i l : ℕ) → IsOperation shop i l → finish_of shop starts i l ≤ b) → end_of shop starts ≤ b
+end_of-le shop starts b h =
+    greatest_below-le (λ j. greatest_below (length (route_of shop j)) (λ k. finish_of shop starts j k))
+    (length shop.jobs) b
+    (λ i below. greatest_below-le (λ k. finish_of shop starts i k) (length (route_of shop i)) b (λ l op. h i l op))
+
+-- in a feasible table each operation begins in time
+pub feasible-in_time : (shop : Shop) (starts : Starts) → IsFeasible shop starts → NoneEarly shop starts
+feasible-in_time shop starts f i zero op = f.released i op
+feasible-in_time shop starts f i (suc l) op = rw (← add-one) (f.in_order i l (rw add-one op))
+
+pub feasible_from : (shop : Shop) (starts : Starts) → NoneEarly shop starts
+    → ((j k i l : ℕ) → IsOperation shop j k → IsOperation shop i l → machine_of shop j k ≡ machine_of shop i l
+    → AreDifferent j k i l
+    → (finish_of shop starts j k ≤ starts i l) ⊎ (finish_of shop starts i l ≤ starts j k))
+    → IsFeasible shop starts
+feasible_from shop starts none apart = record {
+  released = λ j op. none j 0 op;
+  in_order = λ j k op. rw add-one (none j (suc k) (omega arith));
+  apart = apart;
+}
+
+-- in a table that keeps its routes a step ends before all later ones begin
+pub in_time-later : (shop : Shop) (starts : Starts) → NoneEarly shop starts → (j k l : ℕ) → k < l → IsOperation shop j l
+    → finish_of shop starts j k ≤ starts j l
+in_time-later shop starts none j k zero before op = absurd (omega arith)
+in_time-later shop starts none j k (suc l) before op = let ready : finish_of shop starts j l ≤ starts j (suc l) =
+    none j (suc l) op in elim (cases_eq k l) [
+      | inl e ↦ rw e ready
+      | inr ne ↦ (let a = in_time-later shop starts none j k l (omega arith) (omega arith) in omega arith)
+    ]

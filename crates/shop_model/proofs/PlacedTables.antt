@@ -1,0 +1,108 @@
+-- The table that a full word places, and tables that agree on the operations.
+use Rattle.std.proofs.Common.{◌≡◌, ℕ, zero, suc, ◌+◌, ◌<◌, inl, inr, List, [], ◌∷◌, ◌++◌, length, map}
+use Rattle.std.proofs.Common.{refl, sym, ◌∙◌, ap, arith, append_assoc}
+use Rattle.std.specs.List.{range_with_len}
+use Rattle.std.proofs.lemmas.Bool.{cases_lt}
+use Rattle.std.proofs.lemmas.List.{get_or_past}
+use Rattle.std.proofs.lemmas.List.FromFn.{length-map-range_with_len, get_or-map-range_with_len}
+use Rattle.shop_model.specs.Shop.{Shop, ShopJob, Starts, no_job, route_of, time_of, IsOperation, IsFeasible}
+use Rattle.shop_model.specs.Shop.{finish_of, end_of, greatest_below}
+use Rattle.shop_model.specs.Word.{placing, placed, count_of, IsWord, IsFull, IsUnder, rows_of}
+use Rattle.shop_model.specs.Checking.{HasShape, starts_of}
+use Rattle.shop_model.specs.Placed.{IsPlacedBy}
+use Rattle.shop_model.proofs.Ends.{feasible_from, IsOperation-job}
+use Rattle.shop_model.proofs.Unders.{after_word, count_of-cut}
+use Rattle.shop_model.proofs.WordLemmas.{full_is_word}
+
+-- the same starts at all operations
+abbrev pub Agree : Shop → Starts → Starts → Type 0
+Agree shop s t = (i l : ℕ) → IsOperation shop i l → s i l ≡ t i l
+
+pub agree_feasible : (shop : Shop) (s t : Starts) → Agree shop s t → IsFeasible shop s → IsFeasible shop t
+agree_feasible shop s t same f = record {
+  released = λ j op. rw (← same j 0 op) (f.released j op);
+  in_order = λ j k op. let a = f.in_order j k op in let b = same j k (omega arith) in let c = same j (k + 1) op
+      in omega arith;
+  apart = λ j k i l o r m d. let a = same j k o in let b = same i l r in rw (← a, ← b) (f.apart j k i l o r m d);
+}
+
+greatest_below-same : (f g : ℕ → ℕ) (n : ℕ) → ((i : ℕ) → i < n → f i ≡ g i) → greatest_below n f ≡ greatest_below n g
+greatest_below-same f g zero h = refl
+greatest_below-same f g (suc n) h =
+    let a = greatest_below-same f g n (λ i below. h i (omega arith)) in let b = h n (omega arith) in omega arith
+
+pub agree_end : (shop : Shop) (s t : Starts) → Agree shop s t → end_of shop s ≡ end_of shop t
+agree_end shop s t same =
+    greatest_below-same (λ j. greatest_below (length (route_of shop j)) (λ k. finish_of shop s j k))
+    (λ j. greatest_below (length (route_of shop j)) (λ k. finish_of shop t j k)) (length shop.jobs)
+    (λ j _. greatest_below-same (λ k. finish_of shop s j k) (λ k. finish_of shop t j k) (length (route_of shop j))
+    (λ k op. ap (λ n. n + time_of shop j k) (same j k op)))
+
+-- an entry of a word stands for an operation
+entry_operation : (shop : Shop) (v later : List ℕ) (j : ℕ) → IsWord shop (v ++ j ∷ later)
+    → IsOperation shop j (count_of j v)
+entry_operation shop v later j word = let a = count_of-cut v later j in let b = word j in omega arith
+
+pub agree_under : (shop : Shop) (w : List ℕ) (s t : Starts) → IsWord shop w → Agree shop s t → IsUnder shop w s
+    → IsUnder shop w t
+agree_under shop w s t word same u = record {
+  feasible = agree_feasible shop s t same u.feasible;
+  first = λ v j later e i l op few m.
+      let word' : IsWord shop (v ++ j ∷ later) = rw e at word
+      in let a = same j (count_of j v) (entry_operation shop v later j word')
+      in let b = same i l op in let c = u.first v j later e i l op few m in omega arith;
+}
+
+-- the rows of a table have the shape, and tell its starts
+pub rows_of-shape : (shop : Shop) (s : Starts) → HasShape shop (rows_of shop s)
+rows_of-shape shop s =
+    let row : ℕ → List ℕ = λ j. map (s j) (range_with_len 0 (length (route_of shop j)))
+    in record {
+      jobs = length-map-range_with_len row 0 (length shop.jobs);
+      steps = λ j. elim (cases_lt j (length shop.jobs)) [
+        | inl h ↦ rw (get_or-map-range_with_len row 0 (length shop.jobs) j j [] h (omega arith))
+            (length-map-range_with_len (s j) 0 (length (route_of shop j)))
+        | inr h ↦ rw (get_or_past (rows_of shop s) j [] (rw (length-map-range_with_len row 0 (length shop.jobs)) h))
+            (sym (ap (λ (x : ShopJob). length x.route) (get_or_past shop.jobs j no_job h)))
+      ];
+    }
+
+pub rows_of-starts : (shop : Shop) (s : Starts) → Agree shop s (starts_of (rows_of shop s))
+rows_of-starts shop s i l op =
+    let row : ℕ → List ℕ = λ j. map (s j) (range_with_len 0 (length (route_of shop j)))
+    in rw (get_or-map-range_with_len row 0 (length shop.jobs) i i [] (IsOperation-job shop i l op) (omega arith))
+    (sym (get_or-map-range_with_len (s i) 0 (length (route_of shop i)) l l 0 op (omega arith)))
+
+-- all operations are placed, so the placing is a feasible table under the word
+full_under : (shop : Shop) (w : List ℕ) → IsFull shop w → IsUnder shop w (placed shop w)
+full_under shop w full =
+    let a = after_word shop w (full_is_word shop w full)
+    in let p = placing shop w
+    in let steps : (j k : ℕ) → IsOperation shop j k
+    → k < p.steps j = (λ j k op. let b = full j in let c = a.steps j in omega arith)
+    in record {
+      feasible = feasible_from shop p.begins (λ j k op. a.sound.in_time j k (steps j k op))
+          (λ j k i l o r e d. a.sound.apart j k (steps j k o) i l (steps i l r) e d);
+      first = λ v j later e i l op few m. a.ordered v j later e i l few (steps i l op) m;
+    }
+
+-- what lies under a word lies under its beginnings
+under_beginning : (shop : Shop) (w v later : List ℕ) (s : Starts) → w ≡ v ++ later → IsUnder shop w s → IsUnder shop v s
+under_beginning shop w v later s e u = record {
+  feasible = u.feasible;
+  first = λ x j rest g. u.first x j (rest ++ later)
+      (e ∙ (ap (λ (y : List ℕ). y ++ later) g ∙ append_assoc x (j ∷ rest) later));
+}
+
+pub placed_by : (shop : Shop) (w : List ℕ) → IsFull shop w → IsPlacedBy shop w (rows_of shop (placed shop w))
+placed_by shop w full =
+    let s = placed shop w
+    in let u = full_under shop w full
+    in let same = rows_of-starts shop s
+    in let told = agree_under shop w s (starts_of (rows_of shop s)) (full_is_word shop w full) same u
+    in record {
+      shape = rows_of-shape shop s;
+      feasible = told.feasible;
+      under = λ v later e. under_beginning shop w v later (starts_of (rows_of shop s)) e told;
+      ends = sym (agree_end shop s (starts_of (rows_of shop s)) same);
+    }

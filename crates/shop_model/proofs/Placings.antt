@@ -1,0 +1,251 @@
+-- What holds of a placing, and of a table that completes it.
+use Rattle.std.proofs.Common.{◌≡◌, ℕ, zero, suc, ◌+◌, ◌≤◌, ◌<◌, max, ◌⊎◌, inl, inr, refl}
+use Rattle.std.proofs.Common.{sym, ◌∙◌, ap, subst, arith, add-one, cond, ltb}
+use Rattle.std.proofs.lemmas.Bool.{cases_eq, cases_lt}
+use Rattle.shop_model.specs.Shop.{Shop, Starts, machine_of, time_of, IsOperation, IsFeasible}
+use Rattle.shop_model.specs.Shop.{finish_of, AreDifferent, end_of}
+use Rattle.shop_model.specs.Word.{Placing, place_next, with_value}
+use Rattle.shop_model.specs.Checking.{earliest_of, NoneEarly}
+use Rattle.shop_model.proofs.Ends.{le-end_of, end_of-le, feasible-in_time, feasible_from}
+use Rattle.std.proofs.lemmas.Bool.{le-ltb, lt-ltb}
+use Rattle.shop_model.proofs.WordLemmas.{with_value-same, with_value-other}
+
+-- one more step of job j is placed
+pub record IsNext (shop : Shop) (p : Placing) (j : ℕ) (q : Placing) : Type 0 where
+  pub steps_here : q.steps j ≡ p.steps j + 1
+  pub steps_other : (i : ℕ) → (i ≡ j → ⊥) → q.steps i ≡ p.steps i
+  pub begins_here : q.begins j (p.steps j) ≡ max (p.ready j) (p.free (machine_of shop j (p.steps j)))
+  pub begins_old : (i l : ℕ) → l < p.steps i → q.begins i l ≡ p.begins i l
+  pub ready_here : q.ready j ≡ finish_of shop q.begins j (p.steps j)
+  pub ready_other : (i : ℕ) → (i ≡ j → ⊥) → q.ready i ≡ p.ready i
+  pub free_here : (m : ℕ) → m ≡ machine_of shop j (p.steps j) → q.free m ≡ finish_of shop q.begins j (p.steps j)
+  pub free_other : (m : ℕ) → (m ≡ machine_of shop j (p.steps j) → ⊥) → q.free m ≡ p.free m
+
+next_start : Shop → Placing → ℕ → ℕ
+next_start shop p j = max (p.ready j) (p.free (machine_of shop j (p.steps j)))
+
+pub place_next-is : (shop : Shop) (p : Placing) (j : ℕ) → IsNext shop p j (place_next shop p j)
+unfolding next_start
+place_next-is shop p j =
+    let k = p.steps j
+    in let start = next_start shop p j
+    in let here : (place_next shop p j).begins j k ≡ start =
+    (let e : (place_next shop p j).begins j k ≡ with_value (p.begins j) k start k =
+    ap (λ (f : ℕ → ℕ). f k) (with_value-same p.begins j (with_value (p.begins j) k start) j refl)
+    in e ∙ with_value-same (p.begins j) k start k refl)
+    in let end = ap (λ n. n + time_of shop j k) (sym here)
+    in record {
+      steps_here = with_value-same p.steps j (k + 1) j refl;
+      steps_other = λ i ne. with_value-other p.steps j (k + 1) i ne;
+      begins_here = here;
+      begins_old = λ i l h. elim (cases_eq i j) [
+        | inl e ↦ (let d : l ≡ k → ⊥ = (λ f. let g : p.steps i ≡ k = ap p.steps e in absurd (omega arith))
+            in ap (λ (f : ℕ → ℕ). f l) (with_value-same p.begins j (with_value (p.begins j) k start) i e)
+            ∙ (with_value-other (p.begins j) k start l d ∙ ap (λ n. p.begins n l) (sym e)))
+        | inr ne ↦ ap (λ (f : ℕ → ℕ). f l) (with_value-other p.begins j (with_value (p.begins j) k start) i ne)
+      ];
+      ready_here = with_value-same p.ready j (start + time_of shop j k) j refl ∙ end;
+      ready_other = λ i ne. with_value-other p.ready j (start + time_of shop j k) i ne;
+      free_here = λ m e. with_value-same p.free (machine_of shop j k) (start + time_of shop j k) m e ∙ end;
+      free_other = λ m ne. with_value-other p.free (machine_of shop j k) (start + time_of shop j k) m ne;
+    }
+
+-- a placing that keeps releases, routes and machines among what it has placed
+pub record IsSound (shop : Shop) (p : Placing) : Type 0 where
+  pub operations : (i l : ℕ) → l < p.steps i → IsOperation shop i l
+  pub in_time : (i l : ℕ) → l < p.steps i → earliest_of shop p.begins i l ≤ p.begins i l
+  pub ready : (i : ℕ) → earliest_of shop p.begins i (p.steps i) ≤ p.ready i
+  pub free : (i l : ℕ) → l < p.steps i → finish_of shop p.begins i l ≤ p.free (machine_of shop i l)
+  pub apart : (i l : ℕ) → l < p.steps i → (a b : ℕ) → b < p.steps a → machine_of shop i l ≡ machine_of shop a b
+      → AreDifferent i l a b
+      → (finish_of shop p.begins i l ≤ p.begins a b) ⊎ (finish_of shop p.begins a b ≤ p.begins i l)
+
+-- two tables that agree below a step agree on when it may begin
+pub earliest_of-same : (shop : Shop) (s t : Starts) (i l : ℕ) → ((k : ℕ) → k < l → s i k ≡ t i k)
+    → earliest_of shop s i l ≡ earliest_of shop t i l
+earliest_of-same shop s t i zero h = refl
+earliest_of-same shop s t i (suc l) h = ap (λ n. n + time_of shop i l) (h l (omega arith))
+
+module _ (shop : Shop) (p : Placing) (j : ℕ) (q : Placing) (n : IsNext shop p j q) where
+  -- what is placed now was placed before, or is the one
+  pub each_placed : (P : ℕ → ℕ → Type 0) → ((i l : ℕ) → l < p.steps i → P i l) → P j (p.steps j) → (i l : ℕ)
+      → l < q.steps i → P i l
+  each_placed P old new i l h = elim (cases_eq i j) [
+    | inl e ↦ elim (cases_eq l (p.steps j)) [
+      | inl f ↦ subst (λ (x : ℕ). P x l) (sym e) (subst (λ (y : ℕ). P j y) (sym f) new)
+      | inr g ↦ old i l (let a : p.steps i ≡ p.steps j = ap p.steps e in let b : q.steps i ≡ q.steps j = ap q.steps e
+          in let c = n.steps_here in omega arith)
+    ]
+    | inr ne ↦ old i l (let a = n.steps_other i ne in omega arith)
+  ]
+
+  -- nothing was taken back
+  pub steps_grow : (i : ℕ) → p.steps i ≤ q.steps i
+  steps_grow i = elim (cases_eq i j) [
+    | inl e ↦ (let a : p.steps i ≡ p.steps j = ap p.steps e in let b : q.steps i ≡ q.steps j = ap q.steps e
+        in let c = n.steps_here in omega arith)
+    | inr ne ↦ (let a = n.steps_other i ne in omega arith)
+  ]
+
+  pub earliest_old : (i l : ℕ) → l ≤ p.steps i → earliest_of shop q.begins i l ≡ earliest_of shop p.begins i l
+  earliest_old i l h = earliest_of-same shop q.begins p.begins i l (λ k below. n.begins_old i k (omega arith))
+
+  -- what was placed on the machine ends before the new one begins
+  pub before_new : IsSound shop p → (i l : ℕ) → l < p.steps i → machine_of shop i l ≡ machine_of shop j (p.steps j)
+      → finish_of shop q.begins i l ≤ q.begins j (p.steps j)
+  before_new s i l h e =
+      let a = n.begins_old i l h in let b = s.free i l h
+      in let c : p.free (machine_of shop i l) ≡ p.free (machine_of shop j (p.steps j)) = ap p.free e
+      in let d = n.begins_here in omega arith
+
+  pub sound_next : IsSound shop p → IsOperation shop j (p.steps j) → IsSound shop q
+  sound_next s op = record {
+    operations = each_placed (λ i l. IsOperation shop i l) s.operations op;
+    in_time = each_placed (λ i l. earliest_of shop q.begins i l ≤ q.begins i l)
+        (λ i l h. let a = earliest_old i l (omega arith) in let b = n.begins_old i l h in let c = s.in_time i l h
+        in omega arith)
+        (let a = earliest_old j (p.steps j) (omega arith) in let b = n.begins_here in let c = s.ready j in omega arith);
+    ready = λ i. elim (cases_eq i j) [
+      | inl e ↦ subst (λ (x : ℕ). earliest_of shop q.begins x (q.steps x) ≤ q.ready x) (sym e)
+          (rw (n.steps_here, add-one) (let a = n.ready_here in omega arith))
+      | inr ne ↦ rw (n.steps_other i ne)
+          (let a = earliest_old i (p.steps i) (omega arith) in let b = n.ready_other i ne in let c = s.ready i
+          in omega arith)
+    ];
+    free = each_placed (λ i l. finish_of shop q.begins i l ≤ q.free (machine_of shop i l))
+        (λ i l h. let a = n.begins_old i l h in let b = s.free i l h
+        in elim (cases_eq (machine_of shop i l) (machine_of shop j (p.steps j))) [
+          | inl e ↦ (let c = n.free_here (machine_of shop i l) e in let d = n.begins_here
+              in let f : p.free (machine_of shop i l) ≡ p.free (machine_of shop j (p.steps j)) = ap p.free e
+              in omega arith)
+          | inr ne ↦ (let c = n.free_other (machine_of shop i l) ne in omega arith)
+        ])
+        (let a = n.free_here (machine_of shop j (p.steps j)) refl in omega arith);
+    apart = each_placed (λ i l. (a b : ℕ) → b < q.steps a → machine_of shop i l ≡ machine_of shop a b
+        → AreDifferent i l a b
+        → (finish_of shop q.begins i l ≤ q.begins a b) ⊎ (finish_of shop q.begins a b ≤ q.begins i l))
+        (λ i l h. each_placed (λ a b. machine_of shop i l ≡ machine_of shop a b → AreDifferent i l a b
+        → (finish_of shop q.begins i l ≤ q.begins a b) ⊎ (finish_of shop q.begins a b ≤ q.begins i l))
+        (λ a b k e d. rw (n.begins_old i l h, n.begins_old a b k) (s.apart i l h a b k e d))
+        (λ e d. inl (before_new s i l h e)))
+        (each_placed (λ a b. machine_of shop j (p.steps j) ≡ machine_of shop a b → AreDifferent j (p.steps j) a b
+        → (finish_of shop q.begins j (p.steps j) ≤ q.begins a b)
+        ⊎ (finish_of shop q.begins a b ≤ q.begins j (p.steps j)))
+        (λ a b k e d. inr (before_new s a b k (sym e)))
+        (λ e d. absurd (d (refl, refl))));
+  }
+
+-- a table in which nothing begins before the placing has it, or before the placing leaves its job and its machine
+pub record Follows (shop : Shop) (p : Placing) (starts : Starts) : Type 0 where
+  pub begins : (i l : ℕ) → l < p.steps i → p.begins i l ≤ starts i l
+  pub ready : (i : ℕ) → IsOperation shop i (p.steps i) → p.ready i ≤ starts i (p.steps i)
+  pub free : (i l : ℕ) → IsOperation shop i l → p.steps i ≤ l → p.free (machine_of shop i l) ≤ starts i l
+  pub ends : (m : ℕ) → p.free m ≤ end_of shop starts
+
+module _ (shop : Shop) (p : Placing) (j : ℕ) (q : Placing) (n : IsNext shop p j q) where
+  -- the new one begins no later than in the table
+  pub new_follows : (starts : Starts) → Follows shop p starts → IsOperation shop j (p.steps j)
+      → q.begins j (p.steps j) ≤ starts j (p.steps j)
+  new_follows starts f op = let a = n.begins_here in let b = f.ready j op
+      in let c = f.free j (p.steps j) op (omega arith) in omega arith
+
+  -- a table follows one step more if what is left on the machine begins after it
+  pub follows_next : (starts : Starts) → IsFeasible shop starts → Follows shop p starts → IsOperation shop j (p.steps j)
+      → ((i l : ℕ) → IsOperation shop i l → q.steps i ≤ l → machine_of shop i l ≡ machine_of shop j (p.steps j)
+      → finish_of shop q.begins j (p.steps j) ≤ starts i l)
+      → Follows shop q starts
+  follows_next starts feasible f op after =
+      let new = new_follows starts f op
+      in record {
+        begins = each_placed shop p j q n (λ i l. q.begins i l ≤ starts i l)
+            (λ i l h. rw (n.begins_old i l h) (f.begins i l h))
+            new;
+        ready = λ i. elim (cases_eq i j) [
+          | inl e ↦ subst (λ (x : ℕ). IsOperation shop x (q.steps x) → q.ready x ≤ starts x (q.steps x)) (sym e)
+              (rw n.steps_here (λ o. let a = feasible.in_order j (p.steps j) o in let b = n.ready_here in omega arith))
+          | inr ne ↦ rw (n.steps_other i ne, n.ready_other i ne) (f.ready i)
+        ];
+        free = λ i l o h. elim (cases_eq (machine_of shop i l) (machine_of shop j (p.steps j))) [
+          | inl e ↦ (let a = n.free_here (machine_of shop i l) e in let b = after i l o h e in omega arith)
+          | inr ne ↦ (let a = n.free_other (machine_of shop i l) ne
+              in let b = f.free i l o (let c = steps_grow shop p j q n i in omega arith) in omega arith)
+        ];
+        ends = λ m. elim (cases_eq m (machine_of shop j (p.steps j))) [
+          | inl e ↦ (let a = n.free_here m e in let b = le-end_of shop starts j (p.steps j) op in omega arith)
+          | inr ne ↦ rw (n.free_other m ne) (f.ends m)
+        ];
+      }
+
+-- the placed steps as they are placed, the others as in the table
+pub merged : Placing → Starts → Starts
+merged p starts i l = cond (ltb l (p.steps i)) (p.begins i l) (starts i l)
+
+pub merged-placed : (p : Placing) (starts : Starts) (i l : ℕ) → l < p.steps i → merged p starts i l ≡ p.begins i l
+unfolding merged
+merged-placed p starts i l h = rw (lt-ltb l (p.steps i) h)
+
+pub merged-other : (p : Placing) (starts : Starts) (i l : ℕ) → p.steps i ≤ l → merged p starts i l ≡ starts i l
+unfolding merged
+merged-other p starts i l h = rw (le-ltb l (p.steps i) h)
+
+module _ (shop : Shop) (p : Placing) (starts : Starts) (sound : IsSound shop p) (feasible : IsFeasible shop starts)
+    (f : Follows shop p starts) where
+  pub merged-le : (i l : ℕ) → merged p starts i l ≤ starts i l
+  merged-le i l = elim (cases_lt l (p.steps i)) [
+    | inl h ↦ rw (merged-placed p starts i l h) (f.begins i l h)
+    | inr h ↦ rw (merged-other p starts i l h) (omega arith)
+  ]
+
+  merged-in_time : NoneEarly shop (merged p starts)
+  merged-in_time i l op = elim (cases_lt l (p.steps i)) [
+    | inl h ↦ rw (
+      merged-placed p starts i l h,
+      earliest_of-same shop (merged p starts) p.begins i l
+          (λ k below. merged-placed p starts i k (omega arith)),
+    ) (sound.in_time i l h)
+    | inr h ↦ elim (cases_eq l (p.steps i)) [
+      | inl e ↦ (let a = earliest_of-same shop (merged p starts) p.begins i l
+          (λ k below. merged-placed p starts i k (omega arith))
+          in let b : earliest_of shop p.begins i l ≤ p.ready i = rw e (sound.ready i)
+          in let c : p.ready i ≤ starts i l = rw e (f.ready i (rw e at op))
+          in let d = merged-other p starts i l h in omega arith)
+      | inr ne ↦ (let a = feasible-in_time shop starts feasible i l op in let d = merged-other p starts i l h in
+          later i l h ne a d)
+    ]
+  ]
+    where
+      later : (i l : ℕ) → p.steps i ≤ l → (l ≡ p.steps i → ⊥) → earliest_of shop starts i l ≤ starts i l
+          → merged p starts i l ≡ starts i l → earliest_of shop (merged p starts) i l ≤ merged p starts i l
+      later i zero h ne a d = absurd (ne (omega arith))
+      later i (suc l) h ne a d = let e = merged-other p starts i l (omega arith) in omega arith
+
+  -- what is placed on a machine ends before what isn't begins
+  pub between : (j k i l : ℕ) → k < p.steps j → p.steps i ≤ l → IsOperation shop i l
+      → machine_of shop j k ≡ machine_of shop i l
+      → finish_of shop (merged p starts) j k ≤ merged p starts i l
+  between j k i l h g r e =
+      let a = merged-placed p starts j k h in let b = merged-other p starts i l g in let c = sound.free j k h
+      in let d = f.free i l r g
+      in let m : p.free (machine_of shop j k) ≡ p.free (machine_of shop i l) = ap p.free e in omega arith
+
+  merged-apart : (j k i l : ℕ) → IsOperation shop j k → IsOperation shop i l → machine_of shop j k ≡ machine_of shop i l
+      → AreDifferent j k i l
+      → (finish_of shop (merged p starts) j k ≤ merged p starts i l)
+      ⊎ (finish_of shop (merged p starts) i l ≤ merged p starts j k)
+  merged-apart j k i l o r e d = elim (cases_lt k (p.steps j)) [
+    | inl h ↦ elim (cases_lt l (p.steps i)) [
+      | inl g ↦ rw (merged-placed p starts j k h, merged-placed p starts i l g) (sound.apart j k h i l g e d)
+      | inr g ↦ inl (between j k i l h g r e)
+    ]
+    | inr h ↦ elim (cases_lt l (p.steps i)) [
+      | inl g ↦ inr (between i l j k g h o (sym e))
+      | inr g ↦ rw (merged-other p starts j k h, merged-other p starts i l g) (feasible.apart j k i l o r e d)
+    ]
+  ]
+
+  pub merged_feasible : IsFeasible shop (merged p starts)
+  merged_feasible = feasible_from shop (merged p starts) merged-in_time merged-apart
+
+  pub merged_ends : end_of shop (merged p starts) ≤ end_of shop starts
+  merged_ends = end_of-le shop (merged p starts) (end_of shop starts)
+      (λ i l op. let a = merged-le i l in let b = le-end_of shop starts i l op in omega arith)

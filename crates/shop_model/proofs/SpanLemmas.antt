@@ -1,0 +1,152 @@
+-- Spans in turn are apart, and so are the operations that they stand for.
+use Rattle.std.proofs.Common.{◌≡◌, ℕ, zero, suc, ◌+◌, ◌≤◌, ◌<◌, ◌⊎◌, inl, inr, List, [], ◌∷◌, ◌++◌, length, map, take}
+use Rattle.std.proofs.Common.{get_or, slice_index_or, sym, ◌∙◌, ap, subst, arith, All}
+use Rattle.std.specs.List.{range_with_len, flat_map, AllPairs, AllByRecursion, sum_by}
+use Rattle.std.proofs.lemmas.Bool.{cases_eq}
+use Rattle.std.proofs.lemmas.List.{take-take, take_all}
+use Rattle.std.proofs.lemmas.List.Concat.{length-flat_map, get_or-flat_map}
+use Rattle.std.proofs.lemmas.List.Elements.{All-from_recursion}
+use Rattle.std.proofs.lemmas.List.FromFn.{length-range_with_len, get_or-range_with_len, length-map-range_with_len}
+use Rattle.std.proofs.lemmas.List.FromFn.{get_or-map-range_with_len}
+use Rattle.std.proofs.lemmas.List.Sums.{sum_by-take-le, sum_by_more}
+use Rattle.shop_model.specs.declared.spans.Span.{Span}
+use Rattle.shop_model.specs.Shop.{Shop, route_of, IsOperation}
+use Rattle.shop_model.specs.Checking.{starts_of, AllApart, IsBefore}
+use Rattle.shop_model.specs.Spans.{span_at, spans_at, spans_of, IsInTurn, AreInTurn}
+use Rattle.shop_model.proofs.Ends.{IsOperation-job}
+
+-- two spans on one machine don't overlap
+abbrev pub ArePartedSpans : Span → Span → Type 0
+ArePartedSpans a b = a.machine ≡ b.machine → (a.finish ≤ b.start) ⊎ (b.finish ≤ a.start)
+
+-- no span ends before it begins
+abbrev pub IsForward : Span → Type 0
+IsForward a = a.start ≤ a.finish
+
+in_turn_through : (a b c : Span) → IsForward b → IsInTurn a b → IsInTurn b c → IsInTurn a c
+in_turn_through a b c forward one two = elim one [
+  | inl h ↦ elim two [ inl g ↦ inl (omega arith) | inr g ↦ inl (let e = g.0 in omega arith) ]
+  | inr h ↦ elim two [
+    | inl g ↦ inl (let e = h.0 in omega arith)
+    | inr g ↦ inr (h.0 ∙ g.0, (let x = h.1 in let y = g.1 in omega arith))
+  ]
+]
+
+in_turn_far : (xs : List Span) → AreInTurn xs → All IsForward xs → (k l : ℕ) (d : Span) → k < l → l < length xs
+    → IsInTurn (get_or xs k d) (get_or xs l d)
+in_turn_far xs turns forward k zero d before below = absurd (omega arith)
+in_turn_far xs turns forward k (suc l) d before below =
+    let up : l + 1 ≡ suc l = omega arith
+    in let next : IsInTurn (get_or xs l d) (get_or xs (suc l) d)
+    = subst (λ (n : ℕ). IsInTurn (get_or xs l d) (get_or xs n d)) up (turns l d (omega arith))
+    in elim (cases_eq k l) [
+      | inl e ↦ subst (λ (n : ℕ). IsInTurn (get_or xs n d) (get_or xs (suc l) d)) (sym e) next
+      | inr ne ↦ in_turn_through (get_or xs k d) (get_or xs l d) (get_or xs (suc l) d) (forward l d (omega arith))
+          (in_turn_far xs turns forward k l d (omega arith) (omega arith)) next
+    ]
+
+in_turn_parted : (a b : Span) → IsInTurn a b → ArePartedSpans a b
+in_turn_parted a b turn same = elim turn [ inl h ↦ absurd (omega arith) | inr h ↦ inl h.1 ]
+
+pub parted_pairs : (xs : List Span) → AreInTurn xs → All IsForward xs → AllPairs ArePartedSpans xs
+parted_pairs xs turns forward k l d before below =
+    in_turn_parted (get_or xs k d) (get_or xs l d) (in_turn_far xs turns forward k l d before below)
+
+pub parted_both_ways : (a b : Span) → ArePartedSpans a b → ArePartedSpans b a
+parted_both_ways a b parted same = elim (parted (sym same)) [ inl h ↦ inr h | inr h ↦ inl h ]
+
+-- lists of spans that are all forward
+forward_map : (f : ℕ → Span) → ((n : ℕ) → IsForward (f n)) → (ns : List ℕ) → AllByRecursion IsForward (map f ns)
+forward_map f h [] = tt
+forward_map f h (n ∷ ns) = (h n, forward_map f h ns)
+
+forward_append : (xs ys : List Span) → AllByRecursion IsForward xs → AllByRecursion IsForward ys
+    → AllByRecursion IsForward (xs ++ ys)
+forward_append [] ys h g = g
+forward_append (x ∷ xs) ys h g = (h.0, forward_append xs ys h.1 g)
+
+forward_parts : (f : ℕ → List Span) → ((n : ℕ) → AllByRecursion IsForward (f n)) → (ns : List ℕ)
+    → AllByRecursion IsForward (flat_map f ns)
+forward_parts f h [] = tt
+forward_parts f h (n ∷ ns) = forward_append (f n) (flat_map f ns) (h n) (forward_parts f h ns)
+
+-- where the span of step k of job j stands
+module _ (shop : Shop) (rows : List (List ℕ)) where
+  abbrev part : ℕ → List Span
+  part j = spans_at (route_of shop j) (slice_index_or rows j [])
+
+  abbrev numbers : List ℕ
+  numbers = range_with_len 0 (length shop.jobs)
+
+  abbrev place : ℕ → ℕ → ℕ
+  place j k = length (flat_map part (take j numbers)) + k
+
+  abbrev span : ℕ → ℕ → Span
+  span j k = span_at (route_of shop j) (slice_index_or rows j []) k
+
+  part_length : (j : ℕ) → length (part j) ≡ length (route_of shop j)
+  part_length j = length-map-range_with_len (span_at (route_of shop j) (slice_index_or rows j [])) 0
+      (length (route_of shop j))
+
+  number_at : (j : ℕ) → j < length shop.jobs → get_or numbers j 0 ≡ j
+  number_at j h = get_or-range_with_len 0 (length shop.jobs) j 0 h ∙ omega arith
+
+  span_in_place : (j k : ℕ) (d : Span) → IsOperation shop j k → get_or (spans_of shop rows) (place j k) d ≡ span j k
+  span_in_place j k d op =
+      let job = IsOperation-job shop j k op
+      in let many = length-range_with_len 0 (length shop.jobs)
+      in let at = number_at j job
+      in let short : k < length (part (get_or numbers j 0)) = rw (at, part_length) op
+      in get_or-flat_map part numbers j k 0 d (omega arith) short
+      ∙ (ap (λ (i : ℕ). get_or (part i) k d) at
+      ∙ get_or-map-range_with_len (span_at (route_of shop j) (slice_index_or rows j [])) 0
+      (length (route_of shop j)) k k d op (omega arith))
+
+  -- a job's spans stand before those of later jobs
+  part_ends : (j n : ℕ) → j < n → n ≤ length shop.jobs
+      → length (flat_map part (take j numbers)) + length (route_of shop j) ≤ length (flat_map part (take n numbers))
+  part_ends j n before few =
+      let sizes : ℕ → ℕ = λ i. length (part i)
+      in let many = length-range_with_len 0 (length shop.jobs)
+      in let a = length-flat_map part (take j numbers)
+      in let b = length-flat_map part (take n numbers)
+      in let more = sum_by_more sizes numbers j 0 (omega arith)
+      in let size : sizes (get_or numbers j 0) ≡ length (route_of shop j) =
+      rw (number_at j (omega arith)) (part_length j)
+      in let front : take (j + 1) numbers ≡ take (j + 1) (take n numbers) =
+      sym (take-take (j + 1) n numbers (omega arith))
+      in let le = sum_by-take-le sizes (take n numbers) (j + 1)
+      in let same : sum_by sizes (take (j + 1) numbers) ≡ sum_by sizes (take (j + 1) (take n numbers)) =
+      ap (sum_by sizes) front
+      in omega arith
+
+  place_before : (j k i l : ℕ) → IsOperation shop j k → IsOperation shop i l → IsBefore j k i l → place j k < place i l
+  place_before j k i l op other before = elim before [
+    | inl h ↦ (let job = IsOperation-job shop i l other in let a = part_ends j i h (omega arith) in omega arith)
+    | inr h ↦ (let e : length (flat_map part (take j numbers)) ≡ length (flat_map part (take i numbers))
+        = ap (λ (n : ℕ). length (flat_map part (take n numbers))) h.0 in let x = h.1 in omega arith)
+  ]
+
+  place_below : (j k : ℕ) → IsOperation shop j k → place j k < length (spans_of shop rows)
+  place_below j k op =
+      let job = IsOperation-job shop j k op
+      in let a = part_ends j (length shop.jobs) job (omega arith)
+      in let all : take (length shop.jobs) numbers ≡ numbers =
+      take_all (length shop.jobs) numbers (rw length-range_with_len (omega arith))
+      in let b : length (flat_map part (take (length shop.jobs) numbers)) ≡ length (spans_of shop rows)
+      = ap (λ (xs : List ℕ). length (flat_map part xs)) all
+      in omega arith
+
+  pub apart_from_pairs : AllPairs ArePartedSpans (spans_of shop rows) → AllApart shop (starts_of rows)
+  apart_from_pairs all j k i l op other before same =
+      let d : Span = record { machine = 0; start = 0; finish = 0 }
+      in (rw (span_in_place j k d op, span_in_place i l d other)
+      at (all (place j k) (place i l) d (place_before j k i l op other before) (place_below i l other))) same
+
+  -- no span ends before it begins
+  pub spans_forward : All IsForward (spans_of shop rows)
+  spans_forward = All-from_recursion IsForward (spans_of shop rows) (forward_parts part (λ j. forward_part j) numbers)
+    where
+      forward_part : (j : ℕ) → AllByRecursion IsForward (part j)
+      forward_part j = forward_map (span_at (route_of shop j) (slice_index_or rows j [])) (λ k. omega arith)
+          (range_with_len 0 (length (route_of shop j)))

@@ -1,0 +1,39 @@
+-- The rows of a table, seen as lists.
+use Rattle.std.proofs.Common.{◌≡◌, ℕ, zero, suc, ◌+◌, ◌≤◌, ◌<◌, inl, inr, List, [], ◌∷◌, map, length, slice_index_or}
+use Rattle.std.proofs.Common.{refl, sym, ◌∙◌, ap, arith, All}
+use Rattle.std.specs.Prelude.{Vec}
+use Rattle.std.specs.declared.alloc.Global.{Global}
+use Rattle.std.proofs.lemmas.Bool.{cases_lt, cases_eq}
+use Rattle.std.proofs.lemmas.List.{get_or_past, get_or_default}
+use Rattle.shop_model.specs.Limits.{AreStarts}
+
+pub rows_at : (rows : List (Vec ℕ Global)) (j : ℕ) (d : Vec ℕ Global) → j < length rows
+    → slice_index_or (map (λ r. r.items) rows) j [] ≡ (slice_index_or rows j d).items
+rows_at [] j d h = absurd (omega arith)
+rows_at (r ∷ rs) zero d h = refl
+rows_at (r ∷ rs) (suc j) d h = rows_at rs j d (omega arith)
+
+abbrev pub StartsBelow : List (List ℕ) → ℕ → Type 0
+StartsBelow rows n = (j k : ℕ) → j < n → slice_index_or (slice_index_or rows j []) k 0 ≤ 1000000000000000
+
+pub starts_next : (rows : List (Vec ℕ Global)) (n : ℕ) (row : Vec ℕ Global) → n < length rows
+    → row ≡ slice_index_or rows n row → StartsBelow (map (λ r. r.items) rows) n
+    → All (λ s. s ≤ 1000000000000000) row.items
+    → StartsBelow (map (λ r. r.items) rows) (n + 1)
+starts_next rows n row h is before within j k below = elim (cases_eq j n) [
+  | inl e ↦ (let at : slice_index_or (map (λ r. r.items) rows) n [] ≡ row.items = rows_at rows n row h
+      ∙ ap (λ (v : Vec ℕ Global). v.items) (sym is)
+      in rw (e, at) (elim (cases_lt k (length row.items)) [
+        | inl g ↦ within k 0 g
+        | inr g ↦
+            rw (get_or_past row.items k 0 g) (omega arith)
+      ]))
+  | inr ne ↦ before j k (omega arith)
+]
+
+pub starts_at : (rows : List (Vec ℕ Global)) (n : ℕ) (row : Vec ℕ Global) → n < length rows
+    → row ≡ slice_index_or rows n row → AreStarts (map (λ r. r.items) rows) → All (λ s. s ≤ 1000000000000000) row.items
+starts_at rows n row h is starts k d below =
+    let at : slice_index_or (map (λ r. r.items) rows) n [] ≡ row.items = rows_at rows n row h
+    ∙ ap (λ (v : Vec ℕ Global). v.items) (sym is)
+    in rw (get_or_default row.items k d 0 below) (rw at at (starts n k))

@@ -1,0 +1,6 @@
+use Rattle.shop_model.proofs.GivenLemmas.{jobs_within}
+use Rattle.shop_model.proofs.instances.Instance.of_jobs.Goals as goal
+
+pub invariant_of-result : goal.invariant_of-result
+invariant_of-result c = jobs_within c.args.machines c.args.jobs.items
+    (rw c.as_slice.ensures.value at (c.are_jobs_within.ensures.0 c.if-are_jobs_within.true))

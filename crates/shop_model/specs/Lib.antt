@@ -1,0 +1,8 @@
+pub mod Shop
+pub mod Word
+pub mod Limits
+pub mod Given
+pub mod Checking
+pub mod Placed
+pub mod Steps
+pub mod Spans

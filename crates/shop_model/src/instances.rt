@@ -1,0 +1,202 @@
+ghost use Rattle.std.specs.Prelude.{◌≡◌, ℕ, ◌<◌, ◌≤◌, ◌↔◌, IsTrue, IsErr, IfOk, IfErr, length, All};
+ghost use Rattle.shop_model.specs.Shop.{route_of, release_of, operation_count};
+ghost use Rattle.shop_model.specs.Limits.{IsWithinLimits, IsRouteWithin, AreRowsWithin};
+ghost use Rattle.shop_model.specs.Limits.{IsJobWithin, AreJobsWithin};
+ghost use Rattle.shop_model.specs.Given.{shop_of_rows, shop_of_jobs};
+
+use crate::limits::{MAX_JOBS, MAX_MACHINES, MAX_STEPS, MAX_TIME};
+use crate::ops::{Job, Op};
+use std::marker::Model;
+
+/// The list that an instance was given.
+#[derive(Drop)]
+enum Given {
+    Rows(Vec<Vec<Op>>),
+    Jobs(Vec<Job>),
+}
+
+/// Rows that `Instance::new` refused, handed back as they were given.
+#[derive(Drop)]
+pub struct SizeFault {
+    pub rows: Vec<Vec<Op>>,
+}
+
+/// Jobs that `Instance::of_jobs` refused, handed back as they were given.
+#[derive(Drop)]
+pub struct JobsFault {
+    pub jobs: Vec<Job>,
+}
+
+/// Whether each operation is on one of the machines and takes no longer than the limit.
+fn is_route_within(machines: usize, route: &[Op]) -> bool
+    ensures { IsTrue result ↔ IsRouteWithin machines route.now }
+{
+    route
+        .iter()
+        .all(|o| o.machine < machines && o.time <= MAX_TIME)
+}
+
+/// Whether rows are within the limits, and each as long as there are machines.
+fn are_rows_within(machines: usize, rows: &[Vec<Op>]) -> bool
+    ensures { IsTrue result ↔ AreRowsWithin machines rows.now }
+{
+    if machines < 1 || machines > MAX_MACHINES || rows.len() < 1 || rows.len() > MAX_JOBS {
+        return false;
+    }
+    for row in rows {
+        if row.len() != machines || !is_route_within(machines, row.as_slice()) {
+            return false;
+        }
+    }
+    true
+}
+
+/// Whether a job's release, the number of its operations and each of them are within the limits.
+fn is_job_within(machines: usize, job: &Job) -> bool
+    ensures { IsTrue result ↔ IsJobWithin machines job.now }
+{
+    job.release <= MAX_TIME
+        && job.route.len() <= MAX_STEPS
+        && is_route_within(machines, job.route.as_slice())
+}
+
+/// Whether jobs are within the limits.
+fn are_jobs_within(machines: usize, jobs: &[Job]) -> bool
+    ensures { IsTrue result ↔ AreJobsWithin machines jobs.now }
+{
+    if machines < 1 || machines > MAX_MACHINES || jobs.len() < 1 || jobs.len() > MAX_JOBS {
+        return false;
+    }
+    for job in jobs {
+        if !is_job_within(machines, job) {
+            return false;
+        }
+    }
+    true
+}
+
+/// An instance of the job shop (disjunctive model): a number of machines, and jobs with a release and a route each. It
+/// is within the limits of `MAX_JOBS` and the other constants. It keeps the list that it was given, so making it takes
+/// no memory.
+#[derive(Drop)]
+pub struct Instance {
+    machine_count: usize,
+    given: Given,
+}
+
+impl Model for Instance {
+    ghost use Rattle.shop_model.specs.Shop.{Shop};
+
+    ghost Value = { Shop };
+
+    ghost use Rattle.shop_model.specs.Given.{shop_of_given};
+    ghost use Rattle.shop_model.specs.Limits.{IsWithinLimits};
+
+    ghost view = { λ a. shop_of_given a.machine_count a.given };
+
+    ghost invariant = { λ a. IsWithinLimits (shop_of_given a.machine_count a.given) };
+}
+
+impl Instance {
+    /// The instance of these rows, one a job, each released at 0. The caller knows that they are within the limits.
+    pub fn of_checked(machines: usize, rows: Vec<Vec<Op>>) -> Instance
+        requires { AreRowsWithin machines rows.items }
+        ensures { result ≡ shop_of_rows machines rows.items }
+    {
+        Instance {
+            machine_count: machines,
+            given: Given::Rows(rows),
+        }
+    }
+
+    /// The instance of these rows, one a job, each released at 0: 1 to 100 machines, 1 to 1,000 rows, each with just as
+    /// many operations as there are machines, on machines that there are and with times of 0 to 1,000,000,000. A job
+    /// may visit a machine twice and miss another. Outside these limits the rows come back.
+    pub fn new(machines: usize, rows: Vec<Vec<Op>>) -> Result<Instance, SizeFault>
+        ensures refused { IsErr result ↔ (AreRowsWithin machines rows.items → ⊥) }
+        ensures ok { IfOk result (λ i. i ≡ shop_of_rows machines rows.items) }
+        ensures err { IfErr result (λ e. e.rows ≡ rows) }
+    {
+        if are_rows_within(machines, rows.as_slice()) {
+            Ok(Instance::of_checked(machines, rows))
+        } else {
+            Err(SizeFault { rows })
+        }
+    }
+
+    /// The instance of these jobs: as `new`, but with releases of 0 to 1,000,000,000, and with routes of any length
+    /// from 0 to 100. Outside these limits the jobs come back.
+    pub fn of_jobs(machines: usize, jobs: Vec<Job>) -> Result<Instance, JobsFault>
+        ensures refused { IsErr result ↔ (AreJobsWithin machines jobs.items → ⊥) }
+        ensures ok { IfOk result (λ i. i ≡ shop_of_jobs machines jobs.items) }
+        ensures err { IfErr result (λ e. e.jobs ≡ jobs) }
+    {
+        if are_jobs_within(machines, jobs.as_slice()) {
+            Ok(Instance {
+                machine_count: machines,
+                given: Given::Jobs(jobs),
+            })
+        } else {
+            Err(JobsFault { jobs })
+        }
+    }
+
+    /// Each instance is within the limits. (A fact for proofs; the call does nothing.)
+    pub fn keeps_limits(&self)
+        ensures { IsWithinLimits self.now }
+    {
+        let _given = &self.given;
+    }
+
+    /// How many jobs there are.
+    pub fn jobs(&self) -> usize
+        ensures { result ≡ length self.now.jobs }
+    {
+        match &self.given {
+            Given::Rows(rows) => rows.len(),
+            Given::Jobs(jobs) => jobs.len(),
+        }
+    }
+
+    /// How many machines there are.
+    pub fn machines(&self) -> usize
+        ensures { result ≡ self.now.machines }
+    {
+        self.machine_count
+    }
+
+    /// How many operations all routes have together: at most 100,000.
+    pub fn operations(&self) -> usize
+        ensures count { result ≡ operation_count self.now }
+        ensures limit { result ≤ 100000 }
+    {
+        let mut count = 0;
+        for j in 0..self.jobs() {
+            count += self.route(j).len();
+        }
+        count
+    }
+
+    /// The operations of job j, in order; j is one of the jobs.
+    pub fn route(&self, j: usize) -> &[Op]
+        requires { j < length self.now.jobs }
+        ensures route { result.now ≡ route_of self.now j }
+        ensures limits { IsWithinLimits self.now }
+    {
+        match &self.given {
+            Given::Rows(rows) => rows[j].as_slice(),
+            Given::Jobs(jobs) => jobs[j].route.as_slice(),
+        }
+    }
+
+    /// When job j is released, in units of time; j is one of the jobs.
+    pub fn release(&self, j: usize) -> u64
+        requires { j < length self.now.jobs }
+        ensures { result ≡ release_of self.now j }
+    {
+        match &self.given {
+            Given::Rows(_) => 0,
+            Given::Jobs(jobs) => jobs[j].release,
+        }
+    }
+}

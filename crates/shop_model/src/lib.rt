@@ -1,0 +1,23 @@
+// Instances of the job shop, tables of starts and their checker, and words with the tables that they place.
+#![tactic(auto)]
+
+mod checking;
+mod instances;
+mod limits;
+mod ops;
+mod overlaps;
+mod placing;
+mod spans;
+mod steps;
+mod tables;
+#[cfg(test)]
+mod tests;
+mod words;
+
+pub use checking::{Verdict, check, check_quickly};
+pub use instances::{Instance, JobsFault, SizeFault};
+pub use limits::{MAX_JOBS, MAX_MACHINES, MAX_START, MAX_STEPS, MAX_TIME};
+pub use ops::{Job, Op, Position};
+pub use placing::place;
+pub use tables::Table;
+pub use words::{Word, fits, is_full, start_word};

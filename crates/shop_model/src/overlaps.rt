@@ -1,0 +1,83 @@
+// Operations that overlap on their machine.
+ghost use Rattle.std.specs.Prelude.{◌<◌, ◌↔◌, IsTrue, length};
+ghost use Rattle.shop_model.specs.Shop.{IsOperation};
+ghost use Rattle.shop_model.specs.Checking.{HasShape, starts_of, NoneEarly, IsJobApart};
+ghost use Rattle.shop_model.specs.Checking.{TellsFirstAfter, TellsFirstOverlapOf, TellsFirstOverlap};
+
+use crate::instances::Instance;
+use crate::ops::Position;
+use crate::steps::{are_clear, clash_from};
+use crate::tables::Table;
+
+/// The first operation after (j, k) that it overlaps with.
+fn first_overlap_with(instance: &Instance, table: &Table, j: usize, k: usize) -> Option<Position>
+    requires shape { HasShape instance.now table.now }
+    requires operation { IsOperation instance.now j k }
+    ensures { TellsFirstAfter instance.now (starts_of table.now) j k result }
+{
+    let operation = instance.route(j)[k];
+    let start = table.row(j)[k];
+    let finish = start + operation.time;
+    for i in j..instance.jobs() {
+        let from = if i == j { k + 1 } else { 0 };
+        if let Some(l) = clash_from(
+            operation.machine,
+            start,
+            finish,
+            instance.route(i),
+            table.row(i),
+            from,
+        ) {
+            return Some(Position { job: i, step: l });
+        }
+    }
+    None
+}
+
+/// Whether no operation of job j overlaps with one of a later job.
+fn is_job_apart(instance: &Instance, table: &Table, j: usize) -> bool
+    requires shape { HasShape instance.now table.now }
+    requires in_time { NoneEarly instance.now (starts_of table.now) }
+    requires job { j < length instance.now.jobs }
+    ensures { IsTrue result ↔ IsJobApart instance.now (starts_of table.now) j }
+{
+    let route = instance.route(j);
+    let row = table.row(j);
+    for i in j + 1..instance.jobs() {
+        if !are_clear(route, row, instance.route(i), table.row(i)) {
+            return false;
+        }
+    }
+    true
+}
+
+/// The first step of job j that overlaps with a later operation, and the first such operation.
+fn first_overlap_of(instance: &Instance, table: &Table, j: usize) -> Option<(usize, Position)>
+    requires shape { HasShape instance.now table.now }
+    requires job { j < length instance.now.jobs }
+    ensures { TellsFirstOverlapOf instance.now (starts_of table.now) j result }
+{
+    for k in 0..instance.route(j).len() {
+        if let Some(second) = first_overlap_with(instance, table, j, k) {
+            return Some((k, second));
+        }
+    }
+    None
+}
+
+/// The first pair of operations that overlap.
+pub(crate) fn first_overlap(instance: &Instance, table: &Table) -> Option<(Position, Position)>
+    requires shape { HasShape instance.now table.now }
+    requires in_time { NoneEarly instance.now (starts_of table.now) }
+    ensures { TellsFirstOverlap instance.now (starts_of table.now) result }
+{
+    for j in 0..instance.jobs() {
+        if is_job_apart(instance, table, j) {
+            continue;
+        }
+        if let Some((k, second)) = first_overlap_of(instance, table, j) {
+            return Some((Position { job: j, step: k }, second));
+        }
+    }
+    None
+}
