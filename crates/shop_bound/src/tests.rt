@@ -1,0 +1,220 @@
+// Worked bounds, and each public call once.
+ghost use Rattle.std.specs.Prelude.{◌≡◌};
+
+use crate::{Heads, Jackson, Placement, Triple, lower_bound, one_machine, tails};
+use shop_model::{Instance, Job, Op, Word, fits, start_word};
+use std::alloc::{AllocError, Global};
+use std::test::Fail;
+
+fn op(machine: usize, time: u64) -> Op {
+    Op { machine, time }
+}
+
+fn triple(head: u64, time: u64, tail: u64) -> Triple
+    ensures { result ≡ record { head = head; time = time; tail = tail } }
+{
+    Triple { head, time, tail }
+}
+
+/// A: two jobs that cross.
+fn crossing(alloc: Global) -> Result<Instance, Fail> {
+    let first = vec![in alloc; op(0, 3), op(1, 2)]?;
+    let second = vec![in alloc; op(1, 2), op(0, 4)]?;
+    Ok(
+        Instance::new(2, vec![in alloc; first, second]?)
+            .ok()
+            .ok_or("limits")?,
+    )
+}
+
+/// G: a last step of time 0.
+fn with_a_gap(alloc: Global) -> Result<Instance, Fail> {
+    let first = vec![in alloc; op(0, 5), op(1, 3), op(2, 0)]?;
+    let second = vec![in alloc; op(1, 1), op(0, 1), op(2, 6)]?;
+    Ok(
+        Instance::new(3, vec![in alloc; first, second]?)
+            .ok()
+            .ok_or("limits")?,
+    )
+}
+
+/// R: a release, and a job without operations.
+fn with_a_release(alloc: Global) -> Result<Instance, Fail> {
+    let first = Job {
+        release: 0,
+        route: vec![in alloc; op(0, 3), op(1, 2)]?,
+    };
+    let second = Job {
+        release: 4,
+        route: vec![in alloc; op(1, 2), op(0, 4)]?,
+    };
+    let third = Job {
+        release: 7,
+        route: Vec::new(alloc),
+    };
+    Ok(
+        Instance::of_jobs(2, vec![in alloc; first, second, third]?)
+            .ok()
+            .ok_or("limits")?,
+    )
+}
+
+/// Fisher and Thompson's 6 jobs on 6 machines.
+fn ft06(alloc: Global) -> Result<Instance, Fail> {
+    let rows = vec![in alloc;
+        vec![in alloc; op(2, 1), op(0, 3), op(1, 6), op(3, 7), op(5, 3), op(4, 6)]?,
+        vec![in alloc;
+            op(1, 8),
+            op(2, 5),
+            op(4, 10),
+            op(5, 10),
+            op(0, 10),
+            op(3, 4)
+        ]?,
+        vec![in alloc; op(2, 5), op(3, 4), op(5, 8), op(0, 9), op(1, 1), op(4, 7)]?,
+        vec![in alloc; op(1, 5), op(0, 5), op(2, 5), op(3, 3), op(4, 8), op(5, 9)]?,
+        vec![in alloc; op(2, 9), op(1, 3), op(4, 5), op(5, 4), op(0, 3), op(3, 1)]?,
+        vec![in alloc; op(1, 3), op(3, 3), op(5, 9), op(0, 10), op(4, 4), op(2, 1)]?,
+    ]?;
+    Ok(Instance::new(6, rows).ok().ok_or("limits")?)
+}
+
+/// The bound of the word of these jobs, if they are a word.
+fn bound(alloc: Global, instance: &Instance, jobs: &[usize]) -> Result<Option<u64>, AllocError> {
+    let word = Word::of_jobs(jobs.to_vec(alloc)?);
+    if !fits(instance, &word) {
+        return Ok(None);
+    }
+    Ok(Some(lower_bound(alloc, instance, &word)?))
+}
+
+#[test]
+fn jackson_turn_by_turn(rt: HostRuntime) -> Result<(), Fail> {
+    let mut jackson = Jackson::with_room(rt.alloc(), 2)?;
+    assert_eq!(rt; jackson.turns(), 0);
+    assert_eq!(rt; jackson.bound(&[]), 0);
+    assert_eq!(rt; jackson.turns(), 0);
+    assert_eq!(rt; one_machine(&[]), 0);
+    let preempted = [triple(0, 5, 3), triple(1, 1, 6)];
+    assert_eq!(rt; jackson.bound(&preempted), 9);
+    assert_eq!(rt; jackson.turns(), 3);
+    assert_eq!(rt; one_machine(&preempted), 9);
+    let idle = [triple(0, 1, 0), triple(10, 5, 10)];
+    assert_eq!(rt; jackson.bound(&idle), 25);
+    assert_eq!(rt; jackson.turns(), 2);
+    assert_eq!(rt; one_machine(&idle), 25);
+    Ok(())
+}
+
+#[test]
+fn jackson_at_releases_and_times_of_0(rt: HostRuntime) -> Result<(), Fail> {
+    let mut jackson = Jackson::with_room(rt.alloc(), 2)?;
+    let later = [triple(0, 4, 1), triple(2, 2, 5)];
+    assert_eq!(rt; jackson.bound(&later), 9);
+    assert_eq!(rt; jackson.turns(), 3);
+    assert_eq!(rt; one_machine(&later), 9);
+    let no_time = [triple(0, 4, 9), triple(2, 0, 1)];
+    assert_eq!(rt; jackson.bound(&no_time), 13);
+    assert_eq!(rt; jackson.turns(), 3);
+    assert_eq!(rt; one_machine(&no_time), 13);
+    let alone = [triple(3, 0, 7)];
+    assert_eq!(rt; jackson.bound(&alone), 10);
+    assert_eq!(rt; jackson.turns(), 1);
+    assert_eq!(rt; one_machine(&alone), 10);
+    Ok(())
+}
+
+#[test]
+fn thresholds_on_a_machine_of_ft06(rt: HostRuntime) {
+    let fifth = [
+        triple(20, 6, 0),
+        triple(13, 10, 24),
+        triple(27, 7, 0),
+        triple(18, 8, 9),
+        triple(12, 5, 8),
+        triple(25, 4, 1),
+    ];
+    assert_eq!(rt; one_machine(&fifth), 52);
+}
+
+#[test]
+fn heads_and_tails_of_two_jobs_that_cross(rt: HostRuntime) -> Result<(), Fail> {
+    let alloc = rt.alloc();
+    let instance = crossing(alloc)?;
+    let word = Word::of_jobs(vec![in alloc; 1]?);
+    if fits(&instance, &word) {
+        let heads = Heads::of(alloc, &instance, &word)?;
+        assert_eq!(rt; heads.head(0, 0), Some(0));
+        assert_eq!(rt; heads.head(0, 1), Some(3));
+        assert_eq!(rt; heads.head(1, 0), None);
+        assert_eq!(rt; heads.head(1, 1), Some(2));
+        assert_eq!(rt; heads.head(1, 2), None);
+        assert_eq!(rt; heads.head(2, 0), None);
+    } else {
+        assert!(rt; false, "job 1 has a step");
+    }
+    let rows = tails(alloc, &instance)?;
+    assert_eq!(rt; rows.len(), 2);
+    assert_eq!(rt; rows[0].as_slice(), [2, 0].as_slice());
+    assert_eq!(rt; rows[1].as_slice(), [4, 0].as_slice());
+    Ok(())
+}
+
+#[test]
+fn what_a_word_leaves(rt: HostRuntime) -> Result<(), Fail> {
+    let alloc = rt.alloc();
+    let instance = with_a_release(alloc)?;
+    let word = Word::of_jobs(vec![in alloc; 1]?);
+    if !fits(&instance, &word) {
+        assert!(rt; false, "job 1 has a step");
+        return Ok(());
+    }
+    let placement = Placement::of(alloc, &instance, &word)?;
+    assert_eq!(rt; placement.machines_free(), [0, 6].as_slice());
+    assert!(rt; instance.jobs() == 3);
+    assert_eq!(rt; placement.steps(1), 1);
+    assert_eq!(rt; placement.ready(0), 0);
+    assert_eq!(rt; placement.ready(1), 6);
+    assert_eq!(rt; placement.ready(2), 7);
+    Ok(())
+}
+
+#[test]
+fn bounds_of_words(rt: HostRuntime) -> Result<(), Fail> {
+    let alloc = rt.alloc();
+    let crossing = crossing(alloc)?;
+    assert_eq!(rt; bound(alloc, &crossing, &[])?, Some(7));
+    assert_eq!(rt; bound(alloc, &crossing, &[1])?, Some(7));
+    assert_eq!(rt; bound(alloc, &crossing, &[1, 1])?, Some(11));
+    assert_eq!(rt; bound(alloc, &crossing, &[1, 0, 0])?, Some(7));
+    let gap = with_a_gap(alloc)?;
+    assert_eq!(rt; bound(alloc, &gap, &[])?, Some(9));
+    assert_eq!(rt; bound(alloc, &gap, &[1, 1])?, Some(10));
+    assert_eq!(rt; bound(alloc, &gap, &[1, 0])?, Some(12));
+    let release = with_a_release(alloc)?;
+    assert_eq!(rt; bound(alloc, &release, &[])?, Some(10));
+    assert_eq!(rt; bound(alloc, &release, &[0, 0, 1, 1])?, Some(11));
+    Ok(())
+}
+
+#[test]
+fn ft06_before_and_after_its_start_word(rt: HostRuntime) -> Result<(), Fail> {
+    let alloc = rt.alloc();
+    let instance = ft06(alloc)?;
+    assert_eq!(rt; bound(alloc, &instance, &[])?, Some(52));
+    let start = start_word(alloc, &instance)?;
+    assert_eq!(rt; bound(alloc, &instance, start.jobs())?, Some(152));
+    Ok(())
+}
+
+#[test]
+fn a_thousand_operations_on_one_machine(rt: HostRuntime) -> Result<(), Fail> {
+    let alloc = rt.alloc();
+    let mut rows = Vec::with_capacity(alloc, 1000)?;
+    for _ in 0..1000 {
+        rows.push(vec![in alloc; op(0, 1_000_000_000)]?)?;
+    }
+    let instance = Instance::new(1, rows).ok().ok_or("limits")?;
+    assert_eq!(rt; bound(alloc, &instance, &[])?, Some(1_000_000_000_000));
+    Ok(())
+}
