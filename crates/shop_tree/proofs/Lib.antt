@@ -1,0 +1,12 @@
+mod NodeLemmas
+pub mod Rows
+pub mod Members
+pub mod BetterChildren
+pub mod WalkSteps
+pub mod SearchLaw
+pub mod Found
+mod Counting
+mod PlacedLemmas
+mod ChoosingLemmas
+mod ChildrenLemmas
+mod FirstOn

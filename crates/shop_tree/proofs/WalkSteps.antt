@@ -1,0 +1,218 @@
+-- One turn of the walk of a stack of words.
+use Rattle.std.proofs.Common.{◌≡◌, ℕ, zero, suc, ◌+◌, ◌*◌, ◌≤◌, ◌<◌, inl, inr, false, Option, Some, List, [], ◌∷◌, ◌++◌}
+use Rattle.std.proofs.Common.{length, map, reverse, refl, sym, ◌∙◌, ap, subst, arith, leb, length-append}
+use Rattle.shop_tree.specs.declared.nodes.Node.{Node}
+use Rattle.std.specs.List.{AllByRecursion, fold, range_with_len}
+use Rattle.std.proofs.lemmas.Bool.{cases_Bool, le-leb, leb-true}
+use Rattle.std.proofs.lemmas.List.{reverse-append, reverse-reverse, map-append, length-map, length-reverse}
+use Rattle.std.proofs.lemmas.List.Sums.{fold-append, length-filter, count_by-le-length}
+use Rattle.std.specs.Prelude.{nat_lt}
+use Rattle.shop_model.specs.Shop.{Shop, route_of}
+use Rattle.shop_bound.specs.Bound.{lb}
+use Rattle.shop_model.specs.Word.{placing}
+use Rattle.shop_tree.specs.Branching.{branch, conflict, conflict_among, open_jobs, sort_by, insert_by, conflicts_with}
+use Rattle.shop_tree.specs.Branching.{chosen_of}
+use Rattle.shop_tree.specs.Walking.{Walk, walk, walk_within, steps_left, sheet}
+use Rattle.shop_tree.specs.Searching.{walk_stack, opening_walk}
+use Rattle.shop_tree.specs.Nodes.{words_of}
+use Rattle.shop_tree.proofs.NodeLemmas.{words_of-reverse}
+
+-- the last word of the stack is walked first
+pub walk_stack-pop : (shop : Shop) (s : Walk) (ws : List (List ℕ)) (w : List ℕ) → walk_stack shop s (ws ++ w ∷ [])
+    ≡ walk_stack shop (walk shop s w) ws
+walk_stack-pop shop s ws w = ap (fold (walk shop) s) (reverse-append ws (w ∷ []))
+
+-- words put on the stack, the last one first, are walked next
+pub walk_stack-append : (shop : Shop) (s : Walk) (ws vs : List (List ℕ)) → walk_stack shop s (ws ++ reverse vs)
+    ≡ walk_stack shop (fold (walk shop) s vs) ws
+walk_stack-append shop s ws vs =
+    ap (fold (walk shop) s) (reverse-append ws (reverse vs) ∙ ap (λ x. x ++ reverse ws) (reverse-reverse vs))
+    ∙ fold-append (walk shop) s vs (reverse ws)
+
+module _ (shop : Shop) (found : Option (List ℕ)) (best : ℕ) (left : List (List ℕ)) (w : List ℕ) where
+  before : ℕ → Walk
+  before budget = record { found = found; best = best; left = left; budget = budget }
+
+  within-left : (n : ℕ) → walk_within shop n (record { found = found; best = best; left = left; budget = 0 }) w
+      ≡ record { found = found; best = best; left = left ++ w ∷ []; budget = 0 }
+  within-left zero = refl
+  within-left (suc n) = refl
+
+  -- with no budget the word is left
+  pub walk-left : (budget : ℕ) → budget ≡ 0
+      → walk shop (record { found = found; best = best; left = left; budget = budget }) w
+      ≡ record { found = found; best = best; left = left ++ w ∷ []; budget = budget }
+  walk-left budget e = rw e (within-left (steps_left shop w))
+
+  within-cut : (n b : ℕ) → best ≤ lb shop w
+      → walk_within shop n (record { found = found; best = best; left = left; budget = suc b }) w
+      ≡ record { found = found; best = best; left = left; budget = b }
+  within-cut zero b h = rw (le-leb best (lb shop w) h) refl
+  within-cut (suc n) b h = rw (le-leb best (lb shop w) h) refl
+
+  -- where the bound isn't below the best nothing is left of it
+  pub walk-cut : (b : ℕ) → best ≤ lb shop w
+      → walk shop (record { found = found; best = best; left = left; budget = suc b }) w
+      ≡ record { found = found; best = best; left = left; budget = b }
+  walk-cut b h = within-cut (steps_left shop w) b h
+
+  above : lb shop w < best → leb best (lb shop w) ≡ false
+  above h = elim (cases_Bool (leb best (lb shop w))) [
+    | inl e ↦ absurd (let a = leb-true best (lb shop w) e
+        in omega arith)
+    | inr e ↦ e
+  ]
+
+  -- a full word is found
+  pub walk-found : (b : ℕ) → lb shop w < best → steps_left shop w ≡ 0 → walk shop
+      (record { found = found; best = best; left = left; budget = suc b }) w
+      ≡ record { found = Some w; best = lb shop w; left = left; budget = b }
+  walk-found b h e = rw e (rw (above h) refl)
+
+  within-children : (n b : ℕ) → lb shop w < best → walk_within shop (suc n)
+      (record { found = found; best = best; left = left; budget = suc b }) w
+      ≡ fold (walk_within shop n) (record { found = found; best = best; left = left; budget = b }) (branch shop w)
+  within-children n b h = rw (above h) refl
+
+-- each child lacks one operation less
+children_lack : (shop : Shop) (n : ℕ) (w : List ℕ) (js : List ℕ) → steps_left shop w ≡ suc n
+    → AllByRecursion (λ v. steps_left shop v ≡ n) (map (λ j. w ++ j ∷ []) js)
+children_lack shop n w [] e = tt
+children_lack shop n w (j ∷ js) e = ((let a = length-append w (j ∷ []) in omega arith), children_lack shop n w js e)
+
+all_insert : {A : Type 0} (P : A → Type 0) (key : A → ℕ) (x : A) (ys : List A) → P x → AllByRecursion P ys
+    → AllByRecursion P (insert_by key x ys)
+all_insert P key x [] p h = (p, tt)
+all_insert P key x (y ∷ ys) p h = elim (cases_Bool (leb (key x) (key y)))
+    [ inl e ↦ rw e (p, h) | inr e ↦ rw e (h.0, all_insert P key x ys p h.1) ]
+
+all_sort : {A : Type 0} (P : A → Type 0) (key : A → ℕ) (xs : List A) → AllByRecursion P xs
+    → AllByRecursion P (sort_by key xs)
+all_sort P key [] h = tt
+all_sort P key (x ∷ xs) h = all_insert P key x (sort_by key xs) h.0 (all_sort P key xs h.1)
+
+fold_within : (shop : Shop) (n : ℕ) (s : Walk) (ws : List (List ℕ)) → AllByRecursion (λ v. steps_left shop v ≡ n) ws
+    → fold (walk_within shop n) s ws ≡ fold (walk shop) s ws
+fold_within shop n s [] h = refl
+fold_within shop n s (w ∷ ws) h = subst (λ m. fold (walk_within shop n) (walk_within shop n s w) ws
+    ≡ fold (walk shop) (walk_within shop m s w) ws) (sym h.0) (fold_within shop n (walk_within shop n s w) ws h.1)
+
+-- of another word the children are walked
+pub walk-children : (shop : Shop) (found : Option (List ℕ)) (best : ℕ) (left : List (List ℕ)) (w : List ℕ) (b n : ℕ)
+    → lb shop w < best → steps_left shop w ≡ suc n
+    → walk shop (record { found = found; best = best; left = left; budget = suc b }) w
+    ≡ fold (walk shop) (record { found = found; best = best; left = left; budget = b }) (branch shop w)
+walk-children shop found best left w b n h e =
+    ap (λ m. walk_within shop m (record { found = found; best = best; left = left; budget = suc b }) w) e
+    ∙ (within-children shop found best left w n b h
+    ∙ fold_within shop n (record { found = found; best = best; left = left; budget = b }) (branch shop w)
+    (all_sort (λ v. steps_left shop v ≡ n) (lb shop) (map (λ j. w ++ j ∷ []) (conflict shop w))
+    (children_lack shop n w (conflict shop w) e)))
+
+-- there are no more children than jobs
+length-insert_by : {A : Type 0} (key : A → ℕ) (x : A) (ys : List A) → length (insert_by key x ys) ≡ suc (length ys)
+length-insert_by key x [] = refl
+length-insert_by key x (y ∷ ys) = elim (cases_Bool (leb (key x) (key y)))
+    [ inl e ↦ rw e refl | inr e ↦ rw e (ap suc (length-insert_by key x ys)) ]
+
+length-sort_by : {A : Type 0} (key : A → ℕ) (xs : List A) → length (sort_by key xs) ≡ length xs
+length-sort_by key [] = refl
+length-sort_by key (x ∷ xs) = length-insert_by key x (sort_by key xs) ∙ ap suc (length-sort_by key xs)
+
+length-range : (a n : ℕ) → length (range_with_len a n) ≡ n
+length-range a zero = refl
+length-range a (suc n) = ap suc (length-range (a + 1) n)
+
+pub branch_few : (shop : Shop) (w : List ℕ) → length (branch shop w) ≤ length shop.jobs
+branch_few shop w =
+    let a = length-sort_by (lb shop) (map (λ j. w ++ j ∷ []) (conflict shop w))
+    in let b = length-map (conflict shop w) (λ j. w ++ j ∷ [])
+    in let p = placing shop w
+    in let c = few (open_jobs shop p)
+    in let d = length-filter (λ j. nat_lt (p.steps j) (length (route_of shop j))) (range_with_len 0 (length shop.jobs))
+    in let e = count_by-le-length (λ j. nat_lt (p.steps j) (length (route_of shop j)))
+    (range_with_len 0 (length shop.jobs))
+    in let f = length-range 0 (length shop.jobs) in omega arith
+  where
+    few : (js : List ℕ) → length (conflict_among shop (placing shop w) js) ≤ length js
+    few [] = omega arith
+    few (j ∷ js) = let test = conflicts_with shop (placing shop w) (chosen_of shop (placing shop w) j js)
+        in let a = length-filter test (j ∷ js) in let b = count_by-le-length test (j ∷ js) in omega arith
+
+-- A turn of the loop, by what it does with the word that it takes from the stack.
+module _ (shop : Shop) (found : Option (List ℕ)) (best : ℕ) (left : List (Node)) (stack rest : List (Node))
+    (node : Node) (all : Walk)
+    (taken : stack ≡ rest ++ node ∷ []) where
+  turn : (s : Walk) → walk_stack shop s (words_of stack) ≡ all → walk_stack shop (walk shop s node.word) (words_of rest)
+      ≡ all
+  turn s h = sym (walk_stack-pop shop s (words_of rest) node.word)
+      ∙ (ap (walk_stack shop s) (sym (ap words_of taken ∙ map-append (λ (v : Node). v.word) rest (node ∷ []))) ∙ h)
+
+  pub turn-left : (budget : ℕ) (more : List (Node)) → budget ≡ 0 → more ≡ left ++ node ∷ []
+      → walk_stack shop (record { found = found; best = best; left = words_of left; budget = budget }) (words_of stack)
+      ≡ all
+      → walk_stack shop (record { found = found; best = best; left = words_of more; budget = budget }) (words_of rest)
+      ≡ all
+  turn-left budget more e m h =
+      let a : words_of more ≡ words_of left ++ node.word ∷ [] = ap words_of m
+      ∙ map-append (λ (v : Node). v.word) left (node ∷ [])
+      in ap (λ x. walk_stack shop (record { found = found; best = best; left = x; budget = budget }) (words_of rest)) a
+      ∙ (ap (λ s. walk_stack shop s (words_of rest))
+      (sym (walk-left shop found best (words_of left) node.word budget e))
+      ∙ turn (record { found = found; best = best; left = words_of left; budget = budget }) h)
+
+  pub turn-cut : (budget b : ℕ) → budget ≡ suc b → best ≤ lb shop node.word
+      → walk_stack shop (record { found = found; best = best; left = words_of left; budget = budget }) (words_of stack)
+      ≡ all
+      → walk_stack shop (record { found = found; best = best; left = words_of left; budget = b }) (words_of rest) ≡ all
+  turn-cut budget b e le h =
+      ap (λ s. walk_stack shop s (words_of rest)) (sym (walk-cut shop found best (words_of left) node.word b le))
+      ∙ turn (record { found = found; best = best; left = words_of left; budget = suc b }) (rw (sym e) h)
+
+  pub turn-found : (budget b bound : ℕ) → budget ≡ suc b → bound ≡ lb shop node.word → bound < best
+      → steps_left shop node.word ≡ 0
+      → walk_stack shop (record { found = found; best = best; left = words_of left; budget = budget }) (words_of stack)
+      ≡ all
+      → walk_stack shop (record { found = Some node.word; best = bound; left = words_of left; budget = b })
+      (words_of rest) ≡ all
+  turn-found budget b bound e le lt full h =
+      ap (λ s. walk_stack shop s (words_of rest))
+      (rw le (sym (walk-found shop found best (words_of left) node.word b (rw le at lt) full)))
+      ∙ turn (record { found = found; best = best; left = words_of left; budget = suc b }) (rw (sym e) h)
+
+  pub turn-children : (budget b n : ℕ) (children more : List (Node)) → budget ≡ suc b → lb shop node.word < best
+      → steps_left shop node.word ≡ suc n
+      → words_of children ≡ reverse (branch shop node.word) → more ≡ rest ++ children
+      → walk_stack shop (record { found = found; best = best; left = words_of left; budget = budget }) (words_of stack)
+      ≡ all
+      → walk_stack shop (record { found = found; best = best; left = words_of left; budget = b }) (words_of more) ≡ all
+  turn-children budget b n children more e lt lack kids m h =
+      let s : Walk = record { found = found; best = best; left = words_of left; budget = b }
+      in let a : words_of more ≡ words_of rest ++ reverse (branch shop node.word) = ap words_of m
+      ∙ (map-append (λ (v : Node). v.word) rest children ∙ ap (λ x. words_of rest ++ x) kids)
+      in ap (walk_stack shop s) a
+      ∙ (walk_stack-append shop s (words_of rest) (branch shop node.word)
+      ∙ (ap (λ t. walk_stack shop t (words_of rest))
+      (sym (walk-children shop found best (words_of left) node.word b n lt lack))
+      ∙ turn (record { found = found; best = best; left = words_of left; budget = suc b }) (rw (sym e) h)))
+
+-- the measure falls where children are put on the stack
+pub fewer_turns : (budget b jobs children rest stack more : ℕ) → budget ≡ suc b → children ≤ jobs → stack ≡ rest + 1
+    → more ≡ rest + children
+    → b * (jobs + 1) + more < budget * (jobs + 1) + stack
+fewer_turns budget b jobs children rest stack more e few s m = rw (e, s, m) (omega arith)
+
+pub children_few : (shop : Shop) (w : List ℕ) (children : List (Node)) → words_of children ≡ reverse (branch shop w)
+    → length children ≤ length shop.jobs
+children_few shop w children e =
+    let a = length-map children (λ (v : Node). v.word) in let b = ap length e in let c = length-reverse (branch shop w)
+    in let d = branch_few shop w in omega arith
+
+-- the nodes of a piece on the stack, the first one on top
+pub walks_piece : (shop : Shop) (nodes copied reversed : List Node) (best budget : ℕ) → words_of copied ≡ words_of nodes
+    → reversed ≡ reverse copied
+    → walk_stack shop (opening_walk best budget) (words_of reversed) ≡ sheet shop (words_of nodes) best budget
+walks_piece shop nodes copied reversed best budget same e =
+    ap (λ ws. fold (walk shop) (opening_walk best budget) (reverse ws)) (ap words_of e ∙ words_of-reverse copied)
+    ∙ (ap (fold (walk shop) (opening_walk best budget)) (reverse-reverse (words_of copied))
+    ∙ ap (fold (walk shop) (opening_walk best budget)) same)

@@ -1,0 +1,10 @@
+pub mod Branching
+pub mod Walking
+pub mod Nodes
+pub mod Laws
+pub mod Pieces
+pub mod Searching
+pub mod Sheets
+pub mod NextOperations
+pub mod Choosing
+pub mod Inserting

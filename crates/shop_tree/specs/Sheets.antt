@@ -1,0 +1,18 @@
+-- Sheets.
+--     IsSheetOf sheet shop piece best budget     the sheet was made of these
+--     walk_of sheet                              the sheet as what a walk carries
+use Rattle.std.specs.Prelude.{◌≡◌, ℕ, ◌-◌}
+use Rattle.shop_model.specs.Shop.{Shop}
+use Rattle.shop_tree.specs.Nodes.{words_of}
+use Rattle.shop_tree.specs.Walking.{Walk}
+use Rattle.shop_tree.specs.declared.nodes.Piece.{Piece}
+use Rattle.shop_tree.specs.declared.sheets.Sheet.{Sheet}
+
+pub record IsSheetOf (s : Sheet) (shop : Shop) (piece : Piece) (best budget : ℕ) : Type 0 where
+  pub of_instance : s.instance.now ≡ shop
+  pub of_piece : s.piece.now ≡ piece
+  pub of_best : s.best ≡ best
+  pub of_budget : s.budget ≡ budget
+
+abbrev pub walk_of : Sheet → Walk
+walk_of s = record { found = s.found; best = s.makespan; left = words_of s.left.items; budget = s.budget - s.taken }

@@ -1,0 +1,102 @@
+// Branching on the conflict set (Giffler and Thompson 1960).
+ghost use Rattle.std.specs.Prelude.{◌≡◌, [], ◌∷◌, ◌++◌, IfOk};
+ghost use Rattle.shop_model.specs.Word.{IsWord, IsFull};
+ghost use Rattle.shop_tree.specs.Branching.{branch, conflict as conflict_set};
+ghost use Rattle.shop_tree.specs.Choosing.{IsChosen, IsNextOf, conflicting_with};
+ghost use Rattle.shop_tree.specs.Inserting.{IsPlaceFor};
+ghost use Rattle.shop_tree.specs.Laws.{HaveBetterChildren};
+ghost use Rattle.shop_tree.specs.Nodes.{IsNode, AreNodes, words_of};
+
+use crate::next_operations::NextOperation;
+use crate::nodes::Node;
+use crate::placings::Placed;
+use shop_model::{Instance, Word};
+use std::alloc::{AllocError, Global};
+
+/// The next operation that can end first, of the lowest job on ties; none where no job has a step left.
+fn choose(placed: &Placed) -> Option<NextOperation>
+    ensures { IsChosen placed.now result }
+{
+    let mut chosen: Option<NextOperation> = None;
+    for job in 0..placed.instance.jobs() {
+        let Some(next) = placed.next(job) else {
+            continue
+        };
+        if let Some(best) = chosen {
+            if best.end <= next.end {
+                continue;
+            }
+        }
+        chosen = Some(next);
+    }
+    chosen
+}
+
+/// The jobs whose next operations are in conflict with the chosen one, that one included.
+fn conflicting(
+    alloc: Global,
+    placed: &Placed,
+    chosen: NextOperation,
+) -> Result<Vec<usize>, AllocError>
+    requires { IsNextOf placed.now chosen.job chosen }
+    ensures { IfOk result (λ v. v.items ≡ conflicting_with placed.now chosen.job) }
+{
+    let mut jobs = Vec::with_capacity(alloc, placed.instance.jobs())?;
+    for job in 0..placed.instance.jobs() {
+        let Some(next) = placed.next(job) else {
+            continue
+        };
+        if !next.conflicts_with(&chosen) {
+            continue;
+        }
+        jobs.push(job).unwrap();
+    }
+    Ok(jobs)
+}
+
+/// The conflict set of a word that isn't full, in ascending order: the job whose next operation can end first (the
+/// lowest on ties), and each job whose next operation is on the same machine and can begin before that end (Giffler and
+/// Thompson 1960). An error where memory is refused.
+pub fn conflict(alloc: Global, instance: &Instance, word: &Word) -> Result<Vec<usize>, AllocError>
+    requires word { IsWord instance.now word.now }
+    requires open { IsFull instance.now word.now → ⊥ }
+    ensures { IfOk result (λ v. v.items ≡ conflict_set instance.now word.now) }
+{
+    let placed = Placed::new(alloc, instance, word)?;
+    match choose(&placed) {
+        Some(chosen) => conflicting(alloc, &placed, chosen),
+        None => Ok(Vec::new(alloc)),
+    }
+}
+
+/// The place of the first node whose bound is not below this one, or the end.
+fn place_for(bound: u64, nodes: &[Node]) -> usize
+    ensures { IsPlaceFor bound nodes.now result }
+{
+    for i in 0..nodes.len() {
+        if bound <= nodes[i].bound {
+            return i;
+        }
+    }
+    nodes.len()
+}
+
+/// The children of a node whose word isn't full, by bound, then by job: its word followed by each job of the conflict
+/// set. For each table under the word some child has one under it that ends no later. An error where memory is refused.
+pub fn children(alloc: Global, instance: &Instance, node: &Node) -> Result<Vec<Node>, AllocError>
+    requires node { IsNode instance.now node.now }
+    requires open { IsFull instance.now node.now.word → ⊥ }
+    ensures branch { IfOk result (λ v. words_of v.items ≡ branch instance.now node.now.word) }
+    ensures nodes { IfOk result (λ v. AreNodes instance.now v.items) }
+    ensures better { IfOk result (λ v. HaveBetterChildren instance.now node.now.word (words_of v.items)) }
+{
+    let mut jobs = conflict(alloc, instance, &node.word)?;
+    let mut children = Vec::with_capacity(alloc, jobs.len())?;
+    // The last job first: of equal bounds the lower job then stands first.
+    while let Some(job) = jobs.pop() {
+        let child = Node::new(alloc, instance, node.word.followed_by(alloc, job)?)?;
+        let place = place_for(child.bound, &children);
+        children.insert(place, child).unwrap();
+    }
+    Ok(children)
+}

@@ -1,0 +1,19 @@
+// Branching on the conflict set, and the search of one piece.
+#![tactic(auto)]
+
+mod branching;
+mod laws;
+mod next_operations;
+mod nodes;
+mod placings;
+mod searching;
+mod sheets;
+#[cfg(test)]
+mod tests;
+mod walking;
+
+pub use branching::{children, conflict};
+pub use laws::{branching_loses_no_table, searches_lose_no_table};
+pub use nodes::{Node, Piece};
+pub use searching::search;
+pub use sheets::Sheet;

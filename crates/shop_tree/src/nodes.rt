@@ -1,0 +1,41 @@
+ghost use Rattle.std.specs.Prelude.{◌≡◌, IfOk};
+ghost use Rattle.shop_model.specs.Word.{IsWord};
+ghost use Rattle.shop_bound.specs.Bound.{lb};
+
+use shop_bound::lower_bound;
+use shop_model::{Instance, Word};
+use std::alloc::{AllocError, Global};
+
+/// A word and its lower bound, in units of time.
+#[derive(Drop)]
+pub struct Node {
+    pub word: Word,
+    pub bound: u64,
+}
+
+/// Some nodes of the search, to be searched one after the other, under a number.
+#[derive(Drop)]
+pub struct Piece {
+    pub number: usize,
+    pub nodes: Vec<Node>,
+}
+
+impl Node {
+    /// The node of this word, which fits the instance, with its lower bound. An error where memory is refused.
+    pub fn new(alloc: Global, instance: &Instance, word: Word) -> Result<Node, AllocError>
+        requires { IsWord instance.now word }
+        ensures { IfOk result (λ n. (n.word ≡ word) × (n.bound ≡ lb instance.now word)) }
+    {
+        let bound = lower_bound(alloc, instance, &word)?;
+        Ok(Node { word, bound })
+    }
+}
+
+impl Piece {
+    /// The piece of this number and these nodes.
+    pub fn new(number: usize, nodes: Vec<Node>) -> Piece
+        ensures { result ≡ record { number = number; nodes = nodes } }
+    {
+        Piece { number, nodes }
+    }
+}

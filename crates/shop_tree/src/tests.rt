@@ -1,0 +1,216 @@
+// Worked instances and sheets, and each public call once.
+ghost use Rattle.std.specs.Prelude.{◌≡◌, IfOk};
+ghost use Rattle.shop_tree.specs.Nodes.{IsNode, AreNodes};
+
+use crate::{Node, Piece, Sheet, children, conflict, search};
+use shop_model::{Instance, Op, Word, fits, is_full};
+use std::alloc::{AllocError, Global};
+use std::process::Abort;
+use std::test::Fail;
+
+fn op(machine: usize, time: u64) -> Op {
+    Op { machine, time }
+}
+
+/// A: two jobs that cross.
+fn crossing(alloc: Global) -> Result<Instance, Fail> {
+    let first = vec![in alloc; op(0, 3), op(1, 2)]?;
+    let second = vec![in alloc; op(1, 2), op(0, 4)]?;
+    Ok(
+        Instance::new(2, vec![in alloc; first, second]?)
+            .ok()
+            .ok_or("limits")?,
+    )
+}
+
+/// G: a last step of time 0.
+fn with_a_gap(alloc: Global) -> Result<Instance, Fail> {
+    let first = vec![in alloc; op(0, 5), op(1, 3), op(2, 0)]?;
+    let second = vec![in alloc; op(1, 1), op(0, 1), op(2, 6)]?;
+    Ok(
+        Instance::new(3, vec![in alloc; first, second]?)
+            .ok()
+            .ok_or("limits")?,
+    )
+}
+
+/// Z: several steps of time 0.
+fn with_zeros(alloc: Global) -> Result<Instance, Fail> {
+    let first = vec![in alloc; op(0, 4), op(1, 1), op(2, 0)]?;
+    let second = vec![in alloc; op(1, 0), op(2, 5), op(0, 0)]?;
+    Ok(
+        Instance::new(3, vec![in alloc; first, second]?)
+            .ok()
+            .ok_or("limits")?,
+    )
+}
+
+fn word(alloc: Global, jobs: &[usize]) -> Result<Word, Fail>
+    ensures { IfOk result (λ w. w ≡ jobs.now) }
+{
+    Ok(Word::of_jobs(jobs.to_vec(alloc)?))
+}
+
+fn node(rt: &impl Abort, alloc: Global, instance: &Instance, jobs: &[usize]) -> Result<Node, Fail>
+    ensures { IfOk result (λ n. IsNode instance.now n) }
+{
+    let word = word(alloc, jobs)?;
+    assert!(rt; fits(instance, &word));
+    Ok(Node::new(alloc, instance, word)?)
+}
+
+fn one_node(
+    rt: &impl Abort,
+    alloc: Global,
+    instance: &Instance,
+    jobs: &[usize],
+) -> Result<Piece, Fail>
+    ensures { IfOk result (λ p. AreNodes instance.now p.nodes.items) }
+{
+    Ok(Piece::new(0, vec![in alloc; node(rt, alloc, instance, jobs)?]?))
+}
+
+fn assert_sheet(
+    rt: &impl Abort,
+    sheet: &Sheet,
+    found: Option<&[usize]>,
+    makespan: u64,
+    taken: u64,
+) {
+    assert_eq!(rt; sheet.found.as_ref().map(|word| word.jobs()), found);
+    assert_eq!(rt; sheet.makespan, makespan);
+    assert_eq!(rt; sheet.taken, taken);
+}
+
+fn assert_left(rt: &impl Abort, sheet: &Sheet, words: &[&[usize]]) {
+    assert_eq!(rt; sheet.left.len(), words.len());
+    for (node, word) in sheet.left.iter().zip(words) {
+        assert_eq!(rt; node.word.jobs(), *word);
+    }
+}
+
+#[test]
+fn conflict_sets_of_two_jobs_that_cross(rt: HostRuntime) -> Result<(), Fail> {
+    let alloc = rt.alloc();
+    let instance = crossing(alloc)?;
+    for (jobs, set) in [
+        ([].as_slice(), [1].as_slice()),
+        ([1].as_slice(), [0, 1].as_slice()),
+    ] {
+        let word = word(alloc, jobs)?;
+        assert!(&rt; fits(&instance, &word) && !is_full(&instance, &word));
+        assert_eq!(&rt; conflict(alloc, &instance, &word)?.as_slice(), set);
+    }
+    Ok(())
+}
+
+#[test]
+fn the_chosen_operation_begins_where_it_can_end(rt: HostRuntime) -> Result<(), Fail> {
+    let alloc = rt.alloc();
+    let instance = with_zeros(alloc)?;
+    let word = word(alloc, &[])?;
+    assert!(&rt; fits(&instance, &word) && !is_full(&instance, &word));
+    assert_eq!(&rt;
+        conflict(alloc, &instance, &word)?.as_slice(),
+        [1].as_slice()
+    );
+    Ok(())
+}
+
+#[test]
+fn children_by_bound(rt: HostRuntime) -> Result<(), Fail> {
+    let alloc = rt.alloc();
+    let instance = with_a_gap(alloc)?;
+    let node = node(&rt, alloc, &instance, &[1])?;
+    assert!(&rt; !is_full(&instance, &node.word));
+    let children = children(alloc, &instance, &node)?;
+    assert_eq!(&rt; children.len(), 2);
+    assert_eq!(&rt; children[0].word.jobs(), [1, 1].as_slice());
+    assert_eq!(&rt; children[0].bound, 10);
+    assert_eq!(&rt; children[1].word.jobs(), [1, 0].as_slice());
+    assert_eq!(&rt; children[1].bound, 12);
+    Ok(())
+}
+
+#[test]
+fn sheets_of_the_empty_word(rt: HostRuntime) -> Result<(), Fail> {
+    let alloc = rt.alloc();
+    let instance = crossing(alloc)?;
+    let piece = one_node(&rt, alloc, &instance, &[])?;
+    let found = [1, 0, 0, 1];
+    let all = search(alloc, &instance, &piece, 11, 100)?;
+    assert_sheet(&rt, &all, Some(&found), 7, 6);
+    assert_left(&rt, &all, &[]);
+    let five = search(alloc, &instance, &piece, 11, 5)?;
+    assert_sheet(&rt, &five, Some(&found), 7, 5);
+    assert_left(&rt, &five, &[&[1, 1]]);
+    let one = search(alloc, &instance, &piece, 11, 1)?;
+    assert_sheet(&rt, &one, None, 11, 1);
+    assert_left(&rt, &one, &[&[1]]);
+    Ok(())
+}
+
+#[test]
+fn optimum_above_the_first_bound(rt: HostRuntime) -> Result<(), Fail> {
+    let alloc = rt.alloc();
+    let instance = with_a_gap(alloc)?;
+    assert_eq!(&rt; node(&rt, alloc, &instance, &[])?.bound, 9);
+    let piece = one_node(&rt, alloc, &instance, &[])?;
+    let sheet = search(alloc, &instance, &piece, 16, 100)?;
+    assert_sheet(&rt, &sheet, Some(&[1, 1, 0, 1, 0, 0]), 10, 8);
+    assert_left(&rt, &sheet, &[]);
+    Ok(())
+}
+
+#[test]
+fn operations_that_take_no_time(rt: HostRuntime) -> Result<(), Fail> {
+    let alloc = rt.alloc();
+    let instance = with_zeros(alloc)?;
+    let piece = one_node(&rt, alloc, &instance, &[])?;
+    let sheet = search(alloc, &instance, &piece, 10, 100)?;
+    assert_eq!(&rt; sheet.makespan, 5);
+    assert_eq!(&rt; sheet.taken, 8);
+    assert_left(&rt, &sheet, &[]);
+    Ok(())
+}
+
+#[test]
+fn first_round_leaves_two_nodes(rt: HostRuntime) -> Result<(), Fail> {
+    let alloc = rt.alloc();
+    let instance = with_a_gap(alloc)?;
+    let piece = one_node(&rt, alloc, &instance, &[])?;
+    let sheet = search(alloc, &instance, &piece, 16, 3)?;
+    assert_sheet(&rt, &sheet, None, 16, 3);
+    assert_left(&rt, &sheet, &[&[1, 1, 0], &[1, 0]]);
+    for (node, bound) in sheet.left.iter().zip([10, 12]) {
+        assert_eq!(&rt; node.bound, bound);
+    }
+    Ok(())
+}
+
+#[test]
+fn sheets_of_later_rounds(rt: HostRuntime) -> Result<(), Fail> {
+    let alloc = rt.alloc();
+    let instance = with_a_gap(alloc)?;
+    let second = one_node(&rt, alloc, &instance, &[1, 1, 0])?;
+    let sheet = search(alloc, &instance, &second, 16, 3)?;
+    assert_sheet(&rt, &sheet, None, 16, 3);
+    assert_left(&rt, &sheet, &[&[1, 1, 0, 1, 0, 0]]);
+    let second = one_node(&rt, alloc, &instance, &[1, 0])?;
+    let sheet = search(alloc, &instance, &second, 16, 3)?;
+    assert_sheet(&rt, &sheet, None, 16, 3);
+    assert_left(&rt, &sheet, &[&[1, 0, 1, 0, 1], &[1, 0, 1, 0, 0]]);
+    let third = [
+        ([1, 1, 0, 1, 0, 0].as_slice(), 10, 1),
+        ([1, 0, 1, 0, 1].as_slice(), 12, 2),
+        ([1, 0, 1, 0, 0].as_slice(), 14, 2),
+    ];
+    for (jobs, makespan, taken) in third {
+        let piece = one_node(&rt, alloc, &instance, jobs)?;
+        let sheet = search(alloc, &instance, &piece, 16, 3)?;
+        assert_eq!(&rt; sheet.makespan, makespan);
+        assert_eq!(&rt; sheet.taken, taken);
+        assert_left(&rt, &sheet, &[]);
+    }
+    Ok(())
+}
