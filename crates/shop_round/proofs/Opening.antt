@@ -1,0 +1,74 @@
+-- The start word is full.
+use Rattle.std.proofs.Common.{◌≡◌, ℕ, zero, suc, ◌+◌, ◌≤◌, ◌<◌, ◌⊎◌, inl, inr, cond, List, ◌∷◌, length, refl, ◌∙◌, ap}
+use Rattle.std.proofs.Common.{arith, eqb}
+use Rattle.std.specs.Prelude.{replicate}
+use Rattle.std.specs.List.{flat_map, range_with_len}
+use Rattle.std.proofs.lemmas.Bool.{cases_lt}
+use Rattle.std.proofs.lemmas.Bool.Decides.{eqb_tells}
+use Rattle.std.proofs.lemmas.List.{get_or_past}
+use Rattle.std.proofs.lemmas.List.Sums.{sum_by-cons, sum_by-append}
+use Rattle.shop_model.specs.Shop.{Shop, ShopJob, no_job, route_of}
+use Rattle.shop_model.specs.Word.{count_of, IsFull}
+use Rattle.shop_model.specs.Word.{start_jobs}
+
+count-replicate : (j i n : ℕ) → count_of j (replicate n i) ≡ cond (eqb i j) n 0
+count-replicate j i zero = elim (eqb_tells i j) [ inl e ↦ rw e.0 refl | inr e ↦ rw e.0 refl ]
+count-replicate j i (suc n) =
+    let a : count_of j (i ∷ replicate n i) ≡ cond (eqb i j) 1 0 + count_of j (replicate n i) =
+    sum_by-cons (λ x. cond (eqb x j) 1 0) i (replicate n i)
+    in let b = count-replicate j i n
+    in elim (eqb_tells i j) [
+      | inl e ↦ (let c : count_of j (i ∷ replicate n i) ≡ 1 + n = a
+          ∙ (ap (λ k. cond (eqb i j) 1 0 + k) b ∙ ap (λ t. cond t 1 0 + cond t n 0) e.0) in rw e.0 (omega arith))
+      | inr e ↦ (let c : count_of j (i ∷ replicate n i) ≡ 0 = a
+          ∙ (ap (λ k. cond (eqb i j) 1 0 + k) b ∙ ap (λ t. cond t 1 0 + cond t n 0) e.0) in rw e.0 (omega arith))
+    ]
+
+module _ (shop : Shop) where
+  from_jobs : ℕ → ℕ → List ℕ
+  from_jobs a n = flat_map (λ j. replicate (length (route_of shop j)) j) (range_with_len a n)
+
+  module _ where
+    count-cons : (j a n : ℕ) → count_of j (from_jobs a (suc n)) ≡ cond (eqb a j)
+        (length (route_of shop a)) 0 + count_of j (from_jobs (a + 1) n)
+    unfolding from_jobs
+    count-cons j a n =
+        let b = sum_by-append (λ x. cond (eqb x j) 1 0) (replicate (length (route_of shop a)) a) (from_jobs (a + 1) n)
+        in let c = count-replicate j a (length (route_of shop a))
+        in b ∙ ap (λ k. k + count_of j (from_jobs (a + 1) n)) c
+
+    outside : (j a n : ℕ) → (j < a) ⊎ (a + n ≤ j) → count_of j (from_jobs a n) ≡ 0
+    unfolding from_jobs
+    outside j a zero h = refl
+    outside j a (suc n) h = elim (eqb_tells a j) [
+      | inl e ↦ (let f = e.1 in elim h [ inl k ↦ absurd (omega arith) | inr k ↦ absurd (omega arith) ])
+      | inr e ↦ (let c = count-cons j a n
+          in let d : cond (eqb a j) (length (route_of shop a)) 0 ≡ 0 = ap (λ t. cond t (length (route_of shop a)) 0) e.0
+          in let r = outside j (a + 1) n (elim h [ inl k ↦ inl (omega arith) | inr k ↦ inr (omega arith) ])
+          in omega arith)
+    ]
+
+    inside : (j a n : ℕ) → a ≤ j → j < a + n → count_of j (from_jobs a n) ≡ length (route_of shop j)
+    unfolding from_jobs
+    inside j a zero h k = absurd (omega arith)
+    inside j a (suc n) h k = let c = count-cons j a n in elim (eqb_tells a j) [
+      | inl e ↦ (let f = e.1
+          in let d : cond (eqb a j) (length (route_of shop a)) 0 ≡ length (route_of shop a) =
+          ap (λ t. cond t (length (route_of shop a)) 0) e.0
+          in let r = outside j (a + 1) n (inl (omega arith))
+          in let g : length (route_of shop a) ≡ length (route_of shop j) = ap (λ i. length (route_of shop i)) f
+          in omega arith)
+      | inr e ↦ (let ne = e.1
+          in let d : cond (eqb a j) (length (route_of shop a)) 0 ≡ 0 = ap (λ t. cond t (length (route_of shop a)) 0) e.0
+          in let later : a + 1 ≤ j = elim (cases_lt a j) [ inl x ↦ (omega arith) | inr x ↦ absurd (ne (omega arith)) ]
+          in let r = inside j (a + 1) n later (omega arith) in omega arith)
+    ]
+
+  pub start_full : IsFull shop (start_jobs shop)
+  unfolding from_jobs
+  start_full j = elim (cases_lt j (length shop.jobs)) [
+    | inl h ↦ inside j 0 (length shop.jobs) (omega arith) (omega arith)
+    | inr h ↦ (let c : length (route_of shop j) ≡ 0 =
+        ap (λ (job : ShopJob). length job.route) (get_or_past shop.jobs j no_job h)
+        in let r = outside j 0 (length shop.jobs) (inr (omega arith)) in omega arith)
+  ]

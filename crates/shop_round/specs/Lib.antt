@@ -1,0 +1,8 @@
+pub mod Limits
+pub mod Round
+pub mod Nodes
+pub mod Laws
+pub mod Entries
+pub mod Crews
+pub mod Outcomes
+pub mod Runs

@@ -1,0 +1,35 @@
+ghost use Rattle.std.specs.Prelude.{IfOk};
+ghost use Rattle.shop_round.specs.Round.{opening};
+ghost use Rattle.shop_round.specs.Laws.{StandsCovering};
+ghost use Rattle.shop_round.specs.Runs.{stands, StandsAt, IsStandingOf};
+
+use crate::standings::Standing;
+use shop_bound::lower_bound;
+use shop_model::{Instance, Word, start_word};
+use shop_tree::Node;
+use std::alloc::{AllocError, Global};
+
+impl Standing {
+    /// Where a search begins: the best is the start word, and the empty word is open if its bound
+    /// is below the makespan.
+    pub fn start(alloc: Global, instance: &Instance) -> Result<Standing, AllocError>
+        ensures at { IfOk result (λ s. StandsAt instance.now (opening instance.now) s) }
+        ensures standing { IfOk result (λ s. IsStandingOf instance.now s) }
+        ensures covers { IfOk result (λ s. StandsCovering instance.now (stands s)) }
+    {
+        let word = start_word(alloc, instance)?;
+        let makespan = lower_bound(alloc, instance, &word)?;
+        let root = Node::new(alloc, instance, Word::of_jobs(Vec::new(alloc)))?;
+        let mut open = Vec::new(alloc);
+        if root.bound < makespan {
+            open.push(root)?;
+        }
+        Ok(Standing {
+            word,
+            makespan,
+            open,
+            rounds: 0,
+            nodes: 0,
+        })
+    }
+}

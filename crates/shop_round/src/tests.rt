@@ -1,0 +1,278 @@
+// Worked instances and plans, and each public call once.
+ghost use Rattle.std.specs.Prelude.{IfOk};
+ghost use Rattle.shop_round.specs.Runs.{IsStandingOf};
+
+use crate::{Alone, Answer, Crew, Order, Plan, Round, Standing, gather, run_alone};
+use shop_model::{Instance, Job, Op};
+use std::alloc::Global;
+use std::process::Abort;
+use std::test::Fail;
+
+fn op(machine: usize, time: u64) -> Op {
+    Op { machine, time }
+}
+
+fn of_rows(machines: usize, rows: Vec<Vec<Op>>) -> Result<Instance, Fail> {
+    Ok(Instance::new(machines, rows).ok().ok_or("limits")?)
+}
+
+fn of_jobs(machines: usize, jobs: Vec<Job>) -> Result<Instance, Fail> {
+    Ok(Instance::of_jobs(machines, jobs).ok().ok_or("limits")?)
+}
+
+/// A: two jobs that cross.
+fn crossing(alloc: Global) -> Result<Instance, Fail> {
+    let first = vec![in alloc; op(0, 3), op(1, 2)]?;
+    let second = vec![in alloc; op(1, 2), op(0, 4)]?;
+    of_rows(2, vec![in alloc; first, second]?)
+}
+
+/// G: the bound of the empty word is below the optimum, and a last step takes no time.
+fn with_a_gap(alloc: Global) -> Result<Instance, Fail> {
+    let first = vec![in alloc; op(0, 5), op(1, 3), op(2, 0)]?;
+    let second = vec![in alloc; op(1, 1), op(0, 1), op(2, 6)]?;
+    of_rows(3, vec![in alloc; first, second]?)
+}
+
+/// Z: several steps of time 0.
+fn with_zeros(alloc: Global) -> Result<Instance, Fail> {
+    let first = vec![in alloc; op(0, 4), op(1, 1), op(2, 0)]?;
+    let second = vec![in alloc; op(1, 0), op(2, 5), op(0, 0)]?;
+    of_rows(3, vec![in alloc; first, second]?)
+}
+
+/// R: releases 0, 4 and 7, and a job without operations.
+fn released(alloc: Global) -> Result<Instance, Fail> {
+    let first = vec![in alloc; op(0, 3), op(1, 2)]?;
+    let second = vec![in alloc; op(1, 2), op(0, 4)]?;
+    let jobs = vec![in alloc;
+        Job {
+            release: 0,
+            route: first
+        },
+        Job {
+            release: 4,
+            route: second
+        },
+        Job {
+            release: 7,
+            route: Vec::new(alloc)
+        },
+    ]?;
+    of_jobs(2, jobs)
+}
+
+/// H: the two orders find different tables.
+fn with_two_orders(alloc: Global) -> Result<Instance, Fail> {
+    let first = vec![in alloc; op(0, 5), op(1, 3)]?;
+    let second = vec![in alloc; op(0, 1), op(2, 6)]?;
+    let third = vec![in alloc; op(1, 1)]?;
+    let fourth = vec![in alloc; op(1, 1)]?;
+    let jobs = vec![in alloc;
+        Job {
+            release: 0,
+            route: first
+        },
+        Job {
+            release: 1,
+            route: second
+        },
+        Job {
+            release: 0,
+            route: third
+        },
+        Job {
+            release: 0,
+            route: fourth
+        },
+    ]?;
+    of_jobs(3, jobs)
+}
+
+/// The answer's makespan, bound, open nodes, rounds and nodes.
+fn assert_numbers(rt: &impl Abort, answer: &Answer, numbers: [u64; 5]) {
+    assert_eq!(rt; answer.makespan, numbers[0]);
+    assert_eq!(rt; answer.bound, numbers[1]);
+    assert_eq!(rt; answer.open_nodes as u64, numbers[2]);
+    assert_eq!(rt; answer.rounds, numbers[3]);
+    assert_eq!(rt; answer.nodes, numbers[4]);
+}
+
+/// These, and the rows of its table.
+fn assert_answer(
+    rt: &impl Abort,
+    alloc: Global,
+    instance: &Instance,
+    plan: Option<Plan>,
+    numbers: [u64; 5],
+    rows: &[&[u64]],
+) -> Result<(), Fail> {
+    let answer = run_alone(alloc, instance, &plan.ok_or("plan")?)?;
+    assert_numbers(rt, &answer, numbers);
+    assert_eq!(rt; answer.table.len(), rows.len());
+    for (j, row) in rows.iter().enumerate() {
+        assert!(rt; j < answer.table.len());
+        assert_eq!(rt; answer.table.row(j), *row);
+    }
+    Ok(())
+}
+
+#[test]
+fn two_jobs_that_cross(rt: HostRuntime) -> Result<(), Fail> {
+    let alloc = rt.alloc();
+    let instance = crossing(alloc)?;
+    let start: [&[u64]; 2] = [&[0, 3], &[5, 7]];
+    let least: [&[u64]; 2] = [&[0, 3], &[0, 3]];
+    for (rounds, budget, numbers, rows) in [
+        (1, 100, [7, 7, 0, 1, 6], least),
+        (0, 100, [11, 7, 1, 0, 0], start),
+        (1, 5, [7, 7, 0, 1, 5], least),
+        (1, 1, [11, 7, 1, 1, 1], start),
+    ] {
+        let plan = Plan::new(rounds, budget, 1);
+        assert_answer(&rt, alloc, &instance, plan, numbers, &rows)?;
+    }
+    Ok(())
+}
+
+#[test]
+fn operations_that_take_no_time(rt: HostRuntime) -> Result<(), Fail> {
+    let alloc = rt.alloc();
+    let instance = with_zeros(alloc)?;
+    let plan = Plan::new(1, 100, 1);
+    assert_answer(
+        &rt,
+        alloc,
+        &instance,
+        plan,
+        [5, 5, 0, 1, 8],
+        &[&[0, 4, 5], &[0, 0, 5]],
+    )
+}
+
+#[test]
+fn optimum_above_the_first_bound(rt: HostRuntime) -> Result<(), Fail> {
+    let alloc = rt.alloc();
+    let instance = with_a_gap(alloc)?;
+    let start: [&[u64]; 2] = [&[0, 5, 8], &[8, 9, 10]];
+    let least: [&[u64]; 2] = [&[2, 7, 10], &[0, 1, 2]];
+    for (rounds, budget, numbers, rows) in [
+        (1, 100, [10, 10, 0, 1, 8], least),
+        (1, 3, [16, 10, 2, 1, 3], start),
+        (2, 3, [16, 10, 3, 2, 9], start),
+        (3, 3, [10, 10, 0, 3, 10], least),
+        (1000, 3, [10, 10, 0, 3, 10], least),
+    ] {
+        let plan = Plan::new(rounds, budget, 1);
+        assert_answer(&rt, alloc, &instance, plan, numbers, &rows)?;
+    }
+    Ok(())
+}
+
+#[test]
+fn start_words_that_end_at_their_bound(rt: HostRuntime) -> Result<(), Fail> {
+    let alloc = rt.alloc();
+    let first = vec![in alloc; op(0, 5)]?;
+    let second = vec![in alloc; op(0, 0)]?;
+    let one_machine = of_rows(1, vec![in alloc; first, second]?)?;
+    let plan = Plan::new(1000, 100_000, 1);
+    assert_answer(
+        &rt,
+        alloc,
+        &one_machine,
+        plan,
+        [5, 5, 0, 0, 0],
+        &[&[0], &[5]],
+    )?;
+    let route = vec![in alloc; op(2, 4), op(0, 0), op(1, 5)]?;
+    let one_job = of_rows(3, vec![in alloc; route]?)?;
+    let plan = Plan::new(0, 1, 1000);
+    assert_answer(&rt, alloc, &one_job, plan, [9, 9, 0, 0, 0], &[&[0, 4, 4]])
+}
+
+#[test]
+fn releases_and_a_job_without_operations(rt: HostRuntime) -> Result<(), Fail> {
+    let alloc = rt.alloc();
+    let instance = released(alloc)?;
+    let plan = Plan::new(1, 100, 1);
+    let rows: [&[u64]; 3] = [&[0, 6], &[4, 6], &[]];
+    assert_answer(&rt, alloc, &instance, plan, [10, 10, 0, 1, 6], &rows)
+}
+
+#[test]
+fn two_orders_of_the_open_nodes(rt: HostRuntime) -> Result<(), Fail> {
+    let alloc = rt.alloc();
+    let instance = with_two_orders(alloc)?;
+    for order in [Order::Kept, Order::Bound] {
+        for (rounds, numbers) in [
+            (1, [12, 9, 2, 1, 2]),
+            (2, [12, 10, 2, 2, 6]),
+            (3, [12, 10, 2, 3, 10]),
+        ] {
+            let plan = Plan::ordered(rounds, 2, 1, order).ok_or("plan")?;
+            assert_numbers(&rt, &run_alone(alloc, &instance, &plan)?, numbers);
+        }
+    }
+    let kept = Plan::ordered(4, 2, 1, Order::Kept);
+    let rows: [&[u64]; 4] = [&[2, 7], &[1, 2], &[0], &[1]];
+    assert_answer(&rt, alloc, &instance, kept, [10, 10, 0, 4, 11], &rows)?;
+    let by_bound = Plan::ordered(1000, 2, 1, Order::Bound);
+    let rows: [&[u64]; 4] = [&[2, 7], &[1, 2], &[1], &[0]];
+    assert_answer(&rt, alloc, &instance, by_bound, [10, 10, 0, 4, 12], &rows)
+}
+
+/// One round by hand, from a standing that has an open node and a round left.
+fn after_round(
+    alloc: Global,
+    instance: &Instance,
+    plan: &Plan,
+    standing: Standing,
+) -> Result<Standing, Fail>
+    requires { IsStandingOf instance.now standing }
+    ensures { IfOk result (λ s. IsStandingOf instance.now s) }
+{
+    if standing.open.is_empty() || standing.rounds >= plan.rounds {
+        return Err(Fail::from("no round is left"));
+    }
+    let round = Round::cut(alloc, instance, plan, standing)?;
+    let entries = Alone.search(&(), alloc, &round)?;
+    Ok(gather(alloc, &round, entries)?)
+}
+
+fn assert_standing(
+    rt: &impl Abort,
+    standing: &Standing,
+    makespan: u64,
+    open_nodes: usize,
+    counts: (u64, u64),
+) {
+    assert_eq!(rt; standing.makespan, makespan);
+    assert_eq!(rt; standing.open.len(), open_nodes);
+    assert_eq!(rt; standing.rounds, counts.0);
+    assert_eq!(rt; standing.nodes, counts.1);
+}
+
+#[test]
+fn rounds_cut_and_gathered_one_by_one(rt: HostRuntime) -> Result<(), Fail> {
+    let alloc = rt.alloc();
+    let instance = with_a_gap(alloc)?;
+    let plan = Plan::new(3, 3, 1).ok_or("plan")?;
+    let start = Standing::start(alloc, &instance)?;
+    let first = after_round(alloc, &instance, &plan, start)?;
+    assert_standing(&rt, &first, 16, 2, (1, 3));
+    let second = after_round(alloc, &instance, &plan, first)?;
+    assert_standing(&rt, &second, 16, 3, (2, 9));
+    let third = after_round(alloc, &instance, &plan, second)?;
+    assert_standing(&rt, &third, 10, 0, (3, 10));
+    Ok(())
+}
+
+#[test]
+fn plans_outside_the_limits(rt: HostRuntime) {
+    assert!(&rt; Plan::new(100_000, 10_000_000, 1_000).is_some());
+    assert!(&rt; Plan::new(100_001, 1, 1).is_none());
+    assert!(&rt; Plan::new(1, 0, 1).is_none());
+    assert!(&rt; Plan::new(1, 10_000_001, 1).is_none());
+    assert!(&rt; Plan::new(1, 1, 0).is_none());
+    assert!(&rt; Plan::ordered(1, 1, 1_001, Order::Bound).is_none());
+}
