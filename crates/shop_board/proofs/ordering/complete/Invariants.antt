@@ -1,0 +1,12 @@
+use Rattle.std.proofs.Common.{◌≡◌, vec_len}
+use Rattle.shop_round.specs.Entries.{told}
+use Rattle.shop_board.specs.Entries.{Placed}
+use Rattle.shop_board.proofs.Places.{EntriesUpTo}
+use Rattle.shop_board.proofs.ordering.complete.Given as goal
+
+abbrev pub invariant-loop-number : goal.invariant-loop-number
+invariant-loop-number l =
+    (vec_len l.slots ≡ vec_len l.initial.slots)
+    × Placed (told l.round) l.slots.items
+    × (vec_len l.entries ≡ l.number)
+    × EntriesUpTo (told l.round) l.entries.items l.number

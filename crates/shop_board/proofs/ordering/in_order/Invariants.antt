@@ -1,0 +1,13 @@
+use Rattle.std.proofs.Common.{◌≡◌, vec_len, length}
+use Rattle.shop_round.specs.Entries.{told}
+use Rattle.shop_board.specs.Entries.{Placed, AllOfRound}
+use Rattle.shop_board.proofs.ordering.in_order.Given as goal
+
+abbrev pub invariant-loop-entries : goal.invariant-loop-entries
+invariant-loop-entries l =
+    (vec_len l.slots ≡ length l.round.pieces.items)
+    × Placed (told l.round) l.slots.items
+    × AllOfRound (told l.round) l.lists.items
+
+abbrev pub decreases-loop-entries : goal.decreases-loop-entries
+decreases-loop-entries l = vec_len l.lists

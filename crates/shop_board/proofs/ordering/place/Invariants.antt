@@ -1,0 +1,13 @@
+use Rattle.std.proofs.Common.{◌≡◌, vec_len}
+use Rattle.shop_round.specs.Entries.{told}
+use Rattle.shop_board.specs.Entries.{Placed, OfRound}
+use Rattle.shop_board.proofs.ordering.place.Given as goal
+
+abbrev pub invariant-loop-entry : goal.invariant-loop-entry
+invariant-loop-entry l =
+    (vec_len l.slots ≡ vec_len l.initial.slots)
+    × Placed (told l.round) l.slots.items
+    × OfRound (told l.round) l.entries.items
+
+abbrev pub decreases-loop-entry : goal.decreases-loop-entry
+decreases-loop-entry l = vec_len l.entries

@@ -1,0 +1,104 @@
+ghost use Rattle.std.specs.Prelude.{◌≡◌, ◌<◌, length, IfOk, IfSome, Some, None, slice_set, slice_index_or, vec_len};
+ghost use Rattle.shop_round.specs.Entries.{told};
+ghost use Rattle.shop_round.specs.Crews.{OneForEach, IsEntryOf};
+ghost use Rattle.shop_board.specs.Entries.{OfRound, AllOfRound, Placed};
+
+use shop_round::{Entry, Round, search_piece};
+use std::alloc::{AllocError, Global};
+
+// A place for each piece.
+fn places<'r>(alloc: Global, round: &'r Round<'r>) -> Result<Vec<Option<Entry<'r>>>, AllocError>
+    ensures len { IfOk result (λ v. vec_len v ≡ length round.now.pieces.items) }
+    ensures placed { IfOk result (λ v. Placed (told round.now) v.items) }
+{
+    let mut slots = Vec::with_capacity(alloc, round.pieces.len())?;
+    for _ in 0..round.pieces.len() {
+        slots.push(None)?;
+    }
+    Ok(slots)
+}
+
+fn put<'r>(slots: &mut Vec<Option<Entry<'r>>>, number: usize, entry: Entry<'r>)
+    requires { number < vec_len slots.old }
+    ensures { slots.new.items ≡ slice_set slots.old.items number (Some entry.entry) }
+{
+    slots[number] = Some(entry);
+}
+
+// Puts each entry into its place, where a double takes the place of the one before.
+fn place<'r>(round: &'r Round<'r>, slots: &mut Vec<Option<Entry<'r>>>, mut entries: Vec<Entry<'r>>)
+    requires entries { OfRound (told round.now) entries.items }
+    requires slots { Placed (told round.now) slots.old.items }
+    ensures len { vec_len slots.new ≡ vec_len slots.old }
+    ensures placed { Placed (told round.now) slots.new.items }
+{
+    while let Some(entry) = entries.pop() {
+        let number = entry.number();
+        if number < slots.len() {
+            put(slots, number, entry);
+        }
+    }
+}
+
+fn take<'r>(slots: &mut Vec<Option<Entry<'r>>>, number: usize) -> Option<Entry<'r>>
+    requires { number < vec_len slots.old }
+    ensures after { slots.new.items ≡ slice_set slots.old.items number None }
+    ensures value { result ≡ slice_index_or slots.old.items number result }
+{
+    slots[number].take()
+}
+
+// The entry that a worker brought, or else the piece's sheet.
+fn or_search<'r>(
+    alloc: Global,
+    round: &'r Round<'r>,
+    number: usize,
+    brought: Option<Entry<'r>>,
+) -> Result<Entry<'r>, AllocError>
+    requires number { number < length round.now.pieces.items }
+    requires brought { IfSome brought (λ e. IsEntryOf (told round.now) number e) }
+    ensures { IfOk result (λ e. IsEntryOf (told round.now) number e) }
+{
+    match brought {
+        Some(entry) => Ok(entry),
+        None => {
+            let sheet = search_piece(alloc, round, number)?;
+            Ok(Entry::done(round, sheet))
+        }
+    }
+}
+
+// The entries in order; a piece that has none is searched.
+fn complete<'r>(
+    alloc: Global,
+    round: &'r Round<'r>,
+    mut slots: Vec<Option<Entry<'r>>>,
+) -> Result<Vec<Entry<'r>>, AllocError>
+    requires len { vec_len slots ≡ length round.now.pieces.items }
+    requires slots { Placed (told round.now) slots.items }
+    ensures { IfOk result (λ v. OneForEach (told round.now) v.items) }
+{
+    let mut entries = Vec::with_capacity(alloc, slots.len())?;
+    for number in 0..slots.len() {
+        let brought = take(&mut slots, number);
+        entries.push(or_search(alloc, round, number, brought)?)?;
+    }
+    Ok(entries)
+}
+
+/// The entries of a round, one for each piece and in number order, of what its workers brought: doubles are dropped,
+/// and pieces that nobody brought are searched.
+pub fn in_order<'r>(
+    alloc: Global,
+    round: &'r Round<'r>,
+    mut lists: Vec<Result<Vec<Entry<'r>>, AllocError>>,
+) -> Result<Vec<Entry<'r>>, AllocError>
+    requires { AllOfRound (told round.now) lists.items }
+    ensures { IfOk result (λ v. OneForEach (told round.now) v.items) }
+{
+    let mut slots = places(alloc, round)?;
+    while let Some(entries) = lists.pop() {
+        place(round, &mut slots, entries?);
+    }
+    complete(alloc, round, slots)
+}

@@ -1,0 +1,77 @@
+ghost use Rattle.std.specs.Prelude.{◌<◌, IfOk};
+ghost use Rattle.shop_round.specs.Entries.{told};
+ghost use Rattle.shop_round.specs.Crews.{OneForEach};
+ghost use Rattle.shop_board.specs.Entries.{OfRound};
+
+use crate::gates::Gate;
+use crate::ordering::in_order;
+use crate::pools::Pool;
+use shop_round::{Entry, Round, search_piece};
+use std::alloc::{AllocError, Global};
+use std::sync::{Mutex, Wait};
+use std::thread;
+use std::thread::Threads;
+
+// The entries of the pieces that a worker takes. Once one of its own ends at the opening bound, those of a higher
+// number are passed by it.
+fn serve<'r, R: Wait, G: Gate>(
+    rt: &R,
+    alloc: Global,
+    round: &'r Round<'r>,
+    pool: &Mutex<Pool>,
+    gate: &G,
+    worker: usize,
+) -> Result<Vec<Entry<'r>>, AllocError>
+    ensures { IfOk result (λ v. OfRound (told round.now) v.items) }
+{
+    let mut entries = Vec::new(alloc);
+    let mut hit = None;
+    for _ in rt.forever() {
+        let Some(number) = pool.lock(rt).take() else {
+            break;
+        };
+        if number >= round.pieces.len() {
+            break;
+        }
+        match hit {
+            Some(by) if by < number => entries.push(Entry::passed(round, number, by))?,
+            _ => {
+                gate.before(worker, number);
+                let sheet = search_piece(alloc, round, number)?;
+                if sheet.makespan == round.bound {
+                    hit = Some(number);
+                }
+                entries.push(Entry::done(round, sheet))?;
+            }
+        }
+    }
+    Ok(entries)
+}
+
+/// The entries of a round by this many workers at most, of which the calling thread is one. No more are started than
+/// there are pieces; what a thread that can't be started would have done, the others do.
+pub fn search_shared<'r, R: Threads + Wait + Sync, G: Gate + Sync>(
+    rt: &R,
+    alloc: Global,
+    round: &'r Round<'r>,
+    workers: usize,
+    gate: &G,
+) -> Result<Vec<Entry<'r>>, AllocError>
+    ensures { IfOk result (λ v. OneForEach (told round.now) v.items) }
+{
+    let pieces = round.pieces.len();
+    let pool = Mutex::new(Pool::open(pieces));
+    let lock = &pool;
+    let count = workers.min(pieces);
+    // The last index runs on the calling thread.
+    let lists = thread::map_indices(
+        rt,
+        alloc,
+        count,
+        &|index: usize|
+            requires { index < count }
+            ensures { IfOk result (λ v. OfRound (told round.entry.now) v.items) }
+        { serve(rt, alloc, round, lock, gate, count - 1 - index) },
+    )?;
+    in_order(alloc, round, lists)
+}
