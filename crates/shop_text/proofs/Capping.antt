@@ -1,0 +1,199 @@
+-- A row whose numbers are capped is judged as the row itself, and where it is accepted it says the same.
+use Rattle.std.proofs.Common.{◌≡◌, ℕ, ◌*◌, ◌%◌, ◌<◌, ◌≤◌, inl, inr, Bool, true, false, cond, not, ◌&&◌, leb, ltb}
+use Rattle.std.proofs.Common.{eqb}
+use Rattle.std.proofs.Common.{List, [], ◌∷◌, length, map, Option, Some, None, refl, sym, ap, ◌∙◌, arith}
+use Rattle.std.specs.List.{list_all}
+use Rattle.std.proofs.lemmas.Bool.{cases_lt, ltb-true, leb-true, le-ltb, le-leb, lt-leb, and_parts}
+use Rattle.std.proofs.lemmas.List.{length-map}
+use Rattle.shop_text.specs.Lines.{capped}
+use Rattle.shop_text.specs.Grammar.{LineFault, WrongShape, WrongSize, WrongRow, WrongMachine, WrongTime}
+use Rattle.shop_text.specs.Formats.{is_between, jobs_in, machines_in, size_fault, pairs_fault, pairs_of}
+use Rattle.shop_text.specs.Formats.{orlib_fault, orlib_job, routes_fault, routes_job, times_fault, machines_fault}
+use Rattle.shop_text.specs.Reading.{size_line_fault, times_row_fault, machines_row_fault}
+use Rattle.shop_text.specs.declared.profiles.Profile.{Profile}
+use Rattle.shop_text.specs.declared.profiles.Profile.TheVariants.{Orlib, Taillard, Routes}
+
+pub capped_same : (n : ℕ) → n ≤ 18446744073709551615 → capped n ≡ n
+capped_same n h = omega arith
+
+capped_most : (n : ℕ) → 18446744073709551615 ≤ n → capped n ≡ 18446744073709551615
+capped_most n h = omega arith
+
+pub same_le : (n b : ℕ) → b < 18446744073709551615 → leb (capped n) b ≡ leb n b
+same_le n b h = elim (cases_lt n 18446744073709551615) [
+  | inl small ↦ ap (λ (k : ℕ). leb k b) (capped_same n (omega arith))
+  | inr big ↦
+      ap (λ (k : ℕ). leb k b) (capped_most n big) ∙ lt-leb 18446744073709551615 b h
+      ∙ sym (lt-leb n b (omega arith))
+]
+
+pub same_lt : (n b : ℕ) → b < 18446744073709551615 → ltb (capped n) b ≡ ltb n b
+same_lt n b h = elim (cases_lt n 18446744073709551615) [
+  | inl small ↦ ap (λ (k : ℕ). ltb k b) (capped_same n (omega arith))
+  | inr big ↦
+      ap (λ (k : ℕ). ltb k b) (capped_most n big) ∙ le-ltb 18446744073709551615 b (omega arith)
+      ∙ sym (le-ltb n b (omega arith))
+]
+
+pub same_from : (n : ℕ) → leb 1 (capped n) ≡ leb 1 n
+same_from n = elim (cases_lt n 18446744073709551615) [
+  | inl small ↦ ap (λ (k : ℕ). leb 1 k) (capped_same n (omega arith))
+  | inr big ↦ ap (λ (k : ℕ). leb 1 k) (capped_most n big) ∙ sym (le-leb 1 n (omega arith))
+]
+
+same_between : (high n : ℕ) → high < 18446744073709551615 → is_between 1 high (capped n) ≡ is_between 1 high n
+same_between high n h = rw (same_from n, same_le n high h) refl
+
+-- ---- tests that refuse
+
+pub no_fault_then : (b : Bool) (name : LineFault) (rest : Option LineFault) → cond (not b) (Some name) rest ≡ None
+    → (b ≡ true) × (rest ≡ None)
+no_fault_then true name rest e = (refl, e)
+no_fault_then false name rest e = absurd cc
+
+pub no_fault_if : (b : Bool) (name : LineFault) → cond b None (Some name) ≡ None → b ≡ true
+no_fault_if true name e = refl
+no_fault_if false name e = absurd cc
+
+pub no_fault_in : (b : Bool) (name : LineFault) (rest : Option LineFault) → cond b rest (Some name) ≡ None
+    → (b ≡ true) × (rest ≡ None)
+no_fault_in true name rest e = (refl, e)
+no_fault_in false name rest e = absurd cc
+
+-- ---- pairs of machine and time
+
+pairs_capped : (machines : ℕ) → machines ≤ 100 → (row : List ℕ)
+    → pairs_fault machines (map capped row) ≡ pairs_fault machines row
+pairs_capped machines h [] = refl
+pairs_capped machines h (m ∷ []) = refl
+pairs_capped machines h (m ∷ p ∷ rest) =
+    rw (same_lt m machines (omega arith), same_le p 1000000000 (omega arith), pairs_capped machines h rest) refl
+
+pairs_same : (machines : ℕ) → machines ≤ 100 → (row : List ℕ) → pairs_fault machines row ≡ None
+    → pairs_of (map capped row) ≡ pairs_of row
+pairs_same machines h [] e = refl
+pairs_same machines h (m ∷ []) e = refl
+pairs_same machines h (m ∷ p ∷ rest) e =
+    let first = no_fault_then (ltb m machines) WrongMachine
+    (cond (not (leb p 1000000000)) (Some WrongTime) (pairs_fault machines rest)) e
+    in let second = no_fault_then (leb p 1000000000) WrongTime (pairs_fault machines rest) first.1
+    in let below = ltb-true m machines first.0
+    in let short = leb-true p 1000000000 second.0
+    in let em : capped m ≡ m = capped_same m (omega arith)
+    in let ep : capped p ≡ p = capped_same p (omega arith)
+    in let rest_same : pairs_of (map capped rest) ≡ pairs_of rest = pairs_same machines h rest second.1
+    in rw (em, ep, rest_same) refl
+
+-- ---- rows of `orlib`
+
+pub orlib_capped : (machines : ℕ) → machines ≤ 100 → (row : List ℕ)
+    → orlib_fault machines (map capped row) ≡ orlib_fault machines row
+orlib_capped machines h row = rw (length-map row capped, pairs_capped machines h row) refl
+
+pub orlib_same : (machines : ℕ) → machines ≤ 100 → (row : List ℕ) → orlib_fault machines row ≡ None
+    → orlib_job (map capped row) ≡ orlib_job row
+orlib_same machines h row e =
+    let free = no_fault_in (eqb (length row) (2 * machines)) WrongRow (pairs_fault machines row) e
+    in rw (pairs_same machines h row free.1) refl
+
+-- ---- rows of `routes`
+
+pub routes_capped : (machines : ℕ) → machines ≤ 100 → (row : List ℕ)
+    → routes_fault machines (map capped row) ≡ routes_fault machines row
+routes_capped machines h [] = refl
+routes_capped machines h (release ∷ pairs) =
+    rw (length-map pairs capped, same_le release 1000000000 (omega arith), pairs_capped machines h pairs) refl
+
+pub routes_same : (machines : ℕ) → machines ≤ 100 → (row : List ℕ) → routes_fault machines row ≡ None
+    → routes_job (map capped row) ≡ routes_job row
+routes_same machines h [] e = refl
+routes_same machines h (release ∷ pairs) e =
+    let counted = no_fault_then (eqb (length pairs % 2) 0 && leb (length pairs) 200) WrongRow
+    (cond (not (leb release 1000000000)) (Some WrongTime) (pairs_fault machines pairs)) e
+    in let free = no_fault_then (leb release 1000000000) WrongTime (pairs_fault machines pairs) counted.1
+    in let short = leb-true release 1000000000 free.0
+    in let er : capped release ≡ release = capped_same release (omega arith)
+    in rw (er, pairs_same machines h pairs free.1) refl
+
+-- ---- rows of `taillard`
+
+all_capped : (p : ℕ → Bool) → ((n : ℕ) → p (capped n) ≡ p n) → (row : List ℕ)
+    → list_all p (map capped row) ≡ list_all p row
+all_capped p h [] = refl
+all_capped p h (n ∷ row) = rw (h n, all_capped p h row) refl
+
+all_same : (p : ℕ → Bool) → ((n : ℕ) → p n ≡ true → n ≤ 18446744073709551615) → (row : List ℕ)
+    → list_all p row ≡ true → map capped row ≡ row
+all_same p h [] e = refl
+all_same p h (n ∷ row) e =
+    let both = and_parts (p n) (list_all p row) e
+    in rw (capped_same n (h n both.0), all_same p h row both.1) refl
+
+pub times_capped : (machines : ℕ) (row : List ℕ)
+    → times_row_fault machines (map capped row) ≡ times_row_fault machines row
+times_capped machines row =
+    rw (length-map row capped, all_capped (λ n. leb n 1000000000) (λ n. same_le n 1000000000 (omega arith)) row) refl
+
+pub times_same : (machines : ℕ) (row : List ℕ) → times_row_fault machines row ≡ None → map capped row ≡ row
+times_same machines row e =
+    let free = no_fault_then (eqb (length row) machines) WrongRow (times_fault row) e
+    in all_same (λ n. leb n 1000000000) (λ n h. omega (arith, leb-true n 1000000000 h)) row
+    (no_fault_if (list_all (λ n. leb n 1000000000) row) WrongTime free.1)
+
+pub machines_capped : (machines : ℕ) → machines ≤ 100 → (row : List ℕ)
+    → machines_row_fault machines (map capped row) ≡ machines_row_fault machines row
+machines_capped machines h row =
+    rw (length-map row capped, all_capped (is_between 1 machines) (λ n. same_between machines n (omega arith)) row) refl
+
+pub machines_same : (machines : ℕ) → machines ≤ 100 → (row : List ℕ) → machines_row_fault machines row ≡ None
+    → map capped row ≡ row
+machines_same machines h row e =
+    let free = no_fault_then (eqb (length row) machines) WrongRow (machines_fault machines row) e
+    in all_same (is_between 1 machines)
+    (λ n g. omega (arith, leb-true n machines (and_parts (leb 1 n) (leb n machines) g).1)) row
+    (no_fault_if (list_all (is_between 1 machines) row) WrongMachine free.1)
+
+-- ---- size lines
+
+jobs_capped : (row : List ℕ) → jobs_in (map capped row) ≡ capped (jobs_in row)
+jobs_capped [] = refl
+jobs_capped (j ∷ row) = refl
+
+machines_in_capped : (row : List ℕ) → machines_in (map capped row) ≡ capped (machines_in row)
+machines_in_capped [] = refl
+machines_in_capped (j ∷ []) = refl
+machines_in_capped (j ∷ m ∷ row) = refl
+
+size_capped : (row : List ℕ) → size_fault (map capped row) ≡ size_fault row
+size_capped row =
+    rw (
+      jobs_capped row,
+      machines_in_capped row,
+      same_between 1000 (jobs_in row) (omega arith),
+      same_between 100 (machines_in row) (omega arith),
+    ) refl
+
+pub size_line_capped : (p : Profile) (row : List ℕ) → size_line_fault p (map capped row) ≡ size_line_fault p row
+size_line_capped Orlib row = rw (length-map row capped, size_capped row) refl
+size_line_capped Routes row = rw (length-map row capped, size_capped row) refl
+size_line_capped Taillard row = rw (length-map row capped, size_capped row) refl
+
+size_same : (row : List ℕ) → size_fault row ≡ None
+    → (jobs_in (map capped row) ≡ jobs_in row) × (machines_in (map capped row) ≡ machines_in row)
+size_same row e =
+    let both = and_parts (is_between 1 1000 (jobs_in row)) (is_between 1 100 (machines_in row))
+    (no_fault_if (is_between 1 1000 (jobs_in row) && is_between 1 100 (machines_in row)) WrongSize e)
+    in let jobs = leb-true (jobs_in row) 1000 (and_parts (leb 1 (jobs_in row)) (leb (jobs_in row) 1000) both.0).1
+    in let machines =
+    leb-true (machines_in row) 100 (and_parts (leb 1 (machines_in row)) (leb (machines_in row) 100) both.1).1
+    in (
+      jobs_capped row ∙ capped_same (jobs_in row) (omega arith),
+      machines_in_capped row ∙ capped_same (machines_in row) (omega arith),
+    )
+
+pub size_line_same : (p : Profile) (row : List ℕ) → size_line_fault p row ≡ None
+    → (jobs_in (map capped row) ≡ jobs_in row) × (machines_in (map capped row) ≡ machines_in row)
+size_line_same Orlib row e = size_same row (no_fault_in (eqb (length row) 2) WrongShape (size_fault row) e).1
+size_line_same Routes row e = size_same row (no_fault_in (eqb (length row) 2) WrongShape (size_fault row) e).1
+size_line_same Taillard row e =
+    size_same row (no_fault_in (is_between 2 6 (length row)) WrongShape (size_fault row) e).1

@@ -1,0 +1,196 @@
+-- What comes of a number line: a size line, a row of times, or the row of a job.
+use Rattle.std.proofs.Common.{◌≡◌, ℕ, ◌+◌, ◌*◌, ◌<◌, ◌≤◌, inl, inr, true, false, eqb, List, []}
+use Rattle.std.proofs.Common.{◌∷◌}
+use Rattle.std.proofs.Common.{◌++◌, length, map, take, drop, Option, Some, None, Result, Ok, Err, Vec, refl, sym, ap}
+use Rattle.std.proofs.Common.{◌∙◌, subst}
+use Rattle.std.proofs.Common.{arith}
+use Rattle.std.specs.List.{zip}
+use Rattle.std.specs.declared.alloc.Global.{Global}
+use Rattle.std.proofs.lemmas.Bool.{cases_eq, ltb-true, ltb-false, eq-eqb, ne_eqb}
+use Rattle.std.proofs.lemmas.List.{map-append, length-append, take_all, drop_all, take-append-le}
+use Rattle.shop_model.specs.declared.ops.Job.{Job}
+use Rattle.shop_model.specs.Shop.{Shop, ShopJob}
+use Rattle.shop_model.specs.Given.{job_as_given}
+use Rattle.shop_text.specs.Lines.{capped}
+use Rattle.shop_text.specs.Grammar.{Row}
+use Rattle.shop_text.specs.Formats.{jobs_in, machines_in, orlib_job, routes_job, taillard, taillard_job}
+use Rattle.shop_text.specs.Reading.{format_of, Fails, size_line_fault, times_row_fault}
+use Rattle.shop_text.specs.Drafts.{items_of, jobs_of, HoldsTimes, HoldsRows, IsDraft, wants_times, PushesJob}
+use Rattle.shop_text.specs.Drafts.{IsOneMore, TakesRow}
+use Rattle.shop_text.specs.declared.drafts.Draft.{Draft}
+use Rattle.shop_text.specs.declared.faults.ReadFault.{ReadFault}
+use Rattle.shop_text.specs.declared.profiles.Profile.{Profile}
+use Rattle.shop_text.specs.declared.profiles.Profile.TheVariants.{Orlib, Taillard, Routes}
+use Rattle.shop_text.proofs.Capping.{size_line_capped, times_capped, times_same}
+use Rattle.shop_text.proofs.DraftLemmas.{zip_none, times_refused, times_there, taillard_lens, rows_lens}
+
+-- ---- a size line
+
+pub size_failed : (p : Profile) (draft : Draft) (n : ℕ) (row : Row) (e : ReadFault) → draft.jobs_wanted ≡ 0
+    → Fails e n (size_line_fault p row) → (rows : List Row) (written : Row) → IsDraft p draft rows
+    → row ≡ map capped written → Fails e n ((format_of p).refuses rows written)
+size_failed p draft n row e none h [] written d er =
+    subst (λ o. Fails e n o) (ap (size_line_fault p) er ∙ size_line_capped p written) h
+size_failed p draft n row e none h (size ∷ rows) written d er = absurd (let s = d.some_job in omega arith)
+
+-- ---- a row of times
+
+pub times_failed : (p : Profile) (draft : Draft) (n : ℕ) (row : Row) (e : ReadFault) → 0 < draft.jobs_wanted
+    → wants_times p draft.jobs_wanted (length draft.times.items) ≡ true
+    → Fails e n (times_row_fault draft.machines row) → (rows : List Row) (written : Row) → IsDraft p draft rows
+    → row ≡ map capped written → Fails e n ((format_of p).refuses rows written)
+times_failed Orlib draft n row e some w h rows written d er = absurd cc
+times_failed Routes draft n row e some w h rows written d er = absurd cc
+times_failed Taillard draft n row e some w h [] written d er = absurd (omega arith)
+times_failed Taillard draft n row e some w h (size ∷ rows) written d er =
+    let few = ltb-true (length draft.times.items) draft.jobs_wanted w
+    in let lens = taillard_lens draft size rows d
+    in let wanted = d.wanted
+    in let fault : times_row_fault draft.machines row ≡ taillard.refuses (size ∷ rows) written =
+    ap (times_row_fault draft.machines) er ∙ times_capped draft.machines written
+    ∙ ap (λ (m : ℕ). times_row_fault m written) d.machines
+    ∙ sym (times_refused size rows written (omega (arith, lens.0)))
+    in subst (λ o. Fails e n o) fault h
+
+-- a row of times more
+record IsTimesMore (old new : Draft) (row : Vec ℕ Global) : Type 0 where
+  wanted : new.jobs_wanted ≡ old.jobs_wanted
+  machines : new.machines ≡ old.machines
+  jobs : new.jobs ≡ old.jobs
+  times : new.times.items ≡ old.times.items ++ row ∷ []
+
+no_matrices : (j : ℕ) (rows : List Row) → length rows ≤ j → map taillard_job (zip (take j rows) (drop j rows)) ≡ []
+no_matrices j rows h =
+    ap (λ (ms : List Row). map taillard_job (zip (take j rows) ms)) (drop_all j rows h)
+    ∙ ap (map taillard_job) (zip_none (take j rows))
+
+times_taken : (old new : Draft) (row : Row) (taken : Vec ℕ Global) (size : Row) (rows : List Row) (written : Row)
+    → IsTimesMore old new taken → length rows < jobs_in size → times_row_fault old.machines row ≡ None
+    → taken.items ≡ row → HoldsRows Taillard old size rows → row ≡ map capped written
+    → IsOneMore Taillard (size ∷ rows) written new
+times_taken old new row taken size rows written more few free is d er =
+    let len = length-append rows (written ∷ [])
+    in let some_job = d.some_job
+    in let judged : times_row_fault old.machines row ≡ times_row_fault old.machines written =
+    ap (times_row_fault old.machines) er ∙ times_capped old.machines written
+    in let free_written : times_row_fault old.machines written ≡ None = sym judged ∙ free
+    in let taken_is : taken.items ≡ written = is ∙ er ∙ times_same old.machines written free_written
+    in record {
+      accepted = times_refused size rows written few ∙ ap (λ (m : ℕ). times_row_fault m written) (sym d.machines)
+          ∙ free_written;
+      room = ne_eqb (length (rows ++ written ∷ [])) (2 * jobs_in size) (λ e. omega arith);
+      draft_holds = record {
+        some_job = (let e = more.wanted in omega arith);
+        wanted = more.wanted ∙ d.wanted;
+        machines = more.machines ∙ d.machines;
+        times = ap (map items_of) more.times ∙ map-append items_of old.times.items (taken ∷ [])
+            ∙ rw (
+              d.times,
+              take_all (jobs_in size) rows (omega arith),
+              taken_is,
+              take_all (jobs_in size) (rows ++ written ∷ []) (omega arith),
+            ) refl;
+        jobs = ap (λ v. map job_as_given v.items) more.jobs ∙ d.jobs ∙ no_matrices (jobs_in size) rows (omega arith)
+            ∙ sym (no_matrices (jobs_in size) (rows ++ written ∷ []) (omega arith));
+      };
+    }
+
+pub times_accepted : (p : Profile) (old new : Draft) (row : Row) (taken : Vec ℕ Global) → 0 < old.jobs_wanted
+    → wants_times p old.jobs_wanted (length old.times.items) ≡ true → times_row_fault old.machines row ≡ None
+    → taken.items ≡ row → new.jobs_wanted ≡ old.jobs_wanted → new.machines ≡ old.machines → new.jobs ≡ old.jobs
+    → new.times.items ≡ old.times.items ++ taken ∷ [] → (rows : List Row) (written : Row) → IsDraft p old rows
+    → row ≡ map capped written → IsOneMore p rows written new
+times_accepted Orlib old new row taken some w free is ew em ej et rows written d er = absurd cc
+times_accepted Routes old new row taken some w free is ew em ej et rows written d er = absurd cc
+times_accepted Taillard old new row taken some w free is ew em ej et [] written d er = absurd (omega arith)
+times_accepted Taillard old new row taken some w free is ew em ej et (size ∷ rows) written d er =
+    let few = ltb-true (length old.times.items) old.jobs_wanted w
+    in let lens = taillard_lens old size rows d
+    in let wanted = d.wanted
+    in times_taken old new row taken size rows written (record { wanted = ew; machines = em; jobs = ej; times = et })
+    (omega (arith, lens.0)) free is d er
+
+-- ---- the row of a job
+
+same_count : (j k : ℕ) → eqb (j + k) (2 * j) ≡ eqb k j
+same_count j k = elim (cases_eq k j) [
+  | inl e ↦ eq-eqb (j + k) (2 * j) (omega arith) ∙ sym (eq-eqb k j e)
+  | inr ne ↦ ne_eqb (j + k) (2 * j) (λ e. ne (omega arith)) ∙ sym (ne_eqb k j ne)
+]
+
+-- whether the part is whole
+whole_after : (p : Profile) (draft : Draft) (job : Job) (size : Row) (rows : List Row) (written : Row)
+    → HoldsRows p draft size rows → wants_times p draft.jobs_wanted (length draft.times.items) ≡ false
+    → map job_as_given (draft.jobs.items ++ job ∷ []) ≡ jobs_of p ((size ∷ rows) ++ written ∷ [])
+    → (format_of p).is_whole ((size ∷ rows) ++ written ∷ [])
+    ≡ eqb (length (draft.jobs.items ++ job ∷ [])) draft.jobs_wanted
+whole_after Orlib draft job size rows written d w e =
+    rw (rows_lens orlib_job (draft.jobs.items ++ job ∷ []) (rows ++ written ∷ []) e, d.wanted) refl
+whole_after Routes draft job size rows written d w e =
+    rw (rows_lens routes_job (draft.jobs.items ++ job ∷ []) (rows ++ written ∷ []) e, d.wanted) refl
+whole_after Taillard draft job size rows written d w e =
+    let all = ltb-false (length draft.times.items) draft.jobs_wanted w
+    in let lens = taillard_lens draft size rows d
+    in let wanted = d.wanted
+    in let len : length (rows ++ written ∷ []) ≡ jobs_in size + length (draft.jobs.items ++ job ∷ []) =
+    omega (arith, lens.0, lens.1, length-append rows (written ∷ []), length-append draft.jobs.items (job ∷ []))
+    in rw (len, same_count (jobs_in size) (length (draft.jobs.items ++ job ∷ [])), d.wanted) refl
+
+times_kept : (p : Profile) (old new : Draft) (size : Row) (rows : List Row) (written : Row) → HoldsRows p old size rows
+    → wants_times p old.jobs_wanted (length old.times.items) ≡ false → new.times ≡ old.times
+    → HoldsTimes p new size (rows ++ written ∷ [])
+times_kept Orlib old new size rows written d w e = tt
+times_kept Routes old new size rows written d w e = tt
+times_kept Taillard old new size rows written d w e =
+    let all = ltb-false (length old.times.items) old.jobs_wanted w
+    in let wanted = d.wanted
+    in let enough : jobs_in size ≤ length rows =
+    times_there (jobs_in size) old.times.items rows d.times (omega arith)
+    in ap (λ v. map items_of v.items) e ∙ d.times ∙ sym (take-append-le (jobs_in size) rows (written ∷ []) enough)
+
+shop_whole : (p : Profile) (machines : ℕ) (jobs : List ShopJob) (size : Row) (rows : List Row)
+    → machines ≡ machines_in size → jobs ≡ jobs_of p (size ∷ rows)
+    → record { machines = machines; jobs = jobs } ≡ (format_of p).shop (size ∷ rows)
+shop_whole Orlib machines jobs size rows em ej = rw (em, ej) refl
+shop_whole Routes machines jobs size rows em ej = rw (em, ej) refl
+shop_whole Taillard machines jobs size rows em ej = rw (em, ej) refl
+
+-- what the job of a row is
+abbrev pub IsJobOf : Profile → Draft → Job → Row → Type 0
+IsJobOf p draft job row =
+    (rows : List Row) (written : Row) → IsDraft p draft rows → row ≡ map capped written
+    → ((format_of p).refuses rows written ≡ None)
+    × (map job_as_given (draft.jobs.items ++ job ∷ []) ≡ jobs_of p (rows ++ written ∷ []))
+
+pub job_taken : (p : Profile) (old new : Draft) (job : Job) (n : ℕ) (row : Row) (r : Result (Option Shop) ReadFault)
+    → 0 < old.jobs_wanted → wants_times p old.jobs_wanted (length old.times.items) ≡ false → PushesJob old new job r
+    → IsJobOf p old job row → (rows : List Row) (written : Row) → IsDraft p old rows → row ≡ map capped written
+    → TakesRow p rows written n new r
+job_taken p old new job n row r some w push is [] written d er = absurd (omega arith)
+job_taken p old new job n row (Ok None) some w push is (size ∷ rows) written d er =
+    let told = is (size ∷ rows) written d er
+    in let room = push.room
+    in record {
+      accepted = told.0;
+      room = whole_after p old job size rows written d w told.1
+          ∙ ne_eqb (length (old.jobs.items ++ job ∷ [])) old.jobs_wanted (λ e. omega arith);
+      draft_holds = record {
+        some_job = (let e = push.wanted in omega arith);
+        wanted = push.wanted ∙ d.wanted;
+        machines = push.machines ∙ d.machines;
+        times = times_kept p old new size rows written d w push.times;
+        jobs = ap (map job_as_given) push.jobs ∙ told.1;
+      };
+    }
+job_taken p old new job n row (Ok (Some shop)) some w push is (size ∷ rows) written d er =
+    let told = is (size ∷ rows) written d er
+    in record {
+      accepted = told.0;
+      whole = whole_after p old job size rows written d w told.1
+          ∙ eq-eqb (length (old.jobs.items ++ job ∷ [])) old.jobs_wanted push.full;
+      shop_is = push.shop_is ∙ shop_whole p old.machines (map job_as_given (old.jobs.items ++ job ∷ [])) size
+          (rows ++ written ∷ []) d.machines told.1;
+      draft_holds = push.fresh;
+    }
+job_taken p old new job n row (Err e) some w push is (size ∷ rows) written d er =
+    subst (λ x. Fails x n ((format_of p).refuses (size ∷ rows) written)) (sym push) tt

@@ -1,0 +1,85 @@
+-- The names that lines give.
+use Rattle.std.proofs.Common.{◌≡◌, ℕ, zero, suc, inl, inr, Bool, true, false, cond, ◌&&◌, leb, List}
+use Rattle.std.proofs.Common.{[], ◌∷◌}
+use Rattle.std.proofs.Common.{Some, None, refl, sym, ap, ◌∙◌, arith}
+use Rattle.std.specs.Prelude.{codes}
+use Rattle.std.specs.List.{list_all}
+use Rattle.std.specs.Char.{is_ascii_digit}
+use Rattle.std.specs.Str.{IsAscii, IsUtf8, bytes_eq}
+use Rattle.std.proofs.lemmas.Bool.{cases_Bool, and_parts, leb-true, ne_eqb}
+use Rattle.std.proofs.lemmas.Str.{IsUtf8-from_ascii}
+use Rattle.shop_text.specs.Lines.{Blank, Numbers, Words, tokens_of, is_number, line_of, line_of_tokens}
+use Rattle.shop_text.specs.Formats.{is_visible, header_of}
+use Rattle.shop_text.specs.Reading.{format_of}
+use Rattle.shop_text.specs.declared.profiles.Profile.{Profile}
+use Rattle.shop_text.specs.declared.profiles.Profile.TheVariants.{Orlib, Taillard, Routes}
+
+visible_ascii : (bytes : List ℕ) → list_all is_visible bytes ≡ true → IsAscii bytes
+visible_ascii [] e i = omega arith
+visible_ascii (b ∷ bytes) e zero =
+    let both = and_parts (is_visible b) (list_all is_visible bytes) e
+    in let high = leb-true b 126 (and_parts (leb 33 b) (leb b 126) both.0).1
+    in omega arith
+visible_ascii (b ∷ bytes) e (suc i) = visible_ascii bytes (and_parts (is_visible b) (list_all is_visible bytes) e).1 i
+
+header_visible : (words : List (List ℕ)) (bytes : List ℕ) → header_of (Words words) ≡ Some bytes
+    → list_all is_visible bytes ≡ true
+header_visible [] bytes e = absurd cc
+header_visible (w ∷ []) bytes e = absurd cc
+header_visible (w ∷ n ∷ []) bytes e = told (bytes_eq w (codes "instance")) (list_all is_visible n) refl e
+  where
+    told : (a b : Bool) → list_all is_visible n ≡ b → cond (a && b) (Some n) None ≡ Some bytes
+        → list_all is_visible bytes ≡ true
+    told true true h g = let same : n ≡ bytes = cc in ap (list_all is_visible) (sym same) ∙ h
+    told true false h g = absurd cc
+    told false b h g = absurd cc
+header_visible (w ∷ n ∷ m ∷ words) bytes e = absurd cc
+
+-- a name is text
+pub header_utf8 : (p : Profile) (words : List (List ℕ)) (bytes : List ℕ)
+    → (format_of p).header (Words words) ≡ Some bytes
+    → IsUtf8 bytes
+header_utf8 Orlib words bytes e = IsUtf8-from_ascii bytes (visible_ascii bytes (header_visible words bytes e))
+header_utf8 Routes words bytes e = IsUtf8-from_ascii bytes (visible_ascii bytes (header_visible words bytes e))
+header_utf8 Taillard words bytes e = absurd cc
+
+-- a number is no keyword
+not_keyword : (token : List ℕ) → is_number token ≡ true → bytes_eq token (codes "instance") ≡ false
+not_keyword [] e = refl
+not_keyword (b ∷ bytes) e =
+    let digit = (and_parts (is_ascii_digit b) (list_all is_ascii_digit bytes) e).0
+    in let high = leb-true b 57 (and_parts (leb 48 b) (leb b 57) digit).1
+    in rw (ne_eqb b 105 (λ is. omega arith)) refl
+
+-- numbers name nothing
+number_header : (token : List ℕ) (tokens : List (List ℕ)) → list_all is_number (token ∷ tokens) ≡ true
+    → header_of (Words (token ∷ tokens)) ≡ None
+number_header token [] e = refl
+number_header token (name ∷ []) e =
+    rw (not_keyword token (and_parts (is_number token) (list_all is_number (name ∷ [])) e).0) refl
+number_header token (name ∷ next ∷ tokens) e = refl
+
+tokens_header : (tokens : List (List ℕ)) → header_of (Words tokens) ≡ header_of (line_of_tokens tokens)
+tokens_header [] = refl
+tokens_header (token ∷ tokens) = elim (cases_Bool (list_all is_number (token ∷ tokens))) [
+  | inl is ↦ number_header token tokens is ∙ rw is refl
+  | inr isnt ↦ rw isnt refl
+]
+
+-- the name that the tokens of a line give is the line's
+pub line_header : (p : Profile) (bytes : List ℕ)
+    → (format_of p).header (Words (tokens_of bytes)) ≡ (format_of p).header (line_of bytes)
+line_header Orlib bytes = tokens_header (tokens_of bytes)
+line_header Routes bytes = tokens_header (tokens_of bytes)
+line_header Taillard bytes = refl
+
+-- only text lines give one
+pub blank_header : (p : Profile) → (format_of p).header Blank ≡ None
+blank_header Orlib = refl
+blank_header Routes = refl
+blank_header Taillard = refl
+
+pub numbers_header : (p : Profile) (row : List ℕ) → (format_of p).header (Numbers row) ≡ None
+numbers_header Orlib row = refl
+numbers_header Routes row = refl
+numbers_header Taillard row = refl

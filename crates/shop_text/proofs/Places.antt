@@ -1,0 +1,116 @@
+-- The place that lines have come to, one line on: a skipped text line, one more row of the begun part, or its last row.
+use Rattle.std.proofs.Common.{◌≡◌, ℕ, inl, inr, true, false, List, [], ◌∷◌, ◌++◌, None, refl, sym, ap, subst, ◌∙◌}
+use Rattle.std.proofs.Common.{append_assoc}
+use Rattle.std.specs.Prelude.{IsTrue}
+use Rattle.std.specs.List.{AllByRecursion}
+use Rattle.std.proofs.lemmas.List.{append-nil, map-append}
+use Rattle.std.proofs.lemmas.List.Concat.{flat_map-cons}
+use Rattle.std.proofs.lemmas.Grind.{flat_map-append}
+use Rattle.shop_text.specs.Lines.{Numbers, Words, Numbered}
+use Rattle.shop_text.specs.Grammar.{Row, Format, Entry, Part, rows_of, lines_of_entry, lines_of_part, lines_of_parts}
+use Rattle.shop_text.specs.Grammar.{AreText, IsAccepted, AreAccepted, IsPart, IsBegun}
+use Rattle.shop_text.proofs.OneReading.{IsFormat, entry, with_row}
+
+pub text_more : (t : List Numbered) (n : ℕ) (words : List (List ℕ)) → AreText t → AreText (t ++ (n, Words words) ∷ [])
+text_more [] n words h = (tt, tt)
+text_more (l ∷ t) n words h = (h.0, text_more t n words h.1)
+
+pub accepted_more : (f : Format) (rows : List Row) (es : List Entry) (e : Entry) → AreAccepted f rows es
+    → IsAccepted f (rows ++ rows_of es) e → AreAccepted f rows (es ++ e ∷ [])
+accepted_more f rows [] e a h = (subst (λ (rs : List Row). IsAccepted f rs e) (append-nil rows) h, tt)
+accepted_more f rows (x ∷ es) e a h =
+    let regrouped = subst (λ (rs : List Row). IsAccepted f rs e) (sym (append_assoc rows (x.row ∷ []) (rows_of es))) h
+    in (a.0, accepted_more f (rows ++ x.row ∷ []) es e a.1 regrouped)
+
+pub parts_more : (f : Format) (parts : List Part) (p : Part) → AllByRecursion (IsPart f) parts → IsPart f p
+    → AllByRecursion (IsPart f) (parts ++ p ∷ [])
+parts_more f [] p h g = (g, tt)
+parts_more f (q ∷ parts) p h g = (h.0, parts_more f parts p h.1 g)
+
+pub entry_last : (begun : List Entry) (e : Entry)
+    → lines_of_part (begun ++ e ∷ []) ≡ lines_of_part begun ++ lines_of_entry e
+entry_last begun e =
+    flat_map-append lines_of_entry begun (e ∷ [])
+    ∙ ap (λ (ls : List Numbered). lines_of_part begun ++ ls) (flat_map-cons lines_of_entry e []
+    ∙ append-nil (lines_of_entry e))
+
+pub part_last : (parts : List Part) (p : Part)
+    → lines_of_parts (parts ++ p ∷ []) ≡ lines_of_parts parts ++ lines_of_part p
+part_last parts p =
+    flat_map-append lines_of_part parts (p ∷ [])
+    ∙ ap (λ (ls : List Numbered). lines_of_parts parts ++ ls) (flat_map-cons lines_of_part p []
+    ∙ append-nil (lines_of_part p))
+
+pub rows_more : (begun : List Entry) (text : List Numbered) (n : ℕ) (row : Row)
+    → rows_of (with_row begun text n row) ≡ rows_of begun ++ row ∷ []
+rows_more begun text n row = map-append (λ (e : Entry). e.row) begun (entry text n row ∷ [])
+
+-- the lines with one more row
+pub entry_cut : (parts : List Part) (begun : List Entry) (after : List Numbered) (n : ℕ) (row : Row)
+    (front : List Numbered)
+    → front ≡ lines_of_parts parts ++ lines_of_part begun ++ after
+    → front ++ (n, Numbers row) ∷ [] ≡ lines_of_parts parts ++ lines_of_part (with_row begun after n row)
+entry_cut parts begun after n row front cut =
+    let last : List Numbered = (n, Numbers row) ∷ []
+    in ap (λ (ls : List Numbered). ls ++ last) cut
+    ∙ append_assoc (lines_of_parts parts ++ lines_of_part begun) after last
+    ∙ append_assoc (lines_of_parts parts) (lines_of_part begun) (after ++ last)
+    ∙ ap (λ (ls : List Numbered). lines_of_parts parts ++ ls) (sym (entry_last begun (entry after n row)))
+
+-- one more row is accepted
+pub one_more : (f : Format) (front : List Numbered) (begun : List Entry) (s : IsBegun f front begun) (n : ℕ) (row : Row)
+    → f.refuses (rows_of begun) row ≡ None → AreAccepted f [] (with_row begun s.after n row)
+one_more f front begun s n row free =
+    accepted_more f [] begun (entry s.after n row) s.begun_good
+    (record { room = s.room; text = s.after_skipped; row = free })
+
+-- a text line that is skipped
+unfoldable pub words_on : (f : Format) (front : List Numbered) (begun : List Entry) (s : IsBegun f front begun) (n : ℕ)
+    (words : List (List ℕ)) → IsTrue (f.skips (rows_of begun)) → IsBegun f (front ++ (n, Words words) ∷ []) begun
+words_on f front begun s n words skips = record {
+  parts = s.parts;
+  after = s.after ++ (n, Words words) ∷ [];
+  cut = ap (λ (ls : List Numbered). ls ++ (n, Words words) ∷ []) s.cut
+      ∙ append_assoc (lines_of_parts s.parts ++ lines_of_part begun) s.after ((n, Words words) ∷ []);
+  parts_good = s.parts_good;
+  begun_good = s.begun_good;
+  room = s.room;
+  after_skipped = (text_more s.after n words s.after_skipped.0, inr skips);
+}
+
+-- a row, and the part isn't whole yet
+unfoldable pub row_on : (f : Format) (front : List Numbered) (begun : List Entry) (s : IsBegun f front begun) (n : ℕ)
+    (row : Row)
+    → f.refuses (rows_of begun) row ≡ None → f.is_whole (rows_of (with_row begun s.after n row)) ≡ false
+    → IsBegun f (front ++ (n, Numbers row) ∷ []) (with_row begun s.after n row)
+row_on f front begun s n row free room =
+    let more : List Entry = with_row begun s.after n row
+    in record {
+      parts = s.parts;
+      after = [];
+      cut = entry_cut s.parts begun s.after n row front s.cut
+          ∙ sym (append-nil (lines_of_parts s.parts ++ lines_of_part more));
+      parts_good = s.parts_good;
+      begun_good = one_more f front begun s n row free;
+      room = room;
+      after_skipped = (tt, inl refl);
+    }
+
+-- the last row of a part
+unfoldable pub part_on : (f : Format) → IsFormat f
+    → (front : List Numbered) (begun : List Entry) (s : IsBegun f front begun) (n : ℕ)
+    (row : Row) → f.refuses (rows_of begun) row ≡ None → f.is_whole (rows_of (with_row begun s.after n row)) ≡ true
+    → IsBegun f (front ++ (n, Numbers row) ∷ []) []
+part_on f is front begun s n row free whole =
+    let part : Part = with_row begun s.after n row
+    in let parts : List Part = s.parts ++ part ∷ []
+    in record {
+      parts = parts;
+      after = [];
+      cut = entry_cut s.parts begun s.after n row front s.cut ∙ sym (part_last s.parts part)
+          ∙ sym (append-nil (lines_of_parts parts)) ∙ sym (append-nil (lines_of_parts parts ++ []));
+      parts_good = parts_more f s.parts part s.parts_good (one_more f front begun s n row free, whole);
+      begun_good = tt;
+      room = is.none_whole;
+      after_skipped = (tt, inl refl);
+    }

@@ -1,0 +1,246 @@
+-- In a feasible table a machine serves one job at most at each instant.
+use Rattle.std.proofs.Common.{◌≡◌, ℕ, zero, suc, ◌+◌, ◌*◌, ◌<◌, ◌≤◌, Bool, true, false, ◌&&◌, ◌||◌, cond, eqb, leb}
+use Rattle.std.proofs.Common.{ltb, List, [], length, get_or, map, Some, None, refl, sym, ap, ◌∙◌, arith}
+use Rattle.std.proofs.Common.{inl, inr, ◌⊎◌, add-one}
+use Rattle.std.specs.Prelude.{find}
+use Rattle.std.specs.List.{range_with_len, list_any}
+use Rattle.std.specs.Option.{option_map_or}
+use Rattle.std.proofs.lemmas.Bool.{cases_eq, eq-eqb, eqb-true, leb-true, le-leb, ltb-true, lt-ltb}
+use Rattle.std.proofs.lemmas.List.FromFn.{fill_by_all}
+use Rattle.shop_model.specs.declared.ops.Op.{Op}
+use Rattle.shop_model.specs.Checking.{starts_of}
+use Rattle.shop_model.specs.Shop.{Shop, Starts, route_of, machine_of, IsOperation, IsFeasible, finish_of}
+use Rattle.shop_model.proofs.Ends.{IsOperation-job}
+use Rattle.shop_text.specs.Writing.{character_of, is_served, serves, shown_at, ShowsTheJob}
+use Rattle.shop_text.specs.Cells.{last_shown, serves_below, ShowsWhere, ShowsJobs}
+
+-- ---- tests over a range
+
+abbrev InRange : ℕ → ℕ → (ℕ → Type 0) → Type 0
+InRange a n P = (k : ℕ) × (k < a + n) × P k
+
+pub some_in_range : (p : ℕ → Bool) (a n : ℕ) → list_any p (range_with_len a n) ≡ true
+    → (k : ℕ) × (k < a + n) × (p k ≡ true)
+some_in_range p a zero e = absurd cc
+some_in_range p a (suc n) e = at (p a) refl e (some_in_range p (a + 1) n)
+  where
+    at : (b : Bool) → p a ≡ b → (b || list_any p (range_with_len (a + 1) n)) ≡ true
+        → (list_any p (range_with_len (a + 1) n) ≡ true → (k : ℕ) × (k < (a + 1) + n) × (p k ≡ true))
+        → (k : ℕ) × (k < a + suc n) × (p k ≡ true)
+    at true here any later = (a, omega arith, here)
+    at false here any later = let k = later any in (k.0, omega (arith, k.1), k.2)
+
+pub none_in_range : (p : ℕ → Bool) (a n : ℕ) → list_any p (range_with_len a n) ≡ false → (k : ℕ) → a ≤ k → k < a + n
+    → p k ≡ false
+none_in_range p a zero e k low high = absurd (omega arith)
+none_in_range p a (suc n) e k low high = at (p a) refl e (none_in_range p (a + 1) n)
+  where
+    at : (b : Bool) → p a ≡ b → (b || list_any p (range_with_len (a + 1) n)) ≡ false
+        → (list_any p (range_with_len (a + 1) n) ≡ false → (k : ℕ) → a + 1 ≤ k → k < (a + 1) + n → p k ≡ false)
+        → p k ≡ false
+    at true here any later = absurd cc
+    at false here any later =
+        elim (cases_eq k a) [ inl e ↦ ap p e ∙ here | inr ne ↦ later any k (omega arith) (omega arith) ]
+
+pub any_at : (p : ℕ → Bool) (a n k : ℕ) → a ≤ k → k < a + n → p k ≡ true → list_any p (range_with_len a n) ≡ true
+any_at p a n k low high e = at (list_any p (range_with_len a n)) refl
+  where
+    at : (b : Bool) → list_any p (range_with_len a n) ≡ b → b ≡ true
+    at true is = refl
+    at false is = absurd (let none = none_in_range p a n is k low high in cc)
+
+-- the first, where there is just one
+only_found : (p : ℕ → Bool) (a n j : ℕ) → a ≤ j → j < a + n → p j ≡ true → ((i : ℕ) → p i ≡ true → i ≡ j)
+    → find p (range_with_len a n) ≡ Some j
+only_found p a zero j low high e only = absurd (omega arith)
+only_found p a (suc n) j low high e only = at (p a) refl (λ later. only_found p (a + 1) n j later (omega arith) e only)
+  where
+    at : (b : Bool) → p a ≡ b → (a + 1 ≤ j → find p (range_with_len (a + 1) n) ≡ Some j)
+        → cond b (Some a) (find p (range_with_len (a + 1) n)) ≡ Some j
+    at true here later = ap Some (only a here)
+    at false here later =
+        later (elim (cases_eq a j) [ inl same ↦ absurd (let other = ap p same in cc) | inr ne ↦ omega arith ])
+
+none_found : (p : ℕ → Bool) (a n : ℕ) → ((i : ℕ) → p i ≡ false) → find p (range_with_len a n) ≡ None
+none_found p a zero none = refl
+none_found p a (suc n) none =
+    ap (λ (b : Bool). cond b (Some a) (find p (range_with_len (a + 1) n))) (none a) ∙ none_found p (a + 1) n none
+
+-- ---- one job at most
+
+three : (a b d : Bool) → (a && b && d) ≡ true → (a ≡ true) × (b ≡ true) × (d ≡ true)
+three true true true e = (refl, refl, refl)
+three true true false e = absurd cc
+three true false d e = absurd cc
+three false b d e = absurd cc
+
+-- what it is to be served
+pub record IsServed (shop : Shop) (starts : Starts) (machine instant j k : ℕ) : Type 0 where
+  pub operation : IsOperation shop j k
+  pub on_machine : machine_of shop j k ≡ machine
+  pub begun : starts j k ≤ instant
+  pub not_ended : instant < finish_of shop starts j k
+
+pub served_step : (shop : Shop) (starts : Starts) (machine instant j : ℕ) → serves shop starts machine instant j ≡ true
+    → (k : ℕ) × IsServed shop starts machine instant j k
+served_step shop starts machine instant j e =
+    let k = some_in_range (is_served shop starts machine instant j) 0 (length (route_of shop j)) e
+    in let facts = three (eqb (machine_of shop j k.0) machine) (leb (starts j k.0) instant)
+    (ltb instant (finish_of shop starts j k.0)) k.2
+    in (
+      k.0,
+      record {
+        operation = omega (arith, k.1);
+        on_machine = eqb-true _ _ facts.0;
+        begun =
+            leb-true _ _ facts.1;
+        not_ended = ltb-true _ _ facts.2;
+      },
+    )
+
+and_three : (a b d : Bool) → a ≡ true → b ≡ true → d ≡ true → (a && b && d) ≡ true
+and_three true true true e f g = refl
+and_three false b d e f g = absurd cc
+and_three true false d e f g = absurd cc
+and_three true true false e f g = absurd cc
+
+pub serves_step : (shop : Shop) (starts : Starts) (machine instant j k : ℕ) → IsServed shop starts machine instant j k
+    → serves shop starts machine instant j ≡ true
+serves_step shop starts machine instant j k h =
+    any_at (is_served shop starts machine instant j) 0 (length (route_of shop j)) k (omega arith)
+    (let operation = h.operation in omega arith)
+    (and_three _ _ _ (eq-eqb _ _ h.on_machine) (le-leb _ _ h.begun) (lt-ltb _ _ h.not_ended))
+
+pub one_job : (shop : Shop) (starts : Starts) → IsFeasible shop starts → (machine instant i j : ℕ)
+    → serves shop starts machine instant i ≡ true → serves shop starts machine instant j ≡ true → i ≡ j
+one_job shop starts feasible machine instant i j e f =
+    let a = served_step shop starts machine instant i e
+    in let b = served_step shop starts machine instant j f
+    in elim (cases_eq i j) [
+      | inl same ↦ same
+      | inr ne ↦ absurd (apart (a.0) (b.0) a.1 b.1 (feasible.apart i a.0 j b.0 a.1.operation b.1.operation
+          (a.1.on_machine ∙ sym b.1.on_machine) (λ same. ne same.0)))
+    ]
+  where
+    apart : (k l : ℕ) → IsServed shop starts machine instant i k → IsServed shop starts machine instant j l
+        → (finish_of shop starts i k ≤ starts j l) ⊎ (finish_of shop starts j l ≤ starts i k) → ⊥
+    apart k l h g (inl before) = (let x = h.not_ended in let y = g.begun in omega arith)
+    apart k l h g (inr after) = (let x = g.not_ended in let y = h.begun in omega arith)
+
+-- ---- what is shown
+
+serving_job : (shop : Shop) (starts : Starts) (machine instant j : ℕ) → serves shop starts machine instant j ≡ true
+    → j < length shop.jobs
+serving_job shop starts machine instant j e =
+    let k = served_step shop starts machine instant j e in IsOperation-job shop j k.0 k.1.operation
+
+pub shown_job : (shop : Shop) (starts : Starts) → IsFeasible shop starts → (machine instant j : ℕ)
+    → serves shop starts machine instant j ≡ true → shown_at shop starts machine instant ≡ character_of j
+shown_job shop starts feasible machine instant j e =
+    ap (λ o. option_map_or character_of o 46)
+    (only_found (serves shop starts machine instant) 0 (length shop.jobs) j (omega arith)
+    (omega (arith, serving_job shop starts machine instant j e)) e
+    (λ i f. one_job shop starts feasible machine instant i j f e))
+
+pub shown_none : (shop : Shop) (starts : Starts) (machine instant : ℕ)
+    → ((i : ℕ) → serves shop starts machine instant i ≡ false) → shown_at shop starts machine instant ≡ 46
+shown_none shop starts machine instant none =
+    ap (λ o. option_map_or character_of o 46) (none_found (serves shop starts machine instant) 0 (length shop.jobs)
+    none)
+
+last_job : (shop : Shop) (starts : Starts) → IsFeasible shop starts → (machine instant j n : ℕ) → j < n
+    → serves shop starts machine instant j ≡ true → last_shown shop starts machine instant n ≡ character_of j
+last_job shop starts feasible machine instant j zero h e = absurd (omega arith)
+last_job shop starts feasible machine instant j (suc n) h e =
+    at (serves shop starts machine instant n) refl (λ below. last_job shop starts feasible machine instant j n below e)
+  where
+    at : (b : Bool) → serves shop starts machine instant n ≡ b
+        → (j < n → last_shown shop starts machine instant n ≡ character_of j)
+        → cond b (character_of n) (last_shown shop starts machine instant n) ≡ character_of j
+    at true here below = ap character_of (one_job shop starts feasible machine instant n j here e)
+    at false here below = below (elim (cases_eq j n) [
+      | inl same ↦
+          absurd (let other = ap (serves shop starts machine instant) same in cc)
+      | inr ne ↦ omega arith
+    ])
+
+last_none : (shop : Shop) (starts : Starts) (machine instant n : ℕ)
+    → ((i : ℕ) → serves shop starts machine instant i ≡ false) → last_shown shop starts machine instant n ≡ 46
+last_none shop starts machine instant zero none = refl
+last_none shop starts machine instant (suc n) none =
+    ap (λ (b : Bool). cond b (character_of n) (last_shown shop starts machine instant n)) (none n)
+    ∙ last_none shop starts machine instant n none
+
+-- nobody serves, if none of the jobs does
+none_serves : (shop : Shop) (starts : Starts) (machine instant : ℕ)
+    → list_any (serves shop starts machine instant) (range_with_len 0 (length shop.jobs)) ≡ false → (i : ℕ)
+    → serves shop starts machine instant i ≡ false
+none_serves shop starts machine instant none i = at (serves shop starts machine instant i) refl
+  where
+    at : (b : Bool) → serves shop starts machine instant i ≡ b → b ≡ false
+    at false is = refl
+    at true is = absurd (let other = none_in_range (serves shop starts machine instant) 0 (length shop.jobs) none i
+        (omega arith) (omega (arith, serving_job shop starts machine instant i is)) in cc)
+
+pub last_is_shown : (shop : Shop) (starts : Starts) → IsFeasible shop starts → (machine instant : ℕ)
+    → last_shown shop starts machine instant (length shop.jobs) ≡ shown_at shop starts machine instant
+last_is_shown shop starts feasible machine instant =
+    at (list_any (serves shop starts machine instant) (range_with_len 0 (length shop.jobs))) refl
+  where
+    at : (b : Bool) → list_any (serves shop starts machine instant) (range_with_len 0 (length shop.jobs)) ≡ b
+        → last_shown shop starts machine instant (length shop.jobs) ≡ shown_at shop starts machine instant
+    at true some =
+        let j = some_in_range (serves shop starts machine instant) 0 (length shop.jobs) some
+        in last_job shop starts feasible machine instant j.0 (length shop.jobs) (omega (arith, j.1)) j.2
+        ∙ sym (shown_job shop starts feasible machine instant j.0 j.2)
+    at false none =
+        let all = none_serves shop starts machine instant none
+        in last_none shop starts machine instant (length shop.jobs) all
+        ∙ sym (shown_none shop starts machine instant all)
+
+-- one more job is shown
+pub job_shown : (shop : Shop) (rows : List (List ℕ)) (machine unit j character : ℕ) (cells newer : List ℕ)
+    (route : List Op) (starts : List ℕ) → route ≡ route_of shop j → starts ≡ get_or rows j []
+    → character ≡ character_of j
+    → length newer ≡ length cells → ShowsJobs shop (starts_of rows) machine unit cells j
+    → ShowsWhere cells newer character (λ c. serves_below route starts machine (c * unit) (length route))
+    → ShowsJobs shop (starts_of rows) machine unit newer (j + 1)
+job_shown shop rows machine unit j character cells newer route starts e f g same so_far here c h =
+    here c (omega arith)
+    ∙ ap (λ (r : List Op). cond (serves_below r starts machine (c * unit) (length r)) character (get_or cells c 0)) e
+    ∙ ap (λ (s : List ℕ). cond (serves_below (route_of shop j) s machine (c * unit) (length (route_of shop j)))
+    character (get_or cells c 0)) f
+    ∙ ap (λ (x : ℕ). cond (serves shop (starts_of rows) machine (c * unit) j) x (get_or cells c 0)) g
+    ∙ ap (λ (x : ℕ). cond (serves shop (starts_of rows) machine (c * unit) j) (character_of j) x)
+    (so_far c (omega arith))
+    ∙ ap (last_shown shop (starts_of rows) machine (c * unit)) (sym (add-one j))
+
+-- the cells of a machine, all jobs being shown
+pub all_shown : (shop : Shop) (starts : Starts) → IsFeasible shop starts → (machine unit : ℕ) (cells : List ℕ) (n : ℕ)
+    → length cells ≡ n → ShowsJobs shop starts machine unit cells (length shop.jobs)
+    → cells ≡ map (λ column. shown_at shop starts machine (column * unit)) (range_with_len 0 n)
+all_shown shop starts feasible machine unit cells n same shown =
+    fill_by_all (λ column. shown_at shop starts machine (column * unit)) cells n 0 same
+    (λ k h. shown k (omega arith) ∙ last_is_shown shop starts feasible machine (k * unit))
+
+-- ---- the law
+
+pub columns_show : ShowsTheJob
+columns_show = record {
+  served = λ shop starts feasible instant j k operation begun not_ended.
+      shown_job shop starts feasible (machine_of shop j k) instant j
+      (serves_step shop starts (machine_of shop j k) instant j k
+      (record { operation = operation; on_machine = refl; begun = begun; not_ended = not_ended }));
+  idle = λ shop starts machine instant idle. shown_none shop starts machine instant
+      (λ i. never shop starts machine instant idle i (serves shop starts machine instant i) refl);
+}
+  where
+    never : (shop : Shop) (starts : Starts) (machine instant : ℕ)
+        → ((j k : ℕ) → IsOperation shop j k → machine_of shop j k ≡ machine → starts j k ≤ instant
+        → finish_of shop starts j k ≤ instant)
+        → (i : ℕ) (b : Bool) → serves shop starts machine instant i ≡ b → b ≡ false
+    never shop starts machine instant idle i false is = refl
+    never shop starts machine instant idle i true is =
+        let k = served_step shop starts machine instant i is
+        in absurd (let ended =
+        idle i k.0 k.1.operation k.1.on_machine k.1.begun in let x = k.1.not_ended in omega arith)

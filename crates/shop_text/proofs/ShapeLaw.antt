@@ -1,0 +1,201 @@
+-- The parts of `orlib` and `routes` are those in plain words.
+use Rattle.std.proofs.Common.{◌≡◌, ℕ, zero, suc, ◌+◌, ◌*◌, ◌%◌, ◌/◌, inl, inr, cond, not, ◌&&◌, leb, ltb}
+use Rattle.std.proofs.Common.{eqb, List, [], ◌∷◌, ◌++◌, length, Option, Some, None, refl, sym, ◌∙◌, subst, arith}
+use Rattle.std.specs.List.{AllByRecursion}
+use Rattle.std.proofs.lemmas.Bool.{and_parts, leb-true, le-leb, ltb-true, lt-ltb, eqb-true, eq-eqb, ne_eqb}
+use Rattle.std.proofs.lemmas.Bool.{true≢false}
+use Rattle.std.proofs.lemmas.List.{length-map, length-append}
+use Rattle.shop_model.specs.Shop.{ShopJob}
+use Rattle.shop_text.specs.Lines.{Numbered}
+use Rattle.shop_text.specs.Grammar.{Row, LineFault, WrongShape, WrongSize, WrongRow, WrongMachine, WrongTime, Entry}
+use Rattle.shop_text.specs.Grammar.{Part}
+use Rattle.shop_text.specs.Grammar.{rows_of, AreText, AreSkipped, AreAccepted, IsPart}
+use Rattle.shop_text.specs.Formats.{orlib_fault, orlib_job, routes_fault, routes_job, format_of_rows}
+use Rattle.shop_text.specs.Formats.{pairs_fault, size_fault, is_between, jobs_in, machines_in}
+use Rattle.shop_text.specs.Shapes.{IsSize, ArePairs, IsOrlibRow, IsRoutesRow, IsRowLine, IsPartOfRows}
+use Rattle.shop_text.specs.Shapes.{OrlibShape, RoutesShape}
+use Rattle.shop_text.proofs.Capping.{no_fault_then, no_fault_if, no_fault_in}
+
+-- ---- a row
+
+pairs_from : (machines : ℕ) (row : Row) (half : ℕ) → length row ≡ 2 * half → pairs_fault machines row ≡ None
+    → ArePairs machines row
+pairs_from machines [] half len e = tt
+pairs_from machines (m ∷ []) half len e = absurd (omega arith)
+pairs_from machines (m ∷ p ∷ rest) zero len e = absurd (omega arith)
+pairs_from machines (m ∷ p ∷ rest) (suc half) len e =
+    let later : Option LineFault = pairs_fault machines rest
+    in let first = no_fault_then (ltb m machines) WrongMachine (cond (not (leb p 1000000000)) (Some WrongTime) later) e
+    in let second = no_fault_then (leb p 1000000000) WrongTime later first.1
+    in (
+      ltb-true m machines first.0,
+      leb-true p 1000000000 second.0,
+      pairs_from machines rest half (omega arith)
+          second.1,
+    )
+
+pairs_to : (machines : ℕ) (row : Row) → ArePairs machines row → pairs_fault machines row ≡ None
+pairs_to machines [] h = refl
+pairs_to machines (m ∷ []) h = refl
+pairs_to machines (m ∷ p ∷ rest) h =
+    rw (lt-ltb m machines h.0, le-leb p 1000000000 h.1) (pairs_to machines rest h.2)
+
+-- ---- a size line
+
+pub size_from : (row : Row) → size_fault row ≡ None → IsSize (jobs_in row) (machines_in row)
+size_from row e =
+    let both = and_parts (is_between 1 1000 (jobs_in row)) (is_between 1 100 (machines_in row))
+    (no_fault_if (is_between 1 1000 (jobs_in row) && is_between 1 100 (machines_in row)) WrongSize e)
+    in let jobs = and_parts (leb 1 (jobs_in row)) (leb (jobs_in row) 1000) both.0
+    in let machines = and_parts (leb 1 (machines_in row)) (leb (machines_in row) 100) both.1
+    in record {
+      some_job = leb-true 1 (jobs_in row) jobs.0;
+      few_jobs = leb-true (jobs_in row) 1000 jobs.1;
+      some_machine = leb-true 1 (machines_in row) machines.0;
+      few_machines = leb-true (machines_in row) 100 machines.1;
+    }
+
+pub size_to : (row : Row) → IsSize (jobs_in row) (machines_in row) → size_fault row ≡ None
+size_to row s =
+    rw (
+      le-leb 1 (jobs_in row) s.some_job,
+      le-leb (jobs_in row) 1000 s.few_jobs,
+      le-leb 1 (machines_in row)
+          s.some_machine,
+      le-leb (machines_in row) 100 s.few_machines,
+    ) refl
+
+-- ---- rows of `orlib` and `routes`
+
+orlib_row_from : (machines : ℕ) (row : Row) → orlib_fault machines row ≡ None → IsOrlibRow machines row
+orlib_row_from machines row e =
+    let counted = no_fault_in (eqb (length row) (2 * machines)) WrongRow (pairs_fault machines row) e
+    in let len = eqb-true (length row) (2 * machines) counted.0
+    in record { len = len; pairs = pairs_from machines row machines len counted.1 }
+
+orlib_row_to : (machines : ℕ) (row : Row) → IsOrlibRow machines row → orlib_fault machines row ≡ None
+orlib_row_to machines row h =
+    rw (eq-eqb (length row) (2 * machines) h.len) (pairs_to machines row h.pairs)
+
+-- pairs are an even count
+half_of : ℕ → Row → ℕ
+half_of machines [] = 0
+half_of machines (m ∷ []) = 0
+half_of machines (m ∷ p ∷ rest) = suc (half_of machines rest)
+
+pairs_even : (machines : ℕ) (row : Row) → ArePairs machines row → length row ≡ 2 * half_of machines row
+unfolding half_of
+pairs_even machines [] h = refl
+pairs_even machines (m ∷ []) h = absurd h
+pairs_even machines (m ∷ p ∷ rest) h = omega (arith, pairs_even machines rest h.2)
+
+routes_row_from : (machines : ℕ) (row : Row) → routes_fault machines row ≡ None → IsRoutesRow machines row
+routes_row_from machines [] e = absurd cc
+routes_row_from machines (release ∷ rest) e =
+    let counted = no_fault_then (eqb (length rest % 2) 0 && leb (length rest) 200) WrongRow
+    (cond (not (leb release 1000000000)) (Some WrongTime) (pairs_fault machines rest)) e
+    in let both = and_parts (eqb (length rest % 2) 0) (leb (length rest) 200) counted.0
+    in let free = no_fault_then (leb release 1000000000) WrongTime (pairs_fault machines rest) counted.1
+    in let even = eqb-true (length rest % 2) 0 both.0
+    in record {
+      release = release;
+      rest = rest;
+      cut = refl;
+      small = leb-true release 1000000000 free.0;
+      few = leb-true (length rest) 200 both.1;
+      pairs = pairs_from machines rest (length rest / 2) (omega (arith, even)) free.1;
+    }
+
+routes_row_to : (machines : ℕ) (row : Row) → IsRoutesRow machines row → routes_fault machines row ≡ None
+routes_row_to machines row h =
+    let len = pairs_even machines h.rest h.pairs
+    in let even : length h.rest % 2 ≡ 0 = omega (arith, len)
+    in rw (
+      h.cut,
+      eq-eqb (length h.rest % 2) 0 even,
+      le-leb (length h.rest) 200 h.few,
+      le-leb h.release 1000000000 h.small,
+    )
+    (pairs_to machines h.rest h.pairs)
+
+-- ---- the rows behind a size line
+
+-- text lines aren't skipped behind a size line
+no_text : (fault : ℕ → Row → Option LineFault) (job : Row → ShopJob) (size : Row) (done : List Row)
+    (lines : List Numbered) → AreSkipped (format_of_rows fault job) (size ∷ done) lines → lines ≡ []
+no_text fault job size done lines (are, inl none) = none
+no_text fault job size done lines (are, inr skips) = absurd (true≢false (sym skips))
+
+rows_from : (fault : ℕ → Row → Option LineFault) (job : Row → ShopJob) (IsRow : ℕ → Row → Type 0)
+    → ((machines : ℕ) (row : Row) → fault machines row ≡ None → IsRow machines row)
+    → (size : Row) (done : List Row) (rows : List Entry) → AreAccepted (format_of_rows fault job) (size ∷ done) rows
+    → AllByRecursion (IsRowLine (IsRow (machines_in size))) rows
+rows_from fault job IsRow from size done [] a = tt
+rows_from fault job IsRow from size done (e ∷ rows) a = (
+  record {
+    no_text = no_text fault job size done e.before a.0.text;
+    is_row = from (machines_in size) e.row a.0.row;
+  },
+  rows_from fault job IsRow from size (done ++ e.row ∷ []) rows a.1,
+)
+
+rows_to : (fault : ℕ → Row → Option LineFault) (job : Row → ShopJob) (IsRow : ℕ → Row → Type 0)
+    → ((machines : ℕ) (row : Row) → IsRow machines row → fault machines row ≡ None)
+    → (size : Row) (done : List Row) (rows : List Entry) → length done + length rows ≡ jobs_in size
+    → AllByRecursion (IsRowLine (IsRow (machines_in size))) rows
+    → AreAccepted (format_of_rows fault job) (size ∷ done) rows
+rows_to fault job IsRow to size done [] len h = tt
+rows_to fault job IsRow to size done (e ∷ rows) len h = (
+  record {
+    room = ne_eqb (length done) (jobs_in size) (λ is. omega arith);
+    text = (subst AreText (sym h.0.no_text) tt, inl h.0.no_text);
+    row = to (machines_in size) e.row h.0.is_row;
+  },
+  rows_to fault job IsRow to size (done ++ e.row ∷ []) rows (omega (arith, length-append done (e.row ∷ []))) h.1,
+)
+
+-- ---- parts
+
+plain_from : (fault : ℕ → Row → Option LineFault) (job : Row → ShopJob) (IsRow : ℕ → Row → Type 0)
+    → ((machines : ℕ) (row : Row) → fault machines row ≡ None → IsRow machines row)
+    → (part : Part) → IsPart (format_of_rows fault job) part → IsPartOfRows IsRow part
+plain_from fault job IsRow from [] h = absurd (true≢false (sym h.1))
+plain_from fault job IsRow from (first ∷ rows) h =
+    let counted = no_fault_in (eqb (length first.row) 2) WrongShape (size_fault first.row) h.0.0.row
+    in record {
+      first = first;
+      rows = rows;
+      cut = refl;
+      text = h.0.0.text.0;
+      two = eqb-true (length first.row) 2 counted.0;
+      size = size_from first.row counted.1;
+      count = sym (length-map rows (λ e. e.row)) ∙ eqb-true (length (rows_of rows)) (jobs_in first.row) h.1;
+      each = rows_from fault job IsRow from first.row [] rows h.0.1;
+    }
+
+plain_to : (fault : ℕ → Row → Option LineFault) (job : Row → ShopJob) (IsRow : ℕ → Row → Type 0)
+    → ((machines : ℕ) (row : Row) → IsRow machines row → fault machines row ≡ None)
+    → (part : Part) → IsPartOfRows IsRow part → IsPart (format_of_rows fault job) part
+plain_to fault job IsRow to part p = subst (IsPart (format_of_rows fault job)) (sym p.cut) (
+  (
+    record {
+      room = refl;
+      text = (p.text, inr refl);
+      row = rw (eq-eqb (length p.first.row) 2 p.two) (size_to p.first.row p.size);
+    },
+    rows_to fault job IsRow to p.first.row [] p.rows (omega (arith, p.count)) p.each,
+  ),
+  eq-eqb (length (rows_of p.rows)) (jobs_in p.first.row) (length-map p.rows (λ e. e.row) ∙ p.count),
+)
+
+pub orlib_shape : OrlibShape
+orlib_shape part = (
+  plain_from orlib_fault orlib_job IsOrlibRow orlib_row_from part,
+  plain_to orlib_fault orlib_job IsOrlibRow orlib_row_to part,
+)
+
+pub routes_shape : RoutesShape
+routes_shape part = (
+  plain_from routes_fault routes_job IsRoutesRow routes_row_from part,
+  plain_to routes_fault routes_job IsRoutesRow routes_row_to part,
+)

@@ -1,0 +1,165 @@
+-- Lines are good for some parts, or have some fault.
+use Rattle.std.proofs.Common.{◌≡◌, ℕ, ◌+◌, ◌≤◌, ◌⊎◌, inl, inr, Bool, true, false, cond, List, [], ◌∷◌, ◌++◌, length}
+use Rattle.std.proofs.Common.{map}
+use Rattle.std.proofs.Common.{Option, Some, None, refl, sym, ap, subst, ◌∙◌, append_assoc, arith}
+use Rattle.std.specs.Prelude.{IsTrue, filter}
+use Rattle.std.specs.List.{AllByRecursion, list_any, enumerate_from}
+use Rattle.std.proofs.lemmas.Bool.{cases_lt}
+use Rattle.std.proofs.lemmas.List.{append-nil}
+use Rattle.shop_text.specs.Lines.{Line, Blank, Numbers, Words, Numbered, is_left, line_of, lines_of, numbered_lines}
+use Rattle.shop_text.specs.Grammar.{Row, Format, LineFault, WrongRow, fault_at, Entry, Part, rows_of, lines_of_parts}
+use Rattle.shop_text.specs.Grammar.{AreText, IsPart, IsGood, IsBegun, refusal, IsRefused, IsFault}
+use Rattle.shop_text.specs.declared.faults.ReadFault.{ReadFault}
+use Rattle.shop_text.specs.declared.faults.ReadFault.TheVariants.{NoInstance, Truncated, TooLong}
+use Rattle.shop_text.specs.Texts.{is_header, from_first_header, lines_left, named_from}
+use Rattle.shop_text.specs.Texts.{HasReading, SomeReading}
+use Rattle.shop_text.proofs.OneReading.{IsFormat, with_row}
+use Rattle.shop_text.proofs.Places.{words_on, row_on, part_on}
+
+abbrev pub Outcome : Format → ℕ → List Numbered → Type 0
+Outcome f last lines =
+    ((parts : List Part) × IsGood f lines parts) ⊎ ((fault : ReadFault) × IsFault f last lines fault)
+
+-- outside a part
+outside : (f : Format) (last : ℕ) (lines after : List Numbered) (parts : List Part)
+    → lines
+    ≡ lines_of_parts parts ++ [] ++ after → AllByRecursion (IsPart f) parts → AreText after → Outcome f last lines
+outside f last lines after [] cut good text =
+    inr (NoInstance, inl (record { text = subst AreText (sym cut) text; told = refl }))
+outside f last lines after (p ∷ parts) cut good text =
+    inl (
+      p ∷ parts,
+      record {
+        after = after;
+        cut = cut ∙ ap (λ (ls : List Numbered). ls ++ after) (append-nil (lines_of_parts (p ∷ parts)));
+        parts_good = good;
+        after_text = text;
+        some = omega arith;
+      },
+    )
+
+pub ends : (f : Format) (last : ℕ) (lines : List Numbered) (begun : List Entry) → IsBegun f lines begun
+    → Outcome f last lines
+ends f last lines (e ∷ begun) s =
+    inr (Truncated (last + 1), inr (inl (record { begun = e ∷ begun; place = s; inside = omega arith; told = refl })))
+ends f last lines [] s = outside f last lines s.after s.parts s.cut s.parts_good s.after_skipped.0
+
+pub refused_here : (f : Format) (all front lines : List Numbered) (begun : List Entry) → IsBegun f front begun
+    → (n : ℕ) (line : Line) → all ≡ front ++ (n, line) ∷ lines → (name : LineFault)
+    → refusal f (rows_of begun) line ≡ Some name → IsRefused f all (fault_at n name)
+refused_here f all front lines begun s n line cut name e = record {
+  before = front;
+  line = (n, line);
+  later = lines;
+  cut = cut;
+  begun = begun;
+  place = s;
+  name = name;
+  refused = e;
+  told = refl;
+}
+
+-- from each place on the way, the rest of the lines has an outcome
+abbrev Found : Format → ℕ → List Numbered → List Numbered → Type 0
+Found f last all lines =
+    (front : List Numbered) (begun : List Entry) → IsBegun f front begun → all ≡ front ++ lines → Outcome f last all
+
+at_words : (f : Format) (last : ℕ) (all lines front : List Numbered) (begun : List Entry) → IsBegun f front begun
+    → (n : ℕ) (words : List (List ℕ)) → all ≡ front ++ (n, Words words) ∷ lines → Found f last all lines
+    → (b : Bool) → f.skips (rows_of begun) ≡ b → Outcome f last all
+at_words f last all lines front begun s n words cut go true e =
+    go (front ++ (n, Words words) ∷ []) begun (words_on f front begun s n words e)
+    (cut ∙ sym (append_assoc front ((n, Words words) ∷ []) lines))
+at_words f last all lines front begun s n words cut go false e =
+    let refused : refusal f (rows_of begun) (Words words) ≡ Some WrongRow = rw e refl
+    in inr (
+      fault_at n WrongRow,
+      inr
+          (inr (refused_here f all front lines begun s n (Words words) cut WrongRow refused)),
+    )
+
+at_row : (f : Format) → IsFormat f → (last : ℕ) (all lines front : List Numbered) (begun : List Entry)
+    (s : IsBegun f front begun) (n : ℕ) (row : Row) → all ≡ front ++ (n, Numbers row) ∷ lines → Found f last all lines
+    → f.refuses (rows_of begun) row ≡ None → (b : Bool) → f.is_whole (rows_of (with_row begun s.after n row)) ≡ b
+    → Outcome f last all
+at_row f is last all lines front begun s n row cut go free true e =
+    go (front ++ (n, Numbers row) ∷ []) [] (part_on f is front begun s n row free e)
+    (cut ∙ sym (append_assoc front ((n, Numbers row) ∷ []) lines))
+at_row f is last all lines front begun s n row cut go free false e =
+    go (front ++ (n, Numbers row) ∷ []) (with_row begun s.after n row) (row_on f front begun s n row free e)
+    (cut ∙ sym (append_assoc front ((n, Numbers row) ∷ []) lines))
+
+at_numbers : (f : Format) → IsFormat f → (last : ℕ) (all lines front : List Numbered) (begun : List Entry)
+    (s : IsBegun f front begun) (n : ℕ) (row : Row) → all ≡ front ++ (n, Numbers row) ∷ lines → Found f last all lines
+    → (o : Option LineFault) → f.refuses (rows_of begun) row ≡ o → Outcome f last all
+at_numbers f is last all lines front begun s n row cut go None e =
+    at_row f is last all lines front begun s n row cut go e (f.is_whole (rows_of (with_row begun s.after n row))) refl
+at_numbers f is last all lines front begun s n row cut go (Some name) e =
+    inr (fault_at n name, inr (inr (refused_here f all front lines begun s n (Numbers row) cut name e)))
+
+abbrev pub AreLeft : List Numbered → Type 0
+AreLeft lines = AllByRecursion (λ l. IsTrue (is_left l)) lines
+
+pub found : (f : Format) → IsFormat f → (last : ℕ) (all lines : List Numbered) → AreLeft lines → Found f last all lines
+found f is last all [] left =
+    λ front begun s cut. subst (Outcome f last) (sym (cut ∙ append-nil front)) (ends f last front begun s)
+found f is last all ((n, Blank) ∷ lines) left = absurd (let e = left.0 in cc)
+found f is last all ((n, Words words) ∷ lines) left =
+    λ front begun s cut.
+    at_words f last all lines front begun s n words cut (found f is last all lines left.1) (f.skips (rows_of begun))
+    refl
+found f is last all ((n, Numbers row) ∷ lines) left =
+    λ front begun s cut.
+    at_numbers f is last all lines front begun s n row cut (found f is last all lines left.1)
+    (f.refuses (rows_of begun) row) refl
+
+unfoldable pub nothing_yet : (f : Format) → IsFormat f → IsBegun f [] []
+nothing_yet f is = record {
+  parts = [];
+  after = [];
+  cut = refl;
+  parts_good = tt;
+  begun_good = tt;
+  room = is.none_whole;
+  after_skipped = (tt, inl refl);
+}
+
+-- lines that aren't blank are good, or have a fault
+pub some_reading : (f : Format) → IsFormat f → (last : ℕ) (lines : List Numbered) → AreLeft lines → Outcome f last lines
+some_reading f is last lines left = found f is last lines lines left [] [] (nothing_yet f is) refl
+
+-- ---- whole texts
+
+left_all : (lines : List Numbered) → AreLeft (filter is_left lines)
+left_all [] = tt
+left_all ((n, Blank) ∷ lines) = left_all lines
+left_all ((n, Numbers row) ∷ lines) = (refl, left_all lines)
+left_all ((n, Words words) ∷ lines) = (refl, left_all lines)
+
+left_chosen : (b : Bool) (xs ys : List Numbered) → AreLeft xs → AreLeft ys → AreLeft (cond b xs ys)
+left_chosen true xs ys h g = h
+left_chosen false xs ys h g = g
+
+left_after : (f : Format) (lines : List Numbered) → AreLeft lines → AreLeft (from_first_header f lines)
+left_after f [] h = tt
+left_after f (l ∷ lines) h =
+    left_chosen (is_header f l) (l ∷ lines) (from_first_header f lines) h (left_after f lines h.1)
+
+pub all_left : (f : Format) (text : List ℕ) → AreLeft (lines_left f text)
+all_left f text =
+    let lines : List Numbered = numbered_lines text
+    in let h : AreLeft lines = left_all (enumerate_from 1 (map line_of (lines_of text)))
+    in left_chosen (list_any (is_header f) lines) (from_first_header f lines) lines (left_after f lines h) h
+
+pub some_text : (f : Format) → IsFormat f → SomeReading f
+some_text f is text = elim (cases_lt 16777216 (length text)) [
+  | inl long ↦ inr (TooLong, inl (record { long = long; told = refl }))
+  | inr short ↦
+      short_text text short (some_reading f is (length (lines_of text)) (lines_left f text) (all_left f text))
+]
+  where
+    short_text : (text : List ℕ) → length text ≤ 16777216
+        → Outcome f (length (lines_of text)) (lines_left f text) → HasReading f text
+    short_text text short (inl (parts, good)) =
+        inl (named_from f 1 parts, record { short = short; parts = parts; good = good; shops_are = refl })
+    short_text text short (inr (fault, bad)) = inr (fault, inr (record { short = short; in_lines = bad }))

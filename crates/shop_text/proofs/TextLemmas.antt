@@ -1,0 +1,107 @@
+-- Texts made of lines, and lines made of tokens.
+use Rattle.std.proofs.Common.{◌≡◌, ℕ, ◌+◌, ◌<◌, List, [], ◌∷◌, ◌++◌, length, get_or, take, map, Result, Ok, Err, refl}
+use Rattle.std.proofs.Common.{sym, ap, ◌∙◌, arith}
+use Rattle.std.specs.Prelude.{flat_map, codes, OnOk, IfOk}
+use Rattle.std.specs.List.{join_with_byte, enumerate_from, range_with_len}
+use Rattle.std.proofs.lemmas.List.FromFn.{map-range_with_len_more}
+use Rattle.std.specs.Fmt.{decimal}
+use Rattle.std.proofs.lemmas.List.{append_assoc, append-nil, map-append, take_more, length-take-le}
+use Rattle.std.proofs.lemmas.List.Concat.{flat_map-append}
+use Rattle.shop_text.specs.Schedules.{Tokens}
+use Rattle.shop_text.specs.Writing.{line_of_tokens, text_of, job_line, job_lines}
+use Rattle.shop_text.proofs.JobLineLemmas.{enumerate_push}
+
+-- a space before each token
+abbrev pub behind_space : List ℕ → List ℕ
+behind_space token = 32 ∷ token
+
+-- the first token, and a space before each other one
+pub joined_is : (token : List ℕ) (tokens : Tokens)
+    → join_with_byte 32 (token ∷ tokens) ≡ token ++ flat_map behind_space tokens
+joined_is token [] = sym (append-nil token)
+joined_is token (next ∷ tokens) = ap (λ (rest : List ℕ). token ++ 32 ∷ rest) (joined_is next tokens)
+
+flat_map-map : (f : ℕ → List ℕ) (xs : List ℕ) → flat_map behind_space (map f xs) ≡ flat_map (λ x. 32 ∷ f x) xs
+flat_map-map f [] = refl
+flat_map-map f (x ∷ xs) = ap (λ (rest : List ℕ). 32 ∷ f x ++ rest) (flat_map-map f xs)
+
+-- the line of a job, as it is written: its beginning, the starts, the end
+pub job_line_is : (j : ℕ) (starts : List ℕ)
+    → ((codes "job " ++ (decimal j ++ codes ":")) ++ flat_map (λ start. 32 ∷ decimal start) starts) ++ 10 ∷ []
+    ≡ line_of_tokens (job_line j starts)
+job_line_is j starts =
+    ap (λ (text : List ℕ). text ++ 10 ∷ []) (sym (ap (λ (rest : List ℕ). codes "job " ++ rest)
+    (joined_is (decimal j ++ codes ":") (map decimal starts)
+    ∙ ap (λ (rest : List ℕ). (decimal j ++ codes ":") ++ rest) (flat_map-map decimal starts))))
+
+pub text_push : (lines : List Tokens) (line : Tokens)
+    → text_of (lines ++ line ∷ []) ≡ text_of lines ++ line_of_tokens line
+text_push lines line = flat_map-append line_of_tokens lines (line ∷ [])
+    ∙ ap (λ (rest : List ℕ). text_of lines ++ rest) (append-nil (line_of_tokens line))
+
+-- one more line behind what is written
+pub text_more : (old new start : List ℕ) (lines : List Tokens) (line : Tokens) → old ≡ start ++ text_of lines
+    → new ≡ old ++ line_of_tokens line → new ≡ start ++ text_of (lines ++ line ∷ [])
+text_more old new start lines line e f =
+    f ∙ ap (λ (text : List ℕ). text ++ line_of_tokens line) e
+    ∙ append_assoc start (text_of lines) (line_of_tokens line)
+    ∙ ap (λ (text : List ℕ). start ++ text) (sym (text_push lines line))
+
+pub job_lines_more : (rows : List (List ℕ)) (j : ℕ) → j < length rows
+    → job_lines (take (j + 1) rows) ≡ job_lines (take j rows) ++ job_line j (get_or rows j []) ∷ []
+job_lines_more rows j h =
+    ap job_lines (take_more rows j [] h)
+    ∙ ap (map (λ (row : ℕ × List ℕ). job_line row.0 row.1)) (enumerate_push 0 (take j rows) (get_or rows j []))
+    ∙ map-append (λ (row : ℕ × List ℕ). job_line row.0 row.1) (enumerate_from 0 (take j rows))
+    ((0 + length (take j rows), get_or rows j []) ∷ [])
+    ∙ ap (λ (i : ℕ). job_lines (take j rows) ++ job_line i (get_or rows j []) ∷ [])
+    (omega (arith, length-take-le j rows (omega arith)))
+
+pub eight_more : (s t a b c d e f g h : List ℕ) → t ≡ (((((((s ++ a) ++ b) ++ c) ++ d) ++ e) ++ f) ++ g) ++ h
+    → t ≡ s ++ (a ++ (b ++ (c ++ (d ++ (e ++ (f ++ (g ++ (h ++ []))))))))
+eight_more s t a b c d e f g h is = is ∙ simp (append_assoc, append-nil)
+
+-- one more line behind a first one
+pub line_more : (old new : List ℕ) (first : Tokens) (line : ℕ → Tokens) (n : ℕ)
+    → old ≡ text_of (first ∷ map line (range_with_len 0 n)) → new ≡ old ++ line_of_tokens (line n)
+    → new ≡ text_of (first ∷ map line (range_with_len 0 (n + 1)))
+line_more old new first line n e f =
+    text_more old new [] (first ∷ map line (range_with_len 0 n)) (line n) e f
+    ∙ ap (λ (lines : List Tokens). text_of (first ∷ lines)) (sym
+    (map-range_with_len_more line 0 n n (omega arith)))
+
+-- ---- what a call that may want memory has written
+
+pub written : {X E : Type 0} (r : Result X E) (P Q : Type 0) → OnOk r P → (P → Q) → OnOk r Q
+written (Ok x) P Q h f = f h
+written (Err e) P Q h f = h
+
+pub same_text : {X E : Type 0} (bytes : X → List ℕ) (r : Result X E) (a b : List ℕ) → IfOk r (λ x. bytes x ≡ a) → a ≡ b
+    → IfOk r (λ x. bytes x ≡ b)
+same_text bytes (Ok x) a b h e = h ∙ e
+same_text bytes (Err x) a b h e = h
+
+-- ---- verdicts
+
+abbrev pub early_tokens : List ℕ → List ℕ → List ℕ → Tokens
+early_tokens j k before = codes "infeasible:" ∷ codes "job" ∷ j ∷ codes "step" ∷ k ∷ codes "begins" ∷ codes "before"
+    ∷ codes "step" ∷ before ∷ codes "ends" ∷ []
+
+pub early_is : (j k before : List ℕ)
+    → codes "infeasible: job " ++ (j ++ (codes " step " ++ (k
+    ++ (codes " begins before step " ++ (before ++ codes " ends\n")))))
+    ≡ line_of_tokens (early_tokens j k before)
+early_is j k before = simp append_assoc
+
+pub overlap_is : (m j k i l : List ℕ)
+    → codes "infeasible: machine " ++ (m ++ (codes " overlap of job "
+    ++ (j ++ (codes " step " ++ (k ++ (codes " and job " ++ (i ++ (codes " step " ++ (l ++ codes "\n")))))))))
+    ≡ line_of_tokens (codes "infeasible:" ∷ codes "machine" ∷ m ∷ codes "overlap" ∷ codes "of" ∷ codes "job" ∷ j
+    ∷ codes "step" ∷ k ∷ codes "and" ∷ codes "job" ∷ i ∷ codes "step" ∷ l ∷ [])
+overlap_is m j k i l = simp append_assoc
+
+pub unreleased_is : (j : List ℕ)
+    → codes "infeasible: job " ++ (j ++ codes " step 0 begins before its release\n")
+    ≡ line_of_tokens (codes "infeasible:" ∷ codes "job" ∷ j ∷ codes "step" ∷ codes "0" ∷ codes "begins"
+    ∷ codes "before" ∷ codes "its" ∷ codes "release" ∷ [])
+unreleased_is j = simp append_assoc

@@ -1,0 +1,7 @@
+use Rattle.std.proofs.Common.{◌*◌}
+use Rattle.shop_text.specs.Cells.{ShowsWhere, serves_below}
+use Rattle.shop_text.proofs.cells.show_job.Given as goal
+
+abbrev pub invariant-loop-k : goal.invariant-loop-k
+invariant-loop-k l =
+    ShowsWhere l.fn.cells l.cells l.character (λ c. serves_below l.route l.starts l.machine (c * l.unit) l.k)

@@ -1,0 +1,18 @@
+use Rattle.std.proofs.Common.{◌≡◌, ◌+◌, ◌≤◌, ◌++◌, length, map}
+use Rattle.std.specs.Prelude.{vec_capacity}
+use Rattle.std.specs.List.{list_all}
+use Rattle.shop_text.specs.Lines.{tokens_of, value_of}
+use Rattle.shop_text.specs.Schedules.{is_start}
+use Rattle.shop_text.proofs.job_lines.starts_behind.Given as goal
+
+abbrev pub invariant-loop-token : goal.invariant-loop-token
+invariant-loop-token l = record {
+  count : length l.starts.items + length (tokens_of l.rest) ≡ length (tokens_of l.behind);
+  passed : list_all is_start (tokens_of l.rest) ≡ list_all is_start (tokens_of l.behind);
+  values : l.starts.items ++ map value_of (tokens_of l.rest) ≡ map value_of (tokens_of l.behind);
+  room : l.steps ≤ vec_capacity l.starts;
+  within : length l.starts.items ≤ l.steps;
+}
+
+abbrev pub decreases-loop-token : goal.decreases-loop-token
+decreases-loop-token l = length l.rest

@@ -1,0 +1,13 @@
+use Rattle.std.proofs.Common.{length}
+use Rattle.shop_text.specs.Reading.{format_of, IsFurther}
+use Rattle.shop_text.proofs.Passing.{IsBeforeHeader}
+use Rattle.shop_text.proofs.texts.from_first_header.Given as goal
+
+abbrev pub invariant-loop-rest : goal.invariant-loop-rest
+invariant-loop-rest l = record {
+  before : IsBeforeHeader (format_of l.profile) l.text l.number l.rest;
+  further : IsFurther 0 l.text l.number l.rest;
+}
+
+abbrev pub decreases-loop-rest : goal.decreases-loop-rest
+decreases-loop-rest l = length l.rest

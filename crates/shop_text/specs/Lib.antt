@@ -1,0 +1,17 @@
+pub mod Lines
+pub mod Grammar
+pub mod Formats
+pub mod Reading
+pub mod Texts
+pub mod Limits
+pub mod Drafts
+pub mod Names
+pub mod Shapes
+pub mod Readers
+pub mod Schedules
+pub mod TableReading
+pub mod Writing
+pub mod Printing
+pub mod Cells
+pub mod Reports
+pub mod RoundTrip

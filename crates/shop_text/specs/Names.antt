@@ -1,0 +1,51 @@
+-- Named instances, as readers give them.
+--     shops_of named                     what stands in a list of named instances
+--     IsRead format text result          what reading a text answers
+--     IsPick named name result           the first instance of a name
+use Rattle.std.specs.Prelude.{◌≡◌, ℕ, ◌<◌, List, [], ◌∷◌, length, map, find, Option, Some, None, Result, Ok, Err}
+use Rattle.std.specs.Prelude.{Vec, string_bytes}
+use Rattle.std.specs.Borrow.{Bor}
+use Rattle.std.specs.Str.{bytes_eq}
+use Rattle.std.specs.declared.alloc.Global.{Global}
+use Rattle.shop_text.specs.Texts.{NamedShop, IsText, IsTextFault}
+use Rattle.shop_text.specs.Grammar.{Format}
+use Rattle.shop_text.specs.declared.names.Named.{Named}
+use Rattle.shop_text.specs.declared.faults.ReadFault.{ReadFault}
+use Rattle.shop_text.specs.declared.faults.ReadFault.TheVariants.{NoMemory, TooLong, NoInstance, BadShape, BadSize}
+use Rattle.shop_text.specs.declared.faults.ReadFault.TheVariants.{BadRow, Truncated, BadMachine, BadTime}
+use Rattle.shop_text.specs.declared.faults.ReadFault.TheVariants.{NoSuchName, BadTable}
+
+abbrev pub shop_of_named : Named → NamedShop
+shop_of_named n = record { name = string_bytes n.name; shop = n.instance }
+
+abbrev pub shops_of : List Named → List NamedShop
+shops_of named = map shop_of_named named
+
+-- a text that is good is read as what it says, and another is refused by its fault; memory may be wanting in either
+abbrev pub IsRead : Format → List ℕ → Result (Vec Named Global) ReadFault → Type 0
+IsRead format text (Ok v) = IsText format text (shops_of v.items) × (0 < length v.items)
+IsRead format text (Err NoMemory) = Unit {0}
+IsRead format text (Err TooLong) = IsTextFault format text TooLong
+IsRead format text (Err NoInstance) = IsTextFault format text NoInstance
+IsRead format text (Err (BadShape n)) = IsTextFault format text (BadShape n)
+IsRead format text (Err (BadSize n)) = IsTextFault format text (BadSize n)
+IsRead format text (Err (BadRow n)) = IsTextFault format text (BadRow n)
+IsRead format text (Err (Truncated n)) = IsTextFault format text (Truncated n)
+IsRead format text (Err (BadMachine n)) = IsTextFault format text (BadMachine n)
+IsRead format text (Err (BadTime n)) = IsTextFault format text (BadTime n)
+IsRead format text (Err NoSuchName) = ⊥
+IsRead format text (Err (BadTable n)) = ⊥
+
+-- the first instance of the name, or where no name is given the first one
+abbrev pub first_of : List NamedShop → Option NamedShop
+first_of [] = None
+first_of (n ∷ named) = Some n
+
+abbrev pub first_named : List NamedShop → Option (List ℕ) → Option NamedShop
+first_named named None = first_of named
+first_named named (Some name) = find (λ n. bytes_eq n.name name) named
+
+-- the instance is the first of that name; where there is none, that is the fault
+abbrev pub IsPick : List Named → Option (List ℕ) → Result (Bor Named) ReadFault → Type 0
+IsPick named name (Ok n) = first_named (shops_of named) name ≡ Some (shop_of_named n.now)
+IsPick named name (Err fault) = (fault ≡ NoSuchName) × (first_named (shops_of named) name ≡ None)

@@ -1,0 +1,85 @@
+// The characters that a machine's line of a Gantt text shows.
+ghost use Rattle.std.specs.Prelude.{◌≡◌, ◌<◌, ◌≤◌, length};
+ghost use Rattle.shop_model.specs.Shop.{IsFeasible};
+ghost use Rattle.shop_model.specs.Steps.{AreSmall};
+ghost use Rattle.shop_model.specs.Checking.{HasShape, starts_of};
+ghost use Rattle.shop_text.specs.Writing.{character_of, shown_cells};
+ghost use Rattle.shop_text.specs.Cells.{is_column, ShowsWhere, ShowsRoute, EndsWithin, AllEndWithin};
+
+use shop_model::{Instance, Op, Table};
+
+/// The characters of the first jobs; all others have `#`.
+const CHARACTERS: &[u8; 62] = b"0123456789ABCDEFGHIJKLMNOPQRSTUVWXYZabcdefghijklmnopqrstuvwxyz";
+
+/// The character of job j.
+fn character(j: usize) -> u8
+    ensures { result ≡ character_of j }
+{
+    if j < CHARACTERS.len() {
+        CHARACTERS[j]
+    } else {
+        b'#'
+    }
+}
+
+/// Shows a character in the columns from one to before another.
+fn show(cells: &mut [u8], from: usize, to: usize, character: u8)
+    requires order { from ≤ to }
+    requires within { to ≤ length cells.old }
+    ensures { ShowsWhere cells.old cells.new character (is_column from to) }
+{
+    for column in from..to {
+        cells[column] = character;
+    }
+}
+
+/// Shows a job in the columns at whose instants the machine serves it.
+fn show_job(
+    cells: &mut [u8],
+    unit: u64,
+    machine: usize,
+    character: u8,
+    route: &[Op],
+    starts: &[u64],
+)
+    requires unit { 0 < unit }
+    requires small { AreSmall route.now starts.now }
+    requires within { EndsWithin route.now starts.now unit (length cells.old) }
+    ensures { ShowsRoute route.now starts.now machine unit cells.old cells.new character }
+{
+    for k in 0..route.len() {
+        if route[k].machine == machine {
+            let from = starts[k].div_ceil(unit) as usize;
+            let to = (starts[k] + route[k].time).div_ceil(unit) as usize;
+            show(cells, from, to, character);
+        }
+    }
+}
+
+/// Shows in each column the job that the machine serves at its instant, and a dot where it serves none.
+pub(crate) fn show_machine(
+    cells: &mut [u8],
+    unit: u64,
+    machine: usize,
+    instance: &Instance,
+    table: &Table,
+)
+    requires unit { 0 < unit }
+    requires shape { HasShape instance.now table.now }
+    requires feasible { IsFeasible instance.now (starts_of table.now) }
+    requires within { AllEndWithin instance.now (starts_of table.now) unit (length cells.old) }
+    ensures { cells.new ≡ shown_cells instance.now (starts_of table.now) machine unit (length cells.old) }
+{
+    let columns = cells.len();
+    show(cells, 0, columns, b'.');
+    for j in 0..instance.jobs() {
+        show_job(
+            cells,
+            unit,
+            machine,
+            character(j),
+            instance.route(j),
+            table.row(j),
+        );
+    }
+}

@@ -1,0 +1,146 @@
+// The part of a text that is being read.
+ghost use Rattle.std.specs.Prelude.{◌≡◌, ℕ, ◌<◌, ◌∷◌, ◌++◌, [], List, map, true, false, ◌==◌};
+ghost use Rattle.shop_text.specs.Limits.{IsDraftWithin};
+
+use crate::faults::ReadFault;
+use crate::profiles::Profile;
+use crate::rows::{orlib_job, routes_job, size_of, taillard_job, times_of};
+use shop_model::{Instance, Job};
+use std::alloc::Global;
+use std::mem;
+
+/// What is read of an instance so far: its size, its jobs, and in `taillard` the rows of times. Before the size line no
+/// jobs are wanted.
+#[derive(Drop)]
+pub(crate) struct Draft {
+    jobs_wanted: usize,
+    machines: usize,
+    times: Vec<Vec<u64>>,
+    jobs: Vec<Job>,
+    ghost within: { IsDraftWithin jobs_wanted machines times.items jobs.items },
+}
+
+impl Draft {
+    ghost use Rattle.shop_model.specs.Given.{job_as_given};
+    ghost use Rattle.shop_model.specs.Limits.{IsJobWithin};
+    ghost use Rattle.shop_text.specs.Lines.{capped};
+    ghost use Rattle.shop_text.specs.Grammar.{Row};
+    ghost use Rattle.shop_text.specs.Reading.{format_of, Judges};
+    ghost use Rattle.shop_text.specs.Drafts.{IsDraft, wants_times, jobs_of, PushesJob, TakesRow};
+    ghost use Rattle.std.specs.Prelude.{vec_len, IfOk};
+
+    /// Nothing yet.
+    pub(crate) fn new(alloc: Global) -> Draft
+        ensures { result.jobs_wanted ≡ 0 }
+    {
+        Draft {
+            jobs_wanted: 0,
+            machines: 0,
+            times: Vec::new(alloc),
+            jobs: Vec::new(alloc),
+        }
+    }
+
+    /// Whether the size line is still to come.
+    pub(crate) fn is_fresh(&self) -> bool
+        ensures { result ≡ (self.now.jobs_wanted == 0) }
+    {
+        self.jobs_wanted == 0
+    }
+
+    /// Whether text lines are skipped here.
+    pub(crate) fn skips_text(&self, profile: Profile) -> bool
+        ensures { (rows : List Row) → IsDraft profile self.now rows
+            → result ≡ (format_of profile).skips rows }
+    {
+        match profile {
+            Profile::Orlib => self.jobs_wanted == 0,
+            Profile::Routes => self.jobs_wanted == 0,
+            Profile::Taillard => {
+                self.times.is_empty()
+                    || self.jobs.is_empty() && self.times.len() == self.jobs_wanted
+            }
+        }
+    }
+
+    /// Whether the next row is one of times.
+    fn wants_times(&self, profile: Profile) -> bool
+        ensures { result ≡ wants_times profile self.now.jobs_wanted (vec_len self.now.times) }
+    {
+        match profile {
+            Profile::Orlib => false,
+            Profile::Routes => false,
+            Profile::Taillard => self.times.len() < self.jobs_wanted,
+        }
+    }
+
+    /// The job of a row.
+    fn job_of(
+        &self,
+        alloc: Global,
+        profile: Profile,
+        line: usize,
+        row: &[u64],
+    ) -> Result<Job, ReadFault>
+        requires some { 0 < self.now.jobs_wanted }
+        requires times { wants_times profile self.now.jobs_wanted (vec_len self.now.times) ≡ false }
+        ensures judged { (rows : List Row) (written : Row)
+            → IsDraft profile self.now rows → row.now ≡ map capped written
+            → Judges result line ((format_of profile).refuses rows written)
+            (λ job. map job_as_given (self.now.jobs.items ++ job ∷ [])
+            ≡ jobs_of profile (rows ++ written ∷ [])) }
+        ensures within { IfOk result (λ job. IsJobWithin self.now.machines job) }
+    {
+        match profile {
+            Profile::Orlib => orlib_job(alloc, line, self.machines, row),
+            Profile::Routes => routes_job(alloc, line, self.machines, row),
+            Profile::Taillard => {
+                let times = self.times[self.jobs.len()].as_slice();
+                taillard_job(alloc, line, self.machines, times, row)
+            }
+        }
+    }
+
+    /// Adds a job; with the last one the instance is there, and the draft is empty again.
+    fn push_job(&mut self, alloc: Global, job: Job) -> Result<Option<Instance>, ReadFault>
+        requires some { 0 < self.old.jobs_wanted }
+        requires within { IsJobWithin self.old.machines job }
+        ensures { PushesJob self.old self.new job result }
+    {
+        self.jobs.push(job)?;
+        if self.jobs.len() < self.jobs_wanted {
+            return Ok(None);
+        }
+        let jobs = mem::replace(&mut self.jobs, Vec::new(alloc));
+        self.times.clear();
+        self.jobs_wanted = 0;
+        Ok(Some(Instance::of_jobs(self.machines, jobs).unwrap()))
+    }
+
+    /// Takes a number line: the instance where it is whole with it, or the fault of the line.
+    pub(crate) fn take_row(
+        &mut self,
+        alloc: Global,
+        profile: Profile,
+        line: usize,
+        row: &[u64],
+    ) -> Result<Option<Instance>, ReadFault>
+        ensures { (rows : List Row) (written : Row)
+            → IsDraft profile self.old rows → row.now ≡ map capped written
+            → TakesRow profile rows written line self.new result }
+    {
+        if self.jobs_wanted == 0 {
+            let (jobs, machines) = size_of(profile, line, row)?;
+            self.jobs_wanted = jobs;
+            self.machines = machines;
+            return Ok(None);
+        }
+        if self.wants_times(profile) {
+            let times = times_of(alloc, line, self.machines, row)?;
+            self.times.push(times)?;
+            return Ok(None);
+        }
+        let job = self.job_of(alloc, profile, line, row)?;
+        self.push_job(alloc, job)
+    }
+}

@@ -1,0 +1,82 @@
+// Gantt texts.
+ghost use Rattle.std.specs.Prelude.{◌≡◌, ◌<◌, ◌++◌, length, IfOk, OnOk};
+ghost use Rattle.shop_model.specs.Shop.{IsFeasible, greatest_below, end_of};
+ghost use Rattle.shop_model.specs.Steps.{AreSmall, finish_at};
+ghost use Rattle.shop_model.specs.Checking.{HasShape, starts_of};
+ghost use Rattle.shop_text.specs.Writing.{unit_of, gantt_text};
+ghost use Rattle.shop_text.specs.Printing.{cells_text};
+
+use crate::cells::show_machine;
+use shop_model::{Instance, Op, Table};
+use std::alloc::{AllocError, Global};
+
+/// The most columns of a Gantt text.
+const MAX_COLUMNS: u64 = 72;
+
+/// When the last of the steps ends.
+fn last_finish(route: &[Op], starts: &[u64]) -> u64
+    requires { AreSmall route.now starts.now }
+    ensures { result ≡ greatest_below (length route.now) (λ k. finish_at route.now starts.now k) }
+{
+    let mut end = 0;
+    for k in 0..route.len() {
+        end = end.max(starts[k] + route[k].time);
+    }
+    end
+}
+
+/// When the last operation ends.
+fn makespan(instance: &Instance, table: &Table) -> u64
+    requires { HasShape instance.now table.now }
+    ensures { result ≡ end_of instance.now (starts_of table.now) }
+{
+    let mut end = 0;
+    for j in 0..instance.jobs() {
+        end = end.max(last_finish(instance.route(j), table.row(j)));
+    }
+    end
+}
+
+/// How much time a column stands for.
+fn unit(makespan: u64) -> u64
+    ensures unit { result ≡ unit_of makespan }
+    ensures some { 0 < result }
+{
+    let unit = makespan.div_ceil(MAX_COLUMNS);
+    if unit < 1 { 1 } else { unit }
+}
+
+/// Writes the line of a machine.
+fn write_machine(
+    out: &mut Vec<u8>,
+    alloc: Global,
+    machine: usize,
+    cells: &[u8],
+) -> Result<(), AllocError>
+    ensures { OnOk result (out.new.items ≡ out.old.items ++ cells_text machine cells.now) }
+{
+    let begin = format!(in alloc; "machine {machine} |")?;
+    out.extend_from_slice(begin.as_bytes())?;
+    out.extend_from_slice(cells)?;
+    out.extend_from_slice(b"|\n")
+}
+
+/// The Gantt text of a feasible table: a unit of time, and for each machine a line of at most 72 columns. Column c
+/// shows the job that the machine serves c units after 0, or a dot; operations of time 0 never show. Fails only for
+/// want of memory.
+pub fn gantt(alloc: Global, instance: &Instance, table: &Table) -> Result<Vec<u8>, AllocError>
+    requires shape { HasShape instance.now table.now }
+    requires feasible { IsFeasible instance.now (starts_of table.now) }
+    ensures { IfOk result (λ v. v.items ≡ gantt_text instance.now (starts_of table.now)) }
+{
+    let makespan = makespan(instance, table);
+    let unit = unit(makespan);
+    let mut buffer = vec![in alloc; b'.'; makespan.div_ceil(unit) as usize]?;
+    let cells = buffer.as_mut_slice();
+    let mut out = format!(in alloc; "unit {unit}\n")?.into_bytes();
+    for machine in 0..instance.machines() {
+        show_machine(cells, unit, machine, instance, table);
+        write_machine(&mut out, alloc, machine, cells)?;
+    }
+    Ok(out)
+}

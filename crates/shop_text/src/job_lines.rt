@@ -1,0 +1,96 @@
+// The lines of jobs in a schedule text.
+ghost use Rattle.std.specs.Prelude.{◌≡◌, ◌≤◌, ◌∷◌, codes};
+ghost use Rattle.std.specs.Str.{bytes_eq};
+ghost use Rattle.shop_text.specs.Lines.{tokens_of};
+ghost use Rattle.shop_text.specs.Schedules.{is_label, starts_of_tokens, row_in};
+ghost use Rattle.shop_text.specs.TableReading.{FollowsJob, IsStartOf, IsRowRead};
+
+use crate::lines::{next_token, number_of};
+use shop_model::{Instance, MAX_START};
+use std::alloc::{AllocError, Global};
+
+/// Whether the token begins the line of a job.
+fn is_job(token: &[u8]) -> bool
+    ensures { result ≡ bytes_eq token.now (codes "job") }
+{
+    token == b"job".as_slice()
+}
+
+/// What follows the token `job`, if the line begins with it.
+pub(crate) fn after_job(line: &[u8]) -> Option<&[u8]>
+    ensures { FollowsJob (tokens_of line.now) result }
+{
+    match next_token(line) {
+        Some((token, rest)) if is_job(token) => Some(rest),
+        _ => None,
+    }
+}
+
+/// Whether the token is the number of job j with a colon behind it.
+fn names_job(j: usize, token: &[u8]) -> bool
+    requires { j ≤ 1000 }
+    ensures { result ≡ is_label j token.now }
+{
+    if token.len() < 2 {
+        return false;
+    }
+    let last = token.len() - 1;
+    if token[last] != b':' {
+        return false;
+    }
+    match number_of(&token[..last]) {
+        Some(number) => number == j as u64,
+        None => false,
+    }
+}
+
+/// The start that a token is.
+fn start_of(token: &[u8]) -> Option<u64>
+    ensures { IsStartOf token.now result }
+{
+    match number_of(token) {
+        Some(start) if start <= MAX_START => Some(start),
+        _ => None,
+    }
+}
+
+/// The starts of a line behind its label, if there is one for each step.
+fn starts_behind(alloc: Global, steps: usize, behind: &[u8]) -> Result<Option<Vec<u64>>, AllocError>
+    ensures { IsRowRead result (starts_of_tokens steps (tokens_of behind.now)) }
+{
+    let mut starts = Vec::with_capacity(alloc, steps)?;
+    let mut rest = behind;
+    while let Some((token, after)) = next_token(rest) {
+        if starts.len() == steps {
+            return Ok(None);
+        }
+        let Some(start) = start_of(token) else {
+            return Ok(None);
+        };
+        starts.push(start).unwrap();
+        rest = after;
+    }
+    if starts.len() < steps {
+        return Ok(None);
+    }
+    Ok(Some(starts))
+}
+
+/// The starts of job j, if this is what follows `job` on a line of it.
+pub(crate) fn row_behind(
+    alloc: Global,
+    instance: &Instance,
+    j: usize,
+    behind: &[u8],
+) -> Result<Option<Vec<u64>>, AllocError>
+    ensures { IsRowRead result (row_in instance.now j (codes "job" ∷ tokens_of behind.now)) }
+{
+    if j >= instance.jobs() {
+        return Ok(None);
+    }
+    let steps = instance.route(j).len();
+    match next_token(behind) {
+        Some((label, rest)) if names_job(j, label) => starts_behind(alloc, steps, rest),
+        _ => Ok(None),
+    }
+}

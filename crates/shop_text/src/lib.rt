@@ -1,0 +1,38 @@
+// Texts: instances, schedules, reports, and what the program prints of them.
+#![tactic(auto)]
+
+mod cells;
+#[cfg(test)]
+mod cut_text_tests;
+mod drafts;
+mod faults;
+mod gantts;
+mod job_lines;
+mod laws;
+mod lines;
+mod names;
+mod profiles;
+#[cfg(test)]
+mod reader_tests;
+mod readers;
+mod reading;
+mod report_texts;
+mod reports;
+mod rows;
+mod schedules;
+mod table_laws;
+#[cfg(test)]
+mod table_tests;
+mod texts;
+mod verdict_lines;
+
+pub use faults::ReadFault;
+pub use gantts::gantt;
+pub use laws::{one_reading, orlib_shape, routes_shape, some_reading, taillard_shape};
+pub use names::{Named, pick};
+pub use readers::{read_orlib, read_routes, read_taillard};
+pub use report_texts::report;
+pub use reports::Report;
+pub use schedules::read_table;
+pub use table_laws::{columns_show_the_job, one_table, reports_are_schedules, some_table};
+pub use verdict_lines::{listing, verdict_line};

@@ -1,0 +1,91 @@
+// The lines of a text, and the tokens and numbers of a line.
+ghost use Rattle.std.specs.Prelude.{◌≡◌, ◌<◌, ◌∷◌, [], not, length, position, MatchOption, Some, None};
+ghost use Rattle.std.specs.Prelude.{if◌then◌else◌};
+ghost use Rattle.shop_text.specs.Lines.{lines_of, tokens_of, is_line_feed, is_separator, is_number, value_of, capped};
+
+/// Where the first line end is.
+fn line_end(text: &[u8]) -> Option<usize>
+    ensures { result ≡ position is_line_feed text.now }
+{
+    text.iter().position(|b| *b == b'\n')
+}
+
+/// The first line of a text that isn't empty, and the text after it.
+pub(crate) fn next_line(text: &[u8]) -> (&[u8], &[u8])
+    requires { 0 < length text.now }
+    ensures cut { lines_of text.now ≡ result.0.now ∷ lines_of result.1.now }
+    ensures shorter { length result.1.now < length text.now }
+{
+    match line_end(text) {
+        Some(i) => (&text[..i], &text[i + 1..]),
+        None => (text, &text[text.len()..]),
+    }
+}
+
+/// Whether this byte stands between tokens.
+fn is_between_tokens(b: u8) -> bool
+    ensures { result ≡ is_separator b }
+{
+    b == b' ' || b == b'\t' || b == b'\r'
+}
+
+/// Where the first token begins.
+fn token_start(line: &[u8]) -> Option<usize>
+    ensures { result ≡ position (λ b. not (is_separator b)) line.now }
+{
+    line.iter().position(|b| !is_between_tokens(*b))
+}
+
+/// Where the first separator is.
+fn token_end(line: &[u8]) -> Option<usize>
+    ensures { result ≡ position is_separator line.now }
+{
+    line.iter().position(|b| is_between_tokens(*b))
+}
+
+/// The first token of a line, and what follows the separator after it.
+pub(crate) fn next_token(line: &[u8]) -> Option<(&[u8], &[u8])>
+    ensures cut { MatchOption result (tokens_of line.now ≡ [])
+        (λ t. tokens_of line.now ≡ t.0.now ∷ tokens_of t.1.now) }
+    ensures shorter { MatchOption result (Unit {0}) (λ t. length t.1.now < length line.now) }
+{
+    let Some(start) = token_start(line) else {
+        return None;
+    };
+    let rest = &line[start..];
+    match token_end(rest) {
+        Some(end) => Some((&rest[..end], &rest[end + 1..])),
+        None => Some((rest, &rest[rest.len()..])),
+    }
+}
+
+/// Whether a token has decimal digits alone.
+fn has_digits_alone(token: &[u8]) -> bool
+    ensures { result ≡ is_number token.now }
+{
+    token.iter().all(|b| b.is_ascii_digit())
+}
+
+/// The decimal value of digits, or the greatest number where it is above that.
+fn capped_value(token: &[u8]) -> u64
+    ensures { result ≡ capped (value_of token.now) }
+{
+    let mut value: u64 = 0;
+    for b in token {
+        value = value
+            .saturating_mul(10)
+            .saturating_add(u64::from(b.saturating_sub(48)));
+    }
+    value
+}
+
+/// The value of a token that is a number, capped.
+pub(crate) fn number_of(token: &[u8]) -> Option<u64>
+    ensures { result ≡ (if is_number token.now then Some (capped (value_of token.now)) else None) }
+{
+    if has_digits_alone(token) {
+        Some(capped_value(token))
+    } else {
+        None
+    }
+}

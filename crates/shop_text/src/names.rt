@@ -1,0 +1,29 @@
+ghost use Rattle.std.specs.Prelude.{◌<◌, length};
+ghost use Rattle.std.specs.Option.{option_copied};
+ghost use Rattle.shop_text.specs.Names.{IsPick};
+
+use crate::faults::ReadFault;
+use shop_model::Instance;
+
+/// An instance of a text, with its name: visible bytes, 33 to 126.
+#[derive(Drop)]
+pub struct Named {
+    pub name: String,
+    pub instance: Instance,
+}
+
+/// The first instance of this name, or the first one where no name is given; `NoSuchName` where none has the name.
+pub fn pick<'t>(named: &'t [Named], name: Option<&str>) -> Result<&'t Named, ReadFault>
+    requires { 0 < length named.now }
+    ensures { IsPick named.now (option_copied name.entry) result }
+{
+    let Some(name) = name else {
+        return Ok(&named[0]);
+    };
+    for candidate in named {
+        if candidate.name.as_str() == name {
+            return Ok(candidate);
+        }
+    }
+    Err(ReadFault::NoSuchName)
+}

@@ -1,0 +1,85 @@
+// The text of a report.
+ghost use Rattle.std.specs.Prelude.{◌≡◌, ◌∷◌, [], IfOk, codes, decimal};
+ghost use Rattle.shop_model.specs.Checking.{HasShape};
+ghost use Rattle.shop_text.specs.Writing.{number_line, status_of, answer_lines, job_line, job_lines, report_text};
+ghost use Rattle.shop_text.specs.Printing.{AddsLine, AddsLines};
+ghost use Rattle.shop_text.specs.Reports.{reported};
+
+use crate::reports::Report;
+use shop_model::Table;
+use std::alloc::{AllocError, Global};
+
+/// Writes a word and a number as a line.
+pub(crate) fn write_number(out: &mut String, word: &str, number: u64) -> Result<(), AllocError>
+    ensures { AddsLine result out.old out.new (number_line word.now number) }
+{
+    writeln!(out, "{word} {number}")
+}
+
+/// Writes two words as a line.
+fn write_words(out: &mut String, word: &str, value: &str) -> Result<(), AllocError>
+    ensures { AddsLine result out.old out.new (word.now ∷ value.now ∷ []) }
+{
+    writeln!(out, "{word} {value}")
+}
+
+/// Writes the numbers of jobs and machines as a line.
+fn write_size(out: &mut String, jobs: usize, machines: usize) -> Result<(), AllocError>
+    ensures { AddsLine result out.old out.new (codes "size" ∷ decimal jobs ∷ decimal machines ∷ []) }
+{
+    writeln!(out, "size {jobs} {machines}")
+}
+
+/// The word for what the search left.
+fn status(open_nodes: usize) -> &'static str
+    ensures { result.now ≡ status_of open_nodes }
+{
+    if open_nodes == 0 { "optimal" } else { "open" }
+}
+
+/// Writes the lines before those of the jobs.
+fn write_answer(out: &mut String, report: &Report) -> Result<(), AllocError>
+    ensures { AddsLines result out.old out.new (answer_lines (reported report.now)) }
+{
+    write_words(out, "instance", report.name)?;
+    write_size(out, report.instance.jobs(), report.instance.machines())?;
+    write_number(out, "makespan", report.makespan)?;
+    write_number(out, "bound", report.bound)?;
+    write_words(out, "status", status(report.open_nodes))?;
+    write_number(out, "open", report.open_nodes as u64)?;
+    write_number(out, "rounds", report.rounds)?;
+    write_number(out, "nodes", report.nodes)
+}
+
+/// Writes the line of job j.
+fn write_job(out: &mut String, j: usize, starts: &[u64]) -> Result<(), AllocError>
+    ensures { AddsLine result out.old out.new (job_line j starts.now) }
+{
+    write!(out, "job {j}:")?;
+    for start in starts {
+        write!(out, " {start}")?;
+    }
+    writeln!(out)
+}
+
+/// Writes a line for each job.
+fn write_jobs(out: &mut String, table: &Table) -> Result<(), AllocError>
+    ensures { AddsLines result out.old out.new (job_lines table.now) }
+{
+    for j in 0..table.len() {
+        write_job(out, j, table.row(j))?;
+    }
+    Ok(())
+}
+
+/// The report as text: what the search answers, and a line for each job with the starts of its steps. The status is
+/// `optimal` where no node is open, else `open`. Fails only for want of memory.
+pub fn report(alloc: Global, report: &Report) -> Result<Vec<u8>, AllocError>
+    requires { HasShape report.now.instance.now report.now.table.now }
+    ensures { IfOk result (λ v. v.items ≡ report_text (reported report.now)) }
+{
+    let mut out = String::new(alloc);
+    write_answer(&mut out, report)?;
+    write_jobs(&mut out, report.table)?;
+    Ok(out.into_bytes())
+}

@@ -1,0 +1,178 @@
+// The number lines of a part: size lines and rows.
+ghost use Rattle.std.specs.Prelude.{◌≡◌, ℕ, ◌*◌, ◌%◌, ◌≤◌, ◌↔◌, IsTrue, nat_le, All, IfOk, length};
+ghost use Rattle.std.specs.List.{list_all};
+ghost use Rattle.shop_model.specs.Given.{job_as_given};
+ghost use Rattle.shop_model.specs.Limits.{IsJobWithin, IsRouteWithin};
+ghost use Rattle.shop_text.specs.Formats.{pairs_fault, pairs_of, orlib_fault, routes_fault};
+ghost use Rattle.shop_text.specs.Formats.{orlib_job as orlib_row_job, routes_job as routes_row_job};
+ghost use Rattle.shop_text.specs.Formats.{taillard_job as taillard_row_job};
+ghost use Rattle.shop_text.specs.Reading.{Judges, IsSizeIn, size_line_fault};
+ghost use Rattle.shop_text.specs.Shapes.{IsSize};
+ghost use Rattle.shop_text.specs.Reading.{times_row_fault, machines_row_fault};
+
+use crate::faults::ReadFault;
+use crate::profiles::Profile;
+use shop_model::{Job, MAX_JOBS, MAX_MACHINES, MAX_STEPS, MAX_TIME, Op};
+use std::alloc::Global;
+
+/// The jobs and machines of a size line.
+pub(crate) fn size_of(
+    profile: Profile,
+    line: usize,
+    row: &[u64],
+) -> Result<(usize, usize), ReadFault>
+    ensures judged { Judges result line (size_line_fault profile row.now) (IsSizeIn row.now) }
+    ensures within { IfOk result (λ size. IsSize size.0 size.1) }
+{
+    let most = match profile {
+        Profile::Taillard => 6,
+        Profile::Orlib => 2,
+        Profile::Routes => 2,
+    };
+    if row.len() < 2 || most < row.len() {
+        return Err(ReadFault::BadShape { line });
+    }
+    let jobs = row[0];
+    let machines = row[1];
+    if jobs < 1 || jobs > MAX_JOBS as u64 || machines < 1 || machines > MAX_MACHINES as u64 {
+        return Err(ReadFault::BadSize { line });
+    }
+    Ok((jobs as usize, machines as usize))
+}
+
+/// The operations of a row of machine, time, machine, time, or its first fault from the left.
+fn route_of(
+    alloc: Global,
+    line: usize,
+    machines: usize,
+    pairs: &[u64],
+) -> Result<Vec<Op>, ReadFault>
+    requires even { length pairs.now % 2 ≡ 0 }
+    requires machines { machines ≤ 100 }
+    ensures judged { Judges result line (pairs_fault machines pairs.now)
+        (λ route. route.items ≡ pairs_of pairs.now) }
+    ensures within { IfOk result (λ route. IsRouteWithin machines route.items) }
+    ensures len { IfOk result (λ route. 2 * length route.items ≡ length pairs.now) }
+{
+    let steps = pairs.len() / 2;
+    let mut route = Vec::with_capacity(alloc, steps)?;
+    for i in 0..steps {
+        let machine = pairs[2 * i];
+        let time = pairs[2 * i + 1];
+        if machine >= machines as u64 {
+            return Err(ReadFault::BadMachine { line });
+        }
+        if time > MAX_TIME {
+            return Err(ReadFault::BadTime { line });
+        }
+        route.push(Op {
+            machine: machine as usize,
+            time,
+        })?;
+    }
+    Ok(route)
+}
+
+/// The job of a row of `orlib`: a machine and a time for each machine.
+pub(crate) fn orlib_job(
+    alloc: Global,
+    line: usize,
+    machines: usize,
+    row: &[u64],
+) -> Result<Job, ReadFault>
+    requires { machines ≤ 100 }
+    ensures judged { Judges result line (orlib_fault machines row.now)
+        (λ job. job_as_given job ≡ orlib_row_job row.now) }
+    ensures within { IfOk result (λ job. IsJobWithin machines job) }
+{
+    if row.len() != 2 * machines {
+        return Err(ReadFault::BadRow { line });
+    }
+    let route = route_of(alloc, line, machines, row)?;
+    Ok(Job { release: 0, route })
+}
+
+/// The job of a row of `routes`: a release, then a machine and a time for each step.
+pub(crate) fn routes_job(
+    alloc: Global,
+    line: usize,
+    machines: usize,
+    row: &[u64],
+) -> Result<Job, ReadFault>
+    requires { machines ≤ 100 }
+    ensures judged { Judges result line (routes_fault machines row.now)
+        (λ job. job_as_given job ≡ routes_row_job row.now) }
+    ensures within { IfOk result (λ job. IsJobWithin machines job) }
+{
+    if row.len() % 2 == 0 || row.len() > 2 * MAX_STEPS + 1 {
+        return Err(ReadFault::BadRow { line });
+    }
+    let release = row[0];
+    if release > MAX_TIME {
+        return Err(ReadFault::BadTime { line });
+    }
+    let route = route_of(alloc, line, machines, &row[1..])?;
+    Ok(Job { release, route })
+}
+
+/// Whether each time is within the limit.
+fn are_times(row: &[u64]) -> bool
+    ensures tested { result ≡ list_all (λ time. nat_le time 1000000000) row.now }
+    ensures each { IsTrue result ↔ All (λ time. time ≤ 1000000000) row.now }
+{
+    row.iter().all(|time| *time <= MAX_TIME)
+}
+
+/// A row of times of `taillard`.
+pub(crate) fn times_of(
+    alloc: Global,
+    line: usize,
+    machines: usize,
+    row: &[u64],
+) -> Result<Vec<u64>, ReadFault>
+    ensures judged { Judges result line (times_row_fault machines row.now)
+        (λ times. times.items ≡ row.now) }
+    ensures within { IfOk result (λ times. All (λ time. time ≤ 1000000000) times.items) }
+    ensures len { IfOk result (λ times. length times.items ≡ machines) }
+{
+    if row.len() != machines {
+        return Err(ReadFault::BadRow { line });
+    }
+    if !are_times(row) {
+        return Err(ReadFault::BadTime { line });
+    }
+    let times = Vec::from_slice(alloc, row)?;
+    Ok(times)
+}
+
+/// The job of a row of times of `taillard` and its row of machines, which count from 1.
+pub(crate) fn taillard_job(
+    alloc: Global,
+    line: usize,
+    machines: usize,
+    times: &[u64],
+    row: &[u64],
+) -> Result<Job, ReadFault>
+    requires machines { machines ≤ 100 }
+    requires times { All (λ time. time ≤ 1000000000) times.now }
+    requires len { length times.now ≡ machines }
+    ensures judged { Judges result line (machines_row_fault machines row.now)
+        (λ job. job_as_given job ≡ taillard_row_job (times.now, row.now)) }
+    ensures within { IfOk result (λ job. IsJobWithin machines job) }
+{
+    if row.len() != machines {
+        return Err(ReadFault::BadRow { line });
+    }
+    let mut route = Vec::with_capacity(alloc, machines)?;
+    for i in 0..machines {
+        let machine = row[i];
+        if machine < 1 || machine > machines as u64 {
+            return Err(ReadFault::BadMachine { line });
+        }
+        route.push(Op {
+            machine: machine as usize - 1,
+            time: times[i],
+        })?;
+    }
+    Ok(Job { release: 0, route })
+}

@@ -1,0 +1,55 @@
+ghost use Rattle.std.specs.Prelude.{ℕ, ◌≤◌, length};
+ghost use Rattle.shop_text.specs.Schedules.{IsTableRead};
+ghost use Rattle.shop_text.specs.TableReading.{AreRowsRead};
+
+use crate::faults::ReadFault;
+use crate::job_lines::{after_job, row_behind};
+use crate::lines::next_line;
+use shop_model::{Instance, Table};
+use std::alloc::Global;
+
+/// The most bytes of a schedule text.
+const MAX_TEXT: usize = 16_777_216;
+
+/// The rows of the lines that begin with `job`.
+fn rows_in(alloc: Global, instance: &Instance, text: &[u8]) -> Result<Vec<Vec<u64>>, ReadFault>
+    requires { length text.now ≤ 16777216 }
+    ensures { AreRowsRead instance.now text.now result }
+{
+    let mut rows = Vec::with_capacity(alloc, instance.jobs())?;
+    let mut rest = text;
+    let mut number: usize = 0;
+    while rest.len() > 0 {
+        let (line, after) = next_line(rest);
+        rest = after;
+        number += 1;
+        let Some(behind) = after_job(line) else {
+            continue;
+        };
+        let Some(row) = row_behind(alloc, instance, rows.len(), behind)? else {
+            return Err(ReadFault::BadTable { line: number });
+        };
+        rows.push(row)?;
+    }
+    if rows.len() == instance.jobs() {
+        Ok(rows)
+    } else {
+        Err(ReadFault::BadTable { line: number + 1 })
+    }
+}
+
+/// The table of a schedule text: the lines whose first token is `job`, one for each job of the instance, in order.
+/// Lines that begin otherwise are skipped, so a report is a schedule text. Refused as `TooLong` above 16,777,216
+/// bytes, and as `BadTable` at the first line of a job that is not as said or one too many; where a job's line is
+/// missing, at the number of the text's lines plus one. `NoMemory` only for want of memory.
+pub fn read_table(alloc: Global, instance: &Instance, text: &[u8]) -> Result<Table, ReadFault>
+    ensures { IsTableRead instance.now text.now result }
+{
+    if text.len() > MAX_TEXT {
+        return Err(ReadFault::TooLong);
+    }
+    match Table::new(rows_in(alloc, instance, text)?) {
+        Some(table) => Ok(table),
+        None => unreachable!(),
+    }
+}

@@ -1,0 +1,25 @@
+// Laws of schedule texts and of what is printed, over their definitions alone.
+ghost use Rattle.shop_model.specs.Shop.{Shop};
+ghost use Rattle.shop_text.specs.Schedules.{OneTable, SomeTable};
+ghost use Rattle.shop_text.specs.Writing.{ShowsTheJob};
+ghost use Rattle.shop_text.specs.RoundTrip.{ReportsAreSchedules};
+
+/// No schedule text has two readings for one instance: not two tables, nor two faults, nor a table and a fault.
+pub fn one_table()
+    ensures { (shop : Shop) → OneTable shop }
+{}
+
+/// Each schedule text has a reading for each instance: it gives a table, or has a fault.
+pub fn some_table()
+    ensures { (shop : Shop) → SomeTable shop }
+{}
+
+/// A column of a Gantt text shows the one job that its machine serves at its instant, or a dot.
+pub fn columns_show_the_job()
+    ensures { ShowsTheJob }
+{}
+
+/// A report, alone or with its Gantt text behind it, is a schedule text of just its table.
+pub fn reports_are_schedules()
+    ensures { ReportsAreSchedules }
+{}
