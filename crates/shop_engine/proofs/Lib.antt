@@ -1,0 +1,7 @@
+pub mod Picks
+pub mod Verdicts
+pub mod PrintedTables
+pub mod Reported
+pub mod Headline
+mod SolvedRows
+pub mod RefusedTexts

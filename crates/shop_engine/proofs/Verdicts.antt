@@ -1,0 +1,156 @@
+-- What the steps of `check_text` say of its answer.
+use Rattle.std.proofs.Common.{◌≡◌, ℕ, ◌⊎◌, inl, inr, List, Option, Some, None, Result, Ok, Err, Bool}
+use Rattle.std.proofs.Common.{refl, sym, ◌∙◌, subst}
+use Rattle.std.specs.Result.{IsErrAnd}
+use Rattle.shop_text.specs.Schedules.{IsTableRead}
+use Rattle.shop_text.specs.Texts.{NamedShop, IsText}
+use Rattle.shop_text.specs.Names.{first_named}
+use Rattle.shop_text.specs.declared.faults.ReadFault.{ReadFault}
+use Rattle.shop_text.specs.declared.faults.ReadFault.TheVariants as fault
+use Rattle.shop_engine.specs.declared.arguments.Format.{Format}
+use Rattle.shop_engine.specs.declared.faults.Fault.{Fault}
+use Rattle.shop_engine.specs.declared.faults.Fault.TheVariants.{Text, ReadFailed, WriteFailed}
+use Rattle.shop_engine.specs.Devices.{Device, IsReadToEnd, IsUnwritten, IsCutOff}
+use Rattle.shop_engine.specs.Asking.{grammar_of, IsAsked}
+use Rattle.shop_engine.specs.Checking.{Second, IsScheduleRead, HasSecondWorked, IsSecondUnread, IsPicked}
+use Rattle.shop_engine.specs.Checking.{IsScheduleRefused, Judges, Checks, IsChecking}
+
+-- an answer that comes through a `?`
+pub at_err : (P : Result Bool Fault → Type 0) (r : Result Bool Fault) (e : Fault)
+    → IsErrAnd r (λ x. x ≡ e) → P (Err e) → P r
+at_err P (Ok b) e h p = absurd h
+at_err P (Err x) e h p = subst (λ (y : Fault). P (Err y)) (sym h) p
+
+-- the instance isn't in the text
+pub missing_before : {format : Format} {s s' : Device} {text : List ℕ} {shops : List NamedShop}
+    (name : Option (List ℕ)) (t : Second) (k : Device)
+    → IsReadToEnd s s' text → IsText (grammar_of format) text shops → first_named shops name ≡ None
+    → IsChecking format name s s' t t k k (Err (Text fault.NoSuchName))
+missing_before {text = text} {shops = shops} name t k read is_text missing =
+    (inl (record { text = text; read = read; shops = shops; is_text = is_text; missing = missing }, refl), refl)
+
+-- the second source isn't read to its end
+pub unread_after : {format : Format} {name : Option (List ℕ)} {s s' : Device} {text : List ℕ} {asked : NamedShop}
+    (t t' : Second) (k : Device)
+    → IsReadToEnd s s' text → IsAsked format name text asked → (e : Fault) → IsSecondUnread t t' e
+    → IsChecking format name s s' t t' k k (Err e)
+unread_after None t' k read is_asked e h = absurd h
+unread_after (Some old) None k read is_asked e h = absurd h
+unread_after {text = text} {asked = asked} (Some old) (Some new) k read is_asked (Text fault.NoMemory) h =
+    (inr (record { text = text; read = read; asked = asked; is_asked = is_asked; after = h }), refl)
+unread_after {text = text} {asked = asked} (Some old) (Some new) k read is_asked (Text fault.TooLong) h =
+    (inr (record { text = text; read = read; asked = asked; is_asked = is_asked; after = inl h }), refl)
+unread_after (Some old) (Some new) k read is_asked (Text fault.NoInstance) h = absurd h
+unread_after (Some old) (Some new) k read is_asked (Text (fault.BadShape n)) h = absurd h
+unread_after (Some old) (Some new) k read is_asked (Text (fault.BadSize n)) h = absurd h
+unread_after (Some old) (Some new) k read is_asked (Text (fault.BadRow n)) h = absurd h
+unread_after (Some old) (Some new) k read is_asked (Text (fault.Truncated n)) h = absurd h
+unread_after (Some old) (Some new) k read is_asked (Text (fault.BadMachine n)) h = absurd h
+unread_after (Some old) (Some new) k read is_asked (Text (fault.BadTime n)) h = absurd h
+unread_after (Some old) (Some new) k read is_asked (Text fault.NoSuchName) h = absurd h
+unread_after (Some old) (Some new) k read is_asked (Text (fault.BadTable n)) h = absurd h
+unread_after {text = text} {asked = asked} (Some old) (Some new) k read is_asked ReadFailed h =
+    (inr (record { text = text; read = read; asked = asked; is_asked = is_asked; after = h }), refl)
+unread_after (Some old) (Some new) k read is_asked WriteFailed h = absurd h
+
+schedule_worked : (text schedule : List ℕ) (t t' : Second) → IsScheduleRead text t t' schedule → HasSecondWorked t t'
+schedule_worked text schedule None None h = tt
+schedule_worked text schedule None (Some new) h = absurd h
+schedule_worked text schedule (Some old) None h = absurd h
+schedule_worked text schedule (Some old) (Some new) h = h.worked
+
+-- the instance was picked, and then the schedule is refused
+refused_after : {format : Format} {name : Option (List ℕ)} {s s' : Device} (t t' : Second) (k : Device) (e : ReadFault)
+    → HasSecondWorked t t' → IsPicked format name s s' (IsScheduleRefused t t' e)
+    → IsChecking format name s s' t t' k k (Err (Text e))
+refused_after t t' k fault.NoMemory worked p =
+    (inr (record { text = p.text; read = p.read; asked = p.asked; is_asked = p.is_asked; after = worked }), refl)
+refused_after t t' k fault.TooLong worked p = (inr p, refl)
+refused_after t t' k fault.NoInstance worked p = (inr p, refl)
+refused_after t t' k (fault.BadShape n) worked p = (inr p, refl)
+refused_after t t' k (fault.BadSize n) worked p = (inr p, refl)
+refused_after t t' k (fault.BadRow n) worked p = (inr p, refl)
+refused_after t t' k (fault.Truncated n) worked p = (inr p, refl)
+refused_after t t' k (fault.BadMachine n) worked p = (inr p, refl)
+refused_after t t' k (fault.BadTime n) worked p = (inr p, refl)
+refused_after t t' k fault.NoSuchName worked p = (inr p, refl)
+refused_after t t' k (fault.BadTable n) worked p = (inr p, refl)
+
+-- the schedule is faulty, or memory ran out
+pub faulty_after : {format : Format} {name : Option (List ℕ)} {s s' : Device} {text schedule judged : List ℕ}
+    {asked : NamedShop} (t t' : Second) (k : Device)
+    → IsReadToEnd s s' text → IsAsked format name text asked → IsScheduleRead text t t' schedule → judged ≡ schedule
+    → (e : ReadFault) → (e ≡ fault.NoMemory) ⊎ IsTableRead asked.shop judged (Err e)
+    → IsChecking format name s s' t t' k k (Err (Text e))
+faulty_after {text = text} {schedule = schedule} {asked = asked} t t' k read is_asked had same e (inl memory) =
+    rw memory (
+      inr (record {
+        text = text;
+        read = read;
+        asked = asked;
+        is_asked = is_asked;
+        after = schedule_worked text schedule t t' had;
+      }),
+      refl,
+    )
+faulty_after {text = text} {schedule = schedule} {asked = asked} t t' k read is_asked had same e (inr h) =
+    refused_after t t' k e (schedule_worked text schedule t t' had) (record {
+      text = text;
+      read = read;
+      asked = asked;
+      is_asked = is_asked;
+      after = inr (record {
+        schedule = schedule;
+        schedule_read = had;
+        is_fault = subst (λ (bytes : List ℕ). IsTableRead asked.shop bytes (Err e)) same h;
+      });
+    })
+
+-- a line stands, and is still to be written
+pub judged_before : {format : Format} {name : Option (List ℕ)} {s s' : Device} {text schedule judged line : List ℕ}
+    {asked : NamedShop} {feasible : Bool} (t t' : Second)
+    → IsReadToEnd s s' text → IsAsked format name text asked → IsScheduleRead text t t' schedule → judged ≡ schedule
+    → Judges asked.shop judged feasible line → Checks format name s s' t t' feasible (λ out. out ≡ line)
+judged_before {text = text} {schedule = schedule} {line = line} {asked = asked} {feasible = feasible} t t' read is_asked
+    had same judges = record {
+      text = text;
+      read = read;
+      asked = asked;
+      is_asked = is_asked;
+      after = record {
+        schedule = schedule;
+        schedule_read = had;
+        line = line;
+        judges = subst (λ (bytes : List ℕ). Judges asked.shop bytes feasible line) same judges;
+        out = refl;
+      };
+    }
+
+-- and goes out
+pub goes_out : {format : Format} {name : Option (List ℕ)} {s s' : Device} {t t' : Second} {feasible : Bool}
+    {line written : List ℕ} (Goes : List ℕ → Type 0)
+    → Checks format name s s' t t' feasible (λ out. out ≡ line) → written ≡ line → Goes written
+    → Checks format name s s' t t' feasible Goes
+goes_out Goes h same out = record {
+  text = h.text;
+  read = h.read;
+  asked = h.asked;
+  is_asked = h.is_asked;
+  after = record {
+    schedule = h.after.schedule;
+    schedule_read = h.after.schedule_read;
+    line = h.after.line;
+    judges = h.after.judges;
+    out = subst Goes (same ∙ sym h.after.out) out;
+  };
+}
+
+-- or a beginning of it does
+pub cut_off : {format : Format} {name : Option (List ℕ)} {s s' : Device} {t t' : Second} {feasible : Bool}
+    {line written : List ℕ} (k k' : Device)
+    → Checks format name s s' t t' feasible (λ out. out ≡ line) → written ≡ line
+    → (e : Fault) → IsUnwritten k k' written e → IsChecking format name s s' t t' k k' (Err e)
+cut_off k k' h same (Text x) unwritten = absurd unwritten
+cut_off k k' h same ReadFailed unwritten = absurd unwritten
+cut_off {feasible = feasible} k k' h same WriteFailed unwritten =
+    (feasible, goes_out (IsCutOff k k') h same unwritten)

@@ -1,0 +1,106 @@
+-- What `check_text` does.
+--     Judges shop schedule feasible line     the table of a schedule text is judged, with this line
+--     Second, IsScheduleRead                 the source of the schedule, which may be missing; how the schedule was had
+--     Checks format name source source' second second' feasible goes         a table was judged, and the line goes out
+--     IsChecking format name source source' second second' sink sink' result     what is answered
+use Rattle.std.specs.Prelude.{◌≡◌, ℕ, ◌⊎◌, ◌↔◌, Bool, IsTrue, List, Option, Some, None, Result, Ok, Err}
+use Rattle.shop_model.specs.Shop.{Shop, IsFeasible}
+use Rattle.shop_model.specs.Checking.{HasShape, starts_of, IsVerdict}
+use Rattle.shop_model.specs.declared.checking.Verdict.{Verdict}
+use Rattle.shop_text.specs.Texts.{NamedShop}
+use Rattle.shop_text.specs.Schedules.{IsTableRead}
+use Rattle.shop_text.specs.Writing.{verdict_text}
+use Rattle.shop_text.specs.declared.faults.ReadFault.{ReadFault}
+use Rattle.shop_text.specs.declared.faults.ReadFault.TheVariants.{NoMemory}
+use Rattle.shop_engine.specs.declared.arguments.Format.{Format}
+use Rattle.shop_engine.specs.declared.faults.Fault.{Fault}
+use Rattle.shop_engine.specs.declared.faults.Fault.TheVariants.{Text, ReadFailed, WriteFailed}
+use Rattle.shop_engine.specs.Devices.{Device, HasWorked, HasFailed, IsReadToEnd, IsUnread, IsWritten, IsCutOff}
+use Rattle.shop_engine.specs.Asking.{IsAsked, IsAskRefused}
+
+-- The schedule text has a table, and the line says what a check of it finds.
+pub record Judges (shop : Shop) (schedule : List ℕ) (feasible : Bool) (line : List ℕ) : Type 0 where
+  pub rows : List (List ℕ)
+  pub is_table : IsTableRead shop schedule (Ok rows)
+  pub verdict : Verdict
+  pub is_verdict : IsVerdict shop rows verdict
+  pub is_feasible : IsTrue feasible ↔ (HasShape shop rows × IsFeasible shop (starts_of rows))
+  pub says : line ≡ verdict_text verdict
+
+-- the source of the schedule, where there is one
+abbrev pub Second : Type 0
+Second = Option Device
+
+-- The schedule is all that the second source has. Without one it is the instance text itself.
+abbrev pub IsScheduleRead : List ℕ → Second → Second → List ℕ → Type 0
+IsScheduleRead text None None schedule = schedule ≡ text
+IsScheduleRead text None (Some new) schedule = ⊥
+IsScheduleRead text (Some old) None schedule = ⊥
+IsScheduleRead text (Some old) (Some new) schedule = IsReadToEnd old new schedule
+
+-- The instance was read and picked, and what came after it holds of it and of the text.
+pub record IsPicked (format : Format) (name : Option (List ℕ)) (source source' : Device)
+    (After : List ℕ → Shop → Type 0) : Type 0 where
+  pub text : List ℕ
+  pub read : IsReadToEnd source source' text
+  pub asked : NamedShop
+  pub is_asked : IsAsked format name text asked
+  pub after : After text asked.shop
+
+-- The schedule was had and judged, and the line goes out.
+pub record IsJudged (second second' : Second) (feasible : Bool) (Goes : List ℕ → Type 0) (text : List ℕ) (shop : Shop)
+    : Type 0 where
+  pub schedule : List ℕ
+  pub schedule_read : IsScheduleRead text second second' schedule
+  pub line : List ℕ
+  pub judges : Judges shop schedule feasible line
+  pub out : Goes line
+
+abbrev pub Checks : Format → Option (List ℕ) → Device → Device → Second → Second → Bool → (List ℕ → Type 0) → Type 0
+Checks format name source source' second second' feasible Goes =
+    IsPicked format name source source' (IsJudged second second' feasible Goes)
+
+-- it didn't fail
+abbrev pub HasSecondWorked : Second → Second → Type 0
+HasSecondWorked None None = Unit {0}
+HasSecondWorked None (Some new) = ⊥
+HasSecondWorked (Some old) None = ⊥
+HasSecondWorked (Some old) (Some new) = HasWorked old new
+
+-- it wasn't read to its end
+abbrev pub IsSecondUnread : Second → Second → Fault → Type 0
+IsSecondUnread None second' fault = ⊥
+IsSecondUnread (Some old) None fault = ⊥
+IsSecondUnread (Some old) (Some new) fault = IsUnread old new fault
+
+-- the schedule text has this fault
+pub record IsScheduleFaulty (second second' : Second) (fault : ReadFault) (text : List ℕ) (shop : Shop) : Type 0 where
+  pub schedule : List ℕ
+  pub schedule_read : IsScheduleRead text second second' schedule
+  pub is_fault : IsTableRead shop schedule (Err fault)
+
+abbrev pub IsScheduleRefused : Second → Second → ReadFault → List ℕ → Shop → Type 0
+IsScheduleRefused second second' fault text shop =
+    IsSecondUnread second second' (Text fault) ⊎ IsScheduleFaulty second second' fault text shop
+
+-- The second source is read only after an instance was picked. On success the sink took just the line, and no device
+-- failed. A refusal is that of all bytes of its source; it and a failed read leave the sink as it was, and so does want
+-- of memory, where no device failed. After a failed write a beginning of the line is out.
+abbrev pub IsChecking : Format → Option (List ℕ) → Device → Device → Second → Second → Device → Device
+    → Result Bool Fault → Type 0
+IsChecking format name source source' second second' sink sink' (Ok feasible) =
+    Checks format name source source' second second' feasible (IsWritten sink sink')
+IsChecking format name source source' second second' sink sink' (Err (Text NoMemory)) =
+    ((HasWorked source source' × (second' ≡ second))
+    ⊎ IsPicked format name source source' (λ text shop. HasSecondWorked second second'))
+    × (sink' ≡ sink)
+IsChecking format name source source' second second' sink sink' (Err (Text fault)) =
+    ((IsAskRefused format name source source' fault × (second' ≡ second))
+    ⊎ IsPicked format name source source' (IsScheduleRefused second second' fault))
+    × (sink' ≡ sink)
+IsChecking format name source source' second second' sink sink' (Err ReadFailed) =
+    ((HasFailed source source' × (second' ≡ second))
+    ⊎ IsPicked format name source source' (λ text shop. IsSecondUnread second second' ReadFailed))
+    × (sink' ≡ sink)
+IsChecking format name source source' second second' sink sink' (Err WriteFailed) =
+    (feasible : Bool) × Checks format name source source' second second' feasible (IsCutOff sink sink')

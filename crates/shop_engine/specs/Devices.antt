@@ -1,0 +1,67 @@
+-- What is known of devices, and what calls do to them.
+--     Device                           the bytes that a source has left or a sink holds, and how often it failed
+--     HasWorked, HasFailed old new     no failure; one failure more
+--     IsReadToEnd old new text         all that a source had left was read, and it is this text
+--     IsLeftUnread old new             a source was left after one byte more than a text may have
+--     IsWritten old new text           a sink took the text
+--     IsCutOff old new text            a sink failed, after a beginning of the text
+use Rattle.std.specs.Prelude.{◌≡◌, ℕ, ◌+◌, ◌<◌, min, List, ◌++◌, length, Option, Result, MatchResult}
+use Rattle.std.specs.Io.KnownBytes.{Consumes, Appends, IsAtEnd}
+use Rattle.shop_text.specs.declared.faults.ReadFault.TheVariants.{NoMemory, TooLong}
+use Rattle.shop_engine.specs.declared.faults.Fault.{Fault}
+use Rattle.shop_engine.specs.declared.faults.Fault.TheVariants.{Text, ReadFailed, WriteFailed}
+
+-- What is known of a device: the bytes that a source has left, or that a sink holds, and how often it has failed.
+-- Where nothing is known of the bytes, as of a file or a terminal, there are none.
+pub record Device : Type 0 where
+  pub bytes : Option (List ℕ)
+  pub failures : ℕ
+
+abbrev pub HasWorked : Device → Device → Type 0
+HasWorked old new = new.failures ≡ old.failures
+
+-- the count of failures rose; at 2^64 - 1 it stays
+abbrev pub HasFailed : Device → Device → Type 0
+HasFailed old new = new.failures ≡ min (old.failures + 1) 18446744073709551615
+
+-- a call counts a failure exactly where it answers one
+abbrev pub Counts : {A E : Type 0} → Device → Device → Result A E → Type 0
+Counts old new result = MatchResult result (λ n. HasWorked old new) (λ e. HasFailed old new)
+
+pub record IsReadToEnd (old new : Device) (text : List ℕ) : Type 0 where
+  pub taken : Consumes old.bytes new.bytes text
+  pub end : IsAtEnd new.bytes
+  pub worked : HasWorked old new
+
+-- the limit of a text is 16,777,216 bytes
+pub record IsLeftUnread (old new : Device) : Type 0 where
+  pub text : List ℕ
+  pub taken : Consumes old.bytes new.bytes text
+  pub one_more : length text ≡ 16777217
+  pub worked : HasWorked old new
+
+pub record IsWritten (old new : Device) (text : List ℕ) : Type 0 where
+  pub took : Appends old.bytes new.bytes text
+  pub worked : HasWorked old new
+
+pub record IsCutOff (old new : Device) (text : List ℕ) : Type 0 where
+  pub gone : List ℕ
+  pub left : List ℕ
+  pub cut : text ≡ gone ++ left
+  pub some_left : 0 < length left
+  pub took : Appends old.bytes new.bytes gone
+  pub failed : HasFailed old new
+
+-- why reading to the end was given up: memory ran out, the source failed, or it has more than a text may have
+abbrev pub IsUnread : Device → Device → Fault → Type 0
+IsUnread old new (Text NoMemory) = HasWorked old new
+IsUnread old new (Text TooLong) = IsLeftUnread old new
+IsUnread old new (Text fault) = ⊥
+IsUnread old new ReadFailed = HasFailed old new
+IsUnread old new WriteFailed = ⊥
+
+-- why writing was given up
+abbrev pub IsUnwritten : Device → Device → List ℕ → Fault → Type 0
+IsUnwritten old new text (Text fault) = ⊥
+IsUnwritten old new text ReadFailed = ⊥
+IsUnwritten old new text WriteFailed = IsCutOff old new text

@@ -1,0 +1,6 @@
+pub mod Devices
+pub mod Asking
+pub mod Listing
+pub mod Checking
+pub mod Solving
+pub mod Refusing

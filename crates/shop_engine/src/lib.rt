@@ -1,0 +1,27 @@
+// The engines of the program: from the bytes of a source to the bytes of a sink.
+#![tactic(auto)]
+
+mod arguments;
+mod checking;
+mod devices;
+mod faults;
+mod laws;
+mod listing;
+mod memory;
+mod solving;
+mod streams;
+mod transfers;
+
+pub use arguments::{CheckArgs, Format, ListArgs, SolveArgs};
+pub use checking::check_text;
+pub use devices::{DeviceFailed, Sink, Source};
+pub use faults::Fault;
+pub use laws::refused_texts_are_answered;
+pub use listing::list_text;
+pub use memory::Memory;
+pub use solving::solve_text;
+pub use streams::{Reading, Writing};
+pub use transfers::write_all;
+
+#[cfg(test)]
+mod tests;

@@ -1,0 +1,112 @@
+// Failing, slow and endless devices.
+use crate::tests::fakes::{Dripping, Endless, Trickling};
+use crate::tests::runs::{with_plan, without_name};
+use crate::{Fault, Format, ListArgs, Memory, Reading, check_text, list_text, solve_text};
+use shop_round::{Alone, Plan};
+use shop_text::ReadFault;
+use std::test::Fail;
+
+const FIRST: &[u8] = b"2 2\n0 3 1 2\n1 2 0 4\n";
+
+const FIRST_SIZE: &[u8] = b"1 2 2\n";
+
+const ORLIB: ListArgs = ListArgs {
+    format: Format::Orlib,
+};
+
+#[test]
+fn source_that_fails_is_never_at_its_end(rt: HostRuntime) -> Result<(), Fail> {
+    for k in 1..23 {
+        let mut source = Dripping::new(FIRST, k);
+        let mut sink = Memory::with_room(rt.alloc(), 64)?;
+        let answer = list_text(rt.alloc(), &mut source, &mut sink, &ORLIB);
+        if k <= 21 {
+            assert_eq!(rt; answer, Err(Fault::ReadFailed), "at call {k}");
+            assert_eq!(rt; sink.bytes(), b"".as_slice(), "at call {k}");
+        } else {
+            assert_eq!(rt; answer, Ok(()), "at call {k}");
+            assert_eq!(rt; source.calls, 21);
+            assert_eq!(rt; sink.bytes(), FIRST_SIZE, "at call {k}");
+        }
+    }
+    Ok(())
+}
+
+#[test]
+fn sink_that_fails_holds_a_beginning(rt: HostRuntime) -> Result<(), Fail> {
+    for k in 1..8 {
+        let mut sink = Trickling::new(Memory::with_room(rt.alloc(), 64)?, k);
+        let answer = list_text(rt.alloc(), &mut Reading::new(FIRST), &mut sink, &ORLIB);
+        let taken = (k - 1) as usize;
+        if k <= 6 {
+            assert_eq!(rt; answer, Err(Fault::WriteFailed), "at call {k}");
+        } else {
+            assert_eq!(rt; answer, Ok(()), "at call {k}");
+        }
+        assert_eq!(rt;
+            sink.memory.bytes(),
+            &FIRST_SIZE[..taken.min(6)],
+            "at call {k}"
+        );
+    }
+    Ok(())
+}
+
+#[test]
+fn source_without_end_is_left(rt: HostRuntime) -> Result<(), Fail> {
+    let mut source = Endless { given: 0 };
+    let mut sink = Memory::with_room(rt.alloc(), 64)?;
+    let answer = list_text(rt.alloc(), &mut source, &mut sink, &ORLIB);
+    assert_eq!(rt; answer, Err(Fault::Text(ReadFault::TooLong)));
+    assert_eq!(rt; source.given, 16_777_217);
+    Ok(())
+}
+
+#[test]
+fn schedule_is_not_read_where_the_instance_is_refused(rt: HostRuntime) -> Result<(), Fail> {
+    let rows = [
+        (
+            b"2".as_slice(),
+            9,
+            Fault::Text(ReadFault::BadShape { line: 1 }),
+        ),
+        (FIRST, 5, Fault::ReadFailed),
+    ];
+    for (text, fails_at, fault) in rows {
+        let mut schedule = Some(Endless { given: 0 });
+        let mut sink = Memory::with_room(rt.alloc(), 64)?;
+        let mut source = Dripping::new(text, fails_at);
+        let answer = check_text(
+            rt.alloc(),
+            &mut source,
+            &mut schedule,
+            &mut sink,
+            &without_name(),
+        );
+        assert_eq!(rt; answer, Err(fault));
+        if let Some(unread) = schedule {
+            assert_eq!(rt; unread.given, 0);
+        }
+    }
+    Ok(())
+}
+
+#[test]
+fn slow_devices_give_the_same_report(rt: HostRuntime) -> Result<(), Fail> {
+    let args = with_plan(Plan::new(1, 100, 1).ok_or("plan")?, false);
+    let mut slow = Trickling::new(Memory::with_room(rt.alloc(), 1024)?, 0);
+    let mut source = Dripping::new(FIRST, 0);
+    solve_text(&(), rt.alloc(), &mut source, &mut slow, &args, &mut Alone)?;
+    let mut sink = Memory::with_room(rt.alloc(), 1024)?;
+    solve_text(
+        &(),
+        rt.alloc(),
+        &mut Reading::new(FIRST),
+        &mut sink,
+        &args,
+        &mut Alone,
+    )?;
+    assert_eq!(rt; slow.memory.bytes(), sink.bytes());
+    assert_eq!(rt; slow.calls, sink.bytes().len() as u64);
+    Ok(())
+}

@@ -1,0 +1,99 @@
+// Devices that move one byte a call and fail at one of the calls, and a source that never ends.
+ghost use Rattle.shop_engine.specs.Devices.{Device};
+
+use crate::{DeviceFailed, Memory, Sink, Source};
+
+/// Gives one byte a call, and fails at the call of this number, counted from 1 on.
+#[derive(Drop)]
+pub(super) struct Dripping<'t> {
+    pub(super) left: &'t [u8],
+    pub(super) calls: u64,
+    pub(super) fails_at: u64,
+    pub(super) failures: u64,
+}
+
+impl<'t> Dripping<'t> {
+    pub(super) fn new(left: &'t [u8], fails_at: u64) -> Dripping<'t> {
+        Dripping {
+            left,
+            calls: 0,
+            fails_at,
+            failures: 0,
+        }
+    }
+}
+
+impl<'t> Source for Dripping<'t> {
+    ghost use Rattle.std.specs.Prelude.{None};
+
+    ghost device = { λ s. record { bytes = None; failures = s.failures } };
+
+    fn read(&mut self, buffer: &mut [u8]) -> Result<usize, DeviceFailed> {
+        self.calls = self.calls.saturating_add(1);
+        if self.calls == self.fails_at {
+            self.failures = self.failures.saturating_add(1);
+            return Err(DeviceFailed);
+        }
+        if self.left.is_empty() || buffer.is_empty() {
+            return Ok(0);
+        }
+        buffer[0] = self.left[0];
+        self.left = &self.left[1..];
+        Ok(1)
+    }
+}
+
+/// Takes one byte a call into memory, and fails at the call of this number, counted from 1 on.
+#[derive(Drop)]
+pub(super) struct Trickling {
+    pub(super) memory: Memory,
+    pub(super) calls: u64,
+    pub(super) fails_at: u64,
+    pub(super) failures: u64,
+}
+
+impl Trickling {
+    pub(super) fn new(memory: Memory, fails_at: u64) -> Trickling {
+        Trickling {
+            memory,
+            calls: 0,
+            fails_at,
+            failures: 0,
+        }
+    }
+}
+
+impl Sink for Trickling {
+    ghost use Rattle.std.specs.Prelude.{None};
+
+    ghost device = { λ s. record { bytes = None; failures = s.failures } };
+
+    fn write(&mut self, buffer: &[u8]) -> Result<usize, DeviceFailed> {
+        self.calls = self.calls.saturating_add(1);
+        if self.calls != self.fails_at {
+            let first = buffer.len().min(1);
+            if let Ok(count) = self.memory.write(&buffer[..first]) {
+                return Ok(count);
+            }
+        }
+        self.failures = self.failures.saturating_add(1);
+        Err(DeviceFailed)
+    }
+}
+
+/// Gives zeros without end, and counts them.
+#[derive(Drop)]
+pub(super) struct Endless {
+    pub(super) given: u64,
+}
+
+impl Source for Endless {
+    ghost use Rattle.std.specs.Prelude.{None};
+
+    ghost device = { λ s. record { bytes = None; failures = 0 } };
+
+    fn read(&mut self, buffer: &mut [u8]) -> Result<usize, DeviceFailed> {
+        self.given = self.given.saturating_add(buffer.len() as u64);
+        Ok(buffer.len())
+    }
+}

@@ -1,0 +1,106 @@
+// Schedule texts, accepted and refused.
+use crate::tests::runs::check;
+use crate::{Fault, Format};
+use shop_text::ReadFault;
+use std::test::Fail;
+
+const FIRST: &[u8] = b"2 2\n0 3 1 2\n1 2 0 4\n";
+
+#[test]
+fn schedule_texts_are_read(rt: HostRuntime) -> Result<(), Fail> {
+    let rows = [
+        (
+            b"job 0: 0 3\njob 1: 0 1000000000000000\n".as_slice(),
+            b"feasible 1000000000000004\n".as_slice(),
+        ),
+        (
+            b"job 00: 0 3\njob 1: 0 3\n".as_slice(),
+            b"feasible 7\n".as_slice(),
+        ),
+        (
+            b"job0: 9 9\njob 0: 0 3\njob 1: 0 3\n".as_slice(),
+            b"feasible 7\n".as_slice(),
+        ),
+    ];
+    for (schedule, line) in rows {
+        let (_, sink) = check(rt.alloc(), Format::Orlib, FIRST, Some(schedule))?;
+        assert_eq!(rt; sink.bytes(), line);
+    }
+    Ok(())
+}
+
+#[test]
+fn schedules_of_a_second_source_are_judged(rt: HostRuntime) -> Result<(), Fail> {
+    let rows = [
+        (
+            b"job 0: 0 3\njob 1: 0 3\n".as_slice(),
+            true,
+            b"feasible 7\n".as_slice(),
+        ),
+        (
+            b"job 0: 0 3\njob 1: 0 2\n".as_slice(),
+            false,
+            b"infeasible: machine 0 overlap of job 0 step 0 and job 1 step 1\n".as_slice(),
+        ),
+    ];
+    for (schedule, feasible, line) in rows {
+        let (answer, sink) = check(rt.alloc(), Format::Orlib, FIRST, Some(schedule))?;
+        assert_eq!(rt; answer, feasible);
+        assert_eq!(rt; sink.bytes(), line);
+    }
+    Ok(())
+}
+
+#[test]
+fn faulty_schedules_of_a_second_source_are_refused(rt: HostRuntime) {
+    let schedules = [
+        b"job 0: 0 3\njob 1: 0\n".as_slice(),
+        b"job 0: 0 3\n".as_slice(),
+    ];
+    for schedule in schedules {
+        let refused = check(rt.alloc(), Format::Orlib, FIRST, Some(schedule)).err();
+        assert_eq!(rt; refused, Some(Fault::Text(ReadFault::BadTable { line: 2 })));
+    }
+}
+
+#[test]
+fn job_without_operations_has_its_line(rt: HostRuntime) {
+    let text = b"3 2\n0 0 3 1 2\n4 1 2 0 4\n7\njob 0: 0 6\njob 1: 3 6\n".as_slice();
+    let refused = check(rt.alloc(), Format::Routes, text, None).err();
+    assert_eq!(rt; refused, Some(Fault::Text(ReadFault::BadTable { line: 7 })));
+}
+
+#[test]
+fn faulty_schedule_texts_are_refused(rt: HostRuntime) {
+    let rows = [
+        (
+            b"2 2\n0 3 1 2\n1 2 0 4\njob 0: 0 3\njob 1: 0\n".as_slice(),
+            5,
+        ),
+        (b"2 2\n0 3 1 2\n1 2 0 4\njob 0: 0 3\n".as_slice(), 5),
+        (
+            b"2 2\n0 3 1 2\n1 2 0 4\njob 0: 0 3\njob 1: 0 1000000000000001\n".as_slice(),
+            5,
+        ),
+        (
+            b"2 2\n0 3 1 2\n1 2 0 4\njob 0: 0 3\njob 1: 0 18446744073709551616\n".as_slice(),
+            5,
+        ),
+        (
+            b"2 2\n0 3 1 2\n1 2 0 4\njob 0 : 0 3\njob 1: 0 3\n".as_slice(),
+            4,
+        ),
+        (
+            b"2 2\n0 3 1 2\n1 2 0 4\njob 0: 0 3\njob 0: 0 3\n".as_slice(),
+            5,
+        ),
+        (
+            b"2 2\n0 3 1 2\n1 2 0 4\njob 0: 0 3\njob 1: 0 3\njob 2: 0\n".as_slice(),
+            6,
+        ),
+    ];
+    for (text, line) in rows {
+        let refused = check(rt.alloc(), Format::Orlib, text, None).err();
+        assert_eq!(rt; refused, Some(Fault::Text(ReadFault::BadTable { line })));
+    }
+}

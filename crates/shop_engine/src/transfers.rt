@@ -1,0 +1,51 @@
+// Whole texts from sources and to sinks.
+ghost use Rattle.std.specs.Prelude.{◌≤◌, length, IfOk, IfErr, OnOk};
+ghost use Rattle.shop_engine.specs.Devices.{Device, IsReadToEnd, IsUnread, IsWritten, IsUnwritten};
+
+use crate::devices::{Sink, Source};
+use crate::faults::Fault;
+use shop_text::ReadFault;
+use std::alloc::Global;
+
+/// How many bytes a text may have.
+const MAX_TEXT: usize = 16_777_216;
+
+/// All bytes of a source up to its end. Where there are more than a text may have, the source is left after the first
+/// one too many.
+pub(crate) fn read_all<S: Source>(alloc: Global, source: &mut S) -> Result<Vec<u8>, Fault>
+    ensures short { IfOk result (λ text. length text.items ≤ 16777216) }
+    ensures read { IfOk result (λ text.
+        IsReadToEnd (S.device source.old) (S.device source.new) text.items) }
+    ensures unread { IfErr result (λ fault.
+        IsUnread (S.device source.old) (S.device source.new) fault) }
+{
+    let mut text = Vec::new(alloc);
+    let mut buffer = [0u8; 4096];
+    while text.len() <= MAX_TEXT {
+        let room = (MAX_TEXT + 1 - text.len()).min(buffer.len());
+        let Ok(count) = source.read(&mut buffer[..room]) else {
+            return Err(Fault::ReadFailed);
+        };
+        if count == 0 {
+            return Ok(text);
+        }
+        text.extend_from_slice(&buffer[..count])?;
+    }
+    Err(Fault::Text(ReadFault::TooLong))
+}
+
+/// Writes all of a text. Where the sink fails, a beginning of it went out.
+pub fn write_all<K: Sink>(sink: &mut K, text: &[u8]) -> Result<(), Fault>
+    ensures written { OnOk result (IsWritten (K.device sink.old) (K.device sink.new) text.now) }
+    ensures unwritten { IfErr result (λ fault.
+        IsUnwritten (K.device sink.old) (K.device sink.new) text.now fault) }
+{
+    let mut rest = text;
+    while !rest.is_empty() {
+        let Ok(count) = sink.write(rest) else {
+            return Err(Fault::WriteFailed);
+        };
+        rest = &rest[count..];
+    }
+    Ok(())
+}
