@@ -1,0 +1,152 @@
+-- The command line, in clap's words of a simple command.
+--     command_line formats orders      the command: what a parse reads of it
+--     IsLineOf words args              the arguments are those that clap reads of the words by this command
+use Rattle.std.specs.Prelude.{◌≡◌, ◌≤◌, ℕ, true, false, Bool, List, [], ◌∷◌, Option, Some, None, codes, option_map}
+use Rattle.std.specs.Prelude.{string_bytes}
+use Rattle.std.specs.Str.Parse.{IsNumeral, digits_value, without_leading_plus}
+use Rattle.clap.specs.Words.{App, Row, Rule, Text, app_of, first_of, one_of, rule_of, new_app, new_rule}
+use Rattle.clap.specs.Words.{subcommand_of, with_rule, with_subcommand}
+use Rattle.clap.specs.declared.builder.action.ArgAction.TheVariants.{SetTrue}
+use Rattle.clap.specs.declared.builder.arg.Arg.{Arg}
+use Rattle.clap.specs.declared.builder.command.Command.{Command}
+use Rattle.clap.specs.declared.builder.command.Command.TheViews.{out-Command}
+use Rattle.clap.specs.declared.builder.value_parser.ValueParser.{ValueParser}
+use Rattle.clap.specs.declared.builder.value_parser.ValueParser.TheVariants.{Unsigned}
+use Rattle.shop_round.specs.declared.orders.Order.{Order}
+use Rattle.shop_round.specs.declared.orders.Order.TheVariants.{Kept, Bound}
+use Rattle.shop_round.specs.declared.plans.Plan.{Plan}
+use Rattle.shop_engine.specs.declared.arguments.Format.{Format}
+use Rattle.shop_engine.specs.declared.arguments.Format.TheVariants.{Orlib, Taillard, Routes}
+use Rattle.jobshop.specs.declared.arguments.Args.{Args}
+use Rattle.jobshop.specs.declared.arguments.Args.TheVariants.{ListNames, CheckTable, SolveInstance}
+
+-- ---- the command
+
+-- an option with a value, one of a choice of values, one with a number, a flag, and a path
+abbrev pub option_rule : Text → Rule
+option_rule id = record (new_rule id) { long = Some id; value_names = 1 }
+
+abbrev pub choice_rule : Text → ValueParser → Text → Rule
+choice_rule id choice default = record (option_rule id) { parser = Some choice; defaults = default ∷ [] }
+
+abbrev pub number_rule : Text → ℕ → ℕ → Text → Rule
+number_rule id least most default = record (option_rule id) {
+  parser = Some (Unsigned least most);
+  defaults =
+      default ∷ [];
+}
+
+abbrev pub flag_rule : Text → Rule
+flag_rule id = record (new_rule id) { long = Some id; action = Some SetTrue }
+
+abbrev pub path_rule : Text → Rule
+path_rule id = record (new_rule id) { value_names = 1 }
+
+abbrev pub with_rules : App → List Rule → App
+with_rules app [] = app
+with_rules app (rule ∷ rules) = with_rules (with_rule app rule) rules
+
+abbrev pub format_rule : ValueParser → Rule
+format_rule formats = choice_rule (codes "format") formats (codes "orlib")
+
+-- an argument of this rule, and a command that reads as this one, with no global argument
+abbrev pub IsArgOf : Rule → Arg → Type 0
+IsArgOf rule arg = (rule_of arg ≡ rule) × (arg.global ≡ false)
+
+abbrev pub IsCommandOf : App → Command → Type 0
+IsCommandOf app command = (app_of command ≡ app) × ((out-Command command).has_globals ≡ false)
+
+abbrev pub list_command : ValueParser → App
+list_command formats = with_rules (new_app (codes "list")) (format_rule formats ∷ path_rule (codes "FILE") ∷ [])
+
+abbrev pub check_command : ValueParser → App
+check_command formats =
+    with_rules (new_app (codes "check"))
+    (format_rule formats ∷ option_rule (codes "name") ∷ path_rule (codes "FILE") ∷ path_rule (codes "SCHEDULE") ∷ [])
+
+-- 0 to 100,000 rounds, budgets of 1 to 10,000,000 nodes, pieces of 1 to 1,000 nodes, and an order
+abbrev pub with_plan_rules : ValueParser → App → App
+with_plan_rules orders app =
+    with_rules app
+    (number_rule (codes "rounds") 0 100000 (codes "1000")
+    ∷ number_rule (codes "budget") 1 10000000 (codes "100000")
+    ∷ number_rule (codes "piece") 1 1000 (codes "1")
+    ∷ choice_rule (codes "order") orders (codes "kept")
+    ∷ [])
+
+-- 1 to 64 workers
+abbrev pub solve_command : ValueParser → ValueParser → App
+solve_command formats orders =
+    let named = with_rules (new_app (codes "solve")) (format_rule formats ∷ option_rule (codes "name") ∷ [])
+    in with_rules (with_plan_rules orders named)
+    (number_rule (codes "workers") 1 64 (codes "1") ∷ flag_rule (codes "gantt") ∷ path_rule (codes "FILE") ∷ [])
+
+abbrev pub needing_subcommand : App → App
+needing_subcommand app = record app { top = record app.top { subcommand_required = true } }
+
+abbrev pub command_line : ValueParser → ValueParser → App
+command_line formats orders =
+    with_subcommand (with_subcommand (with_subcommand (needing_subcommand (new_app (codes "jobshop")))
+    (list_command formats).top) (check_command formats).top) (solve_command formats orders).top
+
+abbrev pub IsCommandLine : Command → Type 0
+IsCommandLine command = (formats orders : ValueParser) × IsCommandOf (command_line formats orders) command
+
+-- ---- its values
+
+abbrev pub format_word : Format → Text
+format_word Orlib = codes "orlib"
+format_word Taillard = codes "taillard"
+format_word Routes = codes "routes"
+
+abbrev pub order_word : Order → Text
+order_word Kept = codes "kept"
+order_word Bound = codes "bound"
+
+-- the first value of an argument is this text, this number, this flag, or it may be missing
+abbrev pub HasText : List Row → Text → Text → Type 0
+HasText rows id text = first_of id rows ≡ Some text
+
+abbrev pub NumberIs : Text → ℕ → Type 0
+NumberIs text n = IsNumeral 10 (without_leading_plus text) × (n ≡ digits_value 10 (without_leading_plus text))
+
+abbrev pub HasNumber : List Row → Text → ℕ → Type 0
+HasNumber rows id n = (text : Text) × (one_of id rows ≡ Some text) × NumberIs text n
+
+pub record HasFlag (rows : List Row) (id : Text) (flag : Bool) : Type 0 where
+  pub given : one_of id rows ≡ Some (codes "true") → flag ≡ true
+  pub absent : one_of id rows ≡ Some (codes "false") → flag ≡ false
+
+abbrev pub MayHave : List Row → Text → Option Text → Type 0
+MayHave rows id text = first_of id rows ≡ text
+
+-- the plan has these values
+pub record IsPlanOf (rows : List Row) (plan : Plan) : Type 0 where
+  pub rounds : HasNumber rows (codes "rounds") plan.rounds
+  pub budget : HasNumber rows (codes "budget") plan.budget
+  pub piece : HasNumber rows (codes "piece") plan.piece
+  pub order : HasText rows (codes "order") (order_word plan.order)
+
+-- the arguments are those of a command of this name with these matches
+abbrev pub IsArgs : Text → List Row → Args → Type 0
+IsArgs name rows (ListNames args file) =
+    (name ≡ codes "list") × HasText rows (codes "format") (format_word args.format)
+    × MayHave rows (codes "FILE") (option_map string_bytes file)
+IsArgs name rows (CheckTable args file schedule) =
+    (name ≡ codes "check") × HasText rows (codes "format") (format_word args.format)
+    × MayHave rows (codes "name") (option_map string_bytes args.name)
+    × MayHave rows (codes "FILE") (option_map string_bytes file)
+    × MayHave rows (codes "SCHEDULE") (option_map string_bytes schedule)
+IsArgs name rows (SolveInstance args workers file) =
+    (name ≡ codes "solve") × HasText rows (codes "format") (format_word args.format)
+    × MayHave rows (codes "name") (option_map string_bytes args.name)
+    × IsPlanOf rows args.plan
+    × HasNumber rows (codes "workers") workers × (1 ≤ workers) × (workers ≤ 64)
+    × HasFlag rows (codes "gantt") args.gantt
+    × MayHave rows (codes "FILE") (option_map string_bytes file)
+
+-- (the parsers of the two choices only say which words are refused, and not what is read of the others)
+abbrev pub IsLineOf : List Text → Args → Type 0
+IsLineOf words args =
+    (formats orders : ValueParser) × (matches : Text × List Row)
+    × (subcommand_of (command_line formats orders) words ≡ Some matches) × IsArgs matches.0 matches.1 args

@@ -1,0 +1,210 @@
+// The command line as clap's builder makes it.
+ghost use Rattle.std.specs.Prelude.{◌≡◌, IfOk, codes, false};
+ghost use Rattle.clap.specs.Words.{app_of};
+ghost use Rattle.clap.specs.declared.builder.command.Command.TheViews.{out-Command};
+ghost use Rattle.clap.specs.declared.builder.value_parser.ValueParser.TheVariants.{Names};
+ghost use Rattle.jobshop.specs.CommandLine.{option_rule, choice_rule, format_rule, number_rule, flag_rule, path_rule};
+ghost use Rattle.jobshop.specs.CommandLine.{IsArgOf, IsCommandOf, IsCommandLine};
+ghost use Rattle.jobshop.specs.CommandLine.{list_command, check_command, solve_command, with_plan_rules};
+
+use clap::builder::ValueParser;
+use clap::{Arg, ArgAction, Command};
+use std::alloc::{AllocError, Global};
+
+/// The formats of an instance text.
+static FORMATS: [&str; 3] = ["orlib", "taillard", "routes"];
+
+/// The orders in which a round takes the open nodes.
+static ORDERS: [&str; 2] = ["kept", "bound"];
+
+/// An option that takes a value.
+fn option<'a>(alloc: Global, id: &'a str, value: &'a str, help: &'a str) -> Arg<'a>
+    ensures { IsArgOf (option_rule id.entry.now) result }
+{
+    Arg::new(alloc, id).long(id).value_name(value).help(help)
+}
+
+/// An option that takes a number from `least` to `most`.
+fn number<'a>(
+    alloc: Global,
+    id: &'a str,
+    help: &'a str,
+    least: u64,
+    most: u64,
+    default: &'a str,
+) -> Arg<'a>
+    ensures { IsArgOf (number_rule id.entry.now least most default.entry.now) result }
+{
+    option(alloc, id, "N", help)
+        .value_parser(ValueParser::unsigned(least, most))
+        .default_value(default)
+}
+
+/// An option that takes one of some words, the first if it isn't given.
+fn choice<'a>(
+    alloc: Global,
+    id: &'a str,
+    value: &'a str,
+    help: &'a str,
+    words: &'a [&'a str],
+    default: &'a str,
+) -> Arg<'a>
+    ensures { IsArgOf (choice_rule id.entry.now (Names words.entry) default.entry.now) result }
+{
+    option(alloc, id, value, help)
+        .value_parser(words)
+        .default_value(default)
+}
+
+/// A flag.
+fn flag<'a>(alloc: Global, id: &'a str, help: &'a str) -> Arg<'a>
+    ensures { IsArgOf (flag_rule id.entry.now) result }
+{
+    Arg::new(alloc, id)
+        .long(id)
+        .action(ArgAction::SetTrue)
+        .help(help)
+}
+
+/// A path that may be given.
+fn path<'a>(alloc: Global, id: &'a str, help: &'a str) -> Arg<'a>
+    ensures { IsArgOf (path_rule id.entry.now) result }
+{
+    Arg::new(alloc, id).value_name(id).help(help)
+}
+
+/// `--format`, one of these.
+fn format<'a>(alloc: Global, formats: &'a [&'a str]) -> Arg<'a>
+    ensures { IsArgOf (format_rule (Names formats.entry)) result }
+{
+    choice(
+        alloc,
+        "format",
+        "F",
+        "How the instance text is written",
+        formats,
+        "orlib",
+    )
+}
+
+fn name<'a>(alloc: Global) -> Arg<'a>
+    ensures { IsArgOf (option_rule (codes "name")) result }
+{
+    option(
+        alloc,
+        "name",
+        "N",
+        "The instance of this name; without it the first one",
+    )
+}
+
+fn file<'a>(alloc: Global) -> Arg<'a>
+    ensures { IsArgOf (path_rule (codes "FILE")) result }
+{
+    path(
+        alloc,
+        "FILE",
+        "The text of the instances; without it standard input",
+    )
+}
+
+/// `list`: the instances of a text.
+fn list<'a>(alloc: Global, formats: &'a [&'a str]) -> Result<Command<'a>, AllocError>
+    ensures { IfOk result (IsCommandOf (list_command (Names formats.entry))) }
+{
+    Command::new(alloc, "list")
+        .about("Lists the instances of a text: name, jobs, machines")
+        .arg(format(alloc, formats))?
+        .arg(file(alloc))
+}
+
+/// `check`: judges a schedule.
+fn check<'a>(alloc: Global, formats: &'a [&'a str]) -> Result<Command<'a>, AllocError>
+    ensures { IfOk result (IsCommandOf (check_command (Names formats.entry))) }
+{
+    Command::new(alloc, "check")
+        .about("Judges a schedule of an instance: feasible with its makespan, or its first fault")
+        .arg(format(alloc, formats))?
+        .arg(name(alloc))?
+        .arg(file(alloc))?
+        .arg(path(
+            alloc,
+            "SCHEDULE",
+            "The schedule; without it the text of the instance has its lines",
+        ))
+}
+
+/// A command with the options of a plan: rounds, budget, piece and order.
+fn with_plan<'a>(
+    alloc: Global,
+    command: Command<'a>,
+    orders: &'a [&'a str],
+) -> Result<Command<'a>, AllocError>
+    requires { (out-Command command).has_globals ≡ false }
+    ensures { IfOk result (IsCommandOf (with_plan_rules (Names orders.entry) (app_of command.entry))) }
+{
+    command
+        .arg(number(
+            alloc,
+            "rounds",
+            "At most so many rounds",
+            0,
+            100_000,
+            "1000",
+        ))?
+        .arg(number(
+            alloc,
+            "budget",
+            "Nodes taken in a piece",
+            1,
+            10_000_000,
+            "100000",
+        ))?
+        .arg(number(alloc, "piece", "Nodes of a piece", 1, 1_000, "1"))?
+        .arg(choice(
+            alloc,
+            "order",
+            "O",
+            "The order in which a round takes the open nodes",
+            orders,
+            "kept",
+        ))
+}
+
+/// `solve`: searches a least makespan.
+fn solve<'a>(
+    alloc: Global,
+    formats: &'a [&'a str],
+    orders: &'a [&'a str],
+) -> Result<Command<'a>, AllocError>
+    ensures { IfOk result (IsCommandOf (solve_command (Names formats.entry) (Names orders.entry))) }
+{
+    let command = Command::new(alloc, "solve")
+        .about("Searches a schedule of least makespan, and reports it with a proved lower bound")
+        .arg(format(alloc, formats))?
+        .arg(name(alloc))?;
+    with_plan(alloc, command, orders)?
+        .arg(number(
+            alloc,
+            "workers",
+            "Threads that search; the answer is the same for any",
+            1,
+            64,
+            "1",
+        ))?
+        .arg(flag(alloc, "gantt", "Draws the schedule below the report"))?
+        .arg(file(alloc))
+}
+
+/// The whole command line.
+pub fn command<'a>(alloc: Global) -> Result<Command<'a>, AllocError>
+    ensures { IfOk result IsCommandLine }
+{
+    let formats = FORMATS.as_slice();
+    Command::new(alloc, "jobshop")
+        .about("An exact solver of the job shop whose answers are proved")
+        .subcommand_required(true)
+        .subcommand(list(alloc, formats)?)?
+        .subcommand(check(alloc, formats)?)?
+        .subcommand(solve(alloc, formats, ORDERS.as_slice())?)
+}

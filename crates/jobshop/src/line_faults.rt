@@ -1,0 +1,40 @@
+use clap::error::ErrorKind;
+use clap::{Command, Error};
+use std::alloc::{AllocError, AllocFailed, Global};
+
+/// Why a command line is refused: memory ran out, or clap's fault (a call for help is one).
+#[derive(Drop)]
+pub enum LineFault {
+    NoMemory,
+    Usage(Error),
+}
+
+impl From<Error> for LineFault {
+    fn from(fault: Error) -> LineFault {
+        if fault.kind() == ErrorKind::OutOfMemory {
+            LineFault::NoMemory
+        } else {
+            LineFault::Usage(fault)
+        }
+    }
+}
+
+impl From<AllocError> for LineFault {
+    fn from(_fault: AllocError) -> LineFault {
+        LineFault::NoMemory
+    }
+}
+
+impl<T: Drop> From<AllocFailed<T>> for LineFault {
+    fn from(_fault: AllocFailed<T>) -> LineFault {
+        LineFault::NoMemory
+    }
+}
+
+/// The fault of matches that lack what the command asks for.
+pub fn misread(alloc: Global) -> LineFault {
+    match Command::new(alloc, "jobshop").error(ErrorKind::InvalidValue, "a value is missing") {
+        Ok(fault) => LineFault::Usage(fault),
+        Err(_) => LineFault::NoMemory,
+    }
+}

@@ -1,0 +1,61 @@
+// The values that clap's matches have.
+ghost use Rattle.std.specs.Prelude.{◌≡◌, ℕ, IfOk, option_map, string_bytes};
+ghost use Rattle.clap.specs.Words.{found_of, rows_of};
+ghost use Rattle.jobshop.specs.CommandLine.{HasText, HasNumber, HasFlag, MayHave, format_word, order_word};
+ghost use Rattle.std.specs.Prelude.{codes};
+
+use crate::line_faults::{LineFault, misread};
+use clap::ArgMatches;
+use shop_engine::Format;
+use shop_round::Order;
+use std::alloc::{AllocError, Global};
+
+/// The format.
+pub fn format_in(alloc: Global, found: &ArgMatches) -> Result<Format, LineFault>
+    ensures { IfOk result (λ f. HasText (rows_of (found_of found.now)) (codes "format") (format_word f)) }
+{
+    match found.get_str("format") {
+        Some("orlib") => Ok(Format::Orlib),
+        Some("taillard") => Ok(Format::Taillard),
+        Some("routes") => Ok(Format::Routes),
+        _ => Err(misread(alloc)),
+    }
+}
+
+/// The order.
+pub fn order_in(alloc: Global, found: &ArgMatches) -> Result<Order, LineFault>
+    ensures { IfOk result (λ o. HasText (rows_of (found_of found.now)) (codes "order") (order_word o)) }
+{
+    match found.get_str("order") {
+        Some("kept") => Ok(Order::Kept),
+        Some("bound") => Ok(Order::Bound),
+        _ => Err(misread(alloc)),
+    }
+}
+
+/// A number.
+pub fn number_in(alloc: Global, found: &ArgMatches, id: &str) -> Result<u64, LineFault>
+    ensures { IfOk result (HasNumber (rows_of (found_of found.now)) id.now) }
+{
+    match found.get_one::<u64>(id) {
+        Some(number) => Ok(number),
+        None => Err(misread(alloc)),
+    }
+}
+
+/// A flag.
+pub fn flag_in(found: &ArgMatches, id: &str) -> bool
+    ensures { HasFlag (rows_of (found_of found.now)) id.now result }
+{
+    found.get_flag(id)
+}
+
+/// A text that may be missing.
+pub fn text_in(alloc: Global, found: &ArgMatches, id: &str) -> Result<Option<String>, AllocError>
+    ensures { IfOk result (λ t. MayHave (rows_of (found_of found.now)) id.now (option_map string_bytes t)) }
+{
+    match found.get_str(id) {
+        Some(text) => Ok(Some(text.to_string(alloc)?)),
+        None => Ok(None),
+    }
+}

@@ -1,0 +1,99 @@
+// From the words of a command line to its arguments.
+ghost use Rattle.std.specs.Prelude.{IfOk, map, codes, string_bytes};
+ghost use Rattle.clap.specs.Words.{found_of, rows_of};
+ghost use Rattle.jobshop.specs.CommandLine.{IsArgs, IsLineOf, IsPlanOf};
+
+use crate::arguments::Args;
+use crate::command_line::command;
+use crate::line_faults::{LineFault, misread};
+use crate::matches::{flag_in, format_in, number_in, order_in, text_in};
+use clap::ArgMatches;
+use shop_engine::{CheckArgs, ListArgs, SolveArgs};
+use shop_round::Plan;
+use std::alloc::Global;
+
+/// The arguments of `list`.
+fn list_args(alloc: Global, found: &ArgMatches) -> Result<Args, LineFault>
+    ensures { IfOk result (IsArgs (codes "list") (rows_of (found_of found.now))) }
+{
+    let args = ListArgs {
+        format: format_in(alloc, found)?,
+    };
+    let file = text_in(alloc, found, "FILE")?;
+    Ok(Args::ListNames { args, file })
+}
+
+/// The arguments of `check`.
+fn check_args(alloc: Global, found: &ArgMatches) -> Result<Args, LineFault>
+    ensures { IfOk result (IsArgs (codes "check") (rows_of (found_of found.now))) }
+{
+    let args = CheckArgs {
+        format: format_in(alloc, found)?,
+        name: text_in(alloc, found, "name")?,
+    };
+    let file = text_in(alloc, found, "FILE")?;
+    let schedule = text_in(alloc, found, "SCHEDULE")?;
+    Ok(Args::CheckTable {
+        args,
+        file,
+        schedule,
+    })
+}
+
+/// The plan of `solve`.
+fn plan_in(alloc: Global, found: &ArgMatches) -> Result<Plan, LineFault>
+    ensures { IfOk result (IsPlanOf (rows_of (found_of found.now))) }
+{
+    let rounds = number_in(alloc, found, "rounds")?;
+    let budget = number_in(alloc, found, "budget")?;
+    let piece = number_in(alloc, found, "piece")? as usize;
+    let order = order_in(alloc, found)?;
+    match Plan::ordered(rounds, budget, piece, order) {
+        Some(plan) => Ok(plan),
+        None => Err(misread(alloc)),
+    }
+}
+
+/// The arguments of `solve`.
+fn solve_args(alloc: Global, found: &ArgMatches) -> Result<Args, LineFault>
+    ensures { IfOk result (IsArgs (codes "solve") (rows_of (found_of found.now))) }
+{
+    let format = format_in(alloc, found)?;
+    let plan = plan_in(alloc, found)?;
+    let workers = number_in(alloc, found, "workers")? as usize;
+    let gantt = flag_in(found, "gantt");
+    let name = text_in(alloc, found, "name")?;
+    let file = text_in(alloc, found, "FILE")?;
+    if workers < 1 || workers > MAX_WORKERS {
+        return Err(misread(alloc));
+    }
+    let args = SolveArgs {
+        format,
+        name,
+        plan,
+        gantt,
+    };
+    Ok(Args::SolveInstance {
+        args,
+        workers,
+        file,
+    })
+}
+
+/// The most workers.
+const MAX_WORKERS: usize = 64;
+
+/// What a command line asks for: the command and the values that clap reads of its words, each number within its
+/// limits.
+/// A call for help, too, is a fault of the command line.
+pub fn args_of(alloc: Global, words: &[String]) -> Result<Args, LineFault>
+    ensures { IfOk result (IsLineOf (map string_bytes words.now)) }
+{
+    let matches = command(alloc)?.try_get_matches_from(words)?;
+    match matches.subcommand() {
+        Some(("list", found)) => list_args(alloc, found),
+        Some(("check", found)) => check_args(alloc, found),
+        Some(("solve", found)) => solve_args(alloc, found),
+        _ => Err(misread(alloc)),
+    }
+}
