@@ -1,9 +1,9 @@
 -- What a command reads as, argument by argument.
-use Rattle.std.proofs.Common.{◌≡◌, ◌∙◌, false, true, ap, ap₂}
+use Rattle.std.proofs.Common.{◌≡◌, ◌∙◌, true, ap, ap₂}
 use Rattle.std.specs.Prelude.{◌||◌, Some}
 use Rattle.std.specs.Borrow.{Bor}
 use Rattle.clap.specs.Simple.{app_of_fields}
-use Rattle.clap.specs.Words.{App, Rule, Text, AddsArg, AddsSubcommand, app_of, rule_of, shape_of, with_rule}
+use Rattle.clap.specs.Words.{App, Rule, Text, AddsArg, AddsSubcommand, app_of, with_rule}
 use Rattle.clap.specs.Words.{with_subcommand}
 use Rattle.clap.specs.declared.builder.arg.Arg.{Arg}
 use Rattle.clap.specs.declared.builder.value_parser.ValueParser.{ValueParser}

@@ -1,6 +1,6 @@
 -- What the getters of clap's matches read, by the rows of the matches.
-use Rattle.std.proofs.Common.{◌≡◌, ◌∙◌, ℕ, ◌<◌, ◌≤◌, sym, ap, Option, Some, None, Bool, true, false, refl, codes}
-use Rattle.clap.specs.Words.{Text, first_of, first_value, one_of, one_text, rows_of}
+use Rattle.std.proofs.Common.{◌≡◌, ◌∙◌, ℕ, sym, ap, Option, Some, None, Bool, true, false, refl, codes}
+use Rattle.clap.specs.Words.{Text, first_value, one_of, one_text, rows_of}
 use Rattle.clap.specs.declared.parser.matches.Found.{Found}
 use Rattle.clap.proofs.WalkLemmas.{first_value-rows, one_text-rows}
 use Rattle.jobshop.specs.CommandLine.{HasText, HasNumber, HasFlag, MayHave, NumberIs}

@@ -1,7 +1,7 @@
 -- A line is what its subcommand's matches say.
-use Rattle.std.proofs.Common.{◌≡◌, ◌∙◌, sym, ap, refl, Option, Some, None, List, Bool, true}
+use Rattle.std.proofs.Common.{◌≡◌, ◌∙◌, sym, ap, refl, Option, Some, None, List, true}
 use Rattle.std.specs.Prelude.{option_map}
-use Rattle.clap.specs.Words.{App, HasMatchesOf, Row, Text, app_of, found_of, is_simple, rows_of, subcommand_name_of}
+use Rattle.clap.specs.Words.{HasMatchesOf, Row, Text, app_of, is_simple, subcommand_name_of}
 use Rattle.clap.specs.Words.{subcommand_of, subcommand_rows_of}
 use Rattle.clap.specs.declared.builder.command.Command.{Command}
 use Rattle.clap.specs.declared.builder.value_parser.ValueParser.{ValueParser}

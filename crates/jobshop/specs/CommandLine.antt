@@ -1,7 +1,7 @@
 -- The command line, in clap's words of a simple command.
 --     command_line formats orders      the command: what a parse reads of it
 --     IsLineOf words args              the arguments are those that clap reads of the words by this command
-use Rattle.std.specs.Prelude.{◌≡◌, ◌≤◌, ℕ, true, false, Bool, List, [], ◌∷◌, Option, Some, None, codes, option_map}
+use Rattle.std.specs.Prelude.{◌≡◌, ◌≤◌, ℕ, true, false, Bool, List, [], ◌∷◌, Option, Some, codes, option_map}
 use Rattle.std.specs.Prelude.{string_bytes}
 use Rattle.std.specs.Str.Parse.{IsNumeral, digits_value, without_leading_plus}
 use Rattle.clap.specs.Words.{App, Row, Rule, Text, app_of, first_of, one_of, rule_of, new_app, new_rule}

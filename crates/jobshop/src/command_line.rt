@@ -9,6 +9,7 @@ ghost use Rattle.jobshop.specs.CommandLine.{list_command, check_command, solve_c
 
 use clap::builder::ValueParser;
 use clap::{Arg, ArgAction, Command};
+use shop_board::MAX_WORKERS;
 use std::alloc::{AllocError, Global};
 
 /// The formats of an instance text.
@@ -189,7 +190,7 @@ fn solve<'a>(
             "workers",
             "Threads that search; the answer is the same for any",
             1,
-            64,
+            MAX_WORKERS as u64,
             "1",
         ))?
         .arg(flag(alloc, "gantt", "Draws the schedule below the report"))?

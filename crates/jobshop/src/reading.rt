@@ -8,6 +8,7 @@ use crate::command_line::command;
 use crate::line_faults::{LineFault, misread};
 use crate::matches::{flag_in, format_in, number_in, order_in, text_in};
 use clap::ArgMatches;
+use shop_board::MAX_WORKERS;
 use shop_engine::{CheckArgs, ListArgs, SolveArgs};
 use shop_round::Plan;
 use std::alloc::Global;
@@ -79,9 +80,6 @@ fn solve_args(alloc: Global, found: &ArgMatches) -> Result<Args, LineFault>
         file,
     })
 }
-
-/// The most workers.
-const MAX_WORKERS: usize = 64;
 
 /// What a command line asks for: the command and the values that clap reads of its words, each number within its
 /// limits.

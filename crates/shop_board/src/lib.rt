@@ -10,5 +10,5 @@ mod serving;
 mod tests;
 
 pub use gates::{Gate, OpenGate};
-pub use lock_crews::LockCrew;
+pub use lock_crews::{LockCrew, MAX_WORKERS};
 pub use pools::Pool;

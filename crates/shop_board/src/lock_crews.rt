@@ -10,6 +10,9 @@ use std::alloc::{AllocError, Global};
 use std::sync::Wait;
 use std::thread::Threads;
 
+/// The most workers of a crew.
+pub const MAX_WORKERS: usize = 64;
+
 /// Workers that take numbers of pieces from one locked pool. Worker 0 is the calling thread. A search may wait for its
 /// workers, and has joined all of them when it returns.
 #[derive(Drop)]
@@ -25,7 +28,7 @@ impl<G: Drop> LockCrew<G> {
         ensures within { IsSome result ↔ ((0 < workers) × (workers ≤ 64)) }
         ensures keeps { IfSome result (λ c. (c.workers ≡ workers) × (c.gate ≡ gate)) }
     {
-        if workers == 0 || workers > 64 {
+        if workers == 0 || workers > MAX_WORKERS {
             return None;
         }
         Some(LockCrew { workers, gate })

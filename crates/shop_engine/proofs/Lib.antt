@@ -1,6 +1,5 @@
 pub mod Picks
 pub mod Verdicts
-pub mod PrintedTables
 pub mod Reported
 pub mod Headline
 mod SolvedRows

@@ -32,18 +32,7 @@ fn report_of(alloc: Global, asked: &Named, answer: &Answer) -> Result<Vec<u8>, A
         rounds: answer.rounds,
         nodes: answer.nodes,
     };
-    let text = report(alloc, &told);
-    let Report {
-        name: _,
-        instance: _,
-        table: _,
-        makespan: _,
-        bound: _,
-        open_nodes: _,
-        rounds: _,
-        nodes: _,
-    } = told;
-    text
+    report(alloc, &told)
 }
 
 /// The report of the plan's answer on an instance, with its Gantt text where that is asked for.

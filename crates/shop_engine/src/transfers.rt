@@ -4,11 +4,8 @@ ghost use Rattle.shop_engine.specs.Devices.{Device, IsReadToEnd, IsUnread, IsWri
 
 use crate::devices::{Sink, Source};
 use crate::faults::Fault;
-use shop_text::ReadFault;
+use shop_text::{MAX_TEXT, ReadFault};
 use std::alloc::Global;
-
-/// How many bytes a text may have.
-const MAX_TEXT: usize = 16_777_216;
 
 /// All bytes of a source up to its end. Where there are more than a text may have, the source is left after the first
 /// one too many.

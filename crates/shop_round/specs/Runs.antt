@@ -1,6 +1,7 @@
 -- Plans, standings and answers of a run.
 use Rattle.std.specs.Prelude.{◌≡◌, ℕ, length}
-use Rattle.shop_model.specs.Shop.{Shop}
+use Rattle.shop_model.specs.Shop.{Shop, IsFeasible, end_of}
+use Rattle.shop_model.specs.Checking.{HasShape, starts_of}
 use Rattle.shop_round.specs.Round.{Planned, Stand, cut_of, gathered, answer, makespan_of, bound_of}
 use Rattle.shop_tree.specs.Nodes.{words_of, AreNodes}
 use Rattle.shop_model.specs.Word.{placed, rows_of}
@@ -67,6 +68,10 @@ StandsAtAnswer shop plan t = StandsAt shop (answer shop (planned plan)) t
 abbrev pub SaysAnswer : Shop → Plan → Answer → Type 0
 SaysAnswer shop plan a = Says shop (answer shop (planned plan)) a
 
--- what the answer says of all tables is so
-abbrev pub IsTrusted : Shop → Answer → Type 0
-IsTrusted shop a = IsTrustworthy shop a.word a.makespan a.bound a.open_nodes
+-- what the answer says of all tables is so; its own has a start for each operation, is feasible, and ends at its
+-- makespan
+pub record IsTrusted (shop : Shop) (a : Answer) : Type 0 where
+  pub answer_is : IsTrustworthy shop a.word a.makespan a.bound a.open_nodes
+  pub shape : HasShape shop a.table
+  pub feasible : IsFeasible shop (starts_of a.table)
+  pub ends : end_of shop (starts_of a.table) ≡ a.makespan

@@ -22,5 +22,6 @@ pub mod CellLemmas
 pub mod ServedJobs
 pub mod TableReadings
 pub mod PrintedLines
+pub mod PrintedJobLines
 pub mod ReportReading
 pub mod ScheduleRows

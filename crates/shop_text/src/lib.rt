@@ -35,4 +35,5 @@ pub use report_texts::report;
 pub use reports::Report;
 pub use schedules::read_table;
 pub use table_laws::{columns_show_the_job, one_table, reports_are_schedules, some_table};
+pub use texts::MAX_TEXT;
 pub use verdict_lines::{listing, verdict_line};

@@ -5,11 +5,9 @@ ghost use Rattle.shop_text.specs.TableReading.{AreRowsRead};
 use crate::faults::ReadFault;
 use crate::job_lines::{after_job, row_behind};
 use crate::lines::next_line;
+use crate::texts::MAX_TEXT;
 use shop_model::{Instance, Table};
 use std::alloc::Global;
-
-/// The most bytes of a schedule text.
-const MAX_TEXT: usize = 16_777_216;
 
 /// The rows of the lines that begin with `job`.
 fn rows_in(alloc: Global, instance: &Instance, text: &[u8]) -> Result<Vec<Vec<u64>>, ReadFault>

@@ -16,8 +16,8 @@ use crate::profiles::Profile;
 use crate::reading::{Seen, header_in, see};
 use std::alloc::{AllocError, Global};
 
-/// The longest text, in bytes.
-const MAX_TEXT: usize = 16_777_216;
+/// The longest text that is read, in bytes: of instances, and of a schedule.
+pub const MAX_TEXT: usize = 16_777_216;
 
 /// The instances that are read so far, the name of the last header since, and what is begun of the next instance.
 #[derive(Drop)]

@@ -26,5 +26,7 @@ returns-clause-trust g c =
     in let lower : c.least_bound-bound.result ≡ least_bound shop t.makespan (words_of t.open.items) =
     c.least_bound-bound.ensures ∙ (ap (least_of_bounds t.makespan) c.as_slice.ensures.value
     ∙ least_is shop t.makespan t.open.items at.bounds)
-    in trust_standing shop (planned c.args.plan.now) t c.least_bound-bound.result c.len.result at lower
+    in let law = c.in_ok-table.ensures.law
+    in let trust = trust_standing shop (planned c.args.plan.now) t c.least_bound-bound.result c.len.result at lower
     (c.len.ensures ∙ t.open.ok.0)
+    in record { answer_is = trust; shape = law.shape; feasible = law.feasible; ends = law.ends ∙ trust.ends }
