@@ -16,3 +16,4 @@ pub mod PlacedTables
 pub mod Merging
 pub mod SwappedPairs
 pub mod SpanLemmas
+pub mod SoonestStarts

@@ -3,6 +3,7 @@
 
 mod checking;
 mod instances;
+mod laws;
 mod limits;
 mod ops;
 mod overlaps;
@@ -16,6 +17,7 @@ mod words;
 
 pub use checking::{Verdict, check, check_quickly};
 pub use instances::{Instance, JobsFault, SizeFault};
+pub use laws::operations_begin_as_soon_as_they_can;
 pub use limits::{MAX_JOBS, MAX_MACHINES, MAX_START, MAX_STEPS, MAX_TIME};
 pub use ops::{Job, Op, Position};
 pub use placing::place;
