@@ -29,7 +29,7 @@ triples_among-is xs ws m e = ap (λ (ys : List Unplaced). triples_among ys m) e 
     | inr e ↦ rw e (of_waiting ws)
   ]
 
-greatest_below-both : (f g : ℕ → ℕ) (n : ℕ)
+pub greatest_below-both : (f g : ℕ → ℕ) (n : ℕ)
     → greatest_below n (λ i. max (f i) (g i)) ≡ max (greatest_below n f) (greatest_below n g)
 greatest_below-both f g zero = omega arith
 greatest_below-both f g (suc n) = let a = greatest_below-both f g n in omega arith

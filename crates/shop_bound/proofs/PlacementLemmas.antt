@@ -81,7 +81,7 @@ pub record AreReads (shop : Shop) (j : ℕ) (s : PlacementState) (k : ℕ) (o : 
   pub ready : r ≡ get_or s.ready j 0
   pub free : f ≡ get_or s.free o.machine 0
 
-read_is : (xs : List ℕ) (i x : ℕ) → i < length xs → x ≡ get_or xs i x → x ≡ get_or xs i 0
+pub read_is : (xs : List ℕ) (i x : ℕ) → i < length xs → x ≡ get_or xs i x → x ≡ get_or xs i 0
 read_is xs i x below read = read ∙ get_or_default_zero xs i x below
 
 pub reads : (shop : Shop) (j : ℕ) (s : PlacementState) → IsWithinLimits shop → IsAboutToPlace shop j s

@@ -40,7 +40,7 @@ module _ {A : Type 0} where
   ]
 
   -- what passes of a sublist is a sublist of what passes
-  sublist_of_filter : (test : A → Bool) {ys xs : List A} → IsSublist ys xs → AllByRecursion (λ y. test y ≡ true) ys
+  pub sublist_of_filter : (test : A → Bool) {ys xs : List A} → IsSublist ys xs → AllByRecursion (λ y. test y ≡ true) ys
       → IsSublist ys (filter test xs)
   sublist_of_filter test none h = none
   sublist_of_filter test (skip x s) h = elim (cases_Bool (test x))
@@ -53,7 +53,7 @@ module _ {A : Type 0} where
   sublist_sum f (keep {ys = us} {xs = vs} x s) =
       let a = sublist_sum f s in let b = sum_by-cons f x vs in let c = sum_by-cons f x us in omega arith
 
-  sublist_length : {ys xs : List A} → IsSublist ys xs → length ys ≤ length xs
+  pub sublist_length : {ys xs : List A} → IsSublist ys xs → length ys ≤ length xs
   sublist_length none = omega arith
   sublist_length (skip x s) = let a = sublist_length s in omega arith
   sublist_length (keep x s) = let a = sublist_length s in omega arith
@@ -63,7 +63,7 @@ module _ {A : Type 0} where
   all_pass test (x ∷ xs) =
       elim (cases_Bool (test x)) [ inl e ↦ rw e (e, all_pass test xs) | inr e ↦ rw e (all_pass test xs) ]
 
-  sublist_at : {ys xs : List A} → IsSublist ys xs → (i : ℕ) → i < length ys
+  pub sublist_at : {ys xs : List A} → IsSublist ys xs → (i : ℕ) → i < length ys
       → (k : ℕ) × (k < length xs) × ((d : A) → get_or xs k d ≡ get_or ys i d)
   sublist_at none i h = absurd (omega arith)
   sublist_at (skip x s) i h = let r = sublist_at s i h in (suc r.0, (let a = r.1 in omega arith), r.2)
@@ -179,12 +179,12 @@ thresholds ts =
     in omega arith
 
 -- no span exceeds the extent
-sublist_greatest : {A : Type 0} (f : A → ℕ) {ys xs : List A} → IsSublist ys xs → greatest_of f ys ≤ greatest_of f xs
+pub sublist_greatest : {A : Type 0} (f : A → ℕ) {ys xs : List A} → IsSublist ys xs → greatest_of f ys ≤ greatest_of f xs
 sublist_greatest f none = omega arith
 sublist_greatest f (skip x s) = let a = sublist_greatest f s in omega arith
 sublist_greatest f (keep x s) = let a = sublist_greatest f s in omega arith
 
-least-le-greatest : {A : Type 0} (f : A → ℕ) (xs : List A) → least_of f xs ≤ greatest_of f xs
+pub least-le-greatest : {A : Type 0} (f : A → ℕ) (xs : List A) → least_of f xs ≤ greatest_of f xs
 least-le-greatest f [] = omega arith
 least-le-greatest f (x ∷ []) = omega arith
 least-le-greatest f (x ∷ y ∷ ys) = let a = least-le-greatest f (y ∷ ys) in omega arith

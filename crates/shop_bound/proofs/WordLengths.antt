@@ -4,9 +4,10 @@ use Rattle.std.proofs.Common.{arith, eqb, ltb, cond, add-one}
 use Rattle.std.proofs.lemmas.Bool.Decides.{nat_tests}
 use Rattle.std.proofs.lemmas.List.Sums.{sum_by-cons}
 use Rattle.shop_model.specs.Limits.{IsWithinLimits}
-use Rattle.shop_model.specs.Shop.{Shop}
+use Rattle.shop_model.specs.Shop.{Shop, operation_count}
 use Rattle.shop_model.specs.Word.{count_of, IsWord}
 use Rattle.shop_model.proofs.Ends.{IsOperation-job}
+use Rattle.shop_bound.proofs.Routes.{operations_before, before_more, before_at_most}
 
 -- how many entries are below n
 below : ℕ → List ℕ → ℕ
@@ -54,3 +55,21 @@ length_of_word shop limits w word =
     let all = below-all (length shop.jobs) w (λ x some. IsOperation-job shop x 0 (let a = word x in omega arith))
     in let le = below-le w (λ j. let a = word j in let b = limits.routes j in omega arith) (length shop.jobs)
     in let jobs = limits.jobs in omega arith
+
+-- how many entries are below n: no more than the operations of these jobs
+below-before : (shop : Shop) (w : List ℕ) → IsWord shop w → (n : ℕ) → n ≤ length shop.jobs
+    → below n w ≤ operations_before shop n
+unfolding below
+below-before shop w word zero h = none w where
+  none : (w : List ℕ) → below 0 w ≤ 0
+  none [] = omega arith
+  none (x ∷ xs) = let a = none xs in let b = not_below_0 x in omega arith
+below-before shop w word (suc n) h =
+    rw (← add-one) (let a = below-before shop w word n (omega arith) in let b = below-next n w in let c = word n
+    in let d = before_more shop n (omega arith) in omega arith)
+
+pub word_within : (shop : Shop) (w : List ℕ) → IsWord shop w → length w ≤ operation_count shop
+word_within shop w word =
+    let all = below-all (length shop.jobs) w (λ x some. IsOperation-job shop x 0 (let a = word x in omega arith))
+    in let le = below-before shop w word (length shop.jobs) (omega arith)
+    in let a = before_at_most shop (length shop.jobs) in omega arith

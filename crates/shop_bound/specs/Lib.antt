@@ -1,4 +1,5 @@
 pub mod OneMachine
+pub mod Vectors
 pub mod Bound
 pub mod Heads
 pub mod Placements
@@ -6,3 +7,9 @@ pub mod Thresholds
 pub mod Unplaced
 pub mod Schedules
 pub mod Laws
+pub mod Trails
+pub mod KeptHeads
+pub mod Standings
+pub mod Desks
+pub mod Slots
+pub mod FallingTails

@@ -1,11 +1,18 @@
 // Heads, tails, one-machine bounds and lower bounds.
 #![tactic(auto)]
 
+mod desks;
+mod falling_tails;
 mod head_rows;
+mod kept_heads;
 mod laws;
 mod lower;
+mod open_bounds;
 mod placements;
 mod schedules;
+#[cfg(test)]
+mod slot_tests;
+mod slots;
 mod tail_rows;
 #[cfg(test)]
 mod tests;
@@ -13,6 +20,7 @@ mod thresholds;
 mod triples;
 mod unplaced;
 
+pub use desks::Desk;
 pub use head_rows::Heads;
 pub use laws::{
     bounds_are_lower, bounds_never_fall, full_words_end_at_their_bound, sums_stay_small,

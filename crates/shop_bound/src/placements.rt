@@ -2,10 +2,18 @@
 ghost use Rattle.std.specs.Prelude.{◌≡◌, ◌<◌, IfOk, length, slice_index};
 ghost use Rattle.shop_model.specs.Word.{IsWord, none_placed, placing};
 ghost use Rattle.shop_bound.specs.Placements.{HasNext, IsPlacement, PlacesNext, releases_of};
+ghost use Rattle.shop_bound.specs.Trails.{HasLast, TakesBack, TellsNextEnd, TellsReplaced};
 
 use shop_model::{Instance, Word};
 use std::alloc::{AllocError, Global};
 use std::marker::Model;
+
+/// What stood before an operation was placed: when its job was ready and when its machine was free.
+#[derive(Clone, Copy, Debug)]
+pub(crate) struct Replaced {
+    ready: u64,
+    free: u64,
+}
 
 /// What a word that was placed leaves: for each job how many of its steps are placed and when it is ready for the next
 /// one, and for each machine when it is free.
@@ -37,7 +45,7 @@ fn releases(alloc: Global, instance: &Instance) -> Result<Vec<u64>, AllocError>
 
 impl Placement {
     /// Nothing is placed.
-    fn none(alloc: Global, instance: &Instance) -> Result<Placement, AllocError>
+    pub(crate) fn none(alloc: Global, instance: &Instance) -> Result<Placement, AllocError>
         ensures { IfOk result (λ s. IsPlacement instance.now (none_placed instance.now) s) }
     {
         let steps = vec![in alloc; 0; instance.jobs()]?;
@@ -73,12 +81,55 @@ impl Placement {
         self.free[op.machine] = finish;
     }
 
+    /// What the next step of job j replaces once it is placed.
+    pub(crate) fn next_replaces(&self, instance: &Instance, j: usize) -> Replaced
+        requires { HasNext instance.now j self.now }
+        ensures { TellsReplaced instance.now j self.now result }
+    {
+        let k = self.steps[j];
+        let machine = instance.route(j)[k].machine;
+        Replaced {
+            ready: self.ready[j],
+            free: self.free[machine],
+        }
+    }
+
+    /// When the next step of job j ends once it is placed.
+    pub(crate) fn next_end(&self, instance: &Instance, j: usize) -> u64
+        requires { HasNext instance.now j self.now }
+        ensures { TellsNextEnd instance.now j self.now result }
+    {
+        let k = self.steps[j];
+        let op = instance.route(j)[k];
+        let start = self.ready[j].max(self.free[op.machine]);
+        start + op.time
+    }
+
+    /// Takes back the last placed step of job j, which no other one followed, and which replaced this.
+    pub(crate) fn take_back(&mut self, instance: &Instance, j: usize, replaced: Replaced)
+        requires { HasLast instance.now j replaced self.old }
+        ensures { TakesBack instance.now j replaced self.old self.new }
+    {
+        let k = self.steps[j] - 1;
+        let op = instance.route(j)[k];
+        self.steps[j] = k;
+        self.ready[j] = replaced.ready;
+        self.free[op.machine] = replaced.free;
+    }
+
     /// How many steps of the job are placed.
     pub fn steps(&self, job: usize) -> usize
         requires { job < length self.now.steps }
         ensures { result ≡ slice_index self.now.steps job }
     {
         self.steps[job]
+    }
+
+    /// How many steps of each job are placed.
+    pub(crate) fn jobs_steps(&self) -> &[usize]
+        ensures { result.now ≡ self.now.steps }
+    {
+        self.steps.as_slice()
     }
 
     /// When the job is ready for its next step: when its last placed step ends, or its release if there is none.

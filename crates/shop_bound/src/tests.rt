@@ -1,7 +1,7 @@
 // Worked bounds, and each public call once.
 ghost use Rattle.std.specs.Prelude.{◌≡◌};
 
-use crate::{Heads, Jackson, Placement, Triple, lower_bound, one_machine, tails};
+use crate::{Desk, Heads, Jackson, Placement, Triple, lower_bound, one_machine, tails};
 use shop_model::{Instance, Job, Op, Word, fits, start_word};
 use std::alloc::{AllocError, Global};
 use std::test::Fail;
@@ -216,5 +216,124 @@ fn a_thousand_operations_on_one_machine(rt: HostRuntime) -> Result<(), Fail> {
     }
     let instance = Instance::new(1, rows).ok().ok_or("limits")?;
     assert_eq!(rt; bound(alloc, &instance, &[])?, Some(1_000_000_000_000));
+    Ok(())
+}
+
+/// Dispatches the next operation of a job; whether it had one left.
+fn dispatch(
+    alloc: Global,
+    instance: &Instance,
+    desk: &mut Desk,
+    job: usize,
+) -> Result<bool, AllocError>
+    requires { desk.old.shop ≡ instance.now }
+    ensures { desk.new.shop ≡ instance.now }
+{
+    let mut jobs = desk.jobs().to_vec(alloc)?;
+    jobs.push(job)?;
+    let word = Word::of_jobs(jobs);
+    let has_one = fits(instance, &word);
+    if has_one {
+        desk.dispatch(job);
+    }
+    Ok(has_one)
+}
+
+/// The bound after the next operation of a job, if it has one left.
+fn bound_after(
+    alloc: Global,
+    instance: &Instance,
+    desk: &mut Desk,
+    job: usize,
+) -> Result<Option<u64>, AllocError>
+    requires { desk.old.shop ≡ instance.now }
+    ensures { desk.new.shop ≡ instance.now }
+{
+    let mut jobs = desk.jobs().to_vec(alloc)?;
+    jobs.push(job)?;
+    let word = Word::of_jobs(jobs);
+    if !fits(instance, &word) {
+        return Ok(None);
+    }
+    let bound = desk.bound();
+    Ok(Some(desk.bound_after(job, bound)))
+}
+
+/// The same, if it is below the limit.
+fn bound_below(
+    alloc: Global,
+    instance: &Instance,
+    desk: &mut Desk,
+    job: usize,
+    limit: u64,
+) -> Result<Option<u64>, AllocError>
+    requires { desk.old.shop ≡ instance.now }
+    ensures { desk.new.shop ≡ instance.now }
+{
+    let mut jobs = desk.jobs().to_vec(alloc)?;
+    jobs.push(job)?;
+    let word = Word::of_jobs(jobs);
+    if !fits(instance, &word) {
+        return Ok(None);
+    }
+    let bound = desk.bound();
+    Ok(desk.bound_below(job, bound, limit))
+}
+
+/// Takes back what was dispatched last, if anything was.
+fn undo(desk: &mut Desk)
+    ensures { desk.new.shop ≡ desk.old.shop }
+{
+    if desk.jobs().len() > 0 {
+        desk.undo();
+    }
+}
+
+#[test]
+fn a_desk_of_two_jobs_that_cross(rt: HostRuntime) -> Result<(), Fail> {
+    let alloc = rt.alloc();
+    let instance = crossing(alloc)?;
+    let mut desk = Desk::new(alloc, &instance)?;
+    assert_eq!(rt; desk.bound(), 7);
+    assert_eq!(rt; bound_after(alloc, &instance, &mut desk, 1)?, Some(7));
+    assert!(rt; dispatch(alloc, &instance, &mut desk, 1)?);
+    assert_eq!(rt; desk.bound(), 7);
+    assert_eq!(rt; bound_after(alloc, &instance, &mut desk, 1)?, Some(11));
+    assert_eq!(rt; bound_below(alloc, &instance, &mut desk, 1, 12)?, Some(11));
+    assert_eq!(rt; bound_below(alloc, &instance, &mut desk, 1, 11)?, None);
+    assert_eq!(rt; bound_after(alloc, &instance, &mut desk, 0)?, Some(7));
+    assert!(rt; dispatch(alloc, &instance, &mut desk, 1)?);
+    assert_eq!(rt; desk.bound(), 11);
+    assert_eq!(rt; desk.jobs(), [1, 1].as_slice());
+    assert_eq!(rt; bound_after(alloc, &instance, &mut desk, 1)?, None);
+    undo(&mut desk);
+    assert_eq!(rt; desk.bound(), 7);
+    assert!(rt; dispatch(alloc, &instance, &mut desk, 0)?);
+    assert_eq!(rt; desk.bound(), 7);
+    assert_eq!(rt; desk.jobs(), [1, 0].as_slice());
+    assert_eq!(rt; desk.placement().machines_free(), [3, 2].as_slice());
+    Ok(())
+}
+
+#[test]
+fn a_desk_of_a_route_that_ends_in_a_time_of_0(rt: HostRuntime) -> Result<(), Fail> {
+    let alloc = rt.alloc();
+    let instance = with_a_gap(alloc)?;
+    let mut desk = Desk::new(alloc, &instance)?;
+    assert_eq!(rt; desk.bound(), 9);
+    assert!(rt; dispatch(alloc, &instance, &mut desk, 1)?);
+    assert_eq!(rt; desk.bound(), 9);
+    assert_eq!(rt; bound_after(alloc, &instance, &mut desk, 1)?, Some(10));
+    assert!(rt; dispatch(alloc, &instance, &mut desk, 1)?);
+    assert_eq!(rt; desk.bound(), 10);
+    undo(&mut desk);
+    assert_eq!(rt; desk.bound(), 9);
+    assert_eq!(rt; bound_after(alloc, &instance, &mut desk, 0)?, Some(12));
+    assert!(rt; dispatch(alloc, &instance, &mut desk, 0)?);
+    assert_eq!(rt; desk.bound(), 12);
+    undo(&mut desk);
+    undo(&mut desk);
+    assert_eq!(rt; desk.bound(), 9);
+    assert_eq!(rt; desk.jobs().len(), 0);
     Ok(())
 }

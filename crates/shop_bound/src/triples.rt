@@ -6,3 +6,10 @@ pub struct Triple {
     pub time: u64,
     pub tail: u64,
 }
+
+/// What stands where no operation was written yet.
+pub(crate) const NO_TRIPLE: Triple = Triple {
+    head: 0,
+    time: 0,
+    tail: 0,
+};

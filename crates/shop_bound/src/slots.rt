@@ -1,0 +1,132 @@
+// The operations of each machine by falling tails, and those that are not placed.
+ghost use Rattle.std.specs.Prelude.{◌≡◌, ℕ, ◌≤◌, ◌<◌, [], slice_index_or, IfOk, OnOk, All};
+ghost use Rattle.std.specs.Prelude.{length, map, take, replicate};
+ghost use Rattle.shop_model.specs.Shop.{no_op};
+ghost use Rattle.shop_bound.specs.FallingTails.{one_between};
+ghost use Rattle.shop_bound.specs.Heads.{AreTimesSmall};
+ghost use Rattle.shop_bound.specs.OneMachine.{one, IsSmall};
+ghost use Rattle.shop_bound.specs.Slots.{AddsOperations, AreOperations, Falls, AreMachineSlots};
+ghost use Rattle.shop_bound.specs.Slots.{HasPlace, open_triples};
+
+use crate::falling_tails::bound_between;
+use crate::tail_rows::total_time;
+use crate::triples::Triple;
+use shop_model::{Instance, Op};
+use std::alloc::{AllocError, Global};
+use std::cmp::Reverse;
+
+/// An operation as its machine sees it: its job and step, its time and its tail.
+#[derive(Clone, Copy, Debug, PartialEq, Eq)]
+pub(crate) struct Slot {
+    pub job: usize,
+    pub step: usize,
+    pub time: u64,
+    pub tail: u64,
+}
+
+/// Adds the operations of one job to the lists of their machines.
+fn add_operations(lists: &mut [Vec<Slot>], route: &[Op], job: usize) -> Result<(), AllocError>
+    requires times { AreTimesSmall route.now }
+    requires machines { (k : ℕ) → (slice_index_or route.now k no_op).machine < length lists.old }
+    ensures { OnOk result
+        (AddsOperations (map (λ slots. slots.items) lists.old) (map (λ slots. slots.items) lists.new) route.now job) }
+{
+    let mut tail = total_time(route);
+    for k in 0..route.len() {
+        let op = route[k];
+        tail -= op.time;
+        let slots = &mut lists[op.machine];
+        slots.push(Slot {
+            job,
+            step: k,
+            time: op.time,
+            tail,
+        })?;
+    }
+    Ok(())
+}
+
+/// An empty list for each machine, with room for one operation of each job.
+fn empty_lists(alloc: Global, instance: &Instance) -> Result<Vec<Vec<Slot>>, AllocError>
+    ensures { IfOk result (λ v. map (λ slots. slots.items) v.items ≡ replicate instance.now.machines []) }
+{
+    let mut lists = Vec::with_capacity(alloc, instance.machines())?;
+    for _ in 0..instance.machines() {
+        lists
+            .push(Vec::with_capacity(alloc, instance.jobs())?)
+            .unwrap();
+    }
+    Ok(lists)
+}
+
+/// The operations of each machine, job by job.
+fn operations_by_machine(alloc: Global, instance: &Instance) -> Result<Vec<Vec<Slot>>, AllocError>
+    ensures { IfOk result (λ v. AreOperations instance.now (map (λ slots. slots.items) v.items)) }
+{
+    let mut lists = empty_lists(alloc, instance)?;
+    for j in 0..instance.jobs() {
+        add_operations(lists.as_mut_slice(), instance.route(j), j)?;
+    }
+    Ok(lists)
+}
+
+/// The operations of each machine, by falling tails. Fails only where memory was refused.
+pub(crate) fn machine_slots(
+    alloc: Global,
+    instance: &Instance,
+) -> Result<Vec<Vec<Slot>>, AllocError>
+    ensures { IfOk result (λ v. AreMachineSlots instance.now (map (λ slots. slots.items) v.items)) }
+{
+    let mut lists = operations_by_machine(alloc, instance)?;
+    for m in 0..lists.len() {
+        lists[m].sort_by_key(|slot| Reverse(slot.tail))?;
+    }
+    Ok(lists)
+}
+
+/// Puts the slots that are not placed at the front of `triples`, with the heads in the rows; answers how many they are.
+pub(crate) fn gather_open(
+    triples: &mut [Triple],
+    slots: &[Slot],
+    steps: &[usize],
+    heads: &[Vec<u64>],
+) -> usize
+    requires room { length slots.now ≤ length triples.old }
+    requires places { All (HasPlace (map (λ r. r.items) heads.now) steps.now) slots.now }
+    ensures count { result ≤ length slots.now }
+    ensures triples { take result triples.new ≡ open_triples (map (λ r. r.items) heads.now) steps.now slots.now }
+{
+    let mut count = 0;
+    for s in slots {
+        triples[count] = Triple {
+            head: heads[s.job][s.step],
+            time: s.time,
+            tail: s.tail,
+        };
+        if steps[s.job] <= s.step {
+            count += 1;
+        }
+    }
+    count
+}
+
+/// A bound of what is open on a machine, which counts all operations of which the least head is at least `from` and at
+/// most `to`. It leaves the open ones in `triples`.
+pub(crate) fn open_bound_between(
+    triples: &mut [Triple],
+    slots: &[Slot],
+    steps: &[usize],
+    heads: &[Vec<u64>],
+    from: u64,
+    to: u64,
+) -> u64
+    requires room { length slots.now ≤ length triples.old }
+    requires places { All (HasPlace (map (λ r. r.items) heads.now) steps.now) slots.now }
+    requires falling { Falls (λ s. s.tail) slots.now }
+    requires small { IsSmall (open_triples (map (λ r. r.items) heads.now) steps.now slots.now) }
+    ensures covers { one_between from to (open_triples (map (λ r. r.items) heads.now) steps.now slots.now) ≤ result }
+    ensures within { result ≤ one (open_triples (map (λ r. r.items) heads.now) steps.now slots.now) }
+{
+    let count = gather_open(triples, slots, steps, heads);
+    bound_between(&triples[..count], from, to)
+}
