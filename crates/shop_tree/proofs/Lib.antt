@@ -10,3 +10,9 @@ mod PlacedLemmas
 mod ChoosingLemmas
 mod ChildrenLemmas
 mod FirstOn
+mod DeskLemmas
+mod ListLemmas
+mod OpenLemmas
+mod AddLemmas
+mod TurnLemmas
+mod PushLemmas

@@ -43,7 +43,7 @@ module _ {A : Type 0} where
   contains_all P xs a x c = in_all P x xs (in_contains x xs c) a
 
   -- what holds of each element holds of each in order
-  all_insert : (key : A → ℕ) (P : A → Type 0) (x : A) (ys : List A) → P x → AllByRecursion P ys
+  pub all_insert : (key : A → ℕ) (P : A → Type 0) (x : A) (ys : List A) → P x → AllByRecursion P ys
       → AllByRecursion P (insert_by key x ys)
   all_insert key P x [] p a = (p, tt)
   all_insert key P x (y ∷ ys) p a = elim (cases_Bool (leb (key x) (key y))) [

@@ -1,21 +1,21 @@
 -- One turn of the walk of a stack of words.
-use Rattle.std.proofs.Common.{◌≡◌, ℕ, zero, suc, ◌+◌, ◌*◌, ◌≤◌, ◌<◌, inl, inr, false, Option, Some, List, [], ◌∷◌, ◌++◌}
+use Rattle.std.proofs.Common.{◌≡◌, ℕ, zero, suc, ◌+◌, ◌-◌, ◌≤◌, ◌<◌, inl, inr, true, false, Option, Some, List, [], ◌∷◌, ◌++◌}
 use Rattle.std.proofs.Common.{length, map, reverse, refl, sym, ◌∙◌, ap, subst, arith, leb, length-append}
 use Rattle.shop_tree.specs.declared.nodes.Node.{Node}
 use Rattle.std.specs.List.{AllByRecursion, fold, range_with_len}
 use Rattle.std.proofs.lemmas.Bool.{cases_Bool, le-leb, leb-true}
-use Rattle.std.proofs.lemmas.List.{reverse-append, reverse-reverse, map-append, length-map, length-reverse}
+use Rattle.std.proofs.lemmas.List.{reverse-append, reverse-reverse, map-append, length-map}
 use Rattle.std.proofs.lemmas.List.Sums.{fold-append, length-filter, count_by-le-length}
 use Rattle.std.specs.Prelude.{nat_lt}
-use Rattle.shop_model.specs.Shop.{Shop, route_of}
+use Rattle.shop_model.specs.Shop.{Shop, route_of, operation_count}
 use Rattle.shop_bound.specs.Bound.{lb}
 use Rattle.shop_model.specs.Word.{placing}
 use Rattle.shop_tree.specs.Branching.{branch, conflict, conflict_among, open_jobs, sort_by, insert_by, conflicts_with}
 use Rattle.shop_tree.specs.Branching.{chosen_of}
-use Rattle.shop_tree.specs.Walking.{Walk, walk, walk_within, steps_left, sheet}
-use Rattle.shop_tree.specs.Searching.{walk_stack, opening_walk}
+use Rattle.shop_tree.specs.Walking.{Walk, walk, walk_within, steps_left}
+use Rattle.shop_tree.specs.Pieces.{walk_told}
+use Rattle.shop_tree.specs.Searching.{walk_stack, IsTaken}
 use Rattle.shop_tree.specs.Nodes.{words_of}
-use Rattle.shop_tree.proofs.NodeLemmas.{words_of-reverse}
 
 -- the last word of the stack is walked first
 pub walk_stack-pop : (shop : Shop) (s : Walk) (ws : List (List ℕ)) (w : List ℕ) → walk_stack shop s (ws ++ w ∷ [])
@@ -110,7 +110,7 @@ walk-children shop found best left w b n h e =
     (children_lack shop n w (conflict shop w) e)))
 
 -- there are no more children than jobs
-length-insert_by : {A : Type 0} (key : A → ℕ) (x : A) (ys : List A) → length (insert_by key x ys) ≡ suc (length ys)
+pub length-insert_by : {A : Type 0} (key : A → ℕ) (x : A) (ys : List A) → length (insert_by key x ys) ≡ suc (length ys)
 length-insert_by key x [] = refl
 length-insert_by key x (y ∷ ys) = elim (cases_Bool (leb (key x) (key y)))
     [ inl e ↦ rw e refl | inr e ↦ rw e (ap suc (length-insert_by key x ys)) ]
@@ -139,80 +139,41 @@ branch_few shop w =
     few (j ∷ js) = let test = conflicts_with shop (placing shop w) (chosen_of shop (placing shop w) j js)
         in let a = length-filter test (j ∷ js) in let b = count_by-le-length test (j ∷ js) in omega arith
 
--- A turn of the loop, by what it does with the word that it takes from the stack.
-module _ (shop : Shop) (found : Option (List ℕ)) (best : ℕ) (left : List (Node)) (stack rest : List (Node))
-    (node : Node) (all : Walk)
-    (taken : stack ≡ rest ++ node ∷ []) where
-  turn : (s : Walk) → walk_stack shop s (words_of stack) ≡ all → walk_stack shop (walk shop s node.word) (words_of rest)
-      ≡ all
-  turn s h = sym (walk_stack-pop shop s (words_of rest) node.word)
-      ∙ (ap (walk_stack shop s) (sym (ap words_of taken ∙ map-append (λ (v : Node). v.word) rest (node ∷ []))) ∙ h)
+-- How a word is taken, by what becomes of it.
+module _ (shop : Shop) (found : Option (List ℕ)) (best : ℕ) (left : List Node) (w : List ℕ) where
+  pub taken-left : (budget : ℕ) (node : Node) (more : List Node) → budget ≡ 0 → node.word ≡ w → more ≡ left ++ node ∷ []
+      → IsTaken shop w (walk_told found best left budget) (walk_told found best more budget) false
+  taken-left budget node more e word m =
+      let words : words_of more ≡ words_of left ++ w ∷ [] = ap words_of m
+      ∙ (map-append (λ (v : Node). v.word) left (node ∷ []) ∙ ap (λ v. words_of left ++ v ∷ []) word)
+      in (
+        walk-left shop found best (words_of left) w budget e
+            ∙ ap (λ ws. record { found = found; best = best; left = ws; budget = budget }) (sym words),
+        omega arith,
+        omega arith,
+      )
 
-  pub turn-left : (budget : ℕ) (more : List (Node)) → budget ≡ 0 → more ≡ left ++ node ∷ []
-      → walk_stack shop (record { found = found; best = best; left = words_of left; budget = budget }) (words_of stack)
-      ≡ all
-      → walk_stack shop (record { found = found; best = best; left = words_of more; budget = budget }) (words_of rest)
-      ≡ all
-  turn-left budget more e m h =
-      let a : words_of more ≡ words_of left ++ node.word ∷ [] = ap words_of m
-      ∙ map-append (λ (v : Node). v.word) left (node ∷ [])
-      in ap (λ x. walk_stack shop (record { found = found; best = best; left = x; budget = budget }) (words_of rest)) a
-      ∙ (ap (λ s. walk_stack shop s (words_of rest))
-      (sym (walk-left shop found best (words_of left) node.word budget e))
-      ∙ turn (record { found = found; best = best; left = words_of left; budget = budget }) h)
+  pub taken-more : (budget : ℕ) → 0 < budget → lb shop w < best → length w < operation_count shop
+      → IsTaken shop w (walk_told found best left budget) (walk_told found best left (budget - 1)) true
+  taken-more budget some lt short = (
+    ap (λ b. walk shop (walk_told found best left b) w) (let s : budget ≡ suc (budget - 1) = omega arith in s)
+        ∙ walk-children shop found best (words_of left) w (budget - 1) (steps_left shop w - 1) lt (omega arith),
+    omega arith,
+    omega arith,
+  )
 
-  pub turn-cut : (budget b : ℕ) → budget ≡ suc b → best ≤ lb shop node.word
-      → walk_stack shop (record { found = found; best = best; left = words_of left; budget = budget }) (words_of stack)
-      ≡ all
-      → walk_stack shop (record { found = found; best = best; left = words_of left; budget = b }) (words_of rest) ≡ all
-  turn-cut budget b e le h =
-      ap (λ s. walk_stack shop s (words_of rest)) (sym (walk-cut shop found best (words_of left) node.word b le))
-      ∙ turn (record { found = found; best = best; left = words_of left; budget = suc b }) (rw (sym e) h)
-
-  pub turn-found : (budget b bound : ℕ) → budget ≡ suc b → bound ≡ lb shop node.word → bound < best
-      → steps_left shop node.word ≡ 0
-      → walk_stack shop (record { found = found; best = best; left = words_of left; budget = budget }) (words_of stack)
-      ≡ all
-      → walk_stack shop (record { found = Some node.word; best = bound; left = words_of left; budget = b })
-      (words_of rest) ≡ all
-  turn-found budget b bound e le lt full h =
-      ap (λ s. walk_stack shop s (words_of rest))
-      (rw le (sym (walk-found shop found best (words_of left) node.word b (rw le at lt) full)))
-      ∙ turn (record { found = found; best = best; left = words_of left; budget = suc b }) (rw (sym e) h)
-
-  pub turn-children : (budget b n : ℕ) (children more : List (Node)) → budget ≡ suc b → lb shop node.word < best
-      → steps_left shop node.word ≡ suc n
-      → words_of children ≡ reverse (branch shop node.word) → more ≡ rest ++ children
-      → walk_stack shop (record { found = found; best = best; left = words_of left; budget = budget }) (words_of stack)
-      ≡ all
-      → walk_stack shop (record { found = found; best = best; left = words_of left; budget = b }) (words_of more) ≡ all
-  turn-children budget b n children more e lt lack kids m h =
-      let s : Walk = record { found = found; best = best; left = words_of left; budget = b }
-      in let a : words_of more ≡ words_of rest ++ reverse (branch shop node.word) = ap words_of m
-      ∙ (map-append (λ (v : Node). v.word) rest children ∙ ap (λ x. words_of rest ++ x) kids)
-      in ap (walk_stack shop s) a
-      ∙ (walk_stack-append shop s (words_of rest) (branch shop node.word)
-      ∙ (ap (λ t. walk_stack shop t (words_of rest))
-      (sym (walk-children shop found best (words_of left) node.word b n lt lack))
-      ∙ turn (record { found = found; best = best; left = words_of left; budget = suc b }) (rw (sym e) h)))
-
--- the measure falls where children are put on the stack
-pub fewer_turns : (budget b jobs children rest stack more : ℕ) → budget ≡ suc b → children ≤ jobs → stack ≡ rest + 1
-    → more ≡ rest + children
-    → b * (jobs + 1) + more < budget * (jobs + 1) + stack
-fewer_turns budget b jobs children rest stack more e few s m = rw (e, s, m) (omega arith)
-
-pub children_few : (shop : Shop) (w : List ℕ) (children : List (Node)) → words_of children ≡ reverse (branch shop w)
-    → length children ≤ length shop.jobs
-children_few shop w children e =
-    let a = length-map children (λ (v : Node). v.word) in let b = ap length e in let c = length-reverse (branch shop w)
-    in let d = branch_few shop w in omega arith
-
--- the nodes of a piece on the stack, the first one on top
-pub walks_piece : (shop : Shop) (nodes copied reversed : List Node) (best budget : ℕ) → words_of copied ≡ words_of nodes
-    → reversed ≡ reverse copied
-    → walk_stack shop (opening_walk best budget) (words_of reversed) ≡ sheet shop (words_of nodes) best budget
-walks_piece shop nodes copied reversed best budget same e =
-    ap (λ ws. fold (walk shop) (opening_walk best budget) (reverse ws)) (ap words_of e ∙ words_of-reverse copied)
-    ∙ (ap (fold (walk shop) (opening_walk best budget)) (reverse-reverse (words_of copied))
-    ∙ ap (fold (walk shop) (opening_walk best budget)) same)
+-- words whose bounds reach the best are only counted
+pub walk-counts : (shop : Shop) (found : Option (List ℕ)) (best : ℕ) (left ws : List (List ℕ)) (budget : ℕ)
+    → AllByRecursion (λ w. best ≤ lb shop w) ws → length ws ≤ budget
+    → fold (walk shop) (record { found = found; best = best; left = left; budget = budget }) ws
+    ≡ record { found = found; best = best; left = left; budget = budget - length ws }
+walk-counts shop found best left [] budget high few =
+    ap (λ b. record { found = found; best = best; left = left; budget = b })
+    (let e : budget ≡ budget - 0 = omega arith in e)
+walk-counts shop found best left (w ∷ ws) budget high few =
+    ap (λ b. fold (walk shop) (walk shop (record { found = found; best = best; left = left; budget = b }) w) ws)
+    (let e : budget ≡ suc (budget - 1) = omega arith in e)
+    ∙ (ap (λ s. fold (walk shop) s ws) (walk-cut shop found best left w (budget - 1) high.0)
+    ∙ (walk-counts shop found best left ws (budget - 1) high.1 (omega arith)
+    ∙ ap (λ b. record { found = found; best = best; left = left; budget = b })
+    (let e : budget - 1 - length ws ≡ budget - suc (length ws) = omega arith in e)))

@@ -5,11 +5,12 @@
 --     IsChosen placed chosen         the choice among all jobs with steps left
 --     IsNextOf placed j n            n is the next operation of job j
 --     conflicting_with placed c      the jobs whose next operations conflict with the one of job c
+--     conflict_of placed             the conflict set of the word that is placed
 use Rattle.std.specs.Prelude.{ℕ, Option, Some, None, List, [], ◌∷◌, length, filter, nat_lt}
 use Rattle.std.specs.List.{range_with_len}
 use Rattle.shop_model.specs.Shop.{Shop, route_of}
 use Rattle.shop_model.specs.Word.{Placing, placing}
-use Rattle.shop_tree.specs.Branching.{open_jobs, chosen_of, conflicts_with}
+use Rattle.shop_tree.specs.Branching.{open_jobs, chosen_of, conflicts_with, conflict}
 use Rattle.shop_tree.specs.NextOperations.{IsNext}
 use Rattle.shop_tree.specs.declared.next_operations.NextOperation.{NextOperation}
 use Rattle.shop_tree.specs.declared.placings.Placed.{Placed}
@@ -37,3 +38,6 @@ abbrev pub conflicting_with : Placed → ℕ → List ℕ
 conflicting_with placed c =
     let shop = placed.instance.now
     in let p = placing_of placed in filter (conflicts_with shop p c) (open_jobs shop p)
+
+abbrev pub conflict_of : Placed → List ℕ
+conflict_of placed = conflict placed.instance.now placed.word.now

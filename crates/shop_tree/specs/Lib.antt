@@ -8,3 +8,7 @@ pub mod Sheets
 pub mod NextOperations
 pub mod Choosing
 pub mod Inserting
+pub mod Opens
+pub mod Pushing
+pub mod Moving
+pub mod Walkers

@@ -1,8 +1,8 @@
 // Branching on the conflict set (Giffler and Thompson 1960).
-ghost use Rattle.std.specs.Prelude.{◌≡◌, [], ◌∷◌, ◌++◌, IfOk};
+ghost use Rattle.std.specs.Prelude.{◌≡◌, ◌≤◌, IfOk, length, vec_capacity};
 ghost use Rattle.shop_model.specs.Word.{IsWord, IsFull};
 ghost use Rattle.shop_tree.specs.Branching.{branch, conflict as conflict_set};
-ghost use Rattle.shop_tree.specs.Choosing.{IsChosen, IsNextOf, conflicting_with};
+ghost use Rattle.shop_tree.specs.Choosing.{IsChosen, IsNextOf, conflicting_with, conflict_of};
 ghost use Rattle.shop_tree.specs.Inserting.{IsPlaceFor};
 ghost use Rattle.shop_tree.specs.Laws.{HaveBetterChildren};
 ghost use Rattle.shop_tree.specs.Nodes.{IsNode, AreNodes, words_of};
@@ -10,6 +10,7 @@ ghost use Rattle.shop_tree.specs.Nodes.{IsNode, AreNodes, words_of};
 use crate::next_operations::NextOperation;
 use crate::nodes::Node;
 use crate::placings::Placed;
+use shop_bound::Placement;
 use shop_model::{Instance, Word};
 use std::alloc::{AllocError, Global};
 
@@ -32,16 +33,15 @@ fn choose(placed: &Placed) -> Option<NextOperation>
     chosen
 }
 
-/// The jobs whose next operations are in conflict with the chosen one, that one included.
-fn conflicting(
-    alloc: Global,
-    placed: &Placed,
-    chosen: NextOperation,
-) -> Result<Vec<usize>, AllocError>
-    requires { IsNextOf placed.now chosen.job chosen }
-    ensures { IfOk result (λ v. v.items ≡ conflicting_with placed.now chosen.job) }
+/// Puts the jobs whose next operations are in conflict with the chosen one, that one included, into the list, in place
+/// of what it holds.
+fn gather_conflicting(jobs: &mut Vec<usize>, placed: &Placed, chosen: NextOperation)
+    requires next { IsNextOf placed.now chosen.job chosen }
+    requires room { length placed.now.instance.now.jobs ≤ vec_capacity jobs.old }
+    ensures jobs { jobs.new.items ≡ conflicting_with placed.now chosen.job }
+    ensures room { vec_capacity jobs.old ≤ vec_capacity jobs.new }
 {
-    let mut jobs = Vec::with_capacity(alloc, placed.instance.jobs())?;
+    jobs.clear();
     for job in 0..placed.instance.jobs() {
         let Some(next) = placed.next(job) else {
             continue
@@ -51,7 +51,18 @@ fn conflicting(
         }
         jobs.push(job).unwrap();
     }
-    Ok(jobs)
+}
+
+/// Puts the conflict set of the word that is placed into the list, in place of what it holds.
+pub(crate) fn gather_conflict(jobs: &mut Vec<usize>, placed: &Placed)
+    requires { length placed.now.instance.now.jobs ≤ vec_capacity jobs.old }
+    ensures jobs { jobs.new.items ≡ conflict_of placed.now }
+    ensures room { vec_capacity jobs.old ≤ vec_capacity jobs.new }
+{
+    match choose(placed) {
+        Some(chosen) => gather_conflicting(jobs, placed, chosen),
+        None => jobs.clear(),
+    }
 }
 
 /// The conflict set of a word that isn't full, in ascending order: the job whose next operation can end first (the
@@ -62,11 +73,10 @@ pub fn conflict(alloc: Global, instance: &Instance, word: &Word) -> Result<Vec<u
     requires open { IsFull instance.now word.now → ⊥ }
     ensures { IfOk result (λ v. v.items ≡ conflict_set instance.now word.now) }
 {
-    let placed = Placed::new(alloc, instance, word)?;
-    match choose(&placed) {
-        Some(chosen) => conflicting(alloc, &placed, chosen),
-        None => Ok(Vec::new(alloc)),
-    }
+    let placement = Placement::of(alloc, instance, word)?;
+    let mut jobs = Vec::with_capacity(alloc, instance.jobs())?;
+    gather_conflict(&mut jobs, &Placed::new(instance, word.jobs(), &placement));
+    Ok(jobs)
 }
 
 /// The place of the first node whose bound is not below this one, or the end.

@@ -3,13 +3,18 @@
 
 mod branching;
 mod laws;
+mod moving;
 mod next_operations;
 mod nodes;
+mod opens;
 mod placings;
+mod pushing;
 mod searching;
 mod sheets;
+mod taking;
 #[cfg(test)]
 mod tests;
+mod walkers;
 mod walking;
 
 pub use branching::{children, conflict};

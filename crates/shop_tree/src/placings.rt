@@ -1,41 +1,40 @@
 // What stands once a word is placed.
-ghost use Rattle.std.specs.Prelude.{◌≡◌, ◌<◌, IfOk, length};
+ghost use Rattle.std.specs.Prelude.{◌≡◌, ◌<◌, length};
 ghost use Rattle.shop_bound.specs.Placements.{IsPlacement};
 ghost use Rattle.shop_model.specs.Word.{placing, IsWord};
 ghost use Rattle.shop_tree.specs.NextOperations.{IsNextIfAny};
 
 use crate::next_operations::NextOperation;
 use shop_bound::Placement;
-use shop_model::{Instance, Word};
-use std::alloc::{AllocError, Global};
+use shop_model::Instance;
 
 /// An instance and a word of it, placed.
 #[derive(Drop)]
 pub(crate) struct Placed<'a> {
     pub(crate) instance: &'a Instance,
-    word: &'a Word,
-    placement: Placement,
+    word: &'a [usize],
+    placement: &'a Placement,
     pub ghost is_word: { IsWord instance.now word.now },
-    pub ghost is_placement: { IsPlacement instance.now (placing instance.now word.now) placement },
+    pub ghost is_placement: { IsPlacement instance.now (placing instance.now word.now) placement.now },
 }
 
 impl<'a> Placed<'a> {
-    /// The word, placed.
+    /// The word of these jobs, with its placement.
     pub(crate) fn new(
-        alloc: Global,
         instance: &'a Instance,
-        word: &'a Word,
-    ) -> Result<Placed<'a>, AllocError>
-        requires { IsWord instance.now word.now }
-        ensures instance { IfOk result (λ p. p.instance.now ≡ instance.now) }
-        ensures word { IfOk result (λ p. p.word.now ≡ word.now) }
+        word: &'a [usize],
+        placement: &'a Placement,
+    ) -> Placed<'a>
+        requires word { IsWord instance.now word.now }
+        requires placement { IsPlacement instance.now (placing instance.now word.now) placement.now }
+        ensures instance { result.instance.now ≡ instance.now }
+        ensures word { result.word.now ≡ word.now }
     {
-        let placement = Placement::of(alloc, instance, word)?;
-        Ok(Placed {
+        Placed {
             instance,
             word,
             placement,
-        })
+        }
     }
 
     /// The next operation of a job, if it has a step left.

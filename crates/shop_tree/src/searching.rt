@@ -3,26 +3,11 @@ ghost use Rattle.shop_tree.specs.Nodes.{words_of, AreNodes};
 ghost use Rattle.shop_tree.specs.Laws.{KeepsPiece};
 ghost use Rattle.shop_tree.specs.Sheets.{IsSheetOf, walk_of};
 
-use crate::nodes::{Node, Piece};
+use crate::nodes::Piece;
 use crate::sheets::Sheet;
-use crate::walking::walk;
+use crate::walking::walk_nodes;
 use shop_model::Instance;
 use std::alloc::{AllocError, Global};
-
-/// Copies of these nodes.
-fn copies(alloc: Global, instance: &Instance, nodes: &[Node]) -> Result<Vec<Node>, AllocError>
-    requires { AreNodes instance.now nodes.now }
-    ensures words { IfOk result (λ v. words_of v.items ≡ words_of nodes.now) }
-    ensures nodes { IfOk result (λ v. AreNodes instance.now v.items) }
-{
-    let mut copied = Vec::with_capacity(alloc, nodes.len())?;
-    for node in nodes {
-        let word = node.word.copied(alloc)?;
-        let bound = node.bound;
-        copied.push(Node { word, bound }).unwrap();
-    }
-    Ok(copied)
-}
 
 /// The search of a piece by branch and bound: its nodes in order, depth first, the children of each by bound. `best` is
 /// the makespan to beat, `budget` how many nodes may be taken; what isn't taken is left, in order. No table under a
@@ -40,9 +25,7 @@ pub fn search<'r>(
     ensures of { IfOk result (λ s. IsSheetOf s instance.now piece.now best budget) }
     ensures keeps { IfOk result (λ s. KeepsPiece instance.now (words_of piece.now.nodes.items) best (walk_of s)) }
 {
-    let mut stack = copies(alloc, instance, piece.nodes.as_slice())?;
-    stack.reverse();
-    let progress = walk(alloc, instance, stack, best, budget)?;
+    let progress = walk_nodes(alloc, instance, piece.nodes.as_slice(), best, budget)?;
     Ok(Sheet {
         number: piece.number,
         found: progress.found,

@@ -82,6 +82,13 @@ fn assert_sheet(
     assert_eq!(rt; sheet.taken, taken);
 }
 
+fn assert_bounds(rt: &impl Abort, sheet: &Sheet, bounds: &[u64]) {
+    assert_eq!(rt; sheet.left.len(), bounds.len());
+    for (node, bound) in sheet.left.iter().zip(bounds) {
+        assert_eq!(rt; node.bound, *bound);
+    }
+}
+
 fn assert_left(rt: &impl Abort, sheet: &Sheet, words: &[&[usize]]) {
     assert_eq!(rt; sheet.left.len(), words.len());
     for (node, word) in sheet.left.iter().zip(words) {
@@ -182,9 +189,7 @@ fn first_round_leaves_two_nodes(rt: HostRuntime) -> Result<(), Fail> {
     let sheet = search(alloc, &instance, &piece, 16, 3)?;
     assert_sheet(&rt, &sheet, None, 16, 3);
     assert_left(&rt, &sheet, &[&[1, 1, 0], &[1, 0]]);
-    for (node, bound) in sheet.left.iter().zip([10, 12]) {
-        assert_eq!(&rt; node.bound, bound);
-    }
+    assert_bounds(&rt, &sheet, &[10, 12]);
     Ok(())
 }
 
@@ -212,5 +217,82 @@ fn sheets_of_later_rounds(rt: HostRuntime) -> Result<(), Fail> {
         assert_eq!(&rt; sheet.taken, taken);
         assert_left(&rt, &sheet, &[]);
     }
+    Ok(())
+}
+
+/// A piece of two nodes of G: the words [1, 1, 0] and [1, 0], or the other way round.
+fn two_nodes(
+    rt: &impl Abort,
+    alloc: Global,
+    instance: &Instance,
+    first: &[usize],
+    second: &[usize],
+) -> Result<Piece, Fail>
+    ensures { IfOk result (λ p. AreNodes instance.now p.nodes.items) }
+{
+    let nodes = vec![in alloc;
+        node(rt, alloc, instance, first)?,
+        node(rt, alloc, instance, second)?,
+    ]?;
+    Ok(Piece::new(0, nodes))
+}
+
+#[test]
+fn nodes_of_a_piece_in_order(rt: HostRuntime) -> Result<(), Fail> {
+    let alloc = rt.alloc();
+    let instance = with_a_gap(alloc)?;
+    let piece = two_nodes(&rt, alloc, &instance, &[1, 1, 0], &[1, 0])?;
+    let sheet = search(alloc, &instance, &piece, 16, 100)?;
+    assert_sheet(&rt, &sheet, Some(&[1, 1, 0, 1, 0, 0]), 10, 5);
+    assert_left(&rt, &sheet, &[]);
+    let piece = two_nodes(&rt, alloc, &instance, &[1, 0], &[1, 1, 0])?;
+    let sheet = search(alloc, &instance, &piece, 16, 100)?;
+    assert_sheet(&rt, &sheet, Some(&[1, 1, 0, 1, 0, 0]), 10, 10);
+    assert_left(&rt, &sheet, &[]);
+    Ok(())
+}
+
+#[test]
+fn budget_that_ends_among_the_nodes_of_a_piece(rt: HostRuntime) -> Result<(), Fail> {
+    let alloc = rt.alloc();
+    let instance = with_a_gap(alloc)?;
+    let piece = two_nodes(&rt, alloc, &instance, &[1, 0], &[1, 1, 0])?;
+    let three = search(alloc, &instance, &piece, 16, 3)?;
+    assert_sheet(&rt, &three, None, 16, 3);
+    assert_left(
+        &rt,
+        &three,
+        &[&[1, 0, 1, 0, 1], &[1, 0, 1, 0, 0], &[1, 1, 0]],
+    );
+    let seven = search(alloc, &instance, &piece, 16, 7)?;
+    assert_sheet(&rt, &seven, Some(&[1, 0, 1, 0, 1, 0]), 12, 7);
+    assert_left(&rt, &seven, &[&[1, 1, 0, 1]]);
+    Ok(())
+}
+
+#[test]
+fn budget_that_ends_among_children_that_only_count(rt: HostRuntime) -> Result<(), Fail> {
+    let alloc = rt.alloc();
+    let instance = with_a_gap(alloc)?;
+    let piece = one_node(&rt, alloc, &instance, &[])?;
+    // The children of [1] have bounds 10 and 12.
+    for (budget, left, bounds) in [
+        (
+            2,
+            [[1, 1].as_slice(), [1, 0].as_slice()].as_slice(),
+            [10, 12].as_slice(),
+        ),
+        (3, [[1, 0].as_slice()].as_slice(), [12].as_slice()),
+        (4, [].as_slice(), [].as_slice()),
+    ] {
+        let sheet = search(alloc, &instance, &piece, 10, budget)?;
+        assert_sheet(&rt, &sheet, None, 10, budget);
+        assert_left(&rt, &sheet, left);
+        assert_bounds(&rt, &sheet, bounds);
+    }
+    let seven = search(alloc, &instance, &piece, 12, 7)?;
+    assert_sheet(&rt, &seven, Some(&[1, 1, 0, 1, 0, 0]), 10, 7);
+    assert_left(&rt, &seven, &[&[1, 0]]);
+    assert_bounds(&rt, &seven, &[12]);
     Ok(())
 }

@@ -1,64 +1,147 @@
-// The walk of a stack of nodes.
-ghost use Rattle.std.specs.Prelude.{◌≡◌, ◌≤◌, IfOk};
-ghost use Rattle.shop_tree.specs.Nodes.{AreNodes};
-ghost use Rattle.shop_tree.specs.Searching.{walk_from, walked};
+// The walk of the nodes of a piece, over a desk.
+ghost use Rattle.std.specs.Prelude.{◌≡◌, ◌≤◌, [], OnOk, IfOk};
+ghost use Rattle.shop_tree.specs.Nodes.{IsNode, AreNodes, words_of};
+ghost use Rattle.shop_bound.specs.Bound.{lb};
+ghost use Rattle.shop_tree.specs.declared.opens.Waiting.TheVariants.{Child, Rest};
+ghost use Rattle.shop_tree.specs.Searching.{opening_walk, walked};
+ghost use Rattle.shop_tree.specs.Walkers.{HasBranched, HasWalked, IsInOrder, IsNextOn, IsTurn, node_walk, stack_walk};
+ghost use Rattle.shop_tree.specs.Walking.{sheet};
 
-use crate::branching::children;
+use crate::moving::{go_to, undo_to};
 use crate::nodes::Node;
-use shop_model::{Instance, Word};
+use crate::opens::{Closed, Open, Waiting};
+use crate::pushing::{gather_children, push_open, push_rest};
+use crate::walkers::{Progress, Walker};
+use shop_bound::Desk;
+use shop_model::Instance;
 use std::alloc::{AllocError, Global};
 
-/// What a walk carries: the last word found, the best makespan, the nodes left, and how many more may be taken.
-#[derive(Drop)]
-pub(crate) struct Progress {
-    pub(crate) found: Option<Word>,
-    pub(crate) best: u64,
-    pub(crate) left: Vec<Node>,
-    pub(crate) budget: u64,
+impl<'a> Walker<'a> {
+    /// With nothing walked.
+    fn new(
+        alloc: Global,
+        instance: &'a Instance,
+        best: u64,
+        budget: u64,
+    ) -> Result<Walker<'a>, AllocError>
+        ensures progress { IfOk result (λ w. walked w.progress ≡ opening_walk best budget) }
+        ensures instance { IfOk result (λ w. w.progress.instance.now ≡ instance.now) }
+        ensures empty { IfOk result (λ w. w.stack.items ≡ []) }
+    {
+        Ok(Walker {
+            progress: Progress::new(alloc, instance, best, budget),
+            desk: Desk::new(alloc, instance)?,
+            stack: Vec::new(alloc),
+            children: Vec::with_capacity(alloc, instance.jobs())?,
+            jobs: Vec::with_capacity(alloc, instance.jobs())?,
+        })
+    }
+
+    /// Puts the children of the desk's word on the stack, the first one on top; the word's bound is at hand.
+    fn push_children(&mut self, bound: u64) -> Result<(), AllocError>
+        requires { bound ≡ lb self.old.desk.shop self.old.desk.word }
+        ensures { OnOk result (HasBranched self.old self.new) }
+    {
+        let others = gather_children(
+            &mut self.children,
+            &mut self.desk,
+            self.progress.instance,
+            bound,
+            Some(self.progress.best),
+            &mut self.jobs,
+        )?;
+        push_rest(&mut self.stack, self.desk.jobs().len(), others)?;
+        push_open(&mut self.stack, self.children.as_slice())
+    }
+
+    /// Walks an open child, which lay on top of the stack, up to its own children: these are put on the stack.
+    fn walk_open(&mut self, alloc: Global, child: Open) -> Result<(), AllocError>
+        requires { IsNextOn self.old (Child child) }
+        ensures { OnOk result (IsTurn self.old (Child child) self.new) }
+    {
+        let front = &self.desk.jobs()[..child.depth];
+        if !self
+            .progress
+            .takes(alloc, front, [child.job].as_slice(), child.bound)?
+        {
+            return Ok(());
+        }
+        undo_to(&mut self.desk, child.depth);
+        self.desk.dispatch(child.job);
+        self.push_children(child.bound)
+    }
+
+    /// Counts closed children, which lay on top of the stack. Where the budget ends among them, they are put on the
+    /// stack as open ones.
+    fn count_closed(&mut self, closed: Closed) -> Result<(), AllocError>
+        requires { IsNextOn self.old (Rest closed) }
+        ensures { OnOk result (IsTurn self.old (Rest closed) self.new) }
+    {
+        let count = closed.count as u64;
+        if count <= self.progress.budget {
+            self.progress.budget -= count;
+            return Ok(());
+        }
+        undo_to(&mut self.desk, closed.depth);
+        let bound = self.desk.bound();
+        gather_children(
+            &mut self.children,
+            &mut self.desk,
+            self.progress.instance,
+            bound,
+            None,
+            &mut self.jobs,
+        )?;
+        self.children.truncate(closed.count);
+        push_open(&mut self.stack, self.children.as_slice())
+    }
+
+    /// Walks what waits on the stack from its top on, depth first.
+    fn walk_stack(&mut self, alloc: Global) -> Result<(), AllocError>
+        requires { IsInOrder self.old }
+        ensures { OnOk result (HasWalked self.old self.new (stack_walk self.old)) }
+    {
+        while let Some(waiting) = self.stack.pop() {
+            match waiting {
+                Waiting::Child(child) => self.walk_open(alloc, child)?,
+                Waiting::Rest(closed) => self.count_closed(closed)?,
+            }
+        }
+        Ok(())
+    }
+
+    /// Walks a node.
+    fn walk_node(&mut self, alloc: Global, node: &Node) -> Result<(), AllocError>
+        requires node { IsNode self.old.progress.instance.now node.now }
+        requires empty { self.old.stack.items ≡ [] }
+        ensures { OnOk result (HasWalked self.old self.new (node_walk self.old node.now)) }
+    {
+        let jobs = node.word.jobs();
+        if !self.progress.takes(alloc, jobs, [].as_slice(), node.bound)? {
+            return Ok(());
+        }
+        go_to(&mut self.desk, jobs);
+        self.push_children(node.bound)?;
+        self.walk_stack(alloc)
+    }
 }
 
-/// Walks the nodes of a stack from its top on, depth first: with this makespan to beat, and so many nodes to take.
-pub(crate) fn walk(
+/// Walks nodes in order, each depth first, with this makespan to beat and so many words to take.
+pub(crate) fn walk_nodes<'a>(
     alloc: Global,
-    instance: &Instance,
-    stack: Vec<Node>,
+    instance: &'a Instance,
+    nodes: &[Node],
     best: u64,
     budget: u64,
-) -> Result<Progress, AllocError>
-    requires { AreNodes instance.now stack.items }
-    ensures walk { IfOk result (λ p. walked p ≡ walk_from instance.now best budget stack.items) }
-    ensures left { IfOk result (λ p. AreNodes instance.now p.left.items) }
+) -> Result<Progress<'a>, AllocError>
+    requires { AreNodes instance.now nodes.now }
+    ensures walk { IfOk result (λ p. walked p ≡ sheet instance.now (words_of nodes.now) best budget) }
     ensures spent { IfOk result (λ p. p.budget ≤ budget) }
+    ensures instance { IfOk result (λ p. p.instance.now ≡ instance.now) }
 {
-    let operations = instance.operations();
-    let mut stack = stack;
-    let mut found = None;
-    let mut best = best;
-    let mut left = Vec::new(alloc);
-    let mut budget = budget;
-    while let Some(node) = stack.pop() {
-        if budget == 0 {
-            left.push(node)?;
-            continue;
-        }
-        budget -= 1;
-        if node.bound >= best {
-            continue;
-        }
-        if node.word.jobs().len() >= operations {
-            best = node.bound;
-            found = Some(node.word);
-            continue;
-        }
-        let mut children = children(alloc, instance, &node)?;
-        // The first child on top.
-        children.reverse();
-        stack.append(&mut children)?;
+    let mut walker = Walker::new(alloc, instance, best, budget)?;
+    for node in nodes {
+        walker.walk_node(alloc, node)?;
     }
-    Ok(Progress {
-        found,
-        best,
-        left,
-        budget,
-    })
+    Ok(walker.progress)
 }

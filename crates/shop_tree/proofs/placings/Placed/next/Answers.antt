@@ -10,7 +10,7 @@ overflow_add-result c =
     in let p = placing shop placed.word.now
     in let j = c.args.job
     in let limits = c.route-route.ensures.limits
-    in let read = is_read shop p j c.route-route.result.now c.steps-step.result placed.placement limits
+    in let read = is_read shop p j c.route-route.result.now c.steps-step.result placed.placement.now limits
     placed.is_placement c.requires c.route-route.ensures.route c.steps-step.ensures
     in let small = next_end-small shop placed.word.now j limits placed.is_word
     in let ready = c.ready.ensures in let free = c.free.ensures in let greater = c.max-head.ensures

@@ -1,0 +1,88 @@
+use Rattle.std.proofs.Common.{◌≡◌, ◌++◌, ◌∷◌, ◌∙◌, [], List, length, refl, sym, ap, subst, arith, append-nil}
+use Rattle.std.proofs.Common.{append_assoc}
+use Rattle.shop_model.specs.Shop.{Shop}
+use Rattle.shop_model.specs.Word.{IsWord}
+use Rattle.shop_bound.specs.Bound.{lb}
+use Rattle.shop_bound.specs.Desks.{DeskState}
+use Rattle.shop_tree.specs.Branching.{conflict}
+use Rattle.shop_tree.specs.Opens.{IsPlaceAbove, Reaches}
+use Rattle.shop_tree.specs.declared.opens.Open.{Open}
+use Rattle.shop_tree.proofs.ChildrenLemmas.{child-word}
+use Rattle.shop_tree.proofs.PushLemmas.{gathered_none, gathered_other, gathered_open}
+use Rattle.shop_tree.proofs.pushing.gather_children.Goals as goal
+
+pub loop-job-init : goal.loop-job-init
+loop-job-init c =
+    let shop = c.new-placed.ensures.instance ∙ sym c.requires.instance
+    in let word = c.new-placed.ensures.word ∙ c.jobs.ensures
+    in (
+      [],
+      record {
+        all = append-nil _ ∙ (c.gather_conflict.ensures.jobs ∙ (ap (λ (s : Shop). conflict s c.new-placed.result.word.now)
+            shop ∙ ap (conflict c.args.desk.now.shop) word));
+        gathered = gathered_none _ _ _ _ c.clear.ensures.items;
+        counted = omega arith;
+        same = refl;
+        room = c.gather_conflict.ensures.room;
+      },
+    )
+
+pub child_bound-requires-clause-fits : goal.child_bound-requires-clause-fits
+child_bound-requires-clause-fits c =
+    let desk = c.args.desk.now
+    in let now = c.loop-job.invariant
+    in let split = sym (append_assoc c.pop.new.self.items (c.in-Some.job ∷ []) now.0)
+    ∙ (ap (λ js. js ++ now.0) (sym c.in-Some.ensures.items) ∙ now.1.all)
+    in subst (λ (d : DeskState). IsWord d.shop (d.word ++ c.in-Some.job ∷ [])) (sym now.1.same)
+    (child-word desk.shop desk.word c.keeps_word.ensures.word c.pop.new.self.items now.0 c.in-Some.job split)
+
+pub loop-job-preserved-in_default-child_bound : goal.loop-job-preserved-in_default-child_bound
+loop-job-preserved-in_default-child_bound c =
+    let desk = c.args.desk.now
+    in let now = c.loop-job.invariant
+    in let job = c.in-Some.job
+    in let split = sym (append_assoc c.pop.new.self.items (job ∷ []) now.0)
+    ∙ (ap (λ js. js ++ now.0) (sym c.in-Some.ensures.items) ∙ now.1.all)
+    in let bound : Reaches c.args.limit (lb desk.shop (desk.word ++ job ∷ [])) = subst
+    (λ (d : DeskState). Reaches c.args.limit (lb d.shop (d.word ++ job ∷ []))) now.1.same
+    c.in_default-child_bound.ensures.bound
+    in (
+      job ∷ now.0,
+      record {
+        all = split;
+        gathered = gathered_other desk.shop c.args.limit desk.word c.loop-job.children.items c.loop-job.others now.0 job
+            now.1.gathered bound;
+        counted = (let a = now.1.counted in omega arith);
+        same = c.child_bound.ensures.same ∙ now.1.same;
+        room = (let a = now.1.room in let b = c.pop.ensures.capacity in omega arith);
+      },
+    )
+
+pub loop-job-preserved : goal.loop-job-preserved
+loop-job-preserved c =
+    let desk = c.args.desk.now
+    in let now = c.loop-job.invariant
+    in let job = c.in-Some.job
+    in let split = sym (append_assoc c.pop.new.self.items (job ∷ []) now.0)
+    ∙ (ap (λ js. js ++ now.0) (sym c.in-Some.ensures.items) ∙ now.1.all)
+    in let child : Open = record { depth = length c.jobs-depth.result.now; job = job; bound = c.in-Some-child_bound.bound }
+    in let bound : c.in-Some-child_bound.bound ≡ lb desk.shop (desk.word ++ job ∷ []) = c.in-Some-child_bound.ensures.bound.0
+    ∙ ap (λ (d : DeskState). lb d.shop (d.word ++ job ∷ [])) now.1.same
+    in let place : IsPlaceAbove c.in-Some-child_bound.bound c.loop-job.children.items c.place_above-place.result = subst
+    (λ (os : List Open). IsPlaceAbove c.in-Some-child_bound.bound os c.place_above-place.result)
+    c.as_slice.ensures.value c.place_above-place.ensures
+    in (
+      job ∷ now.0,
+      record {
+        all = split;
+        gathered = gathered_open desk.shop c.args.limit desk.word c.loop-job.children.items c.insert.new.self.items
+            c.loop-job.others now.0 child c.place_above-place.result now.1.gathered
+            (child-word desk.shop desk.word c.keeps_word.ensures.word c.pop.new.self.items now.0 job split)
+            (ap length c.jobs-depth.ensures) bound
+            (subst (λ n. Reaches c.args.limit n → ⊥) (sym c.in-Some-child_bound.ensures.bound.0)
+            c.in-Some-child_bound.ensures.bound.1) place c.in_ok-insert.ensures.items;
+        counted = (let a = now.1.counted in omega arith);
+        same = c.child_bound.ensures.same ∙ now.1.same;
+        room = (let a = now.1.room in let b = c.pop.ensures.capacity in omega arith);
+      },
+    )

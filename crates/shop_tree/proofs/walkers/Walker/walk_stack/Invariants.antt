@@ -1,0 +1,15 @@
+use Rattle.std.proofs.Common.{◌≡◌, ◌≤◌}
+use Rattle.shop_tree.specs.Walkers.{IsInOrder, stack_walk, turns_left}
+use Rattle.shop_tree.proofs.walkers.Walker.walk_stack.Given as goal
+
+abbrev pub invariant-loop-waiting : goal.invariant-loop-waiting
+invariant-loop-waiting l = record {
+  walk : stack_walk l.self ≡ stack_walk l.fn.self;
+  in_order : IsInOrder l.self;
+  spent : l.self.progress.budget ≤ l.fn.self.progress.budget;
+  shop : l.self.desk.shop ≡ l.fn.self.desk.shop;
+  instance : l.self.progress.instance.now ≡ l.fn.self.progress.instance.now;
+}
+
+abbrev pub decreases-loop-waiting : goal.decreases-loop-waiting
+decreases-loop-waiting l = turns_left l.self l.self.stack.items

@@ -1,0 +1,100 @@
+-- Words that a stack keeps short: how many entries of the desk's word such a word begins with, and the job that follows;
+-- and the last children of a word, which only count, told by their number.
+--     word_at word o                         the word that an open child stands for
+--     open_words word opens                  the words of open children, in order
+--     words_of_closed shop word c            the words that closed children stand for, the last one first
+--     words_at shop word stack               the words of all that waits, from the bottom of the stack on
+--     IsOpen shop word o                     the word of o is one of the instance, no longer than word and a job, with
+--                                            its bound
+--     IsClosed shop best word c              there are so many children, and none has a bound below the best
+--     AreWaiting shop best word stack        all that waits is such, and nothing begins with less than what is below it
+--     IsPlaceAbove bound opens i             from place i on all bounds are below this one, and the one before, if any,
+--                                            is not
+--     IsBoundBelow limit bound result        the bound, or none if it reaches the limit
+--     AreChildren shop limit word opens n    the children of word with bounds below the limit, the first one last, and
+--                                            how many others there are
+--     Adds shop best word words old new      on top of the old stack lie entries for these words
+use Rattle.std.specs.Prelude.{◌≡◌, ℕ, ◌-◌, ◌≤◌, ◌<◌, Option, Some, None, List, [], ◌∷◌, ◌++◌, length, map, reverse}
+use Rattle.std.specs.Prelude.{take, slice_index_or}
+use Rattle.std.specs.List.{AllByRecursion}
+use Rattle.shop_model.specs.Shop.{Shop}
+use Rattle.shop_model.specs.Word.{IsWord}
+use Rattle.shop_bound.specs.Bound.{lb}
+use Rattle.shop_tree.specs.Branching.{branch}
+use Rattle.shop_tree.specs.declared.opens.Open.{Open}
+use Rattle.shop_tree.specs.declared.opens.Closed.{Closed}
+use Rattle.shop_tree.specs.declared.opens.Waiting.{Waiting}
+use Rattle.shop_tree.specs.declared.opens.Waiting.TheVariants.{Child, Rest}
+
+abbrev pub word_at : List ℕ → Open → List ℕ
+word_at word o = take o.depth word ++ o.job ∷ []
+
+abbrev pub open_words : List ℕ → List Open → List (List ℕ)
+open_words word opens = map (word_at word) opens
+
+abbrev pub words_of_closed : Shop → List ℕ → Closed → List (List ℕ)
+words_of_closed shop word c = take c.count (reverse (branch shop (take c.depth word)))
+
+abbrev pub entry_words : Shop → List ℕ → Waiting → List (List ℕ)
+entry_words shop word (Child o) = word_at word o ∷ []
+entry_words shop word (Rest c) = words_of_closed shop word c
+
+abbrev pub words_at : Shop → List ℕ → List Waiting → List (List ℕ)
+words_at shop word [] = []
+words_at shop word (x ∷ stack) = entry_words shop word x ++ words_at shop word stack
+
+pub record IsOpen (shop : Shop) (word : List ℕ) (o : Open) : Type 0 where
+  pub depth : o.depth ≤ length word
+  pub is_word : IsWord shop (word_at word o)
+  pub bound : o.bound ≡ lb shop (word_at word o)
+
+pub record IsClosed (shop : Shop) (best : ℕ) (word : List ℕ) (c : Closed) : Type 0 where
+  pub depth : c.depth ≤ length word
+  pub count : c.count ≤ length (branch shop (take c.depth word))
+  pub high : AllByRecursion (λ v. best ≤ lb shop v) (words_of_closed shop word c)
+
+abbrev pub depth_of : Waiting → ℕ
+depth_of (Child o) = o.depth
+depth_of (Rest c) = c.depth
+
+abbrev pub IsWaiting : Shop → ℕ → List ℕ → Waiting → Type 0
+IsWaiting shop best word (Child o) = IsOpen shop word o
+IsWaiting shop best word (Rest c) = IsClosed shop best word c
+
+abbrev pub IsRising : List Waiting → Type 0
+IsRising [] = Unit {0}
+IsRising (x ∷ stack) = AllByRecursion (λ y. depth_of x ≤ depth_of y) stack × IsRising stack
+
+pub record AreWaiting (shop : Shop) (best : ℕ) (word : List ℕ) (stack : List Waiting) : Type 0 where
+  pub each : AllByRecursion (IsWaiting shop best word) stack
+  pub rising : IsRising stack
+
+pub record IsPlaceAbove (bound : ℕ) (opens : List Open) (i : ℕ) : Type 0 where
+  pub within : i ≤ length opens
+  pub above : (k : ℕ) (d : Open) → i ≤ k → k < length opens → (slice_index_or opens k d).bound < bound
+  pub below : (d : Open) → 0 < i → bound ≤ (slice_index_or opens (i - 1) d).bound
+
+-- nothing reaches a limit that isn't there
+abbrev pub Reaches : Option ℕ → ℕ → Type 0
+Reaches None bound = ⊥
+Reaches (Some limit) bound = limit ≤ bound
+
+-- the bound, or none if it reaches the limit
+abbrev pub IsBoundBelow : Option ℕ → ℕ → Option ℕ → Type 0
+IsBoundBelow limit bound (Some b) = (b ≡ bound) × (Reaches limit bound → ⊥)
+IsBoundBelow limit bound None = Reaches limit bound
+
+pub record AreChildren (shop : Shop) (limit : Option ℕ) (word : List ℕ) (opens : List Open) (n : ℕ) : Type 0 where
+  pub others : List (List ℕ)
+  pub words : branch shop word ≡ reverse (open_words word opens) ++ others
+  pub count : n ≡ length others
+  pub high : AllByRecursion (λ v. Reaches limit (lb shop v)) others
+  pub each : AllByRecursion (IsOpen shop word) opens
+  pub depth : AllByRecursion (λ o. o.depth ≡ length word) opens
+
+pub record Adds (shop : Shop) (best : ℕ) (word : List ℕ) (words : List (List ℕ)) (old new : List Waiting) : Type 0 where
+  pub added : List Waiting
+  pub stack : new ≡ old ++ added
+  pub words_are : words_at shop word added ≡ words
+  pub each : AllByRecursion (IsWaiting shop best word) added
+  pub depth : AllByRecursion (λ x. depth_of x ≡ length word) added

@@ -1,0 +1,97 @@
+// The children of a desk's word, in order.
+ghost use Rattle.std.specs.Prelude.{◌≡◌, ◌≤◌, ◌++◌, ◌∷◌, [], length, vec_capacity, OnOk, IfOk};
+ghost use Rattle.shop_model.specs.Word.{IsWord};
+ghost use Rattle.shop_bound.specs.Bound.{lb};
+ghost use Rattle.shop_tree.specs.Opens.{AreChildren, IsBoundBelow, IsPlaceAbove};
+ghost use Rattle.shop_tree.specs.Pushing.{with_opens, with_rest};
+
+use crate::branching::gather_conflict;
+use crate::opens::{Closed, Open, Waiting};
+use crate::placings::Placed;
+use shop_bound::Desk;
+use shop_model::Instance;
+use std::alloc::AllocError;
+
+/// The place above the last entry whose bound is not below this one, or the bottom.
+fn place_above(bound: u64, opens: &[Open]) -> usize
+    ensures { IsPlaceAbove bound opens.now result }
+{
+    let mut place = opens.len();
+    while place > 0 && opens[place - 1].bound < bound {
+        place -= 1;
+    }
+    place
+}
+
+/// The bound of the child by this job, none if it reaches the limit; the bound of the desk's word is at hand.
+fn child_bound(desk: &mut Desk, job: usize, bound: u64, limit: Option<u64>) -> Option<u64>
+    requires fits { IsWord desk.old.shop (desk.old.word ++ job ∷ []) }
+    requires bound { bound ≡ lb desk.old.shop desk.old.word }
+    ensures bound { IsBoundBelow limit (lb desk.old.shop (desk.old.word ++ job ∷ [])) result }
+    ensures same { desk.new ≡ desk.old }
+{
+    match limit {
+        Some(limit) => desk.bound_below(job, bound, limit),
+        None => Some(desk.bound_after(job, bound)),
+    }
+}
+
+/// Puts the children of the desk's word with bounds below the limit, if there is one, into the list in place of what it
+/// holds, by bound, then by job, the first one last; and tells how many others there are. The word's bound is at hand,
+/// and there is room for all jobs in the list of jobs.
+pub(crate) fn gather_children(
+    children: &mut Vec<Open>,
+    desk: &mut Desk,
+    instance: &Instance,
+    bound: u64,
+    limit: Option<u64>,
+    jobs: &mut Vec<usize>,
+) -> Result<usize, AllocError>
+    requires instance { desk.old.shop ≡ instance.now }
+    requires bound { bound ≡ lb desk.old.shop desk.old.word }
+    requires room { length instance.now.jobs ≤ vec_capacity jobs.old }
+    ensures children { IfOk result (λ n. AreChildren desk.old.shop limit desk.old.word children.new.items n) }
+    ensures same { desk.new ≡ desk.old }
+    ensures room { vec_capacity jobs.old ≤ vec_capacity jobs.new }
+{
+    desk.keeps_word();
+    let placed = Placed::new(instance, desk.jobs(), desk.placement());
+    gather_conflict(jobs, &placed);
+    let depth = desk.jobs().len();
+    children.clear();
+    let mut others = 0;
+    // The last job first: of equal bounds the lower job then comes to lie above.
+    while let Some(job) = jobs.pop() {
+        let Some(bound) = child_bound(desk, job, bound, limit) else {
+            others += 1;
+            continue
+        };
+        let place = place_above(bound, children.as_slice());
+        children.insert(place, Open { depth, job, bound })?;
+    }
+    Ok(others)
+}
+
+/// Puts open children on the stack, the last one on top.
+pub(crate) fn push_open(stack: &mut Vec<Waiting>, children: &[Open]) -> Result<(), AllocError>
+    ensures { OnOk result (stack.new.items ≡ with_opens stack.old.items children.now) }
+{
+    for &child in children {
+        stack.push(Waiting::Child(child))?;
+    }
+    Ok(())
+}
+
+/// Puts so many closed children on the stack, if there are any.
+pub(crate) fn push_rest(
+    stack: &mut Vec<Waiting>,
+    depth: usize,
+    count: usize,
+) -> Result<(), AllocError>
+    ensures { OnOk result (stack.new.items ≡ with_rest stack.old.items depth count) }
+{
+    if count > 0 {
+        stack.push(Waiting::Rest(Closed { depth, count }))?;
+    }
+    Ok(())
+}

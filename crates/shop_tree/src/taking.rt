@@ -1,0 +1,69 @@
+// How a word is taken in a walk.
+ghost use Rattle.std.specs.Prelude.{◌≡◌, ◌≤◌, ◌++◌, None, [], IfOk};
+ghost use Rattle.shop_model.specs.Word.{IsWord};
+ghost use Rattle.shop_bound.specs.Bound.{lb};
+ghost use Rattle.shop_tree.specs.Searching.{IsTaken, opening_walk, walked};
+
+use crate::nodes::Node;
+use crate::walkers::Progress;
+use shop_model::{Instance, Word};
+use std::alloc::{AllocError, Global};
+
+/// The word of these jobs in a row.
+fn joined(alloc: Global, front: &[usize], last: &[usize]) -> Result<Word, AllocError>
+    ensures { IfOk result (λ w. w ≡ front.now ++ last.now) }
+{
+    let mut jobs = Vec::with_capacity(alloc, front.len() + last.len())?;
+    jobs.extend_from_slice(front)?;
+    jobs.extend_from_slice(last)?;
+    Ok(Word::of_jobs(jobs))
+}
+
+impl<'a> Progress<'a> {
+    /// Nothing is found, and nothing is left.
+    pub(crate) fn new(alloc: Global, instance: &'a Instance, best: u64, budget: u64) -> Progress<'a>
+        ensures instance { result.instance.now ≡ instance.now }
+        ensures walk { walked result ≡ opening_walk best budget }
+    {
+        Progress {
+            instance,
+            operations: instance.operations(),
+            found: None,
+            best,
+            left: Vec::new(alloc),
+            budget,
+        }
+    }
+
+    /// Takes a word, given in two parts, with its bound, and says whether its children are to be taken next. With no
+    /// budget it is left, and where its bound reaches the best it is cut off; a full word is found.
+    pub(crate) fn takes(
+        &mut self,
+        alloc: Global,
+        front: &[usize],
+        last: &[usize],
+        bound: u64,
+    ) -> Result<bool, AllocError>
+        requires word { IsWord self.old.instance.now (front.now ++ last.now) }
+        requires bound { bound ≡ lb self.old.instance.now (front.now ++ last.now) }
+        ensures taken { IfOk result (λ more. IsTaken self.old.instance.now (front.now ++ last.now) (walked self.old) (walked self.new) more) }
+        ensures instance { self.new.instance.now ≡ self.old.instance.now }
+    {
+        if self.budget == 0 {
+            let word = joined(alloc, front, last)?;
+            self.left.push(Node { word, bound })?;
+            return Ok(false);
+        }
+        self.budget -= 1;
+        if bound >= self.best {
+            return Ok(false);
+        }
+        if front.len() + last.len() < self.operations {
+            return Ok(true);
+        }
+        let word = joined(alloc, front, last)?;
+        self.found = Some(word);
+        self.best = bound;
+        Ok(false)
+    }
+}
