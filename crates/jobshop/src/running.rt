@@ -7,14 +7,13 @@ ghost use Rattle.shop_engine.specs.Solving.{IsHeadline, IsSolving};
 use crate::arguments::Args;
 use crate::reading::args_of;
 use crate::statuses::{DONE, INFEASIBLE, say_fault, say_line_fault};
-use shop_board::{LockCrew, OpenGate};
+use shop_board::{BoardCrew, OpenGate};
 use shop_engine::{
     CheckArgs, Fault, ListArgs, Reading, Sink, SolveArgs, Source, check_text, list_text, solve_text,
 };
 use shop_round::Alone;
 use std::fs::File;
 use std::rt::Files;
-use std::sync::Wait;
 use std::thread::Threads;
 
 /// Opens a file, if a path is given; one that can't be opened is a failed read.
@@ -63,7 +62,7 @@ fn run_check<R: Files + AllocGlobal, S: Source, K: Sink>(
 
 /// Solves with one worker, the calling thread, or with a crew of threads: the report is the same for every number of
 /// workers.
-fn solve_by<R: Threads + Wait + Sync + AllocGlobal, S: Source, K: Sink>(
+fn solve_by<R: Threads + Sync + AllocGlobal, S: Source, K: Sink>(
     rt: &R,
     args: &SolveArgs,
     workers: usize,
@@ -79,14 +78,14 @@ fn solve_by<R: Threads + Wait + Sync + AllocGlobal, S: Source, K: Sink>(
     if workers < 2 {
         return solve_text(rt, rt.alloc(), source, out, args, &mut Alone);
     }
-    let Some(mut crew) = LockCrew::new(workers, OpenGate) else {
+    let Some(mut crew) = BoardCrew::new(workers, OpenGate) else {
         return solve_text(rt, rt.alloc(), source, out, args, &mut Alone);
     };
     solve_text(rt, rt.alloc(), source, out, args, &mut crew)
 }
 
 /// Runs `solve`. The exit status.
-fn run_solve<R: Files + Threads + Wait + Sync + AllocGlobal, S: Source, K: Sink>(
+fn run_solve<R: Files + Threads + Sync + AllocGlobal, S: Source, K: Sink>(
     rt: &R,
     args: &SolveArgs,
     workers: usize,
@@ -104,7 +103,7 @@ fn run_solve<R: Files + Threads + Wait + Sync + AllocGlobal, S: Source, K: Sink>
 }
 
 /// Runs what the command line asks for. The exit status.
-fn run_args<R: Files + Threads + Wait + Sync + AllocGlobal, S: Source, K: Sink>(
+fn run_args<R: Files + Threads + Sync + AllocGlobal, S: Source, K: Sink>(
     rt: &R,
     args: &Args,
     source: &mut S,
@@ -130,7 +129,7 @@ fn run_args<R: Files + Threads + Wait + Sync + AllocGlobal, S: Source, K: Sink>(
 /// Runs the program on the words of a command line, the program's name first: it reads files or the source, writes to
 /// `out`, and says faults on `err`. The exit status: 0 done, 1 infeasible, 2 a faulty command line, 3 a text refused,
 /// 4 a read or write that failed, 5 no memory.
-pub fn program<R: Files + Threads + Wait + Sync + AllocGlobal, S: Source, K: Sink, E: Sink>(
+pub fn program<R: Files + Threads + Sync + AllocGlobal, S: Source, K: Sink, E: Sink>(
     rt: &R,
     words: &[String],
     source: &mut S,

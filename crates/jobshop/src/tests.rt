@@ -5,7 +5,6 @@ use crate::running::program;
 use shop_engine::{Memory, Reading};
 use std::process::Abort;
 use std::rt::Files;
-use std::sync::Wait;
 use std::test::Fail;
 use std::thread::Threads;
 
@@ -25,7 +24,7 @@ struct Ended {
 }
 
 /// Runs the program on these words after its name.
-fn run<R: Files + Threads + Wait + Sync + AllocGlobal>(
+fn run<R: Files + Threads + Sync + AllocGlobal>(
     rt: &R,
     words: &[&str],
     text: &str,
@@ -46,7 +45,7 @@ fn run<R: Files + Threads + Wait + Sync + AllocGlobal>(
 }
 
 /// Runs the program and sees that it prints this text, says nothing and ends with status 0.
-fn reports<R: Files + Threads + Wait + Sync + AllocGlobal + Abort>(
+fn reports<R: Files + Threads + Sync + AllocGlobal + Abort>(
     rt: &R,
     words: &[&str],
     text: &str,
@@ -65,7 +64,7 @@ fn reports<R: Files + Threads + Wait + Sync + AllocGlobal + Abort>(
 }
 
 /// Sees that `check` judges the schedule of a report behind its instance feasible, with the makespan of the report.
-fn is_judged_feasible<R: Files + Threads + Wait + Sync + AllocGlobal + Abort>(
+fn is_judged_feasible<R: Files + Threads + Sync + AllocGlobal + Abort>(
     rt: &R,
     words: &[&str],
     text: &str,
@@ -97,7 +96,7 @@ fn is_judged_feasible<R: Files + Threads + Wait + Sync + AllocGlobal + Abort>(
 }
 
 /// Runs `solve`, sees that its report begins so, and that `check` judges its schedule feasible with its makespan.
-fn report_begins<R: Files + Threads + Wait + Sync + AllocGlobal + Abort>(
+fn report_begins<R: Files + Threads + Sync + AllocGlobal + Abort>(
     rt: &R,
     words: &[&str],
     text: &str,

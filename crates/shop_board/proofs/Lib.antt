@@ -1,1 +1,12 @@
+pub mod ClaimSteps
+pub mod ClosedBoards
+pub mod HitSteps
+pub mod JoinedSeats
+pub mod LawfulSteps
+pub mod Numbers
 pub mod Places
+pub mod RoundPieces
+pub mod SeatCounts
+pub mod ServedEntries
+pub mod WonEntries
+pub mod Words

@@ -1,12 +1,13 @@
-// The same answer by any number of workers, and workers that come to the gate at once.
+// The same answer by any number of workers of either crew, and workers that come to the gate at once.
 ghost use Rattle.std.specs.Thread.{IsSync};
 ghost use Rattle.std.specs.Prelude.{IfOk};
 ghost use Rattle.shop_round.specs.Entries.{told};
 ghost use Rattle.shop_round.specs.Crews.{OneForEach};
 
-use crate::{Gate, LockCrew, OpenGate};
-use shop_model::{Instance, Op};
-use shop_round::{Alone, Crew, Entry, Kind, Plan, Round, run};
+use crate::ordering::in_order;
+use crate::worked_rounds::{second_round, third_round, with_gaps};
+use crate::{BoardCrew, Gate, LockCrew, OpenGate, Seat, SeatGate};
+use shop_round::{Alone, Answer, Crew, Entry, Kind, Plan, Round, Standing, gather, run};
 use std::alloc::{AllocError, Global};
 use std::process::Abort;
 use std::sync::Wait;
@@ -15,16 +16,19 @@ use std::test::Fail;
 use std::thread;
 use std::thread::Threads;
 
-// Two jobs on three machines, with operations that take no time: the least makespan, 10, is above the first bound.
-fn with_gaps(alloc: Global) -> Result<Instance, Fail> {
-    let op = |machine, time| Op { machine, time };
-    let first = vec![in alloc; op(0, 5), op(1, 3), op(2, 0)]?;
-    let second = vec![in alloc; op(1, 1), op(0, 1), op(2, 6)]?;
-    Ok(
-        Instance::new(3, vec![in alloc; first, second]?)
-            .ok()
-            .ok_or("rows within the limits")?,
-    )
+// The makespan, the bound, and how many nodes are open, rounds were done and nodes counted.
+fn assert_answer(
+    rt: &impl Abort,
+    answer: &Answer,
+    numbers: (u64, u64, usize, u64, u64),
+    crew: &str,
+) {
+    let (makespan, bound, open, rounds, nodes) = numbers;
+    assert_eq!(rt; answer.makespan, makespan, "{crew}");
+    assert_eq!(rt; answer.bound, bound, "{crew}");
+    assert_eq!(rt; answer.open_nodes, open, "{crew}");
+    assert_eq!(rt; answer.rounds, rounds, "{crew}");
+    assert_eq!(rt; answer.nodes, nodes, "{crew}");
 }
 
 #[test]
@@ -32,29 +36,28 @@ fn same_answer_by_any_number_of_workers(rt: HostRuntime) -> Result<(), Fail> {
     let alloc = rt.alloc();
     let instance = with_gaps(alloc)?;
     let rows = [
-        (1, 16, 10, 2, 1, 3),
-        (2, 16, 10, 3, 2, 9),
-        (3, 10, 10, 0, 3, 10),
-        (1000, 10, 10, 0, 3, 10),
+        (1, (16, 10, 2, 1, 3)),
+        (2, (16, 10, 3, 2, 9)),
+        (3, (10, 10, 0, 3, 10)),
+        (1000, (10, 10, 0, 3, 10)),
     ];
     for workers in [1, 2, 3, 64] {
-        for (rounds, makespan, bound, open, done, nodes) in rows {
+        for (rounds, numbers) in rows {
             let plan = Plan::new(rounds, 3, 1).ok_or("a plan within the limits")?;
-            let mut crew = LockCrew::new(workers, OpenGate).ok_or("1 to 64 workers")?;
-            let answer = run(&rt, alloc, &instance, &plan, &mut crew)?;
-            assert_eq!(rt;
-                answer.makespan,
-                makespan,
-                "{workers} workers, {rounds} rounds"
+            let mut lock = LockCrew::new(workers, OpenGate).ok_or("1 to 64 workers")?;
+            let mut board = BoardCrew::new(workers, OpenGate).ok_or("1 to 64 workers")?;
+            assert_answer(
+                &rt,
+                &run(&rt, alloc, &instance, &plan, &mut lock)?,
+                numbers,
+                "lock",
             );
-            assert_eq!(rt; answer.bound, bound, "{workers} workers, {rounds} rounds");
-            assert_eq!(rt;
-                answer.open_nodes,
-                open,
-                "{workers} workers, {rounds} rounds"
+            assert_answer(
+                &rt,
+                &run(&rt, alloc, &instance, &plan, &mut board)?,
+                numbers,
+                "board",
             );
-            assert_eq!(rt; answer.rounds, done, "{workers} workers, {rounds} rounds");
-            assert_eq!(rt; answer.nodes, nodes, "{workers} workers, {rounds} rounds");
         }
     }
     Ok(())
@@ -63,8 +66,10 @@ fn same_answer_by_any_number_of_workers(rt: HostRuntime) -> Result<(), Fail> {
 #[test]
 fn crews_have_1_to_64_workers(rt: HostRuntime) {
     for (workers, within) in [(0, false), (1, true), (64, true), (65, false)] {
-        let crew = LockCrew::new(workers, OpenGate);
-        assert_eq!(rt; crew.is_some(), within, "{workers} workers");
+        let lock = LockCrew::new(workers, OpenGate);
+        assert_eq!(rt; lock.is_some(), within, "{workers} workers");
+        let board = BoardCrew::new(workers, OpenGate);
+        assert_eq!(rt; board.is_some(), within, "{workers} workers");
     }
 }
 
@@ -75,8 +80,15 @@ struct Meeting {
     met: AtomicUsize,
 }
 
-impl Gate for Meeting {
-    fn before(&self, _worker: usize, piece: usize) {
+impl Meeting {
+    fn new() -> Meeting {
+        Meeting {
+            began: [AtomicBool::new(false), AtomicBool::new(false)],
+            met: AtomicUsize::new(0),
+        }
+    }
+
+    fn meet(&self, piece: usize) {
         if piece >= 2 {
             return;
         }
@@ -91,10 +103,55 @@ impl Gate for Meeting {
     }
 }
 
+impl Gate for Meeting {
+    fn before(&self, _worker: usize, piece: usize) {
+        self.meet(piece);
+    }
+}
+
+impl SeatGate for Meeting {
+    fn won(&self, _worker: usize, _seat: &Seat, piece: usize) {
+        self.meet(piece);
+    }
+}
+
+// The entries by two workers of a crew that takes numbers under a lock, and how many of them met.
+fn by_lock<'r, R: Threads + Wait + Sync>(
+    rt: &R,
+    alloc: Global,
+    round: &'r Round<'r>,
+) -> Result<(Vec<Entry<'r>>, usize), AllocError>
+    ensures { IfOk result (λ p. OneForEach (told round.now) p.0.items) }
+{
+    let Some(crew) = LockCrew::new(2, Meeting::new()) else {
+        return Err(AllocError);
+    };
+    let entries = crew.search_round(rt, alloc, round)?;
+    let met = crew.gate().met.load(Ordering::SeqCst);
+    Ok((entries, met))
+}
+
+// The same, of a crew that claims pieces on a board.
+fn by_board<'r, R: Threads + Sync>(
+    rt: &R,
+    alloc: Global,
+    round: &'r Round<'r>,
+) -> Result<(Vec<Entry<'r>>, usize), AllocError>
+    ensures { IfOk result (λ p. OneForEach (told round.now) p.0.items) }
+{
+    let Some(crew) = BoardCrew::new(2, Meeting::new()) else {
+        return Err(AllocError);
+    };
+    let entries = crew.search_round(rt, alloc, round)?;
+    let met = crew.gate().met.load(Ordering::SeqCst);
+    Ok((entries, met))
+}
+
 // Searches a round of two pieces by two workers that meet, and any other alone. Of the sheets of the two pieces that
 // took 3 nodes and found no makespan below 16 it notes how many nodes they left.
 #[derive(Drop)]
 struct MeetingCrew {
+    on_a_board: bool,
     met: usize,
     left: [Option<usize>; 2],
 }
@@ -111,15 +168,12 @@ impl<R: Threads + Wait + Sync> Crew<R> for MeetingCrew {
         if round.pieces.len() != 2 {
             return Alone.search(rt, alloc, round);
         }
-        let gate = Meeting {
-            began: [AtomicBool::new(false), AtomicBool::new(false)],
-            met: AtomicUsize::new(0),
+        let (entries, met) = if self.on_a_board {
+            by_board(rt, alloc, round)?
+        } else {
+            by_lock(rt, alloc, round)?
         };
-        let Some(crew) = LockCrew::new(2, gate) else {
-            return Alone.search(rt, alloc, round);
-        };
-        let entries = crew.search_round(rt, alloc, round)?;
-        self.met = crew.gate().met.load(Ordering::SeqCst);
+        self.met = met;
         for (entry, left) in entries.iter().zip(&mut self.left) {
             if let Kind::Done(sheet) = &entry.kind
                 && sheet.makespan == 16
@@ -137,13 +191,82 @@ fn two_workers_meet_at_the_gate(rt: HostRuntime) -> Result<(), Fail> {
     let alloc = rt.alloc();
     let instance = with_gaps(alloc)?;
     let plan = Plan::new(2, 3, 1).ok_or("a plan within the limits")?;
-    let mut crew = MeetingCrew {
-        met: 0,
-        left: [None, None],
-    };
-    let answer = run(&rt, alloc, &instance, &plan, &mut crew)?;
-    assert_eq!(rt; crew.met, 2);
-    assert_eq!(rt; crew.left, [Some(1), Some(2)]);
-    assert_eq!(rt; answer.nodes, 9);
+    for on_a_board in [false, true] {
+        let mut crew = MeetingCrew {
+            on_a_board,
+            met: 0,
+            left: [None, None],
+        };
+        let answer = run(&rt, alloc, &instance, &plan, &mut crew)?;
+        assert_eq!(rt; crew.met, 2);
+        assert_eq!(rt; crew.left, [Some(1), Some(2)]);
+        assert_eq!(rt; answer.nodes, 9);
+    }
+    Ok(())
+}
+
+// What became of a piece: the makespan of its sheet, the nodes taken and the nodes left; or the number that it was
+// passed by.
+#[derive(Clone, Copy, Debug, PartialEq)]
+enum Became {
+    Searched(u64, u64, usize),
+    Passed(usize),
+}
+
+fn what_became(alloc: Global, entries: &[Entry]) -> Result<Vec<Became>, AllocError> {
+    let mut all = Vec::new(alloc);
+    for entry in entries {
+        all.push(match &entry.kind {
+            Kind::Done(sheet) => Became::Searched(sheet.makespan, sheet.taken, sheet.left.len()),
+            Kind::Passed { number: _, by } => Became::Passed(*by),
+        })?;
+    }
+    Ok(all)
+}
+
+#[test]
+fn same_entries_by_each_crew(rt: HostRuntime) -> Result<(), Fail> {
+    let alloc = rt.alloc();
+    let instance = with_gaps(alloc)?;
+    let round = second_round(alloc, &instance)?;
+    let sheets = [Became::Searched(16, 3, 1), Became::Searched(16, 3, 2)];
+    let alone = Alone.search(&rt, alloc, &round)?;
+    assert_eq!(rt; what_became(alloc, &alone)?.as_slice(), sheets.as_slice());
+    for workers in [1, 2, 64] {
+        let lock = LockCrew::new(workers, OpenGate).ok_or("1 to 64 workers")?;
+        let entries = lock.search_round(&rt, alloc, &round)?;
+        assert_eq!(rt; what_became(alloc, &entries)?.as_slice(), sheets.as_slice());
+        let board = BoardCrew::new(workers, OpenGate).ok_or("1 to 64 workers")?;
+        let entries = board.search_round(&rt, alloc, &round)?;
+        assert_eq!(rt; what_became(alloc, &entries)?.as_slice(), sheets.as_slice());
+    }
+    Ok(())
+}
+
+fn assert_closed(rt: &impl Abort, standing: &Standing) {
+    assert_eq!(rt; standing.makespan, 10);
+    assert_eq!(rt; standing.open.len(), 0);
+    assert_eq!(rt; standing.nodes, 10);
+}
+
+#[test]
+fn entries_after_a_hit_do_not_count(rt: HostRuntime) -> Result<(), Fail> {
+    let alloc = rt.alloc();
+    let instance = with_gaps(alloc)?;
+    let round = third_round(alloc, &instance)?;
+    let passed = Alone.search(&rt, alloc, &round)?;
+    let first = Became::Searched(10, 1, 0);
+    let kinds = [first, Became::Passed(0), Became::Passed(0)];
+    assert_eq!(rt; what_became(alloc, &passed)?.as_slice(), kinds.as_slice());
+    let searched = in_order(alloc, &round, Vec::new(alloc))?;
+    assert_eq!(rt; searched.len(), 3);
+    for (entry, sheet) in searched.iter().zip([(10, 1), (12, 2), (14, 2)]) {
+        let Kind::Done(found) = &entry.kind else {
+            return Err(Fail::from("a sheet"));
+        };
+        assert_eq!(rt; (found.makespan, found.taken), sheet);
+    }
+    assert_closed(&rt, &gather(alloc, &round, passed)?);
+    assert_closed(&rt, &gather(alloc, &round, searched)?);
     Ok(())
 }

@@ -1,0 +1,16 @@
+use Rattle.std.proofs.Common.{vec_len}
+use Rattle.std.specs.Prelude.{All, IfSome}
+use Rattle.shop_round.specs.Entries.{told}
+use Rattle.shop_board.specs.Entries.{AllOfRound}
+use Rattle.shop_board.specs.Seats.{IsSeatOf, IsReturned}
+use Rattle.shop_board.specs.declared.board_search.Returned.{Returned}
+use Rattle.shop_board.proofs.board_search.join_all.Given as goal
+
+abbrev pub invariant-loop-seat : goal.invariant-loop-seat
+invariant-loop-seat l =
+    IfSome l.joined (IsSeatOf l.board)
+    × AllOfRound (told l.round) l.lists.items
+    × All (λ (b : Returned). IsReturned l.board (told l.round) b.seat b.entries) l.returned.items
+
+abbrev pub decreases-loop-seat : goal.decreases-loop-seat
+decreases-loop-seat l = vec_len l.returned

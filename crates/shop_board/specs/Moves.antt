@@ -1,0 +1,75 @@
+-- How what a seat knows changes, and what each step tells its seat.
+--     newcomer hits          the first seat has won, seen and marked nothing
+--     empty_handed v         the second of two seats has seen as much, and won nothing
+--     joined v w             one seat for two; the other is spent
+--     HasWon n v w           the piece joins those that the seat won, and wasn't among them
+--     with_seen v n          the piece joins those that the seat knows to be claimed
+--     IsTold won n v w       a claim of the piece was won, or lost
+--     with_low v n           n is the least number read or marked
+--     with_done v n low      the piece joins those that the seat marked
+--     HasMarked n v w        the piece was marked
+--     Claims, Looks, Marks   of a step, the seat before, the number found and the seat after
+--     Counts                 nothing changes; no number stands twice among those that the seat won
+use Rattle.std.specs.Prelude.{◌≡◌, ℕ, ◌≤◌, List, [], ◌∷◌, ◌++◌, length, min, Bool, true, false, ◌==◌, MatchBool}
+use Rattle.atomic_table.specs.Table.{Step, Me}
+use Rattle.shop_board.specs.declared.views.View.{View}
+use Rattle.shop_board.specs.Views.{has, once, IsHitOrEnd}
+
+abbrev pub newcomer : List Bool → View
+newcomer hits = record { live = true; hits = hits; mine = []; seen = []; done = []; low = length hits }
+
+abbrev pub spent : View
+spent = record { live = false; hits = []; mine = []; seen = []; done = []; low = 0 }
+
+abbrev pub with_mine : View → ℕ → View
+with_mine v n = record v { mine = n ∷ v.mine }
+
+abbrev pub HasWon : ℕ → View → View → Type 0
+HasWon n v w = (w ≡ with_mine v n) × (has v.mine n ≡ false)
+
+abbrev pub with_seen : View → ℕ → View
+with_seen v n = record v { seen = n ∷ v.seen }
+
+abbrev pub IsTold : Bool → ℕ → View → View → Type 0
+IsTold won n v w = MatchBool won (HasWon n v w) (w ≡ with_seen v n)
+
+abbrev pub with_low : View → ℕ → View
+with_low v n = record v { low = n }
+
+abbrev pub with_done : View → ℕ → ℕ → View
+with_done v n low = record v { done = n ∷ v.done; low = low }
+
+abbrev pub HasMarked : ℕ → View → View → Type 0
+HasMarked n v w = (low : ℕ) × (w ≡ with_done v n low) × (low ≤ n) × (low ≤ v.low)
+
+abbrev pub empty_handed : View → View
+empty_handed v = record v { mine = []; done = [] }
+
+abbrev pub joined : View → View → View
+joined v w = record {
+  live = v.live;
+  hits = v.hits;
+  mine = v.mine ++ w.mine;
+  seen = v.seen ++ w.seen;
+  done = v.done ++ w.done;
+  low = min v.low w.low;
+}
+
+-- what a step tells
+abbrev pub Telling : Type 1
+Telling = Step (Unit {0}) → Me (Unit {0}) View → ℕ → Me (Unit {0}) View → Type 0
+
+abbrev pub Claims : Telling
+Claims s me found after =
+    (after.1 ≡ me.1) × IsTold (found == 0) s.word me.0 after.0
+
+abbrev pub Looks : Telling
+Looks s me found after =
+    (after.1 ≡ me.1) × (after.0 ≡ with_low me.0 found) × IsHitOrEnd me.0.hits found × (found ≤ me.0.low)
+
+abbrev pub Marks : Telling
+Marks s me found after =
+    (after.1 ≡ me.1) × (after.0 ≡ with_done me.0 s.first (min s.first found)) × (found ≤ me.0.low)
+
+abbrev pub Counts : Telling
+Counts s me found after = (after ≡ me) × (once me.0.mine ≡ true)

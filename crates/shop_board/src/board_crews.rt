@@ -1,0 +1,70 @@
+ghost use Rattle.std.specs.Thread.{IsSync};
+ghost use Rattle.std.specs.Prelude.{◌≡◌, ◌<◌, ◌≤◌, ◌↔◌, IsSome, IfSome, IfOk};
+ghost use Rattle.shop_round.specs.Entries.{told};
+ghost use Rattle.shop_round.specs.Crews.{OneForEach};
+
+use crate::board_search::search_claimed;
+use crate::gates::{OpenGate, SeatGate};
+use crate::lock_crews::MAX_WORKERS;
+use shop_round::{Crew, Entry, Round};
+use std::alloc::{AllocError, Global};
+use std::thread::Threads;
+
+/// Workers that claim pieces on a board. Worker 0 is the calling thread. A search may wait for its workers to end, and
+/// has joined all of them when it returns.
+#[derive(Drop)]
+pub struct BoardCrew<G> {
+    workers: usize,
+    gate: G,
+    ghost few: { (0 < workers) × (workers ≤ 64) },
+}
+
+impl<G: Drop> BoardCrew<G> {
+    /// A crew of 1 to 64 workers, and else `None`.
+    pub fn new(workers: usize, gate: G) -> Option<BoardCrew<G>>
+        ensures within { IsSome result ↔ ((0 < workers) × (workers ≤ 64)) }
+        ensures keeps { IfSome result (λ c. (c.workers ≡ workers) × (c.gate ≡ gate)) }
+    {
+        if workers == 0 || workers > MAX_WORKERS {
+            return None;
+        }
+        Some(BoardCrew { workers, gate })
+    }
+}
+
+impl<G> BoardCrew<G> {
+    /// The gate, with what it may have noted.
+    pub fn gate(&self) -> &G
+        ensures { result.now ≡ self.now.gate }
+    {
+        &self.gate
+    }
+}
+
+impl<G: SeatGate + Sync> BoardCrew<G> {
+    /// One entry for each piece of the round, in number order, as `Crew::search` gives them, past any gate. Where a
+    /// worker was refused memory this is `AllocError`, after all workers have been joined.
+    pub fn search_round<'r, R: Threads + Sync>(
+        &self,
+        rt: &R,
+        alloc: Global,
+        round: &'r Round<'r>,
+    ) -> Result<Vec<Entry<'r>>, AllocError>
+        ensures { IfOk result (λ v. OneForEach (told round.now) v.items) }
+    {
+        search_claimed(rt, alloc, round, self.workers, &self.gate)
+    }
+}
+
+impl<R: Threads + Sync> Crew<R> for BoardCrew<OpenGate> {
+    ghost ready = { IsSync R.row };
+
+    fn search<'r>(
+        &mut self,
+        rt: &R,
+        alloc: Global,
+        round: &'r Round<'r>,
+    ) -> Result<Vec<Entry<'r>>, AllocError> {
+        self.search_round(rt, alloc, round)
+    }
+}

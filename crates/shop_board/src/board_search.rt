@@ -1,0 +1,112 @@
+ghost use Rattle.std.specs.Prelude.{◌≡◌, ◌<◌, All, IfOk, IfSome};
+ghost use Rattle.shop_round.specs.Entries.{told};
+ghost use Rattle.shop_round.specs.Crews.{OneForEach};
+ghost use Rattle.shop_board.specs.Entries.{OfRound, AllOfRound};
+ghost use Rattle.shop_board.specs.Hits.{hits_of_round};
+ghost use Rattle.shop_board.specs.Seats.{hits_of, IsSeatOf, IsReturned};
+
+use crate::boards::{Board, Seat};
+use crate::gates::SeatGate;
+use crate::ordering::in_order;
+use crate::working::work;
+use shop_round::{Entry, Round};
+use std::alloc::{AllocError, Global};
+use std::thread;
+use std::thread::Threads;
+
+// A worker's number, with the seat that it is lent.
+#[derive(Drop)]
+struct Lent {
+    worker: usize,
+    seat: Seat,
+}
+
+// What a worker brings back.
+#[derive(Drop)]
+struct Returned<'r> {
+    seat: Seat,
+    entries: Result<Vec<Entry<'r>>, AllocError>,
+}
+
+// A seat for each worker, that of the calling thread last.
+fn lend(alloc: Global, board: &Board, seat: Seat, workers: usize) -> Result<Vec<Lent>, AllocError>
+    requires { IsSeatOf board.now seat }
+    ensures { IfOk result (λ v. All (λ l. IsSeatOf board.now l.seat) v.items) }
+{
+    let mut lent = Vec::with_capacity(alloc, workers)?;
+    let mut mine = seat;
+    for worker in 1..workers {
+        let (kept, seat) = board.split(mine);
+        mine = kept;
+        lent.push(Lent { worker, seat })?;
+    }
+    lent.push(Lent {
+        worker: 0,
+        seat: mine,
+    })?;
+    Ok(lent)
+}
+
+// Each worker on a thread of its own where one can be started, and the last on the calling thread.
+fn work_all<'r, R: Threads + Sync, G: SeatGate + Sync>(
+    rt: &R,
+    alloc: Global,
+    board: &Board,
+    lent: Vec<Lent>,
+    round: &'r Round<'r>,
+    gate: &G,
+) -> Result<Vec<Returned<'r>>, AllocError>
+    requires seats { All (λ l. IsSeatOf board.now l.seat) lent.items }
+    requires round { hits_of board.now ≡ hits_of_round round.now }
+    ensures { IfOk result (λ v. All (λ b. IsReturned board.now (told round.now) b.seat b.entries) v.items) }
+{
+    let worker = move |lent: Lent| -> Returned
+        requires { IsSeatOf board.now lent.seat × (hits_of board.now ≡ hits_of_round round.now) }
+        ensures { IsReturned board.entry.now (told round.entry.now) result.seat result.entries }
+    {
+        let (seat, entries) = work(alloc, board, lent.seat, round, lent.worker, gate);
+        Returned { seat, entries }
+    };
+    thread::map_vec(rt, lent, &worker)
+}
+
+// The seats made one again, and what the workers returned.
+fn join_all<'r>(
+    alloc: Global,
+    board: &Board,
+    round: &'r Round<'r>,
+    mut returned: Vec<Returned<'r>>,
+) -> Result<(Option<Seat>, Vec<Result<Vec<Entry<'r>>, AllocError>>), AllocError>
+    requires { All (λ b. IsReturned board.now (told round.now) b.seat b.entries) returned.items }
+    ensures seat { IfOk result (λ p. IfSome p.0 (IsSeatOf board.now)) }
+    ensures entries { IfOk result (λ p. AllOfRound (told round.now) p.1.items) }
+{
+    let mut lists = Vec::with_capacity(alloc, returned.len())?;
+    let mut joined = None;
+    while let Some(Returned { seat, entries }) = returned.pop() {
+        joined = match joined {
+            Some(mine) => Some(board.join(mine, seat)),
+            None => Some(seat),
+        };
+        lists.push(entries)?;
+    }
+    Ok((joined, lists))
+}
+
+/// The entries of a round by this many workers at most, who claim its pieces on a board. No more are started than there
+/// are pieces; what a thread that can't be started would have done, the others do.
+pub fn search_claimed<'r, R: Threads + Sync, G: SeatGate + Sync>(
+    rt: &R,
+    alloc: Global,
+    round: &'r Round<'r>,
+    workers: usize,
+    gate: &G,
+) -> Result<Vec<Entry<'r>>, AllocError>
+    ensures { IfOk result (λ v. OneForEach (told round.now) v.items) }
+{
+    let (board, seat) = Board::open(alloc, round)?;
+    let lent = lend(alloc, &board, seat, workers.min(round.pieces.len()))?;
+    let returned = work_all(rt, alloc, &board, lent, round, gate)?;
+    let (_seat, lists) = join_all(alloc, &board, round, returned)?;
+    in_order(alloc, round, lists)
+}

@@ -1,0 +1,65 @@
+// What holds of a board between any two steps, and what each step tells its seat.
+use crate::round_hits::RoundHits;
+use crate::views::View;
+use atomic_table::{Join, Play, Split, TableRule};
+
+pub struct Law;
+
+impl<'r> TableRule<(), View, RoundHits<'r>> for Law {
+    ghost use Rattle.shop_board.specs.Moments.{IsLawful};
+    ghost use Rattle.shop_board.specs.Moves.{newcomer};
+
+    ghost holds = { IsLawful };
+
+    ghost first = { newcomer };
+}
+
+pub struct Claim;
+
+impl Play<(), View> for Claim {
+    ghost use Rattle.shop_board.specs.Moves.{Claims};
+
+    ghost then = { Claims };
+}
+
+pub struct Look;
+
+impl Play<(), View> for Look {
+    ghost use Rattle.shop_board.specs.Moves.{Looks};
+
+    ghost then = { Looks };
+}
+
+pub struct Mark;
+
+impl Play<(), View> for Mark {
+    ghost use Rattle.shop_board.specs.Moves.{Marks};
+
+    ghost then = { Marks };
+}
+
+pub struct Count;
+
+impl Play<(), View> for Count {
+    ghost use Rattle.shop_board.specs.Moves.{Counts};
+
+    ghost then = { Counts };
+}
+
+pub struct Share;
+
+impl Split<View> for Share {
+    ghost use Rattle.shop_board.specs.Moves.{empty_handed};
+
+    ghost left = { λ v. v };
+
+    ghost right = { empty_handed };
+}
+
+impl Join<View> for Share {
+    ghost use Rattle.shop_board.specs.Moves.{joined, spent};
+
+    ghost both = { joined };
+
+    ghost spent = { spent };
+}

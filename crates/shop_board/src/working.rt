@@ -1,0 +1,116 @@
+ghost use Rattle.std.specs.Prelude.{◌≡◌, ◌<◌, length, true, IfOk, OnOk};
+ghost use Rattle.shop_round.specs.Entries.{told};
+ghost use Rattle.shop_board.specs.Hits.{hits_of_round};
+ghost use Rattle.shop_board.specs.Views.{has, HasServed};
+ghost use Rattle.shop_board.specs.Seats.{knows, hits_of, IsSeatOf};
+ghost use Rattle.shop_board.specs.Works.{Grows, IsKnown, IsServedEntry, IsTurn, IsAllKnown, AreWon};
+
+use crate::boards::{Board, Seat};
+use crate::gates::SeatGate;
+use shop_round::{Entry, Round, search_piece};
+use std::alloc::{AllocError, Global};
+
+// Searches a piece that the seat won, and marks it where it ends at the opening bound.
+fn search_won<'r, G: SeatGate>(
+    alloc: Global,
+    board: &Board,
+    seat: &mut Seat,
+    round: &'r Round<'r>,
+    number: usize,
+    worker: usize,
+    gate: &G,
+) -> Result<Entry<'r>, AllocError>
+    requires seat { IsSeatOf board.now seat.old }
+    requires round { hits_of board.now ≡ hits_of_round round.now }
+    requires piece { number < length round.now.pieces.items }
+    requires won { has (knows seat.old).mine number ≡ true }
+    ensures seat { IsSeatOf board.now seat.new }
+    ensures grows { Grows (knows seat.old) (knows seat.new) }
+    ensures mine { (knows seat.new).mine ≡ (knows seat.old).mine }
+    ensures entry { IfOk result (IsServedEntry (told round.now) number (knows seat.new)) }
+{
+    gate.won(worker, seat, number);
+    let sheet = search_piece(alloc, round, number)?;
+    if sheet.makespan == round.bound {
+        board.mark(seat, number);
+    }
+    Ok(Entry::done(round, sheet))
+}
+
+// Looks, claims a piece, and where the seat wins it searches it or passes it.
+fn turn<'r, G: SeatGate>(
+    alloc: Global,
+    board: &Board,
+    seat: &mut Seat,
+    round: &'r Round<'r>,
+    number: usize,
+    worker: usize,
+    gate: &G,
+) -> Result<Option<Entry<'r>>, AllocError>
+    requires seat { IsSeatOf board.now seat.old }
+    requires round { hits_of board.now ≡ hits_of_round round.now }
+    requires piece { number < length round.now.pieces.items }
+    ensures seat { IsSeatOf board.now seat.new }
+    ensures grows { Grows (knows seat.old) (knows seat.new) }
+    ensures claimed { IsKnown (knows seat.new) number }
+    ensures entry { IfOk result (IsTurn (told round.now) number (knows seat.old) (knows seat.new)) }
+{
+    let low = board.look(seat);
+    if !board.claim(seat, number) {
+        return Ok(None);
+    }
+    if low < number {
+        return Ok(Some(Entry::passed(round, number, low)));
+    }
+    let entry = search_won(alloc, board, seat, round, number, worker, gate)?;
+    Ok(Some(entry))
+}
+
+// Takes a turn at each piece, in order.
+fn work_through<'r, G: SeatGate>(
+    alloc: Global,
+    board: &Board,
+    seat: &mut Seat,
+    round: &'r Round<'r>,
+    worker: usize,
+    gate: &G,
+) -> Result<Vec<Entry<'r>>, AllocError>
+    requires seat { IsSeatOf board.now seat.old }
+    requires round { hits_of board.now ≡ hits_of_round round.now }
+    ensures seat { IsSeatOf board.now seat.new }
+    ensures grows { Grows (knows seat.old) (knows seat.new) }
+    ensures claimed { OnOk result (IsAllKnown (length round.now.pieces.items) (knows seat.new)) }
+    ensures entries { IfOk result (λ v. AreWon (told round.now) (knows seat.old) (knows seat.new) v.items) }
+{
+    let mut entries = Vec::new(alloc);
+    for number in 0..round.pieces.len() {
+        if let Some(entry) = turn(alloc, board, seat, round, number, worker, gate)? {
+            entries.push(entry)?;
+        }
+    }
+    Ok(entries)
+}
+
+/// Claims each piece of the board in order, and searches or passes those that the seat wins. A piece is passed where
+/// the seat has read a lower number that was marked; one that was searched and ends at the opening bound is marked.
+/// The seat comes back, with the entries of the pieces that it won, in number order; or `AllocError` where a growth was
+/// refused, and then the seat keeps what it won. It waits for nobody but the gate.
+pub fn work<'r, G: SeatGate>(
+    alloc: Global,
+    board: &Board,
+    seat: Seat,
+    round: &'r Round<'r>,
+    worker: usize,
+    gate: &G,
+) -> (Seat, Result<Vec<Entry<'r>>, AllocError>)
+    requires seat { IsSeatOf board.now seat }
+    requires round { hits_of board.now ≡ hits_of_round round.now }
+    ensures seat { IsSeatOf board.now result.0 }
+    ensures claimed { OnOk result.1 (IsAllKnown (length round.now.pieces.items) (knows result.0)) }
+    ensures entries { IfOk result.1 (λ v. AreWon (told round.now) (knows seat) (knows result.0) v.items) }
+    ensures served { OnOk result.1 (HasServed (knows seat) → HasServed (knows result.0)) }
+{
+    let mut seat = seat;
+    let entries = work_through(alloc, board, &mut seat, round, worker, gate);
+    (seat, entries)
+}
