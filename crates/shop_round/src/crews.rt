@@ -80,7 +80,8 @@ pub fn search_piece<'r>(
     )
 }
 
-/// Searches the pieces in order, on the calling thread, and passes those behind the first that ends at the opening bound.
+/// Searches the pieces in order, on the calling thread, and passes those behind the first that ends at the opening
+/// bound.
 #[derive(Clone, Copy)]
 pub struct Alone;
 

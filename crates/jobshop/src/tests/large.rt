@@ -31,7 +31,8 @@ fn many_jobs_on_one_machine(rt: HostRuntime) -> Result<(), Fail> {
             text.push_str("\n")?;
         }
         let wanted = format!(in rt.alloc();
-            "instance 1\nsize {jobs} 1\nmakespan {makespan}\nbound {makespan}\nstatus optimal\nopen 0\nrounds 0\nnodes 0\n"
+            "instance 1\nsize {jobs} 1\nmakespan {makespan}\nbound {makespan}\n\
+            status optimal\nopen 0\nrounds 0\nnodes 0\n"
         )?;
         report_begins(&rt, &["solve"], text.as_str(), wanted.as_str())?;
     }
