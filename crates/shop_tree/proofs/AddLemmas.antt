@@ -1,6 +1,6 @@
 -- Children put on a stack: open ones, and before them, if there are others, their number.
-use Rattle.std.proofs.Common.{◌≡◌, ℕ, zero, suc, ◌+◌, ◌≤◌, Option, Some, None, List, [], ◌∷◌, ◌++◌, length, map, take, drop}
-use Rattle.std.proofs.Common.{reverse, refl, sym, ◌∙◌, ap, subst, arith, append_assoc}
+use Rattle.std.proofs.Common.{◌≡◌, ℕ, zero, suc, ◌+◌, ◌≤◌, Option, Some, None, List, [], ◌∷◌, ◌++◌, length, map, take}
+use Rattle.std.proofs.Common.{drop, reverse, refl, sym, ◌∙◌, ap, subst, arith, append_assoc}
 use Rattle.std.specs.List.{AllByRecursion}
 use Rattle.std.proofs.Math.Seq.{take-append_seam, take-length}
 use Rattle.std.proofs.lemmas.List.{reverse-append, reverse-reverse, length-map, length-reverse, length-append}
@@ -131,7 +131,8 @@ weight-rest shop limit word opens n depth old kids =
     in omega arith
 
 pub weight-with : (old : List Waiting) (opens : List Open) → weight (with_opens old opens) ≡ weight old + length opens
-weight-with old opens = let a = weight-append old (map (λ o. Child o) opens) in let b = weight-opens opens in omega arith
+weight-with old opens =
+    let a = weight-append old (map (λ o. Child o) opens) in let b = weight-opens opens in omega arith
 
 pub few_open : (shop : Shop) (limit : Option ℕ) (word : List ℕ) (opens : List Open) (n : ℕ)
     → AreChildren shop limit word opens n → length opens ≤ length shop.jobs

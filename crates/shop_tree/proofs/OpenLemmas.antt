@@ -50,8 +50,8 @@ module _ (shop : Shop) (v w : List ℕ) (n : ℕ) (alike : take n v ≡ take n w
       in record {
         depth = omega arith;
         count = subst (λ (u : List ℕ). c.count ≤ length (branch shop u)) same own.count;
-        high = subst (λ (u : List ℕ). AllByRecursion (λ x. best ≤ lb shop x) (take c.count (reverse (branch shop u)))) same
-            own.high;
+        high = subst (λ (u : List ℕ). AllByRecursion (λ x. best ≤ lb shop x) (take c.count (reverse (branch shop u))))
+            same own.high;
       }
 
   pub all-same : (best : ℕ) → n ≤ length v → (stack : List Waiting) → AllByRecursion (λ x. depth_of x ≤ n) stack
@@ -93,7 +93,8 @@ words_at-append shop w (x ∷ xs) ys =
     ap (λ ws. entry_words shop w x ++ ws) (words_at-append shop w xs ys)
     ∙ sym (append_assoc (entry_words shop w x) (words_at shop w xs) (words_at shop w ys))
 
-pub words_at-opens : (shop : Shop) (w : List ℕ) (os : List Open) → words_at shop w (map (λ o. Child o) os) ≡ open_words w os
+pub words_at-opens : (shop : Shop) (w : List ℕ) (os : List Open)
+    → words_at shop w (map (λ o. Child o) os) ≡ open_words w os
 words_at-opens shop w [] = refl
 words_at-opens shop w (o ∷ os) = ap (λ ws. word_at w o ∷ ws) (words_at-opens shop w os)
 
@@ -161,8 +162,8 @@ pub adds-waits : (shop : Shop) (best : ℕ) (word : List ℕ) (words : List (Lis
 adds-waits shop best word words old new all more = subst (AreWaiting shop best word) (sym more.stack) (record {
   each = all_append (IsWaiting shop best word) old more.added all.each more.each;
   rising = rising-append old more.added (length word) all.rising
-      (all_weaker (IsWaiting shop best word) (λ x. depth_of x ≤ length word) (λ x h. deep shop best word x h) old all.each)
-      more.depth;
+      (all_weaker (IsWaiting shop best word) (λ x. depth_of x ≤ length word) (λ x h. deep shop best word x h) old
+      all.each) more.depth;
 })
 
 pub adds-words : (shop : Shop) (best : ℕ) (word : List ℕ) (words : List (List ℕ)) (old new : List Waiting)
@@ -198,7 +199,8 @@ module _ (shop : Shop) (best : ℕ) (word next : List ℕ) (rest : List Waiting)
     rising = p.rest_waits.rising;
   }
 
-pub begins-child : (word : List ℕ) (o : Open) → o.depth ≤ length word → take o.depth (word_at word o) ≡ take o.depth word
+pub begins-child : (word : List ℕ) (o : Open) → o.depth ≤ length word
+    → take o.depth (word_at word o) ≡ take o.depth word
 begins-child word o h =
     take-append-le o.depth (take o.depth word) (o.job ∷ []) (let a = length-take-le o.depth word h in omega arith)
     ∙ take-take o.depth o.depth word (omega arith)

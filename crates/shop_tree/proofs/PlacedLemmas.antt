@@ -26,7 +26,8 @@ pub record IsRead (shop : Shop) (p : Placing) (j : ℕ) (operation : Op) (s : Pl
   pub time : operation.time ≡ time_of shop j (p.steps j)
 
 pub is_read : (shop : Shop) (p : Placing) (j : ℕ) (route : List Op) (step : ℕ) (s : PlacementState)
-    → IsWithinLimits shop → IsPlacement shop p s → j < length shop.jobs → route ≡ route_of shop j → step ≡ slice_index s.steps j
+    → IsWithinLimits shop → IsPlacement shop p s → j < length shop.jobs → route ≡ route_of shop j
+    → step ≡ slice_index s.steps j
     → IsRead shop p j (get_or route step no_op) s
 is_read shop p j route step s limits placed job e es =
     let step_is = es ∙ placed.steps j job

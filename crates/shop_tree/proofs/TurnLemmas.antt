@@ -1,6 +1,6 @@
 -- One turn of the walk of a stack: where the desk goes, and what is less to do.
-use Rattle.std.proofs.Common.{◌≡◌, ℕ, ◌+◌, ◌-◌, ◌*◌, ◌≤◌, ◌<◌, true, List, [], ◌∷◌, ◌++◌, length, take, reverse, sym, ◌∙◌, ap}
-use Rattle.std.proofs.Common.{subst, arith}
+use Rattle.std.proofs.Common.{◌≡◌, ℕ, ◌+◌, ◌-◌, ◌*◌, ◌≤◌, ◌<◌, true, List, [], ◌∷◌, ◌++◌, length, take, reverse}
+use Rattle.std.proofs.Common.{sym, ◌∙◌, ap, subst, arith}
 use Rattle.std.proofs.lemmas.List.{length-take-le, take-take}
 use Rattle.shop_model.specs.Shop.{Shop}
 use Rattle.shop_bound.specs.Desks.{DeskState}
@@ -27,7 +27,8 @@ pub record HasGone (from to : DeskState) (stack new : List Waiting) (s t : Walk)
 
 gone_to : (from to : DeskState) (word : List ℕ) (stack new : List Waiting) (s t : Walk) (best : ℕ)
     → to ≡ at_word from word → HasGone from (at_word from word) stack new s t best → HasGone from to stack new s t best
-gone_to from to word stack new s t best went h = subst (λ (d : DeskState). HasGone from d stack new s t best) (sym went) h
+gone_to from to word stack new s t best went h =
+    subst (λ (d : DeskState). HasGone from d stack new s t best) (sym went) h
 
 pub child_gone : (from to : DeskState) (rest new : List Waiting) (o : Open) (s t : Walk) (best lower : ℕ)
     → to ≡ at_word from (word_at from.word o) → AreWaiting from.shop best from.word (rest ++ Child o ∷ [])

@@ -1,6 +1,6 @@
 -- One turn of the walk of a stack of words.
-use Rattle.std.proofs.Common.{◌≡◌, ℕ, zero, suc, ◌+◌, ◌-◌, ◌≤◌, ◌<◌, inl, inr, true, false, Option, Some, List, [], ◌∷◌, ◌++◌}
-use Rattle.std.proofs.Common.{length, map, reverse, refl, sym, ◌∙◌, ap, subst, arith, leb, length-append}
+use Rattle.std.proofs.Common.{◌≡◌, ℕ, zero, suc, ◌+◌, ◌-◌, ◌≤◌, ◌<◌, inl, inr, true, false, Option, Some, List, []}
+use Rattle.std.proofs.Common.{◌∷◌, ◌++◌, length, map, reverse, refl, sym, ◌∙◌, ap, subst, arith, leb, length-append}
 use Rattle.shop_tree.specs.declared.nodes.Node.{Node}
 use Rattle.std.specs.List.{AllByRecursion, fold, range_with_len}
 use Rattle.std.proofs.lemmas.Bool.{cases_Bool, le-leb, leb-true}
@@ -16,11 +16,6 @@ use Rattle.shop_tree.specs.Walking.{Walk, walk, walk_within, steps_left}
 use Rattle.shop_tree.specs.Pieces.{walk_told}
 use Rattle.shop_tree.specs.Searching.{walk_stack, IsTaken}
 use Rattle.shop_tree.specs.Nodes.{words_of}
-
--- the last word of the stack is walked first
-pub walk_stack-pop : (shop : Shop) (s : Walk) (ws : List (List ℕ)) (w : List ℕ) → walk_stack shop s (ws ++ w ∷ [])
-    ≡ walk_stack shop (walk shop s w) ws
-walk_stack-pop shop s ws w = ap (fold (walk shop) s) (reverse-append ws (w ∷ []))
 
 -- words put on the stack, the last one first, are walked next
 pub walk_stack-append : (shop : Shop) (s : Walk) (ws vs : List (List ℕ)) → walk_stack shop s (ws ++ reverse vs)

@@ -1,16 +1,20 @@
--- Words that a stack keeps short: how many entries of the desk's word such a word begins with, and the job that follows;
--- and the last children of a word, which only count, told by their number.
+-- Words that a stack keeps short: how many entries of the desk's word such a word begins with, and the job that
+-- follows; and the last children of a word, which only count, told by their number.
 --     word_at word o                         the word that an open child stands for
 --     open_words word opens                  the words of open children, in order
 --     words_of_closed shop word c            the words that closed children stand for, the last one first
+--     entry_words shop word x                the words that an entry of the stack stands for
 --     words_at shop word stack               the words of all that waits, from the bottom of the stack on
+--     depth_of x                             how many entries of the desk's word an entry begins with
 --     IsOpen shop word o                     the word of o is one of the instance, no longer than word and a job, with
 --                                            its bound
 --     IsClosed shop best word c              there are so many children, and none has a bound below the best
---     AreWaiting shop best word stack        all that waits is such, and nothing begins with less than what is below it
+--     IsWaiting shop best word x             the entry is such an open child, or such closed children
+--     IsRising stack                         nothing begins with less of the desk's word than what is below it
+--     AreWaiting shop best word stack        each entry is such, and they rise
 --     IsPlaceAbove bound opens i             from place i on all bounds are below this one, and the one before, if any,
 --                                            is not
---     IsBoundBelow limit bound result        the bound, or none if it reaches the limit
+--     Reaches, IsBoundBelow                  a bound against a limit, if there is one
 --     AreChildren shop limit word opens n    the children of word with bounds below the limit, the first one last, and
 --                                            how many others there are
 --     Adds shop best word words old new      on top of the old stack lie entries for these words

@@ -4,6 +4,7 @@
 --     walked progress                   what a walk carries, told by its progress
 --     IsTaken shop w s t more           walking w from s comes to t, or, where there is more to do, to walking the
 --                                       children of w from t
+--     HasTaken before w after more      the same, told by the progress before and after
 use Rattle.std.specs.Prelude.{◌≡◌, ℕ, ◌+◌, ◌≤◌, Bool, true, false, None, List, [], reverse, fold}
 use Rattle.shop_model.specs.Shop.{Shop}
 use Rattle.shop_tree.specs.Branching.{branch}
@@ -24,3 +25,6 @@ abbrev pub IsTaken : Shop → List ℕ → Walk → Walk → Bool → Type 0
 IsTaken shop w s t true =
     (walk shop s w ≡ fold (walk shop) t (branch shop w)) × (t.budget + 1 ≡ s.budget) × (t.best ≤ s.best)
 IsTaken shop w s t false = (walk shop s w ≡ t) × (t.budget ≤ s.budget) × (t.best ≤ s.best)
+
+abbrev pub HasTaken : Progress → List ℕ → Progress → Bool → Type 0
+HasTaken before w after more = IsTaken before.instance.now w (walked before) (walked after) more

@@ -4,8 +4,8 @@
 --     IsInOrder w                     all that waits is told rightly
 --     IsNextOn w x                    so is x on top of it
 --     HasBranched before after        the children of the desk's word lie on the stack
---     IsTurn before x after           what waits afterwards comes to the same walk as x on top of what waited before, and
---                                     there is less to do
+--     IsTurn before x after           what waits afterwards comes to the same walk as x on top of what waited before,
+--                                     and there is less to do
 --     HasWalked before after walk     this is walked afterwards, and nothing waits
 use Rattle.std.specs.Prelude.{◌≡◌, ℕ, ◌+◌, ◌*◌, ◌≤◌, ◌<◌, List, [], ◌∷◌, ◌++◌, length, reverse}
 use Rattle.shop_tree.specs.Branching.{branch}
@@ -50,8 +50,8 @@ abbrev pub turns_left : Walker → List Waiting → ℕ
 turns_left w stack = w.progress.budget * (length w.desk.shop.jobs + 2) + weight stack
 
 pub record HasBranched (before after : Walker) : Type 0 where
-  pub stack : Adds before.desk.shop before.progress.best before.desk.word (reverse (branch before.desk.shop before.desk.word))
-      before.stack.items after.stack.items
+  pub stack : Adds before.desk.shop before.progress.best before.desk.word
+      (reverse (branch before.desk.shop before.desk.word)) before.stack.items after.stack.items
   pub weight : weight after.stack.items ≤ weight before.stack.items + length before.desk.shop.jobs + 1
   pub desk : after.desk ≡ before.desk
   pub progress : after.progress ≡ before.progress

@@ -2,7 +2,7 @@
 ghost use Rattle.std.specs.Prelude.{◌≡◌, ◌≤◌, ◌++◌, None, [], IfOk};
 ghost use Rattle.shop_model.specs.Word.{IsWord};
 ghost use Rattle.shop_bound.specs.Bound.{lb};
-ghost use Rattle.shop_tree.specs.Searching.{IsTaken, opening_walk, walked};
+ghost use Rattle.shop_tree.specs.Searching.{HasTaken, opening_walk, walked};
 
 use crate::nodes::Node;
 use crate::walkers::Progress;
@@ -46,7 +46,7 @@ impl<'a> Progress<'a> {
     ) -> Result<bool, AllocError>
         requires word { IsWord self.old.instance.now (front.now ++ last.now) }
         requires bound { bound ≡ lb self.old.instance.now (front.now ++ last.now) }
-        ensures taken { IfOk result (λ more. IsTaken self.old.instance.now (front.now ++ last.now) (walked self.old) (walked self.new) more) }
+        ensures taken { IfOk result (λ more. HasTaken self.old (front.now ++ last.now) self.new more) }
         ensures instance { self.new.instance.now ≡ self.old.instance.now }
     {
         if self.budget == 0 {

@@ -18,8 +18,9 @@ loop-job-init c =
     in (
       [],
       record {
-        all = append-nil _ ∙ (c.gather_conflict.ensures.jobs ∙ (ap (λ (s : Shop). conflict s c.new-placed.result.word.now)
-            shop ∙ ap (conflict c.args.desk.now.shop) word));
+        all = append-nil _
+            ∙ (c.gather_conflict.ensures.jobs ∙ (ap (λ (s : Shop). conflict s c.new-placed.result.word.now) shop
+            ∙ ap (conflict c.args.desk.now.shop) word));
         gathered = gathered_none _ _ _ _ c.clear.ensures.items;
         counted = omega arith;
         same = refl;
@@ -65,11 +66,12 @@ loop-job-preserved c =
     in let job = c.in-Some.job
     in let split = sym (append_assoc c.pop.new.self.items (job ∷ []) now.0)
     ∙ (ap (λ js. js ++ now.0) (sym c.in-Some.ensures.items) ∙ now.1.all)
-    in let child : Open = record { depth = length c.jobs-depth.result.now; job = job; bound = c.in-Some-child_bound.bound }
-    in let bound : c.in-Some-child_bound.bound ≡ lb desk.shop (desk.word ++ job ∷ []) = c.in-Some-child_bound.ensures.bound.0
+    in let below = c.in-Some-child_bound.bound
+    in let child : Open = record { depth = length c.jobs-depth.result.now; job = job; bound = below }
+    in let bound : below ≡ lb desk.shop (desk.word ++ job ∷ []) = c.in-Some-child_bound.ensures.bound.0
     ∙ ap (λ (d : DeskState). lb d.shop (d.word ++ job ∷ [])) now.1.same
-    in let place : IsPlaceAbove c.in-Some-child_bound.bound c.loop-job.children.items c.place_above-place.result = subst
-    (λ (os : List Open). IsPlaceAbove c.in-Some-child_bound.bound os c.place_above-place.result)
+    in let place : IsPlaceAbove below c.loop-job.children.items c.place_above-place.result = subst
+    (λ (os : List Open). IsPlaceAbove below os c.place_above-place.result)
     c.as_slice.ensures.value c.place_above-place.ensures
     in (
       job ∷ now.0,

@@ -12,7 +12,8 @@ returns-then-self-eq0-clause-taken c =
 pub returns-then-front-last-clause-taken : goal.returns-then-front-last-clause-taken
 returns-then-front-last-clause-taken c =
     let self = c.args.self.now
-    in taken-more self.instance.now self.found self.best self.left.items (c.args.front.now ++ c.args.last.now) self.budget
+    in let word = c.args.front.now ++ c.args.last.now
+    in taken-more self.instance.now self.found self.best self.left.items word self.budget
     (let a = c.if-self-eq0.false in omega arith)
     (let a = c.if-bound-self.false in let b = c.requires.bound in omega arith)
     (let a = length-append c.args.front.now c.args.last.now in let b = c.if-front-last.true in let d = self.counted

@@ -72,7 +72,8 @@ returns c =
       fewer = fewer_by self.progress.budget self.progress.budget (length shop.jobs) (length to.shop.jobs) (weight new)
           (weight (rest ++ Rest closed ∷ [])) (omega arith) (ap (λ (x : Shop). length x.jobs) gone.shop)
           (let a = weight-top rest (Rest closed) in let b = ap weight put
-          in let d = weight-with rest (take closed.count opens) in let f = length-take closed.count opens in omega arith);
+          in let d = weight-with rest (take closed.count opens) in let f = length-take closed.count opens
+          in omega arith);
       shop = gone.shop;
       spent = omega arith;
       instance = refl;

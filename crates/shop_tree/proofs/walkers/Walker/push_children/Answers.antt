@@ -26,8 +26,8 @@ returns c =
     ∙ (ap (λ (xs : List Waiting). with_opens xs c.as_slice.result.now) c.in_ok-push_rest.ensures
     ∙ ap (with_opens (with_rest self.stack.items (length c.jobs.result.now) others)) c.as_slice.ensures.value)
     in record {
-      stack = subst (λ (xs : List Waiting). Adds shop best word (reverse (branch shop word)) self.stack.items xs) (sym put)
-          (adds-children shop best word opens others (length c.jobs.result.now) self.stack.items kids depth);
+      stack = subst (λ (xs : List Waiting). Adds shop best word (reverse (branch shop word)) self.stack.items xs)
+          (sym put) (adds-children shop best word opens others (length c.jobs.result.now) self.stack.items kids depth);
       weight = subst (λ (xs : List Waiting). weight xs ≤ weight self.stack.items + length shop.jobs + 1) (sym put)
           (weight-children shop (Some best) word opens others (length c.jobs.result.now) self.stack.items kids);
       desk = c.in_ok-others.ensures.same;

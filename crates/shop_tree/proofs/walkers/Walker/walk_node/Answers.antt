@@ -35,8 +35,8 @@ returns c =
     (ap (λ (v : List ℕ). c.jobs-jobs.result.now ++ v) c.as_slice.ensures ∙ (append-nil _ ∙ c.jobs-jobs.ensures))
     c.if-not-branch.false c.in_ok-takes.ensures.taken
     in let adds : Adds self.desk.shop c.takes.new.self.best word (reverse (branch self.desk.shop word)) self.stack.items
-    new.stack.items = subst (λ (d : DeskState). Adds d.shop c.takes.new.self.best d.word (reverse (branch d.shop d.word))
-    self.stack.items new.stack.items) went b.stack
+    new.stack.items = subst (λ (d : DeskState). Adds d.shop c.takes.new.self.best d.word
+    (reverse (branch d.shop d.word)) self.stack.items new.stack.items) went b.stack
     in let walks : stack_walk new ≡ node_walk self c.args.node.now = ap (λ (p : Progress). walk_stack new.desk.shop
     (walked p) (words_at new.desk.shop new.desk.word new.stack.items)) b.progress
     ∙ (ap (λ (d : DeskState). walk_stack d.shop (walked c.takes.new.self) (words_at d.shop d.word new.stack.items))

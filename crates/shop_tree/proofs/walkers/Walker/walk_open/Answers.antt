@@ -22,10 +22,10 @@ returns-then-not-branch c =
     in let shop = self.desk.shop
     in let o = c.args.child
     in let rest = self.stack.items
-    in let h : IsTaken shop (word_at self.desk.word o) (walked self.progress) (walked c.takes.new.self) false = open_taken
-    self.progress.instance.now shop c.jobs.result.now c.as_slice.result.now self.desk.word o (walked self.progress)
-    (walked c.takes.new.self) c.in_ok-takes.field-0 false (sym self.same_shop) c.jobs.ensures c.as_slice.ensures
-    c.if-not-branch.true c.in_ok-takes.ensures.taken
+    in let h : IsTaken shop (word_at self.desk.word o) (walked self.progress) (walked c.takes.new.self) false =
+    open_taken self.progress.instance.now shop c.jobs.result.now c.as_slice.result.now self.desk.word o
+    (walked self.progress) (walked c.takes.new.self) c.in_ok-takes.field-0 false (sym self.same_shop)
+    c.jobs.ensures c.as_slice.ensures c.if-not-branch.true c.in_ok-takes.ensures.taken
     in record {
       walk = child-done shop self.desk.word rest (walked self.progress) (walked c.takes.new.self) o h;
       in_order = waiting-lower shop self.progress.best c.takes.new.self.best self.desk.word rest h.2
@@ -40,7 +40,8 @@ returns-then-not-branch c =
 pub undo_to-requires : goal.undo_to-requires
 undo_to-requires c =
     let self = c.args.self.now
-    in (popped self.desk.shop self.progress.best self.desk.word self.stack.items (Child c.args.child) c.requires).own.depth
+    in (popped self.desk.shop self.progress.best self.desk.word self.stack.items (Child c.args.child)
+    c.requires).own.depth
 
 pub dispatch-requires : goal.dispatch-requires
 dispatch-requires c =
@@ -73,8 +74,9 @@ returns c =
     in let went : mid ≡ at_word self.desk (word_at self.desk.word o) = c.dispatch.ensures
     ∙ ap (λ (d : DeskState). goes_on d o.job) c.undo_to.ensures
     in on_ok _ (IsTurn self (Child o) new) (λ b.
-    let adds : Adds new.desk.shop taken.best new.desk.word (reverse (branch new.desk.shop new.desk.word)) rest new.stack.items
-    = subst (λ (d : DeskState). Adds d.shop taken.best d.word (reverse (branch d.shop d.word)) rest new.stack.items)
+    let adds : Adds new.desk.shop taken.best new.desk.word (reverse (branch new.desk.shop new.desk.word)) rest
+    new.stack.items =
+    subst (λ (d : DeskState). Adds d.shop taken.best d.word (reverse (branch d.shop d.word)) rest new.stack.items)
     (sym b.desk) b.stack
     in let gone = child_gone self.desk new.desk rest new.stack.items o (walked self.progress) (walked taken)
     self.progress.best taken.best (b.desk ∙ went) c.requires h.2 h adds
