@@ -1,5 +1,5 @@
 // The lower bound of a word.
-ghost use Rattle.std.specs.Prelude.{◌≡◌, ℕ, ◌<◌, ◌≤◌, ◌^◌, IfOk, length, vec_capacity};
+ghost use Rattle.std.specs.Prelude.{◌≡◌, ℕ, ◌<◌, ◌^◌, IfOk};
 ghost use Rattle.shop_model.specs.Word.{IsWord};
 ghost use Rattle.shop_bound.specs.Bound.{lb};
 ghost use Rattle.shop_bound.specs.Laws.{IsLower, EndsThereIfFull};
@@ -8,32 +8,24 @@ ghost use Rattle.shop_bound.specs.Unplaced.{greatest_among, triples_among};
 
 use crate::placements::Placement;
 use crate::schedules::Jackson;
-use crate::triples::Triple;
 use crate::unplaced::{Unplaced, gather, list_unplaced};
 use shop_model::{Instance, Word};
 use std::alloc::{AllocError, Global};
 
 /// The greatest, over the machines, of when it is free and of the one-machine bound of what is left for it.
-pub(crate) fn greatest_bound(
-    free: &[u64],
-    unplaced: &[Unplaced],
-    triples: &mut Vec<Triple>,
-    jackson: &mut Jackson,
-) -> u64
-    requires small { (m : ℕ) → IsSmall (triples_among unplaced.now m) }
-    requires room { length unplaced.now ≤ vec_capacity triples.old }
-    requires schedule { length unplaced.now ≤ jackson.old.room }
-    ensures bound { result ≡ greatest_among free.now unplaced.now }
-    ensures room { vec_capacity triples.old ≤ vec_capacity triples.new }
-    ensures schedule { jackson.new.room ≡ jackson.old.room }
+fn greatest_bound(alloc: Global, free: &[u64], unplaced: &[Unplaced]) -> Result<u64, AllocError>
+    requires { (m : ℕ) → IsSmall (triples_among unplaced.now m) }
+    ensures { IfOk result (λ b. b ≡ greatest_among free.now unplaced.now) }
 {
+    let mut triples = Vec::with_capacity(alloc, unplaced.len())?;
+    let mut jackson = Jackson::with_room(alloc, unplaced.len())?;
     let mut bound = 0;
     for machine in 0..free.len() {
-        gather(triples, unplaced, machine);
+        gather(&mut triples, unplaced, machine);
         let left = jackson.bound(triples.as_slice());
         bound = bound.max(free[machine].max(left));
     }
-    bound
+    Ok(bound)
 }
 
 /// The lower bound of a word that fits the instance: the greatest of the placed ends and of the one-machine bounds of
@@ -48,14 +40,6 @@ pub fn lower_bound(alloc: Global, instance: &Instance, word: &Word) -> Result<u6
 {
     instance.keeps_limits();
     let placement = Placement::of(alloc, instance, word)?;
-    let mut unplaced = Vec::with_capacity(alloc, instance.operations())?;
-    list_unplaced(&mut unplaced, instance, &placement);
-    let mut triples = Vec::with_capacity(alloc, unplaced.len())?;
-    let mut jackson = Jackson::with_room(alloc, unplaced.len())?;
-    Ok(greatest_bound(
-        placement.machines_free(),
-        unplaced.as_slice(),
-        &mut triples,
-        &mut jackson,
-    ))
+    let unplaced = list_unplaced(alloc, instance, &placement)?;
+    greatest_bound(alloc, placement.machines_free(), unplaced.as_slice())
 }

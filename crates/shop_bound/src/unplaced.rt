@@ -1,6 +1,5 @@
 // The operations that a word leaves, with their machines, heads, times and tails.
-ghost use Rattle.std.specs.Prelude.{◌≡◌, ◌+◌, ◌≤◌, length, vec_len, vec_capacity};
-ghost use Rattle.shop_model.specs.Shop.{operation_count};
+ghost use Rattle.std.specs.Prelude.{◌≡◌, ◌≤◌, IfOk, OnOk, length, vec_capacity};
 ghost use Rattle.shop_bound.specs.Placements.{IsOfWord};
 ghost use Rattle.shop_bound.specs.Unplaced.{Adds, AreUnplaced, CanGoOn, triples_among};
 
@@ -8,6 +7,7 @@ use crate::placements::Placement;
 use crate::tail_rows::total_time;
 use crate::triples::Triple;
 use shop_model::{Instance, Op};
+use std::alloc::{AllocError, Global};
 
 /// An operation that isn't placed: its machine, and its head, time and tail.
 #[derive(Clone, Copy, Debug)]
@@ -16,13 +16,15 @@ pub(crate) struct Unplaced {
     triple: Triple,
 }
 
-/// Adds the rest of a job's route to the list, once the job is ready and the machines are free. The list has room.
-fn add_rest(list: &mut Vec<Unplaced>, rest: &[Op], ready: u64, free: &[u64])
-    requires goes_on { CanGoOn free.now ready rest.now }
-    requires room { vec_len list.old + length rest.now ≤ vec_capacity list.old }
-    ensures added { Adds list.old.items list.new.items free.now ready rest.now }
-    ensures longer { vec_len list.new ≡ vec_len list.old + length rest.now }
-    ensures room { vec_capacity list.old ≤ vec_capacity list.new }
+/// Adds the rest of a job's route to the list, once the job is ready and the machines are free.
+fn add_rest(
+    list: &mut Vec<Unplaced>,
+    rest: &[Op],
+    ready: u64,
+    free: &[u64],
+) -> Result<(), AllocError>
+    requires { CanGoOn free.now ready rest.now }
+    ensures { OnOk result (Adds list.old.items list.new.items free.now ready rest.now) }
 {
     let mut tail = total_time(rest);
     let mut ready = ready;
@@ -36,27 +38,39 @@ fn add_rest(list: &mut Vec<Unplaced>, rest: &[Op], ready: u64, free: &[u64])
                 time: op.time,
                 tail,
             },
-        })
-        .unwrap();
+        })?;
         ready = head + op.time;
     }
+    Ok(())
 }
 
-/// Lists the operations that aren't placed, job by job, in place of what the list holds. It has room for all of the
-/// instance.
-pub(crate) fn list_unplaced(list: &mut Vec<Unplaced>, instance: &Instance, placement: &Placement)
-    requires word { IsOfWord instance.now placement.now }
-    requires room { operation_count instance.now ≤ vec_capacity list.old }
-    ensures listed { AreUnplaced instance.now placement.now list.new.items }
-    ensures few { vec_len list.new ≤ operation_count instance.now }
-    ensures room { vec_capacity list.old ≤ vec_capacity list.new }
+/// How many operations aren't placed.
+fn count_unplaced(instance: &Instance, placement: &Placement) -> usize
+    requires { IsOfWord instance.now placement.now }
+{
+    let mut count: usize = 0;
+    for j in 0..instance.jobs() {
+        count += instance.route(j).len() - placement.steps(j);
+    }
+    count
+}
+
+/// The operations that aren't placed, job by job.
+pub(crate) fn list_unplaced(
+    alloc: Global,
+    instance: &Instance,
+    placement: &Placement,
+) -> Result<Vec<Unplaced>, AllocError>
+    requires { IsOfWord instance.now placement.now }
+    ensures { IfOk result (λ v. AreUnplaced instance.now placement.now v.items) }
 {
     let free = placement.machines_free();
-    list.clear();
+    let mut list = Vec::with_capacity(alloc, count_unplaced(instance, placement))?;
     for j in 0..instance.jobs() {
         let rest = &instance.route(j)[placement.steps(j)..];
-        add_rest(list, rest, placement.ready(j), free);
+        add_rest(&mut list, rest, placement.ready(j), free)?;
     }
+    Ok(list)
 }
 
 /// Puts the triples of one machine into the list, in place of what it holds.

@@ -5,7 +5,7 @@ use Rattle.shop_bound.proofs.UnplacedTurns.{add_turn, rest_small}
 use Rattle.shop_bound.proofs.unplaced.add_rest.Goals as goal
 
 pub total_time-tail-requires : goal.total_time-tail-requires
-total_time-tail-requires c = rest_small c.args.free.now c.args.ready c.args.rest.now c.requires.goes_on
+total_time-tail-requires c = rest_small c.args.free.now c.args.ready c.args.rest.now c.requires
 
 pub loop-op-preserved : goal.loop-op-preserved
 loop-op-preserved c =
@@ -17,10 +17,7 @@ loop-op-preserved c =
           c.max-head.result c.max-head.ensures
           (c.loop-op.tail - (get_or rest k no_op).time) (omega arith) (search rules) c.loop-op.invariant.added;
       tail = omega arith;
-      small = (let a = c.requires.goes_on.times k in let m =
-          c.requires.goes_on.free_small (get_or rest k no_op).machine
-          (c.requires.goes_on.on_machines k c.loop-op-test.true)
+      small = (let a = c.requires.times k in let m =
+          c.requires.free_small (get_or rest k no_op).machine (c.requires.on_machines k c.loop-op-test.true)
           in let so_far = c.loop-op.invariant.small in let b = c.max-head.ensures in omega arith);
-      longer = search rules;
-      room = omega arith;
     }

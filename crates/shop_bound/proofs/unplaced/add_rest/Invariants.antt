@@ -1,4 +1,4 @@
-use Rattle.std.proofs.Common.{◌≡◌, ◌+◌, ◌*◌, ◌≤◌, ◌++◌, drop, vec_len, vec_capacity}
+use Rattle.std.proofs.Common.{◌≡◌, ◌+◌, ◌*◌, ◌≤◌, ◌++◌, drop}
 use Rattle.std.specs.List.{sum_by}
 use Rattle.shop_bound.specs.Unplaced.{unplaced_from}
 use Rattle.shop_bound.proofs.unplaced.add_rest.Given as goal
@@ -9,6 +9,4 @@ invariant-loop-op l = record {
       ≡ l.fn.list.items ++ unplaced_from l.free l.fn.ready l.rest;
   tail : l.tail ≡ sum_by (λ o. o.time) (drop l.op-index l.rest);
   small : l.ready ≤ 1000000000000000 + l.op-index * 1000000000;
-  longer : vec_len l.list ≡ vec_len l.fn.list + l.op-index;
-  room : vec_capacity l.fn.list ≤ vec_capacity l.list;
 }

@@ -1,16 +1,11 @@
-use Rattle.std.proofs.Common.{◌≡◌, ◌≤◌, map, vec_len, vec_capacity}
+use Rattle.std.proofs.Common.{◌≡◌, map}
 use Rattle.std.specs.List.{flat_map, range_with_len}
 use Rattle.shop_model.specs.Word.{Placing}
 use Rattle.shop_bound.specs.Bound.{waiting_of}
 use Rattle.shop_bound.specs.Placements.{IsPlacement}
 use Rattle.shop_bound.specs.Unplaced.{unplaced_of}
-use Rattle.shop_bound.proofs.Routes.{operations_before}
 use Rattle.shop_bound.proofs.unplaced.list_unplaced.Given as goal
 
 abbrev pub invariant-loop-j : goal.invariant-loop-j
-invariant-loop-j l = record {
-  listed : (p : Placing) → IsPlacement l.instance p l.placement
-      → l.list.items ≡ map unplaced_of (flat_map (λ j. waiting_of l.instance p j) (range_with_len 0 l.j));
-  few : vec_len l.list ≤ operations_before l.instance l.j;
-  room : vec_capacity l.fn.list ≤ vec_capacity l.list;
-}
+invariant-loop-j l = (p : Placing) → IsPlacement l.instance p l.placement
+    → l.list.items ≡ map unplaced_of (flat_map (λ j. waiting_of l.instance p j) (range_with_len 0 l.j))
