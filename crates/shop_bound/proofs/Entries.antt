@@ -1,14 +1,14 @@
 -- The entries of a word, one after another.
 use Rattle.std.proofs.Common.{◌≡◌, ℕ, ◌+◌, ◌*◌, ◌≤◌, ◌<◌, inl, inr, List, [], ◌∷◌, ◌++◌, length, length-append, take}
-use Rattle.std.proofs.Common.{drop, get_or, ◌∙◌, ap, subst, arith, cond, eqb}
+use Rattle.std.proofs.Common.{drop, get_or, ◌∙◌, ap, arith, cond, eqb}
 use Rattle.std.proofs.lemmas.Bool.{cases_eq}
 use Rattle.std.proofs.lemmas.List.{take-append-drop, take_more}
 use Rattle.std.proofs.lemmas.List.Sums.{sum_by-append}
 use Rattle.shop_model.specs.Limits.{IsWithinLimits}
-use Rattle.shop_model.specs.Shop.{Shop, IsOperation, machine_of}
+use Rattle.shop_model.specs.Shop.{Shop, machine_of}
 use Rattle.shop_model.specs.Word.{Placing, count_of, IsWord, placing, place_next}
 use Rattle.shop_model.proofs.Placings.{IsNext, place_next-is}
-use Rattle.shop_model.proofs.Unders.{next_operation, placing-snoc}
+use Rattle.shop_model.proofs.Unders.{placing-snoc}
 use Rattle.shop_model.proofs.WordLemmas.{snoc_induct}
 
 pub count_of-append : (j : ℕ) (v u : List ℕ) → count_of j (v ++ u) ≡ count_of j v + count_of j u
@@ -20,13 +20,6 @@ IsWord-front shop v u h j = let a = h j in let b = count_of-append j v u in omeg
 
 pub IsWord-take : (shop : Shop) (w : List ℕ) (i : ℕ) → IsWord shop w → IsWord shop (take i w)
 IsWord-take shop w i h = IsWord-front shop (take i w) (drop i w) (rw take-append-drop h)
-
--- an entry stands for an operation
-pub entry_operation : (shop : Shop) (w : List ℕ) (i : ℕ) → IsWord shop w → i < length w
-    → IsOperation shop (get_or w i 0) (count_of (get_or w i 0) (take i w))
-entry_operation shop w i h below =
-    next_operation shop (take i w) (get_or w i 0) (subst (IsWord shop) (take_more w i 0 below)
-    (IsWord-take shop w (i + 1) h))
 
 -- one more entry is placed
 pub placing-take : (shop : Shop) (w : List ℕ) (i : ℕ) → i < length w

@@ -240,13 +240,6 @@ pub record IsTried (ts : List Triple) (from to n best last : ℕ) : Type 0 where
   pub within : best ≤ one ts
   pub again : last < 2 ^ 50 → (tail : ℕ) → span_above ts last tail ≤ best
 
-pub none_tried : (ts : List Triple) (from to : ℕ) → IsTried ts from to 0 0 18446744073709551615
-none_tried ts from to = record {
-  covers = λ i h _ _ _. absurd (omega arith);
-  within = omega arith;
-  again = λ h _. absurd (omega arith);
-}
-
 -- a threshold that isn't between
 pub tried_outside : (ts : List Triple) (from to n best last : ℕ) → IsTried ts from to n best last
     → ((from ≤ head_at ts n) → (head_at ts n ≤ to) → ⊥) → IsTried ts from to (n + 1) best last

@@ -1,7 +1,7 @@
 -- How many operations the jobs before one have together.
 use Rattle.std.proofs.Common.{◌≡◌, ℕ, ◌+◌, ◌≤◌, ◌<◌, length, take}
 use Rattle.std.specs.List.{sum_by}
-use Rattle.std.proofs.lemmas.List.Sums.{sum_by_more, sum_by_more_le, sum_by-take-le}
+use Rattle.std.proofs.lemmas.List.Sums.{sum_by_more, sum_by-take-le}
 use Rattle.shop_model.specs.Shop.{Shop, no_job, route_of, operation_count}
 
 abbrev pub operations_before : Shop → ℕ → ℕ
@@ -10,10 +10,6 @@ operations_before shop n = sum_by (λ job. length job.route) (take n shop.jobs)
 pub before_more : (shop : Shop) (j : ℕ) → j < length shop.jobs
     → operations_before shop (j + 1) ≡ operations_before shop j + length (route_of shop j)
 before_more shop j job = sum_by_more (λ job. length job.route) shop.jobs j no_job job
-
-pub before_within : (shop : Shop) (j : ℕ) → j < length shop.jobs
-    → operations_before shop j + length (route_of shop j) ≤ operation_count shop
-before_within shop j job = sum_by_more_le (λ job. length job.route) shop.jobs j no_job job
 
 pub before_at_most : (shop : Shop) (j : ℕ) → operations_before shop j ≤ operation_count shop
 before_at_most shop j = sum_by-take-le (λ job. length job.route) shop.jobs j

@@ -12,14 +12,8 @@ use Rattle.shop_bound.specs.Heads.{ready_after, head_of}
 use Rattle.shop_bound.specs.KeptHeads.{no_raise, raise_of, widened, IsWithin, AreWidened}
 use Rattle.shop_bound.specs.Placements.{PlacementState, IsPlacement}
 use Rattle.shop_bound.specs.declared.kept_heads.Raise.{Raise}
-use Rattle.shop_bound.specs.KeptHeads.{IsRowKept, AreHeadsOfPlacement}
-use Rattle.std.proofs.Common.{◌++◌, [], ◌∷◌, map}
-use Rattle.std.specs.Prelude.{Vec}
-use Rattle.std.specs.declared.alloc.Global.{Global}
-use Rattle.std.proofs.lemmas.Bool.{cases_lt}
-use Rattle.std.proofs.lemmas.List.{map-append, get_or_push, get_or_append_left, get_or_past, length_push}
-use Rattle.shop_model.specs.Shop.{ShopJob, no_job}
-use Rattle.shop_model.proofs.Ends.{IsOperation-job}
+use Rattle.shop_bound.specs.KeptHeads.{IsRowKept}
+use Rattle.std.proofs.Common.{[]}
 use Rattle.shop_bound.proofs.HeadTurns.{ready_more}
 
 -- a raise that is wider
@@ -165,45 +159,3 @@ pub record AreRowsSoFar (shop : Shop) (s : PlacementState) (n : ℕ) (rows : Lis
   pub jobs : length rows ≡ n
   pub each : (i : ℕ) → i < n → IsRowKept shop s i (get_or rows i [])
   pub steps : (i : ℕ) → i < n → length (get_or rows i []) ≡ length (route_of shop i)
-
-pub rows_so_far : (shop : Shop) (s : PlacementState) (n : ℕ) (rows : List (Vec ℕ Global)) (row : Vec ℕ Global)
-    (more : List (Vec ℕ Global)) → AreRowsSoFar shop s n (map (λ v. v.items) rows) → more ≡ rows ++ row ∷ []
-    → IsRowKept shop s n row.items → length row.items ≡ length (route_of shop n)
-    → AreRowsSoFar shop s (n + 1) (map (λ v. v.items) more)
-rows_so_far shop s n rows row more r pushed kept long =
-    let items = λ (v : Vec ℕ Global). v.items
-    in let e : map items more ≡ map items rows ++ row.items ∷ [] =
-    ap (map items) pushed ∙ map-append items rows (row ∷ [])
-    in let jobs = r.jobs
-    in let at : get_or (map items more) n [] ≡ row.items = ap (λ (xs : List (List ℕ)). get_or xs n []) e
-    ∙ get_or_push (map items rows) row.items [] n jobs
-    in let other : (i : ℕ) → i < n → get_or (map items more) i [] ≡ get_or (map items rows) i [] =
-    (λ i below. ap (λ (xs : List (List ℕ)). get_or xs i []) e
-    ∙ get_or_append_left (map items rows) (row.items ∷ []) [] i (omega arith))
-    in record {
-      jobs = ap (λ (xs : List (List ℕ)). length xs) e ∙ (length_push (map items rows) row.items
-          ∙ ap (λ (x : ℕ). x + 1) jobs);
-      each = λ i below. elim (cases_eq i n) [
-        | inl f ↦ subst (λ (x : ℕ). IsRowKept shop s x (get_or (map items more) x [])) (sym f)
-            (subst (λ (xs : List ℕ). IsRowKept shop s n xs) (sym at) kept)
-        | inr ne ↦ subst (λ (xs : List ℕ). IsRowKept shop s i xs) (sym (other i (omega arith))) (r.each i (omega arith))
-      ];
-      steps = λ i below. elim (cases_eq i n) [
-        | inl f ↦ rw f (ap (λ (xs : List ℕ). length xs) at ∙ long)
-        | inr ne ↦ ap (λ (xs : List ℕ). length xs) (other i (omega arith)) ∙ r.steps i (omega arith)
-      ];
-    }
-
-pub rows_of_all : (shop : Shop) (s : PlacementState) (n : ℕ) (rows : List (List ℕ)) → n ≡ length shop.jobs
-    → AreRowsSoFar shop s n rows → AreHeadsOfPlacement shop s rows
-rows_of_all shop s n rows e r p is =
-    let jobs = r.jobs
-    in record {
-      jobs = jobs ∙ e;
-      steps = λ i. elim (cases_lt i n) [
-        | inl below ↦ r.steps i below
-        | inr past ↦ ap (λ (xs : List ℕ). length xs) (get_or_past rows i [] (omega arith))
-            ∙ sym (ap (λ (x : ShopJob). length x.route) (get_or_past shop.jobs i no_job (omega arith)))
-      ];
-      heads = λ i k op opened. r.each i (let job = IsOperation-job shop i k op in omega arith) p is k op opened;
-    }
