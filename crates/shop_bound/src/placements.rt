@@ -69,7 +69,7 @@ impl Placement {
     }
 
     /// Places the next step of job j as soon as the job and its machine can.
-    pub fn place_next(&mut self, instance: &Instance, j: usize)
+    pub(crate) fn place_next(&mut self, instance: &Instance, j: usize)
         requires { HasNext instance.now j self.old }
         ensures { PlacesNext instance.now j self.old self.new }
     {

@@ -5,7 +5,7 @@ ghost use Rattle.shop_bound.specs.OneMachine.{one, IsSmall};
 ghost use Rattle.shop_bound.specs.Schedules.{IsChoice, IsFresh, IsReady, IsRun, IsServed, IsStop, JacksonState, fresh};
 ghost use Rattle.shop_bound.specs.Schedules.{triples_of, turns_left, undone};
 
-use crate::triples::Triple;
+use crate::triples::{NO_TRIPLE, Triple};
 use std::alloc::{AllocError, Global};
 use std::marker::Model;
 
@@ -176,11 +176,7 @@ impl Jackson {
         for _ in 0..n {
             works
                 .push(Work {
-                    triple: Triple {
-                        head: 0,
-                        time: 0,
-                        tail: 0,
-                    },
+                    triple: NO_TRIPLE,
                     spent: 0,
                     done: true,
                 })
