@@ -15,8 +15,8 @@ use std::alloc::{AllocError, Global};
 use std::marker::Model;
 
 /// An instance and a word of it that is dispatched entry by entry, with its placement and its bound. It keeps the heads
-/// of what is left up with each entry, so a bound looks only at the machines on which heads changed. Only `new` takes
-/// memory.
+/// of what is left up with each entry, so the bound after one more operation looks only at the machines on which heads
+/// change. Only `new` takes memory.
 #[derive(Drop)]
 pub struct Desk<'a> {
     instance: &'a Instance,
@@ -132,7 +132,9 @@ impl<'a> Desk<'a> {
         self.bound_up_to(job, bound, u64::MAX)
     }
 
-    /// The same if it is below the limit, and none if it is not: it stops once that is known.
+    /// The lower bound of what is dispatched and the next operation of a job, which has one left, if that bound is below
+    /// the limit, in units of time, and none if it is not: it stops once that is known. The bound of what is dispatched
+    /// is at hand.
     pub fn bound_below(&mut self, job: usize, bound: u64, limit: u64) -> Option<u64>
         requires fits { IsWord self.old.shop (self.old.word ++ job ∷ []) }
         requires bound { bound ≡ lb self.old.shop self.old.word }
@@ -143,7 +145,7 @@ impl<'a> Desk<'a> {
         if after < limit { Some(after) } else { None }
     }
 
-    /// The same, or as much of it as reaches the limit.
+    /// The bound after the next operation of a job, or as much of it as reaches the limit.
     fn bound_up_to(&mut self, job: usize, bound: u64, limit: u64) -> u64
         requires fits { IsWord self.old.shop (self.old.word ++ job ∷ []) }
         requires bound { bound ≡ lb self.old.shop self.old.word }
