@@ -106,6 +106,7 @@ pub fn work<'r, G: SeatGate>(
     requires seat { IsSeatOf board.now seat }
     requires round { hits_of board.now ≡ hits_of_round round.now }
     ensures seat { IsSeatOf board.now result.0 }
+    ensures grows { Grows (knows seat) (knows result.0) }
     ensures claimed { OnOk result.1 (IsAllKnown (length round.now.pieces.items) (knows result.0)) }
     ensures entries { IfOk result.1 (λ v. AreWon (told round.now) (knows seat) (knows result.0) v.items) }
     ensures served { OnOk result.1 (HasServed (knows seat) → HasServed (knows result.0)) }
