@@ -1,4 +1,4 @@
-ghost use Rattle.std.specs.Prelude.{◌≡◌, ◌<◌, All, IfOk, IfSome};
+ghost use Rattle.std.specs.Prelude.{◌≡◌, ◌<◌, All, IfOk, IfSome, vec_len};
 ghost use Rattle.shop_round.specs.Entries.{told};
 ghost use Rattle.shop_round.specs.Crews.{OneForEach};
 ghost use Rattle.shop_board.specs.Entries.{OfRound, AllOfRound};
@@ -58,7 +58,8 @@ fn work_all<'r, R: Threads + Sync, G: SeatGate + Sync>(
 ) -> Result<Vec<Returned<'r>>, AllocError>
     requires seats { All (λ l. IsSeatOf board.now l.seat) lent.items }
     requires round { hits_of board.now ≡ hits_of_round round.now }
-    ensures { IfOk result (λ v. All (λ b. IsReturned board.now (told round.now) b.seat b.entries) v.items) }
+    ensures len { IfOk result (λ v. vec_len v ≡ vec_len lent) }
+    ensures each { IfOk result (λ v. All (λ b. IsReturned board.now (told round.now) b.seat b.entries) v.items) }
 {
     let worker = move |lent: Lent| -> Returned
         requires { IsSeatOf board.now lent.seat × (hits_of board.now ≡ hits_of_round round.now) }

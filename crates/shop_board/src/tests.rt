@@ -11,7 +11,7 @@ use shop_round::{Alone, Answer, Crew, Entry, Kind, Plan, Round, Standing, gather
 use std::alloc::{AllocError, Global};
 use std::process::Abort;
 use std::sync::Wait;
-use std::sync::atomic::{AtomicBool, AtomicUsize, Ordering};
+use std::sync::atomic::{AtomicBool, Ordering};
 use std::test::Fail;
 use std::thread;
 use std::thread::Threads;
@@ -77,57 +77,65 @@ fn crews_have_1_to_64_workers(rt: HostRuntime) {
 #[derive(Drop)]
 struct Meeting {
     began: [AtomicBool; 2],
-    met: AtomicUsize,
+    met: [AtomicBool; 2],
 }
 
 impl Meeting {
     fn new() -> Meeting {
         Meeting {
             began: [AtomicBool::new(false), AtomicBool::new(false)],
-            met: AtomicUsize::new(0),
+            met: [AtomicBool::new(false), AtomicBool::new(false)],
         }
     }
 
-    fn meet(&self, piece: usize) {
-        if piece >= 2 {
+    fn meet(&self, worker: usize, piece: usize) {
+        if worker >= 2 || piece >= 2 {
             return;
         }
         self.began[piece].store(true, Ordering::SeqCst);
         for _ in 0..10_000_000 {
             if self.began[1 - piece].load(Ordering::SeqCst) {
-                self.met.fetch_add(1, Ordering::SeqCst);
+                self.met[worker].store(true, Ordering::SeqCst);
                 return;
             }
             thread::yield_now();
         }
     }
+
+    // Which of the workers 0 and 1 met the other.
+    fn who_met(&self) -> [bool; 2] {
+        [
+            self.met[0].load(Ordering::SeqCst),
+            self.met[1].load(Ordering::SeqCst),
+        ]
+    }
 }
 
 impl Gate for Meeting {
-    fn before(&self, _worker: usize, piece: usize) {
-        self.meet(piece);
+    fn before(&self, worker: usize, piece: usize) {
+        self.meet(worker, piece);
     }
 }
 
 impl SeatGate for Meeting {
-    fn won(&self, _worker: usize, _seat: &Seat, piece: usize) {
-        self.meet(piece);
+    fn won(&self, worker: usize, _seat: &Seat, piece: usize) {
+        self.meet(worker, piece);
     }
 }
 
-// The entries by two workers of a crew that takes numbers under a lock, and how many of them met.
+// The entries by two workers of a crew that takes numbers under a lock, and which of them met the other.
 fn by_lock<'r, R: Threads + Wait + Sync>(
     rt: &R,
     alloc: Global,
     round: &'r Round<'r>,
-) -> Result<(Vec<Entry<'r>>, usize), AllocError>
+) -> Result<(Vec<Entry<'r>>, [bool; 2]), AllocError>
     ensures { IfOk result (λ p. OneForEach (told round.now) p.0.items) }
 {
     let Some(crew) = LockCrew::new(2, Meeting::new()) else {
         return Err(AllocError);
     };
     let entries = crew.search_round(rt, alloc, round)?;
-    let met = crew.gate().met.load(Ordering::SeqCst);
+    let met = crew.gate().who_met();
     Ok((entries, met))
 }
 
@@ -136,14 +144,14 @@ fn by_board<'r, R: Threads + Sync>(
     rt: &R,
     alloc: Global,
     round: &'r Round<'r>,
-) -> Result<(Vec<Entry<'r>>, usize), AllocError>
+) -> Result<(Vec<Entry<'r>>, [bool; 2]), AllocError>
     ensures { IfOk result (λ p. OneForEach (told round.now) p.0.items) }
 {
     let Some(crew) = BoardCrew::new(2, Meeting::new()) else {
         return Err(AllocError);
     };
     let entries = crew.search_round(rt, alloc, round)?;
-    let met = crew.gate().met.load(Ordering::SeqCst);
+    let met = crew.gate().who_met();
     Ok((entries, met))
 }
 
@@ -152,7 +160,7 @@ fn by_board<'r, R: Threads + Sync>(
 #[derive(Drop)]
 struct MeetingCrew {
     on_a_board: bool,
-    met: usize,
+    met: [bool; 2],
     left: [Option<usize>; 2],
 }
 
@@ -194,11 +202,11 @@ fn two_workers_meet_at_the_gate(rt: HostRuntime) -> Result<(), Fail> {
     for on_a_board in [false, true] {
         let mut crew = MeetingCrew {
             on_a_board,
-            met: 0,
+            met: [false, false],
             left: [None, None],
         };
         let answer = run(&rt, alloc, &instance, &plan, &mut crew)?;
-        assert_eq!(rt; crew.met, 2);
+        assert_eq!(rt; crew.met, [true, true]);
         assert_eq!(rt; crew.left, [Some(1), Some(2)]);
         assert_eq!(rt; answer.nodes, 9);
     }
