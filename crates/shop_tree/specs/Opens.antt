@@ -14,11 +14,10 @@
 --     AreWaiting shop best word stack        each entry is such, and they rise
 --     IsPlaceAbove bound opens i             from place i on all bounds are below this one, and the one before, if any,
 --                                            is not
---     Reaches, IsBoundBelow                  a bound against a limit, if there is one
 --     AreChildren shop limit word opens n    the children of word with bounds below the limit, the first one last, and
 --                                            how many others there are
 --     Adds shop best word words old new      on top of the old stack lie entries for these words
-use Rattle.std.specs.Prelude.{◌≡◌, ℕ, ◌-◌, ◌≤◌, ◌<◌, Option, Some, None, List, [], ◌∷◌, ◌++◌, length, map, reverse}
+use Rattle.std.specs.Prelude.{◌≡◌, ℕ, ◌-◌, ◌≤◌, ◌<◌, List, [], ◌∷◌, ◌++◌, length, map, reverse}
 use Rattle.std.specs.Prelude.{take, slice_index_or}
 use Rattle.std.specs.List.{AllByRecursion}
 use Rattle.shop_model.specs.Shop.{Shop}
@@ -78,21 +77,11 @@ pub record IsPlaceAbove (bound : ℕ) (opens : List Open) (i : ℕ) : Type 0 whe
   pub above : (k : ℕ) (d : Open) → i ≤ k → k < length opens → (slice_index_or opens k d).bound < bound
   pub below : (d : Open) → 0 < i → bound ≤ (slice_index_or opens (i - 1) d).bound
 
--- nothing reaches a limit that isn't there
-abbrev pub Reaches : Option ℕ → ℕ → Type 0
-Reaches None bound = ⊥
-Reaches (Some limit) bound = limit ≤ bound
-
--- the bound, or none if it reaches the limit
-abbrev pub IsBoundBelow : Option ℕ → ℕ → Option ℕ → Type 0
-IsBoundBelow limit bound (Some b) = (b ≡ bound) × (Reaches limit bound → ⊥)
-IsBoundBelow limit bound None = Reaches limit bound
-
-pub record AreChildren (shop : Shop) (limit : Option ℕ) (word : List ℕ) (opens : List Open) (n : ℕ) : Type 0 where
+pub record AreChildren (shop : Shop) (limit : ℕ) (word : List ℕ) (opens : List Open) (n : ℕ) : Type 0 where
   pub others : List (List ℕ)
   pub words : branch shop word ≡ reverse (open_words word opens) ++ others
   pub count : n ≡ length others
-  pub high : AllByRecursion (λ v. Reaches limit (lb shop v)) others
+  pub high : AllByRecursion (λ v. limit ≤ lb shop v) others
   pub each : AllByRecursion (IsOpen shop word) opens
   pub depth : AllByRecursion (λ o. o.depth ≡ length word) opens
 

@@ -1,8 +1,7 @@
 // The children of a desk's word, in order.
-ghost use Rattle.std.specs.Prelude.{◌≡◌, ◌≤◌, ◌++◌, ◌∷◌, [], length, vec_capacity, OnOk, IfOk};
-ghost use Rattle.shop_model.specs.Word.{IsWord};
+ghost use Rattle.std.specs.Prelude.{◌≡◌, ◌≤◌, length, vec_capacity, OnOk, IfOk};
 ghost use Rattle.shop_bound.specs.Bound.{lb};
-ghost use Rattle.shop_tree.specs.Opens.{AreChildren, IsBoundBelow, IsPlaceAbove};
+ghost use Rattle.shop_tree.specs.Opens.{AreChildren, IsPlaceAbove};
 ghost use Rattle.shop_tree.specs.Pushing.{with_opens, with_rest};
 
 use crate::branching::gather_conflict;
@@ -23,28 +22,15 @@ fn place_above(bound: u64, opens: &[Open]) -> usize
     place
 }
 
-/// The bound of the child by this job, none if it reaches the limit; the bound of the desk's word is at hand.
-fn child_bound(desk: &mut Desk, job: usize, bound: u64, limit: Option<u64>) -> Option<u64>
-    requires fits { IsWord desk.old.shop (desk.old.word ++ job ∷ []) }
-    requires bound { bound ≡ lb desk.old.shop desk.old.word }
-    ensures bound { IsBoundBelow limit (lb desk.old.shop (desk.old.word ++ job ∷ [])) result }
-    ensures same { desk.new ≡ desk.old }
-{
-    match limit {
-        Some(limit) => desk.bound_below(job, bound, limit),
-        None => Some(desk.bound_after(job, bound)),
-    }
-}
-
-/// Puts the children of the desk's word with bounds below the limit, if there is one, into the list in place of what it
-/// holds, by bound, then by job, the first one last; and tells how many others there are. The word's bound is at hand,
-/// and there is room for all jobs in the list of jobs.
+/// Puts the children of the desk's word with bounds below the limit into the list in place of what it holds, by bound,
+/// then by job, the first one last; and tells how many others there are. The word's bound is at hand, and there is room
+/// for all jobs in the list of jobs.
 pub(crate) fn gather_children(
     children: &mut Vec<Open>,
     desk: &mut Desk,
     instance: &Instance,
     bound: u64,
-    limit: Option<u64>,
+    limit: u64,
     jobs: &mut Vec<usize>,
 ) -> Result<usize, AllocError>
     requires instance { desk.old.shop ≡ instance.now }
@@ -62,7 +48,7 @@ pub(crate) fn gather_children(
     let mut others = 0;
     // The last job first: of equal bounds the lower job then comes to lie above.
     while let Some(job) = jobs.pop() {
-        let Some(bound) = child_bound(desk, job, bound, limit) else {
+        let Some(bound) = desk.bound_below(job, bound, limit) else {
             others += 1;
             continue
         };

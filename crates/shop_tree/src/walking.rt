@@ -47,7 +47,7 @@ impl<'a> Walker<'a> {
             &mut self.desk,
             self.progress.instance,
             bound,
-            Some(self.progress.best),
+            self.progress.best,
             &mut self.jobs,
         )?;
         push_rest(&mut self.stack, self.desk.jobs().len(), others)?;
@@ -72,7 +72,7 @@ impl<'a> Walker<'a> {
     }
 
     /// Counts closed children, which lay on top of the stack. Where the budget ends among them, they are put on the
-    /// stack as open ones.
+    /// stack as open ones, whatever their bounds.
     fn count_closed(&mut self, closed: Closed) -> Result<(), AllocError>
         requires { IsNextOn self.old (Rest closed) }
         ensures { OnOk result (IsTurn self.old (Rest closed) self.new) }
@@ -89,9 +89,10 @@ impl<'a> Walker<'a> {
             &mut self.desk,
             self.progress.instance,
             bound,
-            None,
+            u64::MAX,
             &mut self.jobs,
         )?;
+        self.desk.keeps_word();
         self.children.truncate(closed.count);
         push_open(&mut self.stack, self.children.as_slice())
     }

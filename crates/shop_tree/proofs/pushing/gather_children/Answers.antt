@@ -1,11 +1,11 @@
-use Rattle.std.proofs.Common.{◌≡◌, ◌++◌, ◌∷◌, ◌∙◌, [], List, length, refl, sym, ap, subst, arith, append-nil}
+use Rattle.std.proofs.Common.{◌≡◌, ◌≤◌, ◌++◌, ◌∷◌, ◌∙◌, [], List, length, refl, sym, ap, subst, arith, append-nil}
 use Rattle.std.proofs.Common.{append_assoc}
 use Rattle.shop_model.specs.Shop.{Shop}
 use Rattle.shop_model.specs.Word.{IsWord}
 use Rattle.shop_bound.specs.Bound.{lb}
 use Rattle.shop_bound.specs.Desks.{DeskState}
 use Rattle.shop_tree.specs.Branching.{conflict}
-use Rattle.shop_tree.specs.Opens.{IsPlaceAbove, Reaches}
+use Rattle.shop_tree.specs.Opens.{IsPlaceAbove}
 use Rattle.shop_tree.specs.declared.opens.Open.{Open}
 use Rattle.shop_tree.proofs.ChildrenLemmas.{child-word}
 use Rattle.shop_tree.proofs.PushLemmas.{gathered_none, gathered_other, gathered_open}
@@ -28,8 +28,8 @@ loop-job-init c =
       },
     )
 
-pub child_bound-requires-clause-fits : goal.child_bound-requires-clause-fits
-child_bound-requires-clause-fits c =
+pub bound_below-requires-clause-fits : goal.bound_below-requires-clause-fits
+bound_below-requires-clause-fits c =
     let desk = c.args.desk.now
     in let now = c.loop-job.invariant
     in let split = sym (append_assoc c.pop.new.self.items (c.in-Some.job ∷ []) now.0)
@@ -37,16 +37,16 @@ child_bound-requires-clause-fits c =
     in subst (λ (d : DeskState). IsWord d.shop (d.word ++ c.in-Some.job ∷ [])) (sym now.1.same)
     (child-word desk.shop desk.word c.keeps_word.ensures.word c.pop.new.self.items now.0 c.in-Some.job split)
 
-pub loop-job-preserved-in_default-child_bound : goal.loop-job-preserved-in_default-child_bound
-loop-job-preserved-in_default-child_bound c =
+pub loop-job-preserved-in_default-bound_below : goal.loop-job-preserved-in_default-bound_below
+loop-job-preserved-in_default-bound_below c =
     let desk = c.args.desk.now
     in let now = c.loop-job.invariant
     in let job = c.in-Some.job
     in let split = sym (append_assoc c.pop.new.self.items (job ∷ []) now.0)
     ∙ (ap (λ js. js ++ now.0) (sym c.in-Some.ensures.items) ∙ now.1.all)
-    in let bound : Reaches c.args.limit (lb desk.shop (desk.word ++ job ∷ [])) = subst
-    (λ (d : DeskState). Reaches c.args.limit (lb d.shop (d.word ++ job ∷ []))) now.1.same
-    c.in_default-child_bound.ensures.bound
+    in let bound : c.args.limit ≤ lb desk.shop (desk.word ++ job ∷ []) = subst
+    (λ (d : DeskState). c.args.limit ≤ lb d.shop (d.word ++ job ∷ [])) now.1.same
+    c.in_default-bound_below.ensures.bound
     in (
       job ∷ now.0,
       record {
@@ -54,7 +54,7 @@ loop-job-preserved-in_default-child_bound c =
         gathered = gathered_other desk.shop c.args.limit desk.word c.loop-job.children.items c.loop-job.others now.0 job
             now.1.gathered bound;
         counted = (let a = now.1.counted in omega arith);
-        same = c.child_bound.ensures.same ∙ now.1.same;
+        same = c.bound_below.ensures.same ∙ now.1.same;
         room = (let a = now.1.room in let b = c.pop.ensures.capacity in omega arith);
       },
     )
@@ -66,9 +66,9 @@ loop-job-preserved c =
     in let job = c.in-Some.job
     in let split = sym (append_assoc c.pop.new.self.items (job ∷ []) now.0)
     ∙ (ap (λ js. js ++ now.0) (sym c.in-Some.ensures.items) ∙ now.1.all)
-    in let below = c.in-Some-child_bound.bound
+    in let below = c.in-Some-bound_below.bound
     in let child : Open = record { depth = length c.jobs-depth.result.now; job = job; bound = below }
-    in let bound : below ≡ lb desk.shop (desk.word ++ job ∷ []) = c.in-Some-child_bound.ensures.bound.0
+    in let bound : below ≡ lb desk.shop (desk.word ++ job ∷ []) = c.in-Some-bound_below.ensures.bound.0
     ∙ ap (λ (d : DeskState). lb d.shop (d.word ++ job ∷ [])) now.1.same
     in let place : IsPlaceAbove below c.loop-job.children.items c.place_above-place.result = subst
     (λ (os : List Open). IsPlaceAbove below os c.place_above-place.result)
@@ -81,10 +81,9 @@ loop-job-preserved c =
             c.loop-job.others now.0 child c.place_above-place.result now.1.gathered
             (child-word desk.shop desk.word c.keeps_word.ensures.word c.pop.new.self.items now.0 job split)
             (ap length c.jobs-depth.ensures) bound
-            (subst (λ n. Reaches c.args.limit n → ⊥) (sym c.in-Some-child_bound.ensures.bound.0)
-            c.in-Some-child_bound.ensures.bound.1) place c.in_ok-insert.ensures.items;
+            (let a = c.in-Some-bound_below.ensures.bound in a.1) place c.in_ok-insert.ensures.items;
         counted = (let a = now.1.counted in omega arith);
-        same = c.child_bound.ensures.same ∙ now.1.same;
+        same = c.bound_below.ensures.same ∙ now.1.same;
         room = (let a = now.1.room in let b = c.pop.ensures.capacity in omega arith);
       },
     )

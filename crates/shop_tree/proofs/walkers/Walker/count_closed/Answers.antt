@@ -1,4 +1,4 @@
-use Rattle.std.proofs.Common.{◌≡◌, ◌-◌, ◌∙◌, ◌++◌, ◌∷◌, [], List, None, length, take, reverse, refl}
+use Rattle.std.proofs.Common.{◌≡◌, ◌-◌, ◌∙◌, ◌++◌, ◌∷◌, [], ℕ, List, length, take, reverse, refl}
 use Rattle.std.proofs.Common.{sym, ap, subst, arith}
 use Rattle.std.proofs.lemmas.List.{length-take}
 use Rattle.shop_model.specs.Shop.{Shop}
@@ -56,15 +56,17 @@ returns c =
     in let before = c.bound-bound.new.self
     in let went : to ≡ at_word self.desk (take closed.depth self.desk.word) = c.in_ok-gather_children.ensures.same
     ∙ (c.bound-bound.ensures.same ∙ c.undo_to.ensures)
-    in let kids : AreChildren to.shop None to.word opens c.in_ok-gather_children.field-0 = subst
-    (λ (d : DeskState). AreChildren d.shop None d.word opens c.in_ok-gather_children.field-0)
+    in let limit : ℕ = 18446744073709551615
+    in let kids : AreChildren to.shop limit to.word opens c.in_ok-gather_children.field-0 = subst
+    (λ (d : DeskState). AreChildren d.shop limit d.word opens c.in_ok-gather_children.field-0)
     (sym c.in_ok-gather_children.ensures.same) c.in_ok-gather_children.ensures.children
     in on_ok _ (IsTurn self (Rest closed) _) (λ e.
     let put : new ≡ with_opens rest (take closed.count opens) = e
     ∙ ap (with_opens rest) (c.as_slice.ensures.value ∙ c.truncate.ensures.items)
     in let adds : Adds to.shop best to.word (take closed.count (reverse (branch to.shop to.word))) rest new = subst
     (λ (xs : List Waiting). Adds to.shop best to.word (take closed.count (reverse (branch to.shop to.word))) rest xs)
-    (sym put) (adds-last to.shop best to.word opens c.in_ok-gather_children.field-0 closed.count rest kids)
+    (sym put) (adds-last to.shop best limit to.word opens c.in_ok-gather_children.field-0 closed.count rest
+    c.keeps_word.ensures.limits c.keeps_word.ensures.word (omega arith) kids)
     in let gone = rest_gone self.desk to rest new closed (walked self.progress) best went c.requires adds
     in record {
       walk = gone.walk;

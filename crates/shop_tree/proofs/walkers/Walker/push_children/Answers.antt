@@ -1,4 +1,4 @@
-use Rattle.std.proofs.Common.{◌≡◌, ◌+◌, ◌≤◌, reverse, ◌∙◌, List, ℕ, Some, length, refl, sym, ap, subst}
+use Rattle.std.proofs.Common.{◌≡◌, ◌+◌, ◌≤◌, reverse, ◌∙◌, List, ℕ, length, refl, sym, ap, subst}
 use Rattle.shop_bound.specs.Desks.{DeskState}
 use Rattle.shop_tree.specs.Pushing.{with_opens, with_rest}
 use Rattle.shop_tree.specs.Walkers.{HasBranched, weight}
@@ -29,7 +29,7 @@ returns c =
       stack = subst (λ (xs : List Waiting). Adds shop best word (reverse (branch shop word)) self.stack.items xs)
           (sym put) (adds-children shop best word opens others (length c.jobs.result.now) self.stack.items kids depth);
       weight = subst (λ (xs : List Waiting). weight xs ≤ weight self.stack.items + length shop.jobs + 1) (sym put)
-          (weight-children shop (Some best) word opens others (length c.jobs.result.now) self.stack.items kids);
+          (weight-children shop best word opens others (length c.jobs.result.now) self.stack.items kids);
       desk = c.in_ok-others.ensures.same;
       progress = refl;
     }) c.push_open.result c.push_open.ensures
