@@ -8,7 +8,9 @@
 --     IsTurn r n v w o        there is an entry of piece n just where the seat won it
 --     AreWon r v w entries    in number order, one for each piece that the seat won since, and all served
 --     IsAllKnown n w          each piece below n is claimed, as far as the seat knows
+--     IsRestKnown n w places  so is each piece below n that has no entry in its place
 use Rattle.std.specs.Prelude.{◌≡◌, ℕ, ◌<◌, ◌≤◌, List, ◌∷◌, ◌++◌, map, reverse, All, true, ◌⊎◌, Option, MatchOption}
+use Rattle.std.specs.Prelude.{None, IfNone, slice_index_or}
 use Rattle.std.specs.List.Sorted.{IsStrictlyIncreasing}
 use Rattle.shop_round.specs.Round.{Told}
 use Rattle.shop_round.specs.Entries.{number_of, is_hit}
@@ -32,6 +34,9 @@ IsKnown v n = (has v.mine n ≡ true) ⊎ (has v.seen n ≡ true)
 
 abbrev pub IsAllKnown : ℕ → View → Type 0
 IsAllKnown pieces w = (n : ℕ) → n < pieces → IsKnown w n
+
+abbrev pub IsRestKnown : ℕ → View → List (Option Entry) → Type 0
+IsRestKnown pieces w places = (n : ℕ) → n < pieces → IfNone (slice_index_or places n None) (IsKnown w n)
 
 abbrev pub numbers_of : List Entry → List ℕ
 numbers_of entries = map (λ e. number_of e.kind) entries

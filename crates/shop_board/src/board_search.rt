@@ -1,13 +1,14 @@
-ghost use Rattle.std.specs.Prelude.{◌≡◌, ◌<◌, All, IfOk, IfSome, vec_len};
+ghost use Rattle.std.specs.Prelude.{◌≡◌, ◌<◌, length, vec_len, All, IfOk, IfSome, IfNone};
 ghost use Rattle.shop_round.specs.Entries.{told};
 ghost use Rattle.shop_round.specs.Crews.{OneForEach};
 ghost use Rattle.shop_board.specs.Entries.{OfRound, AllOfRound};
 ghost use Rattle.shop_board.specs.Hits.{hits_of_round};
-ghost use Rattle.shop_board.specs.Seats.{hits_of, IsSeatOf, IsReturned};
+ghost use Rattle.shop_board.specs.Seats.{knows, hits_of, IsSeatOf, IsReturned};
+ghost use Rattle.shop_board.specs.Works.{Grows, IsKnown, IsRestKnown};
 
 use crate::boards::{Board, Seat};
 use crate::gates::SeatGate;
-use crate::ordering::in_order;
+use crate::ordering::{complete, in_places};
 use crate::working::work;
 use shop_round::{Entry, Round};
 use std::alloc::{AllocError, Global};
@@ -94,8 +95,34 @@ fn join_all<'r>(
     Ok((joined, lists))
 }
 
+// Claims the piece of this number where its place is empty.
+fn claim_missing(board: &Board, seat: &mut Seat, number: usize, place: &Option<Entry>)
+    requires seat { IsSeatOf board.now seat.old }
+    requires piece { number < length (hits_of board.now) }
+    ensures seat { IsSeatOf board.now seat.new }
+    ensures grows { Grows (knows seat.old) (knows seat.new) }
+    ensures claimed { IfNone place.now (IsKnown (knows seat.new) number) }
+{
+    if place.is_none() {
+        board.claim(seat, number);
+    }
+}
+
+// Claims the pieces that nobody brought.
+fn claim_rest(board: &Board, seat: &mut Seat, places: &[Option<Entry>])
+    requires seat { IsSeatOf board.now seat.old }
+    requires places { length places.now ≡ length (hits_of board.now) }
+    ensures seat { IsSeatOf board.now seat.new }
+    ensures claimed { IsRestKnown (length places.now) (knows seat.new) places.now }
+{
+    for number in 0..places.len() {
+        claim_missing(board, seat, number, &places[number]);
+    }
+}
+
 /// The entries of a round by this many workers at most, who claim its pieces on a board. No more are started than there
-/// are pieces; what a thread that can't be started would have done, the others do.
+/// are pieces; what a thread that can't be started would have done, the others do. A piece that nobody brought is
+/// claimed and searched by the calling thread.
 pub fn search_claimed<'r, R: Threads + Sync, G: SeatGate + Sync>(
     rt: &R,
     alloc: Global,
@@ -108,6 +135,10 @@ pub fn search_claimed<'r, R: Threads + Sync, G: SeatGate + Sync>(
     let (board, seat) = Board::open(alloc, round)?;
     let lent = lend(alloc, &board, seat, workers.min(round.pieces.len()))?;
     let returned = work_all(rt, alloc, &board, lent, round, gate)?;
-    let (_seat, lists) = join_all(alloc, &board, round, returned)?;
-    in_order(alloc, round, lists)
+    let (joined, lists) = join_all(alloc, &board, round, returned)?;
+    let places = in_places(alloc, round, lists)?;
+    if let Some(mut seat) = joined {
+        claim_rest(&board, &mut seat, &places);
+    }
+    complete(alloc, round, places)
 }

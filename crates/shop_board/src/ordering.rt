@@ -68,8 +68,8 @@ fn or_search<'r>(
     }
 }
 
-// The entries in order; a piece that has none is searched.
-fn complete<'r>(
+/// The entries of a round, one for each piece and in number order; a piece whose place is empty is searched.
+pub fn complete<'r>(
     alloc: Global,
     round: &'r Round<'r>,
     mut slots: Vec<Option<Entry<'r>>>,
@@ -86,19 +86,34 @@ fn complete<'r>(
     Ok(entries)
 }
 
-/// The entries of a round, one for each piece and in number order, of what its workers brought: doubles are dropped,
-/// and pieces that nobody brought are searched.
-pub fn in_order<'r>(
+/// What the workers of a round brought, each entry in the place of its piece: doubles are dropped, and where nobody
+/// brought a piece its place is empty.
+pub fn in_places<'r>(
     alloc: Global,
     round: &'r Round<'r>,
     mut lists: Vec<Result<Vec<Entry<'r>>, AllocError>>,
-) -> Result<Vec<Entry<'r>>, AllocError>
+) -> Result<Vec<Option<Entry<'r>>>, AllocError>
     requires { AllOfRound (told round.now) lists.items }
-    ensures { IfOk result (λ v. OneForEach (told round.now) v.items) }
+    ensures len { IfOk result (λ v. vec_len v ≡ length round.now.pieces.items) }
+    ensures placed { IfOk result (λ v. Placed (told round.now) v.items) }
 {
     let mut slots = places(alloc, round)?;
     while let Some(entries) = lists.pop() {
         place(round, &mut slots, entries?);
     }
+    Ok(slots)
+}
+
+/// The entries of a round, one for each piece and in number order, of what its workers brought: doubles are dropped,
+/// and pieces that nobody brought are searched.
+pub fn in_order<'r>(
+    alloc: Global,
+    round: &'r Round<'r>,
+    lists: Vec<Result<Vec<Entry<'r>>, AllocError>>,
+) -> Result<Vec<Entry<'r>>, AllocError>
+    requires { AllOfRound (told round.now) lists.items }
+    ensures { IfOk result (λ v. OneForEach (told round.now) v.items) }
+{
+    let slots = in_places(alloc, round, lists)?;
     complete(alloc, round, slots)
 }

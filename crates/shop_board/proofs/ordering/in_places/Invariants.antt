@@ -1,7 +1,7 @@
 use Rattle.std.proofs.Common.{◌≡◌, vec_len, length}
 use Rattle.shop_round.specs.Entries.{told}
 use Rattle.shop_board.specs.Entries.{Placed, AllOfRound}
-use Rattle.shop_board.proofs.ordering.in_order.Given as goal
+use Rattle.shop_board.proofs.ordering.in_places.Given as goal
 
 abbrev pub invariant-loop-entries : goal.invariant-loop-entries
 invariant-loop-entries l =
