@@ -17,12 +17,6 @@ AreRaised [] (y ∷ ys) = ⊥
 AreRaised (x ∷ xs) [] = ⊥
 AreRaised (x ∷ xs) (y ∷ ys) = (x.head ≤ y.head) × (x.time ≡ y.time) × (x.tail ≡ y.tail) × AreRaised xs ys
 
-pub raised_append : (xs ys us vs : List Triple) → AreRaised xs ys → AreRaised us vs → AreRaised (xs ++ us) (ys ++ vs)
-raised_append [] [] us vs r s = s
-raised_append [] (y ∷ ys) us vs r s = absurd r
-raised_append (x ∷ xs) [] us vs r s = absurd r
-raised_append (x ∷ xs) (y ∷ ys) us vs r s = (r.0, r.1, r.2, raised_append xs ys us vs r.3 s)
-
 -- a sublist is raised with its list
 raised_sublist : {us xs : List Triple} → IsSublist us xs → (ys : List Triple) → AreRaised xs ys
     → (vs : List Triple) × IsSublist vs ys × AreRaised us vs
