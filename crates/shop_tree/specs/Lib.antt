@@ -7,7 +7,6 @@ pub mod Searching
 pub mod Sheets
 pub mod NextOperations
 pub mod Choosing
-pub mod Inserting
 pub mod Opens
 pub mod Pushing
 pub mod Moving

@@ -1,14 +1,10 @@
-// Branching on the conflict set (Giffler and Thompson 1960).
+// The conflict set (Giffler and Thompson 1960).
 ghost use Rattle.std.specs.Prelude.{◌≡◌, ◌≤◌, IfOk, length, vec_capacity};
 ghost use Rattle.shop_model.specs.Word.{IsWord, IsFull};
-ghost use Rattle.shop_tree.specs.Branching.{branch, conflict as conflict_set};
+ghost use Rattle.shop_tree.specs.Branching.{conflict as conflict_set};
 ghost use Rattle.shop_tree.specs.Choosing.{IsChosen, IsNextOf, conflicting_with, conflict_of};
-ghost use Rattle.shop_tree.specs.Inserting.{IsPlaceFor};
-ghost use Rattle.shop_tree.specs.Laws.{HaveBetterChildren};
-ghost use Rattle.shop_tree.specs.Nodes.{IsNode, AreNodes, words_of};
 
 use crate::next_operations::NextOperation;
-use crate::nodes::Node;
 use crate::placings::Placed;
 use shop_bound::Placement;
 use shop_model::{Instance, Word};
@@ -77,36 +73,4 @@ pub fn conflict(alloc: Global, instance: &Instance, word: &Word) -> Result<Vec<u
     let mut jobs = Vec::with_capacity(alloc, instance.jobs())?;
     gather_conflict(&mut jobs, &Placed::new(instance, word.jobs(), &placement));
     Ok(jobs)
-}
-
-/// The place of the first node whose bound is not below this one, or the end.
-fn place_for(bound: u64, nodes: &[Node]) -> usize
-    ensures { IsPlaceFor bound nodes.now result }
-{
-    for i in 0..nodes.len() {
-        if bound <= nodes[i].bound {
-            return i;
-        }
-    }
-    nodes.len()
-}
-
-/// The children of a node whose word isn't full, by bound, then by job: its word followed by each job of the conflict
-/// set. For each table under the word some child has one under it that ends no later. An error where memory is refused.
-pub fn children(alloc: Global, instance: &Instance, node: &Node) -> Result<Vec<Node>, AllocError>
-    requires node { IsNode instance.now node.now }
-    requires open { IsFull instance.now node.now.word → ⊥ }
-    ensures branch { IfOk result (λ v. words_of v.items ≡ branch instance.now node.now.word) }
-    ensures nodes { IfOk result (λ v. AreNodes instance.now v.items) }
-    ensures better { IfOk result (λ v. HaveBetterChildren instance.now node.now.word (words_of v.items)) }
-{
-    let mut jobs = conflict(alloc, instance, &node.word)?;
-    let mut children = Vec::with_capacity(alloc, jobs.len())?;
-    // The last job first: of equal bounds the lower job then stands first.
-    while let Some(job) = jobs.pop() {
-        let child = Node::new(alloc, instance, node.word.followed_by(alloc, job)?)?;
-        let place = place_for(child.bound, &children);
-        children.insert(place, child).unwrap();
-    }
-    Ok(children)
 }

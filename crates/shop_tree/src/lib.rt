@@ -2,6 +2,7 @@
 #![tactic(auto)]
 
 mod branching;
+mod child_nodes;
 mod laws;
 mod moving;
 mod next_operations;
@@ -17,7 +18,8 @@ mod tests;
 mod walkers;
 mod walking;
 
-pub use branching::{children, conflict};
+pub use branching::conflict;
+pub use child_nodes::children;
 pub use laws::{branching_loses_no_table, searches_lose_no_table};
 pub use nodes::{Node, Piece};
 pub use searching::search;

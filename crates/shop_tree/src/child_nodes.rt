@@ -1,0 +1,44 @@
+// The children of a node.
+ghost use Rattle.std.specs.Prelude.{◌≡◌, IfOk};
+ghost use Rattle.shop_model.specs.Word.{IsFull};
+ghost use Rattle.shop_tree.specs.Branching.{branch};
+ghost use Rattle.shop_tree.specs.Laws.{HaveBetterChildren};
+ghost use Rattle.shop_tree.specs.Nodes.{IsNode, AreNodes, words_of};
+
+use crate::moving::go_to;
+use crate::nodes::Node;
+use crate::pushing::gather_children;
+use shop_bound::Desk;
+use shop_model::Instance;
+use std::alloc::{AllocError, Global};
+
+/// The children of a node whose word isn't full, by bound, then by job: its word followed by each job of the conflict
+/// set. For each table under the word some child has one under it that ends no later. An error where memory is refused.
+pub fn children(alloc: Global, instance: &Instance, node: &Node) -> Result<Vec<Node>, AllocError>
+    requires node { IsNode instance.now node.now }
+    requires open { IsFull instance.now node.now.word → ⊥ }
+    ensures branch { IfOk result (λ v. words_of v.items ≡ branch instance.now node.now.word) }
+    ensures nodes { IfOk result (λ v. AreNodes instance.now v.items) }
+    ensures better { IfOk result (λ v. HaveBetterChildren instance.now node.now.word (words_of v.items)) }
+{
+    let mut desk = Desk::new(alloc, instance)?;
+    go_to(&mut desk, node.word.jobs());
+    desk.keeps_word();
+    let mut jobs = Vec::with_capacity(alloc, instance.jobs())?;
+    let mut opens = Vec::with_capacity(alloc, instance.jobs())?;
+    gather_children(
+        &mut opens,
+        &mut desk,
+        instance,
+        node.bound,
+        u64::MAX,
+        &mut jobs,
+    )?;
+    let mut children = Vec::with_capacity(alloc, opens.len())?;
+    while let Some(child) = opens.pop() {
+        let word = node.word.followed_by(alloc, child.job)?;
+        let bound = child.bound;
+        children.push(Node { word, bound }).unwrap();
+    }
+    Ok(children)
+}
