@@ -15,7 +15,6 @@ impl NextOperation {
     pub(crate) fn conflicts_with(&self, other: &NextOperation) -> bool
         ensures { result ≡ is_in_conflict self.now other.now }
     {
-        // All is compared, since a processor guesses each of these badly.
-        (self.job == other.job) | (self.machine == other.machine) & (self.head < other.end)
+        self.job == other.job || self.machine == other.machine && self.head < other.end
     }
 }
