@@ -1,4 +1,4 @@
-// Crews whose workers share a round.
+// Crews whose workers share a round: they take its pieces from a pool behind a lock, or claim them on a board.
 #![tactic(auto)]
 
 mod board_crews;
