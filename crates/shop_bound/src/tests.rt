@@ -219,6 +219,43 @@ fn a_thousand_operations_on_one_machine(rt: HostRuntime) -> Result<(), Fail> {
     Ok(())
 }
 
+/// A long operation on machine 0, and jobs i = 1 to 999, released at 2 i, of time 1 on machine 0 and then on machine 1.
+fn staggered(alloc: Global, long: u64) -> Result<Instance, Fail> {
+    let mut jobs = Vec::with_capacity(alloc, 1000)?;
+    jobs.push(Job {
+        release: 0,
+        route: vec![in alloc; op(0, long)]?,
+    })?;
+    for i in 1..1000 {
+        jobs.push(Job {
+            release: 2 * i,
+            route: vec![in alloc; op(0, 1), op(1, 1)]?,
+        })?;
+    }
+    Ok(Instance::of_jobs(2, jobs).ok().ok_or("limits")?)
+}
+
+#[test]
+fn a_thousand_jobs_one_after_another(rt: HostRuntime) -> Result<(), Fail> {
+    let alloc = rt.alloc();
+    // From job i on, on either machine: 2 i + (1000 - i) + 1, at most 2000. With the long one: its time + 999 at most.
+    let short = staggered(alloc, 1000)?;
+    assert_eq!(rt; bound(alloc, &short, &[])?, Some(2000));
+    let instance = staggered(alloc, 1500)?;
+    assert_eq!(rt; bound(alloc, &instance, &[])?, Some(2499));
+    // With the long one placed no head is below 1500, and all that is left of machine 0 has a tail of 1.
+    assert_eq!(rt; bound(alloc, &instance, &[0])?, Some(2500));
+    let mut desk = Desk::new(alloc, &instance)?;
+    assert_eq!(rt; desk.bound(), 2499);
+    assert_eq!(rt; bound_after(alloc, &instance, &mut desk, 0)?, Some(2500));
+    assert_eq!(rt; bound_below(alloc, &instance, &mut desk, 0, 2500)?, None);
+    assert!(rt; dispatch(alloc, &instance, &mut desk, 0)?);
+    assert_eq!(rt; desk.bound(), 2500);
+    undo(&mut desk);
+    assert_eq!(rt; desk.bound(), 2499);
+    Ok(())
+}
+
 /// Dispatches the next operation of a job; whether it had one left.
 fn dispatch(
     alloc: Global,
