@@ -1,6 +1,6 @@
 -- Heads that are kept up with what is placed, row by row, and what changed among them.
 --     IsRowKept shop s j row         the row tells the heads of the steps of job j that aren't placed
---     IsWithin r a b                 a head that went from a to b stayed, or r begins at most at a and ends at least at b
+--     IsWithin r a b                 a head that went from a to b stayed, or `from` is at most a and `to` at least b
 --     AreWidened old new             each raise is as it was, or wider
 --     RowWithin shop j old new raises    each head of the row stayed, or changed within its machine's raise
 --     AreHeadsOfPlacement shop s rows    the rows tell the heads of what is placed

@@ -132,9 +132,9 @@ impl<'a> Desk<'a> {
         self.bound_up_to(job, bound, u64::MAX)
     }
 
-    /// The lower bound of what is dispatched and the next operation of a job, which has one left, if that bound is below
-    /// the limit, in units of time, and none if it is not: it stops once that is known. The bound of what is dispatched
-    /// is at hand.
+    /// The lower bound of what is dispatched and the next operation of a job, which has one left, if it is below the
+    /// limit, in units of time, and none if it is not: it stops once that is known. The bound of what is dispatched is
+    /// at hand.
     pub fn bound_below(&mut self, job: usize, bound: u64, limit: u64) -> Option<u64>
         requires fits { IsWord self.old.shop (self.old.word ++ job ∷ []) }
         requires bound { bound ≡ lb self.old.shop self.old.word }
