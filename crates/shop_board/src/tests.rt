@@ -11,7 +11,7 @@ use shop_round::{Alone, Answer, Crew, Entry, Kind, Plan, Round, Standing, gather
 use std::alloc::{AllocError, Global};
 use std::process::Abort;
 use std::sync::Wait;
-use std::sync::atomic::{AtomicBool, Ordering};
+use std::sync::atomic::{AtomicBool, AtomicUsize, Ordering};
 use std::test::Fail;
 use std::thread;
 use std::thread::Threads;
@@ -73,41 +73,58 @@ fn crews_have_1_to_64_workers(rt: HostRuntime) {
     }
 }
 
+// How many workers met, and which worker searched piece 0 and which piece 1.
+#[derive(Clone, Copy, Debug, PartialEq)]
+struct Met {
+    count: usize,
+    workers: [usize; 2],
+}
+
+const NOBODY: Met = Met {
+    count: 0,
+    workers: [usize::MAX, usize::MAX],
+};
+
 // Holds back whoever searches piece 0 or 1 until the other is searched too, for 10,000,000 turns at most.
 #[derive(Drop)]
 struct Meeting {
     began: [AtomicBool; 2],
-    met: [AtomicBool; 2],
+    workers: [AtomicUsize; 2],
+    met: AtomicUsize,
 }
 
 impl Meeting {
     fn new() -> Meeting {
         Meeting {
             began: [AtomicBool::new(false), AtomicBool::new(false)],
-            met: [AtomicBool::new(false), AtomicBool::new(false)],
+            workers: [AtomicUsize::new(usize::MAX), AtomicUsize::new(usize::MAX)],
+            met: AtomicUsize::new(0),
+        }
+    }
+
+    fn met(&self) -> Met {
+        Met {
+            count: self.met.load(Ordering::SeqCst),
+            workers: [
+                self.workers[0].load(Ordering::SeqCst),
+                self.workers[1].load(Ordering::SeqCst),
+            ],
         }
     }
 
     fn meet(&self, worker: usize, piece: usize) {
-        if worker >= 2 || piece >= 2 {
+        if piece >= 2 {
             return;
         }
+        self.workers[piece].store(worker, Ordering::SeqCst);
         self.began[piece].store(true, Ordering::SeqCst);
         for _ in 0..10_000_000 {
             if self.began[1 - piece].load(Ordering::SeqCst) {
-                self.met[worker].store(true, Ordering::SeqCst);
+                self.met.fetch_add(1, Ordering::SeqCst);
                 return;
             }
             thread::yield_now();
         }
-    }
-
-    // Which of the workers 0 and 1 met the other.
-    fn who_met(&self) -> [bool; 2] {
-        [
-            self.met[0].load(Ordering::SeqCst),
-            self.met[1].load(Ordering::SeqCst),
-        ]
     }
 }
 
@@ -123,19 +140,19 @@ impl SeatGate for Meeting {
     }
 }
 
-// The entries by two workers of a crew that takes numbers under a lock, and which of them met the other.
+// The entries by two workers of a crew that takes numbers under a lock, and who met.
 fn by_lock<'r, R: Threads + Wait + Sync>(
     rt: &R,
     alloc: Global,
     round: &'r Round<'r>,
-) -> Result<(Vec<Entry<'r>>, [bool; 2]), AllocError>
+) -> Result<(Vec<Entry<'r>>, Met), AllocError>
     ensures { IfOk result (λ p. OneForEach (told round.now) p.0.items) }
 {
     let Some(crew) = LockCrew::new(2, Meeting::new()) else {
         return Err(AllocError);
     };
     let entries = crew.search_round(rt, alloc, round)?;
-    let met = crew.gate().who_met();
+    let met = crew.gate().met();
     Ok((entries, met))
 }
 
@@ -144,14 +161,14 @@ fn by_board<'r, R: Threads + Sync>(
     rt: &R,
     alloc: Global,
     round: &'r Round<'r>,
-) -> Result<(Vec<Entry<'r>>, [bool; 2]), AllocError>
+) -> Result<(Vec<Entry<'r>>, Met), AllocError>
     ensures { IfOk result (λ p. OneForEach (told round.now) p.0.items) }
 {
     let Some(crew) = BoardCrew::new(2, Meeting::new()) else {
         return Err(AllocError);
     };
     let entries = crew.search_round(rt, alloc, round)?;
-    let met = crew.gate().who_met();
+    let met = crew.gate().met();
     Ok((entries, met))
 }
 
@@ -160,7 +177,7 @@ fn by_board<'r, R: Threads + Sync>(
 #[derive(Drop)]
 struct MeetingCrew {
     on_a_board: bool,
-    met: [bool; 2],
+    met: Met,
     left: [Option<usize>; 2],
 }
 
@@ -202,14 +219,71 @@ fn two_workers_meet_at_the_gate(rt: HostRuntime) -> Result<(), Fail> {
     for on_a_board in [false, true] {
         let mut crew = MeetingCrew {
             on_a_board,
-            met: [false, false],
+            met: NOBODY,
             left: [None, None],
         };
         let answer = run(&rt, alloc, &instance, &plan, &mut crew)?;
-        assert_eq!(rt; crew.met, [true, true]);
+        assert_eq!(rt; crew.met.count, 2);
+        assert!(rt; [[0, 1], [1, 0]].contains(&crew.met.workers));
         assert_eq!(rt; crew.left, [Some(1), Some(2)]);
         assert_eq!(rt; answer.nodes, 9);
     }
+    Ok(())
+}
+
+// Counts the pieces that are searched, and of these those by another worker than worker 0.
+#[derive(Drop)]
+struct Tally {
+    pieces: AtomicUsize,
+    by_others: AtomicUsize,
+}
+
+impl Tally {
+    fn new() -> Tally {
+        Tally {
+            pieces: AtomicUsize::new(0),
+            by_others: AtomicUsize::new(0),
+        }
+    }
+
+    fn count(&self, worker: usize) {
+        self.pieces.fetch_add(1, Ordering::SeqCst);
+        if worker != 0 {
+            self.by_others.fetch_add(1, Ordering::SeqCst);
+        }
+    }
+
+    fn counts(&self) -> (usize, usize) {
+        (
+            self.pieces.load(Ordering::SeqCst),
+            self.by_others.load(Ordering::SeqCst),
+        )
+    }
+}
+
+impl Gate for Tally {
+    fn before(&self, worker: usize, _piece: usize) {
+        self.count(worker);
+    }
+}
+
+impl SeatGate for Tally {
+    fn won(&self, worker: usize, _seat: &Seat, _piece: usize) {
+        self.count(worker);
+    }
+}
+
+#[test]
+fn one_worker_is_worker_0(rt: HostRuntime) -> Result<(), Fail> {
+    let alloc = rt.alloc();
+    let instance = with_gaps(alloc)?;
+    let round = second_round(alloc, &instance)?;
+    let lock = LockCrew::new(1, Tally::new()).ok_or("1 to 64 workers")?;
+    lock.search_round(&rt, alloc, &round)?;
+    assert_eq!(rt; lock.gate().counts(), (2, 0));
+    let board = BoardCrew::new(1, Tally::new()).ok_or("1 to 64 workers")?;
+    board.search_round(&rt, alloc, &round)?;
+    assert_eq!(rt; board.gate().counts(), (2, 0));
     Ok(())
 }
 
