@@ -19,8 +19,6 @@ mod rounds;
 mod runs;
 mod standings;
 mod starts;
-#[cfg(test)]
-mod tests;
 
 pub use answers::Answer;
 pub use crews::{Alone, Crew, search_piece};

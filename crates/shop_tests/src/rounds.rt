@@ -1,93 +1,13 @@
-// Worked instances and plans, and each public call once.
+// Worked instances and plans, and each public call of rounds and runs once.
 ghost use Rattle.std.specs.Prelude.{IfOk};
 ghost use Rattle.shop_round.specs.Runs.{IsStandingOf};
 
-use crate::{Alone, Answer, Crew, Order, Plan, Round, Standing, gather, run_alone};
-use shop_model::{Instance, Job, Op};
+use crate::instances::{crossing, of_rows, op, released, with_a_gap, with_two_orders, with_zeros};
+use shop_model::Instance;
+use shop_round::{Alone, Answer, Crew, Order, Plan, Round, Standing, gather, run_alone};
 use std::alloc::Global;
 use std::process::Abort;
 use std::test::Fail;
-
-fn op(machine: usize, time: u64) -> Op {
-    Op { machine, time }
-}
-
-fn of_rows(machines: usize, rows: Vec<Vec<Op>>) -> Result<Instance, Fail> {
-    Ok(Instance::new(machines, rows).ok().ok_or("limits")?)
-}
-
-fn of_jobs(machines: usize, jobs: Vec<Job>) -> Result<Instance, Fail> {
-    Ok(Instance::of_jobs(machines, jobs).ok().ok_or("limits")?)
-}
-
-/// A: two jobs that cross.
-fn crossing(alloc: Global) -> Result<Instance, Fail> {
-    let first = vec![in alloc; op(0, 3), op(1, 2)]?;
-    let second = vec![in alloc; op(1, 2), op(0, 4)]?;
-    of_rows(2, vec![in alloc; first, second]?)
-}
-
-/// G: the bound of the empty word is below the optimum, and a last step takes no time.
-fn with_a_gap(alloc: Global) -> Result<Instance, Fail> {
-    let first = vec![in alloc; op(0, 5), op(1, 3), op(2, 0)]?;
-    let second = vec![in alloc; op(1, 1), op(0, 1), op(2, 6)]?;
-    of_rows(3, vec![in alloc; first, second]?)
-}
-
-/// Z: several steps of time 0.
-fn with_zeros(alloc: Global) -> Result<Instance, Fail> {
-    let first = vec![in alloc; op(0, 4), op(1, 1), op(2, 0)]?;
-    let second = vec![in alloc; op(1, 0), op(2, 5), op(0, 0)]?;
-    of_rows(3, vec![in alloc; first, second]?)
-}
-
-/// R: releases 0, 4 and 7, and a job without operations.
-fn released(alloc: Global) -> Result<Instance, Fail> {
-    let first = vec![in alloc; op(0, 3), op(1, 2)]?;
-    let second = vec![in alloc; op(1, 2), op(0, 4)]?;
-    let jobs = vec![in alloc;
-        Job {
-            release: 0,
-            route: first
-        },
-        Job {
-            release: 4,
-            route: second
-        },
-        Job {
-            release: 7,
-            route: Vec::new(alloc)
-        },
-    ]?;
-    of_jobs(2, jobs)
-}
-
-/// H: the two orders find different tables.
-fn with_two_orders(alloc: Global) -> Result<Instance, Fail> {
-    let first = vec![in alloc; op(0, 5), op(1, 3)]?;
-    let second = vec![in alloc; op(0, 1), op(2, 6)]?;
-    let third = vec![in alloc; op(1, 1)]?;
-    let fourth = vec![in alloc; op(1, 1)]?;
-    let jobs = vec![in alloc;
-        Job {
-            release: 0,
-            route: first
-        },
-        Job {
-            release: 1,
-            route: second
-        },
-        Job {
-            release: 0,
-            route: third
-        },
-        Job {
-            release: 0,
-            route: fourth
-        },
-    ]?;
-    of_jobs(3, jobs)
-}
 
 /// The answer's makespan, bound, open nodes, rounds and nodes.
 fn assert_numbers(rt: &impl Abort, answer: &Answer, numbers: [u64; 5]) {

@@ -1,0 +1,7 @@
+// Tests of the libraries by their public calls, over worked instances that stand here once.
+#![tactic(auto)]
+
+#[cfg(test)]
+mod instances;
+#[cfg(test)]
+mod rounds;
