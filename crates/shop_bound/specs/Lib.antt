@@ -13,3 +13,4 @@ pub mod Standings
 pub mod Desks
 pub mod Slots
 pub mod FallingTails
+pub mod inner

@@ -1,0 +1,97 @@
+// The operations of an instance by position.
+ghost use Rattle.std.specs.Prelude.{◌≡◌, ◌<◌, IfOk, length, slice_index, slice_index_or, []};
+ghost use Rattle.shop_bound.specs.inner.Layouts.{IsLaidOut};
+
+use shop_model::Instance;
+use std::alloc::{AllocError, Global};
+use std::marker::Model;
+
+/// The operations of an instance by position: machine after machine, each padded to whole blocks of eight positions, on
+/// a machine by nonincreasing tail.
+#[derive(Drop)]
+pub(crate) struct Layout {
+    /// jobs[position], 0 at padding
+    jobs: Vec<u32>,
+    /// steps[position], 0 at padding
+    steps: Vec<u32>,
+    /// times[position], 0 at padding
+    times: Vec<u64>,
+    /// tails[position], 0 at padding
+    tails: Vec<u64>,
+    /// places[job][step]: the position of the operation
+    places: Vec<Vec<u32>>,
+    /// blocks[machine]: its first block; behind the last machine's the number of all blocks
+    blocks: Vec<u32>,
+}
+
+impl Model for Layout {
+    ghost use Rattle.shop_bound.specs.inner.Layouts.{LayoutState};
+    ghost use Rattle.shop_bound.specs.Vectors.{items_in};
+
+    ghost Value = { LayoutState };
+
+    ghost view = { λ l. record {
+      jobs = l.jobs.items;
+      steps = l.steps.items;
+      times = l.times.items;
+      tails = l.tails.items;
+      places = items_in l.places.items;
+      blocks = l.blocks.items;
+    } };
+}
+
+impl Layout {
+    /// The layout of an instance. Fails with `AllocError` if memory runs out.
+    pub(crate) fn of(_alloc: Global, instance: &Instance) -> Result<Layout, AllocError>
+        ensures { IfOk result (λ l. IsLaidOut instance.now l) }
+    {
+        let _instance = instance;
+        Err(AllocError)
+    }
+
+    /// The job of the operation at a position.
+    pub(crate) fn job(&self, position: usize) -> usize
+        requires { position < length self.now.jobs }
+        ensures { result ≡ slice_index self.now.jobs position }
+    {
+        self.jobs[position] as usize
+    }
+
+    /// The step of the operation at a position.
+    pub(crate) fn step(&self, position: usize) -> usize
+        requires { position < length self.now.steps }
+        ensures { result ≡ slice_index self.now.steps position }
+    {
+        self.steps[position] as usize
+    }
+
+    /// The time of the operation at each position.
+    pub(crate) fn times(&self) -> &[u64]
+        ensures { result.now ≡ self.now.times }
+    {
+        self.times.as_slice()
+    }
+
+    /// The tail of the operation at each position.
+    pub(crate) fn tails(&self) -> &[u64]
+        ensures { result.now ≡ self.now.tails }
+    {
+        self.tails.as_slice()
+    }
+
+    /// The positions of the steps of a job.
+    pub(crate) fn places(&self, job: usize) -> &[u32]
+        requires { job < length self.now.places }
+        ensures { result.now ≡ slice_index_or self.now.places job [] }
+    {
+        self.places[job].as_slice()
+    }
+
+    /// The first block of a machine, or the number of all blocks behind the last one's.
+    pub(crate) fn block(&self, machine: usize) -> usize
+        requires { machine < length self.now.blocks }
+        ensures { result ≡ slice_index self.now.blocks machine }
+    {
+        self.blocks[machine] as usize
+    }
+}
