@@ -11,7 +11,7 @@ use Rattle.std.proofs.lemmas.Iterator.Consumers.{YieldsList-turn, YieldsList-end
 use Rattle.std.proofs.lemmas.List.{length-map}
 use Rattle.shop_tree.specs.Nodes.{words_of}
 use Rattle.shop_tree.specs.Sheets.{IsSheetOf}
-use Rattle.shop_tree.specs.declared.nodes.Piece.{Piece}
+use Rattle.shop_tree.specs.declared.pieces.Piece.{Piece}
 use Rattle.shop_tree.specs.declared.sheets.Sheet.{Sheet}
 use Rattle.shop_round.specs.declared.entries.Entry.{Entry}
 use Rattle.shop_round.specs.declared.kinds.Kind.TheVariants.{Done, Passed}

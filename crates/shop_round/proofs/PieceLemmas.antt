@@ -8,7 +8,7 @@ use Rattle.std.proofs.lemmas.List.{map-append, take-take, drop-take, drop_all, t
 use Rattle.std.proofs.lemmas.List.Elements.{recursion_from_All, All-from_recursion}
 use Rattle.shop_model.specs.Shop.{Shop}
 use Rattle.shop_tree.specs.declared.nodes.Node.{Node}
-use Rattle.shop_tree.specs.declared.nodes.Piece.{Piece}
+use Rattle.shop_tree.specs.declared.pieces.Piece.{Piece}
 use Rattle.shop_tree.specs.Nodes.{words_of, IsNode, AreNodes}
 use Rattle.shop_round.specs.Round.{cut_into}
 use Rattle.shop_round.specs.Nodes.{nodes_in, pieces_in, ArePieces, numbered}

@@ -4,7 +4,7 @@ use Rattle.shop_model.specs.Shop.{Shop}
 use Rattle.shop_tree.specs.Branching.{sort_by}
 use Rattle.shop_tree.specs.Nodes.{words_of, AreNodes}
 use Rattle.shop_tree.specs.declared.nodes.Node.{Node}
-use Rattle.shop_tree.specs.declared.nodes.Piece.{Piece}
+use Rattle.shop_tree.specs.declared.pieces.Piece.{Piece}
 use Rattle.shop_round.specs.Round.{Told}
 use Rattle.shop_round.specs.declared.orders.Order.{Order}
 use Rattle.shop_round.specs.declared.orders.Order.TheVariants.{Kept, Bound}

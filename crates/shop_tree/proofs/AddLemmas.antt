@@ -11,10 +11,10 @@ use Rattle.shop_model.specs.Word.{IsWord}
 use Rattle.shop_bound.specs.Bound.{lb}
 use Rattle.shop_bound.proofs.SmallSums.{sums_small}
 use Rattle.shop_tree.specs.Branching.{branch}
-use Rattle.shop_tree.specs.Opens.{word_at, open_words, words_of_closed, words_at, IsOpen, depth_of, IsWaiting}
-use Rattle.shop_tree.specs.Opens.{AreChildren, Adds}
-use Rattle.shop_tree.specs.Pushing.{with_opens, with_rest}
-use Rattle.shop_tree.specs.Walkers.{weight}
+use Rattle.shop_tree.specs.inner.Opens.{word_at, open_words, words_of_closed, words_at, IsOpen, depth_of, IsWaiting}
+use Rattle.shop_tree.specs.inner.Opens.{AreChildren, Adds}
+use Rattle.shop_tree.specs.inner.Pushing.{with_opens, with_rest}
+use Rattle.shop_tree.specs.inner.Walkers.{weight}
 use Rattle.shop_tree.specs.declared.opens.Open.{Open}
 use Rattle.shop_tree.specs.declared.opens.Closed.{Closed}
 use Rattle.shop_tree.specs.declared.opens.Waiting.{Waiting}

@@ -4,7 +4,7 @@ use Rattle.std.proofs.Common.{◌∙◌, ap, arith}
 use Rattle.std.proofs.lemmas.List.{take_more, take_all, take-take, length-take-le}
 use Rattle.shop_bound.specs.Desks.{DeskState, IsUndone}
 use Rattle.shop_model.specs.Shop.{Shop}
-use Rattle.shop_tree.specs.Moving.{at_word}
+use Rattle.shop_tree.specs.inner.Moving.{at_word}
 
 -- what was dispatched last is taken back
 pub undone : (s t : DeskState) → 0 < length s.word → IsUndone s t → t ≡ at_word s (take (length s.word - 1) s.word)

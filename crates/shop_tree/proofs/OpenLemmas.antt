@@ -8,10 +8,10 @@ use Rattle.shop_model.specs.Shop.{Shop}
 use Rattle.shop_model.specs.Word.{IsWord}
 use Rattle.shop_bound.specs.Bound.{lb}
 use Rattle.shop_tree.specs.Branching.{branch}
-use Rattle.shop_tree.specs.Opens.{word_at, open_words, words_of_closed, entry_words, words_at, IsClosed, depth_of}
-use Rattle.shop_tree.specs.Opens.{IsWaiting, IsRising, AreWaiting, Adds}
-use Rattle.shop_tree.specs.Searching.{walk_stack, IsTaken}
-use Rattle.shop_tree.specs.Walkers.{weight}
+use Rattle.shop_tree.specs.inner.Opens.{word_at, open_words, words_of_closed, entry_words, words_at, IsClosed, depth_of}
+use Rattle.shop_tree.specs.inner.Opens.{IsWaiting, IsRising, AreWaiting, Adds}
+use Rattle.shop_tree.specs.inner.Searching.{walk_stack, IsTaken}
+use Rattle.shop_tree.specs.inner.Walkers.{weight}
 use Rattle.shop_tree.specs.Walking.{Walk, walk}
 use Rattle.shop_tree.specs.declared.opens.Open.{Open}
 use Rattle.shop_tree.specs.declared.opens.Closed.{Closed}

@@ -5,10 +5,10 @@ use Rattle.std.proofs.lemmas.List.{length-take-le, take-take}
 use Rattle.shop_model.specs.Shop.{Shop}
 use Rattle.shop_bound.specs.Desks.{DeskState}
 use Rattle.shop_tree.specs.Branching.{branch}
-use Rattle.shop_tree.specs.Moving.{at_word}
-use Rattle.shop_tree.specs.Opens.{word_at, words_at, words_of_closed, AreWaiting, Adds}
-use Rattle.shop_tree.specs.Searching.{walk_stack, IsTaken}
-use Rattle.shop_tree.specs.Walkers.{weight, weight_of}
+use Rattle.shop_tree.specs.inner.Moving.{at_word}
+use Rattle.shop_tree.specs.inner.Opens.{word_at, words_at, words_of_closed, AreWaiting, Adds}
+use Rattle.shop_tree.specs.inner.Searching.{walk_stack, IsTaken}
+use Rattle.shop_tree.specs.inner.Walkers.{weight, weight_of}
 use Rattle.shop_tree.specs.Walking.{Walk, walk}
 use Rattle.shop_tree.proofs.WalkSteps.{walk_stack-append}
 use Rattle.shop_tree.specs.declared.opens.Open.{Open}

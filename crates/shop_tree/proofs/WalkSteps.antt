@@ -14,7 +14,7 @@ use Rattle.shop_tree.specs.Branching.{branch, conflict, conflict_among, open_job
 use Rattle.shop_tree.specs.Branching.{chosen_of}
 use Rattle.shop_tree.specs.Walking.{Walk, walk, walk_within, steps_left}
 use Rattle.shop_tree.specs.Pieces.{walk_told}
-use Rattle.shop_tree.specs.Searching.{walk_stack, IsTaken}
+use Rattle.shop_tree.specs.inner.Searching.{walk_stack, IsTaken}
 use Rattle.shop_tree.specs.Nodes.{words_of}
 
 -- words put on the stack, the last one first, are walked next

@@ -3,11 +3,5 @@ pub mod Walking
 pub mod Nodes
 pub mod Laws
 pub mod Pieces
-pub mod Searching
 pub mod Sheets
-pub mod NextOperations
-pub mod Choosing
-pub mod Opens
-pub mod Pushing
-pub mod Moving
-pub mod Walkers
+pub mod inner

@@ -7,7 +7,7 @@ use Rattle.shop_model.specs.Shop.{Shop}
 use Rattle.shop_tree.specs.Nodes.{words_of}
 use Rattle.shop_tree.specs.Walking.{Walk, sheet}
 use Rattle.shop_tree.specs.declared.nodes.Node.{Node}
-use Rattle.shop_tree.specs.declared.nodes.Piece.{Piece}
+use Rattle.shop_tree.specs.declared.pieces.Piece.{Piece}
 
 abbrev pub walk_told : Option (List ℕ) → ℕ → List Node → ℕ → Walk
 walk_told found best left budget = record { found = found; best = best; left = words_of left; budget = budget }

@@ -5,7 +5,7 @@ use Rattle.std.specs.Prelude.{◌≡◌, ℕ, ◌-◌}
 use Rattle.shop_model.specs.Shop.{Shop}
 use Rattle.shop_tree.specs.Nodes.{words_of}
 use Rattle.shop_tree.specs.Walking.{Walk}
-use Rattle.shop_tree.specs.declared.nodes.Piece.{Piece}
+use Rattle.shop_tree.specs.declared.pieces.Piece.{Piece}
 use Rattle.shop_tree.specs.declared.sheets.Sheet.{Sheet}
 
 pub record IsSheetOf (s : Sheet) (shop : Shop) (piece : Piece) (best budget : ℕ) : Type 0 where

@@ -2,7 +2,7 @@
 ghost use Rattle.std.specs.Prelude.{◌≡◌, ◌≤◌, IfOk, length, vec_capacity};
 ghost use Rattle.shop_model.specs.Word.{IsWord, IsFull};
 ghost use Rattle.shop_tree.specs.Branching.{conflict as conflict_set};
-ghost use Rattle.shop_tree.specs.Choosing.{IsChosen, IsNextOf, conflicting_with, conflict_of};
+ghost use Rattle.shop_tree.specs.inner.Choosing.{IsChosen, IsNextOf, conflicting_with, conflict_of};
 
 use crate::next_operations::NextOperation;
 use crate::placings::Placed;

@@ -8,19 +8,20 @@ mod moving;
 mod next_operations;
 mod nodes;
 mod opens;
+mod pieces;
 mod placings;
+mod progress;
 mod pushing;
 mod searching;
 mod sheets;
-mod taking;
 #[cfg(test)]
 mod tests;
 mod walkers;
-mod walking;
 
 pub use branching::conflict;
 pub use child_nodes::children;
 pub use laws::{branching_loses_no_table, searches_lose_no_table};
-pub use nodes::{Node, Piece};
+pub use nodes::Node;
+pub use pieces::Piece;
 pub use searching::search;
 pub use sheets::Sheet;

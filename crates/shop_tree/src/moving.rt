@@ -1,7 +1,7 @@
 // A desk brought to another word.
 ghost use Rattle.std.specs.Prelude.{◌≡◌, ◌≤◌, length, take};
 ghost use Rattle.shop_model.specs.Word.{IsWord};
-ghost use Rattle.shop_tree.specs.Moving.{at_word, IsCommonLength};
+ghost use Rattle.shop_tree.specs.inner.Moving.{at_word, IsCommonLength};
 
 use shop_bound::Desk;
 

@@ -1,3 +1,4 @@
+// A word with its lower bound.
 ghost use Rattle.std.specs.Prelude.{◌≡◌, IfOk};
 ghost use Rattle.shop_model.specs.Word.{IsWord};
 ghost use Rattle.shop_bound.specs.Bound.{lb};
@@ -13,13 +14,6 @@ pub struct Node {
     pub bound: u64,
 }
 
-/// Some nodes of the search, to be searched one after the other, under a number.
-#[derive(Drop)]
-pub struct Piece {
-    pub number: usize,
-    pub nodes: Vec<Node>,
-}
-
 impl Node {
     /// The node of this word, which fits the instance, with its lower bound. An error where memory is refused.
     pub fn new(alloc: Global, instance: &Instance, word: Word) -> Result<Node, AllocError>
@@ -28,14 +22,5 @@ impl Node {
     {
         let bound = lower_bound(alloc, instance, &word)?;
         Ok(Node { word, bound })
-    }
-}
-
-impl Piece {
-    /// The piece of this number and these nodes.
-    pub fn new(number: usize, nodes: Vec<Node>) -> Piece
-        ensures { result ≡ record { number = number; nodes = nodes } }
-    {
-        Piece { number, nodes }
     }
 }

@@ -1,3 +1,4 @@
+// What waits on the stack of a walk.
 /// A child that waits: the first `depth` entries of the desk's word and this job, with its bound.
 #[derive(Clone, Copy)]
 pub(crate) struct Open {

@@ -1,8 +1,8 @@
-// What stands once a word is placed.
+// A word of an instance, placed.
 ghost use Rattle.std.specs.Prelude.{◌≡◌, ◌<◌, length};
 ghost use Rattle.shop_bound.specs.Placements.{IsPlacement};
 ghost use Rattle.shop_model.specs.Word.{placing, IsWord};
-ghost use Rattle.shop_tree.specs.NextOperations.{IsNextIfAny};
+ghost use Rattle.shop_tree.specs.inner.NextOperations.{IsNextIfAny};
 
 use crate::next_operations::NextOperation;
 use shop_bound::Placement;

@@ -1,8 +1,8 @@
 // The children of a desk's word, in order.
 ghost use Rattle.std.specs.Prelude.{◌≡◌, ◌≤◌, length, vec_capacity, OnOk, IfOk};
 ghost use Rattle.shop_bound.specs.Bound.{lb};
-ghost use Rattle.shop_tree.specs.Opens.{AreChildren, IsPlaceAbove};
-ghost use Rattle.shop_tree.specs.Pushing.{with_opens, with_rest};
+ghost use Rattle.shop_tree.specs.inner.Opens.{AreChildren, IsPlaceAbove};
+ghost use Rattle.shop_tree.specs.inner.Pushing.{with_opens, with_rest};
 
 use crate::branching::gather_conflict;
 use crate::opens::{Closed, Open, Waiting};

@@ -1,8 +1,10 @@
+// What the search of a piece gave.
 ghost use Rattle.std.specs.Prelude.{◌≡◌, ◌≤◌};
 ghost use Rattle.shop_tree.specs.Nodes.{AreNodes};
 ghost use Rattle.shop_tree.specs.Pieces.{IsSheet};
 
-use crate::nodes::{Node, Piece};
+use crate::nodes::Node;
+use crate::pieces::Piece;
 use shop_model::{Instance, Word};
 
 /// What the search of a piece gave: the last word found, the makespan (the opening one, `best`, where nothing was

@@ -1,5 +1,5 @@
 use Rattle.std.proofs.Common.{Some, subst}
-use Rattle.shop_tree.specs.Choosing.{placing_of, open_below, IsChoice}
+use Rattle.shop_tree.specs.inner.Choosing.{placing_of, open_below, IsChoice}
 use Rattle.shop_tree.proofs.ChoosingLemmas.{open-skip, open-more, choice-first, choice-sooner, choice-kept}
 use Rattle.shop_tree.proofs.branching.choose.Goals.{in-Some-chosen+else-best-next, in_default-chosen}
 use Rattle.shop_tree.proofs.branching.choose.Goals as goal

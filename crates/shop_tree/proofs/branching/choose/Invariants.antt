@@ -1,4 +1,4 @@
-use Rattle.shop_tree.specs.Choosing.{placing_of, open_below, IsChoice}
+use Rattle.shop_tree.specs.inner.Choosing.{placing_of, open_below, IsChoice}
 use Rattle.shop_tree.proofs.branching.choose.Given as goal
 
 abbrev pub invariant-loop-job : goal.invariant-loop-job

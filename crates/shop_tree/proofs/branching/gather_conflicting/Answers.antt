@@ -1,7 +1,7 @@
 use Rattle.std.proofs.Common.{◌≡◌, ◌+◌, ◌++◌, ◌∷◌, ◌∙◌, [], true, false, vec_len, sym, ap, arith, append-nil}
 use Rattle.std.specs.List.{filter}
 use Rattle.shop_tree.specs.Branching.{conflicts_with}
-use Rattle.shop_tree.specs.Choosing.{placing_of}
+use Rattle.shop_tree.specs.inner.Choosing.{placing_of}
 use Rattle.shop_tree.proofs.ChoosingLemmas.{open-skip, conflicts-is, conflict-step}
 use Rattle.shop_tree.proofs.branching.gather_conflicting.Goals as goal
 

@@ -1,8 +1,8 @@
 use Rattle.std.proofs.Common.{◌≡◌, ◌++◌, ◌∷◌, ◌∙◌, [], ℕ, List, refl, sym, ap, subst, arith}
 use Rattle.shop_bound.specs.Desks.{DeskState, IsWordOfShop}
 use Rattle.shop_tree.specs.Laws.{HaveBetterChildren}
-use Rattle.shop_tree.specs.Moving.{at_word}
-use Rattle.shop_tree.specs.Opens.{AreChildren}
+use Rattle.shop_tree.specs.inner.Moving.{at_word}
+use Rattle.shop_tree.specs.inner.Opens.{AreChildren}
 use Rattle.shop_tree.specs.declared.nodes.Node.{Node}
 use Rattle.shop_tree.proofs.ChildrenLemmas.{all_to_come, one_came, all_came, better_children}
 use Rattle.shop_tree.proofs.child_nodes.children.Goals as goal

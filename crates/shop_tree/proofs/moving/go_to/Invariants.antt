@@ -1,5 +1,5 @@
 use Rattle.std.proofs.Common.{◌≡◌, ◌+◌, take}
-use Rattle.shop_tree.specs.Moving.{at_word}
+use Rattle.shop_tree.specs.inner.Moving.{at_word}
 use Rattle.shop_tree.proofs.moving.go_to.Given as goal
 
 abbrev pub invariant-loop-job : goal.invariant-loop-job

@@ -5,7 +5,7 @@ use Rattle.shop_model.specs.Word.{IsWord}
 use Rattle.shop_bound.specs.Bound.{lb}
 use Rattle.shop_bound.specs.Desks.{DeskState}
 use Rattle.shop_tree.specs.Branching.{conflict}
-use Rattle.shop_tree.specs.Opens.{IsPlaceAbove}
+use Rattle.shop_tree.specs.inner.Opens.{IsPlaceAbove}
 use Rattle.shop_tree.specs.declared.opens.Open.{Open}
 use Rattle.shop_tree.proofs.ChildrenLemmas.{child-word}
 use Rattle.shop_tree.proofs.PushLemmas.{gathered_none, gathered_other, gathered_open}

@@ -1,5 +1,5 @@
 use Rattle.std.proofs.Common.{◌≡◌, take}
-use Rattle.shop_tree.specs.Pushing.{with_opens}
+use Rattle.shop_tree.specs.inner.Pushing.{with_opens}
 use Rattle.shop_tree.proofs.pushing.push_open.Given as goal
 
 abbrev pub invariant-loop-child : goal.invariant-loop-child

@@ -4,12 +4,12 @@ use Rattle.std.proofs.lemmas.List.{length-take}
 use Rattle.shop_model.specs.Shop.{Shop}
 use Rattle.shop_bound.specs.Desks.{DeskState}
 use Rattle.shop_tree.specs.Branching.{branch}
-use Rattle.shop_tree.specs.Moving.{at_word}
-use Rattle.shop_tree.specs.Opens.{Adds, AreChildren}
+use Rattle.shop_tree.specs.inner.Moving.{at_word}
+use Rattle.shop_tree.specs.inner.Opens.{Adds, AreChildren}
 use Rattle.shop_tree.specs.Nodes.{words_of}
-use Rattle.shop_tree.specs.Pushing.{with_opens}
-use Rattle.shop_tree.specs.Searching.{walked}
-use Rattle.shop_tree.specs.Walkers.{IsTurn, weight}
+use Rattle.shop_tree.specs.inner.Pushing.{with_opens}
+use Rattle.shop_tree.specs.inner.Searching.{walked}
+use Rattle.shop_tree.specs.inner.Walkers.{IsTurn, weight}
 use Rattle.shop_tree.specs.declared.opens.Waiting.{Waiting}
 use Rattle.shop_tree.specs.declared.opens.Waiting.TheVariants.{Rest}
 use Rattle.shop_tree.proofs.AddLemmas.{adds-last, weight-with}

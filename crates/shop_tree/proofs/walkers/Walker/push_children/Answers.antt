@@ -1,9 +1,9 @@
 use Rattle.std.proofs.Common.{◌≡◌, ◌+◌, ◌≤◌, reverse, ◌∙◌, List, ℕ, length, refl, sym, ap, subst}
 use Rattle.shop_bound.specs.Desks.{DeskState}
-use Rattle.shop_tree.specs.Pushing.{with_opens, with_rest}
-use Rattle.shop_tree.specs.Walkers.{HasBranched, weight}
+use Rattle.shop_tree.specs.inner.Pushing.{with_opens, with_rest}
+use Rattle.shop_tree.specs.inner.Walkers.{HasBranched, weight}
 use Rattle.shop_tree.specs.Branching.{branch}
-use Rattle.shop_tree.specs.Opens.{Adds}
+use Rattle.shop_tree.specs.inner.Opens.{Adds}
 use Rattle.shop_tree.specs.declared.opens.Waiting.{Waiting}
 use Rattle.shop_tree.proofs.ListLemmas.{on_ok}
 use Rattle.shop_tree.proofs.AddLemmas.{adds-children, weight-children}

@@ -1,10 +1,10 @@
 use Rattle.std.proofs.Common.{◌≡◌, ◌++◌, ◌∙◌, List, ℕ, true, reverse, sym, ap, subst, arith, append-nil}
 use Rattle.shop_bound.specs.Desks.{DeskState}
 use Rattle.shop_tree.specs.Branching.{branch}
-use Rattle.shop_tree.specs.Opens.{AreWaiting, Adds, words_at}
-use Rattle.shop_tree.specs.Searching.{IsTaken, walked, walk_stack}
-use Rattle.shop_tree.specs.Walkers.{HasWalked, node_walk, stack_walk}
-use Rattle.shop_tree.specs.declared.walkers.Progress.{Progress}
+use Rattle.shop_tree.specs.inner.Opens.{AreWaiting, Adds, words_at}
+use Rattle.shop_tree.specs.inner.Searching.{IsTaken, walked, walk_stack}
+use Rattle.shop_tree.specs.inner.Walkers.{HasWalked, node_walk, stack_walk}
+use Rattle.shop_tree.specs.declared.progress.Progress.{Progress}
 use Rattle.shop_tree.proofs.ListLemmas.{on_ok}
 use Rattle.shop_tree.proofs.OpenLemmas.{same_taken}
 use Rattle.shop_tree.proofs.TurnLemmas.{node_walks, node_waits}

@@ -5,12 +5,12 @@ use Rattle.shop_model.specs.Word.{IsWord}
 use Rattle.shop_bound.specs.Bound.{lb}
 use Rattle.shop_bound.specs.Desks.{DeskState, goes_on}
 use Rattle.shop_tree.specs.Branching.{branch}
-use Rattle.shop_tree.specs.Moving.{at_word}
-use Rattle.shop_tree.specs.Opens.{word_at, words_at, AreWaiting, Adds}
-use Rattle.shop_tree.specs.Searching.{IsTaken, walked, walk_stack}
-use Rattle.shop_tree.specs.Walkers.{IsTurn, weight}
+use Rattle.shop_tree.specs.inner.Moving.{at_word}
+use Rattle.shop_tree.specs.inner.Opens.{word_at, words_at, AreWaiting, Adds}
+use Rattle.shop_tree.specs.inner.Searching.{IsTaken, walked, walk_stack}
+use Rattle.shop_tree.specs.inner.Walkers.{IsTurn, weight}
 use Rattle.shop_tree.specs.declared.opens.Waiting.TheVariants.{Child}
-use Rattle.shop_tree.specs.declared.walkers.Progress.{Progress}
+use Rattle.shop_tree.specs.declared.progress.Progress.{Progress}
 use Rattle.shop_tree.proofs.OpenLemmas.{popped, open_taken, child-done, waiting-lower}
 use Rattle.shop_tree.proofs.ListLemmas.{on_ok}
 use Rattle.shop_tree.proofs.TurnLemmas.{child_gone, fewer_on, fewer_by, weight-top}

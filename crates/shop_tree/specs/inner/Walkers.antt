@@ -1,0 +1,71 @@
+-- What a walker walks.
+--     stack_walk w                    the walk, from what w has walked, of all that waits on its stack
+--     node_walk w node                the walk of a node
+--     IsInOrder w                     all that waits is told rightly
+--     IsNextOn w x                    so is x on top of it
+--     HasBranched before after        the children of the desk's word lie on the stack
+--     IsTurn before x after           what waits afterwards comes to the same walk as x on top of what waited before,
+--                                     and there is less to do
+--     HasWalked before after walk     this is walked afterwards, and nothing waits
+use Rattle.std.specs.Prelude.{◌≡◌, ℕ, ◌+◌, ◌*◌, ◌≤◌, ◌<◌, List, [], ◌∷◌, ◌++◌, length, reverse}
+use Rattle.shop_tree.specs.Branching.{branch}
+use Rattle.shop_tree.specs.inner.Opens.{words_at, AreWaiting, Adds}
+use Rattle.shop_tree.specs.inner.Searching.{walk_stack, walked}
+use Rattle.shop_tree.specs.Walking.{Walk, walk}
+use Rattle.shop_tree.specs.declared.nodes.Node.{Node}
+use Rattle.shop_tree.specs.declared.opens.Waiting.{Waiting}
+use Rattle.shop_tree.specs.declared.opens.Waiting.TheVariants.{Child, Rest}
+use Rattle.shop_tree.specs.declared.walkers.Walker.{Walker}
+
+-- the walk of these entries on a stack, and whether they are in order
+abbrev pub walk_of_entries : Walker → List Waiting → Walk
+walk_of_entries w stack = walk_stack w.desk.shop (walked w.progress) (words_at w.desk.shop w.desk.word stack)
+
+abbrev pub AreInOrder : Walker → List Waiting → Type 0
+AreInOrder w stack = AreWaiting w.desk.shop w.progress.best w.desk.word stack
+
+abbrev pub stack_walk : Walker → Walk
+stack_walk w = walk_of_entries w w.stack.items
+
+abbrev pub IsInOrder : Walker → Type 0
+IsInOrder w = AreInOrder w w.stack.items
+
+abbrev pub IsNextOn : Walker → Waiting → Type 0
+IsNextOn w x = AreInOrder w (w.stack.items ++ x ∷ [])
+
+abbrev pub node_walk : Walker → Node → Walk
+node_walk w node = walk w.desk.shop (walked w.progress) node.word
+
+-- how many entries an entry can come to, with itself
+abbrev pub weight_of : Waiting → ℕ
+weight_of (Child o) = 1
+weight_of (Rest c) = c.count + 1
+
+abbrev pub weight : List Waiting → ℕ
+weight [] = 0
+weight (x ∷ stack) = weight_of x + weight stack
+
+-- a bound on the turns left with these entries on the stack
+abbrev pub turns_left : Walker → List Waiting → ℕ
+turns_left w stack = w.progress.budget * (length w.desk.shop.jobs + 2) + weight stack
+
+pub record HasBranched (before after : Walker) : Type 0 where
+  pub stack : Adds before.desk.shop before.progress.best before.desk.word
+      (reverse (branch before.desk.shop before.desk.word)) before.stack.items after.stack.items
+  pub weight : weight after.stack.items ≤ weight before.stack.items + length before.desk.shop.jobs + 1
+  pub desk : after.desk ≡ before.desk
+  pub progress : after.progress ≡ before.progress
+
+pub record IsTurn (before : Walker) (x : Waiting) (after : Walker) : Type 0 where
+  pub walk : stack_walk after ≡ walk_of_entries before (before.stack.items ++ x ∷ [])
+  pub in_order : IsInOrder after
+  pub fewer : turns_left after after.stack.items < turns_left before (before.stack.items ++ x ∷ [])
+  pub shop : after.desk.shop ≡ before.desk.shop
+  pub spent : after.progress.budget ≤ before.progress.budget
+  pub instance : after.progress.instance.now ≡ before.progress.instance.now
+
+pub record HasWalked (before after : Walker) (whole : Walk) : Type 0 where
+  pub walk : walked after.progress ≡ whole
+  pub spent : after.progress.budget ≤ before.progress.budget
+  pub instance : after.progress.instance.now ≡ before.progress.instance.now
+  pub stack : after.stack.items ≡ []
