@@ -5,3 +5,5 @@
 mod instances;
 #[cfg(test)]
 mod rounds;
+#[cfg(test)]
+mod trees;

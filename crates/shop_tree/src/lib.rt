@@ -14,8 +14,6 @@ mod progress;
 mod pushing;
 mod searching;
 mod sheets;
-#[cfg(test)]
-mod tests;
 mod walkers;
 
 pub use branching::conflict;

@@ -1,49 +1,13 @@
-// Worked instances and sheets, and each public call once.
+// Worked conflict sets, children and sheets, and each public call of branching and search once.
 ghost use Rattle.std.specs.Prelude.{◌≡◌, IfOk};
 ghost use Rattle.shop_tree.specs.Nodes.{IsNode, AreNodes};
 
-use crate::{Node, Piece, Sheet, children, conflict, search};
-use shop_model::{Instance, Op, Word, fits, is_full};
+use crate::instances::{crossing, with_a_gap, with_zeros};
+use shop_model::{Instance, Word, fits, is_full};
+use shop_tree::{Node, Piece, Sheet, children, conflict, search};
 use std::alloc::{AllocError, Global};
 use std::process::Abort;
 use std::test::Fail;
-
-fn op(machine: usize, time: u64) -> Op {
-    Op { machine, time }
-}
-
-/// A: two jobs that cross.
-fn crossing(alloc: Global) -> Result<Instance, Fail> {
-    let first = vec![in alloc; op(0, 3), op(1, 2)]?;
-    let second = vec![in alloc; op(1, 2), op(0, 4)]?;
-    Ok(
-        Instance::new(2, vec![in alloc; first, second]?)
-            .ok()
-            .ok_or("limits")?,
-    )
-}
-
-/// G: a last step of time 0.
-fn with_a_gap(alloc: Global) -> Result<Instance, Fail> {
-    let first = vec![in alloc; op(0, 5), op(1, 3), op(2, 0)]?;
-    let second = vec![in alloc; op(1, 1), op(0, 1), op(2, 6)]?;
-    Ok(
-        Instance::new(3, vec![in alloc; first, second]?)
-            .ok()
-            .ok_or("limits")?,
-    )
-}
-
-/// Z: several steps of time 0.
-fn with_zeros(alloc: Global) -> Result<Instance, Fail> {
-    let first = vec![in alloc; op(0, 4), op(1, 1), op(2, 0)]?;
-    let second = vec![in alloc; op(1, 0), op(2, 5), op(0, 0)]?;
-    Ok(
-        Instance::new(3, vec![in alloc; first, second]?)
-            .ok()
-            .ok_or("limits")?,
-    )
-}
 
 fn word(alloc: Global, jobs: &[usize]) -> Result<Word, Fail>
     ensures { IfOk result (λ w. w ≡ jobs.now) }
