@@ -1,0 +1,4 @@
+pub mod LaneLists
+pub mod SpanTurns
+pub mod MarkLemmas
+pub mod EndTurns

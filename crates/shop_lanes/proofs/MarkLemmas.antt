@@ -1,0 +1,127 @@
+-- Bits as positions: the lowest taken out, none left, and the mask of a test.
+use Rattle.std.proofs.Common.{◌≡◌, ℕ, zero, suc, ◌+◌, ◌-◌, ◌*◌, ◌/◌, ◌%◌, ◌^◌, ◌<◌, ◌≤◌, Bool, true, false, List, [], ◌∷◌, length, map, refl, ap, sym, ◌∙◌, arith, min, ◌⊎◌, inl, inr, ◌↔◌, IsTrue, nat_eq, pow-suc, drop, length-drop}
+use Rattle.std.proofs.lemmas.List.{length-map}
+use Rattle.std.proofs.lemmas.Bool.Decides.{nat_tests}
+use Rattle.std.proofs.lemmas.Bool.{cases_eq}
+use Rattle.std.specs.Int.Bits.{bit_and, and_self}
+use Rattle.std.specs.Int.{bit_at}
+use Rattle.std.proofs.lemmas.Nat.Bits.{bit_at_and, bit_at-suc, bit_at_lowest, same_from_bits}
+use lib.Count.{count_trailing_zeros}
+use lib.Lanes.{mask_l}
+use Rattle.std.proofs.Math.Pow.{pow_mono}
+use Rattle.std.proofs.lemmas.Simd.{mask_l-lt}
+use Rattle.shop_lanes.specs.Marks.{set_bits, marked}
+
+pub half_and : (a b : ℕ) → bit_and a b / 2 ≡ bit_and (a / 2) (b / 2)
+half_and a b = same_from_bits (bit_and a b / 2) (bit_and (a / 2) (b / 2)) (λ i.
+    sym (bit_at-suc (bit_and a b) i)
+    ∙ bit_at_and a b (suc i)
+    ∙ ap (λ x. min x (bit_at b (suc i))) (bit_at-suc a i)
+    ∙ ap (λ x. min (bit_at (a / 2) i) x) (bit_at-suc b i)
+    ∙ sym (bit_at_and (a / 2) (b / 2) i))
+
+pub lowest_and : (a b : ℕ) → bit_and a b % 2 ≡ min (a % 2) (b % 2)
+lowest_and a b = sym (bit_at_lowest (bit_and a b)) ∙ bit_at_and a b 0
+    ∙ ap (λ x. min x (bit_at b 0)) (bit_at_lowest a) ∙ ap (λ x. min (a % 2) x) (bit_at_lowest b)
+
+pub set_bits-zero : (n at : ℕ) → set_bits n at 0 ≡ []
+unfolding set_bits
+set_bits-zero zero at = refl
+set_bits-zero (suc n) at = set_bits-zero n (at + 1)
+
+pub set_bits-odd : (n at m : ℕ) → m % 2 ≡ 1 → set_bits (suc n) at m ≡ at ∷ set_bits n (at + 1) (m / 2)
+unfolding set_bits
+set_bits-odd n at m h = rw h refl
+
+pub set_bits-even : (n at m : ℕ) → m % 2 ≡ 0 → set_bits (suc n) at m ≡ set_bits n (at + 1) (m / 2)
+unfolding set_bits
+set_bits-even n at m h = rw h refl
+
+-- the mask of a test has the positions that pass it
+pub set_bits-mask : (p : ℕ → Bool) (n at : ℕ) (xs : List ℕ) → length xs ≤ n
+    → set_bits n at (mask_l (map p xs)) ≡ marked p at xs
+set_bits-mask p n at [] le = set_bits-zero n at
+set_bits-mask p zero at (x ∷ xs) le = absurd (omega arith)
+set_bits-mask p (suc n) at (x ∷ xs) le = by_test (set_bits-mask p n (at + 1) xs (omega arith)) (p x) refl
+  where
+    by_test : set_bits n (at + 1) (mask_l (map p xs)) ≡ marked p (at + 1) xs → (b : Bool) → p x ≡ b
+        → set_bits (suc n) at (mask_l (map p (x ∷ xs))) ≡ marked p at (x ∷ xs)
+    by_test rest true e =
+        let m = mask_l (map p xs)
+        in let h : mask_l (map p (x ∷ xs)) ≡ 1 + 2 * m = rw e refl
+        in let odd : (1 + 2 * m) % 2 ≡ 1 = omega arith
+        in let half : (1 + 2 * m) / 2 ≡ m = omega arith
+        in rw (h, e) (set_bits-odd n at (1 + 2 * m) odd ∙ ap (λ b. at ∷ set_bits n (at + 1) b) half
+        ∙ ap (λ l. at ∷ l) rest)
+    by_test rest false e =
+        let m = mask_l (map p xs)
+        in let h : mask_l (map p (x ∷ xs)) ≡ 0 + 2 * m = rw e refl
+        in let odd : (0 + 2 * m) % 2 ≡ 0 = omega arith
+        in let half : (0 + 2 * m) / 2 ≡ m = omega arith
+        in rw (h, e) (set_bits-even n at (0 + 2 * m) odd ∙ ap (λ b. set_bits n (at + 1) b) half ∙ rest)
+
+pub odd_lowest : (k m : ℕ) → m % 2 ≡ 1 → count_trailing_zeros (suc k) m ≡ 0
+unfolding count_trailing_zeros
+odd_lowest k m h = rw h refl
+
+pub even_lowest : (k m : ℕ) → m % 2 ≡ 0 → count_trailing_zeros (suc k) m ≡ suc (count_trailing_zeros k (m / 2))
+unfolding count_trailing_zeros
+even_lowest k m h = rw h refl
+
+-- the lowest set bit is the first position, and what is left is the number and one less
+pub set_bits-lowest : (n at m : ℕ) → 0 < m → m < 2 ^ n
+    → set_bits n at m ≡ (at + count_trailing_zeros n m) ∷ set_bits n at (bit_and m (m - 1))
+set_bits-lowest zero at m some small = absurd (omega arith)
+set_bits-lowest (suc n) at m some small =
+    elim (odd_or_even m) [
+      | inl odd ↦
+          let even : (bit_and m (m - 1)) % 2 ≡ 0 = omega (arith, lowest_and m (m - 1))
+          in let half : bit_and m (m - 1) / 2 ≡ m / 2 =
+          half_and m (m - 1) ∙ ap (bit_and (m / 2)) (omega arith) ∙ and_self (m / 2)
+          in rw (odd_lowest n m odd) (set_bits-odd n at m odd
+          ∙ ap (λ x. x ∷ set_bits n (at + 1) (m / 2)) (omega arith)
+          ∙ ap (λ b. (at + 0) ∷ set_bits n (at + 1) b) (sym half)
+          ∙ ap (λ l. (at + 0) ∷ l) (sym (set_bits-even n at (bit_and m (m - 1)) even)))
+      | inr even ↦
+          let less : (bit_and m (m - 1)) % 2 ≡ 0 = omega (arith, lowest_and m (m - 1))
+          in let half : bit_and m (m - 1) / 2 ≡ bit_and (m / 2) (m / 2 - 1) =
+          half_and m (m - 1) ∙ ap (bit_and (m / 2)) (omega arith)
+          in let below : m / 2 < 2 ^ n = omega (arith, pow-suc 2 n)
+          in rw (even_lowest n m even) (set_bits-even n at m even
+          ∙ set_bits-lowest n (at + 1) (m / 2) (omega arith) below
+          ∙ ap (λ x. x ∷ set_bits n (at + 1) (bit_and (m / 2) (m / 2 - 1))) (omega arith)
+          ∙ ap (λ b. (at + suc (count_trailing_zeros n (m / 2))) ∷ set_bits n (at + 1) b) (sym half)
+          ∙ ap (λ l. (at + suc (count_trailing_zeros n (m / 2))) ∷ l)
+          (sym (set_bits-even n at (bit_and m (m - 1)) less)))
+    ]
+  where
+    odd_or_even : (k : ℕ) → (k % 2 ≡ 1) ⊎ (k % 2 ≡ 0)
+    odd_or_even k = elim (cases_eq (k % 2) 1) [ inl e ↦ inl e | inr e ↦ inr (omega arith) ]
+
+-- no position is left exactly where no bit is
+pub no_bits : (n at m : ℕ) → m < 2 ^ n → set_bits n at m ≡ [] → m ≡ 0
+no_bits n at m small e =
+    elim (cases_eq m 0) [
+      | inl z ↦ z
+      | inr some ↦ absurd (let h : set_bits n at m ≡ (at + count_trailing_zeros n m) ∷ set_bits n at (bit_and m (m - 1)) =
+          set_bits-lowest n at m (omega arith) small in nil_cons (sym e ∙ h))
+    ]
+  where
+    nil_cons : {x : ℕ} {xs : List ℕ} → [] ≡ x ∷ xs → ⊥
+    nil_cons h = cc
+
+pub no_bits_exactly : (n at m : ℕ) (marks : List ℕ) → m < 2 ^ n → set_bits n at m ≡ marks
+    → IsTrue (nat_eq m 0) ↔ (marks ≡ [])
+no_bits_exactly n at m marks small is = (
+  (λ t. sym is ∙ ap (set_bits n at) (grind (arith, nat_tests)) ∙ set_bits-zero n at),
+  (λ e. let z = no_bits n at m small (is ∙ e) in grind (arith, nat_tests)),
+)
+
+-- the mask of fewer than 64 numbers has room for one bit more
+pub room_for_bit : (p : ℕ → Bool) (xs : List ℕ) (i : ℕ) → length xs ≤ 64 → 0 < i
+    → mask_l (map p (drop i xs)) < 2 ^ 63
+room_for_bit p xs i le some =
+    let a : mask_l (map p (drop i xs)) < 2 ^ length (map p (drop i xs)) = mask_l-lt (map p (drop i xs))
+    in let b : length (map p (drop i xs)) ≤ 63 = simp (length-map, length-drop) (omega arith)
+    in let d : 2 ^ length (map p (drop i xs)) ≤ 2 ^ 63 = pow_mono b
+    in omega arith

@@ -1,0 +1,5 @@
+pub mod Rows
+pub mod Spans
+pub mod Marks
+pub mod Ends
+pub mod Vectors

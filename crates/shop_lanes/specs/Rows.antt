@@ -1,0 +1,52 @@
+-- Rows of numbers by position, in blocks of eight, and the lanes that they make.
+--     Rows                           heads, times and tails by position, and ends by job
+--     Lane                           what stands at one position
+--     lanes_between rows from to     the lanes of the blocks from `from` on and before `to`
+--     at_rest times tails jobs none  rows where nothing waits
+--     with_head, with_end            the same rows with one number replaced
+use Rattle.std.specs.Prelude.{ℕ, ◌*◌, ◌-◌, ◌≤◌, List, [], ◌∷◌, length, take, drop, replicate, slice_set}
+
+-- heads, times and tails stand by position, ends by job
+pub record Rows : Type 0 where
+  pub heads : List ℕ
+  pub times : List ℕ
+  pub tails : List ℕ
+  pub ends : List ℕ
+
+-- A head of 0 says that nothing waits at the position.
+pub record Lane : Type 0 where
+  pub head : ℕ
+  pub time : ℕ
+  pub tail : ℕ
+
+abbrev pub lanes : List ℕ → List ℕ → List ℕ → List Lane
+lanes [] ts qs = []
+lanes (h ∷ hs) [] qs = []
+lanes (h ∷ hs) (t ∷ ts) [] = []
+lanes (h ∷ hs) (t ∷ ts) (q ∷ qs) = record { head = h; time = t; tail = q } ∷ lanes hs ts qs
+
+-- what a row has in these blocks of eight positions
+abbrev pub blocks : {A : Type 0} → ℕ → ℕ → List A → List A
+blocks from to xs = take (8 * to - 8 * from) (drop (8 * from) xs)
+
+abbrev pub lanes_between : Rows → ℕ → ℕ → List Lane
+lanes_between rows from to = blocks from to (lanes rows.heads rows.times rows.tails)
+
+-- there are such blocks
+pub record AreBlocks (rows : Rows) (from to : ℕ) : Type 0 where
+  pub ordered : from ≤ to
+  pub within : 8 * to ≤ length rows.heads
+
+abbrev pub at_rest : List ℕ → List ℕ → ℕ → ℕ → Rows
+at_rest times tails jobs none = record {
+  heads = replicate (length times) 0;
+  times = times;
+  tails = tails;
+  ends = replicate jobs none;
+}
+
+abbrev pub with_head : Rows → ℕ → ℕ → Rows
+with_head rows position head = record rows { heads = slice_set rows.heads position head }
+
+abbrev pub with_end : Rows → ℕ → ℕ → Rows
+with_end rows job end = record rows { ends = slice_set rows.ends job end }

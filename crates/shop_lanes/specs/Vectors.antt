@@ -1,0 +1,80 @@
+-- Worked rows: lanes served by hand.
+use Rattle.std.specs.Prelude.{◌≡◌, List, [], ◌∷◌}
+use Rattle.std.proofs.Common.{refl}
+use Rattle.shop_lanes.specs.Rows.{Rows, Lane, lanes_between}
+use Rattle.shop_lanes.specs.Spans.{span, spans_between}
+use Rattle.shop_lanes.specs.Marks.{positions_below, set_bits}
+
+-- three operations with heads of 3, 1 and 6, and a position where nothing waits
+abbrev pub three : List Lane
+three =
+    record { head = 3; time = 4; tail = 9 } ∷ record { head = 1; time = 2; tail = 5 }
+    ∷ record { head = 6; time = 3; tail = 1 } ∷ record { head = 0; time = 0; tail = 0 } ∷ []
+
+-- all from 10 on: they end at 14, 16 and 19, with their tails at 23, 21 and 20
+pub all_from_10 : span 1 10 three ≡ 23
+all_from_10 = refl
+
+-- the first and the third from 0 on: at 4 and 7, with their tails at 13 and 8
+pub two_from_0 : span 3 0 three ≡ 13
+two_from_0 = refl
+
+pub third_alone : span 6 6 three ≡ 10
+third_alone = refl
+
+pub none_so_late : span 7 5 three ≡ 0
+none_so_late = refl
+
+-- with equal tails the last one ends last: at 4, 6 and 9, with their tails at 7, 9 and 12
+pub last_ends_last :
+    span 1 0
+    (record { head = 1; time = 4; tail = 3 } ∷ record { head = 1; time = 2; tail = 3 }
+    ∷ record { head = 1; time = 3; tail = 3 } ∷ [])
+    ≡ 12
+last_ends_last = refl
+
+-- from 3 on the first and the third give 16, from 6 on the third gives 10
+pub heads_above_1 : spans_between 1 6 three ≡ 16
+heads_above_1 = refl
+
+pub heads_above_3 : spans_between 3 6 three ≡ 10
+heads_above_3 = refl
+
+-- from 1 on all three: at 5, 7 and 10, with their tails at 14, 12 and 11
+pub heads_up_to_2 : spans_between 0 2 three ≡ 14
+heads_up_to_2 = refl
+
+pub no_such_heads : spans_between 6 9 three ≡ 0
+no_such_heads = refl
+
+-- two blocks: something waits at positions 0, 1, 2, 9 and 15
+abbrev pub two_blocks : Rows
+two_blocks = record {
+  heads = 3 ∷ 1 ∷ 6 ∷ 0 ∷ 0 ∷ 0 ∷ 0 ∷ 0 ∷ 0 ∷ 5 ∷ 0 ∷ 0 ∷ 0 ∷ 0 ∷ 0 ∷ 2 ∷ [];
+  times = 4 ∷ 2 ∷ 3 ∷ 0 ∷ 0 ∷ 0 ∷ 0 ∷ 0 ∷ 0 ∷ 7 ∷ 0 ∷ 0 ∷ 0 ∷ 0 ∷ 0 ∷ 1 ∷ [];
+  tails = 9 ∷ 5 ∷ 1 ∷ 0 ∷ 0 ∷ 0 ∷ 0 ∷ 0 ∷ 8 ∷ 8 ∷ 0 ∷ 0 ∷ 0 ∷ 0 ∷ 0 ∷ 2 ∷ [];
+  ends = 7 ∷ 3 ∷ 3 ∷ 9 ∷ [];
+}
+
+pub below_4 : positions_below two_blocks 0 1 4 ≡ 0 ∷ 1 ∷ []
+below_4 = refl
+
+-- 3 isn't below 3
+pub below_3 : positions_below two_blocks 0 1 3 ≡ 1 ∷ []
+below_3 = refl
+
+pub second_block : positions_below two_blocks 1 2 6 ≡ 9 ∷ 15 ∷ []
+second_block = refl
+
+-- from 20 on at 27 and 28, with their tails at 35 and 30
+pub second_block_from_20 : span 1 20 (lanes_between two_blocks 1 2) ≡ 35
+second_block_from_20 = refl
+
+-- both blocks from 0 on: at 4, 6, 9, 16 and 17, with their tails at 13, 11, 10, 24 and 19
+pub both_blocks : span 1 0 (lanes_between two_blocks 0 2) ≡ 24
+both_blocks = refl
+
+-- 10 is 1010 in binary
+pub bits_of_10 : set_bits 4 16 10 ≡ 17 ∷ 19 ∷ []
+unfolding set_bits
+bits_of_10 = refl

@@ -1,0 +1,51 @@
+// Positions that are marked by bits.
+ghost use Rattle.std.specs.Prelude.{◌≡◌, ℕ, ◌<◌, ◌+◌, ◌≤◌, ◌↔◌, ◌^◌, List, [], ◌∷◌, IsTrue, MatchOption};
+ghost use Rattle.shop_lanes.specs.Marks.{set_bits};
+
+use std::marker::Model;
+
+/// At most 64 neighbouring positions, of which some are marked: to contracts the marked ones in order.
+#[derive(Drop)]
+pub struct Marks {
+    first: usize,
+    bits: u64,
+}
+
+impl Model for Marks {
+    ghost Value = { List ℕ };
+
+    ghost view = { λ m. set_bits 64 m.first m.bits };
+
+    ghost invariant = { λ m. (m.first + 64 ≤ 2 ^ 64) × (m.bits < 2 ^ 64) };
+}
+
+impl Marks {
+    #[inline(always)]
+    pub(crate) fn new(first: usize, bits: u64) -> Self
+        requires { first + 64 ≤ 2 ^ 64 }
+        ensures { result ≡ set_bits 64 first bits }
+    {
+        Marks { first, bits }
+    }
+
+    /// Whether no position is marked.
+    #[inline(always)]
+    pub fn is_empty(&self) -> bool
+        ensures { IsTrue result ↔ (self.now ≡ []) }
+    {
+        self.bits == 0
+    }
+
+    /// Takes the first marked position out.
+    #[inline(always)]
+    pub fn pop_first(&mut self) -> Option<usize>
+        ensures { MatchOption result ((self.old ≡ []) × (self.new ≡ [])) (λ p. self.old ≡ p ∷ self.new) }
+    {
+        if self.bits == 0 {
+            return None;
+        }
+        let next = self.bits.trailing_zeros();
+        self.bits &= self.bits - 1;
+        Some(self.first + next as usize)
+    }
+}
