@@ -15,8 +15,7 @@ use Rattle.clap.specs.declared.builder.value_parser.ValueParser.TheVariants.{Uns
 use Rattle.shop_round.specs.declared.orders.Order.{Order}
 use Rattle.shop_round.specs.declared.orders.Order.TheVariants.{Kept, Bound}
 use Rattle.shop_round.specs.declared.plans.Plan.{Plan}
-use Rattle.shop_engine.specs.declared.arguments.Format.{Format}
-use Rattle.shop_engine.specs.declared.arguments.Format.TheVariants.{Orlib, Taillard, Routes}
+use Rattle.shop_text.specs.Formats.{word_of}
 use Rattle.jobshop.specs.declared.arguments.Args.{Args}
 use Rattle.jobshop.specs.declared.arguments.Args.TheVariants.{ListNames, CheckTable, SolveInstance}
 
@@ -94,11 +93,6 @@ IsCommandLine command = (formats orders : ValueParser) × IsCommandOf (command_l
 
 -- ---- its values
 
-abbrev pub format_word : Format → Text
-format_word Orlib = codes "orlib"
-format_word Taillard = codes "taillard"
-format_word Routes = codes "routes"
-
 abbrev pub order_word : Order → Text
 order_word Kept = codes "kept"
 order_word Bound = codes "bound"
@@ -130,15 +124,15 @@ pub record IsPlanOf (rows : List Row) (plan : Plan) : Type 0 where
 -- the arguments are those of a command of this name with these matches
 abbrev pub IsArgs : Text → List Row → Args → Type 0
 IsArgs name rows (ListNames args file) =
-    (name ≡ codes "list") × HasText rows (codes "format") (format_word args.format)
+    (name ≡ codes "list") × HasText rows (codes "format") (word_of args.format)
     × MayHave rows (codes "FILE") (option_map string_bytes file)
 IsArgs name rows (CheckTable args file schedule) =
-    (name ≡ codes "check") × HasText rows (codes "format") (format_word args.format)
+    (name ≡ codes "check") × HasText rows (codes "format") (word_of args.format)
     × MayHave rows (codes "name") (option_map string_bytes args.name)
     × MayHave rows (codes "FILE") (option_map string_bytes file)
     × MayHave rows (codes "SCHEDULE") (option_map string_bytes schedule)
 IsArgs name rows (SolveInstance args workers file) =
-    (name ≡ codes "solve") × HasText rows (codes "format") (format_word args.format)
+    (name ≡ codes "solve") × HasText rows (codes "format") (word_of args.format)
     × MayHave rows (codes "name") (option_map string_bytes args.name)
     × IsPlanOf rows args.plan
     × HasNumber rows (codes "workers") workers × (1 ≤ workers) × (workers ≤ 64)

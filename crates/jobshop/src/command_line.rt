@@ -10,10 +10,8 @@ ghost use Rattle.jobshop.specs.CommandLine.{list_command, check_command, solve_c
 use clap::builder::ValueParser;
 use clap::{Arg, ArgAction, Command};
 use shop_board::MAX_WORKERS;
+use shop_text::FORMAT_WORDS;
 use std::alloc::{AllocError, Global};
-
-/// The formats of an instance text.
-static FORMATS: [&str; 3] = ["orlib", "taillard", "routes"];
 
 /// The orders in which a round takes the open nodes.
 static ORDERS: [&str; 2] = ["kept", "bound"];
@@ -201,7 +199,7 @@ fn solve<'a>(
 pub fn command<'a>(alloc: Global) -> Result<Command<'a>, AllocError>
     ensures { IfOk result IsCommandLine }
 {
-    let formats = FORMATS.as_slice();
+    let formats = FORMAT_WORDS.as_slice();
     Command::new(alloc, "jobshop")
         .about("An exact solver of the job shop whose answers are proved")
         .subcommand_required(true)

@@ -1,24 +1,26 @@
 // The values that clap's matches have.
 ghost use Rattle.std.specs.Prelude.{◌≡◌, ℕ, IfOk, option_map, string_bytes};
 ghost use Rattle.clap.specs.Words.{found_of, rows_of};
-ghost use Rattle.jobshop.specs.CommandLine.{HasText, HasNumber, HasFlag, MayHave, format_word, order_word};
+ghost use Rattle.shop_text.specs.Formats.{word_of};
+ghost use Rattle.jobshop.specs.CommandLine.{HasText, HasNumber, HasFlag, MayHave, order_word};
 ghost use Rattle.std.specs.Prelude.{codes};
 
 use crate::line_faults::{LineFault, misread};
 use clap::ArgMatches;
-use shop_engine::Format;
 use shop_round::Order;
+use shop_text::Format;
 use std::alloc::{AllocError, Global};
 
 /// The format.
 pub fn format_in(alloc: Global, found: &ArgMatches) -> Result<Format, LineFault>
-    ensures { IfOk result (λ f. HasText (rows_of (found_of found.now)) (codes "format") (format_word f)) }
+    ensures { IfOk result (λ f. HasText (rows_of (found_of found.now)) (codes "format") (word_of f)) }
 {
-    match found.get_str("format") {
-        Some("orlib") => Ok(Format::Orlib),
-        Some("taillard") => Ok(Format::Taillard),
-        Some("routes") => Ok(Format::Routes),
-        _ => Err(misread(alloc)),
+    let Some(word) = found.get_str("format") else {
+        return Err(misread(alloc));
+    };
+    match Format::of_word(word) {
+        Some(format) => Ok(format),
+        None => Err(misread(alloc)),
     }
 }
 

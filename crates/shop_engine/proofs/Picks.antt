@@ -3,8 +3,9 @@ use Rattle.std.proofs.Common.{◌≡◌, ℕ, List, Option, Some}
 use Rattle.shop_text.specs.Texts.{NamedShop, IsText}
 use Rattle.shop_text.specs.Names.{first_named, shops_of}
 use Rattle.shop_text.specs.declared.names.Named.{Named}
-use Rattle.shop_engine.specs.declared.arguments.Format.{Format}
-use Rattle.shop_engine.specs.Asking.{grammar_of, IsAsked}
+use Rattle.shop_text.specs.declared.formats.Format.{Format}
+use Rattle.shop_text.specs.Formats.{grammar_of}
+use Rattle.shop_engine.specs.Asking.{IsAsked}
 
 pub is_asked : {text : List ℕ} {named slice : List Named} {asked : NamedShop} (format : Format) (name : Option (List ℕ))
     → IsText (grammar_of format) text (shops_of named) → slice ≡ named → first_named (shops_of slice) name ≡ Some asked

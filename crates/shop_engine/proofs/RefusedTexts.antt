@@ -4,26 +4,24 @@ use Rattle.std.proofs.Common.{Some, None, Ok, Err, refl, sym, ◌∙◌, subst, 
 use Rattle.std.proofs.lemmas.Grind.{common_steps}
 use Rattle.std.specs.Io.KnownBytes.{Consumes}
 use Rattle.shop_model.specs.Shop.{Shop}
-use Rattle.shop_text.specs.Formats.{orlib, taillard, routes}
+use Rattle.shop_text.specs.Formats.{grammar_of}
 use Rattle.shop_text.specs.Texts.{NamedShop, IsText, IsTextFault, OneReading}
 use Rattle.shop_text.specs.Names.{first_named}
 use Rattle.shop_text.proofs.OneReading.{one_text}
+use Rattle.shop_text.proofs.ReaderTurns.{is_grammar}
 use Rattle.shop_text.specs.declared.faults.ReadFault.{ReadFault}
 use Rattle.shop_text.specs.declared.faults.ReadFault.TheVariants as fault
-use Rattle.shop_engine.specs.declared.arguments.Format.{Format}
-use Rattle.shop_engine.specs.declared.arguments.Format.TheVariants.{Orlib, Taillard, Routes}
+use Rattle.shop_text.specs.declared.formats.Format.{Format}
 use Rattle.shop_engine.specs.declared.faults.Fault.TheVariants.{Text, ReadFailed, WriteFailed}
 use Rattle.shop_engine.specs.Devices.{Device, IsReadToEnd}
-use Rattle.shop_engine.specs.Asking.{grammar_of, IsAsked, IsFaulty, IsTextRefused, IsWithoutName, IsAskRefused}
+use Rattle.shop_engine.specs.Asking.{IsAsked, IsFaulty, IsTextRefused, IsWithoutName, IsAskRefused}
 use Rattle.shop_engine.specs.Checking.{IsPicked}
 use Rattle.shop_engine.specs.Refusing.{IsMissing, IsRefusedBy, IsRefusal}
 use Rattle.shop_engine.specs.Refusing.{ListingRefuses, CheckingRefuses, SolvingRefuses}
 use Rattle.shop_engine.proofs.Headline.{known_read}
 
 one_reading : (format : Format) → OneReading (grammar_of format)
-one_reading Orlib = one_text orlib (record { none_whole = refl; skips_first = refl })
-one_reading Taillard = one_text taillard (record { none_whole = refl; skips_first = refl })
-one_reading Routes = one_text routes (record { none_whole = refl; skips_first = refl })
+one_reading format = one_text (grammar_of format) (is_grammar format)
 
 -- ---- what was read of known bytes
 

@@ -7,11 +7,12 @@ use Rattle.shop_text.specs.Texts.{NamedShop, IsText}
 use Rattle.shop_text.specs.Names.{first_named}
 use Rattle.shop_text.specs.declared.faults.ReadFault.{ReadFault}
 use Rattle.shop_text.specs.declared.faults.ReadFault.TheVariants as fault
-use Rattle.shop_engine.specs.declared.arguments.Format.{Format}
+use Rattle.shop_text.specs.declared.formats.Format.{Format}
 use Rattle.shop_engine.specs.declared.faults.Fault.{Fault}
 use Rattle.shop_engine.specs.declared.faults.Fault.TheVariants.{Text, ReadFailed, WriteFailed}
 use Rattle.shop_engine.specs.Devices.{Device, IsReadToEnd, IsUnwritten, IsCutOff}
-use Rattle.shop_engine.specs.Asking.{grammar_of, IsAsked}
+use Rattle.shop_text.specs.Formats.{grammar_of}
+use Rattle.shop_engine.specs.Asking.{IsAsked}
 use Rattle.shop_engine.specs.Checking.{Second, IsScheduleRead, HasSecondWorked, IsSecondUnread, IsPicked}
 use Rattle.shop_engine.specs.Checking.{IsScheduleRefused, Judges, Checks, IsChecking}
 

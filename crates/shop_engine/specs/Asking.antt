@@ -1,5 +1,4 @@
 -- What an instance text says to an engine.
---     grammar_of format                      the grammar of a format
 --     IsAsked format name text asked         the instance that is asked for stands in the text
 --     IsTextRefused format old new fault     why no instances were had from a source
 --     IsAskRefused format name old new fault     why the one that is asked for wasn't
@@ -7,22 +6,15 @@ use Rattle.std.specs.Prelude.{◌≡◌, ℕ, List, Option, Some, None, string_b
 use Rattle.std.specs.Option.{option_map}
 use Rattle.std.specs.declared.string.String.{String}
 use Rattle.std.specs.declared.alloc.Global.{Global}
-use Rattle.shop_text.specs.Grammar as grammar
-use Rattle.shop_text.specs.Formats.{orlib, taillard, routes}
+use Rattle.shop_text.specs.Formats.{grammar_of}
 use Rattle.shop_text.specs.Texts.{NamedShop, IsText, IsTextFault}
 use Rattle.shop_text.specs.Names.{first_named}
 use Rattle.shop_text.specs.declared.faults.ReadFault.{ReadFault}
 use Rattle.shop_text.specs.declared.faults.ReadFault.TheVariants.{NoMemory, TooLong, NoSuchName}
-use Rattle.shop_engine.specs.declared.arguments.Format.{Format}
-use Rattle.shop_engine.specs.declared.arguments.Format.TheVariants.{Orlib, Taillard, Routes}
+use Rattle.shop_text.specs.declared.formats.Format.{Format}
 use Rattle.shop_engine.specs.declared.faults.Fault.{Fault}
 use Rattle.shop_engine.specs.declared.faults.Fault.TheVariants.{Text, ReadFailed, WriteFailed}
 use Rattle.shop_engine.specs.Devices.{Device, HasWorked, HasFailed, IsReadToEnd, IsLeftUnread}
-
-abbrev pub grammar_of : Format → grammar.Format
-grammar_of Orlib = orlib
-grammar_of Taillard = taillard
-grammar_of Routes = routes
 
 -- the bytes of a name, if one is given
 abbrev pub name_in : Option (String Global) → Option (List ℕ)

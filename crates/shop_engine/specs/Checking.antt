@@ -12,7 +12,7 @@ use Rattle.shop_text.specs.Schedules.{IsTableRead}
 use Rattle.shop_text.specs.Writing.{verdict_text}
 use Rattle.shop_text.specs.declared.faults.ReadFault.{ReadFault}
 use Rattle.shop_text.specs.declared.faults.ReadFault.TheVariants.{NoMemory}
-use Rattle.shop_engine.specs.declared.arguments.Format.{Format}
+use Rattle.shop_text.specs.declared.formats.Format.{Format}
 use Rattle.shop_engine.specs.declared.faults.Fault.{Fault}
 use Rattle.shop_engine.specs.declared.faults.Fault.TheVariants.{Text, ReadFailed, WriteFailed}
 use Rattle.shop_engine.specs.Devices.{Device, HasWorked, HasFailed, IsReadToEnd, IsUnread, IsWritten, IsCutOff}

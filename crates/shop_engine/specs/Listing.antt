@@ -4,11 +4,12 @@
 use Rattle.std.specs.Prelude.{◌≡◌, ℕ, List, Result, Ok, Err}
 use Rattle.shop_text.specs.Texts.{NamedShop, IsText}
 use Rattle.shop_text.specs.Writing.{list_text}
-use Rattle.shop_engine.specs.declared.arguments.Format.{Format}
+use Rattle.shop_text.specs.declared.formats.Format.{Format}
 use Rattle.shop_engine.specs.declared.faults.Fault.{Fault}
 use Rattle.shop_engine.specs.declared.faults.Fault.TheVariants.{Text, ReadFailed, WriteFailed}
 use Rattle.shop_engine.specs.Devices.{Device, HasFailed, IsReadToEnd, IsWritten, IsCutOff}
-use Rattle.shop_engine.specs.Asking.{grammar_of, IsTextRefused}
+use Rattle.shop_text.specs.Formats.{grammar_of}
+use Rattle.shop_engine.specs.Asking.{IsTextRefused}
 
 -- The source was read to its end, its text is good for these instances, and their list goes out.
 pub record Lists (format : Format) (old new : Device) (goes : List ℕ → Type 0) : Type 0 where

@@ -9,11 +9,11 @@ use Rattle.shop_text.specs.Names.{first_named}
 use Rattle.shop_text.specs.declared.faults.ReadFault.{ReadFault}
 use Rattle.shop_text.specs.declared.faults.ReadFault.TheVariants.{NoMemory, NoSuchName}
 use Rattle.shop_round.specs.Round.{Planned}
-use Rattle.shop_engine.specs.declared.arguments.Format.{Format}
+use Rattle.shop_text.specs.declared.formats.Format.{Format}
 use Rattle.shop_engine.specs.declared.faults.Fault.{Fault}
 use Rattle.shop_engine.specs.declared.faults.Fault.TheVariants.{Text, ReadFailed, WriteFailed}
 use Rattle.shop_engine.specs.Devices.{Device}
-use Rattle.shop_engine.specs.Asking.{grammar_of}
+use Rattle.shop_text.specs.Formats.{grammar_of}
 use Rattle.shop_engine.specs.Listing.{IsListing}
 use Rattle.shop_engine.specs.Checking.{Second, IsChecking}
 use Rattle.shop_engine.specs.Solving.{IsSolving}

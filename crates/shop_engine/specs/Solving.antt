@@ -14,7 +14,7 @@ use Rattle.shop_text.specs.Texts.{NamedShop}
 use Rattle.shop_text.specs.Writing.{Reported, report_text, gantt_text}
 use Rattle.shop_round.specs.Round.{Planned, answer, makespan_of, bound_of}
 use Rattle.shop_round.specs.declared.answers.Answer.{Answer}
-use Rattle.shop_engine.specs.declared.arguments.Format.{Format}
+use Rattle.shop_text.specs.declared.formats.Format.{Format}
 use Rattle.shop_engine.specs.declared.faults.Fault.{Fault}
 use Rattle.shop_engine.specs.declared.faults.Fault.TheVariants.{Text, ReadFailed, WriteFailed}
 use Rattle.shop_engine.specs.Devices.{Device, HasFailed, IsReadToEnd, IsWritten, IsCutOff}

@@ -1,12 +1,5 @@
 use shop_round::Plan;
-
-/// How an instance text is written.
-#[derive(Clone, Copy, Debug, PartialEq, Eq)]
-pub enum Format {
-    Orlib,
-    Taillard,
-    Routes,
-}
+use shop_text::Format;
 
 /// What `list` is told.
 #[derive(Clone, Copy)]

@@ -12,13 +12,14 @@ mod solving;
 mod streams;
 mod transfers;
 
-pub use arguments::{CheckArgs, Format, ListArgs, SolveArgs};
+pub use arguments::{CheckArgs, ListArgs, SolveArgs};
 pub use checking::check_text;
 pub use devices::{DeviceFailed, Sink, Source};
 pub use faults::Fault;
 pub use laws::refused_texts_are_answered;
 pub use listing::list_text;
 pub use memory::Memory;
+pub use shop_text::Format;
 pub use solving::solve_text;
 pub use streams::{Reading, Writing};
 pub use transfers::write_all;

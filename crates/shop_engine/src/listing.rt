@@ -1,28 +1,18 @@
 // The instances of a source, and the list of them.
 ghost use Rattle.std.specs.Prelude.{◌≤◌, ◌<◌, length, IfOk, IfErr};
 ghost use Rattle.shop_text.specs.Texts.{IsText};
-ghost use Rattle.shop_text.specs.Names.{IsRead, IsPick, shops_of};
+ghost use Rattle.shop_text.specs.Formats.{grammar_of};
+ghost use Rattle.shop_text.specs.Names.{IsPick, shops_of};
 ghost use Rattle.shop_engine.specs.Devices.{Device, IsReadToEnd};
-ghost use Rattle.shop_engine.specs.Asking.{grammar_of, name_in, IsSourceRefused};
+ghost use Rattle.shop_engine.specs.Asking.{name_in, IsSourceRefused};
 ghost use Rattle.shop_engine.specs.Listing.{IsListing};
 
-use crate::arguments::{Format, ListArgs};
+use crate::arguments::ListArgs;
 use crate::devices::{Sink, Source};
 use crate::faults::Fault;
 use crate::transfers::{read_all, write_all};
-use shop_text::{Named, ReadFault, listing, pick, read_orlib, read_routes, read_taillard};
+use shop_text::{Format, Named, ReadFault, listing, pick, read};
 use std::alloc::Global;
-
-/// The instances of a text in a format.
-fn read_instances(alloc: Global, format: Format, text: &[u8]) -> Result<Vec<Named>, ReadFault>
-    ensures { IsRead (grammar_of format) text.now result }
-{
-    match format {
-        Format::Orlib => read_orlib(alloc, text),
-        Format::Taillard => read_taillard(alloc, text),
-        Format::Routes => read_routes(alloc, text),
-    }
-}
 
 /// The text of a source, and the instances in it.
 pub(crate) fn instances_of<S: Source>(
@@ -38,7 +28,7 @@ pub(crate) fn instances_of<S: Source>(
         IsSourceRefused format (S.device source.old) (S.device source.new) e) }
 {
     let text = read_all(alloc, source)?;
-    let named = read_instances(alloc, format, text.as_slice())?;
+    let named = read(alloc, format, text.as_slice())?;
     Ok((text, named))
 }
 

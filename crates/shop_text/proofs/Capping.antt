@@ -10,8 +10,8 @@ use Rattle.shop_text.specs.Grammar.{LineFault, WrongShape, WrongSize, WrongRow, 
 use Rattle.shop_text.specs.Formats.{is_between, jobs_in, machines_in, size_fault, pairs_fault, pairs_of}
 use Rattle.shop_text.specs.Formats.{orlib_fault, orlib_job, routes_fault, routes_job, times_fault, machines_fault}
 use Rattle.shop_text.specs.Reading.{size_line_fault, times_row_fault, machines_row_fault}
-use Rattle.shop_text.specs.declared.profiles.Profile.{Profile}
-use Rattle.shop_text.specs.declared.profiles.Profile.TheVariants.{Orlib, Taillard, Routes}
+use Rattle.shop_text.specs.declared.formats.Format.{Format}
+use Rattle.shop_text.specs.declared.formats.Format.TheVariants.{Orlib, Taillard, Routes}
 
 pub capped_same : (n : ℕ) → n ≤ 18446744073709551615 → capped n ≡ n
 capped_same n h = omega arith
@@ -173,7 +173,7 @@ size_capped row =
       same_between 100 (machines_in row) (omega arith),
     ) refl
 
-pub size_line_capped : (p : Profile) (row : List ℕ) → size_line_fault p (map capped row) ≡ size_line_fault p row
+pub size_line_capped : (p : Format) (row : List ℕ) → size_line_fault p (map capped row) ≡ size_line_fault p row
 size_line_capped Orlib row = rw (length-map row capped, size_capped row) refl
 size_line_capped Routes row = rw (length-map row capped, size_capped row) refl
 size_line_capped Taillard row = rw (length-map row capped, size_capped row) refl
@@ -191,7 +191,7 @@ size_same row e =
       machines_in_capped row ∙ capped_same (machines_in row) (omega arith),
     )
 
-pub size_line_same : (p : Profile) (row : List ℕ) → size_line_fault p row ≡ None
+pub size_line_same : (p : Format) (row : List ℕ) → size_line_fault p row ≡ None
     → (jobs_in (map capped row) ≡ jobs_in row) × (machines_in (map capped row) ≡ machines_in row)
 size_line_same Orlib row e = size_same row (no_fault_in (eqb (length row) 2) WrongShape (size_fault row) e).1
 size_line_same Routes row e = size_same row (no_fault_in (eqb (length row) 2) WrongShape (size_fault row) e).1

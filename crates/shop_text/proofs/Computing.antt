@@ -3,24 +3,24 @@ use Rattle.std.proofs.Common.{◌≡◌, ℕ, leb, true, List, [], length, Optio
 use Rattle.std.proofs.Common.{◌∙◌, inl, inr}
 use Rattle.std.proofs.Common.{subst}
 use Rattle.std.proofs.lemmas.Bool.{leb-true}
+use Rattle.shop_text.specs.Formats.{grammar_of}
 use Rattle.shop_text.specs.Lines.{Numbered, lines_of}
-use Rattle.shop_text.specs.Grammar.{Format, IsGood, IsFault}
+use Rattle.shop_text.specs.Grammar.{Grammar, IsGood, IsFault}
 use Rattle.shop_text.specs.Texts.{NamedShop, lines_left, named_from, IsText, IsTextFault}
-use Rattle.shop_text.specs.Reading.{format_of}
 use Rattle.shop_text.specs.declared.faults.ReadFault.{ReadFault}
-use Rattle.shop_text.specs.declared.profiles.Profile.{Profile}
-use Rattle.shop_text.proofs.OneReading.{Reading, read, fault_of, read_good, fault_read, no_fault, IsFormat}
+use Rattle.shop_text.specs.declared.formats.Format.{Format}
+use Rattle.shop_text.proofs.OneReading.{Reading, read, fault_of, read_good, fault_read, no_fault, IsGrammar}
 use Rattle.shop_text.proofs.SomeReading.{Outcome, some_reading, all_left}
-use Rattle.shop_text.proofs.ReaderTurns.{is_format}
+use Rattle.shop_text.proofs.ReaderTurns.{is_grammar}
 
 -- the reading of a text, and its fault
-abbrev pub reading_of : Format → List ℕ → Reading
-reading_of format text = read format [] [] (lines_left format text)
+abbrev pub reading_of : Grammar → List ℕ → Reading
+reading_of grammar text = read grammar [] [] (lines_left grammar text)
 
-abbrev pub fault_in : Format → List ℕ → Option ReadFault
-fault_in format text = fault_of (length (lines_of text)) (reading_of format text)
+abbrev pub fault_in : Grammar → List ℕ → Option ReadFault
+fault_in grammar text = fault_of (length (lines_of text)) (reading_of grammar text)
 
-lines_fault : (f : Format) → IsFormat f → (last : ℕ) (lines : List Numbered) (e : ReadFault)
+lines_fault : (f : Grammar) → IsGrammar f → (last : ℕ) (lines : List Numbered) (e : ReadFault)
     → Outcome f last lines → fault_of last (read f [] [] lines) ≡ Some e → IsFault f last lines e
 lines_fault f is last lines e (inl (parts, good)) h =
     absurd (let none = sym (no_fault last parts good.some)
@@ -29,32 +29,32 @@ lines_fault f is last lines e (inr (fault, bad)) h =
     let same : fault ≡ e = (let is_some = fault_read f is last lines fault bad in cc)
     in subst (λ x. IsFault f last lines x) same bad
 
-lines_good : (f : Format) → IsFormat f → (last : ℕ) (lines : List Numbered) → Outcome f last lines
+lines_good : (f : Grammar) → IsGrammar f → (last : ℕ) (lines : List Numbered) → Outcome f last lines
     → fault_of last (read f [] [] lines) ≡ None → IsGood f lines (read f [] [] lines).0
 lines_good f is last lines (inl (parts, good)) h =
     subst (λ ps. IsGood f lines ps) (sym (ap (λ (r : Reading). r.0) (read_good f is lines parts good))) good
 lines_good f is last lines (inr (fault, bad)) h =
     absurd (let is_some = fault_read f is last lines fault bad in cc)
 
-pub has_fault : (p : Profile) (text : List ℕ) (e : ReadFault) → leb (length text) 16777216 ≡ true
-    → fault_in (format_of p) text ≡ Some e → IsTextFault (format_of p) text e
+pub has_fault : (p : Format) (text : List ℕ) (e : ReadFault) → leb (length text) 16777216 ≡ true
+    → fault_in (grammar_of p) text ≡ Some e → IsTextFault (grammar_of p) text e
 has_fault p text e short h =
-    let f : Format = format_of p
+    let f : Grammar = grammar_of p
     in inr (record {
       short = leb-true (length text) 16777216 short;
-      in_lines = lines_fault f (is_format p) (length (lines_of text)) (lines_left f text) e
-          (some_reading f (is_format p) (length (lines_of text)) (lines_left f text) (all_left f text)) h;
+      in_lines = lines_fault f (is_grammar p) (length (lines_of text)) (lines_left f text) e
+          (some_reading f (is_grammar p) (length (lines_of text)) (lines_left f text) (all_left f text)) h;
     })
 
-pub is_read_as : (p : Profile) (text : List ℕ) (shops : List NamedShop) → leb (length text) 16777216 ≡ true
-    → fault_in (format_of p) text ≡ None → shops ≡ named_from (format_of p) 1 (reading_of (format_of p) text).0
-    → IsText (format_of p) text shops
+pub is_read_as : (p : Format) (text : List ℕ) (shops : List NamedShop) → leb (length text) 16777216 ≡ true
+    → fault_in (grammar_of p) text ≡ None → shops ≡ named_from (grammar_of p) 1 (reading_of (grammar_of p) text).0
+    → IsText (grammar_of p) text shops
 is_read_as p text shops short h e =
-    let f : Format = format_of p
+    let f : Grammar = grammar_of p
     in record {
       short = leb-true (length text) 16777216 short;
       parts = (reading_of f text).0;
-      good = lines_good f (is_format p) (length (lines_of text)) (lines_left f text)
-          (some_reading f (is_format p) (length (lines_of text)) (lines_left f text) (all_left f text)) h;
+      good = lines_good f (is_grammar p) (length (lines_of text)) (lines_left f text)
+          (some_reading f (is_grammar p) (length (lines_of text)) (lines_left f text) (all_left f text)) h;
       shops_are = e;
     }

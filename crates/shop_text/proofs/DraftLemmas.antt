@@ -18,15 +18,15 @@ use Rattle.shop_model.specs.Limits.{IsJobWithin, AreJobsWithin}
 use Rattle.shop_text.specs.Lines.{capped}
 use Rattle.shop_text.specs.Limits.{IsDraftWithin}
 use Rattle.shop_text.specs.Grammar.{Row, LineFault}
-use Rattle.shop_text.specs.Formats.{jobs_in, machines_in, orlib_fault, orlib_job, routes_fault}
+use Rattle.shop_text.specs.Formats.{grammar_of, jobs_in, machines_in, orlib_fault, orlib_job, routes_fault}
 use Rattle.shop_text.specs.Formats.{routes_job}
 use Rattle.shop_text.specs.Formats.{taillard, taillard_job}
-use Rattle.shop_text.specs.Reading.{format_of, Fails, Judges, times_row_fault, machines_row_fault}
-use Rattle.shop_text.specs.Drafts.{items_of, jobs_of, HoldsRows, IsDraft}
+use Rattle.shop_text.specs.Reading.{Fails, JudgesRow, times_row_fault, machines_row_fault}
+use Rattle.shop_text.specs.Drafts.{items_of, jobs_drafted, HoldsRows, IsDraft}
 use Rattle.shop_text.specs.declared.drafts.Draft.{Draft}
 use Rattle.shop_text.specs.declared.faults.ReadFault.{ReadFault}
-use Rattle.shop_text.specs.declared.profiles.Profile.{Profile}
-use Rattle.shop_text.specs.declared.profiles.Profile.TheVariants.{Orlib, Taillard, Routes}
+use Rattle.shop_text.specs.declared.formats.Format.{Format}
+use Rattle.shop_text.specs.declared.formats.Format.TheVariants.{Orlib, Taillard, Routes}
 use Rattle.shop_text.proofs.Capping.{orlib_capped, orlib_same, routes_capped, routes_same, machines_capped}
 use Rattle.shop_text.proofs.Capping.{machines_same}
 
@@ -55,7 +55,7 @@ all_there wanted machines times old jobs job w some within e =
 -- ---- the job of a row
 
 pub judged_on : {X : Type 0} (P Q : X → Type 0) (r : Result X ReadFault) (n : ℕ) (f g : Option LineFault) → f ≡ g
-    → ((x : X) → f ≡ None → P x → Q x) → Judges r n f P → Judges r n g Q
+    → ((x : X) → f ≡ None → P x → Q x) → JudgesRow r n f P → JudgesRow r n g Q
 judged_on P Q (Ok x) n f g e go h = (sym e ∙ h.0, go x h.0 h.1)
 judged_on P Q (Err fault) n f g e go h = subst (λ o. Fails fault n o) e h
 
@@ -73,10 +73,10 @@ pub row_judged : (fault : FaultOf) (job_of : Row → ShopJob)
     (cap : (m : ℕ) → m ≤ 100 → (row : Row) → fault m (map capped row) ≡ fault m row)
     (same : (m : ℕ) → m ≤ 100 → (row : Row) → fault m row ≡ None → job_of (map capped row) ≡ job_of row)
     (jobs : List Job) (machines n : ℕ) (row : Row) (r : Result Job ReadFault) → machines ≤ 100
-    → Judges r n (fault machines row) (λ job. job_as_given job ≡ job_of row)
+    → JudgesRow r n (fault machines row) (λ job. job_as_given job ≡ job_of row)
     → (size : Row) (rows : List Row) (written : Row) → machines ≡ machines_in size
     → map job_as_given jobs ≡ map job_of rows → row ≡ map capped written
-    → Judges r n (fault (machines_in size) written)
+    → JudgesRow r n (fault (machines_in size) written)
     (λ job. map job_as_given (jobs ++ job ∷ []) ≡ map job_of (rows ++ written ∷ []))
 row_judged fault job_of cap same jobs machines n row r few h size rows written em ej er =
     let e : fault machines row ≡ fault (machines_in size) written =
@@ -145,13 +145,13 @@ matrices_push j jobs job rows held written all room e at is =
 -- a row of machines behind the rows of times
 pub matrices_judged : (times : List (Vec ℕ Global)) (jobs : List Job) (machines n : ℕ) (held row : Row)
     (r : Result Job ReadFault) → machines ≤ 100
-    → Judges r n (machines_row_fault machines row) (λ job. job_as_given job ≡ taillard_job (held, row))
+    → JudgesRow r n (machines_row_fault machines row) (λ job. job_as_given job ≡ taillard_job (held, row))
     → (size : Row) (rows : List Row) (written : Row) → machines ≡ machines_in size → jobs_in size ≤ length times
     → length jobs < jobs_in size → map items_of times ≡ take (jobs_in size) rows
     → map job_as_given jobs ≡ map taillard_job (zip (take (jobs_in size) rows) (drop (jobs_in size) rows))
     → held ≡ get_or (map items_of times) (length jobs) [] → row ≡ map capped written
-    → Judges r n (taillard.refuses (size ∷ rows) written)
-    (λ job. map job_as_given (jobs ++ job ∷ []) ≡ jobs_of Taillard ((size ∷ rows) ++ written ∷ []))
+    → JudgesRow r n (taillard.refuses (size ∷ rows) written)
+    (λ job. map job_as_given (jobs ++ job ∷ []) ≡ jobs_drafted Taillard ((size ∷ rows) ++ written ∷ []))
 matrices_judged times jobs machines n held row r few h size rows written em all_times room et ej at er =
     let all = times_there (jobs_in size) times rows et all_times
     in let judged : machines_row_fault machines row ≡ machines_row_fault machines written =
@@ -159,7 +159,7 @@ matrices_judged times jobs machines n held row r few h size rows written em all_
     in let e : machines_row_fault machines row ≡ taillard.refuses (size ∷ rows) written =
     judged ∙ ap (λ (m : ℕ). machines_row_fault m written) em ∙ sym (machines_refused size rows written all)
     in judged_on (λ job. job_as_given job ≡ taillard_job (held, row))
-    (λ job. map job_as_given (jobs ++ job ∷ []) ≡ jobs_of Taillard ((size ∷ rows) ++ written ∷ [])) r n
+    (λ job. map job_as_given (jobs ++ job ∷ []) ≡ jobs_drafted Taillard ((size ∷ rows) ++ written ∷ [])) r n
     (machines_row_fault machines row) (taillard.refuses (size ∷ rows) written) e
     (λ job free is.
     matrices_push (jobs_in size) jobs job rows held written all room ej
@@ -176,14 +176,14 @@ abbrev HasSome : Draft → Type 0
 HasSome draft = 0 < draft.jobs_wanted
 
 -- the job of a row, for a draft as it stands
-abbrev IsNextJob : Profile → Draft → ℕ → Row → Result Job ReadFault → Type 0
+abbrev IsNextJob : Format → Draft → ℕ → Row → Result Job ReadFault → Type 0
 IsNextJob p draft n row r =
     (rows : List Row) (written : Row) → IsDraft p draft rows → row ≡ map capped written
-    → Judges r n ((format_of p).refuses rows written)
-    (λ job. map job_as_given (draft.jobs.items ++ job ∷ []) ≡ jobs_of p (rows ++ written ∷ []))
+    → JudgesRow r n ((grammar_of p).refuses rows written)
+    (λ job. map job_as_given (draft.jobs.items ++ job ∷ []) ≡ jobs_drafted p (rows ++ written ∷ []))
 
 pub orlib_next : (draft : Draft) (n : ℕ) (row : Row) (r : Result Job ReadFault) → 0 < draft.jobs_wanted
-    → Judges r n (orlib_fault draft.machines row) (λ job. job_as_given job ≡ orlib_job row)
+    → JudgesRow r n (orlib_fault draft.machines row) (λ job. job_as_given job ≡ orlib_job row)
     → IsNextJob Orlib draft n row r
 orlib_next draft n row r some h [] written d e = absurd (omega arith)
 orlib_next draft n row r some h (size ∷ rows) written d e =
@@ -191,7 +191,7 @@ orlib_next draft n row r some h (size ∷ rows) written d e =
     draft.within.few_machines h size rows written d.machines d.jobs e
 
 pub routes_next : (draft : Draft) (n : ℕ) (row : Row) (r : Result Job ReadFault) → 0 < draft.jobs_wanted
-    → Judges r n (routes_fault draft.machines row) (λ job. job_as_given job ≡ routes_job row)
+    → JudgesRow r n (routes_fault draft.machines row) (λ job. job_as_given job ≡ routes_job row)
     → IsNextJob Routes draft n row r
 routes_next draft n row r some h [] written d e = absurd (omega arith)
 routes_next draft n row r some h (size ∷ rows) written d e =
@@ -201,7 +201,7 @@ routes_next draft n row r some h (size ∷ rows) written d e =
 pub taillard_next : (draft : Draft) (n : ℕ) (held row : Row) (r : Result Job ReadFault) → 0 < draft.jobs_wanted
     → draft.jobs_wanted ≤ length draft.times.items
     → held ≡ get_or (map items_of draft.times.items) (length draft.jobs.items) []
-    → Judges r n (machines_row_fault draft.machines row) (λ job. job_as_given job ≡ taillard_job (held, row))
+    → JudgesRow r n (machines_row_fault draft.machines row) (λ job. job_as_given job ≡ taillard_job (held, row))
     → IsNextJob Taillard draft n row r
 taillard_next draft n held row r some all at h [] written d e = absurd (omega arith)
 taillard_next draft n held row r some all at h (size ∷ rows) written d e =

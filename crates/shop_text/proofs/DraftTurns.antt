@@ -11,34 +11,35 @@ use Rattle.std.proofs.lemmas.List.{map-append, length-append, take_all, drop_all
 use Rattle.shop_model.specs.declared.ops.Job.{Job}
 use Rattle.shop_model.specs.Shop.{Shop, ShopJob}
 use Rattle.shop_model.specs.Given.{job_as_given}
+use Rattle.shop_text.specs.Formats.{grammar_of}
 use Rattle.shop_text.specs.Lines.{capped}
 use Rattle.shop_text.specs.Grammar.{Row}
 use Rattle.shop_text.specs.Formats.{jobs_in, machines_in, orlib_job, routes_job, taillard, taillard_job}
-use Rattle.shop_text.specs.Reading.{format_of, Fails, size_line_fault, times_row_fault}
-use Rattle.shop_text.specs.Drafts.{items_of, jobs_of, HoldsTimes, HoldsRows, IsDraft, wants_times, PushesJob}
+use Rattle.shop_text.specs.Reading.{Fails, size_line_fault, times_row_fault}
+use Rattle.shop_text.specs.Drafts.{items_of, jobs_drafted, HoldsTimes, HoldsRows, IsDraft, wants_times, PushesJob}
 use Rattle.shop_text.specs.Drafts.{IsOneMore, TakesRow}
 use Rattle.shop_text.specs.declared.drafts.Draft.{Draft}
 use Rattle.shop_text.specs.declared.faults.ReadFault.{ReadFault}
-use Rattle.shop_text.specs.declared.profiles.Profile.{Profile}
-use Rattle.shop_text.specs.declared.profiles.Profile.TheVariants.{Orlib, Taillard, Routes}
+use Rattle.shop_text.specs.declared.formats.Format.{Format}
+use Rattle.shop_text.specs.declared.formats.Format.TheVariants.{Orlib, Taillard, Routes}
 use Rattle.shop_text.proofs.Capping.{size_line_capped, times_capped, times_same}
 use Rattle.shop_text.proofs.DraftLemmas.{zip_none, times_refused, times_there, taillard_lens, rows_lens}
 
 -- ---- a size line
 
-pub size_failed : (p : Profile) (draft : Draft) (n : ℕ) (row : Row) (e : ReadFault) → draft.jobs_wanted ≡ 0
+pub size_failed : (p : Format) (draft : Draft) (n : ℕ) (row : Row) (e : ReadFault) → draft.jobs_wanted ≡ 0
     → Fails e n (size_line_fault p row) → (rows : List Row) (written : Row) → IsDraft p draft rows
-    → row ≡ map capped written → Fails e n ((format_of p).refuses rows written)
+    → row ≡ map capped written → Fails e n ((grammar_of p).refuses rows written)
 size_failed p draft n row e none h [] written d er =
     subst (λ o. Fails e n o) (ap (size_line_fault p) er ∙ size_line_capped p written) h
 size_failed p draft n row e none h (size ∷ rows) written d er = absurd (let s = d.some_job in omega arith)
 
 -- ---- a row of times
 
-pub times_failed : (p : Profile) (draft : Draft) (n : ℕ) (row : Row) (e : ReadFault) → 0 < draft.jobs_wanted
+pub times_failed : (p : Format) (draft : Draft) (n : ℕ) (row : Row) (e : ReadFault) → 0 < draft.jobs_wanted
     → wants_times p draft.jobs_wanted (length draft.times.items) ≡ true
     → Fails e n (times_row_fault draft.machines row) → (rows : List Row) (written : Row) → IsDraft p draft rows
-    → row ≡ map capped written → Fails e n ((format_of p).refuses rows written)
+    → row ≡ map capped written → Fails e n ((grammar_of p).refuses rows written)
 times_failed Orlib draft n row e some w h rows written d er = absurd cc
 times_failed Routes draft n row e some w h rows written d er = absurd cc
 times_failed Taillard draft n row e some w h [] written d er = absurd (omega arith)
@@ -95,7 +96,7 @@ times_taken old new row taken size rows written more few free is d er =
       };
     }
 
-pub times_accepted : (p : Profile) (old new : Draft) (row : Row) (taken : Vec ℕ Global) → 0 < old.jobs_wanted
+pub times_accepted : (p : Format) (old new : Draft) (row : Row) (taken : Vec ℕ Global) → 0 < old.jobs_wanted
     → wants_times p old.jobs_wanted (length old.times.items) ≡ true → times_row_fault old.machines row ≡ None
     → taken.items ≡ row → new.jobs_wanted ≡ old.jobs_wanted → new.machines ≡ old.machines → new.jobs ≡ old.jobs
     → new.times.items ≡ old.times.items ++ taken ∷ [] → (rows : List Row) (written : Row) → IsDraft p old rows
@@ -119,10 +120,10 @@ same_count j k = elim (cases_eq k j) [
 ]
 
 -- whether the part is whole
-whole_after : (p : Profile) (draft : Draft) (job : Job) (size : Row) (rows : List Row) (written : Row)
+whole_after : (p : Format) (draft : Draft) (job : Job) (size : Row) (rows : List Row) (written : Row)
     → HoldsRows p draft size rows → wants_times p draft.jobs_wanted (length draft.times.items) ≡ false
-    → map job_as_given (draft.jobs.items ++ job ∷ []) ≡ jobs_of p ((size ∷ rows) ++ written ∷ [])
-    → (format_of p).is_whole ((size ∷ rows) ++ written ∷ [])
+    → map job_as_given (draft.jobs.items ++ job ∷ []) ≡ jobs_drafted p ((size ∷ rows) ++ written ∷ [])
+    → (grammar_of p).is_whole ((size ∷ rows) ++ written ∷ [])
     ≡ eqb (length (draft.jobs.items ++ job ∷ [])) draft.jobs_wanted
 whole_after Orlib draft job size rows written d w e =
     rw (rows_lens orlib_job (draft.jobs.items ++ job ∷ []) (rows ++ written ∷ []) e, d.wanted) refl
@@ -136,7 +137,7 @@ whole_after Taillard draft job size rows written d w e =
     omega (arith, lens.0, lens.1, length-append rows (written ∷ []), length-append draft.jobs.items (job ∷ []))
     in rw (len, same_count (jobs_in size) (length (draft.jobs.items ++ job ∷ [])), d.wanted) refl
 
-times_kept : (p : Profile) (old new : Draft) (size : Row) (rows : List Row) (written : Row) → HoldsRows p old size rows
+times_kept : (p : Format) (old new : Draft) (size : Row) (rows : List Row) (written : Row) → HoldsRows p old size rows
     → wants_times p old.jobs_wanted (length old.times.items) ≡ false → new.times ≡ old.times
     → HoldsTimes p new size (rows ++ written ∷ [])
 times_kept Orlib old new size rows written d w e = tt
@@ -148,21 +149,21 @@ times_kept Taillard old new size rows written d w e =
     times_there (jobs_in size) old.times.items rows d.times (omega arith)
     in ap (λ v. map items_of v.items) e ∙ d.times ∙ sym (take-append-le (jobs_in size) rows (written ∷ []) enough)
 
-shop_whole : (p : Profile) (machines : ℕ) (jobs : List ShopJob) (size : Row) (rows : List Row)
-    → machines ≡ machines_in size → jobs ≡ jobs_of p (size ∷ rows)
-    → record { machines = machines; jobs = jobs } ≡ (format_of p).shop (size ∷ rows)
+shop_whole : (p : Format) (machines : ℕ) (jobs : List ShopJob) (size : Row) (rows : List Row)
+    → machines ≡ machines_in size → jobs ≡ jobs_drafted p (size ∷ rows)
+    → record { machines = machines; jobs = jobs } ≡ (grammar_of p).shop (size ∷ rows)
 shop_whole Orlib machines jobs size rows em ej = rw (em, ej) refl
 shop_whole Routes machines jobs size rows em ej = rw (em, ej) refl
 shop_whole Taillard machines jobs size rows em ej = rw (em, ej) refl
 
 -- what the job of a row is
-abbrev pub IsJobOf : Profile → Draft → Job → Row → Type 0
+abbrev pub IsJobOf : Format → Draft → Job → Row → Type 0
 IsJobOf p draft job row =
     (rows : List Row) (written : Row) → IsDraft p draft rows → row ≡ map capped written
-    → ((format_of p).refuses rows written ≡ None)
-    × (map job_as_given (draft.jobs.items ++ job ∷ []) ≡ jobs_of p (rows ++ written ∷ []))
+    → ((grammar_of p).refuses rows written ≡ None)
+    × (map job_as_given (draft.jobs.items ++ job ∷ []) ≡ jobs_drafted p (rows ++ written ∷ []))
 
-pub job_taken : (p : Profile) (old new : Draft) (job : Job) (n : ℕ) (row : Row) (r : Result (Option Shop) ReadFault)
+pub job_taken : (p : Format) (old new : Draft) (job : Job) (n : ℕ) (row : Row) (r : Result (Option Shop) ReadFault)
     → 0 < old.jobs_wanted → wants_times p old.jobs_wanted (length old.times.items) ≡ false → PushesJob old new job r
     → IsJobOf p old job row → (rows : List Row) (written : Row) → IsDraft p old rows → row ≡ map capped written
     → TakesRow p rows written n new r
@@ -193,4 +194,4 @@ job_taken p old new job n row (Ok (Some shop)) some w push is (size ∷ rows) wr
       draft_holds = push.fresh;
     }
 job_taken p old new job n row (Err e) some w push is (size ∷ rows) written d er =
-    subst (λ x. Fails x n ((format_of p).refuses (size ∷ rows) written)) (sym push) tt
+    subst (λ x. Fails x n ((grammar_of p).refuses (size ∷ rows) written)) (sym push) tt

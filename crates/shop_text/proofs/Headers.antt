@@ -9,10 +9,9 @@ use Rattle.std.specs.Str.{IsAscii, IsUtf8, bytes_eq}
 use Rattle.std.proofs.lemmas.Bool.{cases_Bool, and_parts, leb-true, ne_eqb}
 use Rattle.std.proofs.lemmas.Str.{IsUtf8-from_ascii}
 use Rattle.shop_text.specs.Lines.{Blank, Numbers, Words, tokens_of, is_number, line_of, line_of_tokens}
-use Rattle.shop_text.specs.Formats.{is_visible, header_of}
-use Rattle.shop_text.specs.Reading.{format_of}
-use Rattle.shop_text.specs.declared.profiles.Profile.{Profile}
-use Rattle.shop_text.specs.declared.profiles.Profile.TheVariants.{Orlib, Taillard, Routes}
+use Rattle.shop_text.specs.Formats.{grammar_of, is_visible, header_of}
+use Rattle.shop_text.specs.declared.formats.Format.{Format}
+use Rattle.shop_text.specs.declared.formats.Format.TheVariants.{Orlib, Taillard, Routes}
 
 visible_ascii : (bytes : List ℕ) → list_all is_visible bytes ≡ true → IsAscii bytes
 visible_ascii [] e i = omega arith
@@ -36,8 +35,8 @@ header_visible (w ∷ n ∷ []) bytes e = told (bytes_eq w (codes "instance")) (
 header_visible (w ∷ n ∷ m ∷ words) bytes e = absurd cc
 
 -- a name is text
-pub header_utf8 : (p : Profile) (words : List (List ℕ)) (bytes : List ℕ)
-    → (format_of p).header (Words words) ≡ Some bytes
+pub header_utf8 : (p : Format) (words : List (List ℕ)) (bytes : List ℕ)
+    → (grammar_of p).header (Words words) ≡ Some bytes
     → IsUtf8 bytes
 header_utf8 Orlib words bytes e = IsUtf8-from_ascii bytes (visible_ascii bytes (header_visible words bytes e))
 header_utf8 Routes words bytes e = IsUtf8-from_ascii bytes (visible_ascii bytes (header_visible words bytes e))
@@ -67,19 +66,19 @@ tokens_header (token ∷ tokens) = elim (cases_Bool (list_all is_number (token �
 ]
 
 -- the name that the tokens of a line give is the line's
-pub line_header : (p : Profile) (bytes : List ℕ)
-    → (format_of p).header (Words (tokens_of bytes)) ≡ (format_of p).header (line_of bytes)
+pub line_header : (p : Format) (bytes : List ℕ)
+    → (grammar_of p).header (Words (tokens_of bytes)) ≡ (grammar_of p).header (line_of bytes)
 line_header Orlib bytes = tokens_header (tokens_of bytes)
 line_header Routes bytes = tokens_header (tokens_of bytes)
 line_header Taillard bytes = refl
 
 -- only text lines give one
-pub blank_header : (p : Profile) → (format_of p).header Blank ≡ None
+pub blank_header : (p : Format) → (grammar_of p).header Blank ≡ None
 blank_header Orlib = refl
 blank_header Routes = refl
 blank_header Taillard = refl
 
-pub numbers_header : (p : Profile) (row : List ℕ) → (format_of p).header (Numbers row) ≡ None
+pub numbers_header : (p : Format) (row : List ℕ) → (grammar_of p).header (Numbers row) ≡ None
 numbers_header Orlib row = refl
 numbers_header Routes row = refl
 numbers_header Taillard row = refl

@@ -14,7 +14,7 @@ use Rattle.shop_model.specs.Shop.{Shop, route_of}
 use Rattle.shop_text.specs.Lines.{lines_of, tokens_of, is_empty, is_number, value_of, capped}
 use Rattle.shop_text.specs.Schedules.{Tokens, begins_with_job, is_counted, is_label, starts_in, row_in, AreJobLines}
 use Rattle.shop_text.specs.Schedules.{GoesWrong, IsBadAt, IsTable}
-use Rattle.shop_text.specs.TableReading.{counted_after, IsReadSoFar, rows_of}
+use Rattle.shop_text.specs.TableReading.{counted_after, IsReadSoFar, rows_held}
 
 -- ---- labels
 
@@ -194,6 +194,6 @@ all_read shop text passed [] rows so_far short none all = record {
 all_read shop text passed (b ∷ rest) rows so_far short none all = absurd (omega arith)
 
 pub rows_push : (before after : Vec (Vec ℕ Global) Global) (row : Vec ℕ Global)
-    → after.items ≡ before.items ++ row ∷ [] → rows_of after ≡ rows_of before ++ row.items ∷ []
+    → after.items ≡ before.items ++ row ∷ [] → rows_held after ≡ rows_held before ++ row.items ∷ []
 rows_push before after row e =
     ap (map (λ (r : Vec ℕ Global). r.items)) e ∙ map-append (λ (r : Vec ℕ Global). r.items) before.items (row ∷ [])

@@ -1,3 +1,4 @@
+pub mod FormatWords
 pub mod LineLemmas
 pub mod Seeing
 pub mod Pairs

@@ -8,7 +8,7 @@ use Rattle.std.proofs.lemmas.Bool.{eqb-true, eq-eqb, ne_eqb, true≢false}
 use Rattle.std.proofs.lemmas.List.{length-map, length-append}
 use Rattle.shop_text.specs.Lines.{Numbered}
 use Rattle.shop_text.specs.Grammar.{Row, LineFault, WrongShape, WrongRow, WrongMachine, WrongTime, Entry, Part}
-use Rattle.shop_text.specs.Grammar.{rows_of, AreText, AreSkipped, AreAccepted, IsPart}
+use Rattle.shop_text.specs.Grammar.{entry_rows, AreText, AreSkipped, AreAccepted, IsPart}
 use Rattle.shop_text.specs.Formats.{taillard, taillard_refuses, times_fault, machines_fault, size_fault, is_between}
 use Rattle.shop_text.specs.Formats.{jobs_in, machines_in}
 use Rattle.shop_text.specs.Shapes.{IsRowOf, IsTime, IsMachineNumber, IsRowLine, IsMatrix, IsTaillardPart, TaillardShape}
@@ -218,7 +218,7 @@ plain_from (first ∷ top ∷ rows) h =
     let counted = no_fault_in (is_between 2 6 (length first.row)) WrongShape (size_fault first.row) h.0.0.row
     in let between = and_parts (leb 2 (length first.row)) (leb (length first.row) 6) counted.0
     in let size = size_from first.row counted.1
-    in let all = eqb-true (length (rows_of (top ∷ rows))) (2 * jobs_in first.row) h.1
+    in let all = eqb-true (length (entry_rows (top ∷ rows))) (2 * jobs_in first.row) h.1
     in let more : ℕ = jobs_in first.row - 1
     in let on = times_on_from first.row more (top.row ∷ []) rows (omega arith) (omega (arith, size.some_job))
     (omega (arith, size.some_job, all, length-map rows (λ e. e.row))) h.0.1.1
@@ -265,7 +265,7 @@ plain_to part p = subst (IsPart taillard) (sym p.cut) (
     },
     behind_to p.first.row p.times p.machines p.size.some_job p.times_count p.machines_count p.are_times p.are_machines,
   ),
-  eq-eqb (length (rows_of (p.times ++ p.machines))) (2 * jobs_in p.first.row)
+  eq-eqb (length (entry_rows (p.times ++ p.machines))) (2 * jobs_in p.first.row)
       (omega (
         arith,
         length-map (p.times ++ p.machines) (λ e. e.row),

@@ -9,7 +9,7 @@ use Rattle.std.proofs.lemmas.List.Concat.{flat_map-cons}
 use Rattle.shop_text.specs.Lines.{Line, Blank, Numbers, Words, Numbered, lines_of}
 use Rattle.shop_text.specs.Texts.{NamedShop, lines_left, named_from, IsText, IsTextFault}
 use Rattle.shop_text.specs.Texts.{OneReading}
-use Rattle.shop_text.specs.Grammar.{Row, Format, LineFault, WrongRow, fault_at, Entry, Part, rows_of, lines_of_entry}
+use Rattle.shop_text.specs.Grammar.{Row, Grammar, LineFault, WrongRow, fault_at, Entry, Part, entry_rows, lines_of_entry}
 use Rattle.shop_text.specs.Grammar.{lines_of_part, lines_of_parts, AreText, AreSkipped, IsAccepted, AreAccepted, IsPart}
 use Rattle.shop_text.specs.Grammar.{IsGood, IsBegun, refusal, IsRefused, IsTruncated, IsFault}
 use Rattle.shop_text.specs.declared.faults.ReadFault.{ReadFault}
@@ -49,18 +49,18 @@ abbrev pub with_row : List Entry → List Numbered → ℕ → Row → List Entr
 with_row begun text n row = begun ++ entry text n row ∷ []
 
 -- the lines one by one: the begun part, the text lines since its last row, and the lines to come
-abbrev pub read : Format → List Entry → List Numbered → List Numbered → Reading
+abbrev pub read : Grammar → List Entry → List Numbered → List Numbered → Reading
 read f begun text [] = ([], at_end begun)
 read f begun text ((n, Blank) ∷ lines) = read f begun text lines
 read f begun text ((n, Words words) ∷ lines) =
-    on_words (f.skips (rows_of begun)) n (read f begun (text ++ (n, Words words) ∷ []) lines)
+    on_words (f.skips (entry_rows begun)) n (read f begun (text ++ (n, Words words) ∷ []) lines)
 read f begun text ((n, Numbers row) ∷ lines) =
-    on_row (f.refuses (rows_of begun) row) n (f.is_whole (rows_of (with_row begun text n row)))
+    on_row (f.refuses (entry_rows begun) row) n (f.is_whole (entry_rows (with_row begun text n row)))
     (with_row begun text n row)
     (λ o. read f o [] lines)
 
-read_text : (f : Format) (begun : List Entry) (text more lines : List Numbered) → AreText more
-    → IsTrue (f.skips (rows_of begun)) → read f begun text (more ++ lines) ≡ read f begun (text ++ more) lines
+read_text : (f : Grammar) (begun : List Entry) (text more lines : List Numbered) → AreText more
+    → IsTrue (f.skips (entry_rows begun)) → read f begun text (more ++ lines) ≡ read f begun (text ++ more) lines
 read_text f begun text [] lines are skips = ap (λ (t : List Numbered). read f begun t lines) (sym (append-nil text))
 read_text f begun text ((n, Words words) ∷ more) lines are skips =
     rw skips (read_text f begun (text ++ (n, Words words) ∷ []) more lines are.1 skips)
@@ -68,22 +68,22 @@ read_text f begun text ((n, Words words) ∷ more) lines are skips =
 read_text f begun text ((n, Numbers row) ∷ more) lines are skips = absurd are.0
 read_text f begun text ((n, Blank) ∷ more) lines are skips = absurd are.0
 
-read_skipped : (f : Format) (begun : List Entry) (more lines : List Numbered) → AreSkipped f (rows_of begun) more
+read_skipped : (f : Grammar) (begun : List Entry) (more lines : List Numbered) → AreSkipped f (entry_rows begun) more
     → read f begun [] (more ++ lines) ≡ read f begun more lines
 read_skipped f begun more lines (are, inl none) = rw none refl
 read_skipped f begun more lines (are, inr skips) = read_text f begun [] more lines are skips
 
-read_entry : (f : Format) (begun : List Entry) (e : Entry) (lines : List Numbered) → IsAccepted f (rows_of begun) e
+read_entry : (f : Grammar) (begun : List Entry) (e : Entry) (lines : List Numbered) → IsAccepted f (entry_rows begun) e
     → read f begun [] (lines_of_entry e ++ lines)
-    ≡ on_row None e.line (f.is_whole (rows_of (begun ++ e ∷ []))) (begun ++ e ∷ []) (λ o. read f o [] lines)
+    ≡ on_row None e.line (f.is_whole (entry_rows (begun ++ e ∷ []))) (begun ++ e ∷ []) (λ o. read f o [] lines)
 read_entry f begun e lines a =
     let go : List Entry → Reading = λ o. read f o [] lines
     in let more : List Entry = begun ++ e ∷ []
     in ap (read f begun []) (append_assoc e.before ((e.line, Numbers e.row) ∷ []) lines)
     ∙ read_skipped f begun e.before ((e.line, Numbers e.row) ∷ lines) a.text
-    ∙ ap (λ (o : Option LineFault). on_row o e.line (f.is_whole (rows_of more)) more go) a.row
+    ∙ ap (λ (o : Option LineFault). on_row o e.line (f.is_whole (entry_rows more)) more go) a.row
 
-rows_more : (begun : List Entry) (e : Entry) → rows_of (begun ++ e ∷ []) ≡ rows_of begun ++ e.row ∷ []
+rows_more : (begun : List Entry) (e : Entry) → entry_rows (begun ++ e ∷ []) ≡ entry_rows begun ++ e.row ∷ []
 rows_more begun e = map-append (λ (e : Entry). e.row) begun (e ∷ [])
 
 -- the line of the last of some entries
@@ -92,17 +92,17 @@ last_line e [] = e.line
 last_line e (next ∷ entries) = last_line next entries
 
 -- the rows of a part, or of its beginning
-read_entries : (f : Format) (begun : List Entry) (e : Entry) (entries : List Entry) (lines : List Numbered)
-    → AreAccepted f (rows_of begun) (e ∷ entries)
+read_entries : (f : Grammar) (begun : List Entry) (e : Entry) (entries : List Entry) (lines : List Numbered)
+    → AreAccepted f (entry_rows begun) (e ∷ entries)
     → read f begun [] (lines_of_part (e ∷ entries) ++ lines)
-    ≡ on_row None (last_line e entries) (f.is_whole (rows_of (begun ++ e ∷ entries))) (begun ++ e ∷ entries)
+    ≡ on_row None (last_line e entries) (f.is_whole (entry_rows (begun ++ e ∷ entries))) (begun ++ e ∷ entries)
     (λ o. read f o [] lines)
 read_entries f begun e [] lines a =
     ap (λ (ls : List Numbered). read f begun [] (ls ++ lines)) (flat_map-cons lines_of_entry e []
     ∙ append-nil (lines_of_entry e))
     ∙ read_entry f begun e lines a.0
 read_entries f begun e (next ∷ entries) lines a =
-    let accepted : AreAccepted f (rows_of (begun ++ e ∷ [])) (next ∷ entries) =
+    let accepted : AreAccepted f (entry_rows (begun ++ e ∷ [])) (next ∷ entries) =
     subst (λ (rs : List Row). AreAccepted f rs (next ∷ entries)) (sym (rows_more begun e)) a.1
     in let later : List Numbered = lines_of_part (next ∷ entries) ++ lines
     in let regroup : lines_of_part (e ∷ next ∷ entries) ++ lines ≡ lines_of_entry e ++ later =
@@ -112,15 +112,15 @@ read_entries f begun e (next ∷ entries) lines a =
     in ap (read f begun []) regroup ∙ read_entry f begun e later a.0
     ∙ ap (λ (b : Bool). on_row None e.line b (begun ++ e ∷ []) (λ o. read f o [] later)) accepted.0.room
     ∙ read_entries f (begun ++ e ∷ []) next entries lines accepted
-    ∙ ap (λ (es : List Entry). on_row None last (f.is_whole (rows_of es)) es (λ o. read f o [] lines))
+    ∙ ap (λ (es : List Entry). on_row None last (f.is_whole (entry_rows es)) es (λ o. read f o [] lines))
     (append_assoc begun (e ∷ []) (next ∷ entries))
 
--- what each format is
-pub record IsFormat (f : Format) : Type 0 where
+-- what each grammar is
+pub record IsGrammar (f : Grammar) : Type 0 where
   pub none_whole : f.is_whole [] ≡ false
   pub skips_first : f.skips [] ≡ true
 
-read_parts : (f : Format) → IsFormat f → (parts : List Part) (lines : List Numbered) → AllByRecursion (IsPart f) parts
+read_parts : (f : Grammar) → IsGrammar f → (parts : List Part) (lines : List Numbered) → AllByRecursion (IsPart f) parts
     → read f [] [] (lines_of_parts parts ++ lines) ≡ onto parts (read f [] [] lines)
 read_parts f is [] lines h = refl
 read_parts f is ([] ∷ parts) lines h = absurd (true≢false (sym h.0.1 ∙ is.none_whole))
@@ -132,7 +132,7 @@ read_parts f is ((e ∷ part) ∷ parts) lines h =
     ∙ ap (λ (b : Bool). on_row None (last_line e part) b (e ∷ part) (λ o. read f o [] later)) h.0.1
     ∙ ap (onto ((e ∷ part) ∷ [])) (read_parts f is parts lines h.1)
 
-pub read_good : (f : Format) → IsFormat f → (lines : List Numbered) (parts : List Part) → IsGood f lines parts
+pub read_good : (f : Grammar) → IsGrammar f → (lines : List Numbered) (parts : List Part) → IsGood f lines parts
     → read f [] [] lines ≡ (parts, Outside)
 read_good f is lines parts good =
     ap (read f [] []) good.cut ∙ read_parts f is parts good.after good.parts_good
@@ -141,13 +141,13 @@ read_good f is lines parts good =
     ∙ ap (λ (ps : List Part). (ps, Outside)) (append-nil parts)
 
 -- lines are good for one list of parts
-pub one_list : (f : Format) → IsFormat f → (lines : List Numbered) (parts others : List Part) → IsGood f lines parts
+pub one_list : (f : Grammar) → IsGrammar f → (lines : List Numbered) (parts others : List Part) → IsGood f lines parts
     → IsGood f lines others → parts ≡ others
 one_list f is lines parts others a b =
     ap (λ (r : Reading). r.0) (sym (read_good f is lines parts a) ∙ read_good f is lines others b)
 
 -- The lines begin some parts: what follows is read at this place.
-read_begun : (f : Format) → IsFormat f → (lines later : List Numbered) (begun : List Entry) (b : IsBegun f lines begun)
+read_begun : (f : Grammar) → IsGrammar f → (lines later : List Numbered) (begun : List Entry) (b : IsBegun f lines begun)
     → read f [] [] (lines ++ later) ≡ onto b.parts (read f begun b.after later)
 read_begun f is lines later begun b =
     let follow : List Numbered = b.after ++ later
@@ -158,7 +158,7 @@ read_begun f is lines later begun b =
     ∙ read_parts f is b.parts (lines_of_part begun ++ follow) b.parts_good
     ∙ ap (onto b.parts) (opened follow begun b.begun_good b.room ∙ read_skipped f begun b.after later b.after_skipped)
   where
-    opened : (follow : List Numbered) (es : List Entry) → AreAccepted f [] es → f.is_whole (rows_of es) ≡ false
+    opened : (follow : List Numbered) (es : List Entry) → AreAccepted f [] es → f.is_whole (entry_rows es) ≡ false
         → read f [] [] (lines_of_part es ++ follow) ≡ read f es [] follow
     opened follow [] a room = refl
     opened follow (e ∷ es) a room =
@@ -166,11 +166,11 @@ read_begun f is lines later begun b =
         ∙ ap (λ (w : Bool). on_row None (last_line e es) w (e ∷ es) (λ o. read f o [] follow)) room
 
 -- a line that is refused ends the reading
-read_line : (f : Format) (begun : List Entry) (text : List Numbered) (n : ℕ) (line : Line) (later : List Numbered)
-    (name : LineFault) → refusal f (rows_of begun) line ≡ Some name
+read_line : (f : Grammar) (begun : List Entry) (text : List Numbered) (n : ℕ) (line : Line) (later : List Numbered)
+    (name : LineFault) → refusal f (entry_rows begun) line ≡ Some name
     → read f begun text ((n, line) ∷ later) ≡ ([], Refused (fault_at n name))
 read_line f begun text n Blank later name e = absurd cc
-read_line f begun text n (Words words) later name e = told (f.skips (rows_of begun)) e
+read_line f begun text n (Words words) later name e = told (f.skips (entry_rows begun)) e
   where
     told : (b : Bool) → cond b None (Some WrongRow) ≡ Some name
         → on_words b n (read f begun (text ++ (n, Words words) ∷ []) later) ≡ ([], Refused (fault_at n name))
@@ -178,9 +178,9 @@ read_line f begun text n (Words words) later name e = told (f.skips (rows_of beg
     told false h = ap (λ (o : Option LineFault). on_row o n false [] (λ _. ([], Outside))) h
 read_line f begun text n (Numbers row) later name e =
     let more : List Entry = with_row begun text n row
-    in ap (λ (o : Option LineFault). on_row o n (f.is_whole (rows_of more)) more (λ o. read f o [] later)) e
+    in ap (λ (o : Option LineFault). on_row o n (f.is_whole (entry_rows more)) more (λ o. read f o [] later)) e
 
-pub read_refused : (f : Format) → IsFormat f → (lines : List Numbered) (fault : ReadFault) → IsRefused f lines fault
+pub read_refused : (f : Grammar) → IsGrammar f → (lines : List Numbered) (fault : ReadFault) → IsRefused f lines fault
     → (read f [] [] lines).1 ≡ Refused fault
 read_refused f is lines fault r =
     ap (λ (ls : List Numbered). (read f [] [] ls).1) r.cut
@@ -188,7 +188,7 @@ read_refused f is lines fault r =
     ∙ ap (λ (x : Reading). x.1) (read_line f r.begun r.place.after r.line.0 r.line.1 r.later r.name r.refused)
     ∙ ap Refused (sym r.told)
 
-pub read_truncated : (f : Format) → IsFormat f → (last : ℕ) (lines : List Numbered) (fault : ReadFault)
+pub read_truncated : (f : Grammar) → IsGrammar f → (last : ℕ) (lines : List Numbered) (fault : ReadFault)
     → IsTruncated f last lines fault → (read f [] [] lines).1 ≡ Inside
 read_truncated f is last lines fault t =
     ap (λ (ls : List Numbered). (read f [] [] ls).1) (sym (append-nil lines))
@@ -199,7 +199,7 @@ read_truncated f is last lines fault t =
     inside [] h = absurd (omega arith)
     inside (e ∷ es) h = refl
 
-pub read_nothing : (f : Format) → IsFormat f → (lines : List Numbered) → AreText lines
+pub read_nothing : (f : Grammar) → IsGrammar f → (lines : List Numbered) → AreText lines
     → read f [] [] lines ≡ ([], Outside)
 read_nothing f is lines are =
     ap (read f [] []) (sym (append-nil lines)) ∙ read_text f [] [] lines [] are is.skips_first
@@ -221,7 +221,7 @@ at_inside : (last : ℕ) (r : Reading) (fault : ReadFault) → r.1 ≡ Inside �
 at_inside last r fault e told =
     ap (λ (end : End). fault_of last (r.0, end)) e ∙ ap (λ (x : ReadFault). Some x) (sym told)
 
-pub fault_read : (f : Format) → IsFormat f → (last : ℕ) (lines : List Numbered) (fault : ReadFault)
+pub fault_read : (f : Grammar) → IsGrammar f → (last : ℕ) (lines : List Numbered) (fault : ReadFault)
     → IsFault f last lines fault → fault_of last (read f [] [] lines) ≡ Some fault
 fault_read f is last lines fault (inl none) =
     ap (fault_of last) (read_nothing f is lines none.text) ∙ ap (λ (x : ReadFault). Some x) (sym none.told)
@@ -235,7 +235,7 @@ no_fault last [] h = absurd (omega arith)
 no_fault last (part ∷ parts) h = refl
 
 -- what is good has no fault
-pub good_has_no_fault : (f : Format) → IsFormat f → (last : ℕ) (lines : List Numbered) (parts : List Part)
+pub good_has_no_fault : (f : Grammar) → IsGrammar f → (last : ℕ) (lines : List Numbered) (parts : List Part)
     (fault : ReadFault) → IsGood f lines parts → IsFault f last lines fault → ⊥
 good_has_no_fault f is last lines parts fault good bad =
     let e : None ≡ Some fault =
@@ -244,7 +244,7 @@ good_has_no_fault f is last lines parts fault good bad =
     in cc
 
 -- a fault is the only one
-pub one_fault : (f : Format) → IsFormat f → (last : ℕ) (lines : List Numbered) (fault other : ReadFault)
+pub one_fault : (f : Grammar) → IsGrammar f → (last : ℕ) (lines : List Numbered) (fault other : ReadFault)
     → IsFault f last lines fault → IsFault f last lines other → fault ≡ other
 one_fault f is last lines fault other a b =
     let e : Some fault ≡ Some other =
@@ -253,13 +253,13 @@ one_fault f is last lines fault other a b =
 
 -- ---- whole texts
 
-not_both : (f : Format) → IsFormat f → (text : List ℕ) (shops : List NamedShop) (fault : ReadFault)
+not_both : (f : Grammar) → IsGrammar f → (text : List ℕ) (shops : List NamedShop) (fault : ReadFault)
     → IsText f text shops → IsTextFault f text fault → ⊥
 not_both f is text shops fault a (inl b) = let s = a.short in let l = b.long in omega arith
 not_both f is text shops fault a (inr b) =
     good_has_no_fault f is (length (lines_of text)) (lines_left f text) a.parts fault a.good b.in_lines
 
-one_text_fault : (f : Format) → IsFormat f → (text : List ℕ) (fault other : ReadFault) → IsTextFault f text fault
+one_text_fault : (f : Grammar) → IsGrammar f → (text : List ℕ) (fault other : ReadFault) → IsTextFault f text fault
     → IsTextFault f text other → fault ≡ other
 one_text_fault f is text fault other (inl a) (inl b) = a.told ∙ sym b.told
 one_text_fault f is text fault other (inl a) (inr b) = absurd (let s = b.short in let l = a.long in omega arith)
@@ -267,7 +267,7 @@ one_text_fault f is text fault other (inr a) (inl b) = absurd (let s = a.short i
 one_text_fault f is text fault other (inr a) (inr b) =
     one_fault f is (length (lines_of text)) (lines_left f text) fault other a.in_lines b.in_lines
 
-pub one_text : (f : Format) → IsFormat f → OneReading f
+pub one_text : (f : Grammar) → IsGrammar f → OneReading f
 one_text f is = record {
   one_list = λ text shops others a b.
       a.shops_are ∙ ap (named_from f 1) (one_list f is (lines_left f text) a.parts b.parts a.good b.good)

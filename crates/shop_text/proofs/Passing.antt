@@ -5,21 +5,22 @@ use Rattle.std.proofs.Common.{append_assoc, arith}
 use Rattle.std.specs.List.{list_any, enumerate_from}
 use Rattle.std.specs.declared.alloc.Global.{Global}
 use Rattle.std.proofs.lemmas.List.{append-nil}
+use Rattle.shop_text.specs.Formats.{grammar_of}
 use Rattle.shop_text.specs.Lines.{Line, Blank, Numbers, Words, Numbered, is_left, line_of, lines_of, tokens_of}
 use Rattle.shop_text.specs.Lines.{numbered_lines}
-use Rattle.shop_text.specs.Grammar.{Format, LineFault, WrongShape, WrongSize, WrongRow, WrongMachine, WrongTime}
+use Rattle.shop_text.specs.Grammar.{Grammar, LineFault, WrongShape, WrongSize, WrongRow, WrongMachine, WrongTime}
 use Rattle.shop_text.specs.Grammar.{fault_at}
 use Rattle.shop_text.specs.Grammar.{IsRefused, IsFault}
 use Rattle.shop_text.specs.Texts.{is_header, from_first_header, lines_left, IsTextFault}
 use Rattle.shop_text.specs.Names.{IsRead}
-use Rattle.shop_text.specs.Reading.{format_of, lines_after, IsFurther}
+use Rattle.shop_text.specs.Reading.{lines_after, IsFurther}
 use Rattle.shop_text.specs.Readers.{IsReadUpTo, left_of, Ends, IsOnTheWay}
 use Rattle.shop_text.specs.declared.faults.ReadFault.{ReadFault}
 use Rattle.shop_text.specs.declared.faults.ReadFault.TheVariants.{NoMemory, TooLong, NoInstance, BadShape, BadSize}
 use Rattle.shop_text.specs.declared.faults.ReadFault.TheVariants.{BadRow, Truncated, BadMachine, BadTime}
 use Rattle.shop_text.specs.declared.faults.ReadFault.TheVariants.{NoSuchName, BadTable}
 use Rattle.shop_text.specs.declared.names.Named.{Named}
-use Rattle.shop_text.specs.declared.profiles.Profile.{Profile}
+use Rattle.shop_text.specs.declared.formats.Format.{Format}
 use Rattle.shop_text.specs.declared.texts.Reader.{Reader}
 use Rattle.shop_text.proofs.Headers.{line_header, blank_header, numbers_header}
 
@@ -45,18 +46,18 @@ after_cut n text bytes rest cut = ap (numbered (n + 1)) cut ∙ chosen (line_of 
 -- ---- up to the first header
 
 -- the rest has the first header of the text, if there is one
-pub record IsBeforeHeader (f : Format) (text : List ℕ) (n : ℕ) (rest : List ℕ) : Type 0 where
+pub record IsBeforeHeader (f : Grammar) (text : List ℕ) (n : ℕ) (rest : List ℕ) : Type 0 where
   pub any : list_any (is_header f) (lines_after n rest) ≡ list_any (is_header f) (numbered_lines text)
   pub first : from_first_header f (lines_after n rest) ≡ from_first_header f (numbered_lines text)
 
-no_name : (f : Format) (n : ℕ) (line : Line) (lines : List Numbered) → f.header line ≡ None
+no_name : (f : Grammar) (n : ℕ) (line : Line) (lines : List Numbered) → f.header line ≡ None
     → (list_any (is_header f) (left_of n line ++ lines) ≡ list_any (is_header f) lines)
     × (from_first_header f (left_of n line ++ lines) ≡ from_first_header f lines)
 no_name f n Blank lines e = (refl, refl)
 no_name f n (Numbers row) lines e = (rw e refl, rw e refl)
 no_name f n (Words words) lines e = (rw e refl, rw e refl)
 
-pub header_passed : (f : Format) (text : List ℕ) (n : ℕ) (rest bytes after : List ℕ) → IsBeforeHeader f text n rest
+pub header_passed : (f : Grammar) (text : List ℕ) (n : ℕ) (rest bytes after : List ℕ) → IsBeforeHeader f text n rest
     → lines_of rest ≡ bytes ∷ lines_of after → f.header (line_of bytes) ≡ None → IsBeforeHeader f text (n + 1) after
 header_passed f text n rest bytes after b cut e =
     let cut_lines = after_cut n rest bytes after cut
@@ -66,25 +67,25 @@ header_passed f text n rest bytes after b cut e =
       first = sym skipped.1 ∙ sym (ap (from_first_header f) cut_lines) ∙ b.first;
     }
 
-one_name : (p : Profile) (n : ℕ) (line : Line) (lines : List Numbered) (name : List ℕ)
-    → (format_of p).header line ≡ Some name
-    → (list_any (is_header (format_of p)) (left_of n line ++ lines) ≡ true)
-    × (from_first_header (format_of p) (left_of n line ++ lines) ≡ left_of n line ++ lines)
+one_name : (p : Format) (n : ℕ) (line : Line) (lines : List Numbered) (name : List ℕ)
+    → (grammar_of p).header line ≡ Some name
+    → (list_any (is_header (grammar_of p)) (left_of n line ++ lines) ≡ true)
+    × (from_first_header (grammar_of p) (left_of n line ++ lines) ≡ left_of n line ++ lines)
 one_name p n Blank lines name e = absurd (let b = blank_header p in cc)
 one_name p n (Numbers row) lines name e = absurd (let b = numbers_header p row in cc)
 one_name p n (Words words) lines name e = (rw e refl, rw e refl)
 
-pub header_here : (p : Profile) (text : List ℕ) (n : ℕ) (rest bytes after : List ℕ) (name : List ℕ)
-    → IsBeforeHeader (format_of p) text n rest → lines_of rest ≡ bytes ∷ lines_of after
-    → (format_of p).header (line_of bytes) ≡ Some name → lines_left (format_of p) text ≡ lines_after n rest
+pub header_here : (p : Format) (text : List ℕ) (n : ℕ) (rest bytes after : List ℕ) (name : List ℕ)
+    → IsBeforeHeader (grammar_of p) text n rest → lines_of rest ≡ bytes ∷ lines_of after
+    → (grammar_of p).header (line_of bytes) ≡ Some name → lines_left (grammar_of p) text ≡ lines_after n rest
 header_here p text n rest bytes after name b cut e =
     let cut_lines = after_cut n rest bytes after cut
     in let found = one_name p (n + 1) (line_of bytes) (lines_after (n + 1) after) name e
-    in let any : list_any (is_header (format_of p)) (numbered_lines text) ≡ true =
-    sym b.any ∙ ap (list_any (is_header (format_of p))) cut_lines ∙ found.0
-    in rw any (sym b.first ∙ ap (from_first_header (format_of p)) cut_lines ∙ found.1 ∙ sym cut_lines)
+    in let any : list_any (is_header (grammar_of p)) (numbered_lines text) ≡ true =
+    sym b.any ∙ ap (list_any (is_header (grammar_of p))) cut_lines ∙ found.0
+    in rw any (sym b.first ∙ ap (from_first_header (grammar_of p)) cut_lines ∙ found.1 ∙ sym cut_lines)
 
-pub no_header_left : (f : Format) (text : List ℕ) (n : ℕ) (rest : List ℕ) → IsBeforeHeader f text n rest
+pub no_header_left : (f : Grammar) (text : List ℕ) (n : ℕ) (rest : List ℕ) → IsBeforeHeader f text n rest
     → length rest ≡ 0 → lines_left f text ≡ lines_after 0 text
 no_header_left f text n [] b none =
     let any : list_any (is_header f) (numbered_lines text) ≡ false = sym b.any
@@ -94,15 +95,15 @@ no_header_left f text n (x ∷ rest) b none = absurd (omega arith)
 pub whole_text : (text : List ℕ) → IsFurther 0 text 0 text
 whole_text text = record { lines = refl; bytes = omega arith }
 
-pub header_in_line : (p : Profile) (bytes : List ℕ) (o : Option (List ℕ))
-    → (format_of p).header (Words (tokens_of bytes)) ≡ o → (format_of p).header (line_of bytes) ≡ o
+pub header_in_line : (p : Format) (bytes : List ℕ) (o : Option (List ℕ))
+    → (grammar_of p).header (Words (tokens_of bytes)) ≡ o → (grammar_of p).header (line_of bytes) ≡ o
 header_in_line p bytes o e = sym (line_header p bytes) ∙ e
 
 -- ---- line by line
 
-pub line_taken : (text : List ℕ) (n : ℕ) (rest bytes after : List ℕ) (p : Profile) (old new : Reader)
+pub line_taken : (text : List ℕ) (n : ℕ) (rest bytes after : List ℕ) (p : Format) (old new : Reader)
     (w : IsOnTheWay text n rest p old) → lines_of rest ≡ bytes ∷ lines_of after → length after < length rest
-    → new.profile ≡ old.profile → IsReadUpTo new (w.front ++ left_of (n + 1) (line_of bytes))
+    → new.format ≡ old.format → IsReadUpTo new (w.front ++ left_of (n + 1) (line_of bytes))
     → IsOnTheWay text (n + 1) after p new
 line_taken text n rest bytes after p old new w cut shorter same read = record {
   front = w.front ++ left_of (n + 1) (line_of bytes);
@@ -114,22 +115,22 @@ line_taken text n rest bytes after p old new w cut shorter same read = record {
 }
 
 -- a fault of the text, or want of memory
-abbrev IsError : Format → List ℕ → ReadFault → Type 0
+abbrev IsError : Grammar → List ℕ → ReadFault → Type 0
 IsError f text e = (e ≡ NoMemory) ⊎ IsTextFault f text e
 
-pub line_refused : (text : List ℕ) (n : ℕ) (rest bytes after : List ℕ) (p : Profile) (reader : Reader) (e : ReadFault)
+pub line_refused : (text : List ℕ) (n : ℕ) (rest bytes after : List ℕ) (p : Format) (reader : Reader) (e : ReadFault)
     (w : IsOnTheWay text n rest p reader) → length text ≤ 16777216 → lines_of rest ≡ bytes ∷ lines_of after
     → (e ≡ NoMemory) ⊎ ((later : List Numbered)
-    → IsRefused (format_of reader.profile) (w.front ++ (left_of (n + 1) (line_of bytes) ++ later)) e)
-    → IsError (format_of p) text e
+    → IsRefused (grammar_of reader.format) (w.front ++ (left_of (n + 1) (line_of bytes) ++ later)) e)
+    → IsError (grammar_of p) text e
 line_refused text n rest bytes after p reader e w short cut (inl none) = inl none
 line_refused text n rest bytes after p reader e w short cut (inr refused) =
     let here = refused (lines_after (n + 1) after)
-    in let lines : lines_left (format_of p) text
+    in let lines : lines_left (grammar_of p) text
     ≡ w.front ++ (left_of (n + 1) (line_of bytes) ++ lines_after (n + 1) after) =
     w.cut ∙ ap (λ (ls : List Numbered). w.front ++ ls) (after_cut n rest bytes after cut)
-    in let placed : IsRefused (format_of p) (lines_left (format_of p) text) e =
-    rw lines (subst (λ q. IsRefused (format_of q)
+    in let placed : IsRefused (grammar_of p) (lines_left (grammar_of p) text) e =
+    rw lines (subst (λ q. IsRefused (grammar_of q)
     (w.front ++ (left_of (n + 1) (line_of bytes) ++ lines_after (n + 1) after)) e) w.same here)
     in inr (inr (record { short = short; in_lines = inr (inr placed) }))
 
@@ -142,7 +143,7 @@ no_line_fault n WrongRow = (λ e. cc, λ k e. cc)
 no_line_fault n WrongMachine = (λ e. cc, λ k e. cc)
 no_line_fault n WrongTime = (λ e. cc, λ k e. cc)
 
-no_such_name : (f : Format) (text : List ℕ) → IsTextFault f text NoSuchName → ⊥
+no_such_name : (f : Grammar) (text : List ℕ) → IsTextFault f text NoSuchName → ⊥
 no_such_name f text (inl long) = let e = long.told in cc
 no_such_name f text (inr h) = told h.in_lines
   where
@@ -151,7 +152,7 @@ no_such_name f text (inr h) = told h.in_lines
     told (inr (inl t)) = let e = t.told in cc
     told (inr (inr r)) = (no_line_fault r.line.0 r.name).0 r.told
 
-no_bad_table : (f : Format) (text : List ℕ) (k : ℕ) → IsTextFault f text (BadTable k) → ⊥
+no_bad_table : (f : Grammar) (text : List ℕ) (k : ℕ) → IsTextFault f text (BadTable k) → ⊥
 no_bad_table f text k (inl long) = let e = long.told in cc
 no_bad_table f text k (inr h) = told h.in_lines
   where
@@ -160,11 +161,11 @@ no_bad_table f text k (inr h) = told h.in_lines
     told (inr (inl t)) = let e = t.told in cc
     told (inr (inr r)) = (no_line_fault r.line.0 r.name).1 k r.told
 
-by_fault : (f : Format) (text : List ℕ) (e : ReadFault) → (e ≡ NoMemory → ⊥) → IsError f text e → IsTextFault f text e
+by_fault : (f : Grammar) (text : List ℕ) (e : ReadFault) → (e ≡ NoMemory → ⊥) → IsError f text e → IsTextFault f text e
 by_fault f text e not (inl none) = absurd (not none)
 by_fault f text e not (inr h) = h
 
-pub error_read : (f : Format) (text : List ℕ) (e : ReadFault) → IsError f text e → IsRead f text (Err e)
+pub error_read : (f : Grammar) (text : List ℕ) (e : ReadFault) → IsError f text e → IsRead f text (Err e)
 error_read f text NoMemory h = tt
 error_read f text TooLong h = by_fault f text TooLong (λ e. cc) h
 error_read f text NoInstance h = by_fault f text NoInstance (λ e. cc) h
@@ -182,21 +183,21 @@ nothing_after n [] e = (refl, refl)
 nothing_after n (b ∷ rest) e = absurd (omega arith)
 
 -- the end of the text
-pub end_read : (text : List ℕ) (n : ℕ) (rest : List ℕ) (p : Profile) (reader : Reader)
+pub end_read : (text : List ℕ) (n : ℕ) (rest : List ℕ) (p : Format) (reader : Reader)
     (r : Result (Vec Named Global) ReadFault) → IsOnTheWay text n rest p reader → length text ≤ 16777216
     → length rest ≡ 0
-    → ((lines : List Numbered) → IsReadUpTo reader lines → Ends (format_of reader.profile) n lines r)
-    → IsRead (format_of p) text r
+    → ((lines : List Numbered) → IsReadUpTo reader lines → Ends (grammar_of reader.format) n lines r)
+    → IsRead (grammar_of p) text r
 end_read text n rest p reader r w short none ends =
     let over = nothing_after n rest none
-    in let lines : lines_left (format_of p) text ≡ w.front =
+    in let lines : lines_left (grammar_of p) text ≡ w.front =
     w.cut ∙ ap (λ (ls : List Numbered). w.front ++ ls) over.0 ∙ append-nil w.front
     in let last : n ≡ length (lines_of text) = omega (arith, w.further.lines, over.1)
-    in told r (subst (λ q. Ends (format_of q) n w.front r) w.same (ends w.front w.read)) lines last
+    in told r (subst (λ q. Ends (grammar_of q) n w.front r) w.same (ends w.front w.read)) lines last
   where
-    told : (r : Result (Vec Named Global) ReadFault) → Ends (format_of p) n w.front r
-        → lines_left (format_of p) text ≡ w.front → n ≡ length (lines_of text) → IsRead (format_of p) text r
+    told : (r : Result (Vec Named Global) ReadFault) → Ends (grammar_of p) n w.front r
+        → lines_left (grammar_of p) text ≡ w.front → n ≡ length (lines_of text) → IsRead (grammar_of p) text r
     told (Ok named) h lines last =
         (record { short = short; parts = h.parts; good = rw lines h.good; shops_are = h.named_are }, h.some)
     told (Err e) h lines last =
-        error_read (format_of p) text e (inr (inr (record { short = short; in_lines = rw (lines, ← last) h })))
+        error_read (grammar_of p) text e (inr (inr (record { short = short; in_lines = rw (lines, ← last) h })))

@@ -7,22 +7,22 @@ use Rattle.std.proofs.lemmas.List.{append-nil, map-append}
 use Rattle.std.proofs.lemmas.List.Concat.{flat_map-cons}
 use Rattle.std.proofs.lemmas.Grind.{flat_map-append}
 use Rattle.shop_text.specs.Lines.{Numbers, Words, Numbered}
-use Rattle.shop_text.specs.Grammar.{Row, Format, Entry, Part, rows_of, lines_of_entry, lines_of_part, lines_of_parts}
+use Rattle.shop_text.specs.Grammar.{Row, Grammar, Entry, Part, entry_rows, lines_of_entry, lines_of_part, lines_of_parts}
 use Rattle.shop_text.specs.Grammar.{AreText, IsAccepted, AreAccepted, IsPart, IsBegun}
-use Rattle.shop_text.proofs.OneReading.{IsFormat, entry, with_row}
+use Rattle.shop_text.proofs.OneReading.{IsGrammar, entry, with_row}
 
 pub text_more : (t : List Numbered) (n : ℕ) (words : List (List ℕ)) → AreText t → AreText (t ++ (n, Words words) ∷ [])
 text_more [] n words h = (tt, tt)
 text_more (l ∷ t) n words h = (h.0, text_more t n words h.1)
 
-pub accepted_more : (f : Format) (rows : List Row) (es : List Entry) (e : Entry) → AreAccepted f rows es
-    → IsAccepted f (rows ++ rows_of es) e → AreAccepted f rows (es ++ e ∷ [])
+pub accepted_more : (f : Grammar) (rows : List Row) (es : List Entry) (e : Entry) → AreAccepted f rows es
+    → IsAccepted f (rows ++ entry_rows es) e → AreAccepted f rows (es ++ e ∷ [])
 accepted_more f rows [] e a h = (subst (λ (rs : List Row). IsAccepted f rs e) (append-nil rows) h, tt)
 accepted_more f rows (x ∷ es) e a h =
-    let regrouped = subst (λ (rs : List Row). IsAccepted f rs e) (sym (append_assoc rows (x.row ∷ []) (rows_of es))) h
+    let regrouped = subst (λ (rs : List Row). IsAccepted f rs e) (sym (append_assoc rows (x.row ∷ []) (entry_rows es))) h
     in (a.0, accepted_more f (rows ++ x.row ∷ []) es e a.1 regrouped)
 
-pub parts_more : (f : Format) (parts : List Part) (p : Part) → AllByRecursion (IsPart f) parts → IsPart f p
+pub parts_more : (f : Grammar) (parts : List Part) (p : Part) → AllByRecursion (IsPart f) parts → IsPart f p
     → AllByRecursion (IsPart f) (parts ++ p ∷ [])
 parts_more f [] p h g = (g, tt)
 parts_more f (q ∷ parts) p h g = (h.0, parts_more f parts p h.1 g)
@@ -42,7 +42,7 @@ part_last parts p =
     ∙ append-nil (lines_of_part p))
 
 pub rows_more : (begun : List Entry) (text : List Numbered) (n : ℕ) (row : Row)
-    → rows_of (with_row begun text n row) ≡ rows_of begun ++ row ∷ []
+    → entry_rows (with_row begun text n row) ≡ entry_rows begun ++ row ∷ []
 rows_more begun text n row = map-append (λ (e : Entry). e.row) begun (entry text n row ∷ [])
 
 -- the lines with one more row
@@ -58,15 +58,15 @@ entry_cut parts begun after n row front cut =
     ∙ ap (λ (ls : List Numbered). lines_of_parts parts ++ ls) (sym (entry_last begun (entry after n row)))
 
 -- one more row is accepted
-pub one_more : (f : Format) (front : List Numbered) (begun : List Entry) (s : IsBegun f front begun) (n : ℕ) (row : Row)
-    → f.refuses (rows_of begun) row ≡ None → AreAccepted f [] (with_row begun s.after n row)
+pub one_more : (f : Grammar) (front : List Numbered) (begun : List Entry) (s : IsBegun f front begun) (n : ℕ) (row : Row)
+    → f.refuses (entry_rows begun) row ≡ None → AreAccepted f [] (with_row begun s.after n row)
 one_more f front begun s n row free =
     accepted_more f [] begun (entry s.after n row) s.begun_good
     (record { room = s.room; text = s.after_skipped; row = free })
 
 -- a text line that is skipped
-unfoldable pub words_on : (f : Format) (front : List Numbered) (begun : List Entry) (s : IsBegun f front begun) (n : ℕ)
-    (words : List (List ℕ)) → IsTrue (f.skips (rows_of begun)) → IsBegun f (front ++ (n, Words words) ∷ []) begun
+unfoldable pub words_on : (f : Grammar) (front : List Numbered) (begun : List Entry) (s : IsBegun f front begun) (n : ℕ)
+    (words : List (List ℕ)) → IsTrue (f.skips (entry_rows begun)) → IsBegun f (front ++ (n, Words words) ∷ []) begun
 words_on f front begun s n words skips = record {
   parts = s.parts;
   after = s.after ++ (n, Words words) ∷ [];
@@ -79,9 +79,9 @@ words_on f front begun s n words skips = record {
 }
 
 -- a row, and the part isn't whole yet
-unfoldable pub row_on : (f : Format) (front : List Numbered) (begun : List Entry) (s : IsBegun f front begun) (n : ℕ)
+unfoldable pub row_on : (f : Grammar) (front : List Numbered) (begun : List Entry) (s : IsBegun f front begun) (n : ℕ)
     (row : Row)
-    → f.refuses (rows_of begun) row ≡ None → f.is_whole (rows_of (with_row begun s.after n row)) ≡ false
+    → f.refuses (entry_rows begun) row ≡ None → f.is_whole (entry_rows (with_row begun s.after n row)) ≡ false
     → IsBegun f (front ++ (n, Numbers row) ∷ []) (with_row begun s.after n row)
 row_on f front begun s n row free room =
     let more : List Entry = with_row begun s.after n row
@@ -97,9 +97,9 @@ row_on f front begun s n row free room =
     }
 
 -- the last row of a part
-unfoldable pub part_on : (f : Format) → IsFormat f
+unfoldable pub part_on : (f : Grammar) → IsGrammar f
     → (front : List Numbered) (begun : List Entry) (s : IsBegun f front begun) (n : ℕ)
-    (row : Row) → f.refuses (rows_of begun) row ≡ None → f.is_whole (rows_of (with_row begun s.after n row)) ≡ true
+    (row : Row) → f.refuses (entry_rows begun) row ≡ None → f.is_whole (entry_rows (with_row begun s.after n row)) ≡ true
     → IsBegun f (front ++ (n, Numbers row) ∷ []) []
 part_on f is front begun s n row free whole =
     let part : Part = with_row begun s.after n row

@@ -10,12 +10,13 @@ use Rattle.std.proofs.lemmas.List.Concat.{flat_map-cons}
 use Rattle.std.proofs.lemmas.List.Elements.{filter_map-append}
 use Rattle.std.proofs.lemmas.Grind.{flat_map-append}
 use Rattle.shop_model.specs.Shop.{Shop}
+use Rattle.shop_text.specs.Formats.{grammar_of}
 use Rattle.shop_text.specs.Lines.{Line, Numbers, Words, Numbered}
-use Rattle.shop_text.specs.Grammar.{Row, Format, LineFault, fault_at, Entry, Part, rows_of, lines_of_parts}
+use Rattle.shop_text.specs.Grammar.{Row, Grammar, LineFault, fault_at, Entry, Part, entry_rows, lines_of_parts}
 use Rattle.shop_text.specs.Grammar.{IsBegun, IsRefused, IsWithoutInstance, AreText}
 use Rattle.shop_text.specs.Texts.{NamedShop, headers_of, last_or, name_of, named_from}
 use Rattle.shop_text.specs.Names.{shops_of, shop_of_named}
-use Rattle.shop_text.specs.Reading.{format_of, Fails, located}
+use Rattle.shop_text.specs.Reading.{Fails, located}
 use Rattle.shop_text.specs.Drafts.{IsDraft, IsOneMore, IsLastOne}
 use Rattle.shop_text.specs.Readers.{texts_of, name_or, IsLast, IsReadUpTo, AreRead}
 use Rattle.shop_text.specs.declared.drafts.Draft.{Draft}
@@ -24,24 +25,24 @@ use Rattle.shop_text.specs.declared.faults.ReadFault.TheVariants.{NoMemory, TooL
 use Rattle.shop_text.specs.declared.faults.ReadFault.TheVariants.{BadRow, Truncated, BadMachine, BadTime}
 use Rattle.shop_text.specs.declared.faults.ReadFault.TheVariants.{NoSuchName, BadTable}
 use Rattle.shop_text.specs.declared.names.Named.{Named}
-use Rattle.shop_text.specs.declared.profiles.Profile.{Profile}
-use Rattle.shop_text.specs.declared.profiles.Profile.TheVariants.{Orlib, Taillard, Routes}
+use Rattle.shop_text.specs.declared.formats.Format.{Format}
+use Rattle.shop_text.specs.declared.formats.Format.TheVariants.{Orlib, Taillard, Routes}
 use Rattle.shop_text.specs.declared.texts.Reader.{Reader}
-use Rattle.shop_text.proofs.OneReading.{IsFormat, with_row, entry}
+use Rattle.shop_text.proofs.OneReading.{IsGrammar, with_row, entry}
 use Rattle.shop_text.proofs.Places.{words_on, row_on, part_on, rows_more}
 use Rattle.shop_text.proofs.SomeReading.{nothing_yet, refused_here}
 
-pub is_format : (p : Profile) → IsFormat (format_of p)
-is_format Orlib = record { none_whole = refl; skips_first = refl }
-is_format Taillard = record { none_whole = refl; skips_first = refl }
-is_format Routes = record { none_whole = refl; skips_first = refl }
+pub is_grammar : (p : Format) → IsGrammar (grammar_of p)
+is_grammar Orlib = record { none_whole = refl; skips_first = refl }
+is_grammar Taillard = record { none_whole = refl; skips_first = refl }
+is_grammar Routes = record { none_whole = refl; skips_first = refl }
 
 pub nothing_read : (reader : Reader) → reader.named.items ≡ [] → reader.name ≡ None → reader.draft.jobs_wanted ≡ 0
     → IsReadUpTo reader []
 unfolding nothing_yet
 nothing_read reader named name fresh = record {
   begun = [];
-  place = nothing_yet (format_of reader.profile) (is_format reader.profile);
+  place = nothing_yet (grammar_of reader.format) (is_grammar reader.format);
   draft_holds = fresh;
   named_are = ap shops_of named;
   name_is = λ otherwise. rw name refl;
@@ -53,12 +54,12 @@ last_push : (otherwise name : List ℕ) (names : List (List ℕ)) → last_or ot
 last_push otherwise name [] = refl
 last_push otherwise name (next ∷ names) = last_push next name names
 
-header_none : (f : Format) (lines : List Numbered) (n : ℕ) (line : Line) → f.header line ≡ None
+header_none : (f : Grammar) (lines : List Numbered) (n : ℕ) (line : Line) → f.header line ≡ None
     → headers_of f (lines ++ (n, line) ∷ []) ≡ headers_of f lines
 header_none f lines n line e =
     filter_map-append (λ (l : Numbered). f.header l.1) lines ((n, line) ∷ []) ∙ rw e (append-nil (headers_of f lines))
 
-header_some : (f : Format) (lines : List Numbered) (n : ℕ) (line : Line) (name : List ℕ) → f.header line ≡ Some name
+header_some : (f : Grammar) (lines : List Numbered) (n : ℕ) (line : Line) (name : List ℕ) → f.header line ≡ Some name
     → headers_of f (lines ++ (n, line) ∷ []) ≡ headers_of f lines ++ name ∷ []
 header_some f lines n line name e =
     filter_map-append (λ (l : Numbered). f.header l.1) lines ((n, line) ∷ []) ∙ rw e refl
@@ -70,24 +71,24 @@ texts_more begun after n row =
     ∙ ap (λ (ls : List Numbered). texts_of begun ++ ls)
     (flat_map-cons (λ (e : Entry). e.before) (entry after n row) [] ∙ append-nil after)
 
-named_push : (f : Format) (n : ℕ) (parts : List Part) (part : Part)
+named_push : (f : Grammar) (n : ℕ) (parts : List Part) (part : Part)
     → named_from f n (parts ++ part ∷ [])
-    ≡ named_from f n parts ++ record { name = name_of f (n + length parts) part; shop = f.shop (rows_of part) } ∷ []
+    ≡ named_from f n parts ++ record { name = name_of f (n + length parts) part; shop = f.shop (entry_rows part) } ∷ []
 named_push f n [] part =
-    ap (λ (k : ℕ). record { name = name_of f k part; shop = f.shop (rows_of part) } ∷ named_from f (n + 1) [])
+    ap (λ (k : ℕ). record { name = name_of f k part; shop = f.shop (entry_rows part) } ∷ named_from f (n + 1) [])
     (omega arith)
 named_push f n (p ∷ parts) part =
-    ap (λ (ns : List NamedShop). record { name = name_of f n p; shop = f.shop (rows_of p) } ∷ ns)
+    ap (λ (ns : List NamedShop). record { name = name_of f n p; shop = f.shop (entry_rows p) } ∷ ns)
     (named_push f (n + 1) parts part
     ∙ ap (λ (k : ℕ). named_from f (n + 1)
-    parts ++ record { name = name_of f k part; shop = f.shop (rows_of part) } ∷ [])
+    parts ++ record { name = name_of f k part; shop = f.shop (entry_rows part) } ∷ [])
     (omega arith))
 
-named_len : (f : Format) (n : ℕ) (parts : List Part) → length (named_from f n parts) ≡ length parts
+named_len : (f : Grammar) (n : ℕ) (parts : List Part) → length (named_from f n parts) ≡ length parts
 named_len f n [] = refl
 named_len f n (p ∷ parts) = ap suc (named_len f (n + 1) parts)
 
-pub parts_len : (f : Format) (named : List Named) (parts : List Part) → shops_of named ≡ named_from f 1 parts
+pub parts_len : (f : Grammar) (named : List Named) (parts : List Part) → shops_of named ≡ named_from f 1 parts
     → length parts ≡ length named
 parts_len f named parts e = sym (named_len f 1 parts) ∙ sym (ap length e) ∙ length-map named shop_of_named
 
@@ -95,56 +96,56 @@ parts_len f named parts e = sym (named_len f 1 parts) ∙ sym (ap length e) ∙ 
 
 pub words_read : (reader : Reader) (name : Option (String Global)) (n : ℕ) (words : List (List ℕ))
     (front : List Numbered)
-    (r : IsReadUpTo reader front) → (format_of reader.profile).skips (rows_of r.begun) ≡ true
-    → IsLast name (headers_of (format_of reader.profile) ((texts_of r.begun ++ r.place.after) ++ (n, Words words) ∷ []))
+    (r : IsReadUpTo reader front) → (grammar_of reader.format).skips (entry_rows r.begun) ≡ true
+    → IsLast name (headers_of (grammar_of reader.format) ((texts_of r.begun ++ r.place.after) ++ (n, Words words) ∷ []))
     → IsReadUpTo (record reader { name = name }) (front ++ (n, Words words) ∷ [])
 unfolding words_on
 words_read reader name n words front r skips last = record {
   begun = r.begun;
-  place = words_on (format_of reader.profile) front r.begun r.place n words skips;
+  place = words_on (grammar_of reader.format) front r.begun r.place n words skips;
   draft_holds = r.draft_holds;
   named_are = r.named_are;
-  name_is = subst (λ ls. IsLast name (headers_of (format_of reader.profile) ls))
+  name_is = subst (λ ls. IsLast name (headers_of (grammar_of reader.format) ls))
       (append_assoc (texts_of r.begun) r.place.after ((n, Words words) ∷ [])) last;
 }
 
 -- that gives no name
 pub no_header : (reader : Reader) (n : ℕ) (words : List (List ℕ)) (front : List Numbered) (r : IsReadUpTo reader front)
-    → (format_of reader.profile).header (Words words) ≡ None
-    → IsLast reader.name (headers_of (format_of reader.profile)
+    → (grammar_of reader.format).header (Words words) ≡ None
+    → IsLast reader.name (headers_of (grammar_of reader.format)
     ((texts_of r.begun ++ r.place.after) ++ (n, Words words) ∷ []))
 no_header reader n words front r e = λ otherwise.
-    ap (last_or otherwise) (header_none (format_of reader.profile) (texts_of r.begun ++ r.place.after) n (Words words)
+    ap (last_or otherwise) (header_none (grammar_of reader.format) (texts_of r.begun ++ r.place.after) n (Words words)
     e)
     ∙ r.name_is otherwise
 
 -- that gives one
 pub one_header : (reader : Reader) (n : ℕ) (words : List (List ℕ)) (front : List Numbered) (r : IsReadUpTo reader front)
-    (bytes : List ℕ) (name : String Global) → (format_of reader.profile).header (Words words) ≡ Some bytes
+    (bytes : List ℕ) (name : String Global) → (grammar_of reader.format).header (Words words) ≡ Some bytes
     → string_bytes name ≡ bytes
-    → IsLast (Some name) (headers_of (format_of reader.profile)
+    → IsLast (Some name) (headers_of (grammar_of reader.format)
     ((texts_of r.begun ++ r.place.after) ++ (n, Words words) ∷ []))
 one_header reader n words front r bytes name e is = λ otherwise.
     ap (last_or otherwise)
-    (header_some (format_of reader.profile) (texts_of r.begun ++ r.place.after) n (Words words) bytes e)
-    ∙ last_push otherwise bytes (headers_of (format_of reader.profile) (texts_of r.begun ++ r.place.after)) ∙ sym is
+    (header_some (grammar_of reader.format) (texts_of r.begun ++ r.place.after) n (Words words) bytes e)
+    ∙ last_push otherwise bytes (headers_of (grammar_of reader.format) (texts_of r.begun ++ r.place.after)) ∙ sym is
 
 -- ---- a number line
 
 -- one more
 pub row_read : (reader : Reader) (draft : Draft) (n : ℕ) (row : Row) (front : List Numbered)
     (r : IsReadUpTo reader front)
-    → IsOneMore reader.profile (rows_of r.begun) row draft
+    → IsOneMore reader.format (entry_rows r.begun) row draft
     → IsReadUpTo (record reader { draft = draft }) (front ++ (n, Numbers row) ∷ [])
 unfolding row_on
 row_read reader draft n row front r more =
-    let f : Format = format_of reader.profile
+    let f : Grammar = grammar_of reader.format
     in let begun : List Entry = with_row r.begun r.place.after n row
-    in let rows : rows_of begun ≡ rows_of r.begun ++ row ∷ [] = rows_more r.begun r.place.after n row
+    in let rows : entry_rows begun ≡ entry_rows r.begun ++ row ∷ [] = rows_more r.begun r.place.after n row
     in record {
       begun = begun;
       place = row_on f front r.begun r.place n row more.accepted (ap f.is_whole rows ∙ more.room);
-      draft_holds = subst (λ rs. IsDraft reader.profile draft rs) (sym rows) more.draft_holds;
+      draft_holds = subst (λ rs. IsDraft reader.format draft rs) (sym rows) more.draft_holds;
       named_are = r.named_are;
       name_is = subst (λ ls. IsLast reader.name (headers_of f ls))
           (sym (texts_more r.begun r.place.after n row) ∙ sym (append-nil (texts_of begun))) r.name_is;
@@ -153,15 +154,15 @@ row_read reader draft n row front r more =
 -- the last one of a part
 pub part_read : (reader later : Reader) (instance : Shop) (name : String Global) (n : ℕ) (row : Row)
     (front : List Numbered) (r : IsReadUpTo reader front)
-    → IsLastOne reader.profile (rows_of r.begun) row later.draft instance
+    → IsLastOne reader.format (entry_rows r.begun) row later.draft instance
     → string_bytes name ≡ name_or (decimal (length reader.named.items + 1)) reader.name
     → later.named.items ≡ reader.named.items ++ record { name = name; instance = instance } ∷ [] → later.name ≡ None
-    → IsReadUpTo (record later { profile = reader.profile }) (front ++ (n, Numbers row) ∷ [])
+    → IsReadUpTo (record later { format = reader.format }) (front ++ (n, Numbers row) ∷ [])
 unfolding part_on
 part_read reader later instance name n row front r last named pushed none =
-    let f : Format = format_of reader.profile
+    let f : Grammar = grammar_of reader.format
     in let part : Part = with_row r.begun r.place.after n row
-    in let rows : rows_of part ≡ rows_of r.begun ++ row ∷ [] = rows_more r.begun r.place.after n row
+    in let rows : entry_rows part ≡ entry_rows r.begun ++ row ∷ [] = rows_more r.begun r.place.after n row
     in let count : 1 + length r.place.parts ≡ length reader.named.items + 1 =
     omega (arith, parts_len f reader.named.items r.place.parts r.named_are)
     in let name_is : name_of f (1 + length r.place.parts) part ≡ string_bytes name =
@@ -169,12 +170,12 @@ part_read reader later instance name n row front r last named pushed none =
     (texts_more r.begun r.place.after n row)
     ∙ r.name_is (decimal (1 + length r.place.parts))
     ∙ ap (λ (k : ℕ). name_or (decimal k) reader.name) count ∙ sym named
-    in let shop_is : f.shop (rows_of part) ≡ instance = ap f.shop rows ∙ sym last.shop_is
-    in let this : NamedShop = record { name = name_of f (1 + length r.place.parts) part; shop = f.shop (rows_of part) }
+    in let shop_is : f.shop (entry_rows part) ≡ instance = ap f.shop rows ∙ sym last.shop_is
+    in let this : NamedShop = record { name = name_of f (1 + length r.place.parts) part; shop = f.shop (entry_rows part) }
     in let named_is : this ≡ record { name = string_bytes name; shop = instance } = rw (name_is, shop_is) refl
     in record {
       begun = [];
-      place = part_on f (is_format reader.profile) front r.begun r.place n row last.accepted
+      place = part_on f (is_grammar reader.format) front r.begun r.place n row last.accepted
           (ap f.is_whole rows ∙ last.whole);
       draft_holds = last.draft_holds;
       named_are = ap shops_of pushed
@@ -207,39 +208,39 @@ fails_by NoSuchName n o h = inr (failed NoSuchName n o h)
 fails_by (BadTable k) n o h = inr (failed (BadTable k) n o h)
 
 pub row_refused : (reader : Reader) (n : ℕ) (row : Row) (front : List Numbered) (r : IsReadUpTo reader front)
-    (e : ReadFault) → Fails e n ((format_of reader.profile).refuses (rows_of r.begun) row)
+    (e : ReadFault) → Fails e n ((grammar_of reader.format).refuses (entry_rows r.begun) row)
     → (e ≡ NoMemory)
-    ⊎ ((later : List Numbered) → IsRefused (format_of reader.profile) (front ++ (n, Numbers row) ∷ later) e)
+    ⊎ ((later : List Numbered) → IsRefused (grammar_of reader.format) (front ++ (n, Numbers row) ∷ later) e)
 row_refused reader n row front r e h =
-    told (fails_by e n ((format_of reader.profile).refuses (rows_of r.begun) row) h)
+    told (fails_by e n ((grammar_of reader.format).refuses (entry_rows r.begun) row) h)
   where
     told : (e ≡ NoMemory) ⊎ ((name : LineFault)
-        × ((format_of reader.profile).refuses (rows_of r.begun) row ≡ Some name) × (e ≡ fault_at n name))
+        × ((grammar_of reader.format).refuses (entry_rows r.begun) row ≡ Some name) × (e ≡ fault_at n name))
         → (e ≡ NoMemory)
-        ⊎ ((later : List Numbered) → IsRefused (format_of reader.profile) (front ++ (n, Numbers row) ∷ later) e)
+        ⊎ ((later : List Numbered) → IsRefused (grammar_of reader.format) (front ++ (n, Numbers row) ∷ later) e)
     told (inl none) = inl none
     told (inr (name, refused, is)) = inr (λ later.
-        subst (λ x. IsRefused (format_of reader.profile) (front ++ (n, Numbers row) ∷ later) x) (sym is)
-        (refused_here (format_of reader.profile) (front ++ (n, Numbers row) ∷ later) front later r.begun r.place n
+        subst (λ x. IsRefused (grammar_of reader.format) (front ++ (n, Numbers row) ∷ later) x) (sym is)
+        (refused_here (grammar_of reader.format) (front ++ (n, Numbers row) ∷ later) front later r.begun r.place n
         (Numbers row) refl name refused))
 
 -- ---- the end
 
 fresh_begun : (reader : Reader) (lines : List Numbered) (begun : List Entry)
-    → IsDraft reader.profile reader.draft (rows_of begun)
+    → IsDraft reader.format reader.draft (entry_rows begun)
     → reader.draft.jobs_wanted ≡ 0 → begun ≡ []
 fresh_begun reader lines [] d fresh = refl
 fresh_begun reader lines (e ∷ begun) d fresh = absurd (let s = d.some_job in omega arith)
 
-cut_outside : (f : Format) (lines : List Numbered) (begun : List Entry) (s : IsBegun f lines begun) → begun ≡ []
+cut_outside : (f : Grammar) (lines : List Numbered) (begun : List Entry) (s : IsBegun f lines begun) → begun ≡ []
     → lines ≡ lines_of_parts s.parts ++ s.after
 cut_outside f lines [] s e = s.cut ∙ ap (λ (ls : List Numbered). ls ++ s.after) (append-nil (lines_of_parts s.parts))
 cut_outside f lines (x ∷ begun) s e = absurd cc
 
 pub all_read : (reader : Reader) (lines : List Numbered) → IsReadUpTo reader lines → reader.draft.jobs_wanted ≡ 0
-    → 0 < length reader.named.items → AreRead (format_of reader.profile) lines reader.named
+    → 0 < length reader.named.items → AreRead (grammar_of reader.format) lines reader.named
 all_read reader lines r fresh some =
-    let f : Format = format_of reader.profile
+    let f : Grammar = grammar_of reader.format
     in let len = parts_len f reader.named.items r.place.parts r.named_are
     in record {
       parts = r.place.parts;
@@ -254,7 +255,7 @@ all_read reader lines r fresh some =
       some = some;
     }
 
-no_parts : (f : Format) (lines : List Numbered) (parts : List Part) (after : List Numbered)
+no_parts : (f : Grammar) (lines : List Numbered) (parts : List Part) (after : List Numbered)
     → lines ≡ lines_of_parts parts ++ after → length parts ≡ 0 → AreText after → AreText lines
 no_parts f lines [] after cut none text = subst AreText (sym cut) text
 no_parts f lines (p ∷ parts) after cut none text = absurd (omega arith)
@@ -262,7 +263,7 @@ no_parts f lines (p ∷ parts) after cut none text = absurd (omega arith)
 pub none_read : (reader : Reader) (lines : List Numbered) → IsReadUpTo reader lines → reader.draft.jobs_wanted ≡ 0
     → length reader.named.items ≡ 0 → IsWithoutInstance lines NoInstance
 none_read reader lines r fresh none =
-    let f : Format = format_of reader.profile
+    let f : Grammar = grammar_of reader.format
     in let len = parts_len f reader.named.items r.place.parts r.named_are
     in record {
       text = no_parts f lines r.place.parts r.place.after

@@ -17,7 +17,7 @@ use Rattle.shop_text.specs.Lines.{is_line_feed, tokens_of}
 use Rattle.shop_text.specs.Formats.{is_visible}
 use Rattle.shop_text.specs.Schedules.{Tokens, is_counted, counted_lines}
 use Rattle.shop_text.specs.Schedules.{IsTable}
-use Rattle.shop_text.specs.Writing.{Reported, line_of_tokens, text_of, number_line, status_of, answer_lines, job_line}
+use Rattle.shop_text.specs.Writing.{Reported, printed_line, text_of, number_line, status_word, answer_lines, job_line}
 use Rattle.shop_text.specs.Writing.{job_lines, report_lines, unit_of, columns_of, character_of, serves}
 use Rattle.shop_text.specs.Writing.{shown_at, columns, cells_line, machine_line, gantt_lines}
 use Rattle.shop_text.specs.RoundTrip.{ReportsAreSchedules}
@@ -42,7 +42,7 @@ visible_free (b ∷ name) e = at (eqb b 10) refl (leb 33 b) (leb b 126) refl e (
     at true is true z low all later = absurd (omega (arith, eqb-true b 10 is, leb-true 33 b low))
     at true is false z low all later = absurd cc
 
-status_free : (n : ℕ) → IsFree is_line_feed (status_of n)
+status_free : (n : ℕ) → IsFree is_line_feed (status_word n)
 status_free zero = refl
 status_free (suc n) = refl
 
@@ -67,7 +67,7 @@ answer_is_lines r visible = (
       (
         number_free (codes "bound") r.bound refl,
         (
-          joined_free is_line_feed refl (codes "status" ∷ status_of r.open_nodes ∷ [])
+          joined_free is_line_feed refl (codes "status" ∷ status_word r.open_nodes ∷ [])
               (refl, (status_free r.open_nodes, tt)),
           (
             number_free (codes "open") r.open_nodes refl,
@@ -92,7 +92,7 @@ answer_is_other r = (
       (
         other_line (codes "bound") (decimal r.bound) [] refl refl refl,
         (
-          other_line (codes "status") (status_of r.open_nodes) [] refl refl refl,
+          other_line (codes "status") (status_word r.open_nodes) [] refl refl refl,
           (
             other_line (codes "open") (decimal r.open_nodes) [] refl refl refl,
             (
@@ -173,7 +173,7 @@ as_many_lines [] = omega arith
 as_many_lines (line ∷ lines) =
     omega (
       arith,
-      length-append (line_of_tokens line) (text_of lines),
+      length-append (printed_line line) (text_of lines),
       length-append (join_with_byte 32 line) (10 ∷ []),
       as_many_lines lines,
     )
@@ -220,7 +220,7 @@ reports_are_schedules = record {
       (sym (append-nil (report_lines r))) short));
   with_gantt = λ r visible shape small short.
       (let starts = starts_of r.table
-      in let joined = flat_map-append line_of_tokens (report_lines r) (gantt_lines r.shop starts)
+      in let joined = flat_map-append printed_line (report_lines r) (gantt_lines r.shop starts)
       in subst (λ (text : List ℕ). IsTable r.shop text r.table) joined
       (read_back r (gantt_lines r.shop starts) visible shape small (
         number_free (codes "unit") (unit_of (end_of r.shop starts)) refl,

@@ -9,8 +9,8 @@ use Rattle.shop_model.specs.Shop.{ShopJob}
 use Rattle.shop_text.specs.Lines.{Numbered}
 use Rattle.shop_text.specs.Grammar.{Row, LineFault, WrongShape, WrongSize, WrongRow, WrongMachine, WrongTime, Entry}
 use Rattle.shop_text.specs.Grammar.{Part}
-use Rattle.shop_text.specs.Grammar.{rows_of, AreText, AreSkipped, AreAccepted, IsPart}
-use Rattle.shop_text.specs.Formats.{orlib_fault, orlib_job, routes_fault, routes_job, format_of_rows}
+use Rattle.shop_text.specs.Grammar.{entry_rows, AreText, AreSkipped, AreAccepted, IsPart}
+use Rattle.shop_text.specs.Formats.{orlib_fault, orlib_job, routes_fault, routes_job, grammar_of_rows}
 use Rattle.shop_text.specs.Formats.{pairs_fault, size_fault, is_between, jobs_in, machines_in}
 use Rattle.shop_text.specs.Shapes.{IsSize, ArePairs, IsOrlibRow, IsRoutesRow, IsRowLine, IsPartOfRows}
 use Rattle.shop_text.specs.Shapes.{OrlibShape, RoutesShape}
@@ -122,13 +122,13 @@ routes_row_to machines row h =
 
 -- text lines aren't skipped behind a size line
 no_text : (fault : ℕ → Row → Option LineFault) (job : Row → ShopJob) (size : Row) (done : List Row)
-    (lines : List Numbered) → AreSkipped (format_of_rows fault job) (size ∷ done) lines → lines ≡ []
+    (lines : List Numbered) → AreSkipped (grammar_of_rows fault job) (size ∷ done) lines → lines ≡ []
 no_text fault job size done lines (are, inl none) = none
 no_text fault job size done lines (are, inr skips) = absurd (true≢false (sym skips))
 
 rows_from : (fault : ℕ → Row → Option LineFault) (job : Row → ShopJob) (IsRow : ℕ → Row → Type 0)
     → ((machines : ℕ) (row : Row) → fault machines row ≡ None → IsRow machines row)
-    → (size : Row) (done : List Row) (rows : List Entry) → AreAccepted (format_of_rows fault job) (size ∷ done) rows
+    → (size : Row) (done : List Row) (rows : List Entry) → AreAccepted (grammar_of_rows fault job) (size ∷ done) rows
     → AllByRecursion (IsRowLine (IsRow (machines_in size))) rows
 rows_from fault job IsRow from size done [] a = tt
 rows_from fault job IsRow from size done (e ∷ rows) a = (
@@ -143,7 +143,7 @@ rows_to : (fault : ℕ → Row → Option LineFault) (job : Row → ShopJob) (Is
     → ((machines : ℕ) (row : Row) → IsRow machines row → fault machines row ≡ None)
     → (size : Row) (done : List Row) (rows : List Entry) → length done + length rows ≡ jobs_in size
     → AllByRecursion (IsRowLine (IsRow (machines_in size))) rows
-    → AreAccepted (format_of_rows fault job) (size ∷ done) rows
+    → AreAccepted (grammar_of_rows fault job) (size ∷ done) rows
 rows_to fault job IsRow to size done [] len h = tt
 rows_to fault job IsRow to size done (e ∷ rows) len h = (
   record {
@@ -158,7 +158,7 @@ rows_to fault job IsRow to size done (e ∷ rows) len h = (
 
 plain_from : (fault : ℕ → Row → Option LineFault) (job : Row → ShopJob) (IsRow : ℕ → Row → Type 0)
     → ((machines : ℕ) (row : Row) → fault machines row ≡ None → IsRow machines row)
-    → (part : Part) → IsPart (format_of_rows fault job) part → IsPartOfRows IsRow part
+    → (part : Part) → IsPart (grammar_of_rows fault job) part → IsPartOfRows IsRow part
 plain_from fault job IsRow from [] h = absurd (true≢false (sym h.1))
 plain_from fault job IsRow from (first ∷ rows) h =
     let counted = no_fault_in (eqb (length first.row) 2) WrongShape (size_fault first.row) h.0.0.row
@@ -169,14 +169,14 @@ plain_from fault job IsRow from (first ∷ rows) h =
       text = h.0.0.text.0;
       two = eqb-true (length first.row) 2 counted.0;
       size = size_from first.row counted.1;
-      count = sym (length-map rows (λ e. e.row)) ∙ eqb-true (length (rows_of rows)) (jobs_in first.row) h.1;
+      count = sym (length-map rows (λ e. e.row)) ∙ eqb-true (length (entry_rows rows)) (jobs_in first.row) h.1;
       each = rows_from fault job IsRow from first.row [] rows h.0.1;
     }
 
 plain_to : (fault : ℕ → Row → Option LineFault) (job : Row → ShopJob) (IsRow : ℕ → Row → Type 0)
     → ((machines : ℕ) (row : Row) → IsRow machines row → fault machines row ≡ None)
-    → (part : Part) → IsPartOfRows IsRow part → IsPart (format_of_rows fault job) part
-plain_to fault job IsRow to part p = subst (IsPart (format_of_rows fault job)) (sym p.cut) (
+    → (part : Part) → IsPartOfRows IsRow part → IsPart (grammar_of_rows fault job) part
+plain_to fault job IsRow to part p = subst (IsPart (grammar_of_rows fault job)) (sym p.cut) (
   (
     record {
       room = refl;
@@ -185,7 +185,7 @@ plain_to fault job IsRow to part p = subst (IsPart (format_of_rows fault job)) (
     },
     rows_to fault job IsRow to p.first.row [] p.rows (omega (arith, p.count)) p.each,
   ),
-  eq-eqb (length (rows_of p.rows)) (jobs_in p.first.row) (length-map p.rows (λ e. e.row) ∙ p.count),
+  eq-eqb (length (entry_rows p.rows)) (jobs_in p.first.row) (length-map p.rows (λ e. e.row) ∙ p.count),
 )
 
 pub orlib_shape : OrlibShape

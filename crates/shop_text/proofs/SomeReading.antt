@@ -7,21 +7,21 @@ use Rattle.std.specs.List.{AllByRecursion, list_any, enumerate_from}
 use Rattle.std.proofs.lemmas.Bool.{cases_lt}
 use Rattle.std.proofs.lemmas.List.{append-nil}
 use Rattle.shop_text.specs.Lines.{Line, Blank, Numbers, Words, Numbered, is_left, line_of, lines_of, numbered_lines}
-use Rattle.shop_text.specs.Grammar.{Row, Format, LineFault, WrongRow, fault_at, Entry, Part, rows_of, lines_of_parts}
+use Rattle.shop_text.specs.Grammar.{Row, Grammar, LineFault, WrongRow, fault_at, Entry, Part, entry_rows, lines_of_parts}
 use Rattle.shop_text.specs.Grammar.{AreText, IsPart, IsGood, IsBegun, refusal, IsRefused, IsFault}
 use Rattle.shop_text.specs.declared.faults.ReadFault.{ReadFault}
 use Rattle.shop_text.specs.declared.faults.ReadFault.TheVariants.{NoInstance, Truncated, TooLong}
 use Rattle.shop_text.specs.Texts.{is_header, from_first_header, lines_left, named_from}
 use Rattle.shop_text.specs.Texts.{HasReading, SomeReading}
-use Rattle.shop_text.proofs.OneReading.{IsFormat, with_row}
+use Rattle.shop_text.proofs.OneReading.{IsGrammar, with_row}
 use Rattle.shop_text.proofs.Places.{words_on, row_on, part_on}
 
-abbrev pub Outcome : Format → ℕ → List Numbered → Type 0
+abbrev pub Outcome : Grammar → ℕ → List Numbered → Type 0
 Outcome f last lines =
     ((parts : List Part) × IsGood f lines parts) ⊎ ((fault : ReadFault) × IsFault f last lines fault)
 
 -- outside a part
-outside : (f : Format) (last : ℕ) (lines after : List Numbered) (parts : List Part)
+outside : (f : Grammar) (last : ℕ) (lines after : List Numbered) (parts : List Part)
     → lines
     ≡ lines_of_parts parts ++ [] ++ after → AllByRecursion (IsPart f) parts → AreText after → Outcome f last lines
 outside f last lines after [] cut good text =
@@ -38,15 +38,15 @@ outside f last lines after (p ∷ parts) cut good text =
       },
     )
 
-pub ends : (f : Format) (last : ℕ) (lines : List Numbered) (begun : List Entry) → IsBegun f lines begun
+pub ends : (f : Grammar) (last : ℕ) (lines : List Numbered) (begun : List Entry) → IsBegun f lines begun
     → Outcome f last lines
 ends f last lines (e ∷ begun) s =
     inr (Truncated (last + 1), inr (inl (record { begun = e ∷ begun; place = s; inside = omega arith; told = refl })))
 ends f last lines [] s = outside f last lines s.after s.parts s.cut s.parts_good s.after_skipped.0
 
-pub refused_here : (f : Format) (all front lines : List Numbered) (begun : List Entry) → IsBegun f front begun
+pub refused_here : (f : Grammar) (all front lines : List Numbered) (begun : List Entry) → IsBegun f front begun
     → (n : ℕ) (line : Line) → all ≡ front ++ (n, line) ∷ lines → (name : LineFault)
-    → refusal f (rows_of begun) line ≡ Some name → IsRefused f all (fault_at n name)
+    → refusal f (entry_rows begun) line ≡ Some name → IsRefused f all (fault_at n name)
 refused_here f all front lines begun s n line cut name e = record {
   before = front;
   line = (n, line);
@@ -60,27 +60,27 @@ refused_here f all front lines begun s n line cut name e = record {
 }
 
 -- from each place on the way, the rest of the lines has an outcome
-abbrev Found : Format → ℕ → List Numbered → List Numbered → Type 0
+abbrev Found : Grammar → ℕ → List Numbered → List Numbered → Type 0
 Found f last all lines =
     (front : List Numbered) (begun : List Entry) → IsBegun f front begun → all ≡ front ++ lines → Outcome f last all
 
-at_words : (f : Format) (last : ℕ) (all lines front : List Numbered) (begun : List Entry) → IsBegun f front begun
+at_words : (f : Grammar) (last : ℕ) (all lines front : List Numbered) (begun : List Entry) → IsBegun f front begun
     → (n : ℕ) (words : List (List ℕ)) → all ≡ front ++ (n, Words words) ∷ lines → Found f last all lines
-    → (b : Bool) → f.skips (rows_of begun) ≡ b → Outcome f last all
+    → (b : Bool) → f.skips (entry_rows begun) ≡ b → Outcome f last all
 at_words f last all lines front begun s n words cut go true e =
     go (front ++ (n, Words words) ∷ []) begun (words_on f front begun s n words e)
     (cut ∙ sym (append_assoc front ((n, Words words) ∷ []) lines))
 at_words f last all lines front begun s n words cut go false e =
-    let refused : refusal f (rows_of begun) (Words words) ≡ Some WrongRow = rw e refl
+    let refused : refusal f (entry_rows begun) (Words words) ≡ Some WrongRow = rw e refl
     in inr (
       fault_at n WrongRow,
       inr
           (inr (refused_here f all front lines begun s n (Words words) cut WrongRow refused)),
     )
 
-at_row : (f : Format) → IsFormat f → (last : ℕ) (all lines front : List Numbered) (begun : List Entry)
+at_row : (f : Grammar) → IsGrammar f → (last : ℕ) (all lines front : List Numbered) (begun : List Entry)
     (s : IsBegun f front begun) (n : ℕ) (row : Row) → all ≡ front ++ (n, Numbers row) ∷ lines → Found f last all lines
-    → f.refuses (rows_of begun) row ≡ None → (b : Bool) → f.is_whole (rows_of (with_row begun s.after n row)) ≡ b
+    → f.refuses (entry_rows begun) row ≡ None → (b : Bool) → f.is_whole (entry_rows (with_row begun s.after n row)) ≡ b
     → Outcome f last all
 at_row f is last all lines front begun s n row cut go free true e =
     go (front ++ (n, Numbers row) ∷ []) [] (part_on f is front begun s n row free e)
@@ -89,31 +89,31 @@ at_row f is last all lines front begun s n row cut go free false e =
     go (front ++ (n, Numbers row) ∷ []) (with_row begun s.after n row) (row_on f front begun s n row free e)
     (cut ∙ sym (append_assoc front ((n, Numbers row) ∷ []) lines))
 
-at_numbers : (f : Format) → IsFormat f → (last : ℕ) (all lines front : List Numbered) (begun : List Entry)
+at_numbers : (f : Grammar) → IsGrammar f → (last : ℕ) (all lines front : List Numbered) (begun : List Entry)
     (s : IsBegun f front begun) (n : ℕ) (row : Row) → all ≡ front ++ (n, Numbers row) ∷ lines → Found f last all lines
-    → (o : Option LineFault) → f.refuses (rows_of begun) row ≡ o → Outcome f last all
+    → (o : Option LineFault) → f.refuses (entry_rows begun) row ≡ o → Outcome f last all
 at_numbers f is last all lines front begun s n row cut go None e =
-    at_row f is last all lines front begun s n row cut go e (f.is_whole (rows_of (with_row begun s.after n row))) refl
+    at_row f is last all lines front begun s n row cut go e (f.is_whole (entry_rows (with_row begun s.after n row))) refl
 at_numbers f is last all lines front begun s n row cut go (Some name) e =
     inr (fault_at n name, inr (inr (refused_here f all front lines begun s n (Numbers row) cut name e)))
 
 abbrev pub AreLeft : List Numbered → Type 0
 AreLeft lines = AllByRecursion (λ l. IsTrue (is_left l)) lines
 
-pub found : (f : Format) → IsFormat f → (last : ℕ) (all lines : List Numbered) → AreLeft lines → Found f last all lines
+pub found : (f : Grammar) → IsGrammar f → (last : ℕ) (all lines : List Numbered) → AreLeft lines → Found f last all lines
 found f is last all [] left =
     λ front begun s cut. subst (Outcome f last) (sym (cut ∙ append-nil front)) (ends f last front begun s)
 found f is last all ((n, Blank) ∷ lines) left = absurd (let e = left.0 in cc)
 found f is last all ((n, Words words) ∷ lines) left =
     λ front begun s cut.
-    at_words f last all lines front begun s n words cut (found f is last all lines left.1) (f.skips (rows_of begun))
+    at_words f last all lines front begun s n words cut (found f is last all lines left.1) (f.skips (entry_rows begun))
     refl
 found f is last all ((n, Numbers row) ∷ lines) left =
     λ front begun s cut.
     at_numbers f is last all lines front begun s n row cut (found f is last all lines left.1)
-    (f.refuses (rows_of begun) row) refl
+    (f.refuses (entry_rows begun) row) refl
 
-unfoldable pub nothing_yet : (f : Format) → IsFormat f → IsBegun f [] []
+unfoldable pub nothing_yet : (f : Grammar) → IsGrammar f → IsBegun f [] []
 nothing_yet f is = record {
   parts = [];
   after = [];
@@ -125,7 +125,7 @@ nothing_yet f is = record {
 }
 
 -- lines that aren't blank are good, or have a fault
-pub some_reading : (f : Format) → IsFormat f → (last : ℕ) (lines : List Numbered) → AreLeft lines → Outcome f last lines
+pub some_reading : (f : Grammar) → IsGrammar f → (last : ℕ) (lines : List Numbered) → AreLeft lines → Outcome f last lines
 some_reading f is last lines left = found f is last lines lines left [] [] (nothing_yet f is) refl
 
 -- ---- whole texts
@@ -140,18 +140,18 @@ left_chosen : (b : Bool) (xs ys : List Numbered) → AreLeft xs → AreLeft ys �
 left_chosen true xs ys h g = h
 left_chosen false xs ys h g = g
 
-left_after : (f : Format) (lines : List Numbered) → AreLeft lines → AreLeft (from_first_header f lines)
+left_after : (f : Grammar) (lines : List Numbered) → AreLeft lines → AreLeft (from_first_header f lines)
 left_after f [] h = tt
 left_after f (l ∷ lines) h =
     left_chosen (is_header f l) (l ∷ lines) (from_first_header f lines) h (left_after f lines h.1)
 
-pub all_left : (f : Format) (text : List ℕ) → AreLeft (lines_left f text)
+pub all_left : (f : Grammar) (text : List ℕ) → AreLeft (lines_left f text)
 all_left f text =
     let lines : List Numbered = numbered_lines text
     in let h : AreLeft lines = left_all (enumerate_from 1 (map line_of (lines_of text)))
     in left_chosen (list_any (is_header f) lines) (from_first_header f lines) lines (left_after f lines h) h
 
-pub some_text : (f : Format) → IsFormat f → SomeReading f
+pub some_text : (f : Grammar) → IsGrammar f → SomeReading f
 some_text f is text = elim (cases_lt 16777216 (length text)) [
   | inl long ↦ inr (TooLong, inl (record { long = long; told = refl }))
   | inr short ↦

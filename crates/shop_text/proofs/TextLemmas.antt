@@ -8,7 +8,7 @@ use Rattle.std.specs.Fmt.{decimal}
 use Rattle.std.proofs.lemmas.List.{append_assoc, append-nil, map-append, take_more, length-take-le}
 use Rattle.std.proofs.lemmas.List.Concat.{flat_map-append}
 use Rattle.shop_text.specs.Schedules.{Tokens}
-use Rattle.shop_text.specs.Writing.{line_of_tokens, text_of, job_line, job_lines}
+use Rattle.shop_text.specs.Writing.{printed_line, text_of, job_line, job_lines}
 use Rattle.shop_text.proofs.JobLineLemmas.{enumerate_push}
 
 -- a space before each token
@@ -28,23 +28,23 @@ flat_map-map f (x ∷ xs) = ap (λ (rest : List ℕ). 32 ∷ f x ++ rest) (flat_
 -- the line of a job, as it is written: its beginning, the starts, the end
 pub job_line_is : (j : ℕ) (starts : List ℕ)
     → ((codes "job " ++ (decimal j ++ codes ":")) ++ flat_map (λ start. 32 ∷ decimal start) starts) ++ 10 ∷ []
-    ≡ line_of_tokens (job_line j starts)
+    ≡ printed_line (job_line j starts)
 job_line_is j starts =
     ap (λ (text : List ℕ). text ++ 10 ∷ []) (sym (ap (λ (rest : List ℕ). codes "job " ++ rest)
     (joined_is (decimal j ++ codes ":") (map decimal starts)
     ∙ ap (λ (rest : List ℕ). (decimal j ++ codes ":") ++ rest) (flat_map-map decimal starts))))
 
 pub text_push : (lines : List Tokens) (line : Tokens)
-    → text_of (lines ++ line ∷ []) ≡ text_of lines ++ line_of_tokens line
-text_push lines line = flat_map-append line_of_tokens lines (line ∷ [])
-    ∙ ap (λ (rest : List ℕ). text_of lines ++ rest) (append-nil (line_of_tokens line))
+    → text_of (lines ++ line ∷ []) ≡ text_of lines ++ printed_line line
+text_push lines line = flat_map-append printed_line lines (line ∷ [])
+    ∙ ap (λ (rest : List ℕ). text_of lines ++ rest) (append-nil (printed_line line))
 
 -- one more line behind what is written
 pub text_more : (old new start : List ℕ) (lines : List Tokens) (line : Tokens) → old ≡ start ++ text_of lines
-    → new ≡ old ++ line_of_tokens line → new ≡ start ++ text_of (lines ++ line ∷ [])
+    → new ≡ old ++ printed_line line → new ≡ start ++ text_of (lines ++ line ∷ [])
 text_more old new start lines line e f =
-    f ∙ ap (λ (text : List ℕ). text ++ line_of_tokens line) e
-    ∙ append_assoc start (text_of lines) (line_of_tokens line)
+    f ∙ ap (λ (text : List ℕ). text ++ printed_line line) e
+    ∙ append_assoc start (text_of lines) (printed_line line)
     ∙ ap (λ (text : List ℕ). start ++ text) (sym (text_push lines line))
 
 pub job_lines_more : (rows : List (List ℕ)) (j : ℕ) → j < length rows
@@ -63,7 +63,7 @@ eight_more s t a b c d e f g h is = is ∙ simp (append_assoc, append-nil)
 
 -- one more line behind a first one
 pub line_more : (old new : List ℕ) (first : Tokens) (line : ℕ → Tokens) (n : ℕ)
-    → old ≡ text_of (first ∷ map line (range_with_len 0 n)) → new ≡ old ++ line_of_tokens (line n)
+    → old ≡ text_of (first ∷ map line (range_with_len 0 n)) → new ≡ old ++ printed_line (line n)
     → new ≡ text_of (first ∷ map line (range_with_len 0 (n + 1)))
 line_more old new first line n e f =
     text_more old new [] (first ∷ map line (range_with_len 0 n)) (line n) e f
@@ -90,18 +90,18 @@ early_tokens j k before = codes "infeasible:" ∷ codes "job" ∷ j ∷ codes "s
 pub early_is : (j k before : List ℕ)
     → codes "infeasible: job " ++ (j ++ (codes " step " ++ (k
     ++ (codes " begins before step " ++ (before ++ codes " ends\n")))))
-    ≡ line_of_tokens (early_tokens j k before)
+    ≡ printed_line (early_tokens j k before)
 early_is j k before = simp append_assoc
 
 pub overlap_is : (m j k i l : List ℕ)
     → codes "infeasible: machine " ++ (m ++ (codes " overlap of job "
     ++ (j ++ (codes " step " ++ (k ++ (codes " and job " ++ (i ++ (codes " step " ++ (l ++ codes "\n")))))))))
-    ≡ line_of_tokens (codes "infeasible:" ∷ codes "machine" ∷ m ∷ codes "overlap" ∷ codes "of" ∷ codes "job" ∷ j
+    ≡ printed_line (codes "infeasible:" ∷ codes "machine" ∷ m ∷ codes "overlap" ∷ codes "of" ∷ codes "job" ∷ j
     ∷ codes "step" ∷ k ∷ codes "and" ∷ codes "job" ∷ i ∷ codes "step" ∷ l ∷ [])
 overlap_is m j k i l = simp append_assoc
 
 pub unreleased_is : (j : List ℕ)
     → codes "infeasible: job " ++ (j ++ codes " step 0 begins before its release\n")
-    ≡ line_of_tokens (codes "infeasible:" ∷ codes "job" ∷ j ∷ codes "step" ∷ codes "0" ∷ codes "begins"
+    ≡ printed_line (codes "infeasible:" ∷ codes "job" ∷ j ∷ codes "step" ∷ codes "0" ∷ codes "begins"
     ∷ codes "before" ∷ codes "its" ∷ codes "release" ∷ [])
 unreleased_is j = simp append_assoc

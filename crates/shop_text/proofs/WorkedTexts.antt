@@ -10,7 +10,7 @@ use Rattle.shop_text.specs.Texts.{NamedShop, IsText, IsTextFault}
 use Rattle.shop_text.specs.declared.faults.ReadFault.{ReadFault}
 use Rattle.shop_text.specs.declared.faults.ReadFault.TheVariants.{NoInstance, BadShape, BadSize, BadRow, Truncated}
 use Rattle.shop_text.specs.declared.faults.ReadFault.TheVariants.{BadMachine, BadTime}
-use Rattle.shop_text.specs.declared.profiles.Profile.TheVariants.{Orlib, Taillard, Routes}
+use Rattle.shop_text.specs.declared.formats.Format.TheVariants.{Orlib, Taillard, Routes}
 use Rattle.shop_text.proofs.Computing.{fault_in, has_fault, is_read_as}
 
 -- a text of these lines

@@ -1,6 +1,6 @@
 -- The three formats: `orlib` (OR-Library, jobshop1), `routes` (the same with releases and routes of any length), and
 -- `taillard` (two matrices, of times and of machines counted from 1; the bounds in its size line are read past).
-use Rattle.std.specs.Prelude.{ℕ, ◌-◌, ◌*◌, ◌%◌, Bool, true, false, not, ◌&&◌, ◌||◌, ◌==◌, nat_le, nat_lt}
+use Rattle.std.specs.Prelude.{◌≢◌, ℕ, ◌-◌, ◌*◌, ◌%◌, Bool, true, false, not, ◌&&◌, ◌||◌, ◌==◌, nat_le, nat_lt}
 use Rattle.std.specs.Prelude.{if◌then◌else◌, List, [], ◌∷◌, length, map, slice_index, take, drop, codes}
 use Rattle.std.specs.Prelude.{Option, Some, None}
 use Rattle.std.specs.List.{list_all, zip}
@@ -8,7 +8,9 @@ use Rattle.std.specs.Str.{bytes_eq}
 use Rattle.shop_model.specs.declared.ops.Op.{Op}
 use Rattle.shop_model.specs.Shop.{Shop, ShopJob}
 use Rattle.shop_text.specs.Lines.{Line, Words}
-use Rattle.shop_text.specs.Grammar.{Row, Format, LineFault, WrongShape, WrongSize, WrongRow, WrongMachine, WrongTime}
+use Rattle.shop_text.specs.declared.formats.Format.{Format}
+use Rattle.shop_text.specs.declared.formats.Format.TheVariants.{Orlib, Taillard, Routes}
+use Rattle.shop_text.specs.Grammar.{Row, Grammar, LineFault, WrongShape, WrongSize, WrongRow, WrongMachine, WrongTime}
 
 -- ---- names
 
@@ -68,16 +70,16 @@ has_row_for_each (size ∷ rows) = length rows == jobs_in size
 abbrev pub no_shop : Shop
 no_shop = record { machines = 0; jobs = [] }
 
-abbrev pub shop_of_rows : (Row → ShopJob) → List Row → Shop
-shop_of_rows job_of [] = no_shop
-shop_of_rows job_of (size ∷ rows) = record { machines = machines_in size; jobs = map job_of rows }
+abbrev pub shop_by_rows : (Row → ShopJob) → List Row → Shop
+shop_by_rows job_of [] = no_shop
+shop_by_rows job_of (size ∷ rows) = record { machines = machines_in size; jobs = map job_of rows }
 
-abbrev pub format_of_rows : (ℕ → Row → Option LineFault) → (Row → ShopJob) → Format
-format_of_rows row_fault job_of = record {
+abbrev pub grammar_of_rows : (ℕ → Row → Option LineFault) → (Row → ShopJob) → Grammar
+grammar_of_rows row_fault job_of = record {
   skips = skips_before_size;
   refuses = refuses_rows row_fault;
   is_whole = has_row_for_each;
-  shop = shop_of_rows job_of;
+  shop = shop_by_rows job_of;
   header = header_of;
 }
 
@@ -88,8 +90,8 @@ orlib_fault machines row = if length row == 2 * machines then pairs_fault machin
 abbrev pub orlib_job : Row → ShopJob
 orlib_job row = record { release = 0; route = pairs_of row }
 
-abbrev pub orlib : Format
-orlib = format_of_rows orlib_fault orlib_job
+abbrev pub orlib : Grammar
+orlib = grammar_of_rows orlib_fault orlib_job
 
 -- a row of `routes`: a release, then 0 to 100 pairs
 abbrev pub routes_fault : ℕ → Row → Option LineFault
@@ -103,8 +105,8 @@ abbrev pub routes_job : Row → ShopJob
 routes_job [] = record { release = 0; route = [] }
 routes_job (release ∷ pairs) = record { release = release; route = pairs_of pairs }
 
-abbrev pub routes : Format
-routes = format_of_rows routes_fault routes_job
+abbrev pub routes : Grammar
+routes = grammar_of_rows routes_fault routes_job
 
 -- ---- taillard: a size line of 2 to 6 numbers, a row of times for each job, a row of machines for each job
 
@@ -144,7 +146,7 @@ taillard_shop (size ∷ rows) = record {
   jobs = map taillard_job (zip (take (jobs_in size) rows) (drop (jobs_in size) rows));
 }
 
-abbrev pub taillard : Format
+abbrev pub taillard : Grammar
 taillard = record {
   skips = taillard_skips;
   refuses = taillard_refuses;
@@ -152,3 +154,20 @@ taillard = record {
   shop = taillard_shop;
   header = λ line. None;
 }
+
+-- ---- all formats
+
+abbrev pub grammar_of : Format → Grammar
+grammar_of Orlib = orlib
+grammar_of Taillard = taillard
+grammar_of Routes = routes
+
+-- the word for a format on the command line
+abbrev pub word_of : Format → List ℕ
+word_of Orlib = codes "orlib"
+word_of Taillard = codes "taillard"
+word_of Routes = codes "routes"
+
+-- no format has this word
+abbrev pub IsNoWord : List ℕ → Type 0
+IsNoWord word = (format : Format) → word_of format ≢ word

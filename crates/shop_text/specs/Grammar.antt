@@ -1,11 +1,11 @@
 -- The grammar of whole texts, over their numbered lines that aren't blank, and the one fault of every other text.
 -- (The form is that of the OR-Library file jobshop1 and of the texts by Taillard's name, in this project's own
--- profile.)
---     Format                           what is skipped, refused and whole, after some number lines of a part
+-- format.)
+--     Grammar                           what is skipped, refused and whole, after some number lines of a part
 --     Entry, Part                      a number line with the text lines before it; a part is a list of these
---     IsPart format part               the part is whole, and none of its lines is refused
---     IsGood format lines parts        the lines are these parts, one or more, and text lines alone after them
---     IsFault format last lines fault  the lines begin some list of parts, and the next line, or the end, is refused
+--     IsPart grammar part               the part is whole, and none of its lines is refused
+--     IsGood grammar lines parts        the lines are these parts, one or more, and text lines alone after them
+--     IsFault grammar last lines fault  the lines begin some list of parts, and the next line, or the end, is refused
 use Rattle.std.specs.Prelude.{◌≡◌, ℕ, ◌+◌, ◌<◌, ◌⊎◌, Bool, false, IsTrue, List, [], ◌∷◌, ◌++◌, length, map}
 use Rattle.std.specs.Prelude.{Option, Some, None, if◌then◌else◌}
 use Rattle.std.specs.List.{flat_map, AllByRecursion}
@@ -35,9 +35,9 @@ fault_at n WrongTime = BadTime n
 abbrev pub Row : Type 0
 Row = List ℕ
 
--- A format says, by the number lines that a part has so far: whether text lines are skipped here, why a number line is
+-- A grammar says, by the number lines that a part has so far: whether text lines are skipped here, why a number line is
 -- refused here, and whether the part is whole. It says which instance a whole part is, and which text lines name one.
-pub record Format : Type 0 where
+pub record Grammar : Type 0 where
   pub skips : List Row → Bool
   pub refuses : List Row → Row → Option LineFault
   pub is_whole : List Row → Bool
@@ -53,8 +53,8 @@ pub record Entry : Type 0 where
 abbrev pub Part : Type 0
 Part = List Entry
 
-abbrev pub rows_of : List Entry → List Row
-rows_of entries = map (λ e. e.row) entries
+abbrev pub entry_rows : List Entry → List Row
+entry_rows entries = map (λ e. e.row) entries
 
 -- the lines that it is made of
 abbrev pub lines_of_entry : Entry → List Numbered
@@ -75,61 +75,61 @@ abbrev pub AreText : List Numbered → Type 0
 AreText lines = AllByRecursion IsTextLine lines
 
 -- text lines that are skipped after these rows of a part
-abbrev pub AreSkipped : Format → List Row → List Numbered → Type 0
-AreSkipped format rows lines = AreText lines × ((lines ≡ []) ⊎ IsTrue (format.skips rows))
+abbrev pub AreSkipped : Grammar → List Row → List Numbered → Type 0
+AreSkipped grammar rows lines = AreText lines × ((lines ≡ []) ⊎ IsTrue (grammar.skips rows))
 
-pub record IsAccepted (format : Format) (rows : List Row) (e : Entry) : Type 0 where
-  pub room : format.is_whole rows ≡ false
-  pub text : AreSkipped format rows e.before
-  pub row : format.refuses rows e.row ≡ None
+pub record IsAccepted (grammar : Grammar) (rows : List Row) (e : Entry) : Type 0 where
+  pub room : grammar.is_whole rows ≡ false
+  pub text : AreSkipped grammar rows e.before
+  pub row : grammar.refuses rows e.row ≡ None
 
 -- each line is accepted after the rows before it
-abbrev pub AreAccepted : Format → List Row → List Entry → Type 0
-AreAccepted format rows [] = Unit {0}
-AreAccepted format rows (e ∷ entries) = IsAccepted format rows e × AreAccepted format (rows ++ e.row ∷ []) entries
+abbrev pub AreAccepted : Grammar → List Row → List Entry → Type 0
+AreAccepted grammar rows [] = Unit {0}
+AreAccepted grammar rows (e ∷ entries) = IsAccepted grammar rows e × AreAccepted grammar (rows ++ e.row ∷ []) entries
 
-abbrev pub IsPart : Format → Part → Type 0
-IsPart format part = AreAccepted format [] part × IsTrue (format.is_whole (rows_of part))
+abbrev pub IsPart : Grammar → Part → Type 0
+IsPart grammar part = AreAccepted grammar [] part × IsTrue (grammar.is_whole (entry_rows part))
 
-pub record IsGood (format : Format) (lines : List Numbered) (parts : List Part) : Type 0 where
+pub record IsGood (grammar : Grammar) (lines : List Numbered) (parts : List Part) : Type 0 where
   pub after : List Numbered
   pub cut : lines ≡ lines_of_parts parts ++ after
-  pub parts_good : AllByRecursion (IsPart format) parts
+  pub parts_good : AllByRecursion (IsPart grammar) parts
   pub after_text : AreText after
   pub some : 0 < length parts
 
 -- The lines are some whole parts, the beginning of a part, and text lines that are skipped there.
-pub record IsBegun (format : Format) (lines : List Numbered) (begun : List Entry) : Type 0 where
+pub record IsBegun (grammar : Grammar) (lines : List Numbered) (begun : List Entry) : Type 0 where
   pub parts : List Part
   pub after : List Numbered
   pub cut : lines ≡ lines_of_parts parts ++ lines_of_part begun ++ after
-  pub parts_good : AllByRecursion (IsPart format) parts
-  pub begun_good : AreAccepted format [] begun
-  pub room : format.is_whole (rows_of begun) ≡ false
-  pub after_skipped : AreSkipped format (rows_of begun) after
+  pub parts_good : AllByRecursion (IsPart grammar) parts
+  pub begun_good : AreAccepted grammar [] begun
+  pub room : grammar.is_whole (entry_rows begun) ≡ false
+  pub after_skipped : AreSkipped grammar (entry_rows begun) after
 
 -- why the next line is refused after these rows, if it is: a text line that isn't skipped is no row
-abbrev pub refusal : Format → List Row → Line → Option LineFault
-refusal format rows (Words words) = if format.skips rows then None else Some WrongRow
-refusal format rows (Numbers row) = format.refuses rows row
-refusal format rows Blank = None
+abbrev pub refusal : Grammar → List Row → Line → Option LineFault
+refusal grammar rows (Words words) = if grammar.skips rows then None else Some WrongRow
+refusal grammar rows (Numbers row) = grammar.refuses rows row
+refusal grammar rows Blank = None
 
 -- a line is refused at its place, behind lines that begin some list of parts
-pub record IsRefused (format : Format) (lines : List Numbered) (fault : ReadFault) : Type 0 where
+pub record IsRefused (grammar : Grammar) (lines : List Numbered) (fault : ReadFault) : Type 0 where
   pub before : List Numbered
   pub line : Numbered
   pub later : List Numbered
   pub cut : lines ≡ before ++ line ∷ later
   pub begun : List Entry
-  pub place : IsBegun format before begun
+  pub place : IsBegun grammar before begun
   pub name : LineFault
-  pub refused : refusal format (rows_of begun) line.1 ≡ Some name
+  pub refused : refusal grammar (entry_rows begun) line.1 ≡ Some name
   pub told : fault ≡ fault_at line.0 name
 
 -- the end comes inside a part: `last` lines has the text, blank ones too
-pub record IsTruncated (format : Format) (last : ℕ) (lines : List Numbered) (fault : ReadFault) : Type 0 where
+pub record IsTruncated (grammar : Grammar) (last : ℕ) (lines : List Numbered) (fault : ReadFault) : Type 0 where
   pub begun : List Entry
-  pub place : IsBegun format lines begun
+  pub place : IsBegun grammar lines begun
   pub inside : 0 < length begun
   pub told : fault ≡ Truncated (last + 1)
 
@@ -138,6 +138,6 @@ pub record IsWithoutInstance (lines : List Numbered) (fault : ReadFault) : Type 
   pub text : AreText lines
   pub told : fault ≡ NoInstance
 
-abbrev pub IsFault : Format → ℕ → List Numbered → ReadFault → Type 0
-IsFault format last lines fault =
-    IsWithoutInstance lines fault ⊎ IsTruncated format last lines fault ⊎ IsRefused format lines fault
+abbrev pub IsFault : Grammar → ℕ → List Numbered → ReadFault → Type 0
+IsFault grammar last lines fault =
+    IsWithoutInstance lines fault ⊎ IsTruncated grammar last lines fault ⊎ IsRefused grammar lines fault

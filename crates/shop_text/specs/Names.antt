@@ -1,6 +1,6 @@
 -- Named instances, as readers give them.
 --     shops_of named                     what stands in a list of named instances
---     IsRead format text result          what reading a text answers
+--     IsRead grammar text result          what reading a text answers
 --     IsPick named name result           the first instance of a name
 use Rattle.std.specs.Prelude.{◌≡◌, ℕ, ◌<◌, List, [], ◌∷◌, length, map, find, Option, Some, None, Result, Ok, Err}
 use Rattle.std.specs.Prelude.{Vec, string_bytes}
@@ -8,7 +8,7 @@ use Rattle.std.specs.Borrow.{Bor}
 use Rattle.std.specs.Str.{bytes_eq}
 use Rattle.std.specs.declared.alloc.Global.{Global}
 use Rattle.shop_text.specs.Texts.{NamedShop, IsText, IsTextFault}
-use Rattle.shop_text.specs.Grammar.{Format}
+use Rattle.shop_text.specs.Grammar.{Grammar}
 use Rattle.shop_text.specs.declared.names.Named.{Named}
 use Rattle.shop_text.specs.declared.faults.ReadFault.{ReadFault}
 use Rattle.shop_text.specs.declared.faults.ReadFault.TheVariants.{NoMemory, TooLong, NoInstance, BadShape, BadSize}
@@ -22,19 +22,19 @@ abbrev pub shops_of : List Named → List NamedShop
 shops_of named = map shop_of_named named
 
 -- a text that is good is read as what it says, and another is refused by its fault; memory may be wanting in either
-abbrev pub IsRead : Format → List ℕ → Result (Vec Named Global) ReadFault → Type 0
-IsRead format text (Ok v) = IsText format text (shops_of v.items) × (0 < length v.items)
-IsRead format text (Err NoMemory) = Unit {0}
-IsRead format text (Err TooLong) = IsTextFault format text TooLong
-IsRead format text (Err NoInstance) = IsTextFault format text NoInstance
-IsRead format text (Err (BadShape n)) = IsTextFault format text (BadShape n)
-IsRead format text (Err (BadSize n)) = IsTextFault format text (BadSize n)
-IsRead format text (Err (BadRow n)) = IsTextFault format text (BadRow n)
-IsRead format text (Err (Truncated n)) = IsTextFault format text (Truncated n)
-IsRead format text (Err (BadMachine n)) = IsTextFault format text (BadMachine n)
-IsRead format text (Err (BadTime n)) = IsTextFault format text (BadTime n)
-IsRead format text (Err NoSuchName) = ⊥
-IsRead format text (Err (BadTable n)) = ⊥
+abbrev pub IsRead : Grammar → List ℕ → Result (Vec Named Global) ReadFault → Type 0
+IsRead grammar text (Ok v) = IsText grammar text (shops_of v.items) × (0 < length v.items)
+IsRead grammar text (Err NoMemory) = Unit {0}
+IsRead grammar text (Err TooLong) = IsTextFault grammar text TooLong
+IsRead grammar text (Err NoInstance) = IsTextFault grammar text NoInstance
+IsRead grammar text (Err (BadShape n)) = IsTextFault grammar text (BadShape n)
+IsRead grammar text (Err (BadSize n)) = IsTextFault grammar text (BadSize n)
+IsRead grammar text (Err (BadRow n)) = IsTextFault grammar text (BadRow n)
+IsRead grammar text (Err (Truncated n)) = IsTextFault grammar text (Truncated n)
+IsRead grammar text (Err (BadMachine n)) = IsTextFault grammar text (BadMachine n)
+IsRead grammar text (Err (BadTime n)) = IsTextFault grammar text (BadTime n)
+IsRead grammar text (Err NoSuchName) = ⊥
+IsRead grammar text (Err (BadTable n)) = ⊥
 
 -- the first instance of the name, or where no name is given the first one
 abbrev pub first_of : List NamedShop → Option NamedShop

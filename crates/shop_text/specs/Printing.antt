@@ -3,11 +3,11 @@ use Rattle.std.specs.Prelude.{◌≡◌, ℕ, List, ◌++◌, Result, OnOk, Stri
 use Rattle.std.specs.declared.alloc.Global.{Global}
 use Rattle.std.specs.declared.alloc.AllocError.{AllocError}
 use Rattle.shop_text.specs.Schedules.{Tokens}
-use Rattle.shop_text.specs.Writing.{line_of_tokens, text_of, cells_line}
+use Rattle.shop_text.specs.Writing.{printed_line, text_of, cells_line}
 
 -- a line
 abbrev pub AddsLine : Result (Unit {0}) AllocError → String Global → String Global → Tokens → Type 0
-AddsLine result old new tokens = OnOk result (string_bytes new ≡ string_bytes old ++ line_of_tokens tokens)
+AddsLine result old new tokens = OnOk result (string_bytes new ≡ string_bytes old ++ printed_line tokens)
 
 -- several lines
 abbrev pub AddsLines : Result (Unit {0}) AllocError → String Global → String Global → List Tokens → Type 0
@@ -15,4 +15,4 @@ AddsLines result old new lines = OnOk result (string_bytes new ≡ string_bytes 
 
 -- the line of a machine in a Gantt text
 abbrev pub cells_text : ℕ → List ℕ → List ℕ
-cells_text machine cells = line_of_tokens (cells_line machine cells)
+cells_text machine cells = printed_line (cells_line machine cells)

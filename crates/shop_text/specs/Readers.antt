@@ -3,16 +3,17 @@ use Rattle.std.specs.Prelude.{◌≡◌, ℕ, ◌<◌, ◌⊎◌, List, [], ◌�
 use Rattle.std.specs.Prelude.{Option, Some, None, Result, Ok, Err, Vec, String}
 use Rattle.std.specs.List.{flat_map}
 use Rattle.std.specs.declared.alloc.Global.{Global}
+use Rattle.shop_text.specs.Formats.{grammar_of}
 use Rattle.shop_text.specs.Lines.{Line, Numbered, is_left}
-use Rattle.shop_text.specs.Grammar.{Format, Entry, Part, rows_of, IsGood, IsBegun, IsRefused, IsFault}
+use Rattle.shop_text.specs.Grammar.{Grammar, Entry, Part, entry_rows, IsGood, IsBegun, IsRefused, IsFault}
 use Rattle.shop_text.specs.Texts.{lines_left, headers_of, last_or, named_from}
 use Rattle.shop_text.specs.Names.{shops_of}
-use Rattle.shop_text.specs.Reading.{format_of, lines_after, IsFurther}
+use Rattle.shop_text.specs.Reading.{lines_after, IsFurther}
 use Rattle.shop_text.specs.Drafts.{IsDraft}
 use Rattle.shop_text.specs.declared.faults.ReadFault.{ReadFault}
 use Rattle.shop_text.specs.declared.faults.ReadFault.TheVariants.{NoMemory}
 use Rattle.shop_text.specs.declared.names.Named.{Named}
-use Rattle.shop_text.specs.declared.profiles.Profile.{Profile}
+use Rattle.shop_text.specs.declared.formats.Format.{Format}
 use Rattle.shop_text.specs.declared.texts.Reader.{Reader}
 
 -- the text lines before the number lines of a part
@@ -32,37 +33,37 @@ IsLast name headers = (otherwise : List ℕ) → last_or otherwise headers ≡ n
 -- draft, and the name is that of the last header since.
 pub record IsReadUpTo (reader : Reader) (lines : List Numbered) : Type 0 where
   pub begun : List Entry
-  pub place : IsBegun (format_of reader.profile) lines begun
-  pub draft_holds : IsDraft reader.profile reader.draft (rows_of begun)
-  pub named_are : shops_of reader.named.items ≡ named_from (format_of reader.profile) 1 place.parts
-  pub name_is : IsLast reader.name (headers_of (format_of reader.profile) (texts_of begun ++ place.after))
+  pub place : IsBegun (grammar_of reader.format) lines begun
+  pub draft_holds : IsDraft reader.format reader.draft (entry_rows begun)
+  pub named_are : shops_of reader.named.items ≡ named_from (grammar_of reader.format) 1 place.parts
+  pub name_is : IsLast reader.name (headers_of (grammar_of reader.format) (texts_of begun ++ place.after))
 
 -- a line, unless it is blank
 abbrev pub left_of : ℕ → Line → List Numbered
 left_of n line = filter is_left ((n, line) ∷ [])
 
 -- what comes of one more line: it is read, or refused, or memory ran out
-abbrev pub Takes : {X : Type 0} → Profile → Reader → List Numbered → ℕ → Line → Result X ReadFault → Type 0
-Takes p reader front n line (Ok x) = (reader.profile ≡ p) × IsReadUpTo reader (front ++ left_of n line)
+abbrev pub Takes : {X : Type 0} → Format → Reader → List Numbered → ℕ → Line → Result X ReadFault → Type 0
+Takes p reader front n line (Ok x) = (reader.format ≡ p) × IsReadUpTo reader (front ++ left_of n line)
 Takes p reader front n line (Err e) =
-    (e ≡ NoMemory) ⊎ ((later : List Numbered) → IsRefused (format_of p) (front ++ (left_of n line ++ later)) e)
+    (e ≡ NoMemory) ⊎ ((later : List Numbered) → IsRefused (grammar_of p) (front ++ (left_of n line ++ later)) e)
 
 -- lines that are good, with what was read of them
-pub record AreRead (format : Format) (lines : List Numbered) (named : Vec Named Global) : Type 0 where
+pub record AreRead (grammar : Grammar) (lines : List Numbered) (named : Vec Named Global) : Type 0 where
   pub parts : List Part
-  pub good : IsGood format lines parts
-  pub named_are : shops_of named.items ≡ named_from format 1 parts
+  pub good : IsGood grammar lines parts
+  pub named_are : shops_of named.items ≡ named_from grammar 1 parts
   pub some : 0 < length named.items
 
 -- what comes of the end, behind so many lines
-abbrev pub Ends : Format → ℕ → List Numbered → Result (Vec Named Global) ReadFault → Type 0
-Ends format last lines (Ok named) = AreRead format lines named
-Ends format last lines (Err e) = IsFault format last lines e
+abbrev pub Ends : Grammar → ℕ → List Numbered → Result (Vec Named Global) ReadFault → Type 0
+Ends grammar last lines (Ok named) = AreRead grammar lines named
+Ends grammar last lines (Err e) = IsFault grammar last lines e
 
 -- the lines that count are those that are read and those that are still to come
-pub record IsOnTheWay (text : List ℕ) (number : ℕ) (rest : List ℕ) (p : Profile) (reader : Reader) : Type 0 where
+pub record IsOnTheWay (text : List ℕ) (number : ℕ) (rest : List ℕ) (p : Format) (reader : Reader) : Type 0 where
   pub front : List Numbered
-  pub cut : lines_left (format_of p) text ≡ front ++ lines_after number rest
-  pub same : reader.profile ≡ p
+  pub cut : lines_left (grammar_of p) text ≡ front ++ lines_after number rest
+  pub same : reader.format ≡ p
   pub read : IsReadUpTo reader front
   pub further : IsFurther 0 text number rest

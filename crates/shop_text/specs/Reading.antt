@@ -4,27 +4,21 @@ use Rattle.std.specs.Prelude.{Option, Some, None, Result, Ok, Err, MatchOption}
 use Rattle.std.specs.List.{enumerate_from}
 use Rattle.shop_text.specs.Lines.{Line, Blank, Numbers, Words, Numbered, is_left, line_of, lines_of}
 use Rattle.shop_text.specs.Lines.{is_number, value_of, capped}
-use Rattle.shop_text.specs.Grammar.{Format, LineFault, WrongRow, fault_at, Row}
-use Rattle.shop_text.specs.Formats.{orlib, taillard, routes, jobs_in, machines_in, times_fault, machines_fault}
+use Rattle.shop_text.specs.Grammar.{LineFault, WrongRow, fault_at, Row}
+use Rattle.shop_text.specs.Formats.{grammar_of, jobs_in, machines_in, times_fault, machines_fault}
 use Rattle.shop_text.specs.declared.faults.ReadFault.{ReadFault}
 use Rattle.shop_text.specs.declared.faults.ReadFault.TheVariants.{NoMemory}
-use Rattle.shop_text.specs.declared.profiles.Profile.{Profile}
-use Rattle.shop_text.specs.declared.profiles.Profile.TheVariants as profile
+use Rattle.shop_text.specs.declared.formats.Format.{Format}
 use Rattle.shop_text.specs.declared.reading.Seen.{Seen}
 use Rattle.shop_text.specs.declared.reading.Seen.TheVariants as seen
 
-abbrev pub format_of : Profile → Format
-format_of profile.Orlib = orlib
-format_of profile.Taillard = taillard
-format_of profile.Routes = routes
-
 -- What was seen tells the line: its numbers, all that is above the greatest being that, and the name that it gives.
-abbrev pub Tells : Profile → Seen → List ℕ → Line → Type 0
+abbrev pub Tells : Format → Seen → List ℕ → Line → Type 0
 Tells p seen.Blank numbers line = line ≡ Blank
 Tells p seen.Numbers numbers line = (row : List ℕ) × (line ≡ Numbers row) × (numbers ≡ map capped row)
 Tells p (seen.Words name) numbers line =
     (words : List (List ℕ)) × (line ≡ Words words)
-    × MatchOption name ((format_of p).header line ≡ None) (λ n. (format_of p).header line ≡ Some n.now)
+    × MatchOption name ((grammar_of p).header line ≡ None) (λ n. (grammar_of p).header line ≡ Some n.now)
 
 -- the numbers so far, with those of more tokens, if these are numbers
 abbrev pub with_tokens : List ℕ → List (List ℕ) → Option (List ℕ)
@@ -50,9 +44,9 @@ abbrev pub Fails : ReadFault → ℕ → Option LineFault → Type 0
 Fails NoMemory n fault = Unit {0}
 Fails e n fault = located n fault ≡ Some e
 
-abbrev pub Judges : {X : Type 0} → Result X ReadFault → ℕ → Option LineFault → (X → Type 0) → Type 0
-Judges (Ok x) n fault P = (fault ≡ None) × P x
-Judges (Err e) n fault P = Fails e n fault
+abbrev pub JudgesRow : {X : Type 0} → Result X ReadFault → ℕ → Option LineFault → (X → Type 0) → Type 0
+JudgesRow (Ok x) n fault P = (fault ≡ None) × P x
+JudgesRow (Err e) n fault P = Fails e n fault
 
 -- ---- number lines
 
@@ -61,8 +55,8 @@ abbrev pub IsSizeIn : Row → ℕ × ℕ → Type 0
 IsSizeIn row (jobs, machines) = (jobs ≡ jobs_in row) × (machines ≡ machines_in row)
 
 -- why a size line is refused, a row of times, and a row of machines
-abbrev pub size_line_fault : Profile → Row → Option LineFault
-size_line_fault p row = (format_of p).refuses [] row
+abbrev pub size_line_fault : Format → Row → Option LineFault
+size_line_fault p row = (grammar_of p).refuses [] row
 
 abbrev pub times_row_fault : ℕ → Row → Option LineFault
 times_row_fault machines row = if not (length row == machines) then Some WrongRow else times_fault row

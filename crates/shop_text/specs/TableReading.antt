@@ -13,8 +13,8 @@ use Rattle.shop_text.specs.Schedules.{IsTable, IsTableRead}
 use Rattle.shop_text.specs.declared.faults.ReadFault.{ReadFault}
 
 -- the rows that a vector holds
-abbrev pub rows_of : Vec (Vec ℕ Global) Global → List (List ℕ)
-rows_of rows = map (λ row. row.items) rows.items
+abbrev pub rows_held : Vec (Vec ℕ Global) Global → List (List ℕ)
+rows_held rows = map (λ row. row.items) rows.items
 
 -- the row that was read, if there is one
 abbrev pub row_read : Option (Vec ℕ Global) → Option (List ℕ)
@@ -35,7 +35,7 @@ IsStartOf token None = is_start token ≡ false
 IsStartOf token (Some start) = (is_start token ≡ true) × (start ≡ value_of token)
 
 abbrev pub AreRowsRead : Shop → List ℕ → Result (Vec (Vec ℕ Global) Global) ReadFault → Type 0
-AreRowsRead shop text (Ok rows) = IsTable shop text (rows_of rows)
+AreRowsRead shop text (Ok rows) = IsTable shop text (rows_held rows)
 AreRowsRead shop text (Err fault) = IsTableRead shop text (Err fault)
 
 -- the counted lines in what is left of a text, after some lines

@@ -4,7 +4,7 @@ use Rattle.std.specs.List.{list_any, filter_map, flat_map}
 use Rattle.std.specs.Fmt.{decimal}
 use Rattle.shop_model.specs.Shop.{Shop}
 use Rattle.shop_text.specs.Lines.{Numbered, lines_of, numbered_lines}
-use Rattle.shop_text.specs.Grammar.{Format, Part, rows_of, IsGood, IsFault}
+use Rattle.shop_text.specs.Grammar.{Grammar, Part, entry_rows, IsGood, IsFault}
 use Rattle.shop_text.specs.declared.faults.ReadFault.{ReadFault}
 use Rattle.shop_text.specs.declared.faults.ReadFault.TheVariants.{TooLong}
 
@@ -13,20 +13,20 @@ pub record NamedShop : Type 0 where
   pub name : List ℕ
   pub shop : Shop
 
-abbrev pub is_header : Format → Numbered → Bool
-is_header format line = is_some (format.header line.1)
+abbrev pub is_header : Grammar → Numbered → Bool
+is_header grammar line = is_some (grammar.header line.1)
 
-abbrev pub from_first_header : Format → List Numbered → List Numbered
-from_first_header format [] = []
-from_first_header format (line ∷ lines) =
-    if is_header format line then line ∷ lines else from_first_header format lines
+abbrev pub from_first_header : Grammar → List Numbered → List Numbered
+from_first_header grammar [] = []
+from_first_header grammar (line ∷ lines) =
+    if is_header grammar line then line ∷ lines else from_first_header grammar lines
 
-abbrev pub unless_headed : Format → List Numbered → List Numbered
-unless_headed format lines = if list_any (is_header format) lines then from_first_header format lines else lines
+abbrev pub unless_headed : Grammar → List Numbered → List Numbered
+unless_headed grammar lines = if list_any (is_header grammar) lines then from_first_header grammar lines else lines
 
 -- the lines that count: if there is a header, all before the first one are struck
-abbrev pub lines_left : Format → List ℕ → List Numbered
-lines_left format text = unless_headed format (numbered_lines text)
+abbrev pub lines_left : Grammar → List ℕ → List Numbered
+lines_left grammar text = unless_headed grammar (numbered_lines text)
 
 -- the last of some names
 abbrev pub last_or : List ℕ → List (List ℕ) → List ℕ
@@ -34,24 +34,24 @@ last_or name [] = name
 last_or name (next ∷ names) = last_or next names
 
 -- the names that text lines give
-abbrev pub headers_of : Format → List Numbered → List (List ℕ)
-headers_of format lines = filter_map (λ line. format.header line.1) lines
+abbrev pub headers_of : Grammar → List Numbered → List (List ℕ)
+headers_of grammar lines = filter_map (λ line. grammar.header line.1) lines
 
 -- the name of the n-th part: that of the last header in it, else its number
-abbrev pub name_of : Format → ℕ → Part → List ℕ
-name_of format n part = last_or (decimal n) (headers_of format (flat_map (λ e. e.before) part))
+abbrev pub name_of : Grammar → ℕ → Part → List ℕ
+name_of grammar n part = last_or (decimal n) (headers_of grammar (flat_map (λ e. e.before) part))
 
-abbrev pub named_from : Format → ℕ → List Part → List NamedShop
-named_from format n [] = []
-named_from format n (part ∷ parts) =
-    record { name = name_of format n part; shop = format.shop (rows_of part) } ∷ named_from format (n + 1) parts
+abbrev pub named_from : Grammar → ℕ → List Part → List NamedShop
+named_from grammar n [] = []
+named_from grammar n (part ∷ parts) =
+    record { name = name_of grammar n part; shop = grammar.shop (entry_rows part) } ∷ named_from grammar (n + 1) parts
 
 -- the text is good, and these are its instances with their names
-pub record IsText (format : Format) (text : List ℕ) (shops : List NamedShop) : Type 0 where
+pub record IsText (grammar : Grammar) (text : List ℕ) (shops : List NamedShop) : Type 0 where
   pub short : length text ≤ 16777216
   pub parts : List Part
-  pub good : IsGood format (lines_left format text) parts
-  pub shops_are : shops ≡ named_from format 1 parts
+  pub good : IsGood grammar (lines_left grammar text) parts
+  pub shops_are : shops ≡ named_from grammar 1 parts
 
 -- the text has too many bytes
 pub record IsTooLong (text : List ℕ) (fault : ReadFault) : Type 0 where
@@ -59,28 +59,28 @@ pub record IsTooLong (text : List ℕ) (fault : ReadFault) : Type 0 where
   pub told : fault ≡ TooLong
 
 -- its lines have this fault
-pub record HasLineFault (format : Format) (text : List ℕ) (fault : ReadFault) : Type 0 where
+pub record HasLineFault (grammar : Grammar) (text : List ℕ) (fault : ReadFault) : Type 0 where
   pub short : length text ≤ 16777216
-  pub in_lines : IsFault format (length (lines_of text)) (lines_left format text) fault
+  pub in_lines : IsFault grammar (length (lines_of text)) (lines_left grammar text) fault
 
 -- this is the text's fault
-abbrev pub IsTextFault : Format → List ℕ → ReadFault → Type 0
-IsTextFault format text fault = IsTooLong text fault ⊎ HasLineFault format text fault
+abbrev pub IsTextFault : Grammar → List ℕ → ReadFault → Type 0
+IsTextFault grammar text fault = IsTooLong text fault ⊎ HasLineFault grammar text fault
 
 -- A text is good for one list of named instances at most, and has one fault at most, and never both.
-pub record OneReading (format : Format) : Type 0 where
+pub record OneReading (grammar : Grammar) : Type 0 where
   pub one_list : (text : List ℕ) (shops others : List NamedShop)
-      → IsText format text shops → IsText format text others → shops ≡ others
+      → IsText grammar text shops → IsText grammar text others → shops ≡ others
   pub one_fault : (text : List ℕ) (fault other : ReadFault)
-      → IsTextFault format text fault → IsTextFault format text other → fault ≡ other
+      → IsTextFault grammar text fault → IsTextFault grammar text other → fault ≡ other
   pub not_both : (text : List ℕ) (shops : List NamedShop) (fault : ReadFault)
-      → IsText format text shops → IsTextFault format text fault → ⊥
+      → IsText grammar text shops → IsTextFault grammar text fault → ⊥
 
 -- some list of named instances, or some fault
-abbrev pub HasReading : Format → List ℕ → Type 0
-HasReading format text =
-    ((shops : List NamedShop) × IsText format text shops) ⊎ ((fault : ReadFault) × IsTextFault format text fault)
+abbrev pub HasReading : Grammar → List ℕ → Type 0
+HasReading grammar text =
+    ((shops : List NamedShop) × IsText grammar text shops) ⊎ ((fault : ReadFault) × IsTextFault grammar text fault)
 
 -- Each text is good for some list of named instances, or has some fault.
-abbrev pub SomeReading : Format → Type 0
-SomeReading format = (text : List ℕ) → HasReading format text
+abbrev pub SomeReading : Grammar → Type 0
+SomeReading grammar = (text : List ℕ) → HasReading grammar text

@@ -16,11 +16,11 @@ use Rattle.shop_model.specs.declared.checking.Verdict.TheVariants.{Feasible, Wro
 use Rattle.shop_text.specs.Texts.{NamedShop}
 use Rattle.shop_text.specs.Schedules.{Tokens}
 
-abbrev pub line_of_tokens : Tokens → List ℕ
-line_of_tokens tokens = join_with_byte 32 tokens ++ 10 ∷ []
+abbrev pub printed_line : Tokens → List ℕ
+printed_line tokens = join_with_byte 32 tokens ++ 10 ∷ []
 
 abbrev pub text_of : List Tokens → List ℕ
-text_of lines = flat_map line_of_tokens lines
+text_of lines = flat_map printed_line lines
 
 abbrev pub number_line : List ℕ → ℕ → Tokens
 number_line word n = word ∷ decimal n ∷ []
@@ -39,9 +39,9 @@ pub record Reported : Type 0 where
   pub nodes : ℕ
 
 -- optimal where no node is open
-abbrev pub status_of : ℕ → List ℕ
-status_of zero = codes "optimal"
-status_of (suc n) = codes "open"
+abbrev pub status_word : ℕ → List ℕ
+status_word zero = codes "optimal"
+status_word (suc n) = codes "open"
 
 abbrev pub answer_lines : Reported → List Tokens
 answer_lines r =
@@ -49,7 +49,7 @@ answer_lines r =
     ∷ (codes "size" ∷ decimal (length r.shop.jobs) ∷ decimal r.shop.machines ∷ [])
     ∷ number_line (codes "makespan") r.makespan
     ∷ number_line (codes "bound") r.bound
-    ∷ (codes "status" ∷ status_of r.open_nodes ∷ [])
+    ∷ (codes "status" ∷ status_word r.open_nodes ∷ [])
     ∷ number_line (codes "open") r.open_nodes
     ∷ number_line (codes "rounds") r.rounds
     ∷ number_line (codes "nodes") r.nodes
@@ -156,4 +156,4 @@ verdict_tokens (Overlap m p q) =
     ∷ codes "and" ∷ codes "job" ∷ decimal q.job ∷ codes "step" ∷ decimal q.step ∷ []
 
 abbrev pub verdict_text : Verdict → List ℕ
-verdict_text verdict = line_of_tokens (verdict_tokens verdict)
+verdict_text verdict = printed_line (verdict_tokens verdict)

@@ -1,9 +1,10 @@
 // The part of a text that is being read.
 ghost use Rattle.std.specs.Prelude.{◌≡◌, ℕ, ◌<◌, ◌∷◌, ◌++◌, [], List, map, true, false, ◌==◌};
+ghost use Rattle.shop_text.specs.Formats.{grammar_of};
 ghost use Rattle.shop_text.specs.Limits.{IsDraftWithin};
 
 use crate::faults::ReadFault;
-use crate::profiles::Profile;
+use crate::formats::Format;
 use crate::rows::{orlib_job, routes_job, size_of, taillard_job, times_of};
 use shop_model::{Instance, Job};
 use std::alloc::Global;
@@ -25,8 +26,8 @@ impl Draft {
     ghost use Rattle.shop_model.specs.Limits.{IsJobWithin};
     ghost use Rattle.shop_text.specs.Lines.{capped};
     ghost use Rattle.shop_text.specs.Grammar.{Row};
-    ghost use Rattle.shop_text.specs.Reading.{format_of, Judges};
-    ghost use Rattle.shop_text.specs.Drafts.{IsDraft, wants_times, jobs_of, PushesJob, TakesRow};
+    ghost use Rattle.shop_text.specs.Reading.{JudgesRow};
+    ghost use Rattle.shop_text.specs.Drafts.{IsDraft, wants_times, jobs_drafted, PushesJob, TakesRow};
     ghost use Rattle.std.specs.Prelude.{vec_len, IfOk};
 
     /// Nothing yet.
@@ -49,14 +50,14 @@ impl Draft {
     }
 
     /// Whether text lines are skipped here.
-    pub(crate) fn skips_text(&self, profile: Profile) -> bool
-        ensures { (rows : List Row) → IsDraft profile self.now rows
-            → result ≡ (format_of profile).skips rows }
+    pub(crate) fn skips_text(&self, format: Format) -> bool
+        ensures { (rows : List Row) → IsDraft format self.now rows
+            → result ≡ (grammar_of format).skips rows }
     {
-        match profile {
-            Profile::Orlib => self.jobs_wanted == 0,
-            Profile::Routes => self.jobs_wanted == 0,
-            Profile::Taillard => {
+        match format {
+            Format::Orlib => self.jobs_wanted == 0,
+            Format::Routes => self.jobs_wanted == 0,
+            Format::Taillard => {
                 self.times.is_empty()
                     || self.jobs.is_empty() && self.times.len() == self.jobs_wanted
             }
@@ -64,13 +65,13 @@ impl Draft {
     }
 
     /// Whether the next row is one of times.
-    fn wants_times(&self, profile: Profile) -> bool
-        ensures { result ≡ wants_times profile self.now.jobs_wanted (vec_len self.now.times) }
+    fn wants_times(&self, format: Format) -> bool
+        ensures { result ≡ wants_times format self.now.jobs_wanted (vec_len self.now.times) }
     {
-        match profile {
-            Profile::Orlib => false,
-            Profile::Routes => false,
-            Profile::Taillard => self.times.len() < self.jobs_wanted,
+        match format {
+            Format::Orlib => false,
+            Format::Routes => false,
+            Format::Taillard => self.times.len() < self.jobs_wanted,
         }
     }
 
@@ -78,23 +79,23 @@ impl Draft {
     fn job_of(
         &self,
         alloc: Global,
-        profile: Profile,
+        format: Format,
         line: usize,
         row: &[u64],
     ) -> Result<Job, ReadFault>
         requires some { 0 < self.now.jobs_wanted }
-        requires times { wants_times profile self.now.jobs_wanted (vec_len self.now.times) ≡ false }
+        requires times { wants_times format self.now.jobs_wanted (vec_len self.now.times) ≡ false }
         ensures judged { (rows : List Row) (written : Row)
-            → IsDraft profile self.now rows → row.now ≡ map capped written
-            → Judges result line ((format_of profile).refuses rows written)
+            → IsDraft format self.now rows → row.now ≡ map capped written
+            → JudgesRow result line ((grammar_of format).refuses rows written)
             (λ job. map job_as_given (self.now.jobs.items ++ job ∷ [])
-            ≡ jobs_of profile (rows ++ written ∷ [])) }
+            ≡ jobs_drafted format (rows ++ written ∷ [])) }
         ensures within { IfOk result (λ job. IsJobWithin self.now.machines job) }
     {
-        match profile {
-            Profile::Orlib => orlib_job(alloc, line, self.machines, row),
-            Profile::Routes => routes_job(alloc, line, self.machines, row),
-            Profile::Taillard => {
+        match format {
+            Format::Orlib => orlib_job(alloc, line, self.machines, row),
+            Format::Routes => routes_job(alloc, line, self.machines, row),
+            Format::Taillard => {
                 let times = self.times[self.jobs.len()].as_slice();
                 taillard_job(alloc, line, self.machines, times, row)
             }
@@ -121,26 +122,26 @@ impl Draft {
     pub(crate) fn take_row(
         &mut self,
         alloc: Global,
-        profile: Profile,
+        format: Format,
         line: usize,
         row: &[u64],
     ) -> Result<Option<Instance>, ReadFault>
         ensures { (rows : List Row) (written : Row)
-            → IsDraft profile self.old rows → row.now ≡ map capped written
-            → TakesRow profile rows written line self.new result }
+            → IsDraft format self.old rows → row.now ≡ map capped written
+            → TakesRow format rows written line self.new result }
     {
         if self.jobs_wanted == 0 {
-            let (jobs, machines) = size_of(profile, line, row)?;
+            let (jobs, machines) = size_of(format, line, row)?;
             self.jobs_wanted = jobs;
             self.machines = machines;
             return Ok(None);
         }
-        if self.wants_times(profile) {
+        if self.wants_times(format) {
             let times = times_of(alloc, line, self.machines, row)?;
             self.times.push(times)?;
             return Ok(None);
         }
-        let job = self.job_of(alloc, profile, line, row)?;
+        let job = self.job_of(alloc, format, line, row)?;
         self.push_job(alloc, job)
     }
 }

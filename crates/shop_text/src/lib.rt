@@ -6,12 +6,12 @@ mod cells;
 mod cut_text_tests;
 mod drafts;
 mod faults;
+mod formats;
 mod gantts;
 mod job_lines;
 mod laws;
 mod lines;
 mod names;
-mod profiles;
 #[cfg(test)]
 mod reader_tests;
 mod readers;
@@ -27,10 +27,11 @@ mod texts;
 mod verdict_lines;
 
 pub use faults::ReadFault;
+pub use formats::{FORMAT_WORDS, FORMATS, Format};
 pub use gantts::gantt;
 pub use laws::{one_reading, orlib_shape, routes_shape, some_reading, taillard_shape};
 pub use names::{Named, pick};
-pub use readers::{read_orlib, read_routes, read_taillard};
+pub use readers::{read, read_orlib, read_routes, read_taillard};
 pub use report_texts::report;
 pub use reports::Report;
 pub use schedules::read_table;

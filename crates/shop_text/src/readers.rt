@@ -1,11 +1,19 @@
-ghost use Rattle.shop_text.specs.Formats.{orlib, taillard, routes};
+// The readers of instance texts.
+ghost use Rattle.shop_text.specs.Formats.{orlib, taillard, routes, grammar_of};
 ghost use Rattle.shop_text.specs.Names.{IsRead};
 
 use crate::faults::ReadFault;
+use crate::formats::Format;
 use crate::names::Named;
-use crate::profiles::Profile;
 use crate::texts::read_text;
 use std::alloc::Global;
+
+/// The instances of a text in this format, as `read_orlib`, `read_taillard` and `read_routes` say.
+pub fn read(alloc: Global, format: Format, text: &[u8]) -> Result<Vec<Named>, ReadFault>
+    ensures { IsRead (grammar_of format) text.now result }
+{
+    read_text(alloc, format, text)
+}
 
 /// The instances of a text in the form of the OR-Library file `jobshop1`, with their names; at least one.
 ///
@@ -14,7 +22,7 @@ use std::alloc::Global;
 pub fn read_orlib(alloc: Global, text: &[u8]) -> Result<Vec<Named>, ReadFault>
     ensures { IsRead orlib text.now result }
 {
-    read_text(alloc, Profile::Orlib, text)
+    read_text(alloc, Format::Orlib, text)
 }
 
 /// The instances of a text in the form that goes by Taillard's name: a size line, a row of times for each job and a row
@@ -24,7 +32,7 @@ pub fn read_orlib(alloc: Global, text: &[u8]) -> Result<Vec<Named>, ReadFault>
 pub fn read_taillard(alloc: Global, text: &[u8]) -> Result<Vec<Named>, ReadFault>
     ensures { IsRead taillard text.now result }
 {
-    read_text(alloc, Profile::Taillard, text)
+    read_text(alloc, Format::Taillard, text)
 }
 
 /// The instances of a text in the format `routes`, with their names; at least one.
@@ -34,5 +42,5 @@ pub fn read_taillard(alloc: Global, text: &[u8]) -> Result<Vec<Named>, ReadFault
 pub fn read_routes(alloc: Global, text: &[u8]) -> Result<Vec<Named>, ReadFault>
     ensures { IsRead routes text.now result }
 {
-    read_text(alloc, Profile::Routes, text)
+    read_text(alloc, Format::Routes, text)
 }

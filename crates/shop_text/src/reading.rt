@@ -2,12 +2,13 @@
 ghost use Rattle.std.specs.Prelude.{◌≡◌, ◌∷◌, [], Some, None, MatchOption, IfOk, codes};
 ghost use Rattle.std.specs.List.{list_all};
 ghost use Rattle.std.specs.Str.{bytes_eq};
+ghost use Rattle.shop_text.specs.Formats.{grammar_of};
 ghost use Rattle.shop_text.specs.Lines.{Words, tokens_of, line_of};
 ghost use Rattle.shop_text.specs.Formats.{header_of, is_visible};
-ghost use Rattle.shop_text.specs.Reading.{Tells, format_of};
+ghost use Rattle.shop_text.specs.Reading.{Tells};
 
+use crate::formats::Format;
 use crate::lines::{next_token, number_of};
-use crate::profiles::Profile;
 use std::alloc::{AllocError, Global};
 
 /// What a line is: blank, numbers alone, or text, with the name of an instance if it gives one.
@@ -51,30 +52,30 @@ fn name_in(line: &[u8]) -> Option<&[u8]>
 }
 
 /// The name that a text line gives to an instance in this format.
-pub(crate) fn header_in(profile: Profile, line: &[u8]) -> Option<&[u8]>
-    ensures { MatchOption result ((format_of profile).header (Words (tokens_of line.now)) ≡ None)
-        (λ n. (format_of profile).header (Words (tokens_of line.now)) ≡ Some n.now) }
+pub(crate) fn header_in(format: Format, line: &[u8]) -> Option<&[u8]>
+    ensures { MatchOption result ((grammar_of format).header (Words (tokens_of line.now)) ≡ None)
+        (λ n. (grammar_of format).header (Words (tokens_of line.now)) ≡ Some n.now) }
 {
-    match profile {
-        Profile::Taillard => None,
-        Profile::Orlib => name_in(line),
-        Profile::Routes => name_in(line),
+    match format {
+        Format::Taillard => None,
+        Format::Orlib => name_in(line),
+        Format::Routes => name_in(line),
     }
 }
 
 /// What a line is. Its numbers, each at most the greatest of `u64`, take the place of what `numbers` held.
 pub(crate) fn see<'t>(
-    profile: Profile,
+    format: Format,
     line: &'t [u8],
     numbers: &mut Vec<u64>,
 ) -> Result<Seen<'t>, AllocError>
-    ensures { IfOk result (λ s. Tells profile s numbers.new.items (line_of line.now)) }
+    ensures { IfOk result (λ s. Tells format s numbers.new.items (line_of line.now)) }
 {
     numbers.clear();
     let mut rest = line;
     while let Some((token, after)) = next_token(rest) {
         let Some(number) = number_of(token) else {
-            return Ok(Seen::Words(header_in(profile, line)));
+            return Ok(Seen::Words(header_in(format, line)));
         };
         numbers.push(number)?;
         rest = after;

@@ -1,7 +1,7 @@
 // The text of a report.
 ghost use Rattle.std.specs.Prelude.{◌≡◌, ◌∷◌, [], IfOk, codes, decimal};
 ghost use Rattle.shop_model.specs.Checking.{HasShape};
-ghost use Rattle.shop_text.specs.Writing.{number_line, status_of, answer_lines, job_line, job_lines, report_text};
+ghost use Rattle.shop_text.specs.Writing.{number_line, status_word, answer_lines, job_line, job_lines, report_text};
 ghost use Rattle.shop_text.specs.Printing.{AddsLine, AddsLines};
 ghost use Rattle.shop_text.specs.Reports.{reported};
 
@@ -32,7 +32,7 @@ fn write_size(out: &mut String, jobs: usize, machines: usize) -> Result<(), Allo
 
 /// The word for what the search left.
 fn status(open_nodes: usize) -> &'static str
-    ensures { result.now ≡ status_of open_nodes }
+    ensures { result.now ≡ status_word open_nodes }
 {
     if open_nodes == 0 { "optimal" } else { "open" }
 }

@@ -6,28 +6,24 @@ ghost use Rattle.shop_model.specs.Limits.{IsJobWithin, IsRouteWithin};
 ghost use Rattle.shop_text.specs.Formats.{pairs_fault, pairs_of, orlib_fault, routes_fault};
 ghost use Rattle.shop_text.specs.Formats.{orlib_job as orlib_row_job, routes_job as routes_row_job};
 ghost use Rattle.shop_text.specs.Formats.{taillard_job as taillard_row_job};
-ghost use Rattle.shop_text.specs.Reading.{Judges, IsSizeIn, size_line_fault};
+ghost use Rattle.shop_text.specs.Reading.{JudgesRow, IsSizeIn, size_line_fault};
 ghost use Rattle.shop_text.specs.Shapes.{IsSize};
 ghost use Rattle.shop_text.specs.Reading.{times_row_fault, machines_row_fault};
 
 use crate::faults::ReadFault;
-use crate::profiles::Profile;
+use crate::formats::Format;
 use shop_model::{Job, MAX_JOBS, MAX_MACHINES, MAX_STEPS, MAX_TIME, Op};
 use std::alloc::Global;
 
 /// The jobs and machines of a size line.
-pub(crate) fn size_of(
-    profile: Profile,
-    line: usize,
-    row: &[u64],
-) -> Result<(usize, usize), ReadFault>
-    ensures judged { Judges result line (size_line_fault profile row.now) (IsSizeIn row.now) }
+pub(crate) fn size_of(format: Format, line: usize, row: &[u64]) -> Result<(usize, usize), ReadFault>
+    ensures judged { JudgesRow result line (size_line_fault format row.now) (IsSizeIn row.now) }
     ensures within { IfOk result (λ size. IsSize size.0 size.1) }
 {
-    let most = match profile {
-        Profile::Taillard => 6,
-        Profile::Orlib => 2,
-        Profile::Routes => 2,
+    let most = match format {
+        Format::Taillard => 6,
+        Format::Orlib => 2,
+        Format::Routes => 2,
     };
     if row.len() < 2 || most < row.len() {
         return Err(ReadFault::BadShape { line });
@@ -49,7 +45,7 @@ fn route_of(
 ) -> Result<Vec<Op>, ReadFault>
     requires even { length pairs.now % 2 ≡ 0 }
     requires machines { machines ≤ 100 }
-    ensures judged { Judges result line (pairs_fault machines pairs.now)
+    ensures judged { JudgesRow result line (pairs_fault machines pairs.now)
         (λ route. route.items ≡ pairs_of pairs.now) }
     ensures within { IfOk result (λ route. IsRouteWithin machines route.items) }
     ensures len { IfOk result (λ route. 2 * length route.items ≡ length pairs.now) }
@@ -81,7 +77,7 @@ pub(crate) fn orlib_job(
     row: &[u64],
 ) -> Result<Job, ReadFault>
     requires { machines ≤ 100 }
-    ensures judged { Judges result line (orlib_fault machines row.now)
+    ensures judged { JudgesRow result line (orlib_fault machines row.now)
         (λ job. job_as_given job ≡ orlib_row_job row.now) }
     ensures within { IfOk result (λ job. IsJobWithin machines job) }
 {
@@ -100,7 +96,7 @@ pub(crate) fn routes_job(
     row: &[u64],
 ) -> Result<Job, ReadFault>
     requires { machines ≤ 100 }
-    ensures judged { Judges result line (routes_fault machines row.now)
+    ensures judged { JudgesRow result line (routes_fault machines row.now)
         (λ job. job_as_given job ≡ routes_row_job row.now) }
     ensures within { IfOk result (λ job. IsJobWithin machines job) }
 {
@@ -130,7 +126,7 @@ pub(crate) fn times_of(
     machines: usize,
     row: &[u64],
 ) -> Result<Vec<u64>, ReadFault>
-    ensures judged { Judges result line (times_row_fault machines row.now)
+    ensures judged { JudgesRow result line (times_row_fault machines row.now)
         (λ times. times.items ≡ row.now) }
     ensures within { IfOk result (λ times. All (λ time. time ≤ 1000000000) times.items) }
     ensures len { IfOk result (λ times. length times.items ≡ machines) }
@@ -156,7 +152,7 @@ pub(crate) fn taillard_job(
     requires machines { machines ≤ 100 }
     requires times { All (λ time. time ≤ 1000000000) times.now }
     requires len { length times.now ≡ machines }
-    ensures judged { Judges result line (machines_row_fault machines row.now)
+    ensures judged { JudgesRow result line (machines_row_fault machines row.now)
         (λ job. job_as_given job ≡ taillard_row_job (times.now, row.now)) }
     ensures within { IfOk result (λ job. IsJobWithin machines job) }
 {

@@ -2,17 +2,18 @@
 ghost use Rattle.std.specs.Prelude.{◌≡◌, ℕ, ◌≤◌, List, [], length, map, MatchOption, Some, None, IfOk};
 ghost use Rattle.std.specs.Prelude.{string_bytes};
 ghost use Rattle.std.specs.Fmt.{decimal};
+ghost use Rattle.shop_text.specs.Formats.{grammar_of};
 ghost use Rattle.shop_text.specs.Lines.{Numbered, Numbers, Words, capped, line_of};
 ghost use Rattle.shop_text.specs.Names.{IsRead};
 ghost use Rattle.shop_text.specs.Texts.{lines_left};
-ghost use Rattle.shop_text.specs.Reading.{format_of, lines_after, IsFurther};
+ghost use Rattle.shop_text.specs.Reading.{lines_after, IsFurther};
 ghost use Rattle.shop_text.specs.Readers.{name_or, IsReadUpTo, Takes, Ends};
 
 use crate::drafts::Draft;
 use crate::faults::ReadFault;
+use crate::formats::Format;
 use crate::lines::next_line;
 use crate::names::Named;
-use crate::profiles::Profile;
 use crate::reading::{Seen, header_in, see};
 use std::alloc::{AllocError, Global};
 
@@ -22,7 +23,7 @@ pub const MAX_TEXT: usize = 16_777_216;
 /// The instances that are read so far, the name of the last header since, and what is begun of the next instance.
 #[derive(Drop)]
 struct Reader {
-    profile: Profile,
+    format: Format,
     named: Vec<Named>,
     name: Option<String>,
     draft: Draft,
@@ -40,12 +41,12 @@ fn name_or_number(alloc: Global, name: Option<String>, number: usize) -> Result<
 
 impl Reader {
     /// Nothing is read yet.
-    fn new(alloc: Global, profile: Profile) -> Reader
-        ensures same { result.profile ≡ profile }
+    fn new(alloc: Global, format: Format) -> Reader
+        ensures same { result.format ≡ format }
         ensures nothing { IsReadUpTo result [] }
     {
         Reader {
-            profile,
+            format,
             named: Vec::new(alloc),
             name: None,
             draft: Draft::new(alloc),
@@ -60,11 +61,11 @@ impl Reader {
         name: Option<&[u8]>,
     ) -> Result<(), ReadFault>
         ensures { (front : List Numbered) (words : List (List ℕ)) → IsReadUpTo self.old front
-            → MatchOption name.entry ((format_of self.old.profile).header (Words words) ≡ None)
-            (λ n. (format_of self.old.profile).header (Words words) ≡ Some n.now)
-            → Takes self.old.profile self.new front line (Words words) result }
+            → MatchOption name.entry ((grammar_of self.old.format).header (Words words) ≡ None)
+            (λ n. (grammar_of self.old.format).header (Words words) ≡ Some n.now)
+            → Takes self.old.format self.new front line (Words words) result }
     {
-        if !self.draft.skips_text(self.profile) {
+        if !self.draft.skips_text(self.format) {
             return Err(ReadFault::BadRow { line });
         }
         if let Some(name) = name {
@@ -77,9 +78,9 @@ impl Reader {
     fn take_numbers(&mut self, alloc: Global, line: usize, row: &[u64]) -> Result<(), ReadFault>
         ensures { (front : List Numbered) (written : List ℕ) → IsReadUpTo self.old front
             → row.now ≡ map capped written
-            → Takes self.old.profile self.new front line (Numbers written) result }
+            → Takes self.old.format self.new front line (Numbers written) result }
     {
-        if let Some(instance) = self.draft.take_row(alloc, self.profile, line, row)? {
+        if let Some(instance) = self.draft.take_row(alloc, self.format, line, row)? {
             let name = name_or_number(alloc, self.name.take(), self.named.len() + 1)?;
             self.named.push(Named { name, instance })?;
         }
@@ -95,9 +96,9 @@ impl Reader {
         numbers: &mut Vec<u64>,
     ) -> Result<(), ReadFault>
         ensures { (front : List Numbered) → IsReadUpTo self.old front
-            → Takes self.old.profile self.new front line (line_of bytes.now) result }
+            → Takes self.old.format self.new front line (line_of bytes.now) result }
     {
-        match see(self.profile, bytes, numbers)? {
+        match see(self.format, bytes, numbers)? {
             Seen::Blank => Ok(()),
             Seen::Words(name) => self.take_words(alloc, line, name),
             Seen::Numbers => self.take_numbers(alloc, line, numbers.as_slice()),
@@ -108,7 +109,7 @@ impl Reader {
     fn finish(self, last: usize) -> Result<Vec<Named>, ReadFault>
         requires { last ≤ 16777216 }
         ensures { (lines : List Numbered) → IsReadUpTo self lines
-            → Ends (format_of self.profile) last lines result }
+            → Ends (grammar_of self.format) last lines result }
     {
         let Reader { named, draft, .. } = self;
         if !draft.is_fresh() {
@@ -123,16 +124,16 @@ impl Reader {
 
 /// Where the lines that count begin: at the first header, if there is one. How many lines stand before it, and the text
 /// from there.
-fn from_first_header(profile: Profile, text: &[u8]) -> (usize, &[u8])
+fn from_first_header(format: Format, text: &[u8]) -> (usize, &[u8])
     requires { length text.now ≤ 16777216 }
-    ensures left { lines_left (format_of profile) text.now ≡ lines_after result.0 result.1.now }
+    ensures left { lines_left (grammar_of format) text.now ≡ lines_after result.0 result.1.now }
     ensures further { IsFurther 0 text.now result.0 result.1.now }
 {
     let mut number = 0;
     let mut rest = text;
     while rest.len() > 0 {
         let (line, after) = next_line(rest);
-        if header_in(profile, line).is_some() {
+        if header_in(format, line).is_some() {
             return (number, rest);
         }
         number += 1;
@@ -142,18 +143,14 @@ fn from_first_header(profile: Profile, text: &[u8]) -> (usize, &[u8])
 }
 
 /// The instances of a text, with their names.
-pub(crate) fn read_text(
-    alloc: Global,
-    profile: Profile,
-    text: &[u8],
-) -> Result<Vec<Named>, ReadFault>
-    ensures { IsRead (format_of profile) text.now result }
+pub(crate) fn read_text(alloc: Global, format: Format, text: &[u8]) -> Result<Vec<Named>, ReadFault>
+    ensures { IsRead (grammar_of format) text.now result }
 {
     if text.len() > MAX_TEXT {
         return Err(ReadFault::TooLong);
     }
-    let (mut number, mut rest) = from_first_header(profile, text);
-    let mut reader = Reader::new(alloc, profile);
+    let (mut number, mut rest) = from_first_header(format, text);
+    let mut reader = Reader::new(alloc, format);
     let mut numbers = Vec::new(alloc);
     while rest.len() > 0 {
         let (line, after) = next_line(rest);

@@ -1,16 +1,9 @@
-use Rattle.std.proofs.Common.{codes}
+use Rattle.std.proofs.Common.{codes, sym}
 use Rattle.clap.specs.Words.{found_of}
+use Rattle.shop_text.specs.Formats.{word_of}
 use Rattle.jobshop.proofs.Getters.{has_text}
 use Rattle.jobshop.proofs.matches.format_in.Goals as goal
 
-pub returns-in-Some-orlib : goal.returns-in-Some-orlib
-returns-in-Some-orlib c = has_text (found_of c.args.found.now) (codes "format") c.in-Some-orlib.field-0.now
-    (codes "orlib") c.in-Some-orlib.ensures c.in-Some-orlib.is-orlib
-
-pub returns-in-Some-taillard : goal.returns-in-Some-taillard
-returns-in-Some-taillard c = has_text (found_of c.args.found.now) (codes "format")
-    c.in-Some-taillard.field-0.now (codes "taillard") c.in-Some-taillard.ensures c.in-Some-taillard.is-taillard
-
-pub returns-in-Some-routes : goal.returns-in-Some-routes
-returns-in-Some-routes c = has_text (found_of c.args.found.now) (codes "format") c.in-Some-routes.field-0.now
-    (codes "routes") c.in-Some-routes.ensures c.in-Some-routes.is-routes
+pub returns-in-Some-of_word : goal.returns-in-Some-of_word
+returns-in-Some-of_word c = has_text (found_of c.args.found.now) (codes "format") c.in-Some.word.now
+    (word_of c.in-Some-of_word.format) c.in-Some.ensures (sym c.in-Some-of_word.ensures)

@@ -5,7 +5,7 @@ use Rattle.std.specs.Int.{div_ceil}
 use Rattle.shop_model.specs.Shop.{finish_of}
 use Rattle.shop_model.specs.Checking.{starts_of}
 use Rattle.shop_model.proofs.Ends.{le-end_of}
-use Rattle.shop_text.specs.Writing.{unit_of, shown_at, columns, number_line, machine_line, cells_line, line_of_tokens}
+use Rattle.shop_text.specs.Writing.{unit_of, shown_at, columns, number_line, machine_line, cells_line, printed_line}
 use Rattle.shop_text.proofs.CellLemmas.{ceil_mono}
 use Rattle.shop_text.proofs.TextLemmas.{line_more}
 use Rattle.shop_text.proofs.gantts.gantt.Goals as goal
@@ -42,6 +42,6 @@ loop-machine-preserved c =
           (machine_line shop starts) machine c.loop-machine.invariant.written
           (c.in_ok-write_machine.ensures
           ∙ ap (λ (cells : List ℕ). c.loop-machine.out.items
-          ++ line_of_tokens (cells_line c.loop-machine.machine cells)) shown);
+          ++ printed_line (cells_line c.loop-machine.machine cells)) shown);
       columns = c.show_machine.auto.cells ∙ c.loop-machine.invariant.columns;
     }

@@ -2,13 +2,13 @@ use Rattle.std.proofs.Common.{◌≡◌, ◌++◌, ◌∷◌, [], ℕ, List, ap,
 use Rattle.std.specs.Prelude.{flat_map, codes}
 use Rattle.std.specs.Fmt.{decimal}
 use Rattle.std.proofs.lemmas.List.{append_assoc, take_all}
-use Rattle.shop_text.specs.Writing.{line_of_tokens, job_line}
+use Rattle.shop_text.specs.Writing.{printed_line, job_line}
 use Rattle.shop_text.proofs.TextLemmas.{written, job_line_is}
 use Rattle.shop_text.proofs.report_texts.write_job.Goals as goal
 
 line_at : (old : List ℕ) (j : ℕ) (starts : List ℕ)
     → ((old ++ (codes "job " ++ (decimal j ++ codes ":"))) ++ flat_map (λ start. 32 ∷ decimal start) starts) ++ 10 ∷ []
-    ≡ old ++ line_of_tokens (job_line j starts)
+    ≡ old ++ printed_line (job_line j starts)
 line_at old j starts =
     let begin = codes "job " ++ (decimal j ++ codes ":")
     in let rest = flat_map (λ (start : ℕ). 32 ∷ decimal start) starts

@@ -3,7 +3,7 @@ use Rattle.std.specs.Prelude.{codes}
 use Rattle.std.proofs.lemmas.List.{length-map}
 use Rattle.shop_text.specs.Lines.{tokens_of}
 use Rattle.shop_text.specs.Schedules.{row_in}
-use Rattle.shop_text.specs.TableReading.{IsReadSoFar, rows_of, row_read}
+use Rattle.shop_text.specs.TableReading.{IsReadSoFar, rows_held, row_read}
 use Rattle.shop_text.proofs.JobLineLemmas.{bad_line, missed_line, one_more, rows_push}
 use Rattle.shop_text.proofs.schedules.rows_in.Goals as goal
 
@@ -11,16 +11,16 @@ pub returns-in_default-2 : goal.returns-in_default-2
 returns-in_default-2 c =
     let rows = c.loop-rest.rows
     in let behind = tokens_of c.in-Some.behind.now
-    in let count : c.len.result ≡ length (rows_of c.loop-rest.rows) =
+    in let count : c.len.result ≡ length (rows_held c.loop-rest.rows) =
     c.len.ensures ∙ omega (arith, c.loop-rest.rows.ok.0, length-map c.loop-rest.rows.items (λ row. row.items))
-    in let none : None ≡ row_in c.args.instance.now (length (rows_of c.loop-rest.rows))
+    in let none : None ≡ row_in c.args.instance.now (length (rows_held c.loop-rest.rows))
     (codes "job" ∷ tokens_of c.in-Some.behind.now) =
     sym (ap row_read c.in_default-2.is) ∙ c.in_ok-row.ensures
     ∙ ap (λ (j : ℕ). row_in c.args.instance.now j (codes "job" ∷ tokens_of c.in-Some.behind.now)) count
     in (
       c.requires,
       bad_line c.args.instance.now c.args.text.now c.loop-rest.number c.loop-rest.rest.now
-          c.next_line.result.0.now c.next_line.result.1.now behind (rows_of rows) c.loop-rest.invariant
+          c.next_line.result.0.now c.next_line.result.1.now behind (rows_held rows) c.loop-rest.invariant
           c.next_line.ensures.cut c.in-Some.ensures none,
     )
 
@@ -28,22 +28,22 @@ pub loop-rest-preserved : goal.loop-rest-preserved
 loop-rest-preserved c =
     let rows = c.loop-rest.rows
     in let behind = tokens_of c.in-Some.behind.now
-    in let count : c.len.result ≡ length (rows_of c.loop-rest.rows) =
+    in let count : c.len.result ≡ length (rows_held c.loop-rest.rows) =
     c.len.ensures ∙ omega (arith, c.loop-rest.rows.ok.0, length-map c.loop-rest.rows.items (λ row. row.items))
-    in let some : Some c.in-Some-2.row.items ≡ row_in c.args.instance.now (length (rows_of c.loop-rest.rows))
+    in let some : Some c.in-Some-2.row.items ≡ row_in c.args.instance.now (length (rows_held c.loop-rest.rows))
     (codes "job" ∷ tokens_of c.in-Some.behind.now) =
     sym (ap row_read c.in-Some-2.is) ∙ c.in_ok-row.ensures
     ∙ ap (λ (j : ℕ). row_in c.args.instance.now j (codes "job" ∷ tokens_of c.in-Some.behind.now)) count
     in subst (IsReadSoFar c.args.instance.now c.args.text.now (c.loop-rest.number + 1) c.next_line.result.1.now)
     (sym (rows_push rows c.push.new.self c.in-Some-2.row c.in_ok-push.ensures.items))
     (one_more c.args.instance.now c.args.text.now c.loop-rest.number c.loop-rest.rest.now c.next_line.result.0.now
-    c.next_line.result.1.now behind (rows_of rows) c.in-Some-2.row.items c.loop-rest.invariant
+    c.next_line.result.1.now behind (rows_held rows) c.in-Some-2.row.items c.loop-rest.invariant
     c.next_line.ensures.cut c.next_line.ensures.shorter c.in-Some.ensures some)
 
 pub returns-else-len-jobs : goal.returns-else-len-jobs
 returns-else-len-jobs c =
     let rows = c.loop-rest.rows
-    in let few : length (rows_of c.loop-rest.rows) < length c.args.instance.now.jobs =
+    in let few : length (rows_held c.loop-rest.rows) < length c.args.instance.now.jobs =
     omega (
       arith,
       c.loop-rest.rows.ok.0,
@@ -56,5 +56,5 @@ returns-else-len-jobs c =
     in (
       c.requires,
       missed_line c.args.instance.now c.args.text.now c.loop-rest.number c.loop-rest.rest.now
-          (rows_of rows) c.loop-rest.invariant (omega arith) few,
+          (rows_held rows) c.loop-rest.invariant (omega arith) few,
     )

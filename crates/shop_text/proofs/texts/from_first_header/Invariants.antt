@@ -1,11 +1,12 @@
 use Rattle.std.proofs.Common.{length}
-use Rattle.shop_text.specs.Reading.{format_of, IsFurther}
+use Rattle.shop_text.specs.Formats.{grammar_of}
+use Rattle.shop_text.specs.Reading.{IsFurther}
 use Rattle.shop_text.proofs.Passing.{IsBeforeHeader}
 use Rattle.shop_text.proofs.texts.from_first_header.Given as goal
 
 abbrev pub invariant-loop-rest : goal.invariant-loop-rest
 invariant-loop-rest l = record {
-  before : IsBeforeHeader (format_of l.profile) l.text l.number l.rest;
+  before : IsBeforeHeader (grammar_of l.format) l.text l.number l.rest;
   further : IsFurther 0 l.text l.number l.rest;
 }
 

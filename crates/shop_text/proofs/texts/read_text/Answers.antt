@@ -1,7 +1,7 @@
 use Rattle.std.proofs.Common.{arith}
 use Rattle.std.proofs.lemmas.Result.{err_from_is_err_and}
 use Rattle.shop_text.proofs.Passing.{line_taken, line_refused, error_read, end_read}
-use Rattle.shop_text.specs.Reading.{format_of}
+use Rattle.shop_text.specs.Formats.{grammar_of}
 use Rattle.shop_text.proofs.texts.read_text.Goals as goal
 
 pub loop-rest-preserved : goal.loop-rest-preserved
@@ -10,7 +10,7 @@ loop-rest-preserved c =
     in let taken = c.in_ok-take_line.ensures w.front w.read
     in line_taken c.args.text.now c.loop-rest.number c.loop-rest.rest.now c.next_line.result.0.now
     c.next_line.result.1.now
-    c.args.profile c.loop-rest.reader c.take_line.new.self w c.next_line.ensures.cut c.next_line.ensures.shorter taken.0
+    c.args.format c.loop-rest.reader c.take_line.new.self w c.next_line.ensures.cut c.next_line.ensures.shorter taken.0
     taken.1
 
 pub returns-in_err-take_line : goal.returns-in_err-take_line
@@ -18,13 +18,13 @@ returns-in_err-take_line c =
     let p = err_from_is_err_and c.from_residual.result c.from_residual.ensures.1
     in let w = c.loop-rest.invariant
     in rw (p.1, p.2)
-    (error_read (format_of c.args.profile) c.args.text.now c.in_err-take_line.field-0.0
+    (error_read (grammar_of c.args.format) c.args.text.now c.in_err-take_line.field-0.0
     (line_refused c.args.text.now c.loop-rest.number c.loop-rest.rest.now c.next_line.result.0.now
     c.next_line.result.1.now
-    c.args.profile c.loop-rest.reader c.in_err-take_line.field-0.0 w (omega arith) c.next_line.ensures.cut
+    c.args.format c.loop-rest.reader c.in_err-take_line.field-0.0 w (omega arith) c.next_line.ensures.cut
     (c.in_err-take_line.ensures w.front w.read)))
 
 pub returns : goal.returns
 returns c =
-    end_read c.args.text.now c.loop-rest.number c.loop-rest.rest.now c.args.profile c.loop-rest.reader c.finish.result
+    end_read c.args.text.now c.loop-rest.number c.loop-rest.rest.now c.args.format c.loop-rest.reader c.finish.result
     c.loop-rest.invariant (omega arith) (omega arith) c.finish.ensures

@@ -3,7 +3,7 @@ use Rattle.shop_text.specs.Readers.{IsOnTheWay}
 use Rattle.shop_text.proofs.texts.read_text.Given as goal
 
 abbrev pub invariant-loop-rest : goal.invariant-loop-rest
-invariant-loop-rest l = IsOnTheWay l.text l.number l.rest l.fn.profile l.reader
+invariant-loop-rest l = IsOnTheWay l.text l.number l.rest l.fn.format l.reader
 
 abbrev pub decreases-loop-rest : goal.decreases-loop-rest
 decreases-loop-rest l = length l.rest

@@ -1,6 +1,6 @@
 use Rattle.std.proofs.Common.{sym, ap, ◌∙◌, string_bytes, ℕ}
 use Rattle.std.specs.Fmt.{decimal}
-use Rattle.shop_text.specs.Writing.{verdict_text, line_of_tokens}
+use Rattle.shop_text.specs.Writing.{verdict_text, printed_line}
 use Rattle.shop_text.proofs.TextLemmas.{same_text, unreleased_is, early_is, overlap_is, early_tokens}
 use Rattle.shop_text.proofs.verdict_lines.verdict_string.Goals as goal
 
@@ -12,7 +12,7 @@ pub returns-in-Early : goal.returns-in-Early
 returns-in-Early c =
     same_text string_bytes c.format-in-Early.result _ _ c.format-in-Early.ensures.ok
     (early_is (decimal c.in-Early.job) (decimal c.in-Early.step) (decimal c.saturating_sub-before.result)
-    ∙ ap (λ (before : ℕ). line_of_tokens (early_tokens (decimal c.in-Early.job) (decimal c.in-Early.step)
+    ∙ ap (λ (before : ℕ). printed_line (early_tokens (decimal c.in-Early.job) (decimal c.in-Early.step)
     (decimal before))) c.saturating_sub-before.ensures ∙ sym (ap verdict_text c.in-Early.is))
 
 pub returns-in-Overlap : goal.returns-in-Overlap

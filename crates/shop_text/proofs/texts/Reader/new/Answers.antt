@@ -5,5 +5,5 @@ use Rattle.shop_text.proofs.texts.Reader.new.Goals as goal
 
 pub returns-clause-nothing : goal.returns-clause-nothing
 returns-clause-nothing c =
-    let reader : Reader = record { profile = c.args.profile; named = c.new.result; name = None; draft = c.new-2.result }
+    let reader : Reader = record { format = c.args.format; named = c.new.result; name = None; draft = c.new-2.result }
     in nothing_read reader c.new.ensures.items refl c.new-2.ensures

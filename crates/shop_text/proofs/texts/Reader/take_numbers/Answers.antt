@@ -19,7 +19,7 @@ returns-in_ok-push c = λ front written read numbers.
     let reader = c.args.self.now
     in let later : Reader =
     record {
-      profile = reader.profile;
+      format = reader.format;
       named = c.push.new.self;
       name = c.take.new.self;
       draft

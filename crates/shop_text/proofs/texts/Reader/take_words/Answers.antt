@@ -9,7 +9,7 @@ returns-in_ok-from_utf8_lossy c = λ front words read header.
     in let name = c.in_ok-from_utf8_lossy.field-0
     in let bytes = c.in-Some.name.now
     in let given = rw c.in-Some.is at header
-    in let same = c.in_ok-from_utf8_lossy.ensures.ok (header_utf8 reader.profile words bytes given)
+    in let same = c.in_ok-from_utf8_lossy.ensures.ok (header_utf8 reader.format words bytes given)
     in (
       refl,
       words_read reader (Some name) c.args.line words front read
