@@ -12,8 +12,8 @@ use Rattle.clap.specs.declared.builder.command.Command.{Command}
 use Rattle.clap.specs.declared.builder.command.Command.TheViews.{out-Command}
 use Rattle.clap.specs.declared.builder.value_parser.ValueParser.{ValueParser}
 use Rattle.clap.specs.declared.builder.value_parser.ValueParser.TheVariants.{Unsigned}
-use Rattle.shop_round.specs.declared.orders.Order.{Order}
-use Rattle.shop_round.specs.declared.orders.Order.TheVariants.{Kept, Bound}
+use Rattle.shop_round.specs.declared.plans.Order.{Order}
+use Rattle.shop_round.specs.declared.plans.Order.TheVariants.{Kept, Bound}
 use Rattle.shop_round.specs.declared.plans.Plan.{Plan}
 use Rattle.shop_text.specs.Formats.{word_of}
 use Rattle.jobshop.specs.declared.arguments.Args.{Args}

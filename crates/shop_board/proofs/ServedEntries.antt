@@ -9,8 +9,8 @@ use Rattle.shop_round.specs.Entries as entries
 use Rattle.shop_round.specs.Entries.{told, number_of, Fits}
 use Rattle.shop_round.specs.declared.entries.Entry.{Entry}
 use Rattle.shop_round.specs.declared.rounds.Round.{Round}
-use Rattle.shop_round.specs.declared.kinds.Kind.{Kind}
-use Rattle.shop_round.specs.declared.kinds.Kind.TheVariants.{Done, Passed}
+use Rattle.shop_round.specs.declared.entries.Kind.{Kind}
+use Rattle.shop_round.specs.declared.entries.Kind.TheVariants.{Done, Passed}
 use Rattle.shop_board.specs.declared.views.View.{View}
 use Rattle.shop_board.specs.Hits.{hits_of_round}
 use Rattle.shop_board.specs.Views.{has, is_hit, HasServed}

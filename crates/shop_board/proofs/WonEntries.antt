@@ -12,8 +12,8 @@ use native.Mathlib.Decide.{ℕ_discrete}
 use Rattle.shop_round.specs.Round.{Told}
 use Rattle.shop_round.specs.Entries.{told, number_of}
 use Rattle.shop_round.specs.declared.entries.Entry.{Entry}
-use Rattle.shop_round.specs.declared.kinds.Kind.{Kind}
-use Rattle.shop_round.specs.declared.kinds.Kind.TheVariants.{Done, Passed}
+use Rattle.shop_round.specs.declared.entries.Kind.{Kind}
+use Rattle.shop_round.specs.declared.entries.Kind.TheVariants.{Done, Passed}
 use Rattle.shop_board.specs.declared.views.View.{View}
 use Rattle.shop_board.specs.Works.{Grows, IsKnown, IsAllKnown, numbers_of, IsServed, IsServedEntry, AreWon}
 

@@ -16,8 +16,8 @@ use Rattle.shop_round.specs.Round.{Told}
 use Rattle.shop_round.specs.Entries.{number_of, is_hit}
 use Rattle.shop_round.specs.Crews.{IsEntryOf}
 use Rattle.shop_round.specs.declared.entries.Entry.{Entry}
-use Rattle.shop_round.specs.declared.kinds.Kind.{Kind}
-use Rattle.shop_round.specs.declared.kinds.Kind.TheVariants.{Done, Passed}
+use Rattle.shop_round.specs.declared.entries.Kind.{Kind}
+use Rattle.shop_round.specs.declared.entries.Kind.TheVariants.{Done, Passed}
 use Rattle.shop_board.specs.declared.views.View.{View}
 use Rattle.shop_board.specs.Views.{has}
 use Rattle.shop_board.specs.Entries.{OfRound}

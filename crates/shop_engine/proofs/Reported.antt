@@ -5,7 +5,7 @@ use Rattle.shop_text.specs.Texts.{NamedShop}
 use Rattle.shop_text.specs.Writing.{Reported}
 use Rattle.shop_round.specs.Round.{Planned, answer, makespan_of, bound_of}
 use Rattle.shop_round.specs.Runs.{Says, IsTrusted}
-use Rattle.shop_round.specs.declared.answers.Answer.{Answer}
+use Rattle.shop_round.specs.declared.runs.Answer.{Answer}
 use Rattle.shop_engine.specs.Solving.{answer_of, told_by, IsBelievable}
 
 told_believable : (asked : NamedShop) (a : Answer) → IsTrusted asked.shop a → IsBelievable (told_by asked a)

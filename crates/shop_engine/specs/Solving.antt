@@ -13,7 +13,7 @@ use Rattle.shop_model.specs.Checking.{HasShape, starts_of}
 use Rattle.shop_text.specs.Texts.{NamedShop}
 use Rattle.shop_text.specs.Writing.{Reported, report_text, gantt_text}
 use Rattle.shop_round.specs.Round.{Planned, answer, makespan_of, bound_of}
-use Rattle.shop_round.specs.declared.answers.Answer.{Answer}
+use Rattle.shop_round.specs.declared.runs.Answer.{Answer}
 use Rattle.shop_text.specs.declared.formats.Format.{Format}
 use Rattle.shop_engine.specs.declared.faults.Fault.{Fault}
 use Rattle.shop_engine.specs.declared.faults.Fault.TheVariants.{Text, ReadFailed, WriteFailed}

@@ -8,7 +8,7 @@ use Rattle.shop_round.specs.Round.{opening, least_bound, makespan_of, bound_of}
 use Rattle.shop_round.specs.Laws.{StandsCovering, IsTrustworthy}
 use Rattle.shop_tree.specs.Nodes.{words_of}
 use Rattle.shop_round.specs.Runs.{stands, StandsAt, Says}
-use Rattle.shop_round.specs.declared.answers.Answer.{Answer}
+use Rattle.shop_round.specs.declared.runs.Answer.{Answer}
 use Rattle.shop_model.specs.Word.{placed, rows_of}
 use Rattle.shop_tree.specs.declared.nodes.Node.{Node}
 use Rattle.shop_round.specs.declared.standings.Standing.{Standing}

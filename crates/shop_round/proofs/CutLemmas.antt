@@ -8,7 +8,8 @@ use Rattle.shop_tree.specs.declared.pieces.Piece.{Piece}
 use Rattle.shop_tree.specs.Nodes.{words_of, IsNode, AreNodes}
 use Rattle.shop_round.specs.declared.standings.Standing.{Standing}
 use Rattle.shop_round.specs.Round.{Planned, cut_into, in_order, least_bound, cut_of}
-use Rattle.shop_round.specs.Nodes.{least_of_bounds, nodes_in_order, nodes_in, ArePieces, told_of}
+use Rattle.shop_round.specs.Nodes.{ArePieces, told_of}
+use Rattle.shop_round.specs.inner.OpenNodes.{least_of_bounds, nodes_in_order, nodes_in}
 use Rattle.shop_round.specs.Laws.{IsRound}
 use Rattle.shop_round.specs.Runs.{stands, IsStandingOf}
 use Rattle.shop_round.proofs.NodeLemmas.{least_is, order_words, order_nodes}

@@ -14,7 +14,7 @@ use Rattle.shop_tree.specs.Sheets.{IsSheetOf}
 use Rattle.shop_tree.specs.declared.pieces.Piece.{Piece}
 use Rattle.shop_tree.specs.declared.sheets.Sheet.{Sheet}
 use Rattle.shop_round.specs.declared.entries.Entry.{Entry}
-use Rattle.shop_round.specs.declared.kinds.Kind.TheVariants.{Done, Passed}
+use Rattle.shop_round.specs.declared.entries.Kind.TheVariants.{Done, Passed}
 use Rattle.shop_round.specs.declared.rounds.Round.{Round}
 use Rattle.shop_round.specs.Nodes.{pieces_in}
 use Rattle.shop_round.specs.Round.{Told}

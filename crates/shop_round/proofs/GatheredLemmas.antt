@@ -1,6 +1,5 @@
 -- What stands after a round, once its rest has joined.
-use Rattle.std.proofs.Common.{◌≡◌, ◌+◌, true, false, cond, List, [], ◌++◌, refl, sym, ◌∙◌, ap, subst, arith, Bool}
-use Rattle.std.specs.Prelude.{unwrap_or}
+use Rattle.std.proofs.Common.{◌≡◌, ℕ, ◌+◌, true, false, cond, List, [], ◌++◌, refl, sym, ◌∙◌, ap, subst, arith, Bool}
 use Rattle.std.proofs.lemmas.List.{map-append}
 use Rattle.std.proofs.lemmas.List.Elements.{All-append, All-filter}
 use Rattle.std.proofs.Common.{ltb}
@@ -11,20 +10,16 @@ use Rattle.shop_round.specs.declared.outcomes.Outcome.{Outcome}
 use Rattle.shop_round.specs.declared.rounds.Round.{Round}
 use Rattle.shop_round.specs.declared.standings.Standing.{Standing}
 use Rattle.shop_round.specs.Round.{Stand, gathered, words_below}
-use Rattle.shop_round.specs.Nodes.{nodes_below}
+use Rattle.shop_round.specs.inner.OpenNodes.{nodes_below}
 use Rattle.shop_round.specs.Laws.{IsStanding, StandsCovering, CoversInRound}
 use Rattle.shop_round.specs.Limits.{IsCountWithin}
 use Rattle.shop_round.specs.Entries.{told}
-use Rattle.shop_round.specs.Outcomes.{stands_after, IsOutcome}
+use Rattle.shop_round.specs.inner.Outcomes.{stands_after, IsOutcome, IsStandingAfter}
 use Rattle.shop_round.specs.Runs.{stands, StandsAt, IsStandingOf}
 use Rattle.shop_round.proofs.NodeLemmas.{below_is}
 use Rattle.shop_round.proofs.StandingLemmas.{gathered_is_standing}
 use Rattle.shop_round.proofs.Covering.{gather_covers}
 use Rattle.shop_round.proofs.Answering.{at_own}
-
--- the nodes that stay open
-abbrev pub open_after : Round → Outcome → List Node
-open_after r o = cond o.is_closed [] (o.left.items ++ nodes_below o.makespan r.rest.items)
 
 open_words_after : (r : Round) (o : Outcome) (b : Bool) → AreNodes r.instance.now r.rest.items
     → words_of (cond b [] (o.left.items ++ nodes_below o.makespan r.rest.items))
@@ -44,21 +39,27 @@ pub count_after : (r : Round) (o : Outcome) → IsOutcome (told r) o → IsCount
 count_after r o is = let left = r.rounds_left in let was = r.counted in let low = was.1 in let more = is.counted
     in (omega arith, omega arith)
 
-module _ (r : Round) (o : Outcome) (t : Standing) (is : IsOutcome (told r) o) where
-  pub stands_gathered : t.word ≡ unwrap_or o.found r.word → t.makespan ≡ o.makespan → t.open.items ≡ open_after r o
-      → t.rounds ≡ r.rounds + 1 → t.nodes ≡ o.nodes
-      → StandsAt r.instance.now (gathered (told r)) t
-  stands_gathered word makespan nodes rounds counted =
-      let words = ap words_of nodes ∙ open_words_after r o o.is_closed r.nodes_of_rest
-      in let after : stands t ≡ stands_after (told r) o =
-      (λ i. record { word = word i; open_words = words i; rounds = rounds i; nodes = counted i })
-      in let at : stands t ≡ gathered (told r) = after ∙ sym is.stands
-      in record {
-        stands_at = at;
-        makespan = makespan ∙ (is.makespan
-            ∙ (ap (lb r.instance.now) (sym word) ∙ ap (λ (s : Stand). lb r.instance.now s.word) at));
-        bounds = subst (AreNodes r.instance.now) (sym nodes) (open_nodes_after r o o.is_closed is.nodes_left);
-      }
+pub stands_gathered : (r : Round) (o : Outcome) (t : Standing) → IsOutcome (told r) o
+    → IsStandingAfter r.word r.rest.items r.rounds o t → StandsAt r.instance.now (gathered (told r)) t
+stands_gathered r o t is after =
+    let words = ap words_of after.open_nodes ∙ open_words_after r o o.is_closed r.nodes_of_rest
+    in let same : stands t ≡ stands_after (told r) o =
+    (λ i. record { word = after.best i; open_words = words i; rounds = after.rounds_done i; nodes = after.nodes i })
+    in let at : stands t ≡ gathered (told r) = same ∙ sym is.stands
+    in record {
+      stands_at = at;
+      makespan = after.makespan ∙ (is.makespan
+          ∙ (ap (lb r.instance.now) (sym after.best) ∙ ap (λ (s : Stand). lb r.instance.now s.word) at));
+      bounds = subst (AreNodes r.instance.now) (sym after.open_nodes) (open_nodes_after r o o.is_closed is.nodes_left);
+    }
+
+-- also where the opening best and the rest are copies
+pub copies_gathered : (r : Round) (o : Outcome) (t : Standing) (word : List ℕ) (rest : List Node) → IsOutcome (told r) o
+    → word ≡ r.word → rest ≡ r.rest.items → IsStandingAfter word rest r.rounds o t
+    → StandsAt r.instance.now (gathered (told r)) t
+copies_gathered r o t word rest is same_word same_rest after =
+    stands_gathered r o t is (subst (λ w. IsStandingAfter w r.rest.items r.rounds o t) same_word
+    (subst (λ ns. IsStandingAfter word ns r.rounds o t) same_rest after))
 
 module _ (r : Round) (t : Standing) (at : StandsAt r.instance.now (gathered (told r)) t) where
   pub gathered_standing : IsStandingOf r.instance.now t

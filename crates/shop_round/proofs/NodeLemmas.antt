@@ -9,10 +9,10 @@ use Rattle.shop_tree.specs.declared.nodes.Node.{Node}
 use Rattle.shop_tree.specs.Branching.{insert_by, sort_by}
 use Rattle.shop_tree.specs.Nodes.{words_of, IsNode, AreNodes}
 use Rattle.shop_tree.proofs.Members.{all_sort}
-use Rattle.shop_round.specs.declared.orders.Order.{Order}
-use Rattle.shop_round.specs.declared.orders.Order.TheVariants.{Kept, Bound}
+use Rattle.shop_round.specs.declared.plans.Order.{Order}
+use Rattle.shop_round.specs.declared.plans.Order.TheVariants.{Kept, Bound}
 use Rattle.shop_round.specs.Round.{in_order, words_below, least_bound}
-use Rattle.shop_round.specs.Nodes.{least_of_bounds, nodes_in_order, nodes_below}
+use Rattle.shop_round.specs.inner.OpenNodes.{least_of_bounds, nodes_in_order, nodes_below}
 
 module _ (shop : Shop) where
   least_by_recursion : (c : ℕ) (ns : List Node) → AllByRecursion (IsNode shop) ns

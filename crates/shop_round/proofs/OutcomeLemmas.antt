@@ -16,10 +16,10 @@ use Rattle.shop_tree.proofs.Members.{in_all}
 use Rattle.shop_round.specs.Round.{Stand, Told, taken_of, hit_or, up_to_hit, best_word, sheet_in, sheets_of}
 use Rattle.shop_round.specs.Round.{after_round, gathered, words_below}
 use Rattle.shop_round.specs.Laws.{IsRound}
-use Rattle.shop_round.specs.Outcomes.{IsOutcome, TakesIn}
+use Rattle.shop_round.specs.inner.Outcomes.{IsOutcome, TakesIn}
 use Rattle.shop_round.specs.declared.outcomes.Outcome.{Outcome}
 use Rattle.shop_round.specs.Entries.{is_hit}
-use Rattle.shop_round.specs.Nodes.{nodes_below}
+use Rattle.shop_round.specs.inner.OpenNodes.{nodes_below}
 use Rattle.shop_round.proofs.NodeLemmas.{below_is}
 use Rattle.shop_round.proofs.SheetLemmas.{IsOfRound, hit_in, found_is, least_is_bound}
 use Rattle.shop_round.proofs.StandingLemmas.{known}

@@ -11,7 +11,8 @@ use Rattle.shop_tree.specs.declared.nodes.Node.{Node}
 use Rattle.shop_tree.specs.declared.pieces.Piece.{Piece}
 use Rattle.shop_tree.specs.Nodes.{words_of, IsNode, AreNodes}
 use Rattle.shop_round.specs.Round.{cut_into}
-use Rattle.shop_round.specs.Nodes.{nodes_in, pieces_in, ArePieces, numbered}
+use Rattle.shop_round.specs.Nodes.{pieces_in, ArePieces, numbered}
+use Rattle.shop_round.specs.inner.OpenNodes.{nodes_in}
 
 both : (a b : Bool) → (a && b) ≡ true → (a ≡ true) × (b ≡ true)
 both true true e = (refl, refl)

@@ -5,8 +5,8 @@ use Rattle.shop_round.specs.Round.{Told, sheet_in}
 use Rattle.shop_tree.specs.Nodes.{words_of}
 use Rattle.shop_round.specs.Nodes.{told_of}
 use Rattle.shop_tree.specs.declared.sheets.Sheet.{Sheet}
-use Rattle.shop_round.specs.declared.kinds.Kind.{Kind}
-use Rattle.shop_round.specs.declared.kinds.Kind.TheVariants.{Done, Passed}
+use Rattle.shop_round.specs.declared.entries.Kind.{Kind}
+use Rattle.shop_round.specs.declared.entries.Kind.TheVariants.{Done, Passed}
 use Rattle.shop_round.specs.declared.rounds.Round.{Round}
 
 abbrev pub told : Round → Told

@@ -4,5 +4,5 @@ pub mod Nodes
 pub mod Laws
 pub mod Entries
 pub mod Crews
-pub mod Outcomes
 pub mod Runs
+pub mod inner

@@ -9,8 +9,9 @@ use Rattle.shop_bound.specs.Bound.{lb}
 use Rattle.shop_tree.specs.Branching.{sort_by}
 use Rattle.shop_tree.specs.Walking.{Walk, sheet}
 use Rattle.shop_tree.specs.Laws.{HasBetter}
-use Rattle.shop_round.specs.declared.orders.Order.{Order}
-use Rattle.shop_round.specs.declared.orders.Order.TheVariants.{Kept, Bound}
+use Rattle.shop_round.specs.declared.limits.TheConstants.{MAX_PIECES}
+use Rattle.shop_round.specs.declared.plans.Order.{Order}
+use Rattle.shop_round.specs.declared.plans.Order.TheVariants.{Kept, Bound}
 
 pub record Planned : Type 0 where
   pub rounds : ℕ
@@ -111,10 +112,10 @@ gathered r = after_round r (sheets_of r) (up_to_hit r.bound (sheets_of r))
 
 -- a round is cut from the open words in their order
 abbrev pub pieces_of : Planned → List (List ℕ) → List (List (List ℕ))
-pieces_of plan words = cut_into 256 plan.piece words
+pieces_of plan words = cut_into MAX_PIECES plan.piece words
 
 abbrev pub rest_of : Planned → List (List ℕ) → List (List ℕ)
-rest_of plan words = drop (256 * plan.piece) words
+rest_of plan words = drop (MAX_PIECES * plan.piece) words
 
 abbrev pub cut_of : Shop → Planned → Stand → Told
 cut_of shop plan s =

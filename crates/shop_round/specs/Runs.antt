@@ -7,11 +7,11 @@ use Rattle.shop_tree.specs.Nodes.{words_of, AreNodes}
 use Rattle.shop_model.specs.Word.{placed, rows_of}
 use Rattle.shop_round.specs.Laws.{IsStanding, StandsCovering, CoversInRound, IsTrustworthy}
 use Rattle.shop_round.specs.Entries.{told}
-use Rattle.shop_round.specs.declared.orders.Order.{Order}
+use Rattle.shop_round.specs.declared.plans.Order.{Order}
 use Rattle.shop_round.specs.declared.rounds.Round.{Round}
 use Rattle.shop_round.specs.declared.plans.Plan.{Plan}
 use Rattle.shop_round.specs.declared.standings.Standing.{Standing}
-use Rattle.shop_round.specs.declared.answers.Answer.{Answer}
+use Rattle.shop_round.specs.declared.runs.Answer.{Answer}
 
 abbrev pub planned : Plan → Planned
 planned p = record { rounds = p.rounds; budget = p.budget; piece = p.piece; order = p.order }
@@ -59,10 +59,6 @@ IsGatheredOf r t = StandsAt r.instance.now (gathered (told r)) t
 -- where the round covers the instance, so does the standing
 abbrev pub GatheredCovers : Round → Standing → Type 0
 GatheredCovers r t = CoversInRound (told r) → StandsCovering r.instance.now (stands t)
-
--- the standing is where the plan's rounds end
-abbrev pub StandsAtAnswer : Shop → Plan → Standing → Type 0
-StandsAtAnswer shop plan t = StandsAt shop (answer shop (planned plan)) t
 
 -- the answer is the plan's
 abbrev pub SaysAnswer : Shop → Plan → Answer → Type 0

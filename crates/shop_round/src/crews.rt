@@ -1,56 +1,19 @@
+// Crews, who search the pieces of a round, and the crew of the calling thread alone.
 ghost use Rattle.std.specs.Prelude.{◌≡◌, ◌<◌, ◌==◌, length, IfOk};
-ghost use Rattle.shop_round.specs.Entries.{told, is_hit, IsOf, MayPass, number_of};
+ghost use Rattle.shop_round.specs.Entries.{told, is_hit, IsOf};
 ghost use Rattle.shop_round.specs.Crews.{OneForEach};
-ghost use Rattle.shop_round.specs.declared.kinds.Kind.TheVariants.{Done, Passed};
 
 use crate::entries::Entry;
-use crate::kinds::Kind;
 use crate::rounds::Round;
 use shop_tree::{Sheet, search};
 use std::alloc::{AllocError, Global};
-
-impl<'r> Entry<'r> {
-    /// The sheet of a piece of the round.
-    pub fn done(round: &'r Round<'r>, sheet: Sheet<'r>) -> Entry<'r>
-        requires { IsOf (told round.now) sheet }
-        ensures of { result.round.now ≡ round.now }
-        ensures kind { result.kind ≡ Done sheet.entry }
-    {
-        Entry {
-            round,
-            kind: Kind::Done(sheet),
-        }
-    }
-
-    /// A piece passed, since a lower one ends at the opening bound.
-    pub fn passed(round: &'r Round<'r>, number: usize, by: usize) -> Entry<'r>
-        requires { MayPass (told round.now) number by }
-        ensures of { result.round.now ≡ round.now }
-        ensures kind { result.kind ≡ Passed number by }
-    {
-        Entry {
-            round,
-            kind: Kind::Passed { number, by },
-        }
-    }
-
-    /// The number of the piece.
-    pub fn number(&self) -> usize
-        ensures { result ≡ number_of self.now.kind }
-    {
-        match &self.kind {
-            Kind::Done(sheet) => sheet.number,
-            Kind::Passed { number, by: _ } => *number,
-        }
-    }
-}
 
 /// Who searches the pieces of a round.
 pub trait Crew<R> {
     /// What has to hold of what it shares among threads.
     ghost ready: { Type 0 };
 
-    /// One entry for each piece, in number order.
+    /// One entry for each piece, in number order. Fails with `AllocError` if memory runs out.
     fn search<'r>(
         &mut self,
         rt: &R,
@@ -61,7 +24,7 @@ pub trait Crew<R> {
         ensures { IfOk result (λ v. OneForEach (told round.now) v.items) };
 }
 
-/// The sheet of a piece of the round.
+/// The sheet of a piece of the round. Fails with `AllocError` if memory runs out.
 pub fn search_piece<'r>(
     alloc: Global,
     round: &'r Round<'r>,
@@ -80,8 +43,8 @@ pub fn search_piece<'r>(
     )
 }
 
-/// Searches the pieces in order, on the calling thread, and passes those behind the first that ends at the opening
-/// bound.
+/// Searches the pieces in order, on the calling thread, and passes those behind the first that ends
+/// at the opening bound.
 #[derive(Clone, Copy)]
 pub struct Alone;
 

@@ -1,6 +1,15 @@
-ghost use Rattle.std.specs.Prelude.{◌≡◌, ◌+◌, ◌<◌, ◌^◌, [], true, false, OnOk};
-ghost use Rattle.shop_round.specs.Outcomes.{TakesIn};
+// Outcomes: what the sheets of a round come to, and what stands after it.
+ghost use Rattle.std.specs.Prelude.{◌≡◌, ◌+◌, ◌<◌, ◌^◌, [], true, false, IfOk, OnOk};
+ghost use Rattle.shop_round.specs.Limits.{IsCountWithin};
+ghost use Rattle.shop_round.specs.Entries.{told};
+ghost use Rattle.shop_round.specs.Crews.{OneForEach};
+ghost use Rattle.shop_round.specs.Runs.{IsGatheredOf, GatheredCovers, IsStandingOf};
+ghost use Rattle.shop_round.specs.inner.Outcomes.{IsOutcome, TakesIn, IsStandingAfter};
 
+use crate::entries::{Entry, Kind};
+use crate::pieces::copies_of;
+use crate::rounds::Round;
+use crate::standings::Standing;
 use shop_model::Word;
 use shop_tree::{Node, Sheet};
 use std::alloc::{AllocError, Global};
@@ -78,4 +87,80 @@ impl Outcome {
         }
         self.left.append(&mut left)
     }
+
+    /// What stands after a round of which this is the outcome, with its opening best, its rest and
+    /// the rounds done before it. The rest moves, so no word is copied.
+    pub fn standing_after(
+        self,
+        word: Word,
+        mut rest: Vec<Node>,
+        rounds: u64,
+    ) -> Result<Standing, AllocError>
+        requires counted { IsCountWithin (rounds + 1) self.nodes }
+        requires none_left { self.is_closed ≡ true → self.left.items ≡ [] }
+        ensures { IfOk result (λ s. IsStandingAfter word rest.items rounds self s) }
+    {
+        let Outcome {
+            found,
+            makespan,
+            left: mut open,
+            nodes,
+            is_closed,
+        } = self;
+        if !is_closed {
+            rest.retain(|node| node.bound < makespan);
+            open.append(&mut rest)?;
+        }
+        Ok(Standing {
+            word: found.unwrap_or(word),
+            makespan,
+            open,
+            rounds: rounds + 1,
+            nodes,
+        })
+    }
+}
+
+/// What the sheets of the entries come to. Where one ends at the opening bound, the later entries
+/// are not looked at; so a passed one never is.
+pub fn outcome_of<'r>(
+    alloc: Global,
+    round: &'r Round<'r>,
+    entries: Vec<Entry<'r>>,
+) -> Result<Outcome, AllocError>
+    requires { OneForEach (told round.now) entries.items }
+    ensures { IfOk result (λ o. IsOutcome (told round.now) o) }
+{
+    let mut outcome = Outcome::new(alloc, round.best, round.nodes);
+    for entry in entries {
+        let Entry { round: _, kind } = entry;
+        let Kind::Done(sheet) = kind else {
+            unreachable!();
+        };
+        if sheet.makespan == round.bound {
+            return Ok(Outcome::closed_by(alloc, outcome.nodes, sheet));
+        }
+        outcome.take_in(sheet)?;
+    }
+    let makespan = outcome.makespan;
+    outcome.left.retain(|node| node.bound < makespan);
+    Ok(outcome)
+}
+
+/// The result of a round, of an entry for each of its pieces. Fails with `AllocError` if memory
+/// runs out.
+pub fn gather<'r>(
+    alloc: Global,
+    round: &'r Round<'r>,
+    entries: Vec<Entry<'r>>,
+) -> Result<Standing, AllocError>
+    requires { OneForEach (told round.now) entries.items }
+    ensures gathered { IfOk result (λ s. IsGatheredOf round.now s) }
+    ensures standing { IfOk result (λ s. IsStandingOf round.now.instance.now s) }
+    ensures covers { IfOk result (λ s. GatheredCovers round.now s) }
+{
+    let outcome = outcome_of(alloc, round, entries)?;
+    let word = round.word.copied(alloc)?;
+    let rest = copies_of(alloc, round.rest.as_slice())?;
+    outcome.standing_after(word, rest, round.rounds)
 }

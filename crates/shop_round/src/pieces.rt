@@ -1,16 +1,42 @@
-// Nodes put in order and cut into pieces.
+// Open nodes: their least bound, their order, and the pieces that they are cut into.
 ghost use Rattle.std.specs.Prelude.{◌≡◌, ◌<◌, take, drop, true, IfOk, OnOk};
 ghost use Rattle.std.specs.Vec.Iter.{into_iter_items};
 ghost use Rattle.shop_round.specs.Round.{cut_into};
-ghost use Rattle.shop_round.specs.Nodes.{nodes_in_order, nodes_in, numbered};
+ghost use Rattle.shop_round.specs.Nodes.{numbered};
+ghost use Rattle.shop_round.specs.inner.OpenNodes.{least_of_bounds, nodes_in_order, nodes_in};
 
-use crate::orders::Order;
+use crate::limits::MAX_PIECES;
+use crate::plans::Order;
 use shop_tree::{Node, Piece};
 use std::alloc::{AllocError, Global};
 use std::vec::IntoIter;
 
-/// How many pieces a round has at most.
-pub const MAX_PIECES: usize = 256;
+/// The least of a makespan and the bounds of nodes.
+pub fn least_bound(makespan: u64, nodes: &[Node]) -> u64
+    ensures { result ≡ least_of_bounds makespan nodes.now }
+{
+    let mut bound = makespan;
+    for node in nodes {
+        if node.bound < bound {
+            bound = node.bound;
+        }
+    }
+    bound
+}
+
+/// Copies of nodes, in order.
+pub fn copies_of(alloc: Global, nodes: &[Node]) -> Result<Vec<Node>, AllocError>
+    ensures { IfOk result (λ v. v.items ≡ nodes.now) }
+{
+    let mut copies = Vec::with_capacity(alloc, nodes.len())?;
+    for node in nodes {
+        copies.push(Node {
+            word: node.word.copied(alloc)?,
+            bound: node.bound,
+        })?;
+    }
+    Ok(copies)
+}
 
 /// Puts nodes in an order; by bound, ties keep their places.
 pub fn put_in_order(nodes: &mut Vec<Node>, order: Order) -> Result<(), AllocError>
@@ -44,7 +70,7 @@ fn next_piece(
 /// Cuts nodes into at most 256 pieces of this size, in order; the last may be shorter, and what goes beyond is let go.
 pub fn cut_pieces(alloc: Global, nodes: Vec<Node>, size: usize) -> Result<Vec<Piece>, AllocError>
     requires { 0 < size }
-    ensures nodes { IfOk result (λ v. nodes_in v.items ≡ cut_into 256 size nodes.items) }
+    ensures nodes { IfOk result (λ v. nodes_in v.items ≡ cut_into MAX_PIECES size nodes.items) }
     ensures numbers { IfOk result (λ v. numbered 0 v.items ≡ true) }
 {
     let mut pieces = Vec::with_capacity(alloc, MAX_PIECES.min(nodes.len()))?;

@@ -1,6 +1,15 @@
+// Plans: how long a search goes on, and how its rounds are cut.
 ghost use Rattle.shop_round.specs.Limits.{IsPlanWithin};
 
-use crate::orders::Order;
+use crate::limits::{MAX_BUDGET, MAX_PIECE, MAX_ROUNDS};
+
+/// The order in which the open nodes are cut: as they stand, or by their bounds, ties keeping their
+/// places.
+#[derive(Clone, Copy, Debug, PartialEq, Eq)]
+pub enum Order {
+    Kept,
+    Bound,
+}
 
 /// How long a search goes on, and how its rounds are cut: 0 to 100,000 rounds, a budget of 1 to
 /// 10,000,000 nodes a piece, and 1 to 1,000 nodes in a piece.
@@ -11,4 +20,40 @@ pub struct Plan {
     pub piece: usize,
     pub order: Order,
     pub ghost within: { IsPlanWithin rounds budget piece },
+}
+
+impl Plan {
+    ghost use Rattle.std.specs.Prelude.{◌↔◌, IsSome, IfSome};
+    ghost use Rattle.shop_round.specs.Runs.{IsPlanOf};
+    ghost use Rattle.shop_round.specs.declared.plans.Order.TheVariants.{Kept};
+
+    /// A plan in an order, if it is within the limits.
+    pub fn ordered(rounds: u64, budget: u64, piece: usize, order: Order) -> Option<Plan>
+        ensures within { IsPlanWithin rounds budget piece ↔ IsSome result }
+        ensures plan { IfSome result (λ p. IsPlanOf rounds budget piece order p) }
+    {
+        if rounds <= MAX_ROUNDS
+            && 1 <= budget
+            && budget <= MAX_BUDGET
+            && 1 <= piece
+            && piece <= MAX_PIECE
+        {
+            Some(Plan {
+                rounds,
+                budget,
+                piece,
+                order,
+            })
+        } else {
+            None
+        }
+    }
+
+    /// A plan that keeps the order of the open nodes.
+    pub fn new(rounds: u64, budget: u64, piece: usize) -> Option<Plan>
+        ensures within { IsPlanWithin rounds budget piece ↔ IsSome result }
+        ensures plan { IfSome result (λ p. IsPlanOf rounds budget piece Kept p) }
+    {
+        Plan::ordered(rounds, budget, piece, Order::Kept)
+    }
 }

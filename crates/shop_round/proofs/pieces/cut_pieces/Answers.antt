@@ -3,7 +3,8 @@ use Rattle.std.proofs.lemmas.List.{length_push}
 use Rattle.std.specs.Vec.Iter.{into_iter_items}
 use Rattle.shop_tree.specs.declared.pieces.Piece.{Piece}
 use Rattle.shop_round.specs.Round.{cut_into}
-use Rattle.shop_round.specs.Nodes.{nodes_in, numbered}
+use Rattle.shop_round.specs.Nodes.{numbered}
+use Rattle.shop_round.specs.inner.OpenNodes.{nodes_in}
 use Rattle.shop_round.proofs.Answering.{some_open}
 use Rattle.shop_round.proofs.PieceLemmas.{numbered_more, cut_turn, cut_empty, cut_last, take_some, take_none}
 use Rattle.shop_round.proofs.pieces.cut_pieces.Goals as goal

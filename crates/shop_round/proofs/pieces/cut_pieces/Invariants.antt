@@ -1,7 +1,8 @@
 use Rattle.std.proofs.Common.{◌≡◌, ◌-◌, ◌++◌, true, length}
 use Rattle.std.specs.Vec.Iter.{into_iter_items}
 use Rattle.shop_round.specs.Round.{cut_into}
-use Rattle.shop_round.specs.Nodes.{nodes_in, numbered}
+use Rattle.shop_round.specs.Nodes.{numbered}
+use Rattle.shop_round.specs.inner.OpenNodes.{nodes_in}
 use Rattle.shop_round.proofs.pieces.cut_pieces.Given as goal
 
 abbrev pub invariant-loop-number : goal.invariant-loop-number

@@ -1,7 +1,7 @@
 use Rattle.std.proofs.Common.{◌≡◌, refl, ◌∙◌, ap}
 use Rattle.shop_tree.specs.Nodes.{words_of}
 use Rattle.shop_round.specs.Round.{answer, least_bound}
-use Rattle.shop_round.specs.Nodes.{least_of_bounds}
+use Rattle.shop_round.specs.inner.OpenNodes.{least_of_bounds}
 use Rattle.shop_round.specs.Runs.{planned}
 use Rattle.shop_round.proofs.Answering.{says_standing, trust_standing}
 use Rattle.shop_round.proofs.NodeLemmas.{least_is}

@@ -1,6 +1,6 @@
 use Rattle.std.proofs.Common.{◌*◌, min, sym, ◌∙◌, ap, subst, arith}
 use Rattle.shop_round.specs.Round.{cut_into}
-use Rattle.shop_round.specs.Nodes.{least_of_bounds}
+use Rattle.shop_round.specs.inner.OpenNodes.{least_of_bounds}
 use Rattle.shop_round.specs.Runs.{planned, stands}
 use Rattle.shop_round.specs.Laws.{CoversInRound}
 use Rattle.shop_round.proofs.Covering.{cut_covers}
