@@ -1,4 +1,6 @@
 pub mod FallingTails
+pub mod ProfileLemmas
+pub mod MergedProfiles
 pub mod SlotLemmas
 pub mod SlotLists
 pub mod BoundsAfter

@@ -14,7 +14,7 @@ use Rattle.shop_bound.proofs.Lists.{IsSublist, none, skip, keep, all_append, all
 use Rattle.shop_bound.proofs.Lists.{least_of-le, least_of-is}
 
 module _ {A : Type 0} where
-  greatest_of-append : (f : A → ℕ) (xs ys : List A)
+  pub greatest_of-append : (f : A → ℕ) (xs ys : List A)
       → greatest_of f (xs ++ ys) ≡ max (greatest_of f xs) (greatest_of f ys)
   greatest_of-append f [] ys = omega arith
   greatest_of-append f (x ∷ xs) ys = let a = greatest_of-append f xs ys in omega arith

@@ -10,6 +10,7 @@ mod layouts;
 mod lower;
 mod open_bounds;
 mod placements;
+mod profiles;
 mod schedules;
 #[cfg(test)]
 mod slot_tests;

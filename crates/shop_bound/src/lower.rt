@@ -7,7 +7,7 @@ ghost use Rattle.shop_bound.specs.OneMachine.{IsSmall};
 ghost use Rattle.shop_bound.specs.Unplaced.{greatest_among, triples_among};
 
 use crate::placements::Placement;
-use crate::schedules::Jackson;
+use crate::profiles::bound_by_profile;
 use crate::unplaced::{Unplaced, gather, list_unplaced};
 use shop_model::{Instance, Word};
 use std::alloc::{AllocError, Global};
@@ -18,11 +18,10 @@ fn greatest_bound(alloc: Global, free: &[u64], unplaced: &[Unplaced]) -> Result<
     ensures { IfOk result (λ b. b ≡ greatest_among free.now unplaced.now) }
 {
     let mut triples = Vec::with_capacity(alloc, unplaced.len())?;
-    let mut jackson = Jackson::with_room(alloc, unplaced.len())?;
     let mut bound = 0;
     for machine in 0..free.len() {
         gather(&mut triples, unplaced, machine);
-        let left = jackson.bound(triples.as_slice());
+        let left = bound_by_profile(alloc, &mut triples)?;
         bound = bound.max(free[machine].max(left));
     }
     Ok(bound)

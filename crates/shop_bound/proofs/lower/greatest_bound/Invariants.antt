@@ -7,5 +7,4 @@ abbrev pub invariant-loop-machine : goal.invariant-loop-machine
 invariant-loop-machine l = record {
   bound : l.bound ≡ greatest_below l.machine (bound_among l.free l.unplaced);
   room : length l.unplaced ≤ vec_capacity l.triples;
-  schedule : length l.unplaced ≤ l.jackson.room;
 }
