@@ -27,7 +27,7 @@ goes_first shop plan = record {
       (let e : plan.rounds - 0 ≡ plan.rounds = omega arith in ap (λ n. rounds_from shop plan n (opening shop)) e);
 }
 
-closed : (shop : Shop) (plan : Planned) (n : ℕ) (s : Stand) → s.open_words ≡ [] → rounds_from shop plan n s ≡ s
+pub closed : (shop : Shop) (plan : Planned) (n : ℕ) (s : Stand) → s.open_words ≡ [] → rounds_from shop plan n s ≡ s
 closed shop plan zero s e = refl
 closed shop plan (suc n) s e = ap (λ ws. unless_closed ws s (λ t. rounds_from shop plan n (round shop plan t))) e
 

@@ -16,3 +16,5 @@ pub mod GatherLemmas
 pub mod OutcomeLemmas
 pub mod EntryLemmas
 pub mod GatheredLemmas
+pub mod TreeSizes
+pub mod Ending

@@ -1,6 +1,7 @@
 // Laws of rounds and answers, over their definitions alone.
 ghost use Rattle.shop_round.specs.Laws.{PiecesAreAll, OpeningCovers, CutsCover, GatheringCovers};
 ghost use Rattle.shop_round.specs.Laws.{RoundsKeepTheCover, AnswersAreTrustworthy, CountsStaySmall};
+ghost use Rattle.shop_round.specs.Exact.{SearchesEnd, MoreRoundsAreNoWorse, SolvedStays};
 
 /// The pieces of a round and its rest are, in order, the words that were cut.
 pub fn pieces_are_all()
@@ -38,4 +39,20 @@ pub fn answers_are_trustworthy()
 /// A round adds one to the rounds done, and to the nodes counted at most the budget of each piece.
 pub fn counts_stay_small()
     ensures { CountsStaySmall }
+{}
+
+/// For every instance, budget, piece size and order there is a number of rounds from which on no
+/// node is open and the makespan is least, where a budget and a piece are of one node at least.
+pub fn searches_end()
+    ensures { SearchesEnd }
+{}
+
+/// More rounds never end at a greater makespan.
+pub fn more_rounds_are_no_worse()
+    ensures { MoreRoundsAreNoWorse }
+{}
+
+/// Once no node is open, further rounds change nothing.
+pub fn solved_stays()
+    ensures { SolvedStays }
 {}

@@ -15,8 +15,9 @@ mod standings;
 pub use crews::{Alone, Crew, search_piece};
 pub use entries::{Entry, Kind};
 pub use laws::{
-    answers_are_trustworthy, counts_stay_small, cuts_cover, gathering_covers, opening_covers,
-    pieces_are_all, rounds_keep_the_cover,
+    answers_are_trustworthy, counts_stay_small, cuts_cover, gathering_covers,
+    more_rounds_are_no_worse, opening_covers, pieces_are_all, rounds_keep_the_cover, searches_end,
+    solved_stays,
 };
 pub use limits::{MAX_BUDGET, MAX_PIECE, MAX_PIECES, MAX_ROUNDS};
 pub use outcomes::gather;
