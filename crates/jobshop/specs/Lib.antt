@@ -1,2 +1,4 @@
+pub mod LineFaults
 pub mod CommandLine
 pub mod Statuses
+pub mod Running

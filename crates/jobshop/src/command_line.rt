@@ -1,12 +1,13 @@
 // The command line as clap's builder makes it.
 ghost use Rattle.std.specs.Prelude.{◌≡◌, IfOk, codes, false};
-ghost use Rattle.clap.specs.Words.{app_of};
+ghost use Rattle.clap.specs.Words.{app_of, new_app};
 ghost use Rattle.clap.specs.declared.builder.command.Command.TheViews.{out-Command};
 ghost use Rattle.clap.specs.declared.builder.value_parser.ValueParser.TheVariants.{Names};
 ghost use Rattle.jobshop.specs.CommandLine.{option_rule, choice_rule, format_rule, number_rule, flag_rule, path_rule};
 ghost use Rattle.jobshop.specs.CommandLine.{IsArgOf, IsCommandOf, IsCommandLine};
 ghost use Rattle.jobshop.specs.CommandLine.{list_command, check_command, solve_command, with_plan_rules};
 
+use crate::help::{CHECK, Help, LIST, PROGRAM, SOLVE};
 use clap::builder::ValueParser;
 use clap::{Arg, ArgAction, Command};
 use shop_board::MAX_WORKERS;
@@ -15,6 +16,15 @@ use std::alloc::{AllocError, Global};
 
 /// The orders in which a round takes the open nodes.
 static ORDERS: [&str; 2] = ["kept", "bound"];
+
+/// A command without arguments, of this name and with this help.
+fn described<'a>(alloc: Global, name: &'a str, help: &Help) -> Command<'a>
+    ensures { IsCommandOf (new_app name.entry.now) result }
+{
+    Command::new(alloc, name)
+        .about(help.about)
+        .after_help(help.end)
+}
 
 /// An option that takes a value.
 fn option<'a>(alloc: Global, id: &'a str, value: &'a str, help: &'a str) -> Arg<'a>
@@ -80,7 +90,7 @@ fn format<'a>(alloc: Global, formats: &'a [&'a str]) -> Arg<'a>
         alloc,
         "format",
         "F",
-        "How the instance text is written",
+        "How the instance text is written: as OR-Library's jobshop1, as Taillard's texts, or as routes with releases",
         formats,
         "orlib",
     )
@@ -111,8 +121,7 @@ fn file<'a>(alloc: Global) -> Arg<'a>
 fn list<'a>(alloc: Global, formats: &'a [&'a str]) -> Result<Command<'a>, AllocError>
     ensures { IfOk result (IsCommandOf (list_command (Names formats.entry))) }
 {
-    Command::new(alloc, "list")
-        .about("Lists the instances of a text: name, jobs, machines")
+    described(alloc, "list", &LIST)
         .arg(format(alloc, formats))?
         .arg(file(alloc))
 }
@@ -121,8 +130,7 @@ fn list<'a>(alloc: Global, formats: &'a [&'a str]) -> Result<Command<'a>, AllocE
 fn check<'a>(alloc: Global, formats: &'a [&'a str]) -> Result<Command<'a>, AllocError>
     ensures { IfOk result (IsCommandOf (check_command (Names formats.entry))) }
 {
-    Command::new(alloc, "check")
-        .about("Judges a schedule of an instance: feasible with its makespan, or its first fault")
+    described(alloc, "check", &CHECK)
         .arg(format(alloc, formats))?
         .arg(name(alloc))?
         .arg(file(alloc))?
@@ -146,7 +154,7 @@ fn with_plan<'a>(
         .arg(number(
             alloc,
             "rounds",
-            "At most so many rounds",
+            "At most so many rounds, 0 to 100000; more may end lower and take longer",
             0,
             100_000,
             "1000",
@@ -154,17 +162,24 @@ fn with_plan<'a>(
         .arg(number(
             alloc,
             "budget",
-            "Nodes taken in a piece",
+            "Nodes that the search of a piece takes before it leaves the rest open, 1 to 10000000",
             1,
             10_000_000,
             "100000",
         ))?
-        .arg(number(alloc, "piece", "Nodes of a piece", 1, 1_000, "1"))?
+        .arg(number(
+            alloc,
+            "piece",
+            "Open nodes in a piece, 1 to 1000; a round searches at most 256 pieces",
+            1,
+            1_000,
+            "1",
+        ))?
         .arg(choice(
             alloc,
             "order",
             "O",
-            "The order in which a round takes the open nodes",
+            "Which open nodes a round takes first: as they were kept, or those of least lower bound",
             orders,
             "kept",
         ))
@@ -178,20 +193,23 @@ fn solve<'a>(
 ) -> Result<Command<'a>, AllocError>
     ensures { IfOk result (IsCommandOf (solve_command (Names formats.entry) (Names orders.entry))) }
 {
-    let command = Command::new(alloc, "solve")
-        .about("Searches a schedule of least makespan, and reports it with a proved lower bound")
+    let command = described(alloc, "solve", &SOLVE)
         .arg(format(alloc, formats))?
         .arg(name(alloc))?;
     with_plan(alloc, command, orders)?
         .arg(number(
             alloc,
             "workers",
-            "Threads that search; the answer is the same for any",
+            "Threads that search side by side, 1 to 64; the report is the same for any number",
             1,
             MAX_WORKERS as u64,
             "1",
         ))?
-        .arg(flag(alloc, "gantt", "Draws the schedule below the report"))?
+        .arg(flag(
+            alloc,
+            "gantt",
+            "Draws the schedule below the report: a line for each machine",
+        ))?
         .arg(file(alloc))
 }
 
@@ -200,8 +218,7 @@ pub fn command<'a>(alloc: Global) -> Result<Command<'a>, AllocError>
     ensures { IfOk result IsCommandLine }
 {
     let formats = FORMAT_WORDS.as_slice();
-    Command::new(alloc, "jobshop")
-        .about("An exact solver of the job shop whose answers are proved")
+    described(alloc, "jobshop", &PROGRAM)
         .subcommand_required(true)
         .subcommand(list(alloc, formats)?)?
         .subcommand(check(alloc, formats)?)?

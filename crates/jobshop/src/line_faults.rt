@@ -1,3 +1,8 @@
+// Why a command line is refused.
+ghost use Rattle.std.specs.Prelude.{◌≡◌};
+ghost use Rattle.jobshop.specs.LineFaults.{line_fault_of};
+ghost use Rattle.jobshop.specs.declared.line_faults.LineFault.TheVariants.{NoMemory};
+
 use clap::error::ErrorKind;
 use clap::{Command, Error};
 use std::alloc::{AllocError, AllocFailed, Global};
@@ -10,6 +15,8 @@ pub enum LineFault {
 }
 
 impl From<Error> for LineFault {
+    ghost from_gives = { λ fault e. e ≡ line_fault_of fault };
+
     fn from(fault: Error) -> LineFault {
         if fault.kind() == ErrorKind::OutOfMemory {
             LineFault::NoMemory
@@ -20,12 +27,16 @@ impl From<Error> for LineFault {
 }
 
 impl From<AllocError> for LineFault {
+    ghost from_gives = { λ _ e. e ≡ NoMemory };
+
     fn from(_fault: AllocError) -> LineFault {
         LineFault::NoMemory
     }
 }
 
 impl<T: Drop> From<AllocFailed<T>> for LineFault {
+    ghost from_gives = { λ _ e. e ≡ NoMemory };
+
     fn from(_fault: AllocFailed<T>) -> LineFault {
         LineFault::NoMemory
     }

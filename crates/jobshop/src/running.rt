@@ -1,23 +1,28 @@
-// The program over its words and its devices.
+// Runs of the commands, on files or on the source that they are given.
+ghost use Rattle.std.specs.Prelude.{◌≡◌, true, IfOk, IfErr, is_some};
 ghost use Rattle.std.specs.Thread.{IsSync};
-ghost use Rattle.shop_round.specs.Runs.{planned};
-ghost use Rattle.shop_engine.specs.Asking.{name_in};
-ghost use Rattle.shop_engine.specs.Solving.{IsHeadline, IsSolving};
+ghost use Rattle.shop_engine.specs.declared.faults.Fault.TheVariants.{ReadFailed};
+ghost use Rattle.jobshop.specs.Running.{Streams, IsRunOn, IsRun};
+ghost use Rattle.jobshop.specs.Running.{ListsFrom, ChecksFrom, Solves, SolvesFrom};
 
 use crate::arguments::Args;
-use crate::reading::args_of;
-use crate::statuses::{DONE, INFEASIBLE, say_fault, say_line_fault};
+use crate::statuses::{DONE, status_of_check};
 use shop_board::{BoardCrew, OpenGate};
 use shop_engine::{
     CheckArgs, Fault, ListArgs, Reading, Sink, SolveArgs, Source, check_text, list_text, solve_text,
 };
 use shop_round::Alone;
+use std::alloc::Global;
 use std::fs::File;
 use std::rt::Files;
 use std::thread::Threads;
 
 /// Opens a file, if a path is given; one that can't be opened is a failed read.
-fn open_given<R: Files>(rt: &R, path: &Option<String>) -> Result<Option<Reading<R::File>>, Fault> {
+fn open_given<R: Files>(rt: &R, path: &Option<String>) -> Result<Option<Reading<R::File>>, Fault>
+    ensures opened { IfOk result (λ opened. is_some opened ≡ is_some path.now) }
+    ensures unopened { IfErr result (λ fault.
+        (fault ≡ ReadFailed) × (is_some path.now ≡ true)) }
+{
     let Some(path) = path else {
         return Ok(None);
     };
@@ -27,6 +32,20 @@ fn open_given<R: Files>(rt: &R, path: &Option<String>) -> Result<Option<Reading<
     }
 }
 
+/// Lists the instances of a source. The exit status.
+fn list_from<S: Source, K: Sink>(
+    alloc: Global,
+    args: &ListArgs,
+    source: &mut S,
+    out: &mut K,
+) -> Result<u8, Fault>
+    ensures { ListsFrom args.now (K.device out.old) (K.device out.new) result
+        (S.device source.old) (S.device source.new) }
+{
+    list_text(alloc, source, out, args)?;
+    Ok(DONE)
+}
+
 /// Runs `list`. The exit status.
 fn run_list<R: Files + AllocGlobal, S: Source, K: Sink>(
     rt: &R,
@@ -34,12 +53,32 @@ fn run_list<R: Files + AllocGlobal, S: Source, K: Sink>(
     file: &Option<String>,
     source: &mut S,
     out: &mut K,
-) -> Result<u8, Fault> {
+) -> Result<u8, Fault>
+    ensures { IsRunOn file.now
+        (record { source = S.device source.old; sink = K.device out.old })
+        (record { source = S.device source.new; sink = K.device out.new }) result
+        (ListsFrom args.now (K.device out.old) (K.device out.new) result) }
+{
     match open_given(rt, file)? {
-        Some(mut first) => list_text(rt.alloc(), &mut first, out, args)?,
-        None => list_text(rt.alloc(), source, out, args)?,
+        Some(mut first) => list_from(rt.alloc(), args, &mut first, out),
+        None => list_from(rt.alloc(), args, source, out),
     }
-    Ok(DONE)
+}
+
+/// Judges the schedule of a file, if a path is given, or else of the source. The exit status.
+fn check_from<R: Files + AllocGlobal, S: Source, K: Sink>(
+    rt: &R,
+    args: &CheckArgs,
+    schedule: &Option<String>,
+    source: &mut S,
+    out: &mut K,
+) -> Result<u8, Fault>
+    ensures { ChecksFrom args.now schedule.now (K.device out.old) (K.device out.new) result
+        (S.device source.old) (S.device source.new) }
+{
+    let mut second = open_given(rt, schedule)?;
+    let is_feasible = check_text(rt.alloc(), source, &mut second, out, args)?;
+    Ok(status_of_check(is_feasible))
 }
 
 /// Runs `check`. The exit status.
@@ -50,14 +89,16 @@ fn run_check<R: Files + AllocGlobal, S: Source, K: Sink>(
     schedule: &Option<String>,
     source: &mut S,
     out: &mut K,
-) -> Result<u8, Fault> {
-    let first = open_given(rt, file)?;
-    let mut second = open_given(rt, schedule)?;
-    let is_feasible = match first {
-        Some(mut first) => check_text(rt.alloc(), &mut first, &mut second, out, args)?,
-        None => check_text(rt.alloc(), source, &mut second, out, args)?,
-    };
-    Ok(if is_feasible { DONE } else { INFEASIBLE })
+) -> Result<u8, Fault>
+    ensures { IsRunOn file.now
+        (record { source = S.device source.old; sink = K.device out.old })
+        (record { source = S.device source.new; sink = K.device out.new }) result
+        (ChecksFrom args.now schedule.now (K.device out.old) (K.device out.new) result) }
+{
+    match open_given(rt, file)? {
+        Some(mut first) => check_from(rt, args, schedule, &mut first, out),
+        None => check_from(rt, args, schedule, source, out),
+    }
 }
 
 /// Solves with one worker, the calling thread, or with a crew of threads: the report is the same for every number of
@@ -70,10 +111,8 @@ fn solve_by<R: Threads + Sync + AllocGlobal, S: Source, K: Sink>(
     out: &mut K,
 ) -> Result<(), Fault>
     requires { IsSync R.row }
-    ensures solving { IsSolving args.now.format (name_in args.now.name) (planned args.now.plan) args.now.gantt
-        (S.device source.old) (S.device source.new) (K.device out.old) (K.device out.new) result }
-    ensures headline { IsHeadline args.now.format (name_in args.now.name) (planned args.now.plan) args.now.gantt
-        (S.device source.old) (K.device out.old) (K.device out.new) result }
+    ensures { Solves args.now (K.device out.old) (K.device out.new) result
+        (S.device source.old) (S.device source.new) }
 {
     if workers < 2 {
         return solve_text(rt, rt.alloc(), source, out, args, &mut Alone);
@@ -82,6 +121,22 @@ fn solve_by<R: Threads + Sync + AllocGlobal, S: Source, K: Sink>(
         return solve_text(rt, rt.alloc(), source, out, args, &mut Alone);
     };
     solve_text(rt, rt.alloc(), source, out, args, &mut crew)
+}
+
+/// Solves an instance of a source. The exit status.
+fn solve_from<R: Threads + Sync + AllocGlobal, S: Source, K: Sink>(
+    rt: &R,
+    args: &SolveArgs,
+    workers: usize,
+    source: &mut S,
+    out: &mut K,
+) -> Result<u8, Fault>
+    requires { IsSync R.row }
+    ensures { SolvesFrom args.now (K.device out.old) (K.device out.new) result
+        (S.device source.old) (S.device source.new) }
+{
+    solve_by(rt, args, workers, source, out)?;
+    Ok(DONE)
 }
 
 /// Runs `solve`. The exit status.
@@ -94,22 +149,28 @@ fn run_solve<R: Files + Threads + Sync + AllocGlobal, S: Source, K: Sink>(
     out: &mut K,
 ) -> Result<u8, Fault>
     requires { IsSync R.row }
+    ensures { IsRunOn file.now
+        (record { source = S.device source.old; sink = K.device out.old })
+        (record { source = S.device source.new; sink = K.device out.new }) result
+        (SolvesFrom args.now (K.device out.old) (K.device out.new) result) }
 {
     match open_given(rt, file)? {
-        Some(mut first) => solve_by(rt, args, workers, &mut first, out)?,
-        None => solve_by(rt, args, workers, source, out)?,
+        Some(mut first) => solve_from(rt, args, workers, &mut first, out),
+        None => solve_from(rt, args, workers, source, out),
     }
-    Ok(DONE)
 }
 
 /// Runs what the command line asks for. The exit status.
-fn run_args<R: Files + Threads + Sync + AllocGlobal, S: Source, K: Sink>(
+pub fn run_args<R: Files + Threads + Sync + AllocGlobal, S: Source, K: Sink>(
     rt: &R,
     args: &Args,
     source: &mut S,
     out: &mut K,
 ) -> Result<u8, Fault>
     requires { IsSync R.row }
+    ensures { IsRun args.now
+        (record { source = S.device source.old; sink = K.device out.old })
+        (record { source = S.device source.new; sink = K.device out.new }) result }
 {
     match args {
         Args::ListNames { args, file } => run_list(rt, args, file, source, out),
@@ -123,27 +184,5 @@ fn run_args<R: Files + Threads + Sync + AllocGlobal, S: Source, K: Sink>(
             workers,
             file,
         } => run_solve(rt, args, *workers, file, source, out),
-    }
-}
-
-/// Runs the program on the words of a command line, the program's name first: it reads files or the source, writes to
-/// `out`, and says faults on `err`. The exit status: 0 done, 1 infeasible, 2 a faulty command line, 3 a text refused,
-/// 4 a read or write that failed, 5 no memory.
-pub fn program<R: Files + Threads + Sync + AllocGlobal, S: Source, K: Sink, E: Sink>(
-    rt: &R,
-    words: &[String],
-    source: &mut S,
-    out: &mut K,
-    err: &mut E,
-) -> u8
-    requires { IsSync R.row }
-{
-    let args = match args_of(rt.alloc(), words) {
-        Ok(args) => args,
-        Err(fault) => return say_line_fault(rt.alloc(), err, fault),
-    };
-    match run_args(rt, &args, source, out) {
-        Ok(status) => status,
-        Err(fault) => say_fault(rt.alloc(), err, fault),
     }
 }

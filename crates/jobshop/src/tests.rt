@@ -1,7 +1,7 @@
 // The program over memory: worked instances with their reports, lists, verdicts and refusals.
 ghost use Rattle.std.specs.Thread.{IsSync};
 
-use crate::running::program;
+use crate::program::program;
 use shop_engine::{Memory, Reading};
 use std::process::Abort;
 use std::rt::Files;

@@ -1,17 +1,13 @@
-use Rattle.std.proofs.Common.{codes}
 use Rattle.std.proofs.lemmas.Result.{IfOk-weaker}
-use Rattle.clap.specs.Words.{new_app}
 use Rattle.clap.specs.declared.builder.value_parser.ValueParser.{ValueParser}
 use Rattle.clap.specs.declared.builder.value_parser.ValueParser.TheVariants.{Names}
-use Rattle.jobshop.specs.CommandLine.{IsCommandOf, IsCommandLine}
-use Rattle.jobshop.proofs.Commands.{added_subcommand, described, needs_subcommand}
+use Rattle.jobshop.specs.CommandLine.{IsCommandLine}
+use Rattle.jobshop.proofs.Commands.{added_subcommand, needs_subcommand}
 use Rattle.jobshop.proofs.command_line.command.Goals as goal
 
 pub returns : goal.returns
 returns c =
-    let new : IsCommandOf (new_app (codes "jobshop")) c.new.result = (c.new.ensures.app, c.new.ensures.local) in
-    let named = described _ _ _ _ new c.about.ensures in
-    let start = needs_subcommand _ _ _ named c.subcommand_required.ensures in
+    let start = needs_subcommand _ _ _ c.described.ensures c.subcommand_required.ensures in
     let first = added_subcommand _ _ _ _ _ start c.in_ok-list.ensures c.in_ok-subcommand.ensures in
     let second = added_subcommand _ _ _ _ _ first c.in_ok-check.ensures c.in_ok-subcommand-2.ensures in
     let formats : ValueParser = Names c.as_slice-formats.result in

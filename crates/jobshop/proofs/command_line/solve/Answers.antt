@@ -4,7 +4,7 @@ use Rattle.clap.specs.Words.{App, Rule, new_app, with_rule}
 use Rattle.clap.specs.declared.builder.value_parser.ValueParser.TheVariants.{Names}
 use Rattle.jobshop.specs.CommandLine.{IsCommandOf, flag_rule, format_rule, number_rule, option_rule, path_rule}
 use Rattle.jobshop.specs.CommandLine.{solve_command, with_plan_rules}
-use Rattle.jobshop.proofs.Commands.{added_arg, described, planned_arg}
+use Rattle.jobshop.proofs.Commands.{added_arg, planned_arg}
 use Rattle.jobshop.proofs.command_line.solve.Goals as goal
 
 pub returns : goal.returns
@@ -14,9 +14,7 @@ returns c =
     let name : Rule = option_rule (codes "name") in
     let workers : Rule = number_rule (codes "workers") 1 64 (codes "1") in
     let gantt : Rule = flag_rule (codes "gantt") in
-    let new : IsCommandOf start c.new.result = (c.new.ensures.app, c.new.ensures.local) in
-    let named = described start _ c.new.result c.about.result new c.about.ensures in
-    let first = added_arg start format c.about.result c.in_ok-arg.field-0 c.format.result named
+    let first = added_arg start format c.described.result c.in_ok-arg.field-0 c.format.result c.described.ensures
     c.format.ensures c.in_ok-arg.ensures in
     let second = added_arg (with_rule start format) name c.in_ok-arg.field-0 c.in_ok-command.command
     c.name.result first c.name.ensures c.in_ok-command.ensures in

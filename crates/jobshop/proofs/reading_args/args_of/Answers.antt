@@ -4,7 +4,7 @@ use Rattle.std.proofs.lemmas.Result.{IfOk-weaker}
 use Rattle.clap.specs.Words.{found_of, rows_of}
 use Rattle.jobshop.specs.CommandLine.{IsLineOf}
 use Rattle.jobshop.proofs.LineReads.{line_of}
-use Rattle.jobshop.proofs.reading.args_of.Goals as goal
+use Rattle.jobshop.proofs.reading_args.args_of.Goals as goal
 
 pub returns-in-Some-list-default : goal.returns-in-Some-list-default
 returns-in-Some-list-default c =

@@ -1,0 +1,71 @@
+"""The built program, and how the checks run it."""
+
+import os
+import subprocess
+import sys
+from pathlib import Path
+from typing import NamedTuple
+
+TOP = Path(__file__).resolve().parent.parent
+PROGRAM = TOP / "crates" / "jobshop" / "out" / "jobshop"
+SECONDS = 60
+
+CROSSING = "2 2\n0 3 1 2\n1 2 0 4\n"
+GAP = "2 3\n0 5 1 3 2 0\n1 1 0 1 2 6\n"
+TWO_NAMED = f"Two examples\ninstance crossing\nFirst\n{CROSSING}instance gap\nSecond\n{GAP}"
+TAILLARD = "a heading\n2 2 11 22 6 6\nTimes\n3 2\n2 4\nMachines\n1 2\n2 1\n"
+RELEASED = "3 2\n0 0 3 1 2\n4 1 2 0 4\n7\n"
+FEASIBLE = "job 0: 0 3\njob 1: 0 3\n"
+INFEASIBLE = "job 0: 0 3\njob 1: 0 2\n"
+
+OUT_OF_MEMORY = b"error 1: out of memory\n"
+READ_FAILED = b"error 13: read failed\n"
+WRITE_FAILED = b"error 14: write failed\n"
+
+
+class Ended(NamedTuple):
+    """How a run ended: its status, and what it wrote to standard output and standard error."""
+
+    status: int
+    out: bytes
+    err: bytes
+
+
+def run(words, text="", program=PROGRAM, **given):
+    """Runs the program on these words after its name, with a text or a file as its standard input."""
+    if "stdin" not in given:
+        given["input"] = text.encode() if isinstance(text, str) else text
+    streams = {"stdout": subprocess.PIPE, "stderr": subprocess.PIPE}
+    done = subprocess.run([program, *words], timeout=SECONDS, **{**streams, **given})
+    return Ended(done.returncode, done.stdout or b"", done.stderr or b"")
+
+
+class Tally:
+    """Counts what was looked at, and prints what isn't as it must be."""
+
+    def __init__(self):
+        self.looked_at = 0
+        self.wrong = 0
+
+    def expect(self, title, is_right, ended=""):
+        self.looked_at += 1
+        if not is_right:
+            self.wrong += 1
+            print(f"  {title}: WRONG: {ended}", flush=True)
+
+    def expect_equal(self, title, ended, wanted):
+        self.expect(title, ended == wanted, f"{ended}, and not {wanted}")
+
+
+def example(name):
+    return os.fspath(TOP / "examples" / name)
+
+
+def judge(check):
+    """Runs a check, and ends with status 1 where something isn't as it must be."""
+    if not PROGRAM.exists():
+        sys.exit(f"{PROGRAM} isn't built yet: run ./build first")
+    tally = Tally()
+    check(tally)
+    print(f"  {tally.looked_at} looked at, {tally.wrong} wrong", flush=True)
+    sys.exit(1 if tally.wrong else 0)

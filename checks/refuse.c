@@ -1,0 +1,123 @@
+/* Refuses allocations and the start of threads in a process: a shim for LD_PRELOAD, used by the checks.
+ *
+ * Allocations (malloc, calloc, realloc, aligned_alloc, posix_memalign) and started threads are counted from 1, once
+ * the program's own libraries are loaded. What is refused, by variables of the environment; none of them: nothing.
+ *
+ *     REFUSE_AT=N           the allocation of number N
+ *     REFUSE_FROM=N         all allocations from number N on
+ *     REFUSE_RANDOM=P SEED  P of 1,000 allocations, by a hash of their number and the seed
+ *     REFUSE_THREAD_AT=N    the thread of number N
+ *     REFUSE_THREAD_FROM=N  all threads from number N on
+ *     REFUSE_LOG=FILE       the file gets one line: the allocations, how many of them were refused, the same of threads
+ */
+#define _GNU_SOURCE
+#include <dlfcn.h>
+#include <errno.h>
+#include <fcntl.h>
+#include <pthread.h>
+#include <stdatomic.h>
+#include <stdint.h>
+#include <stdio.h>
+#include <stdlib.h>
+#include <sys/syscall.h>
+#include <unistd.h>
+
+extern void *__libc_malloc(size_t);
+extern void *__libc_calloc(size_t, size_t);
+extern void *__libc_realloc(void *, size_t);
+extern void *__libc_memalign(size_t, size_t);
+
+/* What is counted, and which of it is refused. */
+struct kind {
+    atomic_long count, refused;
+    long at, from;
+};
+
+static struct kind allocations, threads;
+static unsigned per_thousand, seed;
+static const char *log_name;
+static int is_ready;
+
+static long number_in(const char *name) {
+    const char *text = getenv(name);
+    return text ? atol(text) : 0;
+}
+
+__attribute__((constructor)) static void begin(void) {
+    allocations.at = number_in("REFUSE_AT");
+    allocations.from = number_in("REFUSE_FROM");
+    threads.at = number_in("REFUSE_THREAD_AT");
+    threads.from = number_in("REFUSE_THREAD_FROM");
+    const char *random = getenv("REFUSE_RANDOM");
+    if (random) sscanf(random, "%u %u", &per_thousand, &seed);
+    log_name = getenv("REFUSE_LOG");
+    is_ready = 1;
+}
+
+static int refuses_at_random(long number) {
+    uint32_t x = seed * 0x9e3779b9u + (uint32_t)number;
+    x = (x ^ (x >> 16)) * 0x7feb352du;
+    x = (x ^ (x >> 15)) * 0x846ca68bu;
+    return (x ^ (x >> 16)) % 1000 < per_thousand;
+}
+
+static int refuses(struct kind *kind) {
+    if (!is_ready) return 0;
+    long number = atomic_fetch_add(&kind->count, 1) + 1;
+    int is_refused = number == kind->at || (kind->from && number >= kind->from) ||
+                     (kind == &allocations && refuses_at_random(number));
+    if (is_refused) atomic_fetch_add(&kind->refused, 1);
+    return is_refused;
+}
+
+static int refuses_memory(void) {
+    if (!refuses(&allocations)) return 0;
+    errno = ENOMEM;
+    return 1;
+}
+
+void *malloc(size_t size) { return refuses_memory() ? NULL : __libc_malloc(size); }
+
+void *calloc(size_t count, size_t size) { return refuses_memory() ? NULL : __libc_calloc(count, size); }
+
+void *realloc(void *old, size_t size) { return refuses_memory() ? NULL : __libc_realloc(old, size); }
+
+void *aligned_alloc(size_t align, size_t size) { return refuses_memory() ? NULL : __libc_memalign(align, size); }
+
+int posix_memalign(void **out, size_t align, size_t size) {
+    void *block = refuses_memory() ? NULL : __libc_memalign(align, size);
+    if (!block) return ENOMEM;
+    *out = block;
+    return 0;
+}
+
+typedef int create(pthread_t *, const pthread_attr_t *, void *(*)(void *), void *);
+
+int pthread_create(pthread_t *thread, const pthread_attr_t *how, void *(*work)(void *), void *given) {
+    if (refuses(&threads)) return EAGAIN;
+    create *real = (create *)dlsym(RTLD_NEXT, "pthread_create");
+    return real(thread, how, work, given);
+}
+
+static void write_log(void) {
+    if (!log_name) return;
+    is_ready = 0;
+    char line[96];
+    int length = snprintf(line, sizeof line, "%ld %ld %ld %ld\n", (long)allocations.count, (long)allocations.refused,
+                          (long)threads.count, (long)threads.refused);
+    int file = open(log_name, O_WRONLY | O_CREAT | O_TRUNC, 0644);
+    if (file < 0) return;
+    ssize_t written = write(file, line, (size_t)length);
+    (void)written;
+    close(file);
+}
+
+/* A program ends by exit, which calls this, or at once by _exit. */
+__attribute__((destructor)) static void end(void) { write_log(); }
+
+void _exit(int status) {
+    write_log();
+    syscall(SYS_exit_group, status);
+    for (;;) {
+    }
+}

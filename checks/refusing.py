@@ -1,0 +1,37 @@
+"""Runs of the built program in which memory or threads are refused."""
+
+import os
+import subprocess
+import threading
+from pathlib import Path
+from typing import NamedTuple
+
+from program import TOP, run
+
+
+class Counted(NamedTuple):
+    """What a run asked for, and how much of it was refused."""
+
+    allocations: int
+    refused_allocations: int
+    threads: int
+    refused_threads: int
+
+
+class Refusing:
+    """The shim, built into a folder that also takes its logs."""
+
+    def __init__(self, folder):
+        self.folder = Path(folder)
+        self.shim = self.folder / "refuse.so"
+        source = TOP / "checks" / "refuse.c"
+        subprocess.run(["cc", "-O1", "-shared", "-fPIC", "-o", self.shim, source, "-ldl"], check=True)
+
+    def run(self, words, text, **refused):
+        """How a run ended, and what it asked for. The keywords are the shim's variables, as at=3."""
+        log = self.folder / f"log-{threading.get_ident()}"
+        log.unlink(missing_ok=True)
+        variables = {f"REFUSE_{name.upper()}": str(value) for name, value in refused.items()}
+        env = {**os.environ, "LD_PRELOAD": os.fspath(self.shim), "REFUSE_LOG": os.fspath(log), **variables}
+        ended = run(words, text, env=env)
+        return ended, Counted(*map(int, log.read_text().split()))

@@ -1,0 +1,77 @@
+// What help says of the program and its commands.
+
+/// What stands above and below the help of a command.
+#[derive(Clone, Copy)]
+pub struct Help {
+    pub about: &'static str,
+    pub end: &'static str,
+}
+
+pub const PROGRAM: Help = Help {
+    about: "An exact solver of the job shop whose answers are proved",
+    end: "\
+Examples:
+  jobshop solve ft06.txt > ft06.schedule
+  jobshop check ft06.txt ft06.schedule
+
+Exit status:
+  0  done
+  1  the schedule is infeasible
+  2  the command line is faulty, or asks for help
+  3  a text is refused
+  4  a read or a write failed
+  5  memory ran out",
+};
+
+pub const LIST: Help = Help {
+    about: "Lists the instances of a text: name, jobs, machines",
+    end: "\
+Examples:
+  jobshop list jobshop1.txt
+  jobshop list --format taillard < ta01.txt
+
+Exit status:
+  0  listed
+  2  the command line is faulty, or asks for help
+  3  the text is refused
+  4  a read or a write failed
+  5  memory ran out",
+};
+
+pub const CHECK: Help = Help {
+    about: "Judges a schedule of an instance: feasible with its makespan, or its first fault",
+    end: "\
+A schedule has a line for each job, as 'job 0: 0 3': the starts of its operations. A report of solve is one.
+
+Examples:
+  jobshop check ft06.txt ft06.schedule
+  jobshop check --name la01 jobshop1.txt la01.schedule
+
+Exit status:
+  0  the schedule is feasible
+  1  the schedule is infeasible
+  2  the command line is faulty, or asks for help
+  3  a text is refused
+  4  a read or a write failed
+  5  memory ran out",
+};
+
+pub const SOLVE: Help = Help {
+    about: "Searches a schedule of least makespan, and reports it with a proved lower bound",
+    end: "\
+A search goes in rounds. A round cuts the open nodes of the search into at most 256 pieces; each piece is searched
+until it has taken as many nodes as its budget, and what it leaves stays open. Where no node is open, the status is
+optimal; else it is open, and a search of more rounds or a greater budget may end lower.
+
+Examples:
+  jobshop solve ft06.txt
+  jobshop solve --name la01 --gantt jobshop1.txt
+  jobshop solve --rounds 100 --budget 1000000 --order bound --workers 4 ft10.txt
+
+Exit status:
+  0  reported, also where the status is open
+  2  the command line is faulty, or asks for help
+  3  the text is refused
+  4  a read or a write failed
+  5  memory ran out",
+};
