@@ -2,3 +2,11 @@ pub mod LaneLists
 pub mod SpanTurns
 pub mod MarkLemmas
 pub mod EndTurns
+pub mod Eights
+pub mod Serving
+pub mod BlockTurns
+pub mod Extremes
+pub mod VectorBits
+pub mod BlockMasks
+pub mod MarkedSpans
+pub mod Padding

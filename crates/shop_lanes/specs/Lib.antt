@@ -3,3 +3,4 @@ pub mod Spans
 pub mod Marks
 pub mod Ends
 pub mod Vectors
+pub mod inner

@@ -2,9 +2,12 @@
 #![tactic(auto)]
 
 mod marking;
+mod narrow_blocks;
+mod narrow_rows;
 mod plain_rows;
 mod widths;
 
 pub use marking::Marks;
+pub use narrow_rows::Narrow;
 pub use plain_rows::Plain;
 pub use widths::Lanes;

@@ -1,0 +1,209 @@
+-- Masks and least numbers of lists in blocks of eight, and the first number that a mask tells.
+use Rattle.std.proofs.Common.{◌≡◌, ◌≢◌, ℕ, zero, suc, ◌+◌, ◌-◌, ◌*◌, ◌/◌, ◌%◌, ◌<◌, ◌≤◌, ◌^◌, min, Bool, true, false, cond, inl, inr, ◌==◌, List, [], ◌∷◌, ◌++◌, length, map, take, drop, get_or, refl, ap, sym, ◌∙◌, arith, pow-suc, take-append-drop, length-drop}
+use Rattle.std.proofs.lemmas.Bool.{cases_lt}
+use Rattle.std.proofs.lemmas.Bool.Decides.{nat_tests}
+use Rattle.std.proofs.lemmas.List.{drop-drop, map-append, length-map, length-take}
+use Rattle.std.proofs.lemmas.Simd.{mask_l-lt, none_from_empty_mask, get_or-chunk}
+use Rattle.std.proofs.Math.Pow.{pow_mono}
+use lib.Count.{count_trailing_zeros}
+use lib.Lanes.{mask_l, zip2}
+use Rattle.shop_lanes.specs.Ends.{IsFirstLeast}
+use Rattle.shop_lanes.specs.inner.Passes.{least_up_to, IsFirstOf}
+use Rattle.shop_lanes.proofs.Extremes.{least-append, least-lesser, least_le_top}
+use Rattle.shop_lanes.proofs.MarkLemmas.{odd_lowest, even_lowest}
+
+-- the elements from block b on are those of block b and those behind it
+pub drop_split : {A : Type 0} (b : ℕ) (xs : List A)
+    → drop (8 * b) xs ≡ take 8 (drop (8 * b) xs) ++ drop (8 * (b + 1)) xs
+drop_split b xs =
+    let next : 8 * b + 8 ≡ 8 * (b + 1) = omega arith
+    in sym (take-append-drop 8 (drop (8 * b) xs))
+    ∙ ap (λ l. take 8 (drop (8 * b) xs) ++ l) (drop-drop 8 (8 * b) xs ∙ ap (λ n. drop n xs) next)
+
+pub length-block : {A : Type 0} (b : ℕ) (xs : List A) → 8 * (b + 1) ≤ length xs → length (take 8 (drop (8 * b) xs)) ≡ 8
+length-block b xs le = simp (length-take, length-drop) (omega arith)
+
+pub mask-append : (xs ys : List Bool) → mask_l (xs ++ ys) ≡ mask_l xs + 2 ^ length xs * mask_l ys
+mask-append [] ys = omega arith
+mask-append (x ∷ xs) ys =
+    let rest = mask-append xs ys
+    in let power : 2 ^ suc (length xs) * mask_l ys ≡ 2 * (2 ^ length xs * mask_l ys) =
+    rw (pow-suc 2 (length xs)) (omega arith)
+    in omega (arith, rest, power)
+
+pub mask-block : (p : ℕ → Bool) (b : ℕ) (xs : List ℕ) → 8 * (b + 1) ≤ length xs
+    → mask_l (map p (take 8 (drop (8 * b) xs))) + 256 * mask_l (map p (drop (8 * (b + 1)) xs))
+    ≡ mask_l (map p (drop (8 * b) xs))
+mask-block p b xs le =
+    let block = take 8 (drop (8 * b) xs)
+    in let behind = drop (8 * (b + 1)) xs
+    in let eight : length (map p block) ≡ 8 = length-map block p ∙ length-block b xs le
+    in sym (
+    ap (λ l. mask_l (map p l)) (drop_split b xs)
+    ∙ ap mask_l (map-append p block behind)
+    ∙ mask-append (map p block) (map p behind)
+    ∙ ap (λ n. mask_l (map p block) + 2 ^ n * mask_l (map p behind)) eight
+    )
+
+-- one block back
+pub mask_back : (p : ℕ → Bool) (n : ℕ) (xs : List ℕ) → 0 < n → 8 * n ≤ length xs → (block rest : ℕ)
+    → block ≡ mask_l (map p (take 8 (drop (8 * (n - 1)) xs))) → rest ≡ mask_l (map p (drop (8 * n) xs))
+    → block + 256 * rest ≡ mask_l (map p (drop (8 * (n - 1)) xs))
+mask_back p n xs some le block rest e f =
+    let back : n - 1 + 1 ≡ n = omega arith
+    in let fits : 8 * (n - 1 + 1) ≤ length xs = omega arith
+    in ap (λ m. m + 256 * rest) e
+    ∙ ap (λ m. mask_l (map p (take 8 (drop (8 * (n - 1)) xs))) + 256 * m)
+    (f ∙ ap (λ k. mask_l (map p (drop (8 * k) xs))) (sym back))
+    ∙ mask-block p (n - 1) xs fits
+
+pub mask_small : (p : ℕ → Bool) (xs : List ℕ) (k : ℕ) → length xs ≤ 64 → mask_l (map p (drop k xs)) < 2 ^ 64
+mask_small p xs k le =
+    let ms = map p (drop k xs)
+    in let few : length ms ≤ 64 = simp (length-map, length-drop) (omega arith)
+    in let a = mask_l-lt ms
+    in let b : 2 ^ length ms ≤ 2 ^ 64 = pow_mono few
+    in omega arith
+
+pub least_begins : (xs : List ℕ) → min 65535 (least_up_to 65535 xs) ≡ least_up_to 65535 xs
+least_begins xs = omega (arith, least_le_top 65535 xs)
+
+pub least_more : (top b : ℕ) (xs least next : List ℕ) (all : ℕ) → 8 * (b + 1) ≤ length xs → length least ≡ 8
+    → next ≡ zip2 min least (take 8 (drop (8 * b) xs))
+    → min (least_up_to top least) (least_up_to top (drop (8 * b) xs)) ≡ all
+    → min (least_up_to top next) (least_up_to top (drop (8 * (b + 1)) xs)) ≡ all
+least_more top b xs least next all le eight is so_far =
+    let block = take 8 (drop (8 * b) xs)
+    in let behind = drop (8 * (b + 1)) xs
+    in let long : length least ≡ length block = eight ∙ sym (length-block b xs le)
+    in let one : least_up_to top next ≡ min (least_up_to top least) (least_up_to top block) =
+    ap (least_up_to top) is ∙ least-lesser top least block long
+    in let two : least_up_to top (drop (8 * b) xs) ≡ min (least_up_to top block) (least_up_to top behind) =
+    ap (least_up_to top) (drop_split b xs) ∙ least-append top block behind
+    in omega arith
+
+-- the lowest bit of a mask is the first number that passes
+pub record IsFirstPassed (p : ℕ → Bool) (xs : List ℕ) (r : ℕ) : Type 0 where
+  pub within : r < length xs
+  pub passes : p (get_or xs r 0) ≡ true
+  pub earlier : (i : ℕ) → i < r → p (get_or xs i 0) ≡ false
+
+pub first_passed : (p : ℕ → Bool) (k : ℕ) (xs : List ℕ) → length xs ≤ k → 0 < mask_l (map p xs)
+    → IsFirstPassed p xs (count_trailing_zeros k (mask_l (map p xs)))
+first_passed p k [] le some = absurd (omega arith)
+first_passed p zero (x ∷ xs) le some = absurd (omega arith)
+first_passed p (suc k) (x ∷ xs) le some =
+    by_test (λ more. first_passed p k xs (omega arith) more) (p x) refl some
+  where
+    m : ℕ
+    m = mask_l (map p xs)
+
+    by_test : (0 < m → IsFirstPassed p xs (count_trailing_zeros k m)) → (b : Bool) → p x ≡ b → 0 < cond b 1 0 + 2 * m
+        → IsFirstPassed p (x ∷ xs) (count_trailing_zeros (suc k) (cond (p x) 1 0 + 2 * m))
+    by_test rest true e some_set =
+        let odd : (1 + 2 * m) % 2 ≡ 1 = omega arith
+        in let at : count_trailing_zeros (suc k) (cond (p x) 1 0 + 2 * m) ≡ 0 = rw e (odd_lowest k (1 + 2 * m) odd)
+        in rw at (record { within = omega arith; passes = e; earlier = λ i lt. absurd (omega arith) })
+    by_test rest false e some_set =
+        let even : (0 + 2 * m) % 2 ≡ 0 = omega arith
+        in let half : (0 + 2 * m) / 2 ≡ m = omega arith
+        in let at : count_trailing_zeros (suc k) (cond (p x) 1 0 + 2 * m) ≡ suc (count_trailing_zeros k m) =
+        rw e (even_lowest k (0 + 2 * m) even ∙ ap (λ n. suc (count_trailing_zeros k n)) half)
+        in let r = rest (omega arith)
+        in rw at (record {
+          within = let a = r.within in omega arith;
+          passes = r.passes;
+          earlier = earlier_one_on r e;
+        })
+      where
+        earlier_one_on : IsFirstPassed p xs (count_trailing_zeros k m) → p x ≡ false → (i : ℕ)
+            → i < suc (count_trailing_zeros k m) → p (get_or (x ∷ xs) i 0) ≡ false
+        earlier_one_on r e zero lt = e
+        earlier_one_on r e (suc i) lt = r.earlier i (omega arith)
+
+-- the first number of block b that is `number`, where none before the block is
+pub position_in_block : (number b : ℕ) (xs : List ℕ) → 8 * (b + 1) ≤ length xs
+    → ((k : ℕ) → k < 8 * b → get_or xs k 0 ≢ number)
+    → (bits : ℕ) → bits ≡ mask_l (map (λ x. x == number) (take 8 (drop (8 * b) xs))) → bits ≢ 0
+    → IsFirstOf xs number (8 * b + count_trailing_zeros 64 bits)
+position_in_block number b xs le before bits is some =
+    let block = take 8 (drop (8 * b) xs)
+    in let long = length-block b xs le
+    in let positive : 0 < mask_l (map (λ x. x == number) block) = omega (arith, is, some)
+    in let r = first_passed (λ x. x == number) 64 block (omega (arith, long)) positive
+    in let z = count_trailing_zeros 64 (mask_l (map (λ x. x == number) block))
+    in let place : 8 * b + count_trailing_zeros 64 bits ≡ 8 * b + z = ap (λ n. 8 * b + count_trailing_zeros 64 n) is
+    in let below_8 : z < 8 = let a = r.within in omega (arith, long)
+    in rw place (record {
+      within = omega arith;
+      found = λ lt.
+          let here : get_or block z 0 ≡ get_or xs (8 * b + z) 0 = get_or-chunk (8 * b) 8 xs z 0 below_8
+          in let same : get_or block z 0 ≡ number = equal_if (get_or block z 0) r.passes
+          in sym here ∙ same;
+      first = λ k lt. elim (cases_lt k (8 * b)) [
+        | inl early ↦ before k early
+        | inr late ↦
+            let i = k - 8 * b
+            in let small : i < z = omega arith
+            in let at : 8 * b + i ≡ k = omega arith
+            in let here : get_or block i 0 ≡ get_or xs k 0 =
+            get_or-chunk (8 * b) 8 xs i 0 (omega arith) ∙ ap (λ n. get_or xs n 0) at
+            in λ e. different_if (get_or block i 0) (r.earlier i small) (here ∙ e)
+      ];
+    })
+  where
+    equal_if : (x : ℕ) → (x == number) ≡ true → x ≡ number
+    equal_if x e = grind (arith, nat_tests)
+
+    different_if : (x : ℕ) → (x == number) ≡ false → x ≢ number
+    different_if x e = grind (arith, nat_tests)
+
+pub none_in_block : (number b : ℕ) (xs : List ℕ) → 8 * (b + 1) ≤ length xs
+    → ((k : ℕ) → k < 8 * b → get_or xs k 0 ≢ number)
+    → (bits : ℕ) → bits ≡ mask_l (map (λ x. x == number) (take 8 (drop (8 * b) xs))) → bits ≡ 0
+    → (k : ℕ) → k < 8 * (b + 1) → get_or xs k 0 ≢ number
+none_in_block number b xs le before bits is none k lt =
+    elim (cases_lt k (8 * b)) [
+      | inl early ↦ before k early
+      | inr late ↦ different_if (get_or xs k 0)
+          (none_from_empty_mask (λ x. x == number) xs (8 * b) 8 0 (omega arith) (sym is ∙ none) k late (omega arith))
+    ]
+  where
+    different_if : (x : ℕ) → (x == number) ≡ false → x ≢ number
+    different_if x e = grind (arith, nat_tests)
+
+-- the least is at most each number, and one of them
+least_le : (top : ℕ) (xs : List ℕ) (k : ℕ) → k < length xs → least_up_to top xs ≤ get_or xs k 0
+least_le top [] k lt = absurd (omega arith)
+least_le top (x ∷ xs) zero lt = omega arith
+least_le top (x ∷ xs) (suc k) lt = let rest = least_le top xs k (omega arith) in omega (arith, rest)
+
+least_reached : (top : ℕ) (x : ℕ) (xs : List ℕ) → ((k : ℕ) → get_or (x ∷ xs) k 0 ≤ top)
+    → (k : ℕ) × (k < length (x ∷ xs)) × (get_or (x ∷ xs) k 0 ≡ least_up_to top (x ∷ xs))
+least_reached top x [] small = (0, omega arith, let a = small 0 in omega arith)
+least_reached top x (y ∷ xs) small =
+    let r = least_reached top y xs (λ k. small (suc k))
+    in elim (cases_lt (least_up_to top (y ∷ xs)) x) [
+      | inl lt ↦ (suc r.0, let a = r.1 in omega arith, let a = r.2 in omega arith)
+      | inr le ↦ (0, omega arith, omega arith)
+    ]
+
+pub first_of_least : (top : ℕ) (xs : List ℕ) (least i : ℕ) → 0 < length xs → ((k : ℕ) → get_or xs k 0 ≤ top)
+    → least ≡ least_up_to top xs → IsFirstOf xs least i → IsFirstLeast xs i
+first_of_least top [] least i some small is h = absurd (omega arith)
+first_of_least top (x ∷ xs) least i some small is h =
+    let r = least_reached top x xs small
+    in let within : i < length (x ∷ xs) =
+    elim (cases_lt i (length (x ∷ xs))) [
+      | inl lt ↦ lt
+      | inr past ↦ absurd (h.first r.0 (let a = r.1 in omega arith) (r.2 ∙ sym is))
+    ]
+    in let here = h.found within
+    in record {
+      within = within;
+      least = λ k lt. let a = least_le top (x ∷ xs) k lt in omega arith;
+      first = λ k lt.
+          let a = least_le top (x ∷ xs) k (omega arith)
+          in let b = h.first k lt
+          in omega arith;
+    }

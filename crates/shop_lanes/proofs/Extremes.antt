@@ -1,0 +1,98 @@
+-- The greatest and the least of lists and of vectors.
+use Rattle.std.proofs.Common.{◌≡◌, ℕ, ◌-◌, ◌≤◌, ◌^◌, min, max, cond, ltb, List, [], ◌∷◌, ◌++◌, length, map, get_or, refl, ap, sym, ◌∙◌, arith}
+use Rattle.std.proofs.lemmas.Bool.Decides.{nat_tests}
+use Rattle.std.proofs.lemmas.Simd.{tops_compared}
+use lib.Lanes.{zip2, sel_l, top, pick_l, Each1}
+use mir.Syntax.{Width}
+use mir.Val.{bits, hbits}
+use Rattle.shop_lanes.specs.inner.Passes.{greatest, least_up_to}
+use Rattle.shop_lanes.proofs.Eights.{on_eight}
+
+-- the lesser of two vectors, as a comparison tells it
+pub lesser_told_is : (w : Width) (xs ys : List ℕ) → length xs ≡ length ys
+    → sel_l (map (top (hbits w)) (zip2 (λ a b. cond (ltb a b) (2 ^ bits w - 1) 0) xs ys)) xs ys ≡ zip2 min xs ys
+lesser_told_is w xs ys e = ap (λ ms. sel_l ms xs ys) (tops_compared w ltb xs ys) ∙ chosen xs ys e
+  where
+    chosen : (us vs : List ℕ) → length us ≡ length vs → sel_l (zip2 ltb us vs) us vs ≡ zip2 min us vs
+    chosen [] vs h = refl
+    chosen (x ∷ us) [] h = absurd (omega arith)
+    chosen (x ∷ us) (y ∷ vs) h =
+        let one : cond (ltb x y) x y ≡ min x y = grind (arith, nat_tests)
+        in ap (λ n. n ∷ sel_l (zip2 ltb us vs) us vs) one ∙ ap (λ l. min x y ∷ l) (chosen us vs (omega arith))
+
+pub greatest-append : (xs ys : List ℕ) → greatest (xs ++ ys) ≡ max (greatest xs) (greatest ys)
+greatest-append [] ys = omega arith
+greatest-append (x ∷ xs) ys = let rest = greatest-append xs ys in omega (arith, rest)
+
+pub greatest-greater : (xs ys : List ℕ) → length xs ≡ length ys
+    → greatest (zip2 max xs ys) ≡ max (greatest xs) (greatest ys)
+greatest-greater [] [] e = refl
+greatest-greater [] (y ∷ ys) e = absurd (omega arith)
+greatest-greater (x ∷ xs) [] e = absurd (omega arith)
+greatest-greater (x ∷ xs) (y ∷ ys) e =
+    let rest = greatest-greater xs ys (omega arith) in omega (arith, rest)
+
+pub least_le_top : (top : ℕ) (xs : List ℕ) → least_up_to top xs ≤ top
+least_le_top top [] = omega arith
+least_le_top top (x ∷ xs) = let rest = least_le_top top xs in omega (arith, rest)
+
+pub least-append : (top : ℕ) (xs ys : List ℕ) → least_up_to top (xs ++ ys) ≡ min (least_up_to top xs) (least_up_to top ys)
+least-append top [] ys = let a = least_le_top top ys in omega arith
+least-append top (x ∷ xs) ys = let rest = least-append top xs ys in omega (arith, rest)
+
+pub least-lesser : (top : ℕ) (xs ys : List ℕ) → length xs ≡ length ys
+    → least_up_to top (zip2 min xs ys) ≡ min (least_up_to top xs) (least_up_to top ys)
+least-lesser top [] [] e = omega arith
+least-lesser top [] (y ∷ ys) e = absurd (omega arith)
+least-lesser top (x ∷ xs) [] e = absurd (omega arith)
+least-lesser top (x ∷ xs) (y ∷ ys) e =
+    let rest = least-lesser top xs ys (omega arith) in omega (arith, rest)
+
+-- a vector with its halves, quarters and neighbours exchanged
+abbrev pub halves : List ℕ → List ℕ
+halves v = pick_l 0 (v ++ v) (4 ∷ 5 ∷ 6 ∷ 7 ∷ 0 ∷ 1 ∷ 2 ∷ 3 ∷ [])
+
+abbrev pub quarters : List ℕ → List ℕ
+quarters v = pick_l 0 (v ++ v) (2 ∷ 3 ∷ 0 ∷ 1 ∷ 4 ∷ 5 ∷ 6 ∷ 7 ∷ [])
+
+abbrev pub neighbours : List ℕ → List ℕ
+neighbours v = pick_l 0 (v ++ v) (1 ∷ 0 ∷ 2 ∷ 3 ∷ 4 ∷ 5 ∷ 6 ∷ 7 ∷ [])
+
+abbrev pub folded : (ℕ → ℕ → ℕ) → List ℕ → ℕ
+folded f v =
+    let fours = zip2 f v (halves v)
+    in let pairs = zip2 f fours (quarters fours)
+    in get_or (zip2 f pairs (neighbours pairs)) 0 0
+
+pub folded-max : (v : List ℕ) → length v ≡ 8 → folded max v ≡ greatest v
+folded-max = on_eight (λ v. folded max v ≡ greatest v) (λ a b c d e f g h.
+    sym (
+    greatest-append (a ∷ b ∷ c ∷ d ∷ []) (e ∷ f ∷ g ∷ h ∷ [])
+    ∙ sym (greatest-greater (a ∷ b ∷ c ∷ d ∷ []) (e ∷ f ∷ g ∷ h ∷ []) refl)
+    ∙ greatest-append (max a e ∷ max b f ∷ []) (max c g ∷ max d h ∷ [])
+    ∙ sym (greatest-greater (max a e ∷ max b f ∷ []) (max c g ∷ max d h ∷ []) refl)
+    ∙ two (max (max a e) (max c g)) (max (max b f) (max d h))
+    ))
+  where
+    two : (p q : ℕ) → max p (max q 0) ≡ max p q
+    two p q = omega arith
+
+pub folded-min : (top : ℕ) (v : List ℕ) → length v ≡ 8 → Each1 (λ x. x ≤ top) v → folded min v ≡ least_up_to top v
+folded-min top = on_eight (λ v. Each1 (λ x. x ≤ top) v → folded min v ≡ least_up_to top v) (λ a b c d e f g h small.
+    sym (
+    least-append top (a ∷ b ∷ c ∷ d ∷ []) (e ∷ f ∷ g ∷ h ∷ [])
+    ∙ sym (least-lesser top (a ∷ b ∷ c ∷ d ∷ []) (e ∷ f ∷ g ∷ h ∷ []) refl)
+    ∙ least-append top (min a e ∷ min b f ∷ []) (min c g ∷ min d h ∷ [])
+    ∙ sym (least-lesser top (min a e ∷ min b f ∷ []) (min c g ∷ min d h ∷ []) refl)
+    ∙ two (min (min a e) (min c g)) (min (min b f) (min d h)) (let k = small.0 in omega arith)
+    ))
+  where
+    two : (p q : ℕ) → min p q ≤ top → min p (min q top) ≡ min p q
+    two p q le = omega arith
+
+pub folded_is : (f : ℕ → ℕ → ℕ) (v fours pairs all : List ℕ) → fours ≡ zip2 f v (halves v)
+    → pairs ≡ zip2 f fours (quarters fours) → all ≡ zip2 f pairs (neighbours pairs) → get_or all 0 0 ≡ folded f v
+folded_is f v fours pairs all a b c =
+    ap (λ l. get_or l 0 0) c
+    ∙ ap (λ l. get_or (zip2 f l (neighbours l)) 0 0) b
+    ∙ ap (λ l. get_or (zip2 f (zip2 f l (quarters l)) (neighbours (zip2 f l (quarters l)))) 0 0) a

@@ -1,0 +1,132 @@
+-- Rows that are filled up to whole blocks, and what of them is seen.
+use Rattle.std.proofs.Common.{◌≡◌, ℕ, zero, suc, ◌+◌, ◌-◌, ◌*◌, ◌/◌, ◌<◌, ◌≤◌, min, max, Bool, cond, ◌&&◌, ltb, leb, inl, inr, List, [], ◌∷◌, length, map, take, drop, set, replicate, get_or, refl, ap, sym, ◌∙◌, arith, length-set}
+use Rattle.std.proofs.lemmas.Bool.{cases_lt}
+use Rattle.std.proofs.lemmas.Bool.Decides.{nat_tests}
+use Rattle.std.proofs.lemmas.List.{length-replicate, length-take, get_or-replicate, get_or-take, get_or-drop, take-replicate, drop-replicate, drop-set-lt}
+use lib.Lanes.{mask_l}
+use Rattle.shop_lanes.specs.Rows.{Lane, blocks}
+use Rattle.shop_lanes.specs.Marks.{marked, set_bits, waits_below}
+use Rattle.shop_lanes.specs.Ends.{IsFirstLeast}
+use Rattle.shop_lanes.specs.Spans.{span, spans_from, spans_between}
+use Rattle.shop_lanes.specs.inner.Passes.{greatest, is_between, IsPadded}
+use Rattle.shop_lanes.proofs.LaneLists.{length-blocks}
+use Rattle.shop_lanes.proofs.MarkLemmas.{set_bits-mask}
+
+pub take-set : (n : ℕ) (xs : List ℕ) (i x : ℕ) → take n (set xs i x) ≡ set (take n xs) i x
+take-set zero xs i x = refl
+take-set (suc n) [] i x = refl
+take-set (suc n) (y ∷ xs) zero x = refl
+take-set (suc n) (y ∷ xs) (suc i) x = ap (λ l. y ∷ l) (take-set n xs i x)
+
+pub padded_none : (none jobs : ℕ) (ends : List ℕ) → ends ≡ replicate (8 * (jobs / 8 + 1)) none
+    → IsPadded none jobs ends × (take jobs ends ≡ replicate jobs none)
+padded_none none jobs ends e =
+    let n = 8 * (jobs / 8 + 1)
+    in let room : jobs ≤ n = omega arith
+    in let long : length ends ≡ n = ap length e ∙ length-replicate n none
+    in (
+      record {
+        whole_blocks = rw long (omega arith);
+        within = omega arith;
+        rest = ap (drop jobs) e ∙ drop-replicate jobs n none ∙ ap (λ m. replicate (m - jobs) none) (sym long);
+      },
+      ap (take jobs) e ∙ take-replicate jobs n none room,
+    )
+
+pub padded_set : (none jobs : ℕ) (ends : List ℕ) (job end : ℕ) → IsPadded none jobs ends → job < length (take jobs ends)
+    → IsPadded none jobs (set ends job end)
+padded_set none jobs ends job end h lt =
+    let before : job < jobs = let a = h.within in omega (arith, length-take jobs ends)
+    in record {
+      whole_blocks = rw (length-set ends job end) h.whole_blocks;
+      within = let a = h.within in omega (arith, length-set ends job end);
+      rest = drop-set-lt jobs ends job end before ∙ h.rest
+          ∙ ap (λ n. replicate (n - jobs) none) (sym (length-set ends job end));
+    }
+
+-- the first least of a padded row is one of the jobs' ends
+pub first_least_seen : (none jobs : ℕ) (ends : List ℕ) (i : ℕ) → IsPadded none jobs ends → 0 < length (take jobs ends)
+    → ((k : ℕ) → get_or ends k 0 ≤ none) → IsFirstLeast ends i → IsFirstLeast (take jobs ends) i
+first_least_seen none jobs ends i pad some small h =
+    let taken = length-take jobs ends
+    in let within = pad.within
+    in let inside = h.within
+    in let before : i < jobs = elim (cases_lt i jobs) [
+      | inl lt ↦ lt
+      | inr past ↦ absurd (
+          let j = i - jobs
+          in let at : jobs + j ≡ i = omega arith
+          in let value : get_or ends i 0 ≡ none =
+          ap (λ n. get_or ends n 0) (sym at)
+          ∙ sym (get_or-drop jobs ends j 0)
+          ∙ ap (λ l. get_or l j 0) pad.rest
+          ∙ get_or-replicate (length ends - jobs) j none 0 (omega arith)
+          in let less = h.first 0 (omega arith)
+          in let most = small 0
+          in omega arith
+          )
+    ]
+    in let here : get_or (take jobs ends) i 0 ≡ get_or ends i 0 = get_or-take jobs ends i 0 before
+    in record {
+      within = omega arith;
+      least = λ k lt.
+          let there : get_or (take jobs ends) k 0 ≡ get_or ends k 0 = get_or-take jobs ends k 0 (omega arith)
+          in let a = h.least k (omega arith)
+          in omega arith;
+      first = λ k lt.
+          let there : get_or (take jobs ends) k 0 ≡ get_or ends k 0 = get_or-take jobs ends k 0 (omega arith)
+          in let a = h.first k lt
+          in omega arith;
+    }
+
+marked_alike : (p q : ℕ → Bool) → ((x : ℕ) → p x ≡ q x) → (at : ℕ) (xs : List ℕ) → marked p at xs ≡ marked q at xs
+marked_alike p q same at [] = refl
+marked_alike p q same at (x ∷ xs) =
+    ap (λ b. cond b (at ∷ marked p (at + 1) xs) (marked p (at + 1) xs)) (same x)
+    ∙ ap (λ l. cond (q x) (at ∷ l) l) (marked_alike p q same (at + 1) xs)
+
+-- above 0 and at most one less than the limit
+below_is_between : (limit x : ℕ) → is_between 0 (limit - 1) x ≡ waits_below limit x
+below_is_between limit x = grind (arith, nat_tests)
+
+pub marks_below : (heads hs : List ℕ) (from to limit upto bits : ℕ) (marks : List ℕ) → hs ≡ heads → 8 * to ≤ length heads
+    → to ≤ from + 8 → upto ≡ limit - 1 → marks ≡ set_bits 64 (8 * from) bits
+    → bits ≡ mask_l (map (is_between 0 upto) (blocks from to hs))
+    → marks ≡ marked (waits_below limit) (8 * from) (blocks from to heads)
+marks_below heads hs from to limit upto bits marks is room few below marks_are bits_are =
+    let part = blocks from to heads
+    in let short : length part ≤ 64 = omega (arith, length-blocks from to heads room)
+    in marks_are
+    ∙ ap (set_bits 64 (8 * from)) (bits_are ∙ ap (λ l. mask_l (map (is_between 0 upto) (blocks from to l))) is)
+    ∙ set_bits-mask (is_between 0 upto) 64 (8 * from) part short
+    ∙ ap (λ n. marked (is_between 0 n) (8 * from) part) below
+    ∙ marked_alike (is_between 0 (limit - 1)) (waits_below limit) (below_is_between limit) (8 * from) part
+
+pub greatest_splat : (m : ℕ) → greatest (replicate 8 m) ≡ m
+greatest_splat m = omega arith
+
+-- a head is above the lesser of both and at most `upto` exactly where it is above `above` and at most `upto`
+same_heads : (above upto x : ℕ) → (ltb (min above upto) x && leb x upto) ≡ (ltb above x && leb x upto)
+same_heads above upto x = grind (arith, nat_tests)
+
+pub spans_above_least : (above upto : ℕ) (all xs : List Lane)
+    → spans_from (min above upto) upto all xs ≡ spans_from above upto all xs
+spans_above_least above upto all [] = refl
+spans_above_least above upto all (x ∷ xs) =
+    ap (λ b. max (cond b (span x.head x.head all) 0) (spans_from (min above upto) upto all xs)) (same_heads above upto x.head)
+    ∙ ap (max (cond (ltb above x.head && leb x.head upto) (span x.head x.head all) 0)) (spans_above_least above upto all xs)
+
+-- what the passes return, by what they come to
+pub span_told : (least start most r g : ℕ) (v : List ℕ) (xs ys : List Lane) → r ≡ g → g ≡ greatest v
+    → greatest v ≡ max (greatest (replicate 8 most)) (span least start xs) → xs ≡ ys
+    → r ≡ max most (span least start ys)
+span_told least start most r g v xs ys a b c e =
+    a ∙ b ∙ c ∙ ap (λ m. max m (span least start xs)) (greatest_splat most) ∙ ap (λ l. max most (span least start l)) e
+
+pub spans_told : (above upto most lower r g : ℕ) (xs ys : List Lane) → r ≡ g
+    → g ≡ max most (spans_between lower upto xs) → lower ≡ min above upto → xs ≡ ys
+    → r ≡ max most (spans_between above upto ys)
+spans_told above upto most lower r g xs ys a b c e =
+    a ∙ b ∙ ap (λ n. max most (spans_between n upto xs)) c
+    ∙ ap (max most) (spans_above_least above upto xs xs)
+    ∙ ap (λ l. max most (spans_between above upto l)) e
