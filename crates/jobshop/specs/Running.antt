@@ -7,7 +7,6 @@ use Rattle.std.specs.Prelude.{◌≡◌, ℕ, ◌⊎◌, Bool, true, is_some, Li
 use Rattle.std.specs.declared.string.String.{String}
 use Rattle.std.specs.declared.alloc.Global.{Global}
 use Rattle.clap.specs.Words.{Text}
-use Rattle.shop_round.specs.Runs.{planned}
 use Rattle.shop_engine.specs.declared.arguments.ListArgs.{ListArgs}
 use Rattle.shop_engine.specs.declared.arguments.CheckArgs.{CheckArgs}
 use Rattle.shop_engine.specs.declared.arguments.SolveArgs.{SolveArgs}
@@ -17,7 +16,8 @@ use Rattle.shop_engine.specs.Devices.{Device}
 use Rattle.shop_engine.specs.Asking.{name_in}
 use Rattle.shop_engine.specs.Listing.{IsListing}
 use Rattle.shop_engine.specs.Checking.{IsChecking}
-use Rattle.shop_engine.specs.Solving.{IsSolving, IsHeadline}
+use Rattle.shop_engine.specs.Headline.{IsRightOf, IsDeterminedOf, WhereKnown}
+use Rattle.shop_engine.specs.Solving.{IsSolving}
 use Rattle.jobshop.specs.CommandLine.{IsLineOf}
 use Rattle.jobshop.specs.Statuses.{status_of, status_of_verdict}
 use Rattle.jobshop.specs.declared.arguments.Args.{Args}
@@ -50,15 +50,15 @@ IsRunOn (Some path) old new result Runs =
 -- 0 for a list
 abbrev pub ListsFrom : ListArgs → Device → Device → Result ℕ Fault → Device → Device → Type 0
 ListsFrom args sink sink' (Ok status) source source' =
-    (status ≡ 0) × IsListing args.format source source' sink sink' (Ok tt)
+    (status ≡ 0) × IsListing args source source' sink sink' (Ok tt)
 ListsFrom args sink sink' (Err fault) source source' =
-    IsListing args.format source source' sink sink' (Err fault)
+    IsListing args source source' sink sink' (Err fault)
 
 -- the schedule is that of a file just where a path is given
 abbrev pub Judges : CheckArgs → Path → Device → Device → Result Bool Fault → Device → Device → Type 0
 Judges args schedule sink sink' result source source' = (second second' : Option Device)
     × (is_some second ≡ is_some schedule)
-    × IsChecking args.format (name_in args.name) source source' second second' sink sink' result
+    × IsChecking args source source' second second' sink sink' result
 
 -- 0 for a feasible schedule, 1 for an infeasible one; or the schedule's file couldn't be opened
 abbrev pub ChecksFrom : CheckArgs → Path → Device → Device → Result ℕ Fault → Device → Device → Type 0
@@ -71,10 +71,10 @@ ChecksFrom args schedule sink sink' (Err fault) source source' =
 
 pub record Solves (args : SolveArgs) (sink sink' : Device) (result : Result (Unit {0}) Fault)
     (source source' : Device) : Type 0 where
-  pub solving : IsSolving args.format (name_in args.name) (planned args.plan) args.gantt
-      source source' sink sink' result
-  pub headline : IsHeadline args.format (name_in args.name) (planned args.plan) args.gantt
+  pub right : WhereKnown (IsRightOf args.format (name_in args.name) args.gantt)
       source sink sink' result
+  pub determined : WhereKnown (IsDeterminedOf args) source sink sink' result
+  pub solving : IsSolving args source source' sink sink' result
 
 -- 0 for a report, whatever its status
 abbrev pub SolvesFrom : SolveArgs → Device → Device → Result ℕ Fault → Device → Device → Type 0

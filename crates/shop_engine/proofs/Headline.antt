@@ -1,54 +1,36 @@
--- A report that goes out, and the same where the bytes of source and sink are known.
-use Rattle.std.proofs.Common.{◌≡◌, ℕ, List, ◌++◌, Bool, Option, Some, None, Result, Ok, Err, OnOk, IfErr}
+-- A text goes out, and the same where the bytes of source and sink are known.
+use Rattle.std.proofs.Common.{◌≡◌, ℕ, List, ◌++◌, Option, Some, None, Result, Ok, Err, OnOk, IfErr}
 use Rattle.std.proofs.Common.{sym, ◌∙◌, subst, rules, arith}
+use Rattle.std.specs.Prelude.{IsOk}
 use Rattle.std.proofs.lemmas.Grind.{common_steps}
 use Rattle.std.specs.Io.KnownBytes.{Consumes, Appends, IsAtEnd}
-use Rattle.shop_text.specs.Texts.{NamedShop}
-use Rattle.shop_round.specs.Round.{Planned}
-use Rattle.shop_text.specs.declared.formats.Format.{Format}
+use Rattle.shop_text.specs.declared.faults.ReadFault.{ReadFault}
 use Rattle.shop_engine.specs.declared.faults.Fault.{Fault}
 use Rattle.shop_engine.specs.declared.faults.Fault.TheVariants.{Text, ReadFailed, WriteFailed}
-use Rattle.shop_engine.specs.Devices.{Device, IsReadToEnd, IsWritten, IsCutOff, IsUnwritten}
-use Rattle.shop_engine.specs.Asking.{IsAsked}
-use Rattle.shop_engine.specs.Solving.{answer_of, solved_text, IsBelievable, Solves, IsSolving, IsHeadline}
+use Rattle.shop_engine.specs.Devices.{Device, IsReadToEnd, IsWritten, IsCutOff, IsUnwritten, Passes, IsTransfer}
+use Rattle.shop_engine.specs.Headline.{HoldsThen, WhereKnown}
 
--- a report stands, and is still to be written
-pub made : {format : Format} {name : Option (List ℕ)} {s s' : Device} {text report : List ℕ} {asked : NamedShop}
-    (plan : Planned) (gantt : Bool)
-    → IsReadToEnd s s' text → IsAsked format name text asked → report ≡ solved_text asked plan gantt
-    → IsBelievable (answer_of asked plan) → Solves format name plan gantt s s' (λ out. out ≡ report)
-made {text = text} {asked = asked} plan gantt read is_asked says believable = record {
+-- what was made of a text goes out
+passes : {s s' : Device} {text out written : List ℕ} (Gives : List ℕ → List ℕ → Type 0) (Goes : List ℕ → Type 0)
+    → IsReadToEnd s s' text → Gives text out → written ≡ out → Goes written → Passes s s' Gives Goes
+passes {text = text} {out = out} Gives Goes read gives same goes = record {
   text = text;
   read = read;
-  asked = asked;
-  is_asked = is_asked;
-  out = sym says;
-  believable = believable;
+  out = out;
+  gives = gives;
+  goes = subst Goes same goes;
 }
 
--- and goes out
-goes_out : {format : Format} {name : Option (List ℕ)} {plan : Planned} {gantt : Bool} {s s' : Device}
-    {report written : List ℕ} (Goes : List ℕ → Type 0)
-    → Solves format name plan gantt s s' (λ out. out ≡ report) → written ≡ report → Goes written
-    → Solves format name plan gantt s s' Goes
-goes_out Goes h same out = record {
-  text = h.text;
-  read = h.read;
-  asked = h.asked;
-  is_asked = h.is_asked;
-  out = subst Goes (same ∙ sym h.out) out;
-  believable = h.believable;
-}
-
-pub solved : {format : Format} {name : Option (List ℕ)} {plan : Planned} {gantt : Bool} {s s' : Device}
-    {report written : List ℕ} (k k' : Device)
-    → Solves format name plan gantt s s' (λ out. out ≡ report) → written ≡ report
+pub transferred : {s s' : Device} {text out written : List ℕ} (Gives : List ℕ → List ℕ → Type 0)
+    (IsBad : List ℕ → ReadFault → Type 0) (k k' : Device)
+    → IsReadToEnd s s' text → Gives text out → written ≡ out
     → (r : Result (Unit {0}) Fault) → OnOk r (IsWritten k k' written) → IfErr r (λ e. IsUnwritten k k' written e)
-    → IsSolving format name plan gantt s s' k k' r
-solved k k' h same (Ok done) ok err = goes_out (IsWritten k k') h same ok
-solved k k' h same (Err (Text fault)) ok err = absurd err
-solved k k' h same (Err ReadFailed) ok err = absurd err
-solved k k' h same (Err WriteFailed) ok err = goes_out (IsCutOff k k') h same err
+    → IsTransfer Gives IsBad s s' k k' r
+transferred Gives IsBad k k' read gives same (Ok done) ok err = passes Gives (IsWritten k k') read gives same ok
+transferred Gives IsBad k k' read gives same (Err (Text fault)) ok err = absurd err
+transferred Gives IsBad k k' read gives same (Err ReadFailed) ok err = absurd err
+transferred Gives IsBad k k' read gives same (Err WriteFailed) ok err =
+    passes Gives (IsCutOff k k') read gives same err
 
 -- known bytes that are read to the end are the text
 pub known_read : (old new : Option (List ℕ)) (text known : List ℕ)
@@ -64,15 +46,15 @@ known_held None new text held took e = absurd (search rules)
 known_held (Some xs) None text held took e = absurd took
 known_held (Some xs) (Some ys) text held took e = grind (arith, common_steps)
 
-pub headline : (format : Format) (name : Option (List ℕ)) (plan : Planned) (gantt : Bool) (s s' k k' : Device)
-    (r : Result (Unit {0}) Fault)
-    → IsSolving format name plan gantt s s' k k' r → IsHeadline format name plan gantt s k k' r
-headline format name plan gantt s s' k k' (Ok done) h text held known holding ok =
+-- what a transfer gives is what the sink holds then
+pub where_known : (Gives Written : List ℕ → List ℕ → Type 0) (IsBad : List ℕ → ReadFault → Type 0) (s s' k k' : Device)
+    (r : Result (Unit {0}) Fault) → ((text out : List ℕ) → Gives text out → Written text out)
+    → IsTransfer Gives IsBad s s' k k' r → WhereKnown Written s k k' r
+where_known Gives Written IsBad s s' k k' (Ok done) says h text held known holding ok =
     let same = known_read s.bytes s'.bytes h.text text h.read.taken h.read.end known
     in record {
-      asked = h.asked;
-      is_asked = subst (λ (bytes : List ℕ). IsAsked format name bytes h.asked) same h.is_asked;
-      holds = known_held k.bytes k'.bytes (solved_text h.asked plan gantt) held h.out.took holding;
-      believable = h.believable;
+      written = h.out;
+      is_written = subst (λ (bytes : List ℕ). Written bytes h.out) same (says h.text h.out h.gives);
+      holds = known_held k.bytes k'.bytes h.out held h.goes.took holding;
     }
-headline format name plan gantt s s' k k' (Err fault) h text held known holding ok = absurd (search rules)
+where_known Gives Written IsBad s s' k k' (Err fault) says h text held known holding ok = absurd (search rules)

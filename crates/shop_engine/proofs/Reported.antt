@@ -1,15 +1,35 @@
--- What is printed of an answer that can be trusted is so.
-use Rattle.std.proofs.Common.{◌≡◌, ℕ, List, length, subst}
+-- What is printed of an answer that can be trusted is right, and is the report of the plan's answer.
+use Rattle.std.proofs.Common.{◌≡◌, ℕ, List, [], ◌++◌, length, Bool, false, true, refl, ◌∙◌, ap, subst}
+use Rattle.std.specs.Prelude.{if◌then◌else◌}
 use Rattle.shop_model.specs.Shop.{Shop}
+use Rattle.shop_model.specs.Checking.{starts_of}
 use Rattle.shop_text.specs.Texts.{NamedShop}
-use Rattle.shop_text.specs.Writing.{Reported}
+use Rattle.shop_text.specs.Writing.{Reported, gantt_text}
 use Rattle.shop_round.specs.Round.{Planned, answer, makespan_of, bound_of}
 use Rattle.shop_round.specs.Runs.{Says, IsTrusted}
 use Rattle.shop_round.specs.declared.runs.Answer.{Answer}
-use Rattle.shop_engine.specs.Solving.{answer_of, told_by, IsBelievable}
+use Rattle.shop_engine.specs.inner.Told.{told_by}
+use Rattle.shop_engine.specs.Answers.{answer_of, text_with_gantt}
+use Rattle.shop_engine.specs.Headline.{IsRight, IsDetermined}
 
-told_believable : (asked : NamedShop) (a : Answer) → IsTrusted asked.shop a → IsBelievable (told_by asked a)
-told_believable asked a t = record {
+chart_of : Reported → Bool → List ℕ
+chart_of r gantt = if gantt then gantt_text r.shop (starts_of r.table) else []
+
+no_chart : (r : Reported) (gantt : Bool) → gantt ≡ false → chart_of r gantt ≡ []
+unfolding chart_of
+no_chart r false e = refl
+no_chart r true e = absurd cc
+
+pub right : (asked : NamedShop) (a : Answer) (gantt : Bool) (written : List ℕ) → IsTrusted asked.shop a
+    → written ≡ text_with_gantt (told_by asked a) gantt → IsRight asked gantt written
+unfolding chart_of
+right asked a gantt written t e = record {
+  report = told_by asked a;
+  named = refl;
+  on = refl;
+  chart = chart_of (told_by asked a) gantt;
+  no_chart = no_chart (told_by asked a) gantt;
+  text = e;
   shape = t.shape;
   feasible = t.feasible;
   ends = t.ends;
@@ -29,24 +49,30 @@ reported name shop table makespan bound open_nodes rounds nodes = record {
   nodes = nodes;
 }
 
--- the same, said of other numbers that are equal
-believed : (name : List ℕ) (shop : Shop) (t t' : List (List ℕ)) (m m' b b' o o' r r' n n' : ℕ)
+-- reports of equal numbers are equal
+same_report : (name : List ℕ) (shop : Shop) (t t' : List (List ℕ)) (m m' b b' o o' r r' n n' : ℕ)
     → t ≡ t' → m ≡ m' → b ≡ b' → o ≡ o' → r ≡ r' → n ≡ n'
-    → IsBelievable (reported name shop t m b o r n) → IsBelievable (reported name shop t' m' b' o' r' n')
-believed name shop t t' m m' b b' o o' r r' n n' e f g h i k is =
-    subst (λ (x : List (List ℕ)). IsBelievable (reported name shop x m' b' o' r' n')) e
-    (subst (λ (x : ℕ). IsBelievable (reported name shop t x b' o' r' n')) f
-    (subst (λ (x : ℕ). IsBelievable (reported name shop t m x o' r' n')) g
-    (subst (λ (x : ℕ). IsBelievable (reported name shop t m b x r' n')) h
-    (subst (λ (x : ℕ). IsBelievable (reported name shop t m b o x n')) i
-    (subst (λ (x : ℕ). IsBelievable (reported name shop t m b o r x)) k is)))))
+    → reported name shop t m b o r n ≡ reported name shop t' m' b' o' r' n'
+same_report name shop t t' m m' b b' o o' r r' n n' e f g h i k =
+    ap (λ (x : List (List ℕ)). reported name shop x m b o r n) e
+    ∙ ap (λ (x : ℕ). reported name shop t' x b o r n) f
+    ∙ ap (λ (x : ℕ). reported name shop t' m' x o r n) g
+    ∙ ap (λ (x : ℕ). reported name shop t' m' b' x r n) h
+    ∙ ap (λ (x : ℕ). reported name shop t' m' b' o' x n) i
+    ∙ ap (λ (x : ℕ). reported name shop t' m' b' o' r' x) k
 
-pub believable : (asked : NamedShop) (plan : Planned) (a : Answer) → Says asked.shop (answer asked.shop plan) a
-    → IsTrusted asked.shop a → IsBelievable (answer_of asked plan)
+told_is : (asked : NamedShop) (plan : Planned) (a : Answer) → Says asked.shop (answer asked.shop plan) a
+    → told_by asked a ≡ answer_of asked plan
 unfolding reported
-believable asked plan a says trust =
+told_is asked plan a says =
     let shop = asked.shop
     in let s = answer shop plan
-    in believed asked.name shop a.table _ a.makespan (makespan_of shop s) a.bound (bound_of shop s)
+    in same_report asked.name shop a.table _ a.makespan (makespan_of shop s) a.bound (bound_of shop s)
     a.open_nodes (length s.open_words) a.rounds s.rounds a.nodes s.nodes
-    says.table says.makespan says.bound says.open_nodes says.rounds says.nodes (told_believable asked a trust)
+    says.table says.makespan says.bound says.open_nodes says.rounds says.nodes
+
+pub determined : (asked : NamedShop) (plan : Planned) (a : Answer) (gantt : Bool) (written : List ℕ)
+    → Says asked.shop (answer asked.shop plan) a
+    → written ≡ text_with_gantt (told_by asked a) gantt → IsDetermined asked plan gantt written
+determined asked plan a gantt written says e =
+    e ∙ ap (λ (r : Reported). text_with_gantt r gantt) (told_is asked plan a says)

@@ -2,19 +2,20 @@
 use Rattle.std.proofs.Common.{◌≡◌, ℕ, ◌⊎◌, inl, inr, List, Option, Some, None, Result, Ok, Err, Bool}
 use Rattle.std.proofs.Common.{refl, sym, ◌∙◌, subst}
 use Rattle.std.specs.Result.{IsErrAnd}
-use Rattle.shop_text.specs.Schedules.{IsTableRead}
-use Rattle.shop_text.specs.Texts.{NamedShop, IsText}
-use Rattle.shop_text.specs.Names.{first_named}
+use Rattle.shop_text.specs.Schedules.{IsTableRead, IsTableFault}
+use Rattle.shop_text.specs.Texts.{NamedShop}
 use Rattle.shop_text.specs.declared.faults.ReadFault.{ReadFault}
 use Rattle.shop_text.specs.declared.faults.ReadFault.TheVariants as fault
+use Rattle.shop_model.specs.Shop.{Shop}
 use Rattle.shop_text.specs.declared.formats.Format.{Format}
+use Rattle.shop_engine.specs.declared.arguments.CheckArgs.{CheckArgs}
 use Rattle.shop_engine.specs.declared.faults.Fault.{Fault}
 use Rattle.shop_engine.specs.declared.faults.Fault.TheVariants.{Text, ReadFailed, WriteFailed}
 use Rattle.shop_engine.specs.Devices.{Device, IsReadToEnd, IsUnwritten, IsCutOff}
-use Rattle.shop_text.specs.Formats.{grammar_of}
-use Rattle.shop_engine.specs.Asking.{IsAsked}
+use Rattle.shop_engine.specs.Asking.{name_in, IsAsked, OrNoMemory}
 use Rattle.shop_engine.specs.Checking.{Second, IsScheduleRead, HasSecondWorked, IsSecondUnread, IsPicked}
-use Rattle.shop_engine.specs.Checking.{IsScheduleRefused, Judges, Checks, IsChecking}
+use Rattle.shop_engine.specs.Checking.{IsScheduleRefused, IsVerdictOn, Checks, IsChecking}
+use Rattle.shop_engine.specs.Checking.{schedule_in, IsCheckOf, IsCheckFault}
 
 -- an answer that comes through a `?`
 pub at_err : (P : Result Bool Fault → Type 0) (r : Result Bool Fault) (e : Fault)
@@ -22,37 +23,29 @@ pub at_err : (P : Result Bool Fault → Type 0) (r : Result Bool Fault) (e : Fau
 at_err P (Ok b) e h p = absurd h
 at_err P (Err x) e h p = subst (λ (y : Fault). P (Err y)) (sym h) p
 
--- the instance isn't in the text
-pub missing_before : {format : Format} {s s' : Device} {text : List ℕ} {shops : List NamedShop}
-    (name : Option (List ℕ)) (t : Second) (k : Device)
-    → IsReadToEnd s s' text → IsText (grammar_of format) text shops → first_named shops name ≡ None
-    → IsChecking format name s s' t t k k (Err (Text fault.NoSuchName))
-missing_before {text = text} {shops = shops} name t k read is_text missing =
-    (inl (record { text = text; read = read; shops = shops; is_text = is_text; missing = missing }, refl), refl)
-
 -- the second source isn't read to its end
-pub unread_after : {format : Format} {name : Option (List ℕ)} {s s' : Device} {text : List ℕ} {asked : NamedShop}
+pub unread_after : (args : CheckArgs) {s s' : Device} {text : List ℕ} {asked : NamedShop}
     (t t' : Second) (k : Device)
-    → IsReadToEnd s s' text → IsAsked format name text asked → (e : Fault) → IsSecondUnread t t' e
-    → IsChecking format name s s' t t' k k (Err e)
-unread_after None t' k read is_asked e h = absurd h
-unread_after (Some old) None k read is_asked e h = absurd h
-unread_after {text = text} {asked = asked} (Some old) (Some new) k read is_asked (Text fault.NoMemory) h =
+    → IsReadToEnd s s' text → IsAsked args.format (name_in args.name) text asked → (e : Fault) → IsSecondUnread t t' e
+    → IsChecking args s s' t t' k k (Err e)
+unread_after args None t' k read is_asked e h = absurd h
+unread_after args (Some old) None k read is_asked e h = absurd h
+unread_after args {text = text} {asked = asked} (Some old) (Some new) k read is_asked (Text fault.NoMemory) h =
     (inr (record { text = text; read = read; asked = asked; is_asked = is_asked; after = h }), refl)
-unread_after {text = text} {asked = asked} (Some old) (Some new) k read is_asked (Text fault.TooLong) h =
+unread_after args {text = text} {asked = asked} (Some old) (Some new) k read is_asked (Text fault.TooLong) h =
     (inr (record { text = text; read = read; asked = asked; is_asked = is_asked; after = inl h }), refl)
-unread_after (Some old) (Some new) k read is_asked (Text fault.NoInstance) h = absurd h
-unread_after (Some old) (Some new) k read is_asked (Text (fault.BadShape n)) h = absurd h
-unread_after (Some old) (Some new) k read is_asked (Text (fault.BadSize n)) h = absurd h
-unread_after (Some old) (Some new) k read is_asked (Text (fault.BadRow n)) h = absurd h
-unread_after (Some old) (Some new) k read is_asked (Text (fault.Truncated n)) h = absurd h
-unread_after (Some old) (Some new) k read is_asked (Text (fault.BadMachine n)) h = absurd h
-unread_after (Some old) (Some new) k read is_asked (Text (fault.BadTime n)) h = absurd h
-unread_after (Some old) (Some new) k read is_asked (Text fault.NoSuchName) h = absurd h
-unread_after (Some old) (Some new) k read is_asked (Text (fault.BadTable n)) h = absurd h
-unread_after {text = text} {asked = asked} (Some old) (Some new) k read is_asked ReadFailed h =
+unread_after args (Some old) (Some new) k read is_asked (Text fault.NoInstance) h = absurd h
+unread_after args (Some old) (Some new) k read is_asked (Text (fault.BadShape n)) h = absurd h
+unread_after args (Some old) (Some new) k read is_asked (Text (fault.BadSize n)) h = absurd h
+unread_after args (Some old) (Some new) k read is_asked (Text (fault.BadRow n)) h = absurd h
+unread_after args (Some old) (Some new) k read is_asked (Text (fault.Truncated n)) h = absurd h
+unread_after args (Some old) (Some new) k read is_asked (Text (fault.BadMachine n)) h = absurd h
+unread_after args (Some old) (Some new) k read is_asked (Text (fault.BadTime n)) h = absurd h
+unread_after args (Some old) (Some new) k read is_asked (Text fault.NoSuchName) h = absurd h
+unread_after args (Some old) (Some new) k read is_asked (Text (fault.BadTable n)) h = absurd h
+unread_after args {text = text} {asked = asked} (Some old) (Some new) k read is_asked ReadFailed h =
     (inr (record { text = text; read = read; asked = asked; is_asked = is_asked; after = h }), refl)
-unread_after (Some old) (Some new) k read is_asked WriteFailed h = absurd h
+unread_after args (Some old) (Some new) k read is_asked WriteFailed h = absurd h
 
 schedule_worked : (text schedule : List ℕ) (t t' : Second) → IsScheduleRead text t t' schedule → HasSecondWorked t t'
 schedule_worked text schedule None None h = tt
@@ -61,29 +54,29 @@ schedule_worked text schedule (Some old) None h = absurd h
 schedule_worked text schedule (Some old) (Some new) h = h.worked
 
 -- the instance was picked, and then the schedule is refused
-refused_after : {format : Format} {name : Option (List ℕ)} {s s' : Device} (t t' : Second) (k : Device) (e : ReadFault)
-    → HasSecondWorked t t' → IsPicked format name s s' (IsScheduleRefused t t' e)
-    → IsChecking format name s s' t t' k k (Err (Text e))
-refused_after t t' k fault.NoMemory worked p =
+refused_after : (args : CheckArgs) {s s' : Device} (t t' : Second) (k : Device) (e : ReadFault)
+    → HasSecondWorked t t' → IsPicked args s s' (IsScheduleRefused t t' e)
+    → IsChecking args s s' t t' k k (Err (Text e))
+refused_after args t t' k fault.NoMemory worked p =
     (inr (record { text = p.text; read = p.read; asked = p.asked; is_asked = p.is_asked; after = worked }), refl)
-refused_after t t' k fault.TooLong worked p = (inr p, refl)
-refused_after t t' k fault.NoInstance worked p = (inr p, refl)
-refused_after t t' k (fault.BadShape n) worked p = (inr p, refl)
-refused_after t t' k (fault.BadSize n) worked p = (inr p, refl)
-refused_after t t' k (fault.BadRow n) worked p = (inr p, refl)
-refused_after t t' k (fault.Truncated n) worked p = (inr p, refl)
-refused_after t t' k (fault.BadMachine n) worked p = (inr p, refl)
-refused_after t t' k (fault.BadTime n) worked p = (inr p, refl)
-refused_after t t' k fault.NoSuchName worked p = (inr p, refl)
-refused_after t t' k (fault.BadTable n) worked p = (inr p, refl)
+refused_after args t t' k fault.TooLong worked p = (inr p, refl)
+refused_after args t t' k fault.NoInstance worked p = (inr p, refl)
+refused_after args t t' k (fault.BadShape n) worked p = (inr p, refl)
+refused_after args t t' k (fault.BadSize n) worked p = (inr p, refl)
+refused_after args t t' k (fault.BadRow n) worked p = (inr p, refl)
+refused_after args t t' k (fault.Truncated n) worked p = (inr p, refl)
+refused_after args t t' k (fault.BadMachine n) worked p = (inr p, refl)
+refused_after args t t' k (fault.BadTime n) worked p = (inr p, refl)
+refused_after args t t' k fault.NoSuchName worked p = (inr p, refl)
+refused_after args t t' k (fault.BadTable n) worked p = (inr p, refl)
 
 -- the schedule is faulty, or memory ran out
-pub faulty_after : {format : Format} {name : Option (List ℕ)} {s s' : Device} {text schedule judged : List ℕ}
+pub faulty_after : (args : CheckArgs) {s s' : Device} {text schedule judged : List ℕ}
     {asked : NamedShop} (t t' : Second) (k : Device)
-    → IsReadToEnd s s' text → IsAsked format name text asked → IsScheduleRead text t t' schedule → judged ≡ schedule
-    → (e : ReadFault) → (e ≡ fault.NoMemory) ⊎ IsTableRead asked.shop judged (Err e)
-    → IsChecking format name s s' t t' k k (Err (Text e))
-faulty_after {text = text} {schedule = schedule} {asked = asked} t t' k read is_asked had same e (inl memory) =
+    → IsReadToEnd s s' text → IsAsked args.format (name_in args.name) text asked → IsScheduleRead text t t' schedule → judged ≡ schedule
+    → (e : ReadFault) → (e ≡ fault.NoMemory) ⊎ IsTableFault asked.shop judged e
+    → IsChecking args s s' t t' k k (Err (Text e))
+faulty_after args {text = text} {schedule = schedule} {asked = asked} t t' k read is_asked had same e (inl memory) =
     rw memory (
       inr (record {
         text = text;
@@ -94,8 +87,8 @@ faulty_after {text = text} {schedule = schedule} {asked = asked} t t' k read is_
       }),
       refl,
     )
-faulty_after {text = text} {schedule = schedule} {asked = asked} t t' k read is_asked had same e (inr h) =
-    refused_after t t' k e (schedule_worked text schedule t t' had) (record {
+faulty_after args {text = text} {schedule = schedule} {asked = asked} t t' k read is_asked had same e (inr h) =
+    refused_after args t t' k e (schedule_worked text schedule t t' had) (record {
       text = text;
       read = read;
       asked = asked;
@@ -103,15 +96,15 @@ faulty_after {text = text} {schedule = schedule} {asked = asked} t t' k read is_
       after = inr (record {
         schedule = schedule;
         schedule_read = had;
-        is_fault = subst (λ (bytes : List ℕ). IsTableRead asked.shop bytes (Err e)) same h;
+        is_fault = subst (λ (bytes : List ℕ). IsTableFault asked.shop bytes e) same h;
       });
     })
 
 -- a line stands, and is still to be written
-pub judged_before : {format : Format} {name : Option (List ℕ)} {s s' : Device} {text schedule judged line : List ℕ}
+pub judged_before : {args : CheckArgs} {s s' : Device} {text schedule judged line : List ℕ}
     {asked : NamedShop} {feasible : Bool} (t t' : Second)
-    → IsReadToEnd s s' text → IsAsked format name text asked → IsScheduleRead text t t' schedule → judged ≡ schedule
-    → Judges asked.shop judged feasible line → Checks format name s s' t t' feasible (λ out. out ≡ line)
+    → IsReadToEnd s s' text → IsAsked args.format (name_in args.name) text asked → IsScheduleRead text t t' schedule → judged ≡ schedule
+    → IsVerdictOn asked.shop judged feasible line → Checks args s s' t t' feasible (λ out. out ≡ line)
 judged_before {text = text} {schedule = schedule} {line = line} {asked = asked} {feasible = feasible} t t' read is_asked
     had same judges = record {
       text = text;
@@ -122,16 +115,16 @@ judged_before {text = text} {schedule = schedule} {line = line} {asked = asked} 
         schedule = schedule;
         schedule_read = had;
         line = line;
-        judges = subst (λ (bytes : List ℕ). Judges asked.shop bytes feasible line) same judges;
+        judges = subst (λ (bytes : List ℕ). IsVerdictOn asked.shop bytes feasible line) same judges;
         out = refl;
       };
     }
 
 -- and goes out
-pub goes_out : {format : Format} {name : Option (List ℕ)} {s s' : Device} {t t' : Second} {feasible : Bool}
+pub goes_out : {args : CheckArgs} {s s' : Device} {t t' : Second} {feasible : Bool}
     {line written : List ℕ} (Goes : List ℕ → Type 0)
-    → Checks format name s s' t t' feasible (λ out. out ≡ line) → written ≡ line → Goes written
-    → Checks format name s s' t t' feasible Goes
+    → Checks args s s' t t' feasible (λ out. out ≡ line) → written ≡ line → Goes written
+    → Checks args s s' t t' feasible Goes
 goes_out Goes h same out = record {
   text = h.text;
   read = h.read;
@@ -147,11 +140,73 @@ goes_out Goes h same out = record {
 }
 
 -- or a beginning of it does
-pub cut_off : {format : Format} {name : Option (List ℕ)} {s s' : Device} {t t' : Second} {feasible : Bool}
+pub cut_off : {args : CheckArgs} {s s' : Device} {t t' : Second} {feasible : Bool}
     {line written : List ℕ} (k k' : Device)
-    → Checks format name s s' t t' feasible (λ out. out ≡ line) → written ≡ line
-    → (e : Fault) → IsUnwritten k k' written e → IsChecking format name s s' t t' k k' (Err e)
+    → Checks args s s' t t' feasible (λ out. out ≡ line) → written ≡ line
+    → (e : Fault) → IsUnwritten k k' written e → IsChecking args s s' t t' k k' (Err e)
 cut_off k k' h same (Text x) unwritten = absurd unwritten
 cut_off k k' h same ReadFailed unwritten = absurd unwritten
 cut_off {feasible = feasible} k k' h same WriteFailed unwritten =
     (feasible, goes_out (IsCutOff k k') h same unwritten)
+
+-- ---- refused tables
+
+-- a schedule text that isn't read has a fault, or memory ran out
+pub table_fault : (shop : Shop) (schedule : List ℕ) (e : ReadFault)
+    → (e ≡ fault.NoMemory) ⊎ IsTableRead shop schedule (Err e) → (e ≡ fault.NoMemory) ⊎ IsTableFault shop schedule e
+table_fault shop schedule e (inl memory) = inl memory
+table_fault shop schedule fault.NoMemory (inr h) = inl refl
+table_fault shop schedule fault.TooLong (inr h) = inr h
+table_fault shop schedule fault.NoInstance (inr h) = absurd h
+table_fault shop schedule (fault.BadShape n) (inr h) = absurd h
+table_fault shop schedule (fault.BadSize n) (inr h) = absurd h
+table_fault shop schedule (fault.BadRow n) (inr h) = absurd h
+table_fault shop schedule (fault.Truncated n) (inr h) = absurd h
+table_fault shop schedule (fault.BadMachine n) (inr h) = absurd h
+table_fault shop schedule (fault.BadTime n) (inr h) = absurd h
+table_fault shop schedule fault.NoSuchName (inr h) = absurd h
+table_fault shop schedule (fault.BadTable n) (inr h) = inr h
+
+pub or_no_memory : (IsBad : List ℕ → ReadFault → Type 0) (text : List ℕ) (e : ReadFault)
+    → (e ≡ fault.NoMemory) ⊎ IsBad text e → OrNoMemory IsBad text e
+or_no_memory IsBad text e (inl memory) =
+    subst (λ (x : ReadFault). OrNoMemory IsBad text x) (sym memory) tt
+or_no_memory IsBad text fault.NoMemory (inr h) = tt
+or_no_memory IsBad text fault.TooLong (inr h) = h
+or_no_memory IsBad text fault.NoInstance (inr h) = h
+or_no_memory IsBad text (fault.BadShape n) (inr h) = h
+or_no_memory IsBad text (fault.BadSize n) (inr h) = h
+or_no_memory IsBad text (fault.BadRow n) (inr h) = h
+or_no_memory IsBad text (fault.Truncated n) (inr h) = h
+or_no_memory IsBad text (fault.BadMachine n) (inr h) = h
+or_no_memory IsBad text (fault.BadTime n) (inr h) = h
+or_no_memory IsBad text fault.NoSuchName (inr h) = h
+or_no_memory IsBad text (fault.BadTable n) (inr h) = h
+
+-- the schedule text of a check is refused
+pub check_refused : (format : Format) (name : Option (List ℕ)) (given : Option (List ℕ)) (text schedule : List ℕ)
+    (asked : NamedShop) (e : ReadFault)
+    → IsAsked format name text asked → schedule ≡ schedule_in text given
+    → (e ≡ fault.NoMemory) ⊎ IsTableRead asked.shop schedule (Err e)
+    → OrNoMemory (λ bytes. IsCheckFault format name bytes (schedule_in bytes given)) text e
+check_refused format name given text schedule asked e is_asked same h =
+    or_no_memory (λ bytes. IsCheckFault format name bytes (schedule_in bytes given)) text e
+    (elim (table_fault asked.shop schedule e h) [
+      | inl memory ↦ inl memory
+      | inr bad ↦ inr (inr (record {
+        asked = asked;
+        is_asked = is_asked;
+        says = subst (λ (bytes : List ℕ). IsTableFault asked.shop bytes e) same bad;
+      }))
+    ])
+
+pub checked : (format : Format) (name : Option (List ℕ)) (given : Option (List ℕ)) (text schedule : List ℕ)
+    (asked : NamedShop) (feasible : Bool) (line : List ℕ)
+    → IsAsked format name text asked → schedule ≡ schedule_in text given
+    → IsVerdictOn asked.shop schedule feasible line
+    → IsCheckOf format name text (schedule_in text given) feasible line
+checked format name given text schedule asked feasible line is_asked same h = record {
+  asked = asked;
+  is_asked = is_asked;
+  says = subst (λ (bytes : List ℕ). IsVerdictOn asked.shop bytes feasible line) same h;
+}

@@ -5,8 +5,10 @@
 --     IsLeftUnread old new             a source was left after one byte more than a text may have
 --     IsWritten old new text           a sink took the text
 --     IsCutOff old new text            a sink failed, after a beginning of the text
-use Rattle.std.specs.Prelude.{◌≡◌, ℕ, ◌+◌, ◌<◌, min, List, ◌++◌, length, Option, Result, MatchResult}
+--     IsTransfer Gives IsBad source source' sink sink' result      what is answered between a read and a write
+use Rattle.std.specs.Prelude.{◌≡◌, ℕ, ◌+◌, ◌<◌, min, List, ◌++◌, length, Option, Result, Ok, Err, MatchResult}
 use Rattle.std.specs.Io.KnownBytes.{Consumes, Appends, IsAtEnd}
+use Rattle.shop_text.specs.declared.faults.ReadFault.{ReadFault}
 use Rattle.shop_text.specs.declared.faults.ReadFault.TheVariants.{NoMemory, TooLong}
 use Rattle.shop_engine.specs.declared.faults.Fault.{Fault}
 use Rattle.shop_engine.specs.declared.faults.Fault.TheVariants.{Text, ReadFailed, WriteFailed}
@@ -65,3 +67,39 @@ abbrev pub IsUnwritten : Device → Device → List ℕ → Fault → Type 0
 IsUnwritten old new text (Text fault) = ⊥
 IsUnwritten old new text ReadFailed = ⊥
 IsUnwritten old new text WriteFailed = IsCutOff old new text
+
+-- ---- between a read and a write
+
+-- the source was read to its end, and for its text this goes out
+pub record Passes (old new : Device) (Gives : List ℕ → List ℕ → Type 0) (Goes : List ℕ → Type 0) : Type 0 where
+  pub text : List ℕ
+  pub read : IsReadToEnd old new text
+  pub out : List ℕ
+  pub gives : Gives text out
+  pub goes : Goes out
+
+-- the source was read to its end, and its text is refused for this
+pub record IsRefusedWhole (old new : Device) (IsBad : List ℕ → ReadFault → Type 0) (fault : ReadFault)
+    : Type 0 where
+  pub text : List ℕ
+  pub read : IsReadToEnd old new text
+  pub is_bad : IsBad text fault
+
+-- why nothing was had of a source that didn't fail: memory ran out, it has more than a text may have, or its text is
+-- refused
+abbrev pub IsTextRefused : Device → Device → (List ℕ → ReadFault → Type 0) → ReadFault → Type 0
+IsTextRefused old new IsBad NoMemory = HasWorked old new
+IsTextRefused old new IsBad TooLong = IsLeftUnread old new
+IsTextRefused old new IsBad fault = IsRefusedWhole old new IsBad fault
+
+-- What is answered where a text is read to the end and what it gives is written. On success the sink took just that, and
+-- no device failed. A refusal is that of all bytes of the source; it and a failed read leave the sink as it was. After a
+-- failed write a beginning is out.
+abbrev pub IsTransfer : (List ℕ → List ℕ → Type 0) → (List ℕ → ReadFault → Type 0) → Device → Device → Device → Device
+    → Result (Unit {0}) Fault → Type 0
+IsTransfer Gives IsBad source source' sink sink' (Ok done) = Passes source source' Gives (IsWritten sink sink')
+IsTransfer Gives IsBad source source' sink sink' (Err (Text fault)) =
+    IsTextRefused source source' IsBad fault × (sink' ≡ sink)
+IsTransfer Gives IsBad source source' sink sink' (Err ReadFailed) = HasFailed source source' × (sink' ≡ sink)
+IsTransfer Gives IsBad source source' sink sink' (Err WriteFailed) =
+    Passes source source' Gives (IsCutOff sink sink')

@@ -2,5 +2,8 @@ pub mod Devices
 pub mod Asking
 pub mod Listing
 pub mod Checking
+pub mod Answers
+pub mod Headline
 pub mod Solving
 pub mod Refusing
+pub mod inner

@@ -1,29 +1,21 @@
--- What `list_text` does.
---     Lists format source source' goes       it has read the instances, and their list goes out
---     IsListing format source source' sink sink' result      what it answers
-use Rattle.std.specs.Prelude.{◌≡◌, ℕ, List, Result, Ok, Err}
-use Rattle.shop_text.specs.Texts.{NamedShop, IsText}
+-- What `list_bytes` and `list_text` do.
+--     IsListOf format text out                               the list of the instances of a text
+--     IsListing args source source' sink sink' result        what `list_text` answers
+use Rattle.std.specs.Prelude.{◌≡◌, ℕ, List, Result}
+use Rattle.shop_text.specs.Texts.{NamedShop, IsText, IsTextFault}
 use Rattle.shop_text.specs.Writing.{list_text}
 use Rattle.shop_text.specs.declared.formats.Format.{Format}
+use Rattle.shop_engine.specs.declared.arguments.ListArgs.{ListArgs}
 use Rattle.shop_engine.specs.declared.faults.Fault.{Fault}
-use Rattle.shop_engine.specs.declared.faults.Fault.TheVariants.{Text, ReadFailed, WriteFailed}
-use Rattle.shop_engine.specs.Devices.{Device, HasFailed, IsReadToEnd, IsWritten, IsCutOff}
 use Rattle.shop_text.specs.Formats.{grammar_of}
-use Rattle.shop_engine.specs.Asking.{IsTextRefused}
+use Rattle.shop_engine.specs.Devices.{Device, IsTransfer}
 
--- The source was read to its end, its text is good for these instances, and their list goes out.
-pub record Lists (format : Format) (old new : Device) (goes : List ℕ → Type 0) : Type 0 where
-  pub text : List ℕ
-  pub read : IsReadToEnd old new text
+-- the text is good for these instances, and this is their list
+pub record IsListOf (format : Format) (text out : List ℕ) : Type 0 where
   pub shops : List NamedShop
   pub is_text : IsText (grammar_of format) text shops
-  pub out : goes (list_text shops)
+  pub list : out ≡ list_text shops
 
--- On success the sink took just the list, and no device failed. A refusal of the text is that of all its bytes; it and
--- a failed read leave the sink as it was. After a failed write a beginning of the list is out.
-abbrev pub IsListing : Format → Device → Device → Device → Device → Result (Unit {0}) Fault → Type 0
-IsListing format source source' sink sink' (Ok done) = Lists format source source' (IsWritten sink sink')
-IsListing format source source' sink sink' (Err (Text fault)) =
-    IsTextRefused format source source' fault × (sink' ≡ sink)
-IsListing format source source' sink sink' (Err ReadFailed) = HasFailed source source' × (sink' ≡ sink)
-IsListing format source source' sink sink' (Err WriteFailed) = Lists format source source' (IsCutOff sink sink')
+abbrev pub IsListing : ListArgs → Device → Device → Device → Device → Result (Unit {0}) Fault → Type 0
+IsListing args source source' sink sink' result =
+    IsTransfer (IsListOf args.format) (IsTextFault (grammar_of args.format)) source source' sink sink' result

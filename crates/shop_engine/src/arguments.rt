@@ -1,20 +1,21 @@
+// The arguments of the engines.
 use shop_round::Plan;
 use shop_text::Format;
 
-/// What `list` is told.
+/// The arguments of `list`.
 #[derive(Clone, Copy)]
 pub struct ListArgs {
     pub format: Format,
 }
 
-/// What `check` is told: the instance is the first one where no name is given.
+/// The arguments of `check`: the instance is the first one where no name is given.
 #[derive(Drop)]
 pub struct CheckArgs {
     pub format: Format,
     pub name: Option<String>,
 }
 
-/// What `solve` is told: the instance is the first one where no name is given.
+/// The arguments of `solve`: the instance is the first one where no name is given.
 #[derive(Drop)]
 pub struct SolveArgs {
     pub format: Format,

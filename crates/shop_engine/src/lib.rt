@@ -1,7 +1,8 @@
-// The engines of the program: from the bytes of a source to the bytes of a sink.
+// The engines of the program: from the bytes of a text, or of a source, to the bytes that are written.
 #![tactic(auto)]
 
 mod arguments;
+mod asking;
 mod checking;
 mod devices;
 mod faults;
@@ -13,14 +14,14 @@ mod streams;
 mod transfers;
 
 pub use arguments::{CheckArgs, ListArgs, SolveArgs};
-pub use checking::check_text;
+pub use checking::{check_bytes, check_text};
 pub use devices::{DeviceFailed, Sink, Source};
 pub use faults::Fault;
 pub use laws::refused_texts_are_answered;
-pub use listing::list_text;
+pub use listing::{list_bytes, list_text};
 pub use memory::Memory;
 pub use shop_text::Format;
-pub use solving::solve_text;
+pub use solving::{solve_bytes, solve_instance, solve_text};
 pub use streams::{Reading, Writing};
 pub use transfers::write_all;
 

@@ -1,57 +1,42 @@
-// The instances of a source, and the list of them.
-ghost use Rattle.std.specs.Prelude.{◌≤◌, ◌<◌, length, IfOk, IfErr};
-ghost use Rattle.shop_text.specs.Texts.{IsText};
+// The list of the instances of a text.
+ghost use Rattle.std.specs.Prelude.{IfOk, IfErr};
+ghost use Rattle.shop_text.specs.Texts.{IsTextFault};
 ghost use Rattle.shop_text.specs.Formats.{grammar_of};
-ghost use Rattle.shop_text.specs.Names.{IsPick, shops_of};
-ghost use Rattle.shop_engine.specs.Devices.{Device, IsReadToEnd};
-ghost use Rattle.shop_engine.specs.Asking.{name_in, IsSourceRefused};
-ghost use Rattle.shop_engine.specs.Listing.{IsListing};
+ghost use Rattle.shop_engine.specs.Asking.{OrNoMemory};
+ghost use Rattle.shop_engine.specs.Listing.{IsListOf, IsListing};
 
 use crate::arguments::ListArgs;
 use crate::devices::{Sink, Source};
 use crate::faults::Fault;
 use crate::transfers::{read_all, write_all};
-use shop_text::{Format, Named, ReadFault, listing, pick, read};
+use shop_text::{ReadFault, listing, read};
 use std::alloc::Global;
 
-/// The text of a source, and the instances in it.
-pub(crate) fn instances_of<S: Source>(
-    alloc: Global,
-    format: Format,
-    source: &mut S,
-) -> Result<(Vec<u8>, Vec<Named>), Fault>
-    ensures read { IfOk result (λ r.
-        IsReadToEnd (S.device source.old) (S.device source.new) r.0.items) }
-    ensures text { IfOk result (λ r. IsText (grammar_of format) r.0.items (shops_of r.1.items)) }
-    ensures some { IfOk result (λ r. 0 < length r.1.items) }
-    ensures err { IfErr result (λ e.
-        IsSourceRefused format (S.device source.old) (S.device source.new) e) }
+/// The list of the instances of a text: a line for each, with its name, its jobs and its machines. For those who embed
+/// the library: it reads and writes no device.
+///
+/// Refused by the text's one fault, or as `NoMemory` if memory runs out.
+pub fn list_bytes(alloc: Global, text: &[u8], args: &ListArgs) -> Result<Vec<u8>, ReadFault>
+    ensures list { IfOk result (λ out. IsListOf args.now.format text.now out.items) }
+    ensures refused { IfErr result (λ fault.
+        OrNoMemory (IsTextFault (grammar_of args.now.format)) text.now fault) }
 {
-    let text = read_all(alloc, source)?;
-    let named = read(alloc, format, text.as_slice())?;
-    Ok((text, named))
+    let named = read(alloc, args.format, text)?;
+    Ok(listing(alloc, named.as_slice())?)
 }
 
-/// The instance that is asked for: the first one of the name, or without a name the first one.
-pub(crate) fn ask<'t>(named: &'t [Named], name: &Option<String>) -> Result<&'t Named, ReadFault>
-    requires { 0 < length named.now }
-    ensures { IsPick named.now (name_in name.now) result }
-{
-    pick(named, name.as_deref())
-}
-
-/// Writes a line for each instance of a source: its name, its jobs and its machines.
-/// Nothing is written before all lines are made.
+/// Writes the list of the instances of a source, as `list_bytes` makes it. Nothing is written before all lines are
+/// made.
 pub fn list_text<S: Source, K: Sink>(
     alloc: Global,
     source: &mut S,
     sink: &mut K,
     args: &ListArgs,
 ) -> Result<(), Fault>
-    ensures { IsListing args.now.format (S.device source.old) (S.device source.new)
+    ensures { IsListing args.now (S.device source.old) (S.device source.new)
         (K.device sink.old) (K.device sink.new) result }
 {
-    let (_, named) = instances_of(alloc, args.format, source)?;
-    let lines = listing(alloc, named.as_slice())?;
+    let text = read_all(alloc, source)?;
+    let lines = list_bytes(alloc, text.as_slice(), args)?;
     write_all(sink, lines.as_slice())
 }

@@ -1,19 +1,23 @@
 // The report of the best schedule that a plan finds.
-ghost use Rattle.std.specs.Prelude.{◌≡◌, IfOk};
-ghost use Rattle.shop_model.specs.Checking.{HasShape};
+ghost use Rattle.std.specs.Prelude.{◌≡◌, IfOk, IfErr};
+ghost use Rattle.shop_model.specs.Shop.{IsFeasible};
+ghost use Rattle.shop_model.specs.Checking.{HasShape, starts_of};
 ghost use Rattle.shop_text.specs.Writing.{report_text};
 ghost use Rattle.shop_text.specs.Names.{shop_of_named};
 ghost use Rattle.shop_round.specs.Runs.{planned};
-ghost use Rattle.shop_engine.specs.Asking.{name_in};
-ghost use Rattle.shop_engine.specs.Solving.{answer_of, told_by, solved_text, IsBelievable, IsHeadline, IsSolving};
+ghost use Rattle.shop_engine.specs.Asking.{name_in, IsAskFault, OrNoMemory};
+ghost use Rattle.shop_engine.specs.Answers.{text_with_gantt};
+ghost use Rattle.shop_engine.specs.Headline.{IsRight, IsDetermined, IsRightOf, IsDeterminedOf, WhereKnown};
+ghost use Rattle.shop_engine.specs.Solving.{IsSolving};
+ghost use Rattle.shop_engine.specs.inner.Told.{told_by};
 
 use crate::arguments::SolveArgs;
+use crate::asking::ask;
 use crate::devices::{Sink, Source};
 use crate::faults::Fault;
-use crate::listing::{ask, instances_of};
-use crate::transfers::write_all;
-use shop_round::{Answer, Crew, run};
-use shop_text::{Named, Report, gantt, report};
+use crate::transfers::{read_all, write_all};
+use shop_round::{Answer, Crew, Plan, run};
+use shop_text::{Named, ReadFault, Report, gantt, read, report};
 use std::alloc::{AllocError, Global};
 
 /// The report of an answer.
@@ -35,32 +39,73 @@ fn report_of(alloc: Global, asked: &Named, answer: &Answer) -> Result<Vec<u8>, A
     report(alloc, &told)
 }
 
-/// The report of the plan's answer on an instance, with its Gantt text where that is asked for.
-fn solve<R, C: Crew<R>>(
-    rt: &R,
+/// The report of an answer, with its Gantt text where that is asked for.
+fn text_of(
     alloc: Global,
     asked: &Named,
-    args: &SolveArgs,
-    crew: &mut C,
+    answer: &Answer,
+    with_gantt: bool,
 ) -> Result<Vec<u8>, AllocError>
-    requires { C.ready }
-    ensures text { IfOk result (λ v. v.items
-        ≡ solved_text (shop_of_named asked.now) (planned args.now.plan) args.now.gantt) }
-    ensures believable { IfOk result (λ v.
-        IsBelievable (answer_of (shop_of_named asked.now) (planned args.now.plan))) }
+    requires shape { HasShape asked.now.instance answer.now.table }
+    requires feasible { IsFeasible asked.now.instance (starts_of answer.now.table) }
+    ensures { IfOk result (λ v.
+        v.items ≡ text_with_gantt (told_by (shop_of_named asked.now) answer.now) with_gantt) }
 {
-    let answer = run(rt, alloc, &asked.instance, &args.plan, crew)?;
-    let mut text = report_of(alloc, asked, &answer)?;
-    if args.gantt {
+    let mut text = report_of(alloc, asked, answer)?;
+    if with_gantt {
         let chart = gantt(alloc, &asked.instance, &answer.table)?;
         text.extend_from_slice(chart.as_slice())?;
     }
     Ok(text)
 }
 
-/// Writes the report of the best schedule that a plan finds for an instance of a source, with any crew.
-/// Its schedule is feasible and ends at the printed makespan, no feasible schedule ends before the printed bound, and
-/// where the status is optimal none ends before the makespan. Nothing is written before the search ends.
+/// The report of the best schedule that a plan finds for an instance, with any crew, and its Gantt text where that is
+/// asked for. The schedule is feasible and ends at the printed makespan, no feasible schedule ends before the printed
+/// bound, and where the status is optimal none ends before the makespan. For those who embed the library.
+///
+/// Fails with `AllocError` if memory runs out.
+pub fn solve_instance<R, C: Crew<R>>(
+    rt: &R,
+    alloc: Global,
+    asked: &Named,
+    plan: &Plan,
+    with_gantt: bool,
+    crew: &mut C,
+) -> Result<Vec<u8>, AllocError>
+    requires { C.ready }
+    ensures right { IfOk result (λ out.
+        IsRight (shop_of_named asked.now) with_gantt out.items) }
+    ensures determined { IfOk result (λ out.
+        IsDetermined (shop_of_named asked.now) (planned plan.now) with_gantt out.items) }
+{
+    let answer = run(rt, alloc, &asked.instance, plan, crew)?;
+    text_of(alloc, asked, &answer, with_gantt)
+}
+
+/// The report as `solve_instance` makes it, of the instance that is asked for in a text. For those who embed the
+/// library: it reads and writes no device.
+///
+/// Refused by the text's one fault, as `NoSuchName`, or as `NoMemory` if memory runs out.
+pub fn solve_bytes<R, C: Crew<R>>(
+    rt: &R,
+    alloc: Global,
+    text: &[u8],
+    args: &SolveArgs,
+    crew: &mut C,
+) -> Result<Vec<u8>, ReadFault>
+    requires { C.ready }
+    ensures right { IfOk result (λ out. IsRightOf
+        args.now.format (name_in args.now.name) args.now.gantt text.now out.items) }
+    ensures determined { IfOk result (λ out. IsDeterminedOf args.now text.now out.items) }
+    ensures refused { IfErr result (λ fault. OrNoMemory
+        (IsAskFault args.now.format (name_in args.now.name)) text.now fault) }
+{
+    let named = read(alloc, args.format, text)?;
+    let asked = ask(named.as_slice(), &args.name)?;
+    Ok(solve_instance(rt, alloc, asked, &args.plan, args.gantt, crew)?)
+}
+
+/// Writes the report that `solve_bytes` makes of the text of a source. Nothing is written before the search ends.
 pub fn solve_text<R, S: Source, K: Sink, C: Crew<R>>(
     rt: &R,
     alloc: Global,
@@ -70,15 +115,15 @@ pub fn solve_text<R, S: Source, K: Sink, C: Crew<R>>(
     crew: &mut C,
 ) -> Result<(), Fault>
     requires { C.ready }
-    ensures solving { IsSolving
-        args.now.format (name_in args.now.name) (planned args.now.plan) args.now.gantt
-        (S.device source.old) (S.device source.new) (K.device sink.old) (K.device sink.new) result }
-    ensures headline { IsHeadline
-        args.now.format (name_in args.now.name) (planned args.now.plan) args.now.gantt
+    ensures right { WhereKnown
+        (IsRightOf args.now.format (name_in args.now.name) args.now.gantt)
         (S.device source.old) (K.device sink.old) (K.device sink.new) result }
+    ensures determined { WhereKnown (IsDeterminedOf args.now)
+        (S.device source.old) (K.device sink.old) (K.device sink.new) result }
+    ensures solving { IsSolving args.now (S.device source.old) (S.device source.new)
+        (K.device sink.old) (K.device sink.new) result }
 {
-    let (_, named) = instances_of(alloc, args.format, source)?;
-    let asked = ask(named.as_slice(), &args.name)?;
-    let text = solve(rt, alloc, asked, args, crew)?;
-    write_all(sink, text.as_slice())
+    let text = read_all(alloc, source)?;
+    let written = solve_bytes(rt, alloc, text.as_slice(), args, crew)?;
+    write_all(sink, written.as_slice())
 }

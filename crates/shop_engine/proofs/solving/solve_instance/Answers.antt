@@ -1,0 +1,28 @@
+use Rattle.std.proofs.Common.{◌≡◌}
+use Rattle.shop_text.specs.Names.{shop_of_named}
+use Rattle.shop_round.specs.Runs.{planned}
+use Rattle.shop_engine.specs.inner.Told.{told_by}
+use Rattle.shop_engine.specs.Answers.{text_with_gantt}
+use Rattle.shop_engine.specs.Headline.{IsRight, IsDetermined}
+use Rattle.shop_engine.proofs.Results.{if_ok}
+use Rattle.shop_engine.proofs.Reported.{right, determined}
+use Rattle.shop_engine.proofs.solving.solve_instance.Goals as goal
+
+pub returns-clause-right : goal.returns-clause-right
+returns-clause-right g c =
+    let asked = shop_of_named c.args.asked.now
+    in let a = c.in_ok-answer
+    in let gantt = c.args.with_gantt
+    in if_ok (λ out. out.items ≡ text_with_gantt (told_by asked a.answer) gantt)
+    (λ out. IsRight asked gantt out.items) c.text_of.result
+    (λ out e. right asked a.answer gantt out.items a.ensures.trust e) c.text_of.ensures
+
+pub returns-clause-determined : goal.returns-clause-determined
+returns-clause-determined g c =
+    let asked = shop_of_named c.args.asked.now
+    in let plan = planned c.args.plan.now
+    in let a = c.in_ok-answer
+    in let gantt = c.args.with_gantt
+    in if_ok (λ out. out.items ≡ text_with_gantt (told_by asked a.answer) gantt)
+    (λ out. IsDetermined asked plan gantt out.items) c.text_of.result
+    (λ out e. determined asked plan a.answer gantt out.items a.ensures.says e) c.text_of.ensures

@@ -1,0 +1,97 @@
+-- The headline of `solve`, in two clauses. For every accepted instance text and all arguments, with any crew of workers,
+-- however their steps fall:
+--     (a) right         what is written is a report on the instance that is asked for; its schedule is feasible and ends
+--                       at its makespan, no feasible schedule ends before its bound, and where its status is optimal none
+--                       ends before its makespan
+--     (b) determined    it is the report of the one answer that the definition of the search gives, which knows no crew
+--
+-- Clause (a) rests on these definitions of the model, and on none of the search:
+--     Shop                              an instance: machines, and jobs with a release and a route
+--     IsOperation shop j k              job j has a step k
+--     machine_of, time_of shop j k      the machine that step k of job j needs, and for how long
+--     release_of shop j                 when job j is there
+--     finish_of shop starts j k         its start and its time
+--     IsFeasible shop starts            releases, routes and machines are kept
+--     end_of shop starts                the greatest finish
+--     IsLeast shop c                    a feasible schedule ends at c, and none before
+--     HasShape, starts_of               a table in rows has a start for each operation; the schedule that it gives
+--     report_text                       the lines of a report
+use Rattle.std.specs.Prelude.{◌≡◌, ℕ, ◌≤◌, Bool, true, false, List, [], ◌∷◌, ◌++◌, codes, Option, Some, Result}
+use Rattle.std.specs.Prelude.{IsOk, refl}
+use Rattle.std.specs.Fmt.{digits}
+use Rattle.shop_model.specs.Shop.{Shop, Starts, IsFeasible, end_of, IsLeast}
+use Rattle.shop_model.specs.Checking.{HasShape, starts_of}
+use Rattle.shop_text.specs.Texts.{NamedShop}
+use Rattle.shop_text.specs.Writing.{Reported, report_text}
+use Rattle.shop_round.specs.Round.{Planned}
+use Rattle.shop_round.specs.Runs.{planned}
+use Rattle.shop_round.specs.declared.plans.Order.TheVariants.{Kept}
+use Rattle.shop_text.specs.declared.formats.Format.{Format}
+use Rattle.shop_engine.specs.declared.arguments.SolveArgs.{SolveArgs}
+use Rattle.shop_engine.specs.declared.faults.Fault.{Fault}
+use Rattle.shop_engine.specs.Asking.{name_in, OfAsked}
+use Rattle.shop_engine.specs.Devices.{Device}
+use Rattle.shop_engine.specs.Answers.{answer_of, text_with_gantt}
+
+-- (a) It is a report, with a Gantt text behind it where that is asked for, and what it says is so.
+pub record IsRight (asked : NamedShop) (gantt : Bool) (written : List ℕ) : Type 0 where
+  pub report : Reported
+  pub named : report.name ≡ asked.name
+  pub on : report.shop ≡ asked.shop
+  pub chart : List ℕ
+  pub no_chart : gantt ≡ false → chart ≡ []
+  pub text : written ≡ report_text report ++ chart
+  -- the schedule has a start for each operation, is feasible, and ends at the makespan
+  pub shape : HasShape asked.shop report.table
+  pub feasible : IsFeasible asked.shop (starts_of report.table)
+  pub ends : end_of asked.shop (starts_of report.table) ≡ report.makespan
+  -- no feasible schedule ends before the bound
+  pub bound : (starts : Starts) → IsFeasible asked.shop starts → report.bound ≤ end_of asked.shop starts
+  -- the status is optimal where no node is open; then no feasible schedule ends before the makespan
+  pub optimal : report.open_nodes ≡ 0 → IsLeast asked.shop report.makespan
+
+-- (b) It is the report of the plan's answer.
+abbrev pub IsDetermined : NamedShop → Planned → Bool → List ℕ → Type 0
+IsDetermined asked plan gantt written = written ≡ text_with_gantt (answer_of asked plan) gantt
+
+-- the same, of the instance that is asked for in a text
+abbrev pub IsRightOf : Format → Option (List ℕ) → Bool → List ℕ → List ℕ → Type 0
+IsRightOf format name gantt text written = OfAsked format name text (λ asked. IsRight asked gantt written)
+
+abbrev pub IsDeterminedOf : SolveArgs → List ℕ → List ℕ → Type 0
+IsDeterminedOf args text written = OfAsked args.format (name_in args.name) text
+    (λ asked. IsDetermined asked (planned args.plan) args.gantt written)
+
+-- the sink holds what it held, and then this
+pub record HoldsThen (Written : List ℕ → Type 0) (held : List ℕ) (sink : Device) : Type 0 where
+  pub written : List ℕ
+  pub is_written : Written written
+  pub holds : sink.bytes ≡ Some (held ++ written)
+
+-- where the bytes of source and sink are known, and the call succeeds
+abbrev pub WhereKnown : (List ℕ → List ℕ → Type 0) → Device → Device → Device → Result (Unit {0}) Fault → Type 0
+WhereKnown Written source sink sink' result = (text held : List ℕ) → source.bytes ≡ Some text
+    → sink.bytes ≡ Some held → IsOk result → HoldsThen (Written text) held sink'
+
+-- One report, computed from the definition: job 0 takes machine 0 for 3 and then machine 1 for 2, job 1 machine 1 for 2
+-- and then machine 0 for 4.
+abbrev pub crossing : NamedShop
+crossing = record {
+  name = codes "crossing";
+  shop = record {
+    machines = 2;
+    jobs =
+        record { release = 0; route = record { machine = 0; time = 3 } ∷ record { machine = 1; time = 2 } ∷ [] }
+        ∷ record { release = 0; route = record { machine = 1; time = 2 } ∷ record { machine = 0; time = 4 } ∷ [] }
+        ∷ [];
+  };
+}
+
+abbrev pub one_round : Planned
+one_round = record { rounds = 1; budget = 100; piece = 1; order = Kept }
+
+pub crossing_report : text_with_gantt (answer_of crossing one_round) true
+    ≡ codes "instance crossing\nsize 2 2\nmakespan 7\nbound 7\nstatus optimal\nopen 0\nrounds 1\nnodes 6\n"
+    ++ codes "job 0: 0 3\njob 1: 0 3\nunit 1\nmachine 0 |0001111|\nmachine 1 |11.00..|\n"
+unfolding digits
+crossing_report = refl
