@@ -1,20 +1,23 @@
 -- The command line, in clap's words of a simple command.
 --     command_line formats orders      the command: what a parse reads of it
---     IsLineOf words args              the arguments are those that clap reads of the words by this command
-use Rattle.std.specs.Prelude.{◌≡◌, ◌≤◌, ℕ, true, false, Bool, List, [], ◌∷◌, Option, Some, codes, option_map}
-use Rattle.std.specs.Prelude.{string_bytes}
+--     IsLineOf words args              the arguments are those that clap reads of the words by
+--                                      this command
+use Rattle.std.specs.Prelude.{◌≡◌, ◌≤◌, ℕ, true, false, Bool, List, [], ◌∷◌, Option, Some}
+use Rattle.std.specs.Prelude.{codes, option_map, string_bytes}
 use Rattle.std.specs.Str.Parse.{IsNumeral, digits_value, without_leading_plus}
-use Rattle.clap.specs.Words.{App, Row, Rule, Text, app_of, first_of, one_of, rule_of, new_app, new_rule}
-use Rattle.clap.specs.Words.{subcommand_of, with_rule, with_subcommand}
+use Rattle.clap.specs.Words.{App, Row, Rule, Text, app_of, first_of, one_of, rule_of, new_app}
+use Rattle.clap.specs.Words.{new_rule, subcommand_of, with_rule, with_subcommand}
 use Rattle.clap.specs.declared.builder.action.ArgAction.TheVariants.{SetTrue}
 use Rattle.clap.specs.declared.builder.arg.Arg.{Arg}
 use Rattle.clap.specs.declared.builder.command.Command.{Command}
 use Rattle.clap.specs.declared.builder.command.Command.TheViews.{out-Command}
 use Rattle.clap.specs.declared.builder.value_parser.ValueParser.{ValueParser}
 use Rattle.clap.specs.declared.builder.value_parser.ValueParser.TheVariants.{Unsigned}
+use Rattle.shop_round.specs.declared.limits.TheConstants.{MAX_ROUNDS, MAX_BUDGET, MAX_PIECE}
 use Rattle.shop_round.specs.declared.plans.Order.{Order}
 use Rattle.shop_round.specs.declared.plans.Order.TheVariants.{Kept, Bound}
 use Rattle.shop_round.specs.declared.plans.Plan.{Plan}
+use Rattle.shop_board.specs.declared.lock_crews.TheConstants.{MAX_WORKERS}
 use Rattle.shop_text.specs.Formats.{word_of}
 use Rattle.jobshop.specs.declared.arguments.Args.{Args}
 use Rattle.jobshop.specs.declared.arguments.Args.TheVariants.{ListNames, CheckTable, SolveInstance}
@@ -26,13 +29,15 @@ abbrev pub option_rule : Text → Rule
 option_rule id = record (new_rule id) { long = Some id; value_names = 1 }
 
 abbrev pub choice_rule : Text → ValueParser → Text → Rule
-choice_rule id choice default = record (option_rule id) { parser = Some choice; defaults = default ∷ [] }
+choice_rule id choice default = record (option_rule id) {
+  parser = Some choice;
+  defaults = default ∷ [];
+}
 
 abbrev pub number_rule : Text → ℕ → ℕ → Text → Rule
 number_rule id least most default = record (option_rule id) {
   parser = Some (Unsigned least most);
-  defaults =
-      default ∷ [];
+  defaults = default ∷ [];
 }
 
 abbrev pub flag_rule : Text → Rule
@@ -56,40 +61,51 @@ abbrev pub IsCommandOf : App → Command → Type 0
 IsCommandOf app command = (app_of command ≡ app) × ((out-Command command).has_globals ≡ false)
 
 abbrev pub list_command : ValueParser → App
-list_command formats = with_rules (new_app (codes "list")) (format_rule formats ∷ path_rule (codes "FILE") ∷ [])
+list_command formats =
+    with_rules (new_app (codes "list")) (format_rule formats ∷ path_rule (codes "FILE") ∷ [])
 
 abbrev pub check_command : ValueParser → App
 check_command formats =
     with_rules (new_app (codes "check"))
-    (format_rule formats ∷ option_rule (codes "name") ∷ path_rule (codes "FILE") ∷ path_rule (codes "SCHEDULE") ∷ [])
+    (format_rule formats
+    ∷ option_rule (codes "name")
+    ∷ path_rule (codes "FILE")
+    ∷ path_rule (codes "SCHEDULE")
+    ∷ [])
 
--- 0 to 100,000 rounds, budgets of 1 to 10,000,000 nodes, pieces of 1 to 1,000 nodes, and an order
+-- rounds from 0, budgets and pieces from 1, each up to its limit, and an order
 abbrev pub with_plan_rules : ValueParser → App → App
 with_plan_rules orders app =
     with_rules app
-    (number_rule (codes "rounds") 0 100000 (codes "1000")
-    ∷ number_rule (codes "budget") 1 10000000 (codes "100000")
-    ∷ number_rule (codes "piece") 1 1000 (codes "1")
+    (number_rule (codes "rounds") 0 MAX_ROUNDS (codes "1000")
+    ∷ number_rule (codes "budget") 1 MAX_BUDGET (codes "100000")
+    ∷ number_rule (codes "piece") 1 MAX_PIECE (codes "1")
     ∷ choice_rule (codes "order") orders (codes "kept")
     ∷ [])
 
--- 1 to 64 workers
 abbrev pub solve_command : ValueParser → ValueParser → App
 solve_command formats orders =
-    let named = with_rules (new_app (codes "solve")) (format_rule formats ∷ option_rule (codes "name") ∷ [])
+    let named =
+    with_rules (new_app (codes "solve")) (format_rule formats ∷ option_rule (codes "name") ∷ [])
     in with_rules (with_plan_rules orders named)
-    (number_rule (codes "workers") 1 64 (codes "1") ∷ flag_rule (codes "gantt") ∷ path_rule (codes "FILE") ∷ [])
+    (number_rule (codes "workers") 1 MAX_WORKERS (codes "1")
+    ∷ flag_rule (codes "gantt")
+    ∷ path_rule (codes "FILE")
+    ∷ [])
 
 abbrev pub needing_subcommand : App → App
 needing_subcommand app = record app { top = record app.top { subcommand_required = true } }
 
 abbrev pub command_line : ValueParser → ValueParser → App
 command_line formats orders =
-    with_subcommand (with_subcommand (with_subcommand (needing_subcommand (new_app (codes "jobshop")))
-    (list_command formats).top) (check_command formats).top) (solve_command formats orders).top
+    let listing =
+    with_subcommand (needing_subcommand (new_app (codes "jobshop"))) (list_command formats).top
+    in with_subcommand (with_subcommand listing (check_command formats).top)
+    (solve_command formats orders).top
 
 abbrev pub IsCommandLine : Command → Type 0
-IsCommandLine command = (formats orders : ValueParser) × IsCommandOf (command_line formats orders) command
+IsCommandLine command =
+    (formats orders : ValueParser) × IsCommandOf (command_line formats orders) command
 
 -- ---- its values
 
@@ -102,7 +118,8 @@ abbrev pub HasText : List Row → Text → Text → Type 0
 HasText rows id text = first_of id rows ≡ Some text
 
 abbrev pub NumberIs : Text → ℕ → Type 0
-NumberIs text n = IsNumeral 10 (without_leading_plus text) × (n ≡ digits_value 10 (without_leading_plus text))
+NumberIs text n =
+    IsNumeral 10 (without_leading_plus text) × (n ≡ digits_value 10 (without_leading_plus text))
 
 abbrev pub HasNumber : List Row → Text → ℕ → Type 0
 HasNumber rows id n = (text : Text) × (one_of id rows ≡ Some text) × NumberIs text n
@@ -135,12 +152,15 @@ IsArgs name rows (SolveInstance args workers file) =
     (name ≡ codes "solve") × HasText rows (codes "format") (word_of args.format)
     × MayHave rows (codes "name") (option_map string_bytes args.name)
     × IsPlanOf rows args.plan
-    × HasNumber rows (codes "workers") workers × (1 ≤ workers) × (workers ≤ 64)
+    × HasNumber rows (codes "workers") workers.count
+    × (1 ≤ workers.count) × (workers.count ≤ MAX_WORKERS)
     × HasFlag rows (codes "gantt") args.gantt
     × MayHave rows (codes "FILE") (option_map string_bytes file)
 
--- (the parsers of the two choices only say which words are refused, and not what is read of the others)
+-- (The parsers of the two choices only say which words are refused, and not what is read of the
+-- others.)
 abbrev pub IsLineOf : List Text → Args → Type 0
 IsLineOf words args =
     (formats orders : ValueParser) × (matches : Text × List Row)
-    × (subcommand_of (command_line formats orders) words ≡ Some matches) × IsArgs matches.0 matches.1 args
+    × (subcommand_of (command_line formats orders) words ≡ Some matches)
+    × IsArgs matches.0 matches.1 args

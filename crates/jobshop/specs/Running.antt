@@ -1,9 +1,13 @@
 -- What a run of the program does to standard input and output, and how it ends.
---     Streams                         standard input and output
---     IsRunOn file old new result Runs    a command was run on the text of FILE
---     IsRun args old new result       what the command line asks for was done, with this status, or ended by a fault
---     IsEnd words old new status      the program ended on these words
-use Rattle.std.specs.Prelude.{◌≡◌, ℕ, ◌⊎◌, Bool, true, is_some, List, Option, Some, None, Result, Ok, Err}
+--     Streams                               standard input and output
+--     IsRunOn file old new result Runs      a command was run on the text of FILE
+--     ListsFrom, ChecksFrom, SolvesFrom     what a command did to a source and a sink, with its
+--                                           status
+--     IsCommandRun args old new result      what the command line asks for was done, or ended by a
+--                                           fault
+--     IsEnd words old new status            the program ended on these words
+use Rattle.std.specs.Prelude.{◌≡◌, ℕ, ◌⊎◌, Bool, true, List, Option, Some, None, is_some}
+use Rattle.std.specs.Prelude.{Result, Ok, Err}
 use Rattle.std.specs.declared.string.String.{String}
 use Rattle.std.specs.declared.alloc.Global.{Global}
 use Rattle.clap.specs.Words.{Text}
@@ -37,8 +41,9 @@ pub record IsUnopened (old new : Streams) (result : Result ℕ Fault) : Type 0 w
   pub failed : result ≡ Err ReadFailed
   pub same : new ≡ old
 
--- The command was run on the text of FILE: without a path on that of standard input. Where a path is given it was run
--- on that of a file, of which nothing is known, or the file couldn't be opened; standard input is left as it was.
+-- The command was run on the text of FILE: without a path on that of standard input. Where a path
+-- is given it was run on that of a file, of which nothing is known, or the file couldn't be opened;
+-- and standard input is as it was.
 abbrev pub IsRunOn : Path → Streams → Streams → Result ℕ Fault → (Device → Device → Type 0) → Type 0
 IsRunOn None old new result Runs = Runs old.source new.source
 IsRunOn (Some path) old new result Runs =
@@ -55,21 +60,23 @@ ListsFrom args sink sink' (Err fault) source source' =
     IsListing args source source' sink sink' (Err fault)
 
 -- the schedule is that of a file just where a path is given
-abbrev pub Judges : CheckArgs → Path → Device → Device → Result Bool Fault → Device → Device → Type 0
-Judges args schedule sink sink' result source source' = (second second' : Option Device)
+abbrev pub HasChecked : CheckArgs → Path → Device → Device → Result Bool Fault
+    → Device → Device → Type 0
+HasChecked args schedule sink sink' result source source' = (second second' : Option Device)
     × (is_some second ≡ is_some schedule)
     × IsChecking args source source' second second' sink sink' result
 
 -- 0 for a feasible schedule, 1 for an infeasible one; or the schedule's file couldn't be opened
-abbrev pub ChecksFrom : CheckArgs → Path → Device → Device → Result ℕ Fault → Device → Device → Type 0
+abbrev pub ChecksFrom : CheckArgs → Path → Device → Device → Result ℕ Fault
+    → Device → Device → Type 0
 ChecksFrom args schedule sink sink' (Ok status) source source' = (feasible : Bool)
     × (status ≡ status_of_verdict feasible)
-    × Judges args schedule sink sink' (Ok feasible) source source'
+    × HasChecked args schedule sink sink' (Ok feasible) source source'
 ChecksFrom args schedule sink sink' (Err fault) source source' =
     ((is_some schedule ≡ true) × (fault ≡ ReadFailed) × (source' ≡ source) × (sink' ≡ sink))
-    ⊎ Judges args schedule sink sink' (Err fault) source source'
+    ⊎ HasChecked args schedule sink sink' (Err fault) source source'
 
-pub record Solves (args : SolveArgs) (sink sink' : Device) (result : Result (Unit {0}) Fault)
+pub record HasSolved (args : SolveArgs) (sink sink' : Device) (result : Result (Unit {0}) Fault)
     (source source' : Device) : Type 0 where
   pub right : WhereKnown (IsRightOf args.format (name_in args.name) args.gantt)
       source sink sink' result
@@ -79,18 +86,18 @@ pub record Solves (args : SolveArgs) (sink sink' : Device) (result : Result (Uni
 -- 0 for a report, whatever its status
 abbrev pub SolvesFrom : SolveArgs → Device → Device → Result ℕ Fault → Device → Device → Type 0
 SolvesFrom args sink sink' (Ok status) source source' =
-    (status ≡ 0) × Solves args sink sink' (Ok tt) source source'
+    (status ≡ 0) × HasSolved args sink sink' (Ok tt) source source'
 SolvesFrom args sink sink' (Err fault) source source' =
-    Solves args sink sink' (Err fault) source source'
+    HasSolved args sink sink' (Err fault) source source'
 
 -- ---- the program
 
-abbrev pub IsRun : Args → Streams → Streams → Result ℕ Fault → Type 0
-IsRun (ListNames args file) old new result =
+abbrev pub IsCommandRun : Args → Streams → Streams → Result ℕ Fault → Type 0
+IsCommandRun (ListNames args file) old new result =
     IsRunOn file old new result (ListsFrom args old.sink new.sink result)
-IsRun (CheckTable args file schedule) old new result =
+IsCommandRun (CheckTable args file schedule) old new result =
     IsRunOn file old new result (ChecksFrom args schedule old.sink new.sink result)
-IsRun (SolveInstance args workers file) old new result =
+IsCommandRun (SolveInstance args workers file) old new result =
     IsRunOn file old new result (SolvesFrom args old.sink new.sink result)
 
 -- the status of a run
@@ -98,8 +105,8 @@ abbrev pub status_of_run : Result ℕ Fault → ℕ
 status_of_run (Ok status) = status
 status_of_run (Err fault) = status_of fault
 
--- The words of the command line were refused, or a call for help (2), or memory ran out (5): nothing was read or
--- written.
+-- The words of the command line were refused or a call for help (2), or memory ran out (5): nothing
+-- was read or written.
 pub record IsLineRefused (old new : Streams) (status : ℕ) : Type 0 where
   pub said : (status ≡ 2) ⊎ (status ≡ 5)
   pub same : new ≡ old
@@ -109,7 +116,7 @@ pub record IsDone (words : List Text) (old new : Streams) (status : ℕ) : Type 
   pub args : Args
   pub asked : IsLineOf words args
   pub result : Result ℕ Fault
-  pub run : IsRun args old new result
+  pub run : IsCommandRun args old new result
   pub is_status : status ≡ status_of_run result
 
 abbrev pub IsEnd : List Text → Streams → Streams → ℕ → Type 0

@@ -11,6 +11,7 @@ use crate::help::{CHECK, Help, LIST, PROGRAM, SOLVE};
 use clap::builder::ValueParser;
 use clap::{Arg, ArgAction, Command};
 use shop_board::MAX_WORKERS;
+use shop_round::{MAX_BUDGET, MAX_PIECE, MAX_ROUNDS};
 use shop_text::FORMAT_WORDS;
 use std::alloc::{AllocError, Global};
 
@@ -148,7 +149,8 @@ fn with_plan<'a>(
     orders: &'a [&'a str],
 ) -> Result<Command<'a>, AllocError>
     requires { (out-Command command).has_globals ≡ false }
-    ensures { IfOk result (IsCommandOf (with_plan_rules (Names orders.entry) (app_of command.entry))) }
+    ensures { IfOk result (IsCommandOf
+        (with_plan_rules (Names orders.entry) (app_of command.entry))) }
 {
     command
         .arg(number(
@@ -156,7 +158,7 @@ fn with_plan<'a>(
             "rounds",
             "At most so many rounds, 0 to 100000; more may end lower and take longer",
             0,
-            100_000,
+            MAX_ROUNDS,
             "1000",
         ))?
         .arg(number(
@@ -164,7 +166,7 @@ fn with_plan<'a>(
             "budget",
             "Nodes that the search of a piece takes before it leaves the rest open, 1 to 10000000",
             1,
-            10_000_000,
+            MAX_BUDGET,
             "100000",
         ))?
         .arg(number(
@@ -172,7 +174,7 @@ fn with_plan<'a>(
             "piece",
             "Open nodes in a piece, 1 to 1000; a round searches at most 256 pieces",
             1,
-            1_000,
+            MAX_PIECE as u64,
             "1",
         ))?
         .arg(choice(

@@ -13,7 +13,8 @@ use std::alloc::{AllocError, Global};
 
 /// The format.
 pub fn format_in(alloc: Global, found: &ArgMatches) -> Result<Format, LineFault>
-    ensures { IfOk result (λ f. HasText (rows_of (found_of found.now)) (codes "format") (word_of f)) }
+    ensures { IfOk result (λ format.
+        HasText (rows_of (found_of found.now)) (codes "format") (word_of format)) }
 {
     let Some(word) = found.get_str("format") else {
         return Err(misread(alloc));
@@ -26,7 +27,8 @@ pub fn format_in(alloc: Global, found: &ArgMatches) -> Result<Format, LineFault>
 
 /// The order.
 pub fn order_in(alloc: Global, found: &ArgMatches) -> Result<Order, LineFault>
-    ensures { IfOk result (λ o. HasText (rows_of (found_of found.now)) (codes "order") (order_word o)) }
+    ensures { IfOk result (λ order.
+        HasText (rows_of (found_of found.now)) (codes "order") (order_word order)) }
 {
     match found.get_str("order") {
         Some("kept") => Ok(Order::Kept),
@@ -54,7 +56,8 @@ pub fn flag_in(found: &ArgMatches, id: &str) -> bool
 
 /// A text that may be missing.
 pub fn text_in(alloc: Global, found: &ArgMatches, id: &str) -> Result<Option<String>, AllocError>
-    ensures { IfOk result (λ t. MayHave (rows_of (found_of found.now)) id.now (option_map string_bytes t)) }
+    ensures { IfOk result (λ text.
+        MayHave (rows_of (found_of found.now)) id.now (option_map string_bytes text)) }
 {
     match found.get_str(id) {
         Some(text) => Ok(Some(text.to_string(alloc)?)),

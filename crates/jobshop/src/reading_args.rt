@@ -3,12 +3,11 @@ ghost use Rattle.std.specs.Prelude.{IfOk, map, codes, string_bytes};
 ghost use Rattle.clap.specs.Words.{found_of, rows_of};
 ghost use Rattle.jobshop.specs.CommandLine.{IsArgs, IsLineOf, IsPlanOf};
 
-use crate::arguments::Args;
+use crate::arguments::{Args, Workers};
 use crate::command_line::command;
 use crate::line_faults::{LineFault, misread};
 use crate::matches::{flag_in, format_in, number_in, order_in, text_in};
 use clap::ArgMatches;
-use shop_board::MAX_WORKERS;
 use shop_engine::{CheckArgs, ListArgs, SolveArgs};
 use shop_round::Plan;
 use std::alloc::Global;
@@ -65,9 +64,9 @@ fn solve_args(alloc: Global, found: &ArgMatches) -> Result<Args, LineFault>
     let gantt = flag_in(found, "gantt");
     let name = text_in(alloc, found, "name")?;
     let file = text_in(alloc, found, "FILE")?;
-    if workers < 1 || workers > MAX_WORKERS {
+    let Some(workers) = Workers::new(workers) else {
         return Err(misread(alloc));
-    }
+    };
     let args = SolveArgs {
         format,
         name,

@@ -2,10 +2,10 @@
 ghost use Rattle.std.specs.Prelude.{◌≡◌, true, IfOk, IfErr, is_some};
 ghost use Rattle.std.specs.Thread.{IsSync};
 ghost use Rattle.shop_engine.specs.declared.faults.Fault.TheVariants.{ReadFailed};
-ghost use Rattle.jobshop.specs.Running.{Streams, IsRunOn, IsRun};
-ghost use Rattle.jobshop.specs.Running.{ListsFrom, ChecksFrom, Solves, SolvesFrom};
+ghost use Rattle.jobshop.specs.Running.{Streams, IsRunOn, IsCommandRun};
+ghost use Rattle.jobshop.specs.Running.{ListsFrom, ChecksFrom, HasSolved, SolvesFrom};
 
-use crate::arguments::Args;
+use crate::arguments::{Args, Workers};
 use crate::statuses::{DONE, status_of_check};
 use shop_board::{BoardCrew, OpenGate};
 use shop_engine::{
@@ -106,20 +106,18 @@ fn run_check<R: Files + AllocGlobal, S: Source, K: Sink>(
 fn solve_by<R: Threads + Sync + AllocGlobal, S: Source, K: Sink>(
     rt: &R,
     args: &SolveArgs,
-    workers: usize,
+    workers: Workers,
     source: &mut S,
     out: &mut K,
 ) -> Result<(), Fault>
     requires { IsSync R.row }
-    ensures { Solves args.now (K.device out.old) (K.device out.new) result
+    ensures { HasSolved args.now (K.device out.old) (K.device out.new) result
         (S.device source.old) (S.device source.new) }
 {
-    if workers < 2 {
+    if workers.count == 1 {
         return solve_text(rt, rt.alloc(), source, out, args, &mut Alone);
     }
-    let Some(mut crew) = BoardCrew::new(workers, OpenGate) else {
-        return solve_text(rt, rt.alloc(), source, out, args, &mut Alone);
-    };
+    let mut crew = BoardCrew::new(workers.count, OpenGate).unwrap();
     solve_text(rt, rt.alloc(), source, out, args, &mut crew)
 }
 
@@ -127,7 +125,7 @@ fn solve_by<R: Threads + Sync + AllocGlobal, S: Source, K: Sink>(
 fn solve_from<R: Threads + Sync + AllocGlobal, S: Source, K: Sink>(
     rt: &R,
     args: &SolveArgs,
-    workers: usize,
+    workers: Workers,
     source: &mut S,
     out: &mut K,
 ) -> Result<u8, Fault>
@@ -143,7 +141,7 @@ fn solve_from<R: Threads + Sync + AllocGlobal, S: Source, K: Sink>(
 fn run_solve<R: Files + Threads + Sync + AllocGlobal, S: Source, K: Sink>(
     rt: &R,
     args: &SolveArgs,
-    workers: usize,
+    workers: Workers,
     file: &Option<String>,
     source: &mut S,
     out: &mut K,
@@ -168,7 +166,7 @@ pub fn run_args<R: Files + Threads + Sync + AllocGlobal, S: Source, K: Sink>(
     out: &mut K,
 ) -> Result<u8, Fault>
     requires { IsSync R.row }
-    ensures { IsRun args.now
+    ensures { IsCommandRun args.now
         (record { source = S.device source.old; sink = K.device out.old })
         (record { source = S.device source.new; sink = K.device out.new }) result }
 {

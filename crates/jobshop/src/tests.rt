@@ -10,10 +10,12 @@ use std::thread::Threads;
 
 mod checks;
 mod command_lines;
-mod files;
 mod large;
 mod lists;
 mod solves;
+
+/// Two jobs that cross two machines.
+const CROSSING: &str = "2 2\n0 3 1 2\n1 2 0 4\n";
 
 /// What a run of the program left.
 #[derive(Drop)]

@@ -1,9 +1,6 @@
 // Verdicts on schedules that stand behind their instances.
-use super::run;
+use super::{CROSSING, run};
 use std::test::Fail;
-
-/// Two jobs that cross two machines.
-const CROSSING: &str = "2 2\n0 3 1 2\n1 2 0 4\n";
 
 #[test]
 fn verdicts(rt: HostRuntime) -> Result<(), Fail> {

@@ -1,5 +1,5 @@
 // Command lines that are faulty.
-use super::run;
+use super::{CROSSING, run};
 use std::test::Fail;
 
 #[test]
@@ -16,7 +16,7 @@ fn faults_of_the_command_line(rt: HostRuntime) -> Result<(), Fail> {
         ["check", "--gantt", "file"],
         ["draw", "file", "file"],
     ] {
-        let ended = run(&rt, words.as_slice(), "2 2\n0 3 1 2\n1 2 0 4\n")?;
+        let ended = run(&rt, words.as_slice(), CROSSING)?;
         assert_eq!(&rt; ended.status, 2, "{words:?}");
         assert!(&rt; ended.out.bytes().is_empty() && !ended.err.bytes().is_empty());
     }
@@ -31,13 +31,5 @@ fn a_call_for_help(rt: HostRuntime) -> Result<(), Fail> {
     assert!(&rt;
         ended.err.bytes().starts_with(b"An exact solver of the job shop whose answers are proved\n")
     );
-    Ok(())
-}
-
-#[test]
-fn a_file_that_is_missing(rt: HostRuntime) -> Result<(), Fail> {
-    let ended = run(&rt, &["list", "no such file"], "2 2\n0 3 1 2\n1 2 0 4\n")?;
-    assert_eq!(&rt; ended.status, 4);
-    assert!(&rt; ended.err.bytes() == b"error 13: read failed\n".as_slice());
     Ok(())
 }

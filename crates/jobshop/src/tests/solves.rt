@@ -1,9 +1,6 @@
 // Reports of worked instances.
-use super::{report_begins, reports, run};
+use super::{CROSSING, report_begins, reports, run};
 use std::test::Fail;
-
-/// Two jobs that cross two machines.
-const CROSSING: &str = "2 2\n0 3 1 2\n1 2 0 4\n";
 
 /// Three machines, with an operation of time 0 at the end of a route.
 const THREE_MACHINES: &str = "2 3\n0 5 1 3 2 0\n1 1 0 1 2 6\n";

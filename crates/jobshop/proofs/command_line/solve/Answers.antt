@@ -2,6 +2,7 @@ use Rattle.std.proofs.Common.{codes}
 use Rattle.std.proofs.lemmas.Result.{IfOk-weaker}
 use Rattle.clap.specs.Words.{App, Rule, new_app, with_rule}
 use Rattle.clap.specs.declared.builder.value_parser.ValueParser.TheVariants.{Names}
+use Rattle.shop_board.specs.declared.lock_crews.TheConstants.{MAX_WORKERS}
 use Rattle.jobshop.specs.CommandLine.{IsCommandOf, flag_rule, format_rule, number_rule, option_rule, path_rule}
 use Rattle.jobshop.specs.CommandLine.{solve_command, with_plan_rules}
 use Rattle.jobshop.proofs.Commands.{added_arg, planned_arg}
@@ -12,7 +13,7 @@ returns c =
     let start : App = new_app (codes "solve") in
     let format : Rule = format_rule (Names c.args.formats) in
     let name : Rule = option_rule (codes "name") in
-    let workers : Rule = number_rule (codes "workers") 1 64 (codes "1") in
+    let workers : Rule = number_rule (codes "workers") 1 MAX_WORKERS (codes "1") in
     let gantt : Rule = flag_rule (codes "gantt") in
     let first = added_arg start format c.described.result c.in_ok-arg.field-0 c.format.result c.described.ensures
     c.format.ensures c.in_ok-arg.ensures in

@@ -2,15 +2,16 @@ use Rattle.std.proofs.Common.{refl, codes}
 use Rattle.std.proofs.lemmas.Result.{IfOk-weaker}
 use Rattle.clap.specs.Words.{App, Rule, app_of, with_rule}
 use Rattle.clap.specs.declared.builder.value_parser.ValueParser.TheVariants.{Names}
+use Rattle.shop_round.specs.declared.limits.TheConstants.{MAX_ROUNDS, MAX_BUDGET, MAX_PIECE}
 use Rattle.jobshop.specs.CommandLine.{IsCommandOf, choice_rule, number_rule, with_plan_rules}
 use Rattle.jobshop.proofs.Commands.{added_arg}
 use Rattle.jobshop.proofs.command_line.with_plan.Goals as goal
 
 pub returns : goal.returns
 returns c =
-    let rounds : Rule = number_rule (codes "rounds") 0 100000 (codes "1000") in
-    let budget : Rule = number_rule (codes "budget") 1 10000000 (codes "100000") in
-    let piece : Rule = number_rule (codes "piece") 1 1000 (codes "1") in
+    let rounds : Rule = number_rule (codes "rounds") 0 MAX_ROUNDS (codes "1000") in
+    let budget : Rule = number_rule (codes "budget") 1 MAX_BUDGET (codes "100000") in
+    let piece : Rule = number_rule (codes "piece") 1 MAX_PIECE (codes "1") in
     let order : Rule = choice_rule (codes "order") (Names c.args.orders) (codes "kept") in
     let start : App = app_of c.args.command in
     let first = added_arg start rounds c.args.command c.in_ok-arg.field-0 c.number.result (refl, c.requires)
