@@ -65,8 +65,8 @@ mask_small p xs k le =
     in let b : 2 ^ length ms ≤ 2 ^ 64 = pow_mono few
     in omega arith
 
-pub least_begins : (xs : List ℕ) → min 65535 (least_up_to 65535 xs) ≡ least_up_to 65535 xs
-least_begins xs = omega (arith, least_le_top 65535 xs)
+pub least_begins : (top : ℕ) (xs : List ℕ) → min top (least_up_to top xs) ≡ least_up_to top xs
+least_begins top xs = omega (arith, least_le_top top xs)
 
 pub least_more : (top b : ℕ) (xs least next : List ℕ) (all : ℕ) → 8 * (b + 1) ≤ length xs → length least ≡ 8
     → next ≡ zip2 min least (take 8 (drop (8 * b) xs))

@@ -4,7 +4,7 @@ use Rattle.shop_lanes.proofs.BlockMasks.{least_begins, least_more}
 use Rattle.shop_lanes.proofs.narrow_rows.least_number.Goals as goal
 
 pub loop-block-init : goal.loop-block-init
-loop-block-init c = least_begins c.args.numbers.now
+loop-block-init c = least_begins 65535 c.args.numbers.now
 
 pub loop-block-preserved : goal.loop-block-preserved
 loop-block-preserved c =
