@@ -4,6 +4,8 @@
 #[cfg(test)]
 mod instances;
 #[cfg(test)]
+mod lanes;
+#[cfg(test)]
 mod rounds;
 #[cfg(test)]
 mod trees;
