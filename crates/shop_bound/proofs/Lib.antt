@@ -1,5 +1,9 @@
 pub mod FallingTails
 pub mod ProfileLemmas
+pub mod CellLemmas
+pub mod NotedPlaces
+pub mod ApartSlots
+pub mod LaidLists
 pub mod MergedProfiles
 pub mod SlotLemmas
 pub mod SlotLists

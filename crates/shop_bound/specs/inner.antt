@@ -1,2 +1,3 @@
 pub mod Layouts
+pub mod Layings
 pub mod Profiles

@@ -2,6 +2,8 @@
 ghost use Rattle.std.specs.Prelude.{◌≡◌, ◌<◌, IfOk, length, slice_index, slice_index_or, []};
 ghost use Rattle.shop_bound.specs.inner.Layouts.{IsLaidOut};
 
+use crate::layings::{Cells, cells_of, jobs_of, places_of, steps_of, tails_of, times_of};
+use crate::slots::machine_slots;
 use shop_model::Instance;
 use std::alloc::{AllocError, Global};
 use std::marker::Model;
@@ -42,11 +44,21 @@ impl Model for Layout {
 
 impl Layout {
     /// The layout of an instance. Fails with `AllocError` if memory runs out.
-    pub(crate) fn of(_alloc: Global, instance: &Instance) -> Result<Layout, AllocError>
+    pub(crate) fn of(alloc: Global, instance: &Instance) -> Result<Layout, AllocError>
         ensures { IfOk result (λ l. IsLaidOut instance.now l) }
     {
-        let _instance = instance;
-        Err(AllocError)
+        instance.keeps_limits();
+        let lists = machine_slots(alloc, instance)?;
+        let Cells { slots, blocks } = cells_of(alloc, lists.as_slice())?;
+        let places = places_of(alloc, instance, lists.as_slice(), blocks.as_slice())?;
+        Ok(Layout {
+            jobs: jobs_of(alloc, slots.as_slice())?,
+            steps: steps_of(alloc, slots.as_slice())?,
+            times: times_of(alloc, slots.as_slice())?,
+            tails: tails_of(alloc, slots.as_slice())?,
+            places,
+            blocks,
+        })
     }
 
     /// The job of the operation at a position.

@@ -6,6 +6,7 @@ mod falling_tails;
 mod head_rows;
 mod kept_heads;
 mod laws;
+mod layings;
 mod layouts;
 mod lower;
 mod open_bounds;
