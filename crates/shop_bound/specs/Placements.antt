@@ -1,12 +1,7 @@
 -- What a program keeps of a placing: lists in place of functions.
-use Rattle.std.specs.Prelude.{◌≡◌, ℕ, ◌<◌, List, [], ◌∷◌, ◌++◌, length, map, slice_index}
-use Rattle.std.specs.List.{range_with_len}
-use Rattle.shop_model.specs.Shop.{Shop, release_of}
+use Rattle.std.specs.Prelude.{◌≡◌, ℕ, ◌<◌, List, [], ◌∷◌, ◌++◌, length, slice_index}
+use Rattle.shop_model.specs.Shop.{Shop}
 use Rattle.shop_model.specs.Word.{Placing, IsWord, place_next, placing}
-
--- when each job is released
-abbrev pub releases_of : Shop → List ℕ
-releases_of shop = map (λ j. release_of shop j) (range_with_len 0 (length shop.jobs))
 
 -- for each job how many of its steps are placed and when it is ready for the next one, and when each machine is free
 pub record PlacementState : Type 0 where

@@ -1,7 +1,7 @@
 // What stands once the operations of a word are placed.
 ghost use Rattle.std.specs.Prelude.{◌≡◌, ◌<◌, IfOk, length, slice_index};
 ghost use Rattle.shop_model.specs.Word.{IsWord, none_placed, placing};
-ghost use Rattle.shop_bound.specs.Placements.{HasNext, IsPlacement, PlacesNext, releases_of};
+ghost use Rattle.shop_bound.specs.Placements.{HasNext, IsPlacement, PlacesNext};
 ghost use Rattle.shop_bound.specs.Trails.{HasLast, TakesBack, TellsNextEnd, TellsReplaced};
 
 use shop_model::{Instance, Word};
@@ -32,24 +32,13 @@ impl Model for Placement {
     ghost view = { λ p. record { steps = p.steps.items; ready = p.ready.items; free = p.free.items } };
 }
 
-/// When each job is released.
-fn releases(alloc: Global, instance: &Instance) -> Result<Vec<u64>, AllocError>
-    ensures { IfOk result (λ v. v.items ≡ releases_of instance.now) }
-{
-    let mut ready = Vec::with_capacity(alloc, instance.jobs())?;
-    for j in 0..instance.jobs() {
-        ready.push(instance.release(j)).unwrap();
-    }
-    Ok(ready)
-}
-
 impl Placement {
     /// Nothing is placed.
     pub(crate) fn none(alloc: Global, instance: &Instance) -> Result<Placement, AllocError>
         ensures { IfOk result (λ s. IsPlacement instance.now (none_placed instance.now) s) }
     {
         let steps = vec![in alloc; 0; instance.jobs()]?;
-        let ready = releases(alloc, instance)?;
+        let ready = instance.releases(alloc)?;
         let free = vec![in alloc; 0; instance.machines()]?;
         Ok(Placement { steps, ready, free })
     }

@@ -3,7 +3,7 @@ use Rattle.std.proofs.Common.{◌≡◌, ℕ, zero, suc, ◌+◌, ◌≤◌, ◌
 use Rattle.std.proofs.Common.{arith, add-one}
 use Rattle.std.proofs.lemmas.Bool.{cases_eq, cases_lt}
 use Rattle.shop_model.specs.declared.ops.Op.{Op}
-use Rattle.shop_model.specs.Steps.{IsClear, KeepsOrder, machine_at, finish_at}
+use Rattle.shop_model.specs.inner.Steps.{IsClear, KeepsOrder, machine_at, finish_at}
 
 -- the steps before k of one job are clear of all, and those before l of the other
 abbrev pub ClearSoFar : List Op → List ℕ → List Op → List ℕ → ℕ → ℕ → Type 0

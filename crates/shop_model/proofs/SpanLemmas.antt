@@ -11,8 +11,9 @@ use Rattle.std.proofs.lemmas.List.FromFn.{get_or-map-range_with_len}
 use Rattle.std.proofs.lemmas.List.Sums.{sum_by-take-le, sum_by_more}
 use Rattle.shop_model.specs.declared.spans.Span.{Span}
 use Rattle.shop_model.specs.Shop.{Shop, route_of, IsOperation}
-use Rattle.shop_model.specs.Checking.{starts_of, AllApart, IsBefore}
-use Rattle.shop_model.specs.Spans.{span_at, spans_at, spans_of, IsInTurn, AreInTurn}
+use Rattle.shop_model.specs.Checking.{starts_of, IsBefore}
+use Rattle.shop_model.specs.inner.FirstFaults.{AllApart}
+use Rattle.shop_model.specs.inner.Spans.{span_at, spans_at, spans_of, IsInTurn, AreInTurn}
 use Rattle.shop_model.proofs.Ends.{IsOperation-job}
 
 -- two spans on one machine don't overlap

@@ -1,15 +1,15 @@
 -- What a check of a table answers.
 --     HasShape shop rows             the rows have a start for each operation of the instance
 --     starts_of rows                 the table of these rows
---     IsVerdict shop rows verdict    what the verdict says is so, and it is the first fault in the order of the check
-use Rattle.std.specs.Prelude.{◌≡◌, ℕ, zero, suc, ◌≤◌, ◌<◌, ◌⊎◌, ◌↔◌, List, [], length, slice_index_or, Option}
-use Rattle.std.specs.Prelude.{Some}
-use Rattle.std.specs.Prelude.{None}
-use Rattle.shop_model.specs.Shop.{Shop, Starts, route_of, release_of, machine_of, IsOperation, IsFeasible, finish_of}
-use Rattle.shop_model.specs.Shop.{end_of}
+--     IsVerdict shop rows verdict
+--         what the verdict says is so, and it is the first fault in the order of the check
+use Rattle.std.specs.Prelude.{◌≡◌, ℕ, zero, suc, ◌≤◌, ◌<◌, ◌⊎◌, ◌↔◌, List, [], length}
+use Rattle.std.specs.Prelude.{slice_index_or}
+use Rattle.shop_model.specs.Shop.{Shop, Starts, route_of, release_of, machine_of, IsOperation}
+use Rattle.shop_model.specs.Shop.{IsFeasible, finish_of, end_of}
 use Rattle.shop_model.specs.declared.checking.Verdict.{Verdict}
-use Rattle.shop_model.specs.declared.checking.Verdict.TheVariants.{Feasible, WrongSize, Unreleased, Early, Overlap}
-use Rattle.shop_model.specs.declared.ops.Position.{Position}
+use Rattle.shop_model.specs.declared.checking.Verdict.TheVariants.{Feasible, WrongSize, Unreleased}
+use Rattle.shop_model.specs.declared.checking.Verdict.TheVariants.{Early, Overlap}
 
 -- the starts that stand in the rows, one row a job
 abbrev pub starts_of : List (List ℕ) → Starts
@@ -26,7 +26,8 @@ earliest_of shop starts j (suc k) = finish_of shop starts j k
 
 -- the rows have the instance's shape, and are a feasible table that ends at c
 abbrev pub EndsAt : Shop → List (List ℕ) → ℕ → Type 0
-EndsAt shop rows c = HasShape shop rows × IsFeasible shop (starts_of rows) × (c ≡ end_of shop (starts_of rows))
+EndsAt shop rows c = HasShape shop rows × IsFeasible shop (starts_of rows)
+    × (c ≡ end_of shop (starts_of rows))
 
 -- (j, k) stands before (i, l): by job, then by step
 abbrev pub IsBefore : ℕ → ℕ → ℕ → ℕ → Type 0
@@ -39,82 +40,50 @@ NoneEarly shop starts = (j k : ℕ) → IsOperation shop j k → earliest_of sho
 pub record IsFirstEarly (shop : Shop) (starts : Starts) (j k : ℕ) : Type 0 where
   pub operation : IsOperation shop j k
   pub early : starts j k < earliest_of shop starts j k
-  pub first : (i l : ℕ) → IsOperation shop i l → IsBefore i l j k → earliest_of shop starts i l ≤ starts i l
-
--- the first operation that begins too early, if one does
-abbrev pub TellsFirstEarly : Shop → Starts → Option Position → Type 0
-TellsFirstEarly shop starts None = NoneEarly shop starts
-TellsFirstEarly shop starts (Some p) = IsFirstEarly shop starts p.job p.step
+  pub first : (i l : ℕ) → IsOperation shop i l → IsBefore i l j k
+      → earliest_of shop starts i l ≤ starts i l
 
 -- one ends not later than the other begins, if they are of one machine
 abbrev pub AreApart : Shop → Starts → ℕ → ℕ → ℕ → ℕ → Type 0
 AreApart shop starts j k i l = machine_of shop j k ≡ machine_of shop i l
     → (finish_of shop starts j k ≤ starts i l) ⊎ (finish_of shop starts i l ≤ starts j k)
 
--- (i, l) is the first operation after (j, k) of its machine such that neither ends before the other begins
+-- (i, l) is the first operation after (j, k) of its machine such that neither ends before the other
+-- begins
 pub record IsFirstAfter (shop : Shop) (starts : Starts) (j k i l : ℕ) : Type 0 where
   pub operation : IsOperation shop i l
   pub after : IsBefore j k i l
   pub same_machine : machine_of shop j k ≡ machine_of shop i l
   pub second_begins : starts i l < finish_of shop starts j k
   pub first_begins : starts j k < finish_of shop starts i l
-  pub first : (c d : ℕ) → IsOperation shop c d → IsBefore j k c d → IsBefore c d i l → AreApart shop starts j k c d
+  pub first : (c d : ℕ) → IsOperation shop c d → IsBefore j k c d → IsBefore c d i l
+      → AreApart shop starts j k c d
 
--- (j, k) is apart from each later operation
-abbrev pub IsApartAfter : Shop → Starts → ℕ → ℕ → Type 0
-IsApartAfter shop starts j k = (i l : ℕ) → IsOperation shop i l → IsBefore j k i l → AreApart shop starts j k i l
-
--- the first operation after (j, k) that isn't apart from it, if there is one
-abbrev pub TellsFirstAfter : Shop → Starts → ℕ → ℕ → Option Position → Type 0
-TellsFirstAfter shop starts j k None = IsApartAfter shop starts j k
-TellsFirstAfter shop starts j k (Some p) = IsFirstAfter shop starts j k p.job p.step
-
--- each operation is apart from each later one
-abbrev pub AllApart : Shop → Starts → Type 0
-AllApart shop starts = (j k i l : ℕ) → IsOperation shop j k → IsOperation shop i l → IsBefore j k i l
-    → AreApart shop starts j k i l
-
--- each operation of job j is apart from each later one
-abbrev pub IsJobApart : Shop → Starts → ℕ → Type 0
-IsJobApart shop starts j = (k i l : ℕ) → IsOperation shop j k → IsOperation shop i l → IsBefore j k i l
-    → AreApart shop starts j k i l
-
--- (j, k) and (i, l) are the first pair of one machine, with a step of job j before a later operation, such that neither
--- ends before the other begins
-pub record IsFirstOverlapOf (shop : Shop) (starts : Starts) (j k i l : ℕ) : Type 0 where
-  pub operation : IsOperation shop j k
-  pub second : IsFirstAfter shop starts j k i l
-  pub first : (b c d : ℕ) → b < k → IsOperation shop c d → IsBefore j b c d → AreApart shop starts j b c d
-
--- the first step of job j that isn't apart from a later operation, with the first such operation, if there is one
-abbrev pub TellsFirstOverlapOf : Shop → Starts → ℕ → Option (ℕ × Position) → Type 0
-TellsFirstOverlapOf shop starts j None = IsJobApart shop starts j
-TellsFirstOverlapOf shop starts j (Some p) = IsFirstOverlapOf shop starts j p.0 p.1.job p.1.step
-
--- (j, k) and (i, l), in this order, are the first pair of one machine such that neither ends before the other begins:
--- by the first of the two, then by the second
+-- (j, k) and (i, l), in this order, are the first pair of one machine such that neither ends before
+-- the other begins: by the first of the two, then by the second
 pub record IsFirstOverlap (shop : Shop) (starts : Starts) (j k i l : ℕ) : Type 0 where
   pub operation : IsOperation shop j k
   pub second : IsFirstAfter shop starts j k i l
-  pub first : (a b c d : ℕ) → IsOperation shop a b → IsOperation shop c d → IsBefore a b j k → IsBefore a b c d
+  pub first : (a b c d : ℕ) → IsOperation shop a b → IsOperation shop c d → IsBefore a b j k
+      → IsBefore a b c d
       → AreApart shop starts a b c d
 
--- the first pair of operations that aren't apart, if there is one
-abbrev pub TellsFirstOverlap : Shop → Starts → Option (Position × Position) → Type 0
-TellsFirstOverlap shop starts None = AllApart shop starts
-TellsFirstOverlap shop starts (Some p) = IsFirstOverlap shop starts p.0.job p.0.step p.1.job p.1.step
-
--- What each verdict says. A release is step 0 of its job; of two steps that aren't in order the later one is named.
--- Early steps come before overlaps, and overlaps stand in the order of their pairs and not of machines.
+-- What each verdict says. A release is step 0 of its job; of two steps that aren't in order the
+-- later one is named. Early steps come before overlaps, and overlaps stand in the order of their
+-- pairs and not of machines.
 abbrev pub IsVerdict : Shop → List (List ℕ) → Verdict → Type 0
 IsVerdict shop rows (Feasible c) = EndsAt shop rows c
 IsVerdict shop rows WrongSize = HasShape shop rows → ⊥
-IsVerdict shop rows (Unreleased j) = HasShape shop rows × IsFirstEarly shop (starts_of rows) j 0
-IsVerdict shop rows (Early j k) = HasShape shop rows × (0 < k) × IsFirstEarly shop (starts_of rows) j k
+IsVerdict shop rows (Unreleased j) =
+    HasShape shop rows × IsFirstEarly shop (starts_of rows) j 0
+IsVerdict shop rows (Early j k) = HasShape shop rows × (0 < k)
+    × IsFirstEarly shop (starts_of rows) j k
 IsVerdict shop rows (Overlap m p q) = HasShape shop rows × NoneEarly shop (starts_of rows)
-    × (m ≡ machine_of shop p.job p.step) × IsFirstOverlap shop (starts_of rows) p.job p.step q.job q.step
+    × (m ≡ machine_of shop p.job p.step)
+    × IsFirstOverlap shop (starts_of rows) p.job p.step q.job q.step
 
--- What a check answers: the verdict is so, and feasible tables and tables of another shape are told as such.
+-- What a check answers: the verdict is so, and feasible tables and tables of another shape are told
+-- as such.
 pub record IsChecked (shop : Shop) (rows : List (List ℕ)) (verdict : Verdict) : Type 0 where
   pub verdict_holds : IsVerdict shop rows verdict
   pub feasible : (c : ℕ) → (verdict ≡ Feasible c) ↔ EndsAt shop rows c

@@ -4,5 +4,4 @@ pub mod Limits
 pub mod Given
 pub mod Checking
 pub mod Placed
-pub mod Steps
-pub mod Spans
+pub mod inner

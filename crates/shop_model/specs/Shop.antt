@@ -1,10 +1,14 @@
--- The job shop: instances, feasible tables of starts, their ends, and the least end (disjunctive model).
+-- The job shop: instances, feasible tables of starts, their ends, and the least end (disjunctive
+-- model).
 --     Shop, ShopJob                  an instance: its machines, and its jobs with release and route
 --     Starts                         a table: a start for each operation (j, k), step k of job j
 --     IsFeasible shop starts         the table keeps releases, routes and machines
 --     end_of shop starts             when the last operation ends, 0 if there is none
---     IsLeast shop c                 c is the end of a feasible table, and no feasible table ends before it
-use Rattle.std.specs.Prelude.{◌≡◌, ℕ, zero, suc, ◌+◌, ◌≤◌, ◌<◌, max, ◌⊎◌, List, [], length, slice_index_or, sum_by}
+--     IsLeast shop c
+--         c is the end of a feasible table, and no feasible table ends before it
+use Rattle.std.specs.Prelude.{◌≡◌, ℕ, zero, suc, ◌+◌, ◌≤◌, ◌<◌, max, ◌⊎◌, List, [], length}
+use Rattle.std.specs.Prelude.{map, slice_index_or, sum_by}
+use Rattle.std.specs.List.{range_with_len}
 use Rattle.shop_model.specs.declared.ops.Op.{Op}
 
 -- a job: when it is released, and its operations in order, each with a machine and a time
@@ -40,6 +44,10 @@ machine_of shop j k = (op_of shop j k).machine
 abbrev pub time_of : Shop → ℕ → ℕ → ℕ
 time_of shop j k = (op_of shop j k).time
 
+-- the releases of the jobs, in order
+abbrev pub releases_of : Shop → List ℕ
+releases_of shop = map (release_of shop) (range_with_len 0 (length shop.jobs))
+
 -- how many operations the instance has
 abbrev pub operation_count : Shop → ℕ
 operation_count shop = sum_by (λ job. length job.route) shop.jobs
@@ -64,9 +72,11 @@ pub record IsFeasible (shop : Shop) (starts : Starts) : Type 0 where
   -- no job begins before its release
   pub released : (j : ℕ) → IsOperation shop j 0 → release_of shop j ≤ starts j 0
   -- each step of a job ends not later than the next one begins
-  pub in_order : (j k : ℕ) → IsOperation shop j (k + 1) → finish_of shop starts j k ≤ starts j (k + 1)
+  pub in_order : (j k : ℕ) → IsOperation shop j (k + 1)
+      → finish_of shop starts j k ≤ starts j (k + 1)
   -- of any two different operations of one machine one ends not later than the other begins
-  pub apart : (j k i l : ℕ) → IsOperation shop j k → IsOperation shop i l → machine_of shop j k ≡ machine_of shop i l
+  pub apart : (j k i l : ℕ) → IsOperation shop j k → IsOperation shop i l
+      → machine_of shop j k ≡ machine_of shop i l
       → AreDifferent j k i l
       → (finish_of shop starts j k ≤ starts i l) ⊎ (finish_of shop starts i l ≤ starts j k)
 

@@ -1,18 +1,22 @@
--- Words: the order in which operations are dispatched, and the table that a word places.
+-- Words (job sequences, permutations with repetition): the order in which operations are
+-- dispatched, and the table that a word places.
 --     count_of j w                   how often job j stands in the word w
---     IsWord shop w, IsFull shop w   no job stands in w more often than it has steps; each just that often
---     Placing, placing shop w        what stands once the operations of w are placed, in the order of w
+--     IsWord shop w, IsFull shop w
+--         no job stands in w more often than it has steps; each just that often
+--     Placing, placing shop w
+--         what stands once the operations of w are placed, in the order of w
 --     placed shop w                  the table that w places
 --     rows_of shop starts            a table as rows, one a job
 --     start_jobs shop                the start word: job 0 for all its steps, then job 1, and so on
 --     IsUnder shop w starts          the table keeps the order of w on each machine
-use Rattle.std.specs.Prelude.{◌≡◌, ℕ, ◌+◌, ◌≤◌, max, List, [], ◌∷◌, ◌++◌, length, count_by, fold, map}
-use Rattle.std.specs.Prelude.{flat_map, replicate, ◌==◌, if◌then◌else◌}
+use Rattle.std.specs.Prelude.{◌≡◌, ℕ, ◌+◌, ◌≤◌, max, List, [], ◌∷◌, ◌++◌, length, count_by, fold}
+use Rattle.std.specs.Prelude.{map, flat_map, replicate, ◌==◌, if◌then◌else◌}
 use Rattle.std.specs.List.{range_with_len}
-use Rattle.shop_model.specs.Shop.{Shop, Starts, route_of, release_of, machine_of, time_of, IsOperation, IsFeasible}
-use Rattle.shop_model.specs.Shop.{finish_of}
+use Rattle.shop_model.specs.Shop.{Shop, Starts, route_of, release_of, machine_of, time_of}
+use Rattle.shop_model.specs.Shop.{IsOperation, IsFeasible, finish_of}
 
--- The n-th entry of j in a word stands for step n of j, so the word's operations of j are the steps below this.
+-- The n-th entry of j in a word stands for step n of j, so the word's operations of j are the steps
+-- below this.
 abbrev pub count_of : ℕ → List ℕ → ℕ
 count_of j w = count_by (λ i. i == j) w
 
@@ -27,8 +31,9 @@ IsFull shop w = (j : ℕ) → count_of j w ≡ length (route_of shop j)
 abbrev pub with_value : {A : Type 0} → (ℕ → A) → ℕ → A → ℕ → A
 with_value f i v j = if j == i then v else f j
 
--- What stands once some operations are placed: how many steps of each job are; when each job's last one ends, or the
--- job's release if there is none; when each machine's last one ends, 0 if there is none; and where each begins.
+-- What stands once some operations are placed: how many steps of each job are; when each job's last
+-- one ends, or the job's release if there is none; when each machine's last one ends, 0 if there is
+-- none; and where each begins.
 pub record Placing : Type 0 where
   pub steps : ℕ → ℕ
   pub ready : ℕ → ℕ
@@ -36,7 +41,12 @@ pub record Placing : Type 0 where
   pub begins : Starts
 
 abbrev pub none_placed : Shop → Placing
-none_placed shop = record { steps = λ j. 0; ready = λ j. release_of shop j; free = λ m. 0; begins = λ j k. 0 }
+none_placed shop = record {
+  steps = λ j. 0;
+  ready = λ j. release_of shop j;
+  free = λ m. 0;
+  begins = λ j k. 0;
+}
 
 -- The next step of job j begins as soon as the job and its machine can.
 abbrev pub place_next : Shop → Placing → ℕ → Placing
@@ -58,7 +68,8 @@ placing shop w = fold (place_next shop) (none_placed shop) w
 abbrev pub placed : Shop → List ℕ → Starts
 placed shop w = (placing shop w).begins
 
--- Each operation of w ends not later than any operation of its machine begins that stands later in w or isn't in w.
+-- Each operation of w ends not later than any operation of its machine begins that stands later in
+-- w or isn't in w.
 pub record IsUnder (shop : Shop) (w : List ℕ) (starts : Starts) : Type 0 where
   pub feasible : IsFeasible shop starts
   pub first : (v : List ℕ) (j : ℕ) (later : List ℕ) → w ≡ v ++ j ∷ later
@@ -71,14 +82,7 @@ abbrev pub rows_of : Shop → Starts → List (List ℕ)
 rows_of shop starts = map (λ j. map (starts j) (range_with_len 0 (length (route_of shop j))))
     (range_with_len 0 (length shop.jobs))
 
--- the releases of the jobs, in order
-abbrev pub releases_of : Shop → List ℕ
-releases_of shop = map (release_of shop) (range_with_len 0 (length shop.jobs))
-
--- a row for each job, with no start in it
-abbrev pub no_starts : Shop → List (List ℕ)
-no_starts shop = replicate (length shop.jobs) []
-
 -- job 0 for all its steps, then job 1, and so on
 abbrev pub start_jobs : Shop → List ℕ
-start_jobs shop = flat_map (λ j. replicate (length (route_of shop j)) j) (range_with_len 0 (length shop.jobs))
+start_jobs shop = flat_map (λ j. replicate (length (route_of shop j)) j)
+    (range_with_len 0 (length shop.jobs))

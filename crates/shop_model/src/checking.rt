@@ -1,6 +1,8 @@
+// The verdict on a table: feasible, and when it ends, or its first fault.
 ghost use Rattle.std.specs.Prelude.{◌≡◌, ℕ, ◌↔◌, IsTrue, IfOk};
 ghost use Rattle.shop_model.specs.Shop.{end_of};
-ghost use Rattle.shop_model.specs.Checking.{HasShape, starts_of, TellsFirstEarly, EndsAt, IsVerdict, IsChecked};
+ghost use Rattle.shop_model.specs.Checking.{HasShape, starts_of, EndsAt, IsVerdict, IsChecked};
+ghost use Rattle.shop_model.specs.inner.FirstFaults.{TellsFirstEarly};
 
 use crate::instances::Instance;
 use crate::ops::Position;
@@ -65,8 +67,9 @@ fn first_early(instance: &Instance, table: &Table) -> Option<Position>
     None
 }
 
-/// When the last operation ends.
-fn makespan(instance: &Instance, table: &Table) -> u64
+/// When the last operation of a table ends, in units of time; 0 where the instance has no operation. The table has a
+/// start for each operation, and no other.
+pub fn makespan(instance: &Instance, table: &Table) -> u64
     requires { HasShape instance.now table.now }
     ensures { result ≡ end_of instance.now (starts_of table.now) }
 {
@@ -113,7 +116,8 @@ pub fn check(instance: &Instance, table: &Table) -> Verdict
     }
 }
 
-/// As `check`, by sorting the operations: it takes memory, and far less time for a large feasible table.
+/// As `check`, by sorting the operations: it takes memory, and far less time for a large feasible table. Fails with
+/// `AllocError` if memory runs out.
 pub fn check_quickly(
     alloc: Global,
     instance: &Instance,

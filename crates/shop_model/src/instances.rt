@@ -1,11 +1,14 @@
-ghost use Rattle.std.specs.Prelude.{◌≡◌, ℕ, ◌<◌, ◌≤◌, ◌↔◌, IsTrue, IsErr, IfOk, IfErr, length, All};
-ghost use Rattle.shop_model.specs.Shop.{route_of, release_of, operation_count};
+// Instances of the job shop.
+ghost use Rattle.std.specs.Prelude.{◌≡◌, ℕ, ◌*◌, ◌<◌, ◌≤◌, ◌↔◌, IsTrue, IsErr, IfOk, IfErr, length};
+ghost use Rattle.std.specs.Prelude.{All};
+ghost use Rattle.shop_model.specs.Shop.{route_of, release_of, releases_of, operation_count};
 ghost use Rattle.shop_model.specs.Limits.{IsWithinLimits, IsRouteWithin, AreRowsWithin};
 ghost use Rattle.shop_model.specs.Limits.{IsJobWithin, AreJobsWithin};
 ghost use Rattle.shop_model.specs.Given.{shop_of_rows, shop_of_jobs};
 
 use crate::limits::{MAX_JOBS, MAX_MACHINES, MAX_STEPS, MAX_TIME};
 use crate::ops::{Job, Op};
+use std::alloc::{AllocError, Global};
 use std::marker::Model;
 
 /// The list that an instance was given.
@@ -168,7 +171,7 @@ impl Instance {
     /// How many operations all routes have together: at most 100,000.
     pub fn operations(&self) -> usize
         ensures count { result ≡ operation_count self.now }
-        ensures limit { result ≤ 100000 }
+        ensures limit { result ≤ MAX_JOBS * MAX_STEPS }
     {
         let mut count = 0;
         for j in 0..self.jobs() {
@@ -198,5 +201,16 @@ impl Instance {
             Given::Rows(_) => 0,
             Given::Jobs(jobs) => jobs[j].release,
         }
+    }
+
+    /// When each job is released, in order, in units of time. Fails with `AllocError` if memory runs out.
+    pub fn releases(&self, alloc: Global) -> Result<Vec<u64>, AllocError>
+        ensures { IfOk result (λ v. v.items ≡ releases_of self.now) }
+    {
+        let mut releases = Vec::with_capacity(alloc, self.jobs())?;
+        for j in 0..self.jobs() {
+            releases.push(self.release(j))?;
+        }
+        Ok(releases)
     }
 }

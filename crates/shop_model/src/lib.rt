@@ -11,11 +11,9 @@ mod placing;
 mod spans;
 mod steps;
 mod tables;
-#[cfg(test)]
-mod tests;
 mod words;
 
-pub use checking::{Verdict, check, check_quickly};
+pub use checking::{Verdict, check, check_quickly, makespan};
 pub use instances::{Instance, JobsFault, SizeFault};
 pub use laws::operations_begin_as_soon_as_they_can;
 pub use limits::{MAX_JOBS, MAX_MACHINES, MAX_START, MAX_STEPS, MAX_TIME};

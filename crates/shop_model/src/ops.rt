@@ -1,3 +1,5 @@
+// Operations, jobs, and the places of operations.
+
 /// An operation of a route: the machine that it needs, counted from 0, and for how many units of time.
 #[derive(Clone, Copy, Debug, PartialEq, Eq)]
 pub struct Op {

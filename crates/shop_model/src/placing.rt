@@ -1,22 +1,13 @@
+// The table that a word places.
 ghost use Rattle.std.specs.Prelude.{◌≡◌, IfOk, map};
-ghost use Rattle.shop_model.specs.Word.{IsFull, no_starts, placed, releases_of, rows_of};
+ghost use Rattle.shop_model.specs.Word.{IsFull, placed, rows_of};
+ghost use Rattle.shop_model.specs.inner.NonePlaced.{no_starts};
 ghost use Rattle.shop_model.specs.Placed.{IsPlacedBy};
 
 use crate::instances::Instance;
 use crate::tables::Table;
 use crate::words::Word;
 use std::alloc::{AllocError, Global};
-
-/// When each job is released.
-fn releases(alloc: Global, instance: &Instance) -> Result<Vec<u64>, AllocError>
-    ensures { IfOk result (λ v. v.items ≡ releases_of instance.now) }
-{
-    let mut releases = Vec::with_capacity(alloc, instance.jobs())?;
-    for j in 0..instance.jobs() {
-        releases.push(instance.release(j))?;
-    }
-    Ok(releases)
-}
 
 /// An empty row for each job, with room for its steps.
 fn empty_rows(alloc: Global, instance: &Instance) -> Result<Vec<Vec<u64>>, AllocError>
@@ -31,7 +22,7 @@ fn empty_rows(alloc: Global, instance: &Instance) -> Result<Vec<Vec<u64>>, Alloc
 
 /// The table that a full word places: each operation, in the order of the word, begins at the greater of the end of the
 /// step before it (its job's release if there is none) and the ends of the operations before it on its machine
-/// (semi-active schedule). Fails only where memory was refused.
+/// (semi-active schedule). Fails with `AllocError` if memory runs out.
 pub fn place(alloc: Global, instance: &Instance, word: &Word) -> Result<Table, AllocError>
     requires { IsFull instance.now word.now }
     ensures table { IfOk result (λ t. t ≡ rows_of instance.now (placed instance.now word.now)) }
@@ -40,7 +31,7 @@ pub fn place(alloc: Global, instance: &Instance, word: &Word) -> Result<Table, A
     ensures law { IfOk result (λ t. IsPlacedBy instance.now word.now t) }
 {
     instance.keeps_limits();
-    let mut ready = releases(alloc, instance)?;
+    let mut ready = instance.releases(alloc)?;
     let mut free = vec![in alloc; 0; instance.machines()]?;
     let mut rows = empty_rows(alloc, instance)?;
     for &j in word.jobs() {

@@ -1,8 +1,9 @@
 // When each machine is taken, sorted by machine and by start.
 ghost use Rattle.std.specs.Prelude.{◌≡◌, ◌↔◌, ◌++◌, IsTrue, IfOk, OnOk};
-ghost use Rattle.shop_model.specs.Steps.{AreSmall};
-ghost use Rattle.shop_model.specs.Checking.{HasShape, starts_of, AllApart};
-ghost use Rattle.shop_model.specs.Spans.{spans_at, spans_of, AreInTurn};
+ghost use Rattle.shop_model.specs.inner.Steps.{AreSmall};
+ghost use Rattle.shop_model.specs.Checking.{HasShape, starts_of};
+ghost use Rattle.shop_model.specs.inner.FirstFaults.{AllApart};
+ghost use Rattle.shop_model.specs.inner.Spans.{spans_at, spans_of, AreInTurn};
 
 use crate::instances::Instance;
 use crate::ops::Op;

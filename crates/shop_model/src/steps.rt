@@ -1,13 +1,14 @@
 // One job's operations against its row of starts.
-ghost use Rattle.std.specs.Prelude.{◌≡◌, ◌≤◌, ◌↔◌, IsTrue};
-ghost use Rattle.shop_model.specs.Steps.{AreSmall, KeepsOrder, AreClear, TellsFirstEarly, TellsFirstClash, end_at};
+ghost use Rattle.std.specs.Prelude.{◌≡◌, ◌+◌, ◌≤◌, ◌↔◌, IsTrue};
+ghost use Rattle.shop_model.specs.inner.Steps.{AreSmall, KeepsOrder, AreClear, TellsEarlyStep, TellsFirstClash, end_at};
 
+use crate::limits::{MAX_START, MAX_TIME};
 use crate::ops::Op;
 
 /// The first step that begins too early.
 pub(crate) fn early_step(release: u64, route: &[Op], row: &[u64]) -> Option<usize>
     requires { AreSmall route.now row.now }
-    ensures { TellsFirstEarly release route.now row.now result }
+    ensures { TellsEarlyStep release route.now row.now result }
 {
     let mut ready = release;
     for k in 0..route.len() {
@@ -71,7 +72,7 @@ pub(crate) fn are_clear(route: &[Op], row: &[u64], others: &[Op], other_row: &[u
 pub(crate) fn last_finish(route: &[Op], row: &[u64]) -> u64
     requires { AreSmall route.now row.now }
     ensures end { result ≡ end_at route.now row.now }
-    ensures small { result ≤ 1000001000000000 }
+    ensures small { result ≤ MAX_START + MAX_TIME }
 {
     let mut end = 0;
     for k in 0..route.len() {

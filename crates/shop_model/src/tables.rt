@@ -1,3 +1,4 @@
+// Tables of starts.
 ghost use Rattle.std.specs.Prelude.{◌≡◌, ◌<◌, ◌≤◌, ◌↔◌, IsTrue, IsNone, IfSome, All};
 ghost use Rattle.std.specs.Prelude.{[], length, map, slice_get, slice_index_or};
 ghost use Rattle.shop_model.specs.Limits.{AreStarts};
@@ -24,7 +25,7 @@ impl Model for Table {
 
 /// Whether no start of the row is over its limit.
 fn is_row_within(row: &[u64]) -> bool
-    ensures { IsTrue result ↔ All (λ s. s ≤ 1000000000000000) row.now }
+    ensures { IsTrue result ↔ All (λ s. s ≤ MAX_START) row.now }
 {
     row.iter().all(|&start| start <= MAX_START)
 }
@@ -49,6 +50,13 @@ impl Table {
             }
         }
         Some(Table::of_checked(rows))
+    }
+
+    /// No start of a table is over `MAX_START`. (A fact for proofs; the call does nothing.)
+    pub fn keeps_limits(&self)
+        ensures { AreStarts self.now }
+    {
+        let _rows = &self.rows;
     }
 
     /// How many rows there are.

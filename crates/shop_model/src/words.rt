@@ -1,3 +1,4 @@
+// Job sequences: the order in which operations are dispatched.
 ghost use Rattle.std.specs.Prelude.{◌≡◌, ◌↔◌, ◌++◌, ◌∷◌, [], ◌<◌, All, IfOk, IsTrue};
 ghost use Rattle.shop_model.specs.Word.{count_of, IsWord, IsFull, start_jobs};
 
@@ -5,8 +6,8 @@ use crate::instances::Instance;
 use std::alloc::{AllocError, Global};
 use std::marker::Model;
 
-/// The order in which operations are dispatched (permutation with repetition, Bierwirth 1995): each entry is a job, and
-/// stands for the job's next step.
+/// A job sequence, the order in which operations are dispatched (permutation with repetition, Bierwirth 1995): each
+/// entry is a job, and stands for the job's next step.
 #[derive(Drop)]
 pub struct Word {
     entries: Vec<usize>,
@@ -35,7 +36,7 @@ impl Word {
         self.entries.as_slice()
     }
 
-    /// The same word once more. Fails only where memory was refused.
+    /// The same word once more. Fails with `AllocError` if memory runs out.
     pub fn copied(&self, alloc: Global) -> Result<Word, AllocError>
         ensures { IfOk result (λ w. w ≡ self.now) }
     {
@@ -44,7 +45,7 @@ impl Word {
         })
     }
 
-    /// The word with one more job at its end, in one copy. Fails only where memory was refused.
+    /// The word with one more job at its end, in one copy. Fails with `AllocError` if memory runs out.
     pub fn followed_by(&self, alloc: Global, job: usize) -> Result<Word, AllocError>
         ensures { IfOk result (λ w. w ≡ self.now ++ job ∷ []) }
     {
@@ -101,7 +102,7 @@ pub fn is_full(instance: &Instance, word: &Word) -> bool
     true
 }
 
-/// The start word: job 0 for all its steps, then job 1, and so on. Fails only where memory was refused.
+/// The start word: job 0 for all its steps, then job 1, and so on. Fails with `AllocError` if memory runs out.
 pub fn start_word(alloc: Global, instance: &Instance) -> Result<Word, AllocError>
     ensures { IfOk result (λ w. w ≡ start_jobs instance.now) }
 {

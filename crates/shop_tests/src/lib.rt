@@ -6,6 +6,18 @@ mod instances;
 #[cfg(test)]
 mod lanes;
 #[cfg(test)]
+mod model;
+#[cfg(test)]
 mod rounds;
+#[cfg(test)]
+mod texts_cuts;
+#[cfg(test)]
+mod texts_printed;
+#[cfg(test)]
+mod texts_readers;
+#[cfg(test)]
+mod texts_schedules;
+#[cfg(test)]
+mod texts_sizes;
 #[cfg(test)]
 mod trees;

@@ -5,11 +5,11 @@ use Rattle.std.proofs.Common.{List, [], ◌∷◌, length, map, Option, Some, No
 use Rattle.std.specs.List.{list_all}
 use Rattle.std.proofs.lemmas.Bool.{cases_lt, ltb-true, leb-true, le-ltb, le-leb, lt-leb, and_parts}
 use Rattle.std.proofs.lemmas.List.{length-map}
-use Rattle.shop_text.specs.Lines.{capped}
+use Rattle.shop_text.specs.inner.LineReading.{capped}
 use Rattle.shop_text.specs.Grammar.{LineFault, WrongShape, WrongSize, WrongRow, WrongMachine, WrongTime}
 use Rattle.shop_text.specs.Formats.{is_between, jobs_in, machines_in, size_fault, pairs_fault, pairs_of}
 use Rattle.shop_text.specs.Formats.{orlib_fault, orlib_job, routes_fault, routes_job, times_fault, machines_fault}
-use Rattle.shop_text.specs.Reading.{size_line_fault, times_row_fault, machines_row_fault}
+use Rattle.shop_text.specs.inner.LineReading.{size_line_fault, times_row_fault, machines_row_fault}
 use Rattle.shop_text.specs.declared.formats.Format.{Format}
 use Rattle.shop_text.specs.declared.formats.Format.TheVariants.{Orlib, Taillard, Routes}
 

@@ -11,8 +11,8 @@ use Rattle.std.proofs.lemmas.Grind.{div_ceil_times}
 use Rattle.std.proofs.lemmas.List.Folds.{list_any-append}
 use Rattle.std.proofs.lemmas.List.{get_or-set_same, get_or-set_other}
 use Rattle.shop_model.specs.declared.ops.Op.{Op}
-use Rattle.shop_model.specs.Steps.{machine_at, finish_at}
-use Rattle.shop_text.specs.Cells.{is_on, serves_below, ShowsWhere}
+use Rattle.shop_model.specs.inner.Steps.{machine_at, finish_at}
+use Rattle.shop_text.specs.inner.Cells.{is_on, serves_below, ShowsWhere}
 
 -- two tests are the same where each follows from the other
 same_test : (a b : Bool) → (a ≡ true → b ≡ true) → (b ≡ true → a ≡ true) → a ≡ b

@@ -15,14 +15,14 @@ use Rattle.shop_model.specs.declared.ops.Job.{Job}
 use Rattle.shop_model.specs.Shop.{ShopJob}
 use Rattle.shop_model.specs.Given.{job_as_given}
 use Rattle.shop_model.specs.Limits.{IsJobWithin, AreJobsWithin}
-use Rattle.shop_text.specs.Lines.{capped}
-use Rattle.shop_text.specs.Limits.{IsDraftWithin}
+use Rattle.shop_text.specs.inner.LineReading.{capped}
+use Rattle.shop_text.specs.inner.DraftLimits.{IsDraftWithin}
 use Rattle.shop_text.specs.Grammar.{Row, LineFault}
 use Rattle.shop_text.specs.Formats.{grammar_of, jobs_in, machines_in, orlib_fault, orlib_job, routes_fault}
 use Rattle.shop_text.specs.Formats.{routes_job}
 use Rattle.shop_text.specs.Formats.{taillard, taillard_job}
-use Rattle.shop_text.specs.Reading.{Fails, JudgesRow, times_row_fault, machines_row_fault}
-use Rattle.shop_text.specs.Drafts.{items_of, jobs_drafted, HoldsRows, IsDraft}
+use Rattle.shop_text.specs.inner.LineReading.{Fails, JudgesRow, times_row_fault, machines_row_fault}
+use Rattle.shop_text.specs.inner.Drafts.{items_of, jobs_drafted, HoldsRows, IsDraft}
 use Rattle.shop_text.specs.declared.drafts.Draft.{Draft}
 use Rattle.shop_text.specs.declared.faults.ReadFault.{ReadFault}
 use Rattle.shop_text.specs.declared.formats.Format.{Format}

@@ -12,12 +12,12 @@ use Rattle.shop_model.specs.declared.ops.Job.{Job}
 use Rattle.shop_model.specs.Shop.{Shop, ShopJob}
 use Rattle.shop_model.specs.Given.{job_as_given}
 use Rattle.shop_text.specs.Formats.{grammar_of}
-use Rattle.shop_text.specs.Lines.{capped}
+use Rattle.shop_text.specs.inner.LineReading.{capped}
 use Rattle.shop_text.specs.Grammar.{Row}
 use Rattle.shop_text.specs.Formats.{jobs_in, machines_in, orlib_job, routes_job, taillard, taillard_job}
-use Rattle.shop_text.specs.Reading.{Fails, size_line_fault, times_row_fault}
-use Rattle.shop_text.specs.Drafts.{items_of, jobs_drafted, HoldsTimes, HoldsRows, IsDraft, wants_times, PushesJob}
-use Rattle.shop_text.specs.Drafts.{IsOneMore, TakesRow}
+use Rattle.shop_text.specs.inner.LineReading.{Fails, size_line_fault, times_row_fault}
+use Rattle.shop_text.specs.inner.Drafts.{items_of, jobs_drafted, HoldsTimes, HoldsRows, IsDraft, wants_times, PushesJob}
+use Rattle.shop_text.specs.inner.Drafts.{IsOneMore, TakesRow}
 use Rattle.shop_text.specs.declared.drafts.Draft.{Draft}
 use Rattle.shop_text.specs.declared.faults.ReadFault.{ReadFault}
 use Rattle.shop_text.specs.declared.formats.Format.{Format}

@@ -21,7 +21,7 @@ visible_ascii (b ∷ bytes) e zero =
     in omega arith
 visible_ascii (b ∷ bytes) e (suc i) = visible_ascii bytes (and_parts (is_visible b) (list_all is_visible bytes) e).1 i
 
-header_visible : (words : List (List ℕ)) (bytes : List ℕ) → header_of (Words words) ≡ Some bytes
+pub header_visible : (words : List (List ℕ)) (bytes : List ℕ) → header_of (Words words) ≡ Some bytes
     → list_all is_visible bytes ≡ true
 header_visible [] bytes e = absurd cc
 header_visible (w ∷ []) bytes e = absurd cc

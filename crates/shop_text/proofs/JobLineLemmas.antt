@@ -11,10 +11,11 @@ use Rattle.std.proofs.lemmas.List.{append_assoc, append-nil, length_push}
 use Rattle.std.proofs.lemmas.List.FromFn.{length-enumerate_from}
 use Rattle.std.proofs.lemmas.Slice.Eq.{bytes_eq-Decides}
 use Rattle.shop_model.specs.Shop.{Shop, route_of}
-use Rattle.shop_text.specs.Lines.{lines_of, tokens_of, is_empty, is_number, value_of, capped}
+use Rattle.shop_text.specs.Lines.{lines_of, tokens_of, is_empty, is_number, value_of}
+use Rattle.shop_text.specs.inner.LineReading.{capped}
 use Rattle.shop_text.specs.Schedules.{Tokens, begins_with_job, is_counted, is_label, starts_in, row_in, AreJobLines}
 use Rattle.shop_text.specs.Schedules.{GoesWrong, IsBadAt, IsTable}
-use Rattle.shop_text.specs.TableReading.{counted_after, IsReadSoFar, rows_held}
+use Rattle.shop_text.specs.inner.ScheduleReading.{counted_after, IsReadSoFar, rows_held}
 
 -- ---- labels
 

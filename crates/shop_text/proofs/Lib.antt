@@ -26,3 +26,5 @@ pub mod PrintedLines
 pub mod PrintedJobLines
 pub mod ReportReading
 pub mod ScheduleRows
+pub mod FaultAnswers
+pub mod VisibleNames

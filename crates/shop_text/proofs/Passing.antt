@@ -13,8 +13,8 @@ use Rattle.shop_text.specs.Grammar.{fault_at}
 use Rattle.shop_text.specs.Grammar.{IsRefused, IsFault}
 use Rattle.shop_text.specs.Texts.{is_header, from_first_header, lines_left, IsTextFault}
 use Rattle.shop_text.specs.Names.{IsRead}
-use Rattle.shop_text.specs.Reading.{lines_after, IsFurther}
-use Rattle.shop_text.specs.Readers.{IsReadUpTo, left_of, Ends, IsOnTheWay}
+use Rattle.shop_text.specs.inner.LineReading.{lines_after, IsFurther}
+use Rattle.shop_text.specs.inner.InstanceReading.{IsReadUpTo, left_of, Ends, IsOnTheWay}
 use Rattle.shop_text.specs.declared.faults.ReadFault.{ReadFault}
 use Rattle.shop_text.specs.declared.faults.ReadFault.TheVariants.{NoMemory, TooLong, NoInstance, BadShape, BadSize}
 use Rattle.shop_text.specs.declared.faults.ReadFault.TheVariants.{BadRow, Truncated, BadMachine, BadTime}
@@ -165,18 +165,19 @@ by_fault : (f : Grammar) (text : List ℕ) (e : ReadFault) → (e ≡ NoMemory �
 by_fault f text e not (inl none) = absurd (not none)
 by_fault f text e not (inr h) = h
 
-pub error_read : (f : Grammar) (text : List ℕ) (e : ReadFault) → IsError f text e → IsRead f text (Err e)
-error_read f text NoMemory h = tt
-error_read f text TooLong h = by_fault f text TooLong (λ e. cc) h
-error_read f text NoInstance h = by_fault f text NoInstance (λ e. cc) h
-error_read f text (BadShape n) h = by_fault f text (BadShape n) (λ e. cc) h
-error_read f text (BadSize n) h = by_fault f text (BadSize n) (λ e. cc) h
-error_read f text (BadRow n) h = by_fault f text (BadRow n) (λ e. cc) h
-error_read f text (Truncated n) h = by_fault f text (Truncated n) (λ e. cc) h
-error_read f text (BadMachine n) h = by_fault f text (BadMachine n) (λ e. cc) h
-error_read f text (BadTime n) h = by_fault f text (BadTime n) (λ e. cc) h
-error_read f text NoSuchName h = no_such_name f text (by_fault f text NoSuchName (λ e. cc) h)
-error_read f text (BadTable n) h = no_bad_table f text n (by_fault f text (BadTable n) (λ e. cc) h)
+pub error_read : (f : Grammar) (text : List ℕ) (e : ReadFault) → length text ≤ 16777216 → IsError f text e
+    → IsRead f text (Err e)
+error_read f text NoMemory short h = short
+error_read f text TooLong short h = by_fault f text TooLong (λ e. cc) h
+error_read f text NoInstance short h = by_fault f text NoInstance (λ e. cc) h
+error_read f text (BadShape n) short h = by_fault f text (BadShape n) (λ e. cc) h
+error_read f text (BadSize n) short h = by_fault f text (BadSize n) (λ e. cc) h
+error_read f text (BadRow n) short h = by_fault f text (BadRow n) (λ e. cc) h
+error_read f text (Truncated n) short h = by_fault f text (Truncated n) (λ e. cc) h
+error_read f text (BadMachine n) short h = by_fault f text (BadMachine n) (λ e. cc) h
+error_read f text (BadTime n) short h = by_fault f text (BadTime n) (λ e. cc) h
+error_read f text NoSuchName short h = no_such_name f text (by_fault f text NoSuchName (λ e. cc) h)
+error_read f text (BadTable n) short h = no_bad_table f text n (by_fault f text (BadTable n) (λ e. cc) h)
 
 nothing_after : (n : ℕ) (rest : List ℕ) → length rest ≡ 0 → (lines_after n rest ≡ []) × (length (lines_of rest) ≡ 0)
 nothing_after n [] e = (refl, refl)
@@ -200,4 +201,4 @@ end_read text n rest p reader r w short none ends =
     told (Ok named) h lines last =
         (record { short = short; parts = h.parts; good = rw lines h.good; shops_are = h.named_are }, h.some)
     told (Err e) h lines last =
-        error_read (grammar_of p) text e (inr (inr (record { short = short; in_lines = rw (lines, ← last) h })))
+        error_read (grammar_of p) text e short (inr (inr (record { short = short; in_lines = rw (lines, ← last) h })))

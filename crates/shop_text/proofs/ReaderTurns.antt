@@ -16,9 +16,9 @@ use Rattle.shop_text.specs.Grammar.{Row, Grammar, LineFault, fault_at, Entry, Pa
 use Rattle.shop_text.specs.Grammar.{IsBegun, IsRefused, IsWithoutInstance, AreText}
 use Rattle.shop_text.specs.Texts.{NamedShop, headers_of, last_or, name_of, named_from}
 use Rattle.shop_text.specs.Names.{shops_of, shop_of_named}
-use Rattle.shop_text.specs.Reading.{Fails, located}
-use Rattle.shop_text.specs.Drafts.{IsDraft, IsOneMore, IsLastOne}
-use Rattle.shop_text.specs.Readers.{texts_of, name_or, IsLast, IsReadUpTo, AreRead}
+use Rattle.shop_text.specs.inner.LineReading.{Fails, located}
+use Rattle.shop_text.specs.inner.Drafts.{IsDraft, IsOneMore, IsLastOne}
+use Rattle.shop_text.specs.inner.InstanceReading.{texts_of, name_or, IsLast, IsReadUpTo, AreRead}
 use Rattle.shop_text.specs.declared.drafts.Draft.{Draft}
 use Rattle.shop_text.specs.declared.faults.ReadFault.{ReadFault}
 use Rattle.shop_text.specs.declared.faults.ReadFault.TheVariants.{NoMemory, TooLong, NoInstance, BadShape, BadSize}

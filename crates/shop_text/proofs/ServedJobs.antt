@@ -12,7 +12,7 @@ use Rattle.shop_model.specs.Checking.{starts_of}
 use Rattle.shop_model.specs.Shop.{Shop, Starts, route_of, machine_of, IsOperation, IsFeasible, finish_of}
 use Rattle.shop_model.proofs.Ends.{IsOperation-job}
 use Rattle.shop_text.specs.Writing.{character_of, is_served, serves, shown_at, ShowsTheJob}
-use Rattle.shop_text.specs.Cells.{last_shown, serves_below, ShowsWhere, ShowsJobs}
+use Rattle.shop_text.specs.inner.Cells.{last_shown, serves_below, ShowsWhere, ShowsJobs}
 
 -- ---- tests over a range
 

@@ -1,16 +1,20 @@
--- The three formats: `orlib` (OR-Library, jobshop1), `routes` (the same with releases and routes of any length), and
--- `taillard` (two matrices, of times and of machines counted from 1; the bounds in its size line are read past).
-use Rattle.std.specs.Prelude.{◌≢◌, ℕ, ◌-◌, ◌*◌, ◌%◌, Bool, true, false, not, ◌&&◌, ◌||◌, ◌==◌, nat_le, nat_lt}
-use Rattle.std.specs.Prelude.{if◌then◌else◌, List, [], ◌∷◌, length, map, slice_index, take, drop, codes}
-use Rattle.std.specs.Prelude.{Option, Some, None}
+-- The three formats: `orlib` (OR-Library, jobshop1), `routes` (the same with releases and routes of
+-- any length), and `taillard` (two matrices, of times and of machines counted from 1; the bounds in
+-- its size line are read past).
+use Rattle.std.specs.Prelude.{◌≢◌, ℕ, ◌-◌, ◌*◌, ◌%◌, Bool, true, false, not, ◌&&◌, ◌||◌, ◌==◌}
+use Rattle.std.specs.Prelude.{nat_le, nat_lt, if◌then◌else◌, List, [], ◌∷◌, length, map}
+use Rattle.std.specs.Prelude.{slice_index, take, drop, codes, Option, Some, None}
 use Rattle.std.specs.List.{list_all, zip}
 use Rattle.std.specs.Str.{bytes_eq}
+use Rattle.shop_model.specs.declared.limits.TheConstants.{MAX_JOBS, MAX_MACHINES, MAX_STEPS}
+use Rattle.shop_model.specs.declared.limits.TheConstants.{MAX_TIME}
 use Rattle.shop_model.specs.declared.ops.Op.{Op}
 use Rattle.shop_model.specs.Shop.{Shop, ShopJob}
 use Rattle.shop_text.specs.Lines.{Line, Words}
 use Rattle.shop_text.specs.declared.formats.Format.{Format}
 use Rattle.shop_text.specs.declared.formats.Format.TheVariants.{Orlib, Taillard, Routes}
-use Rattle.shop_text.specs.Grammar.{Row, Grammar, LineFault, WrongShape, WrongSize, WrongRow, WrongMachine, WrongTime}
+use Rattle.shop_text.specs.Grammar.{Row, Grammar, LineFault, WrongShape, WrongSize, WrongRow}
+use Rattle.shop_text.specs.Grammar.{WrongMachine, WrongTime}
 
 -- ---- names
 
@@ -36,7 +40,8 @@ is_between low high n = nat_le low n && nat_le n high
 
 abbrev pub size_fault : Row → Option LineFault
 size_fault size =
-    if is_between 1 1000 (jobs_in size) && is_between 1 100 (machines_in size) then None else Some WrongSize
+    if is_between 1 MAX_JOBS (jobs_in size) && is_between 1 MAX_MACHINES (machines_in size)
+    then None else Some WrongSize
 
 -- ---- rows of machine and time
 
@@ -46,7 +51,7 @@ pairs_fault machines [] = None
 pairs_fault machines (machine ∷ []) = None
 pairs_fault machines (machine ∷ time ∷ rest) =
     if not (nat_lt machine machines) then Some WrongMachine else
-    if not (nat_le time 1000000000) then Some WrongTime else
+    if not (nat_le time MAX_TIME) then Some WrongTime else
     pairs_fault machines rest
 
 abbrev pub pairs_of : Row → List Op
@@ -85,7 +90,8 @@ grammar_of_rows row_fault job_of = record {
 
 -- a row of `orlib`: a machine and a time for each machine
 abbrev pub orlib_fault : ℕ → Row → Option LineFault
-orlib_fault machines row = if length row == 2 * machines then pairs_fault machines row else Some WrongRow
+orlib_fault machines row =
+    if length row == 2 * machines then pairs_fault machines row else Some WrongRow
 
 abbrev pub orlib_job : Row → ShopJob
 orlib_job row = record { release = 0; route = pairs_of row }
@@ -93,12 +99,12 @@ orlib_job row = record { release = 0; route = pairs_of row }
 abbrev pub orlib : Grammar
 orlib = grammar_of_rows orlib_fault orlib_job
 
--- a row of `routes`: a release, then 0 to 100 pairs
+-- a row of `routes`: a release, then as many pairs as a route may have steps
 abbrev pub routes_fault : ℕ → Row → Option LineFault
 routes_fault machines [] = Some WrongRow
 routes_fault machines (release ∷ pairs) =
-    if not (length pairs % 2 == 0 && nat_le (length pairs) 200) then Some WrongRow else
-    if not (nat_le release 1000000000) then Some WrongTime else
+    if not (length pairs % 2 == 0 && nat_le (length pairs) (2 * MAX_STEPS)) then Some WrongRow else
+    if not (nat_le release MAX_TIME) then Some WrongTime else
     pairs_fault machines pairs
 
 abbrev pub routes_job : Row → ShopJob
@@ -111,7 +117,7 @@ routes = grammar_of_rows routes_fault routes_job
 -- ---- taillard: a size line of 2 to 6 numbers, a row of times for each job, a row of machines for each job
 
 abbrev pub times_fault : Row → Option LineFault
-times_fault row = if list_all (λ time. nat_le time 1000000000) row then None else Some WrongTime
+times_fault row = if list_all (λ time. nat_le time MAX_TIME) row then None else Some WrongTime
 
 abbrev pub machines_fault : ℕ → Row → Option LineFault
 machines_fault machines row =
@@ -126,7 +132,8 @@ abbrev pub taillard_refuses : List Row → Row → Option LineFault
 taillard_refuses [] size = if is_between 2 6 (length size) then size_fault size else Some WrongShape
 taillard_refuses (size ∷ rows) row =
     if not (length row == machines_in size) then Some WrongRow else
-    if nat_lt (length rows) (jobs_in size) then times_fault row else machines_fault (machines_in size) row
+    if nat_lt (length rows) (jobs_in size) then times_fault row
+    else machines_fault (machines_in size) row
 
 abbrev pub has_both_matrices : List Row → Bool
 has_both_matrices [] = false
@@ -137,7 +144,8 @@ abbrev pub taillard_op : ℕ × ℕ → Op
 taillard_op (time, machine) = record { machine = machine - 1; time = time }
 
 abbrev pub taillard_job : Row × Row → ShopJob
-taillard_job (times, machines) = record { release = 0; route = map taillard_op (zip times machines) }
+taillard_job (times, machines) =
+    record { release = 0; route = map taillard_op (zip times machines) }
 
 abbrev pub taillard_shop : List Row → Shop
 taillard_shop [] = no_shop

@@ -1,22 +1,27 @@
--- The grammar of whole texts, over their numbered lines that aren't blank, and the one fault of every other text.
--- (The form is that of the OR-Library file jobshop1 and of the texts by Taillard's name, in this project's own
--- format.)
---     Grammar                           what is skipped, refused and whole, after some number lines of a part
---     Entry, Part                      a number line with the text lines before it; a part is a list of these
+-- The grammar of whole texts, over their numbered lines that aren't blank, and the one fault of
+-- every other text. (The form is that of the OR-Library file jobshop1 and of the texts by
+-- Taillard's name, in this project's own format.)
+--     Grammar
+--         what is skipped, refused and whole, after some number lines of a part
+--     Entry, Part
+--         a number line with the text lines before it; a part is a list of these
 --     IsPart grammar part               the part is whole, and none of its lines is refused
---     IsGood grammar lines parts        the lines are these parts, one or more, and text lines alone after them
---     IsFault grammar last lines fault  the lines begin some list of parts, and the next line, or the end, is refused
-use Rattle.std.specs.Prelude.{◌≡◌, ℕ, ◌+◌, ◌<◌, ◌⊎◌, Bool, false, IsTrue, List, [], ◌∷◌, ◌++◌, length, map}
-use Rattle.std.specs.Prelude.{Option, Some, None, if◌then◌else◌}
+--     IsGood grammar lines parts
+--         the lines are these parts, one or more, and text lines alone after them
+--     IsFault grammar last lines fault
+--         the lines begin some list of parts, and the next line, or the end, is refused
+use Rattle.std.specs.Prelude.{◌≡◌, ℕ, ◌+◌, ◌<◌, ◌⊎◌, Bool, false, IsTrue, List, [], ◌∷◌, ◌++◌}
+use Rattle.std.specs.Prelude.{length, map, Option, Some, None, if◌then◌else◌}
 use Rattle.std.specs.List.{flat_map, AllByRecursion}
 use Rattle.shop_model.specs.Shop.{Shop}
 use Rattle.shop_text.specs.Lines.{Line, Blank, Numbers, Words, Numbered}
 use Rattle.shop_text.specs.declared.faults.ReadFault.{ReadFault}
-use Rattle.shop_text.specs.declared.faults.ReadFault.TheVariants.{NoInstance, Truncated}
-use Rattle.shop_text.specs.declared.faults.ReadFault.TheVariants.{BadShape, BadSize, BadRow, BadMachine, BadTime}
+use Rattle.shop_text.specs.declared.faults.ReadFault.TheVariants.{NoInstance, Truncated, BadShape}
+use Rattle.shop_text.specs.declared.faults.ReadFault.TheVariants.{BadSize, BadRow, BadMachine}
+use Rattle.shop_text.specs.declared.faults.ReadFault.TheVariants.{BadTime}
 
--- why a line is refused: a size line of another count or out of range, a row of another count or of words, a machine or
--- a time that is not allowed
+-- why a line is refused: a size line of another count or out of range, a row of another count or of
+-- words, a machine or a time that is not allowed
 pub data LineFault : Type 0 where
   WrongShape : LineFault
   WrongSize : LineFault
@@ -35,8 +40,9 @@ fault_at n WrongTime = BadTime n
 abbrev pub Row : Type 0
 Row = List ℕ
 
--- A grammar says, by the number lines that a part has so far: whether text lines are skipped here, why a number line is
--- refused here, and whether the part is whole. It says which instance a whole part is, and which text lines name one.
+-- A grammar says, by the number lines that a part has so far: whether text lines are skipped here,
+-- why a number line is refused here, and whether the part is whole. It says which instance a whole
+-- part is, and which text lines name one.
 pub record Grammar : Type 0 where
   pub skips : List Row → Bool
   pub refuses : List Row → Row → Option LineFault
@@ -86,7 +92,8 @@ pub record IsAccepted (grammar : Grammar) (rows : List Row) (e : Entry) : Type 0
 -- each line is accepted after the rows before it
 abbrev pub AreAccepted : Grammar → List Row → List Entry → Type 0
 AreAccepted grammar rows [] = Unit {0}
-AreAccepted grammar rows (e ∷ entries) = IsAccepted grammar rows e × AreAccepted grammar (rows ++ e.row ∷ []) entries
+AreAccepted grammar rows (e ∷ entries) = IsAccepted grammar rows e
+    × AreAccepted grammar (rows ++ e.row ∷ []) entries
 
 abbrev pub IsPart : Grammar → Part → Type 0
 IsPart grammar part = AreAccepted grammar [] part × IsTrue (grammar.is_whole (entry_rows part))
@@ -127,7 +134,8 @@ pub record IsRefused (grammar : Grammar) (lines : List Numbered) (fault : ReadFa
   pub told : fault ≡ fault_at line.0 name
 
 -- the end comes inside a part: `last` lines has the text, blank ones too
-pub record IsTruncated (grammar : Grammar) (last : ℕ) (lines : List Numbered) (fault : ReadFault) : Type 0 where
+pub record IsTruncated (grammar : Grammar) (last : ℕ) (lines : List Numbered)
+    (fault : ReadFault) : Type 0 where
   pub begun : List Entry
   pub place : IsBegun grammar lines begun
   pub inside : 0 < length begun
@@ -140,4 +148,5 @@ pub record IsWithoutInstance (lines : List Numbered) (fault : ReadFault) : Type 
 
 abbrev pub IsFault : Grammar → ℕ → List Numbered → ReadFault → Type 0
 IsFault grammar last lines fault =
-    IsWithoutInstance lines fault ⊎ IsTruncated grammar last lines fault ⊎ IsRefused grammar lines fault
+    IsWithoutInstance lines fault ⊎ IsTruncated grammar last lines fault
+    ⊎ IsRefused grammar lines fault

@@ -2,9 +2,10 @@
 --     lines_of text        the lines: what LF ends, and what follows the last LF unless it is empty
 --     tokens_of bytes      the longest runs of bytes that are no separators
 --     Line, line_of        a line is blank, or numbers alone, or a text line of words
---     numbered_lines text  the lines that aren't blank, each with its number; lines count from 1, blank ones too
+--     numbered_lines text
+--         the lines that aren't blank, each with its number; lines count from 1, blank ones too
 use Rattle.std.specs.Prelude.{ℕ, ◌+◌, ◌-◌, ◌*◌, Bool, true, false, not, ◌||◌, ◌==◌, if◌then◌else◌}
-use Rattle.std.specs.Prelude.{List, [], ◌∷◌, map, filter, fold, min}
+use Rattle.std.specs.Prelude.{List, [], ◌∷◌, map, filter, fold}
 use Rattle.std.specs.List.{slice_split, list_all, enumerate_from}
 use Rattle.std.specs.Char.{is_ascii_digit}
 
@@ -46,7 +47,8 @@ pub data Line : Type 0 where
 abbrev pub line_of_tokens : List (List ℕ) → Line
 line_of_tokens [] = Blank
 line_of_tokens (token ∷ tokens) =
-    if list_all is_number (token ∷ tokens) then Numbers (map value_of (token ∷ tokens)) else Words (token ∷ tokens)
+    if list_all is_number (token ∷ tokens) then Numbers (map value_of (token ∷ tokens))
+    else Words (token ∷ tokens)
 
 abbrev pub line_of : List ℕ → Line
 line_of bytes = line_of_tokens (tokens_of bytes)
@@ -62,7 +64,3 @@ is_left (n, Words words) = true
 
 abbrev pub numbered_lines : List ℕ → List Numbered
 numbered_lines text = filter is_left (enumerate_from 1 (map line_of (lines_of text)))
-
--- a number as a reader holds it: all that is above the greatest is that
-abbrev pub capped : ℕ → ℕ
-capped n = min n 18446744073709551615

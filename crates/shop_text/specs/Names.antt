@@ -2,17 +2,19 @@
 --     shops_of named                     what stands in a list of named instances
 --     IsRead grammar text result          what reading a text answers
 --     IsPick named name result           the first instance of a name
-use Rattle.std.specs.Prelude.{◌≡◌, ℕ, ◌<◌, List, [], ◌∷◌, length, map, find, Option, Some, None, Result, Ok, Err}
-use Rattle.std.specs.Prelude.{Vec, string_bytes}
+use Rattle.std.specs.Prelude.{◌≡◌, ◌⊎◌, ℕ, ◌≤◌, ◌<◌, List, [], ◌∷◌, length, map, find, Option, Some}
+use Rattle.std.specs.Prelude.{None, Result, Ok, Err, Vec, string_bytes}
 use Rattle.std.specs.Borrow.{Bor}
 use Rattle.std.specs.Str.{bytes_eq}
 use Rattle.std.specs.declared.alloc.Global.{Global}
+use Rattle.shop_text.specs.declared.limits.TheConstants.{MAX_TEXT}
 use Rattle.shop_text.specs.Texts.{NamedShop, IsText, IsTextFault}
 use Rattle.shop_text.specs.Grammar.{Grammar}
 use Rattle.shop_text.specs.declared.names.Named.{Named}
 use Rattle.shop_text.specs.declared.faults.ReadFault.{ReadFault}
-use Rattle.shop_text.specs.declared.faults.ReadFault.TheVariants.{NoMemory, TooLong, NoInstance, BadShape, BadSize}
-use Rattle.shop_text.specs.declared.faults.ReadFault.TheVariants.{BadRow, Truncated, BadMachine, BadTime}
+use Rattle.shop_text.specs.declared.faults.ReadFault.TheVariants.{NoMemory, TooLong, NoInstance}
+use Rattle.shop_text.specs.declared.faults.ReadFault.TheVariants.{BadShape, BadSize, BadRow}
+use Rattle.shop_text.specs.declared.faults.ReadFault.TheVariants.{Truncated, BadMachine, BadTime}
 use Rattle.shop_text.specs.declared.faults.ReadFault.TheVariants.{NoSuchName, BadTable}
 
 abbrev pub shop_of_named : Named → NamedShop
@@ -21,10 +23,11 @@ shop_of_named n = record { name = string_bytes n.name; shop = n.instance }
 abbrev pub shops_of : List Named → List NamedShop
 shops_of named = map shop_of_named named
 
--- a text that is good is read as what it says, and another is refused by its fault; memory may be wanting in either
+-- A text that is good is read as what it says, and another is refused by its fault. Memory may run
+-- out in either, but a text that is too long is refused as that.
 abbrev pub IsRead : Grammar → List ℕ → Result (Vec Named Global) ReadFault → Type 0
 IsRead grammar text (Ok v) = IsText grammar text (shops_of v.items) × (0 < length v.items)
-IsRead grammar text (Err NoMemory) = Unit {0}
+IsRead grammar text (Err NoMemory) = length text ≤ MAX_TEXT
 IsRead grammar text (Err TooLong) = IsTextFault grammar text TooLong
 IsRead grammar text (Err NoInstance) = IsTextFault grammar text NoInstance
 IsRead grammar text (Err (BadShape n)) = IsTextFault grammar text (BadShape n)
@@ -35,6 +38,13 @@ IsRead grammar text (Err (BadMachine n)) = IsTextFault grammar text (BadMachine 
 IsRead grammar text (Err (BadTime n)) = IsTextFault grammar text (BadTime n)
 IsRead grammar text (Err NoSuchName) = ⊥
 IsRead grammar text (Err (BadTable n)) = ⊥
+
+-- What `IsRead` says of a text that has a fault: it is answered by it, unless memory runs out.
+abbrev pub FaultIsAnswered : Grammar → Type 0
+FaultIsAnswered grammar =
+    (text : List ℕ) (fault : ReadFault) (result : Result (Vec Named Global) ReadFault)
+    → IsTextFault grammar text fault → IsRead grammar text result
+    → (result ≡ Err fault) ⊎ (result ≡ Err NoMemory)
 
 -- the first instance of the name, or where no name is given the first one
 abbrev pub first_of : List NamedShop → Option NamedShop

@@ -1,34 +1,38 @@
 -- Parts of the three formats in plain words.
 use Rattle.std.specs.Prelude.{◌≡◌, ℕ, ◌*◌, ◌<◌, ◌≤◌, ◌↔◌, List, [], ◌∷◌, ◌++◌, length}
 use Rattle.std.specs.List.{AllByRecursion}
+use Rattle.shop_model.specs.declared.limits.TheConstants.{MAX_JOBS, MAX_MACHINES, MAX_STEPS}
+use Rattle.shop_model.specs.declared.limits.TheConstants.{MAX_TIME}
 use Rattle.shop_text.specs.Grammar.{Row, Entry, Part, AreText, IsPart}
 use Rattle.shop_text.specs.Formats.{jobs_in, machines_in, orlib, routes, taillard}
 
 -- jobs and machines within the limits of an instance
 pub record IsSize (jobs machines : ℕ) : Type 0 where
   pub some_job : 1 ≤ jobs
-  pub few_jobs : jobs ≤ 1000
+  pub few_jobs : jobs ≤ MAX_JOBS
   pub some_machine : 1 ≤ machines
-  pub few_machines : machines ≤ 100
+  pub few_machines : machines ≤ MAX_MACHINES
 
 -- machine, time, machine, time: each machine is one of them, and no time is over the limit
 abbrev pub ArePairs : ℕ → Row → Type 0
 ArePairs machines [] = Unit {0}
 ArePairs machines (machine ∷ []) = ⊥
-ArePairs machines (machine ∷ time ∷ rest) = (machine < machines) × (time ≤ 1000000000) × ArePairs machines rest
+ArePairs machines (machine ∷ time ∷ rest) = (machine < machines) × (time ≤ MAX_TIME)
+    × ArePairs machines rest
 
 -- a row of `orlib`: a machine and a time for each machine
 pub record IsOrlibRow (machines : ℕ) (row : Row) : Type 0 where
   pub len : length row ≡ 2 * machines
   pub pairs : ArePairs machines row
 
--- a row of `routes`: a release within the limit of times, then at most 100 pairs
+-- a row of `routes`: a release within the limit of times, then as many pairs as a route may have
+-- steps
 pub record IsRoutesRow (machines : ℕ) (row : Row) : Type 0 where
   pub release : ℕ
   pub rest : Row
   pub cut : row ≡ release ∷ rest
-  pub small : release ≤ 1000000000
-  pub few : length rest ≤ 200
+  pub small : release ≤ MAX_TIME
+  pub few : length rest ≤ 2 * MAX_STEPS
   pub pairs : ArePairs machines rest
 
 -- a row with no text line before it
@@ -36,7 +40,8 @@ pub record IsRowLine (IsRow : Row → Type 0) (e : Entry) : Type 0 where
   pub no_text : e.before ≡ []
   pub is_row : IsRow e.row
 
--- text lines and a size line of two numbers, jobs and machines within the limits; then a row for each job
+-- text lines and a size line of two numbers, jobs and machines within the limits; then a row for
+-- each job
 pub record IsPartOfRows (IsRow : ℕ → Row → Type 0) (part : Part) : Type 0 where
   pub first : Entry
   pub rows : List Entry
@@ -53,7 +58,7 @@ pub record IsRowOf (IsAllowed : ℕ → Type 0) (machines : ℕ) (row : Row) : T
   pub each : AllByRecursion IsAllowed row
 
 abbrev pub IsTime : ℕ → Type 0
-IsTime time = time ≤ 1000000000
+IsTime time = time ≤ MAX_TIME
 
 -- machines are counted from 1
 abbrev pub IsMachineNumber : ℕ → ℕ → Type 0
@@ -62,9 +67,11 @@ IsMachineNumber machines number = (1 ≤ number) × (number ≤ machines)
 -- text lines before the first row alone
 abbrev pub IsMatrix : (Row → Type 0) → List Entry → Type 0
 IsMatrix IsRow [] = Unit {0}
-IsMatrix IsRow (top ∷ rows) = AreText top.before × IsRow top.row × AllByRecursion (IsRowLine IsRow) rows
+IsMatrix IsRow (top ∷ rows) = AreText top.before × IsRow top.row
+    × AllByRecursion (IsRowLine IsRow) rows
 
--- text lines and a size line of 2 to 6 numbers; then a matrix of times and one of machines, a row for each job in each
+-- text lines and a size line of 2 to 6 numbers; then a matrix of times and one of machines, a row
+-- for each job in each
 pub record IsTaillardPart (part : Part) : Type 0 where
   pub first : Entry
   pub times : List Entry
@@ -77,7 +84,8 @@ pub record IsTaillardPart (part : Part) : Type 0 where
   pub times_count : length times ≡ jobs_in first.row
   pub machines_count : length machines ≡ jobs_in first.row
   pub are_times : IsMatrix (IsRowOf IsTime (machines_in first.row)) times
-  pub are_machines : IsMatrix (IsRowOf (IsMachineNumber (machines_in first.row)) (machines_in first.row)) machines
+  pub are_machines : IsMatrix (IsRowOf (IsMachineNumber (machines_in first.row))
+      (machines_in first.row)) machines
 
 -- the parts that the grammar has of these formats are just these
 abbrev pub OrlibShape : Type 0

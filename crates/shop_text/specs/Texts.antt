@@ -1,7 +1,9 @@
 -- Instance texts: what a text is read as, and the one fault of a text that isn't read.
-use Rattle.std.specs.Prelude.{◌≡◌, ℕ, ◌+◌, ◌≤◌, ◌<◌, ◌⊎◌, Bool, if◌then◌else◌, List, [], ◌∷◌, length, is_some}
+use Rattle.std.specs.Prelude.{◌≡◌, ℕ, ◌+◌, ◌≤◌, ◌<◌, ◌⊎◌, Bool, if◌then◌else◌, List, [], ◌∷◌}
+use Rattle.std.specs.Prelude.{length, is_some}
 use Rattle.std.specs.List.{list_any, filter_map, flat_map}
 use Rattle.std.specs.Fmt.{decimal}
+use Rattle.shop_text.specs.declared.limits.TheConstants.{MAX_TEXT}
 use Rattle.shop_model.specs.Shop.{Shop}
 use Rattle.shop_text.specs.Lines.{Numbered, lines_of, numbered_lines}
 use Rattle.shop_text.specs.Grammar.{Grammar, Part, entry_rows, IsGood, IsFault}
@@ -22,7 +24,8 @@ from_first_header grammar (line ∷ lines) =
     if is_header grammar line then line ∷ lines else from_first_header grammar lines
 
 abbrev pub unless_headed : Grammar → List Numbered → List Numbered
-unless_headed grammar lines = if list_any (is_header grammar) lines then from_first_header grammar lines else lines
+unless_headed grammar lines = if list_any (is_header grammar) lines
+    then from_first_header grammar lines else lines
 
 -- the lines that count: if there is a header, all before the first one are struck
 abbrev pub lines_left : Grammar → List ℕ → List Numbered
@@ -44,30 +47,32 @@ name_of grammar n part = last_or (decimal n) (headers_of grammar (flat_map (λ e
 abbrev pub named_from : Grammar → ℕ → List Part → List NamedShop
 named_from grammar n [] = []
 named_from grammar n (part ∷ parts) =
-    record { name = name_of grammar n part; shop = grammar.shop (entry_rows part) } ∷ named_from grammar (n + 1) parts
+    record { name = name_of grammar n part; shop = grammar.shop (entry_rows part) }
+    ∷ named_from grammar (n + 1) parts
 
 -- the text is good, and these are its instances with their names
 pub record IsText (grammar : Grammar) (text : List ℕ) (shops : List NamedShop) : Type 0 where
-  pub short : length text ≤ 16777216
+  pub short : length text ≤ MAX_TEXT
   pub parts : List Part
   pub good : IsGood grammar (lines_left grammar text) parts
   pub shops_are : shops ≡ named_from grammar 1 parts
 
 -- the text has too many bytes
 pub record IsTooLong (text : List ℕ) (fault : ReadFault) : Type 0 where
-  pub long : 16777216 < length text
+  pub long : MAX_TEXT < length text
   pub told : fault ≡ TooLong
 
 -- its lines have this fault
 pub record HasLineFault (grammar : Grammar) (text : List ℕ) (fault : ReadFault) : Type 0 where
-  pub short : length text ≤ 16777216
+  pub short : length text ≤ MAX_TEXT
   pub in_lines : IsFault grammar (length (lines_of text)) (lines_left grammar text) fault
 
 -- this is the text's fault
 abbrev pub IsTextFault : Grammar → List ℕ → ReadFault → Type 0
 IsTextFault grammar text fault = IsTooLong text fault ⊎ HasLineFault grammar text fault
 
--- A text is good for one list of named instances at most, and has one fault at most, and never both.
+-- A text is good for one list of named instances at most, and has one fault at most, and never
+-- both.
 pub record OneReading (grammar : Grammar) : Type 0 where
   pub one_list : (text : List ℕ) (shops others : List NamedShop)
       → IsText grammar text shops → IsText grammar text others → shops ≡ others
@@ -79,7 +84,8 @@ pub record OneReading (grammar : Grammar) : Type 0 where
 -- some list of named instances, or some fault
 abbrev pub HasReading : Grammar → List ℕ → Type 0
 HasReading grammar text =
-    ((shops : List NamedShop) × IsText grammar text shops) ⊎ ((fault : ReadFault) × IsTextFault grammar text fault)
+    ((shops : List NamedShop) × IsText grammar text shops)
+    ⊎ ((fault : ReadFault) × IsTextFault grammar text fault)
 
 -- Each text is good for some list of named instances, or has some fault.
 abbrev pub SomeReading : Grammar → Type 0

@@ -1,18 +1,23 @@
 -- The texts that the program prints: reports, Gantt texts, lists of instances, and verdicts.
---     text_of lines                each line ends with LF, and its tokens stand one space apart; numbers are `decimal`
+--     text_of lines
+--         each line ends with LF, and its tokens stand one space apart; numbers are `decimal`
 --     report_text reported         an answer, and the table of starts
 --     gantt_text shop starts       a line of characters for each machine
 --     list_text named              a line for each instance
 --     verdict_text verdict         the line of a verdict
-use Rattle.std.specs.Prelude.{◌≡◌, ℕ, zero, suc, ◌-◌, ◌*◌, ◌≤◌, ◌<◌, max, Bool, ◌&&◌, ◌==◌, nat_le, nat_lt, List, []}
-use Rattle.std.specs.Prelude.{◌∷◌, ◌++◌, length, map, flat_map, find, slice_index_or, codes}
+use Rattle.std.specs.Prelude.{◌≡◌, ℕ, zero, suc, ◌-◌, ◌*◌, ◌≤◌, ◌<◌, max, Bool, ◌&&◌, ◌==◌, nat_le}
+use Rattle.std.specs.Prelude.{nat_lt, List, [], ◌∷◌, ◌++◌, length, map, flat_map, find}
+use Rattle.std.specs.Prelude.{slice_index_or, codes}
 use Rattle.std.specs.List.{range_with_len, enumerate_from, list_any, join_with_byte}
 use Rattle.std.specs.Option.{option_map_or}
 use Rattle.std.specs.Int.{div_ceil}
 use Rattle.std.specs.Fmt.{decimal}
-use Rattle.shop_model.specs.Shop.{Shop, Starts, route_of, machine_of, IsOperation, IsFeasible, finish_of, end_of}
+use Rattle.shop_text.specs.declared.gantts.TheConstants.{MAX_COLUMNS}
+use Rattle.shop_model.specs.Shop.{Shop, Starts, route_of, machine_of, IsOperation, IsFeasible}
+use Rattle.shop_model.specs.Shop.{finish_of, end_of}
 use Rattle.shop_model.specs.declared.checking.Verdict.{Verdict}
-use Rattle.shop_model.specs.declared.checking.Verdict.TheVariants.{Feasible, WrongSize, Unreleased, Early, Overlap}
+use Rattle.shop_model.specs.declared.checking.Verdict.TheVariants.{Feasible, WrongSize, Unreleased}
+use Rattle.shop_model.specs.declared.checking.Verdict.TheVariants.{Early, Overlap}
 use Rattle.shop_text.specs.Texts.{NamedShop}
 use Rattle.shop_text.specs.Schedules.{Tokens}
 
@@ -70,21 +75,24 @@ report_text r = text_of (report_lines r)
 
 -- ---- Gantt texts
 
--- how much time a column stands for: the least unit such that there are at most 72 columns
+-- how much time a column stands for: the least unit such that there are no more columns than the
+-- limit
 abbrev pub unit_of : ℕ → ℕ
-unit_of makespan = max 1 (div_ceil makespan 72)
+unit_of makespan = max 1 (div_ceil makespan MAX_COLUMNS)
 
 abbrev pub columns_of : ℕ → ℕ
 columns_of makespan = div_ceil makespan (unit_of makespan)
 
 -- the character of a job; from job 62 on it is `#`
 abbrev pub character_of : ℕ → ℕ
-character_of j = slice_index_or (codes "0123456789ABCDEFGHIJKLMNOPQRSTUVWXYZabcdefghijklmnopqrstuvwxyz") j 35
+character_of j = slice_index_or (codes
+    "0123456789ABCDEFGHIJKLMNOPQRSTUVWXYZabcdefghijklmnopqrstuvwxyz") j 35
 
 -- (j, k) is served on the machine at the instant: from its start on, and no longer at its end
 abbrev pub is_served : Shop → Starts → ℕ → ℕ → ℕ → ℕ → Bool
 is_served shop starts machine instant j k =
-    (machine_of shop j k == machine) && nat_le (starts j k) instant && nat_lt instant (finish_of shop starts j k)
+    (machine_of shop j k == machine) && nat_le (starts j k) instant
+    && nat_lt instant (finish_of shop starts j k)
 
 -- whether the machine serves job j at the instant
 abbrev pub serves : Shop → Starts → ℕ → ℕ → ℕ → Bool
@@ -94,7 +102,8 @@ serves shop starts machine instant j =
 -- the character of the job that the machine serves at the instant, or a dot
 abbrev pub shown_at : Shop → Starts → ℕ → ℕ → ℕ
 shown_at shop starts machine instant =
-    option_map_or character_of (find (serves shop starts machine instant) (range_with_len 0 (length shop.jobs))) 46
+    option_map_or character_of (find (serves shop starts machine instant)
+    (range_with_len 0 (length shop.jobs))) 46
 
 -- column c shows the instant c units after 0
 abbrev pub shown_cells : Shop → Starts → ℕ → ℕ → ℕ → List ℕ
@@ -106,7 +115,8 @@ columns shop starts machine =
     shown_cells shop starts machine (unit_of (end_of shop starts)) (columns_of (end_of shop starts))
 
 abbrev pub cells_line : ℕ → List ℕ → Tokens
-cells_line machine cells = codes "machine" ∷ decimal machine ∷ (codes "|" ++ cells ++ codes "|") ∷ []
+cells_line machine cells = codes "machine" ∷ decimal machine ∷ (codes "|" ++ cells ++ codes "|")
+    ∷ []
 
 abbrev pub machine_line : Shop → Starts → ℕ → Tokens
 machine_line shop starts machine = cells_line machine (columns shop starts machine)
@@ -118,10 +128,11 @@ gantt_lines shop starts = number_line (codes "unit") (unit_of (end_of shop start
 abbrev pub gantt_text : Shop → Starts → List ℕ
 gantt_text shop starts = text_of (gantt_lines shop starts)
 
--- In a feasible table the job of an operation is shown at each instant at which its machine serves it, and a dot is
--- shown where a machine serves none.
+-- In a feasible table the job of an operation is shown at each instant at which its machine serves
+-- it, and a dot is shown where a machine serves none.
 pub record ShowsTheJob : Type 0 where
-  pub served : (shop : Shop) (starts : Starts) → IsFeasible shop starts → (instant j k : ℕ) → IsOperation shop j k
+  pub served : (shop : Shop) (starts : Starts) → IsFeasible shop starts → (instant j k : ℕ)
+      → IsOperation shop j k
       → starts j k ≤ instant → instant < finish_of shop starts j k
       → shown_at shop starts (machine_of shop j k) instant ≡ character_of j
   pub idle : (shop : Shop) (starts : Starts) (machine instant : ℕ)
@@ -145,13 +156,15 @@ abbrev pub verdict_tokens : Verdict → Tokens
 verdict_tokens (Feasible makespan) = number_line (codes "feasible") makespan
 verdict_tokens WrongSize = codes "infeasible:" ∷ codes "wrong" ∷ codes "size" ∷ []
 verdict_tokens (Unreleased j) =
-    codes "infeasible:" ∷ codes "job" ∷ decimal j ∷ codes "step" ∷ codes "0" ∷ codes "begins" ∷ codes "before"
+    codes "infeasible:" ∷ codes "job" ∷ decimal j ∷ codes "step" ∷ codes "0" ∷ codes "begins"
+    ∷ codes "before"
     ∷ codes "its" ∷ codes "release" ∷ []
 verdict_tokens (Early j k) =
     codes "infeasible:" ∷ codes "job" ∷ decimal j ∷ codes "step" ∷ decimal k
     ∷ codes "begins" ∷ codes "before" ∷ codes "step" ∷ decimal (k - 1) ∷ codes "ends" ∷ []
 verdict_tokens (Overlap m p q) =
-    codes "infeasible:" ∷ codes "machine" ∷ decimal m ∷ codes "overlap" ∷ codes "of" ∷ codes "job" ∷ decimal p.job
+    codes "infeasible:" ∷ codes "machine" ∷ decimal m ∷ codes "overlap" ∷ codes "of" ∷ codes "job"
+    ∷ decimal p.job
     ∷ codes "step" ∷ decimal p.step
     ∷ codes "and" ∷ codes "job" ∷ decimal q.job ∷ codes "step" ∷ decimal q.step ∷ []
 

@@ -1,10 +1,10 @@
 // The characters that a machine's line of a Gantt text shows.
 ghost use Rattle.std.specs.Prelude.{◌≡◌, ◌<◌, ◌≤◌, length};
 ghost use Rattle.shop_model.specs.Shop.{IsFeasible};
-ghost use Rattle.shop_model.specs.Steps.{AreSmall};
+ghost use Rattle.shop_model.specs.inner.Steps.{AreSmall};
 ghost use Rattle.shop_model.specs.Checking.{HasShape, starts_of};
 ghost use Rattle.shop_text.specs.Writing.{character_of, shown_cells};
-ghost use Rattle.shop_text.specs.Cells.{is_column, ShowsWhere, ShowsRoute, EndsWithin, AllEndWithin};
+ghost use Rattle.shop_text.specs.inner.Cells.{is_column, ShowsWhere, ShowsRoute, EndsWithin, AllEndWithin};
 
 use shop_model::{Instance, Op, Table};
 

@@ -1,7 +1,7 @@
 // The part of a text that is being read.
 ghost use Rattle.std.specs.Prelude.{◌≡◌, ℕ, ◌<◌, ◌∷◌, ◌++◌, [], List, map, true, false, ◌==◌};
 ghost use Rattle.shop_text.specs.Formats.{grammar_of};
-ghost use Rattle.shop_text.specs.Limits.{IsDraftWithin};
+ghost use Rattle.shop_text.specs.inner.DraftLimits.{IsDraftWithin};
 
 use crate::faults::ReadFault;
 use crate::formats::Format;
@@ -24,10 +24,10 @@ pub(crate) struct Draft {
 impl Draft {
     ghost use Rattle.shop_model.specs.Given.{job_as_given};
     ghost use Rattle.shop_model.specs.Limits.{IsJobWithin};
-    ghost use Rattle.shop_text.specs.Lines.{capped};
+    ghost use Rattle.shop_text.specs.inner.LineReading.{capped};
     ghost use Rattle.shop_text.specs.Grammar.{Row};
-    ghost use Rattle.shop_text.specs.Reading.{JudgesRow};
-    ghost use Rattle.shop_text.specs.Drafts.{IsDraft, wants_times, jobs_drafted, PushesJob, TakesRow};
+    ghost use Rattle.shop_text.specs.inner.LineReading.{JudgesRow};
+    ghost use Rattle.shop_text.specs.inner.Drafts.{IsDraft, wants_times, jobs_drafted, PushesJob, TakesRow};
     ghost use Rattle.std.specs.Prelude.{vec_len, IfOk};
 
     /// Nothing yet.

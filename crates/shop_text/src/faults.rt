@@ -1,3 +1,4 @@
+// Why a text is refused.
 ghost use Rattle.std.specs.Prelude.{◌≡◌};
 ghost use Rattle.shop_text.specs.declared.faults.ReadFault.TheVariants.{NoMemory};
 

@@ -1,41 +1,16 @@
 // Gantt texts.
-ghost use Rattle.std.specs.Prelude.{◌≡◌, ◌<◌, ◌++◌, length, IfOk, OnOk};
-ghost use Rattle.shop_model.specs.Shop.{IsFeasible, greatest_below, end_of};
-ghost use Rattle.shop_model.specs.Steps.{AreSmall, finish_at};
+ghost use Rattle.std.specs.Prelude.{◌≡◌, ◌<◌, ◌++◌, IfOk, OnOk};
+ghost use Rattle.shop_model.specs.Shop.{IsFeasible};
 ghost use Rattle.shop_model.specs.Checking.{HasShape, starts_of};
 ghost use Rattle.shop_text.specs.Writing.{unit_of, gantt_text};
-ghost use Rattle.shop_text.specs.Printing.{cells_text};
+ghost use Rattle.shop_text.specs.inner.Printing.{cells_text};
 
 use crate::cells::show_machine;
-use shop_model::{Instance, Op, Table};
+use shop_model::{Instance, Table, makespan};
 use std::alloc::{AllocError, Global};
 
 /// The most columns of a Gantt text.
 const MAX_COLUMNS: u64 = 72;
-
-/// When the last of the steps ends.
-fn last_finish(route: &[Op], starts: &[u64]) -> u64
-    requires { AreSmall route.now starts.now }
-    ensures { result ≡ greatest_below (length route.now) (λ k. finish_at route.now starts.now k) }
-{
-    let mut end = 0;
-    for k in 0..route.len() {
-        end = end.max(starts[k] + route[k].time);
-    }
-    end
-}
-
-/// When the last operation ends.
-fn makespan(instance: &Instance, table: &Table) -> u64
-    requires { HasShape instance.now table.now }
-    ensures { result ≡ end_of instance.now (starts_of table.now) }
-{
-    let mut end = 0;
-    for j in 0..instance.jobs() {
-        end = end.max(last_finish(instance.route(j), table.row(j)));
-    }
-    end
-}
 
 /// How much time a column stands for.
 fn unit(makespan: u64) -> u64
@@ -62,8 +37,8 @@ fn write_machine(
 }
 
 /// The Gantt text of a feasible table: a unit of time, and for each machine a line of at most 72 columns. Column c
-/// shows the job that the machine serves c units after 0, or a dot; operations of time 0 never show. Fails only for
-/// want of memory.
+/// shows the job that the machine serves c units after 0, or a dot; operations of time 0 never show. Fails with
+/// `AllocError` if memory runs out.
 pub fn gantt(alloc: Global, instance: &Instance, table: &Table) -> Result<Vec<u8>, AllocError>
     requires shape { HasShape instance.now table.now }
     requires feasible { IsFeasible instance.now (starts_of table.now) }

@@ -3,10 +3,10 @@ ghost use Rattle.std.specs.Prelude.{◌≡◌, ◌≤◌, ◌∷◌, codes};
 ghost use Rattle.std.specs.Str.{bytes_eq};
 ghost use Rattle.shop_text.specs.Lines.{tokens_of};
 ghost use Rattle.shop_text.specs.Schedules.{is_label, starts_of_tokens, row_in};
-ghost use Rattle.shop_text.specs.TableReading.{FollowsJob, IsStartOf, IsRowRead};
+ghost use Rattle.shop_text.specs.inner.ScheduleReading.{FollowsJob, IsStartOf, IsRowRead};
 
 use crate::lines::{next_token, number_of};
-use shop_model::{Instance, MAX_START};
+use shop_model::{Instance, MAX_JOBS, MAX_START};
 use std::alloc::{AllocError, Global};
 
 /// Whether the token begins the line of a job.
@@ -28,7 +28,7 @@ pub(crate) fn after_job(line: &[u8]) -> Option<&[u8]>
 
 /// Whether the token is the number of job j with a colon behind it.
 fn names_job(j: usize, token: &[u8]) -> bool
-    requires { j ≤ 1000 }
+    requires { j ≤ MAX_JOBS }
     ensures { result ≡ is_label j token.now }
 {
     if token.len() < 2 {

@@ -1,5 +1,6 @@
 // Laws of the texts, over their definitions alone.
 ghost use Rattle.shop_text.specs.Formats.{orlib, routes, taillard};
+ghost use Rattle.shop_text.specs.Names.{FaultIsAnswered};
 ghost use Rattle.shop_text.specs.Shapes.{OrlibShape, RoutesShape, TaillardShape};
 ghost use Rattle.shop_text.specs.Texts.{OneReading, SomeReading};
 
@@ -15,6 +16,13 @@ pub fn some_reading()
     ensures orlib { SomeReading orlib }
     ensures routes { SomeReading routes }
     ensures taillard { SomeReading taillard }
+{}
+
+/// A text that has a fault is answered by it, unless memory runs out.
+pub fn faults_are_answered()
+    ensures orlib { FaultIsAnswered orlib }
+    ensures routes { FaultIsAnswered routes }
+    ensures taillard { FaultIsAnswered taillard }
 {}
 
 /// A part of `orlib` is text lines, a size line of two numbers, and a row of machines and times for each job.

@@ -1,3 +1,4 @@
+// Named instances, and the one that is asked for.
 ghost use Rattle.std.specs.Prelude.{◌<◌, length};
 ghost use Rattle.std.specs.Option.{option_copied};
 ghost use Rattle.shop_text.specs.Names.{IsPick};

@@ -2,7 +2,7 @@
 ghost use Rattle.std.specs.Prelude.{◌≡◌, ◌∷◌, [], IfOk, codes, decimal};
 ghost use Rattle.shop_model.specs.Checking.{HasShape};
 ghost use Rattle.shop_text.specs.Writing.{number_line, status_word, answer_lines, job_line, job_lines, report_text};
-ghost use Rattle.shop_text.specs.Printing.{AddsLine, AddsLines};
+ghost use Rattle.shop_text.specs.inner.Printing.{AddsLine, AddsLines};
 ghost use Rattle.shop_text.specs.Reports.{reported};
 
 use crate::reports::Report;
@@ -73,7 +73,7 @@ fn write_jobs(out: &mut String, table: &Table) -> Result<(), AllocError>
 }
 
 /// The report as text: what the search answers, and a line for each job with the starts of its steps. The status is
-/// `optimal` where no node is open, else `open`. Fails only for want of memory.
+/// `optimal` where no node is open, else `open`. Fails with `AllocError` if memory runs out.
 pub fn report(alloc: Global, report: &Report) -> Result<Vec<u8>, AllocError>
     requires { HasShape report.now.instance.now report.now.table.now }
     ensures { IfOk result (λ v. v.items ≡ report_text (reported report.now)) }

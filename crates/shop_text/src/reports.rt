@@ -1,3 +1,4 @@
+// What a report is made of.
 use shop_model::{Instance, Table};
 
 /// What a report tells of an answer: its table, which has the instance's shape, and when it ends; a lower bound on all

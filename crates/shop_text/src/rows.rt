@@ -6,9 +6,9 @@ ghost use Rattle.shop_model.specs.Limits.{IsJobWithin, IsRouteWithin};
 ghost use Rattle.shop_text.specs.Formats.{pairs_fault, pairs_of, orlib_fault, routes_fault};
 ghost use Rattle.shop_text.specs.Formats.{orlib_job as orlib_row_job, routes_job as routes_row_job};
 ghost use Rattle.shop_text.specs.Formats.{taillard_job as taillard_row_job};
-ghost use Rattle.shop_text.specs.Reading.{JudgesRow, IsSizeIn, size_line_fault};
+ghost use Rattle.shop_text.specs.inner.LineReading.{JudgesRow, IsSizeIn, size_line_fault};
 ghost use Rattle.shop_text.specs.Shapes.{IsSize};
-ghost use Rattle.shop_text.specs.Reading.{times_row_fault, machines_row_fault};
+ghost use Rattle.shop_text.specs.inner.LineReading.{times_row_fault, machines_row_fault};
 
 use crate::faults::ReadFault;
 use crate::formats::Format;
@@ -44,7 +44,7 @@ fn route_of(
     pairs: &[u64],
 ) -> Result<Vec<Op>, ReadFault>
     requires even { length pairs.now % 2 ≡ 0 }
-    requires machines { machines ≤ 100 }
+    requires machines { machines ≤ MAX_MACHINES }
     ensures judged { JudgesRow result line (pairs_fault machines pairs.now)
         (λ route. route.items ≡ pairs_of pairs.now) }
     ensures within { IfOk result (λ route. IsRouteWithin machines route.items) }
@@ -76,7 +76,7 @@ pub(crate) fn orlib_job(
     machines: usize,
     row: &[u64],
 ) -> Result<Job, ReadFault>
-    requires { machines ≤ 100 }
+    requires { machines ≤ MAX_MACHINES }
     ensures judged { JudgesRow result line (orlib_fault machines row.now)
         (λ job. job_as_given job ≡ orlib_row_job row.now) }
     ensures within { IfOk result (λ job. IsJobWithin machines job) }
@@ -95,7 +95,7 @@ pub(crate) fn routes_job(
     machines: usize,
     row: &[u64],
 ) -> Result<Job, ReadFault>
-    requires { machines ≤ 100 }
+    requires { machines ≤ MAX_MACHINES }
     ensures judged { JudgesRow result line (routes_fault machines row.now)
         (λ job. job_as_given job ≡ routes_row_job row.now) }
     ensures within { IfOk result (λ job. IsJobWithin machines job) }
@@ -113,8 +113,8 @@ pub(crate) fn routes_job(
 
 /// Whether each time is within the limit.
 fn are_times(row: &[u64]) -> bool
-    ensures tested { result ≡ list_all (λ time. nat_le time 1000000000) row.now }
-    ensures each { IsTrue result ↔ All (λ time. time ≤ 1000000000) row.now }
+    ensures tested { result ≡ list_all (λ time. nat_le time MAX_TIME) row.now }
+    ensures each { IsTrue result ↔ All (λ time. time ≤ MAX_TIME) row.now }
 {
     row.iter().all(|time| *time <= MAX_TIME)
 }
@@ -128,7 +128,7 @@ pub(crate) fn times_of(
 ) -> Result<Vec<u64>, ReadFault>
     ensures judged { JudgesRow result line (times_row_fault machines row.now)
         (λ times. times.items ≡ row.now) }
-    ensures within { IfOk result (λ times. All (λ time. time ≤ 1000000000) times.items) }
+    ensures within { IfOk result (λ times. All (λ time. time ≤ MAX_TIME) times.items) }
     ensures len { IfOk result (λ times. length times.items ≡ machines) }
 {
     if row.len() != machines {
@@ -149,8 +149,8 @@ pub(crate) fn taillard_job(
     times: &[u64],
     row: &[u64],
 ) -> Result<Job, ReadFault>
-    requires machines { machines ≤ 100 }
-    requires times { All (λ time. time ≤ 1000000000) times.now }
+    requires machines { machines ≤ MAX_MACHINES }
+    requires times { All (λ time. time ≤ MAX_TIME) times.now }
     requires len { length times.now ≡ machines }
     ensures judged { JudgesRow result line (machines_row_fault machines row.now)
         (λ job. job_as_given job ≡ taillard_row_job (times.now, row.now)) }

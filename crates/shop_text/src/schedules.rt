@@ -1,17 +1,18 @@
+// Schedule texts: the table that they give.
 ghost use Rattle.std.specs.Prelude.{ℕ, ◌≤◌, length};
 ghost use Rattle.shop_text.specs.Schedules.{IsTableRead};
-ghost use Rattle.shop_text.specs.TableReading.{AreRowsRead};
+ghost use Rattle.shop_text.specs.inner.ScheduleReading.{AreRowsRead};
 
 use crate::faults::ReadFault;
 use crate::job_lines::{after_job, row_behind};
+use crate::limits::MAX_TEXT;
 use crate::lines::next_line;
-use crate::texts::MAX_TEXT;
 use shop_model::{Instance, Table};
 use std::alloc::Global;
 
 /// The rows of the lines that begin with `job`.
 fn rows_in(alloc: Global, instance: &Instance, text: &[u8]) -> Result<Vec<Vec<u64>>, ReadFault>
-    requires { length text.now ≤ 16777216 }
+    requires { length text.now ≤ MAX_TEXT }
     ensures { AreRowsRead instance.now text.now result }
 {
     let mut rows = Vec::with_capacity(alloc, instance.jobs())?;
@@ -39,7 +40,7 @@ fn rows_in(alloc: Global, instance: &Instance, text: &[u8]) -> Result<Vec<Vec<u6
 /// The table of a schedule text: the lines whose first token is `job`, one for each job of the instance, in order.
 /// Lines that begin otherwise are skipped, so a report is a schedule text. Refused as `TooLong` above 16,777,216
 /// bytes, and as `BadTable` at the first line of a job that is not as said or one too many; where a job's line is
-/// missing, at the number of the text's lines plus one. `NoMemory` only for want of memory.
+/// missing, at the number of the text's lines plus one. `NoMemory` if memory runs out.
 pub fn read_table(alloc: Global, instance: &Instance, text: &[u8]) -> Result<Table, ReadFault>
     ensures { IsTableRead instance.now text.now result }
 {

@@ -1,8 +1,9 @@
 // Laws of schedule texts and of what is printed, over their definitions alone.
 ghost use Rattle.shop_model.specs.Shop.{Shop};
-ghost use Rattle.shop_text.specs.Schedules.{OneTable, SomeTable};
+ghost use Rattle.shop_text.specs.Formats.{orlib, routes, taillard};
+ghost use Rattle.shop_text.specs.Schedules.{OneTable, SomeTable, TableFaultIsAnswered};
 ghost use Rattle.shop_text.specs.Writing.{ShowsTheJob};
-ghost use Rattle.shop_text.specs.RoundTrip.{ReportsAreSchedules};
+ghost use Rattle.shop_text.specs.RoundTrip.{ReportsAreSchedules, NamesAreVisible};
 
 /// No schedule text has two readings for one instance: not two tables, nor two faults, nor a table and a fault.
 pub fn one_table()
@@ -14,6 +15,11 @@ pub fn some_table()
     ensures { (shop : Shop) → SomeTable shop }
 {}
 
+/// A schedule text that has a fault is answered by it, unless memory runs out.
+pub fn table_faults_are_answered()
+    ensures { (shop : Shop) → TableFaultIsAnswered shop }
+{}
+
 /// A column of a Gantt text shows the one job that its machine serves at its instant, or a dot.
 pub fn columns_show_the_job()
     ensures { ShowsTheJob }
@@ -22,4 +28,11 @@ pub fn columns_show_the_job()
 /// A report, alone or with its Gantt text behind it, is a schedule text of just its table.
 pub fn reports_are_schedules()
     ensures { ReportsAreSchedules }
+{}
+
+/// The names that a reader gives have visible bytes alone, as reports want them.
+pub fn names_are_visible()
+    ensures orlib { NamesAreVisible orlib }
+    ensures routes { NamesAreVisible routes }
+    ensures taillard { NamesAreVisible taillard }
 {}

@@ -3,22 +3,21 @@ ghost use Rattle.std.specs.Prelude.{◌≡◌, ℕ, ◌≤◌, List, [], length,
 ghost use Rattle.std.specs.Prelude.{string_bytes};
 ghost use Rattle.std.specs.Fmt.{decimal};
 ghost use Rattle.shop_text.specs.Formats.{grammar_of};
-ghost use Rattle.shop_text.specs.Lines.{Numbered, Numbers, Words, capped, line_of};
+ghost use Rattle.shop_text.specs.Lines.{Numbered, Numbers, Words, line_of};
+ghost use Rattle.shop_text.specs.inner.LineReading.{capped};
 ghost use Rattle.shop_text.specs.Names.{IsRead};
 ghost use Rattle.shop_text.specs.Texts.{lines_left};
-ghost use Rattle.shop_text.specs.Reading.{lines_after, IsFurther};
-ghost use Rattle.shop_text.specs.Readers.{name_or, IsReadUpTo, Takes, Ends};
+ghost use Rattle.shop_text.specs.inner.LineReading.{lines_after, IsFurther};
+ghost use Rattle.shop_text.specs.inner.InstanceReading.{name_or, IsReadUpTo, Takes, Ends};
 
 use crate::drafts::Draft;
 use crate::faults::ReadFault;
 use crate::formats::Format;
+use crate::limits::MAX_TEXT;
 use crate::lines::next_line;
 use crate::names::Named;
-use crate::reading::{Seen, header_in, see};
+use crate::seen_lines::{Seen, header_in, see};
 use std::alloc::{AllocError, Global};
-
-/// The longest text that is read, in bytes: of instances, and of a schedule.
-pub const MAX_TEXT: usize = 16_777_216;
 
 /// The instances that are read so far, the name of the last header since, and what is begun of the next instance.
 #[derive(Drop)]
@@ -107,7 +106,7 @@ impl Reader {
 
     /// The instances, at the end of so many lines.
     fn finish(self, last: usize) -> Result<Vec<Named>, ReadFault>
-        requires { last ≤ 16777216 }
+        requires { last ≤ MAX_TEXT }
         ensures { (lines : List Numbered) → IsReadUpTo self lines
             → Ends (grammar_of self.format) last lines result }
     {
@@ -125,7 +124,7 @@ impl Reader {
 /// Where the lines that count begin: at the first header, if there is one. How many lines stand before it, and the text
 /// from there.
 fn from_first_header(format: Format, text: &[u8]) -> (usize, &[u8])
-    requires { length text.now ≤ 16777216 }
+    requires { length text.now ≤ MAX_TEXT }
     ensures left { lines_left (grammar_of format) text.now ≡ lines_after result.0 result.1.now }
     ensures further { IsFurther 0 text.now result.0 result.1.now }
 {

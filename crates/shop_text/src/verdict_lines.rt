@@ -1,7 +1,7 @@
 // The lines that tell instances and verdicts.
 ghost use Rattle.std.specs.Prelude.{◌≡◌, IfOk, string_bytes};
 ghost use Rattle.shop_text.specs.Writing.{instance_line, list_text, verdict_text};
-ghost use Rattle.shop_text.specs.Printing.{AddsLine};
+ghost use Rattle.shop_text.specs.inner.Printing.{AddsLine};
 ghost use Rattle.shop_text.specs.Names.{shop_of_named, shops_of};
 
 use crate::names::Named;
@@ -18,7 +18,7 @@ fn write_instance(out: &mut String, named: &Named) -> Result<(), AllocError>
     writeln!(out, "{name} {jobs} {machines}")
 }
 
-/// A line for each instance: its name, its number of jobs and its number of machines. Fails only for want of memory.
+/// A line for each instance: its name, its number of jobs and its number of machines. Fails with `AllocError` if memory runs out.
 pub fn listing(alloc: Global, named: &[Named]) -> Result<Vec<u8>, AllocError>
     ensures { IfOk result (λ v. v.items ≡ list_text (shops_of named.now)) }
 {
@@ -58,7 +58,7 @@ fn verdict_string(alloc: Global, verdict: &Verdict) -> Result<String, AllocError
     }
 }
 
-/// The verdict as a line of bytes. Fails only for want of memory.
+/// The verdict as a line of bytes. Fails with `AllocError` if memory runs out.
 pub fn verdict_line(alloc: Global, verdict: &Verdict) -> Result<Vec<u8>, AllocError>
     ensures { IfOk result (λ v. v.items ≡ verdict_text verdict.now) }
 {

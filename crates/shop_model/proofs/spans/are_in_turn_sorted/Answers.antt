@@ -1,5 +1,5 @@
 use Rattle.std.proofs.lemmas.List.Sorted.{All-permutation}
-use Rattle.shop_model.specs.Spans.{spans_of}
+use Rattle.shop_model.specs.inner.Spans.{spans_of}
 use Rattle.shop_model.proofs.SwappedPairs.{AllPairs-permutation}
 use Rattle.shop_model.proofs.SpanLemmas.{ArePartedSpans, IsForward, parted_both_ways, parted_pairs, apart_from_pairs}
 use Rattle.shop_model.proofs.SpanLemmas.{spans_forward}

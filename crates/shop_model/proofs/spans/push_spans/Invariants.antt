@@ -1,6 +1,6 @@
 use Rattle.std.proofs.Common.{◌≡◌, ◌++◌, map}
 use Rattle.std.specs.List.{range_with_len}
-use Rattle.shop_model.specs.Spans.{span_at}
+use Rattle.shop_model.specs.inner.Spans.{span_at}
 use Rattle.shop_model.proofs.spans.push_spans.Given as goal
 
 abbrev pub invariant-loop-k : goal.invariant-loop-k

@@ -1,6 +1,6 @@
 use Rattle.std.proofs.Common.{[], slice_index_or, refl}
 use Rattle.shop_model.specs.Shop.{route_of}
-use Rattle.shop_model.specs.Spans.{spans_at}
+use Rattle.shop_model.specs.inner.Spans.{spans_at}
 use Rattle.shop_model.proofs.Ranges.{flat_map_more_part}
 use Rattle.shop_model.proofs.spans.spans.Goals as goal
 

@@ -1,5 +1,5 @@
 use Rattle.std.proofs.Common.{inl, inr, slice_index, arith}
-use Rattle.shop_model.specs.Steps.{IsClear, machine_at, finish_at}
+use Rattle.shop_model.specs.inner.Steps.{IsClear, machine_at, finish_at}
 use Rattle.shop_model.proofs.Merging.{clear_first, clear_second}
 use Rattle.shop_model.proofs.steps.are_clear.Goals as goal
 use Rattle.shop_model.proofs.steps.are_clear.Goals.{else-route-k-via-then-route-k+then-row-k+else-other_row-l}

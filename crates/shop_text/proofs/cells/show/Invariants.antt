@@ -1,5 +1,5 @@
 use Rattle.std.proofs.Common.{◌&&◌, leb, ltb}
-use Rattle.shop_text.specs.Cells.{ShowsWhere}
+use Rattle.shop_text.specs.inner.Cells.{ShowsWhere}
 use Rattle.shop_text.proofs.cells.show.Given as goal
 
 abbrev pub invariant-loop-column : goal.invariant-loop-column

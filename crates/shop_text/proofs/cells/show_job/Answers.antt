@@ -1,5 +1,5 @@
 use Rattle.std.proofs.Common.{◌+◌, ◌*◌, sym, subst}
-use Rattle.shop_text.specs.Cells.{ShowsWhere, serves_below}
+use Rattle.shop_text.specs.inner.Cells.{ShowsWhere, serves_below}
 use Rattle.shop_text.proofs.CellLemmas.{step_shown, step_skipped}
 use Rattle.shop_text.proofs.cells.show_job.Goals as goal
 use Rattle.shop_text.proofs.cells.show_job.Goals.{then-route-k, else-route-k}

@@ -1,5 +1,5 @@
 use Rattle.std.proofs.Common.{◌*◌}
-use Rattle.shop_text.specs.Cells.{ShowsWhere, serves_below}
+use Rattle.shop_text.specs.inner.Cells.{ShowsWhere, serves_below}
 use Rattle.shop_text.proofs.cells.show_job.Given as goal
 
 abbrev pub invariant-loop-k : goal.invariant-loop-k

@@ -1,6 +1,6 @@
 use Rattle.std.proofs.Common.{arith, length, subst, ◌∙◌}
 use Rattle.shop_model.specs.Checking.{starts_of}
-use Rattle.shop_text.specs.Cells.{ShowsJobs}
+use Rattle.shop_text.specs.inner.Cells.{ShowsJobs}
 use Rattle.shop_text.proofs.ServedJobs.{job_shown, all_shown}
 use Rattle.shop_text.proofs.cells.show_machine.Goals as goal
 

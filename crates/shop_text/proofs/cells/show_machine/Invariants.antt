@@ -1,5 +1,5 @@
 use Rattle.shop_model.specs.Checking.{starts_of}
-use Rattle.shop_text.specs.Cells.{ShowsJobs}
+use Rattle.shop_text.specs.inner.Cells.{ShowsJobs}
 use Rattle.shop_text.proofs.cells.show_machine.Given as goal
 
 abbrev pub invariant-loop-j : goal.invariant-loop-j

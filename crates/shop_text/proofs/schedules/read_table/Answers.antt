@@ -1,5 +1,5 @@
 use Rattle.std.proofs.Common.{refl}
-use Rattle.shop_text.specs.TableReading.{rows_held}
+use Rattle.shop_text.specs.inner.ScheduleReading.{rows_held}
 use Rattle.shop_text.proofs.TableRows.{table_within}
 use Rattle.shop_text.proofs.schedules.read_table.Goals as goal
 

@@ -1,5 +1,5 @@
 use Rattle.std.proofs.Common.{length}
-use Rattle.shop_text.specs.TableReading.{IsReadSoFar, rows_held}
+use Rattle.shop_text.specs.inner.ScheduleReading.{IsReadSoFar, rows_held}
 use Rattle.shop_text.proofs.schedules.rows_in.Given as goal
 
 abbrev pub invariant-loop-rest : goal.invariant-loop-rest

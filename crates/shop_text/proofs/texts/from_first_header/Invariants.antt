@@ -1,6 +1,6 @@
 use Rattle.std.proofs.Common.{length}
 use Rattle.shop_text.specs.Formats.{grammar_of}
-use Rattle.shop_text.specs.Reading.{IsFurther}
+use Rattle.shop_text.specs.inner.LineReading.{IsFurther}
 use Rattle.shop_text.proofs.Passing.{IsBeforeHeader}
 use Rattle.shop_text.proofs.texts.from_first_header.Given as goal
 

@@ -18,7 +18,7 @@ returns-in_err-take_line c =
     let p = err_from_is_err_and c.from_residual.result c.from_residual.ensures.1
     in let w = c.loop-rest.invariant
     in rw (p.1, p.2)
-    (error_read (grammar_of c.args.format) c.args.text.now c.in_err-take_line.field-0.0
+    (error_read (grammar_of c.args.format) c.args.text.now c.in_err-take_line.field-0.0 (omega arith)
     (line_refused c.args.text.now c.loop-rest.number c.loop-rest.rest.now c.next_line.result.0.now
     c.next_line.result.1.now
     c.args.format c.loop-rest.reader c.in_err-take_line.field-0.0 w (omega arith) c.next_line.ensures.cut

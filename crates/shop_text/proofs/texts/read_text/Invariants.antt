@@ -1,5 +1,5 @@
 use Rattle.std.proofs.Common.{length}
-use Rattle.shop_text.specs.Readers.{IsOnTheWay}
+use Rattle.shop_text.specs.inner.InstanceReading.{IsOnTheWay}
 use Rattle.shop_text.proofs.texts.read_text.Given as goal
 
 abbrev pub invariant-loop-rest : goal.invariant-loop-rest

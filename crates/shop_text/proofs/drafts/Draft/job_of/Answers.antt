@@ -1,6 +1,6 @@
 use Rattle.std.proofs.Common.{◌≡◌, ℕ, ◌≤◌, [], length, map, get_or, ap, ◌∙◌, arith, vec_len}
 use Rattle.std.proofs.lemmas.Bool.{ltb-false}
-use Rattle.shop_text.specs.Drafts.{items_of}
+use Rattle.shop_text.specs.inner.Drafts.{items_of}
 use Rattle.shop_text.proofs.DraftLemmas.{orlib_next, routes_next, taillard_next, held_at}
 use Rattle.shop_text.proofs.drafts.Draft.job_of.Goals as goal
 

@@ -1,7 +1,7 @@
 use Rattle.std.proofs.Common.{◌≡◌, ◌+◌, ◌∙◌, ℕ, ap, length, refl, arith}
 use Rattle.std.specs.Fmt.{decimal}
 use Rattle.std.proofs.lemmas.Result.{err_from_is_err_and}
-use Rattle.shop_text.specs.Readers.{name_or}
+use Rattle.shop_text.specs.inner.InstanceReading.{name_or}
 use Rattle.shop_text.specs.declared.texts.Reader.{Reader}
 use Rattle.shop_text.proofs.ReaderTurns.{row_read, part_read, row_refused}
 use Rattle.shop_text.proofs.texts.Reader.take_numbers.Goals as goal

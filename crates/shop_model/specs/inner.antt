@@ -1,0 +1,4 @@
+pub mod Steps
+pub mod Spans
+pub mod FirstFaults
+pub mod NonePlaced

@@ -1,0 +1,7 @@
+-- What stands before anything is placed, as lists.
+use Rattle.std.specs.Prelude.{ℕ, List, [], length, replicate}
+use Rattle.shop_model.specs.Shop.{Shop}
+
+-- a row for each job, with no start in it
+abbrev pub no_starts : Shop → List (List ℕ)
+no_starts shop = replicate (length shop.jobs) []

@@ -1,0 +1,318 @@
+// Instance texts read and refused, with the answers of the formats' description.
+use shop_text::{
+    FORMATS, Format, Named, ReadFault, pick, read, read_orlib, read_routes, read_taillard,
+};
+use std::alloc::Global;
+use std::fmt::Write;
+use std::test::Fail;
+
+/// NAME MACHINES, then for each job its release and its operations, or the fault.
+pub fn told(alloc: Global, answer: &Result<Vec<Named>, ReadFault>) -> Result<String, Fail> {
+    let mut text = String::new(alloc);
+    match answer {
+        Err(fault) => write!(text, "{fault}")?,
+        Ok(named) => {
+            for n in named {
+                write!(text, "[{} {}", n.name, n.instance.machines())?;
+                for j in 0..n.instance.jobs() {
+                    write!(text, " | {}", n.instance.release(j))?;
+                    for op in n.instance.route(j) {
+                        write!(text, " {}:{}", op.machine, op.time)?;
+                    }
+                }
+                text.push_str("]")?;
+            }
+        }
+    }
+    Ok(text)
+}
+
+#[test]
+fn texts_of_orlib(rt: HostRuntime) -> Result<(), Fail> {
+    let cases = [
+        ("", "error 4: no instance"),
+        ("words alone\n\n", "error 4: no instance"),
+        ("2", "error 5: line 1: bad shape of size line"),
+        ("2 2 2\n", "error 5: line 1: bad shape of size line"),
+        ("201 2", "error 8: line 2: text ends inside an instance"),
+        ("1001 2", "error 6: line 1: size out of range"),
+        ("1 101", "error 6: line 1: size out of range"),
+        ("0 2", "error 6: line 1: size out of range"),
+        (
+            "2 2\n0 3 1 2\n",
+            "error 8: line 3: text ends inside an instance",
+        ),
+        (
+            "2 2\n0 3 1 2\n\n \n",
+            "error 8: line 5: text ends inside an instance",
+        ),
+        ("2 2\n0 3 9\n1 2 0 4\n", "error 7: line 2: bad row"),
+        ("2 2\n0 3 1 -2\n1 2 0 4\n", "error 7: line 2: bad row"),
+        (
+            "instance a\n2 2\n0 3 1 2\ninstance b\n1 2 0 4\n",
+            "error 7: line 4: bad row",
+        ),
+        ("2 2\n0 3 1 2\ninstance b\n1 1\n0 4\n", "[b 1 | 0 0:4]"),
+        (
+            "2 2\n0 3 2 2\n1 2 0 4\n",
+            "error 9: line 2: no such machine",
+        ),
+        (
+            "2 2\n0 3 1 1000000001\n1 2 0 4\n",
+            "error 10: line 2: time out of range",
+        ),
+        (
+            "2 2\n0 1000000001 5 1\n1 2 0 4\n",
+            "error 10: line 2: time out of range",
+        ),
+        (
+            "2 2\n0 1000001 5 1\n1 2 0 4\n",
+            "error 9: line 2: no such machine",
+        ),
+        (
+            "2 2\n0 3 1 1000001\n1 2 0 4\n",
+            "[1 2 | 0 0:3 1:1000001 | 0 1:2 0:4]",
+        ),
+        ("2 2\n0 3 1 2\n\n1 2 0 4", "[1 2 | 0 0:3 1:2 | 0 1:2 0:4]"),
+        (
+            "1 1\n0 18446744073709551616\n",
+            "error 10: line 2: time out of range",
+        ),
+        (
+            "18446744073709551617 1\n",
+            "error 6: line 1: size out of range",
+        ),
+        ("1 1\n\x0b0 7\n", "error 7: line 2: bad row"),
+        ("1 1\n0\x0c7\n", "error 7: line 2: bad row"),
+        (
+            "82\ninstance a\ninstance b\n1 1\n0 7\n1 1\n0 8\n",
+            "[b 1 | 0 0:7][2 1 | 0 0:8]",
+        ),
+        (
+            "INSTANCE x\ninstance a b\ninstance \x7f\n1 1\n0 7\n",
+            "[1 1 | 0 0:7]",
+        ),
+        (
+            "2 2\n0 3 1 2\n1 2 0 4\ninstance 1\nsize 2 2\nmakespan 7\n",
+            "error 4: no instance",
+        ),
+    ];
+    for (text, want) in cases {
+        let answer = read_orlib(rt.alloc(), text.as_bytes());
+        assert_eq!(rt; told(rt.alloc(), &answer)?.as_str(), want, "at {text}");
+    }
+    Ok(())
+}
+
+#[test]
+fn texts_of_taillard(rt: HostRuntime) -> Result<(), Fail> {
+    let cases = [
+        ("2 2 1 2 3 4 5", "error 5: line 1: bad shape of size line"),
+        ("2", "error 5: line 1: bad shape of size line"),
+        ("2 2\nTimes\n3 2\nwords\n2 4\n", "error 7: line 4: bad row"),
+        (
+            "1 2\nTimes\n3 2\nMachines\n0 1\n",
+            "error 9: line 5: no such machine",
+        ),
+        (
+            "2 2 11 22 6 6\nTimes\n3 2\n2 4\nMachines\n1 3\n2 1\n",
+            "error 9: line 6: no such machine",
+        ),
+        ("1 1\n4\n", "error 8: line 3: text ends inside an instance"),
+        ("1 1 99999999999999999999999\n7\n1\n", "[1 1 | 0 0:7]"),
+        (
+            "a heading in words\n2 2 11 22 6 6\nTimes\n3 2\n2 4\nMachines\n1 2\n2 1\n",
+            "[1 2 | 0 0:3 1:2 | 0 1:2 0:4]",
+        ),
+        (
+            "1 1\n7\n1\ninstance 1\nsize 1 1\nmakespan 3\njob 0: 0\n",
+            "[1 1 | 0 0:7]",
+        ),
+        (
+            "instance a\n1 1\n7\n1\nand\n1 1\n8\n1\n",
+            "[1 1 | 0 0:7][2 1 | 0 0:8]",
+        ),
+    ];
+    for (text, want) in cases {
+        let answer = read_taillard(rt.alloc(), text.as_bytes());
+        assert_eq!(rt; told(rt.alloc(), &answer)?.as_str(), want, "at {text}");
+    }
+    Ok(())
+}
+
+#[test]
+fn texts_of_routes(rt: HostRuntime) -> Result<(), Fail> {
+    let cases = [
+        (
+            "3 2\n0 0 3 1 2\n4 1 2 0 4\n7\n",
+            "[1 2 | 0 0:3 1:2 | 4 1:2 0:4 | 7]",
+        ),
+        ("2 1\n0\n5\n", "[1 1 | 0 | 5]"),
+        ("1 1\n1000001\n", "[1 1 | 1000001]"),
+        ("1 1\n0 0\n", "error 7: line 2: bad row"),
+        ("1 1\n1000000001\n", "error 10: line 2: time out of range"),
+        (
+            "1 1\n1000000001 1 0\n",
+            "error 10: line 2: time out of range",
+        ),
+        ("1 1\n0 1 5\n", "error 9: line 2: no such machine"),
+    ];
+    for (text, want) in cases {
+        let answer = read_routes(rt.alloc(), text.as_bytes());
+        assert_eq!(rt; told(rt.alloc(), &answer)?.as_str(), want, "at {text}");
+    }
+    Ok(())
+}
+
+// two instances with names, lines ended by CR LF
+pub fn two_examples(alloc: Global) -> Result<String, Fail> {
+    let lines = [
+        "Two small examples",
+        "82",
+        "+++++",
+        " instance alpha",
+        " +++++",
+        " First, 2x2",
+        " 2 2",
+        " 0 3 1 2",
+        " 1 2 0 4",
+        " +++++",
+        " instance gap",
+        " +++++",
+        " Second, 2x3",
+        " 2 3",
+        " 0 5 1 3 2 0",
+        " 1 1 0 1 2 6",
+    ];
+    let mut text = String::new(alloc);
+    for line in lines {
+        text.push_str(line)?;
+        text.push_str("\r\n")?;
+    }
+    Ok(text)
+}
+
+#[test]
+fn instances_by_name(rt: HostRuntime) -> Result<(), Fail> {
+    let text = two_examples(rt.alloc())?;
+    let answer = read_orlib(rt.alloc(), text.as_bytes());
+    assert_eq!(rt;
+        told(rt.alloc(), &answer)?.as_str(),
+        "[alpha 2 | 0 0:3 1:2 | 0 1:2 0:4][gap 3 | 0 0:5 1:3 2:0 | 0 1:1 0:1 2:6]"
+    );
+    let named = answer?;
+    assert!(rt; named.len() == 2);
+    let cases = [
+        (None, Ok(2)),
+        (Some("alpha"), Ok(2)),
+        (Some("gap"), Ok(3)),
+        (Some("beta"), Err(ReadFault::NoSuchName)),
+    ];
+    for (name, want) in cases {
+        assert_eq!(rt;
+            pick(named.as_slice(), name).map(|n| n.instance.machines()),
+            want
+        );
+    }
+    let twice = read_orlib(
+        rt.alloc(),
+        b"instance a\n1 1\n0 1\ninstance a\n1 2\n0 1 1 1\n".as_slice(),
+    )?;
+    assert!(rt; twice.len() == 2);
+    assert_eq!(rt;
+        pick(twice.as_slice(), Some("a")).map(|n| n.instance.machines()),
+        Ok(1)
+    );
+    Ok(())
+}
+
+#[test]
+fn forged_texts(rt: HostRuntime) -> Result<(), Fail> {
+    let mut zeros = Vec::from_slice(rt.alloc(), b"1 1\n0 ".as_slice())?;
+    let mut nines = Vec::from_slice(rt.alloc(), b"1 1\n0 ".as_slice())?;
+    for _ in 0..9_999 {
+        zeros.push(b'0')?;
+        nines.push(b'9')?;
+    }
+    zeros.push(b'7')?;
+    nines.push(b'9')?;
+    let seven = read_orlib(rt.alloc(), zeros.as_slice());
+    assert_eq!(rt; told(rt.alloc(), &seven)?.as_str(), "[1 1 | 0 0:7]");
+    let over = read_orlib(rt.alloc(), nines.as_slice());
+    assert_eq!(rt;
+        told(rt.alloc(), &over)?.as_str(),
+        "error 10: line 2: time out of range"
+    );
+    let before = read_orlib(rt.alloc(), b"\xff\x00\n1 1\n0 7\n".as_slice());
+    assert_eq!(rt; told(rt.alloc(), &before)?.as_str(), "[1 1 | 0 0:7]");
+    let among = read_orlib(rt.alloc(), b"1 1\n\xff\x00\n0 7\n".as_slice());
+    assert_eq!(rt;
+        told(rt.alloc(), &among)?.as_str(),
+        "error 7: line 2: bad row"
+    );
+    Ok(())
+}
+
+#[test]
+fn texts_at_the_limit_of_bytes(rt: HostRuntime) -> Result<(), Fail> {
+    let mut text = Vec::with_capacity(rt.alloc(), 16_777_217)?;
+    for _ in 0..16_777_216 {
+        text.push(b' ')?;
+    }
+    let longest = read_orlib(rt.alloc(), text.as_slice());
+    assert_eq!(rt;
+        told(rt.alloc(), &longest)?.as_str(),
+        "error 4: no instance"
+    );
+    text.push(b' ')?;
+    let over = read_orlib(rt.alloc(), text.as_slice());
+    assert_eq!(rt; told(rt.alloc(), &over)?.as_str(), "error 3: text too long");
+    Ok(())
+}
+
+#[test]
+fn words_of_formats(rt: HostRuntime) {
+    assert_eq!(rt; FORMATS.len(), 3);
+    assert_eq!(rt; Format::Orlib.word(), "orlib");
+    assert_eq!(rt; Format::Taillard.word(), "taillard");
+    assert_eq!(rt; Format::Routes.word(), "routes");
+    assert_eq!(rt; Format::of_word("taillard"), Some(Format::Taillard));
+    assert_eq!(rt; Format::of_word("Orlib"), None);
+}
+
+#[test]
+fn one_text_in_each_format(rt: HostRuntime) -> Result<(), Fail> {
+    let text = b"1 1\n0 7\n".as_slice();
+    let answers = [
+        (Format::Orlib, "[1 1 | 0 0:7]"),
+        (Format::Taillard, "error 7: line 2: bad row"),
+        (Format::Routes, "error 7: line 2: bad row"),
+    ];
+    for (format, want) in answers {
+        let answer = read(rt.alloc(), format, text);
+        assert_eq!(rt; told(rt.alloc(), &answer)?.as_str(), want);
+    }
+    Ok(())
+}
+
+#[test]
+fn words_of_faults(rt: HostRuntime) -> Result<(), Fail> {
+    let words = [
+        (ReadFault::NoMemory, "error 1: out of memory"),
+        (ReadFault::TooLong, "error 3: text too long"),
+        (ReadFault::NoInstance, "error 4: no instance"),
+        (ReadFault::BadShape { line: 5 }, "error 5: line 5: bad shape of size line"),
+        (ReadFault::BadSize { line: 6 }, "error 6: line 6: size out of range"),
+        (ReadFault::BadRow { line: 7 }, "error 7: line 7: bad row"),
+        (ReadFault::Truncated { line: 8 }, "error 8: line 8: text ends inside an instance"),
+        (ReadFault::BadMachine { line: 9 }, "error 9: line 9: no such machine"),
+        (ReadFault::BadTime { line: 10 }, "error 10: line 10: time out of range"),
+        (ReadFault::NoSuchName, "error 11: no instance of that name"),
+        (ReadFault::BadTable { line: 12 }, "error 12: line 12: bad schedule"),
+    ];
+    for (fault, want) in words {
+        let said = format!(in rt.alloc(); "{fault}")?;
+        assert_eq!(rt; said.as_str(), want);
+    }
+    Ok(())
+}

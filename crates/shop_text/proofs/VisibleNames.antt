@@ -1,0 +1,111 @@
+-- The names in a text have visible bytes alone.
+use Rattle.std.proofs.Common.{◌≡◌, ℕ, zero, suc, ◌+◌, ◌/◌, ◌%◌, ◌<◌, Bool, true, false, cond, ltb, eqb}
+use Rattle.std.proofs.Common.{List, [], ◌∷◌, Option, Some, None, refl, sym, subst, arith}
+use Rattle.std.specs.Prelude.{find, IsTrue}
+use Rattle.std.specs.List.{list_all, flat_map, AllByRecursion}
+use Rattle.std.specs.Str.{bytes_eq}
+use Rattle.std.specs.Fmt.{decimal, digits, digits_onto}
+use Rattle.std.proofs.lemmas.Bool.{le-leb, lt-ltb}
+use Rattle.shop_text.specs.Lines.{Line, Numbered, Blank, Numbers, Words}
+use Rattle.shop_text.specs.Grammar.{Part}
+use Rattle.shop_text.specs.Formats.{is_visible, grammar_of}
+use Rattle.shop_text.specs.Texts.{NamedShop, IsText, last_or, headers_of, named_from}
+use Rattle.shop_text.specs.Names.{first_named}
+use Rattle.shop_text.specs.RoundTrip.{NamesAreVisible}
+use Rattle.shop_text.specs.declared.formats.Format.{Format}
+use Rattle.shop_text.specs.declared.formats.Format.TheVariants.{Orlib, Taillard, Routes}
+use Rattle.shop_text.proofs.Headers.{header_visible, blank_header, numbers_header}
+
+abbrev IsVisible : List ℕ → Type 0
+IsVisible bytes = list_all is_visible bytes ≡ true
+
+-- ---- numbers
+
+glyph_visible : (d : ℕ) → d < 10 → is_visible (cond (ltb d 10) (48 + d) (87 + d)) ≡ true
+glyph_visible d h = rw (lt-ltb d 10 h, le-leb 33 (48 + d) (omega arith), le-leb (48 + d) 126 (omega arith)) refl
+
+visible_more : (b : ℕ) (bytes : List ℕ) → is_visible b ≡ true → IsVisible bytes → IsVisible (b ∷ bytes)
+visible_more b bytes h g = rw (h, g) refl
+
+either_visible : (b : Bool) (xs ys : List ℕ) → IsVisible xs → IsVisible ys → IsVisible (cond b xs ys)
+either_visible true xs ys f g = f
+either_visible false xs ys f g = g
+
+digits_visible : (k n : ℕ) (acc : List ℕ) → IsVisible acc → IsVisible (digits_onto k 10 false n acc)
+digits_visible zero n acc h = h
+digits_visible (suc k) n acc h =
+    let more = visible_more (cond (ltb (n % 10) 10) (48 + n % 10) (87 + n % 10)) acc
+    (glyph_visible (n % 10) (omega arith)) h
+    in either_visible (eqb (n / 10) 0) _ _ more (digits_visible k (n / 10) _ more)
+
+decimal_visible : (n : ℕ) → IsVisible (decimal n)
+unfolding digits
+decimal_visible n = digits_visible 64 n [] refl
+
+-- ---- headers
+
+line_visible : (p : Format) (line : Line) (bytes : List ℕ) → (grammar_of p).header line ≡ Some bytes → IsVisible bytes
+line_visible p Blank bytes e = absurd (let none = blank_header p in cc)
+line_visible p (Numbers row) bytes e = absurd (let none = numbers_header p row in cc)
+line_visible Orlib (Words words) bytes e = header_visible words bytes e
+line_visible Routes (Words words) bytes e = header_visible words bytes e
+line_visible Taillard (Words words) bytes e = absurd cc
+
+-- the name after one more line, from what the line gives and from what comes after it
+last_of : (p : Format) (name : List ℕ) (line : Numbered) (lines : List Numbered) (o : Option (List ℕ))
+    → (grammar_of p).header line.1 ≡ o → IsVisible name
+    → ((next : List ℕ) → IsVisible next → IsVisible (last_or next (headers_of (grammar_of p) lines)))
+    → IsVisible (last_or name (headers_of (grammar_of p) (line ∷ lines)))
+last_of p name line lines None e h later = rw e (later name h)
+last_of p name line lines (Some bytes) e h later = rw e (later bytes (line_visible p line.1 bytes e))
+
+last_visible : (p : Format) (lines : List Numbered) (name : List ℕ) → IsVisible name
+    → IsVisible (last_or name (headers_of (grammar_of p) lines))
+last_visible p [] name h = h
+last_visible p (line ∷ lines) name h =
+    last_of p name line lines ((grammar_of p).header line.1) refl h (last_visible p lines)
+
+named_visible : (p : Format) (n : ℕ) (parts : List Part)
+    → AllByRecursion (λ (s : NamedShop). IsTrue (list_all is_visible s.name)) (named_from (grammar_of p) n parts)
+named_visible p n [] = tt
+named_visible p n (part ∷ parts) = (
+  last_visible p (flat_map (λ e. e.before) part) (decimal n) (decimal_visible n),
+  named_visible p (n + 1) parts,
+)
+
+pub names_visible : (p : Format) → NamesAreVisible (grammar_of p)
+names_visible p text shops is = subst
+    (λ (xs : List NamedShop). AllByRecursion (λ (s : NamedShop). IsTrue (list_all is_visible s.name)) xs)
+    (sym is.shops_are) (named_visible p 1 is.parts)
+
+-- ---- the instance that is asked for
+
+abbrev AreVisible : List NamedShop → Type 0
+AreVisible shops = AllByRecursion (λ (s : NamedShop). IsTrue (list_all is_visible s.name)) shops
+
+found_first : (name : List ℕ) (s : NamedShop) (shops : List NamedShop) (asked : NamedShop) (b : Bool)
+    → bytes_eq s.name name ≡ b → IsTrue (list_all is_visible s.name)
+    → (find (λ (t : NamedShop). bytes_eq t.name name) shops ≡ Some asked → IsTrue (list_all is_visible asked.name))
+    → find (λ (t : NamedShop). bytes_eq t.name name) (s ∷ shops) ≡ Some asked
+    → IsTrue (list_all is_visible asked.name)
+found_first name s shops asked true is h later e =
+    let now = rw is at e
+    in let first : s ≡ asked = cc
+    in subst (λ (t : NamedShop). IsTrue (list_all is_visible t.name)) first h
+found_first name s shops asked false is h later e = later (rw is at e)
+
+found_visible : (name : List ℕ) (shops : List NamedShop) (asked : NamedShop) → AreVisible shops
+    → find (λ (t : NamedShop). bytes_eq t.name name) shops ≡ Some asked → IsTrue (list_all is_visible asked.name)
+found_visible name [] asked h e = absurd cc
+found_visible name (s ∷ shops) asked h e =
+    found_first name s shops asked (bytes_eq s.name name) refl h.0 (found_visible name shops asked h.1) e
+
+pub asked_visible : (p : Format) (text : List ℕ) (shops : List NamedShop) (name : Option (List ℕ))
+    (asked : NamedShop) → IsText (grammar_of p) text shops → first_named shops name ≡ Some asked
+    → IsTrue (list_all is_visible asked.name)
+asked_visible p text [] None asked is e = absurd cc
+asked_visible p text (s ∷ shops) None asked is e =
+    let all = names_visible p text (s ∷ shops) is
+    in let first : s ≡ asked = cc
+    in subst (λ (t : NamedShop). IsTrue (list_all is_visible t.name)) first all.0
+asked_visible p text shops (Some name) asked is e = found_visible name shops asked (names_visible p text shops is) e

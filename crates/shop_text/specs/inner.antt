@@ -1,0 +1,7 @@
+pub mod LineReading
+pub mod DraftLimits
+pub mod Drafts
+pub mod InstanceReading
+pub mod ScheduleReading
+pub mod Printing
+pub mod Cells

@@ -1,0 +1,77 @@
+-- What the parts of the readers tell, in the words of the grammar.
+use Rattle.std.specs.Prelude.{◌≡◌, min, ℕ, ◌+◌, ◌≤◌, ◌==◌, not, length, filter, List, [], ◌∷◌, ◌++◌, map}
+use Rattle.std.specs.Prelude.{if◌then◌else◌, Option, Some, None, Result, Ok, Err, MatchOption}
+use Rattle.std.specs.List.{enumerate_from}
+use Rattle.shop_text.specs.Lines.{Line, Blank, Numbers, Words, Numbered, is_left, line_of, lines_of}
+use Rattle.shop_text.specs.Lines.{is_number, value_of}
+use Rattle.shop_text.specs.Grammar.{LineFault, WrongRow, fault_at, Row}
+use Rattle.shop_text.specs.Formats.{grammar_of, jobs_in, machines_in, times_fault, machines_fault}
+use Rattle.shop_text.specs.declared.faults.ReadFault.{ReadFault}
+use Rattle.shop_text.specs.declared.faults.ReadFault.TheVariants.{NoMemory}
+use Rattle.shop_text.specs.declared.formats.Format.{Format}
+use Rattle.shop_text.specs.declared.seen_lines.Seen.{Seen}
+use Rattle.shop_text.specs.declared.seen_lines.Seen.TheVariants as seen
+
+-- a number as a reader holds it: all that is above the greatest is that
+abbrev pub capped : ℕ → ℕ
+capped n = min n 18446744073709551615
+
+-- What was seen tells the line: its numbers, all that is above the greatest being that, and the
+-- name that it gives.
+abbrev pub Tells : Format → Seen → List ℕ → Line → Type 0
+Tells p seen.Blank numbers line = line ≡ Blank
+Tells p seen.Numbers numbers line = (row : List ℕ) × (line ≡ Numbers row)
+    × (numbers ≡ map capped row)
+Tells p (seen.Words name) numbers line =
+    (words : List (List ℕ)) × (line ≡ Words words)
+    × MatchOption name ((grammar_of p).header line ≡ None)
+    (λ n. (grammar_of p).header line ≡ Some n.now)
+
+-- the numbers so far, with those of more tokens, if these are numbers
+abbrev pub with_tokens : List ℕ → List (List ℕ) → Option (List ℕ)
+with_tokens numbers [] = Some numbers
+with_tokens numbers (token ∷ tokens) =
+    if is_number token then with_tokens (numbers ++ capped (value_of token) ∷ []) tokens else None
+
+-- the lines that aren't blank in what is left of a text, after some lines
+abbrev pub lines_after : ℕ → List ℕ → List Numbered
+lines_after passed text = filter is_left (enumerate_from (passed + 1) (map line_of (lines_of text)))
+
+-- A pair of a number and a rest of a text stands at the same place as another: it has passed all
+-- lines between.
+pub record IsFurther (passed : ℕ) (text : List ℕ) (later : ℕ) (rest : List ℕ) : Type 0 where
+  pub lines : later + length (lines_of rest) ≡ passed + length (lines_of text)
+  pub bytes : later + length rest ≤ passed + length text
+
+-- A call judges a line: a value that is so where nothing is refused, else the fault, unless memory
+-- ran out.
+abbrev pub located : ℕ → Option LineFault → Option ReadFault
+located n None = None
+located n (Some name) = Some (fault_at n name)
+
+abbrev pub Fails : ReadFault → ℕ → Option LineFault → Type 0
+Fails NoMemory n fault = Unit {0}
+Fails e n fault = located n fault ≡ Some e
+
+abbrev pub JudgesRow : {X : Type 0} → Result X ReadFault → ℕ → Option LineFault → (X → Type 0)
+    → Type 0
+JudgesRow (Ok x) n fault P = (fault ≡ None) × P x
+JudgesRow (Err e) n fault P = Fails e n fault
+
+-- ---- number lines
+
+-- the jobs and machines that a size line says
+abbrev pub IsSizeIn : Row → ℕ × ℕ → Type 0
+IsSizeIn row (jobs, machines) = (jobs ≡ jobs_in row) × (machines ≡ machines_in row)
+
+-- why a size line is refused, a row of times, and a row of machines
+abbrev pub size_line_fault : Format → Row → Option LineFault
+size_line_fault p row = (grammar_of p).refuses [] row
+
+abbrev pub times_row_fault : ℕ → Row → Option LineFault
+times_row_fault machines row = if not (length row == machines) then Some WrongRow
+    else times_fault row
+
+abbrev pub machines_row_fault : ℕ → Row → Option LineFault
+machines_row_fault machines row = if not (length row == machines) then Some WrongRow
+    else machines_fault machines row

@@ -1,0 +1,88 @@
+// One line of a text.
+ghost use Rattle.std.specs.Prelude.{◌≡◌, ◌∷◌, [], Some, None, MatchOption, IfOk, codes};
+ghost use Rattle.std.specs.List.{list_all};
+ghost use Rattle.std.specs.Str.{bytes_eq};
+ghost use Rattle.shop_text.specs.Formats.{grammar_of};
+ghost use Rattle.shop_text.specs.Lines.{Words, tokens_of, line_of};
+ghost use Rattle.shop_text.specs.Formats.{header_of, is_visible};
+ghost use Rattle.shop_text.specs.inner.LineReading.{Tells};
+
+use crate::formats::Format;
+use crate::lines::{next_token, number_of};
+use std::alloc::{AllocError, Global};
+
+/// What a line is: blank, numbers alone, or text, with the name of an instance if it gives one.
+#[derive(Drop)]
+pub(crate) enum Seen<'t> {
+    Blank,
+    Numbers,
+    Words(Option<&'t [u8]>),
+}
+
+/// Whether the bytes are those that a name may have.
+fn is_name(token: &[u8]) -> bool
+    ensures { result ≡ list_all is_visible token.now }
+{
+    token.iter().all(|b| 33 <= *b && *b <= 126)
+}
+
+/// Whether the token announces an instance.
+fn is_keyword(token: &[u8]) -> bool
+    ensures { result ≡ bytes_eq token.now (codes "instance") }
+{
+    token == b"instance".as_slice()
+}
+
+/// The name that a line gives to an instance, where names are given by headers.
+fn name_in(line: &[u8]) -> Option<&[u8]>
+    ensures { MatchOption result (header_of (Words (tokens_of line.now)) ≡ None)
+        (λ n. header_of (Words (tokens_of line.now)) ≡ Some n.now) }
+{
+    let Some((word, rest)) = next_token(line) else {
+        return None;
+    };
+    let Some((name, rest)) = next_token(rest) else {
+        return None;
+    };
+    if next_token(rest).is_none() && is_keyword(word) && is_name(name) {
+        Some(name)
+    } else {
+        None
+    }
+}
+
+/// The name that a text line gives to an instance in this format.
+pub(crate) fn header_in(format: Format, line: &[u8]) -> Option<&[u8]>
+    ensures { MatchOption result ((grammar_of format).header (Words (tokens_of line.now)) ≡ None)
+        (λ n. (grammar_of format).header (Words (tokens_of line.now)) ≡ Some n.now) }
+{
+    match format {
+        Format::Taillard => None,
+        Format::Orlib => name_in(line),
+        Format::Routes => name_in(line),
+    }
+}
+
+/// What a line is. Its numbers, each at most the greatest of `u64`, take the place of what `numbers` held.
+pub(crate) fn see<'t>(
+    format: Format,
+    line: &'t [u8],
+    numbers: &mut Vec<u64>,
+) -> Result<Seen<'t>, AllocError>
+    ensures { IfOk result (λ s. Tells format s numbers.new.items (line_of line.now)) }
+{
+    numbers.clear();
+    let mut rest = line;
+    while let Some((token, after)) = next_token(rest) {
+        let Some(number) = number_of(token) else {
+            return Ok(Seen::Words(header_in(format, line)));
+        };
+        numbers.push(number)?;
+        rest = after;
+    }
+    if numbers.is_empty() {
+        Ok(Seen::Blank)
+    } else {
+        Ok(Seen::Numbers)
+    }
+}
