@@ -1,6 +1,6 @@
 -- The job shop: instances, feasible tables of starts, their ends, and the least end (disjunctive
 -- model).
---     Shop, ShopJob                  an instance: its machines, and its jobs with release and route
+--     Shop, ShopJob                  an instance: its machines and jobs; a job: release and route
 --     Starts                         a table: a start for each operation (j, k), step k of job j
 --     IsFeasible shop starts         the table keeps releases, routes and machines
 --     end_of shop starts             when the last operation ends, 0 if there is none
@@ -11,12 +11,10 @@ use Rattle.std.specs.Prelude.{map, slice_index_or, sum_by}
 use Rattle.std.specs.List.{range_with_len}
 use Rattle.shop_model.specs.declared.ops.Op.{Op}
 
--- a job: when it is released, and its operations in order, each with a machine and a time
 pub record ShopJob : Type 0 where
   pub release : ℕ
   pub route : List Op
 
--- an instance: how many machines there are, and the jobs
 pub record Shop : Type 0 where
   pub machines : ℕ
   pub jobs : List ShopJob
@@ -76,8 +74,7 @@ pub record IsFeasible (shop : Shop) (starts : Starts) : Type 0 where
       → finish_of shop starts j k ≤ starts j (k + 1)
   -- of any two different operations of one machine one ends not later than the other begins
   pub apart : (j k i l : ℕ) → IsOperation shop j k → IsOperation shop i l
-      → machine_of shop j k ≡ machine_of shop i l
-      → AreDifferent j k i l
+      → machine_of shop j k ≡ machine_of shop i l → AreDifferent j k i l
       → (finish_of shop starts j k ≤ starts i l) ⊎ (finish_of shop starts i l ≤ starts j k)
 
 -- the greatest of f 0, .. f (n - 1), and 0 where n is 0

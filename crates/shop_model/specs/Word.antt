@@ -6,7 +6,7 @@
 --     Placing, placing shop w
 --         what stands once the operations of w are placed, in the order of w
 --     placed shop w                  the table that w places
---     rows_of shop starts            a table as rows, one a job
+--     rows_of shop starts            a table as rows: for each job the starts of its steps
 --     start_jobs shop                the start word: job 0 for all its steps, then job 1, and so on
 --     IsUnder shop w starts          the table keeps the order of w on each machine
 use Rattle.std.specs.Prelude.{◌≡◌, ℕ, ◌+◌, ◌≤◌, max, List, [], ◌∷◌, ◌++◌, length, count_by, fold}
@@ -41,12 +41,8 @@ pub record Placing : Type 0 where
   pub begins : Starts
 
 abbrev pub none_placed : Shop → Placing
-none_placed shop = record {
-  steps = λ j. 0;
-  ready = λ j. release_of shop j;
-  free = λ m. 0;
-  begins = λ j k. 0;
-}
+none_placed shop =
+    record { steps = λ j. 0; ready = λ j. release_of shop j; free = λ m. 0; begins = λ j k. 0 }
 
 -- The next step of job j begins as soon as the job and its machine can.
 abbrev pub place_next : Shop → Placing → ℕ → Placing
@@ -77,12 +73,10 @@ pub record IsUnder (shop : Shop) (w : List ℕ) (starts : Starts) : Type 0 where
       → machine_of shop i l ≡ machine_of shop j (count_of j v)
       → finish_of shop starts j (count_of j v) ≤ starts i l
 
--- a table as rows: the starts of the steps of each job
 abbrev pub rows_of : Shop → Starts → List (List ℕ)
 rows_of shop starts = map (λ j. map (starts j) (range_with_len 0 (length (route_of shop j))))
     (range_with_len 0 (length shop.jobs))
 
--- job 0 for all its steps, then job 1, and so on
 abbrev pub start_jobs : Shop → List ℕ
 start_jobs shop = flat_map (λ j. replicate (length (route_of shop j)) j)
     (range_with_len 0 (length shop.jobs))

@@ -144,8 +144,7 @@ abbrev pub taillard_op : ℕ × ℕ → Op
 taillard_op (time, machine) = record { machine = machine - 1; time = time }
 
 abbrev pub taillard_job : Row × Row → ShopJob
-taillard_job (times, machines) =
-    record { release = 0; route = map taillard_op (zip times machines) }
+taillard_job (times, row) = record { release = 0; route = map taillard_op (zip times row) }
 
 abbrev pub taillard_shop : List Row → Shop
 taillard_shop [] = no_shop

@@ -20,8 +20,7 @@ use Rattle.shop_text.specs.declared.faults.ReadFault.TheVariants.{NoInstance, Tr
 use Rattle.shop_text.specs.declared.faults.ReadFault.TheVariants.{BadSize, BadRow, BadMachine}
 use Rattle.shop_text.specs.declared.faults.ReadFault.TheVariants.{BadTime}
 
--- why a line is refused: a size line of another count or out of range, a row of another count or of
--- words, a machine or a time that is not allowed
+-- why a line is refused: a size line by its count or its sizes, a row, a machine, a time
 pub data LineFault : Type 0 where
   WrongShape : LineFault
   WrongSize : LineFault
@@ -36,13 +35,11 @@ fault_at n WrongRow = BadRow n
 fault_at n WrongMachine = BadMachine n
 fault_at n WrongTime = BadTime n
 
--- the numbers of a number line
 abbrev pub Row : Type 0
 Row = List ℕ
 
--- A grammar says, by the number lines that a part has so far: whether text lines are skipped here,
--- why a number line is refused here, and whether the part is whole. It says which instance a whole
--- part is, and which text lines name one.
+-- By the number lines that a part has so far: whether text lines are skipped, why a number line is
+-- refused, whether the part is whole; then which instance it is. And which text lines name one.
 pub record Grammar : Type 0 where
   pub skips : List Row → Bool
   pub refuses : List Row → Row → Option LineFault
@@ -50,7 +47,6 @@ pub record Grammar : Type 0 where
   pub shop : List Row → Shop
   pub header : Line → Option (List ℕ)
 
--- a number line, and the text lines between it and the one before
 pub record Entry : Type 0 where
   pub before : List Numbered
   pub line : ℕ

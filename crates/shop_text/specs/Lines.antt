@@ -1,7 +1,8 @@
 -- A text as numbered lines of tokens.
 --     lines_of text        the lines: what LF ends, and what follows the last LF unless it is empty
 --     tokens_of bytes      the longest runs of bytes that are no separators
---     Line, line_of        a line is blank, or numbers alone, or a text line of words
+--     Line, line_of
+--         a line is blank, or numbers alone, or a text line of words; `Numbered`: with its number
 --     numbered_lines text
 --         the lines that aren't blank, each with its number; lines count from 1, blank ones too
 use Rattle.std.specs.Prelude.{ℕ, ◌+◌, ◌-◌, ◌*◌, Bool, true, false, not, ◌||◌, ◌==◌, if◌then◌else◌}
@@ -46,14 +47,12 @@ pub data Line : Type 0 where
 
 abbrev pub line_of_tokens : List (List ℕ) → Line
 line_of_tokens [] = Blank
-line_of_tokens (token ∷ tokens) =
-    if list_all is_number (token ∷ tokens) then Numbers (map value_of (token ∷ tokens))
-    else Words (token ∷ tokens)
+line_of_tokens (t ∷ ts) =
+    if list_all is_number (t ∷ ts) then Numbers (map value_of (t ∷ ts)) else Words (t ∷ ts)
 
 abbrev pub line_of : List ℕ → Line
 line_of bytes = line_of_tokens (tokens_of bytes)
 
--- a line with its number
 abbrev pub Numbered : Type 0
 Numbered = ℕ × Line
 

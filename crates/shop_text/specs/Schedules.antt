@@ -17,7 +17,6 @@ use Rattle.shop_text.specs.Lines.{lines_of, tokens_of, is_empty, is_number, valu
 use Rattle.shop_text.specs.declared.faults.ReadFault.{ReadFault}
 use Rattle.shop_text.specs.declared.faults.ReadFault.TheVariants as fault
 
--- the tokens of a line
 abbrev pub Tokens : Type 0
 Tokens = List (List ℕ)
 

@@ -10,7 +10,6 @@ use Rattle.shop_text.specs.Grammar.{Grammar, Part, entry_rows, IsGood, IsFault}
 use Rattle.shop_text.specs.declared.faults.ReadFault.{ReadFault}
 use Rattle.shop_text.specs.declared.faults.ReadFault.TheVariants.{TooLong}
 
--- an instance and its name
 pub record NamedShop : Type 0 where
   pub name : List ℕ
   pub shop : Shop
