@@ -128,7 +128,10 @@ fn an_instance_tells_what_it_was_given(rt: HostRuntime) -> Result<(), Fail> {
     assert_eq!(rt; instance.operations(), 4);
     assert_eq!(rt; instance.route(1), [op(1, 2), op(0, 4)].as_slice());
     assert_eq!(rt; instance.release(1), 4);
-    assert_eq!(rt; instance.releases(rt.alloc())?.as_slice(), [0, 4, 7].as_slice());
+    assert_eq!(rt;
+        instance.releases(rt.alloc())?.as_slice(),
+        [0, 4, 7].as_slice()
+    );
     let of_rows = crossing(rt.alloc())?;
     assert_eq!(rt; of_rows.jobs(), 2);
     assert_eq!(rt; of_rows.release(1), 0);

@@ -301,14 +301,32 @@ fn words_of_faults(rt: HostRuntime) -> Result<(), Fail> {
         (ReadFault::NoMemory, "error 1: out of memory"),
         (ReadFault::TooLong, "error 3: text too long"),
         (ReadFault::NoInstance, "error 4: no instance"),
-        (ReadFault::BadShape { line: 5 }, "error 5: line 5: bad shape of size line"),
-        (ReadFault::BadSize { line: 6 }, "error 6: line 6: size out of range"),
+        (
+            ReadFault::BadShape { line: 5 },
+            "error 5: line 5: bad shape of size line",
+        ),
+        (
+            ReadFault::BadSize { line: 6 },
+            "error 6: line 6: size out of range",
+        ),
         (ReadFault::BadRow { line: 7 }, "error 7: line 7: bad row"),
-        (ReadFault::Truncated { line: 8 }, "error 8: line 8: text ends inside an instance"),
-        (ReadFault::BadMachine { line: 9 }, "error 9: line 9: no such machine"),
-        (ReadFault::BadTime { line: 10 }, "error 10: line 10: time out of range"),
+        (
+            ReadFault::Truncated { line: 8 },
+            "error 8: line 8: text ends inside an instance",
+        ),
+        (
+            ReadFault::BadMachine { line: 9 },
+            "error 9: line 9: no such machine",
+        ),
+        (
+            ReadFault::BadTime { line: 10 },
+            "error 10: line 10: time out of range",
+        ),
         (ReadFault::NoSuchName, "error 11: no instance of that name"),
-        (ReadFault::BadTable { line: 12 }, "error 12: line 12: bad schedule"),
+        (
+            ReadFault::BadTable { line: 12 },
+            "error 12: line 12: bad schedule",
+        ),
     ];
     for (fault, want) in words {
         let said = format!(in rt.alloc(); "{fault}")?;
