@@ -4,3 +4,4 @@ pub mod Verdicts
 pub mod Reported
 pub mod Headline
 pub mod RefusedTexts
+pub mod SolvedSchedules

@@ -21,7 +21,7 @@ use Rattle.shop_engine.specs.Refusing.{IsRefusal}
 use Rattle.shop_engine.specs.Refusing.{ListingRefuses, CheckingRefuses, SolvingRefuses}
 use Rattle.shop_engine.proofs.Headline.{known_read}
 
-one_reading : (format : Format) → OneReading (grammar_of format)
+pub one_reading : (format : Format) → OneReading (grammar_of format)
 one_reading format = one_text (grammar_of format) (is_grammar format)
 
 -- ---- what was read of known bytes
@@ -159,7 +159,7 @@ none_some : (asked : NamedShop) (o : Option NamedShop) → o ≡ None → o ≡ 
 none_some asked o p q = absurd (search rules)
 
 -- an instance that was had can't be had of refused bytes
-not_had : (format : Format) (name : Option (List ℕ)) (known : List ℕ) (e : ReadFault) (asked : NamedShop)
+pub not_had : (format : Format) (name : Option (List ℕ)) (known : List ℕ) (e : ReadFault) (asked : NamedShop)
     → IsAskFault format name known e → IsAsked format name known asked → ⊥
 not_had format name known e asked bad had = elim (named_or_faulty format name known e bad) [
   | inl missing ↦ (let m = missing.1

@@ -12,7 +12,7 @@ use Rattle.shop_engine.specs.inner.Told.{told_by}
 use Rattle.shop_engine.specs.Answers.{answer_of, text_with_gantt}
 use Rattle.shop_engine.specs.Headline.{IsRight, IsDetermined}
 
-chart_of : Reported → Bool → List ℕ
+unfoldable pub chart_of : Reported → Bool → List ℕ
 chart_of r gantt = if gantt then gantt_text r.shop (starts_of r.table) else []
 
 no_chart : (r : Reported) (gantt : Bool) → gantt ≡ false → chart_of r gantt ≡ []

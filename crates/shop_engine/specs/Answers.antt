@@ -8,8 +8,7 @@ use Rattle.shop_text.specs.Texts.{NamedShop}
 use Rattle.shop_text.specs.Writing.{Reported, report_text, gantt_text}
 use Rattle.shop_round.specs.Round.{Planned, answer, makespan_of, bound_of}
 
--- The answer of the plan on the instance, which doesn't depend on the crew that searches: the table of its best word,
--- its makespan and bound, the number of its open nodes, the rounds done and the nodes counted.
+-- the answer of the plan on the instance, whatever crew searches: the table of its best word
 abbrev pub answer_of : NamedShop → Planned → Reported
 answer_of asked plan =
     let s = answer asked.shop plan
@@ -26,4 +25,4 @@ answer_of asked plan =
 
 -- a report, and where that is asked for its Gantt text
 abbrev pub text_with_gantt : Reported → Bool → List ℕ
-text_with_gantt r gantt = report_text r ++ (if gantt then gantt_text r.shop (starts_of r.table) else [])
+text_with_gantt r g = report_text r ++ (if g then gantt_text r.shop (starts_of r.table) else [])

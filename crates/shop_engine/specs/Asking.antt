@@ -19,14 +19,15 @@ abbrev pub name_in : Option (String Global) → Option (List ℕ)
 name_in name = option_map string_bytes name
 
 -- the text is good, and this is its first instance of the name, or without a name its first one
-pub record IsAsked (format : Format) (name : Option (List ℕ)) (text : List ℕ) (asked : NamedShop) : Type 0 where
+pub record IsAsked (format : Format) (name : Option (List ℕ)) (text : List ℕ) (asked : NamedShop)
+    : Type 0 where
   pub shops : List NamedShop
   pub is_text : IsText (grammar_of format) text shops
   pub picked : first_named shops name ≡ Some asked
 
 -- the text has the instance that is asked for, and this holds of it
-pub record OfAsked (format : Format) (name : Option (List ℕ)) (text : List ℕ) (Says : NamedShop → Type 0)
-    : Type 0 where
+pub record OfAsked (format : Format) (name : Option (List ℕ)) (text : List ℕ)
+    (Says : NamedShop → Type 0) : Type 0 where
   pub asked : NamedShop
   pub is_asked : IsAsked format name text asked
   pub says : Says asked

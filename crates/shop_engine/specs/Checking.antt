@@ -1,11 +1,16 @@
 -- What `check_bytes` and `check_text` do.
---     IsVerdictOn shop schedule feasible line     the table of a schedule text is judged, with this line
---     schedule_in text given                      the schedule text: what is given, or else the instance text itself
+--     IsVerdictOn shop schedule feasible line     the table of a schedule text is judged, with
+--                                                 this line
+--     schedule_in text given                      the schedule text: what is given, or else the
+--                                                 instance text itself
 --     IsCheckFault format name text schedule fault     why a check is refused
---     Second, IsScheduleRead                      the source of the schedule, which may be missing; how it was had
---     Checks args source source' second second' feasible goes          a table was judged, and the line goes out
+--     Second, IsScheduleRead                      the source of the schedule, which may be
+--                                                 missing; how it was had
+--     Checks args source source' second second' feasible goes          a table was judged, and the
+--                                                                      line goes out
 --     IsChecking args source source' second second' sink sink' result     what `check_text` answers
-use Rattle.std.specs.Prelude.{◌≡◌, ℕ, ◌⊎◌, ◌↔◌, Bool, IsTrue, List, Option, Some, None, Result, Ok, Err}
+use Rattle.std.specs.Prelude.{◌≡◌, ℕ, ◌⊎◌, ◌↔◌, Bool, IsTrue, List, Option, Some, None, Result, Ok}
+use Rattle.std.specs.Prelude.{Err}
 use Rattle.shop_model.specs.Shop.{Shop, IsFeasible}
 use Rattle.shop_model.specs.Checking.{HasShape, starts_of, IsVerdict}
 use Rattle.shop_model.specs.declared.checking.Verdict.{Verdict}
@@ -18,12 +23,14 @@ use Rattle.shop_text.specs.declared.formats.Format.{Format}
 use Rattle.shop_engine.specs.declared.arguments.CheckArgs.{CheckArgs}
 use Rattle.shop_engine.specs.declared.faults.Fault.{Fault}
 use Rattle.shop_engine.specs.declared.faults.Fault.TheVariants.{Text, ReadFailed, WriteFailed}
-use Rattle.shop_engine.specs.Devices.{Device, HasWorked, HasFailed, IsReadToEnd, IsUnread, IsWritten, IsCutOff}
+use Rattle.shop_engine.specs.Devices.{Device, HasWorked, HasFailed, IsReadToEnd, IsUnread}
+use Rattle.shop_engine.specs.Devices.{IsWritten, IsCutOff}
 use Rattle.shop_engine.specs.Devices.{IsTextRefused}
 use Rattle.shop_engine.specs.Asking.{name_in, IsAsked, OfAsked, IsAskFault}
 
 -- The schedule text has a table, and the line says what a check of it finds.
-pub record IsVerdictOn (shop : Shop) (schedule : List ℕ) (feasible : Bool) (line : List ℕ) : Type 0 where
+pub record IsVerdictOn (shop : Shop) (schedule : List ℕ) (feasible : Bool) (line : List ℕ)
+    : Type 0 where
   pub rows : List (List ℕ)
   pub is_table : IsTableRead shop schedule (Ok rows)
   pub verdict : Verdict
@@ -70,7 +77,8 @@ pub record IsPicked (args : CheckArgs) (source source' : Device) (After : List �
   pub after : After text asked.shop
 
 -- The schedule was had and judged, and the line goes out.
-pub record IsJudged (second second' : Second) (feasible : Bool) (Goes : List ℕ → Type 0) (text : List ℕ)
+pub record IsJudged (second second' : Second) (feasible : Bool) (Goes : List ℕ → Type 0)
+    (text : List ℕ)
     (shop : Shop) : Type 0 where
   pub schedule : List ℕ
   pub schedule_read : IsScheduleRead text second second' schedule
@@ -78,7 +86,8 @@ pub record IsJudged (second second' : Second) (feasible : Bool) (Goes : List ℕ
   pub judges : IsVerdictOn shop schedule feasible line
   pub out : Goes line
 
-abbrev pub Checks : CheckArgs → Device → Device → Second → Second → Bool → (List ℕ → Type 0) → Type 0
+abbrev pub Checks : CheckArgs → Device → Device → Second → Second → Bool → (List ℕ → Type 0)
+    → Type 0
 Checks args source source' second second' feasible Goes =
     IsPicked args source source' (IsJudged second second' feasible Goes)
 
@@ -96,7 +105,8 @@ IsSecondUnread (Some old) None fault = ⊥
 IsSecondUnread (Some old) (Some new) fault = IsUnread old new fault
 
 -- the schedule text has this fault
-pub record IsScheduleFaulty (second second' : Second) (fault : ReadFault) (text : List ℕ) (shop : Shop)
+pub record IsScheduleFaulty (second second' : Second) (fault : ReadFault) (text : List ℕ)
+    (shop : Shop)
     : Type 0 where
   pub schedule : List ℕ
   pub schedule_read : IsScheduleRead text second second' schedule
@@ -106,10 +116,12 @@ abbrev pub IsScheduleRefused : Second → Second → ReadFault → List ℕ → 
 IsScheduleRefused second second' fault text shop =
     IsSecondUnread second second' (Text fault) ⊎ IsScheduleFaulty second second' fault text shop
 
--- The second source is read only after an instance was picked. On success the sink took just the line, and no device
--- failed. A refusal is that of all bytes of its source; it and a failed read leave the sink as it was, and so does want
--- of memory, where no device failed. After a failed write a beginning of the line is out.
-abbrev pub IsChecking : CheckArgs → Device → Device → Second → Second → Device → Device → Result Bool Fault → Type 0
+-- The second source is read only after an instance was picked. On success the sink took just the
+-- line, and no device failed. A refusal is that of all bytes of its source; it and a failed read
+-- leave the sink as it was, and so does want of memory, where no device failed. After a failed
+-- write a beginning of the line is out.
+abbrev pub IsChecking : CheckArgs → Device → Device → Second → Second → Device → Device
+    → Result Bool Fault → Type 0
 IsChecking args source source' second second' sink sink' (Ok feasible) =
     Checks args source source' second second' feasible (IsWritten sink sink')
 IsChecking args source source' second second' sink sink' (Err (Text NoMemory)) =
@@ -117,7 +129,8 @@ IsChecking args source source' second second' sink sink' (Err (Text NoMemory)) =
     ⊎ IsPicked args source source' (λ text shop. HasSecondWorked second second'))
     × (sink' ≡ sink)
 IsChecking args source source' second second' sink sink' (Err (Text fault)) =
-    ((IsTextRefused source source' (IsAskFault args.format (name_in args.name)) fault × (second' ≡ second))
+    ((IsTextRefused source source' (IsAskFault args.format (name_in args.name)) fault
+    × (second' ≡ second))
     ⊎ IsPicked args source source' (IsScheduleRefused second second' fault))
     × (sink' ≡ sink)
 IsChecking args source source' second second' sink sink' (Err ReadFailed) =

@@ -1,20 +1,23 @@
 -- What is known of devices, and what calls do to them.
---     Device                           the bytes that a source has left or a sink holds, and how often it failed
+--     Device                           the bytes that a source has left or a sink holds, and how
+--                                      often it failed
 --     HasWorked, HasFailed old new     no failure; one failure more
 --     IsReadToEnd old new text         all that a source had left was read, and it is this text
 --     IsLeftUnread old new             a source was left after one byte more than a text may have
 --     IsWritten old new text           a sink took the text
 --     IsCutOff old new text            a sink failed, after a beginning of the text
---     IsTransfer Gives IsBad source source' sink sink' result      what is answered between a read and a write
-use Rattle.std.specs.Prelude.{◌≡◌, ℕ, ◌+◌, ◌<◌, min, List, ◌++◌, length, Option, Result, Ok, Err, MatchResult}
+--     IsTransfer Gives IsBad source source' sink sink' result      what is answered between a read
+--                                                                  and a write
+use Rattle.std.specs.Prelude.{◌≡◌, ℕ, ◌+◌, ◌<◌, min, List, ◌++◌, length, Option, Result, Ok, Err}
+use Rattle.std.specs.Prelude.{MatchResult}
 use Rattle.std.specs.Io.KnownBytes.{Consumes, Appends, IsAtEnd}
 use Rattle.shop_text.specs.declared.faults.ReadFault.{ReadFault}
 use Rattle.shop_text.specs.declared.faults.ReadFault.TheVariants.{NoMemory, TooLong}
 use Rattle.shop_engine.specs.declared.faults.Fault.{Fault}
 use Rattle.shop_engine.specs.declared.faults.Fault.TheVariants.{Text, ReadFailed, WriteFailed}
 
--- What is known of a device: the bytes that a source has left, or that a sink holds, and how often it has failed.
--- Where nothing is known of the bytes, as of a file or a terminal, there are none.
+-- What is known of a device: the bytes that a source has left, or that a sink holds, and how often
+-- it has failed. Where nothing is known of the bytes, as of a file or a terminal, there are none.
 pub record Device : Type 0 where
   pub bytes : Option (List ℕ)
   pub failures : ℕ
@@ -54,7 +57,8 @@ pub record IsCutOff (old new : Device) (text : List ℕ) : Type 0 where
   pub took : Appends old.bytes new.bytes gone
   pub failed : HasFailed old new
 
--- why reading to the end was given up: memory ran out, the source failed, or it has more than a text may have
+-- why reading to the end was given up: memory ran out, the source failed, or it has more than a
+-- text may have
 abbrev pub IsUnread : Device → Device → Fault → Type 0
 IsUnread old new (Text NoMemory) = HasWorked old new
 IsUnread old new (Text TooLong) = IsLeftUnread old new
@@ -71,7 +75,8 @@ IsUnwritten old new text WriteFailed = IsCutOff old new text
 -- ---- between a read and a write
 
 -- the source was read to its end, and for its text this goes out
-pub record Passes (old new : Device) (Gives : List ℕ → List ℕ → Type 0) (Goes : List ℕ → Type 0) : Type 0 where
+pub record Passes (old new : Device) (Gives : List ℕ → List ℕ → Type 0) (Goes : List ℕ → Type 0)
+    : Type 0 where
   pub text : List ℕ
   pub read : IsReadToEnd old new text
   pub out : List ℕ
@@ -79,27 +84,31 @@ pub record Passes (old new : Device) (Gives : List ℕ → List ℕ → Type 0) 
   pub goes : Goes out
 
 -- the source was read to its end, and its text is refused for this
-pub record IsRefusedWhole (old new : Device) (IsBad : List ℕ → ReadFault → Type 0) (fault : ReadFault)
+pub record IsRefusedWhole (old new : Device) (IsBad : List ℕ → ReadFault → Type 0)
+    (fault : ReadFault)
     : Type 0 where
   pub text : List ℕ
   pub read : IsReadToEnd old new text
   pub is_bad : IsBad text fault
 
--- why nothing was had of a source that didn't fail: memory ran out, it has more than a text may have, or its text is
--- refused
+-- why nothing was had of a source that didn't fail: memory ran out, it has more than a text may
+-- have, or its text is refused
 abbrev pub IsTextRefused : Device → Device → (List ℕ → ReadFault → Type 0) → ReadFault → Type 0
 IsTextRefused old new IsBad NoMemory = HasWorked old new
 IsTextRefused old new IsBad TooLong = IsLeftUnread old new
 IsTextRefused old new IsBad fault = IsRefusedWhole old new IsBad fault
 
--- What is answered where a text is read to the end and what it gives is written. On success the sink took just that, and
--- no device failed. A refusal is that of all bytes of the source; it and a failed read leave the sink as it was. After a
--- failed write a beginning is out.
-abbrev pub IsTransfer : (List ℕ → List ℕ → Type 0) → (List ℕ → ReadFault → Type 0) → Device → Device → Device → Device
+-- What is answered where a text is read to the end and what it gives is written. On success the
+-- sink took just that, and no device failed. A refusal is that of all bytes of the source; it and a
+-- failed read leave the sink as it was. After a failed write a beginning is out.
+abbrev pub IsTransfer : (List ℕ → List ℕ → Type 0) → (List ℕ → ReadFault → Type 0) → Device → Device
+    → Device → Device
     → Result (Unit {0}) Fault → Type 0
-IsTransfer Gives IsBad source source' sink sink' (Ok done) = Passes source source' Gives (IsWritten sink sink')
+IsTransfer Gives IsBad source source' sink sink' (Ok done) = Passes source source' Gives
+    (IsWritten sink sink')
 IsTransfer Gives IsBad source source' sink sink' (Err (Text fault)) =
     IsTextRefused source source' IsBad fault × (sink' ≡ sink)
-IsTransfer Gives IsBad source source' sink sink' (Err ReadFailed) = HasFailed source source' × (sink' ≡ sink)
+IsTransfer Gives IsBad source source' sink sink' (Err ReadFailed) = HasFailed source source'
+    × (sink' ≡ sink)
 IsTransfer Gives IsBad source source' sink sink' (Err WriteFailed) =
     Passes source source' Gives (IsCutOff sink sink')

@@ -1,9 +1,12 @@
--- The headline of `solve`, in two clauses. For every accepted instance text and all arguments, with any crew of workers,
--- however their steps fall:
---     (a) right         what is written is a report on the instance that is asked for; its schedule is feasible and ends
---                       at its makespan, no feasible schedule ends before its bound, and where its status is optimal none
+-- The headline of `solve`, in two clauses. For every accepted instance text and all arguments, with
+-- any crew of workers, however their steps fall:
+--     (a) right         what is written is a report on the instance that is asked for; its
+--                       schedule is feasible and ends
+--                       at its makespan, no feasible schedule ends before its bound, and where its
+--                       status is optimal none
 --                       ends before its makespan
---     (b) determined    it is the report of the one answer that the definition of the search gives, which knows no crew
+--     (b) determined    it is the report of the one answer that the definition of the search
+--                       gives, which knows no crew
 --
 -- Clause (a) rests on these definitions of the model, and on none of the search:
 --     Shop                              an instance: machines, and jobs with a release and a route
@@ -14,10 +17,11 @@
 --     IsFeasible shop starts            releases, routes and machines are kept
 --     end_of shop starts                the greatest finish
 --     IsLeast shop c                    a feasible schedule ends at c, and none before
---     HasShape, starts_of               a table in rows has a start for each operation; the schedule that it gives
+--     HasShape, starts_of               a table in rows has a start for each operation; the
+--                                       schedule that it gives
 --     report_text                       the lines of a report
-use Rattle.std.specs.Prelude.{◌≡◌, ℕ, ◌≤◌, Bool, true, false, List, [], ◌∷◌, ◌++◌, codes, Option, Some, Result}
-use Rattle.std.specs.Prelude.{IsOk, refl}
+use Rattle.std.specs.Prelude.{◌≡◌, ℕ, ◌≤◌, Bool, true, false, List, [], ◌∷◌, ◌++◌, codes, Option}
+use Rattle.std.specs.Prelude.{Some, Result, IsOk, refl}
 use Rattle.std.specs.Fmt.{digits}
 use Rattle.shop_model.specs.Shop.{Shop, Starts, IsFeasible, end_of, IsLeast}
 use Rattle.shop_model.specs.Checking.{HasShape, starts_of}
@@ -46,7 +50,7 @@ pub record IsRight (asked : NamedShop) (gantt : Bool) (written : List ℕ) : Typ
   pub feasible : IsFeasible asked.shop (starts_of report.table)
   pub ends : end_of asked.shop (starts_of report.table) ≡ report.makespan
   -- no feasible schedule ends before the bound
-  pub bound : (starts : Starts) → IsFeasible asked.shop starts → report.bound ≤ end_of asked.shop starts
+  pub bound : (s : Starts) → IsFeasible asked.shop s → report.bound ≤ end_of asked.shop s
   -- the status is optimal where no node is open; then no feasible schedule ends before the makespan
   pub optimal : report.open_nodes ≡ 0 → IsLeast asked.shop report.makespan
 
@@ -56,7 +60,7 @@ IsDetermined asked plan gantt written = written ≡ text_with_gantt (answer_of a
 
 -- the same, of the instance that is asked for in a text
 abbrev pub IsRightOf : Format → Option (List ℕ) → Bool → List ℕ → List ℕ → Type 0
-IsRightOf format name gantt text written = OfAsked format name text (λ asked. IsRight asked gantt written)
+IsRightOf format name gantt text written = OfAsked format name text (λ a. IsRight a gantt written)
 
 abbrev pub IsDeterminedOf : SolveArgs → List ℕ → List ℕ → Type 0
 IsDeterminedOf args text written = OfAsked args.format (name_in args.name) text
@@ -69,20 +73,29 @@ pub record HoldsThen (Written : List ℕ → Type 0) (held : List ℕ) (sink : D
   pub holds : sink.bytes ≡ Some (held ++ written)
 
 -- where the bytes of source and sink are known, and the call succeeds
-abbrev pub WhereKnown : (List ℕ → List ℕ → Type 0) → Device → Device → Device → Result (Unit {0}) Fault → Type 0
+abbrev pub WhereKnown : (List ℕ → List ℕ → Type 0) → Device → Device → Device
+    → Result (Unit {0}) Fault → Type 0
 WhereKnown Written source sink sink' result = (text held : List ℕ) → source.bytes ≡ Some text
     → sink.bytes ≡ Some held → IsOk result → HoldsThen (Written text) held sink'
 
--- One report, computed from the definition: job 0 takes machine 0 for 3 and then machine 1 for 2, job 1 machine 1 for 2
--- and then machine 0 for 4.
+-- One report, computed from the definition: job 0 takes machine 0 for 3 and then machine 1 for 2,
+-- job 1 machine 1 for 2 and then machine 0 for 4.
 abbrev pub crossing : NamedShop
 crossing = record {
   name = codes "crossing";
   shop = record {
     machines = 2;
     jobs =
-        record { release = 0; route = record { machine = 0; time = 3 } ∷ record { machine = 1; time = 2 } ∷ [] }
-        ∷ record { release = 0; route = record { machine = 1; time = 2 } ∷ record { machine = 0; time = 4 } ∷ [] }
+        record {
+          release = 0;
+          route = record { machine = 0; time = 3 }
+              ∷ record { machine = 1; time = 2 } ∷ [];
+        }
+        ∷ record {
+          release = 0;
+          route = record { machine = 1; time = 2 }
+              ∷ record { machine = 0; time = 4 } ∷ [];
+        }
         ∷ [];
   };
 }

@@ -5,5 +5,6 @@ pub mod Checking
 pub mod Answers
 pub mod Headline
 pub mod Solving
+pub mod SolvedSchedules
 pub mod Refusing
 pub mod inner

@@ -28,21 +28,27 @@ IsRefusal fault (Err WriteFailed) = ⊥
 
 abbrev pub Refuses : {A : Type 0} → (List ℕ → ReadFault → Type 0) → Device → Result A Fault → Type 0
 Refuses IsBad source result =
-    (text : List ℕ) (fault : ReadFault) → source.bytes ≡ Some text → IsBad text fault → IsRefusal fault result
+    (text : List ℕ) (fault : ReadFault) → source.bytes ≡ Some text → IsBad text fault
+    → IsRefusal fault result
 
 -- what `list_text` ensures refuses each text that has a fault
 abbrev pub ListingRefuses : Type 0
-ListingRefuses = (args : ListArgs) (source source' sink sink' : Device) (result : Result (Unit {0}) Fault)
-    → IsListing args source source' sink sink' result → Refuses (IsTextFault (grammar_of args.format)) source result
+ListingRefuses = (args : ListArgs) (source source' sink sink' : Device)
+    (result : Result (Unit {0}) Fault)
+    → IsListing args source source' sink sink' result
+    → Refuses (IsTextFault (grammar_of args.format)) source result
 
--- what `check_text` and `solve_text` ensure refuses in this way, and each text that has no instance of the name
+-- what `check_text` and `solve_text` ensure refuses in this way, and each text that has no instance
+-- of the name
 abbrev pub CheckingRefuses : Type 0
-CheckingRefuses = (args : CheckArgs) (source source' : Device) (second second' : Second) (sink sink' : Device)
+CheckingRefuses = (args : CheckArgs) (source source' : Device) (second second' : Second)
+    (sink sink' : Device)
     (result : Result Bool Fault)
     → IsChecking args source source' second second' sink sink' result
     → Refuses (IsAskFault args.format (name_in args.name)) source result
 
 abbrev pub SolvingRefuses : Type 0
-SolvingRefuses = (args : SolveArgs) (source source' sink sink' : Device) (result : Result (Unit {0}) Fault)
+SolvingRefuses = (args : SolveArgs) (source source' sink sink' : Device)
+    (result : Result (Unit {0}) Fault)
     → IsSolving args source source' sink sink' result
     → Refuses (IsAskFault args.format (name_in args.name)) source result

@@ -9,6 +9,7 @@ ghost use Rattle.shop_engine.specs.Asking.{name_in, IsAskFault, OrNoMemory};
 ghost use Rattle.shop_engine.specs.Answers.{text_with_gantt};
 ghost use Rattle.shop_engine.specs.Headline.{IsRight, IsDetermined, IsRightOf, IsDeterminedOf, WhereKnown};
 ghost use Rattle.shop_engine.specs.Solving.{IsSolving};
+ghost use Rattle.shop_engine.specs.SolvedSchedules.{GivesSchedule, PassesCheck};
 ghost use Rattle.shop_engine.specs.inner.Told.{told_by};
 
 use crate::arguments::SolveArgs;
@@ -63,6 +64,7 @@ fn text_of(
 /// asked for. The schedule is feasible and ends at the printed makespan, no feasible schedule ends before the printed
 /// bound, and where the status is optimal none ends before the makespan. For those who embed the library.
 ///
+/// What is returned is itself a schedule text of the instance, if it has no more than `MAX_TEXT` bytes.
 /// Fails with `AllocError` if memory runs out.
 pub fn solve_instance<R, C: Crew<R>>(
     rt: &R,
@@ -77,6 +79,7 @@ pub fn solve_instance<R, C: Crew<R>>(
         IsRight (shop_of_named asked.now) with_gantt out.items) }
     ensures determined { IfOk result (λ out.
         IsDetermined (shop_of_named asked.now) (planned plan.now) with_gantt out.items) }
+    ensures schedule { IfOk result (λ out. GivesSchedule (shop_of_named asked.now) out.items) }
 {
     let answer = run(rt, alloc, &asked.instance, plan, crew)?;
     text_of(alloc, asked, &answer, with_gantt)
@@ -85,6 +88,8 @@ pub fn solve_instance<R, C: Crew<R>>(
 /// The report as `solve_instance` makes it, of the instance that is asked for in a text. For those who embed the
 /// library: it reads and writes no device.
 ///
+/// What is returned, given to `check_bytes` with the same text, is found feasible and to end at the printed makespan, if
+/// it has no more than `MAX_TEXT` bytes.
 /// Refused by the text's one fault, as `NoSuchName`, or as `NoMemory` if memory runs out.
 pub fn solve_bytes<R, C: Crew<R>>(
     rt: &R,
@@ -97,6 +102,8 @@ pub fn solve_bytes<R, C: Crew<R>>(
     ensures right { IfOk result (λ out. IsRightOf
         args.now.format (name_in args.now.name) args.now.gantt text.now out.items) }
     ensures determined { IfOk result (λ out. IsDeterminedOf args.now text.now out.items) }
+    ensures schedule { IfOk result (λ out. PassesCheck
+        args.now.format (name_in args.now.name) text.now out.items) }
     ensures refused { IfErr result (λ fault. OrNoMemory
         (IsAskFault args.now.format (name_in args.now.name)) text.now fault) }
 {

@@ -1,11 +1,14 @@
-use Rattle.std.proofs.Common.{◌≡◌}
+use Rattle.std.proofs.Common.{◌≡◌, ℕ, List, subst}
+use Rattle.shop_model.specs.Limits.{AreStarts}
 use Rattle.shop_text.specs.Names.{shop_of_named}
 use Rattle.shop_round.specs.Runs.{planned}
 use Rattle.shop_engine.specs.inner.Told.{told_by}
 use Rattle.shop_engine.specs.Answers.{text_with_gantt}
 use Rattle.shop_engine.specs.Headline.{IsRight, IsDetermined}
 use Rattle.shop_engine.proofs.Results.{if_ok}
+use Rattle.shop_engine.specs.SolvedSchedules.{GivesSchedule}
 use Rattle.shop_engine.proofs.Reported.{right, determined}
+use Rattle.shop_engine.proofs.SolvedSchedules.{gives_schedule}
 use Rattle.shop_engine.proofs.solving.solve_instance.Goals as goal
 
 pub returns-clause-right : goal.returns-clause-right
@@ -26,3 +29,13 @@ returns-clause-determined g c =
     in if_ok (λ out. out.items ≡ text_with_gantt (told_by asked a.answer) gantt)
     (λ out. IsDetermined asked plan gantt out.items) c.text_of.result
     (λ out e. determined asked plan a.answer gantt out.items a.ensures.says e) c.text_of.ensures
+
+pub returns-clause-schedule : goal.returns-clause-schedule
+returns-clause-schedule g c =
+    let asked = shop_of_named c.args.asked.now
+    in let a = c.in_ok-answer
+    in let gantt = c.args.with_gantt
+    in let small = subst (λ (rows : List (List ℕ)). AreStarts rows) c.drop-2.view_is c.drop-2.invariant
+    in if_ok (λ out. out.items ≡ text_with_gantt (told_by asked a.answer) gantt)
+    (λ out. GivesSchedule asked out.items) c.text_of.result
+    (λ out e. gives_schedule asked a.answer gantt out.items a.ensures.trust small e) c.text_of.ensures

@@ -1,0 +1,133 @@
+-- What `solve` writes, read as a schedule and checked.
+use Rattle.std.proofs.Common.{◌≡◌, ℕ, zero, suc, ◌+◌, ◌≤◌, ◌<◌, ◌⊎◌, inl, inr, Bool, true, false, List, ◌++◌, length}
+use Rattle.std.proofs.Common.{Option, Some, Ok, refl, sym, ap, ◌∙◌, subst, arith}
+use Rattle.std.specs.Prelude.{IsTrue}
+use Rattle.std.specs.List.{list_all}
+use Rattle.std.proofs.lemmas.List.{append-nil}
+use Rattle.shop_model.specs.Shop.{Shop, Starts, IsOperation, IsFeasible, AreDifferent}
+use Rattle.shop_model.specs.Limits.{AreStarts}
+use Rattle.shop_model.specs.Checking.{EndsAt, IsVerdict, IsBefore, IsFirstEarly, IsFirstOverlap, starts_of}
+use Rattle.shop_model.specs.declared.checking.Verdict.{Verdict}
+use Rattle.shop_model.specs.declared.checking.Verdict.TheVariants.{Feasible, WrongSize, Unreleased, Early, Overlap}
+use Rattle.shop_model.proofs.Ends.{feasible-in_time}
+use Rattle.shop_text.specs.Formats.{grammar_of, is_visible}
+use Rattle.shop_text.specs.Texts.{NamedShop}
+use Rattle.shop_text.specs.Names.{first_named}
+use Rattle.shop_text.specs.Schedules.{IsTable, IsTableFault}
+use Rattle.shop_text.specs.Writing.{Reported, report_text, verdict_text}
+use Rattle.shop_text.specs.declared.faults.ReadFault.{ReadFault}
+use Rattle.shop_text.specs.declared.formats.Format.{Format}
+use Rattle.shop_text.proofs.ReportReading.{reports_are_schedules}
+use Rattle.shop_text.proofs.TableReadings.{one_table}
+use Rattle.shop_text.proofs.VisibleNames.{asked_visible}
+use Rattle.shop_round.specs.Runs.{IsTrusted}
+use Rattle.shop_round.specs.declared.runs.Answer.{Answer}
+use Rattle.shop_engine.specs.inner.Told.{told_by}
+use Rattle.shop_engine.specs.Answers.{text_with_gantt}
+use Rattle.shop_engine.specs.Asking.{IsAsked}
+use Rattle.shop_engine.specs.Checking.{IsVerdictOn, IsCheckOf, IsCheckFault}
+use Rattle.shop_engine.specs.SolvedSchedules.{IsScheduleOf, GivesSchedule, PassesCheck}
+use Rattle.shop_engine.proofs.Reported.{chart_of}
+use Rattle.shop_engine.proofs.RefusedTexts.{one_reading, not_had}
+
+-- ---- the table is read back
+
+report_table : (r : Reported) (gantt : Bool) → IsTrue (list_all is_visible r.name)
+    → EndsAt r.shop r.table r.makespan → AreStarts r.table → length (text_with_gantt r gantt) ≤ 16777216
+    → IsTable r.shop (text_with_gantt r gantt) r.table
+report_table r true visible ends small short = reports_are_schedules.with_gantt r visible ends.0 small short
+report_table r false visible ends small short =
+    let same = append-nil (report_text r)
+    in subst (λ (text : List ℕ). IsTable r.shop text r.table) (sym same)
+    (reports_are_schedules.alone r visible ends.0 small
+    (subst (λ (text : List ℕ). length text ≤ 16777216) same short))
+
+pub gives_schedule : (asked : NamedShop) (a : Answer) (gantt : Bool) (written : List ℕ) → IsTrusted asked.shop a
+    → AreStarts a.table → written ≡ text_with_gantt (told_by asked a) gantt → GivesSchedule asked written
+unfolding chart_of
+gives_schedule asked a gantt written t small e visible short =
+    let ends : EndsAt asked.shop a.table a.makespan = (t.shape, t.feasible, sym t.ends)
+    in record {
+      report = told_by asked a;
+      rest = chart_of (told_by asked a) gantt;
+      begins = e;
+      is_table = subst (λ (text : List ℕ). IsTable asked.shop text a.table) (sym e)
+          (report_table (told_by asked a) gantt visible ends small
+          (subst (λ (text : List ℕ). length text ≤ 16777216) e short));
+      ends = ends;
+    }
+
+-- ---- and is found feasible
+
+not_early : (shop : Shop) (starts : Starts) (j k : ℕ) → IsFeasible shop starts → IsFirstEarly shop starts j k → ⊥
+not_early shop starts j k feasible h =
+    let kept = feasible-in_time shop starts feasible j k h.operation
+    in let early = h.early
+    in omega arith
+
+not_same : (j k i l : ℕ) → IsBefore j k i l → AreDifferent j k i l
+not_same j k i l (inl lower) both = let same = both.0 in omega arith
+not_same j k i l (inr later) both = let same = both.1 in let less = later.1 in omega arith
+
+not_overlapping : (shop : Shop) (starts : Starts) (j k i l : ℕ) → IsFeasible shop starts
+    → IsFirstOverlap shop starts j k i l → ⊥
+not_overlapping shop starts j k i l feasible h =
+    let second = h.second
+    in let first_begins = second.first_begins
+    in let second_begins = second.second_begins
+    in elim (feasible.apart j k i l h.operation second.operation second.same_machine (not_same j k i l second.after)) [
+      | inl before ↦ omega arith
+      | inr behind ↦ omega arith
+    ]
+
+-- the verdict on a feasible table names its end
+feasible_verdict : (shop : Shop) (rows : List (List ℕ)) (c : ℕ) (v : Verdict) → EndsAt shop rows c
+    → IsVerdict shop rows v → v ≡ Feasible c
+feasible_verdict shop rows c (Feasible d) ends h = ap (λ (n : ℕ). Feasible n) (h.2 ∙ sym ends.2)
+feasible_verdict shop rows c WrongSize ends h = absurd (h ends.0)
+feasible_verdict shop rows c (Unreleased j) ends h = absurd (not_early shop (starts_of rows) j 0 ends.1 h.1)
+feasible_verdict shop rows c (Early j k) ends h = absurd (not_early shop (starts_of rows) j k ends.1 h.2)
+feasible_verdict shop rows c (Overlap m p q) ends h =
+    absurd (not_overlapping shop (starts_of rows) p.job p.step q.job q.step ends.1 h.3)
+
+found_feasible : (shop : Shop) (written line : List ℕ) (rows : List (List ℕ)) (c : ℕ) (feasible : Bool)
+    → IsTable shop written rows → EndsAt shop rows c → IsVerdictOn shop written feasible line
+    → IsTrue feasible × (line ≡ verdict_text (Feasible c))
+found_feasible shop written line rows c feasible table ends h =
+    let same = (one_table shop).one_table written rows h.rows table h.is_table
+    in let seen = subst (λ (r : List (List ℕ)). EndsAt shop r c) same ends
+    in (
+      h.is_feasible.1 (seen.0, seen.1),
+      h.says ∙ ap verdict_text (feasible_verdict shop h.rows c h.verdict seen h.is_verdict),
+    )
+
+some_one : (a b : NamedShop) (o : Option NamedShop) → o ≡ Some a → o ≡ Some b → a ≡ b
+some_one a b o e f = cc
+
+-- a text has one instance of the name
+one_asked : (format : Format) (name : Option (List ℕ)) (text : List ℕ) (a b : NamedShop) → IsAsked format name text a
+    → IsAsked format name text b → a ≡ b
+one_asked format name text a b had other =
+    let same = (one_reading format).one_list text had.shops other.shops had.is_text other.is_text
+    in some_one a b (first_named other.shops name)
+    (subst (λ (shops : List NamedShop). first_named shops name ≡ Some a) same had.picked) other.picked
+
+pub passes_check : (format : Format) (name : Option (List ℕ)) (text written : List ℕ) (asked : NamedShop)
+    → IsAsked format name text asked → GivesSchedule asked written → PassesCheck format name text written
+passes_check format name text written asked is_asked gives short =
+    let s = gives (asked_visible format text is_asked.shops name asked is_asked.is_text is_asked.picked) short
+    in record {
+      report = s.report;
+      rest = s.rest;
+      begins = s.begins;
+      feasible = λ feasible line h.
+          (let same = one_asked format name text h.asked asked h.is_asked is_asked
+          in found_feasible asked.shop written line s.report.table s.report.makespan feasible s.is_table s.ends
+          (subst (λ (n : NamedShop). IsVerdictOn n.shop written feasible line) same h.says));
+      no_fault = λ fault h. (elim h [
+        | inl bad ↦ not_had format name text fault asked bad is_asked
+        | inr refused ↦ (let same = one_asked format name text refused.asked asked refused.is_asked is_asked
+            in (one_table asked.shop).not_both written s.report.table fault s.is_table
+            (subst (λ (n : NamedShop). IsTableFault n.shop written fault) same refused.says))
+      ]);
+    }
