@@ -13,8 +13,6 @@ mod open_bounds;
 mod placements;
 mod profiles;
 mod schedules;
-#[cfg(test)]
-mod slot_tests;
 mod slots;
 mod tail_rows;
 #[cfg(test)]
