@@ -18,3 +18,4 @@ pub mod EntryLemmas
 pub mod GatheredLemmas
 pub mod TreeSizes
 pub mod Ending
+pub mod CoverRows

@@ -10,7 +10,9 @@ use Rattle.shop_round.specs.declared.entries.Kind.TheVariants.{Done, Passed}
 use Rattle.shop_round.specs.declared.rounds.Round.{Round}
 
 abbrev pub told : Round → Told
-told r = told_of r.instance.now r.word r.best r.bound r.budget r.pieces.items r.rest.items r.rounds r.nodes
+told r =
+    told_of r.instance.now r.word r.best r.bound r.budget r.pieces.items r.rest.items r.rounds
+    r.nodes
 
 -- the n-th piece ends at the opening bound
 abbrev pub is_hit : Told → ℕ → Bool
@@ -18,7 +20,8 @@ is_hit r n = (sheet_in r (slice_index_or r.pieces n [])).best == r.bound
 
 -- the sheet is of a piece of the round, from its instance, opening best and budget
 abbrev pub IsOf : Told → Sheet → Type 0
-IsOf r s = (s.instance.now ≡ r.shop) × (s.best ≡ r.best) × (s.budget ≡ r.budget) × (s.number < length r.pieces)
+IsOf r s = (s.instance.now ≡ r.shop) × (s.best ≡ r.best) × (s.budget ≡ r.budget)
+    × (s.number < length r.pieces)
     × (words_of s.piece.now.nodes.items ≡ slice_index_or r.pieces s.number [])
 
 -- a piece of the round that a lower one, which ends at the opening bound, lets pass

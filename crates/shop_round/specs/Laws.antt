@@ -1,17 +1,18 @@
 -- No optimum is lost through the rounds.
---     IsStanding shop s            the best word is full, the open ones are words, and their bounds are below the
--- makespan
---     IsRound r                    the opening best is full, all are words, and the opening bound is at most each of
--- their bounds
---     PiecesAreAll, OpeningCovers, CutsCover, GatheringCovers, RoundsKeepTheCover, AnswersAreTrustworthy      the laws
---     IsTrustworthy shop word makespan lower open_nodes      what an answer says of all tables is so
+--     IsStanding shop s      the best word is full, the open ones are words, and their bounds are
+--                            below the makespan
+--     IsRound r              the opening best is full, all are words, and the opening bound is at
+--                            most each of their bounds
+--     IsTrustworthy ..       what an answer says of all tables is so
+--     PiecesAreAll, OpeningCovers, CutsCover, GatheringCovers, RoundsKeepTheCover,
+--     AnswersAreTrustworthy, CountsStaySmall      the laws
 use Rattle.std.specs.Prelude.{◌≡◌, ℕ, ◌+◌, ◌*◌, ◌<◌, ◌≤◌, List, ◌++◌, length, flat_map, Contains}
 use Rattle.shop_model.specs.Shop.{Shop, Starts, IsFeasible, end_of, IsLeast}
 use Rattle.shop_model.specs.Word.{placed, IsFull}
 use Rattle.shop_bound.specs.Bound.{lb}
 use Rattle.shop_tree.specs.Laws.{AreWords}
-use Rattle.shop_round.specs.Round.{Planned, Stand, Told, pieces_of, rest_of, words_of_round, cut_of, gathered, round}
-use Rattle.shop_round.specs.Round.{opening, answer, makespan_of, bound_of, Covers}
+use Rattle.shop_round.specs.Round.{Planned, Stand, Told, pieces_of, rest_of, words_of_round, cut_of}
+use Rattle.shop_round.specs.Round.{gathered, round, opening, answer, makespan_of, bound_of, Covers}
 
 pub record IsStanding (shop : Shop) (s : Stand) : Type 0 where
   pub full : IsFull shop s.word
@@ -43,7 +44,8 @@ CoversInRound r = IsRound r × Covers r.shop r.best (words_of_round r)
 
 -- what is cut from a standing that covers does so, in either order
 abbrev pub CutsCover : Type 0
-CutsCover = (shop : Shop) (plan : Planned) (s : Stand) → StandsCovering shop s → CoversInRound (cut_of shop plan s)
+CutsCover = (shop : Shop) (plan : Planned) (s : Stand) → StandsCovering shop s
+    → CoversInRound (cut_of shop plan s)
 
 -- and so does what is gathered
 abbrev pub GatheringCovers : Type 0
@@ -55,7 +57,8 @@ RoundsKeepTheCover = (shop : Shop) (plan : Planned) (s : Stand) → StandsCoveri
     → StandsCovering shop (round shop plan s)
 
 -- what an answer says of all tables is so
-pub record IsTrustworthy (shop : Shop) (word : List ℕ) (makespan lower open_nodes : ℕ) : Type 0 where
+pub record IsTrustworthy (shop : Shop) (word : List ℕ) (makespan lower open_nodes : ℕ)
+    : Type 0 where
   -- the word is full, and its table is feasible and ends at the makespan
   pub full : IsFull shop word
   pub feasible : IsFeasible shop (placed shop word)

@@ -1,7 +1,8 @@
--- Rounds, and the answer of a plan: branch and bound over words, whose plan of pieces, budgets and rounds is this
--- project's own.
-use Rattle.std.specs.Prelude.{ℕ, zero, suc, ◌+◌, ◌-◌, ◌*◌, ◌≤◌, ◌⊎◌, min, Bool, true, false, Option, Some, None, List}
-use Rattle.std.specs.Prelude.{[], ◌∷◌, ◌++◌, take, drop, map, filter, sum_by, fold, flat_map, nat_lt, ◌==◌}
+-- Rounds, and the answer of a plan: branch and bound over words, whose plan of pieces, budgets and
+-- rounds is this project's own.
+use Rattle.std.specs.Prelude.{ℕ, zero, suc, ◌+◌, ◌-◌, ◌*◌, ◌≤◌, ◌⊎◌, min, Bool, true, false, Option}
+use Rattle.std.specs.Prelude.{Some, None, List, [], ◌∷◌, ◌++◌, take, drop, map, filter, sum_by, fold}
+use Rattle.std.specs.Prelude.{flat_map, nat_lt, ◌==◌}
 use Rattle.std.specs.Prelude.{if◌then◌else◌, unwrap_or}
 use Rattle.shop_model.specs.Shop.{Shop, Starts, end_of, IsFeasible}
 use Rattle.shop_model.specs.Word.{start_jobs}
@@ -58,14 +59,15 @@ abbrev pub up_to_hit : ℕ → List Walk → Option (Walk × List Walk)
 up_to_hit c [] = None
 up_to_hit c (s ∷ ss) = hit_or (s.best == c) s (up_to_hit c ss)
 
--- the word of the sheet of least makespan below that of the best word, the first such, and else the best word
+-- the word of the sheet of least makespan below that of the best word, the first such, and else the
+-- best word
 abbrev pub best_word : ℕ → List ℕ → List Walk → List ℕ
 best_word best word ss = unwrap_or
     ((fold (λ b s. if nat_lt s.best b.best then s else b)
     (record { found = Some word; best = best; left = []; budget = 0 }) ss).found) word
 
--- What a round is told: the instance, the opening best with its makespan, the opening bound, the budget, the pieces and
--- the rest, and the rounds done and nodes counted before it.
+-- What a round is told: the instance, the opening best with its makespan, the opening bound, the
+-- budget, the pieces and the rest, and the rounds done and nodes counted before it.
 pub record Told : Type 0 where
   pub shop : Shop
   pub word : List ℕ
@@ -88,7 +90,8 @@ sheet_in r piece = sheet r.shop piece r.best r.budget
 abbrev pub sheets_of : Told → List Walk
 sheets_of r = map (sheet_in r) r.pieces
 
--- the result of a round, by the first sheet that ends at the opening bound, with those counted, if one does
+-- the result of a round, by the first sheet that ends at the opening bound, with those counted, if
+-- one does
 abbrev pub after_round : Told → List Walk → Option (Walk × List Walk) → Stand
 after_round r sheets (Some (h, counted)) =
     record {
@@ -139,7 +142,12 @@ round shop plan s = gathered (cut_of shop plan s)
 -- where a search begins
 abbrev pub opening : Shop → Stand
 opening shop = let w = start_jobs shop
-    in record { word = w; open_words = words_below shop (lb shop w) ([] ∷ []); rounds = 0; nodes = 0 }
+    in record {
+      word = w;
+      open_words = words_below shop (lb shop w) ([] ∷ []);
+      rounds = 0;
+      nodes = 0;
+    }
 
 -- what stands after n rounds, or as soon as nothing is open
 abbrev pub unless_closed : List (List ℕ) → Stand → (Stand → Stand) → Stand
@@ -148,7 +156,8 @@ unless_closed (w ∷ ws) s go = go s
 
 abbrev pub rounds_from : Shop → Planned → ℕ → Stand → Stand
 rounds_from shop plan zero s = s
-rounds_from shop plan (suc n) s = unless_closed s.open_words s (λ t. rounds_from shop plan n (round shop plan t))
+rounds_from shop plan (suc n) s = unless_closed s.open_words s
+    (λ t. rounds_from shop plan n (round shop plan t))
 
 abbrev pub answer : Shop → Planned → Stand
 answer shop plan = rounds_from shop plan plan.rounds (opening shop)

@@ -22,7 +22,8 @@ IsPlanOf rounds budget piece order p =
     planned p ≡ record { rounds = rounds; budget = budget; piece = piece; order = order }
 
 abbrev pub stands : Standing → Stand
-stands s = record { word = s.word; open_words = words_of s.open.items; rounds = s.rounds; nodes = s.nodes }
+stands s =
+    record { word = s.word; open_words = words_of s.open.items; rounds = s.rounds; nodes = s.nodes }
 
 -- the answer says what stands
 pub record Says (shop : Shop) (s : Stand) (a : Answer) : Type 0 where
@@ -40,7 +41,8 @@ pub record StandsAt (shop : Shop) (s : Stand) (t : Standing) : Type 0 where
   pub makespan : t.makespan ≡ makespan_of shop s
   pub bounds : AreNodes shop t.open.items
 
--- a standing of the instance: it holds the makespan and the bounds, its best word is full, and each open bound is below
+-- a standing of the instance: it holds the makespan and the bounds, its best word is full, and each
+-- open bound is below
 abbrev pub IsStandingOf : Shop → Standing → Type 0
 IsStandingOf shop t = StandsAt shop (stands t) t × IsStanding shop (stands t)
 
@@ -64,8 +66,8 @@ GatheredCovers r t = CoversInRound (told r) → StandsCovering r.instance.now (s
 abbrev pub SaysAnswer : Shop → Plan → Answer → Type 0
 SaysAnswer shop plan a = Says shop (answer shop (planned plan)) a
 
--- what the answer says of all tables is so; its own has a start for each operation, is feasible, and ends at its
--- makespan
+-- what the answer says of all tables is so; its own has a start for each operation, is feasible,
+-- and ends at its makespan
 pub record IsTrusted (shop : Shop) (a : Answer) : Type 0 where
   pub answer_is : IsTrustworthy shop a.word a.makespan a.bound a.open_nodes
   pub shape : HasShape shop a.table
