@@ -17,7 +17,7 @@ use Rattle.shop_round.specs.declared.limits.TheConstants.{MAX_ROUNDS, MAX_BUDGET
 use Rattle.shop_round.specs.declared.plans.Order.{Order}
 use Rattle.shop_round.specs.declared.plans.Order.TheVariants.{Kept, Bound}
 use Rattle.shop_round.specs.declared.plans.Plan.{Plan}
-use Rattle.shop_board.specs.declared.lock_crews.TheConstants.{MAX_WORKERS}
+use Rattle.shop_board.specs.declared.limits.TheConstants.{MAX_WORKERS}
 use Rattle.shop_text.specs.Formats.{word_of}
 use Rattle.jobshop.specs.declared.arguments.Args.{Args}
 use Rattle.jobshop.specs.declared.arguments.Args.TheVariants.{ListNames, CheckTable, SolveInstance}

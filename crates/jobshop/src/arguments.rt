@@ -1,6 +1,6 @@
 // What a command line asks for.
 ghost use Rattle.std.specs.Prelude.{◌≡◌, ◌<◌, ◌≤◌, ◌↔◌, IsSome, IfSome};
-ghost use Rattle.shop_board.specs.declared.lock_crews.TheConstants.{MAX_WORKERS};
+ghost use Rattle.shop_board.specs.declared.limits.TheConstants.{MAX_WORKERS};
 
 use shop_board::MAX_WORKERS;
 use shop_engine::{CheckArgs, ListArgs, SolveArgs};

@@ -9,8 +9,9 @@ use Rattle.atomic_table.specs.Table.{step, Me, Allows, keeps}
 use Rattle.shop_board.specs.declared.views.View.{View}
 use Rattle.shop_board.specs.Views.{has, IsHitOrEnd}
 use Rattle.shop_board.specs.Moments.{hit_word, IsLive, IsClaimed, Knows, IsLawful}
-use Rattle.shop_board.specs.Moves.{with_mine, with_seen, Claims}
-use Rattle.shop_board.proofs.Numbers.{has_cons, has_tail, has_same, is_false, once_cons}
+use Rattle.shop_board.specs.Moves.{with_mine, with_seen, IsTold, Claims}
+use Rattle.shop_board.specs.Winners.{IsDecided}
+use Rattle.shop_board.proofs.Numbers.{has_cons, has_head, has_tail, has_same, is_false, once_cons}
 use Rattle.shop_board.proofs.Words.{word_here, word_else, words_length, same_word}
 use Rattle.shop_board.proofs.LawfulSteps.{Moment, Risen, Step, still_knows, stepped_lawful, quiet}
 
@@ -131,3 +132,12 @@ pub claims : (hits : List Bool) (slots id : ℕ) (me : Me (Unit {0}) View) (i : 
 claims hits slots id me i bare live inside =
     subst (λ (m : Me (Unit {0}) View). Allows (IsLawful hits) slots id m i (λ _. 1) (Claims (step slots i 1 0 none) m))
     (λ j. (me.0, sym bare j)) (claims_at hits slots id me.0 i live inside)
+
+-- a claim that was won or lost says who has won the piece
+pub decided : (hits : List Bool) (won : Bool) (n : ℕ) (v w : View) → IsTold won n v w → IsDecided won hits n w
+decided hits true n v w t = λ s seat other u law at there theirs.
+    law.apart other seat u w n there at theirs
+    (subst (λ (x : View). has x.mine n ≡ true) (sym t.0) (has_head n v.mine))
+decided hits false n v w e = λ s seat law at.
+    law.won n ((law.knows seat w at).seen n
+    (subst (λ (x : View). has x.seen n ≡ true) (sym e) (has_head n v.seen)))

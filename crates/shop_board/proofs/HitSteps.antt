@@ -5,7 +5,7 @@ use Rattle.std.specs.Prelude.{slice_index}
 use mathlib.Core.Option.{none}
 use Rattle.atomic_table.specs.Table.{step, Me, Allows, keeps}
 use Rattle.shop_board.specs.declared.views.View.{View}
-use Rattle.shop_board.specs.Views.{has, is_hit, IsHitOrEnd}
+use Rattle.shop_board.specs.Views.{has, is_hit_in, IsHitOrEnd}
 use Rattle.shop_board.specs.Moments.{hit_word, IsLive, Knows, IsLawful}
 use Rattle.shop_board.specs.Moves.{with_low, with_done, Looks, Marks}
 use Rattle.shop_board.proofs.Numbers.{has_cons, has_head, has_tail}
@@ -55,7 +55,7 @@ min_comm a b = omega arith
 
 -- a mark is one fetch_min
 module _ (hits : List Bool) (s : Moment) (id : ℕ) (v : View) (n : ℕ) (law : IsLawful hits s) (at : IsLive s.views id v)
-    (mine : has v.mine n ≡ true) (hits_n : is_hit hits n ≡ true) where
+    (mine : has v.mine n ≡ true) (hits_n : is_hit_in hits n ≡ true) where
   lowered : ℕ
   lowered = min (hit_word hits s.words) n
 
@@ -92,7 +92,7 @@ module _ (hits : List Bool) (s : Moment) (id : ℕ) (v : View) (n : ℕ) (law : 
   low_is = hit_is ∙ min_comm (hit_word hits s.words) n
 
   abbrev IsDone : ℕ → Type 0
-  IsDone m = (has v.mine m ≡ true) × (is_hit hits m ≡ true) × (hit_word hits marked ≤ m)
+  IsDone m = (has v.mine m ≡ true) × (is_hit_in hits m ≡ true) × (hit_word hits marked ≤ m)
       × (min n (hit_word hits s.words) ≤ m)
 
   done_is : (m : ℕ) → has (n ∷ v.done) m ≡ true → IsDone m
@@ -137,7 +137,7 @@ module _ (hits : List Bool) (s : Moment) (id : ℕ) (v : View) (n : ℕ) (law : 
   }
 
 marks_at : (hits : List Bool) (slots id : ℕ) (v : View) (i n : ℕ) → i ≡ length hits → v.live ≡ true
-    → has v.mine n ≡ true → is_hit hits n ≡ true
+    → has v.mine n ≡ true → is_hit_in hits n ≡ true
     → Allows (IsLawful hits) slots id (v, []) i (λ k. min k n) (Marks (step slots i n 0 none) (v, []))
 marks_at hits slots id v i n last live mine hits_n s law _ at _ =
     let k = law.knows id v (at, live) in
@@ -151,7 +151,7 @@ marks_at hits slots id v i n last live mine hits_n s law _ at _ =
     (w, keeps, tt, stepped_lawful hits s id v w _ law (at, live) st, (refl, refl, lower))
 
 pub marks : (hits : List Bool) (slots id : ℕ) (me : Me (Unit {0}) View) (i n : ℕ) → me.1 ≡ [] → me.0.live ≡ true
-    → i ≡ length hits → has me.0.mine n ≡ true → is_hit hits n ≡ true
+    → i ≡ length hits → has me.0.mine n ≡ true → is_hit_in hits n ≡ true
     → Allows (IsLawful hits) slots id me i (λ k. min k n) (Marks (step slots i n 0 none) me)
 marks hits slots id me i n bare live last mine hits_n =
     subst

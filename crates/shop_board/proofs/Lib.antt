@@ -10,3 +10,4 @@ pub mod SeatCounts
 pub mod ServedEntries
 pub mod WonEntries
 pub mod Words
+pub mod MomentRows

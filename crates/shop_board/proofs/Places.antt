@@ -10,7 +10,7 @@ use mathlib.Core.Logic.{dite}
 use Rattle.shop_round.specs.Round.{Told}
 use Rattle.shop_round.specs.Crews.{OneForEach, IsEntryOf}
 use Rattle.shop_round.specs.declared.entries.Entry.{Entry}
-use Rattle.shop_board.specs.Entries.{Placed}
+use Rattle.shop_board.specs.inner.Gathered.{Placed}
 
 -- an entry that stands in place n is that of piece n
 abbrev Fitting : Told → ℕ → Option Entry → Type 0

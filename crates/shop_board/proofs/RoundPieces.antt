@@ -6,7 +6,7 @@ use Rattle.shop_round.specs.Entries as entries
 use Rattle.shop_round.specs.Entries.{told}
 use Rattle.shop_round.specs.declared.rounds.Round.{Round}
 use Rattle.shop_board.specs.Hits.{hits_of_round}
-use Rattle.shop_board.specs.Views.{is_hit, IsHitOrEnd}
+use Rattle.shop_board.specs.Views.{is_hit_in, IsHitOrEnd}
 
 pub hits_length : (r : Round) → length (hits_of_round r) ≡ length r.pieces.items
 hits_length r = length-map _ _ ∙ length-map r.pieces.items _
@@ -24,12 +24,12 @@ module _ {A : Type 0} (test : A → Bool) where
 
 -- the board's hits are the round's
 pub same_hit : (r : Round) (hits : List Bool) (n : ℕ) → hits ≡ hits_of_round r → n < length r.pieces.items
-    → is_hit hits n ≡ entries.is_hit (told r) n
+    → is_hit_in hits n ≡ entries.is_hit (told r) n
 same_hit r hits n e below =
     let inside : n < length (told r).pieces = subst (λ k. n < k) (sym (length-map r.pieces.items _)) below in
     ap (λ l. get_or l n false) e ∙ mapped_at _ (told r).pieces n [] inside
 
-pub is_piece : (r : Round) (hits : List Bool) (n : ℕ) → hits ≡ hits_of_round r → is_hit hits n ≡ true
+pub is_piece : (r : Round) (hits : List Bool) (n : ℕ) → hits ≡ hits_of_round r → is_hit_in hits n ≡ true
     → n < length r.pieces.items
 is_piece r hits n e h =
     subst (λ k. n < k) (length-map r.pieces.items _)
@@ -40,5 +40,5 @@ pub read_hit : (r : Round) (hits : List Bool) (low n : ℕ) → hits ≡ hits_of
     → n < length r.pieces.items → entries.is_hit (told r) low ≡ true
 read_hit r hits low n e found below inside = ⊎_elim
     (λ (end : low ≡ length hits). let m = ap length e ∙ hits_length r in absurd (omega arith))
-    (λ (h : is_hit hits low ≡ true). sym (same_hit r hits low e (omega arith)) ∙ h)
+    (λ (h : is_hit_in hits low ≡ true). sym (same_hit r hits low e (omega arith)) ∙ h)
     found

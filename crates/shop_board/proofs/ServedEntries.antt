@@ -13,8 +13,9 @@ use Rattle.shop_round.specs.declared.entries.Kind.{Kind}
 use Rattle.shop_round.specs.declared.entries.Kind.TheVariants.{Done, Passed}
 use Rattle.shop_board.specs.declared.views.View.{View}
 use Rattle.shop_board.specs.Hits.{hits_of_round}
-use Rattle.shop_board.specs.Views.{has, is_hit, HasServed}
-use Rattle.shop_board.specs.Entries.{OfRound, Brought}
+use Rattle.shop_board.specs.Views.{has, is_hit_in, HasServed}
+use Rattle.shop_board.specs.Entries.{OfRound}
+use Rattle.shop_board.specs.inner.Gathered.{Brought}
 use Rattle.shop_board.specs.Works.{Grows, numbers_of, IsServed, AreWon}
 use Rattle.shop_board.proofs.Numbers.{has_append, has_cons, has_same, has_tail}
 use Rattle.shop_board.proofs.RoundPieces.{same_hit, is_piece}
@@ -66,7 +67,7 @@ all_served r hits v w es e same g won served n mine hit = ⊎_elim new old split
   old h = ⊎_elim
       (λ d. inl (g.done n d))
       (λ (l : v.low < n). let lower = g.low in inr (omega arith))
-      (served n h (subst (λ k. is_hit k n ≡ true) g.hits hit))
+      (served n h (subst (λ k. is_hit_in k n ≡ true) g.hits hit))
 
 -- a fact of the entries that were brought, if any were
 pub on_brought : (P : List Entry → Type 0) (Q : Type 0) (b : Brought) → ((es : List Entry) → P es → Q)

@@ -15,7 +15,8 @@ use Rattle.shop_round.specs.declared.entries.Entry.{Entry}
 use Rattle.shop_round.specs.declared.entries.Kind.{Kind}
 use Rattle.shop_round.specs.declared.entries.Kind.TheVariants.{Done, Passed}
 use Rattle.shop_board.specs.declared.views.View.{View}
-use Rattle.shop_board.specs.Works.{Grows, IsKnown, IsAllKnown, numbers_of, IsServed, IsServedEntry, AreWon}
+use Rattle.shop_board.specs.Works.{Grows, IsKnown, IsAllKnown, numbers_of, IsServed, AreWon}
+use Rattle.shop_board.specs.inner.Turns.{IsServedEntry}
 
 -- a number above all others, at the end of numbers that rise
 rises_push : (xs : List ℕ) (n : ℕ) → IsStrictlyIncreasing xs → All (λ x. x < n) xs → IsStrictlyIncreasing (xs ++ n ∷ [])

@@ -5,3 +5,5 @@ pub mod Works
 pub mod Moments
 pub mod Moves
 pub mod Seats
+pub mod Winners
+pub mod inner

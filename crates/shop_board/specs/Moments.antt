@@ -8,7 +8,7 @@ use mathlib.Core.Option.{some}
 use lib.ListN.{get_elem?}
 use Rattle.atomic_table.specs.Table.{State}
 use Rattle.shop_board.specs.declared.views.View.{View}
-use Rattle.shop_board.specs.Views.{has, once, is_hit, IsHitOrEnd}
+use Rattle.shop_board.specs.Views.{has, once, is_hit_in, IsHitOrEnd}
 
 abbrev pub hit_word : List Bool → List ℕ → ℕ
 hit_word hits words = slice_index words (length hits)
@@ -30,14 +30,15 @@ pub record Knows (hits : List Bool) (words : List ℕ) (v : View) : Type 0 where
   pub low : IsHitOrEnd hits v.low
   pub below : hit_word hits words ≤ v.low
   pub done : (n : ℕ) → has v.done n ≡ true
-      → (has v.mine n ≡ true) × (is_hit hits n ≡ true) × (hit_word hits words ≤ n) × (v.low ≤ n)
+      → (has v.mine n ≡ true) × (is_hit_in hits n ≡ true) × (hit_word hits words ≤ n) × (v.low ≤ n)
 
 pub record IsLawful (hits : List Bool) (s : State (Unit {0}) View) : Type 0 where
   pub size : length s.words ≡ suc (length hits)
   pub flag : (n : ℕ) → n < length hits → (slice_index s.words n ≡ 0) ⊎ (slice_index s.words n ≡ 1)
   pub won : (n : ℕ) → IsClaimed hits s.words n → Somebody s.views (λ v. has v.mine n ≡ true)
   pub hit : IsHitOrEnd hits (hit_word hits s.words)
-  pub marked : (hit_word hits s.words ≡ length hits) ⊎ Somebody s.views (λ v. has v.done (hit_word hits s.words) ≡ true)
+  pub marked : (hit_word hits s.words ≡ length hits)
+      ⊎ Somebody s.views (λ v. has v.done (hit_word hits s.words) ≡ true)
   pub knows : (id : ℕ) (v : View) → IsLive s.views id v → Knows hits s.words v
   pub apart : (a b : ℕ) (v w : View) (n : ℕ) → IsLive s.views a v → IsLive s.views b w
       → has v.mine n ≡ true → has w.mine n ≡ true → a ≡ b

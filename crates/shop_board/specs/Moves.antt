@@ -10,13 +10,15 @@
 --     HasMarked n v w        the piece was marked
 --     Claims, Looks, Marks   of a step, the seat before, the number found and the seat after
 --     Counts                 nothing changes; no number stands twice among those that the seat won
-use Rattle.std.specs.Prelude.{◌≡◌, ℕ, ◌≤◌, List, [], ◌∷◌, ◌++◌, length, min, Bool, true, false, ◌==◌, MatchBool}
+use Rattle.std.specs.Prelude.{◌≡◌, ℕ, ◌≤◌, List, [], ◌∷◌, ◌++◌, length, min, Bool, true, false}
+use Rattle.std.specs.Prelude.{◌==◌, MatchBool}
 use Rattle.atomic_table.specs.Table.{Step, Me}
 use Rattle.shop_board.specs.declared.views.View.{View}
 use Rattle.shop_board.specs.Views.{has, once, IsHitOrEnd}
 
 abbrev pub newcomer : List Bool → View
-newcomer hits = record { live = true; hits = hits; mine = []; seen = []; done = []; low = length hits }
+newcomer hits =
+    record { live = true; hits = hits; mine = []; seen = []; done = []; low = length hits }
 
 abbrev pub spent : View
 spent = record { live = false; hits = []; mine = []; seen = []; done = []; low = 0 }
@@ -65,7 +67,8 @@ Claims s me found after =
 
 abbrev pub Looks : Telling
 Looks s me found after =
-    (after.1 ≡ me.1) × (after.0 ≡ with_low me.0 found) × IsHitOrEnd me.0.hits found × (found ≤ me.0.low)
+    (after.1 ≡ me.1) × (after.0 ≡ with_low me.0 found) × IsHitOrEnd me.0.hits found
+        × (found ≤ me.0.low)
 
 abbrev pub Marks : Telling
 Marks s me found after =

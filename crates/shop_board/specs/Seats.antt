@@ -3,11 +3,7 @@
 --     hits_of board         which pieces of its round end at the opening bound
 --     IsSeatOf board seat   the seat is of this board
 --     HasServedOf b seat n  the seat is of board b, has won n pieces, and has served them
---     IsReturned b r s es   what a worker brings back: its seat of this board, and entries of this round unless it was
---                           refused memory
-use Rattle.std.specs.Prelude.{◌≡◌, ℕ, List, length, Bool, IfOk}
-use Rattle.shop_round.specs.Round.{Told}
-use Rattle.shop_board.specs.Entries.{Brought, OfRound}
+use Rattle.std.specs.Prelude.{◌≡◌, ℕ, List, length, Bool}
 use Rattle.shop_board.specs.Views.{HasServed}
 use Rattle.shop_board.specs.declared.views.View.{View}
 use Rattle.shop_board.specs.declared.boards.Board.{Board}
@@ -24,6 +20,3 @@ IsSeatOf b s = (s.seat.table_id ≡ b.table.shared.table_id) × ((knows s).hits 
 
 abbrev pub HasServedOf : Board → Seat → ℕ → Type 0
 HasServedOf b s n = IsSeatOf b s × HasServed (knows s) × (length (knows s).mine ≡ n)
-
-abbrev pub IsReturned : Board → Told → Seat → Brought → Type 0
-IsReturned b r s entries = IsSeatOf b s × IfOk entries (λ v. OfRound r v.items)

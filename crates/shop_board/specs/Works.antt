@@ -2,19 +2,16 @@
 --     Grows v w               what the seat knew it still knows
 --     IsKnown v n             the piece is claimed, as far as the seat knows
 --     numbers_of entries      the numbers of their pieces
---     IsServed r w kind       a piece that was searched and ends at the opening bound was marked; one that was passed
---                             was passed by a number that is at least the seat's least
---     IsServedEntry r n w e   the entry is of piece n, and served
---     IsTurn r n v w o        there is an entry of piece n just where the seat won it
---     AreWon r v w entries    in number order, one for each piece that the seat won since, and all served
+--     IsServed r w kind       a piece that was searched and ends at the opening bound was marked;
+--                             one that was passed was passed by a number that is at least the
+--                             seat's least
+--     AreWon r v w entries    in number order, one for each piece that the seat won since, and all
+--                             served
 --     IsAllKnown n w          each piece below n is claimed, as far as the seat knows
---     IsRestKnown n w places  so is each piece below n that has no entry in its place
-use Rattle.std.specs.Prelude.{◌≡◌, ℕ, ◌<◌, ◌≤◌, List, ◌∷◌, ◌++◌, map, reverse, All, true, ◌⊎◌, Option, MatchOption}
-use Rattle.std.specs.Prelude.{None, IfNone, slice_index_or}
+use Rattle.std.specs.Prelude.{◌≡◌, ℕ, ◌<◌, ◌≤◌, List, ◌++◌, map, reverse, All, true, ◌⊎◌}
 use Rattle.std.specs.List.Sorted.{IsStrictlyIncreasing}
 use Rattle.shop_round.specs.Round.{Told}
 use Rattle.shop_round.specs.Entries.{number_of, is_hit}
-use Rattle.shop_round.specs.Crews.{IsEntryOf}
 use Rattle.shop_round.specs.declared.entries.Entry.{Entry}
 use Rattle.shop_round.specs.declared.entries.Kind.{Kind}
 use Rattle.shop_round.specs.declared.entries.Kind.TheVariants.{Done, Passed}
@@ -35,21 +32,12 @@ IsKnown v n = (has v.mine n ≡ true) ⊎ (has v.seen n ≡ true)
 abbrev pub IsAllKnown : ℕ → View → Type 0
 IsAllKnown pieces w = (n : ℕ) → n < pieces → IsKnown w n
 
-abbrev pub IsRestKnown : ℕ → View → List (Option Entry) → Type 0
-IsRestKnown pieces w places = (n : ℕ) → n < pieces → IfNone (slice_index_or places n None) (IsKnown w n)
-
 abbrev pub numbers_of : List Entry → List ℕ
 numbers_of entries = map (λ e. number_of e.kind) entries
 
 abbrev pub IsServed : Told → View → Kind → Type 0
 IsServed r w (Done sheet) = is_hit r sheet.number ≡ true → has w.done sheet.number ≡ true
 IsServed r w (Passed number by') = w.low ≤ by'
-
-abbrev pub IsServedEntry : Told → ℕ → View → Entry → Type 0
-IsServedEntry r n w e = IsEntryOf r n e × IsServed r w e.kind
-
-abbrev pub IsTurn : Told → ℕ → View → View → Option Entry → Type 0
-IsTurn r n v w o = MatchOption o (w.mine ≡ v.mine) (λ e. (w.mine ≡ n ∷ v.mine) × IsServedEntry r n w e)
 
 pub record AreWon (r : Told) (v w : View) (entries : List Entry) : Type 0 where
   pub of_round : OfRound r entries

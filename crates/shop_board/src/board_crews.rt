@@ -1,3 +1,4 @@
+// A crew whose workers claim pieces on a board.
 ghost use Rattle.std.specs.Thread.{IsSync};
 ghost use Rattle.std.specs.Prelude.{◌≡◌, ◌<◌, ◌≤◌, ◌↔◌, IsSome, IfSome, IfOk};
 ghost use Rattle.shop_round.specs.Entries.{told};
@@ -5,39 +6,38 @@ ghost use Rattle.shop_round.specs.Crews.{OneForEach};
 
 use crate::board_search::search_claimed;
 use crate::gates::{OpenGate, SeatGate};
-use crate::lock_crews::MAX_WORKERS;
+use crate::limits::MAX_WORKERS;
+use crate::workers::Workers;
 use shop_round::{Crew, Entry, Round};
 use std::alloc::{AllocError, Global};
 use std::thread::Threads;
 
-/// Workers that claim pieces on a board. Worker 0 is the calling thread. A search may wait for its workers to end, and
-/// has joined all of them when it returns.
+/// Workers that claim pieces on a board. Worker 0 is the calling thread. A search may wait for its
+/// workers to end, and has joined all of them when it returns.
 #[derive(Drop)]
 pub struct BoardCrew<G> {
-    workers: usize,
-    gate: G,
-    ghost few: { (0 < workers) × (workers ≤ 64) },
+    workers: Workers<G>,
 }
 
 impl<G: Drop> BoardCrew<G> {
     /// A crew of 1 to 64 workers, and else `None`.
     pub fn new(workers: usize, gate: G) -> Option<BoardCrew<G>>
-        ensures within { IsSome result ↔ ((0 < workers) × (workers ≤ 64)) }
-        ensures keeps { IfSome result (λ c. (c.workers ≡ workers) × (c.gate ≡ gate)) }
+        ensures within { IsSome result ↔ ((0 < workers) × (workers ≤ MAX_WORKERS)) }
+        ensures keeps { IfSome result (λ c. (c.workers.count ≡ workers) × (c.workers.gate ≡ gate)) }
     {
-        if workers == 0 || workers > MAX_WORKERS {
+        let Some(workers) = Workers::new(workers, gate) else {
             return None;
-        }
-        Some(BoardCrew { workers, gate })
+        };
+        Some(BoardCrew { workers })
     }
 }
 
 impl<G> BoardCrew<G> {
     /// The gate, with what it may have noted.
     pub fn gate(&self) -> &G
-        ensures { result.now ≡ self.now.gate }
+        ensures { result.now ≡ self.now.workers.gate }
     {
-        &self.gate
+        &self.workers.gate
     }
 }
 
@@ -52,7 +52,7 @@ impl<G: SeatGate + Sync> BoardCrew<G> {
     ) -> Result<Vec<Entry<'r>>, AllocError>
         ensures { IfOk result (λ v. OneForEach (told round.now) v.items) }
     {
-        search_claimed(rt, alloc, round, self.workers, &self.gate)
+        search_claimed(rt, alloc, round, self.workers.count, &self.workers.gate)
     }
 }
 

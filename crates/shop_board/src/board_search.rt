@@ -1,10 +1,14 @@
+// A round searched by workers who claim its pieces on a board.
 ghost use Rattle.std.specs.Prelude.{◌≡◌, ◌<◌, length, vec_len, All, IfOk, IfSome, IfNone};
 ghost use Rattle.shop_round.specs.Entries.{told};
 ghost use Rattle.shop_round.specs.Crews.{OneForEach};
-ghost use Rattle.shop_board.specs.Entries.{OfRound, AllOfRound};
+ghost use Rattle.shop_board.specs.Entries.{OfRound};
+ghost use Rattle.shop_board.specs.inner.Gathered.{AllOfRound};
 ghost use Rattle.shop_board.specs.Hits.{hits_of_round};
-ghost use Rattle.shop_board.specs.Seats.{knows, hits_of, IsSeatOf, IsReturned};
-ghost use Rattle.shop_board.specs.Works.{Grows, IsKnown, IsRestKnown};
+ghost use Rattle.shop_board.specs.Seats.{knows, hits_of, IsSeatOf};
+ghost use Rattle.shop_board.specs.inner.Gathered.{IsReturned};
+ghost use Rattle.shop_board.specs.Works.{Grows, IsKnown};
+ghost use Rattle.shop_board.specs.inner.Turns.{IsRestKnown};
 
 use crate::boards::{Board, Seat};
 use crate::gates::SeatGate;
@@ -72,7 +76,7 @@ fn work_all<'r, R: Threads + Sync, G: SeatGate + Sync>(
     thread::map_vec(rt, lent, &worker)
 }
 
-// The seats made one again, and what the workers returned.
+// Joins the workers' seats, and gathers what they brought.
 fn join_all<'r>(
     alloc: Global,
     board: &Board,

@@ -1,16 +1,17 @@
+// Gates: what is called before a piece is searched.
 ghost use Rattle.std.specs.Prelude.{◌≡◌, true};
 ghost use Rattle.shop_board.specs.Views.{has};
 ghost use Rattle.shop_board.specs.Seats.{knows};
 
 use crate::boards::Seat;
 
-/// Is told of each piece just before a worker of a `LockCrew` searches it.
+/// Called before a worker of a `LockCrew` searches a piece.
 pub trait Gate {
     /// Worker `worker`, from 0, is about to search the piece of number `piece`. The calling thread is worker 0.
     fn before(&self, worker: usize, piece: usize);
 }
 
-/// Is told of each piece just before the worker that won it on a board searches it.
+/// Called before the worker that won a piece on a board searches it.
 pub trait SeatGate {
     /// Worker `worker`, from 0, is about to search the piece of number `piece`, which its seat has won. The calling
     /// thread of a crew is worker 0.

@@ -3,28 +3,22 @@
 
 mod board_crews;
 mod board_search;
-#[cfg(test)]
-mod board_tests;
 mod boards;
-mod claiming;
 mod gates;
+mod limits;
 mod lock_crews;
 mod ordering;
 mod pools;
 mod round_hits;
 mod rules;
-mod seating;
-mod serving;
-#[cfg(test)]
-mod tests;
 mod views;
-#[cfg(test)]
-mod worked_rounds;
+mod workers;
 mod working;
 
 pub use board_crews::BoardCrew;
 pub use boards::{Board, Seat};
 pub use gates::{Gate, OpenGate, SeatGate};
-pub use lock_crews::{LockCrew, MAX_WORKERS};
+pub use limits::MAX_WORKERS;
+pub use lock_crews::LockCrew;
 pub use pools::Pool;
 pub use working::work;

@@ -1,7 +1,9 @@
+// Entries that workers brought, put in the order of their pieces.
 ghost use Rattle.std.specs.Prelude.{◌≡◌, ◌<◌, length, IfOk, IfSome, Some, None, slice_set, slice_index_or, vec_len};
 ghost use Rattle.shop_round.specs.Entries.{told};
 ghost use Rattle.shop_round.specs.Crews.{OneForEach, IsEntryOf};
-ghost use Rattle.shop_board.specs.Entries.{OfRound, AllOfRound, Placed};
+ghost use Rattle.shop_board.specs.Entries.{OfRound};
+ghost use Rattle.shop_board.specs.inner.Gathered.{AllOfRound, Placed};
 
 use shop_round::{Entry, Round, search_piece};
 use std::alloc::{AllocError, Global};

@@ -1,3 +1,4 @@
+// The pool of numbers of pieces that workers share.
 ghost use Rattle.std.specs.Prelude.{◌≡◌, ◌+◌, ◌<◌, ◌≤◌, IfSome, IfNone};
 
 /// The numbers of the pieces that nobody has taken yet: those from the next one on, below the number of pieces.

@@ -1,3 +1,4 @@
+// Which pieces of a round end at its opening bound.
 use shop_round::Round;
 use std::marker::Model;
 

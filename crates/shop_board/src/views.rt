@@ -1,3 +1,4 @@
+// What a seat knows.
 use std::collections::LinkedList;
 
 /// What a seat knows, to contracts alone: whether it is live, that is, wasn't joined to another; which pieces end at

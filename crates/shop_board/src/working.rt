@@ -1,9 +1,11 @@
+// What a worker does with its seat.
 ghost use Rattle.std.specs.Prelude.{◌≡◌, ◌<◌, length, true, IfOk, OnOk};
 ghost use Rattle.shop_round.specs.Entries.{told};
 ghost use Rattle.shop_board.specs.Hits.{hits_of_round};
 ghost use Rattle.shop_board.specs.Views.{has, HasServed};
 ghost use Rattle.shop_board.specs.Seats.{knows, hits_of, IsSeatOf};
-ghost use Rattle.shop_board.specs.Works.{Grows, IsKnown, IsServedEntry, IsTurn, IsAllKnown, AreWon};
+ghost use Rattle.shop_board.specs.Works.{Grows, IsKnown, IsAllKnown, AreWon};
+ghost use Rattle.shop_board.specs.inner.Turns.{IsServedEntry, TakesTurn};
 
 use crate::boards::{Board, Seat};
 use crate::gates::SeatGate;
@@ -53,7 +55,7 @@ fn turn<'r, G: SeatGate>(
     ensures seat { IsSeatOf board.now seat.new }
     ensures grows { Grows (knows seat.old) (knows seat.new) }
     ensures claimed { IsKnown (knows seat.new) number }
-    ensures entry { IfOk result (IsTurn (told round.now) number (knows seat.old) (knows seat.new)) }
+    ensures entry { IfOk result (TakesTurn (told round.now) number (knows seat.old) (knows seat.new)) }
 {
     let low = board.look(seat);
     if !board.claim(seat, number) {

@@ -2,6 +2,10 @@
 #![tactic(auto)]
 
 #[cfg(test)]
+mod boards;
+#[cfg(test)]
+mod crews;
+#[cfg(test)]
 mod instances;
 #[cfg(test)]
 mod lanes;
@@ -21,3 +25,5 @@ mod texts_schedules;
 mod texts_sizes;
 #[cfg(test)]
 mod trees;
+#[cfg(test)]
+mod worked_rounds;

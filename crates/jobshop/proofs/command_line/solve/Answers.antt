@@ -2,7 +2,7 @@ use Rattle.std.proofs.Common.{codes}
 use Rattle.std.proofs.lemmas.Result.{IfOk-weaker}
 use Rattle.clap.specs.Words.{App, Rule, new_app, with_rule}
 use Rattle.clap.specs.declared.builder.value_parser.ValueParser.TheVariants.{Names}
-use Rattle.shop_board.specs.declared.lock_crews.TheConstants.{MAX_WORKERS}
+use Rattle.shop_board.specs.declared.limits.TheConstants.{MAX_WORKERS}
 use Rattle.jobshop.specs.CommandLine.{IsCommandOf, flag_rule, format_rule, number_rule, option_rule, path_rule}
 use Rattle.jobshop.specs.CommandLine.{solve_command, with_plan_rules}
 use Rattle.jobshop.proofs.Commands.{added_arg, planned_arg}

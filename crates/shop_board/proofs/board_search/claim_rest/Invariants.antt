@@ -1,5 +1,5 @@
 use Rattle.shop_board.specs.Seats.{knows, IsSeatOf}
-use Rattle.shop_board.specs.Works.{IsRestKnown}
+use Rattle.shop_board.specs.inner.Turns.{IsRestKnown}
 use Rattle.shop_board.proofs.board_search.claim_rest.Given as goal
 
 abbrev pub invariant-loop-number : goal.invariant-loop-number

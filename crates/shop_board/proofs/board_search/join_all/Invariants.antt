@@ -1,8 +1,9 @@
 use Rattle.std.proofs.Common.{vec_len}
 use Rattle.std.specs.Prelude.{All, IfSome}
 use Rattle.shop_round.specs.Entries.{told}
-use Rattle.shop_board.specs.Entries.{AllOfRound}
-use Rattle.shop_board.specs.Seats.{IsSeatOf, IsReturned}
+use Rattle.shop_board.specs.inner.Gathered.{AllOfRound}
+use Rattle.shop_board.specs.Seats.{IsSeatOf}
+use Rattle.shop_board.specs.inner.Gathered.{IsReturned}
 use Rattle.shop_board.specs.declared.board_search.Returned.{Returned}
 use Rattle.shop_board.proofs.board_search.join_all.Given as goal
 

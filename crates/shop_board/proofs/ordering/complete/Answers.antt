@@ -2,7 +2,7 @@ use Rattle.std.proofs.Common.{rules, ◌≡◌, ◌∙◌, sym, subst, length, N
 use Rattle.std.proofs.lemmas.List.{length-map}
 use Rattle.shop_round.specs.Entries.{told}
 use Rattle.shop_board.proofs.Places.{EntriesUpTo, placed_set, one_more, all_entries}
-use Rattle.shop_board.specs.Entries.{Placed}
+use Rattle.shop_board.specs.inner.Gathered.{Placed}
 use Rattle.shop_board.proofs.ordering.complete.Goals as goal
 
 -- src/ordering.rt:83:5

@@ -1,6 +1,6 @@
 use Rattle.std.proofs.Common.{◌≡◌, vec_len, length}
 use Rattle.shop_round.specs.Entries.{told}
-use Rattle.shop_board.specs.Entries.{Placed, AllOfRound}
+use Rattle.shop_board.specs.inner.Gathered.{Placed, AllOfRound}
 use Rattle.shop_board.proofs.ordering.in_places.Given as goal
 
 abbrev pub invariant-loop-entries : goal.invariant-loop-entries

@@ -1,6 +1,7 @@
 use Rattle.std.proofs.Common.{◌≡◌, vec_len}
 use Rattle.shop_round.specs.Entries.{told}
-use Rattle.shop_board.specs.Entries.{Placed, OfRound}
+use Rattle.shop_board.specs.Entries.{OfRound}
+use Rattle.shop_board.specs.inner.Gathered.{Placed}
 use Rattle.shop_board.proofs.ordering.place.Given as goal
 
 abbrev pub invariant-loop-entry : goal.invariant-loop-entry

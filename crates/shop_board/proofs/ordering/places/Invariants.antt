@@ -1,6 +1,6 @@
 use Rattle.std.proofs.Common.{◌≡◌, vec_len}
 use Rattle.shop_round.specs.Entries.{told}
-use Rattle.shop_board.specs.Entries.{Placed}
+use Rattle.shop_board.specs.inner.Gathered.{Placed}
 use Rattle.shop_board.proofs.ordering.places.Given as goal
 
 abbrev pub invariant-loop : goal.invariant-loop

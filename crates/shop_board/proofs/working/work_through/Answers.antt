@@ -2,7 +2,8 @@ use Rattle.std.proofs.Common.{◌+◌, ◌<◌, ap, ◌∙◌, subst, sym, Some,
 use Rattle.std.specs.Prelude.{All}
 use Rattle.shop_round.specs.Entries.{told}
 use Rattle.shop_board.specs.Seats.{knows}
-use Rattle.shop_board.specs.Works.{AreWon, IsTurn, numbers_of}
+use Rattle.shop_board.specs.Works.{AreWon, numbers_of}
+use Rattle.shop_board.specs.inner.Turns.{TakesTurn}
 use Rattle.shop_board.proofs.WonEntries.{grows_twice, still_won, one_won, below_next, below_push, known_next}
 use Rattle.shop_board.proofs.working.work_through.Goals as goal
 use Rattle.shop_board.proofs.working.work_through.Goals.{in-Some+in_ok-push, in_default}
@@ -24,20 +25,20 @@ loop-number-preserved g c =
       claimed = known_next before after number t.grows i.claimed t.claimed;
       entries = elim c.match-branch-2.branch [
         | in-Some+in_ok-push w ↦
-            let it : IsTurn r number before after (Some w.in-Some.entry) =
-            subst (IsTurn r number before after) w.in-Some.is told_turn in
+            let it : TakesTurn r number before after (Some w.in-Some.entry) =
+            subst (TakesTurn r number before after) w.in-Some.is told_turn in
             subst (AreWon r first after) (sym (ap (λ v. v.items) w.entries-is ∙ w.in_ok-push.ensures.items))
             (one_won r number first before after es w.in-Some.entry t.grows i.entries i.below it.0 it.1)
         | in_default w ↦
-            let it : IsTurn r number before after None =
-            subst (IsTurn r number before after) w.in_default.is told_turn in
+            let it : TakesTurn r number before after None =
+            subst (TakesTurn r number before after) w.in_default.is told_turn in
             subst (AreWon r first after) (sym (ap (λ v. v.items) w.entries-is))
             (still_won r first before after es t.grows it i.entries)
       ];
       below = elim c.match-branch-2.branch [
         | in-Some+in_ok-push w ↦
-            let it : IsTurn r number before after (Some w.in-Some.entry) =
-            subst (IsTurn r number before after) w.in-Some.is told_turn in
+            let it : TakesTurn r number before after (Some w.in-Some.entry) =
+            subst (TakesTurn r number before after) w.in-Some.is told_turn in
             subst (λ l. All (λ x. x < number + 1) (numbers_of l))
             (sym (ap (λ v. v.items) w.entries-is ∙ w.in_ok-push.ensures.items))
             (below_push es w.in-Some.entry number i.below it.1.0.1)

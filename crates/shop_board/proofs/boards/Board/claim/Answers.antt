@@ -1,5 +1,6 @@
-use Rattle.std.proofs.Common.{arith}
-use Rattle.shop_board.proofs.ClaimSteps.{claims}
+use Rattle.std.proofs.Common.{arith, eqb}
+use Rattle.shop_board.specs.Seats.{knows, hits_of}
+use Rattle.shop_board.proofs.ClaimSteps.{claims, decided}
 use Rattle.shop_board.proofs.boards.Board.claim.Goals as goal
 
 pub swap-requires : goal.swap-requires
@@ -11,3 +12,8 @@ swap-requires c =
       omega (arith, c.requires.piece),
       claims _ _ seat.id seat.me c.args.piece slot c.args.seat.now.live c.requires.piece,
     )
+
+pub returns-clause-winner : goal.returns-clause-winner
+returns-clause-winner c =
+    decided (hits_of c.args.self.now) (eqb c.swap.result 0) c.args.piece (knows c.args.seat.now) c.swap.new.seat.me.0
+    c.swap.ensures.2.1

@@ -1,0 +1,34 @@
+-- What the workers of a round bring, in the places of its pieces.
+--     AllOfRound round lists        the entries of each worker that wasn't refused memory are of
+--                                   this round
+--     Placed round places           an entry that stands in a place is that of the piece of this
+--                                   number
+--     IsReturned b r s es           what a worker brings back: its seat of this board, and entries
+--                                   of this round unless it was refused memory
+use Rattle.std.specs.Prelude.{ℕ, ◌<◌, List, length, All, Option, IfSome, Result, IfOk}
+use Rattle.std.specs.Prelude.{slice_index_or}
+use Rattle.std.specs.declared.vec.Vec.{Vec}
+use Rattle.std.specs.declared.alloc.Global.{Global}
+use Rattle.std.specs.declared.alloc.AllocError.{AllocError}
+use Rattle.shop_round.specs.Round.{Told}
+use Rattle.shop_round.specs.Crews.{IsEntryOf}
+use Rattle.shop_round.specs.declared.entries.Entry.{Entry}
+use Rattle.shop_board.specs.Entries.{OfRound}
+use Rattle.shop_board.specs.Seats.{IsSeatOf}
+use Rattle.shop_board.specs.declared.boards.Board.{Board}
+use Rattle.shop_board.specs.declared.boards.Seat.{Seat}
+
+-- what one worker brings, or its refusal
+abbrev pub Brought : Type 0
+Brought = Result (Vec Entry Global) AllocError
+
+abbrev pub AllOfRound : Told → List Brought → Type 0
+AllOfRound r lists = All (λ (l : Brought). IfOk l (λ v. OfRound r v.items)) lists
+
+abbrev pub Placed : Told → List (Option Entry) → Type 0
+Placed r places =
+    (n : ℕ) (d : Option Entry) → n < length places
+        → IfSome (slice_index_or places n d) (λ e. IsEntryOf r n e)
+
+abbrev pub IsReturned : Board → Told → Seat → Brought → Type 0
+IsReturned b r s entries = IsSeatOf b s × IfOk entries (λ v. OfRound r v.items)

@@ -1,0 +1,15 @@
+use Rattle.std.proofs.Common.{vec_len, Option}
+use Rattle.std.specs.Prelude.{All, IfSome}
+use Rattle.shop_board.specs.declared.boards.Board.{Board}
+use Rattle.shop_tests.specs.declared.boards.Worked.{Worked}
+use Rattle.shop_board.specs.Seats.{HasServedOf}
+use Rattle.shop_tests.proofs.boards.join_worked.Given as goal
+
+abbrev HasWorked : Board → Option Worked → Type 0
+HasWorked b o = IfSome o (λ (w : Worked). HasServedOf b w.seat w.won)
+
+abbrev pub invariant-loop-worked : goal.invariant-loop-worked
+invariant-loop-worked l = HasWorked l.board l.joined × All (HasWorked l.board) l.all.items
+
+abbrev pub decreases-loop-worked : goal.decreases-loop-worked
+decreases-loop-worked l = vec_len l.all

@@ -1,0 +1,383 @@
+// The same answer by any number of workers of either crew, and workers that come to the gate at once.
+ghost use Rattle.std.specs.Thread.{IsSync};
+ghost use Rattle.std.specs.Prelude.{IfOk};
+ghost use Rattle.shop_round.specs.Entries.{told};
+ghost use Rattle.shop_round.specs.Crews.{OneForEach};
+
+use crate::instances::with_a_gap;
+use crate::worked_rounds::{second_round, third_round};
+use shop_board::{BoardCrew, Gate, LockCrew, OpenGate, Seat, SeatGate};
+use shop_round::{Alone, Answer, Crew, Entry, Kind, Plan, Round, Standing, gather, run, search_piece};
+use std::alloc::{AllocError, Global};
+use std::process::Abort;
+use std::sync::Wait;
+use std::sync::atomic::{AtomicBool, AtomicUsize, Ordering};
+use std::test::Fail;
+use std::thread;
+use std::thread::Threads;
+
+// The makespan, the bound, and how many nodes are open, rounds were done and nodes counted.
+fn assert_answer(
+    rt: &impl Abort,
+    answer: &Answer,
+    numbers: (u64, u64, usize, u64, u64),
+    crew: &str,
+) {
+    let (makespan, bound, open, rounds, nodes) = numbers;
+    assert_eq!(rt; answer.makespan, makespan, "{crew}");
+    assert_eq!(rt; answer.bound, bound, "{crew}");
+    assert_eq!(rt; answer.open_nodes, open, "{crew}");
+    assert_eq!(rt; answer.rounds, rounds, "{crew}");
+    assert_eq!(rt; answer.nodes, nodes, "{crew}");
+}
+
+#[test]
+fn same_answer_by_any_number_of_workers(rt: HostRuntime) -> Result<(), Fail> {
+    let alloc = rt.alloc();
+    let instance = with_a_gap(alloc)?;
+    let rows = [
+        (1, (16, 10, 2, 1, 3)),
+        (2, (16, 10, 3, 2, 9)),
+        (3, (10, 10, 0, 3, 10)),
+        (1000, (10, 10, 0, 3, 10)),
+    ];
+    for workers in [1, 2, 3, 64] {
+        for (rounds, numbers) in rows {
+            let plan = Plan::new(rounds, 3, 1).ok_or("a plan within the limits")?;
+            let mut lock = LockCrew::new(workers, OpenGate).ok_or("1 to 64 workers")?;
+            let mut board = BoardCrew::new(workers, OpenGate).ok_or("1 to 64 workers")?;
+            assert_answer(
+                &rt,
+                &run(&rt, alloc, &instance, &plan, &mut lock)?,
+                numbers,
+                "lock",
+            );
+            assert_answer(
+                &rt,
+                &run(&rt, alloc, &instance, &plan, &mut board)?,
+                numbers,
+                "board",
+            );
+        }
+    }
+    Ok(())
+}
+
+#[test]
+fn crews_have_1_to_64_workers(rt: HostRuntime) {
+    for (workers, within) in [(0, false), (1, true), (64, true), (65, false)] {
+        let lock = LockCrew::new(workers, OpenGate);
+        assert_eq!(rt; lock.is_some(), within, "{workers} workers");
+        let board = BoardCrew::new(workers, OpenGate);
+        assert_eq!(rt; board.is_some(), within, "{workers} workers");
+    }
+}
+
+// How many workers met, and which worker searched piece 0 and which piece 1.
+#[derive(Clone, Copy, Debug, PartialEq)]
+struct Met {
+    count: usize,
+    workers: [usize; 2],
+}
+
+const NOBODY: Met = Met {
+    count: 0,
+    workers: [usize::MAX, usize::MAX],
+};
+
+// Holds back whoever searches piece 0 or 1 until the other is searched too, for 10,000,000 turns at most.
+#[derive(Drop)]
+struct Meeting {
+    began: [AtomicBool; 2],
+    workers: [AtomicUsize; 2],
+    met: AtomicUsize,
+}
+
+impl Meeting {
+    fn new() -> Meeting {
+        Meeting {
+            began: [AtomicBool::new(false), AtomicBool::new(false)],
+            workers: [AtomicUsize::new(usize::MAX), AtomicUsize::new(usize::MAX)],
+            met: AtomicUsize::new(0),
+        }
+    }
+
+    fn met(&self) -> Met {
+        Met {
+            count: self.met.load(Ordering::SeqCst),
+            workers: [
+                self.workers[0].load(Ordering::SeqCst),
+                self.workers[1].load(Ordering::SeqCst),
+            ],
+        }
+    }
+
+    fn meet(&self, worker: usize, piece: usize) {
+        if piece >= 2 {
+            return;
+        }
+        self.workers[piece].store(worker, Ordering::SeqCst);
+        self.began[piece].store(true, Ordering::SeqCst);
+        for _ in 0..10_000_000 {
+            if self.began[1 - piece].load(Ordering::SeqCst) {
+                self.met.fetch_add(1, Ordering::SeqCst);
+                return;
+            }
+            thread::yield_now();
+        }
+    }
+}
+
+impl Gate for Meeting {
+    fn before(&self, worker: usize, piece: usize) {
+        self.meet(worker, piece);
+    }
+}
+
+impl SeatGate for Meeting {
+    fn won(&self, worker: usize, _seat: &Seat, piece: usize) {
+        self.meet(worker, piece);
+    }
+}
+
+// The entries by two workers of a crew that takes numbers under a lock, and who met.
+fn by_lock<'r, R: Threads + Wait + Sync>(
+    rt: &R,
+    alloc: Global,
+    round: &'r Round<'r>,
+) -> Result<(Vec<Entry<'r>>, Met), AllocError>
+    ensures { IfOk result (λ p. OneForEach (told round.now) p.0.items) }
+{
+    let Some(crew) = LockCrew::new(2, Meeting::new()) else {
+        return Err(AllocError);
+    };
+    let entries = crew.search_round(rt, alloc, round)?;
+    let met = crew.gate().met();
+    Ok((entries, met))
+}
+
+// The same, of a crew that claims pieces on a board.
+fn by_board<'r, R: Threads + Sync>(
+    rt: &R,
+    alloc: Global,
+    round: &'r Round<'r>,
+) -> Result<(Vec<Entry<'r>>, Met), AllocError>
+    ensures { IfOk result (λ p. OneForEach (told round.now) p.0.items) }
+{
+    let Some(crew) = BoardCrew::new(2, Meeting::new()) else {
+        return Err(AllocError);
+    };
+    let entries = crew.search_round(rt, alloc, round)?;
+    let met = crew.gate().met();
+    Ok((entries, met))
+}
+
+// Searches a round of two pieces by two workers that meet, and any other alone. Of the sheets of the two pieces that
+// took 3 nodes and found no makespan below 16 it notes how many nodes they left.
+#[derive(Drop)]
+struct MeetingCrew {
+    on_a_board: bool,
+    met: Met,
+    left: [Option<usize>; 2],
+}
+
+impl<R: Threads + Wait + Sync> Crew<R> for MeetingCrew {
+    ghost ready = { IsSync R.row };
+
+    fn search<'r>(
+        &mut self,
+        rt: &R,
+        alloc: Global,
+        round: &'r Round<'r>,
+    ) -> Result<Vec<Entry<'r>>, AllocError> {
+        if round.pieces.len() != 2 {
+            return Alone.search(rt, alloc, round);
+        }
+        let (entries, met) = if self.on_a_board {
+            by_board(rt, alloc, round)?
+        } else {
+            by_lock(rt, alloc, round)?
+        };
+        self.met = met;
+        for (entry, left) in entries.iter().zip(&mut self.left) {
+            if let Kind::Done(sheet) = &entry.kind
+                && sheet.makespan == 16
+                && sheet.taken == 3
+            {
+                *left = Some(sheet.left.len());
+            }
+        }
+        Ok(entries)
+    }
+}
+
+#[test]
+fn two_workers_meet_at_the_gate(rt: HostRuntime) -> Result<(), Fail> {
+    let alloc = rt.alloc();
+    let instance = with_a_gap(alloc)?;
+    let plan = Plan::new(2, 3, 1).ok_or("a plan within the limits")?;
+    for on_a_board in [false, true] {
+        let mut crew = MeetingCrew {
+            on_a_board,
+            met: NOBODY,
+            left: [None, None],
+        };
+        let answer = run(&rt, alloc, &instance, &plan, &mut crew)?;
+        assert_eq!(rt; crew.met.count, 2);
+        assert!(rt; [[0, 1], [1, 0]].contains(&crew.met.workers));
+        assert_eq!(rt; crew.left, [Some(1), Some(2)]);
+        assert_eq!(rt; answer.nodes, 9);
+    }
+    Ok(())
+}
+
+// Counts the pieces that are searched, and of these those by another worker than worker 0.
+#[derive(Drop)]
+struct Tally {
+    pieces: AtomicUsize,
+    by_others: AtomicUsize,
+}
+
+impl Tally {
+    fn new() -> Tally {
+        Tally {
+            pieces: AtomicUsize::new(0),
+            by_others: AtomicUsize::new(0),
+        }
+    }
+
+    fn count(&self, worker: usize) {
+        self.pieces.fetch_add(1, Ordering::SeqCst);
+        if worker != 0 {
+            self.by_others.fetch_add(1, Ordering::SeqCst);
+        }
+    }
+
+    fn counts(&self) -> (usize, usize) {
+        (
+            self.pieces.load(Ordering::SeqCst),
+            self.by_others.load(Ordering::SeqCst),
+        )
+    }
+}
+
+impl Gate for Tally {
+    fn before(&self, worker: usize, _piece: usize) {
+        self.count(worker);
+    }
+}
+
+impl SeatGate for Tally {
+    fn won(&self, worker: usize, _seat: &Seat, _piece: usize) {
+        self.count(worker);
+    }
+}
+
+#[test]
+fn one_worker_is_worker_0(rt: HostRuntime) -> Result<(), Fail> {
+    let alloc = rt.alloc();
+    let instance = with_a_gap(alloc)?;
+    let round = second_round(alloc, &instance)?;
+    let lock = LockCrew::new(1, Tally::new()).ok_or("1 to 64 workers")?;
+    lock.search_round(&rt, alloc, &round)?;
+    assert_eq!(rt; lock.gate().counts(), (2, 0));
+    let board = BoardCrew::new(1, Tally::new()).ok_or("1 to 64 workers")?;
+    board.search_round(&rt, alloc, &round)?;
+    assert_eq!(rt; board.gate().counts(), (2, 0));
+    Ok(())
+}
+
+// What became of a piece: the makespan of its sheet, the nodes taken and the nodes left; or the number that it was
+// passed by.
+#[derive(Clone, Copy, Debug, PartialEq)]
+enum Became {
+    Searched(u64, u64, usize),
+    Passed(usize),
+}
+
+fn what_became(alloc: Global, entries: &[Entry]) -> Result<Vec<Became>, AllocError> {
+    let mut all = Vec::new(alloc);
+    for entry in entries {
+        all.push(match &entry.kind {
+            Kind::Done(sheet) => Became::Searched(sheet.makespan, sheet.taken, sheet.left.len()),
+            Kind::Passed { number: _, by } => Became::Passed(*by),
+        })?;
+    }
+    Ok(all)
+}
+
+#[test]
+fn same_entries_by_each_crew(rt: HostRuntime) -> Result<(), Fail> {
+    let alloc = rt.alloc();
+    let instance = with_a_gap(alloc)?;
+    let round = second_round(alloc, &instance)?;
+    let sheets = [Became::Searched(16, 3, 1), Became::Searched(16, 3, 2)];
+    let alone = Alone.search(&rt, alloc, &round)?;
+    assert_eq!(rt; what_became(alloc, &alone)?.as_slice(), sheets.as_slice());
+    for workers in [1, 2, 64] {
+        let lock = LockCrew::new(workers, OpenGate).ok_or("1 to 64 workers")?;
+        let entries = lock.search_round(&rt, alloc, &round)?;
+        assert_eq!(rt; what_became(alloc, &entries)?.as_slice(), sheets.as_slice());
+        let board = BoardCrew::new(workers, OpenGate).ok_or("1 to 64 workers")?;
+        let entries = board.search_round(&rt, alloc, &round)?;
+        assert_eq!(rt; what_became(alloc, &entries)?.as_slice(), sheets.as_slice());
+    }
+    Ok(())
+}
+
+fn assert_closed(rt: &impl Abort, standing: &Standing) {
+    assert_eq!(rt; standing.makespan, 10);
+    assert_eq!(rt; standing.open.len(), 0);
+    assert_eq!(rt; standing.nodes, 10);
+}
+
+// The sheet of each piece, also behind one that ends at the opening bound.
+fn all_searched<'r>(alloc: Global, round: &'r Round<'r>) -> Result<Vec<Entry<'r>>, AllocError>
+    ensures { IfOk result (λ v. OneForEach (told round.now) v.items) }
+{
+    let mut entries = Vec::with_capacity(alloc, round.pieces.len())?;
+    for number in 0..round.pieces.len() {
+        entries.push(Entry::done(round, search_piece(alloc, round, number)?))?;
+    }
+    Ok(entries)
+}
+
+#[test]
+fn entries_after_a_hit_do_not_count(rt: HostRuntime) -> Result<(), Fail> {
+    let alloc = rt.alloc();
+    let instance = with_a_gap(alloc)?;
+    let round = third_round(alloc, &instance)?;
+    let passed = Alone.search(&rt, alloc, &round)?;
+    let searched = all_searched(alloc, &round)?;
+    let sheets = [
+        Became::Searched(10, 1, 0),
+        Became::Searched(12, 2, 0),
+        Became::Searched(14, 2, 0),
+    ];
+    assert_eq!(rt; what_became(alloc, &searched)?.as_slice(), sheets.as_slice());
+    assert_closed(&rt, &gather(alloc, &round, passed)?);
+    assert_closed(&rt, &gather(alloc, &round, searched)?);
+    Ok(())
+}
+
+// One worker keeps what it searched, and passes what stands behind a piece that ends at the opening bound.
+#[test]
+fn one_worker_passes_what_stands_behind_a_hit(rt: HostRuntime) -> Result<(), Fail> {
+    let alloc = rt.alloc();
+    let instance = with_a_gap(alloc)?;
+    let round = third_round(alloc, &instance)?;
+    let kinds = [
+        Became::Searched(10, 1, 0),
+        Became::Passed(0),
+        Became::Passed(0),
+    ];
+    let alone = Alone.search(&rt, alloc, &round)?;
+    assert_eq!(rt; what_became(alloc, &alone)?.as_slice(), kinds.as_slice());
+    let lock = LockCrew::new(1, OpenGate).ok_or("1 to 64 workers")?;
+    let by_lock = lock.search_round(&rt, alloc, &round)?;
+    assert_eq!(rt; what_became(alloc, &by_lock)?.as_slice(), kinds.as_slice());
+    let board = BoardCrew::new(1, OpenGate).ok_or("1 to 64 workers")?;
+    let by_board = board.search_round(&rt, alloc, &round)?;
+    assert_eq!(rt; what_became(alloc, &by_board)?.as_slice(), kinds.as_slice());
+    Ok(())
+}
