@@ -1,14 +1,18 @@
 -- The entries of a round, in number order.
 use Rattle.std.proofs.Common.{◌≡◌, ℕ, zero, suc, ◌<◌, true, false, Global, Vec, vec_len, Option, Some, None, List, []}
 use Rattle.std.proofs.Common.{◌∷◌, length, get_or, sym, ◌∙◌, ap, subst, arith, zero-add}
-use Rattle.std.specs.Prelude.{slice_index_or}
+use Rattle.std.proofs.Common.{◌+◌, ◌++◌, inl, inr}
+use Rattle.std.specs.Prelude.{slice_index_or, IfSome}
 use Rattle.std.specs.Iterator.{Yields}
 use Rattle.std.specs.Vec.Iter.{into_iter_items, into_iter_len, into_iter_steps}
 use Rattle.std.specs.declared.vec.IntoIter.{IntoIter}
 use Rattle.std.proofs.lemmas.Iterator.{YieldsList}
 use Rattle.std.proofs.lemmas.Iterator.Adapters.{YieldsList-from_vec}
 use Rattle.std.proofs.lemmas.Iterator.Consumers.{YieldsList-turn, YieldsList-end}
-use Rattle.std.proofs.lemmas.List.{length-map}
+use Rattle.std.proofs.Math.ListN.{get_or-append}
+use Rattle.std.proofs.Math.Seq.{get_or-append_seam}
+use Rattle.std.proofs.lemmas.Bool.{cases_eq}
+use Rattle.std.proofs.lemmas.List.{length-map, length_push}
 use Rattle.shop_tree.specs.Nodes.{words_of}
 use Rattle.shop_tree.specs.Sheets.{IsSheetOf}
 use Rattle.shop_tree.specs.declared.pieces.Piece.{Piece}
@@ -80,3 +84,36 @@ searched r n q s h at of =
     in let words = ap (λ (p : Piece). words_of p.nodes.items) of.of_piece
     ∙ (words_at r.pieces.items n q h at ∙ ap (λ k. slice_index_or (pieces_in r.pieces.items) k []) (sym number))
     in record { of_round = (of.of_instance, of.of_best, of.of_budget, (omega arith), words); number = number }
+
+-- entries of the pieces below n, in number order, and one more
+pub record AreEntriesUpTo (r : Told) (es : List Entry) (n : ℕ) : Type 0 where
+  pub count : length es ≡ n
+  pub each : (k : ℕ) (d : Entry) → k < n → IsEntryOf r k (slice_index_or es k d)
+
+pub one_entry_more : (r : Told) (es new : List Entry) (n : ℕ) (e : Entry) → AreEntriesUpTo r es n
+    → new ≡ es ++ e ∷ [] → IsEntryOf r n e → AreEntriesUpTo r new (n + 1)
+one_entry_more r es new n e up added is = record {
+  count = ap (λ (xs : List Entry). length xs) added ∙ (length_push es e ∙ ap (λ k. k + 1) up.count);
+  each = λ k d h. subst (λ (xs : List Entry). IsEntryOf r k (slice_index_or xs k d)) (sym added) (at k d h);
+}
+  where
+    at : (k : ℕ) (d : Entry) → k < n + 1 → IsEntryOf r k (get_or (es ++ e ∷ []) k d)
+    at k d h = elim (cases_eq k n) [
+      | inl same ↦
+          let here : get_or (es ++ e ∷ []) k d ≡ e = ap (λ i. get_or (es ++ e ∷ []) i d) (same ∙ sym up.count)
+          ∙ get_or-append_seam es e [] d
+          in subst (IsEntryOf r k) (sym here) (subst (λ i. IsEntryOf r i e) (sym same) is)
+      | inr other ↦
+          let below : k < length es = (let a = up.count in omega arith)
+          in subst (IsEntryOf r k) (sym (get_or-append es (e ∷ []) d k below)) (up.each k d (omega arith))
+    ]
+
+-- all of them
+pub all_entries : (r : Told) (es : List Entry) (n : ℕ) → n ≡ length r.pieces → AreEntriesUpTo r es n → OneForEach r es
+all_entries r es n e up = (up.count ∙ e, λ k d h. up.each k d (let a = up.count in omega arith))
+
+-- the piece that ends at the opening bound, if one is known, is below the next one too
+pub still_below : (r : Told) (n : ℕ) (hit : Option ℕ) → IfSome hit (λ h. (h < n) × (is_hit r h ≡ true))
+    → IfSome hit (λ h. (h < n + 1) × (is_hit r h ≡ true))
+still_below r n None h = tt
+still_below r n (Some x) h = ((let a = h.0 in omega arith), h.1)

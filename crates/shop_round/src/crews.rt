@@ -1,11 +1,11 @@
 // Crews, who search the pieces of a round, and the crew of the calling thread alone.
-ghost use Rattle.std.specs.Prelude.{◌≡◌, ◌<◌, ◌==◌, length, IfOk};
+ghost use Rattle.std.specs.Prelude.{◌≡◌, ◌<◌, ◌==◌, length, IfOk, OnOk};
 ghost use Rattle.shop_round.specs.Entries.{told, is_hit, IsOf};
 ghost use Rattle.shop_round.specs.Crews.{OneForEach};
 
 use crate::entries::Entry;
 use crate::rounds::Round;
-use shop_tree::{Sheet, search};
+use shop_tree::{Searcher, Sheet};
 use std::alloc::{AllocError, Global};
 
 /// Who searches the pieces of a round.
@@ -24,7 +24,23 @@ pub trait Crew<R> {
         ensures { IfOk result (λ v. OneForEach (told round.now) v.items) };
 }
 
-/// The sheet of a piece of the round. Fails with `AllocError` if memory runs out.
+/// The sheet of a piece of the round, by a searcher for its instance. Fails with `AllocError` if memory runs out.
+pub fn search_piece_with<'r>(
+    alloc: Global,
+    searcher: &mut Searcher<'r>,
+    round: &'r Round<'r>,
+    number: usize,
+) -> Result<Sheet<'r>, AllocError>
+    requires piece { number < length round.now.pieces.items }
+    requires instance { searcher.old ≡ round.now.instance.now }
+    ensures of { IfOk result (λ s. IsOf (told round.now) s × (s.number ≡ number)) }
+    ensures hit { IfOk result (λ s. is_hit (told round.now) number ≡ (s.makespan == round.now.bound)) }
+    ensures instance { OnOk result (searcher.new ≡ round.now.instance.now) }
+{
+    searcher.search(alloc, &round.pieces[number], round.best, round.budget)
+}
+
+/// The sheet of a piece of the round, by a searcher of its own. Fails with `AllocError` if memory runs out.
 pub fn search_piece<'r>(
     alloc: Global,
     round: &'r Round<'r>,
@@ -34,13 +50,8 @@ pub fn search_piece<'r>(
     ensures of { IfOk result (λ s. IsOf (told round.now) s × (s.number ≡ number)) }
     ensures hit { IfOk result (λ s. is_hit (told round.now) number ≡ (s.makespan == round.now.bound)) }
 {
-    search(
-        alloc,
-        round.instance,
-        &round.pieces[number],
-        round.best,
-        round.budget,
-    )
+    let mut searcher = Searcher::new(alloc, round.instance)?;
+    search_piece_with(alloc, &mut searcher, round, number)
 }
 
 /// Searches the pieces in order, on the calling thread, and passes those behind the first that ends
@@ -58,13 +69,14 @@ impl<R> Crew<R> for Alone {
         round: &'r Round<'r>,
     ) -> Result<Vec<Entry<'r>>, AllocError> {
         let mut entries = Vec::with_capacity(alloc, round.pieces.len())?;
+        let mut searcher = Searcher::new(alloc, round.instance)?;
         let mut hit = None;
         for number in 0..round.pieces.len() {
             if let Some(by) = hit {
                 entries.push(Entry::passed(round, number, by))?;
                 continue;
             }
-            let sheet = search_piece(alloc, round, number)?;
+            let sheet = search_piece_with(alloc, &mut searcher, round, number)?;
             if sheet.makespan == round.bound {
                 hit = Some(number);
             }

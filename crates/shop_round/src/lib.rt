@@ -12,7 +12,7 @@ mod rounds;
 mod runs;
 mod standings;
 
-pub use crews::{Alone, Crew, search_piece};
+pub use crews::{Alone, Crew, search_piece, search_piece_with};
 pub use entries::{Entry, Kind};
 pub use laws::{
     answers_are_trustworthy, counts_stay_small, cuts_cover, gathering_covers,

@@ -24,16 +24,13 @@ pub fn least_bound(makespan: u64, nodes: &[Node]) -> u64
     bound
 }
 
-/// Copies of nodes, in order.
+/// The same nodes once more, in order; their words share their jobs.
 pub fn copies_of(alloc: Global, nodes: &[Node]) -> Result<Vec<Node>, AllocError>
     ensures { IfOk result (λ v. v.items ≡ nodes.now) }
 {
     let mut copies = Vec::with_capacity(alloc, nodes.len())?;
     for node in nodes {
-        copies.push(Node {
-            word: node.word.copied(alloc)?,
-            bound: node.bound,
-        })?;
+        copies.push(node.shared()?)?;
     }
     Ok(copies)
 }

@@ -4,7 +4,7 @@ ghost use Rattle.shop_tree.specs.Nodes.{IsNode, AreNodes};
 
 use crate::instances::{crossing, with_a_gap, with_zeros};
 use shop_model::{Instance, Word, fits, is_full};
-use shop_tree::{Node, Piece, Sheet, children, conflict, search};
+use shop_tree::{Node, Piece, Searcher, Sheet, children, conflict, search};
 use std::alloc::{AllocError, Global};
 use std::process::Abort;
 use std::test::Fail;
@@ -56,7 +56,15 @@ fn assert_bounds(rt: &impl Abort, sheet: &Sheet, bounds: &[u64]) {
 fn assert_left(rt: &impl Abort, sheet: &Sheet, words: &[&[usize]]) {
     assert_eq!(rt; sheet.left.len(), words.len());
     for (node, word) in sheet.left.iter().zip(words) {
-        assert_eq!(rt; node.word.jobs(), *word);
+        assert_jobs(rt, node, word);
+    }
+}
+
+fn assert_jobs(rt: &impl Abort, node: &Node, jobs: &[usize]) {
+    assert_eq!(rt; node.word.len(), jobs.len());
+    for (index, job) in jobs.iter().enumerate() {
+        assert!(rt; index < node.word.len());
+        assert_eq!(rt; node.word.job(index), *job);
     }
 }
 
@@ -93,12 +101,13 @@ fn children_by_bound(rt: HostRuntime) -> Result<(), Fail> {
     let alloc = rt.alloc();
     let instance = with_a_gap(alloc)?;
     let node = node(&rt, alloc, &instance, &[1])?;
-    assert!(&rt; !is_full(&instance, &node.word));
+    let word = node.word.to_word(alloc)?;
+    assert!(&rt; !is_full(&instance, &word));
     let children = children(alloc, &instance, &node)?;
     assert_eq!(&rt; children.len(), 2);
-    assert_eq!(&rt; children[0].word.jobs(), [1, 1].as_slice());
+    assert_jobs(&rt, &children[0], &[1, 1]);
     assert_eq!(&rt; children[0].bound, 10);
-    assert_eq!(&rt; children[1].word.jobs(), [1, 0].as_slice());
+    assert_jobs(&rt, &children[1], &[1, 0]);
     assert_eq!(&rt; children[1].bound, 12);
     Ok(())
 }
@@ -258,5 +267,37 @@ fn budget_that_ends_among_children_that_only_count(rt: HostRuntime) -> Result<()
     assert_sheet(&rt, &seven, Some(&[1, 1, 0, 1, 0, 0]), 10, 7);
     assert_left(&rt, &seven, &[&[1, 0]]);
     assert_bounds(&rt, &seven, &[12]);
+    Ok(())
+}
+
+#[test]
+fn pieces_one_after_the_other_over_one_desk(rt: HostRuntime) -> Result<(), Fail> {
+    let alloc = rt.alloc();
+    let instance = with_a_gap(alloc)?;
+    let mut searcher = Searcher::new(alloc, &instance)?;
+    let first = one_node(&rt, alloc, &instance, &[])?;
+    let sheet = searcher.search(alloc, &first, 16, 3)?;
+    assert_left(&rt, &sheet, &[&[1, 1, 0], &[1, 0]]);
+    let second = one_node(&rt, alloc, &instance, &[1, 0])?;
+    let sheet = searcher.search(alloc, &second, 16, 3)?;
+    assert_left(&rt, &sheet, &[&[1, 0, 1, 0, 1], &[1, 0, 1, 0, 0]]);
+    let third = one_node(&rt, alloc, &instance, &[1, 1, 0])?;
+    let sheet = searcher.search(alloc, &third, 16, 100)?;
+    assert_sheet(&rt, &sheet, Some(&[1, 1, 0, 1, 0, 0]), 10, 4);
+    assert_left(&rt, &sheet, &[]);
+    Ok(())
+}
+
+#[test]
+fn a_node_shared(rt: HostRuntime) -> Result<(), Fail> {
+    let alloc = rt.alloc();
+    let instance = with_a_gap(alloc)?;
+    let node = node(&rt, alloc, &instance, &[1, 1, 0])?.shared()?;
+    assert_eq!(&rt; node.bound, 10);
+    assert_jobs(&rt, &node, &[1, 1, 0]);
+    assert_eq!(&rt;
+        node.word.shared()?.to_word(alloc)?.jobs(),
+        [1, 1, 0].as_slice()
+    );
     Ok(())
 }

@@ -16,3 +16,5 @@ mod OpenLemmas
 mod AddLemmas
 mod TurnLemmas
 mod PushLemmas
+mod SmallJobs
+mod WalkerLemmas

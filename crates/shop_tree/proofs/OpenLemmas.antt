@@ -1,5 +1,5 @@
 -- What waits on a stack that is kept short, as the desk goes on to another word.
-use Rattle.std.proofs.Common.{◌≡◌, ℕ, ◌+◌, ◌-◌, ◌≤◌, Bool, true, false, Option, List, [], ◌∷◌, ◌++◌}
+use Rattle.std.proofs.Common.{◌≡◌, ℕ, ◌+◌, ◌-◌, ◌≤◌, Option, List, [], ◌∷◌, ◌++◌}
 use Rattle.std.proofs.Common.{length, map, take, reverse, refl, sym, ◌∙◌, ap, subst, arith, append_assoc, append-nil}
 use Rattle.std.specs.List.{AllByRecursion, fold}
 use Rattle.std.proofs.lemmas.List.{take-append-le, length-take-le, take-take, reverse-reverse}
@@ -10,7 +10,7 @@ use Rattle.shop_bound.specs.Bound.{lb}
 use Rattle.shop_tree.specs.Branching.{branch}
 use Rattle.shop_tree.specs.inner.Opens.{word_at, open_words, words_of_closed, entry_words, words_at, IsClosed, depth_of}
 use Rattle.shop_tree.specs.inner.Opens.{IsWaiting, IsRising, AreWaiting, Adds}
-use Rattle.shop_tree.specs.inner.Searching.{walk_stack, IsTaken}
+use Rattle.shop_tree.specs.inner.Searching.{walk_stack, entered}
 use Rattle.shop_tree.specs.inner.Walkers.{weight}
 use Rattle.shop_tree.specs.Walking.{Walk, walk}
 use Rattle.shop_tree.specs.declared.opens.Open.{Open}
@@ -209,40 +209,19 @@ pub long-child : (word : List ℕ) (o : Open) → o.depth ≤ length word → o.
 long-child word o h = let a = length-append (take o.depth word) (o.job ∷ []) in let b = length-take-le o.depth word h
     in omega arith
 
--- how a word is taken, told of the same word of the same instance
-pub same_taken : (mine shop : Shop) (given w : List ℕ) (s t : Walk) (more b : Bool) → mine ≡ shop → given ≡ w → more ≡ b
-    → IsTaken mine given s t more → IsTaken shop w s t b
-same_taken mine shop given w s t more b shops words e h =
-    subst (λ (x : Bool). IsTaken shop w s t x) e
-    (subst (λ (v : List ℕ). IsTaken shop v s t more) words
-    (subst (λ (x : Shop). IsTaken x given s t more) shops h))
-
--- the same, by the parts in which the word is given
-pub open_taken : (mine shop : Shop) (jobs last word : List ℕ) (o : Open) (s t : Walk) (more b : Bool) → mine ≡ shop
-    → jobs ≡ word → last ≡ o.job ∷ [] → more ≡ b → IsTaken mine (take o.depth jobs ++ last) s t more
-    → IsTaken shop (word_at word o) s t b
-open_taken mine shop jobs last word o s t more b shops words lasts e h =
-    same_taken mine shop (take o.depth jobs ++ last) (word_at word o) s t more b shops
-    (ap (λ (v : List ℕ). take o.depth v ++ last) words ∙ ap (λ (v : List ℕ). take o.depth word ++ v) lasts) e h
-
--- The four ways of a turn: nothing more is done of a child, its children are put on the stack, others are only counted,
--- or they are opened.
+-- The four ways of a turn: nothing more is done of a child, the walk goes on from it, others are only counted, or they
+-- are opened.
 module _ (shop : Shop) (word : List ℕ) (rest : List Waiting) (s t : Walk) where
-  pub child-done : (o : Open) → IsTaken shop (word_at word o) s t false
+  pub child-done : (o : Open) → walk shop s (word_at word o) ≡ t
       → walk_stack shop t (words_at shop word rest) ≡ walk_stack shop s (words_at shop word (rest ++ Child o ∷ []))
-  child-done o h = sym (walk-top shop s word rest (Child o) ∙ ap (λ x. walk_stack shop x (words_at shop word rest)) h.0)
+  child-done o h = sym (walk-top shop s word rest (Child o) ∙ ap (λ x. walk_stack shop x (words_at shop word rest)) h)
 
-  pub child-on : (best : ℕ) (o : Open) (new : List Waiting) → IsTaken shop (word_at word o) s t true
+  pub child-on : (o : Open) → walk shop s (word_at word o) ≡ entered shop t (word_at word o)
       → words_at shop (word_at word o) rest ≡ words_at shop word rest
-      → Adds shop best (word_at word o) (reverse (branch shop (word_at word o))) rest new
-      → walk_stack shop t (words_at shop (word_at word o) new)
+      → walk_stack shop (entered shop t (word_at word o)) (words_at shop (word_at word o) rest)
       ≡ walk_stack shop s (words_at shop word (rest ++ Child o ∷ []))
-  child-on best o new h same more =
-      let next = word_at word o
-      in ap (walk_stack shop t) (adds-words shop best next (reverse (branch shop next)) rest new more
-      ∙ ap (λ ws. ws ++ reverse (branch shop next)) same)
-      ∙ (walk_stack-append shop t (words_at shop word rest) (branch shop next)
-      ∙ sym (walk-top shop s word rest (Child o) ∙ ap (λ x. walk_stack shop x (words_at shop word rest)) h.0))
+  child-on o h same = ap (walk_stack shop (entered shop t (word_at word o))) same
+      ∙ sym (walk-top shop s word rest (Child o) ∙ ap (λ x. walk_stack shop x (words_at shop word rest)) h)
 
   pub rest-opened : (best : ℕ) (c : Closed) (next : List ℕ) (new : List Waiting)
       → words_at shop next rest ≡ words_at shop word rest → Adds shop best next (words_of_closed shop word c) rest new

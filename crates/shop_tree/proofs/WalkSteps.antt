@@ -1,10 +1,9 @@
 -- One turn of the walk of a stack of words.
-use Rattle.std.proofs.Common.{◌≡◌, ℕ, zero, suc, ◌+◌, ◌-◌, ◌≤◌, ◌<◌, inl, inr, true, false, Option, Some, List, []}
+use Rattle.std.proofs.Common.{◌≡◌, ℕ, zero, suc, ◌+◌, ◌-◌, ◌≤◌, ◌<◌, inl, inr, false, Option, Some, List, []}
 use Rattle.std.proofs.Common.{◌∷◌, ◌++◌, length, map, reverse, refl, sym, ◌∙◌, ap, subst, arith, leb, length-append}
-use Rattle.shop_tree.specs.declared.nodes.Node.{Node}
 use Rattle.std.specs.List.{AllByRecursion, fold, range_with_len}
 use Rattle.std.proofs.lemmas.Bool.{cases_Bool, le-leb, leb-true}
-use Rattle.std.proofs.lemmas.List.{reverse-append, reverse-reverse, map-append, length-map}
+use Rattle.std.proofs.lemmas.List.{reverse-append, reverse-reverse, length-map}
 use Rattle.std.proofs.lemmas.List.Sums.{fold-append, length-filter, count_by-le-length}
 use Rattle.std.specs.Prelude.{nat_lt}
 use Rattle.shop_model.specs.Shop.{Shop, route_of, operation_count}
@@ -13,9 +12,7 @@ use Rattle.shop_model.specs.Word.{placing}
 use Rattle.shop_tree.specs.Branching.{branch, conflict, conflict_among, open_jobs, sort_by, insert_by, conflicts_with}
 use Rattle.shop_tree.specs.Branching.{chosen_of}
 use Rattle.shop_tree.specs.Walking.{Walk, walk, walk_within, steps_left}
-use Rattle.shop_tree.specs.Pieces.{walk_told}
-use Rattle.shop_tree.specs.inner.Searching.{walk_stack, IsTaken}
-use Rattle.shop_tree.specs.Nodes.{words_of}
+use Rattle.shop_tree.specs.inner.Searching.{walk_stack, entered_within, entered}
 
 -- words put on the stack, the last one first, are walked next
 pub walk_stack-append : (shop : Shop) (s : Walk) (ws vs : List (List ℕ)) → walk_stack shop s (ws ++ reverse vs)
@@ -58,16 +55,17 @@ module _ (shop : Shop) (found : Option (List ℕ)) (best : ℕ) (left : List (Li
     | inr e ↦ e
   ]
 
-  -- a full word is found
-  pub walk-found : (b : ℕ) → lb shop w < best → steps_left shop w ≡ 0 → walk shop
+  within-entered : (n b : ℕ) → lb shop w < best → walk_within shop n
       (record { found = found; best = best; left = left; budget = suc b }) w
-      ≡ record { found = Some w; best = lb shop w; left = left; budget = b }
-  walk-found b h e = rw e (rw (above h) refl)
+      ≡ entered_within shop n (record { found = found; best = best; left = left; budget = b }) w
+  within-entered zero b h = rw (above h) refl
+  within-entered (suc n) b h = rw (above h) refl
 
-  within-children : (n b : ℕ) → lb shop w < best → walk_within shop (suc n)
-      (record { found = found; best = best; left = left; budget = suc b }) w
-      ≡ fold (walk_within shop n) (record { found = found; best = best; left = left; budget = b }) (branch shop w)
-  within-children n b h = rw (above h) refl
+  -- from a word whose bound is below the best the walk goes on
+  pub walk-entered : (b : ℕ) → lb shop w < best
+      → walk shop (record { found = found; best = best; left = left; budget = suc b }) w
+      ≡ entered shop (record { found = found; best = best; left = left; budget = b }) w
+  walk-entered b h = within-entered (steps_left shop w) b h
 
 -- each child lacks one operation less
 children_lack : (shop : Shop) (n : ℕ) (w : List ℕ) (js : List ℕ) → steps_left shop w ≡ suc n
@@ -92,17 +90,22 @@ fold_within shop n s [] h = refl
 fold_within shop n s (w ∷ ws) h = subst (λ m. fold (walk_within shop n) (walk_within shop n s w) ws
     ≡ fold (walk shop) (walk_within shop m s w) ws) (sym h.0) (fold_within shop n (walk_within shop n s w) ws h.1)
 
--- of another word the children are walked
-pub walk-children : (shop : Shop) (found : Option (List ℕ)) (best : ℕ) (left : List (List ℕ)) (w : List ℕ) (b n : ℕ)
-    → lb shop w < best → steps_left shop w ≡ suc n
-    → walk shop (record { found = found; best = best; left = left; budget = suc b }) w
-    ≡ fold (walk shop) (record { found = found; best = best; left = left; budget = b }) (branch shop w)
-walk-children shop found best left w b n h e =
-    ap (λ m. walk_within shop m (record { found = found; best = best; left = left; budget = suc b }) w) e
-    ∙ (within-children shop found best left w n b h
-    ∙ fold_within shop n (record { found = found; best = best; left = left; budget = b }) (branch shop w)
+-- of a word that isn't full the children are walked
+pub entered-children : (shop : Shop) (t : Walk) (w : List ℕ) → length w < operation_count shop
+    → entered shop t w ≡ fold (walk shop) t (branch shop w)
+entered-children shop t w short =
+    let n = steps_left shop w - 1
+    in let e : steps_left shop w ≡ suc n = omega arith
+    in ap (λ m. entered_within shop m t w) e
+    ∙ fold_within shop n t (branch shop w)
     (all_sort (λ v. steps_left shop v ≡ n) (lb shop) (map (λ j. w ++ j ∷ []) (conflict shop w))
-    (children_lack shop n w (conflict shop w) e)))
+    (children_lack shop n w (conflict shop w) e))
+
+-- a full word is found
+pub entered-full : (shop : Shop) (t : Walk) (w : List ℕ) → operation_count shop ≤ length w
+    → entered shop t w ≡ record t { found = Some w; best = lb shop w }
+entered-full shop t w long =
+    let e : steps_left shop w ≡ 0 = omega arith in ap (λ m. entered_within shop m t w) e
 
 -- there are no more children than jobs
 pub length-insert_by : {A : Type 0} (key : A → ℕ) (x : A) (ys : List A) → length (insert_by key x ys) ≡ suc (length ys)
@@ -133,29 +136,6 @@ branch_few shop w =
     few [] = omega arith
     few (j ∷ js) = let test = conflicts_with shop (placing shop w) (chosen_of shop (placing shop w) j js)
         in let a = length-filter test (j ∷ js) in let b = count_by-le-length test (j ∷ js) in omega arith
-
--- How a word is taken, by what becomes of it.
-module _ (shop : Shop) (found : Option (List ℕ)) (best : ℕ) (left : List Node) (w : List ℕ) where
-  pub taken-left : (budget : ℕ) (node : Node) (more : List Node) → budget ≡ 0 → node.word ≡ w → more ≡ left ++ node ∷ []
-      → IsTaken shop w (walk_told found best left budget) (walk_told found best more budget) false
-  taken-left budget node more e word m =
-      let words : words_of more ≡ words_of left ++ w ∷ [] = ap words_of m
-      ∙ (map-append (λ (v : Node). v.word) left (node ∷ []) ∙ ap (λ v. words_of left ++ v ∷ []) word)
-      in (
-        walk-left shop found best (words_of left) w budget e
-            ∙ ap (λ ws. record { found = found; best = best; left = ws; budget = budget }) (sym words),
-        omega arith,
-        omega arith,
-      )
-
-  pub taken-more : (budget : ℕ) → 0 < budget → lb shop w < best → length w < operation_count shop
-      → IsTaken shop w (walk_told found best left budget) (walk_told found best left (budget - 1)) true
-  taken-more budget some lt short = (
-    ap (λ b. walk shop (walk_told found best left b) w) (let s : budget ≡ suc (budget - 1) = omega arith in s)
-        ∙ walk-children shop found best (words_of left) w (budget - 1) (steps_left shop w - 1) lt (omega arith),
-    omega arith,
-    omega arith,
-  )
 
 -- words whose bounds reach the best are only counted
 pub walk-counts : (shop : Shop) (found : Option (List ℕ)) (best : ℕ) (left ws : List (List ℕ)) (budget : ℕ)

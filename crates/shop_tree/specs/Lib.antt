@@ -4,4 +4,5 @@ pub mod Nodes
 pub mod Laws
 pub mod Pieces
 pub mod Sheets
+pub mod SharedWords
 pub mod inner

@@ -8,6 +8,7 @@ ghost use Rattle.shop_tree.specs.Nodes.{IsNode, AreNodes, words_of};
 use crate::moving::go_to;
 use crate::nodes::Node;
 use crate::pushing::gather_children;
+use crate::shared_words::{SharedWord, path_of};
 use shop_bound::Desk;
 use shop_model::Instance;
 use std::alloc::{AllocError, Global};
@@ -22,8 +23,10 @@ pub fn children(alloc: Global, instance: &Instance, node: &Node) -> Result<Vec<N
     ensures better { IfOk result (λ v. HaveBetterChildren instance.now node.now.word (words_of v.items)) }
 {
     let mut desk = Desk::new(alloc, instance)?;
-    go_to(&mut desk, node.word.jobs());
+    go_to(&mut desk, &node.word);
     desk.keeps_word();
+    let path = path_of(alloc, desk.jobs())?;
+    let depth = path.len();
     let mut jobs = Vec::with_capacity(alloc, instance.jobs())?;
     let mut opens = Vec::with_capacity(alloc, instance.jobs())?;
     gather_children(
@@ -36,7 +39,7 @@ pub fn children(alloc: Global, instance: &Instance, node: &Node) -> Result<Vec<N
     )?;
     let mut children = Vec::with_capacity(alloc, opens.len())?;
     while let Some(child) = opens.pop() {
-        let word = node.word.followed_by(alloc, child.job)?;
+        let word = SharedWord::along(&path, depth, child.job)?;
         let bound = child.bound;
         children.push(Node { word, bound }).unwrap();
     }

@@ -12,7 +12,9 @@ mod pieces;
 mod placings;
 mod progress;
 mod pushing;
+mod searchers;
 mod searching;
+mod shared_words;
 mod sheets;
 mod walkers;
 
@@ -21,5 +23,7 @@ pub use child_nodes::children;
 pub use laws::{branching_loses_no_table, searches_lose_no_table};
 pub use nodes::Node;
 pub use pieces::Piece;
+pub use searchers::Searcher;
 pub use searching::search;
+pub use shared_words::SharedWord;
 pub use sheets::Sheet;

@@ -3,6 +3,7 @@ ghost use Rattle.std.specs.Prelude.{◌≡◌, ◌≤◌, length, take};
 ghost use Rattle.shop_model.specs.Word.{IsWord};
 ghost use Rattle.shop_tree.specs.inner.Moving.{at_word, IsCommonLength};
 
+use crate::shared_words::SharedWord;
 use shop_bound::Desk;
 
 /// Takes back all but this many entries.
@@ -15,12 +16,13 @@ pub(crate) fn undo_to(desk: &mut Desk, depth: usize)
     }
 }
 
-/// How many entries two words begin with in common.
-fn common_length(a: &[usize], b: &[usize]) -> usize
-    ensures { IsCommonLength a.now b.now result }
+/// How many entries these jobs and a word begin with in common.
+fn common_length(jobs: &[usize], word: &SharedWord) -> usize
+    ensures { IsCommonLength jobs.now word.now result }
 {
+    let most = jobs.len().min(word.len());
     let mut common = 0;
-    while common < a.len() && common < b.len() && a[common] == b[common] {
+    while common < most && jobs[common] == word.job(common) {
         common += 1;
     }
     common
@@ -28,13 +30,13 @@ fn common_length(a: &[usize], b: &[usize]) -> usize
 
 /// Brings the desk to this word, one of the instance: takes back what lies beyond the entries in common, and dispatches
 /// the rest.
-pub(crate) fn go_to(desk: &mut Desk, word: &[usize])
+pub(crate) fn go_to(desk: &mut Desk, word: &SharedWord)
     requires { IsWord desk.old.shop word.now }
     ensures { desk.new ≡ at_word desk.old word.now }
 {
     let common = common_length(desk.jobs(), word);
     undo_to(desk, common);
-    for &job in &word[common..] {
-        desk.dispatch(job);
+    for index in common..word.len() {
+        desk.dispatch(word.job(index));
     }
 }

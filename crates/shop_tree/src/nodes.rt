@@ -3,6 +3,7 @@ ghost use Rattle.std.specs.Prelude.{◌≡◌, IfOk};
 ghost use Rattle.shop_model.specs.Word.{IsWord};
 ghost use Rattle.shop_bound.specs.Bound.{lb};
 
+use crate::shared_words::SharedWord;
 use shop_bound::lower_bound;
 use shop_model::{Instance, Word};
 use std::alloc::{AllocError, Global};
@@ -10,17 +11,29 @@ use std::alloc::{AllocError, Global};
 /// A word and its lower bound, in units of time.
 #[derive(Drop)]
 pub struct Node {
-    pub word: Word,
+    pub word: SharedWord,
     pub bound: u64,
 }
 
 impl Node {
-    /// The node of this word, which fits the instance, with its lower bound. An error where memory is refused.
+    /// The node of this word, which fits the instance, with its lower bound. Fails with `AllocError` if memory runs out.
     pub fn new(alloc: Global, instance: &Instance, word: Word) -> Result<Node, AllocError>
         requires { IsWord instance.now word }
         ensures { IfOk result (λ n. (n.word ≡ word) × (n.bound ≡ lb instance.now word)) }
     {
         let bound = lower_bound(alloc, instance, &word)?;
+        instance.keeps_limits();
+        let word = SharedWord::of_jobs(alloc, word.jobs())?;
         Ok(Node { word, bound })
+    }
+
+    /// The same node once more, whose word shares its jobs with this one. Takes no memory.
+    pub fn shared(&self) -> Result<Node, AllocError>
+        ensures { IfOk result (λ n. n ≡ self.now) }
+    {
+        Ok(Node {
+            word: self.word.shared()?,
+            bound: self.bound,
+        })
     }
 }

@@ -1,13 +1,12 @@
 // What a walk carries.
-ghost use Rattle.std.specs.Prelude.{◌≡◌, ◌≤◌, ◌++◌, None, [], IfOk};
+ghost use Rattle.std.specs.Prelude.{◌≡◌, None, [], OnOk};
 ghost use Rattle.shop_model.specs.Shop.{operation_count};
-ghost use Rattle.shop_model.specs.Word.{IsWord};
-ghost use Rattle.shop_bound.specs.Bound.{lb};
-ghost use Rattle.shop_tree.specs.Nodes.{AreNodes};
+ghost use Rattle.shop_tree.specs.Nodes.{AreNodes, IsNode};
 
 use crate::nodes::Node;
 use shop_model::{Instance, Word};
 use std::alloc::{AllocError, Global};
+use std::mem;
 
 /// What a walk carries: the last word found, the best makespan, the nodes left, and how many more may be taken.
 #[derive(Drop)]
@@ -22,63 +21,53 @@ pub(crate) struct Progress<'a> {
     pub ghost nodes_left: { AreNodes instance.now left.items },
 }
 
-/// The word of these jobs in a row.
-fn joined(alloc: Global, front: &[usize], last: &[usize]) -> Result<Word, AllocError>
-    ensures { IfOk result (λ w. w ≡ front.now ++ last.now) }
-{
-    let mut jobs = Vec::with_capacity(alloc, front.len() + last.len())?;
-    jobs.extend_from_slice(front)?;
-    jobs.extend_from_slice(last)?;
-    Ok(Word::of_jobs(jobs))
-}
-
 impl<'a> Progress<'a> {
-    ghost use Rattle.shop_tree.specs.inner.Searching.{HasTaken, opening_walk, walked};
+    ghost use Rattle.shop_tree.specs.inner.Searching.{opening_walk, walked, with_left};
 
-    /// Nothing is found, and nothing is left.
-    pub(crate) fn new(alloc: Global, instance: &'a Instance, best: u64, budget: u64) -> Progress<'a>
-        ensures instance { result.instance.now ≡ instance.now }
-        ensures walk { walked result ≡ opening_walk best budget }
+    /// Of a walk that may take nothing.
+    pub(crate) fn new(alloc: Global, instance: &'a Instance) -> Progress<'a>
+        ensures { result.instance.now ≡ instance.now }
     {
         Progress {
             instance,
             operations: instance.operations(),
             found: None,
-            best,
+            best: 0,
             left: Vec::new(alloc),
-            budget,
+            budget: 0,
         }
     }
 
-    /// Takes a word, given in two parts, with its bound, and says whether its children are to be taken next. With no
-    /// budget it is left, and where its bound reaches the best it is cut off; a full word is found.
-    pub(crate) fn takes(
-        &mut self,
-        alloc: Global,
-        front: &[usize],
-        last: &[usize],
-        bound: u64,
-    ) -> Result<bool, AllocError>
-        requires word { IsWord self.old.instance.now (front.now ++ last.now) }
-        requires bound { bound ≡ lb self.old.instance.now (front.now ++ last.now) }
-        ensures taken { IfOk result (λ more. HasTaken self.old (front.now ++ last.now) self.new more) }
+    /// Begins a walk: nothing is found, and nothing is left.
+    pub(crate) fn begin(&mut self, alloc: Global, best: u64, budget: u64)
+        ensures walk { walked self.new ≡ opening_walk best budget }
         ensures instance { self.new.instance.now ≡ self.old.instance.now }
     {
-        if self.budget == 0 {
-            let word = joined(alloc, front, last)?;
-            self.left.push(Node { word, bound })?;
-            return Ok(false);
-        }
-        self.budget -= 1;
-        if bound >= self.best {
-            return Ok(false);
-        }
-        if front.len() + last.len() < self.operations {
-            return Ok(true);
-        }
-        let word = joined(alloc, front, last)?;
-        self.found = Some(word);
-        self.best = bound;
-        Ok(false)
+        self.found = None;
+        self.best = best;
+        self.left = Vec::new(alloc);
+        self.budget = budget;
+    }
+
+    /// Leaves a node.
+    pub(crate) fn leave(&mut self, node: Node) -> Result<(), AllocError>
+        requires { IsNode self.old.instance.now node }
+        ensures left { OnOk result (walked self.new ≡ with_left (walked self.old) node.word) }
+        ensures instance { self.new.instance.now ≡ self.old.instance.now }
+    {
+        self.left.push(node)?;
+        Ok(())
+    }
+
+    /// Ends a walk: gives what was found, and the nodes left.
+    pub(crate) fn end(&mut self, alloc: Global) -> (Option<Word>, Vec<Node>)
+        ensures found { result.0 ≡ self.old.found }
+        ensures left { result.1.items ≡ self.old.left.items }
+        ensures instance { self.new.instance.now ≡ self.old.instance.now }
+    {
+        (
+            self.found.take(),
+            mem::replace(&mut self.left, Vec::new(alloc)),
+        )
     }
 }

@@ -1,19 +1,26 @@
-// The walk of the nodes of a piece, over a desk.
-ghost use Rattle.std.specs.Prelude.{◌≡◌, ◌≤◌, length, vec_capacity, [], OnOk, IfOk};
-ghost use Rattle.shop_tree.specs.Nodes.{IsNode};
+// The walk of the nodes of pieces, over a desk that is kept from one to the next.
+ghost use Rattle.std.specs.Prelude.{◌≡◌, ◌≤◌, ◌<◌, ◌^◌, length, take, vec_capacity, [], OnOk, IfOk};
+ghost use Rattle.std.specs.Arc.{arc_slice_items};
+ghost use Rattle.shop_tree.specs.Laws.{KeepsPiece};
+ghost use Rattle.shop_tree.specs.Nodes.{IsNode, AreNodes, words_of};
+ghost use Rattle.shop_tree.specs.Sheets.{IsSheetOf, walk_of};
 ghost use Rattle.shop_bound.specs.Bound.{lb};
 
 use crate::moving::{go_to, undo_to};
 use crate::nodes::Node;
 use crate::opens::{Closed, Open, Waiting};
+use crate::pieces::Piece;
 use crate::progress::Progress;
 use crate::pushing::{gather_children, push_open, push_rest};
+use crate::shared_words::{SharedWord, path_of};
+use crate::sheets::Sheet;
 use shop_bound::Desk;
-use shop_model::Instance;
+use shop_model::{Instance, Word};
 use std::alloc::{AllocError, Global};
+use std::sync::ArcSlice;
 
-/// What has been walked, with the desk and the lists that it takes: what waits, and room for the children and the jobs
-/// of a conflict set.
+/// A walk with the desk and the lists that it takes: what waits, and room for the children and the jobs of a conflict
+/// set.
 #[derive(Drop)]
 pub(crate) struct Walker<'a> {
     pub(crate) progress: Progress<'a>,
@@ -27,23 +34,16 @@ pub(crate) struct Walker<'a> {
 
 impl<'a> Walker<'a> {
     ghost use Rattle.shop_tree.specs.declared.opens.Waiting.TheVariants.{Child, Rest};
-    ghost use Rattle.shop_tree.specs.inner.Searching.{opening_walk, walked};
-    ghost use Rattle.shop_tree.specs.inner.Walkers.{HasBranched, HasWalked, IsInOrder, IsNextOn, IsTurn};
-    ghost use Rattle.shop_tree.specs.inner.Walkers.{node_walk, stack_walk};
+    ghost use Rattle.shop_tree.specs.inner.Moving.{at_word};
+    ghost use Rattle.shop_tree.specs.inner.Walkers.{HasBranched, HasExpanded, HasWalked, IsInOrder, IsNextOn, IsTurn};
+    ghost use Rattle.shop_tree.specs.inner.Walkers.{node_walk, nodes_walk, stack_walk};
 
-    /// With nothing walked.
-    pub(crate) fn new(
-        alloc: Global,
-        instance: &'a Instance,
-        best: u64,
-        budget: u64,
-    ) -> Result<Walker<'a>, AllocError>
-        ensures progress { IfOk result (λ w. walked w.progress ≡ opening_walk best budget) }
-        ensures instance { IfOk result (λ w. w.progress.instance.now ≡ instance.now) }
-        ensures empty { IfOk result (λ w. w.stack.items ≡ []) }
+    /// For pieces of this instance. Fails with `AllocError` if memory runs out.
+    pub(crate) fn new(alloc: Global, instance: &'a Instance) -> Result<Walker<'a>, AllocError>
+        ensures { IfOk result (λ s. s.desk.shop ≡ instance.now) }
     {
         Ok(Walker {
-            progress: Progress::new(alloc, instance, best, budget),
+            progress: Progress::new(alloc, instance),
             desk: Desk::new(alloc, instance)?,
             stack: Vec::new(alloc),
             children: Vec::with_capacity(alloc, instance.jobs())?,
@@ -68,34 +68,45 @@ impl<'a> Walker<'a> {
         push_open(&mut self.stack, self.children.as_slice())
     }
 
+    /// Goes on from the desk's word, which was taken and whose bound is below the best: a full word is found, the
+    /// children of another one are put on the stack.
+    fn expand(&mut self, alloc: Global, bound: u64) -> Result<(), AllocError>
+        requires bound { bound ≡ lb self.old.desk.shop self.old.desk.word }
+        requires below { bound < self.old.progress.best }
+        requires in_order { IsInOrder self.old }
+        ensures { OnOk result (HasExpanded self.old self.new) }
+    {
+        if self.desk.jobs().len() < self.progress.operations {
+            return self.push_children(bound);
+        }
+        let jobs = self.desk.jobs().to_vec(alloc)?;
+        self.progress.found = Some(Word::of_jobs(jobs));
+        self.progress.best = bound;
+        Ok(())
+    }
+
     /// Walks an open child, which lay on top of the stack, up to its own children: these are put on the stack.
     fn walk_open(&mut self, alloc: Global, child: Open) -> Result<(), AllocError>
-        requires { IsNextOn self.old (Child child) }
+        requires some { 0 < self.old.progress.budget }
+        requires on { IsNextOn self.old (Child child) }
         ensures { OnOk result (IsTurn self.old (Child child) self.new) }
     {
-        let front = &self.desk.jobs()[..child.depth];
-        if !self
-            .progress
-            .takes(alloc, front, [child.job].as_slice(), child.bound)?
-        {
+        self.progress.budget -= 1;
+        if child.bound >= self.progress.best {
             return Ok(());
         }
         undo_to(&mut self.desk, child.depth);
         self.desk.dispatch(child.job);
-        self.push_children(child.bound)
+        self.expand(alloc, child.bound)
     }
 
-    /// Counts closed children, which lay on top of the stack. Where the budget ends among them, they are put on the
-    /// stack as open ones, whatever their bounds.
-    fn count_closed(&mut self, closed: Closed) -> Result<(), AllocError>
+    /// Puts closed children, which lay on top of the stack, on it as open ones, whatever their bounds.
+    fn open_closed(&mut self, closed: Closed) -> Result<(), AllocError>
         requires { IsNextOn self.old (Rest closed) }
-        ensures { OnOk result (IsTurn self.old (Rest closed) self.new) }
+        ensures turn { OnOk result (IsTurn self.old (Rest closed) self.new) }
+        ensures desk { OnOk result (self.new.desk ≡ at_word self.old.desk (take closed.depth self.old.desk.word)) }
+        ensures budget { OnOk result (self.new.progress ≡ self.old.progress) }
     {
-        let count = closed.count as u64;
-        if count <= self.progress.budget {
-            self.progress.budget -= count;
-            return Ok(());
-        }
         undo_to(&mut self.desk, closed.depth);
         let bound = self.desk.bound();
         gather_children(
@@ -111,32 +122,133 @@ impl<'a> Walker<'a> {
         push_open(&mut self.stack, self.children.as_slice())
     }
 
-    /// Walks what waits on the stack from its top on, depth first.
-    fn walk_stack(&mut self, alloc: Global) -> Result<(), AllocError>
-        requires { IsInOrder self.old }
+    /// Counts closed children, which lay on top of the stack. Where the budget ends among them, they are put on the
+    /// stack as open ones.
+    fn count_closed(&mut self, closed: Closed) -> Result<(), AllocError>
+        requires { IsNextOn self.old (Rest closed) }
+        ensures { OnOk result (IsTurn self.old (Rest closed) self.new) }
+    {
+        let count = closed.count as u64;
+        if count <= self.progress.budget {
+            self.progress.budget -= count;
+            return Ok(());
+        }
+        self.open_closed(closed)
+    }
+
+    /// Leaves an open child, which lay on top of the stack; the path begins with the desk's word.
+    fn leave_open(&mut self, path: &ArcSlice<u16, Global>, child: Open) -> Result<(), AllocError>
+        requires spent { self.old.progress.budget ≡ 0 }
+        requires on { IsNextOn self.old (Child child) }
+        requires path { take (length self.old.desk.word) (arc_slice_items path.now) ≡ self.old.desk.word }
+        ensures turn { OnOk result (IsTurn self.old (Child child) self.new) }
+        ensures desk { OnOk result (self.new.desk ≡ self.old.desk) }
+        ensures budget { OnOk result (self.new.progress.budget ≡ self.old.progress.budget) }
+    {
+        self.desk.keeps_word();
+        let word = SharedWord::along(path, child.depth, child.job)?;
+        let bound = child.bound;
+        self.progress.leave(Node { word, bound })
+    }
+
+    /// Leaves what waits on the stack, from its top on, over one copy of the desk's word.
+    fn leave_stack(&mut self, alloc: Global) -> Result<(), AllocError>
+        requires spent { self.old.progress.budget ≡ 0 }
+        requires in_order { IsInOrder self.old }
         ensures { OnOk result (HasWalked self.old self.new (stack_walk self.old)) }
     {
+        if self.stack.is_empty() {
+            return Ok(());
+        }
+        self.desk.keeps_word();
+        let path = path_of(alloc, self.desk.jobs())?;
         while let Some(waiting) = self.stack.pop() {
             match waiting {
-                Waiting::Child(child) => self.walk_open(alloc, child)?,
-                Waiting::Rest(closed) => self.count_closed(closed)?,
+                Waiting::Child(child) => self.leave_open(&path, child)?,
+                Waiting::Rest(closed) => self.open_closed(closed)?,
             }
         }
         Ok(())
     }
 
+    /// Walks what waits on the stack from its top on, depth first.
+    fn walk_stack(&mut self, alloc: Global) -> Result<(), AllocError>
+        requires { IsInOrder self.old }
+        ensures { OnOk result (HasWalked self.old self.new (stack_walk self.old)) }
+    {
+        while self.progress.budget > 0 {
+            let Some(waiting) = self.stack.pop() else {
+                return Ok(());
+            };
+            match waiting {
+                Waiting::Child(child) => self.walk_open(alloc, child)?,
+                Waiting::Rest(closed) => self.count_closed(closed)?,
+            }
+        }
+        self.leave_stack(alloc)
+    }
+
     /// Walks a node.
-    pub(crate) fn walk_node(&mut self, alloc: Global, node: &Node) -> Result<(), AllocError>
+    fn walk_node(&mut self, alloc: Global, node: &Node) -> Result<(), AllocError>
         requires node { IsNode self.old.progress.instance.now node.now }
         requires empty { self.old.stack.items ≡ [] }
         ensures { OnOk result (HasWalked self.old self.new (node_walk self.old node.now)) }
     {
-        let jobs = node.word.jobs();
-        if !self.progress.takes(alloc, jobs, [].as_slice(), node.bound)? {
+        if self.progress.budget == 0 {
+            return self.progress.leave(node.shared()?);
+        }
+        self.progress.budget -= 1;
+        if node.bound >= self.progress.best {
             return Ok(());
         }
-        go_to(&mut self.desk, jobs);
-        self.push_children(node.bound)?;
+        go_to(&mut self.desk, &node.word);
+        self.expand(alloc, node.bound)?;
         self.walk_stack(alloc)
+    }
+
+    /// Walks nodes in order, each depth first.
+    fn walk_nodes(&mut self, alloc: Global, nodes: &[Node]) -> Result<(), AllocError>
+        requires nodes { AreNodes self.old.progress.instance.now nodes.now }
+        requires empty { self.old.stack.items ≡ [] }
+        ensures { OnOk result (HasWalked self.old self.new (nodes_walk self.old nodes.now)) }
+    {
+        for node in nodes {
+            self.walk_node(alloc, node)?;
+        }
+        Ok(())
+    }
+
+    /// The search of a piece: its nodes in order.
+    pub(crate) fn search(
+        &mut self,
+        alloc: Global,
+        piece: &'a Piece,
+        best: u64,
+        budget: u64,
+    ) -> Result<Sheet<'a>, AllocError>
+        requires nodes { AreNodes self.old.desk.shop piece.now.nodes.items }
+        requires small { budget < 2 ^ 50 }
+        ensures of { IfOk result (λ s. IsSheetOf s self.old.desk.shop piece.now best budget) }
+        ensures keeps { IfOk result (λ s. KeepsPiece self.old.desk.shop (words_of piece.now.nodes.items) best (walk_of s)) }
+        ensures shop { OnOk result (self.new.desk.shop ≡ self.old.desk.shop) }
+    {
+        self.stack.clear();
+        self.progress.begin(alloc, best, budget);
+        self.walk_nodes(alloc, piece.nodes.as_slice())?;
+        let instance = self.progress.instance;
+        let makespan = self.progress.best;
+        let taken = budget - self.progress.budget;
+        let (found, left) = self.progress.end(alloc);
+        Ok(Sheet {
+            number: piece.number,
+            found,
+            makespan,
+            left,
+            taken,
+            instance,
+            piece,
+            best,
+            budget,
+        })
     }
 }

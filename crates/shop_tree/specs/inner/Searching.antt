@@ -2,14 +2,14 @@
 --     walk_stack shop s words           the walks of a stack of words, from its top on
 --     opening_walk best budget          a walk that begins: nothing is found, nothing is left
 --     walked progress                   what a walk carries, told by its progress
---     IsTaken shop w s t more           walking w from s comes to t, or, where there is more to do, to walking the
---                                       children of w from t
---     HasTaken before w after more      the same, told by the progress before and after
-use Rattle.std.specs.Prelude.{◌≡◌, ℕ, ◌+◌, ◌≤◌, Bool, true, false, None, List, [], reverse, fold}
+--     entered shop t w                  where a walk comes to that goes on from w, taken with a bound below the best
+--     with_left s w                     the same with one more word left
+use Rattle.std.specs.Prelude.{ℕ, zero, suc, Some, None, List, [], ◌∷◌, ◌++◌, reverse, fold}
 use Rattle.shop_model.specs.Shop.{Shop}
+use Rattle.shop_bound.specs.Bound.{lb}
 use Rattle.shop_tree.specs.Branching.{branch}
 use Rattle.shop_tree.specs.Pieces.{walk_told}
-use Rattle.shop_tree.specs.Walking.{Walk, walk}
+use Rattle.shop_tree.specs.Walking.{Walk, walk, walk_within, steps_left}
 use Rattle.shop_tree.specs.declared.progress.Progress.{Progress}
 
 abbrev pub walk_stack : Shop → Walk → List (List ℕ) → Walk
@@ -21,10 +21,14 @@ opening_walk best budget = record { found = None; best = best; left = []; budget
 abbrev pub walked : Progress → Walk
 walked p = walk_told p.found p.best p.left.items p.budget
 
-abbrev pub IsTaken : Shop → List ℕ → Walk → Walk → Bool → Type 0
-IsTaken shop w s t true =
-    (walk shop s w ≡ fold (walk shop) t (branch shop w)) × (t.budget + 1 ≡ s.budget) × (t.best ≤ s.best)
-IsTaken shop w s t false = (walk shop s w ≡ t) × (t.budget ≤ s.budget) × (t.best ≤ s.best)
+-- a full word is found, and is the new best; of another word the children are walked
+abbrev pub entered_within : Shop → ℕ → Walk → List ℕ → Walk
+entered_within shop zero t w = record t { found = Some w; best = lb shop w }
+entered_within shop (suc n) t w = fold (walk_within shop n) t (branch shop w)
 
-abbrev pub HasTaken : Progress → List ℕ → Progress → Bool → Type 0
-HasTaken before w after more = IsTaken before.instance.now w (walked before) (walked after) more
+abbrev pub entered : Shop → Walk → List ℕ → Walk
+entered shop t w = entered_within shop (steps_left shop w) t w
+
+-- one more word is left
+abbrev pub with_left : Walk → List ℕ → Walk
+with_left s w = record s { left = s.left ++ w ∷ [] }

@@ -1,17 +1,21 @@
 -- What a walker walks.
 --     stack_walk w                    the walk, from what w has walked, of all that waits on its stack
 --     node_walk w node                the walk of a node
+--     nodes_walk w nodes              the walk of nodes, in order
 --     IsInOrder w                     all that waits is told rightly
 --     IsNextOn w x                    so is x on top of it
 --     HasBranched before after        the children of the desk's word lie on the stack
+--     HasExpanded before after        what waits afterwards comes to where the walk goes on from the desk's word, and
+--                                     then from what waited before
 --     IsTurn before x after           what waits afterwards comes to the same walk as x on top of what waited before,
 --                                     and there is less to do
 --     HasWalked before after walk     this is walked afterwards, and nothing waits
-use Rattle.std.specs.Prelude.{◌≡◌, ℕ, ◌+◌, ◌*◌, ◌≤◌, ◌<◌, List, [], ◌∷◌, ◌++◌, length, reverse}
+use Rattle.std.specs.Prelude.{◌≡◌, ℕ, ◌+◌, ◌*◌, ◌≤◌, ◌<◌, List, [], ◌∷◌, ◌++◌, length, reverse, fold}
 use Rattle.shop_tree.specs.Branching.{branch}
 use Rattle.shop_tree.specs.inner.Opens.{words_at, AreWaiting, Adds}
-use Rattle.shop_tree.specs.inner.Searching.{walk_stack, walked}
+use Rattle.shop_tree.specs.inner.Searching.{walk_stack, walked, entered}
 use Rattle.shop_tree.specs.Walking.{Walk, walk}
+use Rattle.shop_tree.specs.Nodes.{words_of}
 use Rattle.shop_tree.specs.declared.nodes.Node.{Node}
 use Rattle.shop_tree.specs.declared.opens.Waiting.{Waiting}
 use Rattle.shop_tree.specs.declared.opens.Waiting.TheVariants.{Child, Rest}
@@ -36,6 +40,9 @@ IsNextOn w x = AreInOrder w (w.stack.items ++ x ∷ [])
 abbrev pub node_walk : Walker → Node → Walk
 node_walk w node = walk w.desk.shop (walked w.progress) node.word
 
+abbrev pub nodes_walk : Walker → List Node → Walk
+nodes_walk w nodes = fold (walk w.desk.shop) (walked w.progress) (words_of nodes)
+
 -- how many entries an entry can come to, with itself
 abbrev pub weight_of : Waiting → ℕ
 weight_of (Child o) = 1
@@ -55,6 +62,16 @@ pub record HasBranched (before after : Walker) : Type 0 where
   pub weight : weight after.stack.items ≤ weight before.stack.items + length before.desk.shop.jobs + 1
   pub desk : after.desk ≡ before.desk
   pub progress : after.progress ≡ before.progress
+
+pub record HasExpanded (before after : Walker) : Type 0 where
+  pub walk : stack_walk after ≡ walk_stack before.desk.shop
+      (entered before.desk.shop (walked before.progress) before.desk.word)
+      (words_at before.desk.shop before.desk.word before.stack.items)
+  pub in_order : IsInOrder after
+  pub fewer : turns_left after after.stack.items ≤ turns_left before before.stack.items + length before.desk.shop.jobs + 1
+  pub shop : after.desk.shop ≡ before.desk.shop
+  pub spent : after.progress.budget ≤ before.progress.budget
+  pub instance : after.progress.instance.now ≡ before.progress.instance.now
 
 pub record IsTurn (before : Walker) (x : Waiting) (after : Walker) : Type 0 where
   pub walk : stack_walk after ≡ walk_of_entries before (before.stack.items ++ x ∷ [])

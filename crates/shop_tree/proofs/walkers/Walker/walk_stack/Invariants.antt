@@ -2,8 +2,8 @@ use Rattle.std.proofs.Common.{◌≡◌, ◌≤◌}
 use Rattle.shop_tree.specs.inner.Walkers.{IsInOrder, stack_walk, turns_left}
 use Rattle.shop_tree.proofs.walkers.Walker.walk_stack.Given as goal
 
-abbrev pub invariant-loop-waiting : goal.invariant-loop-waiting
-invariant-loop-waiting l = record {
+abbrev pub invariant-loop-self : goal.invariant-loop-self
+invariant-loop-self l = record {
   walk : stack_walk l.self ≡ stack_walk l.fn.self;
   in_order : IsInOrder l.self;
   spent : l.self.progress.budget ≤ l.fn.self.progress.budget;
@@ -11,5 +11,5 @@ invariant-loop-waiting l = record {
   instance : l.self.progress.instance.now ≡ l.fn.self.progress.instance.now;
 }
 
-abbrev pub decreases-loop-waiting : goal.decreases-loop-waiting
-decreases-loop-waiting l = turns_left l.self l.self.stack.items
+abbrev pub decreases-loop-self : goal.decreases-loop-self
+decreases-loop-self l = turns_left l.self l.self.stack.items

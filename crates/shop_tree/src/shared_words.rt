@@ -1,0 +1,123 @@
+// Words that share their jobs with others.
+ghost use Rattle.std.specs.Prelude.{◌≡◌, ◌≤◌, ◌<◌, ◌++◌, ◌∷◌, [], length, take, slice_index, IfOk};
+ghost use Rattle.std.specs.Arc.{arc_slice_items};
+ghost use Rattle.shop_tree.specs.SharedWords.{AreSmallJobs};
+
+use shop_model::Word;
+use std::alloc::{AllocError, Global};
+use std::marker::Model;
+use std::sync::ArcSlice;
+
+/// A word that shares its jobs with others: the first `depth` jobs of a path, and one job more, if any.
+#[derive(Drop)]
+pub struct SharedWord {
+    path: ArcSlice<u16, Global>,
+    depth: u32,
+    last: Option<u16>,
+}
+
+impl Model for SharedWord {
+    ghost use Rattle.std.specs.Prelude.{List, ℕ, ◌≤◌, length};
+    ghost use Rattle.std.specs.Arc.{arc_slice_items};
+    ghost use Rattle.shop_tree.specs.SharedWords.{shared_word};
+
+    ghost Value = { List ℕ };
+
+    ghost view = { λ w. shared_word (arc_slice_items w.path) w.depth w.last };
+
+    ghost invariant = { λ w. w.depth ≤ length (arc_slice_items w.path) };
+}
+
+/// A path of these jobs, for words to share. Fails with `AllocError` if memory runs out.
+pub(crate) fn path_of(alloc: Global, jobs: &[usize]) -> Result<ArcSlice<u16, Global>, AllocError>
+    requires { AreSmallJobs jobs.now }
+    ensures { IfOk result (λ p. arc_slice_items p ≡ jobs.now) }
+{
+    let mut path = Vec::with_capacity(alloc, jobs.len())?;
+    for &job in jobs {
+        path.push(job as u16)?;
+    }
+    ArcSlice::from_vec(path)
+}
+
+impl SharedWord {
+    /// The word of these jobs. Fails with `AllocError` if memory runs out.
+    pub(crate) fn of_jobs(alloc: Global, jobs: &[usize]) -> Result<SharedWord, AllocError>
+        requires short { length jobs.now ≤ 100000 }
+        requires small { AreSmallJobs jobs.now }
+        ensures { IfOk result (λ w. w ≡ jobs.now) }
+    {
+        let path = path_of(alloc, jobs)?;
+        let depth = jobs.len() as u32;
+        Ok(SharedWord {
+            path,
+            depth,
+            last: None,
+        })
+    }
+
+    /// The first jobs of a path, so many, and this one. Takes no memory.
+    pub(crate) fn along(
+        path: &ArcSlice<u16, Global>,
+        depth: usize,
+        last: usize,
+    ) -> Result<SharedWord, AllocError>
+        requires long { depth ≤ length (arc_slice_items path.now) }
+        requires short { depth ≤ 100000 }
+        requires small { last < 65536 }
+        ensures { IfOk result (λ w. w ≡ take depth (arc_slice_items path.now) ++ last ∷ []) }
+    {
+        Ok(SharedWord {
+            path: path.clone()?,
+            depth: depth as u32,
+            last: Some(last as u16),
+        })
+    }
+
+    /// The same word once more, over the same jobs. Takes no memory.
+    pub fn shared(&self) -> Result<SharedWord, AllocError>
+        ensures { IfOk result (λ w. w ≡ self.now) }
+    {
+        Ok(SharedWord {
+            path: self.path.clone()?,
+            depth: self.depth,
+            last: self.last,
+        })
+    }
+
+    /// How many jobs the word has.
+    pub fn len(&self) -> usize
+        ensures { result ≡ length self.now }
+    {
+        let depth = self.depth as usize;
+        match self.last {
+            Some(_) => depth + 1,
+            None => depth,
+        }
+    }
+
+    /// The job at an index.
+    pub fn job(&self, index: usize) -> usize
+        requires { index < length self.now }
+        ensures { result ≡ slice_index self.now index }
+    {
+        if index < self.depth as usize {
+            return self.path.as_slice()[index] as usize;
+        }
+        let Some(last) = self.last else {
+            unreachable!();
+        };
+        last as usize
+    }
+
+    /// The word with jobs of its own. Fails with `AllocError` if memory runs out.
+    pub fn to_word(&self, alloc: Global) -> Result<Word, AllocError>
+        ensures { IfOk result (λ w. w ≡ self.now) }
+    {
+        let mut jobs = Vec::with_capacity(alloc, self.len())?;
+        for index in 0..self.len() {
+            jobs.push(self.job(index))?;
+        }
+        Ok(Word::of_jobs(jobs))
+    }
+}
