@@ -1,6 +1,8 @@
 -- What branching and the search of a piece keep.
---     HasBetter shop words starts              some table under one of the words ends no later than this one
---     IsBestOf shop opening best found         the best is the opening one where nothing was found, and else the bound
+--     HasBetter shop words starts              some table under one of the words ends no later
+--                                              than this one
+--     IsBestOf shop opening best found         the best is the opening one where nothing was
+--                                              found, and else the bound
 --                                              of a full word
 --     LosesNoTable, SearchesLoseNoTable        the laws of branching, and of the search of a piece
 use Rattle.std.specs.Prelude.{◌≡◌, ℕ, ◌≤◌, ◌⊎◌, Option, Some, None, List, Contains}
@@ -29,7 +31,8 @@ pub record HasBetterChild (shop : Shop) (w : List ℕ) (starts : Starts) : Type 
 
 -- each table under w has one under some child that ends no later
 abbrev pub HaveBetterChildren : Shop → List ℕ → List (List ℕ) → Type 0
-HaveBetterChildren shop w children = (starts : Starts) → IsUnder shop w starts → HasBetter shop children starts
+HaveBetterChildren shop w children = (starts : Starts) → IsUnder shop w starts
+    → HasBetter shop children starts
 
 -- each table under a word that isn't full has a better child
 abbrev pub LosesNoTable : Type 0
@@ -40,8 +43,8 @@ LosesNoTable = (shop : Shop) (w : List ℕ) (starts : Starts) → IsWord shop w 
 abbrev pub AreWords : Shop → List (List ℕ) → Type 0
 AreWords shop words = (w : List ℕ) → Contains words w → IsWord shop w
 
--- what is best after a search that began with `opening`: that, if nothing was found, and else the bound of the word
--- found, which is full
+-- what is best after a search that began with `opening`: that, if nothing was found, and else the
+-- bound of the word found, which is full
 abbrev pub IsBestOf : Shop → ℕ → ℕ → Option (List ℕ) → Type 0
 IsBestOf shop opening best None = best ≡ opening
 IsBestOf shop opening best (Some w) = IsFull shop w × (best ≡ lb shop w)
@@ -51,7 +54,8 @@ pub record KeepsPiece (shop : Shop) (piece : List (List ℕ)) (opening : ℕ) (s
   pub found : IsBestOf shop opening s.best s.found
   pub best : s.best ≤ opening
   pub left : AreWords shop s.left
-  -- each table under a word of the piece ends at the best or later, or no earlier than one under a word left
+  -- each table under a word of the piece ends at the best or later, or no earlier than one under a
+  -- word left
   pub tables : (starts : Starts) → HasBetter shop piece starts → (s.best ≤ end_of shop starts)
       ⊎ HasBetter shop s.left starts
 

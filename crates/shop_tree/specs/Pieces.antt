@@ -1,7 +1,10 @@
 -- The search of a piece of nodes.
---     walk_told found best left budget                             what a walk carries, told by nodes
---     IsSheet shop piece best budget found makespan left taken     what was found, the makespan, what is left and how
---                                                                  many were taken are the sheet of the piece's words
+--     walk_told found best left budget                             what a walk carries, told by
+--                                                                  nodes
+--     IsSheet shop piece best budget found makespan left taken     what was found, the makespan,
+--                                                                  what is left and how
+--                                                                  many were taken are the sheet of
+--                                                                  the piece's words
 use Rattle.std.specs.Prelude.{◌≡◌, ℕ, ◌-◌, Option, List}
 use Rattle.shop_model.specs.Shop.{Shop}
 use Rattle.shop_tree.specs.Nodes.{words_of}
@@ -10,8 +13,10 @@ use Rattle.shop_tree.specs.declared.nodes.Node.{Node}
 use Rattle.shop_tree.specs.declared.pieces.Piece.{Piece}
 
 abbrev pub walk_told : Option (List ℕ) → ℕ → List Node → ℕ → Walk
-walk_told found best left budget = record { found = found; best = best; left = words_of left; budget = budget }
+walk_told found best left budget =
+    record { found = found; best = best; left = words_of left; budget = budget }
 
 abbrev pub IsSheet : Shop → Piece → ℕ → ℕ → Option (List ℕ) → ℕ → List Node → ℕ → Type 0
 IsSheet shop piece best budget found makespan left taken =
-    walk_told found makespan left (budget - taken) ≡ sheet shop (words_of piece.nodes.items) best budget
+    walk_told found makespan left (budget - taken)
+    ≡ sheet shop (words_of piece.nodes.items) best budget

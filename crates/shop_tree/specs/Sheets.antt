@@ -15,4 +15,9 @@ pub record IsSheetOf (s : Sheet) (shop : Shop) (piece : Piece) (best budget : �
   pub of_budget : s.budget ≡ budget
 
 abbrev pub walk_of : Sheet → Walk
-walk_of s = record { found = s.found; best = s.makespan; left = words_of s.left.items; budget = s.budget - s.taken }
+walk_of s = record {
+  found = s.found;
+  best = s.makespan;
+  left = words_of s.left.items;
+  budget = s.budget - s.taken;
+}

@@ -1,5 +1,6 @@
 -- The search of one piece.
-use Rattle.std.specs.Prelude.{ℕ, zero, suc, ◌-◌, Bool, true, false, Option, Some, None, List, [], ◌∷◌, ◌++◌, length}
+use Rattle.std.specs.Prelude.{ℕ, zero, suc, ◌-◌, Bool, true, false, Option, Some, None, List, []}
+use Rattle.std.specs.Prelude.{◌∷◌, ◌++◌, length}
 use Rattle.std.specs.Prelude.{fold, nat_le}
 use Rattle.shop_model.specs.Shop.{Shop, operation_count}
 use Rattle.shop_bound.specs.Bound.{lb}
@@ -30,8 +31,8 @@ steps_left shop w = operation_count shop - length w
 abbrev pub visiting : Shop → Walk → List ℕ → (Walk → Walk) → Walk
 visiting shop s w go = taking s.budget s w (λ t. unless_cut (nat_le t.best (lb shop w)) t go)
 
--- The walk of a word that lacks this many operations. A full word is found, and is the new best; of another word the
--- children are walked in order.
+-- The walk of a word that lacks this many operations. A full word is found, and is the new best; of
+-- another word the children are walked in order.
 abbrev pub walk_within : Shop → ℕ → Walk → List ℕ → Walk
 walk_within shop zero s w = visiting shop s w (λ u. record u { found = Some w; best = lb shop w })
 walk_within shop (suc n) s w = visiting shop s w (λ u. fold (walk_within shop n) u (branch shop w))
@@ -41,4 +42,5 @@ walk shop s w = walk_within shop (steps_left shop w) s w
 
 -- the sheet of a piece
 abbrev pub sheet : Shop → List (List ℕ) → ℕ → ℕ → Walk
-sheet shop piece best budget = fold (walk shop) (record { found = None; best = best; left = []; budget = budget }) piece
+sheet shop piece best budget = fold (walk shop)
+    (record { found = None; best = best; left = []; budget = budget }) piece

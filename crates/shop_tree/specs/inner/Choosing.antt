@@ -1,6 +1,7 @@
 -- The choice among the next operations, job by job.
 --     open_below shop p n            the jobs below n with steps left, in order
---     IsChoice shop p js chosen      the next operation of the chosen one of these jobs, or none where there is no job
+--     IsChoice shop p js chosen      the next operation of the chosen one of these jobs, or none
+--                                    where there is no job
 --     placing_of placed              the placing that these lists are of
 --     IsChosen placed chosen         the choice among all jobs with steps left
 --     IsNextOf placed j n            n is the next operation of job j
@@ -16,7 +17,8 @@ use Rattle.shop_tree.specs.declared.next_operations.NextOperation.{NextOperation
 use Rattle.shop_tree.specs.declared.placings.Placed.{Placed}
 
 abbrev pub open_below : Shop → Placing → ℕ → List ℕ
-open_below shop p n = filter (λ j. nat_lt (p.steps j) (length (route_of shop j))) (range_with_len 0 n)
+open_below shop p n = filter (λ j. nat_lt (p.steps j) (length (route_of shop j)))
+    (range_with_len 0 n)
 
 abbrev pub IsChoice : Shop → Placing → List ℕ → Option NextOperation → Type 0
 IsChoice shop p [] None = Unit {0}
@@ -29,7 +31,8 @@ placing_of placed = placing placed.instance.now placed.word.now
 
 abbrev pub IsChosen : Placed → Option NextOperation → Type 0
 IsChosen placed chosen =
-    IsChoice placed.instance.now (placing_of placed) (open_jobs placed.instance.now (placing_of placed)) chosen
+    IsChoice placed.instance.now (placing_of placed)
+    (open_jobs placed.instance.now (placing_of placed)) chosen
 
 abbrev pub IsNextOf : Placed → ℕ → NextOperation → Type 0
 IsNextOf placed j n = IsNext placed.instance.now (placing_of placed) j n

@@ -1,20 +1,29 @@
--- Words that a stack keeps short: how many entries of the desk's word such a word begins with, and the job that
--- follows; and the last children of a word, which only count, told by their number.
+-- Words that a stack keeps short: how many entries of the desk's word such a word begins with, and
+-- the job that follows; and the last children of a word, which only count, told by their number.
 --     word_at word o                         the word that an open child stands for
 --     open_words word opens                  the words of open children, in order
---     words_of_closed shop word c            the words that closed children stand for, the last one first
+--     words_of_closed shop word c            the words that closed children stand for, the last
+--                                            one first
 --     entry_words shop word x                the words that an entry of the stack stands for
---     words_at shop word stack               the words of all that waits, from the bottom of the stack on
---     depth_of x                             how many entries of the desk's word an entry begins with
---     IsOpen shop word o                     the word of o is one of the instance, no longer than word and a job, with
+--     words_at shop word stack               the words of all that waits, from the bottom of the
+--                                            stack on
+--     depth_of x                             how many entries of the desk's word an entry begins
+--                                            with
+--     IsOpen shop word o                     the word of o is one of the instance, no longer than
+--                                            word and a job, with
 --                                            its bound
---     IsClosed shop best word c              there are so many children, and none has a bound below the best
---     IsWaiting shop best word x             the entry is such an open child, or such closed children
---     IsRising stack                         nothing begins with less of the desk's word than what is below it
+--     IsClosed shop best word c              there are so many children, and none has a bound
+--                                            below the best
+--     IsWaiting shop best word x             the entry is such an open child, or such closed
+--                                            children
+--     IsRising stack                         nothing begins with less of the desk's word than what
+--                                            is below it
 --     AreWaiting shop best word stack        each entry is such, and they rise
---     IsPlaceAbove bound opens i             from place i on all bounds are below this one, and the one before, if any,
+--     IsPlaceAbove bound opens i             from place i on all bounds are below this one, and
+--                                            the one before, if any,
 --                                            is not
---     AreChildren shop limit word opens n    the children of word with bounds below the limit, the first one last, and
+--     AreChildren shop limit word opens n    the children of word with bounds below the limit, the
+--                                            first one last, and
 --                                            how many others there are
 --     Adds shop best word words old new      on top of the old stack lie entries for these words
 use Rattle.std.specs.Prelude.{◌≡◌, ℕ, ◌-◌, ◌≤◌, ◌<◌, List, [], ◌∷◌, ◌++◌, length, map, reverse}
@@ -74,10 +83,12 @@ pub record AreWaiting (shop : Shop) (best : ℕ) (word : List ℕ) (stack : List
 
 pub record IsPlaceAbove (bound : ℕ) (opens : List Open) (i : ℕ) : Type 0 where
   pub within : i ≤ length opens
-  pub above : (k : ℕ) (d : Open) → i ≤ k → k < length opens → (slice_index_or opens k d).bound < bound
+  pub above : (k : ℕ) (d : Open) → i ≤ k → k < length opens
+      → (slice_index_or opens k d).bound < bound
   pub below : (d : Open) → 0 < i → bound ≤ (slice_index_or opens (i - 1) d).bound
 
-pub record AreChildren (shop : Shop) (limit : ℕ) (word : List ℕ) (opens : List Open) (n : ℕ) : Type 0 where
+pub record AreChildren (shop : Shop) (limit : ℕ) (word : List ℕ) (opens : List Open) (n : ℕ)
+    : Type 0 where
   pub others : List (List ℕ)
   pub words : branch shop word ≡ reverse (open_words word opens) ++ others
   pub count : n ≡ length others
@@ -85,7 +96,8 @@ pub record AreChildren (shop : Shop) (limit : ℕ) (word : List ℕ) (opens : Li
   pub each : AllByRecursion (IsOpen shop word) opens
   pub depth : AllByRecursion (λ o. o.depth ≡ length word) opens
 
-pub record Adds (shop : Shop) (best : ℕ) (word : List ℕ) (words : List (List ℕ)) (old new : List Waiting) : Type 0 where
+pub record Adds (shop : Shop) (best : ℕ) (word : List ℕ) (words : List (List ℕ))
+    (old new : List Waiting) : Type 0 where
   pub added : List Waiting
   pub stack : new ≡ old ++ added
   pub words_are : words_at shop word added ≡ words

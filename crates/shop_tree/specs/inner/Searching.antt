@@ -2,7 +2,8 @@
 --     walk_stack shop s words           the walks of a stack of words, from its top on
 --     opening_walk best budget          a walk that begins: nothing is found, nothing is left
 --     walked progress                   what a walk carries, told by its progress
---     entered shop t w                  where a walk comes to that goes on from w, taken with a bound below the best
+--     entered shop t w                  where a walk comes to that goes on from w, taken with a
+--                                       bound below the best
 --     with_left s w                     the same with one more word left
 use Rattle.std.specs.Prelude.{ℕ, zero, suc, Some, None, List, [], ◌∷◌, ◌++◌, reverse, fold}
 use Rattle.shop_model.specs.Shop.{Shop}

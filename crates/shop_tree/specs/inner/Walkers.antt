@@ -1,16 +1,20 @@
 -- What a walker walks.
---     stack_walk w                    the walk, from what w has walked, of all that waits on its stack
+--     stack_walk w                    the walk, from what w has walked, of all that waits on its
+--                                     stack
 --     node_walk w node                the walk of a node
 --     nodes_walk w nodes              the walk of nodes, in order
 --     IsInOrder w                     all that waits is told rightly
 --     IsNextOn w x                    so is x on top of it
 --     HasBranched before after        the children of the desk's word lie on the stack
---     HasExpanded before after        what waits afterwards comes to where the walk goes on from the desk's word, and
+--     HasExpanded before after        what waits afterwards comes to where the walk goes on from
+--                                     the desk's word, and
 --                                     then from what waited before
---     IsTurn before x after           what waits afterwards comes to the same walk as x on top of what waited before,
+--     IsTurn before x after           what waits afterwards comes to the same walk as x on top of
+--                                     what waited before,
 --                                     and there is less to do
 --     HasWalked before after walk     this is walked afterwards, and nothing waits
-use Rattle.std.specs.Prelude.{◌≡◌, ℕ, ◌+◌, ◌*◌, ◌≤◌, ◌<◌, List, [], ◌∷◌, ◌++◌, length, reverse, fold}
+use Rattle.std.specs.Prelude.{◌≡◌, ℕ, ◌+◌, ◌*◌, ◌≤◌, ◌<◌, List, [], ◌∷◌, ◌++◌, length, reverse}
+use Rattle.std.specs.Prelude.{fold}
 use Rattle.shop_tree.specs.Branching.{branch}
 use Rattle.shop_tree.specs.inner.Opens.{words_at, AreWaiting, Adds}
 use Rattle.shop_tree.specs.inner.Searching.{walk_stack, walked, entered}
@@ -23,7 +27,8 @@ use Rattle.shop_tree.specs.declared.walkers.Walker.{Walker}
 
 -- the walk of these entries on a stack, and whether they are in order
 abbrev pub walk_of_entries : Walker → List Waiting → Walk
-walk_of_entries w stack = walk_stack w.desk.shop (walked w.progress) (words_at w.desk.shop w.desk.word stack)
+walk_of_entries w stack = walk_stack w.desk.shop (walked w.progress)
+    (words_at w.desk.shop w.desk.word stack)
 
 abbrev pub AreInOrder : Walker → List Waiting → Type 0
 AreInOrder w stack = AreWaiting w.desk.shop w.progress.best w.desk.word stack
@@ -68,7 +73,8 @@ pub record HasExpanded (before after : Walker) : Type 0 where
       (entered before.desk.shop (walked before.progress) before.desk.word)
       (words_at before.desk.shop before.desk.word before.stack.items)
   pub in_order : IsInOrder after
-  pub fewer : turns_left after after.stack.items ≤ turns_left before before.stack.items + length before.desk.shop.jobs + 1
+  pub fewer : turns_left after after.stack.items
+      ≤ turns_left before before.stack.items + length before.desk.shop.jobs + 1
   pub shop : after.desk.shop ≡ before.desk.shop
   pub spent : after.progress.budget ≤ before.progress.budget
   pub instance : after.progress.instance.now ≡ before.progress.instance.now
