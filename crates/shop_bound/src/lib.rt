@@ -15,8 +15,6 @@ mod profiles;
 mod schedules;
 mod slots;
 mod tail_rows;
-#[cfg(test)]
-mod tests;
 mod thresholds;
 mod triples;
 mod unplaced;

@@ -4,6 +4,8 @@
 #[cfg(test)]
 mod boards;
 #[cfg(test)]
+mod bounds;
+#[cfg(test)]
 mod crews;
 #[cfg(test)]
 mod instances;

@@ -1,62 +1,16 @@
-// Worked bounds, and each public call once.
+// Heads, tails, bounds and desks of worked instances.
 ghost use Rattle.std.specs.Prelude.{◌≡◌};
 
-use crate::{Desk, Heads, Jackson, Placement, Triple, lower_bound, one_machine, tails};
-use shop_model::{Instance, Job, Op, Word, fits, start_word};
+use crate::instances::{crossing, of_jobs, of_rows, op, released, with_a_gap};
+use shop_bound::{Desk, Heads, Jackson, Placement, Triple, lower_bound, one_machine, tails};
+use shop_model::{Instance, Job, Word, fits, start_word};
 use std::alloc::{AllocError, Global};
 use std::test::Fail;
-
-fn op(machine: usize, time: u64) -> Op {
-    Op { machine, time }
-}
 
 fn triple(head: u64, time: u64, tail: u64) -> Triple
     ensures { result ≡ record { head = head; time = time; tail = tail } }
 {
     Triple { head, time, tail }
-}
-
-/// A: two jobs that cross.
-fn crossing(alloc: Global) -> Result<Instance, Fail> {
-    let first = vec![in alloc; op(0, 3), op(1, 2)]?;
-    let second = vec![in alloc; op(1, 2), op(0, 4)]?;
-    Ok(
-        Instance::new(2, vec![in alloc; first, second]?)
-            .ok()
-            .ok_or("limits")?,
-    )
-}
-
-/// G: a last step of time 0.
-fn with_a_gap(alloc: Global) -> Result<Instance, Fail> {
-    let first = vec![in alloc; op(0, 5), op(1, 3), op(2, 0)]?;
-    let second = vec![in alloc; op(1, 1), op(0, 1), op(2, 6)]?;
-    Ok(
-        Instance::new(3, vec![in alloc; first, second]?)
-            .ok()
-            .ok_or("limits")?,
-    )
-}
-
-/// R: a release, and a job without operations.
-fn with_a_release(alloc: Global) -> Result<Instance, Fail> {
-    let first = Job {
-        release: 0,
-        route: vec![in alloc; op(0, 3), op(1, 2)]?,
-    };
-    let second = Job {
-        release: 4,
-        route: vec![in alloc; op(1, 2), op(0, 4)]?,
-    };
-    let third = Job {
-        release: 7,
-        route: Vec::new(alloc),
-    };
-    Ok(
-        Instance::of_jobs(2, vec![in alloc; first, second, third]?)
-            .ok()
-            .ok_or("limits")?,
-    )
 }
 
 /// Fisher and Thompson's 6 jobs on 6 machines.
@@ -76,7 +30,7 @@ fn ft06(alloc: Global) -> Result<Instance, Fail> {
         vec![in alloc; op(2, 9), op(1, 3), op(4, 5), op(5, 4), op(0, 3), op(3, 1)]?,
         vec![in alloc; op(1, 3), op(3, 3), op(5, 9), op(0, 10), op(4, 4), op(2, 1)]?,
     ]?;
-    Ok(Instance::new(6, rows).ok().ok_or("limits")?)
+    of_rows(6, rows)
 }
 
 /// The bound of the word of these jobs, if they are a word.
@@ -163,7 +117,7 @@ fn heads_and_tails_of_two_jobs_that_cross(rt: HostRuntime) -> Result<(), Fail> {
 #[test]
 fn what_a_word_leaves(rt: HostRuntime) -> Result<(), Fail> {
     let alloc = rt.alloc();
-    let instance = with_a_release(alloc)?;
+    let instance = released(alloc)?;
     let word = Word::of_jobs(vec![in alloc; 1]?);
     if !fits(&instance, &word) {
         assert!(rt; false, "job 1 has a step");
@@ -191,7 +145,7 @@ fn bounds_of_words(rt: HostRuntime) -> Result<(), Fail> {
     assert_eq!(rt; bound(alloc, &gap, &[])?, Some(9));
     assert_eq!(rt; bound(alloc, &gap, &[1, 1])?, Some(10));
     assert_eq!(rt; bound(alloc, &gap, &[1, 0])?, Some(12));
-    let release = with_a_release(alloc)?;
+    let release = released(alloc)?;
     assert_eq!(rt; bound(alloc, &release, &[])?, Some(10));
     assert_eq!(rt; bound(alloc, &release, &[0, 0, 1, 1])?, Some(11));
     Ok(())
@@ -214,8 +168,25 @@ fn a_thousand_operations_on_one_machine(rt: HostRuntime) -> Result<(), Fail> {
     for _ in 0..1000 {
         rows.push(vec![in alloc; op(0, 1_000_000_000)]?)?;
     }
-    let instance = Instance::new(1, rows).ok().ok_or("limits")?;
+    let instance = of_rows(1, rows)?;
     assert_eq!(rt; bound(alloc, &instance, &[])?, Some(1_000_000_000_000));
+    Ok(())
+}
+
+#[test]
+fn a_thousand_jobs_that_visit_one_machine_a_hundred_times(rt: HostRuntime) -> Result<(), Fail> {
+    let alloc = rt.alloc();
+    let mut jobs = Vec::with_capacity(alloc, 1000)?;
+    for _ in 0..1000 {
+        let mut route = Vec::with_capacity(alloc, 100)?;
+        for _ in 0..100 {
+            route.push(op(0, 7))?;
+        }
+        jobs.push(Job { release: 0, route })?;
+    }
+    // The machine is never idle, and the last of its 100,000 operations is the last of a job.
+    let instance = of_jobs(1, jobs)?;
+    assert_eq!(rt; bound(alloc, &instance, &[])?, Some(700_000));
     Ok(())
 }
 
@@ -232,7 +203,7 @@ fn staggered(alloc: Global, long: u64) -> Result<Instance, Fail> {
             route: vec![in alloc; op(0, 1), op(1, 1)]?,
         })?;
     }
-    Ok(Instance::of_jobs(2, jobs).ok().ok_or("limits")?)
+    of_jobs(2, jobs)
 }
 
 #[test]
