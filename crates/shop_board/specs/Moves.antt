@@ -68,7 +68,7 @@ Claims s me found after =
 abbrev pub Looks : Telling
 Looks s me found after =
     (after.1 ≡ me.1) × (after.0 ≡ with_low me.0 found) × IsHitOrEnd me.0.hits found
-        × (found ≤ me.0.low)
+    × (found ≤ me.0.low)
 
 abbrev pub Marks : Telling
 Marks s me found after =

@@ -7,7 +7,9 @@ ghost use Rattle.shop_round.specs.Crews.{OneForEach};
 use crate::instances::with_a_gap;
 use crate::worked_rounds::{second_round, third_round};
 use shop_board::{BoardCrew, Gate, LockCrew, OpenGate, Seat, SeatGate};
-use shop_round::{Alone, Answer, Crew, Entry, Kind, Plan, Round, Standing, gather, run, search_piece};
+use shop_round::{
+    Alone, Answer, Crew, Entry, Kind, Plan, Round, Standing, gather, run, search_piece,
+};
 use std::alloc::{AllocError, Global};
 use std::process::Abort;
 use std::sync::Wait;
@@ -354,7 +356,10 @@ fn entries_after_a_hit_do_not_count(rt: HostRuntime) -> Result<(), Fail> {
         Became::Searched(12, 2, 0),
         Became::Searched(14, 2, 0),
     ];
-    assert_eq!(rt; what_became(alloc, &searched)?.as_slice(), sheets.as_slice());
+    assert_eq!(rt;
+        what_became(alloc, &searched)?.as_slice(),
+        sheets.as_slice()
+    );
     assert_closed(&rt, &gather(alloc, &round, passed)?);
     assert_closed(&rt, &gather(alloc, &round, searched)?);
     Ok(())

@@ -28,7 +28,7 @@ AllOfRound r lists = All (λ (l : Brought). IfOk l (λ v. OfRound r v.items)) li
 abbrev pub Placed : Told → List (Option Entry) → Type 0
 Placed r places =
     (n : ℕ) (d : Option Entry) → n < length places
-        → IfSome (slice_index_or places n d) (λ e. IsEntryOf r n e)
+    → IfSome (slice_index_or places n d) (λ e. IsEntryOf r n e)
 
 abbrev pub IsReturned : Board → Told → Seat → Brought → Type 0
 IsReturned b r s entries = IsSeatOf b s × IfOk entries (λ v. OfRound r v.items)
