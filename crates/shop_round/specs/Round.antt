@@ -37,7 +37,6 @@ abbrev pub in_order : Shop → Order → List (List ℕ) → List (List ℕ)
 in_order shop Kept ws = ws
 in_order shop Bound ws = sort_by (lb shop) ws
 
--- the words whose bound is below c
 abbrev pub words_below : Shop → ℕ → List (List ℕ) → List (List ℕ)
 words_below shop c ws = filter (λ w. nat_lt (lb shop w) c) ws
 
@@ -45,7 +44,6 @@ words_below shop c ws = filter (λ w. nat_lt (lb shop w) c) ws
 abbrev pub least_bound : Shop → ℕ → List (List ℕ) → ℕ
 least_bound shop c ws = fold (λ b w. min b (lb shop w)) c ws
 
--- the nodes that a sheet took of its budget
 abbrev pub taken_of : ℕ → Walk → ℕ
 taken_of budget s = budget - s.budget
 
@@ -59,15 +57,13 @@ abbrev pub up_to_hit : ℕ → List Walk → Option (Walk × List Walk)
 up_to_hit c [] = None
 up_to_hit c (s ∷ ss) = hit_or (s.best == c) s (up_to_hit c ss)
 
--- the word of the sheet of least makespan below that of the best word, the first such, and else the
--- best word
+-- the word of the first sheet of least makespan below that of the best word, else the best word
 abbrev pub best_word : ℕ → List ℕ → List Walk → List ℕ
 best_word best word ss = unwrap_or
     ((fold (λ b s. if nat_lt s.best b.best then s else b)
     (record { found = Some word; best = best; left = []; budget = 0 }) ss).found) word
 
--- What a round is told: the instance, the opening best with its makespan, the opening bound, the
--- budget, the pieces and the rest, and the rounds done and nodes counted before it.
+-- What a round is told: the opening best and bound; rounds and nodes are those before it.
 pub record Told : Type 0 where
   pub shop : Shop
   pub word : List ℕ
@@ -90,8 +86,7 @@ sheet_in r piece = sheet r.shop piece r.best r.budget
 abbrev pub sheets_of : Told → List Walk
 sheets_of r = map (sheet_in r) r.pieces
 
--- the result of a round, by the first sheet that ends at the opening bound, with those counted, if
--- one does
+-- the result of a round, by the first sheet that ends at the opening bound, if one does
 abbrev pub after_round : Told → List Walk → Option (Walk × List Walk) → Stand
 after_round r sheets (Some (h, counted)) =
     record {
@@ -135,11 +130,9 @@ cut_of shop plan s =
       nodes = s.nodes;
     }
 
--- one round
 abbrev pub round : Shop → Planned → Stand → Stand
 round shop plan s = gathered (cut_of shop plan s)
 
--- where a search begins
 abbrev pub opening : Shop → Stand
 opening shop = let w = start_jobs shop
     in record {
@@ -162,7 +155,6 @@ rounds_from shop plan (suc n) s = unless_closed s.open_words s
 abbrev pub answer : Shop → Planned → Stand
 answer shop plan = rounds_from shop plan plan.rounds (opening shop)
 
--- the makespan and the bound of an answer
 abbrev pub makespan_of : Shop → Stand → ℕ
 makespan_of shop s = lb shop s.word
 

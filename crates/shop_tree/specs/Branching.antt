@@ -39,8 +39,7 @@ conflict_among shop p (j ∷ js) = filter (conflicts_with shop p (chosen_of shop
 abbrev pub conflict : Shop → List ℕ → List ℕ
 conflict shop w = let p = placing shop w in conflict_among shop p (open_jobs shop p)
 
--- x before the first element whose key is not below its own; the list in order of the key, ties
--- keeping their places
+-- x before the first element whose key isn't below its own: ties keep their places
 abbrev pub insert_by : {A : Type 0} → (A → ℕ) → A → List A → List A
 insert_by key x [] = x ∷ []
 insert_by key x (y ∷ ys) = if nat_le (key x) (key y) then x ∷ y ∷ ys else y ∷ insert_by key x ys

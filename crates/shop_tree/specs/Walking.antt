@@ -18,7 +18,6 @@ abbrev pub taking : ℕ → Walk → List ℕ → (Walk → Walk) → Walk
 taking zero s w go = record s { left = s.left ++ w ∷ [] }
 taking (suc b) s w go = go (record s { budget = b })
 
--- A walk that is cut off goes no further.
 abbrev pub unless_cut : Bool → Walk → (Walk → Walk) → Walk
 unless_cut true s go = s
 unless_cut false s go = go s
@@ -31,8 +30,7 @@ steps_left shop w = operation_count shop - length w
 abbrev pub visiting : Shop → Walk → List ℕ → (Walk → Walk) → Walk
 visiting shop s w go = taking s.budget s w (λ t. unless_cut (nat_le t.best (lb shop w)) t go)
 
--- The walk of a word that lacks this many operations. A full word is found, and is the new best; of
--- another word the children are walked in order.
+-- A word that lacks no operation is found, and is the best; of another the children are walked.
 abbrev pub walk_within : Shop → ℕ → Walk → List ℕ → Walk
 walk_within shop zero s w = visiting shop s w (λ u. record u { found = Some w; best = lb shop w })
 walk_within shop (suc n) s w = visiting shop s w (λ u. fold (walk_within shop n) u (branch shop w))
@@ -40,7 +38,6 @@ walk_within shop (suc n) s w = visiting shop s w (λ u. fold (walk_within shop n
 abbrev pub walk : Shop → Walk → List ℕ → Walk
 walk shop s w = walk_within shop (steps_left shop w) s w
 
--- the sheet of a piece
 abbrev pub sheet : Shop → List (List ℕ) → ℕ → ℕ → Walk
 sheet shop piece best budget = fold (walk shop)
     (record { found = None; best = best; left = []; budget = budget }) piece
