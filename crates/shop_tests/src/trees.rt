@@ -4,7 +4,7 @@ ghost use Rattle.shop_tree.specs.Nodes.{IsNode, AreNodes};
 
 use crate::instances::{crossing, with_a_gap, with_zeros};
 use shop_model::{Instance, Word, fits, is_full};
-use shop_tree::{Node, Piece, Searcher, Sheet, children, conflict, search};
+use shop_tree::{Node, Piece, Sheet, children, conflict, search};
 use std::alloc::{AllocError, Global};
 use std::process::Abort;
 use std::test::Fail;
@@ -267,24 +267,6 @@ fn budget_that_ends_among_children_that_only_count(rt: HostRuntime) -> Result<()
     assert_sheet(&rt, &seven, Some(&[1, 1, 0, 1, 0, 0]), 10, 7);
     assert_left(&rt, &seven, &[&[1, 0]]);
     assert_bounds(&rt, &seven, &[12]);
-    Ok(())
-}
-
-#[test]
-fn pieces_one_after_the_other_over_one_desk(rt: HostRuntime) -> Result<(), Fail> {
-    let alloc = rt.alloc();
-    let instance = with_a_gap(alloc)?;
-    let mut searcher = Searcher::new(alloc, &instance)?;
-    let first = one_node(&rt, alloc, &instance, &[])?;
-    let sheet = searcher.search(alloc, &first, 16, 3)?;
-    assert_left(&rt, &sheet, &[&[1, 1, 0], &[1, 0]]);
-    let second = one_node(&rt, alloc, &instance, &[1, 0])?;
-    let sheet = searcher.search(alloc, &second, 16, 3)?;
-    assert_left(&rt, &sheet, &[&[1, 0, 1, 0, 1], &[1, 0, 1, 0, 0]]);
-    let third = one_node(&rt, alloc, &instance, &[1, 1, 0])?;
-    let sheet = searcher.search(alloc, &third, 16, 100)?;
-    assert_sheet(&rt, &sheet, Some(&[1, 1, 0, 1, 0, 0]), 10, 4);
-    assert_left(&rt, &sheet, &[]);
     Ok(())
 }
 
