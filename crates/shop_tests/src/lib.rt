@@ -24,8 +24,6 @@ mod texts_readers;
 #[cfg(test)]
 mod texts_schedules;
 #[cfg(test)]
-mod texts_sizes;
-#[cfg(test)]
 mod trees;
 #[cfg(test)]
 mod worked_rounds;
