@@ -15,10 +15,11 @@ use Rattle.shop_model.specs.Word.{Placing, place_next, placing}
 use Rattle.shop_model.proofs.Placings.{place_next-is}
 use Rattle.shop_model.proofs.Unders.{placing-snoc}
 use Rattle.shop_model.proofs.WordLemmas.{IsWord-init}
-use Rattle.shop_bound.specs.KeptHeads.{HasRows, IsOfShop}
-use Rattle.shop_bound.specs.Placements.{PlacementState, IsPlacement, HasNext, IsOfWord, PlacesNext}
+use Rattle.shop_bound.specs.inner.KeptHeads.{HasRows, IsOfShop}
+use Rattle.shop_bound.specs.Placements.{PlacementState, IsPlacement}
+use Rattle.shop_bound.specs.inner.NextSteps.{HasNext, IsOfWord, PlacesNext}
 use Rattle.shop_bound.specs.Slots.{AreSlotsOf, AreMachineSlots}
-use Rattle.shop_bound.specs.Trails.{HasLast, TakesBack}
+use Rattle.shop_bound.specs.inner.TakingBack.{HasLast, TakesBack}
 use Rattle.shop_bound.specs.declared.placements.Replaced.{Replaced}
 use Rattle.shop_bound.specs.declared.slots.Slot.{Slot}
 use Rattle.shop_bound.proofs.PlacementLemmas.{about_to_place}

@@ -15,11 +15,11 @@ use Rattle.shop_model.specs.Word.{IsWord}
 use Rattle.shop_bound.proofs.PlacedEnds.{placed_end-free}
 use Rattle.shop_bound.specs.Desks.{IsBoundUpTo}
 use Rattle.shop_bound.specs.Bound.{lb}
-use Rattle.shop_bound.specs.FallingTails.{one_between}
-use Rattle.shop_bound.specs.KeptHeads.{raise_of, IsWithin, RowsWithin}
+use Rattle.shop_bound.specs.inner.NonincreasingTails.{one_between}
+use Rattle.shop_bound.specs.inner.KeptHeads.{raise_of, IsWithin, RowsWithin}
 use Rattle.shop_bound.specs.OneMachine.{one}
 use Rattle.shop_bound.specs.Placements.{PlacementState, IsPlacement}
-use Rattle.shop_bound.specs.Standings.{IsKeptUp, open_on, CoversRaised, IsWithinParts}
+use Rattle.shop_bound.specs.inner.StandingBounds.{IsKeptUp, open_on, CoversRaised, IsWithinParts}
 use Rattle.shop_bound.specs.declared.kept_heads.Raise.{Raise}
 use Rattle.shop_bound.specs.declared.slots.Slot.{Slot}
 use Rattle.shop_bound.proofs.BoundsRise.{bounds_rise}

@@ -7,16 +7,18 @@ use Rattle.shop_model.specs.Shop.{Shop, operation_count}
 use Rattle.shop_model.specs.Word.{Placing, IsWord, placing}
 use Rattle.shop_model.specs.Limits.{IsWithinLimits}
 use Rattle.shop_model.specs.Word.{none_placed}
-use Rattle.shop_bound.specs.KeptHeads.{AreHeadsOfPlacement}
+use Rattle.shop_bound.specs.inner.KeptHeads.{AreHeadsOfPlacement}
 use Rattle.shop_bound.specs.Slots.{AreMachineSlots}
 use Rattle.shop_bound.proofs.Trails.{kept_none}
 use Rattle.shop_model.proofs.Unders.{placing-snoc}
 use Rattle.shop_bound.specs.Desks.{IsDesk}
-use Rattle.shop_bound.specs.KeptHeads.{KeepsHeadsOn, KeepsHeadsBack}
-use Rattle.shop_bound.specs.Placements.{PlacementState, IsPlacement, PlacesNext}
+use Rattle.shop_bound.specs.inner.KeptHeads.{KeepsHeadsOn, KeepsHeadsBack}
+use Rattle.shop_bound.specs.Placements.{PlacementState, IsPlacement}
+use Rattle.shop_bound.specs.inner.NextSteps.{PlacesNext}
 use Rattle.shop_bound.specs.Slots.{AreHeadsKept}
-use Rattle.shop_bound.specs.Standings.{AreWithin, IsKeptUp, IsStanding}
-use Rattle.shop_bound.specs.Trails.{HasLast, TakesBack, TellsReplaced}
+use Rattle.shop_bound.specs.Standings.{AreWithin}
+use Rattle.shop_bound.specs.inner.StandingBounds.{IsKeptUp, IsStanding}
+use Rattle.shop_bound.specs.inner.TakingBack.{HasLast, TakesBack, TellsReplaced}
 use Rattle.shop_bound.specs.declared.placements.Replaced.{Replaced}
 use Rattle.shop_bound.specs.declared.slots.Slot.{Slot}
 use Rattle.shop_bound.proofs.Trails.{kept_more, kept_less, cut_last, last_placed}

@@ -11,8 +11,10 @@ use Rattle.shop_model.specs.declared.ops.Op.{Op}
 use Rattle.shop_model.specs.Limits.{IsWithinLimits}
 use Rattle.shop_model.specs.Shop.{Shop, ShopJob, no_job, no_op, route_of, machine_of, time_of}
 use Rattle.shop_model.specs.Word.{Placing}
-use Rattle.shop_bound.specs.Heads.{ready_after, head_of, head_if_left, heads_at, heads_of}
-use Rattle.shop_bound.specs.Placements.{PlacementState, IsPlacement, IsOfWord}
+use Rattle.shop_bound.specs.Heads.{ready_after, head_of, head_if_left, heads_at}
+use Rattle.shop_bound.specs.inner.HeadRows.{heads_of}
+use Rattle.shop_bound.specs.Placements.{PlacementState, IsPlacement}
+use Rattle.shop_bound.specs.inner.NextSteps.{IsOfWord}
 use Rattle.shop_bound.proofs.Entries.{placed_ends_small}
 use Rattle.shop_bound.proofs.WordLengths.{length_of_word}
 

@@ -7,7 +7,7 @@ use Rattle.shop_model.specs.Word.{Placing, place_next}
 use Rattle.shop_model.proofs.Ends.{IsOperation-job}
 use Rattle.shop_model.proofs.Placings.{place_next-is}
 use Rattle.shop_bound.specs.Heads.{head_of}
-use Rattle.shop_bound.specs.KeptHeads.{IsRowKept, IsRowAbove, AreFresh}
+use Rattle.shop_bound.specs.inner.KeptHeads.{IsRowKept, IsRowAbove, AreFresh}
 use Rattle.shop_bound.specs.Placements.{PlacementState, IsPlacement}
 use Rattle.shop_bound.specs.Slots.{slot_at, AreSlotsOf, AreHeadsKept}
 use Rattle.shop_bound.specs.declared.kept_heads.Raise.{Raise}

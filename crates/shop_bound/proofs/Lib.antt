@@ -1,4 +1,4 @@
-pub mod FallingTails
+pub mod NonincreasingTails
 pub mod ProfileLemmas
 pub mod CellLemmas
 pub mod NotedPlaces

@@ -9,12 +9,14 @@ use Rattle.std.proofs.lemmas.List.{get_or-map}
 use Rattle.shop_model.specs.Shop.{Shop, greatest_below}
 use Rattle.shop_model.specs.Word.{placing}
 use Rattle.shop_bound.specs.Bound.{waiting, triples_on, lb}
-use Rattle.shop_bound.specs.FallingTails.{one_between}
-use Rattle.shop_bound.specs.KeptHeads.{raise_of}
+use Rattle.shop_bound.specs.inner.NonincreasingTails.{one_between}
+use Rattle.shop_bound.specs.inner.KeptHeads.{raise_of}
 use Rattle.shop_bound.specs.OneMachine.{one, IsSmall}
 use Rattle.shop_bound.specs.Placements.{PlacementState}
-use Rattle.shop_bound.specs.Slots.{Falls, HasPlace, open_triples}
-use Rattle.shop_bound.specs.Standings.{IsKeptUp, IsStanding, open_on, AreWithin}
+use Rattle.shop_bound.specs.Slots.{IsNonincreasing}
+use Rattle.shop_bound.specs.inner.OpenSlots.{HasPlace, open_triples}
+use Rattle.shop_bound.specs.Standings.{AreWithin}
+use Rattle.shop_bound.specs.inner.StandingBounds.{IsKeptUp, IsStanding, open_on}
 use Rattle.shop_bound.specs.declared.kept_heads.Raise.{Raise}
 use Rattle.shop_bound.specs.declared.slots.Slot.{Slot}
 use Rattle.shop_bound.specs.declared.triples.Triple.{Triple}
@@ -29,7 +31,7 @@ pub record IsOpen (n : ℕ) (rows : List (List ℕ)) (steps : List ℕ) (xs : Li
   pub room : length xs ≤ n
   pub places : All (HasPlace rows steps) xs
   pub small : IsSmall (open_triples rows steps xs)
-  pub falling : Falls (λ s. s.tail) xs
+  pub nonincreasing : IsNonincreasing (λ s. s.tail) xs
 
 pub is_open_machine : (shop : Shop) (s : PlacementState) (slots : List (List Slot)) (rows : List (List ℕ)) (n : ℕ)
     → IsStanding shop s slots rows → AreWithin n slots → (m : ℕ) → m < shop.machines
@@ -43,7 +45,7 @@ is_open_machine shop s slots rows n standing within m known xs e steps f =
       places = slots_have_places shop p s rows m k.placed k.heads (get_or slots m []) are;
       small = (let a = open_extent shop p s rows m k.placed k.heads (get_or slots m []) are
           in let b = triples_small shop k.limits standing.of k.word m in omega arith);
-      falling = are.falls;
+      nonincreasing = are.nonincreasing;
     }
     in subst (λ (ys : List Slot). IsOpen n rows steps ys) (sym e)
     (subst (λ (zs : List ℕ). IsOpen n rows zs (get_or slots m [])) (sym f) here)

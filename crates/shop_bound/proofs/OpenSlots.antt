@@ -13,8 +13,8 @@ use Rattle.shop_bound.specs.Bound.{Waiting, waiting, triples_on}
 use Rattle.shop_bound.specs.Heads.{waiting_at, steps_left}
 use Rattle.shop_bound.specs.OneMachine.{one, extent}
 use Rattle.shop_bound.specs.Placements.{PlacementState, IsPlacement}
-use Rattle.shop_bound.specs.Slots.{slot_at, operations_in, operations_on, Falls, AreSlotsOf, AreHeadsKept}
-use Rattle.shop_bound.specs.Slots.{is_open, triple_of, open_triples}
+use Rattle.shop_bound.specs.Slots.{slot_at, operations_in, operations_on, IsNonincreasing, AreSlotsOf, AreHeadsKept}
+use Rattle.shop_bound.specs.inner.OpenSlots.{is_open, triple_of, open_triples}
 use Rattle.shop_bound.proofs.HeadWalks.{waiting_is}
 use Rattle.shop_bound.proofs.Lists.{all_map, all_append, all_filter}
 use Rattle.shop_bound.proofs.SameSums.{HaveSameSums, permuted_sums, filtered_sums, mapped_sums, same_one, same_extent}
@@ -168,8 +168,8 @@ module _ (shop : Shop) (p : Placing) (s : PlacementState) (rows : List (List ℕ
       same_extent (open_triples rows s.steps slots) (triples_on m (waiting shop p)) (open_sums slots are)
 
 -- the tails of open slots fall
-pub open_falls : (rows : List (List ℕ)) (steps : List ℕ) (slots : List Slot) → Falls (λ s. s.tail) slots
-    → Falls (λ t. t.tail) (open_triples rows steps slots)
+pub open_falls : (rows : List (List ℕ)) (steps : List ℕ) (slots : List Slot) → IsNonincreasing (λ s. s.tail) slots
+    → IsNonincreasing (λ t. t.tail) (open_triples rows steps slots)
 open_falls rows steps [] h = tt
 open_falls rows steps (s ∷ slots) h = elim (cases_Bool (is_open steps s)) [
   | inl e ↦ rw e (open_below s.tail slots h.0, open_falls rows steps slots h.1)

@@ -1,4 +1,4 @@
--- The greatest of the placed ends: it is when the last machine is free, and it never falls.
+-- The greatest of the placed ends: it is when the last machine is free, and it never gets less.
 use Rattle.std.proofs.Common.{◌≡◌, ℕ, ◌≤◌, ◌<◌, inl, inr, List, length}
 use Rattle.std.proofs.Common.{arith}
 use Rattle.std.proofs.lemmas.Bool.{cases_eq}

@@ -14,7 +14,8 @@ use Rattle.shop_model.proofs.Placings.{place_next-is}
 use Rattle.shop_model.proofs.Ends.{IsOperation-job}
 use Rattle.shop_model.proofs.Unders.{after_word, next_operation}
 use Rattle.shop_model.proofs.WordLemmas.{IsWord-init}
-use Rattle.shop_bound.specs.Placements.{PlacementState, HasPlaces, IsPlacement, HasNext}
+use Rattle.shop_bound.specs.Placements.{PlacementState, HasPlaces, IsPlacement}
+use Rattle.shop_bound.specs.inner.NextSteps.{HasNext}
 use Rattle.shop_bound.proofs.Entries.{IsWord-take, placed_ends_small}
 use Rattle.shop_bound.proofs.WordLengths.{length_of_word}
 

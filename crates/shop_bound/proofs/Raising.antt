@@ -7,8 +7,8 @@ use Rattle.std.proofs.lemmas.List.Sums.{sum_by-cons}
 use Rattle.shop_bound.specs.declared.slots.Slot.{Slot}
 use Rattle.shop_bound.specs.declared.triples.Triple.{Triple}
 use Rattle.shop_bound.specs.OneMachine.{sublists, greatest_of, least_of, span_of, one}
-use Rattle.shop_bound.specs.Slots.{is_open, triple_of, open_triples}
-use Rattle.shop_bound.specs.FallingTails.{begins_between, one_between}
+use Rattle.shop_bound.specs.inner.OpenSlots.{is_open, triple_of, open_triples}
+use Rattle.shop_bound.specs.inner.NonincreasingTails.{begins_between, one_between}
 use Rattle.shop_bound.proofs.Lists.{IsSublist, none, skip, keep, all_map, all_both, least_of-le, greatest_of-le}
 use Rattle.shop_bound.proofs.ThresholdLemmas.{le-greatest_sublist, le-least_of, sublists-are}
 

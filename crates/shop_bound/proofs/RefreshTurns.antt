@@ -5,8 +5,8 @@ use Rattle.std.proofs.lemmas.Bool.{cases_eq}
 use Rattle.std.proofs.lemmas.Grind.{get_or-set_at}
 use Rattle.std.proofs.lemmas.List.{get_or-set_other, length-set}
 use Rattle.shop_model.specs.Shop.{Shop, machine_of}
-use Rattle.shop_bound.specs.KeptHeads.{raise_of, IsWithin, AreWidened, RowWithin, HasRows, IsRowKept, IsRowAbove}
-use Rattle.shop_bound.specs.KeptHeads.{IsRowFresh, AreFresh}
+use Rattle.shop_bound.specs.inner.KeptHeads.{raise_of, IsWithin, AreWidened, RowWithin, HasRows, IsRowKept, IsRowAbove}
+use Rattle.shop_bound.specs.inner.KeptHeads.{IsRowFresh, AreFresh}
 use Rattle.shop_bound.specs.Placements.{PlacementState}
 use Rattle.shop_bound.specs.declared.kept_heads.Raise.{Raise}
 use Rattle.shop_bound.specs.declared.slots.Slot.{Slot}

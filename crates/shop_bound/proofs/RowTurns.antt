@@ -9,10 +9,10 @@ use Rattle.shop_model.specs.Limits.{IsWithinLimits}
 use Rattle.shop_model.specs.Shop.{Shop, no_op, route_of, machine_of, time_of}
 use Rattle.shop_model.specs.Word.{Placing}
 use Rattle.shop_bound.specs.Heads.{ready_after, head_of}
-use Rattle.shop_bound.specs.KeptHeads.{no_raise, raise_of, widened, IsWithin, AreWidened}
+use Rattle.shop_bound.specs.inner.KeptHeads.{no_raise, raise_of, widened, IsWithin, AreWidened}
 use Rattle.shop_bound.specs.Placements.{PlacementState, IsPlacement}
 use Rattle.shop_bound.specs.declared.kept_heads.Raise.{Raise}
-use Rattle.shop_bound.specs.KeptHeads.{IsRowKept}
+use Rattle.shop_bound.specs.inner.KeptHeads.{IsRowKept}
 use Rattle.std.proofs.Common.{[]}
 use Rattle.shop_bound.proofs.HeadTurns.{ready_more}
 

@@ -11,7 +11,8 @@ use Rattle.shop_model.specs.Shop.{Shop, route_of, machine_of, IsOperation}
 use Rattle.shop_model.specs.Word.{Placing}
 use Rattle.shop_bound.specs.declared.slots.Slot.{Slot}
 use Rattle.shop_bound.specs.Placements.{PlacementState, IsPlacement}
-use Rattle.shop_bound.specs.Slots.{slot_at, operations_in, operations_on, AreSlotsOf, AreHeadsKept, HasPlace}
+use Rattle.shop_bound.specs.Slots.{slot_at, operations_in, operations_on, AreSlotsOf, AreHeadsKept}
+use Rattle.shop_bound.specs.inner.OpenSlots.{HasPlace}
 use Rattle.shop_bound.proofs.Lists.{all_map, all_filter}
 use Rattle.shop_bound.proofs.OpenSlots.{all_flat, range_within}
 

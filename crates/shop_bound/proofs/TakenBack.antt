@@ -12,7 +12,8 @@ use Rattle.shop_model.proofs.Ends.{IsOperation-job}
 use Rattle.shop_model.proofs.Unders.{after_word, next_operation}
 use Rattle.shop_model.proofs.WordLemmas.{IsWord-init}
 use Rattle.shop_bound.specs.Placements.{PlacementState, HasPlaces, IsPlacement}
-use Rattle.shop_bound.specs.Trails.{replaced_at, HasLast, TakesBack, TellsNextEnd}
+use Rattle.shop_bound.specs.Trails.{replaced_at}
+use Rattle.shop_bound.specs.inner.TakingBack.{HasLast, TakesBack, TellsNextEnd}
 use Rattle.shop_bound.specs.declared.placements.Replaced.{Replaced}
 use Rattle.std.proofs.Common.{max, refl, ◌+◌}
 use Rattle.shop_model.specs.Shop.{time_of}

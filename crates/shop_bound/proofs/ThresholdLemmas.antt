@@ -9,7 +9,7 @@ use Rattle.shop_model.specs.Shop.{greatest_below}
 use Rattle.shop_model.proofs.Greatest.{le-greatest_below, greatest_below-le}
 use Rattle.shop_bound.specs.declared.triples.Triple.{Triple}
 use Rattle.shop_bound.specs.OneMachine.{sublists, greatest_of, least_of, span_of, one, extent}
-use Rattle.shop_bound.specs.Thresholds.{is_above, span_above, head_at, tail_at, no_triple}
+use Rattle.shop_bound.specs.inner.Thresholds.{is_above, span_above, head_at, tail_at, no_triple}
 use Rattle.shop_bound.proofs.Lists.{IsSublist, none, skip, keep, all_append, all_map, all_both, greatest_of-le}
 use Rattle.shop_bound.proofs.Lists.{least_of-le, least_of-is}
 

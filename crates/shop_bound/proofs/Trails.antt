@@ -10,8 +10,10 @@ use Rattle.shop_model.proofs.Unders.{placing-snoc}
 use Rattle.shop_model.proofs.WordLemmas.{IsWord-init}
 use Rattle.shop_bound.proofs.WordLengths.{word_within}
 use Rattle.shop_bound.specs.Desks.{DeskState, IsKept, IsUndone}
-use Rattle.shop_bound.specs.Placements.{PlacementState, IsPlacement, HasNext, IsOfWord, PlacesNext}
-use Rattle.shop_bound.specs.Trails.{replaced_at, replaced_from, HasLast, TakesBack, TellsReplaced}
+use Rattle.shop_bound.specs.Placements.{PlacementState, IsPlacement}
+use Rattle.shop_bound.specs.inner.NextSteps.{HasNext, IsOfWord, PlacesNext}
+use Rattle.shop_bound.specs.Trails.{replaced_at, replaced_from}
+use Rattle.shop_bound.specs.inner.TakingBack.{HasLast, TakesBack, TellsReplaced}
 use Rattle.shop_bound.specs.declared.placements.Replaced.{Replaced}
 
 replaced_more : (shop : Shop) (p : Placing) (w : List ℕ) (j : ℕ)

@@ -5,9 +5,9 @@ use Rattle.std.proofs.Math.ListN.{set}
 use Rattle.std.proofs.lemmas.Bool.{cases_Bool, cases_lt, le-leb, lt-leb}
 use Rattle.std.proofs.lemmas.List.Sums.{sum_by-cons, sum_by-set}
 use Rattle.shop_bound.specs.declared.schedules.Work.{Work}
-use Rattle.shop_bound.specs.Schedules.{no_work, work_at, IsFresh}
-use Rattle.shop_bound.specs.Schedules.{IsReady, turns_of, turns_left, undone_of}
-use Rattle.shop_bound.specs.Schedules.{undone}
+use Rattle.shop_bound.specs.inner.Serving.{no_work, work_at, IsFresh}
+use Rattle.shop_bound.specs.inner.Serving.{IsReady, turns_of, turns_left, undone_of}
+use Rattle.shop_bound.specs.inner.Serving.{undone}
 
 -- the turns left
 turn_of-le : (a b : ℕ) (w : Work) → a ≤ b → turns_of b w ≤ turns_of a w

@@ -8,10 +8,10 @@ use Rattle.std.proofs.lemmas.List.{get_or-set_same, get_or-set_other, length-set
 use Rattle.shop_bound.specs.declared.triples.Triple.{Triple}
 use Rattle.shop_bound.specs.declared.schedules.Work.{Work}
 use Rattle.shop_bound.specs.OneMachine.{one, greatest_of, IsSmall}
-use Rattle.shop_bound.specs.Thresholds.{is_above, span_above, head_at, tail_at}
-use Rattle.shop_bound.specs.Schedules.{no_work, work_at, triples_of, Waits, IsFresh, fresh, IsServed, IsStop}
-use Rattle.shop_bound.specs.Schedules.{IsRelease, IsReady, worked, IsBusy, IsRun, turns_left}
-use Rattle.shop_bound.specs.Schedules.{undone}
+use Rattle.shop_bound.specs.inner.Thresholds.{is_above, span_above, head_at, tail_at}
+use Rattle.shop_bound.specs.inner.Serving.{no_work, work_at, triples_of, Waits, IsFresh, fresh, IsServed, IsStop}
+use Rattle.shop_bound.specs.inner.Serving.{IsRelease, IsReady, worked, IsBusy, IsRun, turns_left}
+use Rattle.shop_bound.specs.inner.Serving.{undone}
 use Rattle.shop_model.proofs.Greatest.{greatest_below-le}
 use Rattle.shop_bound.proofs.Lists.{get_or-le-greatest_of}
 use Rattle.shop_bound.proofs.ThresholdLemmas.{thresholds, span_above-some, span_above-le, is_above-from, is_above-true}

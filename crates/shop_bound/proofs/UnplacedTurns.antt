@@ -12,9 +12,11 @@ use Rattle.shop_model.specs.Word.{Placing}
 use Rattle.shop_model.proofs.Unders.{after_word}
 use Rattle.shop_bound.specs.declared.unplaced.Unplaced.{Unplaced}
 use Rattle.shop_bound.specs.Bound.{Waiting, waiting_from, waiting_of}
-use Rattle.shop_bound.specs.Heads.{tail_in, AreTimesSmall}
-use Rattle.shop_bound.specs.Placements.{PlacementState, IsPlacement, IsOfWord}
-use Rattle.shop_bound.specs.Unplaced.{unplaced_of, unplaced_from, CanGoOn}
+use Rattle.shop_bound.specs.Heads.{tail_in}
+use Rattle.shop_bound.specs.inner.HeadRows.{AreTimesSmall}
+use Rattle.shop_bound.specs.Placements.{PlacementState, IsPlacement}
+use Rattle.shop_bound.specs.inner.NextSteps.{IsOfWord}
+use Rattle.shop_bound.specs.inner.Unplaced.{unplaced_of, unplaced_from, CanGoOn}
 use Rattle.shop_bound.proofs.HeadTurns.{ends_of_word}
 use Rattle.shop_bound.proofs.TimeSums.{sum_by-le-each}
 

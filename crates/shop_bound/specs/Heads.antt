@@ -3,14 +3,15 @@
 --     tail_of shop j k               what must follow (j, k) in its route
 --     head_if_left shop p j k        the head, if (j, k) is an operation that isn't placed
 --     WaitingIsWhatIsLeft            the operations that wait are those that aren't placed, with these heads and tails
-use Rattle.std.specs.Prelude.{◌≡◌, ℕ, zero, suc, ◌+◌, ◌-◌, ◌^◌, ◌<◌, max, ◌&&◌, nat_le, nat_lt, if◌then◌else◌, Option}
-use Rattle.std.specs.Prelude.{Some, None, [], slice_index_or, length, drop, map, sum_by, flat_map, List}
+use Rattle.std.specs.Prelude.{◌≡◌, ℕ, zero, suc, ◌+◌, ◌-◌, max, ◌&&◌, nat_le, nat_lt}
+use Rattle.std.specs.Prelude.{if◌then◌else◌, Option}
+use Rattle.std.specs.Prelude.{Some, None, [], slice_index_or, length, drop, map, sum_by, flat_map}
+use Rattle.std.specs.Prelude.{List}
 use Rattle.std.specs.List.{range_with_len}
 use Rattle.shop_model.specs.declared.ops.Op.{Op}
 use Rattle.shop_model.specs.Shop.{Shop, route_of, machine_of, time_of}
 use Rattle.shop_model.specs.Word.{Placing, placing, rows_of}
 use Rattle.shop_bound.specs.Bound.{Waiting, waiting}
-use Rattle.shop_bound.specs.Placements.{PlacementState, IsPlacement}
 
 -- When job j is ready for the n-th, from 0 on, of its steps that aren't placed: at the placed end of the step before
 -- it
@@ -31,16 +32,8 @@ tail_in route k = sum_by (λ o. o.time) (drop (k + 1) route)
 abbrev pub tail_of : Shop → ℕ → ℕ → ℕ
 tail_of shop j k = tail_in (route_of shop j) k
 
--- the tails of a route, and those of each job
-abbrev pub tails_in : List Op → List ℕ
-tails_in route = map (tail_in route) (range_with_len 0 (length route))
-
 abbrev pub AreTails : Shop → List (List ℕ) → Type 0
 AreTails shop rows = rows ≡ rows_of shop (tail_of shop)
-
--- times that can be added up
-abbrev pub AreTimesSmall : List Op → Type 0
-AreTimesSmall route = sum_by (λ o. o.time) route < 2 ^ 50
 
 -- the head of an operation that isn't placed; none for one that is, and where there is no operation
 abbrev pub head_if_left : Shop → Placing → ℕ → ℕ → Option ℕ
@@ -68,18 +61,6 @@ WaitingIsWhatIsLeft = (shop : Shop) (p : Placing)
 -- the head that stands in the rows, one a job; none where no place is
 abbrev pub heads_at : List (List (Option ℕ)) → ℕ → ℕ → Option ℕ
 heads_at rows j k = slice_index_or (slice_index_or rows j []) k None
-
--- the row of job j
-abbrev pub heads_of : Shop → Placing → ℕ → List (Option ℕ)
-heads_of shop p j = map (head_if_left shop p j) (range_with_len 0 (length (route_of shop j)))
-
--- whatever was placed, these are the heads of job j, or of all jobs
-abbrev pub AreHeadsOfJob : Shop → PlacementState → ℕ → List (Option ℕ) → Type 0
-AreHeadsOfJob shop s j row = (p : Placing) → IsPlacement shop p s → row ≡ heads_of shop p j
-
-abbrev pub AreHeadsOf : Shop → PlacementState → List (List (Option ℕ)) → Type 0
-AreHeadsOf shop s rows =
-    (p : Placing) → IsPlacement shop p s → rows ≡ map (heads_of shop p) (range_with_len 0 (length shop.jobs))
 
 -- the rows tell the head of each operation that the word leaves, and none for all else
 abbrev pub TellsHeads : Shop → List ℕ → List (List (Option ℕ)) → Type 0

@@ -3,14 +3,10 @@ pub mod Vectors
 pub mod Bound
 pub mod Heads
 pub mod Placements
-pub mod Thresholds
-pub mod Unplaced
 pub mod Schedules
 pub mod Laws
 pub mod Trails
-pub mod KeptHeads
 pub mod Standings
 pub mod Desks
 pub mod Slots
-pub mod FallingTails
 pub mod inner

@@ -1,7 +1,7 @@
 -- What a program keeps of a placing: lists in place of functions.
-use Rattle.std.specs.Prelude.{◌≡◌, ℕ, ◌<◌, List, [], ◌∷◌, ◌++◌, length, slice_index}
+use Rattle.std.specs.Prelude.{◌≡◌, ℕ, ◌<◌, List, length, slice_index}
 use Rattle.shop_model.specs.Shop.{Shop}
-use Rattle.shop_model.specs.Word.{Placing, IsWord, place_next, placing}
+use Rattle.shop_model.specs.Word.{Placing}
 
 -- for each job how many of its steps are placed and when it is ready for the next one, and when each machine is free
 pub record PlacementState : Type 0 where
@@ -21,19 +21,3 @@ pub record IsPlacement (shop : Shop) (p : Placing) (s : PlacementState) : Type 0
   pub steps : (j : ℕ) → j < length shop.jobs → slice_index s.steps j ≡ p.steps j
   pub ready : (j : ℕ) → j < length shop.jobs → slice_index s.ready j ≡ p.ready j
   pub free : (m : ℕ) → m < shop.machines → slice_index s.free m ≡ p.free m
-
--- it is the placement of a word to which j can be added
-pub record HasNext (shop : Shop) (j : ℕ) (s : PlacementState) : Type 0 where
-  pub word : List ℕ
-  pub fits : IsWord shop (word ++ j ∷ [])
-  pub placed : IsPlacement shop (placing shop word) s
-
--- it is the placement of a word of the instance
-pub record IsOfWord (shop : Shop) (s : PlacementState) : Type 0 where
-  pub word : List ℕ
-  pub fits : IsWord shop word
-  pub placed : IsPlacement shop (placing shop word) s
-
--- whatever was placed, t is the placement with the next step of j
-abbrev pub PlacesNext : Shop → ℕ → PlacementState → PlacementState → Type 0
-PlacesNext shop j s t = (p : Placing) → IsPlacement shop p s → IsPlacement shop (place_next shop p j) t

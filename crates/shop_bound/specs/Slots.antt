@@ -2,8 +2,7 @@
 --     operations_on shop m           the operations of machine m, job by job, step by step
 --     AreSlotsOf shop m slots        these, in an order in which the tails fall
 --     AreHeadsKept shop p rows       the rows tell the head of each operation that isn't placed
---     open_triples rows steps slots  the slots that aren't placed, as heads, times and tails
-use Rattle.std.specs.Prelude.{◌≡◌, ℕ, ◌≤◌, ◌<◌, ◌==◌, nat_le, Bool, List, [], ◌∷◌, ◌++◌, length, map, filter, flat_map}
+use Rattle.std.specs.Prelude.{◌≡◌, ℕ, ◌≤◌, ◌<◌, ◌==◌, List, [], ◌∷◌, length, map, filter, flat_map}
 use Rattle.std.specs.Prelude.{slice_index, slice_index_or, IsPermutation}
 use Rattle.std.specs.List.{range_with_len, AllByRecursion}
 use Rattle.shop_model.specs.declared.ops.Op.{Op}
@@ -11,7 +10,6 @@ use Rattle.shop_model.specs.Shop.{Shop, no_op, route_of, IsOperation}
 use Rattle.shop_model.specs.Word.{Placing}
 use Rattle.shop_bound.specs.Heads.{head_of, tail_in}
 use Rattle.shop_bound.specs.declared.slots.Slot.{Slot}
-use Rattle.shop_bound.specs.declared.triples.Triple.{Triple}
 
 -- step k of job j, which has this route, as its machine sees it
 abbrev pub slot_at : List Op → ℕ → ℕ → Slot
@@ -26,24 +24,14 @@ operations_in route m j = map (slot_at route j)
 abbrev pub operations_on : Shop → ℕ → List Slot
 operations_on shop m = flat_map (λ j. operations_in (route_of shop j) m j) (range_with_len 0 (length shop.jobs))
 
--- each list has the operations of the job on its machine added at its end
-abbrev pub AddsOperations : List (List Slot) → List (List Slot) → List Op → ℕ → Type 0
-AddsOperations old new route j = (m : ℕ) → m < length old
-    → slice_index_or new m [] ≡ slice_index_or old m [] ++ operations_in route m j
-
--- the operations of each machine, a list each
-pub record AreOperations (shop : Shop) (lists : List (List Slot)) : Type 0 where
-  pub machines : length lists ≡ shop.machines
-  pub operations : (m : ℕ) → m < shop.machines → slice_index_or lists m [] ≡ operations_on shop m
-
 -- no value of f is above an earlier one
-abbrev pub Falls : {A : Type 0} → (A → ℕ) → List A → Type 0
-Falls f [] = Unit {0}
-Falls f (x ∷ xs) = AllByRecursion (λ y. f y ≤ f x) xs × Falls f xs
+abbrev pub IsNonincreasing : {A : Type 0} → (A → ℕ) → List A → Type 0
+IsNonincreasing f [] = Unit {0}
+IsNonincreasing f (x ∷ xs) = AllByRecursion (λ y. f y ≤ f x) xs × IsNonincreasing f xs
 
 pub record AreSlotsOf (shop : Shop) (m : ℕ) (slots : List Slot) : Type 0 where
   pub same : IsPermutation (operations_on shop m) slots
-  pub falls : Falls (λ s. s.tail) slots
+  pub nonincreasing : IsNonincreasing (λ s. s.tail) slots
 
 -- a list for each machine
 pub record AreMachineSlots (shop : Shop) (lists : List (List Slot)) : Type 0 where
@@ -56,21 +44,3 @@ pub record AreHeadsKept (shop : Shop) (p : Placing) (rows : List (List ℕ)) : T
   pub steps : (j : ℕ) → length (slice_index_or rows j []) ≡ length (route_of shop j)
   pub heads : (j k : ℕ) → IsOperation shop j k → p.steps j ≤ k
       → slice_index (slice_index_or rows j []) k ≡ head_of shop p j k
-
--- there is a count of placed steps and an entry of the rows for the slot
-pub record HasPlace (rows : List (List ℕ)) (steps : List ℕ) (s : Slot) : Type 0 where
-  pub job : s.job < length steps
-  pub row : s.job < length rows
-  pub step : s.step < length (slice_index_or rows s.job [])
-
--- the slot isn't placed, if so many steps of each job are
-abbrev pub is_open : List ℕ → Slot → Bool
-is_open steps s = nat_le (slice_index steps s.job) s.step
-
--- the slot with the head that stands in the rows
-abbrev pub triple_of : List (List ℕ) → Slot → Triple
-triple_of rows s =
-    record { head = slice_index (slice_index_or rows s.job []) s.step; time = s.time; tail = s.tail }
-
-abbrev pub open_triples : List (List ℕ) → List ℕ → List Slot → List Triple
-open_triples rows steps slots = map (triple_of rows) (filter (is_open steps) slots)

@@ -1,11 +1,9 @@
 -- What dispatched operations replaced, so that they can be taken back.
 --     replaced_at shop p j           what the next operation of job j replaces
 --     replaced_from shop p w         what the operations of w replace, one after another
---     TellsReplaced, TakesBack       the same of what a program keeps of a placing
-use Rattle.std.specs.Prelude.{◌≡◌, ℕ, List, [], ◌∷◌, ◌++◌}
+use Rattle.std.specs.Prelude.{ℕ, List, [], ◌∷◌}
 use Rattle.shop_model.specs.Shop.{Shop, machine_of}
-use Rattle.shop_model.specs.Word.{Placing, IsWord, place_next, placing}
-use Rattle.shop_bound.specs.Placements.{PlacementState, IsPlacement}
+use Rattle.shop_model.specs.Word.{Placing, place_next}
 use Rattle.shop_bound.specs.declared.placements.Replaced.{Replaced}
 
 -- when the job was ready and when the machine was free
@@ -15,24 +13,3 @@ replaced_at shop p j = record { ready = p.ready j; free = p.free (machine_of sho
 abbrev pub replaced_from : Shop → Placing → List ℕ → List Replaced
 replaced_from shop p [] = []
 replaced_from shop p (j ∷ w) = replaced_at shop p j ∷ replaced_from shop (place_next shop p j) w
-
--- it is the placement of a word whose last entry is j, which replaced this
-pub record HasLast (shop : Shop) (j : ℕ) (r : Replaced) (s : PlacementState) : Type 0 where
-  pub word : List ℕ
-  pub fits : IsWord shop (word ++ j ∷ [])
-  pub placed : IsPlacement shop (place_next shop (placing shop word) j) s
-  pub replaced : r ≡ replaced_at shop (placing shop word) j
-
--- whatever was placed, the next step of j replaces this
-abbrev pub TellsReplaced : Shop → ℕ → PlacementState → Replaced → Type 0
-TellsReplaced shop j s r = (p : Placing) → IsPlacement shop p s → r ≡ replaced_at shop p j
-
--- whatever was placed before the last step of j, which replaced this, t is the placement of it
-abbrev pub TakesBack : Shop → ℕ → Replaced → PlacementState → PlacementState → Type 0
-TakesBack shop j r s t = (p : Placing) → IsPlacement shop (place_next shop p j) s → r ≡ replaced_at shop p j
-    → IsPlacement shop p t
-
--- whatever was placed, the next step of j ends then
-abbrev pub TellsNextEnd : Shop → ℕ → PlacementState → ℕ → Type 0
-TellsNextEnd shop j s e = (p : Placing) → IsPlacement shop p s
-    → e ≡ (place_next shop p j).free (machine_of shop j (p.steps j))

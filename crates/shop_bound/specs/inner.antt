@@ -1,3 +1,13 @@
 pub mod Layouts
 pub mod Layings
 pub mod Profiles
+pub mod NonincreasingTails
+pub mod Thresholds
+pub mod Unplaced
+pub mod KeptHeads
+pub mod OpenSlots
+pub mod Serving
+pub mod HeadRows
+pub mod NextSteps
+pub mod TakingBack
+pub mod StandingBounds

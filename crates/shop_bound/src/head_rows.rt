@@ -3,8 +3,10 @@ ghost use Rattle.std.specs.Prelude.{◌≡◌, ◌<◌, IfOk, length, map};
 ghost use Rattle.std.specs.List.{range_with_len};
 ghost use Rattle.shop_model.specs.Shop.{route_of};
 ghost use Rattle.shop_model.specs.Word.{IsWord, Placing, placing};
-ghost use Rattle.shop_bound.specs.Heads.{head_if_left, heads_at, AreHeadsOfJob, AreHeadsOf, TellsHeads};
-ghost use Rattle.shop_bound.specs.Placements.{IsOfWord, IsPlacement};
+ghost use Rattle.shop_bound.specs.Heads.{head_if_left, heads_at, TellsHeads};
+ghost use Rattle.shop_bound.specs.inner.HeadRows.{AreHeadsOfJob, AreHeadsOf};
+ghost use Rattle.shop_bound.specs.Placements.{IsPlacement};
+ghost use Rattle.shop_bound.specs.inner.NextSteps.{IsOfWord};
 
 use crate::placements::Placement;
 use shop_model::{Instance, Word};

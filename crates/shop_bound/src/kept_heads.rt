@@ -1,12 +1,12 @@
 // Heads that are kept up with what is placed.
 ghost use Rattle.std.specs.Prelude.{◌≡◌, ℕ, ◌<◌, All, IfOk, length, vec_len};
 ghost use Rattle.shop_model.specs.Shop.{route_of};
-ghost use Rattle.shop_bound.specs.KeptHeads.{AllFresh, AreWidened, HasRows, IsOfShop, IsRowKept, RowWithin};
-ghost use Rattle.shop_bound.specs.KeptHeads.{widened};
-ghost use Rattle.shop_bound.specs.KeptHeads.{AreHeadsOfPlacement, KeepsHeadsBack, KeepsHeadsOn, RowsWithin, raise_of};
-ghost use Rattle.shop_bound.specs.Placements.{HasNext, IsOfWord, PlacesNext};
+ghost use Rattle.shop_bound.specs.inner.KeptHeads.{AllFresh, AreWidened, HasRows, IsOfShop, IsRowKept, RowWithin};
+ghost use Rattle.shop_bound.specs.inner.KeptHeads.{widened};
+ghost use Rattle.shop_bound.specs.inner.KeptHeads.{AreHeadsOfPlacement, KeepsHeadsBack, KeepsHeadsOn, RowsWithin, raise_of};
+ghost use Rattle.shop_bound.specs.inner.NextSteps.{HasNext, IsOfWord, PlacesNext};
 ghost use Rattle.shop_bound.specs.Slots.{AreMachineSlots};
-ghost use Rattle.shop_bound.specs.Trails.{HasLast, TakesBack, TellsReplaced};
+ghost use Rattle.shop_bound.specs.inner.TakingBack.{HasLast, TakesBack, TellsReplaced};
 ghost use Rattle.shop_bound.specs.Vectors.{items_in};
 
 use crate::placements::{Placement, Replaced};

@@ -2,13 +2,13 @@
 #![tactic(auto)]
 
 mod desks;
-mod falling_tails;
 mod head_rows;
 mod kept_heads;
 mod laws;
 mod layings;
 mod layouts;
 mod lower;
+mod nonincreasing_tails;
 mod open_bounds;
 mod placements;
 mod profiles;

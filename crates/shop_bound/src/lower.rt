@@ -4,7 +4,7 @@ ghost use Rattle.shop_model.specs.Word.{IsWord};
 ghost use Rattle.shop_bound.specs.Bound.{lb};
 ghost use Rattle.shop_bound.specs.Laws.{IsLower, EndsThereIfFull};
 ghost use Rattle.shop_bound.specs.OneMachine.{IsSmall};
-ghost use Rattle.shop_bound.specs.Unplaced.{greatest_among, triples_among};
+ghost use Rattle.shop_bound.specs.inner.Unplaced.{greatest_among, triples_among};
 
 use crate::placements::Placement;
 use crate::profiles::bound_by_profile;

@@ -1,13 +1,15 @@
 // Bounds by the open slots of each machine.
 ghost use Rattle.std.specs.Prelude.{◌≡◌, ◌^◌, ◌≤◌, ◌<◌, All, length};
-ghost use Rattle.shop_bound.specs.FallingTails.{one_between};
+ghost use Rattle.shop_bound.specs.inner.NonincreasingTails.{one_between};
 ghost use Rattle.shop_bound.specs.OneMachine.{one, IsSmall};
-ghost use Rattle.shop_bound.specs.Slots.{Falls, HasPlace, open_triples};
+ghost use Rattle.shop_bound.specs.Slots.{IsNonincreasing};
+ghost use Rattle.shop_bound.specs.inner.OpenSlots.{HasPlace, open_triples};
 ghost use Rattle.shop_bound.specs.Vectors.{items_in};
-ghost use Rattle.shop_bound.specs.Standings.{AreWithin, CoversRaised, IsBoundOf, IsStanding, IsWithinParts, left_on};
+ghost use Rattle.shop_bound.specs.Standings.{AreWithin};
+ghost use Rattle.shop_bound.specs.inner.StandingBounds.{CoversRaised, IsBoundOf, IsStanding, IsWithinParts, left_on};
 
-use crate::falling_tails::bound_by_tails;
 use crate::kept_heads::Raise;
+use crate::nonincreasing_tails::bound_by_tails;
 use crate::placements::Placement;
 use crate::slots::{Slot, gather_open, open_bound_between};
 use crate::triples::Triple;
@@ -18,7 +20,7 @@ fn open_bound(triples: &mut [Triple], slots: &[Slot], steps: &[usize], heads: &[
     requires room { length slots.now ≤ length triples.old }
     requires places { All (HasPlace (items_in heads.now) steps.now) slots.now }
     requires small { IsSmall (open_triples (items_in heads.now) steps.now slots.now) }
-    requires falling { Falls (λ s. s.tail) slots.now }
+    requires nonincreasing { IsNonincreasing (λ s. s.tail) slots.now }
     ensures { result ≡ one (open_triples (items_in heads.now) steps.now slots.now) }
 {
     let count = gather_open(triples, slots, steps, heads);
@@ -36,7 +38,7 @@ fn raised_bound(
     requires room { length slots.now ≤ length triples.old }
     requires places { All (HasPlace (items_in heads.now) steps.now) slots.now }
     requires small { IsSmall (open_triples (items_in heads.now) steps.now slots.now) }
-    requires falling { Falls (λ s. s.tail) slots.now }
+    requires nonincreasing { IsNonincreasing (λ s. s.tail) slots.now }
     ensures covers { one_between raise.from raise.to (open_triples (items_in heads.now) steps.now slots.now) ≤ result }
     ensures within { result ≤ one (open_triples (items_in heads.now) steps.now slots.now) }
 {

@@ -1,8 +1,9 @@
 // What stands once the operations of a word are placed.
 ghost use Rattle.std.specs.Prelude.{◌≡◌, ◌<◌, IfOk, length, slice_index};
 ghost use Rattle.shop_model.specs.Word.{IsWord, none_placed, placing};
-ghost use Rattle.shop_bound.specs.Placements.{HasNext, IsPlacement, PlacesNext};
-ghost use Rattle.shop_bound.specs.Trails.{HasLast, TakesBack, TellsNextEnd, TellsReplaced};
+ghost use Rattle.shop_bound.specs.Placements.{IsPlacement};
+ghost use Rattle.shop_bound.specs.inner.NextSteps.{HasNext, PlacesNext};
+ghost use Rattle.shop_bound.specs.inner.TakingBack.{HasLast, TakesBack, TellsNextEnd, TellsReplaced};
 
 use shop_model::{Instance, Word};
 use std::alloc::{AllocError, Global};

@@ -1,14 +1,15 @@
-// The operations of each machine by falling tails, and those that are not placed.
+// The operations of each machine by nonincreasing tails, and those that are not placed.
 ghost use Rattle.std.specs.Prelude.{◌≡◌, ℕ, ◌≤◌, ◌<◌, [], slice_index_or, IfOk, OnOk, All};
 ghost use Rattle.std.specs.Prelude.{length, map, take, replicate};
 ghost use Rattle.shop_model.specs.Shop.{no_op};
-ghost use Rattle.shop_bound.specs.FallingTails.{one_between};
-ghost use Rattle.shop_bound.specs.Heads.{AreTimesSmall};
+ghost use Rattle.shop_bound.specs.inner.NonincreasingTails.{one_between};
+ghost use Rattle.shop_bound.specs.inner.HeadRows.{AreTimesSmall};
 ghost use Rattle.shop_bound.specs.OneMachine.{one, IsSmall};
-ghost use Rattle.shop_bound.specs.Slots.{AddsOperations, AreOperations, Falls, AreMachineSlots};
-ghost use Rattle.shop_bound.specs.Slots.{HasPlace, open_triples};
+ghost use Rattle.shop_bound.specs.Slots.{IsNonincreasing, AreMachineSlots};
+ghost use Rattle.shop_bound.specs.inner.OpenSlots.{AddsOperations, AreOperations};
+ghost use Rattle.shop_bound.specs.inner.OpenSlots.{HasPlace, open_triples};
 
-use crate::falling_tails::bound_between;
+use crate::nonincreasing_tails::bound_between;
 use crate::tail_rows::total_time;
 use crate::triples::Triple;
 use shop_model::{Instance, Op};
@@ -70,7 +71,7 @@ fn operations_by_machine(alloc: Global, instance: &Instance) -> Result<Vec<Vec<S
     Ok(lists)
 }
 
-/// The operations of each machine, by falling tails. Fails only where memory was refused.
+/// The operations of each machine, by nonincreasing tails. Fails only where memory was refused.
 pub(crate) fn machine_slots(
     alloc: Global,
     instance: &Instance,
@@ -122,7 +123,7 @@ pub(crate) fn open_bound_between(
 ) -> u64
     requires room { length slots.now ≤ length triples.old }
     requires places { All (HasPlace (map (λ r. r.items) heads.now) steps.now) slots.now }
-    requires falling { Falls (λ s. s.tail) slots.now }
+    requires nonincreasing { IsNonincreasing (λ s. s.tail) slots.now }
     requires small { IsSmall (open_triples (map (λ r. r.items) heads.now) steps.now slots.now) }
     ensures covers { one_between from to (open_triples (map (λ r. r.items) heads.now) steps.now slots.now) ≤ result }
     ensures within { result ≤ one (open_triples (map (λ r. r.items) heads.now) steps.now slots.now) }

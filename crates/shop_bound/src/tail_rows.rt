@@ -1,6 +1,7 @@
 // Tails: what must follow an operation in its route.
 ghost use Rattle.std.specs.Prelude.{◌≡◌, ◌<◌, IfOk, map, sum_by};
-ghost use Rattle.shop_bound.specs.Heads.{tails_in, AreTails, AreTimesSmall};
+ghost use Rattle.shop_bound.specs.Heads.{AreTails};
+ghost use Rattle.shop_bound.specs.inner.HeadRows.{tails_in, AreTimesSmall};
 
 use shop_model::{Instance, Op};
 use std::alloc::{AllocError, Global};

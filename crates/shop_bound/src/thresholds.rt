@@ -1,7 +1,7 @@
 // The one-machine bound by thresholds: each pair of a least head and a least tail that occur.
 ghost use Rattle.std.specs.Prelude.{◌≡◌, ◌+◌, ◌^◌, ◌<◌, sum_by};
 ghost use Rattle.shop_bound.specs.OneMachine.{one, IsSmall};
-ghost use Rattle.shop_bound.specs.Thresholds.{span_above, greatest_span_of};
+ghost use Rattle.shop_bound.specs.inner.Thresholds.{span_above, greatest_span_of};
 
 use crate::triples::Triple;
 

@@ -1,7 +1,7 @@
 // The operations that a word leaves, with their machines, heads, times and tails.
 ghost use Rattle.std.specs.Prelude.{◌≡◌, ◌≤◌, IfOk, OnOk, length, vec_capacity};
-ghost use Rattle.shop_bound.specs.Placements.{IsOfWord};
-ghost use Rattle.shop_bound.specs.Unplaced.{Adds, AreUnplaced, CanGoOn, triples_among};
+ghost use Rattle.shop_bound.specs.inner.NextSteps.{IsOfWord};
+ghost use Rattle.shop_bound.specs.inner.Unplaced.{Adds, AreUnplaced, CanGoOn, triples_among};
 
 use crate::placements::Placement;
 use crate::tail_rows::total_time;

@@ -1,5 +1,5 @@
 use Rattle.std.proofs.Common.{rules}
-use Rattle.shop_bound.specs.Heads.{heads_of}
+use Rattle.shop_bound.specs.inner.HeadRows.{heads_of}
 use Rattle.shop_bound.proofs.Filled.{rows_more}
 use Rattle.shop_bound.proofs.head_rows.heads_of_jobs.Goals as goal
 

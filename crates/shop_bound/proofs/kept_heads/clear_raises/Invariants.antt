@@ -1,5 +1,5 @@
 use Rattle.std.proofs.Common.{ℕ, ◌<◌}
-use Rattle.shop_bound.specs.KeptHeads.{raise_of}
+use Rattle.shop_bound.specs.inner.KeptHeads.{raise_of}
 use Rattle.shop_bound.proofs.kept_heads.clear_raises.Given as goal
 
 abbrev pub invariant-loop-m : goal.invariant-loop-m

@@ -2,7 +2,7 @@ use Rattle.std.proofs.Common.{ℕ, List, map, get_or, set, sym, subst, arith}
 use Rattle.std.specs.Prelude.{Vec}
 use Rattle.std.specs.declared.alloc.Global.{Global}
 use Rattle.shop_model.specs.Shop.{no_op}
-use Rattle.shop_bound.specs.KeptHeads.{IsRowKept}
+use Rattle.shop_bound.specs.inner.KeptHeads.{IsRowKept}
 use Rattle.shop_bound.specs.Slots.{AreSlotsOf}
 use Rattle.shop_bound.proofs.TakenBack.{about_to_take_back}
 use Rattle.shop_bound.proofs.HeadTurns.{ends_of_word}

@@ -3,7 +3,7 @@ use Rattle.std.specs.Prelude.{Vec}
 use Rattle.std.specs.declared.alloc.Global.{Global}
 use Rattle.std.proofs.lemmas.List.{get_or_default, length-map, map-set}
 use Rattle.shop_model.proofs.TableLemmas.{rows_at}
-use Rattle.shop_bound.specs.KeptHeads.{RowWithin}
+use Rattle.shop_bound.specs.inner.KeptHeads.{RowWithin}
 use Rattle.shop_bound.proofs.PlacementLemmas.{read_is}
 use Rattle.shop_bound.proofs.RefreshTurns.{fresh_passed, fresh_more, no_slot}
 use Rattle.shop_bound.proofs.kept_heads.refresh_below.Goals as goal

@@ -1,5 +1,5 @@
 use Rattle.std.proofs.Common.{map}
-use Rattle.shop_bound.specs.KeptHeads.{AreFresh}
+use Rattle.shop_bound.specs.inner.KeptHeads.{AreFresh}
 use Rattle.shop_bound.proofs.kept_heads.refresh_below.Given as goal
 
 abbrev pub invariant-loop-slot : goal.invariant-loop-slot

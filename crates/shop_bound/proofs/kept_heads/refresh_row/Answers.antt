@@ -4,7 +4,7 @@ use Rattle.shop_model.specs.Shop.{no_op, machine_of}
 use Rattle.shop_bound.proofs.HeadTurns.{ends_of_word, ready_first, left_small}
 use Rattle.std.specs.Prelude.{Vec}
 use Rattle.std.specs.declared.alloc.Global.{Global}
-use Rattle.shop_bound.specs.KeptHeads.{raise_of, widened}
+use Rattle.shop_bound.specs.inner.KeptHeads.{raise_of, widened}
 use Rattle.shop_bound.specs.declared.kept_heads.Raise.{Raise}
 use Rattle.shop_bound.proofs.PlacementLemmas.{read_is}
 use Rattle.shop_bound.proofs.RowTurns.{IsRefreshed, open_turn, refreshed_same, refreshed_more, widened_none}

@@ -1,6 +1,6 @@
 use Rattle.std.proofs.Common.{◌≡◌, ◌≤◌, length, vec_capacity}
 use Rattle.shop_model.specs.Shop.{greatest_below}
-use Rattle.shop_bound.specs.Unplaced.{bound_among}
+use Rattle.shop_bound.specs.inner.Unplaced.{bound_among}
 use Rattle.shop_bound.proofs.lower.greatest_bound.Given as goal
 
 abbrev pub invariant-loop-machine : goal.invariant-loop-machine

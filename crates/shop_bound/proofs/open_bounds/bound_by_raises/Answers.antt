@@ -2,11 +2,11 @@ use Rattle.std.proofs.Common.{◌≡◌, ◌<◌, ◌≤◌, ◌∙◌, ℕ, Lis
 use Rattle.std.specs.Prelude.{Vec}
 use Rattle.std.specs.declared.alloc.Global.{Global}
 use Rattle.std.proofs.lemmas.List.{length-map}
-use Rattle.shop_bound.specs.FallingTails.{one_between}
-use Rattle.shop_bound.specs.KeptHeads.{raise_of}
+use Rattle.shop_bound.specs.inner.NonincreasingTails.{one_between}
+use Rattle.shop_bound.specs.inner.KeptHeads.{raise_of}
 use Rattle.shop_bound.specs.OneMachine.{one}
-use Rattle.shop_bound.specs.Slots.{open_triples}
-use Rattle.shop_bound.specs.Standings.{open_on}
+use Rattle.shop_bound.specs.inner.OpenSlots.{open_triples}
+use Rattle.shop_bound.specs.inner.StandingBounds.{open_on}
 use Rattle.shop_bound.specs.declared.slots.Slot.{Slot}
 use Rattle.shop_bound.specs.declared.triples.Triple.{Triple}
 use Rattle.shop_bound.proofs.OpenBounds.{is_open_machine, list_here, covers_more, within_more}
@@ -29,7 +29,7 @@ raised_bound-left-requires c =
       room = (let a = o.room in let b = c.loop-machine.auto.triples in omega arith);
       places = o.places;
       small = o.small;
-      falling = o.falling;
+      nonincreasing = o.nonincreasing;
     }
 
 pub loop-machine-preserved : goal.loop-machine-preserved

@@ -1,8 +1,8 @@
 use Rattle.std.proofs.Common.{ℕ, ◌≤◌, ◌<◌, map}
-use Rattle.shop_bound.specs.FallingTails.{one_between}
-use Rattle.shop_bound.specs.KeptHeads.{raise_of}
+use Rattle.shop_bound.specs.inner.NonincreasingTails.{one_between}
+use Rattle.shop_bound.specs.inner.KeptHeads.{raise_of}
 use Rattle.shop_bound.specs.OneMachine.{one}
-use Rattle.shop_bound.specs.Standings.{open_on}
+use Rattle.shop_bound.specs.inner.StandingBounds.{open_on}
 use Rattle.shop_bound.proofs.open_bounds.bound_by_raises.Given as goal
 
 abbrev pub invariant-loop-machine : goal.invariant-loop-machine

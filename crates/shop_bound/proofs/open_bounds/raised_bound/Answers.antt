@@ -1,7 +1,7 @@
 use Rattle.std.proofs.Common.{ℕ, map, arith}
 use Rattle.std.specs.Prelude.{Vec}
 use Rattle.std.specs.declared.alloc.Global.{Global}
-use Rattle.shop_bound.specs.Slots.{open_triples}
+use Rattle.shop_bound.specs.inner.OpenSlots.{open_triples}
 use Rattle.shop_bound.proofs.Raising.{one_between-none}
 use Rattle.shop_bound.proofs.open_bounds.raised_bound.Goals as goal
 

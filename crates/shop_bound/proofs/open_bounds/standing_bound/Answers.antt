@@ -5,7 +5,7 @@ use Rattle.std.proofs.lemmas.List.{length-map}
 use Rattle.shop_model.specs.Shop.{greatest_below}
 use Rattle.shop_model.proofs.Greatest.{greatest_below-next}
 use Rattle.shop_bound.specs.OneMachine.{one}
-use Rattle.shop_bound.specs.Slots.{open_triples}
+use Rattle.shop_bound.specs.inner.OpenSlots.{open_triples}
 use Rattle.shop_bound.specs.declared.slots.Slot.{Slot}
 use Rattle.shop_bound.proofs.OpenBounds.{is_open_machine, list_here, part_of, lb_by_parts}
 use Rattle.shop_bound.proofs.open_bounds.standing_bound.Goals as goal
@@ -27,7 +27,7 @@ open_bound-left-requires c =
       room = (let a = o.room in let b = c.loop-machine.auto.triples in omega arith);
       places = o.places;
       small = o.small;
-      falling = o.falling;
+      nonincreasing = o.nonincreasing;
     }
 
 pub loop-machine-preserved : goal.loop-machine-preserved

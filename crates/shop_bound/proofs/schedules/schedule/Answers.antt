@@ -1,7 +1,7 @@
 use Rattle.std.proofs.Common.{◌<◌, inl, inr, arith, ap, ◌∙◌, refl, List}
 use Rattle.shop_bound.specs.declared.triples.Triple.{Triple}
 use Rattle.shop_bound.specs.OneMachine.{one}
-use Rattle.shop_bound.specs.Schedules.{turns_left}
+use Rattle.shop_bound.specs.inner.Serving.{turns_left}
 use Rattle.shop_bound.proofs.Turns.{ready_or_done, ready_run, started, all_done}
 use Rattle.shop_bound.proofs.TurnCounts.{ready_turns, undone-none, undone-fresh, turns_left-two}
 use Rattle.shop_bound.proofs.schedules.schedule.Goals as goal

@@ -1,5 +1,5 @@
 use Rattle.std.proofs.Common.{arith}
-use Rattle.shop_bound.specs.Thresholds.{no_triple}
+use Rattle.shop_bound.specs.inner.Thresholds.{no_triple}
 use Rattle.shop_bound.proofs.Lists.{get_or-le-greatest_of}
 use Rattle.shop_bound.proofs.thresholds.greatest_span.Goals as goal
 

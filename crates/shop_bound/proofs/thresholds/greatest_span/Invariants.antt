@@ -1,6 +1,6 @@
 use Rattle.std.proofs.Common.{◌≡◌, length}
 use Rattle.shop_model.specs.Shop.{greatest_below}
-use Rattle.shop_bound.specs.Thresholds.{span_above, head_at, tail_at}
+use Rattle.shop_bound.specs.inner.Thresholds.{span_above, head_at, tail_at}
 use Rattle.shop_bound.proofs.thresholds.greatest_span.Given as goal
 
 abbrev pub invariant-loop-i : goal.invariant-loop-i

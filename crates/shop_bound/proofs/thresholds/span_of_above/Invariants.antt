@@ -1,6 +1,6 @@
 use Rattle.std.proofs.Common.{◌≡◌, ◌≤◌, length, take}
 use Rattle.std.specs.List.{filter, sum_by}
-use Rattle.shop_bound.specs.Thresholds.{is_above}
+use Rattle.shop_bound.specs.inner.Thresholds.{is_above}
 use Rattle.shop_bound.proofs.thresholds.span_of_above.Given as goal
 
 abbrev pub invariant-loop-t : goal.invariant-loop-t

@@ -1,6 +1,6 @@
 use Rattle.std.proofs.Common.{◌≡◌, ◌+◌, ◌*◌, ◌≤◌, ◌++◌, drop}
 use Rattle.std.specs.List.{sum_by}
-use Rattle.shop_bound.specs.Unplaced.{unplaced_from}
+use Rattle.shop_bound.specs.inner.Unplaced.{unplaced_from}
 use Rattle.shop_bound.proofs.unplaced.add_rest.Given as goal
 
 abbrev pub invariant-loop-op : goal.invariant-loop-op

@@ -1,7 +1,7 @@
 use Rattle.std.proofs.Common.{◌≡◌, ◌∙◌, ℕ, List, length, map, ◌<◌, ap, arith, rules}
 use Rattle.std.specs.List.{flat_map, range_with_len}
 use Rattle.shop_bound.specs.Bound.{waiting_of}
-use Rattle.shop_bound.specs.Unplaced.{unplaced_of}
+use Rattle.shop_bound.specs.inner.Unplaced.{unplaced_of}
 use Rattle.shop_model.specs.declared.ops.Op.{Op}
 use Rattle.shop_bound.proofs.UnplacedTurns.{steps_within, can_go_on, unplaced_of_job, job_listed, rest_is}
 use Rattle.shop_bound.proofs.unplaced.list_unplaced.Goals as goal

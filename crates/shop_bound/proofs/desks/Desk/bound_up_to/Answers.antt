@@ -4,8 +4,8 @@ use Rattle.std.specs.declared.alloc.Global.{Global}
 use Rattle.shop_model.specs.Word.{IsWord, placing}
 use Rattle.shop_bound.specs.Bound.{lb}
 use Rattle.shop_bound.specs.Desks.{DeskState, IsBoundUpTo}
-use Rattle.shop_bound.specs.KeptHeads.{KeepsHeadsOn, KeepsHeadsBack, RowsWithin}
-use Rattle.shop_bound.specs.Standings.{IsStanding, open_on, CoversRaised, IsWithinParts}
+use Rattle.shop_bound.specs.inner.KeptHeads.{KeepsHeadsOn, KeepsHeadsBack, RowsWithin}
+use Rattle.shop_bound.specs.inner.StandingBounds.{IsStanding, open_on, CoversRaised, IsWithinParts}
 use Rattle.shop_bound.specs.declared.kept_heads.Raise.{Raise}
 use Rattle.shop_bound.specs.declared.slots.Slot.{Slot}
 use Rattle.shop_bound.proofs.BoundsAfter.{bound_after_is, least_at_most}

@@ -1,5 +1,6 @@
 use Rattle.std.proofs.Common.{arith, sym, subst}
-use Rattle.shop_bound.specs.Placements.{PlacementState, HasNext, IsPlacement}
+use Rattle.shop_bound.specs.Placements.{PlacementState, IsPlacement}
+use Rattle.shop_bound.specs.inner.NextSteps.{HasNext}
 use Rattle.shop_bound.proofs.PlacementLemmas.{about_to_place, job_of_next, reads, step_read}
 use Rattle.shop_bound.proofs.TakenBack.{replaced_reads}
 use Rattle.shop_bound.proofs.placements.Placement.next_replaces.Goals as goal

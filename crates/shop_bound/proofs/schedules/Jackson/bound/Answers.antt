@@ -2,7 +2,7 @@ use Rattle.std.proofs.Common.{List, ap, subst, sym, ◌∙◌}
 use Rattle.shop_bound.specs.declared.triples.Triple.{Triple}
 use Rattle.shop_bound.specs.declared.schedules.Work.{Work}
 use Rattle.shop_bound.specs.OneMachine.{one, IsSmall}
-use Rattle.shop_bound.specs.Schedules.{IsFresh, triples_of}
+use Rattle.shop_bound.specs.inner.Serving.{IsFresh, triples_of}
 use Rattle.shop_bound.proofs.WorkSums.{fresh-is, fresh-triples}
 use Rattle.shop_bound.proofs.schedules.Jackson.bound.Goals as goal
 

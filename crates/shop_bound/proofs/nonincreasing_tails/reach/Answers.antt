@@ -1,7 +1,7 @@
 use Rattle.std.proofs.Common.{arith, rules}
-use Rattle.shop_bound.proofs.FallingTails.{reach_none, reach_in, reach_out, reach_small}
-use Rattle.shop_bound.proofs.falling_tails.reach.Goals.{then-counts, else-counts, then-counts-2, else-counts-2}
-use Rattle.shop_bound.proofs.falling_tails.reach.Goals as goal
+use Rattle.shop_bound.proofs.NonincreasingTails.{reach_none, reach_in, reach_out, reach_small}
+use Rattle.shop_bound.proofs.nonincreasing_tails.reach.Goals.{then-counts, else-counts, then-counts-2, else-counts-2}
+use Rattle.shop_bound.proofs.nonincreasing_tails.reach.Goals as goal
 
 pub loop-t-init : goal.loop-t-init
 loop-t-init c = reach_none c.args.triples.now c.args.least
@@ -27,7 +27,7 @@ loop-t-preserved c =
     in elim c.if-counts.branch [
       | then-counts w ↦ elim c.if-counts-2.branch [
         | then-counts-2 v ↦ rw (w.sum-is, v.most-is) (reach_in ts c.args.least n c.loop-t.sum c.loop-t.most
-            c.max-reach.result c.requires.falling c.loop-t-test.true c.loop-t.invariant w.if-counts.true (search rules))
+            c.max-reach.result c.requires.nonincreasing c.loop-t-test.true c.loop-t.invariant w.if-counts.true (search rules))
         | else-counts-2 v ↦ absurd (let a = w.if-counts.true in let b = v.if-counts-2.false in omega arith)
       ]
       | else-counts w ↦ elim c.if-counts-2.branch [

@@ -1,6 +1,6 @@
 use Rattle.std.proofs.Common.{arith}
-use Rattle.shop_bound.proofs.FallingTails.{one_between-all}
-use Rattle.shop_bound.proofs.falling_tails.bound_by_tails.Goals as goal
+use Rattle.shop_bound.proofs.NonincreasingTails.{one_between-all}
+use Rattle.shop_bound.proofs.nonincreasing_tails.bound_by_tails.Goals as goal
 
 pub returns : goal.returns
 returns c =

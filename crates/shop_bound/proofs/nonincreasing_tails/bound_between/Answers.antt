@@ -1,10 +1,10 @@
 use Rattle.std.proofs.Common.{arith, rules}
 use Rattle.shop_bound.proofs.ThresholdLemmas.{one-le-extent}
-use Rattle.shop_bound.proofs.FallingTails.{tried_outside, tried_again, tried_more, tried_all, heads_small, head-le-one}
-use Rattle.shop_bound.proofs.falling_tails.bound_between.Goals.{then-t-from-via-then-t-from}
-use Rattle.shop_bound.proofs.falling_tails.bound_between.Goals.{then-t-from-via-else-t-from+then-to-t}
-use Rattle.shop_bound.proofs.falling_tails.bound_between.Goals.{then-t-from-via-else-t-from+else-to-t+then-t-last}
-use Rattle.shop_bound.proofs.falling_tails.bound_between.Goals as goal
+use Rattle.shop_bound.proofs.NonincreasingTails.{tried_outside, tried_again, tried_more, tried_all, heads_small, head-le-one}
+use Rattle.shop_bound.proofs.nonincreasing_tails.bound_between.Goals.{then-t-from-via-then-t-from}
+use Rattle.shop_bound.proofs.nonincreasing_tails.bound_between.Goals.{then-t-from-via-else-t-from+then-to-t}
+use Rattle.shop_bound.proofs.nonincreasing_tails.bound_between.Goals.{then-t-from-via-else-t-from+else-to-t+then-t-last}
+use Rattle.shop_bound.proofs.nonincreasing_tails.bound_between.Goals as goal
 
 pub loop-t-preserved-then-t-from : goal.loop-t-preserved-then-t-from
 loop-t-preserved-then-t-from c =
@@ -24,14 +24,14 @@ reach-requires-clause-small c = heads_small c.args.triples.now c.loop-t.t-index 
 
 pub overflow_add-t : goal.overflow_add-t
 overflow_add-t c =
-    let own = head-le-one c.args.triples.now c.loop-t.t-index c.requires.falling c.loop-t-test.true
+    let own = head-le-one c.args.triples.now c.loop-t.t-index c.requires.nonincreasing c.loop-t-test.true
     in let all = one-le-extent c.args.triples.now
     in let small = c.requires.small
     in let le = c.reach.ensures.within in omega arith
 
 pub loop-t-preserved : goal.loop-t-preserved
 loop-t-preserved c = tried_more c.args.triples.now c.args.from c.args.to c.loop-t.t-index c.loop-t.best c.loop-t.last
-    c.reach.result c.max-best.result c.requires.falling c.loop-t-test.true c.loop-t.invariant c.reach.ensures.covers
+    c.reach.result c.max-best.result c.requires.nonincreasing c.loop-t-test.true c.loop-t.invariant c.reach.ensures.covers
     c.reach.ensures.within (search rules)
 
 pub returns-clause-covers : goal.returns-clause-covers

@@ -1,4 +1,4 @@
--- One-machine bounds of operations by falling tails.
+-- One-machine bounds of operations by nonincreasing tails.
 use Rattle.std.proofs.Common.{◌≡◌, ℕ, suc, ◌+◌, ◌^◌, ◌≤◌, ◌<◌, max, inl, inr, Bool, true, false, ◌&&◌, List, [], ◌∷◌}
 use Rattle.std.proofs.Common.{◌++◌, length, length-append, if◌then◌else◌, ◌==◌, take, drop, get_or}
 use Rattle.std.proofs.Common.{refl, sym, ◌∙◌, ap, subst, arith, leb}
@@ -10,9 +10,9 @@ use Rattle.std.proofs.lemmas.List.Sums.{sum_by_more_le, sum_by-cons, sum_by_push
 use Rattle.std.proofs.Math.Seq.{drop-cons}
 use Rattle.shop_bound.specs.declared.triples.Triple.{Triple}
 use Rattle.shop_bound.specs.OneMachine.{sublists, greatest_of, least_of, span_of, one, IsSmall}
-use Rattle.shop_bound.specs.Thresholds.{is_above, span_above, head_at, no_triple}
-use Rattle.shop_bound.specs.Slots.{Falls}
-use Rattle.shop_bound.specs.FallingTails.{begins_between, one_between}
+use Rattle.shop_bound.specs.inner.Thresholds.{is_above, span_above, head_at, no_triple}
+use Rattle.shop_bound.specs.Slots.{IsNonincreasing}
+use Rattle.shop_bound.specs.inner.NonincreasingTails.{begins_between, one_between}
 use Rattle.shop_bound.proofs.Lists.{IsSublist, all_map, all_both, all_filter, greatest_of-le, least_of-is}
 use Rattle.shop_bound.proofs.Lists.{least_of-le, get_or-le-greatest_of}
 use Rattle.shop_bound.proofs.ThresholdLemmas.{sublists-are, sublist_greatest, sublist_of_filter, sublist_length}
@@ -97,8 +97,8 @@ covers_out us x head less tail = elim (cases_Bool (is_above head tail x)) [
 ]
 
 module _ {A : Type 0} (f : A → ℕ) where
-  -- in a list that falls all before an element have at least its value
-  pub falls_before : (us : List A) (x : A) (vs : List A) → Falls f (us ++ x ∷ vs)
+  -- in a list that nonincreasing all before an element have at least its value
+  pub falls_before : (us : List A) (x : A) (vs : List A) → IsNonincreasing f (us ++ x ∷ vs)
       → AllByRecursion (λ y. f x ≤ f y) us
   falls_before [] x vs h = tt
   falls_before (u ∷ us) x vs h = (all_middle us x vs h.0, falls_before us x vs h.1)
@@ -121,9 +121,9 @@ only_heads head tail us h = ap (λ (ys : List Triple). sum_by (λ t. t.time) ys)
   ]
 
 -- what is done up to an operation, and its tail, follow no earlier than the bound says
-within_in : (us : List Triple) (x : Triple) (vs : List Triple) (head : ℕ) → Falls (λ t. t.tail) (us ++ x ∷ vs)
+within_in : (us : List Triple) (x : Triple) (vs : List Triple) (head : ℕ) → IsNonincreasing (λ t. t.tail) (us ++ x ∷ vs)
     → head ≤ x.head → head + (times_from head us + x.time + x.tail) ≤ one (us ++ x ∷ vs)
-within_in us x vs head falls h =
+within_in us x vs head nonincreasing h =
     let test = is_above head x.tail
     in let here : test x ≡ true = is_above-from head x.tail x h (omega arith)
     in let f : filter test (us ++ x ∷ vs) ≡ filter test us ++ x ∷ filter test vs =
@@ -136,7 +136,7 @@ within_in us x vs head falls h =
     ap (λ (ys : List Triple). sum_by (λ t. t.time) ys) f
     ∙ sum_by-append (λ (t : Triple). t.time) (filter test us) (x ∷ filter test vs)
     in let more = sum_by-cons (λ (t : Triple). t.time) x (filter test vs)
-    in let front = only_heads head x.tail us (falls_before (λ (t : Triple). t.tail) us x vs falls)
+    in let front = only_heads head x.tail us (falls_before (λ (t : Triple). t.tail) us x vs nonincreasing)
     in omega arith
 
 -- what the walk for one threshold knows of the first n operations: how long they take, and what follows at most
@@ -153,15 +153,15 @@ pub split_at : {A : Type 0} (ts : List A) (n : ℕ) (d : A) → n < length ts
     → ts ≡ take n ts ++ get_or ts n d ∷ drop (suc n) ts
 split_at ts n d h = sym (take-append-drop n ts) ∙ ap (λ ys. take n ts ++ ys) (drop-cons ts n d h)
 
-pub reach_in : (ts : List Triple) (head n sum most more : ℕ) → Falls (λ t. t.tail) ts → n < length ts
+pub reach_in : (ts : List Triple) (head n sum most more : ℕ) → IsNonincreasing (λ t. t.tail) ts → n < length ts
     → IsReach ts head n sum most → head ≤ (get_or ts n no_triple).head
     → more ≡ max most (sum + (get_or ts n no_triple).time + (get_or ts n no_triple).tail)
     → IsReach ts head (n + 1) (sum + (get_or ts n no_triple).time) more
-reach_in ts head n sum most more falls here r le is =
+reach_in ts head n sum most more nonincreasing here r le is =
     let x = get_or ts n no_triple
     in let e = take_more ts n no_triple here
     in let w = within_in (take n ts) x (drop (suc n) ts) head
-    (subst (λ (ys : List Triple). Falls (λ t. t.tail) ys) (split_at ts n no_triple here) falls) le
+    (subst (λ (ys : List Triple). IsNonincreasing (λ t. t.tail) ys) (split_at ts n no_triple here) nonincreasing) le
     in let same : one (take n ts ++ x ∷ drop (suc n) ts) ≡ one ts = ap one (sym (split_at ts n no_triple here))
     in let times = r.times
     in let within = r.within
@@ -221,11 +221,11 @@ span_of-le-above ts y ys s =
     in omega arith
 
 -- the bound is at least each head
-pub head-le-one : (ts : List Triple) (n : ℕ) → Falls (λ t. t.tail) ts → n < length ts → head_at ts n ≤ one ts
-head-le-one ts n falls here =
+pub head-le-one : (ts : List Triple) (n : ℕ) → IsNonincreasing (λ t. t.tail) ts → n < length ts → head_at ts n ≤ one ts
+head-le-one ts n nonincreasing here =
     let x = get_or ts n no_triple
     in let w = within_in (take n ts) x (drop (suc n) ts) x.head
-    (subst (λ (ys : List Triple). Falls (λ t. t.tail) ys) (split_at ts n no_triple here) falls) (omega arith)
+    (subst (λ (ys : List Triple). IsNonincreasing (λ t. t.tail) ys) (split_at ts n no_triple here) nonincreasing) (omega arith)
     in let same : one (take n ts ++ x ∷ drop (suc n) ts) ≡ one ts = ap one (sym (split_at ts n no_triple here))
     in omega arith
 
@@ -273,14 +273,14 @@ tried_again ts from to n best last small here r same =
     }
 
 -- any other
-pub tried_more : (ts : List Triple) (from to n best last most more : ℕ) → Falls (λ t. t.tail) ts → n < length ts
+pub tried_more : (ts : List Triple) (from to n best last most more : ℕ) → IsNonincreasing (λ t. t.tail) ts → n < length ts
     → IsTried ts from to n best last
     → ((tail : ℕ) → span_above ts (head_at ts n) tail ≤ head_at ts n + most)
     → head_at ts n + most ≤ max (head_at ts n) (one ts)
     → more ≡ max best (head_at ts n + most)
     → IsTried ts from to (n + 1) more (head_at ts n)
-tried_more ts from to n best last most more falls here r covers within is =
-    let own = head-le-one ts n falls here
+tried_more ts from to n best last most more nonincreasing here r covers within is =
+    let own = head-le-one ts n nonincreasing here
     in let old = r.within
     in record {
       covers = λ i h a b tail. elim (cases_eq i n) [
