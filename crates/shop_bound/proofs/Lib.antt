@@ -1,4 +1,5 @@
 pub mod NonincreasingTails
+pub mod RestoredNotes
 pub mod ProfileLemmas
 pub mod CellLemmas
 pub mod NotedPlaces

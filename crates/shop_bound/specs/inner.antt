@@ -1,5 +1,6 @@
 pub mod Layouts
 pub mod Layings
+pub mod LaneHeads
 pub mod Profiles
 pub mod NonincreasingTails
 pub mod Thresholds

@@ -9,6 +9,7 @@ mod layings;
 mod layouts;
 mod lower;
 mod nonincreasing_tails;
+mod notes;
 mod open_bounds;
 mod placements;
 mod profiles;

@@ -1,0 +1,59 @@
+-- Notes lead back.
+use Rattle.std.proofs.Common.{◌≡◌, ℕ, zero, suc, ◌+◌, ◌<◌, Bool, true, false, ◌⊎◌, inl, inr, List, [], ◌∷◌, ◌++◌, length}
+use Rattle.std.proofs.Common.{get_or, set, refl, sym, ◌∙◌, ap, arith, append_assoc, append-nil}
+use Rattle.std.proofs.lemmas.List.{length-set, set-get_or}
+use Rattle.shop_bound.specs.declared.notes.Note.{Note}
+use Rattle.shop_bound.specs.inner.LaneHeads.{NotesState, IsNoted, LeadsBack, restored}
+
+pub restored-append : (a b : List Note) (heads : List ℕ) → restored (a ++ b) heads ≡ restored a (restored b heads)
+restored-append [] b heads = refl
+restored-append (n ∷ a) b heads = ap (λ (xs : List ℕ). set xs n.position n.head) (restored-append a b heads)
+
+pub length-restored : (a : List Note) (heads : List ℕ) → length (restored a heads) ≡ length heads
+length-restored [] heads = refl
+length-restored (n ∷ a) heads = length-set (restored a heads) n.position n.head ∙ length-restored a heads
+
+set_twice : (xs : List ℕ) (i a b : ℕ) → set (set xs i a) i b ≡ set xs i b
+set_twice [] i a b = refl
+set_twice (x ∷ xs) zero a b = refl
+set_twice (x ∷ xs) (suc i) a b = ap (λ (ys : List ℕ). x ∷ ys) (set_twice xs i a b)
+
+pub put_back : (xs : List ℕ) (i a : ℕ) → set (set xs i a) i (get_or xs i 0) ≡ xs
+put_back xs i a = set_twice xs i a (get_or xs i 0) ∙ set-get_or xs i 0
+
+-- nothing was replaced
+pub back_none : (old : NotesState) (was : List ℕ) → LeadsBack old old was was
+back_none old was = record {
+  more = [];
+  are = sym (append-nil old.list);
+  whole = λ h. h;
+  back = λ h. refl;
+}
+
+-- one head was replaced
+pub back_one : (old new : NotesState) (was : List ℕ) (q h v : ℕ) → h ≡ get_or was q 0
+    → IsNoted (record { position = q; head = h }) old new → LeadsBack old new was (set was q v)
+back_one old new was q h v is noted = elim noted [
+  | inl added ↦ record {
+    more = record { position = q; head = h } ∷ [];
+    are = added.0;
+    whole = λ t. sym added.1 ∙ t;
+    back = λ t. ap (λ (x : ℕ). set (set was q v) q x) is ∙ put_back was q v;
+  }
+  | inr left ↦ record {
+    more = [];
+    are = left.0 ∙ sym (append-nil old.list);
+    whole = λ t. absurd (let e : false ≡ true = sym left.1 ∙ t in cc);
+    back = λ t. absurd (let e : false ≡ true = sym left.1 ∙ t in cc);
+  }
+]
+
+-- one after the other
+pub back_both : (a b c : NotesState) (first mid last : List ℕ) → LeadsBack a b first mid → LeadsBack b c mid last
+    → LeadsBack a c first last
+back_both a b c first mid last x y = record {
+  more = x.more ++ y.more;
+  are = y.are ∙ (ap (λ (ns : List Note). ns ++ y.more) x.are ∙ append_assoc a.list x.more y.more);
+  whole = λ t. x.whole (y.whole t);
+  back = λ t. restored-append x.more y.more last ∙ (ap (restored x.more) (y.back t) ∙ x.back (y.whole t));
+}
