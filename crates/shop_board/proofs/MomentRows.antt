@@ -1,6 +1,6 @@
 -- Worked moments of a board of three pieces, of which the first ends at the opening bound.
-use Rattle.std.proofs.Common.{◌≡◌, ℕ, zero, suc, inl, inr, List, [], ◌∷◌, Bool, true, false, true≢false, refl, sym, ap}
-use Rattle.std.proofs.Common.{subst, ◌∙◌, arith, lit<}
+use Rattle.std.proofs.Common.{◌≡◌, ℕ, zero, suc, inl, inr, List, [], ◌∷◌, Bool, true, false, true≢false, refl, sym}
+use Rattle.std.proofs.Common.{subst, arith, lit<}
 use mathlib.Core.Option.{some-ne-none, some-injective}
 use Rattle.shop_board.specs.declared.views.View.{View}
 use Rattle.shop_board.specs.Views.{has}

@@ -8,6 +8,7 @@ mod gates;
 mod limits;
 mod lock_crews;
 mod ordering;
+mod piece_searchers;
 mod pools;
 mod round_hits;
 mod rules;

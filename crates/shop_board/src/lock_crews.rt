@@ -8,9 +8,10 @@ ghost use Rattle.shop_board.specs.Entries.{OfRound};
 use crate::gates::{Gate, OpenGate};
 use crate::limits::MAX_WORKERS;
 use crate::ordering::in_order;
+use crate::piece_searchers::PieceSearcher;
 use crate::pools::Pool;
 use crate::workers::Workers;
-use shop_round::{Crew, Entry, Round, search_piece};
+use shop_round::{Crew, Entry, Round};
 use std::alloc::{AllocError, Global};
 use std::sync::{Mutex, Wait};
 use std::thread;
@@ -86,6 +87,7 @@ fn serve<'r, R: Wait, G: Gate>(
     ensures { IfOk result (λ v. OfRound (told round.now) v.items) }
 {
     let mut entries = Vec::new(alloc);
+    let mut searcher = PieceSearcher::new(round);
     let mut hit = None;
     for _ in rt.forever() {
         let Some(number) = pool.lock(rt).take() else {
@@ -98,7 +100,7 @@ fn serve<'r, R: Wait, G: Gate>(
             Some(by) if by < number => entries.push(Entry::passed(round, number, by))?,
             _ => {
                 gate.before(worker, number);
-                let sheet = search_piece(alloc, round, number)?;
+                let sheet = searcher.search(alloc, number)?;
                 if sheet.makespan == round.bound {
                     hit = Some(number);
                 }

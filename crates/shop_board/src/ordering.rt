@@ -5,7 +5,8 @@ ghost use Rattle.shop_round.specs.Crews.{OneForEach, IsEntryOf};
 ghost use Rattle.shop_board.specs.Entries.{OfRound};
 ghost use Rattle.shop_board.specs.inner.Gathered.{AllOfRound, Placed};
 
-use shop_round::{Entry, Round, search_piece};
+use crate::piece_searchers::PieceSearcher;
+use shop_round::{Entry, Round};
 use std::alloc::{AllocError, Global};
 
 // A place for each piece.
@@ -53,19 +54,20 @@ fn take<'r>(slots: &mut Vec<Option<Entry<'r>>>, number: usize) -> Option<Entry<'
 // The entry that a worker brought, or else the piece's sheet.
 fn or_search<'r>(
     alloc: Global,
-    round: &'r Round<'r>,
+    searcher: &mut PieceSearcher<'r>,
     number: usize,
     brought: Option<Entry<'r>>,
 ) -> Result<Entry<'r>, AllocError>
-    requires number { number < length round.now.pieces.items }
-    requires brought { IfSome brought (λ e. IsEntryOf (told round.now) number e) }
-    ensures { IfOk result (λ e. IsEntryOf (told round.now) number e) }
+    requires number { number < length searcher.old.pieces.items }
+    requires brought { IfSome brought (λ e. IsEntryOf (told searcher.old) number e) }
+    ensures round { searcher.new ≡ searcher.old }
+    ensures entry { IfOk result (λ e. IsEntryOf (told searcher.old) number e) }
 {
     match brought {
         Some(entry) => Ok(entry),
         None => {
-            let sheet = search_piece(alloc, round, number)?;
-            Ok(Entry::done(round, sheet))
+            let sheet = searcher.search(alloc, number)?;
+            Ok(Entry::done(searcher.round(), sheet))
         }
     }
 }
@@ -81,9 +83,10 @@ pub fn complete<'r>(
     ensures { IfOk result (λ v. OneForEach (told round.now) v.items) }
 {
     let mut entries = Vec::with_capacity(alloc, slots.len())?;
+    let mut searcher = PieceSearcher::new(round);
     for number in 0..slots.len() {
         let brought = take(&mut slots, number);
-        entries.push(or_search(alloc, round, number, brought)?)?;
+        entries.push(or_search(alloc, &mut searcher, number, brought)?)?;
     }
     Ok(entries)
 }

@@ -9,7 +9,8 @@ ghost use Rattle.shop_board.specs.inner.Turns.{IsServedEntry, TakesTurn};
 
 use crate::boards::{Board, Seat};
 use crate::gates::SeatGate;
-use shop_round::{Entry, Round, search_piece};
+use crate::piece_searchers::PieceSearcher;
+use shop_round::{Entry, Round};
 use std::alloc::{AllocError, Global};
 
 // Searches a piece that the seat won, and marks it where it ends at the opening bound.
@@ -17,22 +18,24 @@ fn search_won<'r, G: SeatGate>(
     alloc: Global,
     board: &Board,
     seat: &mut Seat,
-    round: &'r Round<'r>,
+    searcher: &mut PieceSearcher<'r>,
     number: usize,
     worker: usize,
     gate: &G,
 ) -> Result<Entry<'r>, AllocError>
     requires seat { IsSeatOf board.now seat.old }
-    requires round { hits_of board.now ≡ hits_of_round round.now }
-    requires piece { number < length round.now.pieces.items }
+    requires round { hits_of board.now ≡ hits_of_round searcher.old }
+    requires piece { number < length searcher.old.pieces.items }
     requires won { has (knows seat.old).mine number ≡ true }
     ensures seat { IsSeatOf board.now seat.new }
     ensures grows { Grows (knows seat.old) (knows seat.new) }
+    ensures round { searcher.new ≡ searcher.old }
     ensures mine { (knows seat.new).mine ≡ (knows seat.old).mine }
-    ensures entry { IfOk result (IsServedEntry (told round.now) number (knows seat.new)) }
+    ensures entry { IfOk result (IsServedEntry (told searcher.old) number (knows seat.new)) }
 {
     gate.won(worker, seat, number);
-    let sheet = search_piece(alloc, round, number)?;
+    let sheet = searcher.search(alloc, number)?;
+    let round = searcher.round();
     if sheet.makespan == round.bound {
         board.mark(seat, number);
     }
@@ -44,27 +47,28 @@ fn turn<'r, G: SeatGate>(
     alloc: Global,
     board: &Board,
     seat: &mut Seat,
-    round: &'r Round<'r>,
+    searcher: &mut PieceSearcher<'r>,
     number: usize,
     worker: usize,
     gate: &G,
 ) -> Result<Option<Entry<'r>>, AllocError>
     requires seat { IsSeatOf board.now seat.old }
-    requires round { hits_of board.now ≡ hits_of_round round.now }
-    requires piece { number < length round.now.pieces.items }
+    requires round { hits_of board.now ≡ hits_of_round searcher.old }
+    requires piece { number < length searcher.old.pieces.items }
     ensures seat { IsSeatOf board.now seat.new }
     ensures grows { Grows (knows seat.old) (knows seat.new) }
+    ensures round { searcher.new ≡ searcher.old }
     ensures claimed { IsKnown (knows seat.new) number }
-    ensures entry { IfOk result (TakesTurn (told round.now) number (knows seat.old) (knows seat.new)) }
+    ensures entry { IfOk result (TakesTurn (told searcher.old) number (knows seat.old) (knows seat.new)) }
 {
     let low = board.look(seat);
     if !board.claim(seat, number) {
         return Ok(None);
     }
     if low < number {
-        return Ok(Some(Entry::passed(round, number, low)));
+        return Ok(Some(Entry::passed(searcher.round(), number, low)));
     }
-    let entry = search_won(alloc, board, seat, round, number, worker, gate)?;
+    let entry = search_won(alloc, board, seat, searcher, number, worker, gate)?;
     Ok(Some(entry))
 }
 
@@ -73,20 +77,21 @@ fn work_through<'r, G: SeatGate>(
     alloc: Global,
     board: &Board,
     seat: &mut Seat,
-    round: &'r Round<'r>,
+    searcher: &mut PieceSearcher<'r>,
     worker: usize,
     gate: &G,
 ) -> Result<Vec<Entry<'r>>, AllocError>
     requires seat { IsSeatOf board.now seat.old }
-    requires round { hits_of board.now ≡ hits_of_round round.now }
+    requires round { hits_of board.now ≡ hits_of_round searcher.old }
     ensures seat { IsSeatOf board.now seat.new }
     ensures grows { Grows (knows seat.old) (knows seat.new) }
-    ensures claimed { OnOk result (IsAllKnown (length round.now.pieces.items) (knows seat.new)) }
-    ensures entries { IfOk result (λ v. AreWon (told round.now) (knows seat.old) (knows seat.new) v.items) }
+    ensures round { searcher.new ≡ searcher.old }
+    ensures claimed { OnOk result (IsAllKnown (length searcher.old.pieces.items) (knows seat.new)) }
+    ensures entries { IfOk result (λ v. AreWon (told searcher.old) (knows seat.old) (knows seat.new) v.items) }
 {
     let mut entries = Vec::new(alloc);
-    for number in 0..round.pieces.len() {
-        if let Some(entry) = turn(alloc, board, seat, round, number, worker, gate)? {
+    for number in 0..searcher.round().pieces.len() {
+        if let Some(entry) = turn(alloc, board, seat, searcher, number, worker, gate)? {
             entries.push(entry)?;
         }
     }
@@ -114,6 +119,7 @@ pub fn work<'r, G: SeatGate>(
     ensures served { OnOk result.1 (HasServed (knows seat) → HasServed (knows result.0)) }
 {
     let mut seat = seat;
-    let entries = work_through(alloc, board, &mut seat, round, worker, gate);
+    let mut searcher = PieceSearcher::new(round);
+    let entries = work_through(alloc, board, &mut seat, &mut searcher, worker, gate);
     (seat, entries)
 }

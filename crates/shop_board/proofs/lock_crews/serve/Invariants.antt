@@ -8,5 +8,6 @@ abbrev pub invariant-loop : goal.invariant-loop
 invariant-loop g l =
     (goal.iterator-loop g).can_next l.iterator'
     × (goal.iterator-loop g).is_finite l.iterator'
+    × (l.searcher ≡ l.round)
     × OfRound (told l.round) l.entries.items
     × IfSome l.hit (λ h. is_hit (told l.round) h ≡ true)

@@ -19,6 +19,7 @@ loop-number-preserved c =
       search rules,
       subst (λ es. EntriesUpTo r es (c.loop-number.number + 1)) (sym c.in_ok-push.ensures.items)
           (one_more r c.loop-number.entries.items number entry (search rules) so_far (search rules)),
+      search rules,
     )
 
 -- src/ordering.rt:72:1

@@ -10,3 +10,4 @@ invariant-loop-number l =
     × Placed (told l.round) l.slots.items
     × (vec_len l.entries ≡ l.number)
     × EntriesUpTo (told l.round) l.entries.items l.number
+    × (l.searcher ≡ l.round)

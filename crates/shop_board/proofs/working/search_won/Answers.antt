@@ -6,5 +6,5 @@ use Rattle.shop_board.proofs.working.search_won.Goals as goal
 
 pub mark-requires-clause-hit : goal.mark-requires-clause-hit
 mark-requires-clause-hit g c =
-    same_hit c.args.round.now (hits_of c.args.board.now) c.args.number c.requires.round c.requires.piece
-    ∙ (c.in_ok-sheet.ensures.hit ∙ eq-eqb c.in_ok-sheet.sheet.makespan c.args.round.now.bound (search rules))
+    same_hit c.args.searcher.now (hits_of c.args.board.now) c.args.number c.requires.round c.requires.piece
+    ∙ (c.in_ok-sheet.ensures.hit ∙ eq-eqb c.in_ok-sheet.sheet.makespan c.args.searcher.now.bound (search rules))

@@ -1,3 +1,5 @@
+use Rattle.std.proofs.Common.{subst}
+use Rattle.std.specs.Prelude.{IfOk}
 use Rattle.shop_round.specs.Entries.{told}
 use Rattle.shop_board.specs.Seats.{knows, hits_of}
 use Rattle.shop_board.specs.Views.{HasServed}
@@ -14,4 +16,5 @@ returns-clause-served g c =
     let done = c.work_through-entries.ensures in
     on_brought (AreWon (told round) before after) (HasServed before → HasServed after) c.work_through-entries.result
     (λ es won. all_served round hits before after es c.requires.round done.seat.1 done.grows won)
-    done.entries
+    (subst (λ r. IfOk c.work_through-entries.result (λ v. AreWon (told r) before after v.items))
+    c.new-searcher.ensures done.entries)

@@ -10,7 +10,7 @@ use Rattle.shop_board.proofs.working.work_through.Goals.{in-Some+in_ok-push, in_
 
 pub loop-number-preserved : goal.loop-number-preserved
 loop-number-preserved g c =
-    let r = told c.args.round.now in
+    let r = told c.args.searcher.now in
     let i = c.loop-number.invariant in
     let number = c.loop-number.number in
     let first = knows c.args.seat.now in
@@ -18,8 +18,11 @@ loop-number-preserved g c =
     let after = knows c.turn.new.seat in
     let es = c.loop-number.entries.items in
     let t = c.turn.ensures in
-    let told_turn = c.in_ok-entry.ensures.entry in
+    let entry = c.in_ok-entry.field-0 in
+    let told_turn : TakesTurn r number before after entry =
+    subst (λ round. TakesTurn (told round) number before after entry) i.round c.in_ok-entry.ensures.entry in
     record {
+      round = t.round ∙ i.round;
       seat = t.seat;
       grows = grows_twice first before after i.grows t.grows;
       claimed = known_next before after number t.grows i.claimed t.claimed;

@@ -1,4 +1,4 @@
-use Rattle.std.proofs.Common.{◌<◌}
+use Rattle.std.proofs.Common.{◌<◌, ◌≡◌}
 use Rattle.std.specs.Prelude.{All}
 use Rattle.shop_round.specs.Entries.{told}
 use Rattle.shop_board.specs.Seats.{knows, IsSeatOf}
@@ -7,9 +7,10 @@ use Rattle.shop_board.proofs.working.work_through.Given as goal
 
 abbrev pub invariant-loop-number : goal.invariant-loop-number
 invariant-loop-number g l = record {
+  round : l.searcher ≡ l.initial.searcher;
   seat : IsSeatOf l.board l.seat;
   grows : Grows (knows l.initial.seat) (knows l.seat);
   claimed : IsAllKnown l.number (knows l.seat);
-  entries : AreWon (told l.round) (knows l.initial.seat) (knows l.seat) l.entries.items;
+  entries : AreWon (told l.initial.searcher) (knows l.initial.seat) (knows l.seat) l.entries.items;
   below : All (λ n. n < l.number) (numbers_of l.entries.items);
 }
