@@ -1,14 +1,13 @@
 -- A text goes out, and the same where the bytes of source and sink are known.
 use Rattle.std.proofs.Common.{◌≡◌, ℕ, List, ◌++◌, Option, Some, None, Result, Ok, Err, OnOk, IfErr}
-use Rattle.std.proofs.Common.{sym, ◌∙◌, subst, rules, arith}
-use Rattle.std.specs.Prelude.{IsOk}
+use Rattle.std.proofs.Common.{subst, rules, arith}
 use Rattle.std.proofs.lemmas.Grind.{common_steps}
 use Rattle.std.specs.Io.KnownBytes.{Consumes, Appends, IsAtEnd}
 use Rattle.shop_text.specs.declared.faults.ReadFault.{ReadFault}
 use Rattle.shop_engine.specs.declared.faults.Fault.{Fault}
 use Rattle.shop_engine.specs.declared.faults.Fault.TheVariants.{Text, ReadFailed, WriteFailed}
 use Rattle.shop_engine.specs.Devices.{Device, IsReadToEnd, IsWritten, IsCutOff, IsUnwritten, Passes, IsTransfer}
-use Rattle.shop_engine.specs.Headline.{HoldsThen, WhereKnown}
+use Rattle.shop_engine.specs.Headline.{WhereKnown}
 
 -- what was made of a text goes out
 passes : {s s' : Device} {text out written : List ℕ} (Gives : List ℕ → List ℕ → Type 0) (Goes : List ℕ → Type 0)

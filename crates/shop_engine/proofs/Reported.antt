@@ -1,5 +1,5 @@
 -- What is printed of an answer that can be trusted is right, and is the report of the plan's answer.
-use Rattle.std.proofs.Common.{◌≡◌, ℕ, List, [], ◌++◌, length, Bool, false, true, refl, ◌∙◌, ap, subst}
+use Rattle.std.proofs.Common.{◌≡◌, ℕ, List, [], length, Bool, false, true, refl, ◌∙◌, ap}
 use Rattle.std.specs.Prelude.{if◌then◌else◌}
 use Rattle.shop_model.specs.Shop.{Shop}
 use Rattle.shop_model.specs.Checking.{starts_of}

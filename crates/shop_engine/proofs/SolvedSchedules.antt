@@ -1,21 +1,20 @@
 -- What `solve` writes, read as a schedule and checked.
-use Rattle.std.proofs.Common.{◌≡◌, ℕ, zero, suc, ◌+◌, ◌≤◌, ◌<◌, ◌⊎◌, inl, inr, Bool, true, false, List, ◌++◌, length}
-use Rattle.std.proofs.Common.{Option, Some, Ok, refl, sym, ap, ◌∙◌, subst, arith}
+use Rattle.std.proofs.Common.{◌≡◌, ℕ, ◌≤◌, inl, inr, Bool, true, false, List, length}
+use Rattle.std.proofs.Common.{Option, Some, sym, ap, ◌∙◌, subst, arith}
 use Rattle.std.specs.Prelude.{IsTrue}
 use Rattle.std.specs.List.{list_all}
 use Rattle.std.proofs.lemmas.List.{append-nil}
-use Rattle.shop_model.specs.Shop.{Shop, Starts, IsOperation, IsFeasible, AreDifferent}
+use Rattle.shop_model.specs.Shop.{Shop, Starts, IsFeasible, AreDifferent}
 use Rattle.shop_model.specs.Limits.{AreStarts}
 use Rattle.shop_model.specs.Checking.{EndsAt, IsVerdict, IsBefore, IsFirstEarly, IsFirstOverlap, starts_of}
 use Rattle.shop_model.specs.declared.checking.Verdict.{Verdict}
 use Rattle.shop_model.specs.declared.checking.Verdict.TheVariants.{Feasible, WrongSize, Unreleased, Early, Overlap}
 use Rattle.shop_model.proofs.Ends.{feasible-in_time}
-use Rattle.shop_text.specs.Formats.{grammar_of, is_visible}
+use Rattle.shop_text.specs.Formats.{is_visible}
 use Rattle.shop_text.specs.Texts.{NamedShop}
 use Rattle.shop_text.specs.Names.{first_named}
 use Rattle.shop_text.specs.Schedules.{IsTable, IsTableFault}
 use Rattle.shop_text.specs.Writing.{Reported, report_text, verdict_text}
-use Rattle.shop_text.specs.declared.faults.ReadFault.{ReadFault}
 use Rattle.shop_text.specs.declared.formats.Format.{Format}
 use Rattle.shop_text.proofs.ReportReading.{reports_are_schedules}
 use Rattle.shop_text.proofs.TableReadings.{one_table}
@@ -25,8 +24,8 @@ use Rattle.shop_round.specs.declared.runs.Answer.{Answer}
 use Rattle.shop_engine.specs.inner.Told.{told_by}
 use Rattle.shop_engine.specs.Answers.{text_with_gantt}
 use Rattle.shop_engine.specs.Asking.{IsAsked}
-use Rattle.shop_engine.specs.Checking.{IsVerdictOn, IsCheckOf, IsCheckFault}
-use Rattle.shop_engine.specs.SolvedSchedules.{IsScheduleOf, GivesSchedule, PassesCheck}
+use Rattle.shop_engine.specs.Checking.{IsVerdictOn}
+use Rattle.shop_engine.specs.SolvedSchedules.{GivesSchedule, PassesCheck}
 use Rattle.shop_engine.proofs.Reported.{chart_of}
 use Rattle.shop_engine.proofs.RefusedTexts.{one_reading, not_had}
 

@@ -13,7 +13,7 @@ use Rattle.shop_engine.specs.declared.faults.Fault.{Fault}
 use Rattle.shop_engine.specs.declared.faults.Fault.TheVariants.{Text, ReadFailed, WriteFailed}
 use Rattle.shop_engine.specs.Devices.{Device, IsReadToEnd, IsUnwritten, IsCutOff}
 use Rattle.shop_engine.specs.Asking.{name_in, IsAsked, OrNoMemory}
-use Rattle.shop_engine.specs.Checking.{Second, IsScheduleRead, HasSecondWorked, IsSecondUnread, IsPicked}
+use Rattle.shop_engine.specs.Checking.{Second, IsScheduleRead, IsSecondReadOnce, IsSecondUnread, IsPicked}
 use Rattle.shop_engine.specs.Checking.{IsScheduleRefused, IsVerdictOn, Checks, IsChecking}
 use Rattle.shop_engine.specs.Checking.{schedule_in, IsCheckOf, IsCheckFault}
 
@@ -31,7 +31,7 @@ pub unread_after : (args : CheckArgs) {s s' : Device} {text : List ℕ} {asked :
 unread_after args None t' k read is_asked e h = absurd h
 unread_after args (Some old) None k read is_asked e h = absurd h
 unread_after args {text = text} {asked = asked} (Some old) (Some new) k read is_asked (Text fault.NoMemory) h =
-    (inr (record { text = text; read = read; asked = asked; is_asked = is_asked; after = h }), refl)
+    (inr (record { text = text; read = read; asked = asked; is_asked = is_asked; after = record { worked = h.0; once = inl h.1 } }), refl)
 unread_after args {text = text} {asked = asked} (Some old) (Some new) k read is_asked (Text fault.TooLong) h =
     (inr (record { text = text; read = read; asked = asked; is_asked = is_asked; after = inl h }), refl)
 unread_after args (Some old) (Some new) k read is_asked (Text fault.NoInstance) h = absurd h
@@ -47,15 +47,15 @@ unread_after args {text = text} {asked = asked} (Some old) (Some new) k read is_
     (inr (record { text = text; read = read; asked = asked; is_asked = is_asked; after = h }), refl)
 unread_after args (Some old) (Some new) k read is_asked WriteFailed h = absurd h
 
-schedule_worked : (text schedule : List ℕ) (t t' : Second) → IsScheduleRead text t t' schedule → HasSecondWorked t t'
+schedule_worked : (text schedule : List ℕ) (t t' : Second) → IsScheduleRead text t t' schedule → IsSecondReadOnce t t'
 schedule_worked text schedule None None h = tt
 schedule_worked text schedule None (Some new) h = absurd h
 schedule_worked text schedule (Some old) None h = absurd h
-schedule_worked text schedule (Some old) (Some new) h = h.worked
+schedule_worked text schedule (Some old) (Some new) h = record { worked = h.worked; once = inr h.told }
 
 -- the instance was picked, and then the schedule is refused
 refused_after : (args : CheckArgs) {s s' : Device} (t t' : Second) (k : Device) (e : ReadFault)
-    → HasSecondWorked t t' → IsPicked args s s' (IsScheduleRefused t t' e)
+    → IsSecondReadOnce t t' → IsPicked args s s' (IsScheduleRefused t t' e)
     → IsChecking args s s' t t' k k (Err (Text e))
 refused_after args t t' k fault.NoMemory worked p =
     (inr (record { text = p.text; read = p.read; asked = p.asked; is_asked = p.is_asked; after = worked }), refl)

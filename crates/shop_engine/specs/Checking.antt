@@ -23,7 +23,7 @@ use Rattle.shop_text.specs.declared.formats.Format.{Format}
 use Rattle.shop_engine.specs.declared.arguments.CheckArgs.{CheckArgs}
 use Rattle.shop_engine.specs.declared.faults.Fault.{Fault}
 use Rattle.shop_engine.specs.declared.faults.Fault.TheVariants.{Text, ReadFailed, WriteFailed}
-use Rattle.shop_engine.specs.Devices.{Device, HasWorked, HasFailed, IsReadToEnd, IsUnread}
+use Rattle.shop_engine.specs.Devices.{Device, HasReadOnce, HasReadFailed, IsReadToEnd, IsUnread}
 use Rattle.shop_engine.specs.Devices.{IsWritten, IsCutOff}
 use Rattle.shop_engine.specs.Devices.{IsTextRefused}
 use Rattle.shop_engine.specs.Asking.{name_in, IsAsked, OfAsked, IsAskFault}
@@ -91,12 +91,12 @@ abbrev pub Checks : CheckArgs → Device → Device → Second → Second → Bo
 Checks args source source' second second' feasible Goes =
     IsPicked args source source' (IsJudged second second' feasible Goes)
 
--- it didn't fail
-abbrev pub HasSecondWorked : Second → Second → Type 0
-HasSecondWorked None None = Unit {0}
-HasSecondWorked None (Some new) = ⊥
-HasSecondWorked (Some old) None = ⊥
-HasSecondWorked (Some old) (Some new) = HasWorked old new
+-- no read of it failed, and its end was told at most once
+abbrev pub IsSecondReadOnce : Second → Second → Type 0
+IsSecondReadOnce None None = Unit {0}
+IsSecondReadOnce None (Some new) = ⊥
+IsSecondReadOnce (Some old) None = ⊥
+IsSecondReadOnce (Some old) (Some new) = HasReadOnce old new
 
 -- it wasn't read to its end
 abbrev pub IsSecondUnread : Second → Second → Fault → Type 0
@@ -125,8 +125,8 @@ abbrev pub IsChecking : CheckArgs → Device → Device → Second → Second �
 IsChecking args source source' second second' sink sink' (Ok feasible) =
     Checks args source source' second second' feasible (IsWritten sink sink')
 IsChecking args source source' second second' sink sink' (Err (Text NoMemory)) =
-    ((HasWorked source source' × (second' ≡ second))
-    ⊎ IsPicked args source source' (λ text shop. HasSecondWorked second second'))
+    ((HasReadOnce source source' × (second' ≡ second))
+    ⊎ IsPicked args source source' (λ text shop. IsSecondReadOnce second second'))
     × (sink' ≡ sink)
 IsChecking args source source' second second' sink sink' (Err (Text fault)) =
     ((IsTextRefused source source' (IsAskFault args.format (name_in args.name)) fault
@@ -134,7 +134,7 @@ IsChecking args source source' second second' sink sink' (Err (Text fault)) =
     ⊎ IsPicked args source source' (IsScheduleRefused second second' fault))
     × (sink' ≡ sink)
 IsChecking args source source' second second' sink sink' (Err ReadFailed) =
-    ((HasFailed source source' × (second' ≡ second))
+    ((HasReadFailed source source' × (second' ≡ second))
     ⊎ IsPicked args source source' (λ text shop. IsSecondUnread second second' ReadFailed))
     × (sink' ≡ sink)
 IsChecking args source source' second second' sink sink' (Err WriteFailed) =

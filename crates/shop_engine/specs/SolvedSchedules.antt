@@ -13,6 +13,7 @@ use Rattle.shop_text.specs.Formats.{is_visible}
 use Rattle.shop_text.specs.Schedules.{IsTable}
 use Rattle.shop_text.specs.Texts.{NamedShop}
 use Rattle.shop_text.specs.Writing.{Reported, report_text, verdict_text}
+use Rattle.shop_text.specs.declared.limits.TheConstants.{MAX_TEXT}
 use Rattle.shop_text.specs.declared.faults.ReadFault.{ReadFault}
 use Rattle.shop_text.specs.declared.formats.Format.{Format}
 use Rattle.shop_engine.specs.Checking.{IsCheckOf, IsCheckFault}
@@ -26,9 +27,9 @@ pub record IsScheduleOf (asked : NamedShop) (written : List ℕ) : Type 0 where
   pub is_table : IsTable asked.shop written report.table
   pub ends : EndsAt asked.shop report.table report.makespan
 
--- no text of more than 16,777,216 bytes is read; a name that readers give has visible bytes alone
+-- no text of more than `MAX_TEXT` bytes is read; a name that readers give has visible bytes alone
 abbrev pub GivesSchedule : NamedShop → List ℕ → Type 0
-GivesSchedule asked written = IsTrue (list_all is_visible asked.name) → length written ≤ 16777216
+GivesSchedule asked written = IsTrue (list_all is_visible asked.name) → length written ≤ MAX_TEXT
     → IsScheduleOf asked written
 
 -- each answer of `check_bytes` on this instance text and this schedule text, but want of memory, is
@@ -45,5 +46,5 @@ pub record IsFoundFeasible (format : Format) (name : Option (List ℕ)) (text wr
 
 -- the same of a text that can be read
 abbrev pub PassesCheck : Format → Option (List ℕ) → List ℕ → List ℕ → Type 0
-PassesCheck format name text written = length written ≤ 16777216
+PassesCheck format name text written = length written ≤ MAX_TEXT
     → IsFoundFeasible format name text written

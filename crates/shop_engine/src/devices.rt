@@ -1,7 +1,7 @@
 // What the program reads from and writes to.
-ghost use Rattle.std.specs.Prelude.{◌≡◌, ◌<◌, ◌≤◌, length, IfOk};
+ghost use Rattle.std.specs.Prelude.{◌≡◌, ◌<◌, ◌≤◌, length, IfOk, IfErr};
 ghost use Rattle.std.specs.Io.KnownBytes.{ReadConsumes, WriteAppends};
-ghost use Rattle.shop_engine.specs.Devices.{Device, Counts};
+ghost use Rattle.shop_engine.specs.Devices.{Device, Counts, TellsEnd, GoesOn};
 
 /// A source or a sink failed.
 #[derive(Clone, Copy, Debug, PartialEq, Eq)]
@@ -9,7 +9,7 @@ pub struct DeviceFailed;
 
 /// Where bytes come from.
 pub trait Source {
-    /// The bytes that it has left, where they are known, and how often it has failed.
+    /// The bytes that it has left, where they are known, and how often it has failed and told its end.
     ghost device: { Self → Device };
 
     /// Reads some bytes to the front of the buffer, and says how many: none only at the end, or where the buffer is
@@ -18,7 +18,10 @@ pub trait Source {
         ensures bound { IfOk result (λ n. n ≤ length buffer.new) }
         ensures bytes { ReadConsumes (device self.old).bytes (device self.new).bytes
             result buffer.new }
-        ensures count { Counts (device self.old) (device self.new) result };
+        ensures count { Counts (device self.old) (device self.new) result }
+        ensures end { IfOk result (λ n.
+            TellsEnd (device self.old) (device self.new) (length buffer.new) n) }
+        ensures no_end { IfErr result (λ _. GoesOn (device self.old) (device self.new)) };
 }
 
 /// Where bytes go.

@@ -10,26 +10,37 @@ use std::io::{Read, Write};
 pub struct Reading<R: Read + Drop> {
     reader: R,
     failures: u64,
+    ends: u64,
 }
 
 impl<R: Read + Drop> Reading<R> {
-    /// A source that hasn't failed yet.
+    /// A source that hasn't failed yet, nor told its end.
     pub fn new(reader: R) -> Reading<R>
-        ensures { result ≡ record { reader = reader; failures = 0 } }
+        ensures { result ≡ record { reader = reader; failures = 0; ends = 0 } }
     {
         Reading {
             reader,
             failures: 0,
+            ends: 0,
         }
     }
 }
 
 impl<R: Read + Drop> Source for Reading<R> {
-    ghost device = { λ s. record { bytes = R.remaining s.reader; failures = s.failures } };
+    ghost device = { λ s. record {
+      bytes = R.remaining s.reader;
+      failures = s.failures;
+      ends = s.ends;
+    } };
 
     fn read(&mut self, buffer: &mut [u8]) -> Result<usize, DeviceFailed> {
         match self.reader.read(buffer) {
-            Ok(n) => Ok(n),
+            Ok(n) => {
+                if n == 0 && !buffer.is_empty() {
+                    self.ends = self.ends.saturating_add(1);
+                }
+                Ok(n)
+            }
             Err(_) => {
                 self.failures = self.failures.saturating_add(1);
                 Err(DeviceFailed)
@@ -58,7 +69,7 @@ impl<W: Write + Drop> Writing<W> {
 }
 
 impl<W: Write + Drop> Sink for Writing<W> {
-    ghost device = { λ s. record { bytes = W.contents s.writer; failures = s.failures } };
+    ghost device = { λ s. record { bytes = W.contents s.writer; failures = s.failures; ends = 0 } };
 
     fn write(&mut self, buffer: &[u8]) -> Result<usize, DeviceFailed> {
         match self.writer.write(buffer) {

@@ -1,5 +1,6 @@
 // Whole texts from sources and to sinks.
 ghost use Rattle.std.specs.Prelude.{◌≤◌, length, IfOk, IfErr, OnOk};
+ghost use Rattle.shop_text.specs.declared.limits.TheConstants.{MAX_TEXT};
 ghost use Rattle.shop_engine.specs.Devices.{Device, IsReadToEnd, IsUnread, IsWritten, IsUnwritten};
 
 use crate::devices::{Sink, Source};
@@ -7,10 +8,10 @@ use crate::faults::Fault;
 use shop_text::{MAX_TEXT, ReadFault};
 use std::alloc::Global;
 
-/// All bytes of a source up to its end. Where there are more than a text may have, the source is left after the first
-/// one too many.
+/// All bytes of a source up to its end, after which it isn't read again. Where there are more than a text may have, the
+/// source is left after the first one too many.
 pub(crate) fn read_all<S: Source>(alloc: Global, source: &mut S) -> Result<Vec<u8>, Fault>
-    ensures short { IfOk result (λ text. length text.items ≤ 16777216) }
+    ensures short { IfOk result (λ text. length text.items ≤ MAX_TEXT) }
     ensures read { IfOk result (λ text.
         IsReadToEnd (S.device source.old) (S.device source.new) text.items) }
     ensures unread { IfErr result (λ fault.

@@ -10,6 +10,7 @@ pub(super) struct Dripping<'t> {
     pub(super) calls: u64,
     pub(super) fails_at: u64,
     pub(super) failures: u64,
+    pub(super) ends: u64,
 }
 
 impl<'t> Dripping<'t> {
@@ -19,6 +20,7 @@ impl<'t> Dripping<'t> {
             calls: 0,
             fails_at,
             failures: 0,
+            ends: 0,
         }
     }
 }
@@ -26,7 +28,7 @@ impl<'t> Dripping<'t> {
 impl<'t> Source for Dripping<'t> {
     ghost use Rattle.std.specs.Prelude.{None};
 
-    ghost device = { λ s. record { bytes = None; failures = s.failures } };
+    ghost device = { λ s. record { bytes = None; failures = s.failures; ends = s.ends } };
 
     fn read(&mut self, buffer: &mut [u8]) -> Result<usize, DeviceFailed> {
         self.calls = self.calls.saturating_add(1);
@@ -34,7 +36,11 @@ impl<'t> Source for Dripping<'t> {
             self.failures = self.failures.saturating_add(1);
             return Err(DeviceFailed);
         }
-        if self.left.is_empty() || buffer.is_empty() {
+        if buffer.is_empty() {
+            return Ok(0);
+        }
+        if self.left.is_empty() {
+            self.ends = self.ends.saturating_add(1);
             return Ok(0);
         }
         buffer[0] = self.left[0];
@@ -66,7 +72,7 @@ impl Trickling {
 impl Sink for Trickling {
     ghost use Rattle.std.specs.Prelude.{None};
 
-    ghost device = { λ s. record { bytes = None; failures = s.failures } };
+    ghost device = { λ s. record { bytes = None; failures = s.failures; ends = 0 } };
 
     fn write(&mut self, buffer: &[u8]) -> Result<usize, DeviceFailed> {
         self.calls = self.calls.saturating_add(1);
@@ -90,7 +96,7 @@ pub(super) struct Endless {
 impl Source for Endless {
     ghost use Rattle.std.specs.Prelude.{None};
 
-    ghost device = { λ s. record { bytes = None; failures = 0 } };
+    ghost device = { λ s. record { bytes = None; failures = 0; ends = 0 } };
 
     fn read(&mut self, buffer: &mut [u8]) -> Result<usize, DeviceFailed> {
         self.given = self.given.saturating_add(buffer.len() as u64);
