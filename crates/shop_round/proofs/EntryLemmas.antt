@@ -2,7 +2,7 @@
 use Rattle.std.proofs.Common.{◌≡◌, ℕ, zero, suc, ◌<◌, true, false, Global, Vec, vec_len, Option, Some, None, List, []}
 use Rattle.std.proofs.Common.{◌∷◌, length, get_or, sym, ◌∙◌, ap, subst, arith, zero-add}
 use Rattle.std.proofs.Common.{◌+◌, ◌++◌, inl, inr}
-use Rattle.std.specs.Prelude.{slice_index_or, IfSome}
+use Rattle.std.specs.Prelude.{slice_index_or}
 use Rattle.std.specs.Iterator.{Yields}
 use Rattle.std.specs.Vec.Iter.{into_iter_items, into_iter_len, into_iter_steps}
 use Rattle.std.specs.declared.vec.IntoIter.{IntoIter}
@@ -23,7 +23,7 @@ use Rattle.shop_round.specs.declared.rounds.Round.{Round}
 use Rattle.shop_round.specs.Nodes.{pieces_in}
 use Rattle.shop_round.specs.Round.{Told}
 use Rattle.shop_round.specs.Entries.{told, is_hit, MayPass, Fits, number_of}
-use Rattle.shop_round.specs.Crews.{OneForEach, IsEntryOf}
+use Rattle.shop_round.specs.Crews.{OneForEach, IsEntryOf, NoHitBelow, IsUpToHit}
 use Rattle.shop_round.proofs.PieceLemmas.{numbered_at}
 use Rattle.shop_round.proofs.GatherLemmas.{IsSheetAt}
 
@@ -85,35 +85,52 @@ searched r n q s h at of =
     ∙ (words_at r.pieces.items n q h at ∙ ap (λ k. slice_index_or (pieces_in r.pieces.items) k []) (sym number))
     in record { of_round = (of.of_instance, of.of_best, of.of_budget, (omega arith), words); number = number }
 
--- entries of the pieces below n, in number order, and one more
+-- entries of the pieces below n, in number order, up to and with the first that ends at the opening bound, and one more
+abbrev pub IsEntryUpToHit : Told → ℕ → Entry → Type 0
+IsEntryUpToHit r n e = IsEntryOf r n e × IsUpToHit r n e.kind
+
 pub record AreEntriesUpTo (r : Told) (es : List Entry) (n : ℕ) : Type 0 where
   pub count : length es ≡ n
-  pub each : (k : ℕ) (d : Entry) → k < n → IsEntryOf r k (slice_index_or es k d)
+  pub each : (k : ℕ) (d : Entry) → k < n → IsEntryUpToHit r k (slice_index_or es k d)
 
 pub one_entry_more : (r : Told) (es new : List Entry) (n : ℕ) (e : Entry) → AreEntriesUpTo r es n
-    → new ≡ es ++ e ∷ [] → IsEntryOf r n e → AreEntriesUpTo r new (n + 1)
-one_entry_more r es new n e up added is = record {
+    → new ≡ es ++ e ∷ [] → IsEntryOf r n e → IsUpToHit r n e.kind → AreEntriesUpTo r new (n + 1)
+one_entry_more r es new n e up added is stops = record {
   count = ap (λ (xs : List Entry). length xs) added ∙ (length_push es e ∙ ap (λ k. k + 1) up.count);
-  each = λ k d h. subst (λ (xs : List Entry). IsEntryOf r k (slice_index_or xs k d)) (sym added) (at k d h);
+  each = λ k d h. subst (λ (xs : List Entry). IsEntryUpToHit r k (slice_index_or xs k d)) (sym added) (at k d h);
 }
   where
-    at : (k : ℕ) (d : Entry) → k < n + 1 → IsEntryOf r k (get_or (es ++ e ∷ []) k d)
+    at : (k : ℕ) (d : Entry) → k < n + 1 → IsEntryUpToHit r k (get_or (es ++ e ∷ []) k d)
     at k d h = elim (cases_eq k n) [
       | inl same ↦
           let here : get_or (es ++ e ∷ []) k d ≡ e = ap (λ i. get_or (es ++ e ∷ []) i d) (same ∙ sym up.count)
           ∙ get_or-append_seam es e [] d
-          in subst (IsEntryOf r k) (sym here) (subst (λ i. IsEntryOf r i e) (sym same) is)
+          in subst (IsEntryUpToHit r k) (sym here) (subst (λ i. IsEntryUpToHit r i e) (sym same) (is, stops))
       | inr other ↦
           let below : k < length es = (let a = up.count in omega arith)
-          in subst (IsEntryOf r k) (sym (get_or-append es (e ∷ []) d k below)) (up.each k d (omega arith))
+          in subst (IsEntryUpToHit r k) (sym (get_or-append es (e ∷ []) d k below)) (up.each k d (omega arith))
     ]
 
 -- all of them
-pub all_entries : (r : Told) (es : List Entry) (n : ℕ) → n ≡ length r.pieces → AreEntriesUpTo r es n → OneForEach r es
-all_entries r es n e up = (up.count ∙ e, λ k d h. up.each k d (let a = up.count in omega arith))
+pub all_entries : (r : Told) (es : List Entry) (n : ℕ) → AreEntriesUpTo r es n → n ≡ length r.pieces → OneForEach r es
+all_entries r es n up e = (up.count ∙ e, λ k d h. (up.each k d (let a = up.count in omega arith)).0)
 
--- the piece that ends at the opening bound, if one is known, is below the next one too
-pub still_below : (r : Told) (n : ℕ) (hit : Option ℕ) → IfSome hit (λ h. (h < n) × (is_hit r h ≡ true))
-    → IfSome hit (λ h. (h < n + 1) × (is_hit r h ≡ true))
-still_below r n None h = tt
-still_below r n (Some x) h = ((let a = h.0 in omega arith), h.1)
+-- the first piece below n that ends at the opening bound, or none does
+abbrev pub IsFirstHitBelow : Told → ℕ → Option ℕ → Type 0
+IsFirstHitBelow r n None = NoHitBelow r n
+IsFirstHitBelow r n (Some h) = (h < n) × (is_hit r h ≡ true) × NoHitBelow r h
+
+pub none_yet : (r : Told) → NoHitBelow r 0
+none_yet r k h = absurd (omega arith)
+
+pub still_below : (r : Told) (n h : ℕ) → IsFirstHitBelow r n (Some h) → IsFirstHitBelow r (n + 1) (Some h)
+still_below r n h is = ((let a = is.0 in omega arith), is.1, is.2)
+
+pub first_here : (r : Told) (n : ℕ) → NoHitBelow r n → is_hit r n ≡ true → IsFirstHitBelow r (n + 1) (Some n)
+first_here r n none hit = (omega arith, hit, none)
+
+pub none_here : (r : Told) (n : ℕ) → NoHitBelow r n → is_hit r n ≡ false → NoHitBelow r (n + 1)
+none_here r n none miss k h = elim (cases_eq k n) [
+  | inl same ↦ subst (λ i. is_hit r i ≡ false) (sym same) miss
+  | inr other ↦ none k (omega arith)
+]

@@ -7,7 +7,7 @@ use Rattle.std.proofs.lemmas.List.Sums.{sum_by-append, sum_by-cons}
 use Rattle.shop_model.specs.Shop.{Shop}
 use Rattle.shop_bound.specs.Bound.{lb}
 use Rattle.shop_tree.specs.Branching.{conflict, branch}
-use Rattle.shop_tree.specs.Walking.{Walk, walk, walk_within, steps_left, taking, unless_cut, sheet}
+use Rattle.shop_tree.specs.Walking.{Walk, walk, walk_within, operations_left, taking, unless_cut, sheet}
 use Rattle.shop_tree.proofs.Members.{all_sort}
 
 -- how many words stand below a word that lacks this many operations, with the word itself
@@ -16,7 +16,7 @@ size_within shop zero w = 1
 size_within shop (suc n) w = 1 + sum_by (size_within shop n) (branch shop w)
 
 unfoldable pub size_of : Shop → List ℕ → ℕ
-size_of shop w = size_within shop (steps_left shop w) w
+size_of shop w = size_within shop (operations_left shop w) w
 
 -- how many words stand below all of these, with them
 unfoldable pub size_all : Shop → List (List ℕ) → ℕ
@@ -41,13 +41,13 @@ module _ (shop : Shop) where
 
   pub size_some : (w : List ℕ) → 1 ≤ size_of shop w
   unfolding size_of
-  size_some w = some_within (steps_left shop w) w
+  size_some w = some_within (operations_left shop w) w
 
-  first_same : (n : ℕ) (v : List ℕ) → steps_left shop v ≡ n → size_within shop n v ≡ size_of shop v
+  first_same : (n : ℕ) (v : List ℕ) → operations_left shop v ≡ n → size_within shop n v ≡ size_of shop v
   unfolding size_of
   first_same n v e = ap (λ k. size_within shop k v) (sym e)
 
-  same_sizes : (n : ℕ) (ws : List (List ℕ)) → AllByRecursion (λ v. steps_left shop v ≡ n) ws
+  same_sizes : (n : ℕ) (ws : List (List ℕ)) → AllByRecursion (λ v. operations_left shop v ≡ n) ws
       → sum_by (size_within shop n) ws ≡ size_all shop ws
   same_sizes n [] a = sym size_none
   same_sizes n (w ∷ ws) a =
@@ -62,18 +62,18 @@ module _ (shop : Shop) where
   longer w [] = tt
   longer w (j ∷ js) = (length-append w (j ∷ []), longer w js)
 
-  lack_less : (n : ℕ) (w : List ℕ) → steps_left shop w ≡ suc n → (ws : List (List ℕ))
-      → AllByRecursion (λ v. length v ≡ length w + 1) ws → AllByRecursion (λ v. steps_left shop v ≡ n) ws
+  lack_less : (n : ℕ) (w : List ℕ) → operations_left shop w ≡ suc n → (ws : List (List ℕ))
+      → AllByRecursion (λ v. length v ≡ length w + 1) ws → AllByRecursion (λ v. operations_left shop v ≡ n) ws
   lack_less n w e [] a = tt
   lack_less n w e (v ∷ ws) a = ((let b = a.0 in omega arith), lack_less n w e ws a.1)
 
-  pub children_lack_less : (n : ℕ) (w : List ℕ) → steps_left shop w ≡ suc n
-      → AllByRecursion (λ v. steps_left shop v ≡ n) (branch shop w)
+  pub children_lack_less : (n : ℕ) (w : List ℕ) → operations_left shop w ≡ suc n
+      → AllByRecursion (λ v. operations_left shop v ≡ n) (branch shop w)
   children_lack_less n w e =
       lack_less n w e (branch shop w) (all_sort (lb shop) (λ v. length v ≡ length w + 1)
       (map (λ j. w ++ j ∷ []) (conflict shop w)) (longer w (conflict shop w)))
 
-  size_open : (n : ℕ) (w : List ℕ) → steps_left shop w ≡ suc n → size_of shop w ≡ 1 + size_all shop (branch shop w)
+  size_open : (n : ℕ) (w : List ℕ) → operations_left shop w ≡ suc n → size_of shop w ≡ 1 + size_all shop (branch shop w)
   unfolding size_of
   size_open n w e =
       ap (λ k. size_within shop k w) e
@@ -129,7 +129,7 @@ module _ (shop : Shop) where
       in let v = rest.sizes
       in record { less = omega arith; sizes = omega arith }
 
-  pub walk_takes : (n : ℕ) (s : Walk) (w : List ℕ) → steps_left shop w ≡ n → Takes s (walk_within shop n s w) w
+  pub walk_takes : (n : ℕ) (s : Walk) (w : List ℕ) → operations_left shop w ≡ n → Takes s (walk_within shop n s w) w
   walk_takes zero s w e =
       taking_takes s.budget s w _ refl
       (λ t same less. cut_goes_on (leb t.best (lb shop w)) s t _ (size_of shop w) same less (size_some w)
@@ -139,7 +139,7 @@ module _ (shop : Shop) where
       (λ t same less. cut_goes_on (leb t.best (lb shop w)) s t _ (size_of shop w) same less (size_some w)
       (let f = ap (size_all shop) same
       in let g = size_open n w e
-      in let all = fold_uses (walk_within shop n) (λ v. steps_left shop v ≡ n)
+      in let all = fold_uses (walk_within shop n) (λ v. operations_left shop v ≡ n)
       (λ u v lack. (walk_takes n u v lack).uses) t (branch shop w) (children_lack_less n w e)
       in let p = all.less
       in let q = all.sizes
@@ -151,7 +151,7 @@ module _ (shop : Shop) where
 
   pub words_uses : (s : Walk) (ws : List (List ℕ)) → Uses s (fold (walk shop) s ws) (size_all shop ws)
   words_uses s ws = fold_uses (walk shop) (λ v. Unit {0})
-      (λ u v x. (walk_takes (steps_left shop v) u v refl).uses) s ws (any ws)
+      (λ u v x. (walk_takes (operations_left shop v) u v refl).uses) s ws (any ws)
 
   -- a sheet leaves no more than its piece, and less where it may take a node
   pub sheet_leaves : (piece : List (List ℕ)) (best budget : ℕ)
@@ -167,7 +167,7 @@ module _ (shop : Shop) where
       → size_all shop (sheet shop (w ∷ ws) best budget).left < size_all shop (w ∷ ws)
   sheet_leaves_less w ws best budget some =
       let s : Walk = record { found = None; best = best; left = []; budget = budget }
-      in let t = walk_takes (steps_left shop w) s w refl
+      in let t = walk_takes (operations_left shop w) s w refl
       in let u = words_uses (walk shop s w) ws
       in let z = size_none
       in let c = size_cons w ws

@@ -18,6 +18,10 @@ told r =
 abbrev pub is_hit : Told → ℕ → Bool
 is_hit r n = (sheet_in r (slice_index_or r.pieces n [])).best == r.bound
 
+-- the sheet tells whether the n-th piece ends at the opening bound
+abbrev pub TellsHit : Told → ℕ → Sheet → Type 0
+TellsHit r n s = is_hit r n ≡ (s.makespan == r.bound)
+
 -- the sheet is of a piece of the round, from its instance, opening best and budget
 abbrev pub IsOf : Told → Sheet → Type 0
 IsOf r s = (s.instance.now ≡ r.shop) × (s.best ≡ r.best) × (s.budget ≡ r.budget)

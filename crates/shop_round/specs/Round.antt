@@ -1,9 +1,8 @@
 -- Rounds, and the answer of a plan: branch and bound over words, whose plan of pieces, budgets and
 -- rounds is this project's own.
 use Rattle.std.specs.Prelude.{ℕ, zero, suc, ◌+◌, ◌-◌, ◌*◌, ◌≤◌, ◌⊎◌, min, Bool, true, false, Option}
-use Rattle.std.specs.Prelude.{Some, None, List, [], ◌∷◌, ◌++◌, take, drop, map, filter, sum_by, fold}
-use Rattle.std.specs.Prelude.{flat_map, nat_lt, ◌==◌}
-use Rattle.std.specs.Prelude.{if◌then◌else◌, unwrap_or}
+use Rattle.std.specs.Prelude.{Some, None, List, [], ◌∷◌, ◌++◌, take, drop, map, filter, sum_by}
+use Rattle.std.specs.Prelude.{fold, flat_map, nat_lt, ◌==◌, if◌then◌else◌, unwrap_or}
 use Rattle.shop_model.specs.Shop.{Shop, Starts, end_of, IsFeasible}
 use Rattle.shop_model.specs.Word.{start_jobs}
 use Rattle.shop_bound.specs.Bound.{lb}

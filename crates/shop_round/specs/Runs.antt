@@ -17,8 +17,8 @@ abbrev pub planned : Plan → Planned
 planned p = record { rounds = p.rounds; budget = p.budget; piece = p.piece; order = p.order }
 
 -- the plan of these
-abbrev pub IsPlanOf : ℕ → ℕ → ℕ → Order → Plan → Type 0
-IsPlanOf rounds budget piece order p =
+abbrev pub IsPlanMadeOf : ℕ → ℕ → ℕ → Order → Plan → Type 0
+IsPlanMadeOf rounds budget piece order p =
     planned p ≡ record { rounds = rounds; budget = budget; piece = piece; order = order }
 
 abbrev pub stands : Standing → Stand

@@ -1,6 +1,6 @@
-// Crews, who search the pieces of a round, and the crew of the calling thread alone.
-ghost use Rattle.std.specs.Prelude.{◌≡◌, ◌<◌, ◌==◌, length, IfOk, OnOk};
-ghost use Rattle.shop_round.specs.Entries.{told, is_hit, IsOf};
+// Crews, who search the pieces of a round.
+ghost use Rattle.std.specs.Prelude.{◌≡◌, ◌<◌, length, IfOk, OnOk};
+ghost use Rattle.shop_round.specs.Entries.{told, IsOf, TellsHit};
 ghost use Rattle.shop_round.specs.Crews.{OneForEach};
 
 use crate::entries::Entry;
@@ -34,7 +34,7 @@ pub fn search_piece_with<'r>(
     requires piece { number < length round.now.pieces.items }
     requires instance { searcher.old ≡ round.now.instance.now }
     ensures of { IfOk result (λ s. IsOf (told round.now) s × (s.number ≡ number)) }
-    ensures hit { IfOk result (λ s. is_hit (told round.now) number ≡ (s.makespan == round.now.bound)) }
+    ensures hit { IfOk result (λ s. TellsHit (told round.now) number s) }
     ensures instance { OnOk result (searcher.new ≡ round.now.instance.now) }
 {
     searcher.search(alloc, &round.pieces[number], round.best, round.budget)
@@ -48,40 +48,8 @@ pub fn search_piece<'r>(
 ) -> Result<Sheet<'r>, AllocError>
     requires { number < length round.now.pieces.items }
     ensures of { IfOk result (λ s. IsOf (told round.now) s × (s.number ≡ number)) }
-    ensures hit { IfOk result (λ s. is_hit (told round.now) number ≡ (s.makespan == round.now.bound)) }
+    ensures hit { IfOk result (λ s. TellsHit (told round.now) number s) }
 {
     let mut searcher = Searcher::new(alloc, round.instance)?;
     search_piece_with(alloc, &mut searcher, round, number)
-}
-
-/// Searches the pieces in order, on the calling thread, and passes those behind the first that ends
-/// at the opening bound.
-#[derive(Clone, Copy)]
-pub struct Alone;
-
-impl<R> Crew<R> for Alone {
-    ghost ready = { Unit {0} };
-
-    fn search<'r>(
-        &mut self,
-        _rt: &R,
-        alloc: Global,
-        round: &'r Round<'r>,
-    ) -> Result<Vec<Entry<'r>>, AllocError> {
-        let mut entries = Vec::with_capacity(alloc, round.pieces.len())?;
-        let mut searcher = Searcher::new(alloc, round.instance)?;
-        let mut hit = None;
-        for number in 0..round.pieces.len() {
-            if let Some(by) = hit {
-                entries.push(Entry::passed(round, number, by))?;
-                continue;
-            }
-            let sheet = search_piece_with(alloc, &mut searcher, round, number)?;
-            if sheet.makespan == round.bound {
-                hit = Some(number);
-            }
-            entries.push(Entry::done(round, sheet))?;
-        }
-        Ok(entries)
-    }
 }

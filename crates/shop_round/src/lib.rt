@@ -1,6 +1,7 @@
 // Rounds of pieces, the entries that crews bring, and runs.
 #![tactic(auto)]
 
+mod alone;
 mod crews;
 mod entries;
 mod laws;
@@ -12,7 +13,8 @@ mod rounds;
 mod runs;
 mod standings;
 
-pub use crews::{Alone, Crew, search_piece, search_piece_with};
+pub use alone::Alone;
+pub use crews::{Crew, search_piece, search_piece_with};
 pub use entries::{Entry, Kind};
 pub use laws::{
     answers_are_trustworthy, counts_stay_small, cuts_cover, gathering_covers,

@@ -24,13 +24,13 @@ pub struct Plan {
 
 impl Plan {
     ghost use Rattle.std.specs.Prelude.{◌↔◌, IsSome, IfSome};
-    ghost use Rattle.shop_round.specs.Runs.{IsPlanOf};
+    ghost use Rattle.shop_round.specs.Runs.{IsPlanMadeOf};
     ghost use Rattle.shop_round.specs.declared.plans.Order.TheVariants.{Kept};
 
     /// A plan in an order, if it is within the limits.
     pub fn ordered(rounds: u64, budget: u64, piece: usize, order: Order) -> Option<Plan>
         ensures within { IsPlanWithin rounds budget piece ↔ IsSome result }
-        ensures plan { IfSome result (λ p. IsPlanOf rounds budget piece order p) }
+        ensures plan { IfSome result (λ p. IsPlanMadeOf rounds budget piece order p) }
     {
         if rounds <= MAX_ROUNDS
             && 1 <= budget
@@ -52,7 +52,7 @@ impl Plan {
     /// A plan that keeps the order of the open nodes.
     pub fn new(rounds: u64, budget: u64, piece: usize) -> Option<Plan>
         ensures within { IsPlanWithin rounds budget piece ↔ IsSome result }
-        ensures plan { IfSome result (λ p. IsPlanOf rounds budget piece Kept p) }
+        ensures plan { IfSome result (λ p. IsPlanMadeOf rounds budget piece Kept p) }
     {
         Plan::ordered(rounds, budget, piece, Order::Kept)
     }

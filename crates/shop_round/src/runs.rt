@@ -3,7 +3,8 @@ ghost use Rattle.std.specs.Prelude.{IfOk};
 ghost use Rattle.shop_round.specs.Runs.{IsStandingOf, SaysAnswer, IsTrusted};
 ghost use Rattle.shop_round.specs.inner.Closing.{StandsAtAnswer};
 
-use crate::crews::{Alone, Crew};
+use crate::alone::Alone;
+use crate::crews::Crew;
 use crate::outcomes::outcome_of;
 use crate::pieces::least_bound;
 use crate::plans::Plan;

@@ -9,7 +9,7 @@ use Rattle.std.proofs.lemmas.List.Sums.{sum_by-cons}
 use Rattle.shop_model.specs.Shop.{Shop, ShopJob, no_job, route_of}
 use Rattle.shop_model.specs.Word.{count_of, IsWord, IsFull}
 use Rattle.shop_model.proofs.Ends.{IsOperation-job}
-use Rattle.shop_tree.specs.Walking.{steps_left}
+use Rattle.shop_tree.specs.Walking.{operations_left}
 
 -- f 0 + .. + f (n - 1)
 sum_below : (ℕ → ℕ) → ℕ → ℕ
@@ -99,7 +99,7 @@ route_sum (x ∷ xs) =
     in let b = route_sum xs in let c = sum_by-cons (λ (job : ShopJob). length job.route) x xs in omega arith
 
 -- a word is full exactly where it lacks no step
-pub full_from : (shop : Shop) (w : List ℕ) → IsWord shop w → steps_left shop w ≡ 0 → IsFull shop w
+pub full_from : (shop : Shop) (w : List ℕ) → IsWord shop w → operations_left shop w ≡ 0 → IsFull shop w
 full_from shop w word e j =
     let a = count_sum shop w word in let b = route_sum shop.jobs
     in elim (cases_lt j (length shop.jobs)) [
@@ -109,7 +109,7 @@ full_from shop w word e j =
           (get_or_past shop.jobs j no_job h) in let d = word j in omega arith)
     ]
 
-pub open_from : (shop : Shop) (w : List ℕ) (n : ℕ) → IsWord shop w → steps_left shop w ≡ suc n → IsFull shop w → ⊥
+pub open_from : (shop : Shop) (w : List ℕ) (n : ℕ) → IsWord shop w → operations_left shop w ≡ suc n → IsFull shop w → ⊥
 open_from shop w n word e full =
     let a = count_sum shop w word in let b = route_sum shop.jobs
     in let c = sum_below-eq (λ j. count_of j w) (λ j. length (route_of shop j)) (length shop.jobs) full in omega arith

@@ -10,7 +10,7 @@ use Rattle.shop_model.proofs.Unders.{after_word}
 use Rattle.shop_bound.specs.Bound.{lb}
 use Rattle.shop_bound.proofs.Lists.{all_append, all_filter}
 use Rattle.shop_tree.specs.Branching.{open_jobs, chosen_of, conflicts_with, conflict_among, conflict, branch}
-use Rattle.shop_tree.specs.Walking.{Walk, walk, walk_within, steps_left, taking, unless_cut, sheet}
+use Rattle.shop_tree.specs.Walking.{Walk, walk, walk_within, operations_left, taking, unless_cut, sheet}
 use Rattle.shop_tree.specs.Laws.{IsBestOf, SearchesLoseNoTable}
 use Rattle.shop_tree.proofs.Members.{in_contains, contains_in, all_contains, contains_all, all_sort}
 use Rattle.shop_tree.proofs.BetterChildren.{IsWord-snoc}
@@ -103,7 +103,7 @@ fold_sound : (shop : Shop) (opening : ℕ) (P : List ℕ → Type 0) (f : Walk �
 fold_sound shop opening P f h s [] a i = i
 fold_sound shop opening P f h s (w ∷ ws) a i = fold_sound shop opening P f h (f s w) ws a.1 (h s w a.0 i)
 
-walk_sound : (shop : Shop) (opening n : ℕ) (s : Walk) (w : List ℕ) → IsWord shop w → steps_left shop w ≡ n
+walk_sound : (shop : Shop) (opening n : ℕ) (s : Walk) (w : List ℕ) → IsWord shop w → operations_left shop w ≡ n
     → IsSound shop opening s → IsSound shop opening (walk_within shop n s w)
 walk_sound shop opening zero s w word e i =
     taking_sound shop opening s.budget s w _ word i (λ t k. cut_sound shop opening (leb t.best (lb shop w)) t _ k
@@ -118,10 +118,10 @@ pub searches_keep : SearchesLoseNoTable
 unfolding Reaches
 searches_keep shop piece best budget words =
     let opening : Walk = record { found = None; best = best; left = []; budget = budget }
-    in let go = fold_goes_on (walk shop) (λ s w. walk_goes_on shop (steps_left shop w) s w) opening piece
+    in let go = fold_goes_on (walk shop) (λ s w. walk_goes_on shop (operations_left shop w) s w) opening piece
     in let all = all_contains (IsWord shop) piece words
     in let sound = fold_sound shop best (IsWord shop) (walk shop) (λ s w word i. walk_sound shop best
-    (steps_left shop w) s w word refl i) opening piece all (record { found = refl; left = tt })
+    (operations_left shop w) s w word refl i) opening piece all (record { found = refl; left = tt })
     in record {
       found = sound.found;
       best = go.best;
@@ -130,8 +130,8 @@ searches_keep shop piece best budget words =
           let member = in_contains h.word piece h.member
           in let word = words h.word h.member
           in let reaches = fold_reaches shop (walk shop) h.better h.word
-          (λ s w. walk_goes_on shop (steps_left shop w) s w)
-          (λ s. walk_reaches shop (steps_left shop h.word) s h.word h.better word refl h.under) opening piece member
+          (λ s w. walk_goes_on shop (operations_left shop w) s w)
+          (λ s. walk_reaches shop (operations_left shop h.word) s h.word h.better word refl h.under) opening piece member
           in elim (reaches_later shop (sheet shop piece best budget) h.better starts h.ends reaches) [
             | inl a ↦ inl a
             | inr a ↦ inr (record {

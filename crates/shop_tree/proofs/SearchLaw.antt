@@ -9,7 +9,7 @@ use Rattle.shop_model.specs.Word.{IsWord, IsUnder}
 use Rattle.shop_bound.specs.Bound.{lb}
 use Rattle.shop_bound.proofs.BoundLaw.{lb-le-end}
 use Rattle.shop_tree.specs.Branching.{branch}
-use Rattle.shop_tree.specs.Walking.{Walk, walk_within, steps_left, taking, unless_cut}
+use Rattle.shop_tree.specs.Walking.{Walk, walk_within, operations_left, taking, unless_cut}
 use Rattle.shop_tree.proofs.Members.{In, in_left, in_right}
 use Rattle.shop_tree.proofs.BetterChildren.{a_better_child}
 use Rattle.shop_tree.proofs.Counting.{open_from}
@@ -93,7 +93,7 @@ fold_reaches shop f starts v g r s (w ∷ ws) h = elim h [
   | inr k ↦ fold_reaches shop f starts v g r (f s w) ws k
 ]
 
-pub walk_reaches : (shop : Shop) (n : ℕ) (s : Walk) (w : List ℕ) (starts : Starts) → IsWord shop w → steps_left shop w
+pub walk_reaches : (shop : Shop) (n : ℕ) (s : Walk) (w : List ℕ) (starts : Starts) → IsWord shop w → operations_left shop w
     ≡ n → IsUnder shop w starts → Reaches shop (walk_within shop n s w) starts
 unfolding Reaches
 walk_reaches shop zero s w starts word e u =

@@ -11,7 +11,7 @@ use Rattle.shop_bound.specs.Bound.{lb}
 use Rattle.shop_model.specs.Word.{placing}
 use Rattle.shop_tree.specs.Branching.{branch, conflict, conflict_among, open_jobs, sort_by, insert_by, conflicts_with}
 use Rattle.shop_tree.specs.Branching.{chosen_of}
-use Rattle.shop_tree.specs.Walking.{Walk, walk, walk_within, steps_left}
+use Rattle.shop_tree.specs.Walking.{Walk, walk, walk_within, operations_left}
 use Rattle.shop_tree.specs.inner.Searching.{walk_stack, entered_within, entered}
 
 -- words put on the stack, the last one first, are walked next
@@ -34,7 +34,7 @@ module _ (shop : Shop) (found : Option (List ℕ)) (best : ℕ) (left : List (Li
   pub walk-left : (budget : ℕ) → budget ≡ 0
       → walk shop (record { found = found; best = best; left = left; budget = budget }) w
       ≡ record { found = found; best = best; left = left ++ w ∷ []; budget = budget }
-  walk-left budget e = rw e (within-left (steps_left shop w))
+  walk-left budget e = rw e (within-left (operations_left shop w))
 
   within-cut : (n b : ℕ) → best ≤ lb shop w
       → walk_within shop n (record { found = found; best = best; left = left; budget = suc b }) w
@@ -46,7 +46,7 @@ module _ (shop : Shop) (found : Option (List ℕ)) (best : ℕ) (left : List (Li
   pub walk-cut : (b : ℕ) → best ≤ lb shop w
       → walk shop (record { found = found; best = best; left = left; budget = suc b }) w
       ≡ record { found = found; best = best; left = left; budget = b }
-  walk-cut b h = within-cut (steps_left shop w) b h
+  walk-cut b h = within-cut (operations_left shop w) b h
 
   above : lb shop w < best → leb best (lb shop w) ≡ false
   above h = elim (cases_Bool (leb best (lb shop w))) [
@@ -65,11 +65,11 @@ module _ (shop : Shop) (found : Option (List ℕ)) (best : ℕ) (left : List (Li
   pub walk-entered : (b : ℕ) → lb shop w < best
       → walk shop (record { found = found; best = best; left = left; budget = suc b }) w
       ≡ entered shop (record { found = found; best = best; left = left; budget = b }) w
-  walk-entered b h = within-entered (steps_left shop w) b h
+  walk-entered b h = within-entered (operations_left shop w) b h
 
 -- each child lacks one operation less
-children_lack : (shop : Shop) (n : ℕ) (w : List ℕ) (js : List ℕ) → steps_left shop w ≡ suc n
-    → AllByRecursion (λ v. steps_left shop v ≡ n) (map (λ j. w ++ j ∷ []) js)
+children_lack : (shop : Shop) (n : ℕ) (w : List ℕ) (js : List ℕ) → operations_left shop w ≡ suc n
+    → AllByRecursion (λ v. operations_left shop v ≡ n) (map (λ j. w ++ j ∷ []) js)
 children_lack shop n w [] e = tt
 children_lack shop n w (j ∷ js) e = ((let a = length-append w (j ∷ []) in omega arith), children_lack shop n w js e)
 
@@ -84,7 +84,7 @@ all_sort : {A : Type 0} (P : A → Type 0) (key : A → ℕ) (xs : List A) → A
 all_sort P key [] h = tt
 all_sort P key (x ∷ xs) h = all_insert P key x (sort_by key xs) h.0 (all_sort P key xs h.1)
 
-fold_within : (shop : Shop) (n : ℕ) (s : Walk) (ws : List (List ℕ)) → AllByRecursion (λ v. steps_left shop v ≡ n) ws
+fold_within : (shop : Shop) (n : ℕ) (s : Walk) (ws : List (List ℕ)) → AllByRecursion (λ v. operations_left shop v ≡ n) ws
     → fold (walk_within shop n) s ws ≡ fold (walk shop) s ws
 fold_within shop n s [] h = refl
 fold_within shop n s (w ∷ ws) h = subst (λ m. fold (walk_within shop n) (walk_within shop n s w) ws
@@ -94,18 +94,18 @@ fold_within shop n s (w ∷ ws) h = subst (λ m. fold (walk_within shop n) (walk
 pub entered-children : (shop : Shop) (t : Walk) (w : List ℕ) → length w < operation_count shop
     → entered shop t w ≡ fold (walk shop) t (branch shop w)
 entered-children shop t w short =
-    let n = steps_left shop w - 1
-    in let e : steps_left shop w ≡ suc n = omega arith
+    let n = operations_left shop w - 1
+    in let e : operations_left shop w ≡ suc n = omega arith
     in ap (λ m. entered_within shop m t w) e
     ∙ fold_within shop n t (branch shop w)
-    (all_sort (λ v. steps_left shop v ≡ n) (lb shop) (map (λ j. w ++ j ∷ []) (conflict shop w))
+    (all_sort (λ v. operations_left shop v ≡ n) (lb shop) (map (λ j. w ++ j ∷ []) (conflict shop w))
     (children_lack shop n w (conflict shop w) e))
 
 -- a full word is found
 pub entered-full : (shop : Shop) (t : Walk) (w : List ℕ) → operation_count shop ≤ length w
     → entered shop t w ≡ record t { found = Some w; best = lb shop w }
 entered-full shop t w long =
-    let e : steps_left shop w ≡ 0 = omega arith in ap (λ m. entered_within shop m t w) e
+    let e : operations_left shop w ≡ 0 = omega arith in ap (λ m. entered_within shop m t w) e
 
 -- there are no more children than jobs
 pub length-insert_by : {A : Type 0} (key : A → ℕ) (x : A) (ys : List A) → length (insert_by key x ys) ≡ suc (length ys)

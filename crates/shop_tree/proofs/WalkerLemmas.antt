@@ -151,8 +151,8 @@ pub turn_cut : (before after : Walker) (o : Open) → IsNextOn before (Child o) 
 turn_cut before after o on some high desk stack is instance =
     let own = (popped before.desk.shop before.progress.best before.desk.word before.stack.items (Child o) on).own.bound
     in child_over before after o (spent_one before.progress) on
-    (cuts before.desk.shop before.progress (word_at before.desk.word o) some (omega arith)) refl (omega arith) desk stack
-    is instance
+    (cuts before.desk.shop before.progress (word_at before.desk.word o) some (omega arith)) refl (omega arith) desk
+    stack is instance
 
 -- it is left
 pub turn_left : (before after : Walker) (o : Open) → IsNextOn before (Child o) → before.progress.budget ≡ 0

@@ -1,10 +1,12 @@
 -- Sheets.
 --     IsSheetOf sheet shop piece best budget     the sheet was made of these
 --     walk_of sheet                              the sheet as what a walk carries
+--     KeepsTables shop piece best sheet          the search of the piece lost no table
 use Rattle.std.specs.Prelude.{◌≡◌, ℕ, ◌-◌}
 use Rattle.shop_model.specs.Shop.{Shop}
 use Rattle.shop_tree.specs.Nodes.{words_of}
 use Rattle.shop_tree.specs.Walking.{Walk}
+use Rattle.shop_tree.specs.Laws.{KeepsPiece}
 use Rattle.shop_tree.specs.declared.pieces.Piece.{Piece}
 use Rattle.shop_tree.specs.declared.sheets.Sheet.{Sheet}
 
@@ -21,3 +23,6 @@ walk_of s = record {
   left = words_of s.left.items;
   budget = s.budget - s.taken;
 }
+
+abbrev pub KeepsTables : Shop → Piece → ℕ → Sheet → Type 0
+KeepsTables shop piece best s = KeepsPiece shop (words_of piece.nodes.items) best (walk_of s)

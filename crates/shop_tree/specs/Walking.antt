@@ -23,8 +23,8 @@ unless_cut true s go = s
 unless_cut false s go = go s
 
 -- how many operations are not in w
-abbrev pub steps_left : Shop → List ℕ → ℕ
-steps_left shop w = operation_count shop - length w
+abbrev pub operations_left : Shop → List ℕ → ℕ
+operations_left shop w = operation_count shop - length w
 
 -- A word is taken, and the walk goes on from it where its bound is below the best.
 abbrev pub visiting : Shop → Walk → List ℕ → (Walk → Walk) → Walk
@@ -36,7 +36,7 @@ walk_within shop zero s w = visiting shop s w (λ u. record u { found = Some w; 
 walk_within shop (suc n) s w = visiting shop s w (λ u. fold (walk_within shop n) u (branch shop w))
 
 abbrev pub walk : Shop → Walk → List ℕ → Walk
-walk shop s w = walk_within shop (steps_left shop w) s w
+walk shop s w = walk_within shop (operations_left shop w) s w
 
 abbrev pub sheet : Shop → List (List ℕ) → ℕ → ℕ → Walk
 sheet shop piece best budget = fold (walk shop)

@@ -29,8 +29,7 @@ fn choose(placed: &Placed) -> Option<NextOperation>
     chosen
 }
 
-/// Puts the jobs whose next operations are in conflict with the chosen one, that one included, into the list, in place
-/// of what it holds.
+/// Replaces the list with the jobs whose next operations are in conflict with the chosen one, that one included.
 fn gather_conflicting(jobs: &mut Vec<usize>, placed: &Placed, chosen: NextOperation)
     requires next { IsNextOf placed.now chosen.job chosen }
     requires room { length placed.now.instance.now.jobs ≤ vec_capacity jobs.old }
@@ -49,7 +48,7 @@ fn gather_conflicting(jobs: &mut Vec<usize>, placed: &Placed, chosen: NextOperat
     }
 }
 
-/// Puts the conflict set of the word that is placed into the list, in place of what it holds.
+/// Replaces the list with the conflict set of the word that is placed.
 pub(crate) fn gather_conflict(jobs: &mut Vec<usize>, placed: &Placed)
     requires { length placed.now.instance.now.jobs ≤ vec_capacity jobs.old }
     ensures jobs { jobs.new.items ≡ conflict_of placed.now }

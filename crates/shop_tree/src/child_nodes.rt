@@ -2,8 +2,7 @@
 ghost use Rattle.std.specs.Prelude.{◌≡◌, IfOk};
 ghost use Rattle.shop_model.specs.Word.{IsFull};
 ghost use Rattle.shop_tree.specs.Branching.{branch};
-ghost use Rattle.shop_tree.specs.Laws.{HaveBetterChildren};
-ghost use Rattle.shop_tree.specs.Nodes.{IsNode, AreNodes, words_of};
+ghost use Rattle.shop_tree.specs.Nodes.{IsNode, AreNodes, words_of, AreBetterChildren};
 
 use crate::moving::go_to;
 use crate::nodes::Node;
@@ -20,7 +19,7 @@ pub fn children(alloc: Global, instance: &Instance, node: &Node) -> Result<Vec<N
     requires open { IsFull instance.now node.now.word → ⊥ }
     ensures branch { IfOk result (λ v. words_of v.items ≡ branch instance.now node.now.word) }
     ensures nodes { IfOk result (λ v. AreNodes instance.now v.items) }
-    ensures better { IfOk result (λ v. HaveBetterChildren instance.now node.now.word (words_of v.items)) }
+    ensures better { IfOk result (λ v. AreBetterChildren instance.now node.now v.items) }
 {
     let mut desk = Desk::new(alloc, instance)?;
     go_to(&mut desk, &node.word);

@@ -16,7 +16,8 @@ pub struct Node {
 }
 
 impl Node {
-    /// The node of this word, which fits the instance, with its lower bound. Fails with `AllocError` if memory runs out.
+    /// The node of this word, which fits the instance, with its lower bound. Fails with `AllocError` if memory runs
+    /// out.
     pub fn new(alloc: Global, instance: &Instance, word: Word) -> Result<Node, AllocError>
         requires { IsWord instance.now word }
         ensures { IfOk result (λ n. (n.word ≡ word) × (n.bound ≡ lb instance.now word)) }

@@ -26,7 +26,7 @@ impl<'a> Placed<'a> {
         placement: &'a Placement,
     ) -> Placed<'a>
         requires word { IsWord instance.now word.now }
-        requires placement { IsPlacement instance.now (placing instance.now word.now) placement.now }
+        requires placed { IsPlacement instance.now (placing instance.now word.now) placement.now }
         ensures instance { result.instance.now ≡ instance.now }
         ensures word { result.word.now ≡ word.now }
     {

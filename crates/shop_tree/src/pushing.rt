@@ -1,7 +1,7 @@
 // The children of a desk's word, in order.
 ghost use Rattle.std.specs.Prelude.{◌≡◌, ◌≤◌, length, vec_capacity, OnOk, IfOk};
 ghost use Rattle.shop_bound.specs.Bound.{lb};
-ghost use Rattle.shop_tree.specs.inner.Opens.{AreChildren, IsPlaceAbove};
+ghost use Rattle.shop_tree.specs.inner.Opens.{AreChildrenOf, IsPlaceAbove};
 ghost use Rattle.shop_tree.specs.inner.Pushing.{with_opens, with_rest};
 
 use crate::branching::gather_conflict;
@@ -22,9 +22,9 @@ fn place_above(bound: u64, opens: &[Open]) -> usize
     place
 }
 
-/// Puts the children of the desk's word with bounds below the limit into the list in place of what it holds, by bound,
-/// then by job, the first one last; and tells how many others there are. The word's bound is at hand, and there is room
-/// for all jobs in the list of jobs.
+/// Replaces the list with the children of the desk's word with bounds below the limit, by bound, then by job, the first
+/// one last; and tells how many others there are. The word's bound is at hand, and there is room for all jobs in the
+/// list of jobs.
 pub(crate) fn gather_children(
     children: &mut Vec<Open>,
     desk: &mut Desk,
@@ -36,7 +36,7 @@ pub(crate) fn gather_children(
     requires instance { desk.old.shop ≡ instance.now }
     requires bound { bound ≡ lb desk.old.shop desk.old.word }
     requires room { length instance.now.jobs ≤ vec_capacity jobs.old }
-    ensures children { IfOk result (λ n. AreChildren desk.old.shop limit desk.old.word children.new.items n) }
+    ensures children { IfOk result (λ n. AreChildrenOf desk.old limit children.new.items n) }
     ensures same { desk.new ≡ desk.old }
     ensures room { vec_capacity jobs.old ≤ vec_capacity jobs.new }
 {

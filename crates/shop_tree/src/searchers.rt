@@ -1,8 +1,7 @@
 // The search of pieces, over a desk that is kept from one to the next.
 ghost use Rattle.std.specs.Prelude.{◌≡◌, ◌<◌, ◌^◌, OnOk, IfOk};
-ghost use Rattle.shop_tree.specs.Laws.{KeepsPiece};
-ghost use Rattle.shop_tree.specs.Nodes.{AreNodes, words_of};
-ghost use Rattle.shop_tree.specs.Sheets.{IsSheetOf, walk_of};
+ghost use Rattle.shop_tree.specs.Nodes.{AreNodes};
+ghost use Rattle.shop_tree.specs.Sheets.{IsSheetOf, KeepsTables};
 
 use crate::pieces::Piece;
 use crate::sheets::Sheet;
@@ -37,8 +36,8 @@ impl<'a> Searcher<'a> {
 
     /// The search of a piece by branch and bound: its nodes in order, depth first, the children of each by bound.
     /// `best` is the makespan to beat, `budget` how many nodes may be taken; what isn't taken is left, in order. No
-    /// table under a node of the piece is lost: it ends at the sheet's makespan or later, or no earlier than one under a
-    /// node left. Fails with `AllocError` if memory runs out; the searcher is of no use then.
+    /// table under a node of the piece is lost: it ends at the sheet's makespan or later, or no earlier than one under
+    /// a node left. Fails with `AllocError` if memory runs out; the searcher is of no use then.
     pub fn search(
         &mut self,
         alloc: Global,
@@ -49,7 +48,7 @@ impl<'a> Searcher<'a> {
         requires nodes { AreNodes self.old piece.now.nodes.items }
         requires small { budget < 2 ^ 50 }
         ensures of { IfOk result (λ s. IsSheetOf s self.old piece.now best budget) }
-        ensures keeps { IfOk result (λ s. KeepsPiece self.old (words_of piece.now.nodes.items) best (walk_of s)) }
+        ensures keeps { IfOk result (λ s. KeepsTables self.old piece.now best s) }
         ensures instance { OnOk result (self.new ≡ self.old) }
     {
         let walker = &mut self.walker;

@@ -1,8 +1,7 @@
 // The search of one piece.
 ghost use Rattle.std.specs.Prelude.{◌<◌, ◌^◌, IfOk};
-ghost use Rattle.shop_tree.specs.Nodes.{words_of, AreNodes};
-ghost use Rattle.shop_tree.specs.Laws.{KeepsPiece};
-ghost use Rattle.shop_tree.specs.Sheets.{IsSheetOf, walk_of};
+ghost use Rattle.shop_tree.specs.Nodes.{AreNodes};
+ghost use Rattle.shop_tree.specs.Sheets.{IsSheetOf, KeepsTables};
 
 use crate::pieces::Piece;
 use crate::searchers::Searcher;
@@ -21,7 +20,7 @@ pub fn search<'r>(
     requires nodes { AreNodes instance.now piece.now.nodes.items }
     requires small { budget < 2 ^ 50 }
     ensures of { IfOk result (λ s. IsSheetOf s instance.now piece.now best budget) }
-    ensures keeps { IfOk result (λ s. KeepsPiece instance.now (words_of piece.now.nodes.items) best (walk_of s)) }
+    ensures keeps { IfOk result (λ s. KeepsTables instance.now piece.now best s) }
 {
     let mut searcher = Searcher::new(alloc, instance)?;
     searcher.search(alloc, piece, best, budget)

@@ -1,9 +1,8 @@
 // The walk of the nodes of pieces, over a desk that is kept from one to the next.
-ghost use Rattle.std.specs.Prelude.{◌≡◌, ◌≤◌, ◌<◌, ◌^◌, length, take, vec_capacity, [], OnOk, IfOk};
+ghost use Rattle.std.specs.Prelude.{◌≡◌, ◌≤◌, ◌<◌, ◌^◌, length, vec_capacity, [], OnOk, IfOk};
 ghost use Rattle.std.specs.Arc.{arc_slice_items};
-ghost use Rattle.shop_tree.specs.Laws.{KeepsPiece};
-ghost use Rattle.shop_tree.specs.Nodes.{IsNode, AreNodes, words_of};
-ghost use Rattle.shop_tree.specs.Sheets.{IsSheetOf, walk_of};
+ghost use Rattle.shop_tree.specs.Nodes.{IsNode, AreNodes};
+ghost use Rattle.shop_tree.specs.Sheets.{IsSheetOf, KeepsTables};
 ghost use Rattle.shop_bound.specs.Bound.{lb};
 
 use crate::moving::{go_to, undo_to};
@@ -34,9 +33,8 @@ pub(crate) struct Walker<'a> {
 
 impl<'a> Walker<'a> {
     ghost use Rattle.shop_tree.specs.declared.opens.Waiting.TheVariants.{Child, Rest};
-    ghost use Rattle.shop_tree.specs.inner.Moving.{at_word};
     ghost use Rattle.shop_tree.specs.inner.Walkers.{HasBranched, HasExpanded, HasWalked, IsInOrder, IsNextOn, IsTurn};
-    ghost use Rattle.shop_tree.specs.inner.Walkers.{node_walk, nodes_walk, stack_walk};
+    ghost use Rattle.shop_tree.specs.inner.Walkers.{node_walk, nodes_walk, stack_walk, GoesBackTo, BeginsWithWord};
 
     /// For pieces of this instance. Fails with `AllocError` if memory runs out.
     pub(crate) fn new(alloc: Global, instance: &'a Instance) -> Result<Walker<'a>, AllocError>
@@ -104,7 +102,7 @@ impl<'a> Walker<'a> {
     fn open_closed(&mut self, closed: Closed) -> Result<(), AllocError>
         requires { IsNextOn self.old (Rest closed) }
         ensures turn { OnOk result (IsTurn self.old (Rest closed) self.new) }
-        ensures desk { OnOk result (self.new.desk ≡ at_word self.old.desk (take closed.depth self.old.desk.word)) }
+        ensures desk { OnOk result (GoesBackTo closed.depth self.old self.new) }
         ensures budget { OnOk result (self.new.progress ≡ self.old.progress) }
     {
         undo_to(&mut self.desk, closed.depth);
@@ -140,7 +138,7 @@ impl<'a> Walker<'a> {
     fn leave_open(&mut self, path: &ArcSlice<u16, Global>, child: Open) -> Result<(), AllocError>
         requires spent { self.old.progress.budget ≡ 0 }
         requires on { IsNextOn self.old (Child child) }
-        requires path { take (length self.old.desk.word) (arc_slice_items path.now) ≡ self.old.desk.word }
+        requires path { BeginsWithWord self.old (arc_slice_items path.now) }
         ensures turn { OnOk result (IsTurn self.old (Child child) self.new) }
         ensures desk { OnOk result (self.new.desk ≡ self.old.desk) }
         ensures budget { OnOk result (self.new.progress.budget ≡ self.old.progress.budget) }
@@ -229,7 +227,7 @@ impl<'a> Walker<'a> {
         requires nodes { AreNodes self.old.desk.shop piece.now.nodes.items }
         requires small { budget < 2 ^ 50 }
         ensures of { IfOk result (λ s. IsSheetOf s self.old.desk.shop piece.now best budget) }
-        ensures keeps { IfOk result (λ s. KeepsPiece self.old.desk.shop (words_of piece.now.nodes.items) best (walk_of s)) }
+        ensures keeps { IfOk result (λ s. KeepsTables self.old.desk.shop piece.now best s) }
         ensures shop { OnOk result (self.new.desk.shop ≡ self.old.desk.shop) }
     {
         self.stack.clear();

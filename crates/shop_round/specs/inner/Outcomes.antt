@@ -1,5 +1,6 @@
 -- What the sheets of a round come to.
-use Rattle.std.specs.Prelude.{◌≡◌, ℕ, ◌+◌, ◌*◌, ◌≤◌, List, [], ◌++◌, true, nat_lt, if◌then◌else◌, unwrap_or}
+use Rattle.std.specs.Prelude.{◌≡◌, ℕ, ◌+◌, ◌*◌, ◌≤◌, List, [], ◌++◌, true, nat_lt}
+use Rattle.std.specs.Prelude.{if◌then◌else◌, unwrap_or}
 use Rattle.shop_bound.specs.Bound.{lb}
 use Rattle.shop_tree.specs.Nodes.{words_of, AreNodes}
 use Rattle.shop_tree.specs.declared.nodes.Node.{Node}
@@ -14,7 +15,8 @@ use Rattle.shop_round.specs.declared.standings.Standing.{Standing}
 abbrev pub stands_after : Told → Outcome → Stand
 stands_after r o = record {
   word = unwrap_or o.found r.word;
-  open_words = if o.is_closed then [] else words_of o.left.items ++ words_below r.shop o.makespan r.rest;
+  open_words = if o.is_closed then []
+      else words_of o.left.items ++ words_below r.shop o.makespan r.rest;
   rounds = r.rounds + 1;
   nodes = o.nodes;
 }
@@ -40,8 +42,10 @@ pub record TakesIn (o : Outcome) (s : Sheet) (t : Outcome) : Type 0 where
 abbrev pub open_after : Outcome → List Node → List Node
 open_after o rest = if o.is_closed then [] else o.left.items ++ nodes_below o.makespan rest
 
--- what stands after a round of this outcome, with its opening best, its rest and the rounds done before it
-pub record IsStandingAfter (word : List ℕ) (rest : List Node) (rounds : ℕ) (o : Outcome) (t : Standing) : Type 0 where
+-- what stands after a round of this outcome, with its opening best, its rest and the rounds done
+-- before it
+pub record IsStandingAfter (word : List ℕ) (rest : List Node) (rounds : ℕ) (o : Outcome)
+    (t : Standing) : Type 0 where
   pub best : t.word ≡ unwrap_or o.found word
   pub makespan : t.makespan ≡ o.makespan
   pub open_nodes : t.open.items ≡ open_after o rest

@@ -25,6 +25,7 @@
 --     AreChildren shop limit word opens n    the children of word with bounds below the limit, the
 --                                            first one last, and
 --                                            how many others there are
+--     AreChildrenOf desk limit opens n       the same of the desk's word
 --     Adds shop best word words old new      on top of the old stack lie entries for these words
 use Rattle.std.specs.Prelude.{◌≡◌, ℕ, ◌-◌, ◌≤◌, ◌<◌, List, [], ◌∷◌, ◌++◌, length, map, reverse}
 use Rattle.std.specs.Prelude.{take, slice_index_or}
@@ -32,6 +33,7 @@ use Rattle.std.specs.List.{AllByRecursion}
 use Rattle.shop_model.specs.Shop.{Shop}
 use Rattle.shop_model.specs.Word.{IsWord}
 use Rattle.shop_bound.specs.Bound.{lb}
+use Rattle.shop_bound.specs.Desks.{DeskState}
 use Rattle.shop_tree.specs.Branching.{branch}
 use Rattle.shop_tree.specs.declared.opens.Open.{Open}
 use Rattle.shop_tree.specs.declared.opens.Closed.{Closed}
@@ -95,6 +97,9 @@ pub record AreChildren (shop : Shop) (limit : ℕ) (word : List ℕ) (opens : Li
   pub high : AllByRecursion (λ v. limit ≤ lb shop v) others
   pub each : AllByRecursion (IsOpen shop word) opens
   pub depth : AllByRecursion (λ o. o.depth ≡ length word) opens
+
+abbrev pub AreChildrenOf : DeskState → ℕ → List Open → ℕ → Type 0
+AreChildrenOf desk limit opens n = AreChildren desk.shop limit desk.word opens n
 
 pub record Adds (shop : Shop) (best : ℕ) (word : List ℕ) (words : List (List ℕ))
     (old new : List Waiting) : Type 0 where

@@ -10,7 +10,7 @@ use Rattle.shop_model.specs.Shop.{Shop}
 use Rattle.shop_bound.specs.Bound.{lb}
 use Rattle.shop_tree.specs.Branching.{branch}
 use Rattle.shop_tree.specs.Pieces.{walk_told}
-use Rattle.shop_tree.specs.Walking.{Walk, walk, walk_within, steps_left}
+use Rattle.shop_tree.specs.Walking.{Walk, walk, walk_within, operations_left}
 use Rattle.shop_tree.specs.declared.progress.Progress.{Progress}
 
 abbrev pub walk_stack : Shop → Walk → List (List ℕ) → Walk
@@ -28,7 +28,7 @@ entered_within shop zero t w = record t { found = Some w; best = lb shop w }
 entered_within shop (suc n) t w = fold (walk_within shop n) t (branch shop w)
 
 abbrev pub entered : Shop → Walk → List ℕ → Walk
-entered shop t w = entered_within shop (steps_left shop w) t w
+entered shop t w = entered_within shop (operations_left shop w) t w
 
 -- one more word is left
 abbrev pub with_left : Walk → List ℕ → Walk

@@ -5,6 +5,8 @@
 --     nodes_walk w nodes              the walk of nodes, in order
 --     IsInOrder w                     all that waits is told rightly
 --     IsNextOn w x                    so is x on top of it
+--     GoesBackTo depth before after   the desk keeps the first entries of its word, so many
+--     BeginsWithWord w path           the path begins with the desk's word
 --     HasBranched before after        the children of the desk's word lie on the stack
 --     HasExpanded before after        what waits afterwards comes to where the walk goes on from
 --                                     the desk's word, and
@@ -14,8 +16,9 @@
 --                                     and there is less to do
 --     HasWalked before after walk     this is walked afterwards, and nothing waits
 use Rattle.std.specs.Prelude.{◌≡◌, ℕ, ◌+◌, ◌*◌, ◌≤◌, ◌<◌, List, [], ◌∷◌, ◌++◌, length, reverse}
-use Rattle.std.specs.Prelude.{fold}
+use Rattle.std.specs.Prelude.{take, fold}
 use Rattle.shop_tree.specs.Branching.{branch}
+use Rattle.shop_tree.specs.inner.Moving.{at_word}
 use Rattle.shop_tree.specs.inner.Opens.{words_at, AreWaiting, Adds}
 use Rattle.shop_tree.specs.inner.Searching.{walk_stack, walked, entered}
 use Rattle.shop_tree.specs.Walking.{Walk, walk}
@@ -61,10 +64,18 @@ weight (x ∷ stack) = weight_of x + weight stack
 abbrev pub turns_left : Walker → List Waiting → ℕ
 turns_left w stack = w.progress.budget * (length w.desk.shop.jobs + 2) + weight stack
 
+abbrev pub GoesBackTo : ℕ → Walker → Walker → Type 0
+GoesBackTo depth before after =
+    after.desk ≡ at_word before.desk (take depth before.desk.word)
+
+abbrev pub BeginsWithWord : Walker → List ℕ → Type 0
+BeginsWithWord w path = take (length w.desk.word) path ≡ w.desk.word
+
 pub record HasBranched (before after : Walker) : Type 0 where
   pub stack : Adds before.desk.shop before.progress.best before.desk.word
       (reverse (branch before.desk.shop before.desk.word)) before.stack.items after.stack.items
-  pub weight : weight after.stack.items ≤ weight before.stack.items + length before.desk.shop.jobs + 1
+  pub weight : weight after.stack.items
+      ≤ weight before.stack.items + length before.desk.shop.jobs + 1
   pub desk : after.desk ≡ before.desk
   pub progress : after.progress ≡ before.progress
 

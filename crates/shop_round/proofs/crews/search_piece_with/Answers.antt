@@ -1,4 +1,4 @@
-use Rattle.std.proofs.Common.{◌∙◌, rules, sym, subst}
+use Rattle.std.proofs.Common.{rules, sym, subst}
 use Rattle.std.specs.Prelude.{IfOk}
 use Rattle.std.proofs.lemmas.Result.{IfOk-weaker}
 use Rattle.shop_model.specs.Shop.{Shop}

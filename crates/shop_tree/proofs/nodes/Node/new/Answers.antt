@@ -11,4 +11,5 @@ of_jobs-requires-clause-short c =
 
 pub of_jobs-requires-clause-small : goal.of_jobs-requires-clause-small
 of_jobs-requires-clause-small c =
-    subst AreSmallJobs (sym c.jobs.ensures) (small_jobs c.args.instance.now c.args.word c.keeps_limits.ensures c.requires)
+    subst AreSmallJobs (sym c.jobs.ensures)
+    (small_jobs c.args.instance.now c.args.word c.keeps_limits.ensures c.requires)
