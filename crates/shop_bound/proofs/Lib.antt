@@ -44,3 +44,4 @@ pub mod ThresholdLemmas
 pub mod WorkSums
 pub mod TurnCounts
 pub mod Turns
+pub mod LaneSpans

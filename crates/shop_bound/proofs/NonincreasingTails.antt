@@ -121,7 +121,7 @@ only_heads head tail us h = ap (λ (ys : List Triple). sum_by (λ t. t.time) ys)
   ]
 
 -- what is done up to an operation, and its tail, follow no earlier than the bound says
-within_in : (us : List Triple) (x : Triple) (vs : List Triple) (head : ℕ) → IsNonincreasing (λ t. t.tail) (us ++ x ∷ vs)
+pub within_in : (us : List Triple) (x : Triple) (vs : List Triple) (head : ℕ) → IsNonincreasing (λ t. t.tail) (us ++ x ∷ vs)
     → head ≤ x.head → head + (times_from head us + x.time + x.tail) ≤ one (us ++ x ∷ vs)
 within_in us x vs head nonincreasing h =
     let test = is_above head x.tail
