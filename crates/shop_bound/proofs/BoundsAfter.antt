@@ -80,8 +80,12 @@ module _ (shop : Shop) (w : List ℕ) (j : ℕ) (s t : PlacementState) (slots : 
         in record {
           opened = λ e. (let a = leb-true (get_or t.steps slot.job 0) slot.step e
               in let b = steps_rise slot.job op.job in le-leb (get_or s.steps slot.job 0) slot.step (omega arith));
-          head = λ e. subst (λ (x : ℕ). IsWithin (raise_of raises x) (get_or (get_or rows slot.job []) slot.step 0)
-              (get_or (get_or rows' slot.job []) slot.step 0)) op.machine (within slot.job slot.step op.step);
+          head = λ e. elim (subst (λ (x : ℕ). IsWithin (raise_of raises x)
+              (get_or (get_or rows slot.job []) slot.step 0) (get_or (get_or rows' slot.job []) slot.step 0)) op.machine
+              (within slot.job slot.step op.step)) [
+            | inl same ↦ inl same
+            | inr between ↦ inr (omega arith, between.1)
+          ];
         })
 
     raised_part : one (open_on rows' t slots m)

@@ -45,3 +45,5 @@ pub mod WorkSums
 pub mod TurnCounts
 pub mod Turns
 pub mod LaneSpans
+pub mod TabledHeads
+pub mod ChildBounds

@@ -12,11 +12,11 @@ use Rattle.shop_bound.specs.inner.NonincreasingTails.{begins_between, one_betwee
 use Rattle.shop_bound.proofs.Lists.{IsSublist, none, skip, keep, all_map, all_both, least_of-le, greatest_of-le}
 use Rattle.shop_bound.proofs.ThresholdLemmas.{le-greatest_sublist, le-least_of, sublists-are}
 
--- y is x with the same head, or with one that is at most `to` where x has one that is at least `from`
+-- y is x with the same head, or with one that is at most `to` where x has one that is at least `from` less 1
 pub record IsRaisedTo (from to : ℕ) (x y : Triple) : Type 0 where
   pub time : x.time ≡ y.time
   pub tail : x.tail ≡ y.tail
-  pub head : (x.head ≡ y.head) ⊎ ((from ≤ x.head) × (y.head ≤ to))
+  pub head : (x.head ≡ y.head) ⊎ ((from ≤ x.head + 1) × (y.head ≤ to))
 
 -- the second list is the first with some taken out and the others raised so
 pub data IsRaisedPart (from to : ℕ) : List Triple → List Triple → Type 0 where
@@ -157,7 +157,7 @@ pub record IsSlotRaised (from to : ℕ) (rows : List (List ℕ)) (steps : List �
   pub opened : is_open steps' s ≡ true → is_open steps s ≡ true
   pub head : is_open steps' s ≡ true
       → ((triple_of rows s).head ≡ (triple_of rows' s).head)
-      ⊎ ((from ≤ (triple_of rows s).head) × ((triple_of rows' s).head ≤ to))
+      ⊎ ((from ≤ (triple_of rows s).head + 1) × ((triple_of rows' s).head ≤ to))
 
 pub open_raised : (from to : ℕ) (rows : List (List ℕ)) (steps : List ℕ) (rows' : List (List ℕ)) (steps' : List ℕ)
     (slots : List Slot) → AllByRecursion (IsSlotRaised from to rows steps rows' steps') slots
