@@ -47,3 +47,5 @@ pub mod Turns
 pub mod LaneSpans
 pub mod TabledHeads
 pub mod ChildBounds
+pub mod LatestEnds
+pub mod MachineLanes

@@ -12,3 +12,4 @@ pub mod HeadRows
 pub mod NextSteps
 pub mod TakingBack
 pub mod StandingBounds
+pub mod HeadLimits
