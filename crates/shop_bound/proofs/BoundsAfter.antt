@@ -83,9 +83,9 @@ module _ (shop : Shop) (w : List ℕ) (j : ℕ) (s t : PlacementState) (slots : 
           head = λ e. elim (subst (λ (x : ℕ). IsWithin (raise_of raises x)
               (get_or (get_or rows slot.job []) slot.step 0) (get_or (get_or rows' slot.job []) slot.step 0)) op.machine
               (within slot.job slot.step op.step)) [
-            | inl same ↦ inl same
-            | inr between ↦ inr (omega arith, between.1)
-          ];
+                | inl same ↦ inl same
+                | inr between ↦ inr (omega arith, between.1)
+              ];
         })
 
     raised_part : one (open_on rows' t slots m)

@@ -1,5 +1,5 @@
 -- The bound after one more operation, by the bound before, the end of the operation and the heads that it raises.
-use Rattle.std.proofs.Common.{◌≡◌, ℕ, ◌+◌, ◌≤◌, ◌<◌, max, ◌⊎◌, inl, inr, List, [], ◌∷◌, ◌++◌, length, get_or}
+use Rattle.std.proofs.Common.{◌≡◌, ℕ, ◌+◌, ◌≤◌, ◌<◌, max, ◌⊎◌, inl, inr, List, [], ◌∷◌, ◌++◌, get_or}
 use Rattle.std.proofs.Common.{ap, subst, refl, sym, arith}
 use Rattle.std.specs.List.{AllByRecursion}
 use Rattle.std.proofs.lemmas.Bool.{cases_eq, leb-true, le-leb}
@@ -7,17 +7,15 @@ use Rattle.std.proofs.lemmas.List.Elements.{recursion_from_All}
 use Rattle.shop_model.specs.Shop.{Shop, machine_of, IsOperation}
 use Rattle.shop_model.specs.Word.{Placing, IsWord, placing, place_next}
 use Rattle.shop_model.specs.Limits.{IsWithinLimits}
-use Rattle.shop_model.proofs.Ends.{IsOperation-job}
 use Rattle.shop_model.proofs.Greatest.{le-greatest_below, greatest_below-le}
 use Rattle.shop_model.proofs.Placings.{place_next-is}
-use Rattle.shop_model.proofs.Unders.{next_operation, placing-snoc}
+use Rattle.shop_model.proofs.Unders.{placing-snoc}
 use Rattle.shop_model.proofs.WordLemmas.{IsWord-init}
 use Rattle.shop_bound.specs.Bound.{lb}
 use Rattle.shop_bound.specs.Heads.{head_of}
 use Rattle.shop_bound.specs.OneMachine.{one}
 use Rattle.shop_bound.specs.Slots.{AreMachineSlots}
 use Rattle.shop_bound.specs.inner.NonincreasingTails.{one_between}
-use Rattle.shop_bound.specs.inner.StandingBounds.{IsKeptUp}
 use Rattle.shop_bound.specs.declared.slots.Slot.{Slot}
 use Rattle.shop_bound.proofs.BoundsAfter.{least_at_most}
 use Rattle.shop_bound.proofs.OpenBounds.{part_of, lb_by_parts}

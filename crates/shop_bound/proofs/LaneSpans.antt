@@ -1,15 +1,14 @@
 -- Spans over lanes that stand for operations by nonincreasing tail: parts of their one-machine bound.
-use Rattle.std.proofs.Common.{◌≡◌, ℕ, zero, suc, ◌+◌, ◌-◌, ◌^◌, ◌≤◌, ◌<◌, max, ◌⊎◌, inl, inr, Bool, List, [], ◌∷◌, ◌++◌, length}
+use Rattle.std.proofs.Common.{◌≡◌, ℕ, zero, suc, ◌+◌, ◌-◌, ◌^◌, ◌≤◌, ◌<◌, max, ◌⊎◌, inl, inr, List, [], ◌∷◌, ◌++◌, length}
 use Rattle.std.proofs.Common.{sym, ap, subst, arith, leb, append_assoc}
 use Rattle.std.specs.List.{filter, sum_by}
 use Rattle.std.proofs.lemmas.Bool.{cases_Bool, cases_lt, leb-true, le-leb}
-use Rattle.std.proofs.lemmas.Bool.Decides.{nat_tests}
 use Rattle.std.proofs.lemmas.List.Sums.{sum_by-cons}
 use Rattle.shop_lanes.specs.Rows.{Lane}
 use Rattle.shop_lanes.specs.Spans.{span, spans_from, spans_between}
 use Rattle.shop_lanes.proofs.SpanTurns.{span_served, span_left, spans_counted, spans_low, spans_high}
 use Rattle.shop_bound.specs.declared.triples.Triple.{Triple}
-use Rattle.shop_bound.specs.OneMachine.{one, IsSmall}
+use Rattle.shop_bound.specs.OneMachine.{one}
 use Rattle.shop_bound.specs.inner.NonincreasingTails.{one_between}
 use Rattle.shop_bound.specs.Slots.{IsNonincreasing}
 use Rattle.shop_bound.specs.inner.Thresholds.{is_above, span_above, head_at}

@@ -1,9 +1,9 @@
 -- The lanes of a machine's blocks are its operations that wait, by nonincreasing tail.
-use Rattle.std.proofs.Common.{◌≡◌, ℕ, zero, suc, ◌+◌, ◌-◌, ◌*◌, ◌≤◌, ◌<◌, inl, inr, Bool, true, false, List, [], ◌∷◌}
-use Rattle.std.proofs.Common.{length, get_or, take, drop, refl, sym, ◌∙◌, ap, subst, arith}
+use Rattle.std.proofs.Common.{◌≡◌, ℕ, zero, suc, ◌+◌, ◌-◌, ◌≤◌, ◌<◌, inl, inr, true, false, List, [], ◌∷◌}
+use Rattle.std.proofs.Common.{length, get_or, drop, refl, sym, ◌∙◌, ap, subst, arith}
 use Rattle.std.proofs.lemmas.Bool.{cases_Bool, cases_eq, cases_lt, leb-true, le-leb, true≢false}
 use Rattle.std.proofs.lemmas.List.{get_or-take, get_or-drop}
-use Rattle.shop_lanes.specs.Rows.{Rows, Lane, lanes, blocks, lanes_between}
+use Rattle.shop_lanes.specs.Rows.{Lane, lanes, blocks}
 use Rattle.shop_lanes.proofs.LaneLists.{lane_at, length-lanes, length-blocks}
 use Rattle.shop_model.specs.Limits.{IsWithinLimits}
 use Rattle.shop_model.specs.Shop.{Shop, route_of, machine_of, IsOperation}
@@ -14,7 +14,7 @@ use Rattle.shop_bound.specs.declared.triples.Triple.{Triple}
 use Rattle.shop_bound.specs.Heads.{head_of}
 use Rattle.shop_bound.specs.Slots.{slot_at}
 use Rattle.shop_bound.specs.inner.LaneHeads.{AreHeadsAt}
-use Rattle.shop_bound.specs.inner.Layouts.{LayoutState, IsLaidOut, IsAt, IsPadding, place, first_of}
+use Rattle.shop_bound.specs.inner.Layouts.{LayoutState, IsLaidOut, place, first_of}
 use Rattle.shop_bound.specs.inner.OpenSlots.{is_open, triple_of, open_triples}
 use Rattle.shop_bound.proofs.LaneSpans.{AreMatched, nothing, empty, matched, IsLaneOf}
 use Rattle.shop_bound.proofs.SlotFacts.{slots_are_operations, slots_are_all}
