@@ -48,7 +48,7 @@ module _ (shop : Shop) (limits : IsWithinLimits shop) (slots : List (List Slot))
   abbrev pub next_end : ℕ
   next_end = next.free next_machine
 
-  -- a head that changes is at least `from` less 1 before, and at most `to` after
+  -- (of machine m) a head that changes is at least `from` less 1 before, and at most `to` after
   abbrev pub RaisesWithin : ℕ → ℕ → ℕ → Type 0
   RaisesWithin m from to = (i k : ℕ) → IsOperation shop i k → machine_of shop i k ≡ m → next.steps i ≤ k
       → (head_of shop (placing shop w) i k ≡ head_of shop next i k)
@@ -88,7 +88,7 @@ module _ (shop : Shop) (limits : IsWithinLimits shop) (slots : List (List Slot))
               ]);
         })
 
-    raised_left : one (left_for shop slots next m)
+    pub raised_left : one (left_for shop slots next m)
         ≤ max (lb shop w) (one_between from to (left_for shop slots next m))
     raised_left =
         let a = one-raised_part from to (left_for shop slots (placing shop w) m) (left_for shop slots next m)
@@ -104,21 +104,20 @@ module _ (shop : Shop) (limits : IsWithinLimits shop) (slots : List (List Slot))
   child-ge-left m known = subst (λ (q : Placing). one (left_for shop slots q m) ≤ lb shop (w ++ j ∷ [])) after_is
       (left-le-lb shop limits slots are (w ++ j ∷ []) fits m known)
 
-  -- and no more than what is at least these, with what begins among the raised heads of each machine
-  pub child-le : (from to : ℕ → ℕ) → ((m : ℕ) → m < shop.machines → RaisesWithin m (from m) (to m)) → (b : ℕ)
-      → lb shop w ≤ b → next_end ≤ b
-      → ((m : ℕ) → m < shop.machines → one_between (from m) (to m) (left_for shop slots next m) ≤ b)
+  -- and no more than what is at least these
+  pub child-le : (b : ℕ) → lb shop w ≤ b → next_end ≤ b
+      → ((m : ℕ) → m < shop.machines → one (left_for shop slots next m) ≤ b)
       → lb shop (w ++ j ∷ []) ≤ b
-  child-le from to within b before ends covers =
+  child-le b before ends left =
       let old = lb_by_parts shop w (tabled shop (placing shop w)) slots (tabled_heads shop (placing shop w))
       (tabled_up shop limits slots are w (IsWord-init shop w j fits))
       in let new = lb_by_parts shop (w ++ j ∷ []) (tabled shop (placing shop (w ++ j ∷ []))) slots
       (tabled_heads shop (placing shop (w ++ j ∷ []))) (tabled_up shop limits slots are (w ++ j ∷ []) fits)
       in let n = place_next-is shop (placing shop w) j
-      in let each = λ (q : Placing). (i : ℕ) → i < shop.machines → part_of (tabled shop q) slots (tabled_heads shop q) i ≤ b
+      in let each = λ (q : Placing). (i : ℕ) → i < shop.machines
+      → part_of (tabled shop q) slots (tabled_heads shop q) i ≤ b
       in let here : each next = λ i below.
-      (let a = raised_left i (from i) (to i) below (within i below) in let c = covers i below
-      in let d = (tabled_is shop next).free i below
+      (let a = left i below in let d = (tabled_is shop next).free i below
       in elim (cases_eq i next_machine) [
         | inl e ↦ (let x : next.free i ≡ next_end = ap next.free e in omega arith)
         | inr ne ↦ (let x = n.free_other i ne in let y = (tabled_is shop (placing shop w)).free i below

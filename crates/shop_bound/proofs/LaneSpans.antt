@@ -113,7 +113,7 @@ none_above : (ts : List Triple) (head tail : ℕ) → length (filter (is_above h
     → span_above ts head tail ≡ 0
 none_above ts head tail e = rw e (omega arith)
 
-from_none : (head : ℕ) → head + 1 ≡ head + 1 + times_from head []
+pub from_none : (head : ℕ) → head + 1 ≡ head + 1 + times_from head []
 unfolding times_from
 from_none head = omega arith
 

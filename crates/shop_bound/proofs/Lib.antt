@@ -49,3 +49,4 @@ pub mod TabledHeads
 pub mod ChildBounds
 pub mod LatestEnds
 pub mod MachineLanes
+pub mod ChildExits
