@@ -1,301 +1,251 @@
-//! An instance, and the desk on which its operations are dispatched and taken back.
+//! A desk: what is dispatched, and the heads of what waits.
 
-use std::collections::BinaryHeap;
+use crate::bits::{Bits, MachineSet};
+use crate::estimates::Estimates;
+use crate::instance::Instance;
+use crate::jackson::Scheduler;
+use crate::lanes::{Block, LANES, Lane};
+use crate::layout::Layout;
+use std::ops::Range;
 
-/// A step of a route.
+/// Of the heads of a machine that were raised: the least before, and the greatest after.
 #[derive(Clone, Copy)]
-pub struct Operation {
-    pub machine: usize,
-    pub time: u64,
+pub struct Raised<T> {
+    pub low: T,
+    pub high: T,
 }
 
-/// An instance. Operations are numbered job after job.
-pub struct Shop {
-    pub machines: usize,
-    operations: Vec<Operation>,
-    first: Vec<usize>,
+impl<T: Lane> Raised<T> {
+    pub const NOTHING: Self = Raised { low: T::NEVER, high: T::NONE };
 }
 
-impl Shop {
-    pub fn new(machines: usize, routes: Vec<Vec<Operation>>) -> Shop {
-        let mut first = vec![0];
-        for route in &routes {
-            first.push(first[first.len() - 1] + route.len());
+/// What is dispatched, entry by entry, and what that leaves.
+pub struct Desk<'i, T: Lane, const BLOCKS: usize> {
+    pub layout: &'i Layout<T, BLOCKS>,
+    pub path: Vec<u16>,
+    // by position: none where nothing waits, and never at the end of the routes
+    pub(crate) heads: Vec<T>,
+    // of each job: the position of its next operation, and when that can end
+    next: Vec<u32>,
+    ends: Vec<T>,
+    // positions, each with the head that it had before, and where each dispatch begins among them
+    pub(crate) trail: Vec<(u32, T)>,
+    marks: Vec<u32>,
+    // by a trial: the machines with a raised head behind the one that is tried, and their range
+    pub(crate) raised_machines: MachineSet,
+    pub(crate) raised: Vec<Raised<T>>,
+    pub(crate) estimates: Estimates<T>,
+    pub(crate) scheduler: Scheduler<T>,
+}
+
+impl<'i, T: Lane, const BLOCKS: usize> Desk<'i, T, BLOCKS> {
+    /// Only machines of many operations are worth an estimate.
+    pub(crate) const ESTIMATES: bool = BLOCKS == 0;
+
+    pub fn new(instance: &Instance, layout: &'i Layout<T, BLOCKS>) -> Self {
+        let mut desk = Desk {
+            layout,
+            path: Vec::with_capacity(layout.size),
+            heads: vec![T::NONE; layout.end() + 1],
+            next: layout.first_steps.clone(),
+            ends: vec![T::NEVER; instance.jobs.len().next_multiple_of(LANES)],
+            trail: Vec::with_capacity(4 * layout.size),
+            marks: Vec::with_capacity(layout.size),
+            raised_machines: MachineSet::default(),
+            raised: vec![Raised::NOTHING; layout.machines],
+            estimates: Estimates::new(layout.machines),
+            scheduler: Scheduler::new(),
+        };
+        desk.heads[layout.end()] = T::NEVER;
+        for (number, job) in instance.jobs.iter().enumerate().filter(|(_, job)| !job.route.is_empty()) {
+            desk.raise_route(layout.first_steps[number] as usize, T::of(job.release + 1));
+            desk.renew_end(number);
         }
-        Shop { machines, operations: routes.concat(), first }
+        desk.trail.clear();
+        desk
     }
 
-    pub fn jobs(&self) -> usize {
-        self.first.len() - 1
+    /// Raises the heads from this step of a route on.
+    fn raise_route(&mut self, from: usize, least: T) {
+        let (mut position, mut head) = (from, least);
+        while self.heads[position] < head {
+            self.heads[position] = head;
+            head = head + self.layout.times[position];
+            position = self.layout.following[position] as usize;
+        }
     }
 
-    pub fn route(&self, job: usize) -> &[Operation] {
-        &self.operations[self.first[job]..self.first[job + 1]]
+    pub fn is_full(&self) -> bool {
+        self.path.len() == self.layout.size
     }
 
-    pub fn size(&self) -> usize {
-        self.operations.len()
+    /// Is this the next operation of its job?
+    #[inline(always)]
+    pub fn is_next(&self, position: usize) -> bool {
+        self.next[self.layout.jobs[position] as usize] as usize == position
     }
-}
 
-/// Above this many operations a machine's first bound goes by Jackson's schedule, and else by thresholds.
-const FEW: usize = 48;
+    #[inline(always)]
+    pub fn next_of(&self, job: usize) -> usize {
+        self.next[job] as usize
+    }
 
-/// An operation as its machine sees it.
-#[derive(Clone, Copy)]
-struct Slot {
-    head: u64,
-    time: u64,
-    tail: u64,
-    operation: usize,
-    open: bool,
-}
+    #[inline(always)]
+    fn renew_end(&mut self, job: usize) {
+        let position = self.next[job] as usize;
+        self.ends[job] = self.heads[position].saturating_add(self.layout.times[position]);
+    }
 
-/// What is dispatched: the word, and the head of each operation that isn't in it.
-pub struct Desk<'s> {
-    pub shop: &'s Shop,
-    pub word: Vec<u16>,
-    job_of: Vec<usize>,
-    slot_of: Vec<usize>,
-    // machine after machine, and on each those of greatest tail first
-    slots: Vec<Slot>,
-    first_slot: Vec<usize>,
-    // of each job: its next operation
-    next: Vec<usize>,
-    // heads that were raised, as they were before, and where each dispatch begins among them
-    trail: Vec<(usize, u64)>,
-    marks: Vec<usize>,
-    // the machines on which the last dispatch raised a head; on each, the least head before and the greatest after
-    raised: u128,
-    spans: Vec<(u64, u64)>,
-    // the greatest head + time + tail that was raised
-    reach: u64,
-}
+    #[inline(always)]
+    pub(crate) fn set_head(&mut self, position: usize, head: T) {
+        self.trail.push((position as u32, self.heads[position]));
+        self.heads[position] = head;
+    }
 
-impl<'s> Desk<'s> {
-    pub fn new(shop: &'s Shop) -> Desk<'s> {
-        let size = shop.size();
-        let mut job_of = vec![0; size];
-        let mut by_machine = vec![Vec::new(); shop.machines];
-        for job in 0..shop.jobs() {
-            let range = shop.first[job]..shop.first[job + 1];
-            let (mut head, mut tail) = (0, shop.route(job).iter().map(|o| o.time).sum());
-            job_of[range.clone()].fill(job);
-            for operation in range {
-                let Operation { machine, time } = shop.operations[operation];
-                tail -= time;
-                by_machine[machine].push(Slot { head, time, tail, operation, open: true });
-                head += time;
+    /// The position of the next operation that can end first, of those the one of the lowest job; and when.
+    #[inline(always)]
+    pub fn first_to_end(&self) -> (usize, T) {
+        let (blocks, _) = self.ends.as_chunks::<LANES>();
+        let least =
+            blocks.iter().fold(T::NEVER.in_all_lanes(), |least, ends| T::lesser(least, Block::from_array(*ends)));
+        let end = T::least(least);
+        let equal = blocks.iter().map(|ends| T::equal_to(Block::from_array(*ends), end));
+        let (block, bits) = equal.enumerate().find(|(_, bits)| *bits != 0).expect("the least is one of them");
+        let job = block * LANES + bits.trailing_zeros() as usize;
+        (self.next[job] as usize, end)
+    }
+
+    /// The positions of a group at which something waits with a head below a limit, as bits.
+    #[inline(always)]
+    pub fn below(&self, group: Range<usize>, limit: T) -> u64 {
+        let (blocks, _) = self.heads[group].as_chunks::<LANES>();
+        let bits = blocks.iter().map(|heads| T::below(Block::from_array(*heads), limit));
+        bits.enumerate().fold(0, |all, (block, bits)| all | bits << (block * LANES))
+    }
+
+    /// Does nothing wait on a machine with a head below a limit, but what waits at one position?
+    #[inline(always)]
+    pub fn is_alone(&self, machine: usize, position: usize, limit: T) -> bool {
+        self.layout.groups_of(machine).all(|group| {
+            let itself = if group.contains(&position) { 1 << (position - group.start) } else { 0 };
+            self.below(group, limit) & !itself == 0
+        })
+    }
+
+    /// Dispatches the next operation of a job.
+    pub fn dispatch(&mut self, job: usize) {
+        let position = self.next[job] as usize;
+        let machine = self.layout.machine_of(position);
+        let end = self.heads[position] + self.layout.times[position];
+        self.place(job, position);
+        self.raise::<false>(machine, end);
+        if Self::ESTIMATES {
+            self.estimates.rise();
+            let bound = self.span(machine, T::BEGIN, end, T::BEGIN.in_all_lanes());
+            self.estimates.raise_to(machine, T::greatest(bound));
+        }
+        self.renew_end(job);
+    }
+
+    /// The same where nothing else on its machine has a head below its end: so nothing is raised.
+    #[inline(always)]
+    pub fn dispatch_alone(&mut self, position: usize) {
+        let job = self.layout.jobs[position] as usize;
+        self.place(job, position);
+        self.renew_end(job);
+    }
+
+    #[inline(always)]
+    fn place(&mut self, job: usize, position: usize) {
+        self.path.push(job as u16);
+        self.marks.push(self.trail.len() as u32);
+        if Self::ESTIMATES {
+            self.estimates.keep();
+        }
+        self.set_head(position, T::NONE);
+        self.next[job] = self.layout.following[position];
+    }
+
+    /// A machine is busy until `end`: raises the heads of what waits there, and what follows on their routes. A trial
+    /// notes which machines that changes, else the ends of next operations are kept up.
+    #[inline(always)]
+    pub(crate) fn raise<const IS_TRIAL: bool>(&mut self, machine: usize, end: T) {
+        for group in self.layout.groups_of(machine) {
+            for place in Bits(self.below(group.clone(), end)) {
+                self.raise_from::<IS_TRIAL>(group.start + place, end);
             }
         }
-        let mut first_slot = vec![0];
-        let mut slots = Vec::with_capacity(size);
-        for on_machine in &mut by_machine {
-            on_machine.sort_by_key(|slot| std::cmp::Reverse(slot.tail));
-            slots.append(on_machine);
-            first_slot.push(slots.len());
+    }
+
+    #[inline(always)]
+    fn raise_from<const IS_TRIAL: bool>(&mut self, first: usize, end: T) {
+        // an operation before it on its route may have raised it already
+        if self.heads[first] >= end {
+            return;
         }
-        let mut slot_of = vec![0; size];
-        for (at, slot) in slots.iter().enumerate() {
-            slot_of[slot.operation] = at;
+        self.set_head(first, end);
+        let mut head = end + self.layout.times[first];
+        if !IS_TRIAL && self.is_next(first) {
+            self.ends[self.layout.jobs[first] as usize] = head;
         }
-        Desk {
-            shop,
-            word: Vec::with_capacity(size),
-            job_of,
-            slot_of,
-            slots,
-            first_slot,
-            next: shop.first[..shop.jobs()].to_vec(),
-            trail: Vec::with_capacity(4 * size),
-            marks: Vec::with_capacity(size),
-            raised: 0,
-            spans: vec![(0, 0); shop.machines],
-            reach: 0,
+        let mut position = self.layout.following[first] as usize;
+        while self.heads[position] < head {
+            self.note::<IS_TRIAL>(position, head);
+            self.set_head(position, head);
+            head = head + self.layout.times[position];
+            position = self.layout.following[position] as usize;
         }
     }
 
-    /// Dispatches the next operation of a job, and tells when it ends.
-    pub fn dispatch(&mut self, job: usize) -> u64 {
-        let chosen = self.next[job];
-        let Operation { machine, time } = self.shop.operations[chosen];
-        let slot = &mut self.slots[self.slot_of[chosen]];
-        let end = slot.head + time;
-        slot.open = false;
-        self.marks.push(self.trail.len());
-        self.word.push(job as u16);
-        self.next[job] += 1;
-        self.raised = 1 << machine;
-        self.spans[machine] = (end, end);
-        self.reach = end;
-        for at in self.first_slot[machine]..self.first_slot[machine + 1] {
-            let slot = self.slots[at];
-            if slot.open & (slot.head < end) {
-                self.raise(slot.operation, end);
-            }
+    /// The head at a position is about to be raised.
+    #[inline(always)]
+    fn note<const IS_TRIAL: bool>(&mut self, position: usize, head: T) {
+        let before = self.heads[position];
+        let machine = self.layout.machine_of(position);
+        if IS_TRIAL {
+            let Raised { low, high } = self.raised[machine];
+            self.raised[machine] = Raised { low: low.min(before), high: high.max(head) };
+            self.raised_machines.insert(machine);
         }
-        end
+        if Self::ESTIMATES {
+            self.estimates.note(machine, head - before);
+        }
     }
 
-    // Raises a head and what follows it on its route.
-    fn raise(&mut self, from: usize, least: u64) {
-        let last = self.shop.first[self.job_of[from] + 1];
-        let mut head = least;
-        for o in from..last {
-            let slot = &mut self.slots[self.slot_of[o]];
-            if slot.head >= head {
-                return;
-            }
-            self.trail.push((self.slot_of[o], slot.head));
-            let machine = self.shop.operations[o].machine;
-            let span = &mut self.spans[machine];
-            if self.raised & (1 << machine) == 0 {
-                self.raised |= 1 << machine;
-                *span = (slot.head, head);
-            } else {
-                *span = (span.0.min(slot.head), span.1.max(head));
-            }
-            slot.head = head;
-            head += slot.time;
-            self.reach = self.reach.max(head + slot.tail);
+    /// Takes dispatches back until so many are left.
+    #[inline(always)]
+    pub fn undo_to(&mut self, length: usize) {
+        while self.path.len() > length {
+            self.undo();
         }
     }
 
     /// Takes the last dispatch back.
-    pub fn undo(&mut self) {
-        let mark = self.marks.pop().unwrap();
-        while self.trail.len() > mark {
-            let (slot, head) = self.trail.pop().unwrap();
-            self.slots[slot].head = head;
+    fn undo(&mut self) {
+        let job = usize::from(self.path.pop().expect("something is dispatched"));
+        let mark = self.marks.pop().expect("something is dispatched") as usize;
+        for entry in (mark..self.trail.len()).rev() {
+            let (position, head) = self.trail[entry];
+            let position = position as usize;
+            self.heads[position] = head;
+            if self.is_next(position) {
+                self.ends[self.layout.jobs[position] as usize] = head + self.layout.times[position];
+            }
         }
-        let job = usize::from(self.word.pop().unwrap());
-        self.next[job] -= 1;
-        self.slots[self.slot_of[self.next[job]]].open = true;
+        if Self::ESTIMATES {
+            self.estimates.restore();
+        }
+        self.next[job] = self.trail[mark].0;
+        self.trail.truncate(mark);
+        self.renew_end(job);
     }
 
-    /// Makes the word the one that is dispatched.
-    pub fn go_to(&mut self, word: &[u16]) {
-        let common = self.word.iter().zip(word).take_while(|(a, b)| a == b).count();
-        while self.word.len() > common {
-            self.undo();
-        }
-        for &job in &word[common..] {
+    /// Makes the path this one.
+    pub fn go_to(&mut self, path: impl Iterator<Item = u16> + Clone) {
+        let common = self.path.iter().zip(path.clone()).take_while(|(one, other)| **one == *other).count();
+        self.undo_to(common);
+        for job in path.skip(common) {
             self.dispatch(usize::from(job));
         }
     }
-
-    /// The bound of the empty word.
-    pub fn bound(&self) -> u64 {
-        (0..self.shop.machines).fold(0, |bound, machine| bound.max(self.one_machine(machine)))
-    }
-
-    /// The bound of the child by a job, of a parent of bound `parent`: exact where it is below `limit`. A bound never
-    /// falls from a parent to its child, so only what the dispatch raised is looked at.
-    fn bound_of_child(&mut self, job: usize, parent: u64, limit: u64) -> u64 {
-        let machine = self.shop.operations[self.next[job]].machine;
-        self.dispatch(job);
-        let mut bound = self.reach.max(parent);
-        let mut others = self.raised & !(1 << machine);
-        if bound < limit {
-            bound = bound.max(self.raised_bound(machine));
-        }
-        while others != 0 && bound < limit {
-            bound = bound.max(self.raised_bound(others.trailing_zeros() as usize));
-            others &= others - 1;
-        }
-        self.undo();
-        bound
-    }
-
-    // The one-machine bound by those least heads alone that can have made it greater than before.
-    fn raised_bound(&self, machine: usize) -> u64 {
-        let (from, to) = self.spans[machine];
-        let slots = &self.slots[self.first_slot[machine]..self.first_slot[machine + 1]];
-        let (mut bound, mut before) = (0, u64::MAX);
-        for slot in slots {
-            if slot.open & (from <= slot.head) & (slot.head <= to) & (slot.head != before) {
-                before = slot.head;
-                bound = bound.max(bound_from(slots, slot.head));
-            }
-        }
-        bound
-    }
-
-    /// Appends the children of what is dispatched, of bound `parent`, as pairs of bound and job in this order. Of those
-    /// whose bound isn't below `limit` only this is known.
-    pub fn children(&mut self, parent: u64, limit: u64, out: &mut Vec<(u64, u16)>) {
-        let (mut first_end, mut chosen) = (u64::MAX, 0);
-        for job in 0..self.shop.jobs() {
-            let o = self.next[job];
-            if o < self.shop.first[job + 1] {
-                let slot = self.slots[self.slot_of[o]];
-                let end = slot.head + slot.time;
-                if end < first_end {
-                    (first_end, chosen) = (end, job);
-                }
-            }
-        }
-        let machine = self.shop.operations[self.next[chosen]].machine;
-        let from = out.len();
-        for at in self.first_slot[machine]..self.first_slot[machine + 1] {
-            let slot = self.slots[at];
-            let job = self.job_of[slot.operation];
-            let meets = slot.open
-                & (self.next[job] == slot.operation)
-                & ((job == chosen) | (slot.head < first_end));
-            if meets {
-                let bound = self.bound_of_child(job, parent, limit);
-                out.push((bound, job as u16));
-            }
-        }
-        out[from..].sort_unstable();
-    }
-
-    // Carlier's one-machine bound of the operations of a machine that aren't dispatched.
-    fn one_machine(&self, machine: usize) -> u64 {
-        let slots = &self.slots[self.first_slot[machine]..self.first_slot[machine + 1]];
-        if slots.len() > FEW {
-            return by_schedule(slots);
-        }
-        let open = slots.iter().filter(|slot| slot.open);
-        open.fold(0, |bound, slot| bound.max(bound_from(slots, slot.head)))
-    }
-}
-
-// The bound by the operations of at least this head: tails fall, so each operation in turn has the least tail.
-fn bound_from(slots: &[Slot], least: u64) -> u64 {
-    let (mut bound, mut end) = (0, least);
-    for slot in slots {
-        let counts = slot.open & (slot.head >= least);
-        end += if counts { slot.time } else { 0 };
-        bound = bound.max(if counts { end + slot.tail } else { 0 });
-    }
-    bound
-}
-
-// Jackson's preemptive schedule: at each moment the released operation of greatest tail.
-fn by_schedule(slots: &[Slot]) -> u64 {
-    let mut open: Vec<Slot> = slots.iter().copied().filter(|slot| slot.open).collect();
-    open.sort_unstable_by_key(|slot| slot.head);
-    let mut waiting = BinaryHeap::new();
-    let (mut clock, mut bound, mut released) = (0, 0, 0);
-    while released < open.len() || !waiting.is_empty() {
-        if waiting.is_empty() {
-            clock = open[released].head.max(clock);
-        }
-        while released < open.len() && open[released].head <= clock {
-            waiting.push((open[released].tail, open[released].time));
-            released += 1;
-        }
-        let (tail, left) = waiting.pop().unwrap();
-        let until = open.get(released).map_or(u64::MAX, |slot| slot.head);
-        let spent = left.min(until - clock);
-        clock += spent;
-        if spent == left {
-            bound = bound.max(clock + tail);
-        } else {
-            waiting.push((tail, left - spent));
-        }
-    }
-    bound
 }

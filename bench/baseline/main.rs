@@ -1,72 +1,101 @@
-//! The same search as the program's, in plain Rust: the yardstick that `bench/run` measures against.
+//! The same search as the program's, in plain, safe Rust, and the best that is known: the yardstick that `bench/run`
+//! measures against.
 //!
-//!     baseline solve [--rounds R] [--budget B] [--piece K] [--order kept|bound] FILE
-//!     baseline list FILE
-//!     baseline check FILE
+//!     baseline solve [--format F] [--name N] [--rounds R] [--budget B] [--piece K] [--order O] [--workers W] FILE
+//!     baseline list [--format F] FILE
+//!     baseline check [--format F] [--name N] FILE
 //!
-//! Reads texts of the form of the OR-Library file jobshop1, and expects them to be sound.
+//! Prints what the program prints, but for faults: it expects words and texts to be sound. The search goes over rows of
+//! lanes: on a machine, the operations that wait are bounded eight at a time.
 
+#![feature(portable_simd)]
+#![forbid(unsafe_code)]
+
+mod bits;
+mod bounding;
 mod checking;
 mod desk;
-mod search;
+mod estimates;
+mod instance;
+mod jackson;
+mod lanes;
+mod layout;
+mod open;
+mod report;
+mod rounds;
+mod searching;
 mod texts;
 
-use search::{Order, Plan};
+use instance::Instance;
+use rounds::{Order, Plan};
 use std::fs;
+use std::io::{self, BufWriter, Write};
 use std::process::ExitCode;
+use texts::Format;
 
-fn plan_of(words: &[String]) -> Option<Plan> {
-    let mut plan = Plan { rounds: 1000, budget: 100_000, piece: 1, order: Order::Kept };
+struct Options {
+    format: Format,
+    name: Option<String>,
+    plan: Plan,
+}
+
+fn options_of(words: &[String]) -> Option<Options> {
+    let plan = Plan { rounds: 1000, budget: 100_000, piece: 1, order: Order::Kept, workers: 1 };
+    let mut options = Options { format: Format::Orlib, name: None, plan };
     for pair in words.chunks(2) {
         let value = pair.get(1)?;
         match pair[0].as_str() {
-            "--rounds" => plan.rounds = value.parse().ok()?,
-            "--budget" => plan.budget = value.parse().ok()?,
-            "--piece" => plan.piece = value.parse().ok()?,
-            "--order" if value == "kept" => plan.order = Order::Kept,
-            "--order" if value == "bound" => plan.order = Order::Bound,
+            "--format" => options.format = Format::of(value)?,
+            "--name" => options.name = Some(value.clone()),
+            "--rounds" => options.plan.rounds = value.parse().ok()?,
+            "--budget" => options.plan.budget = value.parse().ok()?,
+            "--piece" => options.plan.piece = value.parse().ok()?,
+            "--workers" => options.plan.workers = value.parse().ok()?,
+            "--order" if value == "kept" => options.plan.order = Order::Kept,
+            "--order" if value == "bound" => options.plan.order = Order::Bound,
             _ => return None,
         }
     }
-    Some(plan)
+    Some(options)
 }
 
-fn run(words: &[String]) -> Option<()> {
+/// The instance that is asked for: the first of that name, or the first of all.
+fn instance_of(text: &[u8], options: &Options) -> Option<Instance> {
+    let is_asked = |instance: &Instance| options.name.as_ref().is_none_or(|name| *name == instance.name);
+    texts::instances_of(text, options.format)?.into_iter().find(is_asked)
+}
+
+fn run(words: &[String], out: &mut impl Write) -> Option<()> {
     let (command, rest) = words.split_first()?;
     let (file, options) = rest.split_last()?;
+    let options = options_of(options)?;
     let text = fs::read(file).ok()?;
     match command.as_str() {
         "list" => {
-            for named in texts::instances_of(&text)? {
-                println!("{} {} {}", named.name, named.shop.jobs(), named.shop.machines);
+            for instance in texts::instances_of(&text, options.format)? {
+                writeln!(out, "{} {} {}", instance.name, instance.jobs.len(), instance.machines).ok()?;
             }
         }
         "check" => {
-            let named = texts::instances_of(&text)?.into_iter().next()?;
-            let starts = texts::schedule_of(&text, &named.shop)?;
-            match checking::makespan_of(&named.shop, &starts) {
-                Some(makespan) => println!("feasible {makespan}"),
-                None => println!("infeasible"),
+            let instance = instance_of(&text, &options)?;
+            let starts = texts::schedule_of(&text, &instance)?;
+            match checking::makespan_of(&instance, &starts) {
+                Some(makespan) => writeln!(out, "feasible {makespan}").ok()?,
+                None => writeln!(out, "infeasible").ok()?,
             }
         }
         "solve" => {
-            let plan = plan_of(options)?;
-            let named = texts::instances_of(&text)?.into_iter().next()?;
-            let answer = search::answer(&named.shop, &plan);
-            println!("makespan {}", answer.makespan);
-            println!("bound {}", answer.bound);
-            println!("open {}", answer.open);
-            println!("rounds {}", answer.rounds);
-            println!("nodes {}", answer.nodes);
+            let instance = instance_of(&text, &options)?;
+            report::write(out, &instance, &rounds::answer(&instance, &options.plan)).ok()?;
         }
         _ => return None,
     }
-    Some(())
+    out.flush().ok()
 }
 
 fn main() -> ExitCode {
     let words: Vec<String> = std::env::args().skip(1).collect();
-    match run(&words) {
+    match run(&words, &mut BufWriter::new(io::stdout())) {
         Some(()) => ExitCode::SUCCESS,
         None => {
             eprintln!("usage: baseline solve|list|check [OPTIONS] FILE");
