@@ -17,17 +17,17 @@ module _ (shop : Shop) (p : Placing) (j : ℕ) (q : Placing) (n : IsNext shop p 
   IsClear i l = machine_of shop i l ≡ its_machine
       → (q.free its_machine ≤ head_of shop p i l) ⊎ (q.free its_machine < head_of shop q i l)
 
-  steps_rise : (i : ℕ) → p.steps i ≤ q.steps i
+  pub steps_rise : (i : ℕ) → p.steps i ≤ q.steps i
   steps_rise i = elim (cases_eq i j) [
     | inl e ↦ rw e (let a = n.steps_here in omega arith)
     | inr ne ↦ (let a = n.steps_other i ne in omega arith)
   ]
 
-  free_rises : p.free its_machine ≤ q.free its_machine
+  pub free_rises : p.free its_machine ≤ q.free its_machine
   free_rises = let a = n.free_here its_machine refl in let b = n.begins_here in omega arith
 
   -- the job is ready for its first step that isn't placed as it was to be before
-  ready_first_same : (i : ℕ) → q.ready i ≡ ready_after shop p i (q.steps i - p.steps i)
+  pub ready_first_same : (i : ℕ) → q.ready i ≡ ready_after shop p i (q.steps i - p.steps i)
   ready_first_same i = elim (cases_eq i j) [
     | inl e ↦ rw e (let more = ready_more shop p j (p.steps j) (omega arith)
         in let first = ready_first shop p j (p.steps j) (omega arith)

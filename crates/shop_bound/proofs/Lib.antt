@@ -1,5 +1,11 @@
 pub mod NonincreasingTails
 pub mod RestoredNotes
+pub mod RaiseWalks
+pub mod RaiseSteps
+pub mod RaiseLoops
+pub mod HeadsRise
+pub mod LaidPlaces
+pub mod RaisedHeads
 pub mod ProfileLemmas
 pub mod CellLemmas
 pub mod NotedPlaces

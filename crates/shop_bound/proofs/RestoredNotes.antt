@@ -1,9 +1,10 @@
 -- Notes lead back.
-use Rattle.std.proofs.Common.{◌≡◌, ℕ, zero, suc, true, false, inl, inr, List, [], ◌∷◌, ◌++◌, length}
-use Rattle.std.proofs.Common.{get_or, set, refl, sym, ◌∙◌, ap, append_assoc, append-nil}
+use Rattle.std.proofs.Common.{◌≡◌, ℕ, zero, suc, ◌<◌, ◌≤◌, true, false, inl, inr, List, [], ◌∷◌, ◌++◌, length}
+use Rattle.std.proofs.Common.{get_or, set, refl, sym, ◌∙◌, ap, subst, append_assoc, append-nil}
 use Rattle.std.proofs.lemmas.List.{length-set, set-get_or}
 use Rattle.shop_bound.specs.declared.notes.Note.{Note}
-use Rattle.shop_bound.specs.inner.LaneHeads.{NotesState, IsNoted, LeadsBack, restored}
+use Rattle.shop_bound.proofs.Lists.{all_append}
+use Rattle.shop_bound.specs.inner.LaneHeads.{AreNotesFit, NotesState, IsNoted, LeadsBack, restored}
 
 pub restored-append : (a b : List Note) (heads : List ℕ) → restored (a ++ b) heads ≡ restored a (restored b heads)
 restored-append [] b heads = refl
@@ -22,26 +23,33 @@ pub put_back : (xs : List ℕ) (i a : ℕ) → set (set xs i a) i (get_or xs i 0
 put_back xs i a = set_twice xs i a (get_or xs i 0) ∙ set-get_or xs i 0
 
 -- nothing was replaced
-pub back_none : (old : NotesState) (was : List ℕ) → LeadsBack old old was was
-back_none old was = record {
+pub back_none : (greatest : ℕ) (old : NotesState) (was : List ℕ) → LeadsBack greatest old old was was
+back_none greatest old was = record {
   more = [];
+  fit = tt;
+  positions = refl;
   are = sym (append-nil old.list);
   whole = λ h. h;
   back = λ h. refl;
 }
 
 -- one head was replaced
-pub back_one : (old new : NotesState) (was : List ℕ) (q h v : ℕ) → h ≡ get_or was q 0
-    → IsNoted (record { position = q; head = h }) old new → LeadsBack old new was (set was q v)
-back_one old new was q h v is noted = elim noted [
+pub back_one : (greatest : ℕ) (old new : NotesState) (was : List ℕ) (q h v : ℕ) → h ≡ get_or was q 0
+    → q < length was → h ≤ greatest
+    → IsNoted (record { position = q; head = h }) old new → LeadsBack greatest old new was (set was q v)
+back_one greatest old new was q h v is within fits noted = elim noted [
   | inl added ↦ record {
     more = record { position = q; head = h } ∷ [];
+    fit = ((within, fits), tt);
+    positions = length-set was q v;
     are = added.0;
     whole = λ t. sym added.1 ∙ t;
     back = λ t. ap (λ (x : ℕ). set (set was q v) q x) is ∙ put_back was q v;
   }
   | inr left ↦ record {
     more = [];
+    fit = tt;
+    positions = length-set was q v;
     are = left.0 ∙ sym (append-nil old.list);
     whole = λ t. absurd (let e : false ≡ true = sym left.1 ∙ t in cc);
     back = λ t. absurd (let e : false ≡ true = sym left.1 ∙ t in cc);
@@ -49,10 +57,13 @@ back_one old new was q h v is noted = elim noted [
 ]
 
 -- one after the other
-pub back_both : (a b c : NotesState) (first mid last : List ℕ) → LeadsBack a b first mid → LeadsBack b c mid last
-    → LeadsBack a c first last
-back_both a b c first mid last x y = record {
+pub back_both : (greatest : ℕ) (a b c : NotesState) (first mid last : List ℕ) → LeadsBack greatest a b first mid
+    → LeadsBack greatest b c mid last → LeadsBack greatest a c first last
+back_both greatest a b c first mid last x y = record {
   more = x.more ++ y.more;
+  fit = all_append (λ n. (n.position < length first) × (n.head ≤ greatest)) x.more y.more x.fit
+      (subst (λ (k : ℕ). AreNotesFit greatest k y.more) x.positions y.fit);
+  positions = y.positions ∙ x.positions;
   are = y.are ∙ (ap (λ (ns : List Note). ns ++ y.more) x.are ∙ append_assoc a.list x.more y.more);
   whole = λ t. x.whole (y.whole t);
   back = λ t. restored-append x.more y.more last ∙ (ap (restored x.more) (y.back t) ∙ x.back (y.whole t));

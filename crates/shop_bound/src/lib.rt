@@ -13,6 +13,7 @@ mod notes;
 mod open_bounds;
 mod placements;
 mod profiles;
+mod raises;
 mod schedules;
 mod slots;
 mod tail_rows;

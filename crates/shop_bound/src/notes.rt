@@ -1,5 +1,5 @@
 // Notes of heads that were replaced, so that they can be put back.
-ghost use Rattle.std.specs.Prelude.{◌≡◌, ◌<◌, ◌≤◌, ◌^◌, IfOk, length, take, true, []};
+ghost use Rattle.std.specs.Prelude.{◌≡◌, ◌≤◌, IfOk, length, take, true, []};
 ghost use Rattle.shop_bound.specs.inner.LaneHeads.{IsNoted};
 
 use std::alloc::{AllocError, Global};
@@ -8,7 +8,7 @@ use std::marker::Model;
 /// The head that stood at a position before it was replaced.
 #[derive(Clone, Copy, Debug)]
 pub(crate) struct Note {
-    pub position: u32,
+    pub position: usize,
     pub head: u64,
 }
 
@@ -58,14 +58,12 @@ impl Notes {
     /// Notes the head at a position, or that not all was noted, where there is no room.
     #[inline(always)]
     pub(crate) fn add(&mut self, position: usize, head: u64)
-        requires { position < 2 ^ 32 }
         ensures { IsNoted (record { position = position; head = head }) self.old self.new }
     {
         if self.list.len() == self.list.capacity() {
             self.whole = false;
             return;
         }
-        let position = position as u32;
         self.list.push(Note { position, head }).unwrap();
     }
 

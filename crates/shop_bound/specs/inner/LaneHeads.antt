@@ -1,11 +1,12 @@
 -- Heads by position, kept up with a word by notes of what they were.
 --     AreHeadsAt shop p l heads      one more than the head of what waits at a position, 0 where nothing does
 --     restored notes heads           the heads before what was noted, the last note put back first
---     LeadsBack old new was now      if all was noted since, the new notes lead from the heads back to what they were
+--     LeadsBack greatest old new was now      if all was noted since, the new notes lead from the heads back to what they were
 --     IsTrail shop l w marks notes heads   the notes lead back through all entries of the word
 --     AreHeadsFit greatest shop      no head or end is too great to be stored
 use Rattle.std.specs.Prelude.{◌≡◌, ℕ, ◌+◌, ◌≤◌, ◌<◌, Bool, true, false, ◌⊎◌, ◌++◌, List, [], ◌∷◌, length, take, drop, reverse}
 use Rattle.std.specs.Prelude.{slice_index, slice_set}
+use Rattle.std.specs.List.{AllByRecursion}
 use Rattle.shop_model.specs.Shop.{Shop, IsOperation, time_of}
 use Rattle.shop_model.specs.Word.{Placing, IsWord, placing}
 use Rattle.shop_bound.specs.Heads.{head_of}
@@ -34,8 +35,15 @@ abbrev pub IsNoted : Note → NotesState → NotesState → Type 0
 IsNoted note old new = ((new.list ≡ old.list ++ note ∷ []) × (new.whole ≡ old.whole))
     ⊎ ((new.list ≡ old.list) × (new.whole ≡ false))
 
-pub record LeadsBack (old new : NotesState) (was now : List ℕ) : Type 0 where
+-- each can be put back into lanes
+abbrev pub AreNotesFit : ℕ → ℕ → List Note → Type 0
+AreNotesFit greatest positions notes =
+    AllByRecursion (λ n. (n.position < positions) × (n.head ≤ greatest)) notes
+
+pub record LeadsBack (greatest : ℕ) (old new : NotesState) (was now : List ℕ) : Type 0 where
   pub more : List Note
+  pub fit : AreNotesFit greatest (length was) more
+  pub positions : length now ≡ length was
   pub are : new.list ≡ old.list ++ more
   pub whole : new.whole ≡ true → old.whole ≡ true
   pub back : new.whole ≡ true → restored more now ≡ was

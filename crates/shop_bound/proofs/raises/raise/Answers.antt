@@ -1,0 +1,49 @@
+use Rattle.std.proofs.Common.{ℕ, ◌+◌, get_or, subst, sym, arith}
+use Rattle.shop_bound.specs.inner.Raises.{Raises, IsInBlocks}
+use Rattle.shop_bound.proofs.RaiseLoops.{blocks_raisable, more_blocks, no_blocks, all_blocks}
+use Rattle.shop_bound.proofs.raises.raise.Goals as goal
+
+pub overflow_add-machine : goal.overflow_add-machine
+overflow_add-machine g c = let a = c.requires.machine.small in omega arith
+
+pub loop-from-init : goal.loop-from-init
+loop-from-init g c = record {
+  ordered = (let a = c.block-from.ensures in omega arith);
+  within = (let a = c.block-from.ensures in let b = c.block-behind.ensures in let d = c.requires.machine.ordered
+      in omega arith);
+  raises = subst (λ (x : ℕ). Raises g.L.Lanes.GREATEST c.args.layout.now
+      (IsInBlocks (get_or c.args.layout.now.blocks c.args.machine 0) x) c.args.end (g.L.Lanes.rows c.args.lanes.now)
+      (g.L.Lanes.rows c.args.lanes.now) c.args.notes.now c.args.notes.now) (sym c.block-from.ensures)
+      (no_blocks g.L.Lanes.GREATEST c.args.layout.now (get_or c.args.layout.now.blocks c.args.machine 0)
+      (get_or c.args.layout.now.blocks (c.args.machine + 1) 0) c.args.end (g.L.Lanes.rows c.args.lanes.now)
+      c.args.notes.now c.requires.raisable);
+}
+
+pub raise_blocks-requires-clause-raisable : goal.raise_blocks-requires-clause-raisable
+raise_blocks-requires-clause-raisable g c =
+    let a = c.min.ensures in let b = c.block-behind.ensures in let d = c.loop-from-test.true
+    in blocks_raisable g.L.Lanes.GREATEST c.args.layout.now (get_or c.args.layout.now.blocks c.args.machine 0)
+    c.loop-from.from (c.loop-from.from + c.min.result) (get_or c.args.layout.now.blocks (c.args.machine + 1) 0) c.args.end
+    (g.L.Lanes.rows c.args.lanes.now) (g.L.Lanes.rows c.loop-from.lanes) c.args.notes.now c.loop-from.notes
+    c.loop-from.invariant.raises c.loop-from.invariant.ordered (omega arith) (omega arith) c.requires.raisable
+
+pub loop-from-preserved : goal.loop-from-preserved
+loop-from-preserved g c =
+    let a = c.min.ensures in let b = c.block-behind.ensures in let d = c.loop-from-test.true
+    in let o = c.loop-from.invariant.ordered in record {
+      ordered = omega arith;
+      within = omega arith;
+      raises = more_blocks g.L.Lanes.GREATEST c.args.layout.now (get_or c.args.layout.now.blocks c.args.machine 0)
+          c.loop-from.from (c.loop-from.from + c.min.result) (get_or c.args.layout.now.blocks (c.args.machine + 1) 0) c.args.end
+          (g.L.Lanes.rows c.args.lanes.now) (g.L.Lanes.rows c.loop-from.lanes) c.args.notes.now c.loop-from.notes
+          c.loop-from.invariant.raises o (omega arith) (omega arith)
+          (g.L.Lanes.rows c.raise_blocks.new.lanes) c.raise_blocks.new.notes c.raise_blocks.ensures;
+    }
+
+pub returns : goal.returns
+returns g c =
+    let a = c.block-behind.ensures in let b = c.loop-from-test.false in let d = c.loop-from.invariant.within
+    in all_blocks g.L.Lanes.GREATEST c.args.layout.now (get_or c.args.layout.now.blocks c.args.machine 0)
+    c.loop-from.from (get_or c.args.layout.now.blocks (c.args.machine + 1) 0) c.args.end
+    (g.L.Lanes.rows c.args.lanes.now) (g.L.Lanes.rows c.loop-from.lanes) c.args.notes.now c.loop-from.notes
+    (omega arith) c.loop-from.invariant.raises

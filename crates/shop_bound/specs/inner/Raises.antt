@@ -1,0 +1,91 @@
+-- Heads by position that are raised.
+--     AreInRouteOrder l heads        a step that waits ends, from its head on, not after the head of the next step
+--     IsRaised l among e old new     no head fell, those that wait at some positions are at least e, routes are in order
+--     IsLeastRaise l among e ..      the least such heads
+--     IsRaisable greatest l rows ..  heads that can be raised so
+--     Raises greatest l among e ..   they were, and what was replaced is noted
+use Rattle.std.specs.Prelude.{◌≡◌, ℕ, ◌+◌, ◌*◌, ◌≤◌, ◌<◌, ◌^◌, List, [], length, slice_index, slice_index_or}
+use Rattle.shop_lanes.specs.Rows.{Rows, with_head}
+use Rattle.shop_bound.specs.inner.Layouts.{LayoutState, place}
+use Rattle.shop_bound.specs.inner.LaneHeads.{NotesState, LeadsBack}
+
+abbrev pub steps_of : LayoutState → ℕ → ℕ
+steps_of l j = length (slice_index_or l.places j [])
+
+-- what a list has at each position
+abbrev pub at_in : List ℕ → ℕ → ℕ
+at_in xs q = slice_index xs q
+
+-- step k of job j, and nothing else, stands at position q
+pub record IsStepAt (l : LayoutState) (q j k : ℕ) : Type 0 where
+  pub within : q < length l.jobs
+  pub job : slice_index l.jobs q ≡ j
+  pub step : slice_index l.steps q ≡ k
+
+-- each step of a job has a position below n
+pub record IsIndexed (l : LayoutState) (n : ℕ) : Type 0 where
+  pub jobs : length l.jobs ≡ n
+  pub steps : length l.steps ≡ n
+  pub step : (j k : ℕ) → k < steps_of l j → IsStepAt l (place l j k) j k
+
+-- a step stands at position q
+pub record IsPlace (l : LayoutState) (q : ℕ) : Type 0 where
+  pub job : slice_index l.jobs q < length l.places
+  pub step : slice_index l.steps q < steps_of l (slice_index l.jobs q)
+  pub is : place l (slice_index l.jobs q) (slice_index l.steps q) ≡ q
+
+abbrev pub AreInRouteOrder : LayoutState → (ℕ → ℕ) → Type 0
+AreInRouteOrder l heads = (j k : ℕ) → k + 1 < steps_of l j → 0 < heads (place l j k)
+    → heads (place l j k) + slice_index l.times (place l j k) ≤ heads (place l j (k + 1))
+
+pub record IsRaised (l : LayoutState) (among : ℕ → Type 0) (e : ℕ) (old new : ℕ → ℕ) : Type 0 where
+  pub rises : (q : ℕ) → old q ≤ new q
+  pub rests : (q : ℕ) → old q ≡ 0 → new q ≡ 0
+  pub order : AreInRouteOrder l new
+  pub reach : (q : ℕ) → among q → 0 < old q → e ≤ new q
+
+pub record IsLeastRaise (l : LayoutState) (among : ℕ → Type 0) (e : ℕ) (old new : List ℕ) : Type 0 where
+  pub positions : length new ≡ length old
+  pub raised : IsRaised l among e (at_in old) (at_in new)
+  pub least : (other : ℕ → ℕ) → IsRaised l among e (at_in old) other → (q : ℕ) → slice_index new q ≤ other q
+
+-- some raise fits into lanes
+pub record IsRaisable (greatest : ℕ) (l : LayoutState) (rows : Rows) (among : ℕ → Type 0) (e : ℕ) : Type 0 where
+  pub indexed : IsIndexed l (length rows.heads)
+  pub times : rows.times ≡ l.times
+  pub places : (q : ℕ) → 0 < slice_index rows.heads q → IsPlace l q
+  pub order : AreInRouteOrder l (at_in rows.heads)
+  pub other : ℕ → ℕ
+  pub raised : IsRaised l among e (at_in rows.heads) other
+  pub fits : (q : ℕ) → 0 < other q → other q + slice_index l.times q ≤ greatest
+  pub computable : greatest < 2 ^ 64
+
+pub record Raises (greatest : ℕ) (l : LayoutState) (among : ℕ → Type 0) (e : ℕ) (old new : Rows)
+    (before after : NotesState) : Type 0 where
+  pub raised : IsLeastRaise l among e old.heads new.heads
+  pub times : new.times ≡ old.times
+  pub tails : new.tails ≡ old.tails
+  pub ends : new.ends ≡ old.ends
+  pub noted : LeadsBack greatest before after old.heads new.heads
+
+-- one head was replaced, and noted
+pub record Replaces (greatest position head : ℕ) (old new : Rows) (before after : NotesState) : Type 0 where
+  pub rows : new ≡ with_head old position head
+  pub noted : LeadsBack greatest before after old.heads new.heads
+
+-- one position, and those of some blocks
+abbrev pub IsPosition : ℕ → ℕ → Type 0
+IsPosition p q = q ≡ p
+
+abbrev pub IsInBlocks : ℕ → ℕ → ℕ → Type 0
+IsInBlocks from to q = (8 * from ≤ q) × (q < 8 * to)
+
+abbrev pub IsOnMachine : LayoutState → ℕ → ℕ → Type 0
+IsOnMachine l m q = IsInBlocks (slice_index l.blocks m) (slice_index l.blocks (m + 1)) q
+
+-- the blocks of machine m are among the first n positions
+pub record HasBlocks (l : LayoutState) (n m : ℕ) : Type 0 where
+  pub small : m < 2 ^ 32
+  pub known : m + 1 < length l.blocks
+  pub ordered : slice_index l.blocks m ≤ slice_index l.blocks (m + 1)
+  pub within : 8 * slice_index l.blocks (m + 1) ≤ n

@@ -1,0 +1,97 @@
+// Heads by position are raised once an operation is placed.
+ghost use Rattle.std.specs.Prelude.{◌+◌, ◌*◌, ◌≤◌, ◌<◌, length, slice_index};
+ghost use Rattle.shop_bound.specs.inner.Raises.{HasBlocks, IsInBlocks, IsPosition, IsRaisable, Raises};
+ghost use Rattle.shop_bound.specs.inner.Raises.{Replaces, IsOnMachine};
+
+use crate::layouts::Layout;
+use crate::notes::Notes;
+use shop_lanes::Lanes;
+
+/// Replaces the head at a position, and notes what it was.
+#[inline(always)]
+pub(crate) fn replace<L: Lanes>(lanes: &mut L, notes: &mut Notes, position: usize, head: u64)
+    requires within { position < length (L.rows lanes.old).heads }
+    requires fits { head ≤ L.GREATEST }
+    requires fits_now { slice_index (L.rows lanes.old).heads position ≤ L.GREATEST }
+    ensures { Replaces L.GREATEST position head (L.rows lanes.old) (L.rows lanes.new) notes.old notes.new }
+{
+    notes.add(position, lanes.head(position));
+    lanes.set_head(position, head);
+}
+
+/// Raises the head of what waits at a position to `end`, and those of its route behind it that are too small then.
+#[inline(always)]
+fn raise_from<L: Lanes>(
+    lanes: &mut L,
+    notes: &mut Notes,
+    layout: &Layout,
+    position: usize,
+    end: u64,
+)
+    requires waits { 0 < slice_index (L.rows lanes.old).heads position }
+    requires below { slice_index (L.rows lanes.old).heads position ≤ end }
+    requires raisable { IsRaisable L.GREATEST layout.now (L.rows lanes.old) (IsPosition position) end }
+    ensures { Raises L.GREATEST layout.now (IsPosition position) end (L.rows lanes.old) (L.rows lanes.new) notes.old notes.new }
+{
+    replace(lanes, notes, position, end);
+    let mut ready = end + lanes.time(position);
+    let route = layout.places(layout.job(position));
+    for step in layout.step(position) + 1..route.len() {
+        let next = route[step] as usize;
+        if lanes.head(next) >= ready {
+            return;
+        }
+        replace(lanes, notes, next, ready);
+        ready += lanes.time(next);
+    }
+}
+
+/// Raises the heads of what waits in at most eight blocks below `end`.
+#[inline(always)]
+fn raise_blocks<L: Lanes>(
+    lanes: &mut L,
+    notes: &mut Notes,
+    layout: &Layout,
+    from: usize,
+    to: usize,
+    end: u64,
+)
+    requires few { to ≤ from + 8 }
+    requires ordered { from ≤ to }
+    requires within { 8 * to ≤ length (L.rows lanes.old).heads }
+    requires fits { end ≤ L.GREATEST }
+    requires raisable { IsRaisable L.GREATEST layout.now (L.rows lanes.old) (IsInBlocks from to) end }
+    ensures { Raises L.GREATEST layout.now (IsInBlocks from to) end (L.rows lanes.old) (L.rows lanes.new) notes.old notes.new }
+{
+    let mut below = lanes.below(from, to, end);
+    while let Some(position) = below.pop_first() {
+        if lanes.head(position) < end {
+            raise_from(lanes, notes, layout, position, end);
+        }
+    }
+}
+
+/// Raises the heads of what waits on a machine below `end`, one more than the end of what was placed there, and those of
+/// the routes behind as far as they are too small then.
+#[inline(always)]
+pub(crate) fn raise<L: Lanes>(
+    lanes: &mut L,
+    notes: &mut Notes,
+    layout: &Layout,
+    machine: usize,
+    end: u64,
+)
+    requires machine { HasBlocks layout.now (length (L.rows lanes.old).heads) machine }
+    requires fits { end ≤ L.GREATEST }
+    requires raisable { IsRaisable L.GREATEST layout.now (L.rows lanes.old) (IsOnMachine layout.now machine) end }
+    ensures { Raises L.GREATEST layout.now (IsOnMachine layout.now machine) end (L.rows lanes.old) (L.rows lanes.new) notes.old
+        notes.new }
+{
+    let behind = layout.block(machine + 1);
+    let mut from = layout.block(machine);
+    while from < behind {
+        let to = from + (behind - from).min(8);
+        raise_blocks(lanes, notes, layout, from, to, end);
+        from = to;
+    }
+}
