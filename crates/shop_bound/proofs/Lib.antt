@@ -56,3 +56,4 @@ pub mod ChildBounds
 pub mod LatestEnds
 pub mod MachineLanes
 pub mod ChildExits
+pub mod LaneBoundTurns

@@ -14,3 +14,4 @@ pub mod NextSteps
 pub mod TakingBack
 pub mod StandingBounds
 pub mod HeadLimits
+pub mod LaneBounds

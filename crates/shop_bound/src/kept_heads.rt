@@ -30,7 +30,7 @@ pub(crate) const NO_RAISE: Raise = Raise {
 
 impl Raise {
     /// With one more head that changed.
-    fn with(self, before: u64, after: u64) -> Raise
+    pub(crate) fn with(self, before: u64, after: u64) -> Raise
         ensures { result ≡ widened self before after }
     {
         Raise {

@@ -4,6 +4,7 @@
 mod desks;
 mod head_rows;
 mod kept_heads;
+mod lane_bounds;
 mod laws;
 mod layings;
 mod layouts;

@@ -1,0 +1,163 @@
+-- One more turn of the loops that bound by lanes.
+use Rattle.std.proofs.Common.{◌≡◌, ℕ, zero, suc, ◌+◌, ◌-◌, ◌*◌, ◌≤◌, ◌<◌, ◌⊎◌, inl, inr, Bool, false, List, []}
+use Rattle.std.proofs.Common.{◌∷◌, length, get_or, set, drop, refl, sym, ◌∙◌, ap, subst, arith}
+use Rattle.std.proofs.lemmas.Bool.{cases_Bool, cases_eq, cases_lt}
+use Rattle.std.proofs.lemmas.Bool.Decides.{nat_tests}
+use Rattle.std.proofs.lemmas.List.{get_or-set_same, get_or-set_other, length-set, get_or_default, get_or-take, get_or-drop}
+use Rattle.shop_lanes.specs.Rows.{Rows, Lane, blocks}
+use Rattle.shop_lanes.specs.Spans.{spans_from, spans_between}
+use Rattle.shop_lanes.specs.Marks.{marked, waits_below}
+use Rattle.shop_lanes.proofs.LaneLists.{length-blocks}
+use Rattle.shop_lanes.proofs.SpanTurns.{spans_low, spans_high}
+use Rattle.shop_bound.specs.inner.KeptHeads.{no_raise, raise_of, widened}
+use Rattle.shop_bound.specs.inner.LaneBounds.{lanes_on, NoneBelow, AreMachinesAt, AreRaisesUpTo, IsNoteWithin}
+use Rattle.shop_bound.specs.inner.Layouts.{LayoutState, first_of}
+use Rattle.shop_bound.specs.declared.kept_heads.Raise.{Raise}
+use Rattle.shop_bound.specs.declared.notes.Note.{Note}
+
+-- where no position is marked, no number passes the test
+none_marked : (p : ℕ → Bool) (at : ℕ) (xs : List ℕ) → marked p at xs ≡ [] → (i : ℕ) → i < length xs
+    → p (get_or xs i 0) ≡ false
+none_marked p at [] none i here = absurd (omega arith)
+none_marked p at (x ∷ xs) none zero here = elim (cases_Bool (p x)) [
+  | inl e ↦ absurd (let a = rw e at none in cc)
+  | inr e ↦ e
+]
+none_marked p at (x ∷ xs) none (suc i) here = elim (cases_Bool (p x)) [
+  | inl e ↦ absurd (let a = rw e at none in cc)
+  | inr e ↦ none_marked p (at + 1) xs (rw e at none) i (omega arith)
+]
+
+not_below : (limit x : ℕ) → waits_below limit x ≡ false → (x ≡ 0) ⊎ (limit ≤ x)
+not_below limit x e = elim (cases_lt 0 x) [
+  | inl some ↦ elim (cases_lt x limit) [
+    | inl low ↦ absurd (grind (arith, nat_tests))
+    | inr high ↦ inr high
+  ]
+  | inr nil ↦ inl (omega arith)
+]
+
+pub none_turn : (heads : List ℕ) (from first next limit : ℕ) → NoneBelow heads from first limit
+    → marked (waits_below limit) (8 * first) (blocks first next heads) ≡ [] → first ≤ next → 8 * next ≤ length heads
+    → NoneBelow heads from next limit
+none_turn heads from first next limit before none order within q low high = elim (cases_lt q (8 * first)) [
+  | inl past ↦ before q low past
+  | inr here ↦ (let i = q - 8 * first
+      in let long = length-blocks first next heads within
+      in let a = none_marked (waits_below limit) (8 * first) (blocks first next heads) none i (omega arith)
+      in let e : get_or (blocks first next heads) i 0 ≡ get_or heads q 0 =
+      get_or-take (8 * next - 8 * first) (drop_of (8 * first)) i 0 (omega arith)
+      ∙ get_or-drop (8 * first) heads i 0 ∙ ap (λ (n : ℕ). get_or heads n 0) (omega arith)
+      in not_below limit (get_or heads q 0) (ap (waits_below limit) (sym e) ∙ a))
+] where
+  drop_of : ℕ → List ℕ
+  drop_of n = drop n heads
+
+-- nothing begins between where nothing is between
+pub spans-none : (above upto : ℕ) (all xs : List Lane) → upto ≤ above → spans_from above upto all xs ≡ 0
+spans-none above upto all [] h = refl
+spans-none above upto all (x ∷ xs) h =
+    let rest = spans-none above upto all xs h
+    in elim (cases_lt above x.head) [
+      | inl a ↦ (let c = spans_high above upto all x xs (omega arith) in omega arith)
+      | inr a ↦ (let c = spans_low above upto all x xs a in omega arith)
+    ]
+
+-- a raise that was widened, and the others
+module _ (raises : List Raise) (m a b : ℕ) (known : m < length raises) (after : List Raise)
+    (is : after ≡ set raises m (widened (raise_of raises m) a b)) where
+  raise_here : (i : ℕ) → i ≡ m → raise_of after i ≡ widened (raise_of raises m) a b
+  raise_here i e = ap (λ (rs : List Raise). get_or rs i no_raise) is
+      ∙ (ap (λ (n : ℕ). get_or (set raises m (widened (raise_of raises m) a b)) n no_raise) e
+      ∙ get_or-set_same raises m (widened (raise_of raises m) a b) no_raise known)
+
+  raise_other : (i : ℕ) → (i ≡ m → ⊥) → raise_of after i ≡ raise_of raises i
+  raise_other i ne = ap (λ (rs : List Raise). get_or rs i no_raise) is
+      ∙ get_or-set_other raises m i (widened (raise_of raises m) a b) no_raise ne
+
+  raise_from : (i : ℕ) → (raise_of after i).from ≤ (raise_of raises i).from
+  raise_from i = elim (cases_eq i m) [
+    | inl e ↦ (let f = ap (λ (r : Raise). r.from) (raise_here i e)
+        in let g : (raise_of raises i).from ≡ (raise_of raises m).from =
+        ap (λ (n : ℕ). (raise_of raises n).from) e in omega arith)
+    | inr ne ↦ (let f = ap (λ (r : Raise). r.from) (raise_other i ne) in omega arith)
+  ]
+
+  raise_to : (i : ℕ) → (raise_of raises i).to ≤ (raise_of after i).to
+  raise_to i = elim (cases_eq i m) [
+    | inl e ↦ (let f = ap (λ (r : Raise). r.to) (raise_here i e)
+        in let g : (raise_of raises i).to ≡ (raise_of raises m).to =
+        ap (λ (n : ℕ). (raise_of raises n).to) e in omega arith)
+    | inr ne ↦ (let f = ap (λ (r : Raise). r.to) (raise_other i ne) in omega arith)
+  ]
+
+  -- what was within the raises is, and one more note
+  module _ (ms heads : List ℕ) (notes : List Note) (k : ℕ) (d : Note) (at : m ≡ get_or ms (get_or notes k d).position 0)
+      (before : a ≡ (get_or notes k d).head) (now : b ≡ get_or heads (get_or notes k d).position 0)
+      (here : k < length notes) where
+    pub within_turn : ((i : ℕ) (e : Note) → i < k → IsNoteWithin raises ms heads (get_or notes i e)) → (i : ℕ) (e : Note)
+        → i < k + 1 → IsNoteWithin after ms heads (get_or notes i e)
+    within_turn within i e below = elim (cases_eq i k) [
+      | inl same ↦ subst (IsNoteWithin after ms heads) (sym (ap (λ (n : ℕ). get_or notes n e) same
+          ∙ get_or_default notes k e d here)) (let f = ap (λ (r : Raise). r.from) (raise_here _ (sym at))
+          in let t = ap (λ (r : Raise). r.to) (raise_here _ (sym at))
+          in record { from = omega arith; to = omega arith })
+      | inr ne ↦ (let w = within i e (omega arith)
+          in let f = raise_from (get_or ms (get_or notes i e).position 0)
+          in let t = raise_to (get_or ms (get_or notes i e).position 0)
+          in let x = w.from in let y = w.to in record { from = omega arith; to = omega arith })
+    ]
+
+  pub up_to_turn : (top : ℕ) → b ≤ top → AreRaisesUpTo top raises → AreRaisesUpTo top after
+  up_to_turn top small up_to i within =
+      let long : length after ≡ length raises =
+      ap (λ (rs : List Raise). length rs) is ∙ length-set raises m (widened (raise_of raises m) a b)
+      in elim (cases_eq i m) [
+        | inl e ↦ (let f = ap (λ (r : Raise). r.to) (raise_here i e) in let u = up_to m known in omega arith)
+        | inr ne ↦ (let f = ap (λ (r : Raise). r.to) (raise_other i ne) in let u = up_to i (omega arith) in omega arith)
+      ]
+
+-- one more machine looked at for its raise
+pub covers_turn : (raises : List Raise) (rows : Rows) (l : LayoutState) (n old new : ℕ) → old ≤ new
+    → ((m : ℕ) → m < n → spans_between (raise_of raises m).from (raise_of raises m).to (lanes_on rows l m) ≤ old + 1)
+    → spans_between (raise_of raises n).from (raise_of raises n).to (lanes_on rows l n) ≤ new + 1 → (m : ℕ) → m < n + 1
+    → spans_between (raise_of raises m).from (raise_of raises m).to (lanes_on rows l m) ≤ new + 1
+covers_turn raises rows l n old new rises before here m below = elim (cases_eq m n) [
+  | inl e ↦ rw e here
+  | inr ne ↦ (let a = before m (omega arith) in omega arith)
+]
+
+-- the positions of one more machine
+pub machines_turn : (l : LayoutState) (n : ℕ) (old new : List ℕ) (to : ℕ) → AreMachinesAt l n old
+    → to ≡ get_or l.blocks (n + 1) 0 → get_or l.blocks n 0 ≤ get_or l.blocks (n + 1) 0
+    → ((m : ℕ) → m < n → get_or l.blocks m 0 ≤ get_or l.blocks (m + 1) 0)
+    → length new ≡ 8 * to
+    → ((k d : ℕ) → k < 8 * to → k < length old → get_or new k d ≡ get_or old k d)
+    → ((k d : ℕ) → length old ≤ k → k < 8 * to → get_or new k d ≡ n)
+    → AreMachinesAt l (n + 1) new
+machines_turn l n old new to before is order orders long front behind =
+    let positions = before.positions
+    in record {
+      positions = omega arith;
+      known = λ q here. elim (cases_lt q (length old)) [
+        | inl a ↦ (let e = front q 0 (omega arith) a in let k = before.known q a in omega arith)
+        | inr a ↦ (let e = behind q 0 a (omega arith) in omega arith)
+      ];
+      at = λ m q known low high. elim (cases_eq m n) [
+        | inl e ↦ (let f : first_of l m ≡ first_of l n = ap (first_of l) e
+            in let g : first_of l (m + 1) ≡ first_of l (n + 1) = ap (λ (x : ℕ). first_of l (x + 1)) e
+            in let b = behind q 0 (omega arith) (omega arith) in omega arith)
+        | inr ne ↦ (let within = rises (m + 1) (n - (m + 1)) n (omega arith) (omega arith)
+            in let e = front q 0 (omega arith) (omega arith)
+            in let b = before.at m q (omega arith) low high in omega arith)
+      ];
+    }
+  where
+    rises : (a d b : ℕ) → a + d ≡ b → b ≤ n → get_or l.blocks a 0 ≤ get_or l.blocks b 0
+    rises a zero b e within =
+        let f : get_or l.blocks b 0 ≡ get_or l.blocks a 0 = ap (λ (x : ℕ). get_or l.blocks x 0) (omega arith) in omega arith
+    rises a (suc d) b e within =
+        let x = rises a d (a + d) refl (omega arith)
+        in let y = orders (a + d) (omega arith)
+        in let f : get_or l.blocks b 0 ≡ get_or l.blocks (a + d + 1) 0 =
+        ap (λ (z : ℕ). get_or l.blocks z 0) (omega arith) in omega arith

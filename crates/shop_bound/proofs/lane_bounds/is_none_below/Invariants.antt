@@ -1,0 +1,13 @@
+use Rattle.std.proofs.Common.{◌-◌, ◌≤◌}
+use Rattle.shop_bound.specs.inner.LaneBounds.{NoneBelow}
+use Rattle.shop_bound.proofs.lane_bounds.is_none_below.Given as goal
+
+abbrev pub invariant-loop-first : goal.invariant-loop-first
+invariant-loop-first g l = record {
+  from : l.from ≤ l.first;
+  to : l.first ≤ l.to;
+  none : NoneBelow (g.L.Lanes.rows l.lanes).heads l.from l.first l.limit;
+}
+
+abbrev pub decreases-loop-first : goal.decreases-loop-first
+decreases-loop-first g l = l.to - l.first

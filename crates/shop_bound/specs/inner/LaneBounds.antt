@@ -1,0 +1,43 @@
+-- Bounds by heads in lanes.
+--     lanes_on rows l m              the lanes of machine m
+--     AreSpansFit greatest top ..    each machine has its blocks, and a span from `top` on at the latest fits
+--     NoneBelow heads from to limit  nothing waits in these blocks with a head below the limit
+--     AreMachinesAt l machines ms    the machine of each position
+--     AreNoted raises machines ..    each note is within its machine's raise
+use Rattle.std.specs.Prelude.{◌≡◌, ℕ, ◌+◌, ◌-◌, ◌*◌, ◌≤◌, ◌<◌, ◌⊎◌, max, List, length, slice_index}
+use Rattle.shop_lanes.specs.Rows.{Rows, Lane, AreBlocks, lanes_between}
+use Rattle.shop_lanes.specs.Spans.{spans_between, FitsSpan}
+use Rattle.shop_bound.specs.inner.KeptHeads.{raise_of}
+use Rattle.shop_bound.specs.inner.Layouts.{LayoutState, first_of}
+use Rattle.shop_bound.specs.declared.kept_heads.Raise.{Raise}
+use Rattle.shop_bound.specs.declared.notes.Note.{Note}
+
+abbrev pub lanes_on : Rows → LayoutState → ℕ → List Lane
+lanes_on rows l m = lanes_between rows (slice_index l.blocks m) (slice_index l.blocks (m + 1))
+
+pub record AreSpansFit (greatest top machines : ℕ) (l : LayoutState) (rows : Rows) : Type 0 where
+  pub known : length l.blocks ≡ machines + 1
+  pub blocks : (m : ℕ) → m < machines → AreBlocks rows (slice_index l.blocks m) (slice_index l.blocks (m + 1))
+  pub fits : (m : ℕ) → m < machines → FitsSpan greatest top (lanes_on rows l m)
+
+abbrev pub NoneBelow : List ℕ → ℕ → ℕ → ℕ → Type 0
+NoneBelow heads from to limit = (q : ℕ) → 8 * from ≤ q → q < 8 * to
+    → (slice_index heads q ≡ 0) ⊎ (limit ≤ slice_index heads q)
+
+-- of a machine, when it is free or, if that is greater, the greatest span
+abbrev pub part_by_spans : ℕ → List ℕ → Rows → LayoutState → ℕ → ℕ
+part_by_spans top free rows l m = max (slice_index free m) (spans_between 0 top (lanes_on rows l m) - 1)
+
+pub record AreMachinesAt (l : LayoutState) (machines : ℕ) (ms : List ℕ) : Type 0 where
+  pub positions : length ms ≡ first_of l machines
+  pub known : (q : ℕ) → q < length ms → slice_index ms q < machines
+  pub at : (m q : ℕ) → m < machines → first_of l m ≤ q → q < first_of l (m + 1) → slice_index ms q ≡ m
+
+-- what stood before and what stands now at its position is within the raise of its machine
+pub record IsNoteWithin (raises : List Raise) (ms heads : List ℕ) (note : Note) : Type 0 where
+  pub from : (raise_of raises (slice_index ms note.position)).from ≤ note.head
+  pub to : slice_index heads note.position ≤ (raise_of raises (slice_index ms note.position)).to
+
+-- no raise goes beyond
+abbrev pub AreRaisesUpTo : ℕ → List Raise → Type 0
+AreRaisesUpTo top raises = (m : ℕ) → m < length raises → (raise_of raises m).to ≤ top

@@ -1,0 +1,120 @@
+// Bounds by heads in lanes.
+ghost use Rattle.std.specs.Prelude.{◌≡◌, ℕ, ◌+◌, ◌-◌, ◌*◌, ◌≤◌, ◌<◌, ◌^◌, All, IfOk, length, slice_index, true, max};
+ghost use Rattle.shop_lanes.specs.Rows.{AreBlocks};
+ghost use Rattle.shop_lanes.specs.Spans.{FitsSpan, span, spans_between};
+ghost use Rattle.shop_model.specs.Shop.{greatest_below};
+ghost use Rattle.shop_bound.specs.inner.KeptHeads.{raise_of};
+ghost use Rattle.shop_bound.specs.inner.LaneBounds.{AreMachinesAt, AreRaisesUpTo, AreSpansFit, IsNoteWithin};
+ghost use Rattle.shop_bound.specs.inner.LaneBounds.{NoneBelow, lanes_on, part_by_spans};
+
+use crate::kept_heads::Raise;
+use crate::layouts::Layout;
+use crate::notes::Note;
+use shop_lanes::Lanes;
+use std::alloc::{AllocError, Global};
+
+/// Whether nothing waits in these blocks with a head below the limit.
+#[inline(always)]
+pub(crate) fn is_none_below<L: Lanes>(lanes: &L, from: usize, to: usize, limit: u64) -> bool
+    requires blocks { AreBlocks (L.rows lanes.now) from to }
+    requires fits { limit ≤ L.GREATEST }
+    ensures { result ≡ true → NoneBelow (L.rows lanes.now).heads from to limit }
+{
+    let mut first = from;
+    while first < to {
+        let next = if to - first > 8 { first + 8 } else { to };
+        if !lanes.below(first, next, limit).is_empty() {
+            return false;
+        }
+        first = next;
+    }
+    true
+}
+
+/// The greatest, over the machines, of when it is free and of the bound of what waits for it. `top` is one more than
+/// the latest end.
+pub(crate) fn bound_of_machines<L: Lanes>(lanes: &L, layout: &Layout, free: &[u64], top: u64) -> u64
+    requires fits { AreSpansFit L.GREATEST top (length free.now) layout.now (L.rows lanes.now) }
+    ensures { result ≡ greatest_below (length free.now) (part_by_spans top free.now (L.rows lanes.now) layout.now) }
+{
+    let mut bound = 0;
+    for machine in 0..free.len() {
+        let (from, to) = (layout.block(machine), layout.block(machine + 1));
+        let left = lanes.spans_between(from, to, 0, top, 0).saturating_sub(1);
+        bound = bound.max(free[machine].max(left));
+    }
+    bound
+}
+
+/// The greater of a number and of what begins within the raise of each machine; or as much of it as reaches the limit.
+#[inline(always)]
+pub(crate) fn bound_by_raises<L: Lanes>(
+    lanes: &L,
+    layout: &Layout,
+    raises: &[Raise],
+    top: u64,
+    least: u64,
+    limit: u64,
+) -> u64
+    requires fits { AreSpansFit L.GREATEST top (length raises.now) layout.now (L.rows lanes.now) }
+    requires up_to { AreRaisesUpTo top raises.now }
+    ensures least { least ≤ result }
+    ensures covers { result < limit → (m : ℕ) → m < length raises.now
+        → spans_between (raise_of raises.now m).from (raise_of raises.now m).to (lanes_on (L.rows lanes.now) layout.now m)
+        ≤ result + 1 }
+    ensures within { (c : ℕ) → least ≤ c → ((m above upto : ℕ) → m < length raises.now
+        → spans_between above upto (lanes_on (L.rows lanes.now) layout.now m) ≤ c + 1) → result ≤ c }
+{
+    let mut bound = least;
+    for machine in 0..raises.len() {
+        if limit <= bound {
+            return bound;
+        }
+        let raise = raises[machine];
+        if raise.from < raise.to {
+            let (from, to) = (layout.block(machine), layout.block(machine + 1));
+            let left = lanes.spans_between(from, to, raise.from, raise.to, 0);
+            bound = bound.max(left.saturating_sub(1));
+        }
+    }
+    bound
+}
+
+/// Widens the raises of the machines by what was noted and what stands at these positions now.
+#[inline(always)]
+pub(crate) fn widen<L: Lanes>(raises: &mut [Raise], machines: &[u32], lanes: &L, notes: &[Note])
+    requires notes { All (λ n. n.position < length (L.rows lanes.now).heads) notes.now }
+    requires positions { length machines.now ≡ length (L.rows lanes.now).heads }
+    requires known { (q : ℕ) → q < length machines.now → slice_index machines.now q < length raises.old }
+    ensures long { length raises.new ≡ length raises.old }
+    ensures within { All (IsNoteWithin raises.new machines.now (L.rows lanes.now).heads) notes.now }
+    ensures up_to { (top : ℕ) → ((q : ℕ) → slice_index (L.rows lanes.now).heads q ≤ top)
+        → AreRaisesUpTo top raises.old → AreRaisesUpTo top raises.new }
+{
+    for note in notes {
+        let position = note.position as usize;
+        let machine = machines[position] as usize;
+        raises[machine] = raises[machine].with(note.head, lanes.head(position));
+    }
+}
+
+/// The machine of each position. Fails with `AllocError` if memory runs out.
+pub(crate) fn machines_of(
+    alloc: Global,
+    layout: &Layout,
+    machines: usize,
+) -> Result<Vec<u32>, AllocError>
+    requires known { length layout.now.blocks ≡ machines + 1 }
+    requires few { machines < 2 ^ 32 }
+    requires from_0 { slice_index layout.now.blocks 0 ≡ 0 }
+    requires ordered { (m : ℕ) → m < machines
+        → slice_index layout.now.blocks m ≤ slice_index layout.now.blocks (m + 1) }
+    requires small { (m : ℕ) → m ≤ machines → 8 * slice_index layout.now.blocks m < 2 ^ 32 }
+    ensures { IfOk result (λ v. AreMachinesAt layout.now machines v.items) }
+{
+    let mut positions = Vec::new(alloc);
+    for machine in 0..machines {
+        positions.resize(8 * layout.block(machine + 1), machine as u32)?;
+    }
+    Ok(positions)
+}
