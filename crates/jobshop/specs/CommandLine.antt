@@ -132,7 +132,7 @@ abbrev pub MayHave : List Row → Text → Option Text → Type 0
 MayHave rows id text = first_of id rows ≡ text
 
 -- the plan has these values
-pub record IsPlanOf (rows : List Row) (plan : Plan) : Type 0 where
+pub record HasPlan (rows : List Row) (plan : Plan) : Type 0 where
   pub rounds : HasNumber rows (codes "rounds") plan.rounds
   pub budget : HasNumber rows (codes "budget") plan.budget
   pub piece : HasNumber rows (codes "piece") plan.piece
@@ -151,7 +151,7 @@ IsArgs name rows (CheckTable args file schedule) =
 IsArgs name rows (SolveInstance args workers file) =
     (name ≡ codes "solve") × HasText rows (codes "format") (word_of args.format)
     × MayHave rows (codes "name") (option_map string_bytes args.name)
-    × IsPlanOf rows args.plan
+    × HasPlan rows args.plan
     × HasNumber rows (codes "workers") workers.count
     × (1 ≤ workers.count) × (workers.count ≤ MAX_WORKERS)
     × HasFlag rows (codes "gantt") args.gantt

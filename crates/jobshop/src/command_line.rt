@@ -3,9 +3,11 @@ ghost use Rattle.std.specs.Prelude.{◌≡◌, IfOk, codes, false};
 ghost use Rattle.clap.specs.Words.{app_of, new_app};
 ghost use Rattle.clap.specs.declared.builder.command.Command.TheViews.{out-Command};
 ghost use Rattle.clap.specs.declared.builder.value_parser.ValueParser.TheVariants.{Names};
-ghost use Rattle.jobshop.specs.CommandLine.{option_rule, choice_rule, format_rule, number_rule, flag_rule, path_rule};
+ghost use Rattle.jobshop.specs.CommandLine.{option_rule, choice_rule, format_rule, number_rule};
+ghost use Rattle.jobshop.specs.CommandLine.{flag_rule, path_rule};
 ghost use Rattle.jobshop.specs.CommandLine.{IsArgOf, IsCommandOf, IsCommandLine};
-ghost use Rattle.jobshop.specs.CommandLine.{list_command, check_command, solve_command, with_plan_rules};
+ghost use Rattle.jobshop.specs.CommandLine.{list_command, check_command, solve_command};
+ghost use Rattle.jobshop.specs.CommandLine.{with_plan_rules};
 
 use crate::help::{CHECK, Help, LIST, PROGRAM, SOLVE};
 use clap::builder::ValueParser;

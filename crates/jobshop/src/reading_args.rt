@@ -1,7 +1,7 @@
 // From the words of a command line to its arguments.
 ghost use Rattle.std.specs.Prelude.{IfOk, map, codes, string_bytes};
 ghost use Rattle.clap.specs.Words.{found_of, rows_of};
-ghost use Rattle.jobshop.specs.CommandLine.{IsArgs, IsLineOf, IsPlanOf};
+ghost use Rattle.jobshop.specs.CommandLine.{IsArgs, IsLineOf, HasPlan};
 
 use crate::arguments::{Args, Workers};
 use crate::command_line::command;
@@ -42,7 +42,7 @@ fn check_args(alloc: Global, found: &ArgMatches) -> Result<Args, LineFault>
 
 /// The plan of `solve`.
 fn plan_in(alloc: Global, found: &ArgMatches) -> Result<Plan, LineFault>
-    ensures { IfOk result (IsPlanOf (rows_of (found_of found.now))) }
+    ensures { IfOk result (HasPlan (rows_of (found_of found.now))) }
 {
     let rounds = number_in(alloc, found, "rounds")?;
     let budget = number_in(alloc, found, "budget")?;

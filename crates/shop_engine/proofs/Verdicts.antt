@@ -1,5 +1,5 @@
 -- What the steps of `check_text` say of its answer.
-use Rattle.std.proofs.Common.{◌≡◌, ℕ, ◌⊎◌, inl, inr, List, Option, Some, None, Result, Ok, Err, Bool}
+use Rattle.std.proofs.Common.{◌≡◌, ℕ, ◌≤◌, length, ◌⊎◌, inl, inr, List, Option, Some, None, Result, Ok, Err, Bool}
 use Rattle.std.proofs.Common.{refl, sym, ◌∙◌, subst}
 use Rattle.std.specs.Result.{IsErrAnd}
 use Rattle.shop_text.specs.Schedules.{IsTableRead, IsTableFault}
@@ -30,8 +30,16 @@ pub unread_after : (args : CheckArgs) {s s' : Device} {text : List ℕ} {asked :
     → IsChecking args s s' t t' k k (Err e)
 unread_after args None t' k read is_asked e h = absurd h
 unread_after args (Some old) None k read is_asked e h = absurd h
-unread_after args {text = text} {asked = asked} (Some old) (Some new) k read is_asked (Text fault.NoMemory) h =
-    (inr (record { text = text; read = read; asked = asked; is_asked = is_asked; after = record { worked = h.0; once = inl h.1 } }), refl)
+unread_after args {text = text} {asked = asked} (Some old) (Some new) k read is_asked (Text fault.NoMemory) h = (
+  inr (record {
+    text = text;
+    read = read;
+    asked = asked;
+    is_asked = is_asked;
+    after = record { worked = h.0; once = inl h.1 };
+  }),
+  refl,
+)
 unread_after args {text = text} {asked = asked} (Some old) (Some new) k read is_asked (Text fault.TooLong) h =
     (inr (record { text = text; read = read; asked = asked; is_asked = is_asked; after = inl h }), refl)
 unread_after args (Some old) (Some new) k read is_asked (Text fault.NoInstance) h = absurd h
@@ -73,7 +81,8 @@ refused_after args t t' k (fault.BadTable n) worked p = (inr p, refl)
 -- the schedule is faulty, or memory ran out
 pub faulty_after : (args : CheckArgs) {s s' : Device} {text schedule judged : List ℕ}
     {asked : NamedShop} (t t' : Second) (k : Device)
-    → IsReadToEnd s s' text → IsAsked args.format (name_in args.name) text asked → IsScheduleRead text t t' schedule → judged ≡ schedule
+    → IsReadToEnd s s' text → IsAsked args.format (name_in args.name) text asked
+    → IsScheduleRead text t t' schedule → judged ≡ schedule
     → (e : ReadFault) → (e ≡ fault.NoMemory) ⊎ IsTableFault asked.shop judged e
     → IsChecking args s s' t t' k k (Err (Text e))
 faulty_after args {text = text} {schedule = schedule} {asked = asked} t t' k read is_asked had same e (inl memory) =
@@ -103,7 +112,8 @@ faulty_after args {text = text} {schedule = schedule} {asked = asked} t t' k rea
 -- a line stands, and is still to be written
 pub judged_before : {args : CheckArgs} {s s' : Device} {text schedule judged line : List ℕ}
     {asked : NamedShop} {feasible : Bool} (t t' : Second)
-    → IsReadToEnd s s' text → IsAsked args.format (name_in args.name) text asked → IsScheduleRead text t t' schedule → judged ≡ schedule
+    → IsReadToEnd s s' text → IsAsked args.format (name_in args.name) text asked
+    → IsScheduleRead text t t' schedule → judged ≡ schedule
     → IsVerdictOn asked.shop judged feasible line → Checks args s s' t t' feasible (λ out. out ≡ line)
 judged_before {text = text} {schedule = schedule} {line = line} {asked = asked} {feasible = feasible} t t' read is_asked
     had same judges = record {
@@ -168,20 +178,20 @@ table_fault shop schedule fault.NoSuchName (inr h) = absurd h
 table_fault shop schedule (fault.BadTable n) (inr h) = inr h
 
 pub or_no_memory : (IsBad : List ℕ → ReadFault → Type 0) (text : List ℕ) (e : ReadFault)
-    → (e ≡ fault.NoMemory) ⊎ IsBad text e → OrNoMemory IsBad text e
-or_no_memory IsBad text e (inl memory) =
-    subst (λ (x : ReadFault). OrNoMemory IsBad text x) (sym memory) tt
-or_no_memory IsBad text fault.NoMemory (inr h) = tt
-or_no_memory IsBad text fault.TooLong (inr h) = h
-or_no_memory IsBad text fault.NoInstance (inr h) = h
-or_no_memory IsBad text (fault.BadShape n) (inr h) = h
-or_no_memory IsBad text (fault.BadSize n) (inr h) = h
-or_no_memory IsBad text (fault.BadRow n) (inr h) = h
-or_no_memory IsBad text (fault.Truncated n) (inr h) = h
-or_no_memory IsBad text (fault.BadMachine n) (inr h) = h
-or_no_memory IsBad text (fault.BadTime n) (inr h) = h
-or_no_memory IsBad text fault.NoSuchName (inr h) = h
-or_no_memory IsBad text (fault.BadTable n) (inr h) = h
+    → length text ≤ 16777216 → (e ≡ fault.NoMemory) ⊎ IsBad text e → OrNoMemory IsBad text e
+or_no_memory IsBad text e short (inl memory) =
+    subst (λ (x : ReadFault). OrNoMemory IsBad text x) (sym memory) short
+or_no_memory IsBad text fault.NoMemory short (inr h) = short
+or_no_memory IsBad text fault.TooLong short (inr h) = h
+or_no_memory IsBad text fault.NoInstance short (inr h) = h
+or_no_memory IsBad text (fault.BadShape n) short (inr h) = h
+or_no_memory IsBad text (fault.BadSize n) short (inr h) = h
+or_no_memory IsBad text (fault.BadRow n) short (inr h) = h
+or_no_memory IsBad text (fault.Truncated n) short (inr h) = h
+or_no_memory IsBad text (fault.BadMachine n) short (inr h) = h
+or_no_memory IsBad text (fault.BadTime n) short (inr h) = h
+or_no_memory IsBad text fault.NoSuchName short (inr h) = h
+or_no_memory IsBad text (fault.BadTable n) short (inr h) = h
 
 -- the schedule text of a check is refused
 pub check_refused : (format : Format) (name : Option (List ℕ)) (given : Option (List ℕ)) (text schedule : List ℕ)
@@ -190,7 +200,7 @@ pub check_refused : (format : Format) (name : Option (List ℕ)) (given : Option
     → (e ≡ fault.NoMemory) ⊎ IsTableRead asked.shop schedule (Err e)
     → OrNoMemory (λ bytes. IsCheckFault format name bytes (schedule_in bytes given)) text e
 check_refused format name given text schedule asked e is_asked same h =
-    or_no_memory (λ bytes. IsCheckFault format name bytes (schedule_in bytes given)) text e
+    or_no_memory (λ bytes. IsCheckFault format name bytes (schedule_in bytes given)) text e is_asked.is_text.short
     (elim (table_fault asked.shop schedule e h) [
       | inl memory ↦ inl memory
       | inr bad ↦ inr (inr (record {

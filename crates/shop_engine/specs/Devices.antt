@@ -9,8 +9,8 @@
 --     IsCutOff old new text            a sink failed, after a beginning of the text
 --     IsTransfer Gives IsBad source source' sink sink' result      what is answered between a read
 --                                                                  and a write
-use Rattle.std.specs.Prelude.{◌≡◌, ℕ, ◌+◌, ◌<◌, ◌⊎◌, min, List, ◌++◌, length, Option, Result, Ok, Err}
-use Rattle.std.specs.Prelude.{Some, MatchResult}
+use Rattle.std.specs.Prelude.{◌≡◌, ℕ, ◌+◌, ◌<◌, ◌⊎◌, min, List, ◌++◌, length, Option, Result, Ok}
+use Rattle.std.specs.Prelude.{Err, Some, MatchResult}
 use Rattle.std.specs.Io.KnownBytes.{Consumes, Appends, IsAtEnd}
 use Rattle.shop_text.specs.declared.limits.TheConstants.{MAX_TEXT}
 use Rattle.shop_text.specs.declared.faults.ReadFault.{ReadFault}

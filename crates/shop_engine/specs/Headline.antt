@@ -104,7 +104,8 @@ abbrev pub one_round : Planned
 one_round = record { rounds = 1; budget = 100; piece = 1; order = Kept }
 
 pub crossing_report : text_with_gantt (answer_of crossing one_round) true
-    ≡ codes "instance crossing\nsize 2 2\nmakespan 7\nbound 7\nstatus optimal\nopen 0\nrounds 1\nnodes 6\n"
+    ≡ codes "instance crossing\nsize 2 2\nmakespan 7\nbound 7\n"
+    ++ codes "status optimal\nopen 0\nrounds 1\nnodes 6\n"
     ++ codes "job 0: 0 3\njob 1: 0 3\nunit 1\nmachine 0 |0001111|\nmachine 1 |11.00..|\n"
 unfolding digits
 crossing_report = refl

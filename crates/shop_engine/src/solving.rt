@@ -7,7 +7,8 @@ ghost use Rattle.shop_text.specs.Names.{shop_of_named};
 ghost use Rattle.shop_round.specs.Runs.{planned};
 ghost use Rattle.shop_engine.specs.Asking.{name_in, IsAskFault, OrNoMemory};
 ghost use Rattle.shop_engine.specs.Answers.{text_with_gantt};
-ghost use Rattle.shop_engine.specs.Headline.{IsRight, IsDetermined, IsRightOf, IsDeterminedOf, WhereKnown};
+ghost use Rattle.shop_engine.specs.Headline.{IsRight, IsDetermined, IsRightOf, IsDeterminedOf};
+ghost use Rattle.shop_engine.specs.Headline.{WhereKnown};
 ghost use Rattle.shop_engine.specs.Solving.{IsSolving};
 ghost use Rattle.shop_engine.specs.SolvedSchedules.{GivesSchedule, PassesCheck};
 ghost use Rattle.shop_engine.specs.inner.Told.{told_by};
@@ -88,8 +89,8 @@ pub fn solve_instance<R, C: Crew<R>>(
 /// The report as `solve_instance` makes it, of the instance that is asked for in a text. For those who embed the
 /// library: it reads and writes no device.
 ///
-/// What is returned, given to `check_bytes` with the same text, is found feasible and to end at the printed makespan, if
-/// it has no more than `MAX_TEXT` bytes.
+/// What is returned, given to `check_bytes` with the same text, is found feasible and to end at the printed makespan,
+/// if it has no more than `MAX_TEXT` bytes.
 /// Refused by the text's one fault, as `NoSuchName`, or as `NoMemory` if memory runs out.
 pub fn solve_bytes<R, C: Crew<R>>(
     rt: &R,

@@ -5,7 +5,8 @@ ghost use Rattle.shop_engine.specs.Devices.{Device};
 use crate::devices::{DeviceFailed, Sink, Source};
 use std::io::{Read, Write};
 
-/// A source over a reader, such as a file, standard input or a slice of bytes.
+/// A source over a reader, such as a file, standard input or a slice of bytes. Each read is one read of the reader: one
+/// that fails, even if only interrupted, is a failure and isn't tried again.
 #[derive(Drop)]
 pub struct Reading<R: Read + Drop> {
     reader: R,
@@ -49,7 +50,8 @@ impl<R: Read + Drop> Source for Reading<R> {
     }
 }
 
-/// A sink over a writer, such as a file or standard output.
+/// A sink over a writer, such as a file or standard output. Each write is one write of the writer: one that fails, or
+/// takes nothing of something, is a failure and isn't tried again.
 #[derive(Drop)]
 pub struct Writing<W: Write + Drop> {
     writer: W,

@@ -16,6 +16,8 @@ mod model;
 #[cfg(test)]
 mod rounds;
 #[cfg(test)]
+mod streams;
+#[cfg(test)]
 mod texts_cuts;
 #[cfg(test)]
 mod texts_printed;
