@@ -12,7 +12,6 @@
 #![forbid(unsafe_code)]
 
 mod bits;
-mod bounding;
 mod checking;
 mod desk;
 mod estimates;

@@ -1,7 +1,7 @@
 //! The bounds of what is dispatched, and of its children, by the lanes of a desk.
 
+use super::{Desk, Raised};
 use crate::bits::Bits;
-use crate::desk::{Desk, Raised};
 use crate::jackson::Waiting;
 use crate::lanes::{Block, LANES, Lane, Serving};
 use std::mem;
@@ -10,7 +10,7 @@ impl<T: Lane, const BLOCKS: usize> Desk<'_, T, BLOCKS> {
     /// The greatest of what stands in the lanes and of the ends, tails included, of what waits on a machine with a head
     /// of at least `from`, served by falling tail from `start` on.
     #[inline(always)]
-    pub(crate) fn span(&self, machine: usize, from: T, start: T, greatest: Block<T>) -> Block<T> {
+    pub(super) fn span(&self, machine: usize, from: T, start: T, greatest: Block<T>) -> Block<T> {
         let positions = self.layout.positions_of(machine);
         let (heads, _) = self.heads[positions.clone()].as_chunks::<LANES>();
         let (times, _) = self.layout.times[positions.clone()].as_chunks::<LANES>();
