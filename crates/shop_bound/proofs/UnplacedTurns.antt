@@ -1,7 +1,7 @@
 -- The operations that a word leaves, as a walk along the routes lists them.
 use Rattle.std.proofs.Common.{◌≡◌, ℕ, zero, suc, ◌+◌, ◌-◌, ◌≤◌, ◌<◌, max, List, [], ◌∷◌, ◌++◌, length, map}
 use Rattle.std.proofs.Common.{take, drop, get_or, refl, sym, ◌∙◌, ap, arith, append_assoc, add-one, add-zero}
-use Rattle.std.proofs.Common.{zero-add}
+use Rattle.std.proofs.Common.{zero-add, length-append}
 use Rattle.std.specs.List.{flat_map, range_with_len, sum_by}
 use Rattle.std.proofs.lemmas.List.{append-nil, take_all, drop_more, get_or-drop, length-drop, map-append}
 use Rattle.std.proofs.lemmas.Grind.{flat_map-append}
@@ -152,6 +152,39 @@ unplaced_of_job shop limits s j job free is_free ready is_ready rest e p is =
     in same ∙ (ap (λ (r : ℕ). map unplaced_of (waiting_from p.free j (p.steps j) r rest)) (is_ready ∙ is.ready j job)
     ∙ ap (λ (xs : List Op). map unplaced_of (waiting_from p.free j (p.steps j) (p.ready j) xs)) route)
 
+-- what waits of one job more
+waiting_more : (shop : Shop) (p : Placing) (j : ℕ)
+    → flat_map (λ i. waiting_of shop p i) (range_with_len 0 (j + 1))
+    ≡ flat_map (λ i. waiting_of shop p i) (range_with_len 0 j) ++ waiting_of shop p j
+waiting_more shop p j =
+    let fs = λ (i : ℕ). waiting_of shop p i
+    in ap (flat_map fs) (range_more j) ∙ (flat_map-append fs (range_with_len 0 j) (j ∷ [])
+    ∙ ap (λ (zs : List Waiting). flat_map fs (range_with_len 0 j) ++ zs) (append-nil (waiting_of shop p j)))
+
+length-waiting_from : (free : ℕ → ℕ) (j k ready : ℕ) (os : List Op)
+    → length (waiting_from free j k ready os) ≡ length os
+length-waiting_from free j k ready [] = refl
+length-waiting_from free j k ready (o ∷ os) =
+    ap suc (length-waiting_from free j (k + 1) (max ready (free o.machine) + o.time) os)
+
+-- one job more is counted
+pub job_counted : (shop : Shop) (p : Placing) (j count more steps : ℕ) (route : List Op)
+    → count ≡ length (flat_map (λ i. waiting_of shop p i) (range_with_len 0 j))
+    → route ≡ route_of shop j → steps ≡ p.steps j → more ≡ count + (length route - steps)
+    → more ≡ length (flat_map (λ i. waiting_of shop p i) (range_with_len 0 (j + 1)))
+job_counted shop p j count more steps route before is_route is_steps added =
+    let fs = λ (i : ℕ). waiting_of shop p i
+    in let rest = drop (p.steps j) (route_of shop j)
+    in let here : length (waiting_of shop p j) ≡ length rest =
+    length-waiting_from p.free j (p.steps j) (p.ready j) rest
+    in let dropped : length rest ≡ length (route_of shop j) - p.steps j = length-drop (p.steps j) (route_of shop j)
+    in let whole : length (flat_map fs (range_with_len 0 (j + 1)))
+    ≡ length (flat_map fs (range_with_len 0 j)) + length (waiting_of shop p j) =
+    ap (λ (xs : List Waiting). length xs) (waiting_more shop p j)
+    ∙ length-append (flat_map fs (range_with_len 0 j)) (waiting_of shop p j)
+    in let long : length route ≡ length (route_of shop j) = ap (λ (xs : List Op). length xs) is_route
+    in omega arith
+
 -- one job more is listed
 pub job_listed : (shop : Shop) (p : Placing) (j : ℕ) (xs ys more : List Unplaced)
     → xs ≡ map unplaced_of (flat_map (λ i. waiting_of shop p i) (range_with_len 0 j))
@@ -159,10 +192,7 @@ pub job_listed : (shop : Shop) (p : Placing) (j : ℕ) (xs ys more : List Unplac
     → ys ≡ xs ++ more → ys ≡ map unplaced_of (flat_map (λ i. waiting_of shop p i) (range_with_len 0 (j + 1)))
 job_listed shop p j xs ys more before here added =
     let fs = λ (i : ℕ). waiting_of shop p i
-    in let range : range_with_len 0 (j + 1) ≡ range_with_len 0 j ++ j ∷ [] = range_more j
-    in let listed : flat_map fs (range_with_len 0 (j + 1)) ≡ flat_map fs (range_with_len 0 j) ++ waiting_of shop p j =
-    ap (flat_map fs) range ∙ (flat_map-append fs (range_with_len 0 j) (j ∷ [])
-    ∙ ap (λ (zs : List Waiting). flat_map fs (range_with_len 0 j) ++ zs) (append-nil (waiting_of shop p j)))
+    in let listed = waiting_more shop p j
     in added ∙ (ap (λ (zs : List Unplaced). zs ++ more) before
     ∙ (ap (λ (zs : List Unplaced). map unplaced_of (flat_map fs (range_with_len 0 j)) ++ zs) here
     ∙ (sym (map-append unplaced_of (flat_map fs (range_with_len 0 j)) (waiting_of shop p j))

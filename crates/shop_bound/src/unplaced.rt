@@ -1,7 +1,7 @@
 // The operations that a word leaves, with their machines, heads, times and tails.
 ghost use Rattle.std.specs.Prelude.{◌≡◌, ◌≤◌, IfOk, OnOk, length, vec_capacity};
 ghost use Rattle.shop_bound.specs.inner.NextSteps.{IsOfWord};
-ghost use Rattle.shop_bound.specs.inner.Unplaced.{Adds, AreUnplaced, CanGoOn, triples_among};
+ghost use Rattle.shop_bound.specs.inner.Unplaced.{Adds, AreAsMany, AreUnplaced, CanGoOn, triples_among};
 
 use crate::placements::Placement;
 use crate::tail_rows::total_time;
@@ -47,6 +47,7 @@ fn add_rest(
 /// How many operations aren't placed.
 fn count_unplaced(instance: &Instance, placement: &Placement) -> usize
     requires { IsOfWord instance.now placement.now }
+    ensures { AreAsMany instance.now placement.now result }
 {
     let mut count: usize = 0;
     for j in 0..instance.jobs() {

@@ -25,6 +25,10 @@ Adds xs ys free ready rest = ys ≡ xs ++ unplaced_from free ready rest
 abbrev pub AreUnplaced : Shop → PlacementState → List Unplaced → Type 0
 AreUnplaced shop s xs = (p : Placing) → IsPlacement shop p s → xs ≡ map unplaced_of (waiting shop p)
 
+-- whatever was placed, so many operations wait
+abbrev pub AreAsMany : Shop → PlacementState → ℕ → Type 0
+AreAsMany shop s n = (p : Placing) → IsPlacement shop p s → n ≡ length (waiting shop p)
+
 -- the rest of a route is on machines that are there and takes times that can be added to all that is ready and free
 pub record CanGoOn (free : List ℕ) (ready : ℕ) (rest : List Op) : Type 0 where
   pub short : length rest ≤ 100
