@@ -1,3 +1,5 @@
+pub mod ChoosingLemmas
+pub mod PlacedLemmas
 pub mod NonincreasingTails
 pub mod RestoredNotes
 pub mod RaiseWalks

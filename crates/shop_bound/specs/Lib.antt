@@ -2,6 +2,7 @@ pub mod OneMachine
 pub mod Vectors
 pub mod Bound
 pub mod Heads
+pub mod Conflicts
 pub mod Placements
 pub mod Schedules
 pub mod Laws

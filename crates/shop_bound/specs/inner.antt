@@ -1,3 +1,5 @@
+pub mod NextOperations
+pub mod Choosing
 pub mod Layouts
 pub mod Layings
 pub mod LaneHeads

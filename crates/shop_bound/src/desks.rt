@@ -19,12 +19,12 @@ use std::marker::Model;
 /// change. Only `new` takes memory.
 #[derive(Drop)]
 pub struct Desk<'a> {
-    instance: &'a Instance,
+    pub(crate) instance: &'a Instance,
     slots: Vec<Vec<Slot>>,
-    placement: Placement,
+    pub(crate) placement: Placement,
     heads: Vec<Vec<u64>>,
     raises: Vec<Raise>,
-    jobs: Vec<usize>,
+    pub(crate) jobs: Vec<usize>,
     replaced: Vec<Replaced>,
     triples: Vec<Triple>,
 }

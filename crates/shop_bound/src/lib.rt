@@ -1,6 +1,7 @@
 // Heads, tails, one-machine bounds and lower bounds.
 #![tactic(auto)]
 
+mod conflicts;
 mod desks;
 mod head_rows;
 mod kept_heads;
@@ -9,10 +10,12 @@ mod laws;
 mod layings;
 mod layouts;
 mod lower;
+mod next_operations;
 mod nonincreasing_tails;
 mod notes;
 mod open_bounds;
 mod placements;
+mod placings;
 mod profiles;
 mod raises;
 mod schedules;

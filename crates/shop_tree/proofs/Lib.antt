@@ -6,8 +6,6 @@ pub mod WalkSteps
 pub mod SearchLaw
 pub mod Found
 mod Counting
-mod PlacedLemmas
-mod ChoosingLemmas
 mod ChildrenLemmas
 mod FirstOn
 mod DeskLemmas

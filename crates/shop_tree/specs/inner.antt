@@ -1,7 +1,5 @@
 -- What only the inside of the crate is told by.
 pub mod Searching
-pub mod NextOperations
-pub mod Choosing
 pub mod Opens
 pub mod Pushing
 pub mod Moving

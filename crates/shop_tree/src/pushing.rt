@@ -4,11 +4,8 @@ ghost use Rattle.shop_bound.specs.Bound.{lb};
 ghost use Rattle.shop_tree.specs.inner.Opens.{AreChildrenOf, IsPlaceAbove};
 ghost use Rattle.shop_tree.specs.inner.Pushing.{with_opens, with_rest};
 
-use crate::branching::gather_conflict;
 use crate::opens::{Closed, Open, Waiting};
-use crate::placings::Placed;
 use shop_bound::Desk;
-use shop_model::Instance;
 use std::alloc::AllocError;
 
 /// The place above the last entry whose bound is not below this one, or the bottom.
@@ -28,21 +25,18 @@ fn place_above(bound: u64, opens: &[Open]) -> usize
 pub(crate) fn gather_children(
     children: &mut Vec<Open>,
     desk: &mut Desk,
-    instance: &Instance,
     bound: u64,
     limit: u64,
     jobs: &mut Vec<usize>,
 ) -> Result<usize, AllocError>
-    requires instance { desk.old.shop ≡ instance.now }
     requires bound { bound ≡ lb desk.old.shop desk.old.word }
-    requires room { length instance.now.jobs ≤ vec_capacity jobs.old }
+    requires room { length desk.old.shop.jobs ≤ vec_capacity jobs.old }
     ensures children { IfOk result (λ n. AreChildrenOf desk.old limit children.new.items n) }
     ensures same { desk.new ≡ desk.old }
     ensures room { vec_capacity jobs.old ≤ vec_capacity jobs.new }
 {
     desk.keeps_word();
-    let placed = Placed::new(instance, desk.jobs(), desk.placement());
-    gather_conflict(jobs, &placed);
+    desk.gather_conflict(jobs);
     let depth = desk.jobs().len();
     children.clear();
     let mut others = 0;

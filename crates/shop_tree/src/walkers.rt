@@ -57,7 +57,6 @@ impl<'a> Walker<'a> {
         let others = gather_children(
             &mut self.children,
             &mut self.desk,
-            self.progress.instance,
             bound,
             self.progress.best,
             &mut self.jobs,
@@ -110,7 +109,6 @@ impl<'a> Walker<'a> {
         gather_children(
             &mut self.children,
             &mut self.desk,
-            self.progress.instance,
             bound,
             u64::MAX,
             &mut self.jobs,

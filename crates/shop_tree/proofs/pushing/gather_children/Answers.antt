@@ -1,10 +1,8 @@
 use Rattle.std.proofs.Common.{◌≡◌, ◌≤◌, ◌++◌, ◌∷◌, ◌∙◌, [], List, length, refl, sym, ap, subst, arith, append-nil}
 use Rattle.std.proofs.Common.{append_assoc}
-use Rattle.shop_model.specs.Shop.{Shop}
 use Rattle.shop_model.specs.Word.{IsWord}
 use Rattle.shop_bound.specs.Bound.{lb}
 use Rattle.shop_bound.specs.Desks.{DeskState}
-use Rattle.shop_tree.specs.Branching.{conflict}
 use Rattle.shop_tree.specs.inner.Opens.{IsPlaceAbove}
 use Rattle.shop_tree.specs.declared.opens.Open.{Open}
 use Rattle.shop_tree.proofs.ChildrenLemmas.{child-word}
@@ -12,21 +10,16 @@ use Rattle.shop_tree.proofs.PushLemmas.{gathered_none, gathered_other, gathered_
 use Rattle.shop_tree.proofs.pushing.gather_children.Goals as goal
 
 pub loop-job-init : goal.loop-job-init
-loop-job-init c =
-    let shop = c.new-placed.ensures.instance ∙ sym c.requires.instance
-    in let word = c.new-placed.ensures.word ∙ c.jobs.ensures
-    in (
-      [],
-      record {
-        all = append-nil _
-            ∙ (c.gather_conflict.ensures.jobs ∙ (ap (λ (s : Shop). conflict s c.new-placed.result.word.now) shop
-            ∙ ap (conflict c.args.desk.now.shop) word));
-        gathered = gathered_none _ _ _ _ c.clear.ensures.items;
-        counted = omega arith;
-        same = refl;
-        room = c.gather_conflict.ensures.room;
-      },
-    )
+loop-job-init c = (
+  [],
+  record {
+    all = append-nil _ ∙ c.gather_conflict.ensures.jobs;
+    gathered = gathered_none _ _ _ _ c.clear.ensures.items;
+    counted = omega arith;
+    same = refl;
+    room = c.gather_conflict.ensures.room;
+  },
+)
 
 pub bound_below-requires-clause-fits : goal.bound_below-requires-clause-fits
 bound_below-requires-clause-fits c =

@@ -7,10 +7,10 @@ use Rattle.std.proofs.lemmas.List.Elements.{filter-append}
 use Rattle.std.proofs.lemmas.List.Sums.{fold-append}
 use Rattle.shop_model.specs.Shop.{Shop, route_of}
 use Rattle.shop_model.specs.Word.{Placing}
-use Rattle.shop_tree.specs.declared.next_operations.NextOperation.{NextOperation}
-use Rattle.shop_tree.specs.Branching.{next_end, chosen_of, conflicts_with, conflict_among}
-use Rattle.shop_tree.specs.inner.NextOperations.{IsNext}
-use Rattle.shop_tree.specs.inner.Choosing.{open_below, IsChoice}
+use Rattle.shop_bound.specs.declared.next_operations.NextOperation.{NextOperation}
+use Rattle.shop_bound.specs.Conflicts.{next_end, chosen_of, conflicts_with, conflict_among}
+use Rattle.shop_bound.specs.inner.NextOperations.{IsNext}
+use Rattle.shop_bound.specs.inner.Choosing.{open_below, IsChoice}
 
 range-last : (a n : ℕ) → range_with_len a (suc n) ≡ range_with_len a n ++ (a + n) ∷ []
 range-last a zero = let e : a + 0 ≡ a = omega arith in rw e refl

@@ -11,10 +11,10 @@ use Rattle.std.specs.Prelude.{ℕ, Option, Some, None, List, [], ◌∷◌, leng
 use Rattle.std.specs.List.{range_with_len}
 use Rattle.shop_model.specs.Shop.{Shop, route_of}
 use Rattle.shop_model.specs.Word.{Placing, placing}
-use Rattle.shop_tree.specs.Branching.{open_jobs, chosen_of, conflicts_with, conflict}
-use Rattle.shop_tree.specs.inner.NextOperations.{IsNext}
-use Rattle.shop_tree.specs.declared.next_operations.NextOperation.{NextOperation}
-use Rattle.shop_tree.specs.declared.placings.Placed.{Placed}
+use Rattle.shop_bound.specs.Conflicts.{open_jobs, chosen_of, conflicts_with, conflict}
+use Rattle.shop_bound.specs.inner.NextOperations.{IsNext}
+use Rattle.shop_bound.specs.declared.next_operations.NextOperation.{NextOperation}
+use Rattle.shop_bound.specs.declared.placings.Placed.{Placed}
 
 abbrev pub open_below : Shop → Placing → ℕ → List ℕ
 open_below shop p n = filter (λ j. nat_lt (p.steps j) (length (route_of shop j)))

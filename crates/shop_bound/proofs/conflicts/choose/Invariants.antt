@@ -1,5 +1,5 @@
-use Rattle.shop_tree.specs.inner.Choosing.{placing_of, open_below, IsChoice}
-use Rattle.shop_tree.proofs.branching.choose.Given as goal
+use Rattle.shop_bound.specs.inner.Choosing.{placing_of, open_below, IsChoice}
+use Rattle.shop_bound.proofs.conflicts.choose.Given as goal
 
 abbrev pub invariant-loop-job : goal.invariant-loop-job
 invariant-loop-job l = IsChoice l.placed.instance.now (placing_of l.placed)

@@ -1,6 +1,6 @@
 // The next operation of a job.
 ghost use Rattle.std.specs.Prelude.{◌≡◌};
-ghost use Rattle.shop_tree.specs.inner.NextOperations.{is_in_conflict};
+ghost use Rattle.shop_bound.specs.inner.NextOperations.{is_in_conflict};
 
 /// The next operation of a job: its machine, when it can begin, and when it can end.
 #[derive(Clone, Copy)]

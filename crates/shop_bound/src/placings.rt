@@ -2,10 +2,10 @@
 ghost use Rattle.std.specs.Prelude.{◌≡◌, ◌<◌, length};
 ghost use Rattle.shop_bound.specs.Placements.{IsPlacement};
 ghost use Rattle.shop_model.specs.Word.{placing, IsWord};
-ghost use Rattle.shop_tree.specs.inner.NextOperations.{IsNextIfAny};
+ghost use Rattle.shop_bound.specs.inner.NextOperations.{IsNextIfAny};
 
 use crate::next_operations::NextOperation;
-use shop_bound::Placement;
+use crate::placements::Placement;
 use shop_model::Instance;
 
 /// An instance and a word of it, placed.

@@ -1,7 +1,7 @@
 use Rattle.std.proofs.Common.{arith}
 use Rattle.shop_model.specs.Word.{placing}
-use Rattle.shop_tree.proofs.PlacedLemmas.{is_read, next_end-small}
-use Rattle.shop_tree.proofs.placings.Placed.next.Goals as goal
+use Rattle.shop_bound.proofs.PlacedLemmas.{is_read, next_end-small}
+use Rattle.shop_bound.proofs.placings.Placed.next.Goals as goal
 
 pub overflow_add-result : goal.overflow_add-result
 overflow_add-result c =

@@ -1,9 +1,9 @@
 use Rattle.std.proofs.Common.{◌≡◌, ◌+◌, ◌++◌, ◌∷◌, ◌∙◌, [], true, false, vec_len, sym, ap, arith, append-nil}
 use Rattle.std.specs.List.{filter}
-use Rattle.shop_tree.specs.Branching.{conflicts_with}
-use Rattle.shop_tree.specs.inner.Choosing.{placing_of}
-use Rattle.shop_tree.proofs.ChoosingLemmas.{open-skip, conflicts-is, conflict-step}
-use Rattle.shop_tree.proofs.branching.gather_conflicting.Goals as goal
+use Rattle.shop_bound.specs.Conflicts.{conflicts_with}
+use Rattle.shop_bound.specs.inner.Choosing.{placing_of}
+use Rattle.shop_bound.proofs.ChoosingLemmas.{open-skip, conflicts-is, conflict-step}
+use Rattle.shop_bound.proofs.conflicts.gather_conflicting.Goals as goal
 
 pub loop-job-preserved-in_default : goal.loop-job-preserved-in_default
 loop-job-preserved-in_default c =

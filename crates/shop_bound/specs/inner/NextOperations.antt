@@ -9,8 +9,8 @@ use Rattle.std.specs.Prelude.{◌≡◌, ℕ, ◌≤◌, Bool, ◌==◌, ◌&&�
 use Rattle.std.specs.Prelude.{length}
 use Rattle.shop_model.specs.Shop.{Shop, route_of, IsOperation}
 use Rattle.shop_model.specs.Word.{Placing, placing}
-use Rattle.shop_tree.specs.Branching.{next_machine, next_head, next_end}
-use Rattle.shop_tree.specs.declared.next_operations.NextOperation.{NextOperation}
+use Rattle.shop_bound.specs.Conflicts.{next_machine, next_head, next_end}
+use Rattle.shop_bound.specs.declared.next_operations.NextOperation.{NextOperation}
 
 pub record IsNext (shop : Shop) (p : Placing) (j : ℕ) (n : NextOperation) : Type 0 where
   pub job : n.job ≡ j

@@ -1,8 +1,8 @@
 use Rattle.std.proofs.Common.{Some, subst}
-use Rattle.shop_tree.specs.inner.Choosing.{placing_of, open_below, IsChoice}
-use Rattle.shop_tree.proofs.ChoosingLemmas.{open-skip, open-more, choice-first, choice-sooner, choice-kept}
-use Rattle.shop_tree.proofs.branching.choose.Goals.{in-Some-chosen+else-best-next, in_default-chosen}
-use Rattle.shop_tree.proofs.branching.choose.Goals as goal
+use Rattle.shop_bound.specs.inner.Choosing.{placing_of, open_below, IsChoice}
+use Rattle.shop_bound.proofs.ChoosingLemmas.{open-skip, open-more, choice-first, choice-sooner, choice-kept}
+use Rattle.shop_bound.proofs.conflicts.choose.Goals.{in-Some-chosen+else-best-next, in_default-chosen}
+use Rattle.shop_bound.proofs.conflicts.choose.Goals as goal
 
 pub loop-job-preserved-in_default : goal.loop-job-preserved-in_default
 loop-job-preserved-in_default c =

@@ -1,8 +1,8 @@
 use Rattle.std.proofs.Common.{◌≡◌, ◌≤◌, length, vec_len, vec_capacity}
 use Rattle.std.specs.List.{filter}
-use Rattle.shop_tree.specs.Branching.{conflicts_with}
-use Rattle.shop_tree.specs.inner.Choosing.{placing_of, open_below}
-use Rattle.shop_tree.proofs.branching.gather_conflicting.Given as goal
+use Rattle.shop_bound.specs.Conflicts.{conflicts_with}
+use Rattle.shop_bound.specs.inner.Choosing.{placing_of, open_below}
+use Rattle.shop_bound.proofs.conflicts.gather_conflicting.Given as goal
 
 abbrev pub invariant-loop-job : goal.invariant-loop-job
 invariant-loop-job l = record {

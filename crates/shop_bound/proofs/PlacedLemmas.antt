@@ -6,7 +6,7 @@ use Rattle.shop_model.specs.Limits.{IsWithinLimits}
 use Rattle.shop_model.specs.Shop.{Shop, no_op, route_of, machine_of, time_of}
 use Rattle.shop_model.specs.Word.{Placing, placing, IsWord}
 use Rattle.shop_model.specs.declared.ops.Op.{Op}
-use Rattle.shop_tree.specs.Branching.{next_machine, next_head, next_end}
+use Rattle.shop_bound.specs.Conflicts.{next_machine, next_head, next_end}
 
 -- every next operation can end soon
 pub next_end-small : (shop : Shop) (w : List ℕ) (j : ℕ) → IsWithinLimits shop → IsWord shop w
