@@ -1,0 +1,44 @@
+"""The texts that the measurements run on, by name."""
+
+from pathlib import Path
+
+from instances import long_text, random_routes, schedule_of, text_of, text_of_one_machine
+from programs import TOP
+
+LONGEST_TEXT = 16_777_216
+
+
+def example(name):
+    return (TOP / "examples" / f"{name}.txt").read_text()
+
+
+def random_text(jobs, machines, seed):
+    return text_of("random", random_routes(jobs, machines, seed), machines)
+
+
+def text_with_schedule(jobs, machines, seed):
+    routes = random_routes(jobs, machines, seed)
+    return text_of("large", routes, machines) + schedule_of(routes, machines)
+
+
+TEXTS = {
+    "ft06": lambda: example("ft06"),
+    "ft10": lambda: example("ft10"),
+    "la01": lambda: example("la01"),
+    "random 15 x 15": lambda: random_text(15, 15, 1),
+    "random 20 x 15": lambda: random_text(20, 15, 2),
+    "random 50 x 15": lambda: random_text(50, 15, 4),
+    "random 200 x 15": lambda: random_text(200, 15, 5),
+    "random 1000 x 100": lambda: random_text(1000, 100, 3),
+    "one machine": lambda: text_of_one_machine(1000, 100, 6),
+    "16 MB": lambda: long_text(LONGEST_TEXT),
+    "1000 x 100": lambda: text_with_schedule(1000, 100, 3),
+}
+
+
+def write_texts(folder, names):
+    """Writes the texts of these names, and tells the file of each."""
+    files = {name: Path(folder, name.replace(" ", "_")) for name in names}
+    for name, file in files.items():
+        file.write_text(TEXTS[name]())
+    return files
