@@ -1,9 +1,11 @@
 -- Masks and least numbers of lists in blocks of eight, and the first number that a mask tells.
-use Rattle.std.proofs.Common.{◌≡◌, ◌≢◌, ℕ, zero, suc, ◌+◌, ◌-◌, ◌*◌, ◌/◌, ◌%◌, ◌<◌, ◌≤◌, ◌^◌, min, Bool, true, false, cond, inl, inr, ◌==◌, List, [], ◌∷◌, ◌++◌, length, map, take, drop, get_or, refl, ap, sym, ◌∙◌, arith, pow-suc, take-append-drop, length-drop}
+use Rattle.std.proofs.Common.{◌≡◌, ◌≢◌, ℕ, zero, suc, ◌+◌, ◌-◌, ◌*◌, ◌/◌, ◌%◌, ◌<◌, ◌≤◌, ◌^◌, min, Bool, true, false}
+use Rattle.std.proofs.Common.{cond, inl, inr, ◌==◌, List, [], ◌∷◌, ◌++◌, length, map, take, drop, replicate, get_or}
+use Rattle.std.proofs.Common.{refl, ap, sym, ◌∙◌, arith, pow-suc, take-append-drop, length-drop}
 use Rattle.std.proofs.lemmas.Bool.{cases_lt}
 use Rattle.std.proofs.lemmas.Bool.Decides.{nat_tests}
-use Rattle.std.proofs.lemmas.List.{drop-drop, map-append, length-map, length-take}
-use Rattle.std.proofs.lemmas.Simd.{mask_l-lt, none_from_empty_mask, get_or-chunk}
+use Rattle.std.proofs.lemmas.List.{drop_all, drop-drop, map-append, length-map, length-take}
+use Rattle.std.proofs.lemmas.Simd.{mask_l-lt, none_from_empty_mask, get_or-chunk, length-zip2}
 use Rattle.std.proofs.Math.Pow.{pow_mono}
 use lib.Count.{count_trailing_zeros}
 use lib.Lanes.{mask_l, zip2}
@@ -65,7 +67,8 @@ mask_small p xs k le =
     in let b : 2 ^ length ms ≤ 2 ^ 64 = pow_mono few
     in omega arith
 
-pub least_begins : (top : ℕ) (xs : List ℕ) → min top (least_up_to top xs) ≡ least_up_to top xs
+pub least_begins : (top : ℕ) (xs : List ℕ)
+    → min (least_up_to top (replicate 8 top)) (least_up_to top xs) ≡ least_up_to top xs
 least_begins top xs = omega (arith, least_le_top top xs)
 
 pub least_more : (top b : ℕ) (xs least next : List ℕ) (all : ℕ) → 8 * (b + 1) ≤ length xs → length least ≡ 8
@@ -81,6 +84,18 @@ least_more top b xs least next all le eight is so_far =
     in let two : least_up_to top (drop (8 * b) xs) ≡ min (least_up_to top block) (least_up_to top behind) =
     ap (least_up_to top) (drop_split b xs) ∙ least-append top block behind
     in omega arith
+
+pub length-lesser : (b : ℕ) (xs least next : List ℕ) → 8 * (b + 1) ≤ length xs → length least ≡ 8
+    → next ≡ zip2 min least (take 8 (drop (8 * b) xs)) → length next ≡ 8
+length-lesser b xs least next le eight is =
+    ap length is ∙ length-zip2 min least (take 8 (drop (8 * b) xs)) (eight ∙ sym (length-block b xs le)) ∙ eight
+
+pub least_ends : (top b : ℕ) (xs least : List ℕ) → length xs ≤ 8 * b
+    → min (least_up_to top least) (least_up_to top (drop (8 * b) xs)) ≡ least_up_to top xs
+    → least_up_to top least ≡ least_up_to top xs
+least_ends top b xs least past so_far =
+    let none : least_up_to top (drop (8 * b) xs) ≡ top = ap (least_up_to top) (drop_all (8 * b) xs past)
+    in omega (arith, none, least_le_top top least)
 
 -- the lowest bit of a mask is the first number that passes
 pub record IsFirstPassed (p : ℕ → Bool) (xs : List ℕ) (r : ℕ) : Type 0 where

@@ -1,5 +1,7 @@
 -- A pass over lanes in blocks: what one block adds, and what is left.
-use Rattle.std.proofs.Common.{◌≡◌, ℕ, ◌+◌, ◌-◌, ◌*◌, ◌/◌, ◌%◌, ◌≤◌, max, Bool, true, false, cond, leb, List, [], ◌∷◌, ◌++◌, refl, ap, sym, ◌∙◌, arith, subst, sum_by, length, take, drop, get_or, take-append-drop, length-drop, replicate}
+use Rattle.std.proofs.Common.{◌≡◌, ℕ, ◌+◌, ◌-◌, ◌*◌, ◌/◌, ◌%◌, ◌≤◌, max, Bool, true, false, cond, leb, List, [], ◌∷◌}
+use Rattle.std.proofs.Common.{◌++◌, refl, ap, sym, ◌∙◌, arith, subst, sum_by, length, take, drop, get_or}
+use Rattle.std.proofs.Common.{take-append-drop, length-drop, replicate}
 use Rattle.std.proofs.lemmas.List.{drop_all, drop-drop}
 use Rattle.std.proofs.lemmas.List.Sums.{sum_by-cons, sum_by-append}
 use Rattle.shop_lanes.specs.Rows.{Lane, lanes}
@@ -112,27 +114,54 @@ module _ (limit least start first : ℕ) (hs ts qs : List ℕ) (a : length ts �
   abbrev pub block_at : ℕ → List Lane
   block_at b = lanes (take 8 (drop (8 * b) hs)) (take 8 (drop (8 * b) ts)) (take 8 (drop (8 * b) qs))
 
+  -- what was read of block b
+  pub record IsRead (b : ℕ) (heads times tails : List ℕ) : Type 0 where
+    pub heads_are : heads ≡ take 8 (drop (8 * b) hs)
+    pub times_are : times ≡ take 8 (drop (8 * b) ts)
+    pub tails_are : tails ≡ take 8 (drop (8 * b) qs)
+
+  lanes_read : (b : ℕ) (heads times tails : List ℕ) → IsRead b heads times tails → lanes heads times tails ≡ block_at b
+  lanes_read b heads times tails r =
+      ap (λ l. lanes l times tails) r.heads_are
+      ∙ ap (λ l. lanes (take 8 (drop (8 * b) hs)) l tails) r.times_are
+      ∙ ap (λ l. lanes (take 8 (drop (8 * b) hs)) (take 8 (drop (8 * b) ts)) l) r.tails_are
+
   pub block_fits : (clock : List ℕ) (most b : ℕ)
       → IsBlockPass limit least start first (lanes hs ts qs) clock most b
-      → FitsSpan limit (get_or clock 0 0) (block_at b)
-  block_fits clock most b h =
+      → (heads times tails : List ℕ) → IsRead b heads times tails
+      → FitsSpan limit (get_or clock 0 0) (lanes heads times tails)
+  block_fits clock most b h heads times tails r =
       let fits = h.passed.fits
-      in part_fits limit (get_or clock 0 0) (block_at b) (drop (8 * (b + 1)) (lanes hs ts qs))
-      (subst (FitsSpan limit (get_or clock 0 0)) (block_split b hs ts qs a c) fits)
+      in subst (FitsSpan limit (get_or clock 0 0)) (sym (lanes_read b heads times tails r))
+      (part_fits limit (get_or clock 0 0) (block_at b) (drop (8 * (b + 1)) (lanes hs ts qs))
+      (subst (FitsSpan limit (get_or clock 0 0)) (block_split b hs ts qs a c) fits))
 
   pub block_passed : (clock : List ℕ) (most b : ℕ)
       → IsBlockPass limit least start first (lanes hs ts qs) clock most b
-      → (next : List ℕ) (more : ℕ) → next ≡ replicate 8 (clock_after least (get_or clock 0 0) (block_at b))
-      → more ≡ max most (span least (get_or clock 0 0) (block_at b))
+      → (heads times tails leasts : List ℕ) → IsRead b heads times tails → leasts ≡ replicate 8 least
+      → (next : List ℕ) (more : ℕ)
+      → next ≡ replicate 8 (clock_after (get_or leasts 0 0) (get_or clock 0 0) (lanes heads times tails))
+      → more ≡ max most (span (get_or leasts 0 0) (get_or clock 0 0) (lanes heads times tails))
       → IsBlockPass limit least start first (lanes hs ts qs) next more (b + 1)
-  block_passed clock most b h next more next_is more_is = record {
-    splat = rw next_is refl;
-    passed =
-        rw (next_is, more_is) (passed_more limit least start first (lanes hs ts qs) (get_or clock 0 0) most (block_at b)
-        (drop (8 * (b + 1)) (lanes hs ts qs))
-        (subst (IsPassed limit least start first (lanes hs ts qs) (get_or clock 0 0) most)
-        (block_split b hs ts qs a c) h.passed));
-  }
+  block_passed clock most b h heads times tails leasts r leasts_are next more next_told more_told =
+      let read = lanes_read b heads times tails r
+      in let from : get_or leasts 0 0 ≡ least = ap (λ l. get_or l 0 0) leasts_are
+      in let next_is : next ≡ replicate 8 (clock_after least (get_or clock 0 0) (block_at b)) =
+      next_told
+      ∙ ap (λ n. replicate 8 (clock_after n (get_or clock 0 0) (lanes heads times tails))) from
+      ∙ ap (λ l. replicate 8 (clock_after least (get_or clock 0 0) l)) read
+      in let more_is : more ≡ max most (span least (get_or clock 0 0) (block_at b)) =
+      more_told
+      ∙ ap (λ n. max most (span n (get_or clock 0 0) (lanes heads times tails))) from
+      ∙ ap (λ l. max most (span least (get_or clock 0 0) l)) read
+      in record {
+        splat = rw next_is refl;
+        passed =
+            rw (next_is, more_is) (passed_more limit least start first (lanes hs ts qs) (get_or clock 0 0) most (block_at b)
+            (drop (8 * (b + 1)) (lanes hs ts qs))
+            (subst (IsPassed limit least start first (lanes hs ts qs) (get_or clock 0 0) most)
+            (block_split b hs ts qs a c) h.passed));
+      }
 
   pub pass_ends : (clock : List ℕ) (most b : ℕ) → length hs % 8 ≡ 0 → length hs / 8 ≤ b
       → IsBlockPass limit least start first (lanes hs ts qs) clock most b

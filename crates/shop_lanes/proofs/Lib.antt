@@ -10,3 +10,4 @@ pub mod VectorBits
 pub mod BlockMasks
 pub mod MarkedSpans
 pub mod Padding
+pub mod RowValues

@@ -1,5 +1,7 @@
 -- Bits as positions: the lowest taken out, none left, and the mask of a test.
-use Rattle.std.proofs.Common.{◌≡◌, ℕ, zero, suc, ◌+◌, ◌-◌, ◌*◌, ◌/◌, ◌%◌, ◌^◌, ◌<◌, ◌≤◌, Bool, true, false, List, [], ◌∷◌, length, map, refl, ap, sym, ◌∙◌, arith, min, ◌⊎◌, inl, inr, ◌↔◌, IsTrue, nat_eq, pow-suc, drop, length-drop}
+use Rattle.std.proofs.Common.{◌≡◌, ℕ, zero, suc, ◌+◌, ◌-◌, ◌*◌, ◌/◌, ◌%◌, ◌^◌, ◌<◌, ◌≤◌, Bool, true, false, List, []}
+use Rattle.std.proofs.Common.{◌∷◌, length, map, refl, ap, sym, ◌∙◌, arith, min, ◌⊎◌, inl, inr, ◌↔◌, IsTrue, nat_eq}
+use Rattle.std.proofs.Common.{pow-suc, drop, length-drop}
 use Rattle.std.proofs.lemmas.List.{length-map}
 use Rattle.std.proofs.lemmas.Bool.Decides.{nat_tests}
 use Rattle.std.proofs.lemmas.Bool.{cases_eq}
@@ -10,7 +12,8 @@ use lib.Count.{count_trailing_zeros}
 use lib.Lanes.{mask_l}
 use Rattle.std.proofs.Math.Pow.{pow_mono}
 use Rattle.std.proofs.lemmas.Simd.{mask_l-lt}
-use Rattle.shop_lanes.specs.Marks.{set_bits, marked}
+use Rattle.shop_lanes.specs.Marks.{marked}
+use Rattle.shop_lanes.specs.inner.SetBits.{set_bits}
 
 pub half_and : (a b : ℕ) → bit_and a b / 2 ≡ bit_and (a / 2) (b / 2)
 half_and a b = same_from_bits (bit_and a b / 2) (bit_and (a / 2) (b / 2)) (λ i.

@@ -1,12 +1,14 @@
 -- Spans from the heads at marked positions on, block by block.
-use Rattle.std.proofs.Common.{◌≡◌, ℕ, suc, ◌+◌, ◌*◌, ◌/◌, ◌%◌, ◌<◌, ◌≤◌, max, Bool, true, false, cond, ◌&&◌, ltb, leb, List, [], ◌∷◌, ◌++◌, length, map, take, drop, get_or, refl, ap, sym, ◌∙◌, arith, subst}
+use Rattle.std.proofs.Common.{◌≡◌, ℕ, suc, ◌+◌, ◌*◌, ◌/◌, ◌%◌, ◌<◌, ◌≤◌, max, Bool, true, false, cond, ◌&&◌, ltb, leb}
+use Rattle.std.proofs.Common.{List, [], ◌∷◌, ◌++◌, length, map, take, drop, get_or, refl, ap, sym, ◌∙◌, arith, subst}
 use Rattle.std.proofs.lemmas.List.{drop_all}
 use Rattle.std.proofs.lemmas.Bool.Decides.{nat_tests}
 use Rattle.std.proofs.lemmas.Simd.{get_or-chunk}
 use lib.Lanes.{mask_l}
 use Rattle.shop_lanes.specs.Rows.{Lane, lanes}
 use Rattle.shop_lanes.specs.Spans.{span, spans_from, FitsSpan}
-use Rattle.shop_lanes.specs.Marks.{marked, set_bits}
+use Rattle.shop_lanes.specs.Marks.{marked}
+use Rattle.shop_lanes.specs.inner.SetBits.{set_bits}
 use Rattle.shop_lanes.specs.inner.Passes.{is_between, spans_at, AreSmallAt}
 use Rattle.shop_lanes.proofs.LaneLists.{length-lanes}
 use Rattle.shop_lanes.proofs.MarkLemmas.{set_bits-mask}

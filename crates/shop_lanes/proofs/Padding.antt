@@ -1,11 +1,15 @@
 -- Rows that are filled up to whole blocks, and what of them is seen.
-use Rattle.std.proofs.Common.{◌≡◌, ℕ, zero, suc, ◌+◌, ◌-◌, ◌*◌, ◌/◌, ◌<◌, ◌≤◌, min, max, Bool, cond, ◌&&◌, ltb, leb, inl, inr, List, [], ◌∷◌, length, map, take, drop, set, replicate, get_or, refl, ap, sym, ◌∙◌, arith, length-set}
+use Rattle.std.proofs.Common.{◌≡◌, ℕ, zero, suc, ◌+◌, ◌-◌, ◌*◌, ◌/◌, ◌<◌, ◌≤◌, min, max, Bool, cond, ◌&&◌, ltb, leb}
+use Rattle.std.proofs.Common.{inl, inr, List, [], ◌∷◌, length, map, take, drop, set, replicate, get_or, refl, ap, sym}
+use Rattle.std.proofs.Common.{◌∙◌, arith, length-set}
 use Rattle.std.proofs.lemmas.Bool.{cases_lt}
 use Rattle.std.proofs.lemmas.Bool.Decides.{nat_tests}
-use Rattle.std.proofs.lemmas.List.{length-replicate, length-take, get_or-replicate, get_or-take, get_or-drop, take-replicate, drop-replicate, drop-set-lt}
+use Rattle.std.proofs.lemmas.List.{length-replicate, length-take, get_or-replicate, get_or-take, get_or-drop}
+use Rattle.std.proofs.lemmas.List.{take-replicate, drop-replicate, drop-set-lt}
 use lib.Lanes.{mask_l}
 use Rattle.shop_lanes.specs.Rows.{Lane, blocks}
-use Rattle.shop_lanes.specs.Marks.{marked, set_bits, waits_below}
+use Rattle.shop_lanes.specs.Marks.{marked, waits_below}
+use Rattle.shop_lanes.specs.inner.SetBits.{set_bits}
 use Rattle.shop_lanes.specs.Ends.{IsFirstLeast}
 use Rattle.shop_lanes.specs.Spans.{span, spans_from, spans_between}
 use Rattle.shop_lanes.specs.inner.Passes.{greatest, is_between, IsPadded}
@@ -18,6 +22,19 @@ take-set (suc n) [] i x = refl
 take-set (suc n) (y ∷ xs) zero x = refl
 take-set (suc n) (y ∷ xs) (suc i) x = ap (λ l. y ∷ l) (take-set n xs i x)
 
+replicate_le : (none n k : ℕ) → get_or (replicate n none) k 0 ≤ none
+replicate_le none zero k = omega arith
+replicate_le none (suc n) zero = omega arith
+replicate_le none (suc n) (suc k) = replicate_le none n k
+
+set_le : (top : ℕ) (xs : List ℕ) (i x : ℕ) → ((k : ℕ) → get_or xs k 0 ≤ top) → x ≤ top
+    → (k : ℕ) → get_or (set xs i x) k 0 ≤ top
+set_le top [] i x small le k = omega arith
+set_le top (y ∷ xs) zero x small le zero = le
+set_le top (y ∷ xs) zero x small le (suc k) = small (suc k)
+set_le top (y ∷ xs) (suc i) x small le zero = small 0
+set_le top (y ∷ xs) (suc i) x small le (suc k) = set_le top xs i x (λ n. small (suc n)) le k
+
 pub padded_none : (none jobs : ℕ) (ends : List ℕ) → ends ≡ replicate (8 * (jobs / 8 + 1)) none
     → IsPadded none jobs ends × (take jobs ends ≡ replicate jobs none)
 padded_none none jobs ends e =
@@ -29,25 +46,27 @@ padded_none none jobs ends e =
         whole_blocks = rw long (omega arith);
         within = omega arith;
         rest = ap (drop jobs) e ∙ drop-replicate jobs n none ∙ ap (λ m. replicate (m - jobs) none) (sym long);
+        least = λ k. rw e (replicate_le none n k);
       },
       ap (take jobs) e ∙ take-replicate jobs n none room,
     )
 
 pub padded_set : (none jobs : ℕ) (ends : List ℕ) (job end : ℕ) → IsPadded none jobs ends → job < length (take jobs ends)
-    → IsPadded none jobs (set ends job end)
-padded_set none jobs ends job end h lt =
+    → end ≤ none → IsPadded none jobs (set ends job end)
+padded_set none jobs ends job end h lt le =
     let before : job < jobs = let a = h.within in omega (arith, length-take jobs ends)
     in record {
       whole_blocks = rw (length-set ends job end) h.whole_blocks;
       within = let a = h.within in omega (arith, length-set ends job end);
       rest = drop-set-lt jobs ends job end before ∙ h.rest
           ∙ ap (λ n. replicate (n - jobs) none) (sym (length-set ends job end));
+      least = set_le none ends job end h.least le;
     }
 
 -- the first least of a padded row is one of the jobs' ends
 pub first_least_seen : (none jobs : ℕ) (ends : List ℕ) (i : ℕ) → IsPadded none jobs ends → 0 < length (take jobs ends)
-    → ((k : ℕ) → get_or ends k 0 ≤ none) → IsFirstLeast ends i → IsFirstLeast (take jobs ends) i
-first_least_seen none jobs ends i pad some small h =
+    → IsFirstLeast ends i → IsFirstLeast (take jobs ends) i
+first_least_seen none jobs ends i pad some h =
     let taken = length-take jobs ends
     in let within = pad.within
     in let inside = h.within
@@ -62,7 +81,7 @@ first_least_seen none jobs ends i pad some small h =
           ∙ ap (λ l. get_or l j 0) pad.rest
           ∙ get_or-replicate (length ends - jobs) j none 0 (omega arith)
           in let less = h.first 0 (omega arith)
-          in let most = small 0
+          in let most = pad.least 0
           in omega arith
           )
     ]
@@ -89,15 +108,15 @@ marked_alike p q same at (x ∷ xs) =
 below_is_between : (limit x : ℕ) → is_between 0 (limit - 1) x ≡ waits_below limit x
 below_is_between limit x = grind (arith, nat_tests)
 
-pub marks_below : (heads hs : List ℕ) (from to limit upto bits : ℕ) (marks : List ℕ) → hs ≡ heads → 8 * to ≤ length heads
+pub marks_below : (heads : List ℕ) (from to limit upto bits : ℕ) (marks : List ℕ) → 8 * to ≤ length heads
     → to ≤ from + 8 → upto ≡ limit - 1 → marks ≡ set_bits 64 (8 * from) bits
-    → bits ≡ mask_l (map (is_between 0 upto) (blocks from to hs))
+    → bits ≡ mask_l (map (is_between 0 upto) (blocks from to heads))
     → marks ≡ marked (waits_below limit) (8 * from) (blocks from to heads)
-marks_below heads hs from to limit upto bits marks is room few below marks_are bits_are =
+marks_below heads from to limit upto bits marks room few below marks_are bits_are =
     let part = blocks from to heads
     in let short : length part ≤ 64 = omega (arith, length-blocks from to heads room)
     in marks_are
-    ∙ ap (set_bits 64 (8 * from)) (bits_are ∙ ap (λ l. mask_l (map (is_between 0 upto) (blocks from to l))) is)
+    ∙ ap (set_bits 64 (8 * from)) bits_are
     ∙ set_bits-mask (is_between 0 upto) 64 (8 * from) part short
     ∙ ap (λ n. marked (is_between 0 n) (8 * from) part) below
     ∙ marked_alike (is_between 0 (limit - 1)) (waits_below limit) (below_is_between limit) (8 * from) part
@@ -117,16 +136,18 @@ spans_above_least above upto all (x ∷ xs) =
     ∙ ap (max (cond (ltb above x.head && leb x.head upto) (span x.head x.head all) 0)) (spans_above_least above upto all xs)
 
 -- what the passes return, by what they come to
-pub span_told : (least start most r g : ℕ) (v : List ℕ) (xs ys : List Lane) → r ≡ g → g ≡ greatest v
-    → greatest v ≡ max (greatest (replicate 8 most)) (span least start xs) → xs ≡ ys
+pub span_told : (least start most r : ℕ) (m v : List ℕ) (xs ys : List Lane) → m ≡ replicate 8 most → r ≡ greatest v
+    → greatest v ≡ max (greatest m) (span least start xs) → xs ≡ ys
     → r ≡ max most (span least start ys)
-span_told least start most r g v xs ys a b c e =
-    a ∙ b ∙ c ∙ ap (λ m. max m (span least start xs)) (greatest_splat most) ∙ ap (λ l. max most (span least start l)) e
+span_told least start most r m v xs ys a b c e =
+    b ∙ c
+    ∙ ap (λ n. max n (span least start xs)) (ap greatest a ∙ greatest_splat most)
+    ∙ ap (λ l. max most (span least start l)) e
 
-pub spans_told : (above upto most lower r g : ℕ) (xs ys : List Lane) → r ≡ g
-    → g ≡ max most (spans_between lower upto xs) → lower ≡ min above upto → xs ≡ ys
+pub spans_told : (above upto most lower r : ℕ) (xs ys : List Lane)
+    → r ≡ max most (spans_between lower upto xs) → lower ≡ min above upto → xs ≡ ys
     → r ≡ max most (spans_between above upto ys)
-spans_told above upto most lower r g xs ys a b c e =
-    a ∙ b ∙ ap (λ n. max most (spans_between n upto xs)) c
+spans_told above upto most lower r xs ys b c e =
+    b ∙ ap (λ n. max most (spans_between n upto xs)) c
     ∙ ap (max most) (spans_above_least above upto xs xs)
     ∙ ap (λ l. max most (spans_between above upto l)) e

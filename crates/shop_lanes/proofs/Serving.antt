@@ -1,5 +1,6 @@
 -- Lanes served side by side, over lists alone: which wait, their running sums, and the greatest of their ends.
-use Rattle.std.proofs.Common.{◌≡◌, ℕ, suc, ◌+◌, ◌-◌, ◌<◌, ◌≤◌, ◌^◌, max, Bool, true, false, cond, List, [], ◌∷◌, ◌++◌, length, map, replicate, get_or, refl, ap, sym, ◌∙◌, arith, subst, leb, ltb, sum_by}
+use Rattle.std.proofs.Common.{◌≡◌, ℕ, suc, ◌+◌, ◌-◌, ◌<◌, ◌≤◌, ◌^◌, max, Bool, true, false, cond, List, [], ◌∷◌, ◌++◌}
+use Rattle.std.proofs.Common.{length, map, replicate, get_or, refl, ap, sym, ◌∙◌, arith, subst, leb, ltb, sum_by}
 use Rattle.std.proofs.lemmas.List.{length-map, length-replicate}
 use Rattle.std.proofs.lemmas.List.Sums.{sum_by-cons}
 use Rattle.std.proofs.lemmas.Bool.Decides.{nat_tests}
@@ -9,7 +10,7 @@ use mir.Syntax.{Width}
 use mir.Val.{bits, hbits}
 use Rattle.shop_lanes.specs.Rows.{Lane, lanes}
 use Rattle.shop_lanes.specs.Spans.{span, greatest_by}
-use Rattle.shop_lanes.specs.inner.Passes.{running, clock_after, greatest}
+use Rattle.shop_lanes.specs.inner.Passes.{running, clock_after, greatest, AreRaised}
 use Rattle.shop_lanes.proofs.Extremes.{greatest-greater}
 use Rattle.shop_lanes.proofs.Eights.{added, AddsFit, on_eight}
 
@@ -218,12 +219,16 @@ module _ (w : Width) (hs ts qs least clock : List ℕ) (from start : ℕ)
 
     pub block_most : (most : List ℕ) → length most ≡ 8
         → (latest : List ℕ) → latest ≡ sel_l (waits_told w least hs) (added (added sums clock) qs) (replicate 8 0)
-        → greatest (sel_l (map (top (hbits w)) (zip2 (λ x y. cond (ltb x y) (2 ^ bits w - 1) 0) most latest)) latest most)
-        ≡ max (greatest most) (span from start (lanes hs ts qs))
+        → AreRaised (λ v. v) most (span from start (lanes hs ts qs))
+        (sel_l (map (top (hbits w)) (zip2 (λ x y. cond (ltb x y) (2 ^ bits w - 1) 0) most latest)) latest most)
     block_most most m latest is =
         let same : latest ≡ late from start hs ts qs = is ∙ late_is
         in let as_long : length most ≡ length latest = m ∙ sym (ap length same ∙ length-late)
-        in ap greatest (greater_told_is w most latest as_long)
-        ∙ greatest-greater most latest as_long
-        ∙ ap (λ l. max (greatest most) (greatest l)) same
-        ∙ ap (max (greatest most)) (greatest-late from start hs ts qs ts_long qs_long)
+        in let greater = greater_told_is w most latest as_long
+        in record {
+          eight = ap length greater ∙ length-zip2 max most latest as_long ∙ m;
+          most = ap greatest greater
+              ∙ greatest-greater most latest as_long
+              ∙ ap (λ l. max (greatest most) (greatest l)) same
+              ∙ ap (max (greatest most)) (greatest-late from start hs ts qs ts_long qs_long);
+        }

@@ -1,5 +1,6 @@
 -- Positions whose number passes a test.
-use Rattle.std.specs.Prelude.{ℕ, zero, suc, ◌+◌, ◌*◌, ◌/◌, ◌%◌, Bool, List, [], ◌∷◌, if◌then◌else◌, nat_lt, nat_eq, ◌&&◌}
+use Rattle.std.specs.Prelude.{◌≡◌, Option, MatchOption, ℕ, ◌+◌, ◌*◌, Bool, List, [], ◌∷◌}
+use Rattle.std.specs.Prelude.{if◌then◌else◌, nat_lt, ◌&&◌}
 use Rattle.shop_lanes.specs.Rows.{Rows, blocks}
 
 -- from the position `at` on, in order
@@ -13,10 +14,9 @@ waits_below limit head = nat_lt 0 head && nat_lt head limit
 
 -- the positions in these blocks at which something waits with a head below the limit
 abbrev pub positions_below : Rows → ℕ → ℕ → ℕ → List ℕ
-positions_below rows from to limit = marked (waits_below limit) (8 * from) (blocks from to rows.heads)
+positions_below rows from to limit =
+    marked (waits_below limit) (8 * from) (blocks from to rows.heads)
 
--- which of the lowest n bits are set, the lowest counted as `at`
-unfoldable pub set_bits : ℕ → ℕ → ℕ → List ℕ
-set_bits zero at bits = []
-set_bits (suc n) at bits =
-    if nat_eq (bits % 2) 1 then at ∷ set_bits n (at + 1) (bits / 2) else set_bits n (at + 1) (bits / 2)
+-- the first position taken out, if there is one
+abbrev pub IsPopped : List ℕ → Option ℕ → List ℕ → Type 0
+IsPopped old found new = MatchOption found ((old ≡ []) × (new ≡ [])) (λ p. old ≡ p ∷ new)

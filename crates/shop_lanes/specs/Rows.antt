@@ -4,7 +4,8 @@
 --     lanes_between rows from to     the lanes of the blocks from `from` on and before `to`
 --     at_rest times tails jobs none  rows where nothing waits
 --     with_head, with_end            the same rows with one number replaced
-use Rattle.std.specs.Prelude.{ℕ, ◌*◌, ◌-◌, ◌≤◌, List, [], ◌∷◌, length, take, drop, replicate, slice_set}
+use Rattle.std.specs.Prelude.{ℕ, ◌*◌, ◌-◌, ◌≤◌, List, [], ◌∷◌, length, take, drop, replicate}
+use Rattle.std.specs.Prelude.{slice_set}
 
 -- heads, times and tails stand by position, ends by job
 pub record Rows : Type 0 where

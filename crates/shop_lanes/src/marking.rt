@@ -1,6 +1,8 @@
 // Positions that are marked by bits.
-ghost use Rattle.std.specs.Prelude.{◌≡◌, ℕ, ◌<◌, ◌+◌, ◌≤◌, ◌↔◌, ◌^◌, List, [], ◌∷◌, IsTrue, MatchOption};
-ghost use Rattle.shop_lanes.specs.Marks.{set_bits};
+ghost use Rattle.std.specs.Prelude.{◌≡◌, ℕ, ◌<◌, ◌+◌, ◌≤◌, ◌↔◌, ◌^◌, List, [], ◌∷◌, IsTrue};
+ghost use Rattle.std.specs.Prelude.{MatchOption};
+ghost use Rattle.shop_lanes.specs.Marks.{IsPopped};
+ghost use Rattle.shop_lanes.specs.inner.SetBits.{set_bits};
 
 use std::marker::Model;
 
@@ -39,7 +41,7 @@ impl Marks {
     /// Takes the first marked position out.
     #[inline(always)]
     pub fn pop_first(&mut self) -> Option<usize>
-        ensures { MatchOption result ((self.old ≡ []) × (self.new ≡ [])) (λ p. self.old ≡ p ∷ self.new) }
+        ensures { IsPopped self.old result self.new }
     {
         if self.bits == 0 {
             return None;

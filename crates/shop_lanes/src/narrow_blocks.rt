@@ -1,10 +1,9 @@
 // Eight lanes of 16 bits at once.
-ghost use Rattle.std.specs.Prelude.{◌≡◌, ℕ, ◌+◌, ◌-◌, ◌<◌, ◌≤◌, ◌^◌, length, replicate, map, min, max, ◌==◌, slice_index};
-ghost use Rattle.shop_lanes.specs.Rows.{lanes};
-ghost use Rattle.shop_lanes.specs.Spans.{span, FitsSpan};
-ghost use Rattle.shop_lanes.specs.inner.Passes.{running, clock_after, greatest, least_up_to, is_between};
-ghost use Rattle.std.specs.Simd.Lanes.{sum_l, mask_l, zip2};
+ghost use Rattle.std.specs.Prelude.{◌≡◌, ℕ, ◌<◌, ◌^◌, min, max};
+ghost use Rattle.std.specs.Simd.Lanes.{sum_l, zip2};
+ghost use Rattle.shop_lanes.specs.inner.Passes.{running, greatest, least_up_to};
 
+use crate::blocks::Block;
 use std::simd::prelude::*;
 
 /// The sum of the lanes up to each one.
@@ -19,32 +18,9 @@ fn sums_up_to(v: u16x8) -> u16x8
     fours.strict_add(fours.shuffle(zero, [8, 8, 8, 8, 0, 1, 2, 3]))
 }
 
-/// Serves eight lanes: the clock afterwards, in every lane, and the greatest end of each lane.
-#[inline(always)]
-pub(crate) fn serve(
-    heads: u16x8,
-    times: u16x8,
-    tails: u16x8,
-    least: u16x8,
-    clock: u16x8,
-    most: u16x8,
-) -> (u16x8, u16x8)
-    requires least { least ≡ replicate 8 (slice_index least 0) }
-    requires clock { clock ≡ replicate 8 (slice_index clock 0) }
-    requires fits { FitsSpan (2 ^ 16 - 1) (slice_index clock 0) (lanes heads times tails) }
-    ensures clock { result.0 ≡ replicate 8 (clock_after (slice_index least 0) (slice_index clock 0) (lanes heads times tails)) }
-    ensures most { greatest result.1 ≡ max (greatest most) (span (slice_index least 0) (slice_index clock 0) (lanes heads times tails)) }
-{
-    let zero = u16x8::splat(0);
-    let waits = heads.simd_ge(least);
-    let ends = sums_up_to(waits.select(times, zero)).strict_add(clock);
-    let late = waits.select(ends.strict_add(tails), zero);
-    (ends.swizzle([7, 7, 7, 7, 7, 7, 7, 7]), most.simd_max(late))
-}
-
 /// The greater number of each lane.
 #[inline(always)]
-pub(crate) fn greater(a: u16x8, b: u16x8) -> u16x8
+fn greater(a: u16x8, b: u16x8) -> u16x8
     ensures { result ≡ zip2 max a b }
 {
     a.simd_max(b)
@@ -52,7 +28,7 @@ pub(crate) fn greater(a: u16x8, b: u16x8) -> u16x8
 
 /// The lesser number of each lane.
 #[inline(always)]
-pub(crate) fn lesser(a: u16x8, b: u16x8) -> u16x8
+fn lesser(a: u16x8, b: u16x8) -> u16x8
     ensures { result ≡ zip2 min a b }
 {
     a.simd_min(b)
@@ -60,7 +36,7 @@ pub(crate) fn lesser(a: u16x8, b: u16x8) -> u16x8
 
 /// The greatest lane.
 #[inline(always)]
-pub(crate) fn greatest_of(v: u16x8) -> u16
+fn greatest_lane(v: u16x8) -> u16
     ensures { result ≡ greatest v }
 {
     let fours = greater(v, v.swizzle([4, 5, 6, 7, 0, 1, 2, 3]));
@@ -72,7 +48,7 @@ pub(crate) fn greatest_of(v: u16x8) -> u16
 
 /// The least lane.
 #[inline(always)]
-pub(crate) fn least_of(v: u16x8) -> u16
+fn least_lane(v: u16x8) -> u16
     ensures { result ≡ least_up_to 65535 v }
 {
     let fours = lesser(v, v.swizzle([4, 5, 6, 7, 0, 1, 2, 3]));
@@ -82,18 +58,82 @@ pub(crate) fn least_of(v: u16x8) -> u16
     lanes[0]
 }
 
-/// A bit for each lane, the first the lowest, that says whether it is above `above` and at most `upto`.
-#[inline(always)]
-pub(crate) fn bits_between(v: u16x8, above: u16, upto: u16) -> u64
-    ensures { result ≡ mask_l (map (is_between above upto) v) }
-{
-    (v.simd_gt(u16x8::splat(above)) & v.simd_le(u16x8::splat(upto))).to_bitmask()
-}
+/// Eight numbers of 16 bits.
+#[derive(Clone, Copy)]
+pub struct NarrowBlock(u16x8);
 
-/// A bit for each lane, the first the lowest, that says whether it is this number.
-#[inline(always)]
-pub(crate) fn bits_equal(v: u16x8, number: u16) -> u64
-    ensures { result ≡ mask_l (map (λ x. x == number) v) }
-{
-    v.simd_eq(u16x8::splat(number)).to_bitmask()
+impl Block for NarrowBlock {
+    type Number = u16;
+
+    ghost GREATEST = { 65535 };
+
+    const GREATEST: u64 = u16::MAX as u64;
+
+    ghost numbers = { λ block. block.0 };
+
+    ghost value = { λ number. number };
+
+    #[inline(always)]
+    fn narrowed(number: u64) -> u16 {
+        number as u16
+    }
+
+    #[inline(always)]
+    fn widened(number: u16) -> u64 {
+        u64::from(number)
+    }
+
+    #[inline(always)]
+    fn splat(number: u64) -> Self {
+        NarrowBlock(u16x8::splat(number as u16))
+    }
+
+    #[inline(always)]
+    fn load(row: &[u16], block: usize) -> Self {
+        NarrowBlock(u16x8::from_slice(&row[8 * block..]))
+    }
+
+    #[inline(always)]
+    fn serve(
+        heads: Self,
+        times: Self,
+        tails: Self,
+        least: Self,
+        clock: Self,
+        most: Self,
+    ) -> (Self, Self) {
+        let zero = u16x8::splat(0);
+        let waits = heads.0.simd_ge(least.0);
+        let ends = sums_up_to(waits.select(times.0, zero)).strict_add(clock.0);
+        let late = waits.select(ends.strict_add(tails.0), zero);
+        let last = ends.swizzle([7, 7, 7, 7, 7, 7, 7, 7]);
+        (NarrowBlock(last), NarrowBlock(most.0.simd_max(late)))
+    }
+
+    #[inline(always)]
+    fn lesser(a: Self, b: Self) -> Self {
+        NarrowBlock(lesser(a.0, b.0))
+    }
+
+    #[inline(always)]
+    fn greatest_of(block: Self) -> u64 {
+        u64::from(greatest_lane(block.0))
+    }
+
+    #[inline(always)]
+    fn least_of(block: Self) -> u64 {
+        u64::from(least_lane(block.0))
+    }
+
+    #[inline(always)]
+    fn bits_between(block: Self, above: u64, upto: u64) -> u64 {
+        let later = block.0.simd_gt(u16x8::splat(above as u16));
+        let early = block.0.simd_le(u16x8::splat(upto as u16));
+        (later & early).to_bitmask()
+    }
+
+    #[inline(always)]
+    fn bits_equal(block: Self, number: u64) -> u64 {
+        block.0.simd_eq(u16x8::splat(number as u16)).to_bitmask()
+    }
 }

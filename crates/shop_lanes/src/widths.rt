@@ -1,6 +1,8 @@
 // What rows of numbers can do, whatever the width of a lane.
-ghost use Rattle.std.specs.Prelude.{◌≡◌, ℕ, ◌+◌, ◌-◌, ◌*◌, ◌%◌, ◌<◌, ◌≤◌, max, All, IfOk, length, slice_index};
-ghost use Rattle.shop_lanes.specs.Rows.{Rows, AreBlocks, lanes_between, at_rest, with_head, with_end};
+ghost use Rattle.std.specs.Prelude.{◌≡◌, ℕ, ◌+◌, ◌-◌, ◌*◌, ◌%◌, ◌<◌, ◌≤◌, max, All, IfOk, length};
+ghost use Rattle.std.specs.Prelude.{slice_index};
+ghost use Rattle.shop_lanes.specs.Rows.{Rows, AreBlocks, lanes_between, at_rest, with_head};
+ghost use Rattle.shop_lanes.specs.Rows.{with_end};
 ghost use Rattle.shop_lanes.specs.Spans.{span, spans_between, FitsSpan};
 ghost use Rattle.shop_lanes.specs.Marks.{positions_below};
 ghost use Rattle.shop_lanes.specs.Ends.{IsFirstLeast};

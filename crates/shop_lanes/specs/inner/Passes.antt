@@ -4,14 +4,18 @@
 --     greatest xs                    the greatest number, 0 if there is none
 --     least_up_to top xs             the least of the numbers and `top`
 --     is_between above upto x        x is above the one and at most the other
-use Rattle.std.specs.Prelude.{◌≡◌, ◌≢◌, ℕ, ◌+◌, ◌-◌, ◌%◌, drop, replicate, ◌<◌, ◌≤◌, length, min, max, Bool, ◌&&◌, List, [], ◌∷◌, if◌then◌else◌, nat_le, nat_lt, get_or}
-use Rattle.shop_lanes.specs.Rows.{Lane}
-use Rattle.shop_lanes.specs.Spans.{span, FitsSpan}
+use Rattle.std.specs.Prelude.{take, ◌≡◌, ◌≢◌, ℕ, ◌+◌, ◌-◌, ◌%◌, drop, replicate, ◌<◌, ◌≤◌, length}
+use Rattle.std.specs.Prelude.{min, max, Bool, ◌&&◌, List, [], ◌∷◌, if◌then◌else◌, nat_le, nat_lt}
+use Rattle.std.specs.Prelude.{get_or, map, slice_index}
+use Rattle.shop_lanes.specs.Rows.{Rows, Lane, lanes}
+use Rattle.shop_lanes.specs.Spans.{span, spans_between, FitsSpan}
 
 abbrev pub clock_after : ℕ → ℕ → List Lane → ℕ
 clock_after least start [] = start
 clock_after least start (x ∷ xs) =
-    if nat_le least x.head then clock_after least (start + x.time) xs else clock_after least start xs
+    if nat_le least x.head
+    then clock_after least (start + x.time) xs
+    else clock_after least start xs
 
 abbrev pub running : ℕ → List ℕ → List ℕ
 running start [] = []
@@ -28,16 +32,89 @@ least_up_to top (x ∷ xs) = min x (least_up_to top xs)
 abbrev pub is_between : ℕ → ℕ → ℕ → Bool
 is_between above upto x = nat_lt above x && nat_le x upto
 
--- the greatest span from the head at a position on, of those that begin no earlier, over some positions
+-- the greatest span from the head at a position on, of those that begin no earlier, over some
+-- positions
 abbrev pub spans_at : List ℕ → List Lane → List ℕ → ℕ
 spans_at heads all [] = 0
-spans_at heads all (p ∷ ps) = max (span (get_or heads p 0) (get_or heads p 0) all) (spans_at heads all ps)
+spans_at heads all (p ∷ ps) =
+    max (span (get_or heads p 0) (get_or heads p 0) all) (spans_at heads all ps)
 
 -- there is a head at each of these positions, and a span from it on fits
 abbrev pub AreSmallAt : ℕ → List ℕ → List Lane → List ℕ → Type 0
 AreSmallAt limit heads all [] = Unit {0}
 AreSmallAt limit heads all (p ∷ ps) =
     (p < length heads) × FitsSpan limit (get_or heads p 0) all × AreSmallAt limit heads all ps
+
+abbrev pub first_of : List ℕ → ℕ
+first_of xs = slice_index xs 0
+
+-- the same number in each of eight lanes
+abbrev pub IsSplat : List ℕ → Type 0
+IsSplat xs = xs ≡ replicate 8 (first_of xs)
+
+-- the lanes of three rows, whose elements stand for these numbers
+abbrev pub lanes_by : {A : Type 0} → (A → ℕ) → List A → List A → List A → List Lane
+lanes_by value heads times tails = lanes (map value heads) (map value times) (map value tails)
+
+abbrev pub rows_of : List ℕ → List ℕ → List ℕ → List ℕ → Rows
+rows_of heads times tails ends =
+    record { heads = heads; times = times; tails = tails; ends = ends }
+
+-- rows of elements that stand for these numbers, with the ends of so many jobs
+abbrev pub seen : {A : Type 0} → (A → ℕ) → List A → List A → List A → ℕ → List A → Rows
+seen value heads times tails jobs ends =
+    rows_of (map value heads) (map value times) (map value tails) (take jobs (map value ends))
+
+abbrev pub AreSmallBy : {A : Type 0} → (A → ℕ) → List A → List A → List A → List ℕ → ℕ → Type 0
+AreSmallBy value heads times tails marks limit =
+    AreSmallAt limit (map value heads) (lanes_by value heads times tails) marks
+
+abbrev pub spans_by : {A : Type 0} → (A → ℕ) → List A → List A → List A → ℕ → ℕ → ℕ
+spans_by value heads times tails above upto =
+    spans_between above upto (lanes_by value heads times tails)
+
+-- the lanes of three blocks, which stand for these lists of numbers
+abbrev pub lanes_in : {B : Type 0} → (B → List ℕ) → B → B → B → List Lane
+lanes_in numbers heads times tails = lanes (numbers heads) (numbers times) (numbers tails)
+
+abbrev pub FitsFrom : {B : Type 0} → ℕ → (B → List ℕ) → B → B → B → B → Type 0
+FitsFrom limit numbers heads times tails clock =
+    FitsSpan limit (first_of (numbers clock)) (lanes_in numbers heads times tails)
+
+-- eight numbers whose greatest is that of the ones before, or `end` if that is greater
+pub record AreRaised {B : Type 0} (numbers : B → List ℕ) (before : B) (end : ℕ) (after : B)
+    : Type 0 where
+  pub eight : length (numbers after) ≡ 8
+  pub most : greatest (numbers after) ≡ max (greatest (numbers before)) end
+
+-- raised by the span of these rows
+abbrev pub HasSpan : {A B : Type 0} → (B → List ℕ) → (A → ℕ) → List A → List A → List A → ℕ → ℕ
+    → B → B → Type 0
+HasSpan numbers value heads times tails least start before after =
+    AreRaised numbers before (span least start (lanes_by value heads times tails)) after
+
+-- raised by their spans from the heads at these positions on
+abbrev pub HasSpans : {A B : Type 0} → (B → List ℕ) → (A → ℕ) → List A → List A → List A → List ℕ
+    → B → B → Type 0
+HasSpans numbers value heads times tails marks before after =
+    let spans = spans_at (map value heads) (lanes_by value heads times tails) marks
+    in AreRaised numbers before spans after
+
+-- the clock after some lanes are served from `least` and `clock` on, and the span of that
+abbrev pub next_clock : {B : Type 0} → (B → List ℕ) → List Lane → B → B → ℕ
+next_clock numbers xs least clock =
+    clock_after (first_of (numbers least)) (first_of (numbers clock)) xs
+
+abbrev pub span_from : {B : Type 0} → (B → List ℕ) → List Lane → B → B → ℕ
+span_from numbers xs least clock = span (first_of (numbers least)) (first_of (numbers clock)) xs
+
+-- eight lanes served: the clock in each lane of `after`, and the ends so far in `later`
+pub record AreServed {B : Type 0} (numbers : B → List ℕ) (heads times tails least clock most : B)
+    (served : B × B) : Type 0 where
+  pub clock_is : numbers served.0
+      ≡ replicate 8 (next_clock numbers (lanes_in numbers heads times tails) least clock)
+  pub raised : AreRaised numbers most
+      (span_from numbers (lanes_in numbers heads times tails) least clock) served.1
 
 -- i is the first position of the number, or their count if it is none of them
 pub record IsFirstOf (xs : List ℕ) (number i : ℕ) : Type 0 where
@@ -50,3 +127,4 @@ pub record IsPadded (none jobs : ℕ) (ends : List ℕ) : Type 0 where
   pub whole_blocks : length ends % 8 ≡ 0
   pub within : jobs ≤ length ends
   pub rest : drop jobs ends ≡ replicate (length ends - jobs) none
+  pub least : (k : ℕ) → get_or ends k 0 ≤ none

@@ -1,6 +1,7 @@
 use Rattle.std.proofs.Common.{◌≡◌, max, arith, rules, inl, inr}
 use Rattle.shop_lanes.proofs.SpanTurns.{spans_on, spans_off, spans_end}
-use Rattle.shop_lanes.proofs.plain_rows.greatest_span.Goals.{then-head-above-via-then-head-above, then-head-above-via-else-head-above+then-upto-head}
+use Rattle.shop_lanes.proofs.plain_rows.greatest_span.Goals.{then-head-above-via-then-head-above}
+use Rattle.shop_lanes.proofs.plain_rows.greatest_span.Goals.{then-head-above-via-else-head-above+then-upto-head}
 use Rattle.shop_lanes.proofs.plain_rows.greatest_span.Goals as goal
 
 pub loop-head-preserved-then-head-above : goal.loop-head-preserved-then-head-above

@@ -1,5 +1,0 @@
-use Rattle.shop_lanes.proofs.Padding.{padded_none}
-use Rattle.shop_lanes.proofs.narrow_rows.no_ends.Goals as goal
-
-pub returns : goal.returns
-returns c = padded_none 65535 c.args.jobs _ (c.in_ok-vec.ensures.items_if_clones_equal (λ y e. e))

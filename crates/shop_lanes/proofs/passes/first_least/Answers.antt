@@ -1,0 +1,18 @@
+use Rattle.std.proofs.Common.{arith, map}
+use Rattle.std.proofs.lemmas.List.{length-map}
+use Rattle.shop_lanes.proofs.BlockMasks.{first_of_least}
+use Rattle.shop_lanes.proofs.Extremes.{least_le_top}
+use Rattle.shop_lanes.proofs.passes.first_least.Goals as goal
+
+pub position_of-requires-clause-fits : goal.position_of-requires-clause-fits
+position_of-requires-clause-fits g c =
+    let top = least_le_top g.B.Block.GREATEST (map g.B.Block.value c.args.numbers.now)
+    in omega (arith, c.least_number.ensures, top)
+
+pub returns : goal.returns
+returns g c =
+    let row = map g.B.Block.value c.args.numbers.now
+    in let some = c.requires.some
+    in first_of_least g.B.Block.GREATEST row c.least_number.result c.position_of.result
+    (omega (arith, length-map c.args.numbers.now g.B.Block.value)) c.requires.fits c.least_number.ensures
+    c.position_of.ensures

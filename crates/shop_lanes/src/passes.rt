@@ -1,0 +1,158 @@
+// Passes over rows of numbers, a block of eight at a time.
+ghost use Rattle.std.specs.Prelude.{◌≡◌, ℕ, ◌+◌, ◌*◌, ◌%◌, ◌^◌, ◌<◌, ◌≤◌, max, length, map};
+ghost use Rattle.std.specs.Prelude.{slice_index};
+ghost use Rattle.std.specs.Simd.Lanes.{mask_l};
+ghost use Rattle.shop_lanes.specs.Spans.{FitsSpan};
+ghost use Rattle.shop_lanes.specs.Ends.{IsFirstLeast};
+ghost use Rattle.shop_lanes.specs.inner.Passes.{is_between, least_up_to, lanes_by, spans_by};
+ghost use Rattle.shop_lanes.specs.inner.Passes.{HasSpan, HasSpans, AreSmallBy, IsFirstOf};
+
+use crate::blocks::Block;
+use crate::marking::Marks;
+
+/// The pass over all blocks: in the lanes the greatest of `most` and the ends, tails included.
+#[inline(always)]
+pub(crate) fn span_of<B: Block>(
+    heads: &[B::Number],
+    times: &[B::Number],
+    tails: &[B::Number],
+    least: u64,
+    start: u64,
+    most: B,
+) -> B
+    requires whole_blocks { length heads.now % 8 ≡ 0 }
+    requires times { length times.now ≡ length heads.now }
+    requires tails { length tails.now ≡ length heads.now }
+    requires least { least ≤ B.GREATEST }
+    requires most { length (B.numbers most) ≡ 8 }
+    requires fits { FitsSpan B.GREATEST start (lanes_by B.value heads.now times.now tails.now) }
+    ensures { HasSpan B.numbers B.value heads.now times.now tails.now least start most result }
+{
+    let least = B::splat(least);
+    let mut clock = B::splat(start);
+    let mut most = most;
+    for block in 0..heads.len() / 8 {
+        let (after, later) = B::serve(
+            B::load(heads, block),
+            B::load(times, block),
+            B::load(tails, block),
+            least,
+            clock,
+            most,
+        );
+        clock = after;
+        most = later;
+    }
+    most
+}
+
+/// The greatest of `most` and the spans from the heads at these positions on.
+#[inline(always)]
+fn spans_of<B: Block>(
+    heads: &[B::Number],
+    times: &[B::Number],
+    tails: &[B::Number],
+    marks: Marks,
+    most: B,
+) -> B
+    requires whole_blocks { length heads.now % 8 ≡ 0 }
+    requires times { length times.now ≡ length heads.now }
+    requires tails { length tails.now ≡ length heads.now }
+    requires most { length (B.numbers most) ≡ 8 }
+    requires fits { AreSmallBy B.value heads.now times.now tails.now marks B.GREATEST }
+    ensures { HasSpans B.numbers B.value heads.now times.now tails.now marks most result }
+{
+    let mut marks = marks;
+    let mut most = most;
+    while let Some(position) = marks.pop_first() {
+        let head = B::widened(heads[position]);
+        most = span_of(heads, times, tails, head, head, most);
+    }
+    most
+}
+
+/// The greatest of `most` and the spans from each head above `above` and up to `upto` on.
+#[inline(always)]
+pub(crate) fn greatest_span<B: Block>(
+    heads: &[B::Number],
+    times: &[B::Number],
+    tails: &[B::Number],
+    above: u64,
+    upto: u64,
+    most: u64,
+) -> u64
+    requires whole_blocks { length heads.now % 8 ≡ 0 }
+    requires times { length times.now ≡ length heads.now }
+    requires tails { length tails.now ≡ length heads.now }
+    requires room { length heads.now + 64 ≤ 2 ^ 64 }
+    requires above { above ≤ B.GREATEST }
+    requires most { most ≤ B.GREATEST }
+    requires fits { FitsSpan B.GREATEST upto (lanes_by B.value heads.now times.now tails.now) }
+    ensures { result ≡ max most (spans_by B.value heads.now times.now tails.now above upto) }
+{
+    let mut most = B::splat(most);
+    for block in 0..heads.len() / 8 {
+        let bits = B::bits_between(B::load(heads, block), above, upto);
+        most = spans_of(heads, times, tails, Marks::new(8 * block, bits), most);
+    }
+    B::greatest_of(most)
+}
+
+/// A bit for each number, the first the lowest, that says whether it is above 0 and at most `upto`.
+#[inline(always)]
+pub(crate) fn bits_up_to<B: Block>(heads: &[B::Number], upto: u64) -> u64
+    requires whole_blocks { length heads.now % 8 ≡ 0 }
+    requires few { length heads.now ≤ 64 }
+    requires fits { upto ≤ B.GREATEST }
+    ensures { result ≡ mask_l (map (is_between 0 upto) (map B.value heads.now)) }
+{
+    let mut bits = 0;
+    let mut block = heads.len() / 8;
+    while block > 0 {
+        block -= 1;
+        bits = B::bits_between(B::load(heads, block), 0, upto) + 256 * bits;
+    }
+    bits
+}
+
+/// The least number.
+#[inline(always)]
+fn least_number<B: Block>(numbers: &[B::Number]) -> u64
+    requires { length numbers.now % 8 ≡ 0 }
+    ensures { result ≡ least_up_to B.GREATEST (map B.value numbers.now) }
+{
+    let mut least = B::splat(B::GREATEST);
+    for block in 0..numbers.len() / 8 {
+        least = B::lesser(least, B::load(numbers, block));
+    }
+    B::least_of(least)
+}
+
+/// The position of the first number that is this one; how many there are if none is.
+#[inline(always)]
+fn position_of<B: Block>(numbers: &[B::Number], number: u64) -> usize
+    requires whole_blocks { length numbers.now % 8 ≡ 0 }
+    requires room { length numbers.now + 8 ≤ 2 ^ 64 }
+    requires fits { number ≤ B.GREATEST }
+    ensures { IsFirstOf (map B.value numbers.now) number result }
+{
+    for block in 0..numbers.len() / 8 {
+        let bits = B::bits_equal(B::load(numbers, block), number);
+        if bits != 0 {
+            return 8 * block + bits.trailing_zeros() as usize;
+        }
+    }
+    numbers.len()
+}
+
+/// The position of the first of the least numbers.
+#[inline(always)]
+pub(crate) fn first_least<B: Block>(numbers: &[B::Number]) -> usize
+    requires whole_blocks { length numbers.now % 8 ≡ 0 }
+    requires room { length numbers.now + 8 ≤ 2 ^ 64 }
+    requires some { 0 < length numbers.now }
+    requires fits { (k : ℕ) → slice_index (map B.value numbers.now) k ≤ B.GREATEST }
+    ensures { IsFirstLeast (map B.value numbers.now) result }
+{
+    position_of::<B>(numbers, least_number::<B>(numbers))
+}
