@@ -59,3 +59,4 @@ pub mod LatestEnds
 pub mod MachineLanes
 pub mod ChildExits
 pub mod LaneBoundTurns
+pub mod LaneFits

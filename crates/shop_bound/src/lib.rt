@@ -6,6 +6,7 @@ mod desks;
 mod head_rows;
 mod kept_heads;
 mod lane_bounds;
+mod latest_ends;
 mod laws;
 mod layings;
 mod layouts;
