@@ -101,11 +101,14 @@ module _ (raises : List Raise) (m a b : ℕ) (known : m < length raises) (after 
       | inl same ↦ subst (IsNoteWithin after ms heads) (sym (ap (λ (n : ℕ). get_or notes n e) same
           ∙ get_or_default notes k e d here)) (let f = ap (λ (r : Raise). r.from) (raise_here _ (sym at))
           in let t = ap (λ (r : Raise). r.to) (raise_here _ (sym at))
-          in record { from = omega arith; to = omega arith })
+          in record { from = λ some. omega arith; to = λ some. omega arith })
       | inr ne ↦ (let w = within i e (omega arith)
           in let f = raise_from (get_or ms (get_or notes i e).position 0)
           in let t = raise_to (get_or ms (get_or notes i e).position 0)
-          in let x = w.from in let y = w.to in record { from = omega arith; to = omega arith })
+          in record {
+            from = λ some. (let x = w.from some in omega arith);
+            to = λ some. (let y = w.to some in omega arith);
+          })
     ]
 
   pub up_to_turn : (top : ℕ) → b ≤ top → AreRaisesUpTo top raises → AreRaisesUpTo top after
@@ -116,6 +119,18 @@ module _ (raises : List Raise) (m a b : ℕ) (known : m < length raises) (after 
         | inl e ↦ (let f = ap (λ (r : Raise). r.to) (raise_here i e) in let u = up_to m known in omega arith)
         | inr ne ↦ (let f = ap (λ (r : Raise). r.to) (raise_other i ne) in let u = up_to i (omega arith) in omega arith)
       ]
+
+-- one more note, at a position where nothing waits now
+pub within_none : (raises : List Raise) (ms heads : List ℕ) (notes : List Note) (k : ℕ) (d : Note)
+    → get_or heads (get_or notes k d).position 0 ≡ 0 → k < length notes
+    → ((i : ℕ) (e : Note) → i < k → IsNoteWithin raises ms heads (get_or notes i e)) → (i : ℕ) (e : Note)
+    → i < k + 1 → IsNoteWithin raises ms heads (get_or notes i e)
+within_none raises ms heads notes k d none here within i e below = elim (cases_eq i k) [
+  | inl same ↦ subst (IsNoteWithin raises ms heads) (sym (ap (λ (n : ℕ). get_or notes n e) same
+      ∙ get_or_default notes k e d here))
+      (record { from = λ some. absurd (omega arith); to = λ some. absurd (omega arith) })
+  | inr ne ↦ within i e (omega arith)
+]
 
 -- one more machine looked at for its raise
 pub covers_turn : (raises : List Raise) (rows : Rows) (l : LayoutState) (n old new : ℕ) → old ≤ new

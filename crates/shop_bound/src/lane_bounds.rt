@@ -1,13 +1,13 @@
 // Bounds by heads in lanes.
-ghost use Rattle.std.specs.Prelude.{◌≡◌, ℕ, ◌+◌, ◌-◌, ◌*◌, ◌≤◌, ◌<◌, ◌^◌, All, IfOk, length, slice_index, true, max};
-ghost use Rattle.shop_lanes.specs.Rows.{AreBlocks};
+ghost use Rattle.std.specs.Prelude.{◌≡◌, ℕ, ◌+◌, ◌-◌, ◌*◌, ◌≤◌, ◌<◌, ◌^◌, All, IfOk, length, slice_index, true, false, max};
+ghost use Rattle.shop_lanes.specs.Rows.{AreBlocks, lanes_between};
 ghost use Rattle.shop_lanes.specs.Spans.{FitsSpan, span, spans_between};
 ghost use Rattle.shop_model.specs.Shop.{greatest_below};
 ghost use Rattle.shop_bound.specs.inner.KeptHeads.{raise_of};
 ghost use Rattle.shop_bound.specs.inner.LaneBounds.{AreMachinesAt, AreRaisesUpTo, AreSpansFit, IsNoteWithin};
-ghost use Rattle.shop_bound.specs.inner.LaneBounds.{NoneBelow, lanes_on, part_by_spans};
+ghost use Rattle.shop_bound.specs.inner.LaneBounds.{Foresees, NoneBelow, lanes_on, part_by_spans};
 
-use crate::kept_heads::Raise;
+use crate::kept_heads::{NO_RAISE, Raise};
 use crate::layouts::Layout;
 use crate::notes::Note;
 use shop_lanes::Lanes;
@@ -80,7 +80,7 @@ pub(crate) fn bound_by_raises<L: Lanes>(
     bound
 }
 
-/// Widens the raises of the machines by what was noted and what stands at these positions now.
+/// Widens the raises of the machines by what was noted and what stands at these positions now, where something waits.
 #[inline(always)]
 pub(crate) fn widen<L: Lanes>(raises: &mut [Raise], machines: &[u32], lanes: &L, notes: &[Note])
     requires notes { All (λ n. n.position < length (L.rows lanes.now).heads) notes.now }
@@ -92,9 +92,87 @@ pub(crate) fn widen<L: Lanes>(raises: &mut [Raise], machines: &[u32], lanes: &L,
         → AreRaisesUpTo top raises.old → AreRaisesUpTo top raises.new }
 {
     for note in notes {
-        let position = note.position as usize;
-        let machine = machines[position] as usize;
-        raises[machine] = raises[machine].with(note.head, lanes.head(position));
+        let head = lanes.head(note.position);
+        if head == 0 {
+            continue;
+        }
+        let machine = machines[note.position] as usize;
+        raises[machine] = raises[machine].with(note.head, head);
+    }
+}
+
+/// The same raise of each machine.
+#[inline(always)]
+fn set_all(raises: &mut [Raise], raise: Raise)
+    ensures long { length raises.new ≡ length raises.old }
+    ensures all { (m : ℕ) → m < length raises.new → raise_of raises.new m ≡ raise }
+{
+    for m in 0..raises.len() {
+        raises[m] = raise;
+    }
+}
+
+/// The raises of the machines, if these heads were noted since; if not all was noted, all may have changed.
+#[inline(always)]
+pub(crate) fn set_raises<L: Lanes>(
+    raises: &mut [Raise],
+    machines: &[u32],
+    lanes: &L,
+    notes: &[Note],
+    whole: bool,
+    top: u64,
+)
+    requires notes { All (λ n. n.position < length (L.rows lanes.now).heads) notes.now }
+    requires positions { length machines.now ≡ length (L.rows lanes.now).heads }
+    requires known { (q : ℕ) → q < length machines.now → slice_index machines.now q < length raises.old }
+    requires small { (q : ℕ) → slice_index (L.rows lanes.now).heads q ≤ top }
+    ensures long { length raises.new ≡ length raises.old }
+    ensures within { whole ≡ true → All (IsNoteWithin raises.new machines.now (L.rows lanes.now).heads) notes.now }
+    ensures all { whole ≡ false → (m : ℕ) → m < length raises.new
+        → raise_of raises.new m ≡ record { from = 0; to = top } }
+    ensures up_to { AreRaisesUpTo top raises.new }
+{
+    if whole {
+        set_all(raises, NO_RAISE);
+        widen(raises, machines, lanes, notes);
+    } else {
+        set_all(raises, Raise { from: 0, to: top });
+    }
+}
+
+/// A bound so far, and whether it is the whole one or reaches the limit.
+#[derive(Clone, Copy, Debug)]
+pub(crate) struct Foreseen {
+    pub bound: u64,
+    pub is_final: bool,
+}
+
+/// What is known of the bound before any head is raised to the end: it is `least` if nothing in the machine's blocks
+/// waits with a head below the end, and else at least what all that waits there comes to from the end on.
+#[inline(always)]
+pub(crate) fn look_ahead<L: Lanes>(
+    lanes: &L,
+    from: usize,
+    to: usize,
+    end: u64,
+    least: u64,
+    limit: u64,
+) -> Foreseen
+    requires blocks { AreBlocks (L.rows lanes.now) from to }
+    requires fits { FitsSpan L.GREATEST end (lanes_between (L.rows lanes.now) from to) }
+    requires some { 0 < end }
+    ensures { Foresees (L.rows lanes.now) from to end least limit result }
+{
+    if is_none_below(lanes, from, to, end) {
+        return Foreseen {
+            bound: least,
+            is_final: true,
+        };
+    }
+    let bound = least.max(lanes.span(from, to, 1, end, 0).saturating_sub(1));
+    Foreseen {
+        bound,
+        is_final: limit <= bound,
     }
 }
 

@@ -4,12 +4,13 @@
 --     NoneBelow heads from to limit  nothing waits in these blocks with a head below the limit
 --     AreMachinesAt l machines ms    the machine of each position
 --     AreNoted raises machines ..    each note is within its machine's raise
-use Rattle.std.specs.Prelude.{◌≡◌, ℕ, ◌+◌, ◌-◌, ◌*◌, ◌≤◌, ◌<◌, ◌⊎◌, max, List, length, slice_index}
+use Rattle.std.specs.Prelude.{◌≡◌, true, ℕ, ◌+◌, ◌-◌, ◌*◌, ◌≤◌, ◌<◌, ◌⊎◌, max, List, length, slice_index}
 use Rattle.shop_lanes.specs.Rows.{Rows, Lane, AreBlocks, lanes_between}
-use Rattle.shop_lanes.specs.Spans.{spans_between, FitsSpan}
+use Rattle.shop_lanes.specs.Spans.{span, spans_between, FitsSpan}
 use Rattle.shop_bound.specs.inner.KeptHeads.{raise_of}
 use Rattle.shop_bound.specs.inner.Layouts.{LayoutState, first_of}
 use Rattle.shop_bound.specs.declared.kept_heads.Raise.{Raise}
+use Rattle.shop_bound.specs.declared.lane_bounds.Foreseen.{Foreseen}
 use Rattle.shop_bound.specs.declared.notes.Note.{Note}
 
 abbrev pub lanes_on : Rows → LayoutState → ℕ → List Lane
@@ -33,11 +34,21 @@ pub record AreMachinesAt (l : LayoutState) (machines : ℕ) (ms : List ℕ) : Ty
   pub known : (q : ℕ) → q < length ms → slice_index ms q < machines
   pub at : (m q : ℕ) → m < machines → first_of l m ≤ q → q < first_of l (m + 1) → slice_index ms q ≡ m
 
--- what stood before and what stands now at its position is within the raise of its machine
+-- if something waits at its position now, what stood there before and what stands there now are within the raise of its
+-- machine
 pub record IsNoteWithin (raises : List Raise) (ms heads : List ℕ) (note : Note) : Type 0 where
-  pub from : (raise_of raises (slice_index ms note.position)).from ≤ note.head
-  pub to : slice_index heads note.position ≤ (raise_of raises (slice_index ms note.position)).to
+  pub from : 0 < slice_index heads note.position
+      → (raise_of raises (slice_index ms note.position)).from ≤ note.head
+  pub to : 0 < slice_index heads note.position
+      → slice_index heads note.position ≤ (raise_of raises (slice_index ms note.position)).to
 
 -- no raise goes beyond
 abbrev pub AreRaisesUpTo : ℕ → List Raise → Type 0
 AreRaisesUpTo top raises = (m : ℕ) → m < length raises → (raise_of raises m).to ≤ top
+
+-- the bound is `least` if nothing waits below the end; it is else at least `least`, and no more than that or the span of
+-- all that waits from the end on
+pub record Foresees (rows : Rows) (from to end least limit : ℕ) (f : Foreseen) : Type 0 where
+  pub low : least ≤ f.bound
+  pub high : f.bound ≤ max least (span 1 end (lanes_between rows from to) - 1)
+  pub final : f.is_final ≡ true → (NoneBelow rows.heads from to end × (f.bound ≡ least)) ⊎ (limit ≤ f.bound)

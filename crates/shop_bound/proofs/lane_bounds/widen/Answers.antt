@@ -3,7 +3,7 @@ use Rattle.std.proofs.lemmas.List.{length-set}
 use Rattle.shop_bound.specs.declared.kept_heads.Raise.{Raise}
 use Rattle.shop_bound.specs.declared.notes.Note.{Note}
 use Rattle.shop_bound.specs.inner.KeptHeads.{raise_of, widened}
-use Rattle.shop_bound.proofs.LaneBoundTurns.{up_to_turn, within_turn}
+use Rattle.shop_bound.proofs.LaneBoundTurns.{up_to_turn, within_none, within_turn}
 use Rattle.shop_bound.proofs.lane_bounds.widen.Goals as goal
 
 pub loop-note-preserved : goal.loop-note-preserved
@@ -19,13 +19,27 @@ loop-note-preserved g c =
     in let positions = c.requires.positions
     in let known = c.requires.known note.position (omega arith)
     in let is : set c.loop-note.raises m c.with.result
-    ≡ set c.loop-note.raises m (widened (raise_of c.loop-note.raises m) note.head c.head.result) =
+    ≡ set c.loop-note.raises m (widened (raise_of c.loop-note.raises m) note.head c.head-head.result) =
     ap (λ (r : Raise). set c.loop-note.raises m r) c.with.ensures
     in record {
       long = length-set c.loop-note.raises m c.with.result ∙ long;
-      within = within_turn c.loop-note.raises m note.head c.head.result (omega arith) _ is c.args.machines.now heads
-          c.args.notes.now k d refl refl c.head.ensures here c.loop-note.invariant.within;
-      up_to = λ top small up_to. up_to_turn c.loop-note.raises m note.head c.head.result (omega arith) _ is top
-          (let a = c.head.ensures in let b = small note.position in omega arith)
+      within = within_turn c.loop-note.raises m note.head c.head-head.result (omega arith) _ is c.args.machines.now heads
+          c.args.notes.now k d refl refl c.head-head.ensures here c.loop-note.invariant.within;
+      up_to = λ top small up_to. up_to_turn c.loop-note.raises m note.head c.head-head.result (omega arith) _ is top
+          (let a = c.head-head.ensures in let b = small note.position in omega arith)
           (c.loop-note.invariant.up_to top small up_to);
+    }
+
+pub loop-note-preserved-then-head-eq0 : goal.loop-note-preserved-then-head-eq0
+loop-note-preserved-then-head-eq0 g c =
+    let d : Note = record { position = 0; head = 0 }
+    in let k = c.loop-note.note-index
+    in let here = c.loop-note-test.true
+    in let inside = c.requires.notes k d here
+    in let none = c.if-head-eq0.true in let read = c.head-head.ensures
+    in record {
+      long = c.loop-note.invariant.long;
+      within = within_none c.loop-note.raises c.args.machines.now (g.L.Lanes.rows c.args.lanes.now).heads
+          c.args.notes.now k d (omega arith) here c.loop-note.invariant.within;
+      up_to = c.loop-note.invariant.up_to;
     }
