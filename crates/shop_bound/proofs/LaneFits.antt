@@ -1,19 +1,19 @@
 -- What lanes must hold: the sums of a machine's times stay small, and its spans fit.
-use Rattle.std.proofs.Common.{◌≡◌, ℕ, zero, suc, ◌+◌, ◌-◌, ◌*◌, ◌^◌, ◌≤◌, ◌<◌, max, inl, inr, List, [], ◌∷◌, length}
-use Rattle.std.proofs.Common.{get_or, take, drop, refl, sym, ◌∙◌, ap, subst, arith, length-drop}
-use Rattle.std.specs.List.{sum_by, AllByRecursion}
+use Rattle.std.proofs.Common.{◌≡◌, ℕ, zero, suc, ◌+◌, ◌-◌, ◌*◌, ◌^◌, ◌≤◌, ◌<◌, inl, inr, List, [], ◌∷◌, length}
+use Rattle.std.proofs.Common.{get_or, drop, refl, sym, ◌∙◌, ap, arith}
+use Rattle.std.specs.List.{sum_by}
 use Rattle.std.proofs.lemmas.Bool.{cases_lt}
 use Rattle.std.proofs.lemmas.List.{get_or-take, get_or-drop, get_or_past}
 use Rattle.std.proofs.lemmas.List.Sums.{sum_by-cons, sum_by-take-drop}
-use Rattle.shop_lanes.specs.Rows.{Rows, Lane, AreBlocks, lanes, blocks, lanes_between}
-use Rattle.shop_lanes.specs.Spans.{FitsSpan, greatest_by}
+use Rattle.shop_lanes.specs.Rows.{Rows, Lane, lanes, blocks}
+use Rattle.shop_lanes.specs.Spans.{greatest_by}
 use Rattle.shop_lanes.proofs.LaneLists.{lanes-blocks, length-blocks}
 use Rattle.shop_model.specs.declared.ops.Op.{Op}
 use Rattle.shop_model.specs.Limits.{IsWithinLimits}
 use Rattle.shop_model.specs.Shop.{Shop, route_of, time_of}
 use Rattle.shop_bound.specs.OneMachine.{greatest_of}
 use Rattle.shop_bound.specs.Heads.{tail_in}
-use Rattle.shop_bound.specs.inner.HeadLimits.{total_before, latest_end, load_of, load_on, FitsLanes}
+use Rattle.shop_bound.specs.inner.HeadLimits.{total_before, latest_end, load_on, FitsLanes}
 use Rattle.shop_bound.specs.inner.LaneBounds.{AreSpansFit, lanes_on}
 use Rattle.shop_bound.specs.inner.Layouts.{LayoutState, IsLaidOut, first_of}
 use Rattle.shop_bound.specs.declared.slots.Slot.{Slot}

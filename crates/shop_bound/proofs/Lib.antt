@@ -60,3 +60,4 @@ pub mod MachineLanes
 pub mod ChildExits
 pub mod LaneBoundTurns
 pub mod LaneFits
+pub mod ChildRaises

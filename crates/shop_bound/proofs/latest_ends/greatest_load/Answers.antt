@@ -1,7 +1,6 @@
 use Rattle.std.proofs.Common.{◌≡◌, ◌+◌, ◌<◌, ◌∙◌, ℕ, List, inl, inr, length, ap, arith, get_or}
 use Rattle.std.proofs.lemmas.Bool.{cases_eq}
 use Rattle.shop_lanes.specs.Rows.{blocks}
-use Rattle.shop_model.specs.Shop.{Shop}
 use Rattle.shop_bound.specs.inner.HeadLimits.{load_of, load_on}
 use Rattle.shop_bound.specs.inner.Layouts.{LayoutState}
 use Rattle.shop_bound.proofs.LaneFits.{machine_in, load_small}
@@ -55,4 +54,3 @@ loop-machine-preserved c =
       ];
       small = omega arith;
     }
-

@@ -1,7 +1,7 @@
-use Rattle.std.proofs.Common.{◌≡◌, ◌*◌, ◌≤◌, length, List, ap, arith}
+use Rattle.std.proofs.Common.{List, ap, arith}
 use Rattle.std.specs.List.{sum_by}
 use Rattle.shop_model.specs.declared.ops.Op.{Op}
-use Rattle.shop_model.specs.Shop.{release_of, route_of}
+use Rattle.shop_model.specs.Shop.{release_of}
 use Rattle.shop_model.proofs.Greatest.{greatest_below-le}
 use Rattle.shop_bound.proofs.LaneFits.{total_small}
 use Rattle.shop_bound.proofs.TimeSums.{route_times, times_small}

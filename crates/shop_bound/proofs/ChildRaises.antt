@@ -1,0 +1,169 @@
+-- Raises that notes tell cover what the heads after one more operation bound.
+use Rattle.std.proofs.Common.{◌≡◌, ℕ, suc, ◌+◌, ◌≤◌, ◌<◌, ◌⊎◌, inl, inr, List, [], ◌∷◌, ◌++◌, length}
+use Rattle.std.proofs.Common.{get_or, set, refl, sym, ◌∙◌, ap, subst, arith}
+use Rattle.std.specs.List.{All}
+use Rattle.std.proofs.lemmas.Bool.{cases_eq, cases_lt}
+use Rattle.std.proofs.lemmas.List.{get_or-set_same, get_or-set_other, get_or_past}
+use Rattle.shop_lanes.specs.Rows.{Rows, lanes, blocks}
+use Rattle.shop_lanes.specs.Spans.{spans_between}
+use Rattle.shop_model.specs.Limits.{IsWithinLimits}
+use Rattle.shop_model.specs.Shop.{Shop, machine_of, IsOperation}
+use Rattle.shop_model.specs.Word.{Placing, IsWord, placing, place_next}
+use Rattle.shop_model.proofs.Placings.{place_next-is}
+use Rattle.shop_bound.specs.Bound.{lb}
+use Rattle.shop_bound.specs.Desks.{IsBoundUpTo}
+use Rattle.shop_bound.specs.Heads.{head_of}
+use Rattle.shop_bound.specs.OneMachine.{one}
+use Rattle.shop_bound.specs.inner.HeadLimits.{latest_end}
+use Rattle.shop_bound.specs.inner.KeptHeads.{raise_of}
+use Rattle.shop_bound.specs.inner.LaneBounds.{lanes_on, AreMachinesAt, IsNoteWithin}
+use Rattle.shop_bound.specs.inner.LaneHeads.{AreHeadsAt, restored}
+use Rattle.shop_bound.specs.inner.Layouts.{LayoutState, IsLaidOut, place, first_of}
+use Rattle.shop_bound.specs.declared.kept_heads.Raise.{Raise}
+use Rattle.shop_bound.specs.declared.notes.Note.{Note}
+use Rattle.shop_bound.proofs.ChildBounds.{child-le}
+use Rattle.shop_bound.proofs.ChildExits.{after_spans-cover, after_spans-le}
+use Rattle.shop_bound.proofs.HeadsStay.{steps_rise}
+use Rattle.shop_bound.proofs.LaidPlaces.{each_position}
+use Rattle.shop_bound.proofs.LatestEnds.{latest_end_is}
+use Rattle.shop_bound.proofs.MachineLanes.{index_of}
+use Rattle.shop_bound.proofs.RestoredNotes.{length-restored}
+use Rattle.shop_bound.proofs.TabledHeads.{left_for}
+
+-- a note tells what stood at a position
+pub record IsNotedAt (notes : List Note) (q v i : ℕ) : Type 0 where
+  pub below : i < length notes
+  pub position : (d : Note) → (get_or notes i d).position ≡ q
+  pub head : (d : Note) → (get_or notes i d).head ≡ v
+
+-- what stands at a position stayed, or a note tells what stood there
+pub noted_or_same : (notes : List Note) (now : List ℕ) (q : ℕ)
+    → (get_or (restored notes now) q 0 ≡ get_or now q 0)
+    ⊎ ((i : ℕ) × IsNotedAt notes q (get_or (restored notes now) q 0) i)
+noted_or_same [] now q = inl refl
+noted_or_same (n ∷ notes) now q =
+    let was = restored notes now
+    in let long = length-restored notes now
+    in elim (cases_lt q (length now)) [
+      | inl here ↦ elim (cases_eq q n.position) [
+        | inl e ↦ (let a : get_or (set was n.position n.head) q 0 ≡ n.head =
+            ap (λ (x : ℕ). get_or (set was n.position n.head) x 0) e
+            ∙ get_or-set_same was n.position n.head 0 (omega arith)
+            in inr (0, record { below = omega arith; position = λ d. sym e; head = λ d. sym a }))
+        | inr ne ↦ (let a = get_or-set_other was n.position q n.head 0 ne
+            in elim (noted_or_same notes now q) [
+              | inl same ↦ inl (a ∙ same)
+              | inr noted ↦ (let r = noted.1 in inr (
+                suc noted.0,
+                record {
+                  below = (let b = r.below in omega arith);
+                  position = r.position;
+                  head = λ d. r.head d ∙ sym a;
+                },
+              ))
+            ])
+      ]
+      | inr past ↦ (let l = length-restored (n ∷ notes) now
+          in inl (get_or_past (restored (n ∷ notes) now) q 0 (omega arith) ∙ sym (get_or_past now q 0 past)))
+    ]
+
+-- no head is later than the latest end
+pub heads_small : (shop : Shop) → IsWithinLimits shop → (l : LayoutState) → IsLaidOut shop l → (w : List ℕ)
+    → IsWord shop w → (hs : List ℕ) → AreHeadsAt shop (placing shop w) l hs → (q : ℕ)
+    → get_or hs q 0 ≤ latest_end shop + 1
+heads_small shop limits l laid w word hs heads q = elim (each_position shop limits l laid q) [
+  | inl o ↦ (let at : get_or hs q 0 ≡ get_or hs (place l o.job o.step) 0 = ap (λ (x : ℕ). get_or hs x 0) (sym o.at)
+      in elim (cases_lt o.step ((placing shop w).steps o.job)) [
+        | inl before ↦ (let a = heads.placed o.job o.step o.is before in omega arith)
+        | inr opened ↦ (let a = heads.waiting o.job o.step o.is opened
+            in let b = latest_end_is shop w word o.job o.step o.is opened in omega arith)
+      ])
+  | inr free ↦ (let a = heads.padding q free in omega arith)
+]
+
+module _ (shop : Shop) (limits : IsWithinLimits shop) (l : LayoutState) (laid : IsLaidOut shop l) (w : List ℕ) (j : ℕ)
+    (fits : IsWord shop (w ++ j ∷ [])) (was now : List ℕ) (old : AreHeadsAt shop (placing shop w) l was)
+    (new : AreHeadsAt shop (place_next shop (placing shop w) j) l now) where
+  its_next : Placing
+  its_next = place_next shop (placing shop w) j
+
+  -- each head stayed, or is within the raise
+  abbrev pub IsCovered : Raise → ℕ → Type 0
+  IsCovered raise m = (i k : ℕ) → IsOperation shop i k → machine_of shop i k ≡ m
+      → (place_next shop (placing shop w) j).steps i ≤ k
+      → (head_of shop (placing shop w) i k ≡ head_of shop (place_next shop (placing shop w) j) i k)
+      ⊎ ((raise.from ≤ head_of shop (placing shop w) i k + 1)
+      × (head_of shop (place_next shop (placing shop w) j) i k + 1 ≤ raise.to))
+
+  pub covered_by_notes : (ms : List ℕ) → AreMachinesAt l shop.machines ms → (raises : List Raise) (notes : List Note)
+      → restored notes now ≡ was → All (IsNoteWithin raises ms now) notes → (m : ℕ) → m < shop.machines
+      → IsCovered (raise_of raises m) m
+  unfolding its_next
+  covered_by_notes ms machines raises notes back within m known i k op on opened =
+      let x = place l i k
+      in let rise = steps_rise shop (placing shop w) j its_next (place_next-is shop (placing shop w) j) i
+      in let a = old.waiting i k op (omega arith)
+      in let b = new.waiting i k op opened
+      in let before : get_or (restored notes now) x 0 ≡ get_or was x 0 = ap (λ (hs : List ℕ). get_or hs x 0) back
+      in elim (noted_or_same notes now x) [
+        | inl same ↦ inl (omega arith)
+        | inr noted ↦ (let r = noted.1
+            in let d : Note = record { position = 0; head = 0 }
+            in let n = within noted.0 d r.below
+            in let head = r.head d
+            in let index = index_of shop limits l laid i k op
+            in let there : x ≡ first_of l m + index.0 =
+            index.1.place ∙ ap (λ (y : ℕ). first_of l y + index.0) on
+            in let below : index.0 < length (get_or laid.slots m []) =
+            subst (λ (y : ℕ). index.0 < length (get_or laid.slots y [])) on index.1.below
+            in let room = (laid.each m known).room
+            in let machine : get_or ms (get_or notes noted.0 d).position 0 ≡ m =
+            ap (λ (y : ℕ). get_or ms y 0) (r.position d) ∙ machines.at m x known (omega arith) (omega arith)
+            in let here : get_or now (get_or notes noted.0 d).position 0 ≡ get_or now x 0 =
+            ap (λ (y : ℕ). get_or now y 0) (r.position d)
+            in let from : (raise_of raises (get_or ms (get_or notes noted.0 d).position 0)).from
+            ≡ (raise_of raises m).from = ap (λ (y : ℕ). (raise_of raises y).from) machine
+            in let to : (raise_of raises (get_or ms (get_or notes noted.0 d).position 0)).to
+            ≡ (raise_of raises m).to = ap (λ (y : ℕ). (raise_of raises y).to) machine
+            in let low = n.from (omega arith) in let high = n.to (omega arith)
+            in inr (omega arith, omega arith))
+      ]
+
+  pub covered_all : (raise : Raise) → raise.from ≡ 0 → ((q : ℕ) → get_or now q 0 ≤ raise.to) → (m : ℕ)
+      → IsCovered raise m
+  covered_all raise from small m i k op on opened =
+      let b = new.waiting i k op opened in let c = small (place l i k) in inr (omega arith, omega arith)
+
+  -- the bound of what begins within the raises
+  pub bound_by_raises_is : (raises : List Raise) → length raises ≡ shop.machines
+      → ((m : ℕ) → m < shop.machines → IsCovered (raise_of raises m) m) → (rows : Rows) → rows.heads ≡ now
+      → rows.times ≡ l.times → rows.tails ≡ l.tails → (least limit b : ℕ) → lb shop w ≤ least
+      → (place_next shop (placing shop w) j).free (machine_of shop j ((placing shop w).steps j)) ≤ least
+      → least ≤ lb shop (w ++ j ∷ []) → least ≤ b
+      → (b < limit → (m : ℕ) → m < length raises
+      → spans_between (raise_of raises m).from (raise_of raises m).to (lanes_on rows l m) ≤ b + 1)
+      → ((c : ℕ) → least ≤ c → ((m above upto : ℕ) → m < length raises
+      → spans_between above upto (lanes_on rows l m) ≤ c + 1) → b ≤ c)
+      → IsBoundUpTo limit (lb shop (w ++ j ∷ [])) b
+  bound_by_raises_is raises long covered rows heads times tails least limit b parent end most low covers within =
+      let same : (m : ℕ) → lanes_on rows l m
+      ≡ blocks (get_or l.blocks m 0) (get_or l.blocks (m + 1) 0) (lanes now l.times l.tails) =
+      (λ m. rw (heads, times, tails) refl)
+      in let at_most = within (lb shop (w ++ j ∷ [])) most (λ m above upto known.
+      (let a = after_spans-le shop limits l laid w j fits now new m (omega arith) above upto
+      in let e = ap (spans_between above upto) (same m) in omega arith))
+      in record {
+        at_most = at_most;
+        exact = λ under.
+            let left : (m : ℕ) → m < shop.machines
+            → one_of m ≤ b = (λ m known. after_spans-cover shop limits l laid w j fits now new m known
+            (raise_of raises m).from (raise_of raises m).to b (covered m known)
+            (let a = covers under m (omega arith)
+            in let e = ap (spans_between (raise_of raises m).from (raise_of raises m).to) (same m) in omega arith)
+            (omega arith))
+            in let a = child-le shop limits laid.slots laid.are w j fits b (omega arith) (omega arith) left
+            in omega arith;
+      }
+    where
+      one_of : ℕ → ℕ
+      one_of m = one (left_for shop laid.slots (place_next shop (placing shop w) j) m)
