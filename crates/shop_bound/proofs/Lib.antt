@@ -8,6 +8,7 @@ pub mod RaiseLoops
 pub mod HeadsRise
 pub mod LaidPlaces
 pub mod RaisedHeads
+pub mod FillTurns
 pub mod ProfileLemmas
 pub mod CellLemmas
 pub mod NotedPlaces

@@ -4,6 +4,7 @@ pub mod Layouts
 pub mod Layings
 pub mod LaneHeads
 pub mod Raises
+pub mod Fills
 pub mod Profiles
 pub mod NonincreasingTails
 pub mod Thresholds

@@ -3,6 +3,7 @@
 
 mod conflicts;
 mod desks;
+mod fills;
 mod head_rows;
 mod kept_heads;
 mod lane_bounds;

@@ -1,0 +1,90 @@
+// Heads by position are set anew from a placement, or put back by notes.
+ghost use Rattle.std.specs.Prelude.{◌<◌, length};
+ghost use Rattle.shop_bound.specs.inner.LaneHeads.{AreNotesFit};
+ghost use Rattle.shop_bound.specs.inner.Fills.{CanFill, GoesBack, HasFilled, HasFilledJob, HasPutBack, IsRested};
+
+use crate::layouts::Layout;
+use crate::notes::Note;
+use crate::placements::Placement;
+use shop_lanes::Lanes;
+use shop_model::Instance;
+
+/// Puts back the heads of notes, the last first.
+#[inline(always)]
+fn put_back<L: Lanes>(lanes: &mut L, notes: &[Note])
+    requires { AreNotesFit L.GREATEST (length (L.rows lanes.old).heads) notes.now }
+    ensures { HasPutBack notes.now (L.rows lanes.old) (L.rows lanes.new) }
+{
+    let mut count = notes.len();
+    while count > 0 {
+        count -= 1;
+        let note = notes[count];
+        lanes.set_head(note.position, note.head);
+    }
+}
+
+/// Sets the heads of a job's operations.
+fn fill_job<L: Lanes>(
+    lanes: &mut L,
+    layout: &Layout,
+    instance: &Instance,
+    placement: &Placement,
+    job: usize,
+)
+    requires job { job < length instance.now.jobs }
+    requires fill { CanFill L.GREATEST instance.now layout.now placement.now (L.rows lanes.old) }
+    ensures { HasFilledJob instance.now layout.now placement.now job (L.rows lanes.old) (L.rows lanes.new) }
+{
+    let route = instance.route(job);
+    let places = layout.places(job);
+    let placed = placement.steps(job);
+    let mut ready = placement.ready(job);
+    for step in 0..route.len() {
+        let position = places[step] as usize;
+        if step < placed {
+            lanes.set_head(position, 0);
+            continue;
+        }
+        let op = route[step];
+        let head = ready.max(placement.free(op.machine));
+        lanes.set_head(position, head + 1);
+        ready = head + op.time;
+    }
+}
+
+/// Sets the heads of all operations.
+pub(crate) fn fill<L: Lanes>(
+    lanes: &mut L,
+    layout: &Layout,
+    instance: &Instance,
+    placement: &Placement,
+)
+    requires fill { CanFill L.GREATEST instance.now layout.now placement.now (L.rows lanes.old) }
+    ensures { HasFilled instance.now layout.now placement.now (L.rows lanes.old) (L.rows lanes.new) }
+{
+    for job in 0..instance.jobs() {
+        fill_job(lanes, layout, instance, placement, job);
+    }
+}
+
+/// Goes back to the heads of a placement, by notes if all was noted that changed since.
+#[inline(always)]
+pub(crate) fn go_back<L: Lanes>(
+    lanes: &mut L,
+    layout: &Layout,
+    instance: &Instance,
+    placement: &Placement,
+    notes: &[Note],
+    whole: bool,
+)
+    requires fill { CanFill L.GREATEST instance.now layout.now placement.now (L.rows lanes.old) }
+    requires rested { IsRested instance.now layout.now (L.rows lanes.old).heads }
+    requires notes { AreNotesFit L.GREATEST (length (L.rows lanes.old).heads) notes.now }
+    ensures { GoesBack instance.now layout.now placement.now notes.now whole (L.rows lanes.old) (L.rows lanes.new) }
+{
+    if whole {
+        put_back(lanes, notes);
+    } else {
+        fill(lanes, layout, instance, placement);
+    }
+}
