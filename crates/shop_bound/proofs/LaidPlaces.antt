@@ -5,14 +5,16 @@ use Rattle.std.proofs.lemmas.Bool.{cases_eq, cases_lt}
 use Rattle.shop_model.specs.Limits.{IsWithinLimits}
 use Rattle.shop_model.specs.Shop.{Shop, IsOperation, route_of, machine_of, time_of}
 use Rattle.shop_model.proofs.Ends.{IsOperation-job}
+use Rattle.shop_bound.specs.Heads.{tail_of}
 use Rattle.shop_bound.specs.Slots.{slot_at}
-use Rattle.shop_bound.specs.inner.Layouts.{LayoutState, place, first_of, IsAt, IsLaidOut}
-use Rattle.shop_bound.proofs.SlotFacts.{slots_are_all}
+use Rattle.shop_bound.specs.inner.Layouts.{LayoutState, place, first_of, IsAt, IsLaidOut, IsPadding}
+use Rattle.shop_bound.proofs.SlotFacts.{slots_are_all, slots_are_operations}
 
 pub record IsPlaceOf (shop : Shop) (l : LayoutState) (j k : ℕ) : Type 0 where
   pub job : get_or l.jobs (place l j k) 0 ≡ j
   pub step : get_or l.steps (place l j k) 0 ≡ k
   pub time : get_or l.times (place l j k) 0 ≡ time_of shop j k
+  pub tail : get_or l.tails (place l j k) 0 ≡ tail_of shop j k
   pub from : first_of l (machine_of shop j k) ≤ place l j k
   pub to : place l j k < first_of l (machine_of shop j k + 1)
   pub within : place l j k < first_of l shop.machines
@@ -61,6 +63,7 @@ module _ (shop : Shop) (limits : IsWithinLimits shop) (l : LayoutState) (laid : 
         job = ap (λ (x : ℕ). get_or l.jobs x 0) (sym q) ∙ here.job;
         step = ap (λ (x : ℕ). get_or l.steps x 0) (sym q) ∙ here.step;
         time = ap (λ (x : ℕ). get_or l.times x 0) (sym q) ∙ here.time;
+        tail = ap (λ (x : ℕ). get_or l.tails x 0) (sym q) ∙ here.tail;
         from = omega arith;
         to = omega arith;
         within = omega arith;
@@ -101,4 +104,35 @@ module _ (shop : Shop) (limits : IsWithinLimits shop) (l : LayoutState) (laid : 
               in absurd (omega arith))
           | inr less ↦ omega arith
         ]
+      ]
+
+  -- the machine that a position belongs to
+  machine_at : (k q : ℕ) → k ≤ shop.machines → q < first_of l k
+      → (m : ℕ) × (m < shop.machines) × (first_of l m ≤ q) × (q < first_of l (m + 1))
+  machine_at zero q known below = absurd (let a = laid.from_0 in omega arith)
+  machine_at (suc k) q known below =
+      let f : first_of l (suc k) ≡ first_of l (k + 1) = ap (first_of l) (omega arith)
+      in elim (cases_lt q (first_of l k)) [
+        | inl low ↦ machine_at k q (omega arith) low
+        | inr high ↦ (k, omega arith, high, omega arith)
+      ]
+
+  -- an operation, or nothing that takes time
+  pub cell_at : (q : ℕ) → q < first_of l shop.machines → IsOperationAt shop l q ⊎ IsPadding l q
+  cell_at q below =
+      let at = machine_at shop.machines q (omega arith) below
+      in let m = at.0
+      in let slots = get_or laid.slots m []
+      in let machine = laid.each m at.1
+      in let low = at.2 in let high = at.3
+      in elim (cases_lt q (first_of l m + length slots)) [
+        | inl within ↦ (
+            let i = q - first_of l m
+            in let e : first_of l m + i ≡ q = omega arith
+            in let d = slot_at [] 0 0
+            in let s = get_or slots i d
+            in let op = slots_are_operations shop m slots (laid.are.slots m at.1) i d (omega arith)
+            in let here = machine.at i d (omega arith)
+            in inl (record { job = s.job; step = s.step; is = op.step; at = here.place ∙ e }))
+        | inr past ↦ inr (machine.padding q past high)
       ]

@@ -9,6 +9,10 @@ pub mod HeadsRise
 pub mod LaidPlaces
 pub mod RaisedHeads
 pub mod FillTurns
+pub mod AdvanceSteps
+pub mod LaneTrails
+pub mod LaneSteps
+pub mod LaneBegins
 pub mod ProfileLemmas
 pub mod CellLemmas
 pub mod NotedPlaces

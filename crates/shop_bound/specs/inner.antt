@@ -5,6 +5,7 @@ pub mod Layings
 pub mod LaneHeads
 pub mod Raises
 pub mod Fills
+pub mod LaneStates
 pub mod Profiles
 pub mod NonincreasingTails
 pub mod Thresholds

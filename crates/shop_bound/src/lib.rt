@@ -3,10 +3,12 @@
 
 mod conflicts;
 mod desks;
+mod dispatching;
 mod fills;
 mod head_rows;
 mod kept_heads;
 mod lane_bounds;
+mod lane_heads;
 mod latest_ends;
 mod laws;
 mod layings;

@@ -1,4 +1,4 @@
-use Rattle.std.proofs.Common.{◌≡◌, ◌≤◌, length, arith}
+use Rattle.std.proofs.Common.{arith}
 use Rattle.shop_bound.proofs.FillTurns.{jobs_can, jobs_more, jobs_all}
 use Rattle.shop_bound.proofs.fills.fill.Goals as goal
 

@@ -1,4 +1,4 @@
-use Rattle.std.proofs.Common.{◌≡◌, ℕ, ◌+◌, ◌<◌, ◌≤◌, max, List, get_or, refl, sym, ap, subst, arith}
+use Rattle.std.proofs.Common.{◌≡◌, ℕ, ◌+◌, max, get_or, refl, subst}
 use Rattle.shop_model.specs.Shop.{no_op}
 use Rattle.shop_bound.proofs.FillTurns.{position_known, filled_placed, open_fits, filled_open, places_read, step_read}
 use Rattle.shop_bound.proofs.fills.fill_job.Goals as goal

@@ -1,4 +1,4 @@
-use Rattle.std.proofs.Common.{◌≡◌, ◌-◌, ◌<◌, ◌≤◌, get_or, refl}
+use Rattle.std.proofs.Common.{◌-◌, get_or, refl}
 use Rattle.shop_bound.specs.declared.notes.Note.{Note}
 use Rattle.shop_bound.proofs.FillTurns.{putting_more, note_fits}
 use Rattle.shop_bound.proofs.fills.put_back.Goals as goal

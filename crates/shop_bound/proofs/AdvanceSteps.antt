@@ -1,0 +1,159 @@
+-- One more operation in the heads by position.
+use Rattle.std.proofs.Common.{◌≡◌, ℕ, ◌+◌, ◌-◌, ◌≤◌, ◌<◌, ◌^◌, max, inl, inr, Bool, true, List, [], ◌∷◌, ◌++◌, length}
+use Rattle.std.proofs.Common.{get_or, set, refl, sym, ◌∙◌, ap, subst, arith}
+use Rattle.std.proofs.lemmas.List.{length-set}
+use Rattle.shop_lanes.specs.Rows.{Rows, with_head}
+use Rattle.shop_model.specs.declared.ops.Op.{Op}
+use Rattle.shop_model.specs.Shop.{Shop, no_op, IsOperation, route_of, machine_of, time_of}
+use Rattle.shop_model.specs.Word.{Placing, IsWord, placing, place_next, count_of}
+use Rattle.shop_model.proofs.Ends.{IsOperation-job}
+use Rattle.shop_model.proofs.Placings.{IsNext, place_next-is}
+use Rattle.shop_model.proofs.Unders.{placing-snoc, next_operation, after_word}
+use Rattle.shop_bound.specs.Heads.{head_of, ready_after}
+use Rattle.shop_bound.specs.inner.Fills.{AreSameBeside}
+use Rattle.shop_bound.specs.inner.LaneHeads.{AreHeadsAt, LeadsBack, NotesState}
+use Rattle.shop_bound.specs.inner.LaneStates.{AreHeadsInLanes, HasNextAt, Advances}
+use Rattle.shop_bound.specs.inner.Layouts.{LayoutState, place, first_of}
+use Rattle.shop_bound.specs.inner.Raises.{HasBlocks, IsLeastRaise, IsOnMachine, IsRaisable, Raises, Replaces}
+use Rattle.shop_bound.specs.declared.notes.Mark.{Mark}
+use Rattle.shop_bound.proofs.HeadTurns.{ready_first}
+use Rattle.shop_bound.proofs.LaidPlaces.{place_of}
+use Rattle.shop_bound.proofs.RaisedHeads.{left, raisable, raised, has_blocks}
+use Rattle.shop_bound.proofs.RestoredNotes.{back_both}
+
+module _ (greatest : ℕ) (shop : Shop) (l : LayoutState) (j step : ℕ) (rows : Rows) (w : List ℕ)
+    (kept : AreHeadsInLanes greatest shop w l rows) (fits : IsWord shop (w ++ j ∷ []))
+    (at : step ≡ (placing shop w).steps j) where
+  abbrev before : Placing
+  before = placing shop w
+
+  abbrev after : Placing
+  after = place_next shop before j
+
+  next_is : IsNext shop before j after
+  next_is = place_next-is shop before j
+
+  first_left : IsOperation shop j (before.steps j)
+  first_left = let a = next_operation shop w j fits in let b = (after_word shop w kept.word).steps j in omega arith
+
+  pub operation : IsOperation shop j step
+  operation = let a = first_left in omega arith
+
+  pub job_known : j < length l.places
+  job_known = let a = IsOperation-job shop j step operation in let b = kept.laid.jobs in omega arith
+
+  pub step_known : step < length (get_or l.places j [])
+  step_known = let a = operation in let b = kept.laid.routes j in omega arith
+
+  position : place l j step ≡ place l j (before.steps j)
+  position = ap (place l j) at
+
+  machine_same : machine_of shop j step ≡ machine_of shop j (before.steps j)
+  machine_same = ap (machine_of shop j) at
+
+  pub machine_known : machine_of shop j step < shop.machines
+  machine_known = kept.limits.on_machines j step
+
+  pub within : (q : ℕ) → q ≡ place l j step → q < length rows.heads
+  within q is = let a = place_of shop kept.limits l kept.laid j step operation in let b = a.within
+      in let c = kept.heads.positions in omega arith
+
+  -- what is read of it
+  pub head_is : (q : ℕ) → q ≡ place l j step → get_or rows.heads q 0 ≡ head_of shop before j (before.steps j) + 1
+  head_is q is = ap (λ (x : ℕ). get_or rows.heads x 0) (is ∙ position)
+      ∙ kept.heads.waiting j (before.steps j) first_left (omega arith)
+
+  pub time_is : (q : ℕ) → q ≡ place l j step → get_or rows.times q 0 ≡ time_of shop j (before.steps j)
+  time_is q is = ap (λ (xs : List ℕ). get_or xs q 0) kept.times
+      ∙ (ap (λ (x : ℕ). get_or l.times x 0) (is ∙ position)
+      ∙ (place_of shop kept.limits l kept.laid j (before.steps j) first_left).time)
+
+  small : head_of shop before j (before.steps j) + time_of shop j (before.steps j) < greatest
+  small = kept.fits w kept.word j (before.steps j) first_left (omega arith)
+
+  pub end_small : (q h t : ℕ) → q ≡ place l j step → h ≡ get_or rows.heads q 0 → t ≡ get_or rows.times q 0
+      → (h ≤ greatest) × (h + t ≤ greatest) × (h + t < 2 ^ 64)
+  end_small q h t is read timed =
+      let a = head_is q is in let b = time_is q is in let c = small in let d = kept.computable
+      in (omega arith, omega arith, omega arith)
+
+  end_is : (q h t : ℕ) → q ≡ place l j step → h ≡ get_or rows.heads q 0 → t ≡ get_or rows.times q 0
+      → h + t ≡ after.free (machine_of shop j (before.steps j)) + 1
+  end_is q h t is read timed =
+      let a = head_is q is in let b = time_is q is
+      in let first = ready_first shop before j (before.steps j) (omega arith)
+      in let n = next_is
+      in let free = n.free_here (machine_of shop j (before.steps j)) refl
+      in let begins = n.begins_here
+      in omega arith
+
+  next_fits : (i k : ℕ) → IsOperation shop i k → after.steps i ≤ k
+      → head_of shop after i k + time_of shop i k < greatest
+  next_fits i k op opened =
+      let e = placing-snoc shop w j
+      in let f : head_of shop (placing shop (w ++ j ∷ [])) i k ≡ head_of shop after i k =
+      ap (λ (p : Placing). head_of shop p i k) e
+      in let g : (placing shop (w ++ j ∷ [])).steps i ≡ after.steps i = ap (λ (p : Placing). p.steps i) e
+      in let a = kept.fits (w ++ j ∷ []) fits i k op (omega arith)
+      in omega arith
+
+  module _ (q h t : ℕ) (is : q ≡ place l j step) (read : h ≡ get_or rows.heads q 0) (timed : t ≡ get_or rows.times q 0)
+      (lifted : Rows) (notes mid : NotesState) (wrote : Replaces greatest q 0 rows lifted notes mid) (m : ℕ)
+      (on : m ≡ machine_of shop j step) where
+    lifted_heads : lifted.heads ≡ set rows.heads (place l j (before.steps j)) 0
+    lifted_heads = ap (λ (r : Rows). r.heads) wrote.rows ∙ ap (λ (x : ℕ). set rows.heads x 0) (is ∙ position)
+
+    lifted_times : lifted.times ≡ l.times
+    lifted_times = ap (λ (r : Rows). r.times) wrote.rows ∙ kept.times
+
+    lifted_long : length lifted.heads ≡ first_of l shop.machines
+    lifted_long = ap (λ (xs : List ℕ). length xs) lifted_heads
+        ∙ (length-set rows.heads (place l j (before.steps j)) 0 ∙ kept.heads.positions)
+
+    machine_is : m ≡ machine_of shop j (before.steps j)
+    machine_is = on ∙ machine_same
+
+    pub lifted_blocks : HasBlocks l (length lifted.heads) m
+    lifted_blocks = has_blocks shop kept.limits l kept.laid (length lifted.heads) m lifted_long
+        (let a = machine_known in omega arith)
+
+    pub lifted_raisable : IsRaisable greatest l lifted (IsOnMachine l m) (h + t)
+    lifted_raisable =
+        subst (λ (x : ℕ). IsRaisable greatest l lifted (IsOnMachine l x) (h + t)) (sym machine_is)
+        (raisable shop kept.limits l kept.laid before j after next_is first_left
+        (set rows.heads (place l j (before.steps j)) 0)
+        (left shop kept.limits l kept.laid before j after next_is first_left rows.heads kept.heads) (h + t)
+        (end_is q h t is read timed) greatest lifted lifted_heads lifted_times kept.computable next_fits)
+
+    module _ (new : Rows) (last : NotesState) (raising : Raises greatest l (IsOnMachine l m) (h + t) lifted new mid last)
+      where
+        pub advanced_beside : AreSameBeside rows new
+        advanced_beside = record {
+          times = raising.times ∙ ap (λ (r : Rows). r.times) wrote.rows;
+          tails = raising.tails ∙ ap (λ (r : Rows). r.tails) wrote.rows;
+          ends = raising.ends ∙ ap (λ (r : Rows). r.ends) wrote.rows;
+          positions = raising.raised.positions ∙ (lifted_long ∙ sym kept.heads.positions);
+        }
+
+        pub advanced_noted : LeadsBack greatest notes last rows.heads new.heads
+        advanced_noted = back_both greatest notes mid last rows.heads lifted.heads new.heads wrote.noted raising.noted
+
+        pub advanced : AreHeadsInLanes greatest shop (w ++ j ∷ []) l new
+        advanced = record {
+          limits = kept.limits;
+          word = fits;
+          laid = kept.laid;
+          times = advanced_beside.times ∙ kept.times;
+          tails = advanced_beside.tails ∙ kept.tails;
+          fits = kept.fits;
+          computable = kept.computable;
+          heads = subst (λ (p : Placing). AreHeadsAt shop p l new.heads) (sym (placing-snoc shop w j))
+              (raised shop kept.limits l kept.laid before j after next_is first_left
+              (set rows.heads (place l j (before.steps j)) 0)
+              (left shop kept.limits l kept.laid before j after next_is first_left rows.heads kept.heads) (h + t)
+              (end_is q h t is read timed) new.heads
+              (subst (λ (x : ℕ). IsLeastRaise l (IsOnMachine l x) (h + t) (set rows.heads (place l j (before.steps j)) 0)
+              new.heads) machine_is
+              (subst (λ (xs : List ℕ). IsLeastRaise l (IsOnMachine l m) (h + t) xs new.heads) lifted_heads
+              raising.raised)));
+        }

@@ -1,0 +1,77 @@
+-- What is kept of a word in lanes.
+--     AreHeadsInLanes greatest shop w ..   the heads of what the word leaves, one number a position
+--     LaneState, IsKeptInLanes       these, with notes that lead back through the word
+--     HasNextInLanes, Advances       one more operation
+use Rattle.std.specs.Prelude.{◌≡◌, ℕ, ◌≤◌, ◌<◌, ◌^◌, Bool, true, List, [], ◌∷◌, ◌++◌, length}
+use Rattle.shop_lanes.specs.Rows.{Rows}
+use Rattle.shop_model.specs.Limits.{IsWithinLimits}
+use Rattle.shop_model.specs.Shop.{Shop, operation_count}
+use Rattle.shop_model.specs.Word.{IsWord, placing}
+use Rattle.shop_bound.specs.Placements.{PlacementState, IsPlacement}
+use Rattle.shop_bound.specs.inner.Fills.{AreSameBeside}
+use Rattle.shop_bound.specs.inner.LaneHeads.{AreHeadsAt, AreHeadsFit, AreNotesFit, IsTrail, LeadsBack, NotesState}
+use Rattle.shop_bound.specs.inner.Layouts.{LayoutState, IsLaidOut}
+use Rattle.shop_bound.specs.declared.notes.Mark.{Mark}
+
+pub record AreHeadsInLanes (greatest : ℕ) (shop : Shop) (w : List ℕ) (l : LayoutState) (rows : Rows) : Type 0 where
+  pub limits : IsWithinLimits shop
+  pub word : IsWord shop w
+  pub laid : IsLaidOut shop l
+  pub times : rows.times ≡ l.times
+  pub tails : rows.tails ≡ l.tails
+  pub fits : AreHeadsFit greatest shop
+  pub computable : greatest < 2 ^ 64
+  pub heads : AreHeadsAt shop (placing shop w) l rows.heads
+
+pub record LaneState : Type 0 where
+  pub layout : LayoutState
+  pub rows : Rows
+  pub notes : NotesState
+  pub marks : List Mark
+  -- for so many marks there is room
+  pub room : ℕ
+
+pub record IsKeptInLanes (greatest : ℕ) (shop : Shop) (w : List ℕ) (s : LaneState) : Type 0 where
+  pub kept : AreHeadsInLanes greatest shop w s.layout s.rows
+  pub notes_fit : AreNotesFit greatest (length s.rows.heads) s.notes.list
+  pub trail : IsTrail shop s.layout w s.marks s.notes.list s.rows.heads
+  pub as_many : length s.marks ≡ length w
+  pub marks_room : operation_count shop ≤ s.room
+
+-- they are those of a word to which j can be added as this step
+pub record HasNextAt (greatest : ℕ) (shop : Shop) (l : LayoutState) (j step : ℕ) (rows : Rows) : Type 0 where
+  pub word : List ℕ
+  pub kept : AreHeadsInLanes greatest shop word l rows
+  pub fits : IsWord shop (word ++ j ∷ [])
+  pub at : step ≡ (placing shop word).steps j
+
+pub record Advances (greatest : ℕ) (shop : Shop) (l : LayoutState) (j step : ℕ) (old new : Rows)
+    (before after : NotesState) (mark : Mark) : Type 0 where
+  pub beside : AreSameBeside old new
+  pub first : mark.first ≡ length before.list
+  pub whole : mark.whole ≡ after.whole
+  pub noted : LeadsBack greatest (record before { whole = true }) after old.heads new.heads
+  pub heads : (w : List ℕ) → AreHeadsInLanes greatest shop w l old → IsWord shop (w ++ j ∷ [])
+      → step ≡ (placing shop w).steps j → AreHeadsInLanes greatest shop (w ++ j ∷ []) l new
+
+-- whichever word it was of, one more operation of job j is in it now
+abbrev pub KeepsNext : ℕ → Shop → ℕ → ℕ → LaneState → LaneState → Type 0
+KeepsNext greatest shop j step old new = (w : List ℕ) → IsKeptInLanes greatest shop w old → IsWord shop (w ++ j ∷ [])
+    → step ≡ (placing shop w).steps j → IsKeptInLanes greatest shop (w ++ j ∷ []) new
+
+pub record HasNextInLanes (greatest : ℕ) (shop : Shop) (j step : ℕ) (s : LaneState) : Type 0 where
+  pub word : List ℕ
+  pub kept : IsKeptInLanes greatest shop word s
+  pub fits : IsWord shop (word ++ j ∷ [])
+  pub at : step ≡ (placing shop word).steps j
+
+-- the last operation was of a word whose placement without it is this
+pub record HasLastInLanes (greatest : ℕ) (shop : Shop) (p : PlacementState) (s : LaneState) : Type 0 where
+  pub word : List ℕ
+  pub job : ℕ
+  pub kept : IsKeptInLanes greatest shop (word ++ job ∷ []) s
+  pub placed : IsPlacement shop (placing shop word) p
+
+abbrev pub KeepsLast : ℕ → Shop → PlacementState → LaneState → LaneState → Type 0
+KeepsLast greatest shop p old new = (w : List ℕ) (j : ℕ) → IsKeptInLanes greatest shop (w ++ j ∷ []) old
+    → IsPlacement shop (placing shop w) p → IsKeptInLanes greatest shop w new
