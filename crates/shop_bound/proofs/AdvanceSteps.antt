@@ -1,21 +1,19 @@
 -- One more operation in the heads by position.
-use Rattle.std.proofs.Common.{◌≡◌, ℕ, ◌+◌, ◌-◌, ◌≤◌, ◌<◌, ◌^◌, max, inl, inr, Bool, true, List, [], ◌∷◌, ◌++◌, length}
+use Rattle.std.proofs.Common.{◌≡◌, ℕ, ◌+◌, ◌≤◌, ◌<◌, ◌^◌, List, [], ◌∷◌, ◌++◌, length}
 use Rattle.std.proofs.Common.{get_or, set, refl, sym, ◌∙◌, ap, subst, arith}
 use Rattle.std.proofs.lemmas.List.{length-set}
-use Rattle.shop_lanes.specs.Rows.{Rows, with_head}
-use Rattle.shop_model.specs.declared.ops.Op.{Op}
-use Rattle.shop_model.specs.Shop.{Shop, no_op, IsOperation, route_of, machine_of, time_of}
-use Rattle.shop_model.specs.Word.{Placing, IsWord, placing, place_next, count_of}
+use Rattle.shop_lanes.specs.Rows.{Rows}
+use Rattle.shop_model.specs.Shop.{Shop, IsOperation, machine_of, time_of}
+use Rattle.shop_model.specs.Word.{Placing, IsWord, placing, place_next}
 use Rattle.shop_model.proofs.Ends.{IsOperation-job}
 use Rattle.shop_model.proofs.Placings.{IsNext, place_next-is}
 use Rattle.shop_model.proofs.Unders.{placing-snoc, next_operation, after_word}
-use Rattle.shop_bound.specs.Heads.{head_of, ready_after}
+use Rattle.shop_bound.specs.Heads.{head_of}
 use Rattle.shop_bound.specs.inner.Fills.{AreSameBeside}
 use Rattle.shop_bound.specs.inner.LaneHeads.{AreHeadsAt, LeadsBack, NotesState}
-use Rattle.shop_bound.specs.inner.LaneStates.{AreHeadsInLanes, HasNextAt, Advances}
+use Rattle.shop_bound.specs.inner.LaneStates.{AreHeadsInLanes}
 use Rattle.shop_bound.specs.inner.Layouts.{LayoutState, place, first_of}
 use Rattle.shop_bound.specs.inner.Raises.{HasBlocks, IsLeastRaise, IsOnMachine, IsRaisable, Raises, Replaces}
-use Rattle.shop_bound.specs.declared.notes.Mark.{Mark}
 use Rattle.shop_bound.proofs.HeadTurns.{ready_first}
 use Rattle.shop_bound.proofs.LaidPlaces.{place_of}
 use Rattle.shop_bound.proofs.RaisedHeads.{left, raisable, raised, has_blocks}

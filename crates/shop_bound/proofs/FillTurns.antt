@@ -1,14 +1,14 @@
 -- Heads by position are set one by one, or put back.
-use Rattle.std.proofs.Common.{◌≡◌, ℕ, zero, suc, ◌+◌, ◌-◌, ◌≤◌, ◌<◌, ◌^◌, max, inl, inr, Bool, true, List, [], ◌∷◌, ◌++◌, length}
-use Rattle.std.proofs.Common.{get_or, set, take, drop, refl, sym, ◌∙◌, ap, subst, arith}
-use Rattle.std.proofs.lemmas.Bool.{cases_eq, cases_lt}
+use Rattle.std.proofs.Common.{◌≡◌, ℕ, ◌+◌, ◌-◌, ◌≤◌, ◌<◌, max, inl, inr, Bool, true, List, [], ◌∷◌, ◌++◌, length}
+use Rattle.std.proofs.Common.{get_or, set, take, refl, sym, ◌∙◌, ap, subst, arith}
+use Rattle.std.proofs.lemmas.Bool.{cases_eq}
 use Rattle.std.proofs.lemmas.Grind.{get_or-set_at}
 use Rattle.std.proofs.lemmas.List.{get_or-set_other, length-set, take_all}
 use Rattle.std.proofs.lemmas.List.Elements.{All-from_recursion}
 use Rattle.std.proofs.lemmas.List.{take_more}
 use Rattle.shop_lanes.specs.Rows.{Rows, with_head}
 use Rattle.shop_model.specs.declared.ops.Op.{Op}
-use Rattle.shop_model.specs.Shop.{Shop, no_op, IsOperation, route_of, machine_of, time_of}
+use Rattle.shop_model.specs.Shop.{Shop, no_op, IsOperation, route_of, time_of}
 use Rattle.shop_model.specs.Word.{Placing, placing}
 use Rattle.shop_model.proofs.Ends.{IsOperation-job}
 use Rattle.shop_bound.specs.Heads.{ready_after, head_of}
@@ -18,9 +18,9 @@ use Rattle.shop_bound.specs.inner.Fills.{HasPutBack, GoesBack}
 use Rattle.shop_bound.specs.inner.LaneHeads.{AreHeadsAt, AreNotesFit, restored}
 use Rattle.shop_bound.specs.inner.Layouts.{LayoutState, place, first_of}
 use Rattle.shop_bound.specs.declared.notes.Note.{Note}
-use Rattle.shop_bound.proofs.HeadTurns.{ready_first, ready_more}
-use Rattle.shop_bound.proofs.LaidPlaces.{place_of, each_position}
-use Rattle.shop_bound.proofs.RestoredNotes.{restored-append, length-restored}
+use Rattle.shop_bound.proofs.HeadTurns.{ready_first}
+use Rattle.shop_bound.proofs.LaidPlaces.{place_of}
+use Rattle.shop_bound.proofs.RestoredNotes.{restored-append}
 use Rattle.shop_bound.proofs.RowTurns.{open_turn}
 
 pub beside_none : (r : Rows) → AreSameBeside r r

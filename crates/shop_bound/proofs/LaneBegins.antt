@@ -1,5 +1,5 @@
 -- Nothing is dispatched yet in lanes.
-use Rattle.std.proofs.Common.{◌≡◌, ℕ, ◌+◌, ◌*◌, ◌%◌, ◌≤◌, ◌<◌, ◌^◌, inl, inr, true, List, [], length, replicate}
+use Rattle.std.proofs.Common.{◌≡◌, ℕ, ◌%◌, ◌≤◌, ◌<◌, ◌^◌, inl, inr, true, List, [], length, replicate}
 use Rattle.std.proofs.Common.{get_or, refl, sym, ◌∙◌, ap, subst, arith}
 use Rattle.std.specs.List.{All}
 use Rattle.std.proofs.lemmas.Bool.{cases_lt}
@@ -13,9 +13,9 @@ use Rattle.shop_bound.specs.Placements.{PlacementState, IsPlacement}
 use Rattle.shop_bound.specs.declared.notes.Mark.{Mark}
 use Rattle.shop_bound.specs.inner.Fills.{CanFill, HasFilled, IsRested}
 use Rattle.shop_bound.specs.inner.LaneHeads.{AreHeadsFit, NotesState}
-use Rattle.shop_bound.specs.inner.LaneStates.{LaneState, IsKeptInLanes}
-use Rattle.shop_bound.specs.inner.Layouts.{LayoutState, first_of, place, IsLaidOut}
-use Rattle.shop_bound.proofs.LaidPlaces.{IsPlaceOf, place_of, cell_at}
+use Rattle.shop_bound.specs.inner.LaneStates.{IsKeptInLanes}
+use Rattle.shop_bound.specs.inner.Layouts.{LayoutState, place, IsLaidOut}
+use Rattle.shop_bound.proofs.LaidPlaces.{place_of, cell_at}
 
 pub no_word : (shop : Shop) → IsWord shop []
 no_word shop j = omega arith

@@ -1,15 +1,15 @@
 -- The trail of a word in lanes, with one entry more and one less.
-use Rattle.std.proofs.Common.{◌≡◌, ℕ, zero, suc, ◌+◌, ◌-◌, ◌≤◌, ◌<◌, inl, inr, Bool, true, List, [], ◌∷◌, ◌++◌, length}
+use Rattle.std.proofs.Common.{◌≡◌, ℕ, zero, suc, ◌≤◌, inl, inr, true, List, [], ◌∷◌, ◌++◌, length}
 use Rattle.std.proofs.Common.{get_or, take, drop, refl, sym, ◌∙◌, ap, subst, arith}
 use Rattle.std.specs.Prelude.{reverse}
-use Rattle.std.proofs.lemmas.Bool.{cases_eq, cases_lt}
+use Rattle.std.proofs.lemmas.Bool.{cases_lt}
 use Rattle.std.proofs.Math.Seq.{take-append_seam, drop-append_seam}
 use Rattle.std.proofs.lemmas.List.{length-append, reverse-append, reverse-reverse}
 use Rattle.shop_model.specs.Limits.{IsWithinLimits}
-use Rattle.shop_model.specs.Shop.{Shop, IsOperation}
+use Rattle.shop_model.specs.Shop.{Shop}
 use Rattle.shop_model.specs.Word.{Placing, placing}
 use Rattle.shop_bound.specs.inner.LaneHeads.{AreHeadsAt, IsTrail, IsTrailBack, LeadsBack, NotesState, restored}
-use Rattle.shop_bound.specs.inner.Layouts.{LayoutState, place, IsLaidOut}
+use Rattle.shop_bound.specs.inner.Layouts.{LayoutState, IsLaidOut}
 use Rattle.shop_bound.specs.declared.notes.Mark.{Mark}
 use Rattle.shop_bound.specs.declared.notes.Note.{Note}
 use Rattle.shop_bound.proofs.LaidPlaces.{each_position}

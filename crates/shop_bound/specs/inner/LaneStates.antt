@@ -2,7 +2,7 @@
 --     AreHeadsInLanes greatest shop w ..   the heads of what the word leaves, one number a position
 --     LaneState, IsKeptInLanes       these, with notes that lead back through the word
 --     HasNextInLanes, Advances       one more operation
-use Rattle.std.specs.Prelude.{◌≡◌, ℕ, ◌≤◌, ◌<◌, ◌^◌, Bool, true, List, [], ◌∷◌, ◌++◌, length}
+use Rattle.std.specs.Prelude.{◌≡◌, ℕ, ◌≤◌, ◌<◌, ◌^◌, true, List, [], ◌∷◌, ◌++◌, length}
 use Rattle.shop_lanes.specs.Rows.{Rows}
 use Rattle.shop_model.specs.Limits.{IsWithinLimits}
 use Rattle.shop_model.specs.Shop.{Shop, operation_count}

@@ -1,6 +1,6 @@
-use Rattle.std.proofs.Common.{◌≡◌, ℕ, ◌≤◌, ◌∙◌, List, sym, ap, subst, arith}
+use Rattle.std.proofs.Common.{ℕ, ◌≤◌, ◌∙◌, List, sym, ap, subst, arith}
 use Rattle.std.specs.List.{All}
-use Rattle.shop_lanes.specs.Rows.{Rows, at_rest}
+use Rattle.shop_lanes.specs.Rows.{at_rest}
 use Rattle.shop_bound.proofs.LaneBegins.{times_fit, tails_fit, kept_none}
 use Rattle.shop_bound.proofs.lane_heads.LaneHeads.new.Goals as goal
 
