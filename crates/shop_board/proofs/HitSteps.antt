@@ -7,7 +7,7 @@ use Rattle.atomic_table.specs.Table.{step, Me, Allows, keeps}
 use Rattle.shop_board.specs.declared.views.View.{View}
 use Rattle.shop_board.specs.Views.{has, is_hit_in, IsHitOrEnd}
 use Rattle.shop_board.specs.Moments.{hit_word, IsLive, Knows, IsLawful}
-use Rattle.shop_board.specs.Moves.{with_low, with_done, Looks, Marks}
+use Rattle.shop_board.specs.Moves.{with_low, with_done, IsAtMostMarked, Looks, Marks}
 use Rattle.shop_board.proofs.Numbers.{has_cons, has_head, has_tail}
 use Rattle.shop_board.proofs.Words.{word_here, word_else, words_length, same_word}
 use Rattle.shop_board.proofs.LawfulSteps.{Moment, Risen, Step, still_knows, stepped_lawful, quiet}
@@ -42,7 +42,8 @@ looks_at hits slots id v i last live s law _ at _ =
     let hit : IsHitOrEnd v.hits found =
     subst (λ h. IsHitOrEnd h found) (sym k.same) (subst (IsHitOrEnd hits) (sym is) law.hit) in
     let lower : found ≤ v.low = let b = k.below in omega arith in
-    (w, keeps, tt, stepped_lawful hits s id v w _ law (at, live) st, (refl, refl, hit, lower))
+    let marked : IsAtMostMarked v found = λ m d. let t = (k.done m d).2 in omega arith in
+    (w, keeps, tt, stepped_lawful hits s id v w _ law (at, live) st, (refl, refl, hit, lower, marked))
 
 pub looks : (hits : List Bool) (slots id : ℕ) (me : Me (Unit {0}) View) (i : ℕ) → me.1 ≡ [] → me.0.live ≡ true
     → i ≡ length hits → Allows (IsLawful hits) slots id me i (λ n. n) (Looks (step slots i 0 0 none) me)

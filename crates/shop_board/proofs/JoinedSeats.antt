@@ -11,7 +11,7 @@ use Rattle.atomic_table.proofs.Lists.{at_set, set_else}
 use Rattle.shop_board.specs.declared.views.View.{View}
 use Rattle.shop_board.specs.Views.{has, IsHitOrEnd}
 use Rattle.shop_board.specs.Moments.{hit_word, IsLive, Somebody, Knows, IsLawful}
-use Rattle.shop_board.specs.Moves.{spent, joined, Counts}
+use Rattle.shop_board.specs.Moves.{spent, joined, Recalls}
 use Rattle.shop_board.proofs.Numbers.{has_append, has_left, has_right, once_append}
 use Rattle.shop_board.proofs.Words.{same_word}
 use Rattle.shop_board.proofs.LawfulSteps.{Moment, Step, view_here, stepped_lawful, quiet}
@@ -155,17 +155,17 @@ joins hits id other v w live alive s law at ne there =
     joined_lawful hits s id other v w law (at, live) (e, alive) ne
 
 -- a load that tells a seat that no number stands twice among those that it won
-counts_at : (hits : List Bool) (slots id : ℕ) (v : View) (i : ℕ) → v.live ≡ true
-    → Allows (IsLawful hits) slots id (v, []) i (λ n. n) (Counts (step slots i 0 0 none) (v, []))
-counts_at hits slots id v i live s law _ at _ =
+recalls_at : (hits : List Bool) (slots id : ℕ) (v : View) (i : ℕ) → v.live ≡ true
+    → Allows (IsLawful hits) slots id (v, []) i (λ n. n) (Recalls (step slots i 0 0 none) (v, []))
+recalls_at hits slots id v i live s law _ at _ =
     let k = law.knows id v (at, live) in
     let same = same_word s.words i (slice_index s.words i) refl in
     let st : Step hits s.words (set s.words i (slice_index s.words i)) v v =
     subst (λ ws. Step hits s.words ws v v) (sym same) (quiet hits s v v law live refl refl k) in
     (v, keeps, tt, stepped_lawful hits s id v v _ law (at, live) st, (refl, k.single))
 
-pub counts : (hits : List Bool) (slots id : ℕ) (me : Me (Unit {0}) View) (i : ℕ) → me.1 ≡ [] → me.0.live ≡ true
-    → Allows (IsLawful hits) slots id me i (λ n. n) (Counts (step slots i 0 0 none) me)
-counts hits slots id me i bare live =
-    subst (λ (m : Me (Unit {0}) View). Allows (IsLawful hits) slots id m i (λ n. n) (Counts (step slots i 0 0 none) m))
-    (λ j. (me.0, sym bare j)) (counts_at hits slots id me.0 i live)
+pub recalls : (hits : List Bool) (slots id : ℕ) (me : Me (Unit {0}) View) (i : ℕ) → me.1 ≡ [] → me.0.live ≡ true
+    → Allows (IsLawful hits) slots id me i (λ n. n) (Recalls (step slots i 0 0 none) me)
+recalls hits slots id me i bare live =
+    subst (λ (m : Me (Unit {0}) View). Allows (IsLawful hits) slots id m i (λ n. n) (Recalls (step slots i 0 0 none) m))
+    (λ j. (me.0, sym bare j)) (recalls_at hits slots id me.0 i live)

@@ -8,6 +8,7 @@ pub mod Places
 pub mod RoundPieces
 pub mod SeatCounts
 pub mod ServedEntries
+pub mod TakenEntries
 pub mod WonEntries
 pub mod Words
 pub mod MomentRows

@@ -14,8 +14,7 @@ use Rattle.shop_round.specs.declared.entries.Kind.TheVariants.{Done, Passed}
 use Rattle.shop_board.specs.declared.views.View.{View}
 use Rattle.shop_board.specs.Hits.{hits_of_round}
 use Rattle.shop_board.specs.Views.{has, is_hit_in, HasServed}
-use Rattle.shop_board.specs.Entries.{OfRound}
-use Rattle.shop_board.specs.inner.Gathered.{Brought}
+use Rattle.shop_board.specs.Entries.{OfRound, Brought}
 use Rattle.shop_board.specs.Works.{Grows, numbers_of, IsServed, AreWon}
 use Rattle.shop_board.proofs.Numbers.{has_append, has_cons, has_same, has_tail}
 use Rattle.shop_board.proofs.RoundPieces.{same_hit, is_piece}
@@ -29,10 +28,10 @@ has_reverse (x ∷ xs) n h =
     (λ b. ⊎_elim (λ (e : x ≡ n). has_same x n xs e) (λ none. absurd (true≢false (sym none))) (has_cons x n [] b))
     (has_append (reverse xs) (x ∷ []) n there)
 
-abbrev Served : View → ℕ → Type 0
+abbrev pub Served : View → ℕ → Type 0
 Served w n = (has w.done n ≡ true) ⊎ (w.low < n)
 
-by_kind : (r : Told) (w : View) (n : ℕ) (k : Kind) → Fits r k → IsServed r w k → number_of k ≡ n
+pub by_kind : (r : Told) (w : View) (n : ℕ) (k : Kind) → Fits r k → IsServed r w k → number_of k ≡ n
     → entries.is_hit r n ≡ true → Served w n
 by_kind r w n (Done s) fits served e hit =
     inl (subst (λ m. has w.done m ≡ true) e (served (subst (λ m. entries.is_hit r m ≡ true) (sym e) hit)))

@@ -1,6 +1,7 @@
 -- The entries of a seat after one more turn, and what they say of all that it won.
 use Rattle.std.proofs.Common.{◌≡◌, ◌≢◌, ℕ, ◌+◌, ◌<◌, List, [], ◌∷◌, ◌++◌, length, reverse, get_or}
-use Rattle.std.proofs.Common.{sym, ap, ◌∙◌, subst, inl, inr, ⊎_elim, length-append, arith}
+use Rattle.std.proofs.Common.{◌⊎◌, true, refl, sym, ap, ◌∙◌, subst, inl, inr, ⊎_elim, length-append, arith}
+use Rattle.std.proofs.lemmas.List.Quantifiers.{all_pairs_push}
 use Rattle.std.proofs.Math.ListN.{get_or-append}
 use Rattle.std.proofs.Math.Seq.{get_or-append_seam}
 use Rattle.std.proofs.lemmas.List.{reverse-append, map-append}
@@ -10,13 +11,15 @@ use Rattle.std.specs.List.Sorted.{IsStrictlyIncreasing}
 use mathlib.Core.Logic.{dite}
 use native.Mathlib.Decide.{ℕ_discrete}
 use Rattle.shop_round.specs.Round.{Told}
-use Rattle.shop_round.specs.Entries.{told, number_of}
+use Rattle.shop_round.specs.Entries.{told, number_of, Fits}
 use Rattle.shop_round.specs.declared.entries.Entry.{Entry}
 use Rattle.shop_round.specs.declared.entries.Kind.{Kind}
 use Rattle.shop_round.specs.declared.entries.Kind.TheVariants.{Done, Passed}
 use Rattle.shop_board.specs.declared.views.View.{View}
-use Rattle.shop_board.specs.Works.{Grows, IsKnown, IsAllKnown, numbers_of, IsServed, AreWon}
-use Rattle.shop_board.specs.inner.Turns.{IsServedEntry}
+use Rattle.shop_board.specs.Works.{Grows, IsKnown, IsAllKnown, numbers_of, IsServed, IsPassed, LetsPass, AreWon}
+use Rattle.shop_board.specs.Views.{has}
+use Rattle.shop_board.specs.inner.Turns.{IsServedEntry, IsAhead}
+use Rattle.shop_board.proofs.ServedEntries.{by_kind}
 
 -- a number above all others, at the end of numbers that rise
 rises_push : (xs : List ℕ) (n : ℕ) → IsStrictlyIncreasing xs → All (λ x. x < n) xs → IsStrictlyIncreasing (xs ++ n ∷ [])
@@ -52,6 +55,20 @@ grows_twice u v w a b = record {
   low = let x = a.low in let y = b.low in omega arith;
 }
 
+-- a piece that was searched wasn't behind one that the seat had served
+lets_pass : (r : Told) (v : View) (n : ℕ) (e later : Entry) → told e.round.now ≡ r → IsServed r v e.kind
+    → number_of later.kind ≡ n → IsAhead v n later.kind → LetsPass r e later
+lets_pass r v n e later of served is ahead hit less = passed later.kind is ahead less where
+  known : (has v.done (number_of e.kind) ≡ true) ⊎ (v.low < number_of e.kind)
+  known = by_kind r v (number_of e.kind) e.kind (subst (λ t. Fits t e.kind) of e.fits) served refl hit
+
+  passed : (k : Kind) → number_of k ≡ n → IsAhead v n k → number_of e.kind < number_of k → IsPassed k
+  passed (Done s) at (low, marks) below = ⊎_elim
+      (λ d. let m = marks (number_of e.kind) d in omega arith)
+      (λ (l : v.low < number_of e.kind). omega arith)
+      known
+  passed (Passed m by') at ahead below = tt
+
 -- what was served stays served
 still_served : (r : Told) (v w : View) → Grows v w → (k : Kind) → IsServed r v k → IsServed r w k
 still_served r v w g (Done s) h = λ hit. g.done s.number (h hit)
@@ -70,17 +87,27 @@ still_won r u v w es g same won = record {
   in_order = won.in_order;
   mine = same ∙ won.mine;
   served = all_still r v w es g won.served;
+  passes = won.passes;
 }
 
 pub one_won : (r : Told) (n : ℕ) (u v w : View) (es : List Entry) (e : Entry) → Grows v w → AreWon r u v es
-    → All (λ x. x < n) (numbers_of es) → w.mine ≡ n ∷ v.mine → IsServedEntry r n w e → AreWon r u w (es ++ e ∷ [])
-one_won r n u v w es e g won below mine served = record {
+    → All (λ x. x < n) (numbers_of es) → w.mine ≡ n ∷ v.mine → IsServedEntry r n w e × IsAhead v n e.kind
+    → AreWon r u w (es ++ e ∷ [])
+one_won r n u v w es e g won below mine (served, ahead) = record {
   of_round = All-push (λ (x : Entry). told x.round.now ≡ r) es e won.of_round served.0.0;
   in_order = subst IsStrictlyIncreasing (sym numbers) (rises_push (numbers_of es) n won.in_order below);
   mine = mine ∙ ap (λ l. n ∷ l) won.mine ∙ ap (λ l. l ++ u.mine) (sym turned);
   served = All-push (λ (x : Entry). IsServed r w x.kind) es e (all_still r v w es g won.served) served.1;
+  passes = all_pairs_push (LetsPass r) es e won.passes lets;
 }
   where
+    lets : (k : ℕ) (d : Entry) → k < length es → LetsPass r (get_or es k d) e
+    lets k d inside =
+        lets_pass r v n (get_or es k d) e
+        (All-get_or (λ (x : Entry). told x.round.now ≡ r) es k d inside won.of_round)
+        (All-get_or (λ (x : Entry). IsServed r v x.kind) es k d inside won.served)
+        served.0.1 ahead
+
     numbers : numbers_of (es ++ e ∷ []) ≡ numbers_of es ++ n ∷ []
     numbers = map-append (λ (x : Entry). number_of x.kind) es (e ∷ []) ∙ ap (λ k. numbers_of es ++ k ∷ []) served.0.1
 

@@ -2,23 +2,32 @@
 --     newcomer hits          the first seat has won, seen and marked nothing
 --     empty_handed v         the second of two seats has seen as much, and won nothing
 --     joined v w             one seat for two; the other is spent
+--     AreApart v w           the two seats have won no piece in common
+--     KeepsServed v w x      where both have served what they won, so has the third
 --     HasWon n v w           the piece joins those that the seat won, and wasn't among them
 --     with_seen v n          the piece joins those that the seat knows to be claimed
 --     IsTold won n v w       a claim of the piece was won, or lost
 --     with_low v n           n is the least number read or marked
+--     IsAtMostMarked v n     n is at most each number that the seat marked
 --     with_done v n low      the piece joins those that the seat marked
 --     HasMarked n v w        the piece was marked
 --     Claims, Looks, Marks   of a step, the seat before, the number found and the seat after
---     Counts                 nothing changes; no number stands twice among those that the seat won
+--     Recalls                nothing changes; no number stands twice among those that the seat won
 use Rattle.std.specs.Prelude.{◌≡◌, ℕ, ◌≤◌, List, [], ◌∷◌, ◌++◌, length, min, Bool, true, false}
 use Rattle.std.specs.Prelude.{◌==◌, MatchBool}
 use Rattle.atomic_table.specs.Table.{Step, Me}
 use Rattle.shop_board.specs.declared.views.View.{View}
-use Rattle.shop_board.specs.Views.{has, once, IsHitOrEnd}
+use Rattle.shop_board.specs.Views.{has, once, IsHitOrEnd, HasServed}
 
 abbrev pub newcomer : List Bool → View
 newcomer hits =
     record { live = true; hits = hits; mine = []; seen = []; done = []; low = length hits }
+
+abbrev pub AreApart : View → View → Type 0
+AreApart v w = (n : ℕ) → has v.mine n ≡ true → has w.mine n ≡ true → ⊥
+
+abbrev pub KeepsServed : View → View → View → Type 0
+KeepsServed v w x = HasServed v → HasServed w → HasServed x
 
 abbrev pub spent : View
 spent = record { live = false; hits = []; mine = []; seen = []; done = []; low = 0 }
@@ -37,6 +46,9 @@ IsTold won n v w = MatchBool won (HasWon n v w) (w ≡ with_seen v n)
 
 abbrev pub with_low : View → ℕ → View
 with_low v n = record v { low = n }
+
+abbrev pub IsAtMostMarked : View → ℕ → Type 0
+IsAtMostMarked v n = (m : ℕ) → has v.done m ≡ true → n ≤ m
 
 abbrev pub with_done : View → ℕ → ℕ → View
 with_done v n low = record v { done = n ∷ v.done; low = low }
@@ -68,11 +80,11 @@ Claims s me found after =
 abbrev pub Looks : Telling
 Looks s me found after =
     (after.1 ≡ me.1) × (after.0 ≡ with_low me.0 found) × IsHitOrEnd me.0.hits found
-    × (found ≤ me.0.low)
+    × (found ≤ me.0.low) × IsAtMostMarked me.0 found
 
 abbrev pub Marks : Telling
 Marks s me found after =
     (after.1 ≡ me.1) × (after.0 ≡ with_done me.0 s.first (min s.first found)) × (found ≤ me.0.low)
 
-abbrev pub Counts : Telling
-Counts s me found after = (after ≡ me) × (once me.0.mine ≡ true)
+abbrev pub Recalls : Telling
+Recalls s me found after = (after ≡ me) × (once me.0.mine ≡ true)

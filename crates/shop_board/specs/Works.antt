@@ -5,10 +5,14 @@
 --     IsServed r w kind       a piece that was searched and ends at the opening bound was marked;
 --                             one that was passed was passed by a number that is at least the
 --                             seat's least
---     AreWon r v w entries    in number order, one for each piece that the seat won since, and all
---                             served
+--     LetsPass r e later      behind a piece that ends at the opening bound the later entry is
+--                             passed
+--     AreWon r v w entries    in number order, one for each piece that the seat won since, all
+--                             served, and passed behind one that ends at the opening bound
+--     BringsWon r v w b       such entries, unless memory was refused
 --     IsAllKnown n w          each piece below n is claimed, as far as the seat knows
-use Rattle.std.specs.Prelude.{◌≡◌, ℕ, ◌<◌, ◌≤◌, List, ◌++◌, map, reverse, All, true, ◌⊎◌}
+use Rattle.std.specs.Prelude.{◌≡◌, ℕ, ◌<◌, ◌≤◌, List, ◌++◌, map, reverse, All, true, ◌⊎◌, IfOk}
+use Rattle.std.specs.List.{AllPairs}
 use Rattle.std.specs.List.Sorted.{IsStrictlyIncreasing}
 use Rattle.shop_round.specs.Round.{Told}
 use Rattle.shop_round.specs.Entries.{number_of, is_hit}
@@ -17,7 +21,7 @@ use Rattle.shop_round.specs.declared.entries.Kind.{Kind}
 use Rattle.shop_round.specs.declared.entries.Kind.TheVariants.{Done, Passed}
 use Rattle.shop_board.specs.declared.views.View.{View}
 use Rattle.shop_board.specs.Views.{has}
-use Rattle.shop_board.specs.Entries.{OfRound}
+use Rattle.shop_board.specs.Entries.{OfRound, Brought}
 
 pub record Grows (v w : View) : Type 0 where
   pub hits : w.hits ≡ v.hits
@@ -39,8 +43,20 @@ abbrev pub IsServed : Told → View → Kind → Type 0
 IsServed r w (Done sheet) = is_hit r sheet.number ≡ true → has w.done sheet.number ≡ true
 IsServed r w (Passed number by') = w.low ≤ by'
 
+abbrev pub IsPassed : Kind → Type 0
+IsPassed (Done sheet) = ⊥
+IsPassed (Passed number by') = Unit {0}
+
+abbrev pub LetsPass : Told → Entry → Entry → Type 0
+LetsPass r e later = is_hit r (number_of e.kind) ≡ true
+    → number_of e.kind < number_of later.kind → IsPassed later.kind
+
 pub record AreWon (r : Told) (v w : View) (entries : List Entry) : Type 0 where
   pub of_round : OfRound r entries
   pub in_order : IsStrictlyIncreasing (numbers_of entries)
   pub mine : w.mine ≡ reverse (numbers_of entries) ++ v.mine
   pub served : All (λ (e : Entry). IsServed r w e.kind) entries
+  pub passes : AllPairs (LetsPass r) entries
+
+abbrev pub BringsWon : Told → View → View → Brought → Type 0
+BringsWon r v w brought = IfOk brought (λ x. AreWon r v w x.items)

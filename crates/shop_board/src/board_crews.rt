@@ -20,20 +20,18 @@ pub struct BoardCrew<G> {
 }
 
 impl<G: Drop> BoardCrew<G> {
-    /// A crew of 1 to 64 workers, and else `None`.
+    /// Makes a crew of 1 to 64 workers; for any other number it is `None`.
     pub fn new(workers: usize, gate: G) -> Option<BoardCrew<G>>
         ensures within { IsSome result ↔ ((0 < workers) × (workers ≤ MAX_WORKERS)) }
         ensures keeps { IfSome result (λ c. (c.workers.count ≡ workers) × (c.workers.gate ≡ gate)) }
     {
-        let Some(workers) = Workers::new(workers, gate) else {
-            return None;
-        };
+        let workers = Workers::new(workers, gate)?;
         Some(BoardCrew { workers })
     }
 }
 
 impl<G> BoardCrew<G> {
-    /// The gate, with what it may have noted.
+    /// Gives the gate, with what it may have noted.
     pub fn gate(&self) -> &G
         ensures { result.now ≡ self.now.workers.gate }
     {
@@ -42,8 +40,8 @@ impl<G> BoardCrew<G> {
 }
 
 impl<G: SeatGate + Sync> BoardCrew<G> {
-    /// One entry for each piece of the round, in number order, as `Crew::search` gives them, past any gate. Where a
-    /// worker was refused memory this is `AllocError`, after all workers have been joined.
+    /// Gives one entry for each piece of the round, in number order, as `Crew::search` does, past any gate. Fails with
+    /// `AllocError` if memory runs out, after all workers have been joined.
     pub fn search_round<'r, R: Threads + Sync>(
         &self,
         rt: &R,

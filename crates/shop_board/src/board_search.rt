@@ -3,10 +3,9 @@ ghost use Rattle.std.specs.Prelude.{◌≡◌, ◌<◌, length, vec_len, All, If
 ghost use Rattle.shop_round.specs.Entries.{told};
 ghost use Rattle.shop_round.specs.Crews.{OneForEach};
 ghost use Rattle.shop_board.specs.Entries.{OfRound};
-ghost use Rattle.shop_board.specs.inner.Gathered.{AllOfRound};
+ghost use Rattle.shop_board.specs.inner.Gathered.{AllOfRound, IsReturned, AreReturned};
 ghost use Rattle.shop_board.specs.Hits.{hits_of_round};
 ghost use Rattle.shop_board.specs.Seats.{knows, hits_of, IsSeatOf};
-ghost use Rattle.shop_board.specs.inner.Gathered.{IsReturned};
 ghost use Rattle.shop_board.specs.Works.{Grows, IsKnown};
 ghost use Rattle.shop_board.specs.inner.Turns.{IsRestKnown};
 
@@ -64,7 +63,7 @@ fn work_all<'r, R: Threads + Sync, G: SeatGate + Sync>(
     requires seats { All (λ l. IsSeatOf board.now l.seat) lent.items }
     requires round { hits_of board.now ≡ hits_of_round round.now }
     ensures len { IfOk result (λ v. vec_len v ≡ vec_len lent) }
-    ensures each { IfOk result (λ v. All (λ b. IsReturned board.now (told round.now) b.seat b.entries) v.items) }
+    ensures each { IfOk result (λ v. AreReturned board.now (told round.now) v.items) }
 {
     let worker = move |lent: Lent| -> Returned
         requires { IsSeatOf board.now lent.seat × (hits_of board.now ≡ hits_of_round round.now) }
@@ -83,7 +82,7 @@ fn join_all<'r>(
     round: &'r Round<'r>,
     mut returned: Vec<Returned<'r>>,
 ) -> Result<(Option<Seat>, Vec<Result<Vec<Entry<'r>>, AllocError>>), AllocError>
-    requires { All (λ b. IsReturned board.now (told round.now) b.seat b.entries) returned.items }
+    requires { AreReturned board.now (told round.now) returned.items }
     ensures seat { IfOk result (λ p. IfSome p.0 (IsSeatOf board.now)) }
     ensures entries { IfOk result (λ p. AllOfRound (told round.now) p.1.items) }
 {
@@ -124,8 +123,8 @@ fn claim_rest(board: &Board, seat: &mut Seat, places: &[Option<Entry>])
     }
 }
 
-/// The entries of a round by this many workers at most, who claim its pieces on a board. No more are started than there
-/// are pieces; what a thread that can't be started would have done, the others do. A piece that nobody brought is
+/// Gives the entries of a round by this many workers at most, who claim its pieces on a board. No more are started than
+/// there are pieces; what a thread that can't be started would have done, the others do. A piece that nobody brought is
 /// claimed and searched by the calling thread.
 pub fn search_claimed<'r, R: Threads + Sync, G: SeatGate + Sync>(
     rt: &R,

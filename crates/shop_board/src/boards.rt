@@ -2,7 +2,7 @@
 ghost use Rattle.std.specs.Prelude.{◌≡◌, ◌+◌, ◌≤◌, [], ◌∷◌, ◌++◌, replicate, length, true, IfOk};
 
 use crate::round_hits::RoundHits;
-use crate::rules::{Claim, Count, Law, Look, Mark, Share};
+use crate::rules::{Claim, Law, Look, Mark, Recall, Share};
 use crate::views::View;
 use atomic_table::Table;
 use shop_round::Round;
@@ -42,12 +42,13 @@ impl<'r> Board<'r> {
     ghost use Rattle.std.specs.Prelude.{◌<◌, ℕ};
     ghost use Rattle.shop_board.specs.Hits.{hits_of_round};
     ghost use Rattle.shop_board.specs.Views.{has, is_hit_in, IsHitOrEnd, IsLeastHit, HasServed, HasAll};
-    ghost use Rattle.shop_board.specs.Moves.{newcomer, empty_handed, joined, IsTold, with_low, HasMarked};
+    ghost use Rattle.shop_board.specs.Moves.{newcomer, empty_handed, joined, AreApart, KeepsServed};
+    ghost use Rattle.shop_board.specs.Moves.{IsTold, with_low, IsAtMostMarked, HasMarked};
     ghost use Rattle.shop_board.specs.Seats.{knows, hits_of, IsSeatOf};
     ghost use Rattle.shop_board.specs.Winners.{IsDecided};
 
-    /// A board of a round on which nothing is claimed and nothing marked, and its first seat. Fails
-    /// with `AllocError` if memory runs out; no other call of a board takes memory.
+    /// Makes a board of a round, on which nothing is claimed and nothing marked, and its first seat. Fails with
+    /// `AllocError` if memory runs out; no other call of a board takes memory.
     pub fn open(alloc: Global, round: &'r Round<'r>) -> Result<(Board<'r>, Seat), AllocError>
         ensures hits { IfOk result (λ p. hits_of p.0 ≡ hits_of_round round.now) }
         ensures seat { IfOk result (λ p. IsSeatOf p.0 p.1) }
@@ -59,14 +60,14 @@ impl<'r> Board<'r> {
         Ok((Board { table }, Seat { seat }))
     }
 
-    /// How many pieces the round has.
+    /// Tells how many pieces the round has.
     pub fn pieces(&self) -> usize
         ensures { result ≡ length (hits_of self.now) }
     {
         self.table.word_count() - 1
     }
 
-    /// Two seats for one: the first keeps all, the second has seen as much and won nothing.
+    /// Makes two seats of one: the first keeps all, the second has seen as much and won nothing.
     pub fn split(&self, seat: Seat) -> (Seat, Seat)
         requires { IsSeatOf self.now seat }
         ensures first { IsSeatOf self.now result.0 × (knows result.0 ≡ knows seat) }
@@ -78,19 +79,19 @@ impl<'r> Board<'r> {
         (Seat { seat }, Seat { seat: other })
     }
 
-    /// One seat for two, which had won no piece in common. It knows what either knew.
+    /// Makes one seat of two, which had won no piece in common. It knows what either knew.
     pub fn join(&self, seat: Seat, other: Seat) -> Seat
         requires first { IsSeatOf self.now seat }
         requires second { IsSeatOf self.now other }
         ensures seat { IsSeatOf self.now result }
         ensures knows { knows result ≡ joined (knows seat) (knows other) }
-        ensures served { HasServed (knows seat) → HasServed (knows other) → HasServed (knows result) }
-        ensures apart { (n : ℕ) → has (knows seat).mine n ≡ true → has (knows other).mine n ≡ true → ⊥ }
+        ensures served { KeepsServed (knows seat) (knows other) (knows result) }
+        ensures apart { AreApart (knows seat) (knows other) }
     {
         let Seat { mut seat } = seat;
         let Seat { seat: other } = other;
         self.table.shared.join_seat::<Share>(&mut seat, other);
-        self.table.shared.load::<Count>(&mut seat, 0);
+        self.table.shared.load::<Recall>(&mut seat, 0);
         Seat { seat }
     }
 
@@ -106,13 +107,14 @@ impl<'r> Board<'r> {
         self.table.shared.swap::<Claim>(&mut seat.seat, piece, 1) == 0
     }
 
-    /// The least number of a piece that was marked so far, or how many pieces there are; never above what the seat read
-    /// or marked before.
+    /// Reads the least number of a piece that was marked so far, or how many pieces there are; it is never above what
+    /// the seat read or marked before.
     pub fn look(&self, seat: &mut Seat) -> usize
         requires { IsSeatOf self.now seat.old }
         ensures seat { IsSeatOf self.now seat.new }
         ensures knows { knows seat.new ≡ with_low (knows seat.old) result }
         ensures lower { result ≤ (knows seat.old).low }
+        ensures marked { IsAtMostMarked (knows seat.old) result }
         ensures hit { IsHitOrEnd (hits_of self.now) result }
     {
         self.table
@@ -133,8 +135,9 @@ impl<'r> Board<'r> {
             .fetch_min::<Mark>(&mut seat.seat, self.pieces(), piece as u64);
     }
 
-    /// The least number of a piece that ends at the opening bound, or how many pieces there are. The seat has won all
-    /// pieces, and of those that end at the opening bound it marked each that isn't above one that it marked or read.
+    /// Tells the least number of a piece that ends at the opening bound, or how many pieces there are. The seat has won
+    /// all pieces, and of those that end at the opening bound it marked each that isn't above one that it marked or
+    /// read.
     pub fn close(self, seat: Seat) -> usize
         requires seat { IsSeatOf self seat }
         requires all { HasAll (knows seat) }

@@ -1,9 +1,13 @@
 // A crew whose workers take numbers of pieces from one locked pool.
 ghost use Rattle.std.specs.Thread.{IsSync};
-ghost use Rattle.std.specs.Prelude.{◌≡◌, ◌<◌, ◌≤◌, ◌↔◌, IsSome, IfSome, IfOk};
-ghost use Rattle.shop_round.specs.Entries.{told};
-ghost use Rattle.shop_round.specs.Crews.{OneForEach};
+ghost use Rattle.std.specs.Prelude.{◌≡◌, ◌<◌, ◌≤◌, ◌↔◌, length, true, IsSome, IfSome, IfOk, OnOk};
+ghost use Rattle.std.specs.List.{AllPairs};
+ghost use Rattle.shop_round.specs.Entries.{told, is_hit};
+ghost use Rattle.shop_round.specs.Crews.{OneForEach, IsEntryOf};
+ghost use Rattle.shop_board.specs.Hits.{hits_of_round};
+ghost use Rattle.shop_board.specs.Views.{IsHitOrEnd};
 ghost use Rattle.shop_board.specs.Entries.{OfRound};
+ghost use Rattle.shop_board.specs.Works.{IsPassed, LetsPass};
 
 use crate::gates::{Gate, OpenGate};
 use crate::limits::MAX_WORKERS;
@@ -25,20 +29,18 @@ pub struct LockCrew<G> {
 }
 
 impl<G: Drop> LockCrew<G> {
-    /// A crew of 1 to 64 workers, and else `None`.
+    /// Makes a crew of 1 to 64 workers; for any other number it is `None`.
     pub fn new(workers: usize, gate: G) -> Option<LockCrew<G>>
         ensures within { IsSome result ↔ ((0 < workers) × (workers ≤ MAX_WORKERS)) }
         ensures keeps { IfSome result (λ c. (c.workers.count ≡ workers) × (c.workers.gate ≡ gate)) }
     {
-        let Some(workers) = Workers::new(workers, gate) else {
-            return None;
-        };
+        let workers = Workers::new(workers, gate)?;
         Some(LockCrew { workers })
     }
 }
 
 impl<G> LockCrew<G> {
-    /// The gate, with what it may have noted.
+    /// Gives the gate, with what it may have noted.
     pub fn gate(&self) -> &G
         ensures { result.now ≡ self.now.workers.gate }
     {
@@ -47,8 +49,8 @@ impl<G> LockCrew<G> {
 }
 
 impl<G: Gate + Sync> LockCrew<G> {
-    /// One entry for each piece of the round, in number order, as `Crew::search` gives them, past any gate. Where a
-    /// worker was refused memory this is `AllocError`, after all workers have been joined.
+    /// Gives one entry for each piece of the round, in number order, as `Crew::search` does, past any gate. Fails with
+    /// `AllocError` if memory runs out, after all workers have been joined.
     pub fn search_round<'r, R: Threads + Wait + Sync>(
         &self,
         rt: &R,
@@ -74,8 +76,39 @@ impl<R: Threads + Wait + Sync> Crew<R> for LockCrew<OpenGate> {
     }
 }
 
+// Searches a piece, or passes it where `low` is lower: the least number of a piece that the worker searched and that
+// ends at the opening bound, or how many pieces there are.
+fn turn<'r, G: Gate>(
+    alloc: Global,
+    searcher: &mut PieceSearcher<'r>,
+    low: &mut usize,
+    number: usize,
+    worker: usize,
+    gate: &G,
+) -> Result<Entry<'r>, AllocError>
+    requires piece { number < length searcher.old.pieces.items }
+    requires low { IsHitOrEnd (hits_of_round searcher.old) low.old }
+    ensures round { searcher.new ≡ searcher.old }
+    ensures low { IsHitOrEnd (hits_of_round searcher.old) low.new }
+    ensures lower { low.new ≤ low.old }
+    ensures entry { IfOk result (λ e. IsEntryOf (told searcher.old) number e) }
+    ensures passed { IfOk result (λ e. low.old < number → IsPassed e.kind) }
+    ensures hit { OnOk result (is_hit (told searcher.old) number ≡ true → low.new ≤ number) }
+{
+    if *low < number {
+        return Ok(Entry::passed(searcher.round(), number, *low));
+    }
+    gate.before(worker, number);
+    let sheet = searcher.search(alloc, number)?;
+    let round = searcher.round();
+    if sheet.makespan == round.bound {
+        *low = number;
+    }
+    Ok(Entry::done(round, sheet))
+}
+
 // The entries of the pieces that a worker takes. Once one of its own ends at the opening bound, those of a higher
-// number are passed by it.
+// number are passed.
 fn serve<'r, R: Wait, G: Gate>(
     rt: &R,
     alloc: Global,
@@ -84,11 +117,12 @@ fn serve<'r, R: Wait, G: Gate>(
     gate: &G,
     worker: usize,
 ) -> Result<Vec<Entry<'r>>, AllocError>
-    ensures { IfOk result (λ v. OfRound (told round.now) v.items) }
+    ensures of { IfOk result (λ v. OfRound (told round.now) v.items) }
+    ensures passes { IfOk result (λ v. AllPairs (LetsPass (told round.now)) v.items) }
 {
     let mut entries = Vec::new(alloc);
     let mut searcher = PieceSearcher::new(round);
-    let mut hit = None;
+    let mut low = round.pieces.len();
     for _ in rt.forever() {
         let Some(number) = pool.lock(rt).take() else {
             break;
@@ -96,17 +130,8 @@ fn serve<'r, R: Wait, G: Gate>(
         if number >= round.pieces.len() {
             break;
         }
-        match hit {
-            Some(by) if by < number => entries.push(Entry::passed(round, number, by))?,
-            _ => {
-                gate.before(worker, number);
-                let sheet = searcher.search(alloc, number)?;
-                if sheet.makespan == round.bound {
-                    hit = Some(number);
-                }
-                entries.push(Entry::done(round, sheet))?;
-            }
-        }
+        let entry = turn(alloc, &mut searcher, &mut low, number, worker, gate)?;
+        entries.push(entry)?;
     }
     Ok(entries)
 }

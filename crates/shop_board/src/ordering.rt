@@ -72,7 +72,8 @@ fn or_search<'r>(
     }
 }
 
-/// The entries of a round, one for each piece and in number order; a piece whose place is empty is searched.
+/// Gives the entries of a round, one for each piece and in number order; a piece whose place is empty is searched.
+/// Fails with `AllocError` if memory runs out.
 pub fn complete<'r>(
     alloc: Global,
     round: &'r Round<'r>,
@@ -91,8 +92,8 @@ pub fn complete<'r>(
     Ok(entries)
 }
 
-/// What the workers of a round brought, each entry in the place of its piece: doubles are dropped, and where nobody
-/// brought a piece its place is empty.
+/// Puts what the workers of a round brought into the places of its pieces: doubles are dropped, and where nobody
+/// brought a piece its place is empty. Fails with `AllocError` if memory runs out.
 pub fn in_places<'r>(
     alloc: Global,
     round: &'r Round<'r>,
@@ -109,8 +110,8 @@ pub fn in_places<'r>(
     Ok(slots)
 }
 
-/// The entries of a round, one for each piece and in number order, of what its workers brought: doubles are dropped,
-/// and pieces that nobody brought are searched.
+/// Gives the entries of a round, one for each piece and in number order, of what its workers brought: doubles are
+/// dropped, and pieces that nobody brought are searched. Fails with `AllocError` if memory runs out.
 pub fn in_order<'r>(
     alloc: Global,
     round: &'r Round<'r>,

@@ -1,6 +1,6 @@
 // The search of a worker's pieces, over a desk that is kept from one to the next.
-ghost use Rattle.std.specs.Prelude.{◌≡◌, ◌<◌, ◌==◌, length, IfOk};
-ghost use Rattle.shop_round.specs.Entries.{told, is_hit, IsOf};
+ghost use Rattle.std.specs.Prelude.{◌≡◌, ◌<◌, length, IfOk};
+ghost use Rattle.shop_round.specs.Entries.{told, IsOf, TellsHit};
 
 use shop_round::{Round, search_piece_with};
 use shop_tree::{Searcher, Sheet};
@@ -27,7 +27,7 @@ impl<'r> Model for PieceSearcher<'r> {
 }
 
 impl<'r> PieceSearcher<'r> {
-    /// For pieces of this round. Takes no memory.
+    /// Makes a searcher for pieces of this round, which takes no memory yet.
     pub fn new(round: &'r Round<'r>) -> PieceSearcher<'r>
         ensures { result ≡ round.now }
     {
@@ -37,18 +37,18 @@ impl<'r> PieceSearcher<'r> {
         }
     }
 
-    /// The round.
+    /// Gives the round.
     pub fn round(&self) -> &'r Round<'r>
         ensures { result.now ≡ self.now }
     {
         self.round
     }
 
-    /// The sheet of a piece of the round. Fails with `AllocError` if memory runs out.
+    /// Gives the sheet of a piece of the round. Fails with `AllocError` if memory runs out.
     pub fn search(&mut self, alloc: Global, number: usize) -> Result<Sheet<'r>, AllocError>
         requires { number < length self.old.pieces.items }
         ensures of { IfOk result (λ s. IsOf (told self.old) s × (s.number ≡ number)) }
-        ensures hit { IfOk result (λ s. is_hit (told self.old) number ≡ (s.makespan == self.old.bound)) }
+        ensures hit { IfOk result (TellsHit (told self.old) number) }
         ensures round { self.new ≡ self.old }
     {
         let mut searcher = match self.searcher.take() {

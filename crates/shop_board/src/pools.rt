@@ -10,7 +10,7 @@ pub struct Pool {
 }
 
 impl Pool {
-    /// A pool of the numbers from 0, of which none is taken.
+    /// Makes a pool of the numbers from 0, of which none is taken.
     pub fn open(pieces: usize) -> Pool
         ensures pieces { result.pieces ≡ pieces }
         ensures next { result.next ≡ 0 }
@@ -18,7 +18,7 @@ impl Pool {
         Pool { pieces, next: 0 }
     }
 
-    /// The next number, which rises by one; `None`, with nothing changed, once each number is taken.
+    /// Takes the next number, which rises by one; it is `None`, with nothing changed, once each number is taken.
     pub fn take(&mut self) -> Option<usize>
         ensures pieces { self.new.pieces ≡ self.old.pieces }
         ensures number { IfSome result (λ n. (n ≡ self.old.next) × (n < self.old.pieces)) }

@@ -38,12 +38,12 @@ impl Play<(), View> for Mark {
     ghost then = { Marks };
 }
 
-pub struct Count;
+pub struct Recall;
 
-impl Play<(), View> for Count {
-    ghost use Rattle.shop_board.specs.Moves.{Counts};
+impl Play<(), View> for Recall {
+    ghost use Rattle.shop_board.specs.Moves.{Recalls};
 
-    ghost then = { Counts };
+    ghost then = { Recalls };
 }
 
 pub struct Share;

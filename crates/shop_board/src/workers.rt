@@ -13,7 +13,7 @@ pub struct Workers<G> {
 }
 
 impl<G: Drop> Workers<G> {
-    /// 1 to 64 workers, and else `None`.
+    /// Takes 1 to 64 workers; for any other number it is `None`.
     pub fn new(count: usize, gate: G) -> Option<Workers<G>>
         ensures within { IsSome result ↔ ((0 < count) × (count ≤ MAX_WORKERS)) }
         ensures keeps { IfSome result (λ w. (w.count ≡ count) × (w.gate ≡ gate)) }

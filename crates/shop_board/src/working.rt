@@ -4,8 +4,8 @@ ghost use Rattle.shop_round.specs.Entries.{told};
 ghost use Rattle.shop_board.specs.Hits.{hits_of_round};
 ghost use Rattle.shop_board.specs.Views.{has, HasServed};
 ghost use Rattle.shop_board.specs.Seats.{knows, hits_of, IsSeatOf};
-ghost use Rattle.shop_board.specs.Works.{Grows, IsKnown, IsAllKnown, AreWon};
-ghost use Rattle.shop_board.specs.inner.Turns.{IsServedEntry, TakesTurn};
+ghost use Rattle.shop_board.specs.Works.{Grows, IsKnown, IsAllKnown, BringsWon};
+ghost use Rattle.shop_board.specs.inner.Turns.{IsServedEntry, BringsTurn};
 
 use crate::boards::{Board, Seat};
 use crate::gates::SeatGate;
@@ -59,7 +59,7 @@ fn turn<'r, G: SeatGate>(
     ensures grows { Grows (knows seat.old) (knows seat.new) }
     ensures round { searcher.new ≡ searcher.old }
     ensures claimed { IsKnown (knows seat.new) number }
-    ensures entry { IfOk result (TakesTurn (told searcher.old) number (knows seat.old) (knows seat.new)) }
+    ensures entry { BringsTurn (told searcher.old) number (knows seat.old) (knows seat.new) result }
 {
     let low = board.look(seat);
     if !board.claim(seat, number) {
@@ -87,7 +87,7 @@ fn work_through<'r, G: SeatGate>(
     ensures grows { Grows (knows seat.old) (knows seat.new) }
     ensures round { searcher.new ≡ searcher.old }
     ensures claimed { OnOk result (IsAllKnown (length searcher.old.pieces.items) (knows seat.new)) }
-    ensures entries { IfOk result (λ v. AreWon (told searcher.old) (knows seat.old) (knows seat.new) v.items) }
+    ensures entries { BringsWon (told searcher.old) (knows seat.old) (knows seat.new) result }
 {
     let mut entries = Vec::new(alloc);
     for number in 0..searcher.round().pieces.len() {
@@ -115,7 +115,7 @@ pub fn work<'r, G: SeatGate>(
     ensures seat { IsSeatOf board.now result.0 }
     ensures grows { Grows (knows seat) (knows result.0) }
     ensures claimed { OnOk result.1 (IsAllKnown (length round.now.pieces.items) (knows result.0)) }
-    ensures entries { IfOk result.1 (λ v. AreWon (told round.now) (knows seat) (knows result.0) v.items) }
+    ensures entries { BringsWon (told round.now) (knows seat) (knows result.0) result.1 }
     ensures served { OnOk result.1 (HasServed (knows seat) → HasServed (knows result.0)) }
 {
     let mut seat = seat;

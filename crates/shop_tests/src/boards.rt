@@ -3,6 +3,7 @@ ghost use Rattle.std.specs.Prelude.{◌≡◌, All, IfOk, IfSome};
 ghost use Rattle.shop_board.specs.Hits.{hits_of_round};
 ghost use Rattle.shop_board.specs.Seats.{hits_of, IsSeatOf, HasServedOf};
 
+use crate::crews::{Became, what_became};
 use crate::instances::with_a_gap;
 use crate::worked_rounds::third_round;
 use shop_board::{Board, OpenGate, Seat, work};
@@ -34,6 +35,28 @@ fn two_seats_on_one_thread(rt: HostRuntime) -> Result<(), Fail> {
     assert_eq!(rt; board.look(&mut b), 0);
     let seat = board.join(a, b);
     assert_eq!(rt; board.close(seat), 0);
+    Ok(())
+}
+
+#[test]
+fn a_worker_passes_behind_the_mark_of_another_seat(rt: HostRuntime) -> Result<(), Fail> {
+    let alloc = rt.alloc();
+    let instance = with_a_gap(alloc)?;
+    let round = third_round(alloc, &instance)?;
+    let (board, seat) = Board::open(alloc, &round)?;
+    assert_eq!(rt; board.pieces(), 3);
+    let (mut a, b) = board.split(seat);
+    assert!(rt; board.claim(&mut a, 0));
+    let sheet = search_piece(alloc, &round, 0)?;
+    assert_eq!(rt; sheet.makespan, 10);
+    assert_eq!(rt; round.bound, 10);
+    board.mark(&mut a, 0);
+    let (_b, entries) = work(alloc, &board, b, &round, 1, &OpenGate);
+    let passed = [Became::Passed(0), Became::Passed(0)];
+    assert_eq!(rt;
+        what_became(alloc, &entries?)?.as_slice(),
+        passed.as_slice()
+    );
     Ok(())
 }
 

@@ -292,12 +292,12 @@ fn one_worker_is_worker_0(rt: HostRuntime) -> Result<(), Fail> {
 // What became of a piece: the makespan of its sheet, the nodes taken and the nodes left; or the number that it was
 // passed by.
 #[derive(Clone, Copy, Debug, PartialEq)]
-enum Became {
+pub enum Became {
     Searched(u64, u64, usize),
     Passed(usize),
 }
 
-fn what_became(alloc: Global, entries: &[Entry]) -> Result<Vec<Became>, AllocError> {
+pub fn what_became(alloc: Global, entries: &[Entry]) -> Result<Vec<Became>, AllocError> {
     let mut all = Vec::new(alloc);
     for entry in entries {
         all.push(match &entry.kind {
@@ -365,7 +365,8 @@ fn entries_after_a_hit_do_not_count(rt: HostRuntime) -> Result<(), Fail> {
     Ok(())
 }
 
-// One worker keeps what it searched, and passes what stands behind a piece that ends at the opening bound.
+// One worker keeps what it searched, and passes what stands behind a piece that ends at the opening bound. Its gate hears
+// of the piece that is searched, and of no other.
 #[test]
 fn one_worker_passes_what_stands_behind_a_hit(rt: HostRuntime) -> Result<(), Fail> {
     let alloc = rt.alloc();
@@ -378,11 +379,13 @@ fn one_worker_passes_what_stands_behind_a_hit(rt: HostRuntime) -> Result<(), Fai
     ];
     let alone = Alone.search(&rt, alloc, &round)?;
     assert_eq!(rt; what_became(alloc, &alone)?.as_slice(), kinds.as_slice());
-    let lock = LockCrew::new(1, OpenGate).ok_or("1 to 64 workers")?;
+    let lock = LockCrew::new(1, Tally::new()).ok_or("1 to 64 workers")?;
     let by_lock = lock.search_round(&rt, alloc, &round)?;
     assert_eq!(rt; what_became(alloc, &by_lock)?.as_slice(), kinds.as_slice());
-    let board = BoardCrew::new(1, OpenGate).ok_or("1 to 64 workers")?;
+    assert_eq!(rt; lock.gate().counts(), (1, 0));
+    let board = BoardCrew::new(1, Tally::new()).ok_or("1 to 64 workers")?;
     let by_board = board.search_round(&rt, alloc, &round)?;
     assert_eq!(rt; what_became(alloc, &by_board)?.as_slice(), kinds.as_slice());
+    assert_eq!(rt; board.gate().counts(), (1, 0));
     Ok(())
 }

@@ -5,22 +5,17 @@
 --                                   number
 --     IsReturned b r s es           what a worker brings back: its seat of this board, and entries
 --                                   of this round unless it was refused memory
-use Rattle.std.specs.Prelude.{ℕ, ◌<◌, List, length, All, Option, IfSome, Result, IfOk}
+--     AreReturned b r all           each worker brings back such
+use Rattle.std.specs.Prelude.{ℕ, ◌<◌, List, length, All, Option, IfSome, IfOk}
 use Rattle.std.specs.Prelude.{slice_index_or}
-use Rattle.std.specs.declared.vec.Vec.{Vec}
-use Rattle.std.specs.declared.alloc.Global.{Global}
-use Rattle.std.specs.declared.alloc.AllocError.{AllocError}
 use Rattle.shop_round.specs.Round.{Told}
 use Rattle.shop_round.specs.Crews.{IsEntryOf}
 use Rattle.shop_round.specs.declared.entries.Entry.{Entry}
-use Rattle.shop_board.specs.Entries.{OfRound}
+use Rattle.shop_board.specs.Entries.{OfRound, Brought}
 use Rattle.shop_board.specs.Seats.{IsSeatOf}
 use Rattle.shop_board.specs.declared.boards.Board.{Board}
 use Rattle.shop_board.specs.declared.boards.Seat.{Seat}
-
--- what one worker brings, or its refusal
-abbrev pub Brought : Type 0
-Brought = Result (Vec Entry Global) AllocError
+use Rattle.shop_board.specs.declared.board_search.Returned.{Returned}
 
 abbrev pub AllOfRound : Told → List Brought → Type 0
 AllOfRound r lists = All (λ (l : Brought). IfOk l (λ v. OfRound r v.items)) lists
@@ -32,3 +27,6 @@ Placed r places =
 
 abbrev pub IsReturned : Board → Told → Seat → Brought → Type 0
 IsReturned b r s entries = IsSeatOf b s × IfOk entries (λ v. OfRound r v.items)
+
+abbrev pub AreReturned : Board → Told → List Returned → Type 0
+AreReturned b r all = All (λ (x : Returned). IsReturned b r x.seat x.entries) all

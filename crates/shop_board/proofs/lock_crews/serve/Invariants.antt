@@ -1,7 +1,8 @@
-use Rattle.std.proofs.Common.{◌≡◌, true}
-use Rattle.std.specs.Prelude.{IfSome}
-use Rattle.shop_round.specs.Entries.{told, is_hit}
-use Rattle.shop_board.specs.Entries.{OfRound}
+use Rattle.std.proofs.Common.{◌≡◌}
+use Rattle.shop_round.specs.Entries.{told}
+use Rattle.shop_board.specs.Hits.{hits_of_round}
+use Rattle.shop_board.specs.Views.{IsHitOrEnd}
+use Rattle.shop_board.proofs.TakenEntries.{AreTaken}
 use Rattle.shop_board.proofs.lock_crews.serve.Given as goal
 
 abbrev pub invariant-loop : goal.invariant-loop
@@ -9,5 +10,5 @@ invariant-loop g l =
     (goal.iterator-loop g).can_next l.iterator'
     × (goal.iterator-loop g).is_finite l.iterator'
     × (l.searcher ≡ l.round)
-    × OfRound (told l.round) l.entries.items
-    × IfSome l.hit (λ h. is_hit (told l.round) h ≡ true)
+    × IsHitOrEnd (hits_of_round l.round) l.low
+    × AreTaken (told l.round) l.low l.entries.items

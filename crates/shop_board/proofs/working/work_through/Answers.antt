@@ -31,7 +31,7 @@ loop-number-preserved g c =
             let it : TakesTurn r number before after (Some w.in-Some.entry) =
             subst (TakesTurn r number before after) w.in-Some.is told_turn in
             subst (AreWon r first after) (sym (ap (λ v. v.items) w.entries-is ∙ w.in_ok-push.ensures.items))
-            (one_won r number first before after es w.in-Some.entry t.grows i.entries i.below it.0 it.1)
+            (one_won r number first before after es w.in-Some.entry t.grows i.entries i.below it.0 (it.1, it.2))
         | in_default w ↦
             let it : TakesTurn r number before after None =
             subst (TakesTurn r number before after) w.in_default.is told_turn in

@@ -4,7 +4,7 @@ use Rattle.shop_board.specs.declared.views.View.{View}
 use Rattle.shop_board.specs.Views.{once}
 use Rattle.shop_board.specs.Seats.{knows}
 use Rattle.shop_board.proofs.Numbers.{once_apart}
-use Rattle.shop_board.proofs.JoinedSeats.{joins, counts}
+use Rattle.shop_board.proofs.JoinedSeats.{joins, recalls}
 use Rattle.shop_board.proofs.boards.Board.join.Goals as goal
 
 pub join_seat-requires : goal.join_seat-requires
@@ -26,7 +26,7 @@ load-requires c =
     let now = c.join_seat.new.seat in (
       e.0 ∙ c.requires.first.0,
       omega arith,
-      counts _ _ now.id now.me 0
+      recalls _ _ now.id now.me 0
           (ap (λ (m : Me (Unit {0}) View). m.1) e.2 ∙ c.args.seat.holds_no_slot)
           (ap (λ (m : Me (Unit {0}) View). m.0.live) e.2 ∙ c.args.seat.live),
     )
