@@ -7,6 +7,7 @@ use Rattle.shop_lanes.specs.Rows.{Rows}
 use Rattle.shop_lanes.specs.Marks.{marked, waits_below, positions_below}
 use Rattle.shop_bound.specs.inner.Layouts.{LayoutState}
 use Rattle.shop_bound.specs.inner.LaneHeads.{NotesState}
+use Rattle.shop_bound.specs.inner.RisingLists.{IsIn, Rises}
 use Rattle.shop_bound.specs.inner.Raises.{at_in, AreInRouteOrder, IsRaised, IsLeastRaise, IsRaisable, Raises}
 use Rattle.shop_bound.specs.inner.Raises.{IsIndexed, IsPosition, IsInBlocks}
 use Rattle.shop_bound.proofs.RestoredNotes.{back_none, back_both}
@@ -95,15 +96,6 @@ raises_none greatest l A e a n order enough = record {
   ends = refl;
   noted = back_none greatest n a.heads;
 }
-
--- q is one of the list
-abbrev pub IsIn : List ℕ → ℕ → Type 0
-IsIn [] q = ⊥
-IsIn (x ∷ xs) q = (q ≡ x) ⊎ IsIn xs q
-
-abbrev pub Rises : List ℕ → Type 0
-Rises [] = Unit {0}
-Rises (x ∷ xs) = ((q : ℕ) → IsIn xs q → x < q) × Rises xs
 
 module _ (p : ℕ → Bool) where
   pub marked_in : (at : ℕ) (xs : List ℕ) (i : ℕ) → i < length xs → p (get_or xs i 0) ≡ true

@@ -51,7 +51,7 @@ module _ (shop : Shop) (limits : IsWithinLimits shop) (l : LayoutState) (laid : 
     within = (let a = machines_rise shop limits l laid (m + 1) shop.machines (omega arith) (omega arith) in omega arith);
   }
 
-  is_place : (j k r : ℕ) → IsOperation shop j k → place l j k ≡ r → IsPlace l r
+  pub is_place : (j k r : ℕ) → IsOperation shop j k → place l j k ≡ r → IsPlace l r
   is_place j k r op at =
       let a = place_of shop limits l laid j k op
       in let job : get_or l.jobs r 0 ≡ j = ap (λ (x : ℕ). get_or l.jobs x 0) (sym at) ∙ a.job

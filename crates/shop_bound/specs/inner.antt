@@ -6,6 +6,8 @@ pub mod LaneHeads
 pub mod Raises
 pub mod Fills
 pub mod LaneStates
+pub mod RisingLists
+pub mod LaneChoices
 pub mod Profiles
 pub mod NonincreasingTails
 pub mod Thresholds

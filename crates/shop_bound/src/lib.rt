@@ -8,6 +8,7 @@ mod fills;
 mod head_rows;
 mod kept_heads;
 mod lane_bounds;
+mod lane_choices;
 mod lane_heads;
 mod latest_ends;
 mod laws;

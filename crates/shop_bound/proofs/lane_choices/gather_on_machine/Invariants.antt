@@ -1,0 +1,18 @@
+use Rattle.std.proofs.Common.{◌≤◌, ◌-◌, get_or, length, vec_capacity}
+use Rattle.shop_bound.specs.inner.LaneChoices.{IsNextBelow}
+use Rattle.shop_bound.specs.inner.Raises.{IsInBlocks}
+use Rattle.shop_bound.specs.inner.RisingLists.{HasGathered, IsRisingBelow}
+use Rattle.shop_bound.proofs.lane_choices.gather_on_machine.Given as goal
+
+abbrev pub invariant-loop-from : goal.invariant-loop-from
+invariant-loop-from g l = record {
+  ordered : get_or l.layout.blocks l.machine 0 ≤ l.from;
+  within : l.from ≤ l.behind;
+  gathered : HasGathered (IsNextBelow l.layout l.steps (g.L.Lanes.rows l.lanes).heads
+      (IsInBlocks (get_or l.layout.blocks l.machine 0) l.from) l.limit) l.fn.jobs.items l.jobs.items;
+  list : IsRisingBelow (length l.steps) l.jobs.items;
+  room : vec_capacity l.fn.jobs ≤ vec_capacity l.jobs;
+}
+
+abbrev pub decreases-loop-from : goal.decreases-loop-from
+decreases-loop-from g l = l.behind - l.from
