@@ -69,3 +69,5 @@ pub mod ChildExits
 pub mod LaneBoundTurns
 pub mod LaneFits
 pub mod ChildRaises
+pub mod ChildTurns
+pub mod ChildReads

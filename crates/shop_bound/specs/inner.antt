@@ -21,3 +21,4 @@ pub mod TakingBack
 pub mod StandingBounds
 pub mod HeadLimits
 pub mod LaneBounds
+pub mod ChildBounds

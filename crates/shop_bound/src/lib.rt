@@ -1,6 +1,7 @@
 // Heads, tails, one-machine bounds and lower bounds.
 #![tactic(auto)]
 
+mod child_bounds;
 mod conflicts;
 mod desks;
 mod dispatching;

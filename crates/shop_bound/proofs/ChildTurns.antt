@@ -1,0 +1,98 @@
+-- What is read and kept while the bound after one more operation is found.
+use Rattle.std.proofs.Common.{◌≡◌, ℕ, ◌+◌, ◌-◌, ◌≤◌, ◌<◌, inl, inr, true, false, List, [], ◌∷◌, ◌++◌, length}
+use Rattle.std.proofs.Common.{get_or, take, drop, refl, sym, ◌∙◌, ap, subst, arith, length-append}
+use Rattle.std.specs.List.{All}
+use Rattle.std.proofs.lemmas.Bool.{cases_Bool}
+use Rattle.std.proofs.lemmas.List.{take_all}
+use Rattle.std.proofs.lemmas.List.Elements.{All-from_recursion}
+use Rattle.shop_lanes.specs.Rows.{Rows, with_head}
+use Rattle.shop_lanes.specs.Spans.{spans_between}
+use Rattle.shop_model.specs.Shop.{Shop, machine_of}
+use Rattle.shop_model.specs.Word.{Placing, IsWord, placing, place_next}
+use Rattle.shop_model.proofs.Ends.{IsOperation-job}
+use Rattle.shop_model.proofs.Unders.{next_operation, placing-snoc}
+use Rattle.shop_bound.specs.Bound.{lb}
+use Rattle.shop_bound.specs.Desks.{IsBoundUpTo}
+use Rattle.shop_bound.specs.inner.HeadLimits.{latest_end}
+use Rattle.shop_bound.specs.inner.KeptHeads.{raise_of}
+use Rattle.shop_bound.specs.inner.LaneBounds.{lanes_on, AreMachinesAt, IsNoteWithin}
+use Rattle.shop_bound.specs.inner.LaneHeads.{AreHeadsAt, AreNotesFit, NotesState}
+use Rattle.shop_bound.specs.inner.LaneStates.{AreHeadsInLanes, Advances}
+use Rattle.shop_bound.specs.inner.Layouts.{LayoutState}
+use Rattle.shop_bound.specs.declared.kept_heads.Raise.{Raise}
+use Rattle.shop_bound.specs.declared.notes.Mark.{Mark}
+use Rattle.shop_bound.specs.declared.notes.Note.{Note}
+use Rattle.shop_bound.proofs.ChildRaises.{IsCovered, bound_by_raises_is, covered_all, covered_by_notes, heads_small}
+use Rattle.shop_bound.proofs.RestoredNotes.{put_back}
+
+-- a head that is taken out and put in again
+pub head_again : (rows : Rows) (x : ℕ) → with_head (with_head rows x 0) x (get_or rows.heads x 0) ≡ rows
+head_again rows x = ap (λ (hs : List ℕ). record rows { heads = hs }) (put_back rows.heads x 0)
+
+drop_front : {A : Type 0} (xs ys : List A) → drop (length xs) (xs ++ ys) ≡ ys
+drop_front [] ys = refl
+drop_front (x ∷ xs) ys = drop_front xs ys
+
+-- the notes behind a mark
+pub noted_is : (list before more : List Note) (first : ℕ) → list ≡ before ++ more → first ≡ length before
+    → take (length list - first) (drop first list) ≡ more
+noted_is list before more first e f =
+    let d : drop first list ≡ more =
+    ap (λ (n : ℕ). drop n list) f ∙ (ap (λ (xs : List Note). drop (length before) xs) e ∙ drop_front before more)
+    in let long : length list ≡ length before + length more = ap (λ (xs : List Note). length xs) e ∙ length-append before more
+    in ap (λ (xs : List Note). take (length list - first) xs) d ∙ take_all (length list - first) more (omega arith)
+
+pub notes_within : (greatest n k : ℕ) (notes : List Note) → AreNotesFit greatest k notes → k ≡ n
+    → All (λ x. x.position < n) notes
+notes_within greatest n k notes fit e i d here =
+    let a = All-from_recursion (λ (x : Note). (x.position < k) × (x.head ≤ greatest)) notes fit i d here
+    in let b = a.0 in omega arith
+
+pub its_job : (shop : Shop) (w : List ℕ) (j : ℕ) → IsWord shop (w ++ j ∷ []) → j < length shop.jobs
+its_job shop w j fits = IsOperation-job shop j _ (next_operation shop w j fits)
+
+module _ (greatest : ℕ) (shop : Shop) (l : LayoutState) (j step : ℕ) (rows rows' : Rows) (before after : NotesState)
+    (mark : Mark) (advances : Advances greatest shop l j step rows rows' before after mark) where
+  -- the heads of the word with the operation
+  pub next_heads : (w : List ℕ) → AreHeadsInLanes greatest shop w l rows → IsWord shop (w ++ j ∷ [])
+      → step ≡ (placing shop w).steps j → AreHeadsAt shop (place_next shop (placing shop w) j) l rows'.heads
+  next_heads w kept fits at = subst (λ (q : Placing). AreHeadsAt shop q l rows'.heads) (placing-snoc shop w j)
+      (advances.heads w kept fits at).heads
+
+  pub next_small : (top : ℕ) → top ≡ latest_end shop + 1 → (w : List ℕ) → AreHeadsInLanes greatest shop w l rows
+      → IsWord shop (w ++ j ∷ []) → step ≡ (placing shop w).steps j → (q : ℕ) → get_or rows'.heads q 0 ≤ top
+  next_small top is w kept fits at q =
+      let a = heads_small shop kept.limits l kept.laid (w ++ j ∷ []) fits rows'.heads
+      (advances.heads w kept fits at).heads q in omega arith
+
+  pub raised_is : (ms : List ℕ) → AreMachinesAt l shop.machines ms → (raises : List Raise)
+      → length raises ≡ shop.machines → (noted : List Note) → noted ≡ advances.noted.more
+      → (mark.whole ≡ true → All (IsNoteWithin raises ms rows'.heads) noted) → (top : ℕ) → top ≡ latest_end shop + 1
+      → (mark.whole ≡ false → (m : ℕ) → m < length raises → raise_of raises m ≡ record { from = 0; to = top })
+      → (least limit b : ℕ) → least ≤ b
+      → (b < limit → (m : ℕ) → m < length raises
+      → spans_between (raise_of raises m).from (raise_of raises m).to (lanes_on rows' l m) ≤ b + 1)
+      → ((c : ℕ) → least ≤ c → ((m above upto : ℕ) → m < length raises
+      → spans_between above upto (lanes_on rows' l m) ≤ c + 1) → b ≤ c)
+      → (w : List ℕ) → AreHeadsInLanes greatest shop w l rows → IsWord shop (w ++ j ∷ [])
+      → step ≡ (placing shop w).steps j → lb shop w ≤ least
+      → (place_next shop (placing shop w) j).free (machine_of shop j ((placing shop w).steps j)) ≤ least
+      → least ≤ lb shop (w ++ j ∷ []) → IsBoundUpTo limit (lb shop (w ++ j ∷ [])) b
+  raised_is ms machines raises long noted is within top top_is all least limit b low covers inside w kept fits at parent
+      end most =
+      let now = next_heads w kept fits at
+      in let beside = advances.beside
+      in let covered : (m : ℕ) → m < shop.machines
+      → IsCovered shop kept.limits l kept.laid w j fits rows.heads rows'.heads kept.heads now (raise_of raises m) m =
+      (λ m known. elim (cases_Bool mark.whole) [
+        | inl e ↦ covered_by_notes shop kept.limits l kept.laid w j fits rows.heads rows'.heads kept.heads now ms
+            machines raises advances.noted.more (advances.noted.back (sym advances.whole ∙ e))
+            (subst (λ (ns : List Note). All (IsNoteWithin raises ms rows'.heads) ns) is (within e)) m known
+        | inr e ↦ (let r = all e m (omega arith)
+            in covered_all shop kept.limits l kept.laid w j fits rows.heads rows'.heads kept.heads now
+            (raise_of raises m) (ap (λ (x : Raise). x.from) r)
+            (λ q. (let a = next_small top top_is w kept fits at q in let t = ap (λ (x : Raise). x.to) r in omega arith))
+            m)
+      ])
+      in bound_by_raises_is shop kept.limits l kept.laid w j fits rows.heads rows'.heads kept.heads now raises long covered
+      rows' refl (beside.times ∙ kept.times) (beside.tails ∙ kept.tails) least limit b parent end most low covers inside
