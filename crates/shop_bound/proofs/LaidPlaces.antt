@@ -107,7 +107,7 @@ module _ (shop : Shop) (limits : IsWithinLimits shop) (l : LayoutState) (laid : 
       ]
 
   -- the machine that a position belongs to
-  machine_at : (k q : ℕ) → k ≤ shop.machines → q < first_of l k
+  pub machine_at : (k q : ℕ) → k ≤ shop.machines → q < first_of l k
       → (m : ℕ) × (m < shop.machines) × (first_of l m ≤ q) × (q < first_of l (m + 1))
   machine_at zero q known below = absurd (let a = laid.from_0 in omega arith)
   machine_at (suc k) q known below =

@@ -1,24 +1,47 @@
 -- Nothing is dispatched yet in lanes.
-use Rattle.std.proofs.Common.{◌≡◌, ℕ, ◌%◌, ◌≤◌, ◌<◌, ◌^◌, inl, inr, true, List, [], length, replicate}
+use Rattle.std.proofs.Common.{◌≡◌, ℕ, ◌+◌, ◌-◌, ◌*◌, ◌%◌, ◌≤◌, ◌<◌, ◌^◌, inl, inr, true, List, [], length, take, drop}
+use Rattle.std.proofs.Common.{replicate}
 use Rattle.std.proofs.Common.{get_or, refl, sym, ◌∙◌, ap, subst, arith}
 use Rattle.std.specs.List.{All}
 use Rattle.std.proofs.lemmas.Bool.{cases_lt}
-use Rattle.std.proofs.lemmas.List.{get_or_past, get_or_default, length-replicate, get_or-replicate}
+use Rattle.std.proofs.lemmas.List.{get_or_past, get_or_default, length-replicate, get_or-replicate, get_or-take}
+use Rattle.std.proofs.lemmas.List.{get_or-drop, length-drop, length-take-le}
 use Rattle.shop_lanes.specs.Rows.{Rows, at_rest}
 use Rattle.shop_model.specs.Limits.{IsWithinLimits}
 use Rattle.shop_model.specs.Shop.{Shop, operation_count}
 use Rattle.shop_model.specs.Word.{IsWord, none_placed}
-use Rattle.shop_bound.specs.Heads.{tail_of}
+use Rattle.shop_bound.specs.inner.HeadLimits.{FitsLanes}
+use Rattle.shop_bound.proofs.LatestEnds.{latest_end_is}
+use Rattle.shop_bound.proofs.Lists.{get_or-le-greatest_of}
 use Rattle.shop_bound.specs.Placements.{PlacementState, IsPlacement}
 use Rattle.shop_bound.specs.declared.notes.Mark.{Mark}
 use Rattle.shop_bound.specs.inner.Fills.{CanFill, HasFilled, IsRested}
 use Rattle.shop_bound.specs.inner.LaneHeads.{AreHeadsFit, NotesState}
-use Rattle.shop_bound.specs.inner.LaneStates.{IsKeptInLanes}
-use Rattle.shop_bound.specs.inner.Layouts.{LayoutState, place, IsLaidOut}
-use Rattle.shop_bound.proofs.LaidPlaces.{place_of, cell_at}
+use Rattle.shop_bound.specs.inner.LaneStates.{HasBounds, IsKeptInLanes}
+use Rattle.shop_bound.specs.inner.Layouts.{LayoutState, place, first_of, IsLaidOut}
+use Rattle.shop_bound.proofs.LaidPlaces.{place_of, cell_at, machine_at, machines_rise}
 
 pub no_word : (shop : Shop) → IsWord shop []
 no_word shop j = omega arith
+
+pub heads_fit : (greatest : ℕ) (shop : Shop) (l : LayoutState) → IsWithinLimits shop → FitsLanes greatest shop l
+    → AreHeadsFit greatest shop
+heads_fit greatest shop l limits holds w word j k op opened =
+    let a = latest_end_is shop w word j k op opened
+    in let b = holds 0 (let c = limits.some_machine in omega arith)
+    in omega arith
+
+-- the first positions of the machines
+pub blocks_rise : (shop : Shop) → IsWithinLimits shop → (l : LayoutState) → IsLaidOut shop l → (m : ℕ)
+    → m < shop.machines → get_or l.blocks m 0 ≤ get_or l.blocks (m + 1) 0
+blocks_rise shop limits l laid m known =
+    let a = machines_rise shop limits l laid m (m + 1) (omega arith) (omega arith) in omega arith
+
+pub blocks_within : (shop : Shop) → IsWithinLimits shop → (l : LayoutState) → IsLaidOut shop l → (m : ℕ)
+    → m ≤ shop.machines → 8 * get_or l.blocks m 0 ≤ length l.times
+blocks_within shop limits l laid m known =
+    let a = machines_rise shop limits l laid m shop.machines known (omega arith) in let b = laid.positions.times
+    in omega arith
 
 module _ (greatest : ℕ) (shop : Shop) (limits : IsWithinLimits shop) (l : LayoutState) (laid : IsLaidOut shop l)
     (fits : AreHeadsFit greatest shop) where
@@ -40,17 +63,25 @@ module _ (greatest : ℕ) (shop : Shop) (limits : IsWithinLimits shop) (l : Layo
         | inr p ↦ (let a = p.time in omega arith)
       ]
 
-  pub tails_fit : ((j k : ℕ) → tail_of shop j k ≤ greatest) → All (λ t. t ≤ greatest) l.tails
-  tails_fit small q d here =
+  pub tails_fit : FitsLanes greatest shop l → All (λ t. t ≤ greatest) l.tails
+  tails_fit holds q d here =
       let same = get_or_default l.tails q d 0 here
-      in elim (cell_at shop limits l laid q (let a = laid.positions.tails in omega arith)) [
-        | inl o ↦ (let a = (place_of shop limits l laid o.job o.step o.is).tail
-            in let b : get_or l.tails q 0 ≡ get_or l.tails (place l o.job o.step) 0 =
-            ap (λ (x : ℕ). get_or l.tails x 0) (sym o.at)
-            in let f = small o.job o.step
-            in omega arith)
-        | inr p ↦ (let a = p.tail in omega arith)
-      ]
+      in let at = machine_at shop limits l laid shop.machines q (omega arith)
+      (let a = laid.positions.tails in omega arith)
+      in let m = at.0
+      in let low = at.2 in let high = at.3
+      in let i = q - first_of l m
+      in let n = first_of l (m + 1) - first_of l m
+      in let part : List ℕ = take n (drop (first_of l m) l.tails)
+      in let last = machines_rise shop limits l laid (m + 1) shop.machines (omega (arith, at.1)) (omega arith)
+      in let long : length part ≡ n = length-take-le n (drop (first_of l m) l.tails)
+      (let a = laid.positions.tails in omega (arith, length-drop (first_of l m) l.tails))
+      in let is : get_or part i 0 ≡ get_or l.tails q 0 =
+      get_or-take n (drop (first_of l m) l.tails) i 0 (omega arith)
+      ∙ (get_or-drop (first_of l m) l.tails i 0 ∙ ap (λ (x : ℕ). get_or l.tails x 0) (omega arith))
+      in let most = get_or-le-greatest_of (λ (t : ℕ). t) part i 0 (omega arith)
+      in let load = holds m at.1
+      in omega arith
 
   module _ (computable : greatest < 2 ^ 64) (p : PlacementState) (placed : IsPlacement shop (none_placed shop) p)
       (rest : Rows) (jobs none : ℕ) (resting : rest ≡ at_rest l.times l.tails jobs none) where
@@ -76,16 +107,29 @@ module _ (greatest : ℕ) (shop : Shop) (limits : IsWithinLimits shop) (l : Layo
 
     pub kept_none : (rows : Rows) → HasFilled shop l p rest rows → (notes : NotesState)
         → notes ≡ record { list = []; whole = true } → (marks : List Mark) → marks ≡ [] → (room : ℕ)
-        → operation_count shop ≤ room
+        → operation_count shop ≤ room → (machines : List ℕ) (raises top : ℕ)
+        → HasBounds greatest shop l machines raises top
         → IsKeptInLanes greatest shop []
-        (record { layout = l; rows = rows; notes = notes; marks = marks; room = room })
-    kept_none rows filled notes begun marks none_marked room enough =
+        (record {
+          layout = l;
+          rows = rows;
+          notes = notes;
+          marks = marks;
+          room = room;
+          machines = machines;
+          raises = raises;
+          top = top;
+        })
+    kept_none rows filled notes begun marks none_marked room enough machines raises top bounds =
         let none : IsKeptInLanes greatest shop [] (record {
           layout = l;
           rows = rows;
           notes = record { list = []; whole = true };
           marks = [];
           room = room;
+          machines = machines;
+          raises = raises;
+          top = top;
         }) = record {
           kept = record {
             limits = limits;
@@ -101,13 +145,26 @@ module _ (greatest : ℕ) (shop : Shop) (limits : IsWithinLimits shop) (l : Layo
           trail = refl;
           as_many = refl;
           marks_room = enough;
+          bounds = bounds;
         }
         in subst (λ (n : NotesState). IsKeptInLanes greatest shop []
-        (record { layout = l; rows = rows; notes = n; marks = marks; room = room })) (sym begun)
+        (record {
+          layout = l;
+          rows = rows;
+          notes = n;
+          marks = marks;
+          room = room;
+          machines = machines;
+          raises = raises;
+          top = top;
+        })) (sym begun)
         (subst (λ (ms : List Mark). IsKeptInLanes greatest shop [] (record {
           layout = l;
           rows = rows;
           notes = record { list = []; whole = true };
           marks = ms;
           room = room;
+          machines = machines;
+          raises = raises;
+          top = top;
         })) (sym none_marked) none)

@@ -38,7 +38,16 @@ module _ (greatest : ℕ) (shop : Shop) (w : List ℕ) (j : ℕ) (s : LaneState)
         → Advances greatest shop s.layout j step s.rows new s.notes after mark → (marks : List Mark)
         → marks ≡ s.marks ++ mark ∷ [] → (room : ℕ) → s.room ≤ room
         → IsKeptInLanes greatest shop (w ++ j ∷ [])
-        (record { layout = s.layout; rows = new; notes = after; marks = marks; room = room })
+        (record {
+          layout = s.layout;
+          rows = new;
+          notes = after;
+          marks = marks;
+          room = room;
+          machines = s.machines;
+          raises = s.raises;
+          top = s.top;
+        })
     kept_more step at new after mark advances marks pushed room more =
         let back = advances.noted
         in record {
@@ -54,6 +63,7 @@ module _ (greatest : ℕ) (shop : Shop) (w : List ℕ) (j : ℕ) (s : LaneState)
           as_many = (let a = ap length pushed in let b = length_push s.marks mark in let c = length_push w j
               in let d = kept.as_many in omega arith);
           marks_room = (let a = kept.marks_room in omega arith);
+          bounds = kept.bounds;
         }
 
   module _ (kept : IsKeptInLanes greatest shop (w ++ j ∷ []) s) (marks : List Mark) (mark : Mark)
@@ -95,7 +105,16 @@ module _ (greatest : ℕ) (shop : Shop) (w : List ℕ) (j : ℕ) (s : LaneState)
           → GoesBack shop s.layout p (take (length s.notes.list - mark.first) (drop mark.first s.notes.list)) mark.whole
           s.rows new → (after : NotesState) → after ≡ record s.notes { list = take mark.first s.notes.list }
           → (room : ℕ) → room ≡ s.room → IsKeptInLanes greatest shop w
-          (record { layout = s.layout; rows = new; notes = after; marks = marks; room = room })
+          (record {
+            layout = s.layout;
+            rows = new;
+            notes = after;
+            marks = marks;
+            room = room;
+            machines = s.machines;
+            raises = s.raises;
+            top = s.top;
+          })
       kept_less new back after truncated room same =
           let list : after.list ≡ take mark.first s.notes.list = ap (λ (n : NotesState). n.list) truncated
           in let heads : AreHeadsAt shop (placing shop w) s.layout new.heads =
@@ -122,4 +141,5 @@ module _ (greatest : ℕ) (shop : Shop) (w : List ℕ) (j : ℕ) (s : LaneState)
             as_many = (let a = ap length popped in let b = length_push marks mark in let c = length_push w j
                 in let d = kept.as_many in omega arith);
             marks_room = (let a = kept.marks_room in omega arith);
+            bounds = kept.bounds;
           }

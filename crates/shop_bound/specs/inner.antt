@@ -8,6 +8,7 @@ pub mod Fills
 pub mod LaneStates
 pub mod RisingLists
 pub mod LaneChoices
+pub mod Waitings
 pub mod Profiles
 pub mod NonincreasingTails
 pub mod Thresholds

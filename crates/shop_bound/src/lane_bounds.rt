@@ -187,7 +187,7 @@ pub(crate) fn machines_of(
     requires from_0 { slice_index layout.now.blocks 0 ≡ 0 }
     requires ordered { (m : ℕ) → m < machines
         → slice_index layout.now.blocks m ≤ slice_index layout.now.blocks (m + 1) }
-    requires small { (m : ℕ) → m ≤ machines → 8 * slice_index layout.now.blocks m < 2 ^ 32 }
+    requires small { (m : ℕ) → m ≤ machines → 8 * slice_index layout.now.blocks m < 2 ^ 64 }
     ensures { IfOk result (λ v. AreMachinesAt layout.now machines v.items) }
 {
     let mut positions = Vec::new(alloc);

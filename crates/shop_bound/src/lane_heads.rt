@@ -1,14 +1,17 @@
 // Heads by position that are kept up with a word, entry by entry.
-ghost use Rattle.std.specs.Prelude.{◌≡◌, ◌≤◌, ◌^◌, ◌<◌, ℕ, IfOk, []};
+ghost use Rattle.std.specs.Prelude.{◌≡◌, ◌^◌, ◌<◌, IfOk, []};
 ghost use Rattle.shop_model.specs.Word.{none_placed};
-ghost use Rattle.shop_bound.specs.Heads.{tail_of};
 ghost use Rattle.shop_bound.specs.Placements.{IsPlacement};
-ghost use Rattle.shop_bound.specs.inner.LaneHeads.{AreHeadsFit};
+ghost use Rattle.shop_bound.specs.inner.HeadLimits.{FitsLanes};
+ghost use Rattle.shop_bound.specs.inner.Layouts.{IsLaidOut};
 ghost use Rattle.shop_bound.specs.inner.LaneStates.{HasLastInLanes, HasNextInLanes, IsKeptInLanes, KeepsLast};
 ghost use Rattle.shop_bound.specs.inner.LaneStates.{KeepsNext};
 
 use crate::dispatching::advance;
 use crate::fills::{fill, go_back};
+use crate::kept_heads::{NO_RAISE, Raise};
+use crate::lane_bounds::machines_of;
+use crate::latest_ends::latest_end;
 use crate::layouts::Layout;
 use crate::notes::{Mark, Notes};
 use crate::placements::Placement;
@@ -25,10 +28,16 @@ pub(crate) struct LaneHeads<L: Lanes> {
     pub(crate) lanes: L,
     pub(crate) notes: Notes,
     marks: Vec<Mark>,
+    /// machines[position]
+    pub(crate) machines: Vec<u32>,
+    /// raises[machine], for the bound at hand
+    pub(crate) raises: Vec<Raise>,
+    /// one more than the latest end of any operation
+    pub(crate) top: u64,
 }
 
 impl<L: Lanes> Model for LaneHeads<L> {
-    ghost use Rattle.std.specs.Prelude.{vec_capacity};
+    ghost use Rattle.std.specs.Prelude.{length, vec_capacity};
     ghost use Rattle.shop_bound.specs.inner.LaneStates.{LaneState};
 
     ghost Value = { LaneState };
@@ -39,6 +48,9 @@ impl<L: Lanes> Model for LaneHeads<L> {
       notes = h.notes;
       marks = h.marks.items;
       room = vec_capacity h.marks;
+      machines = h.machines.items;
+      raises = length h.raises.items;
+      top = h.top;
     } };
 }
 
@@ -49,21 +61,24 @@ impl<L: Lanes> LaneHeads<L> {
         alloc: Global,
         instance: &Instance,
         placement: &Placement,
+        layout: Layout,
     ) -> Result<LaneHeads<L>, AllocError>
-        requires fits { AreHeadsFit L.GREATEST instance.now }
-        requires tails { (j k : ℕ) → tail_of instance.now j k ≤ L.GREATEST }
+        requires laid { IsLaidOut instance.now layout }
+        requires fits { FitsLanes L.GREATEST instance.now layout }
         requires computable { L.GREATEST < 2 ^ 64 }
         requires none { IsPlacement instance.now (none_placed instance.now) placement.now }
         ensures { IfOk result (λ h. IsKeptInLanes L.GREATEST instance.now [] h) }
     {
         instance.keeps_limits();
-        let layout = Layout::of(alloc, instance)?;
         let mut lanes = L::new(alloc, layout.times(), layout.tails(), instance.jobs())?;
         fill(&mut lanes, &layout, instance, placement);
         let room = instance.operations();
         let notes = Notes::with_room(alloc, 16 * room + 64)?;
         let marks = Vec::with_capacity(alloc, room)?;
         Ok(LaneHeads {
+            machines: machines_of(alloc, &layout, instance.machines())?,
+            raises: vec![in alloc; NO_RAISE; instance.machines()]?,
+            top: latest_end(instance) + 1,
             layout,
             lanes,
             notes,

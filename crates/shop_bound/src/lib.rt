@@ -30,6 +30,7 @@ mod tail_rows;
 mod thresholds;
 mod triples;
 mod unplaced;
+mod waiting;
 
 pub use desks::Desk;
 pub use head_rows::Heads;

@@ -2,13 +2,15 @@
 --     AreHeadsInLanes greatest shop w ..   the heads of what the word leaves, one number a position
 --     LaneState, IsKeptInLanes       these, with notes that lead back through the word
 --     HasNextInLanes, Advances       one more operation
-use Rattle.std.specs.Prelude.{◌≡◌, ℕ, ◌≤◌, ◌<◌, ◌^◌, true, List, [], ◌∷◌, ◌++◌, length}
+use Rattle.std.specs.Prelude.{◌≡◌, ℕ, ◌+◌, ◌≤◌, ◌<◌, ◌^◌, true, List, [], ◌∷◌, ◌++◌, length}
 use Rattle.shop_lanes.specs.Rows.{Rows}
 use Rattle.shop_model.specs.Limits.{IsWithinLimits}
 use Rattle.shop_model.specs.Shop.{Shop, operation_count}
 use Rattle.shop_model.specs.Word.{IsWord, placing}
 use Rattle.shop_bound.specs.Placements.{PlacementState, IsPlacement}
 use Rattle.shop_bound.specs.inner.Fills.{AreSameBeside}
+use Rattle.shop_bound.specs.inner.HeadLimits.{FitsLanes, latest_end}
+use Rattle.shop_bound.specs.inner.LaneBounds.{AreMachinesAt}
 use Rattle.shop_bound.specs.inner.LaneHeads.{AreHeadsAt, AreHeadsFit, AreNotesFit, IsTrail, LeadsBack, NotesState}
 use Rattle.shop_bound.specs.inner.Layouts.{LayoutState, IsLaidOut}
 use Rattle.shop_bound.specs.declared.notes.Mark.{Mark}
@@ -23,6 +25,13 @@ pub record AreHeadsInLanes (greatest : ℕ) (shop : Shop) (w : List ℕ) (l : La
   pub computable : greatest < 2 ^ 64
   pub heads : AreHeadsAt shop (placing shop w) l rows.heads
 
+-- what bounds are computed by: the machine of each position, a raise for each machine, and one more than the latest end
+pub record HasBounds (greatest : ℕ) (shop : Shop) (l : LayoutState) (machines : List ℕ) (raises top : ℕ) : Type 0 where
+  pub machines_at : AreMachinesAt l shop.machines machines
+  pub as_many : raises ≡ shop.machines
+  pub top_is : top ≡ latest_end shop + 1
+  pub holds : FitsLanes greatest shop l
+
 pub record LaneState : Type 0 where
   pub layout : LayoutState
   pub rows : Rows
@@ -30,6 +39,9 @@ pub record LaneState : Type 0 where
   pub marks : List Mark
   -- for so many marks there is room
   pub room : ℕ
+  pub machines : List ℕ
+  pub raises : ℕ
+  pub top : ℕ
 
 pub record IsKeptInLanes (greatest : ℕ) (shop : Shop) (w : List ℕ) (s : LaneState) : Type 0 where
   pub kept : AreHeadsInLanes greatest shop w s.layout s.rows
@@ -37,6 +49,7 @@ pub record IsKeptInLanes (greatest : ℕ) (shop : Shop) (w : List ℕ) (s : Lane
   pub trail : IsTrail shop s.layout w s.marks s.notes.list s.rows.heads
   pub as_many : length s.marks ≡ length w
   pub marks_room : operation_count shop ≤ s.room
+  pub bounds : HasBounds greatest shop s.layout s.machines s.raises s.top
 
 -- they are those of a word to which j can be added as this step
 pub record HasNextAt (greatest : ℕ) (shop : Shop) (l : LayoutState) (j step : ℕ) (rows : Rows) : Type 0 where

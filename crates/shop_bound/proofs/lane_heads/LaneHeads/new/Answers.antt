@@ -1,29 +1,58 @@
-use Rattle.std.proofs.Common.{ℕ, ◌≤◌, ◌∙◌, List, sym, ap, subst, arith}
+use Rattle.std.proofs.Common.{◌≡◌, ℕ, ◌+◌, ◌≤◌, ◌∙◌, List, length, sym, ap, subst, arith}
 use Rattle.std.specs.List.{All}
 use Rattle.shop_lanes.specs.Rows.{at_rest}
-use Rattle.shop_bound.proofs.LaneBegins.{times_fit, tails_fit, kept_none}
+use Rattle.shop_bound.proofs.LaneBegins.{times_fit, tails_fit, kept_none, heads_fit, can_begin, blocks_within}
+use Rattle.shop_bound.specs.inner.LaneBounds.{AreMachinesAt}
 use Rattle.shop_bound.proofs.lane_heads.LaneHeads.new.Goals as goal
 
 pub new-requires-clause-fitting_times : goal.new-requires-clause-fitting_times
 new-requires-clause-fitting_times g c =
     subst (All (λ t. t ≤ g.L.Lanes.GREATEST)) (sym c.times.ensures)
-    (times_fit g.L.Lanes.GREATEST c.args.instance.now c.keeps_limits.ensures c.in_ok-layout.layout
-    c.in_ok-layout.ensures c.requires.fits)
+    (times_fit g.L.Lanes.GREATEST c.args.instance.now c.keeps_limits.ensures c.args.layout c.requires.laid
+    (heads_fit g.L.Lanes.GREATEST c.args.instance.now c.args.layout c.keeps_limits.ensures c.requires.fits))
 
 pub new-requires-clause-fitting_tails : goal.new-requires-clause-fitting_tails
 new-requires-clause-fitting_tails g c =
     subst (All (λ t. t ≤ g.L.Lanes.GREATEST)) (sym c.tails.ensures)
-    (tails_fit g.L.Lanes.GREATEST c.args.instance.now c.keeps_limits.ensures c.in_ok-layout.layout
-    c.in_ok-layout.ensures c.requires.fits c.requires.tails)
+    (tails_fit g.L.Lanes.GREATEST c.args.instance.now c.keeps_limits.ensures c.args.layout c.requires.laid
+    (heads_fit g.L.Lanes.GREATEST c.args.instance.now c.args.layout c.keeps_limits.ensures c.requires.fits)
+    c.requires.fits)
+
+pub fill-requires : goal.fill-requires
+fill-requires g c = record {
+  fill = can_begin g.L.Lanes.GREATEST c.args.instance.now c.keeps_limits.ensures c.args.layout c.requires.laid
+      (heads_fit g.L.Lanes.GREATEST c.args.instance.now c.args.layout c.keeps_limits.ensures c.requires.fits)
+      c.requires.computable c.args.placement.now c.requires.none (g.L.Lanes.rows c.in_ok-lanes.lanes) c.jobs.result
+      g.L.Lanes.GREATEST (c.in_ok-lanes.ensures
+      ∙ (ap (λ (ts : List ℕ). at_rest ts c.tails.result.now c.jobs.result g.L.Lanes.GREATEST) c.times.ensures
+      ∙ ap (λ (qs : List ℕ). at_rest c.args.layout.times qs c.jobs.result g.L.Lanes.GREATEST) c.tails.ensures));
+}
+
+pub machines_of-requires-clause-small : goal.machines_of-requires-clause-small
+machines_of-requires-clause-small g c m known =
+    let a = blocks_within c.args.instance.now c.keeps_limits.ensures c.args.layout c.requires.laid m
+    (let b = c.machines.ensures in omega arith)
+    in let long : length c.times.result.now ≡ length c.args.layout.times = ap length c.times.ensures
+    in let small = c.times.type_inv.0 in omega arith
 
 pub returns : goal.returns
 returns g c =
-    kept_none g.L.Lanes.GREATEST c.args.instance.now c.keeps_limits.ensures c.in_ok-layout.layout
-    c.in_ok-layout.ensures c.requires.fits c.requires.computable c.args.placement.now c.requires.none
+    kept_none g.L.Lanes.GREATEST c.args.instance.now c.keeps_limits.ensures c.args.layout c.requires.laid
+    (heads_fit g.L.Lanes.GREATEST c.args.instance.now c.args.layout c.keeps_limits.ensures c.requires.fits)
+    c.requires.computable c.args.placement.now c.requires.none
     (g.L.Lanes.rows c.in_ok-lanes.lanes) c.jobs.result g.L.Lanes.GREATEST
     (c.in_ok-lanes.ensures
     ∙ (ap (λ (ts : List ℕ). at_rest ts c.tails.result.now c.jobs.result g.L.Lanes.GREATEST) c.times.ensures
-    ∙ ap (λ (qs : List ℕ). at_rest c.in_ok-layout.layout.times qs c.jobs.result g.L.Lanes.GREATEST) c.tails.ensures))
+    ∙ ap (λ (qs : List ℕ). at_rest c.args.layout.times qs c.jobs.result g.L.Lanes.GREATEST) c.tails.ensures))
     (g.L.Lanes.rows c.fill.new.lanes) c.fill.ensures c.in_ok-notes.notes c.in_ok-notes.ensures
     c.in_ok-marks.marks.items c.in_ok-marks.ensures.items _
     (let a = c.in_ok-marks.ensures.capacity in let b = c.operations-room.ensures.count in omega arith)
+    c.in_ok-machines_of.field-0.items (length c.in_ok-vec.field-0.items) (c.latest_end.result + 1)
+    (record {
+      machines_at = subst (λ (n : ℕ). AreMachinesAt c.args.layout n c.in_ok-machines_of.field-0.items)
+          c.machines.ensures c.in_ok-machines_of.ensures;
+      as_many = (let a = c.in_ok-vec.ensures.len in let b = c.in_ok-vec.field-0.ok.0 in let d = c.machines-2.ensures
+          in omega arith);
+      top_is = (let a = c.latest_end.ensures.latest in omega arith);
+      holds = c.requires.fits;
+    })

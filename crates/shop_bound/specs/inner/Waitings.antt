@@ -1,0 +1,34 @@
+-- What a word leaves, in lanes of one of three widths.
+use Rattle.std.specs.Prelude.{◌≡◌, ℕ, ◌^◌, ◌-◌, List, [], ◌∷◌, ◌++◌}
+use Rattle.shop_model.specs.Shop.{Shop}
+use Rattle.shop_model.specs.Word.{IsWord, placing}
+use Rattle.shop_bound.specs.Placements.{PlacementState, IsPlacement}
+use Rattle.shop_bound.specs.inner.LaneStates.{IsKeptInLanes}
+use Rattle.shop_bound.specs.declared.waiting.Waiting.{Waiting}
+use Rattle.shop_bound.specs.declared.waiting.Waiting.TheVariants.{InNarrow, InWide, InPlain}
+
+abbrev pub IsWaiting : Shop → List ℕ → Waiting → Type 0
+IsWaiting shop w (InNarrow s) = IsKeptInLanes 65535 shop w s
+IsWaiting shop w (InWide s) = IsKeptInLanes 4294967295 shop w s
+IsWaiting shop w (InPlain s) = IsKeptInLanes (2 ^ 64 - 1) shop w s
+
+pub record HasNextWaiting (shop : Shop) (j step : ℕ) (h : Waiting) : Type 0 where
+  pub word : List ℕ
+  pub kept : IsWaiting shop word h
+  pub fits : IsWord shop (word ++ j ∷ [])
+  pub at : step ≡ (placing shop word).steps j
+
+-- whichever word it was of, one more operation of job j is in it now
+abbrev pub WaitsOn : Shop → ℕ → ℕ → Waiting → Waiting → Type 0
+WaitsOn shop j step old new = (w : List ℕ) → IsWaiting shop w old → IsWord shop (w ++ j ∷ [])
+    → step ≡ (placing shop w).steps j → IsWaiting shop (w ++ j ∷ []) new
+
+pub record HasLastWaiting (shop : Shop) (p : PlacementState) (h : Waiting) : Type 0 where
+  pub word : List ℕ
+  pub job : ℕ
+  pub kept : IsWaiting shop (word ++ job ∷ []) h
+  pub placed : IsPlacement shop (placing shop word) p
+
+abbrev pub WaitsBack : Shop → PlacementState → Waiting → Waiting → Type 0
+WaitsBack shop p old new = (w : List ℕ) (j : ℕ) → IsWaiting shop (w ++ j ∷ []) old
+    → IsPlacement shop (placing shop w) p → IsWaiting shop w new

@@ -1,0 +1,72 @@
+// What waits, in lanes as narrow as the instance allows.
+ghost use Rattle.std.specs.Prelude.{◌≡◌, ◌∷◌, ◌++◌, [], IfOk};
+ghost use Rattle.shop_model.specs.Word.{none_placed};
+ghost use Rattle.shop_bound.specs.Placements.{IsPlacement};
+ghost use Rattle.shop_bound.specs.inner.Waitings.{HasLastWaiting, HasNextWaiting, IsWaiting, WaitsBack, WaitsOn};
+
+use crate::lane_heads::LaneHeads;
+use crate::latest_ends::{greatest_load, latest_end};
+use crate::layouts::Layout;
+use crate::placements::Placement;
+use shop_lanes::{Lanes, Narrow, Plain, Wide};
+use shop_model::Instance;
+use std::alloc::{AllocError, Global};
+
+/// What a word leaves, in lanes of 16, 32 or 64 bits.
+#[derive(Drop)]
+pub(crate) enum Waiting {
+    InNarrow(LaneHeads<Narrow>),
+    InWide(LaneHeads<Wide>),
+    InPlain(LaneHeads<Plain>),
+}
+
+impl Waiting {
+    /// With nothing dispatched: the placement is that of no operation. Fails with `AllocError` if memory runs out.
+    pub(crate) fn new(
+        alloc: Global,
+        instance: &Instance,
+        placement: &Placement,
+    ) -> Result<Waiting, AllocError>
+        requires { IsPlacement instance.now (none_placed instance.now) placement.now }
+        ensures { IfOk result (λ h. IsWaiting instance.now [] h) }
+    {
+        let layout = Layout::of(alloc, instance)?;
+        let most = latest_end(instance) + 1 + greatest_load(&layout, instance);
+        if most <= <Narrow as Lanes>::GREATEST {
+            let heads = LaneHeads::new(alloc, instance, placement, layout)?;
+            return Ok(Waiting::InNarrow(heads));
+        }
+        if most <= <Wide as Lanes>::GREATEST {
+            let heads = LaneHeads::new(alloc, instance, placement, layout)?;
+            return Ok(Waiting::InWide(heads));
+        }
+        let heads = LaneHeads::new(alloc, instance, placement, layout)?;
+        Ok(Waiting::InPlain(heads))
+    }
+
+    /// One more operation of a job, whose next step this is, is dispatched.
+    #[inline(always)]
+    pub(crate) fn dispatch(&mut self, instance: &Instance, job: usize, step: usize)
+        requires { HasNextWaiting instance.now job step self.old }
+        ensures { WaitsOn instance.now job step self.old self.new }
+    {
+        match self {
+            Waiting::InNarrow(heads) => heads.dispatch(instance, job, step),
+            Waiting::InWide(heads) => heads.dispatch(instance, job, step),
+            Waiting::InPlain(heads) => heads.dispatch(instance, job, step),
+        }
+    }
+
+    /// The last operation is taken back; the placement is that of the word without it.
+    #[inline(always)]
+    pub(crate) fn undo(&mut self, instance: &Instance, placement: &Placement)
+        requires { HasLastWaiting instance.now placement.now self.old }
+        ensures { WaitsBack instance.now placement.now self.old self.new }
+    {
+        match self {
+            Waiting::InNarrow(heads) => heads.undo(instance, placement),
+            Waiting::InWide(heads) => heads.undo(instance, placement),
+            Waiting::InPlain(heads) => heads.undo(instance, placement),
+        }
+    }
+}
