@@ -38,11 +38,13 @@ clock_after_le least start (x ∷ xs) =
     by_test : (on : Bool)
         → clock_after least (start + x.time) xs ≤ start + sum_by (λ y. y.time) (x ∷ xs)
         → clock_after least start xs ≤ start + sum_by (λ y. y.time) (x ∷ xs)
-        → cond on (clock_after least (start + x.time) xs) (clock_after least start xs) ≤ start + sum_by (λ y. y.time) (x ∷ xs)
+        → cond on (clock_after least (start + x.time) xs) (clock_after least start xs)
+        ≤ start + sum_by (λ y. y.time) (x ∷ xs)
     by_test true served left = served
     by_test false served left = left
 
-pub greatest_by-append : (f : Lane → ℕ) (xs ys : List Lane) → greatest_by f (xs ++ ys) ≡ max (greatest_by f xs) (greatest_by f ys)
+pub greatest_by-append : (f : Lane → ℕ) (xs ys : List Lane)
+    → greatest_by f (xs ++ ys) ≡ max (greatest_by f xs) (greatest_by f ys)
 greatest_by-append f [] ys = omega arith
 greatest_by-append f (x ∷ xs) ys = let rest = greatest_by-append f xs ys in omega (arith, rest)
 
@@ -157,7 +159,8 @@ module _ (limit least start first : ℕ) (hs ts qs : List ℕ) (a : length ts �
       in record {
         splat = rw next_is refl;
         passed =
-            rw (next_is, more_is) (passed_more limit least start first (lanes hs ts qs) (get_or clock 0 0) most (block_at b)
+            rw (next_is, more_is)
+            (passed_more limit least start first (lanes hs ts qs) (get_or clock 0 0) most (block_at b)
             (drop (8 * (b + 1)) (lanes hs ts qs))
             (subst (IsPassed limit least start first (lanes hs ts qs) (get_or clock 0 0) most)
             (block_split b hs ts qs a c) h.passed));

@@ -37,7 +37,8 @@ pub least_le_top : (top : ℕ) (xs : List ℕ) → least_up_to top xs ≤ top
 least_le_top top [] = omega arith
 least_le_top top (x ∷ xs) = let rest = least_le_top top xs in omega (arith, rest)
 
-pub least-append : (top : ℕ) (xs ys : List ℕ) → least_up_to top (xs ++ ys) ≡ min (least_up_to top xs) (least_up_to top ys)
+pub least-append : (top : ℕ) (xs ys : List ℕ) → least_up_to top (xs ++ ys)
+    ≡ min (least_up_to top xs) (least_up_to top ys)
 least-append top [] ys = let a = least_le_top top ys in omega arith
 least-append top (x ∷ xs) ys = let rest = least-append top xs ys in omega (arith, rest)
 

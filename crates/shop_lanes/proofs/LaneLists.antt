@@ -43,7 +43,8 @@ lanes_more (h ∷ hs) [] qs i a b lt = absurd (omega arith)
 lanes_more (h ∷ hs) (t ∷ ts) [] i a b lt = absurd (omega arith)
 lanes_more (h ∷ hs) (t ∷ ts) (q ∷ qs) zero a b lt = refl
 lanes_more (h ∷ hs) (t ∷ ts) (q ∷ qs) (suc i) a b lt =
-    rw (add-one (suc i)) (subst (λ n. drop i (lanes hs ts qs) ≡ lane_at hs ts qs i ∷ drop n (lanes hs ts qs)) (add-one i)
+    rw (add-one (suc i))
+    (subst (λ n. drop i (lanes hs ts qs) ≡ lane_at hs ts qs i ∷ drop n (lanes hs ts qs)) (add-one i)
     (lanes_more hs ts qs i (omega arith) (omega arith) (omega arith)))
 
 -- the lanes of the same blocks of each row

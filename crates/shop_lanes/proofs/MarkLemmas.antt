@@ -106,7 +106,8 @@ pub no_bits : (n at m : ℕ) → m < 2 ^ n → set_bits n at m ≡ [] → m ≡ 
 no_bits n at m small e =
     elim (cases_eq m 0) [
       | inl z ↦ z
-      | inr some ↦ absurd (let h : set_bits n at m ≡ (at + count_trailing_zeros n m) ∷ set_bits n at (bit_and m (m - 1)) =
+      | inr some ↦ absurd
+          (let h : set_bits n at m ≡ (at + count_trailing_zeros n m) ∷ set_bits n at (bit_and m (m - 1)) =
           set_bits-lowest n at m (omega arith) small in nil_cons (sym e ∙ h))
     ]
   where

@@ -33,7 +33,8 @@ head_stands hs at x xs h =
     let place : at ≡ at + 0 = omega arith
     in ap (λ n. get_or hs n 0) place ∙ h.same 0 (omega arith)
 
-fits_lower : (limit upto start : ℕ) (all : List Lane) → FitsSpan limit upto all → start ≤ upto → FitsSpan limit start all
+fits_lower : (limit upto start : ℕ) (all : List Lane) → FitsSpan limit upto all → start ≤ upto
+    → FitsSpan limit start all
 fits_lower limit upto start all h le = omega arith
 
 pub small_at : (limit above upto : ℕ) (hs : List ℕ) (all : List Lane) → FitsSpan limit upto all → (at : ℕ) (xs : List ℕ)
@@ -43,8 +44,10 @@ small_at limit above upto hs all fits at (x ∷ xs) stands =
     by_test (small_at limit above upto hs all fits (at + 1) xs (next_stands hs at x xs stands))
     (is_between above upto x) refl
   where
-    by_test : AreSmallAt limit hs all (marked (is_between above upto) (at + 1) xs) → (b : Bool) → is_between above upto x ≡ b
-        → AreSmallAt limit hs all (cond b (at ∷ marked (is_between above upto) (at + 1) xs) (marked (is_between above upto) (at + 1) xs))
+    by_test : AreSmallAt limit hs all (marked (is_between above upto) (at + 1) xs) → (b : Bool)
+        → is_between above upto x ≡ b
+        → AreSmallAt limit hs all
+        (cond b (at ∷ marked (is_between above upto) (at + 1) xs) (marked (is_between above upto) (at + 1) xs))
     by_test rest true e =
         let le : x ≤ upto = grind (arith, nat_tests)
         in let here : get_or hs at 0 ≤ upto = omega (arith, head_stands hs at x xs stands)
@@ -70,7 +73,8 @@ spans_at-marked above upto hs all at (x ∷ xs) (t ∷ ts) (q ∷ qs) stands a b
         → spans_at hs all (cond on (at ∷ later) later)
         ≡ max (cond on (span x x all) 0) (spans_from above upto all (lanes xs ts qs))
     by_test rest true =
-        ap (λ h. max (span h h all) (spans_at hs all later)) (head_stands hs at x xs stands) ∙ ap (max (span x x all)) rest
+        ap (λ h. max (span h h all) (spans_at hs all later)) (head_stands hs at x xs stands)
+        ∙ ap (max (span x x all)) rest
     by_test rest false = omega (arith, rest)
 
 spans_from-append : (above upto : ℕ) (all xs ys : List Lane)
@@ -92,7 +96,8 @@ marks_of_block above upto b hs le bits marks e f =
     ∙ set_bits-mask (is_between above upto) 64 (8 * b) (take 8 (drop (8 * b) hs)) (omega (arith, length-block b hs le))
 
 module _ (above upto : ℕ) (hs ts qs : List ℕ) (a : length ts ≡ length hs) (c : length qs ≡ length hs) where
-  pub marks_small : (limit b : ℕ) → FitsSpan limit upto (lanes hs ts qs) → 8 * (b + 1) ≤ length hs → (bits : ℕ) (marks : List ℕ)
+  pub marks_small : (limit b : ℕ) → FitsSpan limit upto (lanes hs ts qs) → 8 * (b + 1) ≤ length hs
+      → (bits : ℕ) (marks : List ℕ)
       → marks ≡ set_bits 64 (8 * b) bits → bits ≡ mask_l (map (is_between above upto) (take 8 (drop (8 * b) hs)))
       → AreSmallAt limit hs (lanes hs ts qs) marks
   marks_small limit b fits le bits marks e f =

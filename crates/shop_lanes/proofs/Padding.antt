@@ -132,8 +132,10 @@ pub spans_above_least : (above upto : ℕ) (all xs : List Lane)
     → spans_from (min above upto) upto all xs ≡ spans_from above upto all xs
 spans_above_least above upto all [] = refl
 spans_above_least above upto all (x ∷ xs) =
-    ap (λ b. max (cond b (span x.head x.head all) 0) (spans_from (min above upto) upto all xs)) (same_heads above upto x.head)
-    ∙ ap (max (cond (ltb above x.head && leb x.head upto) (span x.head x.head all) 0)) (spans_above_least above upto all xs)
+    ap (λ b. max (cond b (span x.head x.head all) 0) (spans_from (min above upto) upto all xs))
+    (same_heads above upto x.head)
+    ∙ ap (max (cond (ltb above x.head && leb x.head upto) (span x.head x.head all) 0))
+    (spans_above_least above upto all xs)
 
 -- what the passes return, by what they come to
 pub span_told : (least start most r : ℕ) (m v : List ℕ) (xs ys : List Lane) → m ≡ replicate 8 most → r ≡ greatest v

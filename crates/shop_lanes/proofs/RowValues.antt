@@ -20,7 +20,8 @@ module _ {A : Type 0} (f : A → ℕ) where
 
   pub lanes_of_values : {heads times tails : List A} (hs ts qs : List A) (from to : ℕ) → hs ≡ heads → ts ≡ times
       → qs ≡ tails → length times ≡ length heads → length tails ≡ length heads
-      → lanes (map f (take (8 * to - 8 * from) (drop (8 * from) hs))) (map f (take (8 * to - 8 * from) (drop (8 * from) ts)))
+      → lanes (map f (take (8 * to - 8 * from) (drop (8 * from) hs)))
+      (map f (take (8 * to - 8 * from) (drop (8 * from) ts)))
       (map f (take (8 * to - 8 * from) (drop (8 * from) qs)))
       ≡ blocks from to (lanes (map f heads) (map f times) (map f tails))
   lanes_of_values {heads} {times} {tails} hs ts qs from to eh et eq a b =

@@ -143,7 +143,8 @@ greater_told_is w xs ys e = ap (λ ms. sel_l ms ys xs) (tops_compared w ltb xs y
 module _ (w : Width) (hs ts qs least clock : List ℕ) (from start : ℕ)
     (eight : length hs ≡ 8) (a : length ts ≡ 8) (b : length qs ≡ 8)
     (least_is : least ≡ replicate 8 from) (clock_is : clock ≡ replicate 8 start)
-    (small : start + sum_by (λ x. x.time) (lanes hs ts qs) + greatest_by (λ x. x.tail) (lanes hs ts qs) < 2 ^ bits w) where
+    (small : start + sum_by (λ x. x.time) (lanes hs ts qs) + greatest_by (λ x. x.tail) (lanes hs ts qs)
+    < 2 ^ bits w) where
   ts_long : length ts ≡ length hs
   ts_long = a ∙ sym eight
 
@@ -190,7 +191,8 @@ module _ (w : Width) (hs ts qs least clock : List ℕ) (from start : ℕ)
 
     pub block_tails_fit : AddsFit w (added sums clock) qs
     block_tails_fit = subst (λ l. AddsFit w l qs) (sym ends_are)
-        (tails_fit w start (on_times from hs ts) hs ts qs (length-on_times from hs ts ts_long) ts_long qs_long sum_small)
+        (tails_fit w start (on_times from hs ts) hs ts qs
+        (length-on_times from hs ts ts_long) ts_long qs_long sum_small)
 
     last_of : (xs : List ℕ) → length xs ≡ 8 → get_or (running start xs ++ running start xs) 7 0 ≡ start + sum_l xs
     last_of = on_eight (λ xs. get_or (running start xs ++ running start xs) 7 0 ≡ start + sum_l xs)

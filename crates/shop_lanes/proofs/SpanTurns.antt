@@ -63,13 +63,16 @@ module _ (greatest least start : ℕ) (hs ts qs : List ℕ) (a : length ts ≡ l
       served_fits greatest least start (lanes hs ts qs) clock most (lane_at hs ts qs i) (drop (i + 1) (lanes hs ts qs))
       (subst (IsServed greatest least start (lanes hs ts qs) clock most) (lanes_more hs ts qs i a b lt) h)
 
-  pub turn_on : (i clock most : ℕ) → i < length hs → IsServedTo greatest least start hs ts qs i clock most → least ≤ get_or hs i 0
-      → IsServedTo greatest least start hs ts qs (i + 1) (clock + get_or ts i 0) (max most (clock + get_or ts i 0 + get_or qs i 0))
+  pub turn_on : (i clock most : ℕ) → i < length hs → IsServedTo greatest least start hs ts qs i clock most
+      → least ≤ get_or hs i 0
+      → IsServedTo greatest least start hs ts qs (i + 1) (clock + get_or ts i 0)
+      (max most (clock + get_or ts i 0 + get_or qs i 0))
   turn_on i clock most lt h on =
       served_on greatest least start (lanes hs ts qs) clock most (lane_at hs ts qs i) (drop (i + 1) (lanes hs ts qs))
       (subst (IsServed greatest least start (lanes hs ts qs) clock most) (lanes_more hs ts qs i a b lt) h) on
 
-  pub turn_off : (i clock most : ℕ) → i < length hs → IsServedTo greatest least start hs ts qs i clock most → get_or hs i 0 < least
+  pub turn_off : (i clock most : ℕ) → i < length hs → IsServedTo greatest least start hs ts qs i clock most
+      → get_or hs i 0 < least
       → IsServedTo greatest least start hs ts qs (i + 1) clock most
   turn_off i clock most lt h off =
       served_off greatest least start (lanes hs ts qs) clock most (lane_at hs ts qs i) (drop (i + 1) (lanes hs ts qs))
@@ -99,33 +102,41 @@ spans_high above upto all x xs a = grind (arith, nat_tests)
 module _ (above upto : ℕ) (hs ts qs : List ℕ) where
   abbrev pub AreSpansTo : ℕ → ℕ → Type 0
   AreSpansTo i most =
-      max most (spans_from above upto (lanes hs ts qs) (drop i (lanes hs ts qs))) ≡ spans_between above upto (lanes hs ts qs)
+      max most (spans_from above upto (lanes hs ts qs) (drop i (lanes hs ts qs)))
+      ≡ spans_between above upto (lanes hs ts qs)
 
   pub spans_start : AreSpansTo 0 0
   spans_start = omega arith
 
 module _ (above upto : ℕ) (hs ts qs : List ℕ) (a : length ts ≡ length hs) (b : length qs ≡ length hs) where
-  pub spans_on : (i most : ℕ) → i < length hs → AreSpansTo above upto hs ts qs i most → above < get_or hs i 0 → get_or hs i 0 ≤ upto
+  pub spans_on : (i most : ℕ) → i < length hs → AreSpansTo above upto hs ts qs i most → above < get_or hs i 0
+      → get_or hs i 0 ≤ upto
       → AreSpansTo above upto hs ts qs (i + 1) (max most (span (get_or hs i 0) (get_or hs i 0) (lanes hs ts qs)))
   spans_on i most lt h low high =
       let all = lanes hs ts qs
       in let e = spans_counted above upto all (lane_at hs ts qs i) (drop (i + 1) all) low high
-      in let was : max most (spans_from above upto all (lane_at hs ts qs i ∷ drop (i + 1) all)) ≡ spans_between above upto all =
-      subst (λ xs. max most (spans_from above upto all xs) ≡ spans_between above upto all) (lanes_more hs ts qs i a b lt) h
+      in let was : max most (spans_from above upto all (lane_at hs ts qs i ∷ drop (i + 1) all))
+      ≡ spans_between above upto all =
+      subst (λ xs. max most (spans_from above upto all xs) ≡ spans_between above upto all)
+      (lanes_more hs ts qs i a b lt) h
       in omega arith
 
-  pub spans_off : (i most : ℕ) → i < length hs → AreSpansTo above upto hs ts qs i most → (get_or hs i 0 ≤ above) ⊎ (upto < get_or hs i 0)
+  pub spans_off : (i most : ℕ) → i < length hs → AreSpansTo above upto hs ts qs i most
+      → (get_or hs i 0 ≤ above) ⊎ (upto < get_or hs i 0)
       → AreSpansTo above upto hs ts qs (i + 1) most
   spans_off i most lt h off =
       let all = lanes hs ts qs
-      in let was : max most (spans_from above upto all (lane_at hs ts qs i ∷ drop (i + 1) all)) ≡ spans_between above upto all =
-      subst (λ xs. max most (spans_from above upto all xs) ≡ spans_between above upto all) (lanes_more hs ts qs i a b lt) h
+      in let was : max most (spans_from above upto all (lane_at hs ts qs i ∷ drop (i + 1) all))
+      ≡ spans_between above upto all =
+      subst (λ xs. max most (spans_from above upto all xs) ≡ spans_between above upto all)
+      (lanes_more hs ts qs i a b lt) h
       in elim off [
         | inl low ↦ let e = spans_low above upto all (lane_at hs ts qs i) (drop (i + 1) all) low in omega arith
         | inr high ↦ let e = spans_high above upto all (lane_at hs ts qs i) (drop (i + 1) all) high in omega arith
       ]
 
-  pub spans_end : (i most : ℕ) → length hs ≤ i → AreSpansTo above upto hs ts qs i most → most ≡ spans_between above upto (lanes hs ts qs)
+  pub spans_end : (i most : ℕ) → length hs ≤ i → AreSpansTo above upto hs ts qs i most
+      → most ≡ spans_between above upto (lanes hs ts qs)
   spans_end i most past h =
       let all = lanes hs ts qs
       in let long : length all ≤ i = omega (arith, length-lanes hs ts qs a b)

@@ -10,7 +10,8 @@ overflow_mul-bits g c =
     let row = map g.B.Block.value c.args.heads.now
     in let sum = mask_back (is_between 0 c.args.upto) c.loop-block.block row c.loop-block-test.true
     c.loop-block.invariant.0 c.bits_between.result c.loop-block.bits
-    (c.bits_between.ensures ∙ ap (λ l. mask_l (map (is_between 0 c.args.upto) l)) c.load.ensures) c.loop-block.invariant.1
+    (c.bits_between.ensures
+    ∙ ap (λ l. mask_l (map (is_between 0 c.args.upto) l)) c.load.ensures) c.loop-block.invariant.1
     in let few = length-map c.args.heads.now g.B.Block.value
     in omega (arith, sum, mask_small (is_between 0 c.args.upto) row (8 * (c.loop-block.block - 1)) (omega (arith, few)))
 
@@ -19,7 +20,8 @@ overflow_add-bits g c =
     let row = map g.B.Block.value c.args.heads.now
     in let sum = mask_back (is_between 0 c.args.upto) c.loop-block.block row c.loop-block-test.true
     c.loop-block.invariant.0 c.bits_between.result c.loop-block.bits
-    (c.bits_between.ensures ∙ ap (λ l. mask_l (map (is_between 0 c.args.upto) l)) c.load.ensures) c.loop-block.invariant.1
+    (c.bits_between.ensures
+    ∙ ap (λ l. mask_l (map (is_between 0 c.args.upto) l)) c.load.ensures) c.loop-block.invariant.1
     in let few = length-map c.args.heads.now g.B.Block.value
     in omega (arith, sum, mask_small (is_between 0 c.args.upto) row (8 * (c.loop-block.block - 1)) (omega (arith, few)))
 

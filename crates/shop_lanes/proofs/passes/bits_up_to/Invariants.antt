@@ -5,7 +5,8 @@ use Rattle.shop_lanes.proofs.passes.bits_up_to.Given as goal
 
 abbrev pub invariant-loop-block : goal.invariant-loop-block
 invariant-loop-block g l =
-    (8 * l.block ≤ length (map g.B.Block.value l.heads)) × (l.bits ≡ mask_l (map (is_between 0 l.upto) (drop (8 * l.block) (map g.B.Block.value l.heads))))
+    (8 * l.block ≤ length (map g.B.Block.value l.heads))
+    × (l.bits ≡ mask_l (map (is_between 0 l.upto) (drop (8 * l.block) (map g.B.Block.value l.heads))))
 
 abbrev pub decreases-loop-block : goal.decreases-loop-block
 decreases-loop-block g l = l.block

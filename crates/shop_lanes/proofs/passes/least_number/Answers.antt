@@ -25,7 +25,8 @@ loop-block-preserved g c =
     ≡ zip2 min (g.B.Block.numbers c.loop-block.least) (take 8 (drop (8 * c.loop-block.block) row)) =
     c.lesser-least.ensures ∙ ap (zip2 min (g.B.Block.numbers c.loop-block.least)) c.load.ensures
     in (
-      length-lesser c.loop-block.block row (g.B.Block.numbers c.loop-block.least) (g.B.Block.numbers c.lesser-least.result)
+      length-lesser c.loop-block.block row (g.B.Block.numbers c.loop-block.least)
+          (g.B.Block.numbers c.lesser-least.result)
           within c.loop-block.invariant.0 lesser,
       least_more g.B.Block.GREATEST c.loop-block.block row (g.B.Block.numbers c.loop-block.least)
           (g.B.Block.numbers c.lesser-least.result)

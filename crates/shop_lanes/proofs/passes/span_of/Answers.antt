@@ -18,7 +18,11 @@ serve-after-requires-clause-fits g c =
     (as_long g.B.Block.value c.args.tails.now c.args.heads.now c.requires.tails)
     (numbers c.loop-block.clock) (greatest (numbers c.loop-block.most)) c.loop-block.block c.loop-block.invariant.1
     (numbers c.load.result) (numbers c.load-in-loop-block.result) (numbers c.load-in-loop-block-2.result)
-    (record { heads_are = c.load.ensures; times_are = c.load-in-loop-block.ensures; tails_are = c.load-in-loop-block-2.ensures })
+    (record {
+      heads_are = c.load.ensures;
+      times_are = c.load-in-loop-block.ensures;
+      tails_are = c.load-in-loop-block-2.ensures;
+    })
 
 pub loop-block-preserved : goal.loop-block-preserved
 loop-block-preserved g c =
@@ -32,8 +36,13 @@ loop-block-preserved g c =
           (as_long g.B.Block.value c.args.tails.now c.args.heads.now c.requires.tails)
           (numbers c.loop-block.clock) (greatest (numbers c.loop-block.most)) c.loop-block.block
           c.loop-block.invariant.1
-          (numbers c.load.result) (numbers c.load-in-loop-block.result) (numbers c.load-in-loop-block-2.result) (numbers c.splat-least.result)
-          (record { heads_are = c.load.ensures; times_are = c.load-in-loop-block.ensures; tails_are = c.load-in-loop-block-2.ensures })
+          (numbers c.load.result) (numbers c.load-in-loop-block.result) (numbers c.load-in-loop-block-2.result)
+          (numbers c.splat-least.result)
+          (record {
+            heads_are = c.load.ensures;
+            times_are = c.load-in-loop-block.ensures;
+            tails_are = c.load-in-loop-block-2.ensures;
+          })
           c.splat-least.ensures
           (numbers c.serve-after.result.0) (greatest (numbers c.serve-after.result.1)) c.serve-after.ensures.clock_is
           c.serve-after.ensures.raised.most,

@@ -15,7 +15,8 @@ loop-head-preserved-then-head-above c = spans_off c.args.above c.args.upto c.arg
 pub loop-head-preserved : goal.loop-head-preserved
 loop-head-preserved c =
     let greater : c.max-most.result ≡ max c.loop-head.most c.span_of.result = search rules
-    in rw (greater, c.span_of.ensures) (spans_on c.args.above c.args.upto c.args.heads.now c.args.times.now c.args.tails.now c.requires.times
+    in rw (greater, c.span_of.ensures)
+    (spans_on c.args.above c.args.upto c.args.heads.now c.args.times.now c.args.tails.now c.requires.times
     c.requires.tails c.loop-head.head-index c.loop-head.most c.loop-head-test.true c.loop-head.invariant
     (omega arith) (omega arith))
 

@@ -26,7 +26,8 @@ loop-i-preserved c =
           in rw (w.clock-is, w.most-is, greater) (turn_on (2 ^ 64 - 1) c.args.least c.args.start c.args.heads.now
           c.args.times.now c.args.tails.now c.requires.times c.requires.tails c.loop-i.i c.loop-i.clock c.loop-i.most
           c.loop-i-test.true c.loop-i.invariant w.if-heads-i.true)
-      | else-heads-i w ↦ rw (w.clock-is, w.most-is) (turn_off (2 ^ 64 - 1) c.args.least c.args.start c.args.heads.now c.args.times.now
+      | else-heads-i w ↦ rw (w.clock-is, w.most-is)
+          (turn_off (2 ^ 64 - 1) c.args.least c.args.start c.args.heads.now c.args.times.now
           c.args.tails.now c.requires.times c.requires.tails c.loop-i.i c.loop-i.clock c.loop-i.most c.loop-i-test.true
           c.loop-i.invariant w.if-heads-i.false)
     ]

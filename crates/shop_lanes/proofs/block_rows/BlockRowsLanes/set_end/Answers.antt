@@ -7,7 +7,8 @@ pub invariant_of-self : goal.invariant_of-self
 invariant_of-self g c =
     let self = c.args.self.now
     in let ends = map g.B.Block.value self.ends.items
-    in let written : map g.B.Block.value (set self.ends.items c.args.job c.narrowed.result) ≡ set ends c.args.job c.args.end =
+    in let written : map g.B.Block.value (set self.ends.items c.args.job c.narrowed.result)
+    ≡ set ends c.args.job c.args.end =
     map-set g.B.Block.value self.ends.items c.args.job c.narrowed.result ∙ ap (set ends c.args.job) c.narrowed.ensures
     in record {
       whole_blocks = self.whole_blocks;
@@ -23,7 +24,8 @@ pub returns : goal.returns
 returns g c =
     let self = c.args.self.now
     in let ends = map g.B.Block.value self.ends.items
-    in let written : map g.B.Block.value (set self.ends.items c.args.job c.narrowed.result) ≡ set ends c.args.job c.args.end =
+    in let written : map g.B.Block.value (set self.ends.items c.args.job c.narrowed.result)
+    ≡ set ends c.args.job c.args.end =
     map-set g.B.Block.value self.ends.items c.args.job c.narrowed.result ∙ ap (set ends c.args.job) c.narrowed.ensures
     in ap (λ l. record {
       heads = map g.B.Block.value self.heads.items;
