@@ -65,7 +65,8 @@ impl<B: Block> Lanes for BlockRows<B> {
 
     const GREATEST: u64 = B::GREATEST;
 
-    ghost rows = { λ r. seen B.value r.heads.items r.times.items r.tails.items r.jobs r.ends.items };
+    ghost rows = { λ r.
+        seen B.value r.heads.items r.times.items r.tails.items r.jobs r.ends.items };
 
     fn new(alloc: Global, times: &[u64], tails: &[u64], jobs: usize) -> Result<Self, AllocError> {
         Ok(BlockRows {

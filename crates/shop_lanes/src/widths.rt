@@ -73,5 +73,6 @@ pub trait Lanes: Drop {
         requires blocks { AreBlocks (rows self.now) from to }
         requires most { most ≤ GREATEST }
         requires fits { FitsSpan GREATEST upto (lanes_between (rows self.now) from to) }
-        ensures { result ≡ max most (spans_between above upto (lanes_between (rows self.now) from to)) };
+        ensures { result ≡ max most
+            (spans_between above upto (lanes_between (rows self.now) from to)) };
 }
