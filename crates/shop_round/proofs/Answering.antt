@@ -1,5 +1,5 @@
 -- Rounds up to the answer.
-use Rattle.std.proofs.Common.{◌≡◌, ℕ, zero, suc, ◌+◌, ◌-◌, ◌≤◌, ◌<◌, List, [], ◌∷◌, length, refl, sym, ◌∙◌, ap, subst}
+use Rattle.std.proofs.Common.{◌≡◌, ℕ, zero, suc, ◌+◌, ◌-◌, ◌*◌, ◌≤◌, ◌<◌, List, [], ◌∷◌, ◌++◌, length, refl, sym, ◌∙◌, ap, subst}
 use Rattle.std.proofs.Common.{arith, false, eqb}
 use Rattle.shop_model.specs.Shop.{Shop}
 use Rattle.std.proofs.lemmas.List.{length-map}
@@ -7,12 +7,25 @@ use Rattle.shop_round.specs.Round.{Planned, Stand, Told, cut_of, gathered, round
 use Rattle.shop_round.specs.Round.{opening, least_bound, makespan_of, bound_of}
 use Rattle.shop_round.specs.Laws.{StandsCovering, IsTrustworthy}
 use Rattle.shop_tree.specs.Nodes.{words_of}
+use Rattle.shop_bound.specs.Bound.{lb}
+use Rattle.shop_tree.specs.Nodes.{AreNodes}
+use Rattle.shop_round.specs.Entries.{told}
+use Rattle.shop_round.specs.Round.{in_order, words_below, pieces_of, rest_of}
 use Rattle.shop_round.specs.Runs.{stands, StandsAt, Says}
+use Rattle.shop_round.specs.declared.open_nodes.OpenNodes.{OpenNodes}
+use Rattle.shop_round.specs.declared.plans.Order.{Order}
+use Rattle.shop_round.specs.declared.rounds.Round.{Round}
+use Rattle.shop_round.specs.declared.searches.Search.{Search}
+use Rattle.shop_round.specs.inner.OpenNodes.{least_of_bounds}
+use Rattle.shop_round.specs.inner.Searches.{IsSearchAt, IsSearchOf, IsJoined, front_of, stand_of}
+use Rattle.shop_round.specs.inner.Stores.{open_list, order_of}
+use Rattle.shop_round.proofs.FrontLemmas.{IsInOrder, in_order_is, order_drop, ordered_twice, gathered_front, rejoined}
+use Rattle.shop_round.proofs.FrontLemmas.{joined_at, search_of, least_order, length_order}
+use Rattle.shop_round.proofs.NodeLemmas.{least_is}
 use Rattle.shop_round.specs.declared.runs.Answer.{Answer}
 use Rattle.shop_model.specs.Word.{placed, rows_of}
-use Rattle.shop_tree.specs.declared.nodes.Node.{Node}
 use Rattle.shop_round.specs.declared.standings.Standing.{Standing}
-use Rattle.shop_round.proofs.Covering.{opens_covering, round_covers, trustworthy}
+use Rattle.shop_round.proofs.Covering.{opens_covering, round_covers, trustworthy, cut_is_round, none_from}
 use Rattle.shop_round.proofs.Counting.{counts_small}
 
 -- what a run that has done i rounds of its plan has still to come to
@@ -54,13 +67,6 @@ pub goes_last : (shop : Shop) (plan : Planned) (i : ℕ) (s : Stand) → GoesTo 
 goes_last shop plan i s g h = let e : plan.rounds - i ≡ 0 = omega arith
     in sym (ap (λ n. rounds_from shop plan n s) e) ∙ g.goes_to
 
--- a run on its way: the standing is of the instance and covers it, and goes to the answer
-pub record OnTheWay (shop : Shop) (plan : Planned) (i : ℕ) (t : Standing) : Type 0 where
-  pub at : StandsAt shop (stands t) t
-  pub covering : StandsCovering shop (stands t)
-  pub goes : GoesTo shop plan i (stands t)
-  pub rounds : t.rounds ≡ i
-
 pub at_own : (shop : Shop) (s : Stand) (t : Standing) → StandsAt shop s t → StandsAt shop (stands t) t
 at_own shop s t a = record {
   stands_at = refl;
@@ -69,82 +75,134 @@ at_own shop s t a = record {
   bounds = a.bounds;
 }
 
-pub way_first : (shop : Shop) (plan : Planned) (t : Standing) → StandsAt shop (opening shop) t → OnTheWay shop plan 0 t
-way_first shop plan t a = record {
-  at = at_own shop (opening shop) t a;
-  covering = subst (StandsCovering shop) (sym a.stands_at) (opens_covering shop);
-  goes = subst (GoesTo shop plan 0) (sym a.stands_at) (goes_first shop plan);
-  rounds = ap (λ (s : Stand). s.rounds) a.stands_at;
-}
-
-pub way_next : (shop : Shop) (plan : Planned) (i : ℕ) (t u : Standing) (r : Told) → OnTheWay shop plan i t
-    → i < plan.rounds → 0 < length t.open.items → r ≡ cut_of shop plan (stands t)
-    → StandsAt r.shop (gathered r) u → OnTheWay shop plan (i + 1) u
-way_next shop plan i t u r w h o e a =
-    let b : StandsAt shop (round shop plan (stands t)) u = subst (λ (q : Told). StandsAt q.shop (gathered q) u) e a
-    in let many : 0 < length (words_of t.open.items) = (let l = length-map t.open.items (λ n. n.word) in omega arith)
-    in record {
-      at = at_own shop (round shop plan (stands t)) u b;
-      covering = subst (StandsCovering shop) (sym b.stands_at) (round_covers shop plan (stands t) w.covering);
-      goes = subst (GoesTo shop plan (i + 1)) (sym b.stands_at) (goes_on shop plan i (stands t) w.goes h many);
-      rounds = ap (λ (s : Stand). s.rounds) b.stands_at
-          ∙ ((counts_small (cut_of shop plan (stands t))).0 ∙ ap (λ k. k + 1) w.rounds);
-    }
-
-none_of : (ns : List Node) → length ns ≡ 0 → words_of ns ≡ []
-none_of [] e = refl
-none_of (n ∷ ns) e = absurd (let a : suc (length ns) ≡ 0 = e in omega arith)
-
-pub way_closed : (shop : Shop) (plan : Planned) (i : ℕ) (t : Standing) → OnTheWay shop plan i t
-    → length t.open.items ≡ 0 → StandsAt shop (answer shop plan) t
-way_closed shop plan i t w e =
-    subst (λ s. StandsAt shop s t) (goes_closed shop plan i (stands t) w.goes (none_of t.open.items e)) w.at
-
-pub way_last : (shop : Shop) (plan : Planned) (i : ℕ) (t : Standing) → OnTheWay shop plan i t → plan.rounds ≤ i
-    → StandsAt shop (answer shop plan) t
-way_last shop plan i t w h = subst (λ s. StandsAt shop s t) (goes_last shop plan i (stands t) w.goes h) w.at
-
--- what a standing that is the plan's tells is trustworthy
-pub trust_standing : (shop : Shop) (plan : Planned) (t : Standing) (b n : ℕ) → StandsAt shop (answer shop plan) t
-    → b ≡ least_bound shop t.makespan (words_of t.open.items) → n ≡ length t.open.items
-    → IsTrustworthy shop t.word t.makespan b n
-trust_standing shop plan t b n a e f =
-    let s = answer shop plan
-    in let word : t.word ≡ s.word = ap (λ (x : Stand). x.word) a.stands_at
-    in let words : words_of t.open.items ≡ s.open_words = ap (λ (x : Stand). x.open_words) a.stands_at
-    in let lower : b ≡ bound_of shop s = e
-    ∙ (ap (λ m. least_bound shop m (words_of t.open.items)) a.makespan
-    ∙ ap (least_bound shop (makespan_of shop s)) words)
-    in let many : n ≡ length s.open_words =
-    (let x = length-map t.open.items (λ n. n.word) in let y = ap length words in omega arith)
-    in subst (λ w. IsTrustworthy shop w t.makespan b n) (sym word)
-    (subst (λ m. IsTrustworthy shop s.word m b n) (sym a.makespan)
-    (subst (λ l. IsTrustworthy shop s.word (makespan_of shop s) l n) (sym lower)
-    (subst (λ k. IsTrustworthy shop s.word (makespan_of shop s) (bound_of shop s) k) (sym many)
-    (trustworthy shop plan))))
-
 pub some_open : (n m : ℕ) → n ≡ m → false ≡ eqb n 0 → 0 < m
 some_open zero m e f = absurd (cc)
 some_open (suc n) m e f = omega arith
 
--- the answer that is made of a standing says what stands
-module _ (shop : Shop) (s : Stand) (t : Standing) (at : StandsAt shop s t) where
-  word_same : t.word ≡ s.word
+-- a run on its way: it stands where the definition does, which covers the instance, and goes to the answer
+pub record OnTheWay (shop : Shop) (plan : Planned) (i : ℕ) (t : Search) : Type 0 where
+  pub stand : Stand
+  pub at : IsSearchAt shop plan.order stand t
+  pub covering : StandsCovering shop stand
+  pub goes : GoesTo shop plan i stand
+  pub rounds : stand.rounds ≡ i
+
+pub way_first : (shop : Shop) (plan : Planned) (t : Search) → IsSearchAt shop plan.order (opening shop) t
+    → OnTheWay shop plan 0 t
+way_first shop plan t at = record {
+  stand = opening shop;
+  at = at;
+  covering = opens_covering shop;
+  goes = goes_first shop plan;
+  rounds = refl;
+}
+
+module _ (shop : Shop) (plan : Planned) (i : ℕ) (t : Search) (way : OnTheWay shop plan i t) where
+  s : Stand
+  s = way.stand
+
+  -- a run on its way is a standing of the instance, of so many rounds
+  pub way_search : IsSearchOf shop plan.order t
+  way_search = search_of shop plan.order way.stand t way.at way.covering.0
+
+  pub way_rounds : t.rounds ≡ i
+  way_rounds = ap (λ (x : Stand). x.rounds) way.at.stands_at ∙ way.rounds
+
+  many : length (open_list t.open) ≡ length way.stand.open_words
+  many =
+      let a = length-map (open_list t.open) (λ n. n.word)
+      in let b : length (words_of (open_list t.open)) ≡ length (in_order shop plan.order way.stand.open_words) =
+      ap (λ (x : Stand). length x.open_words) way.at.stands_at
+      in let c = length_order shop plan.order way.stand.open_words
+      in omega arith
+
+  pub way_closed : length (open_list t.open) ≡ 0 → IsSearchAt shop plan.order (answer shop plan) t
+  way_closed e =
+      subst (λ x. IsSearchAt shop plan.order x t)
+      (goes_closed shop plan i way.stand way.goes (none_from way.stand.open_words (let m = many in omega arith))) way.at
+
+  pub way_last : plan.rounds ≤ i → IsSearchAt shop plan.order (answer shop plan) t
+  way_last h = subst (λ x. IsSearchAt shop plan.order x t) (goes_last shop plan i way.stand way.goes h) way.at
+
+  -- what is cut is what the definition cuts
+  same_cut : cut_of shop plan (stand_of t) ≡ cut_of shop plan way.stand
+  same_cut = ap (cut_of shop plan) way.at.stands_at ∙ ap (λ ws. record {
+    shop = shop;
+    word = way.stand.word;
+    best = lb shop way.stand.word;
+    bound = least_bound shop (lb shop way.stand.word) ws;
+    budget = plan.budget;
+    pieces = pieces_of plan ws;
+    rest = rest_of plan ws;
+    rounds = way.stand.rounds;
+    nodes = way.stand.nodes;
+  }) (ordered_twice shop plan.order way.stand.open_words)
+
+  pub way_next : (r : Round) (others : OpenNodes) (u : Standing) (v : Search) → i < plan.rounds
+      → 0 < length (open_list t.open) → told r ≡ front_of (cut_of shop plan (stand_of t))
+      → words_of (open_list others) ≡ (cut_of shop plan (stand_of t)).rest → AreNodes shop (open_list others)
+      → order_of others ≡ order_of t.open → StandsAt r.instance.now (gathered (told r)) u → IsJoined u others v
+      → OnTheWay shop plan (i + 1) v
+  way_next r others u v h some front rest bounds kept at joined =
+      let whole = cut_of shop plan way.stand
+      in let is = cut_is_round shop plan way.stand way.covering.0
+      in let told_is : told r ≡ front_of whole = front ∙ ap front_of same_cut
+      in let stands_at : StandsAt shop (gathered (front_of whole)) u =
+      subst (λ (q : Told). StandsAt q.shop (gathered q) u) told_is at
+      in let first = gathered (front_of whole)
+      in let split : round shop plan way.stand ≡ rejoined whole first = gathered_front whole is
+      in let rest_is : words_of (open_list others) ≡ whole.rest = rest ∙ ap (λ (q : Told). q.rest) same_cut
+      in let word : u.word ≡ first.word = ap (λ (x : Stand). x.word) stands_at.stands_at
+      in let words : (rejoined whole first).open_words
+      ≡ words_of u.open.items ++ words_below shop u.makespan (words_of (open_list others)) =
+      (λ j. ap (λ (x : Stand). x.open_words) (sym stands_at.stands_at) j
+      ++ words_below shop (sym stands_at.makespan j) (sym rest_is j))
+      in let rises : IsInOrder shop plan.order (words_of (open_list others)) =
+      subst (IsInOrder shop plan.order) (sym rest_is) (order_drop shop plan.order (256 * plan.piece)
+      (in_order shop plan.order way.stand.open_words) (in_order_is shop plan.order way.stand.open_words))
+      in let landed : IsSearchAt shop plan.order (rejoined whole first) v =
+      joined_at shop plan.order (rejoined whole first) u others v words word stands_at.makespan
+      (ap (λ (x : Stand). x.rounds) stands_at.stands_at) (ap (λ (x : Stand). x.nodes) stands_at.stands_at)
+      stands_at.bounds bounds (kept ∙ way.at.kept) rises joined
+      in record {
+        stand = round shop plan way.stand;
+        at = subst (λ x. IsSearchAt shop plan.order x v) (sym split) landed;
+        covering = round_covers shop plan way.stand way.covering;
+        goes = goes_on shop plan i way.stand way.goes h (let m = many in omega arith);
+        rounds = (counts_small (cut_of shop plan way.stand)).0 ∙ ap (λ k. k + 1) way.rounds;
+      }
+
+-- the answer that is made of a run says what stands
+module _ (shop : Shop) (o : Order) (s : Stand) (t : Search) (at : IsSearchAt shop o s t) where
+  pub word_same : t.word ≡ s.word
   word_same = ap (λ (x : Stand). x.word) at.stands_at
 
-  words_same : words_of t.open.items ≡ s.open_words
+  words_same : words_of (open_list t.open) ≡ in_order shop o s.open_words
   words_same = ap (λ (x : Stand). x.open_words) at.stands_at
 
-  pub says_standing : (a : Answer) → a.word ≡ t.word → a.table ≡ rows_of shop (placed shop t.word)
-      → a.makespan ≡ t.makespan
-      → a.bound ≡ least_bound shop t.makespan (words_of t.open.items) → a.open_nodes ≡ length t.open.items
-      → a.rounds ≡ t.rounds → a.nodes ≡ t.nodes → Says shop s a
-  says_standing a word table makespan lower many rounds nodes = record {
+  pub says_search : (a : Answer) → a.word ≡ t.word → a.table ≡ rows_of shop (placed shop t.word)
+      → a.makespan ≡ t.makespan → a.bound ≡ least_of_bounds t.makespan (open_list t.open)
+      → a.open_nodes ≡ length (open_list t.open) → a.rounds ≡ t.rounds → a.nodes ≡ t.nodes → Says shop s a
+  says_search a word table makespan lower many rounds nodes = record {
     word = word ∙ word_same;
     table = table ∙ ap (λ w. rows_of shop (placed shop w)) word_same;
     makespan = makespan ∙ at.makespan;
-    bound = lower ∙ (λ i. least_bound shop (at.makespan i) (words_same i));
-    open_nodes = (let x = length-map t.open.items (λ n. n.word) in let y = ap length words_same in omega arith);
+    bound = lower ∙ (least_is shop t.makespan (open_list t.open) at.bounds
+        ∙ ((λ i. least_bound shop (at.makespan i) (words_same i))
+        ∙ least_order shop o (makespan_of shop s) s.open_words));
+    open_nodes = (let x = length-map (open_list t.open) (λ n. n.word) in let y = ap length words_same
+        in let z = length_order shop o s.open_words in omega arith);
     rounds = rounds ∙ ap (λ (x : Stand). x.rounds) at.stands_at;
     nodes = nodes ∙ ap (λ (x : Stand). x.nodes) at.stands_at;
   }
+
+-- what an answer that says what stands tells of all tables is so
+pub trust_says : (shop : Shop) (plan : Planned) (a : Answer) → Says shop (answer shop plan) a
+    → IsTrustworthy shop a.word a.makespan a.bound a.open_nodes
+trust_says shop plan a says =
+    subst (λ w. IsTrustworthy shop w a.makespan a.bound a.open_nodes) (sym says.word)
+    (subst (λ m. IsTrustworthy shop (answer shop plan).word m a.bound a.open_nodes) (sym says.makespan)
+    (subst (λ l. IsTrustworthy shop (answer shop plan).word (makespan_of shop (answer shop plan)) l a.open_nodes)
+    (sym says.bound)
+    (subst (λ k. IsTrustworthy shop (answer shop plan).word (makespan_of shop (answer shop plan))
+    (bound_of shop (answer shop plan)) k) (sym says.open_nodes) (trustworthy shop plan))))

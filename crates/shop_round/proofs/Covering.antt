@@ -177,7 +177,7 @@ rounds_cover shop plan (suc n) s k =
     unless_covers shop s (λ t. rounds_from shop plan n (round shop plan t)) s.open_words k
     (rounds_cover shop plan n (round shop plan s) (round_covers shop plan s k))
 
-none_from : {A : Type 0} (xs : List A) → length xs ≡ 0 → xs ≡ []
+pub none_from : {A : Type 0} (xs : List A) → length xs ≡ 0 → xs ≡ []
 none_from [] e = refl
 none_from (x ∷ xs) e = absurd (let a : suc (length xs) ≡ 0 = e in omega arith)
 

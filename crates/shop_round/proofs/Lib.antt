@@ -19,3 +19,7 @@ pub mod GatheredLemmas
 pub mod TreeSizes
 pub mod Ending
 pub mod CoverRows
+pub mod StackLemmas
+pub mod StoreLemmas
+pub mod FrontLemmas
+pub mod FrontCuts

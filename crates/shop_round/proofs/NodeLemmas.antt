@@ -39,7 +39,7 @@ module _ (shop : Shop) where
       → words_of (nodes_below c ns) ≡ words_below shop c (words_of ns)
   below_is c ns a = below_by_recursion c ns (recursion_from_All (IsNode shop) ns a)
 
-  insert_words : (n : Node) (ns : List Node) → IsNode shop n → AllByRecursion (IsNode shop) ns
+  pub insert_words : (n : Node) (ns : List Node) → IsNode shop n → AllByRecursion (IsNode shop) ns
       → words_of (insert_by (λ m. m.bound) n ns) ≡ insert_by (lb shop) n.word (words_of ns)
   insert_words n [] p a = refl
   insert_words n (m ∷ ns) p a =

@@ -51,7 +51,7 @@ module _ {A : Type 0} (key : A → ℕ) where
     | inr e ↦ rw e (a.0, insert_all P x ys p a.1)
   ]
 
-  insert_rises : (x : A) (ys : List A) → Rises ys → Rises (insert_by key x ys)
+  pub insert_rises : (x : A) (ys : List A) → Rises ys → Rises (insert_by key x ys)
   insert_rises x [] r = (tt, tt)
   insert_rises x (y ∷ ys) r = elim (cases_Bool (leb (key x) (key y))) [
     | inl e ↦ (let le = leb-true (key x) (key y) e
@@ -63,7 +63,7 @@ module _ {A : Type 0} (key : A → ℕ) where
         in rw e (insert_all (λ z. key y ≤ key z) x ys le r.0, insert_rises x ys r.1))
   ]
 
-  sort_rises : (xs : List A) → Rises (sort_by key xs)
+  pub sort_rises : (xs : List A) → Rises (sort_by key xs)
   sort_rises [] = tt
   sort_rises (x ∷ xs) = insert_rises x (sort_by key xs) (sort_rises xs)
 

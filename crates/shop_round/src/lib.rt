@@ -2,15 +2,19 @@
 #![tactic(auto)]
 
 mod alone;
+mod by_bound;
 mod crews;
 mod entries;
 mod laws;
 mod limits;
+mod open_nodes;
 mod outcomes;
 mod pieces;
 mod plans;
 mod rounds;
 mod runs;
+mod searches;
+mod stacks;
 mod standings;
 
 pub use alone::Alone;

@@ -1,15 +1,13 @@
 // Runs: round after round, up to the answer of a plan.
 ghost use Rattle.std.specs.Prelude.{IfOk};
-ghost use Rattle.shop_round.specs.Runs.{IsStandingOf, SaysAnswer, IsTrusted};
-ghost use Rattle.shop_round.specs.inner.Closing.{StandsAtAnswer};
+ghost use Rattle.shop_round.specs.Runs.{SaysAnswer, IsTrusted};
+ghost use Rattle.shop_round.specs.inner.Closing.{IsAtAnswer};
 
 use crate::alone::Alone;
 use crate::crews::Crew;
 use crate::outcomes::outcome_of;
-use crate::pieces::least_bound;
 use crate::plans::Plan;
-use crate::rounds::Round;
-use crate::standings::Standing;
+use crate::searches::Search;
 use shop_model::{Instance, Table, Word, place};
 use std::alloc::{AllocError, Global};
 
@@ -27,29 +25,28 @@ pub struct Answer {
     pub nodes: u64,
 }
 
-/// What stands after the rounds of a plan, or as soon as nothing is open.
-fn last_standing<R, C: Crew<R>>(
+/// Where a run stands after the rounds of a plan, or as soon as nothing is open.
+fn last_search<R, C: Crew<R>>(
     rt: &R,
     alloc: Global,
     instance: &Instance,
     plan: &Plan,
     crew: &mut C,
-) -> Result<Standing, AllocError>
+) -> Result<Search, AllocError>
     requires { C.ready }
-    ensures at { IfOk result (λ s. StandsAtAnswer instance.now plan.now s) }
-    ensures standing { IfOk result (λ s. IsStandingOf instance.now s) }
+    ensures { IfOk result (λ t. IsAtAnswer instance.now plan.now t) }
 {
-    let mut standing = Standing::start(alloc, instance)?;
+    let mut search = Search::start(alloc, instance, plan.order)?;
     for done in 0..plan.rounds {
-        if standing.open.is_empty() {
-            return Ok(standing);
+        if search.open.is_empty() {
+            return Ok(search);
         }
-        let round = Round::cut(alloc, instance, plan, standing)?;
+        let (round, others) = search.cut(alloc, instance, plan)?;
         let entries = crew.search(rt, alloc, &round)?;
         let outcome = outcome_of(alloc, &round, entries)?;
-        standing = round.closed(outcome)?;
+        search = Search::joined(alloc, round.closed(outcome)?, others)?;
     }
-    Ok(standing)
+    Ok(search)
 }
 
 /// The answer of a plan on an instance, with any crew: its table is feasible and ends at the
@@ -66,21 +63,22 @@ pub fn run<R, C: Crew<R>>(
     ensures says { IfOk result (λ a. SaysAnswer instance.now plan.now a) }
     ensures trust { IfOk result (λ a. IsTrusted instance.now a) }
 {
-    let Standing {
+    let Search {
         word,
         makespan,
         open,
         rounds,
         nodes,
-    } = last_standing(rt, alloc, instance, plan, crew)?;
+    } = last_search(rt, alloc, instance, plan, crew)?;
+    let bound = open.least_bound(makespan);
+    let open_nodes = open.count()?;
     let table = place(alloc, instance, &word)?;
-    let bound = least_bound(makespan, open.as_slice());
     Ok(Answer {
         word,
         table,
         makespan,
         bound,
-        open_nodes: open.len(),
+        open_nodes,
         rounds,
         nodes,
     })

@@ -1,0 +1,125 @@
+// The open nodes of a run, in the order in which the next cut takes them.
+ghost use Rattle.std.specs.Prelude.{◌≡◌, ◌==◌, [], length, IfOk, OnOk};
+ghost use Rattle.shop_round.specs.inner.OpenNodes.{least_of_bounds};
+
+use crate::by_bound::{count_by_bound, keep_by_bound, least_by_bound, pop_by_bound, put_by_bound};
+use crate::pieces::least_bound;
+use crate::plans::Order;
+use crate::stacks::Stack;
+use shop_tree::Node;
+use std::alloc::{AllocError, Global};
+use std::collections::BTreeMap;
+
+/// Open nodes in the order in which the next cut takes them: as they are kept, the last one first, or by their bounds,
+/// each bound with the stack of its words. To put nodes and to take them costs no more where many are open.
+#[derive(Drop)]
+pub(crate) enum OpenNodes {
+    AsKept(Vec<Node>),
+    ByBound(BTreeMap<u64, Stack>),
+}
+
+impl OpenNodes {
+    ghost use Rattle.shop_round.specs.inner.Stores.{open_list, order_of, IsPut, ArePut, IsTaken, IsKeptBelow, HasPopped};
+
+    /// None open.
+    pub(crate) fn new(alloc: Global, order: Order) -> OpenNodes
+        ensures none { open_list result ≡ [] }
+        ensures order { order_of result ≡ order }
+    {
+        match order {
+            Order::Kept => OpenNodes::AsKept(Vec::new(alloc)),
+            Order::Bound => OpenNodes::ByBound(BTreeMap::new(alloc)),
+        }
+    }
+
+    /// Puts a node before those that the order has behind it. Fails with `AllocError` if memory runs out.
+    pub(crate) fn put(&mut self, alloc: Global, node: Node) -> Result<(), AllocError>
+        ensures { OnOk result (IsPut node self.old self.new) }
+    {
+        match self {
+            OpenNodes::AsKept(nodes) => {
+                nodes.push(node)?;
+                Ok(())
+            }
+            OpenNodes::ByBound(stacks) => put_by_bound(alloc, stacks, node),
+        }
+    }
+
+    /// Puts nodes before those that the order has behind them, the last one first.
+    /// Fails with `AllocError` if memory runs out.
+    pub(crate) fn put_all(&mut self, alloc: Global, mut nodes: Vec<Node>) -> Result<(), AllocError>
+        ensures { OnOk result (ArePut nodes.items self.old self.new) }
+    {
+        while let Some(node) = nodes.pop() {
+            self.put(alloc, node)?;
+        }
+        Ok(())
+    }
+
+    /// Takes the first node, if there is one.
+    fn pop(&mut self) -> Result<Option<Node>, AllocError>
+        ensures { IfOk result (λ n. HasPopped n self.old self.new) }
+    {
+        match self {
+            OpenNodes::AsKept(nodes) => Ok(nodes.pop()),
+            OpenNodes::ByBound(stacks) => pop_by_bound(stacks),
+        }
+    }
+
+    /// Takes the first nodes, as many as are asked for if so many are open.
+    pub(crate) fn take(&mut self, alloc: Global, most: usize) -> Result<Vec<Node>, AllocError>
+        ensures { IfOk result (λ v. IsTaken most v.items self.old self.new) }
+    {
+        let mut taken = Vec::new(alloc);
+        for _ in 0..most {
+            let Some(node) = self.pop()? else {
+                break;
+            };
+            taken.push(node)?;
+        }
+        Ok(taken)
+    }
+
+    /// Lets go of the nodes whose bounds are at least this makespan.
+    pub(crate) fn keep_below(&mut self, makespan: u64) -> Result<(), AllocError>
+        ensures { OnOk result (IsKeptBelow makespan self.old self.new) }
+    {
+        match self {
+            OpenNodes::AsKept(nodes) => {
+                nodes.retain(|node| node.bound < makespan);
+                Ok(())
+            }
+            OpenNodes::ByBound(stacks) => keep_by_bound(stacks, makespan),
+        }
+    }
+
+    /// The least of a makespan and the bounds of the nodes.
+    pub(crate) fn least_bound(&self, makespan: u64) -> u64
+        ensures { result ≡ least_of_bounds makespan (open_list self.now) }
+    {
+        match self {
+            OpenNodes::AsKept(nodes) => least_bound(makespan, nodes.as_slice()),
+            OpenNodes::ByBound(stacks) => least_by_bound(stacks, makespan),
+        }
+    }
+
+    /// How many are open. Fails with `AllocError` if they are more than memory could hold.
+    pub(crate) fn count(self) -> Result<usize, AllocError>
+        ensures { IfOk result (λ n. n ≡ length (open_list self)) }
+    {
+        match self {
+            OpenNodes::AsKept(nodes) => Ok(nodes.len()),
+            OpenNodes::ByBound(stacks) => count_by_bound(stacks),
+        }
+    }
+
+    /// Whether none is open.
+    pub(crate) fn is_empty(&self) -> bool
+        ensures { result ≡ (length (open_list self.now) == 0) }
+    {
+        match self {
+            OpenNodes::AsKept(nodes) => nodes.is_empty(),
+            OpenNodes::ByBound(stacks) => stacks.is_empty(),
+        }
+    }
+}
