@@ -71,3 +71,4 @@ pub mod LaneFits
 pub mod ChildRaises
 pub mod ChildTurns
 pub mod ChildReads
+pub mod LaneStandings
