@@ -23,3 +23,4 @@ pub mod StandingBounds
 pub mod HeadLimits
 pub mod LaneBounds
 pub mod ChildBounds
+pub mod WaitingBounds

@@ -26,6 +26,7 @@ mod profiles;
 mod raises;
 mod schedules;
 mod slots;
+mod standing_bounds;
 mod tail_rows;
 mod thresholds;
 mod triples;
