@@ -9,7 +9,8 @@ use Rattle.std.proofs.lemmas.List.Concat.{flat_map-cons}
 use Rattle.shop_text.specs.Lines.{Line, Blank, Numbers, Words, Numbered, lines_of}
 use Rattle.shop_text.specs.Texts.{NamedShop, lines_left, named_from, IsText, IsTextFault}
 use Rattle.shop_text.specs.Texts.{OneReading}
-use Rattle.shop_text.specs.Grammar.{Row, Grammar, LineFault, WrongRow, fault_at, Entry, Part, entry_rows, lines_of_entry}
+use Rattle.shop_text.specs.Grammar.{Row, Grammar, LineFault, WrongRow, fault_at, Entry, Part, entry_rows}
+use Rattle.shop_text.specs.Grammar.{lines_of_entry}
 use Rattle.shop_text.specs.Grammar.{lines_of_part, lines_of_parts, AreText, AreSkipped, IsAccepted, AreAccepted, IsPart}
 use Rattle.shop_text.specs.Grammar.{IsGood, IsBegun, refusal, IsRefused, IsTruncated, IsFault}
 use Rattle.shop_text.specs.declared.faults.ReadFault.{ReadFault}
@@ -147,7 +148,8 @@ one_list f is lines parts others a b =
     ap (λ (r : Reading). r.0) (sym (read_good f is lines parts a) ∙ read_good f is lines others b)
 
 -- The lines begin some parts: what follows is read at this place.
-read_begun : (f : Grammar) → IsGrammar f → (lines later : List Numbered) (begun : List Entry) (b : IsBegun f lines begun)
+read_begun : (f : Grammar) → IsGrammar f → (lines later : List Numbered) (begun : List Entry)
+    (b : IsBegun f lines begun)
     → read f [] [] (lines ++ later) ≡ onto b.parts (read f begun b.after later)
 read_begun f is lines later begun b =
     let follow : List Numbered = b.after ++ later

@@ -7,7 +7,8 @@ use Rattle.std.proofs.lemmas.List.{append-nil, map-append}
 use Rattle.std.proofs.lemmas.List.Concat.{flat_map-cons}
 use Rattle.std.proofs.lemmas.Grind.{flat_map-append}
 use Rattle.shop_text.specs.Lines.{Numbers, Words, Numbered}
-use Rattle.shop_text.specs.Grammar.{Row, Grammar, Entry, Part, entry_rows, lines_of_entry, lines_of_part, lines_of_parts}
+use Rattle.shop_text.specs.Grammar.{Row, Grammar, Entry, Part, entry_rows}
+use Rattle.shop_text.specs.Grammar.{lines_of_entry, lines_of_part, lines_of_parts}
 use Rattle.shop_text.specs.Grammar.{AreText, IsAccepted, AreAccepted, IsPart, IsBegun}
 use Rattle.shop_text.proofs.OneReading.{IsGrammar, entry, with_row}
 
@@ -19,7 +20,8 @@ pub accepted_more : (f : Grammar) (rows : List Row) (es : List Entry) (e : Entry
     → IsAccepted f (rows ++ entry_rows es) e → AreAccepted f rows (es ++ e ∷ [])
 accepted_more f rows [] e a h = (subst (λ (rs : List Row). IsAccepted f rs e) (append-nil rows) h, tt)
 accepted_more f rows (x ∷ es) e a h =
-    let regrouped = subst (λ (rs : List Row). IsAccepted f rs e) (sym (append_assoc rows (x.row ∷ []) (entry_rows es))) h
+    let regrouped =
+    subst (λ (rs : List Row). IsAccepted f rs e) (sym (append_assoc rows (x.row ∷ []) (entry_rows es))) h
     in (a.0, accepted_more f (rows ++ x.row ∷ []) es e a.1 regrouped)
 
 pub parts_more : (f : Grammar) (parts : List Part) (p : Part) → AllByRecursion (IsPart f) parts → IsPart f p
@@ -58,7 +60,8 @@ entry_cut parts begun after n row front cut =
     ∙ ap (λ (ls : List Numbered). lines_of_parts parts ++ ls) (sym (entry_last begun (entry after n row)))
 
 -- one more row is accepted
-pub one_more : (f : Grammar) (front : List Numbered) (begun : List Entry) (s : IsBegun f front begun) (n : ℕ) (row : Row)
+pub one_more : (f : Grammar) (front : List Numbered) (begun : List Entry) (s : IsBegun f front begun) (n : ℕ)
+    (row : Row)
     → f.refuses (entry_rows begun) row ≡ None → AreAccepted f [] (with_row begun s.after n row)
 one_more f front begun s n row free =
     accepted_more f [] begun (entry s.after n row) s.begun_good
@@ -99,7 +102,8 @@ row_on f front begun s n row free room =
 -- the last row of a part
 unfoldable pub part_on : (f : Grammar) → IsGrammar f
     → (front : List Numbered) (begun : List Entry) (s : IsBegun f front begun) (n : ℕ)
-    (row : Row) → f.refuses (entry_rows begun) row ≡ None → f.is_whole (entry_rows (with_row begun s.after n row)) ≡ true
+    (row : Row) → f.refuses (entry_rows begun) row ≡ None
+    → f.is_whole (entry_rows (with_row begun s.after n row)) ≡ true
     → IsBegun f (front ++ (n, Numbers row) ∷ []) []
 part_on f is front begun s n row free whole =
     let part : Part = with_row begun s.after n row

@@ -171,7 +171,10 @@ part_read reader later instance name n row front r last named pushed none =
     ∙ r.name_is (decimal (1 + length r.place.parts))
     ∙ ap (λ (k : ℕ). name_or (decimal k) reader.name) count ∙ sym named
     in let shop_is : f.shop (entry_rows part) ≡ instance = ap f.shop rows ∙ sym last.shop_is
-    in let this : NamedShop = record { name = name_of f (1 + length r.place.parts) part; shop = f.shop (entry_rows part) }
+    in let this : NamedShop = record {
+      name = name_of f (1 + length r.place.parts) part;
+      shop = f.shop (entry_rows part);
+    }
     in let named_is : this ≡ record { name = string_bytes name; shop = instance } = rw (name_is, shop_is) refl
     in record {
       begun = [];

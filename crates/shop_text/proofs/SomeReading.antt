@@ -7,7 +7,8 @@ use Rattle.std.specs.List.{AllByRecursion, list_any, enumerate_from}
 use Rattle.std.proofs.lemmas.Bool.{cases_lt}
 use Rattle.std.proofs.lemmas.List.{append-nil}
 use Rattle.shop_text.specs.Lines.{Line, Blank, Numbers, Words, Numbered, is_left, line_of, lines_of, numbered_lines}
-use Rattle.shop_text.specs.Grammar.{Row, Grammar, LineFault, WrongRow, fault_at, Entry, Part, entry_rows, lines_of_parts}
+use Rattle.shop_text.specs.Grammar.{Row, Grammar, LineFault, WrongRow, fault_at, Entry, Part, entry_rows}
+use Rattle.shop_text.specs.Grammar.{lines_of_parts}
 use Rattle.shop_text.specs.Grammar.{AreText, IsPart, IsGood, IsBegun, refusal, IsRefused, IsFault}
 use Rattle.shop_text.specs.declared.faults.ReadFault.{ReadFault}
 use Rattle.shop_text.specs.declared.faults.ReadFault.TheVariants.{NoInstance, Truncated, TooLong}
@@ -93,14 +94,16 @@ at_numbers : (f : Grammar) → IsGrammar f → (last : ℕ) (all lines front : L
     (s : IsBegun f front begun) (n : ℕ) (row : Row) → all ≡ front ++ (n, Numbers row) ∷ lines → Found f last all lines
     → (o : Option LineFault) → f.refuses (entry_rows begun) row ≡ o → Outcome f last all
 at_numbers f is last all lines front begun s n row cut go None e =
-    at_row f is last all lines front begun s n row cut go e (f.is_whole (entry_rows (with_row begun s.after n row))) refl
+    at_row f is last all lines front begun s n row cut go e
+    (f.is_whole (entry_rows (with_row begun s.after n row))) refl
 at_numbers f is last all lines front begun s n row cut go (Some name) e =
     inr (fault_at n name, inr (inr (refused_here f all front lines begun s n (Numbers row) cut name e)))
 
 abbrev pub AreLeft : List Numbered → Type 0
 AreLeft lines = AllByRecursion (λ l. IsTrue (is_left l)) lines
 
-pub found : (f : Grammar) → IsGrammar f → (last : ℕ) (all lines : List Numbered) → AreLeft lines → Found f last all lines
+pub found : (f : Grammar) → IsGrammar f → (last : ℕ) (all lines : List Numbered) → AreLeft lines
+    → Found f last all lines
 found f is last all [] left =
     λ front begun s cut. subst (Outcome f last) (sym (cut ∙ append-nil front)) (ends f last front begun s)
 found f is last all ((n, Blank) ∷ lines) left = absurd (let e = left.0 in cc)
@@ -125,7 +128,8 @@ nothing_yet f is = record {
 }
 
 -- lines that aren't blank are good, or have a fault
-pub some_reading : (f : Grammar) → IsGrammar f → (last : ℕ) (lines : List Numbered) → AreLeft lines → Outcome f last lines
+pub some_reading : (f : Grammar) → IsGrammar f → (last : ℕ) (lines : List Numbered) → AreLeft lines
+    → Outcome f last lines
 some_reading f is last lines left = found f is last lines lines left [] [] (nothing_yet f is) refl
 
 -- ---- whole texts

@@ -114,7 +114,8 @@ routes_job (release ∷ pairs) = record { release = release; route = pairs_of pa
 abbrev pub routes : Grammar
 routes = grammar_of_rows routes_fault routes_job
 
--- ---- taillard: a size line of 2 to 6 numbers, a row of times for each job, a row of machines for each job
+-- ---- taillard: a size line of 2 to 6 numbers, a row of times for each job, then a row of machines
+-- for each job
 
 abbrev pub times_fault : Row → Option LineFault
 times_fault row = if list_all (λ time. nat_le time MAX_TIME) row then None else Some WrongTime

@@ -4,7 +4,8 @@ ghost use Rattle.shop_model.specs.Shop.{IsFeasible};
 ghost use Rattle.shop_model.specs.inner.Steps.{AreSmall};
 ghost use Rattle.shop_model.specs.Checking.{HasShape, starts_of};
 ghost use Rattle.shop_text.specs.Writing.{character_of, shown_cells};
-ghost use Rattle.shop_text.specs.inner.Cells.{is_column, ShowsWhere, ShowsRoute, EndsWithin, AllEndWithin};
+ghost use Rattle.shop_text.specs.inner.Cells.{is_column, ShowsWhere, ShowsRoute};
+ghost use Rattle.shop_text.specs.inner.Cells.{EndsWithin, AllEndWithin};
 
 use shop_model::{Instance, Op, Table};
 
@@ -68,7 +69,8 @@ pub(crate) fn show_machine(
     requires shape { HasShape instance.now table.now }
     requires feasible { IsFeasible instance.now (starts_of table.now) }
     requires within { AllEndWithin instance.now (starts_of table.now) unit (length cells.old) }
-    ensures { cells.new ≡ shown_cells instance.now (starts_of table.now) machine unit (length cells.old) }
+    ensures { cells.new
+        ≡ shown_cells instance.now (starts_of table.now) machine unit (length cells.old) }
 {
     let columns = cells.len();
     show(cells, 0, columns, b'.');

@@ -27,7 +27,8 @@ impl Draft {
     ghost use Rattle.shop_text.specs.inner.LineReading.{capped};
     ghost use Rattle.shop_text.specs.Grammar.{Row};
     ghost use Rattle.shop_text.specs.inner.LineReading.{JudgesRow};
-    ghost use Rattle.shop_text.specs.inner.Drafts.{IsDraft, wants_times, jobs_drafted, PushesJob, TakesRow};
+    ghost use Rattle.shop_text.specs.inner.Drafts.{IsDraft, wants_times, jobs_drafted};
+    ghost use Rattle.shop_text.specs.inner.Drafts.{PushesJob, TakesRow};
     ghost use Rattle.std.specs.Prelude.{vec_len, IfOk};
 
     /// Nothing yet.

@@ -1,7 +1,9 @@
 // The lines of a text, and the tokens and numbers of a line.
-ghost use Rattle.std.specs.Prelude.{◌≡◌, ◌<◌, ◌∷◌, [], not, length, position, MatchOption, Some, None};
+ghost use Rattle.std.specs.Prelude.{◌≡◌, ◌<◌, ◌∷◌, [], not, length, position};
+ghost use Rattle.std.specs.Prelude.{MatchOption, Some, None};
 ghost use Rattle.std.specs.Prelude.{if◌then◌else◌};
-ghost use Rattle.shop_text.specs.Lines.{lines_of, tokens_of, is_line_feed, is_separator, is_number, value_of};
+ghost use Rattle.shop_text.specs.Lines.{lines_of, tokens_of, is_line_feed, is_separator};
+ghost use Rattle.shop_text.specs.Lines.{is_number, value_of};
 ghost use Rattle.shop_text.specs.inner.LineReading.{capped};
 
 /// Where the first line end is.

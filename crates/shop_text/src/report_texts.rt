@@ -1,7 +1,8 @@
 // The text of a report.
 ghost use Rattle.std.specs.Prelude.{◌≡◌, ◌∷◌, [], IfOk, codes, decimal};
 ghost use Rattle.shop_model.specs.Checking.{HasShape};
-ghost use Rattle.shop_text.specs.Writing.{number_line, status_word, answer_lines, job_line, job_lines, report_text};
+ghost use Rattle.shop_text.specs.Writing.{number_line, status_word, answer_lines};
+ghost use Rattle.shop_text.specs.Writing.{job_line, job_lines, report_text};
 ghost use Rattle.shop_text.specs.inner.Printing.{AddsLine, AddsLines};
 ghost use Rattle.shop_text.specs.Reports.{reported};
 
@@ -25,7 +26,8 @@ fn write_words(out: &mut String, word: &str, value: &str) -> Result<(), AllocErr
 
 /// Writes the numbers of jobs and machines as a line.
 fn write_size(out: &mut String, jobs: usize, machines: usize) -> Result<(), AllocError>
-    ensures { AddsLine result out.old out.new (codes "size" ∷ decimal jobs ∷ decimal machines ∷ []) }
+    ensures { AddsLine result out.old out.new
+        (codes "size" ∷ decimal jobs ∷ decimal machines ∷ []) }
 {
     writeln!(out, "size {jobs} {machines}")
 }

@@ -18,7 +18,8 @@ fn write_instance(out: &mut String, named: &Named) -> Result<(), AllocError>
     writeln!(out, "{name} {jobs} {machines}")
 }
 
-/// A line for each instance: its name, its number of jobs and its number of machines. Fails with `AllocError` if memory runs out.
+/// A line for each instance: its name, its number of jobs and its number of machines. Fails with `AllocError` if memory
+/// runs out.
 pub fn listing(alloc: Global, named: &[Named]) -> Result<Vec<u8>, AllocError>
     ensures { IfOk result (λ v. v.items ≡ list_text (shops_of named.now)) }
 {

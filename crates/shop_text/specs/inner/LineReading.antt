@@ -1,5 +1,6 @@
 -- What the parts of the readers tell, in the words of the grammar.
-use Rattle.std.specs.Prelude.{◌≡◌, min, ℕ, ◌+◌, ◌≤◌, ◌==◌, not, length, filter, List, [], ◌∷◌, ◌++◌, map}
+use Rattle.std.specs.Prelude.{◌≡◌, min, ℕ, ◌+◌, ◌≤◌, ◌==◌, not, length, filter}
+use Rattle.std.specs.Prelude.{List, [], ◌∷◌, ◌++◌, map}
 use Rattle.std.specs.Prelude.{if◌then◌else◌, Option, Some, None, Result, Ok, Err, MatchOption}
 use Rattle.std.specs.List.{enumerate_from}
 use Rattle.shop_text.specs.Lines.{Line, Blank, Numbers, Words, Numbered, is_left, line_of, lines_of}
