@@ -9,6 +9,7 @@ pub mod LaneStates
 pub mod RisingLists
 pub mod LaneChoices
 pub mod Waitings
+pub mod LaneEnds
 pub mod Profiles
 pub mod NonincreasingTails
 pub mod Thresholds

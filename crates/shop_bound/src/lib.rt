@@ -10,6 +10,7 @@ mod head_rows;
 mod kept_heads;
 mod lane_bounds;
 mod lane_choices;
+mod lane_ends;
 mod lane_heads;
 mod latest_ends;
 mod laws;
