@@ -12,8 +12,10 @@ use Rattle.shop_bound.specs.declared.notes.Mark.{Mark}
 use Rattle.shop_bound.specs.declared.notes.Note.{Note}
 use Rattle.shop_bound.specs.inner.Fills.{CanFill, GoesBack, IsRested}
 use Rattle.shop_bound.specs.inner.LaneHeads.{AreHeadsAt, AreNotesFit, IsTrail, NotesState, restored}
-use Rattle.shop_bound.specs.inner.LaneStates.{LaneState, IsKeptInLanes, Advances}
-use Rattle.shop_bound.proofs.LaneTrails.{trail_more, LeadsToLast, trail_less}
+use Rattle.shop_bound.specs.inner.LaneStates.{LaneState, IsKeptInLanes, Advances, AreHeadsInLanes, CanGoOnInLanes}
+use Rattle.shop_bound.specs.inner.ChildBounds.{CanBound}
+use Rattle.shop_bound.specs.inner.LaneBounds.{AreMachinesAt}
+use Rattle.shop_bound.proofs.LaneTrails.{same_heads, trail_more, LeadsToLast, trail_less}
 use Rattle.shop_bound.proofs.Lists.{all_append}
 use Rattle.shop_bound.proofs.WordLengths.{word_within}
 
@@ -143,3 +145,41 @@ module _ (greatest : ℕ) (shop : Shop) (w : List ℕ) (j : ℕ) (s : LaneState)
             marks_room = (let a = kept.marks_room in omega arith);
             bounds = kept.bounds;
           }
+
+-- heads that were raised and put back
+pub kept_again : (greatest : ℕ) (shop : Shop) (w : List ℕ) (s : LaneState) → IsKeptInLanes greatest shop w s
+    → (new : Rows) → AreHeadsInLanes greatest shop w s.layout new → (after : NotesState) → after.list ≡ s.notes.list
+    → (raises : ℕ) → raises ≡ s.raises
+    → IsKeptInLanes greatest shop w (record s { rows = new; notes = after; raises = raises })
+kept_again greatest shop w s kept new heads after list raises many =
+    let same = same_heads shop kept.kept.limits s.layout kept.kept.laid (placing shop w) s.rows.heads new.heads
+    kept.kept.heads heads.heads
+    in record {
+      kept = heads;
+      notes_fit = subst (λ (hs : List ℕ). AreNotesFit greatest (length hs) after.list) same
+          (subst (AreNotesFit greatest (length s.rows.heads)) (sym list) kept.notes_fit);
+      trail = subst (λ (hs : List ℕ). IsTrail shop s.layout w s.marks after.list hs) same
+          (subst (λ (ns : List Note). IsTrail shop s.layout w s.marks ns s.rows.heads) (sym list) kept.trail);
+      as_many = kept.as_many;
+      marks_room = kept.marks_room;
+      bounds = record {
+        machines_at = kept.bounds.machines_at;
+        as_many = many ∙ kept.bounds.as_many;
+        top_is = kept.bounds.top_is;
+        holds = kept.bounds.holds;
+      };
+    }
+
+pub can_bound : (greatest : ℕ) (shop : Shop) (j : ℕ) (p : PlacementState) (s : LaneState)
+    → CanGoOnInLanes greatest shop j p s → (machines : List ℕ) → machines ≡ s.machines → (raises : ℕ)
+    → raises ≡ s.raises → CanBound greatest shop s.layout p j machines raises s.top s.rows
+can_bound greatest shop j p s can machines same raises many = record {
+  word = can.word;
+  kept = can.kept.kept;
+  fits = can.fits;
+  placed = can.placed;
+  machines = subst (AreMachinesAt s.layout shop.machines) (sym same) can.kept.bounds.machines_at;
+  as_many = many ∙ can.kept.bounds.as_many;
+  top_is = can.kept.bounds.top_is;
+  holds = can.kept.bounds.holds;
+}

@@ -5,8 +5,9 @@ ghost use Rattle.shop_bound.specs.Placements.{IsPlacement};
 ghost use Rattle.shop_bound.specs.inner.HeadLimits.{FitsLanes};
 ghost use Rattle.shop_bound.specs.inner.Layouts.{IsLaidOut};
 ghost use Rattle.shop_bound.specs.inner.LaneStates.{HasLastInLanes, HasNextInLanes, IsKeptInLanes, KeepsLast};
-ghost use Rattle.shop_bound.specs.inner.LaneStates.{KeepsNext};
+ghost use Rattle.shop_bound.specs.inner.LaneStates.{CanGoOnInLanes, KeepsLanes, KeepsNext, TellsBoundInLanes};
 
+use crate::child_bounds::child_bound;
 use crate::dispatching::advance;
 use crate::fills::{fill, go_back};
 use crate::kept_heads::{NO_RAISE, Raise};
@@ -117,5 +118,34 @@ impl<L: Lanes> LaneHeads<L> {
             mark.whole,
         );
         self.notes.truncate(mark.first);
+    }
+
+    /// The bound after the next operation of a job, or as much of it as reaches the limit, with the bound before it at
+    /// hand; the placement is that of the word.
+    pub(crate) fn bound_up_to(
+        &mut self,
+        instance: &Instance,
+        placement: &Placement,
+        job: usize,
+        bound: u64,
+        limit: u64,
+    ) -> u64
+        requires { CanGoOnInLanes L.GREATEST instance.now job placement.now self.old }
+        ensures bound { TellsBoundInLanes L.GREATEST instance.now job placement.now bound limit self.old result }
+        ensures kept { KeepsLanes L.GREATEST instance.now placement.now self.old self.new }
+    {
+        child_bound(
+            &mut self.lanes,
+            &mut self.notes,
+            self.raises.as_mut_slice(),
+            &self.layout,
+            self.machines.as_slice(),
+            instance,
+            placement,
+            job,
+            self.top,
+            bound,
+            limit,
+        )
     }
 }

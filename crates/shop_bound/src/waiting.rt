@@ -2,6 +2,7 @@
 ghost use Rattle.std.specs.Prelude.{◌≡◌, ◌∷◌, ◌++◌, [], IfOk};
 ghost use Rattle.shop_model.specs.Word.{none_placed};
 ghost use Rattle.shop_bound.specs.Placements.{IsPlacement};
+ghost use Rattle.shop_bound.specs.inner.Waitings.{CanGoOnWaiting, TellsBoundAfter, WaitsStill};
 ghost use Rattle.shop_bound.specs.inner.Waitings.{HasLastWaiting, HasNextWaiting, IsWaiting, WaitsBack, WaitsOn};
 
 use crate::lane_heads::LaneHeads;
@@ -67,6 +68,28 @@ impl Waiting {
             Waiting::InNarrow(heads) => heads.undo(instance, placement),
             Waiting::InWide(heads) => heads.undo(instance, placement),
             Waiting::InPlain(heads) => heads.undo(instance, placement),
+        }
+    }
+
+    /// The bound after the next operation of a job, or as much of it as reaches the limit, with the bound before it at
+    /// hand; the placement is that of the word.
+    #[inline(always)]
+    pub(crate) fn bound_up_to(
+        &mut self,
+        instance: &Instance,
+        placement: &Placement,
+        job: usize,
+        bound: u64,
+        limit: u64,
+    ) -> u64
+        requires { CanGoOnWaiting instance.now job placement.now self.old }
+        ensures bound { TellsBoundAfter instance.now job placement.now bound limit self.old result }
+        ensures kept { WaitsStill instance.now placement.now self.old self.new }
+    {
+        match self {
+            Waiting::InNarrow(heads) => heads.bound_up_to(instance, placement, job, bound, limit),
+            Waiting::InWide(heads) => heads.bound_up_to(instance, placement, job, bound, limit),
+            Waiting::InPlain(heads) => heads.bound_up_to(instance, placement, job, bound, limit),
         }
     }
 }
