@@ -13,7 +13,7 @@ use Rattle.shop_model.proofs.Ends.{IsOperation-job}
 use Rattle.shop_bound.specs.Conflicts.{open_jobs, next_machine, next_head, next_end, conflicts_with}
 use Rattle.shop_bound.specs.Conflicts.{conflict_among}
 use Rattle.shop_bound.specs.Heads.{head_of, ready_after}
-use Rattle.shop_bound.specs.inner.LaneChoices.{next_place, AreChoosable, AreNextPlaced, IsNextBelow}
+use Rattle.shop_bound.specs.inner.LaneChoices.{next_place, AreChoosable, AreNextPlaced, AreNextsAt, IsNextBelow}
 use Rattle.shop_bound.specs.inner.Layouts.{LayoutState, place, first_of}
 use Rattle.shop_bound.specs.inner.Raises.{HasBlocks, IsOnMachine}
 use Rattle.shop_bound.specs.inner.RisingLists.{IsIn, Rises, IsRisingBelow, HasGathered, HasPut}
@@ -123,8 +123,8 @@ either : (a b : Bool) → (a || b) ≡ true → (a ≡ true) ⊎ (b ≡ true)
 either true b e = inl refl
 either false b e = inr e
 
-module _ (greatest : ℕ) (shop : Shop) (p : Placing) (l : LayoutState) (steps : List ℕ) (rows : Rows)
-    (can : AreChoosable greatest shop p l steps rows) where
+module _ (shop : Shop) (p : Placing) (l : LayoutState) (steps : List ℕ) (rows : Rows)
+    (can : AreNextsAt shop p l steps rows) where
   pub next_placed : AreNextPlaced l rows.heads steps
   next_placed = record {
     indexed = indexed shop can.limits l can.laid (length rows.heads) can.heads.positions;
@@ -166,6 +166,87 @@ module _ (greatest : ℕ) (shop : Shop) (p : Placing) (l : LayoutState) (steps :
       let a = (place_of shop can.limits l can.laid j (p.steps j) op).within in let b = can.heads.positions
       in omega arith
 
+  module _ (r : ℕ) (op : IsOperation shop r (p.steps r)) where
+    module _ (m limit : ℕ) (on : m ≡ machine_of shop r (p.steps r)) (end : limit ≡ next_end shop p r + 1) where
+      abbrev pub Below : ℕ → Type 0
+      Below = IsNextBelow l steps rows.heads (IsOnMachine l m) limit
+
+      in_conflict : (i : ℕ) → Below i
+          → IsOperation shop i (p.steps i) × (conflicts_with shop p r i ≡ true)
+      in_conflict i next =
+          let route = can.laid.routes i
+          in let below = next.step
+          in let o = open_from i (omega arith)
+          in let known = IsOperation-job shop i (p.steps i) o
+          in let at = place_is i known
+          in let there = next.there
+          in let low = there.0 in let high = there.1
+          in let machines = can.limits.on_machines r (p.steps r)
+          in let machine = on_machine shop can.limits l can.laid m i (p.steps i) (omega arith) o (omega arith)
+          (omega arith)
+          in let head = stored_head i o
+          in let same : get_or rows.heads (next_place l steps i) 0 ≡ get_or rows.heads (place l i (p.steps i)) 0 =
+          ap (λ (x : ℕ). get_or rows.heads x 0) at
+          in let under = next.below
+          in (
+            o,
+            or_right (eqb i r) _
+                (and_from (eqb (next_machine shop p i) (next_machine shop p r)) (ltb (next_head shop p i) (next_end shop p r))
+                (eq-eqb (next_machine shop p i) (next_machine shop p r) (machine ∙ on))
+                (lt-ltb (next_head shop p i) (next_end shop p r) (omega arith))),
+          )
+
+      below_from : (i : ℕ) → IsOperation shop i (p.steps i) → next_machine shop p i ≡ next_machine shop p r
+          → next_head shop p i < next_end shop p r → Below i
+      below_from i o machine lt =
+          let known = IsOperation-job shop i (p.steps i) o
+          in let at = place_is i known
+          in let head = stored_head i o
+          in let same : get_or rows.heads (next_place l steps i) 0 ≡ get_or rows.heads (place l i (p.steps i)) 0 =
+          ap (λ (x : ℕ). get_or rows.heads x 0) at
+          in let stands = place_of shop can.limits l can.laid i (p.steps i) o
+          in let its : machine_of shop i (p.steps i) ≡ m = machine ∙ sym on
+          in let first : first_of l (machine_of shop i (p.steps i)) ≡ first_of l m = ap (first_of l) its
+          in let behind : first_of l (machine_of shop i (p.steps i) + 1) ≡ first_of l (m + 1) =
+          ap (λ (x : ℕ). first_of l (x + 1)) its
+          in let from = stands.from in let to = stands.to
+          in let route = can.laid.routes i in let step = step_is i known
+          in record {
+            step = omega arith;
+            there = (omega arith, omega arith);
+            waits = omega arith;
+            below = omega arith;
+          }
+
+      -- the jobs whose next operations conflict with that of r
+      pub are_conflicting : (n : ℕ) (one new : List ℕ) → HasPut r [] one → HasGathered Below one new
+          → IsRisingBelow n new → new ≡ filter (conflicts_with shop p r) (open_jobs shop p)
+      are_conflicting n one new put gathered list =
+          let all = open_jobs shop p
+          in one_rising new (filter (conflicts_with shop p r) all) list.rises
+          (filter_rises (conflicts_with shop p r) all (open_rises shop p)) (λ q h. elim (gathered.only q h) [
+            | inl g ↦ elim (put.only q g) [
+              | inl none ↦ absurd none
+              | inr e ↦ filter_in (conflicts_with shop p r) all q
+                  (subst (IsIn all) (sym e) (is_open shop p r op))
+                  (or_left (eqb q r) _ (eq-eqb q r e))
+            ]
+            | inr next ↦ (let c = in_conflict q next
+                in filter_in (conflicts_with shop p r) all q (is_open shop p q c.0) c.1)
+          ]) (λ q h.
+          let f = in_filter (conflicts_with shop p r) all q h
+          in let o = open_is shop p q f.0
+          in elim (either (eqb q r) _ f.1) [
+            | inl e ↦ gathered.kept q (put.gathered q (eqb-true q r e))
+            | inr e ↦ (let parts = and_parts (eqb (next_machine shop p q) (next_machine shop p r))
+                (ltb (next_head shop p q) (next_end shop p r)) e
+                in gathered.gathered q (below_from q o.1
+                (eqb-true (next_machine shop p q) (next_machine shop p r) parts.0)
+                (ltb-true (next_head shop p q) (next_end shop p r) parts.1)))
+          ])
+
+module _ (greatest : ℕ) (shop : Shop) (p : Placing) (l : LayoutState) (steps : List ℕ) (rows : Rows)
+    (can : AreChoosable greatest shop p l steps rows) where
   module _ (r : ℕ) (is : IsFirstLeast rows.ends r) where
     pub chosen_job : r < length shop.jobs
     chosen_job = let a = is.within in let b = can.ends.jobs in omega arith
@@ -192,20 +273,20 @@ module _ (greatest : ℕ) (shop : Shop) (p : Placing) (l : LayoutState) (steps :
     chosen_at row row_is route route_is below =
         let step = get_or steps r 0
         in let long : length route ≡ length (route_of shop r) = ap (λ (xs : List Op). length xs) route_is
-        in let op = open_from r (omega arith)
-        in let is_step : step ≡ p.steps r = step_is r chosen_job
+        in let op = open_from shop p l steps rows can.nexts r (omega arith)
+        in let is_step : step ≡ p.steps r = can.nexts.steps r chosen_job
         in let at : get_or row step 0 ≡ place l r (p.steps r) =
         ap (λ (xs : List ℕ). get_or xs step 0) row_is ∙ ap (place l r) is_step
         in let machine : (get_or route step no_op).machine ≡ machine_of shop r (p.steps r) =
         ap (λ (xs : List Op). (get_or xs step no_op).machine) route_is ∙ ap (machine_of shop r) is_step
-        in let head = ap (λ (x : ℕ). get_or rows.heads x 0) at ∙ stored_head r op
-        in let time = ap (λ (x : ℕ). get_or rows.times x 0) at ∙ stored_time r op
-        in let within = stored_within r op
+        in let head = ap (λ (x : ℕ). get_or rows.heads x 0) at ∙ stored_head shop p l steps rows can.nexts r op
+        in let time = ap (λ (x : ℕ). get_or rows.times x 0) at ∙ stored_time shop p l steps rows can.nexts r op
+        in let within = stored_within shop p l steps rows can.nexts r op
         in record {
           operation = op;
           machine = machine;
-          blocks = has_blocks shop can.limits l can.laid (length rows.heads) (get_or route step no_op).machine
-              can.heads.positions (let a = can.limits.on_machines r (p.steps r) in omega arith);
+          blocks = has_blocks shop can.nexts.limits l can.nexts.laid (length rows.heads) (get_or route step no_op).machine
+              can.nexts.heads.positions (let a = can.nexts.limits.on_machines r (p.steps r) in omega arith);
           within = omega arith;
           end = omega arith;
           fits = can.ends.fits r op;
@@ -221,79 +302,8 @@ module _ (greatest : ℕ) (shop : Shop) (p : Placing) (l : LayoutState) (steps :
           in let a = is.first i lt
           in let b = can.ends.next i o.1 in let d = can.ends.next r op in omega arith)
 
-      module _ (m limit : ℕ) (on : m ≡ machine_of shop r (p.steps r)) (end : limit ≡ next_end shop p r + 1) where
-        abbrev pub Below : ℕ → Type 0
-        Below = IsNextBelow l steps rows.heads (IsOnMachine l m) limit
-
-        in_conflict : (i : ℕ) → Below i
-            → IsOperation shop i (p.steps i) × (conflicts_with shop p r i ≡ true)
-        in_conflict i next =
-            let route = can.laid.routes i
-            in let below = next.step
-            in let o = open_from i (omega arith)
-            in let known = IsOperation-job shop i (p.steps i) o
-            in let at = place_is i known
-            in let there = next.there
-            in let low = there.0 in let high = there.1
-            in let machines = can.limits.on_machines r (p.steps r)
-            in let machine = on_machine shop can.limits l can.laid m i (p.steps i) (omega arith) o (omega arith)
-            (omega arith)
-            in let head = stored_head i o
-            in let same : get_or rows.heads (next_place l steps i) 0 ≡ get_or rows.heads (place l i (p.steps i)) 0 =
-            ap (λ (x : ℕ). get_or rows.heads x 0) at
-            in let under = next.below
-            in (
-              o,
-              or_right (eqb i r) _
-                  (and_from (eqb (next_machine shop p i) (next_machine shop p r)) (ltb (next_head shop p i) (next_end shop p r))
-                  (eq-eqb (next_machine shop p i) (next_machine shop p r) (machine ∙ on))
-                  (lt-ltb (next_head shop p i) (next_end shop p r) (omega arith))),
-            )
-
-        below_from : (i : ℕ) → IsOperation shop i (p.steps i) → next_machine shop p i ≡ next_machine shop p r
-            → next_head shop p i < next_end shop p r → Below i
-        below_from i o machine lt =
-            let known = IsOperation-job shop i (p.steps i) o
-            in let at = place_is i known
-            in let head = stored_head i o
-            in let same : get_or rows.heads (next_place l steps i) 0 ≡ get_or rows.heads (place l i (p.steps i)) 0 =
-            ap (λ (x : ℕ). get_or rows.heads x 0) at
-            in let stands = place_of shop can.limits l can.laid i (p.steps i) o
-            in let its : machine_of shop i (p.steps i) ≡ m = machine ∙ sym on
-            in let first : first_of l (machine_of shop i (p.steps i)) ≡ first_of l m = ap (first_of l) its
-            in let behind : first_of l (machine_of shop i (p.steps i) + 1) ≡ first_of l (m + 1) =
-            ap (λ (x : ℕ). first_of l (x + 1)) its
-            in let from = stands.from in let to = stands.to
-            in let route = can.laid.routes i in let step = step_is i known
-            in record {
-              step = omega arith;
-              there = (omega arith, omega arith);
-              waits = omega arith;
-              below = omega arith;
-            }
-
-        pub is_conflict : (n : ℕ) (one new : List ℕ) → HasPut r [] one → HasGathered Below one new → IsRisingBelow n new
-            → new ≡ conflict_among shop p (open_jobs shop p)
-        is_conflict n one new put gathered list =
-            let all = open_jobs shop p
-            in one_rising new (filter (conflicts_with shop p r) all) list.rises
-            (filter_rises (conflicts_with shop p r) all (open_rises shop p)) (λ q h. elim (gathered.only q h) [
-              | inl g ↦ elim (put.only q g) [
-                | inl none ↦ absurd none
-                | inr e ↦ filter_in (conflicts_with shop p r) all q
-                    (subst (IsIn all) (sym e) (is_open shop p r op))
-                    (or_left (eqb q r) _ (eq-eqb q r e))
-              ]
-              | inr next ↦ (let c = in_conflict q next
-                  in filter_in (conflicts_with shop p r) all q (is_open shop p q c.0) c.1)
-            ]) (λ q h.
-            let f = in_filter (conflicts_with shop p r) all q h
-            in let o = open_is shop p q f.0
-            in elim (either (eqb q r) _ f.1) [
-              | inl e ↦ gathered.kept q (put.gathered q (eqb-true q r e))
-              | inr e ↦ (let parts = and_parts (eqb (next_machine shop p q) (next_machine shop p r))
-                  (ltb (next_head shop p q) (next_end shop p r)) e
-                  in gathered.gathered q (below_from q o.1
-                  (eqb-true (next_machine shop p q) (next_machine shop p r) parts.0)
-                  (ltb-true (next_head shop p q) (next_end shop p r) parts.1)))
-            ]) ∙ sym chosen_is
+      pub is_conflict : (m limit : ℕ) → m ≡ machine_of shop r (p.steps r) → limit ≡ next_end shop p r + 1 → (n : ℕ)
+          (one new : List ℕ) → HasPut r [] one → HasGathered (IsNextBelow l steps rows.heads (IsOnMachine l m) limit) one new
+          → IsRisingBelow n new → new ≡ conflict_among shop p (open_jobs shop p)
+      is_conflict m limit on end n one new put gathered list =
+          are_conflicting shop p l steps rows can.nexts r op m limit on end n one new put gathered list ∙ sym chosen_is

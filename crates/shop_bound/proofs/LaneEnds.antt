@@ -133,12 +133,14 @@ module _ (greatest : ℕ) (shop : Shop) (w : List ℕ) (l : LayoutState) (rows :
       → ((j : ℕ) → IsOperation shop j (p.steps j) → next_end shop p j + 1 < greatest)
       → AreChoosable greatest shop p l steps rows
   can_choose ends fits = record {
-    laid = kept.laid;
-    limits = kept.limits;
-    jobs = counts.jobs;
-    steps = counts.are;
-    heads = kept.heads;
-    times = kept.times;
+    nexts = record {
+      laid = kept.laid;
+      limits = kept.limits;
+      jobs = counts.jobs;
+      steps = counts.are;
+      heads = kept.heads;
+      times = kept.times;
+    };
     ends = record {
       jobs = as_many;
       next = λ j op. (

@@ -11,6 +11,7 @@ mod kept_heads;
 mod lane_bounds;
 mod lane_choices;
 mod lane_ends;
+mod lane_gathering;
 mod lane_heads;
 mod latest_ends;
 mod laws;

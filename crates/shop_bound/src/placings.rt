@@ -13,7 +13,7 @@ use shop_model::Instance;
 pub(crate) struct Placed<'a> {
     pub(crate) instance: &'a Instance,
     word: &'a [usize],
-    placement: &'a Placement,
+    pub(crate) placement: &'a Placement,
     pub ghost is_word: { IsWord instance.now word.now },
     pub ghost is_placement: { IsPlacement instance.now (placing instance.now word.now) placement.now },
 }

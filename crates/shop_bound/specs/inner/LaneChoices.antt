@@ -4,6 +4,7 @@
 --     AreNextPlaced l heads steps    each step has its position, and nothing waits at others
 --     AreEndsAt greatest shop p ..   when the next operations can end
 --     AreInConflict .. jobs          the list is the conflict set
+--     AreNextsAt shop p l steps ..   heads and steps are those of the placing
 --     AreChoosable greatest ..       all that the choice by lanes stands on
 use Rattle.std.specs.Prelude.{◌≡◌, ℕ, ◌+◌, ◌≤◌, ◌<◌, ◌^◌, List, length, slice_index}
 use Rattle.shop_lanes.specs.Rows.{Rows}
@@ -36,14 +37,18 @@ pub record AreEndsAt (greatest : ℕ) (shop : Shop) (p : Placing) (ends : List �
   pub none : (j : ℕ) → j < length shop.jobs → length (route_of shop j) ≤ p.steps j → slice_index ends j ≡ greatest
   pub fits : (j : ℕ) → IsOperation shop j (p.steps j) → next_end shop p j + 1 < greatest
 
-pub record AreChoosable (greatest : ℕ) (shop : Shop) (p : Placing) (l : LayoutState) (taken : List ℕ) (rows : Rows)
-    : Type 0 where
+-- heads and steps of one placing
+pub record AreNextsAt (shop : Shop) (p : Placing) (l : LayoutState) (taken : List ℕ) (rows : Rows) : Type 0 where
   pub laid : IsLaidOut shop l
   pub limits : IsWithinLimits shop
   pub jobs : length taken ≡ length shop.jobs
   pub steps : (j : ℕ) → j < length shop.jobs → slice_index taken j ≡ p.steps j
   pub heads : AreHeadsAt shop p l rows.heads
   pub times : rows.times ≡ l.times
+
+pub record AreChoosable (greatest : ℕ) (shop : Shop) (p : Placing) (l : LayoutState) (steps : List ℕ) (rows : Rows)
+    : Type 0 where
+  pub nexts : AreNextsAt shop p l steps rows
   pub ends : AreEndsAt greatest shop p rows.ends
   pub computable : greatest < 2 ^ 64
 

@@ -9,7 +9,7 @@ returns-then-step-route-clause-jobs g c = λ p can.
     in let is = c.first_least_end-chosen.ensures
     in let shop = c.args.instance.now
     in let long = ap length c.route-route.ensures.route
-    in let step = can.steps r (chosen_job g.L.Lanes.GREATEST shop p c.args.layout.now c.args.steps.now
+    in let step = can.nexts.steps r (chosen_job g.L.Lanes.GREATEST shop p c.args.layout.now c.args.steps.now
     (g.L.Lanes.rows c.args.lanes.now) can r is)
     in let past = c.if-step-route.true
     in c.clear.ensures.items ∙ none_open g.L.Lanes.GREATEST shop p c.args.layout.now c.args.steps.now
@@ -55,8 +55,8 @@ gather_on_machine-requires-clause-fits g c =
 
 pub gather_on_machine-requires-clause-placed : goal.gather_on_machine-requires-clause-placed
 gather_on_machine-requires-clause-placed g c =
-    next_placed g.L.Lanes.GREATEST c.args.instance.now c.requires.kept.of c.args.layout.now c.args.steps.now
-    (g.L.Lanes.rows c.args.lanes.now) c.requires.kept.choosable
+    next_placed c.args.instance.now c.requires.kept.of c.args.layout.now c.args.steps.now
+    (g.L.Lanes.rows c.args.lanes.now) c.requires.kept.choosable.nexts
 
 pub returns-clause-jobs : goal.returns-clause-jobs
 returns-clause-jobs g c = λ p can.
