@@ -2,6 +2,7 @@ pub mod ClaimSteps
 pub mod ClosedBoards
 pub mod HitSteps
 pub mod JoinedSeats
+pub mod KeptEntries
 pub mod LawfulSteps
 pub mod Numbers
 pub mod Places

@@ -1,9 +1,9 @@
 // Entries that workers brought, put in the order of their pieces.
-ghost use Rattle.std.specs.Prelude.{◌≡◌, ◌<◌, length, IfOk, IfSome, Some, None, slice_set, slice_index_or, vec_len};
+ghost use Rattle.std.specs.Prelude.{◌≡◌, ◌<◌, length, All, IfOk, IfSome, None, slice_set, slice_index_or, vec_len};
 ghost use Rattle.shop_round.specs.Entries.{told};
 ghost use Rattle.shop_round.specs.Crews.{OneForEach, IsEntryOf};
 ghost use Rattle.shop_board.specs.Entries.{OfRound};
-ghost use Rattle.shop_board.specs.inner.Gathered.{AllOfRound, Placed};
+ghost use Rattle.shop_board.specs.inner.Gathered.{AllOfRound, Placed, AreFilled, AreKept, Fills, StayFilled};
 
 use crate::piece_searchers::PieceSearcher;
 use shop_round::{Entry, Round};
@@ -21,11 +21,19 @@ fn places<'r>(alloc: Global, round: &'r Round<'r>) -> Result<Vec<Option<Entry<'r
     Ok(slots)
 }
 
-fn put<'r>(slots: &mut Vec<Option<Entry<'r>>>, number: usize, entry: Entry<'r>)
-    requires { number < vec_len slots.old }
-    ensures { slots.new.items ≡ slice_set slots.old.items number (Some entry.entry) }
+// Puts an entry into the place of its piece.
+fn put<'r>(round: &'r Round<'r>, slots: &mut Vec<Option<Entry<'r>>>, entry: Entry<'r>)
+    requires of { told entry.round.now ≡ told round.now }
+    requires slots { Placed (told round.now) slots.old.items }
+    ensures len { vec_len slots.new ≡ vec_len slots.old }
+    ensures placed { Placed (told round.now) slots.new.items }
+    ensures stays { StayFilled slots.old.items slots.new.items }
+    ensures fills { Fills slots.new.items entry.entry }
 {
-    slots[number] = Some(entry);
+    let number = entry.number();
+    if number < slots.len() {
+        slots[number] = Some(entry);
+    }
 }
 
 // Puts each entry into its place, where a double takes the place of the one before.
@@ -34,19 +42,18 @@ fn place<'r>(round: &'r Round<'r>, slots: &mut Vec<Option<Entry<'r>>>, mut entri
     requires slots { Placed (told round.now) slots.old.items }
     ensures len { vec_len slots.new ≡ vec_len slots.old }
     ensures placed { Placed (told round.now) slots.new.items }
+    ensures stays { StayFilled slots.old.items slots.new.items }
+    ensures filled { All (Fills slots.new.items) entries.entry.items }
 {
     while let Some(entry) = entries.pop() {
-        let number = entry.number();
-        if number < slots.len() {
-            put(slots, number, entry);
-        }
+        put(round, slots, entry);
     }
 }
 
 fn take<'r>(slots: &mut Vec<Option<Entry<'r>>>, number: usize) -> Option<Entry<'r>>
     requires { number < vec_len slots.old }
     ensures after { slots.new.items ≡ slice_set slots.old.items number None }
-    ensures value { result ≡ slice_index_or slots.old.items number result }
+    ensures value { result ≡ slice_index_or slots.old.items number None }
 {
     slots[number].take()
 }
@@ -62,6 +69,7 @@ fn or_search<'r>(
     requires brought { IfSome brought (λ e. IsEntryOf (told searcher.old) number e) }
     ensures round { searcher.new ≡ searcher.old }
     ensures entry { IfOk result (λ e. IsEntryOf (told searcher.old) number e) }
+    ensures kept { IfOk result (λ e. IfSome brought.entry (λ kept. e ≡ kept)) }
 {
     match brought {
         Some(entry) => Ok(entry),
@@ -81,7 +89,8 @@ pub fn complete<'r>(
 ) -> Result<Vec<Entry<'r>>, AllocError>
     requires len { vec_len slots ≡ length round.now.pieces.items }
     requires slots { Placed (told round.now) slots.items }
-    ensures { IfOk result (λ v. OneForEach (told round.now) v.items) }
+    ensures each { IfOk result (λ v. OneForEach (told round.now) v.items) }
+    ensures kept { IfOk result (λ v. AreKept slots.entry.items v.items) }
 {
     let mut entries = Vec::with_capacity(alloc, slots.len())?;
     let mut searcher = PieceSearcher::new(round);
@@ -102,6 +111,7 @@ pub fn in_places<'r>(
     requires { AllOfRound (told round.now) lists.items }
     ensures len { IfOk result (λ v. vec_len v ≡ length round.now.pieces.items) }
     ensures placed { IfOk result (λ v. Placed (told round.now) v.items) }
+    ensures filled { IfOk result (λ v. AreFilled lists.entry.items v.items) }
 {
     let mut slots = places(alloc, round)?;
     while let Some(entries) = lists.pop() {

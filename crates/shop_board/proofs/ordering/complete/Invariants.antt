@@ -1,6 +1,7 @@
 use Rattle.std.proofs.Common.{◌≡◌, vec_len}
 use Rattle.shop_round.specs.Entries.{told}
 use Rattle.shop_board.specs.inner.Gathered.{Placed}
+use Rattle.shop_board.proofs.KeptEntries.{AreKeptUpTo}
 use Rattle.shop_board.proofs.Places.{EntriesUpTo}
 use Rattle.shop_board.proofs.ordering.complete.Given as goal
 
@@ -11,3 +12,4 @@ invariant-loop-number l =
     × (vec_len l.entries ≡ l.number)
     × EntriesUpTo (told l.round) l.entries.items l.number
     × (l.searcher ≡ l.round)
+    × AreKeptUpTo l.initial.slots.items l.slots.items l.entries.items l.number

@@ -1,6 +1,7 @@
 use Rattle.std.proofs.Common.{◌≡◌, vec_len, length}
 use Rattle.shop_round.specs.Entries.{told}
-use Rattle.shop_board.specs.inner.Gathered.{Placed, AllOfRound}
+use Rattle.shop_board.specs.inner.Gathered.{Placed, AllOfRound, FillsAll}
+use Rattle.shop_board.proofs.KeptEntries.{AreThrough}
 use Rattle.shop_board.proofs.ordering.in_places.Given as goal
 
 abbrev pub invariant-loop-entries : goal.invariant-loop-entries
@@ -8,6 +9,7 @@ invariant-loop-entries l =
     (vec_len l.slots ≡ length l.round.pieces.items)
     × Placed (told l.round) l.slots.items
     × AllOfRound (told l.round) l.lists.items
+    × AreThrough (FillsAll l.slots.items) l.initial.lists.items l.lists.items
 
 abbrev pub decreases-loop-entries : goal.decreases-loop-entries
 decreases-loop-entries l = vec_len l.lists
