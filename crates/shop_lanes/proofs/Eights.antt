@@ -1,8 +1,11 @@
 -- Lists of eight, their sums by three shifted additions, and their greatest by three turns.
-use Rattle.std.proofs.Common.{◌≡◌, ℕ, suc, ◌+◌, ◌<◌, ◌≤◌, ◌^◌, List, [], ◌∷◌, ◌++◌, length, arith}
-use lib.Lanes.{zip2, Each2, pick_l, sum_l}
+use Rattle.std.proofs.Common.{◌≡◌, ℕ, suc, ◌+◌, ◌-◌, ◌≤◌, ◌^◌, List, [], ◌∷◌, ◌++◌, length, replicate, get_or, refl, ap}
+use Rattle.std.proofs.Common.{◌∙◌, arith}
+use lib.Lanes.{Each2, sum_l}
 use mir.Syntax.{Width}
 use mir.Val.{Fits, bits}
+use Rattle.std.proofs.lemmas.Nat.{pow_pos}
+use Rattle.shop_lanes.specs.inner.Blocks.{added, up_one, up_two, up_four, AddsFit}
 use Rattle.shop_lanes.specs.inner.Passes.{running}
 
 one_more : (P : List ℕ → Type 0) (n : ℕ) → ((x : ℕ) (xs : List ℕ) → length xs ≡ n → P (x ∷ xs))
@@ -25,41 +28,33 @@ on_eight P each =
     one_more (λ v. P (a ∷ b ∷ c ∷ d ∷ e ∷ f ∷ g ∷ v)) 0 (λ h.
     none_more (λ v. P (a ∷ b ∷ c ∷ d ∷ e ∷ f ∷ g ∷ h ∷ v)) (each a b c d e f g h)))))))))
 
--- moved up by one, two and four lanes, with zeros from below
-abbrev pub eight_zeros : List ℕ
-eight_zeros = 0 ∷ 0 ∷ 0 ∷ 0 ∷ 0 ∷ 0 ∷ 0 ∷ 0 ∷ []
-
-abbrev pub moved_1 : List ℕ → List ℕ
-moved_1 v = pick_l 0 (v ++ eight_zeros) (8 ∷ 0 ∷ 1 ∷ 2 ∷ 3 ∷ 4 ∷ 5 ∷ 6 ∷ [])
-
-abbrev pub moved_2 : List ℕ → List ℕ
-moved_2 v = pick_l 0 (v ++ eight_zeros) (8 ∷ 8 ∷ 0 ∷ 1 ∷ 2 ∷ 3 ∷ 4 ∷ 5 ∷ [])
-
-abbrev pub moved_4 : List ℕ → List ℕ
-moved_4 v = pick_l 0 (v ++ eight_zeros) (8 ∷ 8 ∷ 8 ∷ 8 ∷ 0 ∷ 1 ∷ 2 ∷ 3 ∷ [])
-
-abbrev pub added : List ℕ → List ℕ → List ℕ
-added = zip2 (λ a b. a + b)
-
 abbrev pub pairs : List ℕ → List ℕ
-pairs v = added v (moved_1 v)
+pairs v = added v (up_one v)
 
 abbrev pub fours : List ℕ → List ℕ
-fours v = added (pairs v) (moved_2 (pairs v))
+fours v = added (pairs v) (up_two (pairs v))
 
 abbrev pub eights : List ℕ → List ℕ
-eights v = added (fours v) (moved_4 (fours v))
+eights v = added (fours v) (up_four (fours v))
 
-abbrev pub AddsFit : Width → List ℕ → List ℕ → Type 0
-AddsFit w = Each2 (λ a b. Fits w (a + b))
+fit : (limit n most : ℕ) → most ≤ limit → n ≤ most → n ≤ limit
+fit limit n most small le = omega arith
 
-fit : (w : Width) (n most : ℕ) → most < 2 ^ bits w → n ≤ most → Fits w n
-fit w n most small le = record { fits = omega arith }
+-- sums that fit a width are what its additions ask for
+pub lanes_fit : (w : Width) (xs ys : List ℕ) → AddsFit (2 ^ bits w - 1) xs ys → Each2 (λ a b. Fits w (a + b)) xs ys
+lanes_fit w [] ys h = tt
+lanes_fit w (x ∷ xs) [] h = tt
+lanes_fit w (x ∷ xs) (y ∷ ys) h =
+    (record { fits = let a = h.0 in omega (arith, pow_pos (bits w)) }, lanes_fit w xs ys h.1)
 
-pub pairs_fit : (w : Width) (v : List ℕ) → length v ≡ 8 → sum_l v < 2 ^ bits w → AddsFit w v (moved_1 v)
-pairs_fit w = on_eight (λ v. sum_l v < 2 ^ bits w → AddsFit w v (moved_1 v)) (λ a b c d e f g h small.
+pub last_everywhere : (v : List ℕ) → length v ≡ 8 → replicate 8 (get_or (v ++ v) 7 0) ≡ replicate 8 (get_or v 7 0)
+last_everywhere =
+    on_eight (λ v. replicate 8 (get_or (v ++ v) 7 0) ≡ replicate 8 (get_or v 7 0)) (λ a b c d e f g h. refl)
+
+pub pairs_fit : (limit : ℕ) (v : List ℕ) → length v ≡ 8 → sum_l v ≤ limit → AddsFit limit v (up_one v)
+pairs_fit limit = on_eight (λ v. sum_l v ≤ limit → AddsFit limit v (up_one v)) (λ a b c d e f g h small.
     let most = a + (b + (c + (d + (e + (f + (g + (h + 0)))))))
-    in let ok = fit w
+    in let ok = fit limit
     in (
       ok (a + 0) most small (omega arith),
       (
@@ -80,11 +75,11 @@ pairs_fit w = on_eight (λ v. sum_l v < 2 ^ bits w → AddsFit w v (moved_1 v)) 
       ),
     ))
 
-pub fours_fit : (w : Width) (v : List ℕ) → length v ≡ 8 → sum_l v < 2 ^ bits w
-    → AddsFit w (pairs v) (moved_2 (pairs v))
-fours_fit w = on_eight (λ v. sum_l v < 2 ^ bits w → AddsFit w (pairs v) (moved_2 (pairs v))) (λ a b c d e f g h small.
+pub fours_fit : (limit : ℕ) (v : List ℕ) → length v ≡ 8 → sum_l v ≤ limit
+    → AddsFit limit (pairs v) (up_two (pairs v))
+fours_fit limit = on_eight (λ v. sum_l v ≤ limit → AddsFit limit (pairs v) (up_two (pairs v))) (λ a b c d e f g h small.
     let most = a + (b + (c + (d + (e + (f + (g + (h + 0)))))))
-    in let ok = fit w
+    in let ok = fit limit
     in (
       ok (a + 0 + 0) most small (omega arith),
       (
@@ -105,11 +100,12 @@ fours_fit w = on_eight (λ v. sum_l v < 2 ^ bits w → AddsFit w (pairs v) (move
       ),
     ))
 
-pub eights_fit : (w : Width) (v : List ℕ) → length v ≡ 8 → sum_l v < 2 ^ bits w
-    → AddsFit w (fours v) (moved_4 (fours v))
-eights_fit w = on_eight (λ v. sum_l v < 2 ^ bits w → AddsFit w (fours v) (moved_4 (fours v))) (λ a b c d e f g h small.
+pub eights_fit : (limit : ℕ) (v : List ℕ) → length v ≡ 8 → sum_l v ≤ limit
+    → AddsFit limit (fours v) (up_four (fours v))
+eights_fit limit =
+    on_eight (λ v. sum_l v ≤ limit → AddsFit limit (fours v) (up_four (fours v))) (λ a b c d e f g h small.
     let most = a + (b + (c + (d + (e + (f + (g + (h + 0)))))))
-    in let ok = fit w
+    in let ok = fit limit
     in (
       ok (a + 0 + 0 + 0) most small (omega arith),
       (
@@ -143,3 +139,33 @@ pub eights-running : (v : List ℕ) → length v ≡ 8 → eights v ≡ running 
 eights-running = on_eight (λ v. eights v ≡ running 0 v) (λ a b c d e f g h.
     same_eight (omega arith) (omega arith) (omega arith) (omega arith) (omega arith) (omega arith) (omega arith)
     (omega arith))
+
+-- the three additions one by one
+module _ (limit : ℕ) (v ones : List ℕ) (eight : length v ≡ 8) (small : sum_l v ≤ limit)
+    (ones_are : ones ≡ up_one v) where
+  pub ones_fit : AddsFit limit v ones
+  ones_fit = rw ones_are (pairs_fit limit v eight small)
+
+  module _ (ps twos : List ℕ) (ps_are : ps ≡ added v ones) (twos_are : twos ≡ up_two ps) where
+    are_pairs : ps ≡ pairs v
+    are_pairs = ps_are ∙ ap (added v) ones_are
+
+    are_twos : twos ≡ up_two (pairs v)
+    are_twos = twos_are ∙ ap up_two are_pairs
+
+    pub twos_fit : AddsFit limit ps twos
+    twos_fit = rw (are_pairs, are_twos) (fours_fit limit v eight small)
+
+    module _ (fs four : List ℕ) (fs_are : fs ≡ added ps twos) (four_is : four ≡ up_four fs) where
+      are_fours : fs ≡ fours v
+      are_fours = fs_are ∙ ap (λ l. added l twos) are_pairs ∙ ap (added (pairs v)) are_twos
+
+      are_four : four ≡ up_four (fours v)
+      are_four = four_is ∙ ap up_four are_fours
+
+      pub four_fits : AddsFit limit fs four
+      four_fits = rw (are_fours, are_four) (eights_fit limit v eight small)
+
+      pub sums_run : (sums : List ℕ) → sums ≡ added fs four → sums ≡ running 0 v
+      sums_run sums e =
+          e ∙ ap (λ l. added l four) are_fours ∙ ap (added (fours v)) are_four ∙ eights-running v eight

@@ -2,10 +2,11 @@
 use Rattle.std.proofs.Common.{◌≡◌, ℕ, ◌-◌, ◌≤◌, ◌^◌, min, max, cond, ltb, List, [], ◌∷◌, ◌++◌, length, map, get_or}
 use Rattle.std.proofs.Common.{refl, ap, sym, ◌∙◌, arith}
 use Rattle.std.proofs.lemmas.Bool.Decides.{nat_tests}
-use Rattle.std.proofs.lemmas.Simd.{tops_compared}
-use lib.Lanes.{zip2, sel_l, top, pick_l, Each1}
+use Rattle.std.proofs.lemmas.Simd.{tops_compared, length-zip2}
+use lib.Lanes.{zip2, sel_l, top}
 use mir.Syntax.{Width}
 use mir.Val.{bits, hbits}
+use Rattle.shop_lanes.specs.inner.Blocks.{halves, quarters, neighbours}
 use Rattle.shop_lanes.specs.inner.Passes.{greatest, least_up_to}
 use Rattle.shop_lanes.proofs.Eights.{on_eight}
 
@@ -50,16 +51,6 @@ least-lesser top (x ∷ xs) [] e = absurd (omega arith)
 least-lesser top (x ∷ xs) (y ∷ ys) e =
     let rest = least-lesser top xs ys (omega arith) in omega (arith, rest)
 
--- a vector with its halves, quarters and neighbours exchanged
-abbrev pub halves : List ℕ → List ℕ
-halves v = pick_l 0 (v ++ v) (4 ∷ 5 ∷ 6 ∷ 7 ∷ 0 ∷ 1 ∷ 2 ∷ 3 ∷ [])
-
-abbrev pub quarters : List ℕ → List ℕ
-quarters v = pick_l 0 (v ++ v) (2 ∷ 3 ∷ 0 ∷ 1 ∷ 4 ∷ 5 ∷ 6 ∷ 7 ∷ [])
-
-abbrev pub neighbours : List ℕ → List ℕ
-neighbours v = pick_l 0 (v ++ v) (1 ∷ 0 ∷ 2 ∷ 3 ∷ 4 ∷ 5 ∷ 6 ∷ 7 ∷ [])
-
 abbrev pub folded : (ℕ → ℕ → ℕ) → List ℕ → ℕ
 folded f v =
     let fours = zip2 f v (halves v)
@@ -79,14 +70,14 @@ folded-max = on_eight (λ v. folded max v ≡ greatest v) (λ a b c d e f g h.
     two : (p q : ℕ) → max p (max q 0) ≡ max p q
     two p q = omega arith
 
-pub folded-min : (top : ℕ) (v : List ℕ) → length v ≡ 8 → Each1 (λ x. x ≤ top) v → folded min v ≡ least_up_to top v
-folded-min top = on_eight (λ v. Each1 (λ x. x ≤ top) v → folded min v ≡ least_up_to top v) (λ a b c d e f g h small.
+pub folded-min : (top : ℕ) (v : List ℕ) → length v ≡ 8 → folded min v ≤ top → folded min v ≡ least_up_to top v
+folded-min top = on_eight (λ v. folded min v ≤ top → folded min v ≡ least_up_to top v) (λ a b c d e f g h small.
     sym (
     least-append top (a ∷ b ∷ c ∷ d ∷ []) (e ∷ f ∷ g ∷ h ∷ [])
     ∙ sym (least-lesser top (a ∷ b ∷ c ∷ d ∷ []) (e ∷ f ∷ g ∷ h ∷ []) refl)
     ∙ least-append top (min a e ∷ min b f ∷ []) (min c g ∷ min d h ∷ [])
     ∙ sym (least-lesser top (min a e ∷ min b f ∷ []) (min c g ∷ min d h ∷ []) refl)
-    ∙ two (min (min a e) (min c g)) (min (min b f) (min d h)) (let k = small.0 in omega arith)
+    ∙ two (min (min a e) (min c g)) (min (min b f) (min d h)) small
     ))
   where
     two : (p q : ℕ) → min p q ≤ top → min p (min q top) ≡ min p q
@@ -98,3 +89,6 @@ folded_is f v fours pairs all a b c =
     ap (λ l. get_or l 0 0) c
     ∙ ap (λ l. get_or (zip2 f l (neighbours l)) 0 0) b
     ∙ ap (λ l. get_or (zip2 f (zip2 f l (quarters l)) (neighbours (zip2 f l (quarters l)))) 0 0) a
+
+pub folded_long : (f : ℕ → ℕ → ℕ) (v u w : List ℕ) → length v ≡ 8 → length u ≡ 8 → w ≡ zip2 f v u → length w ≡ 8
+folded_long f v u w a b e = ap length e ∙ length-zip2 f v u (a ∙ sym b) ∙ a

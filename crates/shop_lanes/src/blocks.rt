@@ -2,10 +2,11 @@
 ghost use Rattle.std.specs.Prelude.{◌≡◌, ℕ, ◌+◌, ◌*◌, ◌≤◌, List, length, replicate, map, min, max};
 ghost use Rattle.std.specs.Prelude.{◌==◌, take, drop, slice_index};
 ghost use Rattle.std.specs.Simd.Lanes.{mask_l, zip2};
-ghost use Rattle.shop_lanes.specs.inner.Passes.{greatest, least_up_to, is_between, FitsFrom};
-ghost use Rattle.shop_lanes.specs.inner.Passes.{IsSplat, AreServed};
+ghost use Rattle.shop_lanes.specs.inner.Passes.{first_of, is_between, IsSplat};
+ghost use Rattle.shop_lanes.specs.inner.Blocks.{up_one, up_two, up_four, halves, quarters};
+ghost use Rattle.shop_lanes.specs.inner.Blocks.{neighbours, added, waiting, AddsFit};
 
-/// Eight numbers, read from a row of them and served, compared and reduced at once.
+/// Eight numbers of a row at once.
 pub trait Block: Copy + Drop {
     type Number: Copy + Drop;
 
@@ -34,38 +35,52 @@ pub trait Block: Copy + Drop {
         requires { 8 * (block + 1) ≤ length row.now }
         ensures { numbers result ≡ take 8 (drop (8 * block) (map value row.now)) };
 
-    /// Serves eight lanes: the clock afterwards, in every lane, and the greatest end of each lane.
-    fn serve(
-        heads: Self,
-        times: Self,
-        tails: Self,
-        least: Self,
-        clock: Self,
-        most: Self,
-    ) -> (Self, Self)
-        requires heads { length (numbers heads) ≡ 8 }
-        requires times { length (numbers times) ≡ 8 }
-        requires tails { length (numbers tails) ≡ 8 }
-        requires most { length (numbers most) ≡ 8 }
-        requires least { IsSplat (numbers least) }
-        requires clock { IsSplat (numbers clock) }
-        requires fits { FitsFrom GREATEST numbers heads times tails clock }
-        ensures { AreServed numbers heads times tails least clock most result };
+    /// The first number.
+    fn first(block: Self) -> u64
+        ensures first { result ≡ first_of (numbers block) }
+        ensures small { result ≤ GREATEST };
 
-    /// The lesser number of each lane.
+    /// The last number in every lane.
+    fn last(block: Self) -> Self
+        requires { length (numbers block) ≡ 8 }
+        ensures { numbers result ≡ replicate 8 (slice_index (numbers block) 7) };
+
+    fn up_one(block: Self) -> Self
+        ensures { numbers result ≡ up_one (numbers block) };
+
+    fn up_two(block: Self) -> Self
+        ensures { numbers result ≡ up_two (numbers block) };
+
+    fn up_four(block: Self) -> Self
+        ensures { numbers result ≡ up_four (numbers block) };
+
+    fn halves(block: Self) -> Self
+        ensures { numbers result ≡ halves (numbers block) };
+
+    fn quarters(block: Self) -> Self
+        ensures { numbers result ≡ quarters (numbers block) };
+
+    fn neighbours(block: Self) -> Self
+        ensures { numbers result ≡ neighbours (numbers block) };
+
+    fn sum(a: Self, b: Self) -> Self
+        requires { AddsFit GREATEST (numbers a) (numbers b) }
+        ensures { numbers result ≡ added (numbers a) (numbers b) };
+
+    fn greater(a: Self, b: Self) -> Self
+        requires { length (numbers a) ≡ length (numbers b) }
+        ensures { numbers result ≡ zip2 max (numbers a) (numbers b) };
+
     fn lesser(a: Self, b: Self) -> Self
         requires { length (numbers a) ≡ length (numbers b) }
         ensures { numbers result ≡ zip2 min (numbers a) (numbers b) };
 
-    /// The greatest lane.
-    fn greatest_of(block: Self) -> u64
-        requires { length (numbers block) ≡ 8 }
-        ensures { result ≡ greatest (numbers block) };
-
-    /// The least lane.
-    fn least_of(block: Self) -> u64
-        requires { length (numbers block) ≡ 8 }
-        ensures { result ≡ least_up_to GREATEST (numbers block) };
+    /// The numbers of those whose head is at least `least`, and 0 for the others.
+    fn waiting(block: Self, heads: Self, least: Self) -> Self
+        requires heads { length (numbers heads) ≡ 8 }
+        requires least { IsSplat (numbers least) }
+        ensures { numbers result
+            ≡ waiting (first_of (numbers least)) (numbers heads) (numbers block) };
 
     /// A bit for each lane, the first the lowest, that says whether it is above `above` and at most `upto`.
     fn bits_between(block: Self, above: u64, upto: u64) -> u64

@@ -7,6 +7,7 @@ mod marking;
 mod narrow_blocks;
 mod passes;
 mod plain_rows;
+mod served_blocks;
 mod wide_blocks;
 mod widths;
 

@@ -1,62 +1,8 @@
-// Eight lanes of 16 bits at once.
-ghost use Rattle.std.specs.Prelude.{◌≡◌, ℕ, ◌<◌, ◌^◌, min, max};
-ghost use Rattle.std.specs.Simd.Lanes.{sum_l, zip2};
-ghost use Rattle.shop_lanes.specs.inner.Passes.{running, greatest, least_up_to};
+// Eight numbers of 16 bits at once.
+ghost use Rattle.std.specs.Prelude.{ℕ};
 
 use crate::blocks::Block;
 use std::simd::prelude::*;
-
-/// The sum of the lanes up to each one.
-#[inline(always)]
-fn sums_up_to(v: u16x8) -> u16x8
-    requires { sum_l v < 2 ^ 16 }
-    ensures { result ≡ running 0 v }
-{
-    let zero = u16x8::splat(0);
-    let pairs = v.strict_add(v.shuffle(zero, [8, 0, 1, 2, 3, 4, 5, 6]));
-    let fours = pairs.strict_add(pairs.shuffle(zero, [8, 8, 0, 1, 2, 3, 4, 5]));
-    fours.strict_add(fours.shuffle(zero, [8, 8, 8, 8, 0, 1, 2, 3]))
-}
-
-/// The greater number of each lane.
-#[inline(always)]
-fn greater(a: u16x8, b: u16x8) -> u16x8
-    ensures { result ≡ zip2 max a b }
-{
-    a.simd_max(b)
-}
-
-/// The lesser number of each lane.
-#[inline(always)]
-fn lesser(a: u16x8, b: u16x8) -> u16x8
-    ensures { result ≡ zip2 min a b }
-{
-    a.simd_min(b)
-}
-
-/// The greatest lane.
-#[inline(always)]
-fn greatest_lane(v: u16x8) -> u16
-    ensures { result ≡ greatest v }
-{
-    let fours = greater(v, v.swizzle([4, 5, 6, 7, 0, 1, 2, 3]));
-    let pairs = greater(fours, fours.swizzle([2, 3, 0, 1, 4, 5, 6, 7]));
-    let all = greater(pairs, pairs.swizzle([1, 0, 2, 3, 4, 5, 6, 7]));
-    let lanes = all.to_array();
-    lanes[0]
-}
-
-/// The least lane.
-#[inline(always)]
-fn least_lane(v: u16x8) -> u16
-    ensures { result ≡ least_up_to 65535 v }
-{
-    let fours = lesser(v, v.swizzle([4, 5, 6, 7, 0, 1, 2, 3]));
-    let pairs = lesser(fours, fours.swizzle([2, 3, 0, 1, 4, 5, 6, 7]));
-    let all = lesser(pairs, pairs.swizzle([1, 0, 2, 3, 4, 5, 6, 7]));
-    let lanes = all.to_array();
-    lanes[0]
-}
 
 /// Eight numbers of 16 bits.
 #[derive(Clone, Copy)]
@@ -94,35 +40,64 @@ impl Block for NarrowBlock {
     }
 
     #[inline(always)]
-    fn serve(
-        heads: Self,
-        times: Self,
-        tails: Self,
-        least: Self,
-        clock: Self,
-        most: Self,
-    ) -> (Self, Self) {
-        let zero = u16x8::splat(0);
-        let waits = heads.0.simd_ge(least.0);
-        let ends = sums_up_to(waits.select(times.0, zero)).strict_add(clock.0);
-        let late = waits.select(ends.strict_add(tails.0), zero);
-        let last = ends.swizzle([7, 7, 7, 7, 7, 7, 7, 7]);
-        (NarrowBlock(last), NarrowBlock(most.0.simd_max(late)))
+    fn first(block: Self) -> u64 {
+        let lanes = block.0.to_array();
+        u64::from(lanes[0])
+    }
+
+    #[inline(always)]
+    fn last(block: Self) -> Self {
+        NarrowBlock(block.0.swizzle([7, 7, 7, 7, 7, 7, 7, 7]))
+    }
+
+    #[inline(always)]
+    fn up_one(block: Self) -> Self {
+        NarrowBlock(block.0.shuffle(u16x8::splat(0), [8, 0, 1, 2, 3, 4, 5, 6]))
+    }
+
+    #[inline(always)]
+    fn up_two(block: Self) -> Self {
+        NarrowBlock(block.0.shuffle(u16x8::splat(0), [8, 8, 0, 1, 2, 3, 4, 5]))
+    }
+
+    #[inline(always)]
+    fn up_four(block: Self) -> Self {
+        NarrowBlock(block.0.shuffle(u16x8::splat(0), [8, 8, 8, 8, 0, 1, 2, 3]))
+    }
+
+    #[inline(always)]
+    fn halves(block: Self) -> Self {
+        NarrowBlock(block.0.swizzle([4, 5, 6, 7, 0, 1, 2, 3]))
+    }
+
+    #[inline(always)]
+    fn quarters(block: Self) -> Self {
+        NarrowBlock(block.0.swizzle([2, 3, 0, 1, 4, 5, 6, 7]))
+    }
+
+    #[inline(always)]
+    fn neighbours(block: Self) -> Self {
+        NarrowBlock(block.0.swizzle([1, 0, 2, 3, 4, 5, 6, 7]))
+    }
+
+    #[inline(always)]
+    fn sum(a: Self, b: Self) -> Self {
+        NarrowBlock(a.0.strict_add(b.0))
+    }
+
+    #[inline(always)]
+    fn greater(a: Self, b: Self) -> Self {
+        NarrowBlock(a.0.simd_max(b.0))
     }
 
     #[inline(always)]
     fn lesser(a: Self, b: Self) -> Self {
-        NarrowBlock(lesser(a.0, b.0))
+        NarrowBlock(a.0.simd_min(b.0))
     }
 
     #[inline(always)]
-    fn greatest_of(block: Self) -> u64 {
-        u64::from(greatest_lane(block.0))
-    }
-
-    #[inline(always)]
-    fn least_of(block: Self) -> u64 {
-        u64::from(least_lane(block.0))
+    fn waiting(block: Self, heads: Self, least: Self) -> Self {
+        NarrowBlock(heads.0.simd_ge(least.0).select(block.0, u16x8::splat(0)))
     }
 
     #[inline(always)]

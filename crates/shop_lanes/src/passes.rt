@@ -9,6 +9,7 @@ ghost use Rattle.shop_lanes.specs.inner.Passes.{HasSpan, HasSpans, AreSmallBy, I
 
 use crate::blocks::Block;
 use crate::marking::Marks;
+use crate::served_blocks::{greatest_of, least_of, serve};
 
 /// The pass over all blocks: in the lanes the greatest of `most` and the ends, tails included.
 #[inline(always)]
@@ -32,7 +33,7 @@ pub(crate) fn span_of<B: Block>(
     let mut clock = B::splat(start);
     let mut most = most;
     for block in 0..heads.len() / 8 {
-        let (after, later) = B::serve(
+        let (after, later) = serve(
             B::load(heads, block),
             B::load(times, block),
             B::load(tails, block),
@@ -95,7 +96,7 @@ pub(crate) fn greatest_span<B: Block>(
         let bits = B::bits_between(B::load(heads, block), above, upto);
         most = spans_of(heads, times, tails, Marks::new(8 * block, bits), most);
     }
-    B::greatest_of(most)
+    greatest_of(most)
 }
 
 /// A bit for each number, the first the lowest, that says whether it is above 0 and at most `upto`.
@@ -125,7 +126,7 @@ fn least_number<B: Block>(numbers: &[B::Number]) -> u64
     for block in 0..numbers.len() / 8 {
         least = B::lesser(least, B::load(numbers, block));
     }
-    B::least_of(least)
+    least_of(least)
 }
 
 /// The position of the first number that is this one; how many there are if none is.
