@@ -1,6 +1,6 @@
 -- Rounds up to the answer.
-use Rattle.std.proofs.Common.{◌≡◌, ℕ, zero, suc, ◌+◌, ◌-◌, ◌*◌, ◌≤◌, ◌<◌, List, [], ◌∷◌, ◌++◌, length, refl, sym, ◌∙◌, ap, subst}
-use Rattle.std.proofs.Common.{arith, false, eqb}
+use Rattle.std.proofs.Common.{◌≡◌, ℕ, zero, suc, ◌+◌, ◌-◌, ◌*◌, ◌≤◌, ◌<◌, List, [], ◌∷◌, ◌++◌, length, refl, sym}
+use Rattle.std.proofs.Common.{◌∙◌, ap, subst, arith, false, eqb}
 use Rattle.shop_model.specs.Shop.{Shop}
 use Rattle.std.proofs.lemmas.List.{length-map}
 use Rattle.shop_round.specs.Round.{Planned, Stand, Told, cut_of, gathered, round, rounds_from, unless_closed, answer}

@@ -195,7 +195,12 @@ module _ (r : Told) (is : IsRound r) where
       ≡ words_below r.shop c (left ++ []) ++ words_below r.shop c r.rest =
       filter-append (λ w. ltb (lb r.shop w) c) left r.rest
       ∙ ap (λ ws. words_below r.shop c ws ++ words_below r.shop c r.rest) (sym (append-nil left))
-      in (λ i. record { word = better; open_words = words i; rounds = r.rounds + 1; nodes = (after_round r (sheets_of r) None).nodes })
+      in (λ i. record {
+        word = better;
+        open_words = words i;
+        rounds = r.rounds + 1;
+        nodes = (after_round r (sheets_of r) None).nodes;
+      })
   after_front (Some (h, counted)) e =
       let m = hit_in r.bound (sheets_of r) h counted e
       in let k = in_all (IsOfRound r.shop r.best) h (sheets_of r) m.0 (known r is)

@@ -9,7 +9,8 @@ use Rattle.std.specs.BTreeMap.{is_at, insert_entry}
 use Rattle.std.specs.BTreeMap.Range.{IsLtBy, IsLeBy, entries_below}
 use Rattle.std.specs.Ordering.{nat_cmp, is_gt}
 use Rattle.std.specs.declared.cmp.Ordering.TheVariants.{Less, Equal, Greater}
-use Rattle.std.proofs.lemmas.Bool.{cases_Bool, cases_lt, cases_eq, eq-eqb, ne_eqb, lt-ltb, le-ltb, le-leb, lt-leb, ltb-false}
+use Rattle.std.proofs.lemmas.Bool.{cases_Bool, cases_lt, cases_eq, eq-eqb, ne_eqb}
+use Rattle.std.proofs.lemmas.Bool.{lt-ltb, le-ltb, le-leb, lt-leb, ltb-false}
 use Rattle.std.proofs.lemmas.List.Elements.{recursion_from_All, filter-append}
 use Rattle.shop_tree.specs.declared.nodes.Node.{Node}
 use Rattle.shop_tree.specs.Branching.{insert_by}
@@ -24,7 +25,8 @@ cmp_equal : (a b : ℕ) → a ≡ b → nat_cmp a b ≡ Equal
 cmp_equal a b e = rw (le-ltb a b (omega arith), eq-eqb a b e) refl
 
 cmp_greater : (a b : ℕ) → b < a → nat_cmp a b ≡ Greater
-cmp_greater a b h = (let ne : a ≡ b → ⊥ = (λ e. absurd (omega arith)) in rw (le-ltb a b (omega arith), ne_eqb a b ne) refl)
+cmp_greater a b h = (let ne : a ≡ b → ⊥ = (λ e. absurd (omega arith))
+    in rw (le-ltb a b (omega arith), ne_eqb a b ne) refl)
 
 less_from : (a b : ℕ) → nat_cmp a b ≡ Less → a < b
 less_from a b e = elim (cases_lt a b) [
@@ -41,7 +43,8 @@ none_at : (k : ℕ) (es : List (ℕ × Stack)) → AllByRecursion (λ y. k < y) 
 none_at k [] a = refl
 none_at k (e ∷ es) a = rw (cmp_less k e.0 a.0) (none_at k es a.1)
 
-all_above : (k b : ℕ) (ks : List ℕ) → k < b → AllByRecursion (λ y. nat_cmp b y ≡ Less) ks → AllByRecursion (λ y. k < y) ks
+all_above : (k b : ℕ) (ks : List ℕ) → k < b → AllByRecursion (λ y. nat_cmp b y ≡ Less) ks
+    → AllByRecursion (λ y. k < y) ks
 all_above k b [] h a = tt
 all_above k b (y ∷ ks) h a = ((let l = less_from b y a.0 in omega arith), all_above k b ks h a.1)
 
@@ -140,10 +143,10 @@ below_is c (e ∷ es) =
     in let all = filter-append (λ n. ltb n.bound c) (nodes_of_bound e.0 (words_on e.1)) (nodes_by_bound es)
     in let one = below_one c e.0 (words_on e.1)
     in elim (cases_Bool (ltb e.0 c)) [
-      | inl t ↦ rw (gt_of_cmp c e.0 ∙ t) (sym (all ∙ (λ i. (one ∙ ap (λ b. cond b (nodes_of_bound e.0 (words_on e.1)) []) t) i
-          ++ sym rest i)))
-      | inr f ↦ rw (gt_of_cmp c e.0 ∙ f) (sym (all ∙ (λ i. (one ∙ ap (λ b. cond b (nodes_of_bound e.0 (words_on e.1)) []) f) i
-          ++ sym rest i)))
+      | inl t ↦ rw (gt_of_cmp c e.0 ∙ t) (sym (all
+          ∙ (λ i. (one ∙ ap (λ b. cond b (nodes_of_bound e.0 (words_on e.1)) []) t) i ++ sym rest i)))
+      | inr f ↦ rw (gt_of_cmp c e.0 ∙ f) (sym (all
+          ∙ (λ i. (one ∙ ap (λ b. cond b (nodes_of_bound e.0 (words_on e.1)) []) f) i ++ sym rest i)))
     ]
 
 -- the least bound of nodes whose bounds are c or more

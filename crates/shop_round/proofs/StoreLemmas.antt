@@ -16,7 +16,8 @@ reverse-cons : {A : Type 0} (x : A) (xs : List A) → reverse (x ∷ xs) ≡ rev
 reverse-cons x xs = reverse-append (x ∷ []) xs
 
 -- none is open just where there is no stack
-pub empty_is : (b : Bool) (es : List (ℕ × Stack)) → (IsTrue b ↔ (length es ≡ 0)) → b ≡ eqb (length (nodes_by_bound es)) 0
+pub empty_is : (b : Bool) (es : List (ℕ × Stack)) → (IsTrue b ↔ (length es ≡ 0))
+    → b ≡ eqb (length (nodes_by_bound es)) 0
 empty_is true [] h = refl
 empty_is false [] h = h.1 refl
 empty_is true (e ∷ es) h = absurd (let x : suc (length es) ≡ 0 = h.0 refl in omega arith)

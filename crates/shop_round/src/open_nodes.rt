@@ -19,7 +19,8 @@ pub(crate) enum OpenNodes {
 }
 
 impl OpenNodes {
-    ghost use Rattle.shop_round.specs.inner.Stores.{open_list, order_of, IsPut, ArePut, IsTaken, IsKeptBelow, HasPopped};
+    ghost use Rattle.shop_round.specs.inner.Stores.{open_list, order_of, IsPut, ArePut, IsTaken};
+    ghost use Rattle.shop_round.specs.inner.Stores.{IsKeptBelow, HasPopped};
 
     /// None open.
     pub(crate) fn new(alloc: Global, order: Order) -> OpenNodes

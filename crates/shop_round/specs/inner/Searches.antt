@@ -1,11 +1,12 @@
 -- Where a run stands between two rounds.
---     stand_of t                          where it stands, its open words in the order of the next cut
---     IsSearchAt shop order s t           it stands there, its open words in this order
---     IsSearchOf shop order t             it is a standing of the instance, in this order
---     IsJoined standing others t          it is the standing, joined by those of the others whose
---                                         bounds are below the makespan
---     front_of r                          the round without its rest
---     IsFront shop plan t round others    the round is the front of what is cut, the others its rest
+--     stand_of t                        where it stands, its open words in the order of the next
+--                                       cut
+--     IsSearchAt shop order s t         it stands there, its open words in this order
+--     IsSearchOf shop order t           it is a standing of the instance, in this order
+--     IsJoined standing others t        it is the standing, joined by those of the others whose
+--                                       bounds are below the makespan
+--     front_of r                        the round without its rest
+--     IsFront shop plan t r others      r is the front of what is cut, the others its rest
 use Rattle.std.specs.Prelude.{◌≡◌, []}
 use Rattle.shop_model.specs.Shop.{Shop}
 use Rattle.shop_tree.specs.Nodes.{words_of, AreNodes}

@@ -5,7 +5,8 @@ use Rattle.shop_round.proofs.Answering.{way_first, way_search, way_next, way_clo
 use Rattle.shop_round.proofs.runs.last_search.Goals as goal
 
 pub loop-done-init : goal.loop-done-init
-loop-done-init g c = way_first c.args.instance.now (planned c.args.plan.now) c.in_ok-search.search c.in_ok-search.ensures
+loop-done-init g c = way_first c.args.instance.now
+    (planned c.args.plan.now) c.in_ok-search.search c.in_ok-search.ensures
 
 pub returns-then-is_empty : goal.returns-then-is_empty
 returns-then-is_empty g c = way_closed c.args.instance.now

@@ -10,7 +10,8 @@ pub place-requires : goal.place-requires
 place-requires g c =
     let shop = c.args.instance.now
     in let plan = planned c.args.plan.now
-    in subst (IsFull shop) (sym (word_same shop plan.order (answer shop plan) c.in_ok-word.field-0 c.in_ok-word.ensures))
+    in subst (IsFull shop)
+    (sym (word_same shop plan.order (answer shop plan) c.in_ok-word.field-0 c.in_ok-word.ensures))
     (trustworthy shop plan).full
 
 pub returns-clause-says : goal.returns-clause-says
