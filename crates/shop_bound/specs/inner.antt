@@ -25,3 +25,4 @@ pub mod HeadLimits
 pub mod LaneBounds
 pub mod ChildBounds
 pub mod WaitingBounds
+pub mod KeptDesks
