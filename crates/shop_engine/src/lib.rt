@@ -24,6 +24,3 @@ pub use shop_text::Format;
 pub use solving::{solve_bytes, solve_instance, solve_text};
 pub use streams::{Reading, Writing};
 pub use transfers::write_all;
-
-#[cfg(test)]
-mod tests;

@@ -8,6 +8,8 @@ mod bounds;
 #[cfg(test)]
 mod crews;
 #[cfg(test)]
+mod engines;
+#[cfg(test)]
 mod instances;
 #[cfg(test)]
 mod lanes;

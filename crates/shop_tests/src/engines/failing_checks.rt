@@ -1,7 +1,7 @@
 // Verdicts with devices that move one byte a call and fail at one of the calls, and with sources that never end.
-use crate::tests::fakes::{Dripping, Endless, Trickling};
-use crate::tests::runs::without_name;
-use crate::{Fault, Memory, Reading, Sink, Source, check_text};
+use crate::engines::fakes::{Dripping, Endless, Trickling};
+use crate::engines::runs::without_name;
+use shop_engine::{Fault, Memory, Reading, Sink, Source, check_text};
 use shop_text::ReadFault;
 use std::alloc::Global;
 use std::test::Fail;

@@ -1,6 +1,6 @@
 // Lists, and instance texts that are refused.
-use crate::tests::runs::list;
-use crate::{Fault, Format};
+use crate::engines::runs::list;
+use shop_engine::{Fault, Format};
 use shop_text::ReadFault;
 use std::test::Fail;
 

@@ -1,6 +1,6 @@
 // Verdicts on schedules.
-use crate::Format;
-use crate::tests::runs::check;
+use crate::engines::runs::check;
+use shop_engine::Format;
 use std::test::Fail;
 
 #[test]

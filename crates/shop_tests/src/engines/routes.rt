@@ -1,6 +1,6 @@
 // Releases, routes of unequal length, and the orders of the open nodes.
-use crate::tests::runs::{list, solve};
-use crate::{Fault, Format, SolveArgs};
+use crate::engines::runs::{list, solve};
+use shop_engine::{Fault, Format, SolveArgs};
 use shop_round::{Order, Plan};
 use shop_text::ReadFault;
 use std::test::Fail;

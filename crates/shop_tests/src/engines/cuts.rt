@@ -1,6 +1,6 @@
 // A text that is cut at each byte, and forged texts.
-use crate::tests::runs::list;
-use crate::{Fault, Format};
+use crate::engines::runs::list;
+use shop_engine::{Fault, Format};
 use shop_text::ReadFault;
 use std::test::Fail;
 

@@ -1,6 +1,6 @@
 // Schedule texts, accepted and refused.
-use crate::tests::runs::check;
-use crate::{Fault, Format};
+use crate::engines::runs::check;
+use shop_engine::{Fault, Format};
 use shop_text::ReadFault;
 use std::test::Fail;
 

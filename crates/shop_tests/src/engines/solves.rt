@@ -1,6 +1,6 @@
 // Reports of small instances, by hand.
-use crate::tests::runs::{solve, with_plan};
-use crate::{Fault, Format, SolveArgs};
+use crate::engines::runs::{solve, with_plan};
+use shop_engine::{Fault, Format, SolveArgs};
 use shop_round::Plan;
 use shop_text::ReadFault;
 use std::test::Fail;

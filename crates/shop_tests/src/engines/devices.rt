@@ -1,7 +1,7 @@
 // Failing, slow and endless devices.
-use crate::tests::fakes::{Dripping, Endless, Trickling};
-use crate::tests::runs::{with_plan, without_name};
-use crate::{Fault, Format, ListArgs, Memory, Reading, check_text, list_text, solve_text};
+use crate::engines::fakes::{Dripping, Endless, Trickling};
+use crate::engines::runs::{with_plan, without_name};
+use shop_engine::{Fault, Format, ListArgs, Memory, Reading, check_text, list_text, solve_text};
 use shop_round::{Alone, Plan};
 use shop_text::ReadFault;
 use std::test::Fail;

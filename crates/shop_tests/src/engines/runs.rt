@@ -1,5 +1,5 @@
 // The engines over memory.
-use crate::{
+use shop_engine::{
     CheckArgs, Fault, Format, ListArgs, Memory, Reading, SolveArgs, check_text, list_text,
     solve_text,
 };

@@ -1,7 +1,7 @@
 // Devices that move one byte a call and fail at one of the calls, and a source that never ends.
 ghost use Rattle.shop_engine.specs.Devices.{Device};
 
-use crate::{DeviceFailed, Memory, Sink, Source};
+use shop_engine::{DeviceFailed, Memory, Sink, Source};
 
 /// Gives one byte a call, and fails at the call of this number, counted from 1 on.
 #[derive(Drop)]

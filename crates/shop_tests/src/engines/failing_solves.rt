@@ -1,8 +1,8 @@
 // Reports with devices that move one byte a call and fail at one of the calls, and with a source that never ends.
-use crate::tests::fakes::{Dripping, Endless, Trickling};
-use crate::tests::runs::with_plan;
-use crate::tests::solves::{FIRST, SOLVED};
-use crate::{Fault, Memory, Reading, solve_text};
+use crate::engines::fakes::{Dripping, Endless, Trickling};
+use crate::engines::runs::with_plan;
+use crate::engines::solves::{FIRST, SOLVED};
+use shop_engine::{Fault, Memory, Reading, solve_text};
 use shop_round::{Alone, Plan};
 use shop_text::ReadFault;
 use std::test::Fail;

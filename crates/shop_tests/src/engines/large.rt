@@ -1,5 +1,5 @@
 // A classical benchmark, and the greatest numbers of jobs.
-use crate::tests::runs::{solve, with_plan};
+use crate::engines::runs::{solve, with_plan};
 use shop_round::Plan;
 use std::test::Fail;
 
