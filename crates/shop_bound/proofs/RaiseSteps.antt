@@ -6,7 +6,7 @@ use Rattle.shop_bound.specs.inner.Layouts.{LayoutState, place}
 use Rattle.shop_bound.specs.inner.LaneHeads.{NotesState, IsNoted, LeadsBack}
 use Rattle.shop_bound.specs.inner.Raises.{steps_of}
 use Rattle.shop_bound.specs.inner.Raises.{IsPosition, IsRaisable, Raises, Replaces}
-use Rattle.shop_bound.proofs.RaiseWalks.{IsRaisedUpTo, walk_begins, next_least, walk_on, walk_ends, place_within}
+use Rattle.shop_bound.proofs.RaiseWalks.{IsRaisedUpTo, walk_begins, next_least, walk_on, walk_ends}
 use Rattle.shop_bound.proofs.RestoredNotes.{back_one, back_both}
 
 pub replaced : (greatest : ℕ) (old new : Rows) (before after : NotesState) (q v h : ℕ) → h ≡ get_or old.heads q 0
@@ -30,10 +30,6 @@ pub record IsWalking (greatest : ℕ) (l : LayoutState) (p e t ready : ℕ) (old
 
 module _ (greatest : ℕ) (l : LayoutState) (p e : ℕ) (old : Rows)
     (can : IsRaisable greatest l old (IsPosition p) e) (some : 0 < get_or old.heads p 0) where
-  pub position_within : p < length old.heads
-  position_within = let at = can.places p some in let s = can.indexed.step (get_or l.jobs p 0) (get_or l.steps p 0) at.step
-      in let a = s.within in let b = can.indexed.jobs in let c = at.is in omega arith
-
   -- its end fits
   pub end_fits : e + get_or l.times p 0 ≤ greatest
   end_fits = let a = can.raised.reach p refl some in let b = can.fits p (let c = can.raised.rises p in omega arith)
@@ -59,10 +55,6 @@ module _ (greatest : ℕ) (l : LayoutState) (p e : ℕ) (old : Rows)
 
   module _ (t ready : ℕ) (now : Rows) (before mid : NotesState) (so_far : IsWalking greatest l p e t ready old now before mid)
       (more : t < steps_of l (get_or l.jobs p 0)) (q : ℕ) (at : q ≡ place l (get_or l.jobs p 0) t) where
-    pub next_within : q < length now.heads
-    next_within = let a = place_within l (length old.heads) can.indexed (get_or l.jobs p 0) t more
-        in let b = so_far.up_to.positions in omega arith
-
     -- what is to be stored and added up there fits
     pub next_fits : (ready ≤ greatest) × (ready + get_or now.times q 0 ≤ greatest)
     next_fits =
