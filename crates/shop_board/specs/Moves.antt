@@ -2,7 +2,7 @@
 --     newcomer hits          the first seat has won, seen and marked nothing
 --     empty_handed v         the second of two seats has seen as much, and won nothing
 --     joined v w             one seat for two; the other is spent
---     AreApart v w           the two seats have won no piece in common
+--     HaveWonApart v w           the two seats have won no piece in common
 --     KeepsServed v w x      where both have served what they won, so has the third
 --     HasWon n v w           the piece joins those that the seat won, and wasn't among them
 --     with_seen v n          the piece joins those that the seat knows to be claimed
@@ -23,8 +23,8 @@ abbrev pub newcomer : List Bool → View
 newcomer hits =
     record { live = true; hits = hits; mine = []; seen = []; done = []; low = length hits }
 
-abbrev pub AreApart : View → View → Type 0
-AreApart v w = (n : ℕ) → has v.mine n ≡ true → has w.mine n ≡ true → ⊥
+abbrev pub HaveWonApart : View → View → Type 0
+HaveWonApart v w = (n : ℕ) → has v.mine n ≡ true → has w.mine n ≡ true → ⊥
 
 abbrev pub KeepsServed : View → View → View → Type 0
 KeepsServed v w x = HasServed v → HasServed w → HasServed x

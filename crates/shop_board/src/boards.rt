@@ -42,7 +42,7 @@ impl<'r> Board<'r> {
     ghost use Rattle.std.specs.Prelude.{◌<◌, ℕ};
     ghost use Rattle.shop_board.specs.Hits.{hits_of_round};
     ghost use Rattle.shop_board.specs.Views.{has, is_hit_in, IsHitOrEnd, IsLeastHit, HasServed, HasAll};
-    ghost use Rattle.shop_board.specs.Moves.{newcomer, empty_handed, joined, AreApart, KeepsServed};
+    ghost use Rattle.shop_board.specs.Moves.{newcomer, empty_handed, joined, HaveWonApart, KeepsServed};
     ghost use Rattle.shop_board.specs.Moves.{IsTold, with_low, IsAtMostMarked, HasMarked};
     ghost use Rattle.shop_board.specs.Seats.{knows, hits_of, IsSeatOf};
     ghost use Rattle.shop_board.specs.Winners.{IsDecided};
@@ -86,7 +86,7 @@ impl<'r> Board<'r> {
         ensures seat { IsSeatOf self.now result }
         ensures knows { knows result ≡ joined (knows seat) (knows other) }
         ensures served { KeepsServed (knows seat) (knows other) (knows result) }
-        ensures apart { AreApart (knows seat) (knows other) }
+        ensures apart { HaveWonApart (knows seat) (knows other) }
     {
         let Seat { mut seat } = seat;
         let Seat { seat: other } = other;

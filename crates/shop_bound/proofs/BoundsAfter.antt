@@ -14,10 +14,10 @@ use Rattle.shop_model.specs.Limits.{IsWithinLimits}
 use Rattle.shop_model.specs.Word.{IsWord}
 use Rattle.shop_bound.proofs.PlacedEnds.{placed_end-free}
 use Rattle.shop_bound.specs.Bound.{lb}
-use Rattle.shop_bound.specs.inner.KeptHeads.{raise_of, IsWithin, RowsWithin}
+use Rattle.shop_bound.specs.inner.HeadRaises.{raise_of, IsWithin, RowsWithin}
 use Rattle.shop_bound.specs.Placements.{PlacementState, IsPlacement}
 use Rattle.shop_bound.specs.inner.StandingBounds.{IsKeptUp}
-use Rattle.shop_bound.specs.declared.kept_heads.Raise.{Raise}
+use Rattle.shop_bound.specs.declared.head_raises.Raise.{Raise}
 use Rattle.shop_bound.specs.declared.slots.Slot.{Slot}
 use Rattle.shop_bound.proofs.BoundsRise.{bounds_rise}
 use Rattle.shop_bound.proofs.Raising.{IsSlotRaised}

@@ -54,7 +54,8 @@ module _ (greatest : ℕ) (shop : Shop) (w : List ℕ) (j : ℕ) (s : LaneState)
           kept = advances.heads w kept.kept fits at;
           notes_fit = subst (λ (n : ℕ). AreNotesFit greatest n after.list) (sym advances.beside.positions)
               (subst (AreNotesFit greatest (length s.rows.heads)) (sym back.are)
-              (all_append (λ (n : Note). (n.position < length s.rows.heads) × (n.head ≤ greatest)) s.notes.list back.more
+              (all_append
+              (λ (n : Note). (n.position < length s.rows.heads) × (n.head ≤ greatest)) s.notes.list back.more
               kept.notes_fit back.fit));
           trail = subst (λ (ms : List Mark). IsTrail shop s.layout (w ++ j ∷ []) ms after.list new.heads) (sym pushed)
               (trail_more shop kept.kept.limits s.layout kept.kept.laid greatest w j s.marks mark s.notes

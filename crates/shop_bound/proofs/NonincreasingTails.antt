@@ -121,7 +121,8 @@ only_heads head tail us h = ap (λ (ys : List Triple). sum_by (λ t. t.time) ys)
   ]
 
 -- what is done up to an operation, and its tail, follow no earlier than the bound says
-pub within_in : (us : List Triple) (x : Triple) (vs : List Triple) (head : ℕ) → IsNonincreasing (λ t. t.tail) (us ++ x ∷ vs)
+pub within_in : (us : List Triple) (x : Triple) (vs : List Triple) (head : ℕ)
+    → IsNonincreasing (λ t. t.tail) (us ++ x ∷ vs)
     → head ≤ x.head → head + (times_from head us + x.time + x.tail) ≤ one (us ++ x ∷ vs)
 within_in us x vs head nonincreasing h =
     let test = is_above head x.tail
@@ -210,7 +211,8 @@ pub head-le-one : (ts : List Triple) (n : ℕ) → IsNonincreasing (λ t. t.tail
 head-le-one ts n nonincreasing here =
     let x = get_or ts n no_triple
     in let w = within_in (take n ts) x (drop (suc n) ts) x.head
-    (subst (λ (ys : List Triple). IsNonincreasing (λ t. t.tail) ys) (split_at ts n no_triple here) nonincreasing) (omega arith)
+    (subst (λ (ys : List Triple). IsNonincreasing (λ t. t.tail) ys) (split_at ts n no_triple here) nonincreasing)
+    (omega arith)
     in let same : one (take n ts ++ x ∷ drop (suc n) ts) ≡ one ts = ap one (sym (split_at ts n no_triple here))
     in omega arith
 

@@ -13,7 +13,8 @@ use Rattle.shop_bound.specs.Bound.{Waiting, waiting, triples_on}
 use Rattle.shop_bound.specs.Heads.{waiting_at, steps_left}
 use Rattle.shop_bound.specs.OneMachine.{one}
 use Rattle.shop_bound.specs.Placements.{PlacementState, IsPlacement}
-use Rattle.shop_bound.specs.Slots.{slot_at, operations_in, operations_on, IsNonincreasing, AreSlotsOf, AreHeadsKept}
+use Rattle.shop_bound.specs.Slots.{slot_at, operations_in, operations_on, IsNonincreasing, AreSlotsOf}
+use Rattle.shop_bound.specs.inner.HeadsInRows.{AreHeadsKept}
 use Rattle.shop_bound.specs.inner.OpenSlots.{is_open, triple_of, open_triples}
 use Rattle.shop_bound.proofs.HeadWalks.{waiting_is}
 use Rattle.shop_bound.proofs.Lists.{all_map, all_append, all_filter}

@@ -35,7 +35,8 @@ module _ (greatest : ℕ) (l : LayoutState) (p e : ℕ) (old : Rows)
   end_fits = let a = can.raised.reach p refl some in let b = can.fits p (let c = can.raised.rises p in omega arith)
       in omega arith
 
-  pub begun : get_or old.heads p 0 ≤ e → (new : Rows) (before after : NotesState) → Replaces greatest p e old new before after
+  pub begun : get_or old.heads p 0 ≤ e → (new : Rows) (before after : NotesState)
+      → Replaces greatest p e old new before after
       → (t ready time : ℕ) → t ≡ get_or l.steps p 0 + 1 → time ≡ get_or new.times p 0 → ready ≡ e + time
       → IsWalking greatest l p e t ready old new before after
   begun below new before after wrote t ready time next read sum =
@@ -53,7 +54,8 @@ module _ (greatest : ℕ) (l : LayoutState) (p e : ℕ) (old : Rows)
         noted = wrote.noted;
       }
 
-  module _ (t ready : ℕ) (now : Rows) (before mid : NotesState) (so_far : IsWalking greatest l p e t ready old now before mid)
+  module _ (t ready : ℕ) (now : Rows) (before mid : NotesState)
+      (so_far : IsWalking greatest l p e t ready old now before mid)
       (more : t < steps_of l (get_or l.jobs p 0)) (q : ℕ) (at : q ≡ place l (get_or l.jobs p 0) t) where
     -- what is to be stored and added up there fits
     pub next_fits : (ready ≤ greatest) × (ready + get_or now.times q 0 ≤ greatest)
@@ -68,7 +70,8 @@ module _ (greatest : ℕ) (l : LayoutState) (p e : ℕ) (old : Rows)
         ap (λ (xs : List ℕ). get_or xs q 0) (so_far.times ∙ can.times) ∙ ap (λ (x : ℕ). get_or l.times x 0) at
         in (omega arith, omega arith)
 
-    pub on : get_or now.heads q 0 < ready → (new : Rows) (after : NotesState) → Replaces greatest q ready now new mid after
+    pub on : get_or now.heads q 0 < ready → (new : Rows) (after : NotesState)
+        → Replaces greatest q ready now new mid after
         → (h time u : ℕ) → u ≡ t + 1 → time ≡ get_or new.times q 0 → h ≡ ready + time
         → IsWalking greatest l p e u h old new before after
     on below new after wrote h time u next read sum =
@@ -88,7 +91,8 @@ module _ (greatest : ℕ) (l : LayoutState) (p e : ℕ) (old : Rows)
           noted = back_both greatest before mid after old.heads now.heads new.heads so_far.noted wrote.noted;
         }
 
-  pub ended : (t ready : ℕ) (now : Rows) (before after : NotesState) → IsWalking greatest l p e t ready old now before after
+  pub ended : (t ready : ℕ) (now : Rows) (before after : NotesState)
+      → IsWalking greatest l p e t ready old now before after
       → (t < steps_of l (get_or l.jobs p 0) → ready ≤ get_or now.heads (place l (get_or l.jobs p 0) t) 0)
       → Raises greatest l (IsPosition p) e old now before after
   ended t ready now before after so_far enough = record {

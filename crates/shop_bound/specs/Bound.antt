@@ -1,5 +1,6 @@
 -- Heads and tails of the operations that a word leaves, and the lower bound of a word.
-use Rattle.std.specs.Prelude.{ℕ, ◌+◌, max, List, [], ◌∷◌, length, drop, map, filter, sum_by, flat_map, ◌==◌}
+use Rattle.std.specs.Prelude.{ℕ, ◌+◌, max, List, [], ◌∷◌, length, drop, map, filter, sum_by}
+use Rattle.std.specs.Prelude.{flat_map, ◌==◌}
 use Rattle.std.specs.List.{range_with_len}
 use Rattle.shop_model.specs.Shop.{Shop, route_of, finish_of, greatest_below}
 use Rattle.shop_model.specs.declared.ops.Op.{Op}
@@ -14,10 +15,9 @@ pub record Waiting : Type 0 where
   pub machine : ℕ
   pub triple : Triple
 
--- The steps of job j from k on, if the step before them ends at `ready` and the last placed operation on m at free m.
--- A head is the greater of the end before it (placed, or else that head and time) and the last placed end on its
--- machine;
--- a tail is the sum of the times of the later steps.
+-- The steps of job j from k on, if the step before ends at `ready` and what is placed on m at free
+-- m. A head is the greater of the end before it (placed, or else that head and time) and the last
+-- placed end on its machine; a tail is the sum of the times of the later steps.
 abbrev pub waiting_from : (ℕ → ℕ) → ℕ → ℕ → ℕ → List Op → List Waiting
 waiting_from free j k ready [] = []
 waiting_from free j k ready (o ∷ os) =
@@ -33,7 +33,8 @@ waiting_from free j k ready (o ∷ os) =
 
 -- those of job j, and those of all jobs
 abbrev pub waiting_of : Shop → Placing → ℕ → List Waiting
-waiting_of shop p j = waiting_from p.free j (p.steps j) (p.ready j) (drop (p.steps j) (route_of shop j))
+waiting_of shop p j =
+    waiting_from p.free j (p.steps j) (p.ready j) (drop (p.steps j) (route_of shop j))
 
 abbrev pub waiting : Shop → Placing → List Waiting
 waiting shop p = flat_map (λ j. waiting_of shop p j) (range_with_len 0 (length shop.jobs))
@@ -45,10 +46,12 @@ triples_on m ws = map (λ x. x.triple) (filter (λ x. x.machine == m) ws)
 -- the greatest of the placed ends
 abbrev pub placed_end : Shop → Placing → ℕ
 placed_end shop p =
-    greatest_below (length shop.jobs) (λ j. greatest_below (p.steps j) (λ k. finish_of shop p.begins j k))
+    greatest_below (length shop.jobs)
+    (λ j. greatest_below (p.steps j) (λ k. finish_of shop p.begins j k))
 
 -- the greatest of the placed ends, and of the one-machine bounds of what is left
 abbrev pub lb : Shop → List ℕ → ℕ
 lb shop w =
     let p = placing shop w
-    in max (placed_end shop p) (greatest_below shop.machines (λ m. one (triples_on m (waiting shop p))))
+    in max (placed_end shop p)
+    (greatest_below shop.machines (λ m. one (triples_on m (waiting shop p))))

@@ -1,8 +1,10 @@
 -- The conflict set (Giffler and Thompson 1960).
 --     open_jobs shop p                   the jobs with steps left, in order
 --     next_machine, next_head, next_end  of the next operation of a job
---     chosen_of shop p j js              of j and these jobs, the one whose next operation can end first
---     conflicts_with shop p c j          whether job j's next operation is in conflict with that of job c
+--     chosen_of shop p j js              of j and these jobs, the one whose next operation can end
+--                                        first
+--     conflicts_with shop p c j          whether job j's next operation is in conflict with that of
+--                                        job c
 --     conflict shop w                    the conflict set of a word
 use Rattle.std.specs.Prelude.{ℕ, ◌+◌, max, Bool, ◌&&◌, ◌||◌, List, [], ◌∷◌, length, filter}
 use Rattle.std.specs.Prelude.{◌==◌, nat_lt}

@@ -17,9 +17,8 @@ abbrev pub greatest_of : {A : Type 0} → (A → ℕ) → List A → ℕ
 greatest_of f [] = 0
 greatest_of f (x ∷ xs) = max (f x) (greatest_of f xs)
 
--- One machine can't do these operations in less: it waits for the least head, does them all, and the least tail
--- follows.
--- (0 for no operations)
+-- One machine can't do these operations in less: it waits for the least head, does them all, and
+-- the least tail follows. (0 for no operations)
 abbrev pub span_of : List Triple → ℕ
 span_of ts = least_of (λ t. t.head) ts + sum_by (λ t. t.time) ts + least_of (λ t. t.tail) ts
 

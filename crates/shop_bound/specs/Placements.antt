@@ -3,7 +3,8 @@ use Rattle.std.specs.Prelude.{◌≡◌, ℕ, ◌<◌, List, length, slice_index
 use Rattle.shop_model.specs.Shop.{Shop}
 use Rattle.shop_model.specs.Word.{Placing}
 
--- for each job how many of its steps are placed and when it is ready for the next one, and when each machine is free
+-- for each job how many of its steps are placed and when it is ready for the next one, and when
+-- each machine is free
 pub record PlacementState : Type 0 where
   pub steps : List ℕ
   pub ready : List ℕ

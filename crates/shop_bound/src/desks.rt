@@ -3,7 +3,8 @@ ghost use Rattle.std.specs.Prelude.{◌≡◌, ◌++◌, ◌∷◌, [], ◌<◌,
 ghost use Rattle.shop_model.specs.Word.{IsWord};
 ghost use Rattle.shop_bound.specs.Bound.{lb};
 ghost use Rattle.shop_bound.specs.Desks.{IsPlacedWord, IsUndone, IsWordOfShop, goes_on, nothing_dispatched};
-ghost use Rattle.shop_bound.specs.Desks.{IsBoundUpTo, TellsBoundBelow};
+ghost use Rattle.shop_bound.specs.Desks.{TellsBoundBelow};
+ghost use Rattle.shop_bound.specs.inner.BoundsUpTo.{IsBoundUpTo};
 
 use crate::placements::{Placement, Replaced};
 use crate::waiting::Waiting;

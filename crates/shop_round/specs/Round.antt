@@ -92,8 +92,7 @@ after_round r sheets (Some (h, counted)) =
       word = unwrap_or h.found r.word;
       open_words = [];
       rounds = r.rounds + 1;
-      nodes =
-          r.nodes + sum_by (taken_of r.budget) counted;
+      nodes = r.nodes + sum_by (taken_of r.budget) counted;
     }
 after_round r sheets None =
     let better = best_word r.best r.word sheets

@@ -131,7 +131,8 @@ searches_keep shop piece best budget words =
           in let word = words h.word h.member
           in let reaches = fold_reaches shop (walk shop) h.better h.word
           (λ s w. walk_goes_on shop (operations_left shop w) s w)
-          (λ s. walk_reaches shop (operations_left shop h.word) s h.word h.better word refl h.under) opening piece member
+          (λ s. walk_reaches shop
+          (operations_left shop h.word) s h.word h.better word refl h.under) opening piece member
           in elim (reaches_later shop (sheet shop piece best budget) h.better starts h.ends reaches) [
             | inl a ↦ inl a
             | inr a ↦ inr (record {

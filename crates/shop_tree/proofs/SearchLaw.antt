@@ -93,7 +93,8 @@ fold_reaches shop f starts v g r s (w ∷ ws) h = elim h [
   | inr k ↦ fold_reaches shop f starts v g r (f s w) ws k
 ]
 
-pub walk_reaches : (shop : Shop) (n : ℕ) (s : Walk) (w : List ℕ) (starts : Starts) → IsWord shop w → operations_left shop w
+pub walk_reaches : (shop : Shop) (n : ℕ) (s : Walk) (w : List ℕ) (starts : Starts) → IsWord shop w
+    → operations_left shop w
     ≡ n → IsUnder shop w starts → Reaches shop (walk_within shop n s w) starts
 unfolding Reaches
 walk_reaches shop zero s w starts word e u =

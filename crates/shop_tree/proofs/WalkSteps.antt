@@ -84,7 +84,8 @@ all_sort : {A : Type 0} (P : A → Type 0) (key : A → ℕ) (xs : List A) → A
 all_sort P key [] h = tt
 all_sort P key (x ∷ xs) h = all_insert P key x (sort_by key xs) h.0 (all_sort P key xs h.1)
 
-fold_within : (shop : Shop) (n : ℕ) (s : Walk) (ws : List (List ℕ)) → AllByRecursion (λ v. operations_left shop v ≡ n) ws
+fold_within : (shop : Shop) (n : ℕ) (s : Walk) (ws : List (List ℕ))
+    → AllByRecursion (λ v. operations_left shop v ≡ n) ws
     → fold (walk_within shop n) s ws ≡ fold (walk shop) s ws
 fold_within shop n s [] h = refl
 fold_within shop n s (w ∷ ws) h = subst (λ m. fold (walk_within shop n) (walk_within shop n s w) ws

@@ -10,7 +10,8 @@
 --     IsReturned b r s es           what a worker brings back: its seat of this board, and entries
 --                                   of this round unless it was refused memory
 --     AreReturned b r all           each worker brings back such
-use Rattle.std.specs.Prelude.{◌≡◌, ℕ, ◌<◌, List, length, All, Option, Some, None, IsSome, IfSome, IfOk}
+use Rattle.std.specs.Prelude.{◌≡◌, ℕ, ◌<◌, List, length, All, Option, Some, None, IsSome, IfSome}
+use Rattle.std.specs.Prelude.{IfOk}
 use Rattle.std.specs.Prelude.{slice_index_or}
 use Rattle.shop_round.specs.Round.{Told}
 use Rattle.shop_round.specs.Crews.{IsEntryOf}

@@ -7,8 +7,10 @@ use Rattle.shop_bound.specs.inner.Waitings.{IsWaiting}
 use Rattle.shop_bound.specs.declared.placements.Replaced.{Replaced}
 use Rattle.shop_bound.specs.declared.waiting.Waiting.{Waiting}
 
--- all that a desk keeps of a word, and how much room it has for the entries of the word with what they replaced
-pub record IsDesk (shop : Shop) (w : List ℕ) (s : PlacementState) (waiting : Waiting) (replaced : List Replaced)
+-- all that a desk keeps of a word, and how much room it has for the entries of the word with what
+-- they replaced
+pub record IsDesk (shop : Shop) (w : List ℕ) (s : PlacementState) (waiting : Waiting)
+    (replaced : List Replaced)
     (jobs trail : ℕ) : Type 0 where
   pub kept : IsKept shop w s replaced
   pub lanes : IsWaiting shop w waiting

@@ -1,5 +1,6 @@
 -- The next operations of the jobs after a word.
---     IsNext shop p j n              n is the next operation of job j: its machine, and when it can end
+--     IsNext shop p j n              n is the next operation of job j: its machine, and when it can
+--                                    end
 --     IsNextIfAny shop w j result    the next operation of job j after w, or none where no step is
 --                                    left
 use Rattle.std.specs.Prelude.{◌≡◌, ℕ, ◌≤◌, Option, Some, None, List, length}

@@ -7,7 +7,8 @@ use Rattle.shop_model.specs.Limits.{IsWithinLimits}
 use Rattle.shop_model.specs.Shop.{Shop}
 use Rattle.shop_model.specs.Word.{IsWord, placing}
 use Rattle.shop_bound.specs.Placements.{PlacementState, IsPlacement}
-use Rattle.shop_bound.specs.Slots.{AreMachineSlots, AreHeadsKept}
+use Rattle.shop_bound.specs.Slots.{AreMachineSlots}
+use Rattle.shop_bound.specs.inner.HeadsInRows.{AreHeadsKept}
 use Rattle.shop_bound.specs.inner.OpenSlots.{open_triples}
 use Rattle.shop_bound.specs.declared.slots.Slot.{Slot}
 use Rattle.shop_bound.specs.declared.triples.Triple.{Triple}
@@ -20,7 +21,8 @@ pub record IsKeptUp (shop : Shop) (w : List ℕ) (s : PlacementState) (slots : L
   pub machines : AreMachineSlots shop slots
   pub heads : AreHeadsKept shop (placing shop w) rows
 
-pub record IsStanding (shop : Shop) (s : PlacementState) (slots : List (List Slot)) (rows : List (List ℕ))
+pub record IsStanding (shop : Shop) (s : PlacementState) (slots : List (List Slot))
+    (rows : List (List ℕ))
     : Type 0 where
   pub of : List ℕ
   pub kept : IsKeptUp shop of s slots rows

@@ -37,7 +37,8 @@ returns-in_err-is_feasible g c =
     (g.S.Source.device c.read_all.new.source) second second' sink sink)
     c.from_residual-in_err-is_feasible.result (Text e.field-0.0) c.from_residual-in_err-is_feasible.ensures.1
     (faulty_after args second second' sink t.ensures.read picked c.in_ok-schedule.ensures.read
-    c.as_slice-3.ensures.value e.field-0.0 (table_fault c.in_ok-asked.asked.now.instance c.as_slice-3.result.now e.field-0.0 e.ensures.refused))
+    c.as_slice-3.ensures.value e.field-0.0
+    (table_fault c.in_ok-asked.asked.now.instance c.as_slice-3.result.now e.field-0.0 e.ensures.refused))
 
 pub returns-in_err-write_all : goal.returns-in_err-write_all
 returns-in_err-write_all g c =

@@ -1,7 +1,8 @@
 use Rattle.std.proofs.Common.{◌≡◌, ◌∙◌, ◌++◌, ◌∷◌, [], ap, subst, sym, arith}
 use Rattle.shop_model.specs.Word.{IsWord}
 use Rattle.shop_bound.specs.Bound.{lb}
-use Rattle.shop_bound.specs.Desks.{DeskState, IsBoundUpTo}
+use Rattle.shop_bound.specs.Desks.{DeskState}
+use Rattle.shop_bound.specs.inner.BoundsUpTo.{IsBoundUpTo}
 use Rattle.shop_bound.proofs.DeskSteps.{desk_still}
 use Rattle.shop_bound.proofs.SmallSums.{sums_small}
 use Rattle.shop_bound.proofs.desks.Desk.bound_up_to.Goals as goal

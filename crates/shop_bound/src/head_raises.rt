@@ -1,6 +1,6 @@
 // What changed among the heads on a machine.
 ghost use Rattle.std.specs.Prelude.{◌≡◌};
-ghost use Rattle.shop_bound.specs.inner.KeptHeads.{widened};
+ghost use Rattle.shop_bound.specs.inner.HeadRaises.{widened};
 
 /// Of the heads on a machine that changed: the least before, and the greatest after. `from` is above `to` where none
 /// did.

@@ -1,10 +1,13 @@
 -- What changed among the heads of a machine, and of rows of heads.
---     IsWithin r a b                 a head that went from a to b stayed, or `from` is at most a and `to` at least b
+--     IsWithin r a b                 a head that went from a to b stayed, or `from` is at most a
+--                                    and `to` at least b
 --     AreWidened old new             each raise is as it was, or wider
---     RowWithin shop j old new raises    each head of the row stayed, or changed within its machine's raise
-use Rattle.std.specs.Prelude.{◌≡◌, ℕ, ◌≤◌, ◌⊎◌, min, max, List, [], length, slice_index, slice_index_or}
+--     RowWithin shop j old new raises    each head of the row stayed, or changed within its
+--                                        machine's raise
+use Rattle.std.specs.Prelude.{◌≡◌, ℕ, ◌≤◌, ◌⊎◌, min, max, List, [], length, slice_index}
+use Rattle.std.specs.Prelude.{slice_index_or}
 use Rattle.shop_model.specs.Shop.{Shop, machine_of, IsOperation}
-use Rattle.shop_bound.specs.declared.kept_heads.Raise.{Raise}
+use Rattle.shop_bound.specs.declared.head_raises.Raise.{Raise}
 
 -- what stands where there is no machine
 abbrev pub no_raise : Raise
@@ -31,4 +34,5 @@ RowWithin shop j old new raises = (k : ℕ) → IsOperation shop j k
 
 -- what changed in any row is within the raises
 abbrev pub RowsWithin : Shop → List (List ℕ) → List (List ℕ) → List Raise → Type 0
-RowsWithin shop old new raises = (j : ℕ) → RowWithin shop j (slice_index_or old j []) (slice_index_or new j []) raises
+RowsWithin shop old new raises =
+    (j : ℕ) → RowWithin shop j (slice_index_or old j []) (slice_index_or new j []) raises
