@@ -7,6 +7,7 @@ pub mod Placements
 pub mod Schedules
 pub mod Laws
 pub mod Trails
+pub mod Standings
 pub mod Desks
 pub mod Slots
 pub mod inner

@@ -14,7 +14,7 @@ pub mod Profiles
 pub mod NonincreasingTails
 pub mod Thresholds
 pub mod Unplaced
-pub mod HeadRaises
+pub mod KeptHeads
 pub mod OpenSlots
 pub mod Serving
 pub mod HeadRows
@@ -25,6 +25,3 @@ pub mod HeadLimits
 pub mod LaneBounds
 pub mod ChildBounds
 pub mod WaitingBounds
-pub mod KeptDesks
-pub mod BoundsUpTo
-pub mod HeadsInRows

@@ -55,6 +55,7 @@ impl<'a> Placed<'a> {
         Some(NextOperation {
             job,
             machine: operation.machine,
+            head,
             end: head + operation.time,
         })
     }
