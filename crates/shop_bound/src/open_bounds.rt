@@ -5,7 +5,7 @@ ghost use Rattle.shop_bound.specs.OneMachine.{one, IsSmall};
 ghost use Rattle.shop_bound.specs.Slots.{IsNonincreasing};
 ghost use Rattle.shop_bound.specs.inner.OpenSlots.{HasPlace, open_triples};
 ghost use Rattle.shop_bound.specs.Vectors.{items_in};
-ghost use Rattle.shop_bound.specs.Standings.{AreWithin};
+ghost use Rattle.shop_bound.specs.Standings.{IsReached, AreWithin};
 ghost use Rattle.shop_bound.specs.inner.StandingBounds.{CoversRaised, IsBoundOf, IsStanding, IsWithinParts, left_on};
 
 use crate::kept_heads::Raise;
@@ -50,7 +50,8 @@ fn raised_bound(
 
 /// The length of the longest list.
 pub(crate) fn longest(slots: &[Vec<Slot>]) -> usize
-    ensures { AreWithin result (items_in slots.now) }
+    ensures within { AreWithin result (items_in slots.now) }
+    ensures reached { IsReached result (items_in slots.now) }
 {
     let mut length = 0;
     for list in slots {

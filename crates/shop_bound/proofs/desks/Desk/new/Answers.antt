@@ -21,6 +21,6 @@ invariant_of-result c =
     (wrote ∙ as_many)
     (subst (λ (n : ℕ). AreWithin n (map (λ (v : Vec Slot Global). v.items) c.in_ok-slots.slots.items)) (sym long)
     (subst (λ (ss : List (Vec Slot Global)). AreWithin c.longest.result (map (λ v. v.items) ss))
-    c.as_slice.ensures.value c.longest.ensures))
+    c.as_slice.ensures.value c.longest.ensures.within))
     (let a = c.in_ok-jobs.ensures.capacity in let b = c.operations-room.ensures.count in omega arith)
     (let a = c.in_ok-replaced.ensures.capacity in let b = c.operations-room.ensures.count in omega arith)
