@@ -7,24 +7,20 @@ use Rattle.std.proofs.lemmas.List.Elements.{recursion_from_All}
 use Rattle.shop_model.specs.Shop.{Shop, machine_of}
 use Rattle.shop_model.specs.Word.{Placing, placing, place_next}
 use Rattle.shop_model.proofs.Ends.{IsOperation-job}
-use Rattle.shop_model.proofs.Greatest.{le-greatest_below, greatest_below-le}
+use Rattle.shop_model.proofs.Greatest.{le-greatest_below}
 use Rattle.shop_model.proofs.Placings.{place_next-is}
 use Rattle.shop_model.proofs.Unders.{next_operation, placing-snoc}
 use Rattle.shop_model.specs.Limits.{IsWithinLimits}
 use Rattle.shop_model.specs.Word.{IsWord}
 use Rattle.shop_bound.proofs.PlacedEnds.{placed_end-free}
-use Rattle.shop_bound.specs.Desks.{IsBoundUpTo}
 use Rattle.shop_bound.specs.Bound.{lb}
-use Rattle.shop_bound.specs.inner.NonincreasingTails.{one_between}
-use Rattle.shop_bound.specs.inner.KeptHeads.{raise_of, IsWithin, RowsWithin}
-use Rattle.shop_bound.specs.OneMachine.{one}
+use Rattle.shop_bound.specs.inner.HeadRaises.{raise_of, IsWithin, RowsWithin}
 use Rattle.shop_bound.specs.Placements.{PlacementState, IsPlacement}
-use Rattle.shop_bound.specs.inner.StandingBounds.{IsKeptUp, open_on, CoversRaised, IsWithinParts}
-use Rattle.shop_bound.specs.declared.kept_heads.Raise.{Raise}
+use Rattle.shop_bound.specs.inner.StandingBounds.{IsKeptUp}
+use Rattle.shop_bound.specs.declared.head_raises.Raise.{Raise}
 use Rattle.shop_bound.specs.declared.slots.Slot.{Slot}
 use Rattle.shop_bound.proofs.BoundsRise.{bounds_rise}
-use Rattle.shop_bound.proofs.OpenBounds.{part_of, lb_by_parts}
-use Rattle.shop_bound.proofs.Raising.{IsSlotRaised, open_raised, one-raised_part}
+use Rattle.shop_bound.proofs.Raising.{IsSlotRaised}
 use Rattle.shop_bound.proofs.SlotFacts.{slots_are_operations}
 
 -- no machine is free later than the bound
@@ -87,44 +83,3 @@ module _ (shop : Shop) (w : List ℕ) (j : ℕ) (s t : PlacementState) (slots : 
                 | inr between ↦ inr (omega arith, between.1)
               ];
         })
-
-    raised_part : one (open_on rows' t slots m)
-        ≤ max (lb shop w) (one_between (raise_of raises m).from (raise_of raises m).to (open_on rows' t slots m))
-    raised_part =
-        let a = one-raised_part (raise_of raises m).from (raise_of raises m).to (open_on rows s slots m)
-        (open_on rows' t slots m)
-        (open_raised (raise_of raises m).from (raise_of raises m).to rows s.steps rows' t.steps (get_or slots m [])
-        slots_raised)
-        in let b = le-greatest_below (part_of s slots rows) shop.machines m known
-        in let d = lb_by_parts shop w s slots rows before in omega arith
-
-  pub bound_after_is : (raises : List Raise) → RowsWithin shop rows rows' raises → length raises ≡ shop.machines
-      → (parent end least limit r : ℕ) → parent ≡ lb shop w
-      → end ≡ (place_next shop (placing shop w) j).free (machine_of shop j ((placing shop w).steps j))
-      → least ≡ max parent end → least ≤ r
-      → (r < limit → CoversRaised raises (open_on rows' t slots) r)
-      → IsWithinParts least shop.machines (open_on rows' t slots) r
-      → IsBoundUpTo limit (lb shop (w ++ j ∷ [])) r
-  bound_after_is raises within long parent end least limit r is_parent ends is_least low covers parts =
-      let q = place_next shop (placing shop w) j
-      in let n = place_next-is shop (placing shop w) j
-      in let m = machine_of shop j ((placing shop w).steps j)
-      in let whole = lb_by_parts shop (w ++ j ∷ []) t slots rows' after
-      in let old = lb_by_parts shop w s slots rows before
-      in let part : (i : ℕ) → i < shop.machines → part_of t slots rows' i ≤ lb shop (w ++ j ∷ []) =
-      (λ i below. let a = le-greatest_below (part_of t slots rows') shop.machines i below in omega arith)
-      in let low_enough = least_at_most shop w j before.limits after.word parent end least is_parent ends is_least
-      in let at_most = parts (lb shop (w ++ j ∷ [])) low_enough (λ i below. let a = part i below in omega arith)
-      in record {
-        at_most = at_most;
-        exact = λ under.
-            let at_least = greatest_below-le (part_of t slots rows') shop.machines r (λ i below.
-            let a = raised_part raises within i below in let b = covers under i (omega arith)
-            in let c = next_placed.free i below
-            in elim (cases_eq i m) [
-              | inl e ↦ (let x : q.free i ≡ q.free m = ap q.free e in omega arith)
-              | inr ne ↦ (let x = n.free_other i ne in let y = before.placed.free i below
-                  in let z = le-greatest_below (part_of s slots rows) shop.machines i below in omega arith)
-            ])
-            in omega arith;
-      }

@@ -1,5 +1,6 @@
 -- The lists of the machines one after another, each padded to whole blocks.
-use Rattle.std.proofs.Common.{◌≡◌, ℕ, ◌+◌, ◌-◌, ◌*◌, ◌^◌, ◌≤◌, ◌<◌, inl, inr, List, [], ◌∷◌, ◌++◌, length, take, replicate}
+use Rattle.std.proofs.Common.{◌≡◌, ℕ, ◌+◌, ◌-◌, ◌*◌, ◌^◌, ◌≤◌, ◌<◌, inl, inr, List, [], ◌∷◌, ◌++◌, length, take}
+use Rattle.std.proofs.Common.{replicate}
 use Rattle.std.proofs.Common.{get_or, refl, sym, ◌∙◌, ap, subst, arith}
 use Rattle.std.specs.Int.{div_ceil}
 use Rattle.std.proofs.lemmas.Bool.{cases_eq}
@@ -54,7 +55,8 @@ module _ (cells slots : List Slot) (pads : ℕ) where
       ∙ get_or-replicate pads i no_slot no_slot (omega arith))
 
 -- one more list
-pub cells_more : (lists : List (List Slot)) (n : ℕ) (cells : List Slot) (blocks : List ℕ) → AreCells lists n cells blocks
+pub cells_more : (lists : List (List Slot)) (n : ℕ) (cells : List Slot) (blocks : List ℕ)
+    → AreCells lists n cells blocks
     → AreShorter 100000 lists → (slots : List Slot) → slots ≡ get_or lists n [] → (count : ℕ)
     → length cells + length slots ≤ 8 * count → 8 * count < length cells + length slots + 8
     → (more : List Slot) → more ≡ take (8 * count) (cells ++ slots)
@@ -112,7 +114,8 @@ cells_more lists n cells blocks before short slots are count low high more pushe
 pub count_bounds : (a count : ℕ) → count ≡ div_ceil a 8 → (a ≤ 8 * count) × (8 * count < a + 8)
 count_bounds a count is = let t = div_ceil_times a 8 (omega arith) in (omega arith, omega arith)
 
-module _ (lists : List (List Slot)) (n : ℕ) (cells : List Slot) (blocks : List ℕ) (before : AreCells lists n cells blocks)
+module _ (lists : List (List Slot)) (n : ℕ) (cells : List Slot) (blocks : List ℕ)
+    (before : AreCells lists n cells blocks)
     (short : AreShorter 100000 lists) (slots : List Slot) (are : slots ≡ get_or lists n []) (joined : List Slot)
     (is : joined ≡ cells ++ slots) (len : ℕ) (full : len ≡ length joined) (count : ℕ) (whole : count ≡ div_ceil len 8)
   where

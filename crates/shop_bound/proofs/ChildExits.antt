@@ -81,7 +81,8 @@ module _ (shop : Shop) (limits : IsWithinLimits shop) (l : LayoutState) (laid : 
     pub none_below-is : ((q : ℕ) → first_of l (machine_of shop j ((placing shop w).steps j)) ≤ q
         → q < first_of l (machine_of shop j ((placing shop w).steps j) + 1)
         → (get_or hs q 0 ≡ 0)
-        ⊎ ((place_next shop (placing shop w) j).free (machine_of shop j ((placing shop w).steps j)) + 1 ≤ get_or hs q 0))
+        ⊎ ((place_next shop (placing shop w) j).free (machine_of shop j ((placing shop w).steps j)) + 1
+        ≤ get_or hs q 0))
         → (b : ℕ) → b ≡ max (lb shop w)
         ((place_next shop (placing shop w) j).free (machine_of shop j ((placing shop w).steps j)))
         → lb shop (w ++ j ∷ []) ≡ b

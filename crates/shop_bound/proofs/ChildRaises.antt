@@ -11,15 +11,15 @@ use Rattle.shop_model.specs.Shop.{Shop, machine_of, IsOperation}
 use Rattle.shop_model.specs.Word.{Placing, IsWord, placing, place_next}
 use Rattle.shop_model.proofs.Placings.{place_next-is}
 use Rattle.shop_bound.specs.Bound.{lb}
-use Rattle.shop_bound.specs.Desks.{IsBoundUpTo}
+use Rattle.shop_bound.specs.inner.BoundsUpTo.{IsBoundUpTo}
 use Rattle.shop_bound.specs.Heads.{head_of}
 use Rattle.shop_bound.specs.OneMachine.{one}
 use Rattle.shop_bound.specs.inner.HeadLimits.{latest_end}
-use Rattle.shop_bound.specs.inner.KeptHeads.{raise_of}
+use Rattle.shop_bound.specs.inner.HeadRaises.{raise_of}
 use Rattle.shop_bound.specs.inner.LaneBounds.{lanes_on, AreMachinesAt, IsNoteWithin}
 use Rattle.shop_bound.specs.inner.LaneHeads.{AreHeadsAt, restored}
 use Rattle.shop_bound.specs.inner.Layouts.{LayoutState, IsLaidOut, place, first_of}
-use Rattle.shop_bound.specs.declared.kept_heads.Raise.{Raise}
+use Rattle.shop_bound.specs.declared.head_raises.Raise.{Raise}
 use Rattle.shop_bound.specs.declared.notes.Note.{Note}
 use Rattle.shop_bound.proofs.ChildBounds.{child-le}
 use Rattle.shop_bound.proofs.ChildExits.{after_spans-cover, after_spans-le}

@@ -12,14 +12,14 @@ use Rattle.shop_model.specs.Word.{Placing, IsWord, placing, place_next}
 use Rattle.shop_model.proofs.Ends.{IsOperation-job}
 use Rattle.shop_model.proofs.Unders.{next_operation, placing-snoc}
 use Rattle.shop_bound.specs.Bound.{lb}
-use Rattle.shop_bound.specs.Desks.{IsBoundUpTo}
+use Rattle.shop_bound.specs.inner.BoundsUpTo.{IsBoundUpTo}
 use Rattle.shop_bound.specs.inner.HeadLimits.{latest_end}
-use Rattle.shop_bound.specs.inner.KeptHeads.{raise_of}
+use Rattle.shop_bound.specs.inner.HeadRaises.{raise_of}
 use Rattle.shop_bound.specs.inner.LaneBounds.{lanes_on, AreMachinesAt, IsNoteWithin}
 use Rattle.shop_bound.specs.inner.LaneHeads.{AreHeadsAt, AreNotesFit, NotesState}
 use Rattle.shop_bound.specs.inner.LaneStates.{AreHeadsInLanes, Advances}
 use Rattle.shop_bound.specs.inner.Layouts.{LayoutState}
-use Rattle.shop_bound.specs.declared.kept_heads.Raise.{Raise}
+use Rattle.shop_bound.specs.declared.head_raises.Raise.{Raise}
 use Rattle.shop_bound.specs.declared.notes.Mark.{Mark}
 use Rattle.shop_bound.specs.declared.notes.Note.{Note}
 use Rattle.shop_bound.proofs.ChildRaises.{IsCovered, bound_by_raises_is, covered_all, covered_by_notes, heads_small}
@@ -39,7 +39,8 @@ pub noted_is : (list before more : List Note) (first : ℕ) → list ≡ before 
 noted_is list before more first e f =
     let d : drop first list ≡ more =
     ap (λ (n : ℕ). drop n list) f ∙ (ap (λ (xs : List Note). drop (length before) xs) e ∙ drop_front before more)
-    in let long : length list ≡ length before + length more = ap (λ (xs : List Note). length xs) e ∙ length-append before more
+    in let long : length list ≡ length before + length more =
+    ap (λ (xs : List Note). length xs) e ∙ length-append before more
     in ap (λ (xs : List Note). take (length list - first) xs) d ∙ take_all (length list - first) more (omega arith)
 
 pub notes_within : (greatest n k : ℕ) (notes : List Note) → AreNotesFit greatest k notes → k ≡ n

@@ -1,6 +1,6 @@
 -- Steps through the jobs with steps left: the choice so far, and the conflict set so far.
-use Rattle.std.proofs.Common.{◌≡◌, ℕ, zero, suc, ◌+◌, ◌≤◌, ◌<◌, Bool, true, false, cond, ◌&&◌, ◌||◌, Some, None, List}
-use Rattle.std.proofs.Common.{[], ◌∷◌, ◌++◌, length, refl, sym, ◌∙◌, ap, subst, arith, eqb, ltb, append-nil}
+use Rattle.std.proofs.Common.{◌≡◌, ℕ, zero, suc, ◌+◌, ◌≤◌, ◌<◌, Bool, true, false, cond, Some, None, List}
+use Rattle.std.proofs.Common.{[], ◌∷◌, ◌++◌, length, refl, sym, ◌∙◌, ap, subst, arith, ltb, append-nil}
 use Rattle.std.specs.List.{filter, range_with_len}
 use Rattle.std.proofs.lemmas.Bool.{le-ltb, lt-ltb}
 use Rattle.std.proofs.lemmas.List.Elements.{filter-append}
@@ -88,19 +88,3 @@ pub choice-next : (shop : Shop) (p : Placing) (js : List ℕ) (n : NextOperation
     → IsNext shop p n.job n
 choice-next shop p [] n c = absurd c
 choice-next shop p (j ∷ js) n c = subst (λ i. IsNext shop p i n) (sym c.job) c
-
--- whether an operation conflicts, from what is known of both
-pub conflicts-is : (shop : Shop) (p : Placing) (c j : ℕ) (chosen n : NextOperation) → IsNext shop p c chosen
-    → IsNext shop p j n
-    → (eqb n.job chosen.job || (eqb n.machine chosen.machine && ltb n.head chosen.end)) ≡ conflicts_with shop p c j
-conflicts-is shop p c j chosen n a b = rw (a.job, a.machine, a.end, b.job, b.machine, b.head) refl
-
--- the conflict set after one more job
-pub conflict-step : (shop : Shop) (p : Placing) (c n : ℕ) (b : Bool) → p.steps n < length (route_of shop n)
-    → conflicts_with shop p c n ≡ b
-    → filter (conflicts_with shop p c) (open_below shop p (n + 1)) ≡ filter (conflicts_with shop p c)
-    (open_below shop p n) ++ cond b (n ∷ []) []
-conflict-step shop p c n b h e =
-    ap (filter (conflicts_with shop p c)) (open-more shop p n h)
-    ∙ (filter-append (conflicts_with shop p c) (open_below shop p n) (n ∷ [])
-    ∙ ap (λ (t : Bool). filter (conflicts_with shop p c) (open_below shop p n) ++ cond t (n ∷ []) []) e)

@@ -3,7 +3,7 @@ use Rattle.std.proofs.Common.{◌≡◌, ℕ, ◌+◌, ◌-◌, ◌≤◌, ◌<�
 use Rattle.std.proofs.Common.{get_or, set, take, refl, sym, ◌∙◌, ap, subst, arith}
 use Rattle.std.proofs.lemmas.Bool.{cases_eq}
 use Rattle.std.proofs.lemmas.Grind.{get_or-set_at}
-use Rattle.std.proofs.lemmas.List.{get_or-set_other, length-set, take_all}
+use Rattle.std.proofs.lemmas.List.{get_or-set_other, length-set}
 use Rattle.std.proofs.lemmas.List.Elements.{All-from_recursion}
 use Rattle.std.proofs.lemmas.List.{take_more}
 use Rattle.shop_lanes.specs.Rows.{Rows, with_head}
@@ -22,9 +22,6 @@ use Rattle.shop_bound.proofs.HeadTurns.{ready_first}
 use Rattle.shop_bound.proofs.LaidPlaces.{place_of}
 use Rattle.shop_bound.proofs.RestoredNotes.{restored-append}
 use Rattle.shop_bound.proofs.RowTurns.{open_turn}
-
-pub beside_none : (r : Rows) → AreSameBeside r r
-beside_none r = record { times = refl; tails = refl; ends = refl; positions = refl }
 
 pub beside_both : (a b c : Rows) → AreSameBeside a b → AreSameBeside b c → AreSameBeside a c
 beside_both a b c x y = record {
@@ -47,13 +44,6 @@ pub record IsPuttingBack (notes : List Note) (count : ℕ) (old now : Rows) : Ty
   pub within : count ≤ length notes
   pub beside : AreSameBeside old now
   pub left : restored (take count notes) now.heads ≡ restored notes old.heads
-
-pub putting_none : (notes : List Note) (count : ℕ) (r : Rows) → count ≡ length notes → IsPuttingBack notes count r r
-putting_none notes count r e = record {
-  within = omega arith;
-  beside = beside_none r;
-  left = ap (λ (ns : List Note). restored ns r.heads) (take_all count notes (omega arith));
-}
 
 pub putting_more : (notes : List Note) (count c : ℕ) (note d : Note) (old now new : Rows)
     → IsPuttingBack notes count old now → 0 < count → c ≡ count - 1 → note ≡ get_or notes c d
@@ -85,13 +75,6 @@ note_fits greatest notes count c note d old now fit so_far some less read =
     in let a = n.0 in let b = n.1 in let long = so_far.beside.positions
     in (omega arith, omega arith)
 
-pub put_back_all : (notes : List Note) (old now : Rows) (count : ℕ) → count ≡ 0 → IsPuttingBack notes count old now
-    → HasPutBack notes old now
-put_back_all notes old now count none so_far = record {
-  beside = so_far.beside;
-  heads = ap (λ (k : ℕ). restored (take k notes) now.heads) (sym none) ∙ so_far.left;
-}
-
 -- the heads of job j below step k
 pub record IsFilledUpTo (shop : Shop) (l : LayoutState) (s : PlacementState) (j k ready : ℕ) (old now : Rows)
     : Type 0 where
@@ -104,14 +87,6 @@ pub record IsFilledUpTo (shop : Shop) (l : LayoutState) (s : PlacementState) (j 
 
 module _ (greatest : ℕ) (shop : Shop) (l : LayoutState) (s : PlacementState) (rows : Rows)
     (can : CanFill greatest shop l s rows) (j : ℕ) (job : j < length shop.jobs) where
-  pub filled_none : (ready : ℕ) → ready ≡ get_or s.ready j 0 → IsFilledUpTo shop l s j 0 ready rows rows
-  filled_none ready read = record {
-    beside = beside_none rows;
-    filled = λ p is t op below. absurd (omega arith);
-    others = λ q free. refl;
-    ready_is = λ p is. read ∙ (is.ready j job ∙ sym (ready_first shop p j 0 (omega arith)));
-  }
-
   module _ (k : ℕ) (ready : ℕ) (now : Rows) (so_far : IsFilledUpTo shop l s j k ready rows now)
       (op : IsOperation shop j k) (q : ℕ) (at : q ≡ place l j k) where
     here : place l j k < first_of l shop.machines
@@ -196,27 +171,12 @@ module _ (greatest : ℕ) (shop : Shop) (l : LayoutState) (s : PlacementState) (
           in let steps = is.steps j job
           in ((λ o. (let a = t.0 in omega arith)), (λ done. absurd (omega arith)), sum ∙ t.1))
 
-  pub filled_all : (k ready : ℕ) (now : Rows) → length (route_of shop j) ≤ k
-      → IsFilledUpTo shop l s j k ready rows now → HasFilledJob shop l s j rows now
-  filled_all k ready now long so_far = record {
-    beside = so_far.beside;
-    filled = λ p is t op. so_far.filled p is t op (omega arith);
-    others = so_far.others;
-  }
-
 -- the heads of the jobs below n
 pub record AreFilledUpTo (shop : Shop) (l : LayoutState) (s : PlacementState) (n : ℕ) (old now : Rows) : Type 0 where
   pub beside : AreSameBeside old now
   pub filled : (p : Placing) → IsPlacement shop p s → (j k : ℕ) → IsOperation shop j k → j < n
       → IsStored shop p l now.heads j k
   pub free : (q : ℕ) → IsPositionFree shop l q → get_or now.heads q 0 ≡ get_or old.heads q 0
-
-pub jobs_none : (shop : Shop) (l : LayoutState) (s : PlacementState) (rows : Rows) → AreFilledUpTo shop l s 0 rows rows
-jobs_none shop l s rows = record {
-  beside = beside_none rows;
-  filled = λ p is j k op below. absurd (omega arith);
-  free = λ q f. refl;
-}
 
 module _ (greatest : ℕ) (shop : Shop) (l : LayoutState) (s : PlacementState) (rows : Rows)
     (can : CanFill greatest shop l s rows) where

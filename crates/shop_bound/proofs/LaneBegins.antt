@@ -31,12 +31,6 @@ heads_fit greatest shop l limits holds w word j k op opened =
     in let b = holds 0 (let c = limits.some_machine in omega arith)
     in omega arith
 
--- the first positions of the machines
-pub blocks_rise : (shop : Shop) → IsWithinLimits shop → (l : LayoutState) → IsLaidOut shop l → (m : ℕ)
-    → m < shop.machines → get_or l.blocks m 0 ≤ get_or l.blocks (m + 1) 0
-blocks_rise shop limits l laid m known =
-    let a = machines_rise shop limits l laid m (m + 1) (omega arith) (omega arith) in omega arith
-
 pub blocks_within : (shop : Shop) → IsWithinLimits shop → (l : LayoutState) → IsLaidOut shop l → (m : ℕ)
     → m ≤ shop.machines → 8 * get_or l.blocks m 0 ≤ length l.times
 blocks_within shop limits l laid m known =
@@ -47,9 +41,6 @@ module _ (greatest : ℕ) (shop : Shop) (limits : IsWithinLimits shop) (l : Layo
     (fits : AreHeadsFit greatest shop) where
   pub whole_blocks : length l.times % 8 ≡ 0
   whole_blocks = let a = laid.positions.times in omega arith
-
-  pub as_many_tails : length l.tails ≡ length l.times
-  as_many_tails = laid.positions.tails ∙ sym laid.positions.times
 
   pub times_fit : All (λ t. t ≤ greatest) l.times
   times_fit q d here =

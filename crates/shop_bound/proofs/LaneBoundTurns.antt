@@ -3,16 +3,17 @@ use Rattle.std.proofs.Common.{◌≡◌, ℕ, zero, suc, ◌+◌, ◌-◌, ◌*�
 use Rattle.std.proofs.Common.{◌∷◌, length, get_or, set, drop, refl, sym, ◌∙◌, ap, subst, arith}
 use Rattle.std.proofs.lemmas.Bool.{cases_Bool, cases_eq, cases_lt}
 use Rattle.std.proofs.lemmas.Bool.Decides.{nat_tests}
-use Rattle.std.proofs.lemmas.List.{get_or-set_same, get_or-set_other, length-set, get_or_default, get_or-take, get_or-drop}
+use Rattle.std.proofs.lemmas.List.{get_or-set_same, get_or-set_other, length-set, get_or_default, get_or-take}
+use Rattle.std.proofs.lemmas.List.{get_or-drop}
 use Rattle.shop_lanes.specs.Rows.{Rows, Lane, blocks}
 use Rattle.shop_lanes.specs.Spans.{spans_from, spans_between}
 use Rattle.shop_lanes.specs.Marks.{marked, waits_below}
 use Rattle.shop_lanes.proofs.LaneLists.{length-blocks}
 use Rattle.shop_lanes.proofs.SpanTurns.{spans_low, spans_high}
-use Rattle.shop_bound.specs.inner.KeptHeads.{no_raise, raise_of, widened}
+use Rattle.shop_bound.specs.inner.HeadRaises.{no_raise, raise_of, widened}
 use Rattle.shop_bound.specs.inner.LaneBounds.{lanes_on, NoneBelow, AreMachinesAt, AreRaisesUpTo, IsNoteWithin}
 use Rattle.shop_bound.specs.inner.Layouts.{LayoutState, first_of}
-use Rattle.shop_bound.specs.declared.kept_heads.Raise.{Raise}
+use Rattle.shop_bound.specs.declared.head_raises.Raise.{Raise}
 use Rattle.shop_bound.specs.declared.notes.Note.{Note}
 
 -- where no position is marked, no number passes the test
@@ -95,7 +96,8 @@ module _ (raises : List Raise) (m a b : ℕ) (known : m < length raises) (after 
   module _ (ms heads : List ℕ) (notes : List Note) (k : ℕ) (d : Note) (at : m ≡ get_or ms (get_or notes k d).position 0)
       (before : a ≡ (get_or notes k d).head) (now : b ≡ get_or heads (get_or notes k d).position 0)
       (here : k < length notes) where
-    pub within_turn : ((i : ℕ) (e : Note) → i < k → IsNoteWithin raises ms heads (get_or notes i e)) → (i : ℕ) (e : Note)
+    pub within_turn : ((i : ℕ) (e : Note) → i < k → IsNoteWithin raises ms heads (get_or notes i e))
+        → (i : ℕ) (e : Note)
         → i < k + 1 → IsNoteWithin after ms heads (get_or notes i e)
     within_turn within i e below = elim (cases_eq i k) [
       | inl same ↦ subst (IsNoteWithin after ms heads) (sym (ap (λ (n : ℕ). get_or notes n e) same
@@ -170,7 +172,8 @@ machines_turn l n old new to before is order orders long front behind =
   where
     rises : (a d b : ℕ) → a + d ≡ b → b ≤ n → get_or l.blocks a 0 ≤ get_or l.blocks b 0
     rises a zero b e within =
-        let f : get_or l.blocks b 0 ≡ get_or l.blocks a 0 = ap (λ (x : ℕ). get_or l.blocks x 0) (omega arith) in omega arith
+        let f : get_or l.blocks b 0 ≡ get_or l.blocks a 0 =
+        ap (λ (x : ℕ). get_or l.blocks x 0) (omega arith) in omega arith
     rises a (suc d) b e within =
         let x = rises a d (a + d) refl (omega arith)
         in let y = orders (a + d) (omega arith)

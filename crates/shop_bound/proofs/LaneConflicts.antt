@@ -1,5 +1,6 @@
 -- The conflict set as what is chosen and what is gathered by lanes.
-use Rattle.std.proofs.Common.{◌≡◌, ℕ, zero, suc, ◌+◌, ◌-◌, ◌≤◌, ◌<◌, ◌⊎◌, inl, inr, Bool, true, false, ◌||◌, List, [], ◌∷◌}
+use Rattle.std.proofs.Common.{◌≡◌, ℕ, zero, suc, ◌+◌, ◌-◌, ◌≤◌, ◌<◌, ◌⊎◌, inl, inr, Bool, true, false, ◌||◌, List, []}
+use Rattle.std.proofs.Common.{◌∷◌}
 use Rattle.std.proofs.Common.{length, get_or, max, refl, sym, ◌∙◌, ap, subst, arith, eqb, ltb}
 use Rattle.std.specs.List.{filter, range_with_len, best_of}
 use Rattle.std.proofs.lemmas.Bool.{cases_Bool, cases_eq, cases_lt, and_from, and_parts, lt-ltb, le-ltb, ltb-true}
@@ -191,7 +192,8 @@ module _ (shop : Shop) (p : Placing) (l : LayoutState) (steps : List ℕ) (rows 
           in (
             o,
             or_right (eqb i r) _
-                (and_from (eqb (next_machine shop p i) (next_machine shop p r)) (ltb (next_head shop p i) (next_end shop p r))
+                (and_from (eqb (next_machine shop p i) (next_machine shop p r))
+                (ltb (next_head shop p i) (next_end shop p r))
                 (eq-eqb (next_machine shop p i) (next_machine shop p r) (machine ∙ on))
                 (lt-ltb (next_head shop p i) (next_end shop p r) (omega arith))),
           )
@@ -265,7 +267,8 @@ module _ (greatest : ℕ) (shop : Shop) (p : Placing) (l : LayoutState) (steps :
       pub machine : (get_or route step no_op).machine ≡ machine_of shop r (p.steps r)
       pub blocks : HasBlocks l (length rows.heads) (get_or route step no_op).machine
       pub within : get_or row step 0 < length rows.heads
-      pub end : get_or rows.heads (get_or row step 0) 0 + get_or rows.times (get_or row step 0) 0 ≡ next_end shop p r + 1
+      pub end : get_or rows.heads (get_or row step 0) 0 + get_or rows.times (get_or row step 0) 0
+          ≡ next_end shop p r + 1
       pub fits : next_end shop p r + 1 < greatest
 
     pub chosen_at : (row : List ℕ) → row ≡ get_or l.places r [] → (route : List Op) → route ≡ route_of shop r
@@ -285,7 +288,8 @@ module _ (greatest : ℕ) (shop : Shop) (p : Placing) (l : LayoutState) (steps :
         in record {
           operation = op;
           machine = machine;
-          blocks = has_blocks shop can.nexts.limits l can.nexts.laid (length rows.heads) (get_or route step no_op).machine
+          blocks = has_blocks shop can.nexts.limits l can.nexts.laid (length rows.heads)
+              (get_or route step no_op).machine
               can.nexts.heads.positions (let a = can.nexts.limits.on_machines r (p.steps r) in omega arith);
           within = omega arith;
           end = omega arith;
@@ -303,7 +307,8 @@ module _ (greatest : ℕ) (shop : Shop) (p : Placing) (l : LayoutState) (steps :
           in let b = can.ends.next i o.1 in let d = can.ends.next r op in omega arith)
 
       pub is_conflict : (m limit : ℕ) → m ≡ machine_of shop r (p.steps r) → limit ≡ next_end shop p r + 1 → (n : ℕ)
-          (one new : List ℕ) → HasPut r [] one → HasGathered (IsNextBelow l steps rows.heads (IsOnMachine l m) limit) one new
+          (one new : List ℕ) → HasPut r [] one
+          → HasGathered (IsNextBelow l steps rows.heads (IsOnMachine l m) limit) one new
           → IsRisingBelow n new → new ≡ conflict_among shop p (open_jobs shop p)
       is_conflict m limit on end n one new put gathered list =
           are_conflicting shop p l steps rows can.nexts r op m limit on end n one new put gathered list ∙ sym chosen_is

@@ -43,7 +43,8 @@ noted_or_not (note ∷ notes) q = elim (cases_eq note.position q) [
 
 -- where heads changed at noted positions alone and the step of one job did, the ends of the others are still right or
 -- their next operations are noted
-pub ends_but_job : (greatest : ℕ) (l : LayoutState) (before steps : List ℕ) (old new : Rows) (notes : List Note) (job : ℕ)
+pub ends_but_job : (greatest : ℕ) (l : LayoutState) (before steps : List ℕ) (old new : Rows) (notes : List Note)
+    (job : ℕ)
     → AreEndsOf greatest l before old → length before ≡ length steps → new.times ≡ old.times → new.ends ≡ old.ends
     → ((j : ℕ) → (j ≡ job → ⊥) → get_or steps j 0 ≡ get_or before j 0)
     → ((q : ℕ) → (IsNotedAt notes q → ⊥) → get_or new.heads q 0 ≡ get_or old.heads q 0)

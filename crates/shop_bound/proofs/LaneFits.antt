@@ -108,7 +108,8 @@ module _ (shop : Shop) (limits : IsWithinLimits shop) (l : LayoutState) (laid : 
                 | inr behind ↦ (let p = (laid.each m known).padding (first_of l m + i) (omega arith) (omega arith)
                     in let t = p.time in omega arith)
               ])
-          | inr past ↦ (let e = block_past l.times (get_or l.blocks m 0) (get_or l.blocks (m + 1) 0) i (omega arith) past
+          | inr past ↦
+              (let e = block_past l.times (get_or l.blocks m 0) (get_or l.blocks (m + 1) 0) i (omega arith) past
               in omega arith)
         ]
 
@@ -135,7 +136,8 @@ module _ (shop : Shop) (limits : IsWithinLimits shop) (l : LayoutState) (laid : 
                     in let at = (laid.each m known).at i d of
                     in let op = slots_are_operations shop m slots (laid.are.slots m known) i d of
                     in let t = at.tail
-                    in let is : (get_or slots i d).tail ≡ tail_in (route_of shop (get_or slots i d).job) (get_or slots i d).step =
+                    in let is : (get_or slots i d).tail
+                    ≡ tail_in (route_of shop (get_or slots i d).job) (get_or slots i d).step =
                     ap (λ (s : Slot). s.tail) op.is
                     in let whole = route_times shop limits (get_or slots i d).job
                     in let part = sum_by-take-drop (λ (o : Op). o.time) (route_of shop (get_or slots i d).job)
@@ -143,7 +145,8 @@ module _ (shop : Shop) (limits : IsWithinLimits shop) (l : LayoutState) (laid : 
                 | inr behind ↦ (let p = (laid.each m known).padding (first_of l m + i) (omega arith) (omega arith)
                     in let t = p.tail in omega arith)
               ])
-          | inr past ↦ (let e = block_past l.tails (get_or l.blocks m 0) (get_or l.blocks (m + 1) 0) i (omega arith) past
+          | inr past ↦
+              (let e = block_past l.tails (get_or l.blocks m 0) (get_or l.blocks (m + 1) 0) i (omega arith) past
               in omega arith)
         ]
 
@@ -153,11 +156,13 @@ module _ (shop : Shop) (limits : IsWithinLimits shop) (l : LayoutState) (laid : 
         let a = sum_front 1000000000 (blocks (get_or l.blocks m 0) (get_or l.blocks (m + 1) 0) l.times) (length slots)
         time_small time_behind
         in let few = slots_few shop limits m slots (laid.are.slots m known)
-        in let b = greatest_each 100000000000 (blocks (get_or l.blocks m 0) (get_or l.blocks (m + 1) 0) l.tails) tail_small
+        in let b =
+        greatest_each 100000000000 (blocks (get_or l.blocks m 0) (get_or l.blocks (m + 1) 0) l.tails) tail_small
         in omega arith
 
   -- where lanes hold all loads, they hold the spans of any word
-  pub spans_fit : (greatest : ℕ) → FitsLanes greatest shop l → (rows : Rows) → rows.times ≡ l.times → rows.tails ≡ l.tails
+  pub spans_fit : (greatest : ℕ) → FitsLanes greatest shop l → (rows : Rows) → rows.times ≡ l.times
+      → rows.tails ≡ l.tails
       → length rows.heads ≡ first_of l shop.machines
       → AreSpansFit greatest (latest_end shop + 1) shop.machines l rows
   spans_fit greatest fits rows times tails long = record {
@@ -183,7 +188,8 @@ module _ (shop : Shop) (limits : IsWithinLimits shop) (l : LayoutState) (laid : 
         in let lt : sum_by (λ (x : Lane). x.time) (lanes_on rows l m) ≡ sum_by (λ (n : ℕ). n) (blocks from to l.times) =
         ap (λ (xs : List Lane). sum_by (λ x. x.time) xs) (sym same)
         ∙ (t ∙ ap (λ (xs : List ℕ). sum_by (λ n. n) (blocks from to xs)) times)
-        in let lq : greatest_by (λ (x : Lane). x.tail) (lanes_on rows l m) ≡ greatest_of (λ (n : ℕ). n) (blocks from to l.tails) =
+        in let lq : greatest_by (λ (x : Lane). x.tail) (lanes_on rows l m)
+        ≡ greatest_of (λ (n : ℕ). n) (blocks from to l.tails) =
         ap (λ (xs : List Lane). greatest_by (λ x. x.tail) xs) (sym same)
         ∙ (q ∙ ap (λ (xs : List ℕ). greatest_of (λ n. n) (blocks from to xs)) tails)
         in omega arith);

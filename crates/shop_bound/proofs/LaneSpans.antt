@@ -1,5 +1,6 @@
 -- Spans over lanes that stand for operations by nonincreasing tail: parts of their one-machine bound.
-use Rattle.std.proofs.Common.{◌≡◌, ℕ, zero, suc, ◌+◌, ◌-◌, ◌^◌, ◌≤◌, ◌<◌, max, ◌⊎◌, inl, inr, List, [], ◌∷◌, ◌++◌, length}
+use Rattle.std.proofs.Common.{◌≡◌, ℕ, zero, suc, ◌+◌, ◌-◌, ◌^◌, ◌≤◌, ◌<◌, max, ◌⊎◌, inl, inr, List, [], ◌∷◌, ◌++◌}
+use Rattle.std.proofs.Common.{length}
 use Rattle.std.proofs.Common.{sym, ap, subst, arith, leb, append_assoc}
 use Rattle.std.specs.List.{filter, sum_by}
 use Rattle.std.proofs.lemmas.Bool.{cases_Bool, cases_lt, leb-true, le-leb}
@@ -144,7 +145,8 @@ module _ {ts : List Triple} {ls : List Lane} (m : AreMatched IsLaneOf ts ls) whe
           | inr b ↦ (let c = spans_counted above upto ls x xs a b
               in let h : x.head - 1 + 1 ≡ x.head = omega arith
               in let d : span x.head x.head ls ≤ one ts + 1 =
-              subst (λ (n : ℕ). span n n ls ≤ one ts + 1) h (from_head_within nonincreasing (x.head - 1)) in omega arith)
+              subst (λ (n : ℕ). span n n ls ≤ one ts + 1) h
+              (from_head_within nonincreasing (x.head - 1)) in omega arith)
         ]
         | inr a ↦ (let c = spans_low above upto ls x xs a in omega arith)
       ]

@@ -61,7 +61,8 @@ module _ (greatest : ℕ) (shop : Shop) (w : List ℕ) (l : LayoutState) (rows :
   machine_is m known =
       let p = placing shop w
       in let ts = left_for shop kept.laid.slots p m
-      in let ls : List Lane = blocks (get_or l.blocks m 0) (get_or l.blocks (m + 1) 0) (lanes rows.heads l.times l.tails)
+      in let ls : List Lane =
+      blocks (get_or l.blocks m 0) (get_or l.blocks (m + 1) 0) (lanes rows.heads l.times l.tails)
       in let same : lanes_on rows l m ≡ ls = rw (kept.times, kept.tails) refl
       in let matched = left_matched shop kept.limits l kept.laid m known p rows.heads kept.heads
       in let nonincreasing = open_falls (tabled_heads shop p) (tabled shop p).steps (get_or kept.laid.slots m [])

@@ -12,9 +12,7 @@ use Rattle.shop_bound.specs.declared.notes.Mark.{Mark}
 use Rattle.shop_bound.specs.declared.notes.Note.{Note}
 use Rattle.shop_bound.specs.inner.Fills.{CanFill, GoesBack, IsRested}
 use Rattle.shop_bound.specs.inner.LaneHeads.{AreHeadsAt, AreNotesFit, IsTrail, NotesState, restored}
-use Rattle.shop_bound.specs.inner.LaneStates.{LaneState, IsKeptInLanes, Advances, AreHeadsInLanes, CanGoOnInLanes}
-use Rattle.shop_bound.specs.inner.ChildBounds.{CanBound}
-use Rattle.shop_bound.specs.inner.LaneBounds.{AreMachinesAt}
+use Rattle.shop_bound.specs.inner.LaneStates.{LaneState, IsKeptInLanes, Advances, AreHeadsInLanes}
 use Rattle.shop_bound.proofs.LaneTrails.{same_heads, trail_more, LeadsToLast, trail_less}
 use Rattle.shop_bound.proofs.Lists.{all_append}
 use Rattle.shop_bound.proofs.WordLengths.{word_within}
@@ -56,7 +54,8 @@ module _ (greatest : ℕ) (shop : Shop) (w : List ℕ) (j : ℕ) (s : LaneState)
           kept = advances.heads w kept.kept fits at;
           notes_fit = subst (λ (n : ℕ). AreNotesFit greatest n after.list) (sym advances.beside.positions)
               (subst (AreNotesFit greatest (length s.rows.heads)) (sym back.are)
-              (all_append (λ (n : Note). (n.position < length s.rows.heads) × (n.head ≤ greatest)) s.notes.list back.more
+              (all_append
+              (λ (n : Note). (n.position < length s.rows.heads) × (n.head ≤ greatest)) s.notes.list back.more
               kept.notes_fit back.fit));
           trail = subst (λ (ms : List Mark). IsTrail shop s.layout (w ++ j ∷ []) ms after.list new.heads) (sym pushed)
               (trail_more shop kept.kept.limits s.layout kept.kept.laid greatest w j s.marks mark s.notes
@@ -74,20 +73,11 @@ module _ (greatest : ℕ) (shop : Shop) (w : List ℕ) (j : ℕ) (s : LaneState)
     last = trail_less shop s.layout w j marks mark s.notes.list s.rows.heads
         (subst (λ (ms : List Mark). IsTrail shop s.layout (w ++ j ∷ []) ms s.notes.list s.rows.heads) popped kept.trail)
 
-    pub mark_within : mark.first ≤ length s.notes.list
-    mark_within = last.first
-
     -- the notes behind it
     pub notes_behind : take (length s.notes.list - mark.first) (drop mark.first s.notes.list)
         ≡ drop mark.first s.notes.list
     notes_behind = take_all (length s.notes.list - mark.first) (drop mark.first s.notes.list)
         (omega (arith, length-drop mark.first s.notes.list))
-
-    pub behind_fit : AreNotesFit greatest (length s.rows.heads)
-        (take (length s.notes.list - mark.first) (drop mark.first s.notes.list))
-    behind_fit = subst (AreNotesFit greatest (length s.rows.heads)) (sym notes_behind)
-        (all_drop (λ (n : Note). (n.position < length s.rows.heads) × (n.head ≤ greatest)) mark.first s.notes.list
-        kept.notes_fit)
 
     pub rested : IsRested shop s.layout s.rows.heads
     rested = kept.kept.heads.padding
@@ -169,17 +159,3 @@ kept_again greatest shop w s kept new heads after list raises many =
         holds = kept.bounds.holds;
       };
     }
-
-pub can_bound : (greatest : ℕ) (shop : Shop) (j : ℕ) (p : PlacementState) (s : LaneState)
-    → CanGoOnInLanes greatest shop j p s → (machines : List ℕ) → machines ≡ s.machines → (raises : ℕ)
-    → raises ≡ s.raises → CanBound greatest shop s.layout p j machines raises s.top s.rows
-can_bound greatest shop j p s can machines same raises many = record {
-  word = can.word;
-  kept = can.kept.kept;
-  fits = can.fits;
-  placed = can.placed;
-  machines = subst (AreMachinesAt s.layout shop.machines) (sym same) can.kept.bounds.machines_at;
-  as_many = many ∙ can.kept.bounds.as_many;
-  top_is = can.kept.bounds.top_is;
-  holds = can.kept.bounds.holds;
-}

@@ -51,10 +51,7 @@ pub mod PlacementLemmas
 pub mod TakenBack
 pub mod Trails
 pub mod RowTurns
-pub mod RefreshTurns
 pub mod HeadsStay
-pub mod HeadsKept
-pub mod Advances
 pub mod OpenBounds
 pub mod Spans
 pub mod BoundLaw

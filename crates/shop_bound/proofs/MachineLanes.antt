@@ -166,7 +166,8 @@ module _ (shop : Shop) (limits : IsWithinLimits shop) (l : LayoutState) (laid : 
         in let head : get_or hs (first_of l m + i) 0 ≡ f s.job s.step + 1 =
         ap (λ (q : ℕ). get_or hs q 0) (sym at.place) ∙ w
         in let lane : lane_at hs l.times l.tails (first_of l m + i)
-        ≡ record { head = f s.job s.step + 1; time = s.time; tail = s.tail } = (let c = at.time in let g = at.tail in cc)
+        ≡ record { head = f s.job s.step + 1; time = s.time; tail = s.tail } =
+        (let c = at.time in let g = at.tail in cc)
         in subst (λ (x : Lane). R (triple_of rows s) x) (sym (lane_in i e (omega arith) ∙ lane))
         (related s op.step op.machine (omega arith)))
         (λ i d e here closed.

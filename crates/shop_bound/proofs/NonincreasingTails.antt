@@ -3,10 +3,10 @@ use Rattle.std.proofs.Common.{◌≡◌, ℕ, suc, ◌+◌, ◌^◌, ◌≤◌, 
 use Rattle.std.proofs.Common.{◌++◌, length, length-append, if◌then◌else◌, ◌==◌, take, drop, get_or}
 use Rattle.std.proofs.Common.{refl, sym, ◌∙◌, ap, subst, arith, leb}
 use Rattle.std.specs.List.{AllByRecursion, filter, sum_by}
-use Rattle.std.proofs.lemmas.Bool.{cases_Bool, cases_eq, leb-true, le-leb, and_from}
+use Rattle.std.proofs.lemmas.Bool.{cases_Bool, leb-true, le-leb, and_from}
 use Rattle.std.proofs.lemmas.List.{append-nil, take-append-drop, take_more}
 use Rattle.std.proofs.lemmas.List.Elements.{filter-append}
-use Rattle.std.proofs.lemmas.List.Sums.{sum_by_more_le, sum_by-cons, sum_by_push, sum_by-append}
+use Rattle.std.proofs.lemmas.List.Sums.{sum_by-cons, sum_by_push, sum_by-append}
 use Rattle.std.proofs.Math.Seq.{drop-cons}
 use Rattle.shop_bound.specs.declared.triples.Triple.{Triple}
 use Rattle.shop_bound.specs.OneMachine.{sublists, greatest_of, least_of, span_of, one, IsSmall}
@@ -16,7 +16,7 @@ use Rattle.shop_bound.specs.inner.NonincreasingTails.{begins_between, one_betwee
 use Rattle.shop_bound.proofs.Lists.{IsSublist, all_map, all_both, all_filter, greatest_of-le, least_of-is}
 use Rattle.shop_bound.proofs.Lists.{least_of-le, get_or-le-greatest_of}
 use Rattle.shop_bound.proofs.ThresholdLemmas.{sublists-are, sublist_greatest, sublist_of_filter, sublist_length}
-use Rattle.shop_bound.proofs.ThresholdLemmas.{sublist_at, sublist_sum, sublist_filter, least-le-greatest}
+use Rattle.shop_bound.proofs.ThresholdLemmas.{sublist_at, sublist_sum, least-le-greatest}
 use Rattle.shop_bound.proofs.ThresholdLemmas.{span_above-some, span_above-le, is_above-from, is_above-true}
 
 -- the head is at least this
@@ -121,7 +121,8 @@ only_heads head tail us h = ap (λ (ys : List Triple). sum_by (λ t. t.time) ys)
   ]
 
 -- what is done up to an operation, and its tail, follow no earlier than the bound says
-pub within_in : (us : List Triple) (x : Triple) (vs : List Triple) (head : ℕ) → IsNonincreasing (λ t. t.tail) (us ++ x ∷ vs)
+pub within_in : (us : List Triple) (x : Triple) (vs : List Triple) (head : ℕ)
+    → IsNonincreasing (λ t. t.tail) (us ++ x ∷ vs)
     → head ≤ x.head → head + (times_from head us + x.time + x.tail) ≤ one (us ++ x ∷ vs)
 within_in us x vs head nonincreasing h =
     let test = is_above head x.tail
@@ -188,21 +189,6 @@ reach_out ts head n sum most here r less =
       within = r.within;
     }
 
--- these sums are at most all times and the greatest tail
-times_from-le : (head : ℕ) (ts : List Triple) → times_from head ts ≤ sum_by (λ t. t.time) ts
-unfolding times_from
-times_from-le head ts = sublist_sum (λ (t : Triple). t.time) (sublist_filter (begins_from head) ts)
-
-pub reach_small : (ts : List Triple) (head n sum most : ℕ) → n < length ts → IsReach ts head n sum most
-    → sum + (get_or ts n no_triple).time + (get_or ts n no_triple).tail
-    ≤ sum_by (λ t. t.time) ts + greatest_of (λ t. t.tail) ts
-reach_small ts head n sum most here r =
-    let a = r.times
-    in let b = times_from-le head (take n ts)
-    in let c = sum_by_more_le (λ (t : Triple). t.time) ts n no_triple here
-    in let d = get_or-le-greatest_of (λ (t : Triple). t.tail) ts n no_triple here
-    in omega arith
-
 -- a sublist's span is at most that of all above its least head and tail
 pub span_of-le-above : (ts : List Triple) (y : Triple) (ys : List Triple) → IsSublist (y ∷ ys) ts
     → span_of (y ∷ ys) ≤ span_above ts (least_of (λ t. t.head) (y ∷ ys)) (least_of (λ t. t.tail) (y ∷ ys))
@@ -225,7 +211,8 @@ pub head-le-one : (ts : List Triple) (n : ℕ) → IsNonincreasing (λ t. t.tail
 head-le-one ts n nonincreasing here =
     let x = get_or ts n no_triple
     in let w = within_in (take n ts) x (drop (suc n) ts) x.head
-    (subst (λ (ys : List Triple). IsNonincreasing (λ t. t.tail) ys) (split_at ts n no_triple here) nonincreasing) (omega arith)
+    (subst (λ (ys : List Triple). IsNonincreasing (λ t. t.tail) ys) (split_at ts n no_triple here) nonincreasing)
+    (omega arith)
     in let same : one (take n ts ++ x ∷ drop (suc n) ts) ≡ one ts = ap one (sym (split_at ts n no_triple here))
     in omega arith
 
@@ -240,56 +227,10 @@ pub record IsTried (ts : List Triple) (from to n best last : ℕ) : Type 0 where
   pub within : best ≤ one ts
   pub again : last < 2 ^ 50 → (tail : ℕ) → span_above ts last tail ≤ best
 
--- a threshold that isn't between
-pub tried_outside : (ts : List Triple) (from to n best last : ℕ) → IsTried ts from to n best last
-    → ((from ≤ head_at ts n) → (head_at ts n ≤ to) → ⊥) → IsTried ts from to (n + 1) best last
-tried_outside ts from to n best last r out = record {
-  covers = λ i h a b tail. elim (cases_eq i n) [
-    | inl e ↦ absurd (out (subst (λ k. from ≤ head_at ts k) e a) (subst (λ k. head_at ts k ≤ to) e b))
-    | inr ne ↦ r.covers i (omega arith) a b tail
-  ];
-  within = r.within;
-  again = r.again;
-}
-
 pub heads_small : (ts : List Triple) (n : ℕ) → IsSmall ts → n < length ts
     → head_at ts n + sum_by (λ t. t.time) ts + greatest_of (λ t. t.tail) ts < 2 ^ 50
 heads_small ts n small here =
     let a = get_or-le-greatest_of (λ (t : Triple). t.head) ts n no_triple here in omega arith
-
--- one that was tried just before
-pub tried_again : (ts : List Triple) (from to n best last : ℕ) → IsSmall ts → n < length ts
-    → IsTried ts from to n best last → head_at ts n ≡ last → IsTried ts from to (n + 1) best last
-tried_again ts from to n best last small here r same =
-    let bound = heads_small ts n small here
-    in record {
-      covers = λ i h a b tail. elim (cases_eq i n) [
-        | inl e ↦ subst (λ k. span_above ts k tail ≤ best) (sym same ∙ ap (head_at ts) (sym e))
-            (r.again (omega arith) tail)
-        | inr ne ↦ r.covers i (omega arith) a b tail
-      ];
-      within = r.within;
-      again = r.again;
-    }
-
--- any other
-pub tried_more : (ts : List Triple) (from to n best last most more : ℕ) → IsNonincreasing (λ t. t.tail) ts → n < length ts
-    → IsTried ts from to n best last
-    → ((tail : ℕ) → span_above ts (head_at ts n) tail ≤ head_at ts n + most)
-    → head_at ts n + most ≤ max (head_at ts n) (one ts)
-    → more ≡ max best (head_at ts n + most)
-    → IsTried ts from to (n + 1) more (head_at ts n)
-tried_more ts from to n best last most more nonincreasing here r covers within is =
-    let own = head-le-one ts n nonincreasing here
-    in let old = r.within
-    in record {
-      covers = λ i h a b tail. elim (cases_eq i n) [
-        | inl e ↦ subst (λ k. span_above ts (head_at ts k) tail ≤ more) (sym e) (let c = covers tail in omega arith)
-        | inr ne ↦ (let c = r.covers i (omega arith) a b tail in omega arith)
-      ];
-      within = omega arith;
-      again = λ h tail. (let c = covers tail in omega arith);
-    }
 
 -- all thresholds that occur cover all sublists that begin between
 pub tried_all : (ts : List Triple) (from to n best last : ℕ) → IsTried ts from to n best last → length ts ≤ n

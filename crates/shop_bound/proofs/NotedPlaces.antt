@@ -23,7 +23,8 @@ module _ (now : List (List ℕ)) (j k x : ℕ) (job : j < length now) (step : k 
         ∙ (ap (λ (row : List ℕ). get_or row n 0) row_here
         ∙ (get_or-set_other (get_or now j []) k n x 0 (λ f. ne e f)
         ∙ ap (λ (y : ℕ). get_or (get_or now y []) n 0) (sym e)))
-    | inr differ ↦ ap (λ (row : List ℕ). get_or row n 0) (get_or-set_other now j i (set (get_or now j []) k x) [] differ)
+    | inr differ ↦ ap (λ (row : List ℕ). get_or row n 0)
+        (get_or-set_other now j i (set (get_or now j []) k x) [] differ)
   ]
 
   row_long : (i : ℕ) → length (get_or written i []) ≡ length (get_or now i [])

@@ -11,13 +11,14 @@ use Rattle.shop_model.specs.Word.{Placing}
 use Rattle.shop_bound.specs.declared.slots.Slot.{Slot}
 use Rattle.shop_bound.specs.Bound.{Waiting, waiting, triples_on}
 use Rattle.shop_bound.specs.Heads.{waiting_at, steps_left}
-use Rattle.shop_bound.specs.OneMachine.{one, extent}
+use Rattle.shop_bound.specs.OneMachine.{one}
 use Rattle.shop_bound.specs.Placements.{PlacementState, IsPlacement}
-use Rattle.shop_bound.specs.Slots.{slot_at, operations_in, operations_on, IsNonincreasing, AreSlotsOf, AreHeadsKept}
+use Rattle.shop_bound.specs.Slots.{slot_at, operations_in, operations_on, IsNonincreasing, AreSlotsOf}
+use Rattle.shop_bound.specs.inner.HeadsInRows.{AreHeadsKept}
 use Rattle.shop_bound.specs.inner.OpenSlots.{is_open, triple_of, open_triples}
 use Rattle.shop_bound.proofs.HeadWalks.{waiting_is}
 use Rattle.shop_bound.proofs.Lists.{all_map, all_append, all_filter}
-use Rattle.shop_bound.proofs.SameSums.{HaveSameSums, permuted_sums, filtered_sums, mapped_sums, same_one, same_extent}
+use Rattle.shop_bound.proofs.SameSums.{HaveSameSums, permuted_sums, filtered_sums, mapped_sums, same_one}
 
 module _ {A B : Type 0} where
   filter_mapped : (test : B → Bool) (g : A → B) (xs : List A)
@@ -161,11 +162,6 @@ module _ (shop : Shop) (p : Placing) (s : PlacementState) (rows : List (List ℕ
   pub open_one : (slots : List Slot) → AreSlotsOf shop m slots
       → one (open_triples rows s.steps slots) ≡ one (triples_on m (waiting shop p))
   open_one slots are = same_one (open_triples rows s.steps slots) (triples_on m (waiting shop p)) (open_sums slots are)
-
-  pub open_extent : (slots : List Slot) → AreSlotsOf shop m slots
-      → extent (open_triples rows s.steps slots) ≡ extent (triples_on m (waiting shop p))
-  open_extent slots are =
-      same_extent (open_triples rows s.steps slots) (triples_on m (waiting shop p)) (open_sums slots are)
 
 -- the tails of open slots fall
 pub open_falls : (rows : List (List ℕ)) (steps : List ℕ) (slots : List Slot) → IsNonincreasing (λ s. s.tail) slots

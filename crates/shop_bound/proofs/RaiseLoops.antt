@@ -1,5 +1,6 @@
 -- Raises one after another.
-use Rattle.std.proofs.Common.{◌≡◌, ℕ, zero, suc, ◌+◌, ◌*◌, ◌-◌, ◌≤◌, ◌<◌, ◌⊎◌, inl, inr, Bool, true, List, [], ◌∷◌, length}
+use Rattle.std.proofs.Common.{◌≡◌, ℕ, zero, suc, ◌+◌, ◌*◌, ◌-◌, ◌≤◌, ◌<◌, ◌⊎◌, inl, inr, Bool, true, List, [], ◌∷◌}
+use Rattle.std.proofs.Common.{length}
 use Rattle.std.proofs.Common.{get_or, take, drop, refl, sym, ◌∙◌, ap, subst, arith, ltb}
 use Rattle.std.proofs.lemmas.Bool.{cases_Bool, cases_eq, cases_lt, and_from, and_parts, lt-ltb, ltb-true}
 use Rattle.std.proofs.lemmas.List.{get_or_past, get_or-take, get_or-drop, length-take-le, length-drop}
@@ -53,7 +54,8 @@ then_least l A B C e a b c x y split in_a in_b = record {
 }
 
 pub then_raises : (greatest : ℕ) (l : LayoutState) (A B C : ℕ → Type 0) (e : ℕ) (a b c : Rows) (n m o : NotesState)
-    → Raises greatest l A e a b n m → Raises greatest l B e b c m o → ((q : ℕ) → C q → A q ⊎ B q) → ((q : ℕ) → A q → C q)
+    → Raises greatest l A e a b n m → Raises greatest l B e b c m o → ((q : ℕ) → C q → A q ⊎ B q)
+    → ((q : ℕ) → A q → C q)
     → ((q : ℕ) → B q → C q) → Raises greatest l C e a c n o
 then_raises greatest l A B C e a b c n m o x y split in_a in_b = record {
   raised = then_least l A B C e a.heads b.heads c.heads x.raised y.raised split in_a in_b;
@@ -173,7 +175,8 @@ module _ (greatest : ℕ) (l : LayoutState) (from to e : ℕ) (old : Rows)
                   in let same = at i (omega arith) ∙ ap (λ (x : ℕ). get_or old.heads x 0) e_q
                   in absurd (done.1 (subst (λ (xs : List ℕ). IsIn xs q) (sym is)
                   (subst (IsIn (marked p (8 * from) part)) e_q (marked_in p (8 * from) part i (omega arith)
-                  (and_from (ltb 0 (get_or part i 0)) (ltb (get_or part i 0) e) (lt-ltb 0 (get_or part i 0) (omega arith))
+                  (and_from (ltb 0 (get_or part i 0)) (ltb (get_or part i 0) e)
+                  (lt-ltb 0 (get_or part i 0) (omega arith))
                   (lt-ltb (get_or part i 0) e (omega arith))))))))
               | inr enough ↦ enough
             ]);
@@ -245,7 +248,8 @@ module _ (greatest : ℕ) (l : LayoutState) (from to e : ℕ) (old : Rows)
     pub blocks_on : (new : Rows) (after : NotesState) → Raises greatest l (IsPosition q) e now new mid after
         → AreBlocksRaised greatest l from to e rest old new before after
     blocks_on new after raised = record {
-      raises = then_raises greatest l (IsDone from to todo) (IsPosition q) (IsDone from to rest) e old now new before mid
+      raises = then_raises greatest l (IsDone from to todo) (IsPosition q)
+          (IsDone from to rest) e old now new before mid
           after so_far.raises raised more_done still_done here_done;
       to_come = popped_to_come;
     }

@@ -6,7 +6,7 @@ use Rattle.shop_bound.specs.inner.Layouts.{LayoutState, place}
 use Rattle.shop_bound.specs.inner.LaneHeads.{NotesState, IsNoted, LeadsBack}
 use Rattle.shop_bound.specs.inner.Raises.{steps_of}
 use Rattle.shop_bound.specs.inner.Raises.{IsPosition, IsRaisable, Raises, Replaces}
-use Rattle.shop_bound.proofs.RaiseWalks.{IsRaisedUpTo, walk_begins, next_least, walk_on, walk_ends, place_within}
+use Rattle.shop_bound.proofs.RaiseWalks.{IsRaisedUpTo, walk_begins, next_least, walk_on, walk_ends}
 use Rattle.shop_bound.proofs.RestoredNotes.{back_one, back_both}
 
 pub replaced : (greatest : ℕ) (old new : Rows) (before after : NotesState) (q v h : ℕ) → h ≡ get_or old.heads q 0
@@ -30,16 +30,13 @@ pub record IsWalking (greatest : ℕ) (l : LayoutState) (p e t ready : ℕ) (old
 
 module _ (greatest : ℕ) (l : LayoutState) (p e : ℕ) (old : Rows)
     (can : IsRaisable greatest l old (IsPosition p) e) (some : 0 < get_or old.heads p 0) where
-  pub position_within : p < length old.heads
-  position_within = let at = can.places p some in let s = can.indexed.step (get_or l.jobs p 0) (get_or l.steps p 0) at.step
-      in let a = s.within in let b = can.indexed.jobs in let c = at.is in omega arith
-
   -- its end fits
   pub end_fits : e + get_or l.times p 0 ≤ greatest
   end_fits = let a = can.raised.reach p refl some in let b = can.fits p (let c = can.raised.rises p in omega arith)
       in omega arith
 
-  pub begun : get_or old.heads p 0 ≤ e → (new : Rows) (before after : NotesState) → Replaces greatest p e old new before after
+  pub begun : get_or old.heads p 0 ≤ e → (new : Rows) (before after : NotesState)
+      → Replaces greatest p e old new before after
       → (t ready time : ℕ) → t ≡ get_or l.steps p 0 + 1 → time ≡ get_or new.times p 0 → ready ≡ e + time
       → IsWalking greatest l p e t ready old new before after
   begun below new before after wrote t ready time next read sum =
@@ -57,12 +54,9 @@ module _ (greatest : ℕ) (l : LayoutState) (p e : ℕ) (old : Rows)
         noted = wrote.noted;
       }
 
-  module _ (t ready : ℕ) (now : Rows) (before mid : NotesState) (so_far : IsWalking greatest l p e t ready old now before mid)
+  module _ (t ready : ℕ) (now : Rows) (before mid : NotesState)
+      (so_far : IsWalking greatest l p e t ready old now before mid)
       (more : t < steps_of l (get_or l.jobs p 0)) (q : ℕ) (at : q ≡ place l (get_or l.jobs p 0) t) where
-    pub next_within : q < length now.heads
-    next_within = let a = place_within l (length old.heads) can.indexed (get_or l.jobs p 0) t more
-        in let b = so_far.up_to.positions in omega arith
-
     -- what is to be stored and added up there fits
     pub next_fits : (ready ≤ greatest) × (ready + get_or now.times q 0 ≤ greatest)
     next_fits =
@@ -76,7 +70,8 @@ module _ (greatest : ℕ) (l : LayoutState) (p e : ℕ) (old : Rows)
         ap (λ (xs : List ℕ). get_or xs q 0) (so_far.times ∙ can.times) ∙ ap (λ (x : ℕ). get_or l.times x 0) at
         in (omega arith, omega arith)
 
-    pub on : get_or now.heads q 0 < ready → (new : Rows) (after : NotesState) → Replaces greatest q ready now new mid after
+    pub on : get_or now.heads q 0 < ready → (new : Rows) (after : NotesState)
+        → Replaces greatest q ready now new mid after
         → (h time u : ℕ) → u ≡ t + 1 → time ≡ get_or new.times q 0 → h ≡ ready + time
         → IsWalking greatest l p e u h old new before after
     on below new after wrote h time u next read sum =
@@ -96,7 +91,8 @@ module _ (greatest : ℕ) (l : LayoutState) (p e : ℕ) (old : Rows)
           noted = back_both greatest before mid after old.heads now.heads new.heads so_far.noted wrote.noted;
         }
 
-  pub ended : (t ready : ℕ) (now : Rows) (before after : NotesState) → IsWalking greatest l p e t ready old now before after
+  pub ended : (t ready : ℕ) (now : Rows) (before after : NotesState)
+      → IsWalking greatest l p e t ready old now before after
       → (t < steps_of l (get_or l.jobs p 0) → ready ≤ get_or now.heads (place l (get_or l.jobs p 0) t) 0)
       → Raises greatest l (IsPosition p) e old now before after
   ended t ready now before after so_far enough = record {

@@ -48,7 +48,8 @@ module _ (shop : Shop) (limits : IsWithinLimits shop) (l : LayoutState) (laid : 
     small = (let a = limits.machines in omega arith);
     known = (let a = laid.machines in omega arith);
     ordered = (let a = machines_rise shop limits l laid m (m + 1) (omega arith) (omega arith) in omega arith);
-    within = (let a = machines_rise shop limits l laid (m + 1) shop.machines (omega arith) (omega arith) in omega arith);
+    within = (let a = machines_rise shop limits l laid (m + 1) shop.machines (omega arith)
+        (omega arith) in omega arith);
   }
 
   pub is_place : (j k r : ℕ) → IsOperation shop j k → place l j k ≡ r → IsPlace l r

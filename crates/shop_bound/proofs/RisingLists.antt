@@ -130,7 +130,8 @@ now_put xs place y n list below at told t tells = let last = not_before xs place
 )
 
 -- so there is room for one more
-pub put_short : (xs : List ℕ) (place y n : ℕ) → length (insert xs place y) ≡ length xs + 1 → IsRisingBelow n (insert xs place y)
+pub put_short : (xs : List ℕ) (place y n : ℕ) → length (insert xs place y) ≡ length xs + 1
+    → IsRisingBelow n (insert xs place y)
     → length xs < n
 put_short xs place y n long list =
     let a = rising_short (insert xs place y) 0 n (omega arith) list.rises (λ q h. (omega arith, list.below q h))

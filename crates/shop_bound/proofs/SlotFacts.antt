@@ -8,11 +8,8 @@ use Rattle.std.proofs.lemmas.List.FromFn.{get_or-range_with_len, length-range_wi
 use Rattle.std.proofs.lemmas.List.Elements.{All-from_recursion, Contains-append_left, Contains-append_right}
 use Rattle.std.proofs.lemmas.List.Sorted.{All-permutation, Contains-permutation}
 use Rattle.shop_model.specs.Shop.{Shop, route_of, machine_of, IsOperation}
-use Rattle.shop_model.specs.Word.{Placing}
 use Rattle.shop_bound.specs.declared.slots.Slot.{Slot}
-use Rattle.shop_bound.specs.Placements.{PlacementState, IsPlacement}
-use Rattle.shop_bound.specs.Slots.{slot_at, operations_in, operations_on, AreSlotsOf, AreHeadsKept}
-use Rattle.shop_bound.specs.inner.OpenSlots.{HasPlace}
+use Rattle.shop_bound.specs.Slots.{slot_at, operations_in, operations_on, AreSlotsOf}
 use Rattle.shop_bound.proofs.Lists.{all_map, all_filter}
 use Rattle.shop_bound.proofs.OpenSlots.{all_flat, range_within}
 
@@ -57,18 +54,6 @@ pub slots_are_operations : (shop : Shop) (m : ℕ) (slots : List Slot) → AreSl
 slots_are_operations shop m slots are =
     All-permutation (IsOperationOn shop m) (operations_on shop m) slots are.same
     (All-from_recursion (IsOperationOn shop m) (operations_on shop m) (operations_are shop m))
-
-pub slots_have_places : (shop : Shop) (p : Placing) (s : PlacementState) (rows : List (List ℕ)) (m : ℕ)
-    → IsPlacement shop p s → AreHeadsKept shop p rows → (slots : List Slot) → AreSlotsOf shop m slots
-    → All (HasPlace rows s.steps) slots
-slots_have_places shop p s rows m placed kept slots are k d here =
-    let op = slots_are_operations shop m slots are k d here
-    in let job = op.job
-    in let step = op.step
-    in let steps = placed.places.steps
-    in let jobs = kept.jobs
-    in let row = kept.steps (get_or slots k d).job
-    in record { job = omega arith; row = omega arith; step = omega arith }
 
 -- an element of a list stands in what is made of the list
 module _ {A : Type 0} where

@@ -7,7 +7,6 @@ pub mod Placements
 pub mod Schedules
 pub mod Laws
 pub mod Trails
-pub mod Standings
 pub mod Desks
 pub mod Slots
 pub mod inner

@@ -1,14 +1,13 @@
--- The operations of a machine as a program keeps them, and those that aren't placed with their heads.
+-- The operations of a machine as a program keeps them, and those that aren't placed with their
+-- heads.
 --     operations_on shop m           the operations of machine m, job by job, step by step
 --     AreSlotsOf shop m slots        these, in an order in which the tails fall
---     AreHeadsKept shop p rows       the rows tell the head of each operation that isn't placed
 use Rattle.std.specs.Prelude.{◌≡◌, ℕ, ◌≤◌, ◌<◌, ◌==◌, List, [], ◌∷◌, length, map, filter, flat_map}
-use Rattle.std.specs.Prelude.{slice_index, slice_index_or, IsPermutation}
+use Rattle.std.specs.Prelude.{slice_index_or, IsPermutation}
 use Rattle.std.specs.List.{range_with_len, AllByRecursion}
 use Rattle.shop_model.specs.declared.ops.Op.{Op}
-use Rattle.shop_model.specs.Shop.{Shop, no_op, route_of, IsOperation}
-use Rattle.shop_model.specs.Word.{Placing}
-use Rattle.shop_bound.specs.Heads.{head_of, tail_in}
+use Rattle.shop_model.specs.Shop.{Shop, no_op, route_of}
+use Rattle.shop_bound.specs.Heads.{tail_in}
 use Rattle.shop_bound.specs.declared.slots.Slot.{Slot}
 
 -- step k of job j, which has this route, as its machine sees it
@@ -22,7 +21,8 @@ operations_in route m j = map (slot_at route j)
     (filter (λ k. (slice_index_or route k no_op).machine == m) (range_with_len 0 (length route)))
 
 abbrev pub operations_on : Shop → ℕ → List Slot
-operations_on shop m = flat_map (λ j. operations_in (route_of shop j) m j) (range_with_len 0 (length shop.jobs))
+operations_on shop m =
+    flat_map (λ j. operations_in (route_of shop j) m j) (range_with_len 0 (length shop.jobs))
 
 -- no value of f is above an earlier one
 abbrev pub IsNonincreasing : {A : Type 0} → (A → ℕ) → List A → Type 0
@@ -37,10 +37,3 @@ pub record AreSlotsOf (shop : Shop) (m : ℕ) (slots : List Slot) : Type 0 where
 pub record AreMachineSlots (shop : Shop) (lists : List (List Slot)) : Type 0 where
   pub machines : length lists ≡ shop.machines
   pub slots : (m : ℕ) → m < shop.machines → AreSlotsOf shop m (slice_index_or lists m [])
-
--- a row for each job, as long as its route; what stands there for placed steps is never looked at
-pub record AreHeadsKept (shop : Shop) (p : Placing) (rows : List (List ℕ)) : Type 0 where
-  pub jobs : length rows ≡ length shop.jobs
-  pub steps : (j : ℕ) → length (slice_index_or rows j []) ≡ length (route_of shop j)
-  pub heads : (j k : ℕ) → IsOperation shop j k → p.steps j ≤ k
-      → slice_index (slice_index_or rows j []) k ≡ head_of shop p j k

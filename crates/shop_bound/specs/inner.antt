@@ -14,7 +14,7 @@ pub mod Profiles
 pub mod NonincreasingTails
 pub mod Thresholds
 pub mod Unplaced
-pub mod KeptHeads
+pub mod HeadRaises
 pub mod OpenSlots
 pub mod Serving
 pub mod HeadRows
@@ -25,3 +25,6 @@ pub mod HeadLimits
 pub mod LaneBounds
 pub mod ChildBounds
 pub mod WaitingBounds
+pub mod KeptDesks
+pub mod BoundsUpTo
+pub mod HeadsInRows

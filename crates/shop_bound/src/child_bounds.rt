@@ -8,7 +8,7 @@ ghost use Rattle.shop_bound.specs.inner.LaneBounds.{Foresees, lanes_on};
 
 use crate::dispatching::advance;
 use crate::fills::go_back;
-use crate::kept_heads::Raise;
+use crate::head_raises::Raise;
 use crate::lane_bounds::{Foreseen, bound_by_raises, look_ahead, set_raises};
 use crate::layouts::Layout;
 use crate::notes::Notes;

@@ -1,11 +1,13 @@
 // The conflict set of what is dispatched (Giffler and Thompson 1960).
 ghost use Rattle.std.specs.Prelude.{◌≡◌, ◌≤◌, length, vec_capacity};
 ghost use Rattle.shop_bound.specs.Conflicts.{conflict};
-ghost use Rattle.shop_bound.specs.inner.Choosing.{IsChosen, IsNextOf, conflicting_with, conflict_of};
+ghost use Rattle.shop_bound.specs.inner.Choosing.{IsChosen, conflict_of};
+ghost use Rattle.shop_bound.specs.inner.Waitings.{IsWaiting};
 
 use crate::desks::Desk;
 use crate::next_operations::NextOperation;
 use crate::placings::Placed;
+use crate::waiting::Waiting;
 
 /// The next operation that can end first, of the lowest job on ties; none where no job has a step left.
 fn choose(placed: &Placed) -> Option<NextOperation>
@@ -26,33 +28,15 @@ fn choose(placed: &Placed) -> Option<NextOperation>
     chosen
 }
 
-/// Replaces the list with the jobs whose next operations are in conflict with the chosen one, that one included.
-fn gather_conflicting(jobs: &mut Vec<usize>, placed: &Placed, chosen: NextOperation)
-    requires next { IsNextOf placed.now chosen.job chosen }
-    requires room { length placed.now.instance.now.jobs ≤ vec_capacity jobs.old }
-    ensures jobs { jobs.new.items ≡ conflicting_with placed.now chosen.job }
-    ensures room { vec_capacity jobs.old ≤ vec_capacity jobs.new }
-{
-    jobs.clear();
-    for job in 0..placed.instance.jobs() {
-        let Some(next) = placed.next(job) else {
-            continue
-        };
-        if !next.conflicts_with(&chosen) {
-            continue;
-        }
-        jobs.push(job).unwrap();
-    }
-}
-
 /// Replaces the list with the conflict set of the word that is placed.
-fn gather_of(jobs: &mut Vec<usize>, placed: &Placed)
-    requires { length placed.now.instance.now.jobs ≤ vec_capacity jobs.old }
+fn gather_of(jobs: &mut Vec<usize>, placed: &Placed, waiting: &Waiting)
+    requires kept { IsWaiting placed.now.instance.now placed.now.word.now waiting.now }
+    requires room { length placed.now.instance.now.jobs ≤ vec_capacity jobs.old }
     ensures jobs { jobs.new.items ≡ conflict_of placed.now }
     ensures room { vec_capacity jobs.old ≤ vec_capacity jobs.new }
 {
     match choose(placed) {
-        Some(chosen) => gather_conflicting(jobs, placed, chosen),
+        Some(chosen) => waiting.gather_conflicting(jobs, placed, chosen),
         None => jobs.clear(),
     }
 }
@@ -68,6 +52,6 @@ impl<'a> Desk<'a> {
         ensures room { vec_capacity jobs.old ≤ vec_capacity jobs.new }
     {
         let placed = Placed::new(self.instance, self.jobs.as_slice(), &self.placement);
-        gather_of(jobs, &placed);
+        gather_of(jobs, &placed, &*self.waiting);
     }
 }

@@ -3,13 +3,11 @@ ghost use Rattle.std.specs.Prelude.{◌≡◌, ◌++◌, ◌∷◌, [], ◌<◌,
 ghost use Rattle.shop_model.specs.Word.{IsWord};
 ghost use Rattle.shop_bound.specs.Bound.{lb};
 ghost use Rattle.shop_bound.specs.Desks.{IsPlacedWord, IsUndone, IsWordOfShop, goes_on, nothing_dispatched};
-ghost use Rattle.shop_bound.specs.Desks.{IsBoundUpTo, TellsBoundBelow};
+ghost use Rattle.shop_bound.specs.Desks.{TellsBoundBelow};
+ghost use Rattle.shop_bound.specs.inner.BoundsUpTo.{IsBoundUpTo};
 
-use crate::kept_heads::{NO_RAISE, Raise, advance, clear_raises, first_heads, go_back};
-use crate::open_bounds::{bound_by_raises, longest, standing_bound};
 use crate::placements::{Placement, Replaced};
-use crate::slots::{Slot, machine_slots};
-use crate::triples::{NO_TRIPLE, Triple};
+use crate::waiting::Waiting;
 use shop_model::Instance;
 use std::alloc::{AllocError, Global};
 use std::marker::Model;
@@ -20,26 +18,22 @@ use std::marker::Model;
 #[derive(Drop)]
 pub struct Desk<'a> {
     pub(crate) instance: &'a Instance,
-    slots: Vec<Vec<Slot>>,
     pub(crate) placement: Placement,
-    heads: Vec<Vec<u64>>,
-    raises: Vec<Raise>,
+    pub(crate) waiting: Box<Waiting>,
     pub(crate) jobs: Vec<usize>,
     replaced: Vec<Replaced>,
-    triples: Vec<Triple>,
 }
 
 impl<'a> Model for Desk<'a> {
-    ghost use Rattle.std.specs.Prelude.{length, vec_capacity};
-    ghost use Rattle.shop_bound.specs.Desks.{DeskState, IsDesk};
-    ghost use Rattle.shop_bound.specs.Vectors.{items_in};
+    ghost use Rattle.std.specs.Prelude.{vec_capacity};
+    ghost use Rattle.shop_bound.specs.Desks.{DeskState};
+    ghost use Rattle.shop_bound.specs.inner.KeptDesks.{IsDesk};
 
     ghost Value = { DeskState };
 
     ghost view = { λ d. record { shop = d.instance.now; word = d.jobs.items } };
 
-    ghost invariant = { λ d. IsDesk d.instance.now d.jobs.items d.placement (items_in d.slots.items)
-        (items_in d.heads.items) d.replaced.items (length d.raises.items) (length d.triples.items)
+    ghost invariant = { λ d. IsDesk d.instance.now d.jobs.items d.placement d.waiting.value d.replaced.items
         (vec_capacity d.jobs) (vec_capacity d.replaced) };
 }
 
@@ -49,23 +43,17 @@ impl<'a> Desk<'a> {
         ensures { IfOk result (λ d. d ≡ nothing_dispatched instance.now) }
     {
         instance.keeps_limits();
-        let slots = machine_slots(alloc, instance)?;
         let placement = Placement::none(alloc, instance)?;
-        let mut raises = vec![in alloc; NO_RAISE; instance.machines()]?;
-        let heads = first_heads(alloc, raises.as_mut_slice(), instance, &placement)?;
+        let waiting = Box::new(alloc, Waiting::new(alloc, instance, &placement)?)?;
         let room = instance.operations();
         let jobs = Vec::with_capacity(alloc, room)?;
         let replaced = Vec::with_capacity(alloc, room)?;
-        let triples = vec![in alloc; NO_TRIPLE; longest(slots.as_slice())]?;
         Ok(Desk {
             instance,
-            slots,
             placement,
-            heads,
-            raises,
+            waiting,
             jobs,
             replaced,
-            triples,
         })
     }
 
@@ -75,14 +63,10 @@ impl<'a> Desk<'a> {
         ensures { self.new ≡ goes_on self.old job }
     {
         let instance = self.instance;
-        let replaced = advance(
-            self.heads.as_mut_slice(),
-            self.raises.as_mut_slice(),
-            &mut self.placement,
-            instance,
-            self.slots.as_slice(),
-            job,
-        );
+        let step = self.placement.steps(job);
+        let replaced = self.placement.next_replaces(instance, job);
+        self.placement.place_next(instance, job);
+        (*self.waiting).dispatch(instance, job, step);
         self.jobs.push(job).unwrap();
         self.replaced.push(replaced).unwrap();
     }
@@ -95,15 +79,8 @@ impl<'a> Desk<'a> {
         let instance = self.instance;
         let job = self.jobs.pop().unwrap();
         let replaced = self.replaced.pop().unwrap();
-        go_back(
-            self.heads.as_mut_slice(),
-            self.raises.as_mut_slice(),
-            &mut self.placement,
-            instance,
-            self.slots.as_slice(),
-            job,
-            replaced,
-        );
+        self.placement.take_back(instance, job, replaced);
+        (*self.waiting).undo(instance, &self.placement);
     }
 
     /// The lower bound of what is dispatched.
@@ -111,14 +88,7 @@ impl<'a> Desk<'a> {
         ensures bound { result ≡ lb self.old.shop self.old.word }
         ensures same { self.new ≡ self.old }
     {
-        let instance = self.instance;
-        standing_bound(
-            self.triples.as_mut_slice(),
-            instance,
-            &self.placement,
-            self.slots.as_slice(),
-            self.heads.as_slice(),
-        )
+        (*self.waiting).bound(self.instance, &self.placement)
     }
 
     /// The lower bound of what is dispatched and the next operation of a job, which has one left, with the bound of
@@ -154,35 +124,7 @@ impl<'a> Desk<'a> {
         ensures same { self.new ≡ self.old }
     {
         let instance = self.instance;
-        let least = bound.max(self.placement.next_end(instance, job));
-        if limit <= least {
-            return least;
-        }
-        let slots = self.slots.as_slice();
-        let heads = self.heads.as_mut_slice();
-        let raises = self.raises.as_mut_slice();
-        clear_raises(raises);
-        let replaced = advance(heads, raises, &mut self.placement, instance, slots, job);
-        let after = bound_by_raises(
-            self.triples.as_mut_slice(),
-            instance,
-            &self.placement,
-            slots,
-            heads,
-            raises,
-            least,
-            limit,
-        );
-        go_back(
-            heads,
-            raises,
-            &mut self.placement,
-            instance,
-            slots,
-            job,
-            replaced,
-        );
-        after
+        (*self.waiting).bound_up_to(instance, &self.placement, job, bound, limit)
     }
 
     /// The jobs of what is dispatched, in order.

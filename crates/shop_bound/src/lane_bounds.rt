@@ -3,11 +3,11 @@ ghost use Rattle.std.specs.Prelude.{◌≡◌, ℕ, ◌+◌, ◌-◌, ◌*◌, �
 ghost use Rattle.shop_lanes.specs.Rows.{AreBlocks, lanes_between};
 ghost use Rattle.shop_lanes.specs.Spans.{FitsSpan, span, spans_between};
 ghost use Rattle.shop_model.specs.Shop.{greatest_below};
-ghost use Rattle.shop_bound.specs.inner.KeptHeads.{raise_of};
+ghost use Rattle.shop_bound.specs.inner.HeadRaises.{raise_of};
 ghost use Rattle.shop_bound.specs.inner.LaneBounds.{AreMachinesAt, AreRaisesUpTo, AreSpansFit, IsNoteWithin};
 ghost use Rattle.shop_bound.specs.inner.LaneBounds.{Foresees, NoneBelow, lanes_on, part_by_spans};
 
-use crate::kept_heads::{NO_RAISE, Raise};
+use crate::head_raises::{NO_RAISE, Raise};
 use crate::layouts::Layout;
 use crate::notes::Note;
 use shop_lanes::Lanes;

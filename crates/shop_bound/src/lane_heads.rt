@@ -10,7 +10,7 @@ ghost use Rattle.shop_bound.specs.inner.LaneStates.{CanGoOnInLanes, KeepsLanes, 
 use crate::child_bounds::child_bound;
 use crate::dispatching::advance;
 use crate::fills::{fill, go_back};
-use crate::kept_heads::{NO_RAISE, Raise};
+use crate::head_raises::{NO_RAISE, Raise};
 use crate::lane_bounds::machines_of;
 use crate::latest_ends::latest_end;
 use crate::layouts::Layout;

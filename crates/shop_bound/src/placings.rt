@@ -55,7 +55,6 @@ impl<'a> Placed<'a> {
         Some(NextOperation {
             job,
             machine: operation.machine,
-            head,
             end: head + operation.time,
         })
     }

@@ -1,17 +1,11 @@
 // The operations of each machine by nonincreasing tails, and those that are not placed.
-ghost use Rattle.std.specs.Prelude.{◌≡◌, ℕ, ◌≤◌, ◌<◌, [], slice_index_or, IfOk, OnOk, All};
-ghost use Rattle.std.specs.Prelude.{length, map, take, replicate};
+ghost use Rattle.std.specs.Prelude.{◌≡◌, ℕ, ◌<◌, [], slice_index_or, IfOk, OnOk, length, map, replicate};
 ghost use Rattle.shop_model.specs.Shop.{no_op};
-ghost use Rattle.shop_bound.specs.inner.NonincreasingTails.{one_between};
 ghost use Rattle.shop_bound.specs.inner.HeadRows.{AreTimesSmall};
-ghost use Rattle.shop_bound.specs.OneMachine.{one, IsSmall};
-ghost use Rattle.shop_bound.specs.Slots.{IsNonincreasing, AreMachineSlots};
+ghost use Rattle.shop_bound.specs.Slots.{AreMachineSlots};
 ghost use Rattle.shop_bound.specs.inner.OpenSlots.{AddsOperations, AreOperations};
-ghost use Rattle.shop_bound.specs.inner.OpenSlots.{HasPlace, open_triples};
 
-use crate::nonincreasing_tails::bound_between;
 use crate::tail_rows::total_time;
-use crate::triples::Triple;
 use shop_model::{Instance, Op};
 use std::alloc::{AllocError, Global};
 use std::cmp::Reverse;
@@ -83,51 +77,4 @@ pub(crate) fn machine_slots(
         lists[m].sort_by_key(|slot| Reverse(slot.tail))?;
     }
     Ok(lists)
-}
-
-/// Puts the slots that are not placed at the front of `triples`, with the heads in the rows; answers how many they are.
-pub(crate) fn gather_open(
-    triples: &mut [Triple],
-    slots: &[Slot],
-    steps: &[usize],
-    heads: &[Vec<u64>],
-) -> usize
-    requires room { length slots.now ≤ length triples.old }
-    requires places { All (HasPlace (map (λ r. r.items) heads.now) steps.now) slots.now }
-    ensures count { result ≤ length slots.now }
-    ensures triples { take result triples.new ≡ open_triples (map (λ r. r.items) heads.now) steps.now slots.now }
-{
-    let mut count = 0;
-    for s in slots {
-        triples[count] = Triple {
-            head: heads[s.job][s.step],
-            time: s.time,
-            tail: s.tail,
-        };
-        if steps[s.job] <= s.step {
-            count += 1;
-        }
-    }
-    count
-}
-
-/// A bound of what is open on a machine, which counts all operations of which the least head is at least `from` and at
-/// most `to`. It leaves the open ones in `triples`.
-pub(crate) fn open_bound_between(
-    triples: &mut [Triple],
-    slots: &[Slot],
-    steps: &[usize],
-    heads: &[Vec<u64>],
-    from: u64,
-    to: u64,
-) -> u64
-    requires room { length slots.now ≤ length triples.old }
-    requires places { All (HasPlace (map (λ r. r.items) heads.now) steps.now) slots.now }
-    requires nonincreasing { IsNonincreasing (λ s. s.tail) slots.now }
-    requires small { IsSmall (open_triples (map (λ r. r.items) heads.now) steps.now slots.now) }
-    ensures covers { one_between from to (open_triples (map (λ r. r.items) heads.now) steps.now slots.now) ≤ result }
-    ensures within { result ≤ one (open_triples (map (λ r. r.items) heads.now) steps.now slots.now) }
-{
-    let count = gather_open(triples, slots, steps, heads);
-    bound_between(&triples[..count], from, to)
 }

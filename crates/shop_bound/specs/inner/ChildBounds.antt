@@ -1,5 +1,6 @@
 -- The bound after one more operation, by heads in lanes.
---     CanBound greatest shop ..      heads in lanes of a word to which an operation can be added, and what bounds it
+--     CanBound greatest shop ..      heads in lanes of a word to which an operation can be added,
+--                                    and what bounds it
 --     KeepsHeads                     the same heads, whichever word they were of
 --     TellsChildBound                the bound after one more operation, as far as the limit
 use Rattle.std.specs.Prelude.{◌≡◌, ℕ, ◌+◌, ◌≤◌, List, [], ◌∷◌, ◌++◌}
@@ -7,14 +8,15 @@ use Rattle.shop_lanes.specs.Rows.{Rows}
 use Rattle.shop_model.specs.Shop.{Shop, machine_of}
 use Rattle.shop_model.specs.Word.{IsWord, place_next, placing}
 use Rattle.shop_bound.specs.Bound.{lb}
-use Rattle.shop_bound.specs.Desks.{IsBoundUpTo}
+use Rattle.shop_bound.specs.inner.BoundsUpTo.{IsBoundUpTo}
 use Rattle.shop_bound.specs.Placements.{PlacementState, IsPlacement}
 use Rattle.shop_bound.specs.inner.HeadLimits.{FitsLanes, latest_end}
 use Rattle.shop_bound.specs.inner.LaneBounds.{AreMachinesAt}
 use Rattle.shop_bound.specs.inner.LaneStates.{AreHeadsInLanes}
 use Rattle.shop_bound.specs.inner.Layouts.{LayoutState, place}
 
-pub record CanBound (greatest : ℕ) (shop : Shop) (l : LayoutState) (s : PlacementState) (job : ℕ) (ms : List ℕ)
+pub record CanBound (greatest : ℕ) (shop : Shop) (l : LayoutState) (s : PlacementState) (job : ℕ)
+    (ms : List ℕ)
     (raises top : ℕ) (rows : Rows) : Type 0 where
   pub word : List ℕ
   pub kept : AreHeadsInLanes greatest shop word l rows
@@ -29,20 +31,26 @@ abbrev pub KeepsHeads : ℕ → Shop → LayoutState → PlacementState → Rows
 KeepsHeads greatest shop l s old new = (w : List ℕ) → AreHeadsInLanes greatest shop w l old
     → IsPlacement shop (placing shop w) s → AreHeadsInLanes greatest shop w l new
 
--- whichever word the heads are of, if `least` is at least its bound and the end of the operation, and at most the bound
--- after it
-abbrev pub TellsRaisedBound : ℕ → Shop → LayoutState → PlacementState → Rows → ℕ → ℕ → ℕ → ℕ → Type 0
-TellsRaisedBound greatest shop l s rows job least limit b = (w : List ℕ) → AreHeadsInLanes greatest shop w l rows
+-- whichever word the heads are of, if `least` is at least its bound and the end of the operation,
+-- and at most the bound after it
+abbrev pub TellsRaisedBound : ℕ → Shop → LayoutState → PlacementState → Rows → ℕ → ℕ → ℕ → ℕ
+    → Type 0
+TellsRaisedBound greatest shop l s rows job least limit b =
+    (w : List ℕ) → AreHeadsInLanes greatest shop w l rows
     → IsPlacement shop (placing shop w) s → IsWord shop (w ++ job ∷ []) → lb shop w ≤ least
-    → (place_next shop (placing shop w) job).free (machine_of shop job ((placing shop w).steps job)) ≤ least
+    → (place_next shop (placing shop w) job).free (machine_of shop job ((placing shop w).steps job))
+    ≤ least
     → least ≤ lb shop (w ++ job ∷ []) → IsBoundUpTo limit (lb shop (w ++ job ∷ [])) b
 
 abbrev pub TellsChildBound : ℕ → Shop → LayoutState → PlacementState → Rows → ℕ → ℕ → ℕ → ℕ → Type 0
-TellsChildBound greatest shop l s rows job bound limit b = (w : List ℕ) → AreHeadsInLanes greatest shop w l rows
-    → IsPlacement shop (placing shop w) s → IsWord shop (w ++ job ∷ []) → bound ≡ lb shop w → IsBoundUpTo limit (lb shop (w ++ job ∷ [])) b
+TellsChildBound greatest shop l s rows job bound limit b =
+    (w : List ℕ) → AreHeadsInLanes greatest shop w l rows
+    → IsPlacement shop (placing shop w) s → IsWord shop (w ++ job ∷ []) → bound ≡ lb shop w
+    → IsBoundUpTo limit (lb shop (w ++ job ∷ [])) b
 
 -- heads in lanes of a word to which an operation can be added, and the machine of each position
-pub record HasNextInPlace (greatest : ℕ) (shop : Shop) (l : LayoutState) (s : PlacementState) (job : ℕ) (ms : List ℕ)
+pub record HasNextInPlace (greatest : ℕ) (shop : Shop) (l : LayoutState) (s : PlacementState)
+    (job : ℕ) (ms : List ℕ)
     (rows : Rows) : Type 0 where
   pub word : List ℕ
   pub kept : AreHeadsInLanes greatest shop word l rows
@@ -51,13 +59,16 @@ pub record HasNextInPlace (greatest : ℕ) (shop : Shop) (l : LayoutState) (s : 
   pub machines : AreMachinesAt l shop.machines ms
 
 -- the position and the machine of the next operation of a job, and one more than its end
-pub record IsNextAt (shop : Shop) (w : List ℕ) (l : LayoutState) (job position machine end : ℕ) : Type 0 where
+pub record IsNextAt (shop : Shop) (w : List ℕ) (l : LayoutState)
+    (job position machine end : ℕ) : Type 0 where
   pub position_is : position ≡ place l job ((placing shop w).steps job)
   pub machine_is : machine ≡ machine_of shop job ((placing shop w).steps job)
   pub end_is : end
-      ≡ (place_next shop (placing shop w) job).free (machine_of shop job ((placing shop w).steps job)) + 1
+      ≡ (place_next shop (placing shop w) job).free
+      (machine_of shop job ((placing shop w).steps job)) + 1
 
 abbrev pub IsNextOperation : ℕ → Shop → LayoutState → PlacementState → ℕ → Rows → ℕ → ℕ → ℕ → Type 0
 IsNextOperation greatest shop l s job rows position machine end = (w : List ℕ)
-    → AreHeadsInLanes greatest shop w l rows → IsPlacement shop (placing shop w) s → IsWord shop (w ++ job ∷ [])
+    → AreHeadsInLanes greatest shop w l rows → IsPlacement shop (placing shop w) s
+    → IsWord shop (w ++ job ∷ [])
     → IsNextAt shop w l job position machine end

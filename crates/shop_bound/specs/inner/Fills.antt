@@ -1,5 +1,6 @@
 -- Heads by position that are set anew, or put back.
---     IsStored shop p l heads j k    the head of step k of job j, and one more, or 0 where it is placed
+--     IsStored shop p l heads j k    the head of step k of job j, and one more, or 0 where it is
+--                                    placed
 --     CanFill greatest shop l s rows all heads of what was placed can be set
 --     HasFilledJob, HasFilled        those of a job, or of all jobs, were set
 --     HasPutBack notes old new       the heads of the notes were put back
@@ -16,7 +17,8 @@ use Rattle.shop_bound.specs.inner.Layouts.{LayoutState, place, first_of, IsLaidO
 use Rattle.shop_bound.specs.inner.NextSteps.{IsOfWord}
 use Rattle.shop_bound.specs.declared.notes.Note.{Note}
 
-pub record IsStored (shop : Shop) (p : Placing) (l : LayoutState) (heads : List ℕ) (j k : ℕ) : Type 0 where
+pub record IsStored (shop : Shop) (p : Placing) (l : LayoutState) (heads : List ℕ)
+    (j k : ℕ) : Type 0 where
   pub waiting : p.steps j ≤ k → slice_index heads (place l j k) ≡ head_of shop p j k + 1
   pub placed : k < p.steps j → slice_index heads (place l j k) ≡ 0
 
@@ -28,7 +30,8 @@ IsPositionFree shop l q = (j k : ℕ) → IsOperation shop j k → place l j k �
 abbrev pub IsRested : Shop → LayoutState → List ℕ → Type 0
 IsRested shop l heads = (q : ℕ) → IsPositionFree shop l q → slice_index heads q ≡ 0
 
-pub record CanFill (greatest : ℕ) (shop : Shop) (l : LayoutState) (s : PlacementState) (rows : Rows) : Type 0 where
+pub record CanFill (greatest : ℕ) (shop : Shop) (l : LayoutState) (s : PlacementState)
+    (rows : Rows) : Type 0 where
   pub limits : IsWithinLimits shop
   pub laid : IsLaidOut shop l
   pub fits : AreHeadsFit greatest shop
@@ -43,22 +46,28 @@ pub record AreSameBeside (old new : Rows) : Type 0 where
   pub ends : new.ends ≡ old.ends
   pub positions : length new.heads ≡ length old.heads
 
-pub record HasFilledJob (shop : Shop) (l : LayoutState) (s : PlacementState) (j : ℕ) (old new : Rows) : Type 0 where
+pub record HasFilledJob (shop : Shop) (l : LayoutState) (s : PlacementState) (j : ℕ)
+    (old new : Rows) : Type 0 where
   pub beside : AreSameBeside old new
-  pub filled : (p : Placing) → IsPlacement shop p s → (k : ℕ) → IsOperation shop j k → IsStored shop p l new.heads j k
+  pub filled : (p : Placing) → IsPlacement shop p s → (k : ℕ) → IsOperation shop j k
+      → IsStored shop p l new.heads j k
   pub others : (q : ℕ) → ((k : ℕ) → IsOperation shop j k → place l j k ≡ q → ⊥)
       → slice_index new.heads q ≡ slice_index old.heads q
 
-pub record HasFilled (shop : Shop) (l : LayoutState) (s : PlacementState) (old new : Rows) : Type 0 where
+pub record HasFilled (shop : Shop) (l : LayoutState) (s : PlacementState)
+    (old new : Rows) : Type 0 where
   pub beside : AreSameBeside old new
-  pub filled : IsRested shop l old.heads → (p : Placing) → IsPlacement shop p s → AreHeadsAt shop p l new.heads
+  pub filled : IsRested shop l old.heads → (p : Placing) → IsPlacement shop p s
+      → AreHeadsAt shop p l new.heads
 
 pub record HasPutBack (notes : List Note) (old new : Rows) : Type 0 where
   pub beside : AreSameBeside old new
   pub heads : new.heads ≡ restored notes old.heads
 
-pub record GoesBack (shop : Shop) (l : LayoutState) (s : PlacementState) (notes : List Note) (whole : Bool)
+pub record GoesBack (shop : Shop) (l : LayoutState) (s : PlacementState) (notes : List Note)
+    (whole : Bool)
     (old new : Rows) : Type 0 where
   pub beside : AreSameBeside old new
-  pub heads : (p : Placing) → IsPlacement shop p s → (whole ≡ true → AreHeadsAt shop p l (restored notes old.heads))
+  pub heads : (p : Placing) → IsPlacement shop p s
+      → (whole ≡ true → AreHeadsAt shop p l (restored notes old.heads))
       → AreHeadsAt shop p l new.heads

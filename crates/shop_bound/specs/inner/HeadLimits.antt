@@ -3,7 +3,8 @@
 --     latest_release shop            the greatest release
 --     latest_end shop                no operation ends later
 --     load_of times tails            all times and the greatest tail
---     FitsLanes greatest shop l      from the latest end on, each machine's load ends below the greatest number
+--     FitsLanes greatest shop l      from the latest end on, each machine's load ends below the
+--                                    greatest number
 use Rattle.std.specs.Prelude.{ℕ, zero, suc, ◌+◌, ◌≤◌, ◌<◌, List, length, slice_index, sum_by}
 use Rattle.shop_lanes.specs.Rows.{blocks}
 use Rattle.shop_model.specs.Shop.{Shop, route_of, release_of, greatest_below}
@@ -29,4 +30,5 @@ load_on l m = load_of (blocks (slice_index l.blocks m) (slice_index l.blocks (m 
     (blocks (slice_index l.blocks m) (slice_index l.blocks (m + 1)) l.tails)
 
 abbrev pub FitsLanes : ℕ → Shop → LayoutState → Type 0
-FitsLanes greatest shop l = (m : ℕ) → m < shop.machines → latest_end shop + 1 + load_on l m ≤ greatest
+FitsLanes greatest shop l =
+    (m : ℕ) → m < shop.machines → latest_end shop + 1 + load_on l m ≤ greatest

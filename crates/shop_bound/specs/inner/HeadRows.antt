@@ -26,4 +26,5 @@ AreHeadsOfJob shop s j row = (p : Placing) → IsPlacement shop p s → row ≡ 
 
 abbrev pub AreHeadsOf : Shop → PlacementState → List (List (Option ℕ)) → Type 0
 AreHeadsOf shop s rows =
-    (p : Placing) → IsPlacement shop p s → rows ≡ map (heads_of shop p) (range_with_len 0 (length shop.jobs))
+    (p : Placing) → IsPlacement shop p s → rows
+    ≡ map (heads_of shop p) (range_with_len 0 (length shop.jobs))

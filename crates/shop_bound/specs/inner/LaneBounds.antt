@@ -1,15 +1,17 @@
 -- Bounds by heads in lanes.
 --     lanes_on rows l m              the lanes of machine m
---     AreSpansFit greatest top ..    each machine has its blocks, and a span from `top` on at the latest fits
+--     AreSpansFit greatest top ..    each machine has its blocks, and a span from `top` on at the
+--                                    latest fits
 --     NoneBelow heads from to limit  nothing waits in these blocks with a head below the limit
 --     AreMachinesAt l machines ms    the machine of each position
 --     AreNoted raises machines ..    each note is within its machine's raise
-use Rattle.std.specs.Prelude.{◌≡◌, true, ℕ, ◌+◌, ◌-◌, ◌*◌, ◌≤◌, ◌<◌, ◌⊎◌, max, List, length, slice_index}
+use Rattle.std.specs.Prelude.{◌≡◌, true, ℕ, ◌+◌, ◌-◌, ◌*◌, ◌≤◌, ◌<◌, ◌⊎◌, max, List, length}
+use Rattle.std.specs.Prelude.{slice_index}
 use Rattle.shop_lanes.specs.Rows.{Rows, Lane, AreBlocks, lanes_between}
 use Rattle.shop_lanes.specs.Spans.{span, spans_between, FitsSpan}
-use Rattle.shop_bound.specs.inner.KeptHeads.{raise_of}
+use Rattle.shop_bound.specs.inner.HeadRaises.{raise_of}
 use Rattle.shop_bound.specs.inner.Layouts.{LayoutState, first_of}
-use Rattle.shop_bound.specs.declared.kept_heads.Raise.{Raise}
+use Rattle.shop_bound.specs.declared.head_raises.Raise.{Raise}
 use Rattle.shop_bound.specs.declared.lane_bounds.Foreseen.{Foreseen}
 use Rattle.shop_bound.specs.declared.notes.Note.{Note}
 
@@ -18,7 +20,8 @@ lanes_on rows l m = lanes_between rows (slice_index l.blocks m) (slice_index l.b
 
 pub record AreSpansFit (greatest top machines : ℕ) (l : LayoutState) (rows : Rows) : Type 0 where
   pub known : length l.blocks ≡ machines + 1
-  pub blocks : (m : ℕ) → m < machines → AreBlocks rows (slice_index l.blocks m) (slice_index l.blocks (m + 1))
+  pub blocks : (m : ℕ) → m < machines
+      → AreBlocks rows (slice_index l.blocks m) (slice_index l.blocks (m + 1))
   pub fits : (m : ℕ) → m < machines → FitsSpan greatest top (lanes_on rows l m)
 
 abbrev pub NoneBelow : List ℕ → ℕ → ℕ → ℕ → Type 0
@@ -27,15 +30,17 @@ NoneBelow heads from to limit = (q : ℕ) → 8 * from ≤ q → q < 8 * to
 
 -- of a machine, when it is free or, if that is greater, the greatest span
 abbrev pub part_by_spans : ℕ → List ℕ → Rows → LayoutState → ℕ → ℕ
-part_by_spans top free rows l m = max (slice_index free m) (spans_between 0 top (lanes_on rows l m) - 1)
+part_by_spans top free rows l m =
+    max (slice_index free m) (spans_between 0 top (lanes_on rows l m) - 1)
 
 pub record AreMachinesAt (l : LayoutState) (machines : ℕ) (ms : List ℕ) : Type 0 where
   pub positions : length ms ≡ first_of l machines
   pub known : (q : ℕ) → q < length ms → slice_index ms q < machines
-  pub at : (m q : ℕ) → m < machines → first_of l m ≤ q → q < first_of l (m + 1) → slice_index ms q ≡ m
+  pub at : (m q : ℕ) → m < machines → first_of l m ≤ q → q < first_of l (m + 1)
+      → slice_index ms q ≡ m
 
--- if something waits at its position now, what stood there before and what stands there now are within the raise of its
--- machine
+-- if something waits at its position now, what stood there before and what stands there now are
+-- within the raise of its machine
 pub record IsNoteWithin (raises : List Raise) (ms heads : List ℕ) (note : Note) : Type 0 where
   pub from : 0 < slice_index heads note.position
       → (raise_of raises (slice_index ms note.position)).from ≤ note.head
@@ -46,9 +51,10 @@ pub record IsNoteWithin (raises : List Raise) (ms heads : List ℕ) (note : Note
 abbrev pub AreRaisesUpTo : ℕ → List Raise → Type 0
 AreRaisesUpTo top raises = (m : ℕ) → m < length raises → (raise_of raises m).to ≤ top
 
--- the bound is `least` if nothing waits below the end; it is else at least `least`, and no more than that or the span of
--- all that waits from the end on
+-- the bound is `least` if nothing waits below the end; it is else at least `least`, and no more
+-- than that or the span of all that waits from the end on
 pub record Foresees (rows : Rows) (from to end least limit : ℕ) (f : Foreseen) : Type 0 where
   pub low : least ≤ f.bound
   pub high : f.bound ≤ max least (span 1 end (lanes_between rows from to) - 1)
-  pub final : f.is_final ≡ true → (NoneBelow rows.heads from to end × (f.bound ≡ least)) ⊎ (limit ≤ f.bound)
+  pub final : f.is_final ≡ true → (NoneBelow rows.heads from to end × (f.bound ≡ least))
+      ⊎ (limit ≤ f.bound)

@@ -1,11 +1,14 @@
 -- The ends of next operations in lanes.
---     end_at greatest l steps rows j     one more than when the next operation of job j can end from its head on, or the
---                                        greatest number where it has no step left
+--     end_at greatest l steps rows j     one more than when the next operation of job j can end
+--                                        from its head on, or the greatest number where it has no
+--                                        step left
 --     AreEndsOf greatest l steps rows    the ends are these
 --     CanKeepEnds greatest l steps rows  they can be set
 --     HasEnds old new                    the ends alone differ
---     AreEndsButNoted .. notes           the ends are these but where a note stands at the next operation
-use Rattle.std.specs.Prelude.{◌≡◌, ℕ, ◌+◌, ◌≤◌, ◌<◌, ◌^◌, ◌⊎◌, Bool, true, false, List, [], ◌∷◌, length, slice_index}
+--     AreEndsButNoted .. notes           the ends are these but where a note stands at the next
+--                                        operation
+use Rattle.std.specs.Prelude.{◌≡◌, ℕ, ◌+◌, ◌≤◌, ◌<◌, ◌^◌, ◌⊎◌, Bool, true, false, List, [], ◌∷◌}
+use Rattle.std.specs.Prelude.{length, slice_index}
 use Rattle.std.specs.Prelude.{if◌then◌else◌, nat_lt}
 use Rattle.shop_lanes.specs.Rows.{Rows}
 use Rattle.shop_bound.specs.inner.LaneChoices.{next_place}
@@ -16,7 +19,8 @@ use Rattle.shop_bound.specs.declared.notes.Note.{Note}
 abbrev pub end_at : ℕ → LayoutState → List ℕ → Rows → ℕ → ℕ
 end_at greatest l steps rows j =
     if nat_lt (slice_index steps j) (steps_of l j)
-    then slice_index rows.heads (next_place l steps j) + slice_index rows.times (next_place l steps j)
+    then slice_index rows.heads (next_place l steps j)
+    + slice_index rows.times (next_place l steps j)
     else greatest
 
 -- one end, and all
@@ -26,7 +30,8 @@ IsEndOf greatest l steps rows j = slice_index rows.ends j ≡ end_at greatest l 
 abbrev pub AreEndsOf : ℕ → LayoutState → List ℕ → Rows → Type 0
 AreEndsOf greatest l steps rows = (j : ℕ) → j < length steps → IsEndOf greatest l steps rows j
 
-pub record CanKeepEnds (greatest : ℕ) (l : LayoutState) (steps : List ℕ) (rows : Rows) : Type 0 where
+pub record CanKeepEnds (greatest : ℕ) (l : LayoutState) (steps : List ℕ)
+    (rows : Rows) : Type 0 where
   pub indexed : IsIndexed l (length rows.heads)
   pub jobs : length steps ≡ length l.places
   pub ends : length rows.ends ≡ length steps

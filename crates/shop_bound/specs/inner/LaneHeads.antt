@@ -1,10 +1,13 @@
 -- Heads by position, kept up with a word by notes of what they were.
---     AreHeadsAt shop p l heads      one more than the head of what waits at a position, 0 where nothing does
+--     AreHeadsAt shop p l heads      one more than the head of what waits at a position, 0 where
+--                                    nothing does
 --     restored notes heads           the heads before what was noted, the last note put back first
---     LeadsBack greatest old new was now      if all was noted since, the new notes lead from the heads back to what they were
+--     LeadsBack greatest old new was now      if all was noted since, the new notes lead from the
+--                                             heads back to what they were
 --     IsTrail shop l w marks notes heads   the notes lead back through all entries of the word
 --     AreHeadsFit greatest shop      no head or end is too great to be stored
-use Rattle.std.specs.Prelude.{◌≡◌, ℕ, ◌+◌, ◌≤◌, ◌<◌, Bool, true, false, ◌⊎◌, ◌++◌, List, [], ◌∷◌, length, take, drop, reverse}
+use Rattle.std.specs.Prelude.{◌≡◌, ℕ, ◌+◌, ◌≤◌, ◌<◌, Bool, true, false, ◌⊎◌, ◌++◌, List, [], ◌∷◌}
+use Rattle.std.specs.Prelude.{length, take, drop, reverse}
 use Rattle.std.specs.Prelude.{slice_index, slice_set}
 use Rattle.std.specs.List.{AllByRecursion}
 use Rattle.shop_model.specs.Shop.{Shop, IsOperation, time_of}
@@ -18,8 +21,10 @@ pub record AreHeadsAt (shop : Shop) (p : Placing) (l : LayoutState) (heads : Lis
   pub positions : length heads ≡ first_of l shop.machines
   pub waiting : (j k : ℕ) → IsOperation shop j k → p.steps j ≤ k
       → slice_index heads (place l j k) ≡ head_of shop p j k + 1
-  pub placed : (j k : ℕ) → IsOperation shop j k → k < p.steps j → slice_index heads (place l j k) ≡ 0
-  pub padding : (q : ℕ) → ((j k : ℕ) → IsOperation shop j k → place l j k ≡ q → ⊥) → slice_index heads q ≡ 0
+  pub placed : (j k : ℕ) → IsOperation shop j k → k < p.steps j
+      → slice_index heads (place l j k) ≡ 0
+  pub padding : (q : ℕ) → ((j k : ℕ) → IsOperation shop j k → place l j k ≡ q → ⊥)
+      → slice_index heads q ≡ 0
 
 abbrev pub restored : List Note → List ℕ → List ℕ
 restored [] heads = heads
@@ -48,21 +53,23 @@ pub record LeadsBack (greatest : ℕ) (old new : NotesState) (was now : List ℕ
   pub whole : new.whole ≡ true → old.whole ≡ true
   pub back : new.whole ≡ true → restored more now ≡ was
 
--- The marks and the entries of the word are given last first: what was noted behind the last mark, if nothing was left
--- out, leads back to the heads of the word without its last entry, and so on.
+-- The marks and the entries of the word are given last first: what was noted behind the last mark,
+-- if nothing was left out, leads back to the heads of the word without its last entry, and so on.
 abbrev pub IsTrailBack : Shop → LayoutState → List ℕ → List Mark → List Note → List ℕ → Type 0
 IsTrailBack shop l [] marks notes heads = marks ≡ []
 IsTrailBack shop l (j ∷ word) [] notes heads = ⊥
 IsTrailBack shop l (j ∷ word) (mark ∷ marks) notes heads =
     (mark.first ≤ length notes)
-    × (mark.whole ≡ true → AreHeadsAt shop (placing shop (reverse word)) l (restored (drop mark.first notes) heads))
+    × (mark.whole ≡ true
+    → AreHeadsAt shop (placing shop (reverse word)) l (restored (drop mark.first notes) heads))
     × ((before : List ℕ) → AreHeadsAt shop (placing shop (reverse word)) l before
     → IsTrailBack shop l word marks (take mark.first notes) before)
 
 abbrev pub IsTrail : Shop → LayoutState → List ℕ → List Mark → List Note → List ℕ → Type 0
 IsTrail shop l w marks notes heads = IsTrailBack shop l (reverse w) (reverse marks) notes heads
 
--- whatever is placed, one more than the end of what waits, from its head on, is at most the greatest number
+-- whatever is placed, one more than the end of what waits, from its head on, is at most the
+-- greatest number
 abbrev pub AreHeadsFit : ℕ → Shop → Type 0
 AreHeadsFit greatest shop = (w : List ℕ) → IsWord shop w → (j k : ℕ) → IsOperation shop j k
     → (placing shop w).steps j ≤ k → head_of shop (placing shop w) j k + time_of shop j k < greatest

@@ -8,16 +8,18 @@ use Rattle.shop_model.specs.Limits.{IsWithinLimits}
 use Rattle.shop_model.specs.Shop.{Shop, operation_count}
 use Rattle.shop_model.specs.Word.{IsWord, placing}
 use Rattle.shop_bound.specs.Bound.{lb}
-use Rattle.shop_bound.specs.Desks.{IsBoundUpTo}
+use Rattle.shop_bound.specs.inner.BoundsUpTo.{IsBoundUpTo}
 use Rattle.shop_bound.specs.Placements.{PlacementState, IsPlacement}
 use Rattle.shop_bound.specs.inner.Fills.{AreSameBeside}
 use Rattle.shop_bound.specs.inner.HeadLimits.{FitsLanes, latest_end}
 use Rattle.shop_bound.specs.inner.LaneBounds.{AreMachinesAt}
-use Rattle.shop_bound.specs.inner.LaneHeads.{AreHeadsAt, AreHeadsFit, AreNotesFit, IsTrail, LeadsBack, NotesState}
+use Rattle.shop_bound.specs.inner.LaneHeads.{AreHeadsAt, AreHeadsFit, AreNotesFit, IsTrail}
+use Rattle.shop_bound.specs.inner.LaneHeads.{LeadsBack, NotesState}
 use Rattle.shop_bound.specs.inner.Layouts.{LayoutState, IsLaidOut}
 use Rattle.shop_bound.specs.declared.notes.Mark.{Mark}
 
-pub record AreHeadsInLanes (greatest : ℕ) (shop : Shop) (w : List ℕ) (l : LayoutState) (rows : Rows) : Type 0 where
+pub record AreHeadsInLanes (greatest : ℕ) (shop : Shop) (w : List ℕ) (l : LayoutState)
+    (rows : Rows) : Type 0 where
   pub limits : IsWithinLimits shop
   pub word : IsWord shop w
   pub laid : IsLaidOut shop l
@@ -27,8 +29,10 @@ pub record AreHeadsInLanes (greatest : ℕ) (shop : Shop) (w : List ℕ) (l : La
   pub computable : greatest < 2 ^ 64
   pub heads : AreHeadsAt shop (placing shop w) l rows.heads
 
--- what bounds are computed by: the machine of each position, a raise for each machine, and one more than the latest end
-pub record HasBounds (greatest : ℕ) (shop : Shop) (l : LayoutState) (machines : List ℕ) (raises top : ℕ) : Type 0 where
+-- what bounds are computed by: the machine of each position, a raise for each machine, and one more
+-- than the latest end
+pub record HasBounds (greatest : ℕ) (shop : Shop) (l : LayoutState) (machines : List ℕ)
+    (raises top : ℕ) : Type 0 where
   pub machines_at : AreMachinesAt l shop.machines machines
   pub as_many : raises ≡ shop.machines
   pub top_is : top ≡ latest_end shop + 1
@@ -54,7 +58,8 @@ pub record IsKeptInLanes (greatest : ℕ) (shop : Shop) (w : List ℕ) (s : Lane
   pub bounds : HasBounds greatest shop s.layout s.machines s.raises s.top
 
 -- they are those of a word to which j can be added as this step
-pub record HasNextAt (greatest : ℕ) (shop : Shop) (l : LayoutState) (j step : ℕ) (rows : Rows) : Type 0 where
+pub record HasNextAt (greatest : ℕ) (shop : Shop) (l : LayoutState) (j step : ℕ)
+    (rows : Rows) : Type 0 where
   pub word : List ℕ
   pub kept : AreHeadsInLanes greatest shop word l rows
   pub fits : IsWord shop (word ++ j ∷ [])
@@ -71,7 +76,8 @@ pub record Advances (greatest : ℕ) (shop : Shop) (l : LayoutState) (j step : �
 
 -- whichever word it was of, one more operation of job j is in it now
 abbrev pub KeepsNext : ℕ → Shop → ℕ → ℕ → LaneState → LaneState → Type 0
-KeepsNext greatest shop j step old new = (w : List ℕ) → IsKeptInLanes greatest shop w old → IsWord shop (w ++ j ∷ [])
+KeepsNext greatest shop j step old new =
+    (w : List ℕ) → IsKeptInLanes greatest shop w old → IsWord shop (w ++ j ∷ [])
     → step ≡ (placing shop w).steps j → IsKeptInLanes greatest shop (w ++ j ∷ []) new
 
 pub record HasNextInLanes (greatest : ℕ) (shop : Shop) (j step : ℕ) (s : LaneState) : Type 0 where
@@ -81,18 +87,21 @@ pub record HasNextInLanes (greatest : ℕ) (shop : Shop) (j step : ℕ) (s : Lan
   pub at : step ≡ (placing shop word).steps j
 
 -- the last operation was of a word whose placement without it is this
-pub record HasLastInLanes (greatest : ℕ) (shop : Shop) (p : PlacementState) (s : LaneState) : Type 0 where
+pub record HasLastInLanes (greatest : ℕ) (shop : Shop) (p : PlacementState)
+    (s : LaneState) : Type 0 where
   pub word : List ℕ
   pub job : ℕ
   pub kept : IsKeptInLanes greatest shop (word ++ job ∷ []) s
   pub placed : IsPlacement shop (placing shop word) p
 
 abbrev pub KeepsLast : ℕ → Shop → PlacementState → LaneState → LaneState → Type 0
-KeepsLast greatest shop p old new = (w : List ℕ) (j : ℕ) → IsKeptInLanes greatest shop (w ++ j ∷ []) old
+KeepsLast greatest shop p old new =
+    (w : List ℕ) (j : ℕ) → IsKeptInLanes greatest shop (w ++ j ∷ []) old
     → IsPlacement shop (placing shop w) p → IsKeptInLanes greatest shop w new
 
 -- a word can go on with job j, and this is its placement
-pub record CanGoOnInLanes (greatest : ℕ) (shop : Shop) (j : ℕ) (p : PlacementState) (s : LaneState) : Type 0 where
+pub record CanGoOnInLanes (greatest : ℕ) (shop : Shop) (j : ℕ) (p : PlacementState)
+    (s : LaneState) : Type 0 where
   pub word : List ℕ
   pub kept : IsKeptInLanes greatest shop word s
   pub fits : IsWord shop (word ++ j ∷ [])

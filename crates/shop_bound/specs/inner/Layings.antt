@@ -1,9 +1,12 @@
 -- How the operations of an instance come to their positions.
---     AreCells lists n cells blocks  the first n lists stand in the cells, each from its first block on
+--     AreCells lists n cells blocks  the first n lists stand in the cells, each from its first
+--                                    block on
 --     AreApart slots                 no two are the same step of a job
---     AreNoted n first slots ..      the places of the first n of a machine's slots were written, and nothing else
+--     AreNoted n first slots ..      the places of the first n of a machine's slots were written,
+--                                    and nothing else
 --     ArePlaces shop lists n ..      the places of the slots of the first n machines
-use Rattle.std.specs.Prelude.{◌≡◌, ℕ, ◌+◌, ◌*◌, ◌≤◌, ◌<◌, List, [], length, slice_index, slice_index_or}
+use Rattle.std.specs.Prelude.{◌≡◌, ℕ, ◌+◌, ◌*◌, ◌≤◌, ◌<◌, List, [], length, slice_index}
+use Rattle.std.specs.Prelude.{slice_index_or}
 use Rattle.shop_model.specs.Shop.{Shop, route_of}
 use Rattle.shop_bound.specs.declared.slots.Slot.{Slot}
 
@@ -20,11 +23,13 @@ pub record IsListIn (cells : List Slot) (blocks : List ℕ) (m : ℕ) (slots : L
   pub room : 8 * slice_index blocks m + length slots ≤ 8 * slice_index blocks (m + 1)
   pub at : (i : ℕ) (d : Slot) → i < length slots
       → slice_index_or cells (8 * slice_index blocks m + i) no_slot ≡ slice_index_or slots i d
-  pub padding : (q : ℕ) → 8 * slice_index blocks m + length slots ≤ q → q < 8 * slice_index blocks (m + 1)
+  pub padding : (q : ℕ) → 8 * slice_index blocks m + length slots ≤ q
+      → q < 8 * slice_index blocks (m + 1)
       → slice_index_or cells q no_slot ≡ no_slot
   pub within : 8 * slice_index blocks (m + 1) ≤ length cells
 
-pub record AreCells (lists : List (List Slot)) (n : ℕ) (cells : List Slot) (blocks : List ℕ) : Type 0 where
+pub record AreCells (lists : List (List Slot)) (n : ℕ) (cells : List Slot)
+    (blocks : List ℕ) : Type 0 where
   pub machines : length blocks ≡ n + 1
   pub from_0 : slice_index blocks 0 ≡ 0
   pub whole : length cells ≡ 8 * slice_index blocks n
@@ -56,10 +61,12 @@ pub record AreNoted (n first : ℕ) (slots : List Slot) (old new : List (List �
   pub noted : (i : ℕ) (d : Slot) → i < n
       → place_in new (slice_index_or slots i d).job (slice_index_or slots i d).step ≡ first + i
   pub others : (j k : ℕ)
-      → ((i : ℕ) (d : Slot) → i < n → (slice_index_or slots i d).job ≡ j → (slice_index_or slots i d).step ≡ k → ⊥)
+      → ((i : ℕ) (d : Slot) → i < n → (slice_index_or slots i d).job ≡ j
+      → (slice_index_or slots i d).step ≡ k → ⊥)
       → place_in new j k ≡ place_in old j k
 
-pub record ArePlaces (shop : Shop) (lists : List (List Slot)) (blocks : List ℕ) (n : ℕ) (rows : List (List ℕ))
+pub record ArePlaces (shop : Shop) (lists : List (List Slot)) (blocks : List ℕ) (n : ℕ)
+    (rows : List (List ℕ))
     : Type 0 where
   pub shape : HasRoutes shop rows
   pub each : (m i : ℕ) (d : Slot) → m < n → i < length (slice_index_or lists m [])

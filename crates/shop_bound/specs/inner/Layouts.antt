@@ -1,16 +1,20 @@
--- The operations of an instance by position: machine after machine, on a machine by nonincreasing tail.
---     LayoutState                    what a program keeps: numbers by position, by job and step, and by machine
+-- The operations of an instance by position: machine after machine, on a machine by nonincreasing
+-- tail.
+--     LayoutState                    what a program keeps: numbers by position, by job and step,
+--                                    and by machine
 --     place l j k                    the position of step k of job j
 --     IsAt l q s                     operation s stands at position q
 --     IsPadding l q                  no operation stands there, and nothing is added up
 --     IsLaidOut shop l               it is the layout of the instance
-use Rattle.std.specs.Prelude.{◌≡◌, ℕ, ◌+◌, ◌*◌, ◌≤◌, ◌<◌, List, [], length, slice_index, slice_index_or}
+use Rattle.std.specs.Prelude.{◌≡◌, ℕ, ◌+◌, ◌*◌, ◌≤◌, ◌<◌, List, [], length, slice_index}
+use Rattle.std.specs.Prelude.{slice_index_or}
 use Rattle.shop_model.specs.Shop.{Shop, route_of}
 use Rattle.shop_bound.specs.Slots.{AreMachineSlots}
 use Rattle.shop_bound.specs.declared.slots.Slot.{Slot}
 
--- the job, the step, the time and the tail of the operation at a position; the position of each step of each job; and
--- the first block of eight positions of each machine, with the number of all blocks behind the last
+-- the job, the step, the time and the tail of the operation at a position; the position of each
+-- step of each job; and the first block of eight positions of each machine, with the number of all
+-- blocks behind the last
 pub record LayoutState : Type 0 where
   pub jobs : List ℕ
   pub steps : List ℕ
@@ -44,10 +48,12 @@ pub record HasPositions (l : LayoutState) (n : ℕ) : Type 0 where
   pub times : length l.times ≡ n
   pub tails : length l.tails ≡ n
 
--- the operations of machine m, by nonincreasing tail, stand from its first position on, and padding behind them
+-- the operations of machine m, by nonincreasing tail, stand from its first position on, and padding
+-- behind them
 pub record IsMachineLaidOut (l : LayoutState) (m : ℕ) (slots : List Slot) : Type 0 where
   pub room : first_of l m + length slots ≤ first_of l (m + 1)
-  pub at : (i : ℕ) (d : Slot) → i < length slots → IsAt l (first_of l m + i) (slice_index_or slots i d)
+  pub at : (i : ℕ) (d : Slot) → i < length slots
+      → IsAt l (first_of l m + i) (slice_index_or slots i d)
   pub padding : (q : ℕ) → first_of l m + length slots ≤ q → q < first_of l (m + 1) → IsPadding l q
 
 pub record IsLaidOut (shop : Shop) (l : LayoutState) : Type 0 where

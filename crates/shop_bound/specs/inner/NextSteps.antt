@@ -18,4 +18,5 @@ pub record IsOfWord (shop : Shop) (s : PlacementState) : Type 0 where
 
 -- whatever was placed, t is the placement with the next step of j
 abbrev pub PlacesNext : Shop → ℕ → PlacementState → PlacementState → Type 0
-PlacesNext shop j s t = (p : Placing) → IsPlacement shop p s → IsPlacement shop (place_next shop p j) t
+PlacesNext shop j s t =
+    (p : Placing) → IsPlacement shop p s → IsPlacement shop (place_next shop p j) t

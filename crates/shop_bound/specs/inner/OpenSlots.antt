@@ -31,7 +31,11 @@ is_open steps s = nat_le (slice_index steps s.job) s.step
 -- the slot with the head that stands in the rows
 abbrev pub triple_of : List (List ℕ) → Slot → Triple
 triple_of rows s =
-    record { head = slice_index (slice_index_or rows s.job []) s.step; time = s.time; tail = s.tail }
+    record {
+      head = slice_index (slice_index_or rows s.job []) s.step;
+      time = s.time;
+      tail = s.tail;
+    }
 
 abbrev pub open_triples : List (List ℕ) → List ℕ → List Slot → List Triple
 open_triples rows steps slots = map (triple_of rows) (filter (is_open steps) slots)

@@ -1,10 +1,13 @@
 -- Heads by position that are raised.
---     AreInRouteOrder l heads        a step that waits ends, from its head on, not after the head of the next step
---     IsRaised l among e old new     no head fell, those that wait at some positions are at least e, routes are in order
+--     AreInRouteOrder l heads        a step that waits ends, from its head on, not after the head
+--                                    of the next step
+--     IsRaised l among e old new     no head fell, those that wait at some positions are at least
+--                                    e, routes are in order
 --     IsLeastRaise l among e ..      the least such heads
 --     IsRaisable greatest l rows ..  heads that can be raised so
 --     Raises greatest l among e ..   they were, and what was replaced is noted
-use Rattle.std.specs.Prelude.{◌≡◌, ℕ, ◌+◌, ◌*◌, ◌≤◌, ◌<◌, ◌^◌, List, [], length, slice_index, slice_index_or}
+use Rattle.std.specs.Prelude.{◌≡◌, ℕ, ◌+◌, ◌*◌, ◌≤◌, ◌<◌, ◌^◌, List, [], length, slice_index}
+use Rattle.std.specs.Prelude.{slice_index_or}
 use Rattle.shop_lanes.specs.Rows.{Rows, with_head}
 use Rattle.shop_bound.specs.inner.Layouts.{LayoutState, place}
 use Rattle.shop_bound.specs.inner.LaneHeads.{NotesState, LeadsBack}
@@ -44,13 +47,16 @@ pub record IsRaised (l : LayoutState) (among : ℕ → Type 0) (e : ℕ) (old ne
   pub order : AreInRouteOrder l new
   pub reach : (q : ℕ) → among q → 0 < old q → e ≤ new q
 
-pub record IsLeastRaise (l : LayoutState) (among : ℕ → Type 0) (e : ℕ) (old new : List ℕ) : Type 0 where
+pub record IsLeastRaise (l : LayoutState) (among : ℕ → Type 0) (e : ℕ)
+    (old new : List ℕ) : Type 0 where
   pub positions : length new ≡ length old
   pub raised : IsRaised l among e (at_in old) (at_in new)
-  pub least : (other : ℕ → ℕ) → IsRaised l among e (at_in old) other → (q : ℕ) → slice_index new q ≤ other q
+  pub least : (other : ℕ → ℕ) → IsRaised l among e (at_in old) other → (q : ℕ)
+      → slice_index new q ≤ other q
 
 -- some raise fits into lanes
-pub record IsRaisable (greatest : ℕ) (l : LayoutState) (rows : Rows) (among : ℕ → Type 0) (e : ℕ) : Type 0 where
+pub record IsRaisable (greatest : ℕ) (l : LayoutState) (rows : Rows) (among : ℕ → Type 0)
+    (e : ℕ) : Type 0 where
   pub indexed : IsIndexed l (length rows.heads)
   pub times : rows.times ≡ l.times
   pub places : (q : ℕ) → 0 < slice_index rows.heads q → IsPlace l q
@@ -69,7 +75,8 @@ pub record Raises (greatest : ℕ) (l : LayoutState) (among : ℕ → Type 0) (e
   pub noted : LeadsBack greatest before after old.heads new.heads
 
 -- one head was replaced, and noted
-pub record Replaces (greatest position head : ℕ) (old new : Rows) (before after : NotesState) : Type 0 where
+pub record Replaces (greatest position head : ℕ) (old new : Rows)
+    (before after : NotesState) : Type 0 where
   pub rows : new ≡ with_head old position head
   pub noted : LeadsBack greatest before after old.heads new.heads
 

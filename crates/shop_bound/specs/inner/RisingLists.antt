@@ -6,7 +6,8 @@
 --     TellsBefore xs i j result      whether j stands just before place i
 --     HasPut j old new               the new list is the old one with j, which may have been there
 --     HasGathered P old new          the new list is the old one with all for which P holds
-use Rattle.std.specs.Prelude.{◌≡◌, ℕ, ◌-◌, ◌<◌, ◌≤◌, ◌⊎◌, Bool, true, false, List, [], ◌∷◌, length, slice_index}
+use Rattle.std.specs.Prelude.{◌≡◌, ℕ, ◌-◌, ◌<◌, ◌≤◌, ◌⊎◌, Bool, true, false, List, [], ◌∷◌, length}
+use Rattle.std.specs.Prelude.{slice_index}
 
 abbrev pub IsIn : List ℕ → ℕ → Type 0
 IsIn [] q = ⊥

@@ -43,21 +43,26 @@ pub record IsServed (n : ℕ) (ws : List Work) (clock i : ℕ) : Type 0 where
 -- the one that is served, or none where none waits
 abbrev pub IsChoice : ℕ → List Work → ℕ → Option ℕ → Type 0
 IsChoice n ws clock (Some i) = IsServed n ws clock i
-IsChoice n ws clock None = (k : ℕ) → k < n → (work_at ws k).done ≡ false → clock < (work_at ws k).triple.head
+IsChoice n ws clock None =
+    (k : ℕ) → k < n → (work_at ws k).done ≡ false → clock < (work_at ws k).triple.head
 
--- The turn from the clock on stops at its end, or at the next release (of the first n) if that comes first.
+-- The turn from the clock on stops at its end, or at the next release (of the first n) if that
+-- comes first.
 pub record IsStop (n : ℕ) (ws : List Work) (clock end stop : ℕ) : Type 0 where
   pub later : clock ≤ stop
   pub by_end : stop ≤ end
-  pub by_release : (k : ℕ) → k < n → clock < (work_at ws k).triple.head → stop ≤ (work_at ws k).triple.head
+  pub by_release : (k : ℕ) → k < n → clock < (work_at ws k).triple.head
+      → stop ≤ (work_at ws k).triple.head
   pub reason : (stop ≡ end) ⊎ ((k : ℕ) × (k < n) × (clock < (work_at ws k).triple.head)
       × ((work_at ws k).triple.head ≡ stop))
 
--- of the first n, the least release of those that are not done, all of which are later than the clock
+-- of the first n, the least release of those that are not done, all of which are later than the
+-- clock
 pub record IsRelease (n : ℕ) (ws : List Work) (clock ready : ℕ) : Type 0 where
   pub later : clock < ready
   pub least : (k : ℕ) → k < n → (work_at ws k).done ≡ false → ready ≤ (work_at ws k).triple.head
-  pub reason : (k : ℕ) × (k < n) × ((work_at ws k).done ≡ false) × ((work_at ws k).triple.head ≡ ready)
+  pub reason : (k : ℕ) × (k < n) × ((work_at ws k).done ≡ false)
+      × ((work_at ws k).triple.head ≡ ready)
 
 abbrev pub IsNextRelease : ℕ → List Work → ℕ → Option ℕ → Type 0
 IsNextRelease n ws clock (Some ready) = IsRelease n ws clock ready
@@ -67,7 +72,8 @@ IsNextRelease n ws clock None = (k : ℕ) → k < n → (work_at ws k).done ≡ 
 abbrev pub IsReady : List Work → ℕ → ℕ → Type 0
 IsReady ws clock ready =
     (((k : ℕ) × Waits ws clock k) × (ready ≡ clock))
-    ⊎ (IsRelease (length ws) ws clock ready ⊎ (((k : ℕ) → k < length ws → (work_at ws k).done ≡ true)
+    ⊎ (IsRelease (length ws) ws clock ready
+    ⊎ (((k : ℕ) → k < length ws → (work_at ws k).done ≡ true)
     × (ready ≡ clock)))
 
 -- the time spent so far on the operations above both thresholds
@@ -77,22 +83,25 @@ spent_above head tail w = cond (is_above head tail w.triple) w.spent 0
 unfoldable pub worked : ℕ → ℕ → List Work → ℕ
 worked head tail ws = sum_by (spent_above head tail) ws
 
--- From some time on the machine did nothing but operations of at least this tail that were released then or later,
--- and all that wait are such.
+-- From some time on the machine did nothing but operations of at least this tail that were released
+-- then or later, and all that wait are such.
 pub record IsBusy (ws : List Work) (clock tail : ℕ) : Type 0 where
   pub from : ℕ
   pub before : from ≤ clock
-  pub waiting : (i : ℕ) → Waits ws clock i → tail ≤ (work_at ws i).triple.tail → from ≤ (work_at ws i).triple.head
+  pub waiting : (i : ℕ) → Waits ws clock i → tail ≤ (work_at ws i).triple.tail
+      → from ≤ (work_at ws i).triple.head
   pub enough : clock ≤ from + worked from tail ws
 
 -- what holds before each turn
 pub record IsRun (ws : List Work) (clock best : ℕ) : Type 0 where
   pub spent : (i : ℕ) → i < length ws → (work_at ws i).spent ≤ (work_at ws i).triple.time
-  pub done : (i : ℕ) → i < length ws → (work_at ws i).done ≡ true → (work_at ws i).spent ≡ (work_at ws i).triple.time
+  pub done : (i : ℕ) → i < length ws → (work_at ws i).done ≡ true
+      → (work_at ws i).spent ≡ (work_at ws i).triple.time
   pub within : clock ≤ greatest_of (λ t. t.head) (triples_of ws) + worked 0 0 ws
   pub busy : (tail : ℕ) → IsBusy ws clock tail
   pub no_sooner : (head tail : ℕ) → head + worked head tail ws ≤ max clock head
-  pub ended : (head tail : ℕ) → ((i : ℕ) → i < length ws → is_above head tail (work_at ws i).triple ≡ true
+  pub ended : (head tail : ℕ)
+      → ((i : ℕ) → i < length ws → is_above head tail (work_at ws i).triple ≡ true
       → (work_at ws i).done ≡ true) → span_above (triples_of ws) head tail ≤ best
   pub reached : best ≤ one (triples_of ws)
 

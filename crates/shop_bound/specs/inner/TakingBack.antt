@@ -20,7 +20,8 @@ TellsReplaced shop j s r = (p : Placing) → IsPlacement shop p s → r ≡ repl
 
 -- whatever was placed before the last step of j, which replaced this, t is the placement of it
 abbrev pub TakesBack : Shop → ℕ → Replaced → PlacementState → PlacementState → Type 0
-TakesBack shop j r s t = (p : Placing) → IsPlacement shop (place_next shop p j) s → r ≡ replaced_at shop p j
+TakesBack shop j r s t =
+    (p : Placing) → IsPlacement shop (place_next shop p j) s → r ≡ replaced_at shop p j
     → IsPlacement shop p t
 
 -- whatever was placed, the next step of j ends then

@@ -1,5 +1,6 @@
 -- The span of the operations above two thresholds.
-use Rattle.std.specs.Prelude.{ℕ, ◌+◌, Bool, ◌&&◌, ◌==◌, nat_le, if◌then◌else◌, List, length, filter, sum_by}
+use Rattle.std.specs.Prelude.{ℕ, ◌+◌, Bool, ◌&&◌, ◌==◌, nat_le, if◌then◌else◌, List, length, filter}
+use Rattle.std.specs.Prelude.{sum_by}
 use Rattle.std.specs.Prelude.{slice_index_or}
 use Rattle.shop_model.specs.Shop.{greatest_below}
 use Rattle.shop_bound.specs.declared.triples.Triple.{Triple}
@@ -10,7 +11,8 @@ is_above head tail t = nat_le head t.head && nat_le tail t.tail
 
 -- the head, the times of the operations above both, and the tail; 0 where there is none above
 abbrev pub span_above : List Triple → ℕ → ℕ → ℕ
-span_above ts head tail = if length (filter (is_above head tail) ts) == 0 then 0 else head + sum_by (λ t. t.time)
+span_above ts head tail =
+    if length (filter (is_above head tail) ts) == 0 then 0 else head + sum_by (λ t. t.time)
     (filter (is_above head tail) ts) + tail
 
 abbrev pub no_triple : Triple
@@ -25,4 +27,5 @@ tail_at ts i = (slice_index_or ts i no_triple).tail
 -- the greatest span over all pairs of a head and a tail that occur
 abbrev pub greatest_span_of : List Triple → ℕ
 greatest_span_of ts =
-    greatest_below (length ts) (λ i. greatest_below (length ts) (λ k. span_above ts (head_at ts i) (tail_at ts k)))
+    greatest_below (length ts)
+    (λ i. greatest_below (length ts) (λ k. span_above ts (head_at ts i) (tail_at ts k)))

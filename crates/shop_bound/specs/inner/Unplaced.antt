@@ -1,5 +1,6 @@
 -- The operations that a word leaves, as a program lists them.
-use Rattle.std.specs.Prelude.{◌≡◌, ℕ, ◌≤◌, ◌<◌, ◌==◌, max, List, ◌++◌, filter, length, map, slice_index, slice_index_or}
+use Rattle.std.specs.Prelude.{◌≡◌, ℕ, ◌≤◌, ◌<◌, ◌==◌, max, List, ◌++◌, filter, length, map}
+use Rattle.std.specs.Prelude.{slice_index, slice_index_or}
 use Rattle.shop_model.specs.declared.ops.Op.{Op}
 use Rattle.shop_model.specs.Shop.{Shop, no_op, greatest_below}
 use Rattle.shop_model.specs.Word.{Placing}
@@ -29,7 +30,8 @@ AreUnplaced shop s xs = (p : Placing) → IsPlacement shop p s → xs ≡ map un
 abbrev pub AreAsMany : Shop → PlacementState → ℕ → Type 0
 AreAsMany shop s n = (p : Placing) → IsPlacement shop p s → n ≡ length (waiting shop p)
 
--- the rest of a route is on machines that are there and takes times that can be added to all that is ready and free
+-- the rest of a route is on machines that are there and takes times that can be added to all that
+-- is ready and free
 pub record CanGoOn (free : List ℕ) (ready : ℕ) (rest : List Op) : Type 0 where
   pub short : length rest ≤ 100
   pub on_machines : (k : ℕ) → k < length rest → (slice_index_or rest k no_op).machine < length free

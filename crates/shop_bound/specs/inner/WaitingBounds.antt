@@ -9,7 +9,8 @@ use Rattle.shop_bound.specs.inner.Waitings.{IsWaiting}
 use Rattle.shop_bound.specs.declared.waiting.Waiting.{Waiting}
 
 -- a word is kept in lanes, and this is its placement
-pub record HasWordInLanes (greatest : ℕ) (shop : Shop) (p : PlacementState) (s : LaneState) : Type 0 where
+pub record HasWordInLanes (greatest : ℕ) (shop : Shop) (p : PlacementState)
+    (s : LaneState) : Type 0 where
   pub word : List ℕ
   pub kept : IsKeptInLanes greatest shop word s
   pub placed : IsPlacement shop (placing shop word) p
@@ -25,4 +26,5 @@ IsBoundInLanes greatest shop p s b = (w : List ℕ) → IsKeptInLanes greatest s
     → IsPlacement shop (placing shop w) p → b ≡ lb shop w
 
 abbrev pub IsBoundWaiting : Shop → PlacementState → Waiting → ℕ → Type 0
-IsBoundWaiting shop p h b = (w : List ℕ) → IsWaiting shop w h → IsPlacement shop (placing shop w) p → b ≡ lb shop w
+IsBoundWaiting shop p h b =
+    (w : List ℕ) → IsWaiting shop w h → IsPlacement shop (placing shop w) p → b ≡ lb shop w

@@ -6,7 +6,7 @@ use Rattle.std.specs.Prelude.{◌≡◌, ℕ, ◌^◌, ◌-◌, List, [], ◌∷
 use Rattle.shop_model.specs.Shop.{Shop}
 use Rattle.shop_model.specs.Word.{IsWord, placing}
 use Rattle.shop_bound.specs.Bound.{lb}
-use Rattle.shop_bound.specs.Desks.{IsBoundUpTo}
+use Rattle.shop_bound.specs.inner.BoundsUpTo.{IsBoundUpTo}
 use Rattle.shop_bound.specs.Placements.{PlacementState, IsPlacement}
 use Rattle.shop_bound.specs.inner.LaneStates.{IsKeptInLanes}
 use Rattle.shop_bound.specs.declared.waiting.Waiting.{Waiting}
@@ -46,9 +46,11 @@ pub record CanGoOnWaiting (shop : Shop) (j : ℕ) (p : PlacementState) (h : Wait
   pub placed : IsPlacement shop (placing shop word) p
 
 abbrev pub TellsBoundAfter : Shop → ℕ → PlacementState → ℕ → ℕ → Waiting → ℕ → Type 0
-TellsBoundAfter shop j p bound limit h b = (w : List ℕ) → IsWaiting shop w h → IsPlacement shop (placing shop w) p
+TellsBoundAfter shop j p bound limit h b =
+    (w : List ℕ) → IsWaiting shop w h → IsPlacement shop (placing shop w) p
     → IsWord shop (w ++ j ∷ []) → bound ≡ lb shop w → IsBoundUpTo limit (lb shop (w ++ j ∷ [])) b
 
 abbrev pub WaitsStill : Shop → PlacementState → Waiting → Waiting → Type 0
-WaitsStill shop p old new = (w : List ℕ) → IsWaiting shop w old → IsPlacement shop (placing shop w) p
+WaitsStill shop p old new =
+    (w : List ℕ) → IsWaiting shop w old → IsPlacement shop (placing shop w) p
     → IsWaiting shop w new

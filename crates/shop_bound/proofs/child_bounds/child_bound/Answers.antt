@@ -10,7 +10,8 @@ returns-then-limit-least-clause-bound g c = λ w kept placed fits parent.
     let next = c.next_operation-next.ensures w kept placed fits
     in let end = next.end_is
     in let least = c.max-least.ensures
-    in at_limit g.L.Lanes.GREATEST c.args.instance.now w c.args.layout.now (g.L.Lanes.rows c.args.lanes.now) kept c.args.job
+    in at_limit g.L.Lanes.GREATEST c.args.instance.now w c.args.layout.now
+    (g.L.Lanes.rows c.args.lanes.now) kept c.args.job
     fits c.max-least.result c.args.limit (omega arith) c.if-limit-least.true
 
 pub foresee-foreseen-requires : goal.foresee-foreseen-requires
@@ -59,7 +60,8 @@ returns-clause-bound g c = λ w kept placed fits parent.
     let next = c.next_operation-next.ensures w kept placed fits
     in let end = next.end_is
     in let least = c.max-least.ensures
-    in let low = foreseen_low g.L.Lanes.GREATEST c.args.instance.now w c.args.layout.now (g.L.Lanes.rows c.args.lanes.now)
+    in let low =
+    foreseen_low g.L.Lanes.GREATEST c.args.instance.now w c.args.layout.now (g.L.Lanes.rows c.args.lanes.now)
     kept c.args.job fits c.max-least.result c.args.limit (omega arith) c.next_operation-next.result.position
     c.next_operation-next.result.machine c.next_operation-next.result.end next.position_is next.machine_is next.end_is
     c.foresee-foreseen.result c.foresee-foreseen.ensures.foresees

@@ -39,7 +39,8 @@ set_raises-requires-clause-known g c = λ q here.
 pub set_raises-requires-clause-small : goal.set_raises-requires-clause-small
 set_raises-requires-clause-small g c =
     next_small g.L.Lanes.GREATEST c.args.instance.now c.args.layout.now c.args.job c.steps.result
-    (g.L.Lanes.rows c.args.lanes.now) (g.L.Lanes.rows c.advance-mark.new.lanes) c.args.notes.now c.advance-mark.new.notes
+    (g.L.Lanes.rows c.args.lanes.now)
+    (g.L.Lanes.rows c.advance-mark.new.lanes) c.args.notes.now c.advance-mark.new.notes
     c.advance-mark.result c.advance-mark.ensures c.args.top c.requires.top_is c.requires.word c.requires.kept
     c.requires.fits
     (c.steps.ensures
@@ -71,7 +72,8 @@ returns-clause-bound g c = λ w kept placed fits parent end most.
     in let is = noted_is c.list.result.now c.args.notes.now.list adv.noted.more c.advance-mark.result.first
     (c.list.ensures ∙ adv.noted.are) adv.first
     in raised_is g.L.Lanes.GREATEST c.args.instance.now c.args.layout.now c.args.job c.steps.result
-    (g.L.Lanes.rows c.args.lanes.now) (g.L.Lanes.rows c.advance-mark.new.lanes) c.args.notes.now c.advance-mark.new.notes
+    (g.L.Lanes.rows c.args.lanes.now)
+    (g.L.Lanes.rows c.advance-mark.new.lanes) c.args.notes.now c.advance-mark.new.notes
     c.advance-mark.result adv c.args.machines.now c.requires.machines c.set_raises.new.raises
     (c.set_raises.ensures.long ∙ c.requires.as_many) _ is c.set_raises.ensures.within c.args.top c.requires.top_is
     c.set_raises.ensures.all c.args.least c.args.limit c.bound_by_raises-bound.result

@@ -9,55 +9,65 @@ use Rattle.shop_bound.proofs.FillTurns.{places_read}
 use Rattle.shop_bound.proofs.dispatching.advance.Goals as goal
 
 pub places-requires : goal.places-requires
-places-requires g c = job_known g.L.Lanes.GREATEST c.args.instance.now c.args.layout.now c.args.job c.args.step (g.L.Lanes.rows c.args.lanes.now)
+places-requires g c = job_known g.L.Lanes.GREATEST c.args.instance.now c.args.layout.now c.args.job c.args.step
+    (g.L.Lanes.rows c.args.lanes.now)
     c.requires.word c.requires.kept c.requires.fits c.requires.at
 
 pub offset_bounds-places-step : goal.offset_bounds-places-step
 offset_bounds-places-step g c =
-    let a = step_known g.L.Lanes.GREATEST c.args.instance.now c.args.layout.now c.args.job c.args.step (g.L.Lanes.rows c.args.lanes.now)
+    let a = step_known g.L.Lanes.GREATEST c.args.instance.now c.args.layout.now c.args.job c.args.step
+    (g.L.Lanes.rows c.args.lanes.now)
     c.requires.word c.requires.kept c.requires.fits c.requires.at
     in let b : length c.places.result.now ≡ length (get_or c.args.layout.now.places c.args.job []) =
     ap length c.places.ensures in let d = c.places.type_inv.1 in omega arith
 
 pub bounds-places-step : goal.bounds-places-step
 bounds-places-step g c =
-    let a = step_known g.L.Lanes.GREATEST c.args.instance.now c.args.layout.now c.args.job c.args.step (g.L.Lanes.rows c.args.lanes.now)
+    let a = step_known g.L.Lanes.GREATEST c.args.instance.now c.args.layout.now c.args.job c.args.step
+    (g.L.Lanes.rows c.args.lanes.now)
     c.requires.word c.requires.kept c.requires.fits c.requires.at
     in let b : length c.places.result.now ≡ length (get_or c.args.layout.now.places c.args.job []) =
     ap length c.places.ensures in omega arith
 
 pub route-requires : goal.route-requires
-route-requires g c = IsOperation-job c.args.instance.now c.args.job c.args.step (operation g.L.Lanes.GREATEST c.args.instance.now c.args.layout.now c.args.job c.args.step (g.L.Lanes.rows c.args.lanes.now)
+route-requires g c = IsOperation-job c.args.instance.now c.args.job c.args.step
+    (operation g.L.Lanes.GREATEST c.args.instance.now c.args.layout.now c.args.job c.args.step
+    (g.L.Lanes.rows c.args.lanes.now)
     c.requires.word c.requires.kept c.requires.fits c.requires.at)
 
 pub offset_bounds-route-step : goal.offset_bounds-route-step
 offset_bounds-route-step g c =
-    let a = operation g.L.Lanes.GREATEST c.args.instance.now c.args.layout.now c.args.job c.args.step (g.L.Lanes.rows c.args.lanes.now)
+    let a = operation g.L.Lanes.GREATEST c.args.instance.now c.args.layout.now c.args.job c.args.step
+    (g.L.Lanes.rows c.args.lanes.now)
     c.requires.word c.requires.kept c.requires.fits c.requires.at
     in let b = ap (λ (xs : List Op). length xs) c.route.ensures.route
     in let d = c.route.ensures.limits.routes c.args.job in omega arith
 
 pub bounds-route-step : goal.bounds-route-step
 bounds-route-step g c =
-    let a = operation g.L.Lanes.GREATEST c.args.instance.now c.args.layout.now c.args.job c.args.step (g.L.Lanes.rows c.args.lanes.now)
+    let a = operation g.L.Lanes.GREATEST c.args.instance.now c.args.layout.now c.args.job c.args.step
+    (g.L.Lanes.rows c.args.lanes.now)
     c.requires.word c.requires.kept c.requires.fits c.requires.at
     in let b = ap (λ (xs : List Op). length xs) c.route.ensures.route in omega arith
 
 pub head-requires : goal.head-requires
-head-requires g c = within g.L.Lanes.GREATEST c.args.instance.now c.args.layout.now c.args.job c.args.step (g.L.Lanes.rows c.args.lanes.now)
+head-requires g c = within g.L.Lanes.GREATEST c.args.instance.now c.args.layout.now c.args.job c.args.step
+    (g.L.Lanes.rows c.args.lanes.now)
     c.requires.word c.requires.kept c.requires.fits c.requires.at
     (get_or c.places.result.now c.args.step 0)
     (places_read c.args.layout.now c.args.job c.places.result.now c.places.ensures c.args.step)
 
 pub time-requires : goal.time-requires
-time-requires g c = within g.L.Lanes.GREATEST c.args.instance.now c.args.layout.now c.args.job c.args.step (g.L.Lanes.rows c.args.lanes.now)
+time-requires g c = within g.L.Lanes.GREATEST c.args.instance.now c.args.layout.now c.args.job c.args.step
+    (g.L.Lanes.rows c.args.lanes.now)
     c.requires.word c.requires.kept c.requires.fits c.requires.at
     (get_or c.places.result.now c.args.step 0)
     (places_read c.args.layout.now c.args.job c.places.result.now c.places.ensures c.args.step)
 
 pub overflow_add-end : goal.overflow_add-end
 overflow_add-end g c =
-    let a = (end_small g.L.Lanes.GREATEST c.args.instance.now c.args.layout.now c.args.job c.args.step (g.L.Lanes.rows c.args.lanes.now)
+    let a = (end_small g.L.Lanes.GREATEST c.args.instance.now c.args.layout.now c.args.job c.args.step
+    (g.L.Lanes.rows c.args.lanes.now)
     c.requires.word c.requires.kept c.requires.fits c.requires.at
     (get_or c.places.result.now c.args.step 0) c.head.result c.time.result
     (places_read c.args.layout.now c.args.job c.places.result.now c.places.ensures c.args.step)
@@ -71,7 +81,8 @@ replace-requires-clause-within g c = within g.L.Lanes.GREATEST c.args.instance.n
 
 pub replace-requires-clause-fits_now : goal.replace-requires-clause-fits_now
 replace-requires-clause-fits_now g c =
-    let a = (end_small g.L.Lanes.GREATEST c.args.instance.now c.args.layout.now c.args.job c.args.step (g.L.Lanes.rows c.args.lanes.now)
+    let a = (end_small g.L.Lanes.GREATEST c.args.instance.now c.args.layout.now c.args.job c.args.step
+    (g.L.Lanes.rows c.args.lanes.now)
     c.requires.word c.requires.kept c.requires.fits c.requires.at
     (get_or c.places.result.now c.args.step 0) c.head.result c.time.result
     (places_read c.args.layout.now c.args.job c.places.result.now c.places.ensures c.args.step)
@@ -87,7 +98,9 @@ raise-requires-clause-machine g c = lifted_blocks g.L.Lanes.GREATEST c.args.inst
     (ap (λ (xs : List Op). (get_or xs c.args.step no_op).machine) c.route.ensures.route)
 
 pub raise-requires-clause-fits : goal.raise-requires-clause-fits
-raise-requires-clause-fits g c = (end_small g.L.Lanes.GREATEST c.args.instance.now c.args.layout.now c.args.job c.args.step (g.L.Lanes.rows c.args.lanes.now)
+raise-requires-clause-fits g c =
+    (end_small g.L.Lanes.GREATEST c.args.instance.now c.args.layout.now c.args.job c.args.step
+    (g.L.Lanes.rows c.args.lanes.now)
     c.requires.word c.requires.kept c.requires.fits c.requires.at
     (get_or c.places.result.now c.args.step 0) c.head.result c.time.result
     (places_read c.args.layout.now c.args.job c.places.result.now c.places.ensures c.args.step)
@@ -104,7 +117,8 @@ raise-requires-clause-raisable g c = lifted_raisable g.L.Lanes.GREATEST c.args.i
 
 pub returns : goal.returns
 returns g c = record {
-  beside = advanced_beside g.L.Lanes.GREATEST c.args.instance.now c.args.layout.now c.args.job c.args.step (g.L.Lanes.rows c.args.lanes.now)
+  beside = advanced_beside g.L.Lanes.GREATEST c.args.instance.now c.args.layout.now c.args.job c.args.step
+      (g.L.Lanes.rows c.args.lanes.now)
       c.requires.word c.requires.kept c.requires.fits c.requires.at
       (get_or c.places.result.now c.args.step 0) c.head.result c.time.result
       (places_read c.args.layout.now c.args.job c.places.result.now c.places.ensures c.args.step)
@@ -116,7 +130,8 @@ returns g c = record {
   whole = c.is_whole.ensures;
   noted = subst (λ (n : NotesState). LeadsBack g.L.Lanes.GREATEST n c.raise.new.notes
       (g.L.Lanes.rows c.args.lanes.now).heads (g.L.Lanes.rows c.raise.new.lanes).heads) c.begin-first.ensures.whole
-      (advanced_noted g.L.Lanes.GREATEST c.args.instance.now c.args.layout.now c.args.job c.args.step (g.L.Lanes.rows c.args.lanes.now)
+      (advanced_noted g.L.Lanes.GREATEST c.args.instance.now c.args.layout.now c.args.job c.args.step
+      (g.L.Lanes.rows c.args.lanes.now)
       c.requires.word c.requires.kept c.requires.fits c.requires.at
       (get_or c.places.result.now c.args.step 0) c.head.result c.time.result
       (places_read c.args.layout.now c.args.job c.places.result.now c.places.ensures c.args.step)

@@ -5,7 +5,8 @@ use Rattle.shop_bound.proofs.fills.fill.Goals as goal
 pub fill_job-requires-clause-fill : goal.fill_job-requires-clause-fill
 fill_job-requires-clause-fill g c =
     jobs_can g.L.Lanes.GREATEST c.args.instance.now c.args.layout.now c.args.placement.now
-    (g.L.Lanes.rows c.args.lanes.now) c.requires.fill c.loop-job.job (g.L.Lanes.rows c.loop-job.lanes) c.loop-job.invariant
+    (g.L.Lanes.rows c.args.lanes.now) c.requires.fill c.loop-job.job
+    (g.L.Lanes.rows c.loop-job.lanes) c.loop-job.invariant
 
 pub loop-job-preserved : goal.loop-job-preserved
 loop-job-preserved g c =

@@ -1,6 +1,6 @@
 use Rattle.std.proofs.Common.{◌≡◌, arith}
 use Rattle.shop_lanes.specs.Spans.{spans_between}
-use Rattle.shop_bound.specs.inner.KeptHeads.{raise_of}
+use Rattle.shop_bound.specs.inner.HeadRaises.{raise_of}
 use Rattle.shop_bound.specs.inner.LaneBounds.{lanes_on}
 use Rattle.shop_lanes.specs.Rows.{lanes_between}
 use Rattle.shop_bound.proofs.LaneBoundTurns.{covers_turn, spans-none}

@@ -1,6 +1,6 @@
 use Rattle.std.proofs.Common.{ℕ, ◌+◌, ◌≤◌, ◌<◌, length}
 use Rattle.shop_lanes.specs.Spans.{spans_between}
-use Rattle.shop_bound.specs.inner.KeptHeads.{raise_of}
+use Rattle.shop_bound.specs.inner.HeadRaises.{raise_of}
 use Rattle.shop_bound.specs.inner.LaneBounds.{lanes_on}
 use Rattle.shop_bound.proofs.lane_bounds.bound_by_raises.Given as goal
 

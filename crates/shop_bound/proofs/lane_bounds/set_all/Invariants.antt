@@ -1,5 +1,5 @@
 use Rattle.std.proofs.Common.{◌≡◌, ℕ, ◌<◌, length}
-use Rattle.shop_bound.specs.inner.KeptHeads.{raise_of}
+use Rattle.shop_bound.specs.inner.HeadRaises.{raise_of}
 use Rattle.shop_bound.proofs.lane_bounds.set_all.Given as goal
 
 abbrev pub invariant-loop-m : goal.invariant-loop-m

@@ -1,8 +1,8 @@
 use Rattle.std.proofs.Common.{◌≡◌, get_or, set, refl, ◌∙◌, ap, arith}
 use Rattle.std.proofs.lemmas.List.{length-set}
-use Rattle.shop_bound.specs.declared.kept_heads.Raise.{Raise}
+use Rattle.shop_bound.specs.declared.head_raises.Raise.{Raise}
 use Rattle.shop_bound.specs.declared.notes.Note.{Note}
-use Rattle.shop_bound.specs.inner.KeptHeads.{raise_of, widened}
+use Rattle.shop_bound.specs.inner.HeadRaises.{raise_of, widened}
 use Rattle.shop_bound.proofs.LaneBoundTurns.{up_to_turn, within_none, within_turn}
 use Rattle.shop_bound.proofs.lane_bounds.widen.Goals as goal
 
@@ -23,7 +23,8 @@ loop-note-preserved g c =
     ap (λ (r : Raise). set c.loop-note.raises m r) c.with.ensures
     in record {
       long = length-set c.loop-note.raises m c.with.result ∙ long;
-      within = within_turn c.loop-note.raises m note.head c.head-head.result (omega arith) _ is c.args.machines.now heads
+      within = within_turn c.loop-note.raises m note.head c.head-head.result
+          (omega arith) _ is c.args.machines.now heads
           c.args.notes.now k d refl refl c.head-head.ensures here c.loop-note.invariant.within;
       up_to = λ top small up_to. up_to_turn c.loop-note.raises m note.head c.head-head.result (omega arith) _ is top
           (let a = c.head-head.ensures in let b = small note.position in omega arith)

@@ -50,7 +50,8 @@ loop-position-preserved g c =
     in let q = c.in-Some.position
     in let now = c.loop-position.invariant
     in record {
-      gathering = gathering_past l steps heads c.requires.placed c.args.from c.args.to c.args.limit c.loop-position.below
+      gathering =
+          gathering_past l steps heads c.requires.placed c.args.from c.args.to c.args.limit c.loop-position.below
           c.args.jobs.now.items c.loop-position.jobs.items now.gathering q c.pop_first.new.self c.in-Some.ensures
           (λ e. c.if-step-steps.false
           (c.step.ensures ∙ (e ∙ sym (ap (λ (x : ℕ). get_or steps x 0) c.job-job.ensures))));

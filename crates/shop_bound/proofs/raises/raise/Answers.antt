@@ -23,7 +23,8 @@ pub raise_blocks-requires-clause-raisable : goal.raise_blocks-requires-clause-ra
 raise_blocks-requires-clause-raisable g c =
     let a = c.min.ensures in let b = c.block-behind.ensures in let d = c.loop-from-test.true
     in blocks_raisable g.L.Lanes.GREATEST c.args.layout.now (get_or c.args.layout.now.blocks c.args.machine 0)
-    c.loop-from.from (c.loop-from.from + c.min.result) (get_or c.args.layout.now.blocks (c.args.machine + 1) 0) c.args.end
+    c.loop-from.from (c.loop-from.from + c.min.result)
+    (get_or c.args.layout.now.blocks (c.args.machine + 1) 0) c.args.end
     (g.L.Lanes.rows c.args.lanes.now) (g.L.Lanes.rows c.loop-from.lanes) c.args.notes.now c.loop-from.notes
     c.loop-from.invariant.raises c.loop-from.invariant.ordered (omega arith) (omega arith) c.requires.raisable
 
@@ -34,7 +35,8 @@ loop-from-preserved g c =
       ordered = omega arith;
       within = omega arith;
       raises = more_blocks g.L.Lanes.GREATEST c.args.layout.now (get_or c.args.layout.now.blocks c.args.machine 0)
-          c.loop-from.from (c.loop-from.from + c.min.result) (get_or c.args.layout.now.blocks (c.args.machine + 1) 0) c.args.end
+          c.loop-from.from (c.loop-from.from + c.min.result)
+          (get_or c.args.layout.now.blocks (c.args.machine + 1) 0) c.args.end
           (g.L.Lanes.rows c.args.lanes.now) (g.L.Lanes.rows c.loop-from.lanes) c.args.notes.now c.loop-from.notes
           c.loop-from.invariant.raises o (omega arith) (omega arith)
           (g.L.Lanes.rows c.raise_blocks.new.lanes) c.raise_blocks.new.notes c.raise_blocks.ensures;

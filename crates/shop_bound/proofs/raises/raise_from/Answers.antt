@@ -26,7 +26,8 @@ replace-requires-in-loop-step-clause-fits_now g c =
     in let more : c.loop-step.step < steps_of l (get_or l.jobs c.args.position 0) = omega arith
     in let head = c.head.ensures
     in let below = c.if-head-ready.false
-    in let fits : c.loop-step.ready ≤ g.L.Lanes.GREATEST = (next_fits g.L.Lanes.GREATEST l c.args.position c.args.end (g.L.Lanes.rows c.args.lanes.now) c.requires.raisable
+    in let fits : c.loop-step.ready ≤ g.L.Lanes.GREATEST =
+    (next_fits g.L.Lanes.GREATEST l c.args.position c.args.end (g.L.Lanes.rows c.args.lanes.now) c.requires.raisable
     c.requires.waits c.loop-step.step c.loop-step.ready (g.L.Lanes.rows c.loop-step.lanes) c.args.notes.now
     c.loop-step.notes c.loop-step.invariant more (get_or c.places-route.result.now c.loop-step.step 0) read.1).0
     in omega arith

@@ -1,9 +1,31 @@
 use Rattle.std.proofs.Common.{◌++◌, ◌∷◌, [], arith, sym, subst}
 use Rattle.shop_model.specs.Word.{IsWord}
 use Rattle.shop_bound.specs.Desks.{DeskState}
-use Rattle.shop_bound.proofs.Trails.{room_left, as_long}
-use Rattle.shop_bound.proofs.DeskSteps.{desk_more, wrote_on, written_long}
+use Rattle.shop_bound.specs.inner.Waitings.{HasNextWaiting, WaitsOn}
+use Rattle.shop_bound.proofs.Trails.{room_left, as_long, has_next}
+use Rattle.shop_bound.proofs.DeskSteps.{desk_more, has_steps, waits_on}
 use Rattle.shop_bound.proofs.desks.Desk.dispatch.Goals as goal
+
+pub steps-step-requires : goal.steps-step-requires
+steps-step-requires c =
+    let fits = subst (λ (d : DeskState). IsWord d.shop (d.word ++ c.args.job ∷ [])) (sym c.self.view_is) c.requires
+    in has_steps _ _ _ _ _ _ _ c.self.invariant c.args.job fits
+
+pub next_replaces-replaced-requires : goal.next_replaces-replaced-requires
+next_replaces-replaced-requires c =
+    let fits = subst (λ (d : DeskState). IsWord d.shop (d.word ++ c.args.job ∷ [])) (sym c.self.view_is) c.requires
+    in has_next _ _ _ _ c.self.invariant.kept c.args.job fits
+
+pub place_next-requires : goal.place_next-requires
+place_next-requires c =
+    let fits = subst (λ (d : DeskState). IsWord d.shop (d.word ++ c.args.job ∷ [])) (sym c.self.view_is) c.requires
+    in has_next _ _ _ _ c.self.invariant.kept c.args.job fits
+
+pub dispatch-requires : goal.dispatch-requires
+dispatch-requires c =
+    let fits = subst (λ (d : DeskState). IsWord d.shop (d.word ++ c.args.job ∷ [])) (sym c.self.view_is) c.requires
+    in subst (HasNextWaiting c.self.inside.instance.now c.args.job c.steps-step.result) (sym c.deref_mut.ensures.value)
+    (waits_on _ _ _ _ _ _ _ c.self.invariant c.args.job fits c.steps-step.result c.steps-step.ensures)
 
 pub unwrap-requires : goal.unwrap-requires
 unwrap-requires c =
@@ -25,12 +47,9 @@ unwrap-requires-2 c =
 pub invariant_of-self : goal.invariant_of-self
 invariant_of-self c =
     let fits = subst (λ (d : DeskState). IsWord d.shop (d.word ++ c.args.job ∷ [])) (sym c.self.view_is) c.requires
-    in desk_more _ _ _ _ _ _ _ _ _ _ c.self.invariant c.args.job fits c.advance-replaced.result
-    c.advance-replaced.ensures.replaced _ c.advance-replaced.ensures.placed _
-    (rw c.unwrap.ensures at c.push.ensures.items) _ (rw c.unwrap-2.ensures at c.push-2.ensures.items) _
-    (wrote_on c.self.inside.instance.now c.args.job c.self.inside.placement c.self.inside.heads
-    c.as_mut_slice.result.now c.advance-replaced.new.heads c.as_mut_slice.ensures.value c.advance-replaced.auto.heads
-    c.advance-replaced.ensures.kept) _ _ _
-    (written_long c.self.inside.raises c.as_mut_slice-2.result.now c.advance-replaced.new.raises
-    c.as_mut_slice-2.ensures.value c.advance-replaced.auto.raises)
-    c.push.ensures.capacity c.push-2.ensures.capacity
+    in let waits = subst (λ h. WaitsOn c.self.inside.instance.now c.args.job c.steps-step.result h c.dispatch.new.self)
+    c.deref_mut.ensures.value c.dispatch.ensures
+    in desk_more _ _ _ _ _ _ _ c.self.invariant c.args.job fits c.next_replaces-replaced.result
+    c.next_replaces-replaced.ensures _ c.place_next.ensures c.steps-step.result c.steps-step.ensures _
+    waits _ (rw c.unwrap.ensures at c.push.ensures.items) _
+    (rw c.unwrap-2.ensures at c.push-2.ensures.items) _ _ c.push.ensures.capacity c.push-2.ensures.capacity

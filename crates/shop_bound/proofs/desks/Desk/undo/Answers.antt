@@ -1,20 +1,32 @@
-use Rattle.shop_bound.proofs.Trails.{has_last}
-use Rattle.shop_bound.proofs.DeskSteps.{desk_less, wrote_back, written_long}
+use Rattle.std.proofs.Common.{◌<◌, length, arith, rules, subst, sym}
+use Rattle.shop_bound.specs.Desks.{DeskState}
+use Rattle.shop_bound.specs.inner.Waitings.{HasLastWaiting, WaitsBack}
+use Rattle.shop_bound.proofs.Trails.{as_long, has_last}
+use Rattle.shop_bound.proofs.DeskSteps.{desk_less, waits_back}
 use Rattle.shop_bound.proofs.desks.Desk.undo.Goals as goal
 
-pub go_back-requires-clause-last : goal.go_back-requires-clause-last
-go_back-requires-clause-last c =
+pub take_back-requires : goal.take_back-requires
+take_back-requires c =
     has_last _ _ _ _ c.self.invariant.kept _ c.unwrap-job.result (rw c.unwrap-job.ensures at c.pop.ensures.items) _
     c.unwrap-replaced.result (rw c.unwrap-replaced.ensures at c.pop-2.ensures.items)
 
+pub undo-requires : goal.undo-requires
+undo-requires c =
+    subst (HasLastWaiting c.self.inside.instance.now c.take_back.new.self) (sym c.deref_mut.ensures.value)
+    (waits_back _ _ _ _ _ _ _ c.self.invariant _ c.unwrap-job.result (rw c.unwrap-job.ensures at c.pop.ensures.items) _
+    c.unwrap-replaced.result (rw c.unwrap-replaced.ensures at c.pop-2.ensures.items) _ c.take_back.ensures)
+
 pub invariant_of-self : goal.invariant_of-self
 invariant_of-self c =
-    desk_less _ _ _ _ _ _ _ _ _ _ c.self.invariant _ c.unwrap-job.result
-    (rw c.unwrap-job.ensures at c.pop.ensures.items) _ c.unwrap-replaced.result
-    (rw c.unwrap-replaced.ensures at c.pop-2.ensures.items) _ c.go_back.ensures.placed _
-    (wrote_back c.self.inside.instance.now c.unwrap-job.result c.unwrap-replaced.result c.self.inside.placement
-    c.self.inside.heads c.as_mut_slice.result.now c.go_back.new.heads c.as_mut_slice.ensures.value
-    c.go_back.auto.heads c.go_back.ensures.kept) _ _ _
-    (written_long c.self.inside.raises c.as_mut_slice-2.result.now c.go_back.new.raises
-    c.as_mut_slice-2.ensures.value c.go_back.auto.raises)
-    c.pop.ensures.capacity c.pop-2.ensures.capacity
+    desk_less _ _ _ _ _ _ _ c.self.invariant _ c.unwrap-job.result (rw c.unwrap-job.ensures at c.pop.ensures.items) _
+    c.unwrap-replaced.result (rw c.unwrap-replaced.ensures at c.pop-2.ensures.items) _ c.take_back.ensures _
+    (subst (λ h. WaitsBack c.self.inside.instance.now c.take_back.new.self h c.undo.new.self) c.deref_mut.ensures.value
+    c.undo.ensures) _ _ c.pop.ensures.capacity c.pop-2.ensures.capacity
+
+pub unwrap-replaced-requires : goal.unwrap-replaced-requires
+unwrap-replaced-requires c =
+    let some : 0 < length c.self.inside.jobs.items =
+    subst (λ (d : DeskState). 0 < length d.word) (sym c.self.view_is) c.requires
+    in let same = as_long _ _ _ _ c.self.invariant.kept
+    in let long : 0 < length c.self.inside.replaced.items = omega arith
+    in search rules

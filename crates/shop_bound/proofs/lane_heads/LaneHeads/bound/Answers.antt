@@ -29,7 +29,9 @@ bound_of_machines-requires g c = record {
 
 pub returns : goal.returns
 returns g c = λ w kept placed.
-    let k = subst (λ (s : LaneState). IsKeptInLanes g.L.Lanes.GREATEST c.args.instance.now w s) (sym c.self.view_is) kept
+    let k = subst (λ (s : LaneState). IsKeptInLanes g.L.Lanes.GREATEST c.args.instance.now w s)
+    (sym c.self.view_is) kept
     in c.bound_of_machines.ensures
-    ∙ standing_is g.L.Lanes.GREATEST c.args.instance.now w c.self.inside.layout (g.L.Lanes.rows c.self.inside.lanes) k.kept
+    ∙ standing_is g.L.Lanes.GREATEST c.args.instance.now w c.self.inside.layout
+    (g.L.Lanes.rows c.self.inside.lanes) k.kept
     c.args.placement.now placed c.machines_free.result.now c.machines_free.ensures c.self.inside.top k.bounds.top_is

@@ -20,5 +20,6 @@ returns g c w j kept placed =
     c.args.placement.now placed (g.L.Lanes.rows c.go_back.new.lanes)
     (subst (λ (ns : List Note). GoesBack c.args.instance.now c.self.inside.layout c.args.placement.now
     (take (length ns - c.unwrap-mark.result.first) (drop c.unwrap-mark.result.first ns)) c.unwrap-mark.result.whole
-    (g.L.Lanes.rows c.self.inside.lanes) (g.L.Lanes.rows c.go_back.new.lanes)) c.list.ensures c.go_back.ensures) c.truncate.new.self
+    (g.L.Lanes.rows c.self.inside.lanes)
+    (g.L.Lanes.rows c.go_back.new.lanes)) c.list.ensures c.go_back.ensures) c.truncate.new.self
     c.truncate.ensures _ c.pop.ensures.capacity

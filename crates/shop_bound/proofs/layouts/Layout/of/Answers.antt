@@ -21,7 +21,8 @@ all_cells : (shop : Shop) (now : List (Vec Slot Global)) → AreMachineSlots sho
     → (slots : List Slot) (blocks : List ℕ) → AreCells (map (λ v. v.items) now) (length now) slots blocks
     → AreCells (map (λ v. v.items) now) shop.machines slots blocks
 all_cells shop now are slots blocks laid =
-    subst (λ (n : ℕ). AreCells (map (λ v. v.items) now) n slots blocks) (sym (length-map now (λ v. v.items)) ∙ are.machines)
+    subst (λ (n : ℕ). AreCells (map (λ v. v.items) now) n slots blocks)
+    (sym (length-map now (λ v. v.items)) ∙ are.machines)
     laid
 
 pub cells_of-requires-clause-short : goal.cells_of-requires-clause-short

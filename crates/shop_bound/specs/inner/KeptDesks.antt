@@ -1,0 +1,18 @@
+-- What a desk keeps of a word.
+use Rattle.std.specs.Prelude.{◌≤◌, ℕ, List}
+use Rattle.shop_model.specs.Shop.{Shop, operation_count}
+use Rattle.shop_bound.specs.Desks.{IsKept}
+use Rattle.shop_bound.specs.Placements.{PlacementState}
+use Rattle.shop_bound.specs.inner.Waitings.{IsWaiting}
+use Rattle.shop_bound.specs.declared.placements.Replaced.{Replaced}
+use Rattle.shop_bound.specs.declared.waiting.Waiting.{Waiting}
+
+-- all that a desk keeps of a word, and how much room it has for the entries of the word with what
+-- they replaced
+pub record IsDesk (shop : Shop) (w : List ℕ) (s : PlacementState) (waiting : Waiting)
+    (replaced : List Replaced)
+    (jobs trail : ℕ) : Type 0 where
+  pub kept : IsKept shop w s replaced
+  pub lanes : IsWaiting shop w waiting
+  pub jobs_room : operation_count shop ≤ jobs
+  pub trail_room : operation_count shop ≤ trail
