@@ -21,8 +21,8 @@ use shop_model::Instance;
 use std::alloc::{AllocError, Global};
 use std::marker::Model;
 
-/// The heads of what a word leaves, one number a position, with notes that lead back through the word. Only `new` takes
-/// memory.
+/// The heads of what a word leaves, one number a position, with notes that lead back through the word. Notes take more
+/// memory as they need it.
 #[derive(Drop)]
 pub(crate) struct LaneHeads<L: Lanes> {
     pub(crate) layout: Layout,
@@ -56,8 +56,8 @@ impl<L: Lanes> Model for LaneHeads<L> {
 }
 
 impl<L: Lanes> LaneHeads<L> {
-    /// With nothing dispatched: the placement is that of no operation. There is room for sixteen notes an operation and
-    /// some more; where that ends, going back sets all heads anew. Fails with `AllocError` if memory runs out.
+    /// With nothing dispatched: the placement is that of no operation. Where memory for notes is refused later, going back
+    /// sets all heads anew. Fails with `AllocError` if memory runs out.
     pub(crate) fn new(
         alloc: Global,
         instance: &Instance,
@@ -74,7 +74,7 @@ impl<L: Lanes> LaneHeads<L> {
         let mut lanes = L::new(alloc, layout.times(), layout.tails(), instance.jobs())?;
         fill(&mut lanes, &layout, instance, placement);
         let room = instance.operations();
-        let notes = Notes::with_room(alloc, 16 * room + 64)?;
+        let notes = Notes::with_room(alloc, 4 * room)?;
         let marks = Vec::with_capacity(alloc, room)?;
         Ok(LaneHeads {
             machines: machines_of(alloc, &layout, instance.machines())?,

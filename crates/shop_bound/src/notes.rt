@@ -19,7 +19,7 @@ pub(crate) struct Mark {
     pub whole: bool,
 }
 
-/// Notes in a fixed room, and whether all was noted since they were last begun.
+/// Notes, and whether all was noted since they were last begun.
 #[derive(Drop)]
 pub(crate) struct Notes {
     list: Vec<Note>,
@@ -35,7 +35,7 @@ impl Model for Notes {
 }
 
 impl Notes {
-    /// With room for so many notes. Fails with `AllocError` if memory runs out.
+    /// With room for so many notes at first. Fails with `AllocError` if memory runs out.
     pub(crate) fn with_room(alloc: Global, room: usize) -> Result<Notes, AllocError>
         ensures { IfOk result (λ n. n ≡ record { list = []; whole = true }) }
     {
@@ -55,16 +55,14 @@ impl Notes {
         self.list.len()
     }
 
-    /// Notes the head at a position, or that not all was noted, where there is no room.
+    /// Notes the head at a position; or that not all was noted, where memory for it is refused.
     #[inline(always)]
     pub(crate) fn add(&mut self, position: usize, head: u64)
         ensures { IsNoted (record { position = position; head = head }) self.old self.new }
     {
-        if self.list.len() == self.list.capacity() {
+        if self.list.push(Note { position, head }).is_err() {
             self.whole = false;
-            return;
         }
-        self.list.push(Note { position, head }).unwrap();
     }
 
     /// Forgets all but the first notes.
