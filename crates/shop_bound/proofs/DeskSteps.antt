@@ -6,7 +6,8 @@ use Rattle.std.specs.declared.alloc.Global.{Global}
 use Rattle.std.proofs.lemmas.List.{append-nil, drop_all, take_all}
 use Rattle.shop_model.specs.Limits.{IsWithinLimits}
 use Rattle.shop_model.specs.Shop.{Shop, operation_count}
-use Rattle.shop_model.specs.Word.{IsWord, none_placed, placing}
+use Rattle.shop_model.specs.Word.{Placing, IsWord, none_placed, placing}
+use Rattle.shop_model.proofs.Unders.{placing-snoc}
 use Rattle.shop_bound.specs.inner.KeptDesks.{IsDesk}
 use Rattle.shop_bound.specs.Placements.{PlacementState, IsPlacement}
 use Rattle.shop_bound.specs.inner.NextSteps.{PlacesNext}
@@ -44,19 +45,30 @@ module _ (shop : Shop) (w : List ℕ) (s : PlacementState) (h : Waiting) (replac
   pub has_steps : (j : ℕ) → IsWord shop (w ++ j ∷ []) → j < length s.steps
   has_steps j fits = let a = its_job shop w j fits in let b = d.kept.placed.places.steps in omega arith
 
-  pub waits_on : (j : ℕ) → IsWord shop (w ++ j ∷ []) → (step : ℕ) → step ≡ get_or s.steps j 0
-      → HasNextWaiting shop j step h
-  waits_on j fits step read = record { word = w; kept = d.lanes; fits = fits; at = step_is j fits step read }
+  -- the placement with one more operation
+  next_is : (j : ℕ) (t : PlacementState) → PlacesNext shop j s t → IsPlacement shop (placing shop (w ++ j ∷ [])) t
+  next_is j t places = subst (λ (p : Placing). IsPlacement shop p t) (sym (placing-snoc shop w j))
+      (places (placing shop w) d.kept.placed)
+
+  pub waits_on : (j : ℕ) → IsWord shop (w ++ j ∷ []) → (step : ℕ) → step ≡ get_or s.steps j 0 → (t : PlacementState)
+      → PlacesNext shop j s t → HasNextWaiting shop t j step h
+  waits_on j fits step read t places = record {
+    word = w;
+    kept = d.lanes;
+    fits = fits;
+    at = step_is j fits step read;
+    placed = next_is j t places;
+  }
 
   pub desk_more : (j : ℕ) → IsWord shop (w ++ j ∷ []) → (r : Replaced) → TellsReplaced shop j s r
       → (t : PlacementState) → PlacesNext shop j s t → (step : ℕ) → step ≡ get_or s.steps j 0 → (i : Waiting)
-      → WaitsOn shop j step h i → (v : List ℕ) → v ≡ w ++ j ∷ [] → (rs : List Replaced)
+      → WaitsOn shop t j step h i → (v : List ℕ) → v ≡ w ++ j ∷ [] → (rs : List Replaced)
       → rs ≡ replaced ++ r ∷ [] → (jobs' trail' : ℕ) → jobs ≤ jobs' → trail ≤ trail'
       → IsDesk shop v t i rs jobs' trail'
   desk_more j fits r tells t places step read i waits v pushed rs also jobs' trail' more more_also = record {
     kept = kept_more shop w s replaced d.kept j fits r tells t places v pushed rs also;
     lanes = subst (λ (u : List ℕ). IsWaiting shop u i) (sym pushed)
-        (waits w d.lanes fits (step_is j fits step read));
+        (waits w d.lanes fits (step_is j fits step read) (next_is j t places));
     jobs_room = (let a = d.jobs_room in omega arith);
     trail_room = (let a = d.trail_room in omega arith);
   }
@@ -66,19 +78,18 @@ module _ (shop : Shop) (w : List ℕ) (s : PlacementState) (h : Waiting) (replac
     before_is : IsPlacement shop (placing shop v) t
     before_is = (kept_less shop w s replaced d.kept v j popped rs r also t back).placed
 
-    pub waits_back : HasLastWaiting shop t h
+    pub waits_back : HasLastWaiting shop t j h
     waits_back = record {
       word = v;
-      job = j;
       kept = subst (λ (u : List ℕ). IsWaiting shop u h) popped d.lanes;
       placed = before_is;
     }
 
-    pub desk_less : (i : Waiting) → WaitsBack shop t h i → (jobs' trail' : ℕ) → jobs' ≡ jobs → trail' ≡ trail
+    pub desk_less : (i : Waiting) → WaitsBack shop t j h i → (jobs' trail' : ℕ) → jobs' ≡ jobs → trail' ≡ trail
         → IsDesk shop v t i rs jobs' trail'
     desk_less i waits jobs' trail' same same_also = record {
       kept = kept_less shop w s replaced d.kept v j popped rs r also t back;
-      lanes = waits v j (subst (λ (u : List ℕ). IsWaiting shop u h) popped d.lanes) before_is;
+      lanes = waits v (subst (λ (u : List ℕ). IsWaiting shop u h) popped d.lanes) before_is;
       jobs_room = (let a = d.jobs_room in omega arith);
       trail_room = (let a = d.trail_room in omega arith);
     }

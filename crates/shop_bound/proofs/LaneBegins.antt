@@ -16,10 +16,12 @@ use Rattle.shop_bound.proofs.Lists.{get_or-le-greatest_of}
 use Rattle.shop_bound.specs.Placements.{PlacementState, IsPlacement}
 use Rattle.shop_bound.specs.declared.notes.Mark.{Mark}
 use Rattle.shop_bound.specs.inner.Fills.{CanFill, HasFilled, IsRested}
+use Rattle.shop_bound.specs.inner.LaneEnds.{AreEndsOf, CanKeepEnds, HasEnds}
 use Rattle.shop_bound.specs.inner.LaneHeads.{AreHeadsFit, NotesState}
-use Rattle.shop_bound.specs.inner.LaneStates.{HasBounds, IsKeptInLanes}
+use Rattle.shop_bound.specs.inner.LaneStates.{AreHeadsInLanes, HasBounds, IsKeptInLanes}
 use Rattle.shop_bound.specs.inner.Layouts.{LayoutState, place, first_of, IsLaidOut}
 use Rattle.shop_bound.proofs.LaidPlaces.{place_of, cell_at, machine_at, machines_rise}
+use Rattle.shop_bound.proofs.LaneEnds.{can_keep, ends_at, steps_of_placement, with_ends}
 
 pub no_word : (shop : Shop) → IsWord shop []
 no_word shop j = omega arith
@@ -96,7 +98,33 @@ module _ (greatest : ℕ) (shop : Shop) (limits : IsWithinLimits shop) (l : Layo
           (omega (arith, length-replicate {A = ℕ} (length l.times) 0))
     ]
 
-    pub kept_none : (rows : Rows) → HasFilled shop l p rest rows → (notes : NotesState)
+    heads_none : (rows : Rows) → HasFilled shop l p rest rows → AreHeadsInLanes greatest shop [] l rows
+    heads_none rows filled = record {
+      limits = limits;
+      word = no_word shop;
+      laid = laid;
+      times = filled.beside.times ∙ ap (λ (r : Rows). r.times) resting;
+      tails = filled.beside.tails ∙ ap (λ (r : Rows). r.tails) resting;
+      fits = fits;
+      computable = computable;
+      heads = filled.filled at_rest_rested (none_placed shop) placed;
+    }
+
+    -- as many ends as jobs
+    ends_none : (rows : Rows) → HasFilled shop l p rest rows → jobs ≡ length shop.jobs
+        → length rows.ends ≡ length shop.jobs
+    ends_none rows filled many =
+        let a = ap length filled.beside.ends in let b = ap (λ (r : Rows). length r.ends) resting
+        in omega (arith, length-replicate jobs none)
+
+    pub ends_begin : (rows : Rows) → HasFilled shop l p rest rows → jobs ≡ length shop.jobs
+        → CanKeepEnds greatest l p.steps rows
+    ends_begin rows filled many =
+        can_keep greatest shop [] l rows (heads_none rows filled) p.steps
+        (steps_of_placement shop (none_placed shop) p placed) (ends_none rows filled many)
+
+    pub kept_none : (filled_rows : Rows) → HasFilled shop l p rest filled_rows → jobs ≡ length shop.jobs → (rows : Rows)
+        → HasEnds filled_rows rows → AreEndsOf greatest l p.steps rows → (notes : NotesState)
         → notes ≡ record { list = []; whole = true } → (marks : List Mark) → marks ≡ [] → (room : ℕ)
         → operation_count shop ≤ room → (machines : List ℕ) (raises top : ℕ)
         → HasBounds greatest shop l machines raises top
@@ -111,8 +139,9 @@ module _ (greatest : ℕ) (shop : Shop) (limits : IsWithinLimits shop) (l : Layo
           raises = raises;
           top = top;
         })
-    kept_none rows filled notes begun marks none_marked room enough machines raises top bounds =
-        let none : IsKeptInLanes greatest shop [] (record {
+    kept_none filled_rows filled many rows beside ends notes begun marks none_marked room enough machines raises top bounds =
+        let heads = with_ends greatest shop [] l filled_rows rows beside (heads_none filled_rows filled)
+        in let none : IsKeptInLanes greatest shop [] (record {
           layout = l;
           rows = rows;
           notes = record { list = []; whole = true };
@@ -122,21 +151,14 @@ module _ (greatest : ℕ) (shop : Shop) (limits : IsWithinLimits shop) (l : Layo
           raises = raises;
           top = top;
         }) = record {
-          kept = record {
-            limits = limits;
-            word = no_word shop;
-            laid = laid;
-            times = filled.beside.times ∙ ap (λ (r : Rows). r.times) resting;
-            tails = filled.beside.tails ∙ ap (λ (r : Rows). r.tails) resting;
-            fits = fits;
-            computable = computable;
-            heads = filled.filled at_rest_rested (none_placed shop) placed;
-          };
+          kept = heads;
           notes_fit = tt;
           trail = refl;
           as_many = refl;
           marks_room = enough;
           bounds = bounds;
+          ends = ends_at greatest shop [] l rows heads p.steps (steps_of_placement shop (none_placed shop) p placed)
+              (beside.ends ∙ ends_none filled_rows filled many) bounds.holds ends;
         }
         in subst (λ (n : NotesState). IsKeptInLanes greatest shop []
         (record {

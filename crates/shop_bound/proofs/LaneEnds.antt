@@ -1,6 +1,6 @@
 -- The ends of next operations are kept up in lanes.
 use Rattle.std.proofs.Common.{◌≡◌, ℕ, ◌+◌, ◌-◌, ◌<◌, ◌⊎◌, inl, inr, List, [], ◌∷◌}
-use Rattle.std.proofs.Common.{length, get_or, max, refl, sym, ◌∙◌, ap, arith}
+use Rattle.std.proofs.Common.{length, get_or, max, refl, sym, ◌∙◌, ap, subst, arith}
 use Rattle.std.proofs.lemmas.Bool.{cases_eq, cases_lt, lt-ltb, le-ltb}
 use Rattle.std.proofs.lemmas.List.{get_or-set_other}
 use Rattle.shop_lanes.specs.Rows.{Rows}
@@ -9,16 +9,21 @@ use Rattle.shop_model.specs.Word.{Placing, placing}
 use Rattle.shop_model.proofs.Ends.{IsOperation-job}
 use Rattle.shop_bound.specs.Conflicts.{next_end, next_head}
 use Rattle.shop_bound.specs.Heads.{head_of, ready_after}
+use Rattle.shop_bound.specs.Placements.{PlacementState, IsPlacement}
 use Rattle.shop_bound.specs.declared.notes.Note.{Note}
-use Rattle.shop_bound.specs.inner.LaneChoices.{next_place, AreChoosable}
+use Rattle.shop_bound.specs.inner.Fills.{AreSameBeside}
+use Rattle.shop_bound.specs.inner.HeadLimits.{FitsLanes}
+use Rattle.shop_bound.specs.inner.LaneChoices.{next_place, AreEndsAt}
 use Rattle.shop_bound.specs.inner.LaneEnds.{end_at, AreEndsOf, CanKeepEnds, IsNotedAt}
-use Rattle.shop_bound.specs.inner.LaneEnds.{AreEndsButJob}
-use Rattle.shop_bound.specs.inner.LaneHeads.{restored}
+use Rattle.shop_bound.specs.inner.LaneEnds.{AreEndsButJob, HasEnds}
+use Rattle.shop_bound.specs.inner.LaneHeads.{AreHeadsAt, restored}
 use Rattle.shop_bound.specs.inner.LaneStates.{AreHeadsInLanes}
 use Rattle.shop_bound.specs.inner.Layouts.{LayoutState, place}
 use Rattle.shop_bound.specs.inner.Raises.{steps_of}
 use Rattle.shop_bound.proofs.LaidPlaces.{place_of}
+use Rattle.shop_bound.proofs.LatestEnds.{latest_end_is}
 use Rattle.shop_bound.proofs.RaisedHeads.{indexed}
+use Rattle.shop_bound.proofs.TabledHeads.{tabled, tabled_is}
 
 -- what notes leave out is as it was
 pub restored_other : (notes : List Note) (heads : List ℕ) (q : ℕ) → (IsNotedAt notes q → ⊥)
@@ -46,11 +51,11 @@ noted_or_not (note ∷ notes) q = elim (cases_eq note.position q) [
 pub ends_but_job : (greatest : ℕ) (l : LayoutState) (before steps : List ℕ) (old new : Rows) (notes : List Note)
     (job : ℕ)
     → AreEndsOf greatest l before old → length before ≡ length steps → new.times ≡ old.times → new.ends ≡ old.ends
-    → ((j : ℕ) → (j ≡ job → ⊥) → get_or steps j 0 ≡ get_or before j 0)
+    → ((j : ℕ) → j < length steps → (j ≡ job → ⊥) → get_or steps j 0 ≡ get_or before j 0)
     → ((q : ℕ) → (IsNotedAt notes q → ⊥) → get_or new.heads q 0 ≡ get_or old.heads q 0)
     → AreEndsButJob greatest l steps new notes job
 ends_but_job greatest l before steps old new notes job ends long times same others heads j known ne =
-    let step = others j ne
+    let step = others j known ne
     in let was = ends j (omega arith)
     in let now : get_or new.ends j 0 ≡ end_at greatest l before old j =
     ap (λ (xs : List ℕ). get_or xs j 0) same ∙ was
@@ -129,30 +134,67 @@ module _ (greatest : ℕ) (shop : Shop) (w : List ℕ) (l : LayoutState) (rows :
     computable = kept.computable;
   }
 
-  -- with these ends the conflict set can be gathered, if no end is the greatest number
-  pub can_choose : AreEndsOf greatest l steps rows
-      → ((j : ℕ) → IsOperation shop j (p.steps j) → next_end shop p j + 1 < greatest)
-      → AreChoosable greatest shop p l steps rows
-  can_choose ends fits = record {
-    nexts = record {
-      laid = kept.laid;
-      limits = kept.limits;
-      jobs = counts.jobs;
-      steps = counts.are;
-      heads = kept.heads;
-      times = kept.times;
-    };
-    ends = record {
-      jobs = as_many;
-      next = λ j op. (
-          let known = IsOperation-job shop j (p.steps j) op
-          in ends j (let a = counts.jobs in omega arith)
-          ∙ (rw (lt-ltb (get_or steps j 0) (steps_of l j) (is_next j op)) (next_stored j op)));
-      none = λ j known past. (
-          let route = kept.laid.routes j in let e = counts.are j known
-          in ends j (let a = counts.jobs in omega arith)
-          ∙ (rw (le-ltb (get_or steps j 0) (steps_of l j) (omega arith)) refl));
-      fits = fits;
-    };
-    computable = kept.computable;
+  -- the ends of the placing, by the lists that stand for it, and back
+  pub ends_of : AreEndsAt greatest shop p rows.ends → AreEndsOf greatest l steps rows
+  ends_of ends j known =
+      let here : j < length shop.jobs = (let a = counts.jobs in omega arith)
+      in elim (cases_lt (get_or steps j 0) (steps_of l j)) [
+        | inl lt ↦ (let op = next_is j lt
+            in ends.next j op ∙ sym (rw (lt-ltb (get_or steps j 0) (steps_of l j) lt) (next_stored j op)))
+        | inr ge ↦ (let route = kept.laid.routes j in let e = counts.are j here
+            in ends.none j here (omega arith) ∙ sym (rw (le-ltb (get_or steps j 0) (steps_of l j) ge) refl))
+      ]
+
+  -- if no end is the greatest number
+  pub ends_at : FitsLanes greatest shop l → AreEndsOf greatest l steps rows → AreEndsAt greatest shop p rows.ends
+  ends_at holds ends = record {
+    jobs = as_many;
+    next = λ j op. (
+        let known = IsOperation-job shop j (p.steps j) op
+        in ends j (let a = counts.jobs in omega arith)
+        ∙ (rw (lt-ltb (get_or steps j 0) (steps_of l j) (is_next j op)) (next_stored j op)));
+    none = λ j known past. (
+        let route = kept.laid.routes j in let e = counts.are j known
+        in ends j (let a = counts.jobs in omega arith)
+        ∙ (rw (le-ltb (get_or steps j 0) (steps_of l j) (omega arith)) refl));
+    fits = λ j op. (
+        let none : p.steps j - p.steps j ≡ 0 = omega arith
+        in let head : head_of shop p j (p.steps j) ≡ next_head shop p j =
+        ap (λ (d : ℕ). max (ready_after shop p j d) (p.free (machine_of shop j (p.steps j)))) none
+        in let latest = latest_end_is shop w kept.word j (p.steps j) op (omega arith)
+        in let fits = holds 0 (let some = kept.limits.some_machine in omega arith) in omega arith);
   }
+
+-- the ends alone differ
+pub with_ends : (greatest : ℕ) (shop : Shop) (w : List ℕ) (l : LayoutState) (old new : Rows) → HasEnds old new
+    → AreHeadsInLanes greatest shop w l old → AreHeadsInLanes greatest shop w l new
+with_ends greatest shop w l old new beside kept = record {
+  limits = kept.limits;
+  word = kept.word;
+  laid = kept.laid;
+  times = beside.times ∙ kept.times;
+  tails = beside.tails ∙ kept.tails;
+  fits = kept.fits;
+  computable = kept.computable;
+  heads = subst (AreHeadsAt shop (placing shop w) l) (sym beside.heads) kept.heads;
+}
+
+pub steps_of_placement : (shop : Shop) (p : Placing) (s : PlacementState) → IsPlacement shop p s
+    → AreStepsOf shop p s.steps
+steps_of_placement shop p s placed = record { jobs = placed.places.steps; are = placed.steps }
+
+-- from one word to another that has the same steps of all jobs but one
+pub ends_between : (greatest : ℕ) (shop : Shop) (w v : List ℕ) (j : ℕ) (l : LayoutState) (old new : Rows)
+    → AreHeadsInLanes greatest shop w l old → AreEndsAt greatest shop (placing shop w) old.ends
+    → (s : PlacementState) → IsPlacement shop (placing shop v) s
+    → ((i : ℕ) → (i ≡ j → ⊥) → (placing shop v).steps i ≡ (placing shop w).steps i) → AreSameBeside old new
+    → (notes : List Note) → ((q : ℕ) → (IsNotedAt notes q → ⊥) → get_or new.heads q 0 ≡ get_or old.heads q 0)
+    → AreEndsButJob greatest l s.steps new notes j
+ends_between greatest shop w v j l old new kept ends s placed same beside notes heads =
+    let before = tabled shop (placing shop w)
+    in let is = tabled_is shop (placing shop w)
+    in let a = placed.places.steps in let b = is.places.steps
+    in ends_but_job greatest l before.steps s.steps old new notes j
+    (ends_of greatest shop w l old kept before.steps (steps_of_placement shop (placing shop w) before is) ends.jobs ends)
+    (omega arith) beside.times beside.ends (λ i known ne.
+    let x = placed.steps i (omega arith) in let y = is.steps i (omega arith) in let z = same i ne in omega arith) heads

@@ -1,18 +1,24 @@
 -- What is kept of a word in lanes, with one entry more and one less.
 use Rattle.std.proofs.Common.{◌≡◌, ℕ, zero, suc, ◌-◌, ◌≤◌, ◌<◌, true, List, [], ◌∷◌, ◌++◌, length}
-use Rattle.std.proofs.Common.{take, drop, refl, sym, ◌∙◌, ap, subst, arith}
+use Rattle.std.proofs.Common.{take, drop, get_or, refl, sym, ◌∙◌, ap, subst, arith}
 use Rattle.std.specs.List.{AllByRecursion}
 use Rattle.std.proofs.lemmas.List.{length_push, length-drop, take_all}
 use Rattle.shop_lanes.specs.Rows.{Rows}
 use Rattle.shop_model.specs.Shop.{Shop}
-use Rattle.shop_model.specs.Word.{IsWord, placing}
+use Rattle.shop_model.specs.Word.{Placing, IsWord, placing}
+use Rattle.shop_model.proofs.Placings.{place_next-is}
+use Rattle.shop_model.proofs.Unders.{placing-snoc}
 use Rattle.shop_model.proofs.WordLemmas.{IsWord-init}
 use Rattle.shop_bound.specs.Placements.{PlacementState, IsPlacement}
 use Rattle.shop_bound.specs.declared.notes.Mark.{Mark}
 use Rattle.shop_bound.specs.declared.notes.Note.{Note}
 use Rattle.shop_bound.specs.inner.Fills.{CanFill, GoesBack, IsRested}
+use Rattle.shop_bound.specs.inner.LaneChoices.{AreEndsAt}
+use Rattle.shop_bound.specs.inner.LaneEnds.{AreEndsButJob, AreEndsOf, CanKeepEnds, HasEnds}
 use Rattle.shop_bound.specs.inner.LaneHeads.{AreHeadsAt, AreNotesFit, IsTrail, NotesState, restored}
 use Rattle.shop_bound.specs.inner.LaneStates.{LaneState, IsKeptInLanes, Advances, AreHeadsInLanes}
+use Rattle.shop_bound.proofs.ChildTurns.{its_job}
+use Rattle.shop_bound.proofs.LaneEnds.{can_keep, ends_at, ends_between, restored_other, steps_of_placement, with_ends}
 use Rattle.shop_bound.proofs.LaneTrails.{same_heads, trail_more, LeadsToLast, trail_less}
 use Rattle.shop_bound.proofs.Lists.{all_append}
 use Rattle.shop_bound.proofs.WordLengths.{word_within}
@@ -34,38 +40,71 @@ module _ (greatest : ℕ) (shop : Shop) (w : List ℕ) (j : ℕ) (s : LaneState)
     mark_fits = let a = word_within shop (w ++ j ∷ []) fits in let b = length_push w j in let c = kept.as_many
         in let d = kept.marks_room in omega arith
 
-    pub kept_more : (step : ℕ) → step ≡ (placing shop w).steps j → (new : Rows) (after : NotesState) (mark : Mark)
-        → Advances greatest shop s.layout j step s.rows new s.notes after mark → (marks : List Mark)
-        → marks ≡ s.marks ++ mark ∷ [] → (room : ℕ) → s.room ≤ room
-        → IsKeptInLanes greatest shop (w ++ j ∷ [])
-        (record {
-          layout = s.layout;
-          rows = new;
-          notes = after;
-          marks = marks;
-          room = room;
-          machines = s.machines;
-          raises = s.raises;
-          top = s.top;
-        })
-    kept_more step at new after mark advances marks pushed room more =
-        let back = advances.noted
-        in record {
-          kept = advances.heads w kept.kept fits at;
-          notes_fit = subst (λ (n : ℕ). AreNotesFit greatest n after.list) (sym advances.beside.positions)
-              (subst (AreNotesFit greatest (length s.rows.heads)) (sym back.are)
-              (all_append
-              (λ (n : Note). (n.position < length s.rows.heads) × (n.head ≤ greatest)) s.notes.list back.more
-              kept.notes_fit back.fit));
-          trail = subst (λ (ms : List Mark). IsTrail shop s.layout (w ++ j ∷ []) ms after.list new.heads) (sym pushed)
-              (trail_more shop kept.kept.limits s.layout kept.kept.laid greatest w j s.marks mark s.notes
-              (record s.notes { whole = true }) after s.rows.heads new.heads kept.kept.heads kept.trail refl
-              advances.first advances.whole back);
-          as_many = (let a = ap length pushed in let b = length_push s.marks mark in let c = length_push w j
-              in let d = kept.as_many in omega arith);
-          marks_room = (let a = kept.marks_room in omega arith);
-          bounds = kept.bounds;
-        }
+    pub others_next : (i : ℕ) → (i ≡ j → ⊥) → (placing shop (w ++ j ∷ [])).steps i ≡ (placing shop w).steps i
+    others_next i ne = ap (λ (p : Placing). p.steps i) (placing-snoc shop w j)
+        ∙ (place_next-is shop (placing shop w) j).steps_other i ne
+
+    module _ (step : ℕ) (at : step ≡ (placing shop w).steps j) (new : Rows) (after : NotesState) (mark : Mark)
+        (advances : Advances greatest shop s.layout j step s.rows new s.notes after mark) (p : PlacementState)
+        (placed : IsPlacement shop (placing shop (w ++ j ∷ [])) p) where
+      pub ends_more : CanKeepEnds greatest s.layout p.steps new
+      ends_more = can_keep greatest shop (w ++ j ∷ []) s.layout new (advances.heads w kept.kept fits at) p.steps
+          (steps_of_placement shop (placing shop (w ++ j ∷ [])) p placed)
+          (ap length advances.beside.ends ∙ kept.ends.jobs)
+
+      pub job_more : j < length p.steps
+      job_more = let a = its_job shop w j fits in let b = placed.places.steps in omega arith
+
+      pub fit_more : (notes : List Note) → notes ≡ advances.noted.more → AreNotesFit greatest (length new.heads) notes
+      fit_more notes is = subst (λ (n : ℕ). AreNotesFit greatest n notes) (sym advances.beside.positions)
+          (subst (AreNotesFit greatest (length s.rows.heads)) (sym is) advances.noted.fit)
+
+      pub noted_more : (notes : List Note) → notes ≡ advances.noted.more → mark.whole ≡ true
+          → AreEndsButJob greatest s.layout p.steps new notes j
+      noted_more notes is all =
+          ends_between greatest shop w (w ++ j ∷ []) j s.layout s.rows new kept.kept kept.ends p placed others_next
+          advances.beside notes (λ q none. sym (restored_other notes new.heads q none)
+          ∙ ap (λ (hs : List ℕ). get_or hs q 0) (ap (λ (ns : List Note). restored ns new.heads) is
+          ∙ advances.noted.back (sym advances.whole ∙ all)))
+
+      pub kept_more : (ended : Rows) → HasEnds new ended → AreEndsOf greatest s.layout p.steps ended
+          → (marks : List Mark) → marks ≡ s.marks ++ mark ∷ [] → (room : ℕ) → s.room ≤ room
+          → IsKeptInLanes greatest shop (w ++ j ∷ [])
+          (record {
+            layout = s.layout;
+            rows = ended;
+            notes = after;
+            marks = marks;
+            room = room;
+            machines = s.machines;
+            raises = s.raises;
+            top = s.top;
+          })
+      kept_more ended beside ends marks pushed room more =
+          let back = advances.noted
+          in let heads = with_ends greatest shop (w ++ j ∷ []) s.layout new ended beside
+          (advances.heads w kept.kept fits at)
+          in record {
+            kept = heads;
+            notes_fit = subst (λ (hs : List ℕ). AreNotesFit greatest (length hs) after.list) (sym beside.heads)
+                (subst (λ (n : ℕ). AreNotesFit greatest n after.list) (sym advances.beside.positions)
+                (subst (AreNotesFit greatest (length s.rows.heads)) (sym back.are)
+                (all_append
+                (λ (n : Note). (n.position < length s.rows.heads) × (n.head ≤ greatest)) s.notes.list back.more
+                kept.notes_fit back.fit)));
+            trail = subst (λ (hs : List ℕ). IsTrail shop s.layout (w ++ j ∷ []) marks after.list hs) (sym beside.heads)
+                (subst (λ (ms : List Mark). IsTrail shop s.layout (w ++ j ∷ []) ms after.list new.heads) (sym pushed)
+                (trail_more shop kept.kept.limits s.layout kept.kept.laid greatest w j s.marks mark s.notes
+                (record s.notes { whole = true }) after s.rows.heads new.heads kept.kept.heads kept.trail refl
+                advances.first advances.whole back));
+            as_many = (let a = ap length pushed in let b = length_push s.marks mark in let c = length_push w j
+                in let d = kept.as_many in omega arith);
+            marks_room = (let a = kept.marks_room in omega arith);
+            bounds = kept.bounds;
+            ends = ends_at greatest shop (w ++ j ∷ []) s.layout ended heads p.steps
+                (steps_of_placement shop (placing shop (w ++ j ∷ [])) p placed)
+                (beside.ends ∙ (ap length advances.beside.ends ∙ kept.ends.jobs)) kept.bounds.holds ends;
+          }
 
   module _ (kept : IsKeptInLanes greatest shop (w ++ j ∷ []) s) (marks : List Mark) (mark : Mark)
       (popped : s.marks ≡ marks ++ mark ∷ []) where
@@ -93,55 +132,94 @@ module _ (greatest : ℕ) (shop : Shop) (w : List ℕ) (j : ℕ) (s : LaneState)
         positions = kept.kept.heads.positions;
       }
 
-      pub kept_less : (new : Rows)
-          → GoesBack shop s.layout p (take (length s.notes.list - mark.first) (drop mark.first s.notes.list)) mark.whole
-          s.rows new → (after : NotesState) → after ≡ record s.notes { list = take mark.first s.notes.list }
-          → (room : ℕ) → room ≡ s.room → IsKeptInLanes greatest shop w
-          (record {
-            layout = s.layout;
-            rows = new;
-            notes = after;
-            marks = marks;
-            room = room;
-            machines = s.machines;
-            raises = s.raises;
-            top = s.top;
-          })
-      kept_less new back after truncated room same =
-          let list : after.list ≡ take mark.first s.notes.list = ap (λ (n : NotesState). n.list) truncated
-          in let heads : AreHeadsAt shop (placing shop w) s.layout new.heads =
-          back.heads (placing shop w) placed (λ yes. subst
-          (λ (ns : List Note). AreHeadsAt shop (placing shop w) s.layout (restored ns s.rows.heads))
-          (sym notes_behind) (last.whole yes))
-          in record {
-            kept = record {
-              limits = kept.kept.limits;
-              word = IsWord-init shop w j kept.kept.word;
-              laid = kept.kept.laid;
-              times = back.beside.times ∙ kept.kept.times;
-              tails = back.beside.tails ∙ kept.kept.tails;
-              fits = kept.kept.fits;
-              computable = kept.kept.computable;
-              heads = heads;
-            };
-            notes_fit = subst (λ (n : ℕ). AreNotesFit greatest n after.list) (sym back.beside.positions)
-                (subst (AreNotesFit greatest (length s.rows.heads)) (sym list)
-                (all_take (λ (n : Note). (n.position < length s.rows.heads) × (n.head ≤ greatest)) mark.first
-                s.notes.list kept.notes_fit));
-            trail = subst (λ (ns : List Note). IsTrail shop s.layout w marks ns new.heads) (sym list)
-                (last.trail new.heads heads);
-            as_many = (let a = ap length popped in let b = length_push marks mark in let c = length_push w j
-                in let d = kept.as_many in omega arith);
-            marks_room = (let a = kept.marks_room in omega arith);
-            bounds = kept.bounds;
-          }
+      -- the heads and the ends that go back
+      module _ (new : Rows)
+          (back : GoesBack shop s.layout p (take (length s.notes.list - mark.first) (drop mark.first s.notes.list))
+          mark.whole s.rows new) where
+        abbrev behind : List Note
+        behind = take (length s.notes.list - mark.first) (drop mark.first s.notes.list)
+
+        were : mark.whole ≡ true → AreHeadsAt shop (placing shop w) s.layout (restored behind s.rows.heads)
+        were all = subst (λ (ns : List Note). AreHeadsAt shop (placing shop w) s.layout (restored ns s.rows.heads))
+            (sym notes_behind) (last.whole all)
+
+        gone_back : AreHeadsInLanes greatest shop w s.layout new
+        gone_back = record {
+          limits = kept.kept.limits;
+          word = IsWord-init shop w j kept.kept.word;
+          laid = kept.kept.laid;
+          times = back.beside.times ∙ kept.kept.times;
+          tails = back.beside.tails ∙ kept.kept.tails;
+          fits = kept.kept.fits;
+          computable = kept.kept.computable;
+          heads = back.heads (placing shop w) placed were;
+        }
+
+        others_last : (i : ℕ) → (i ≡ j → ⊥) → (placing shop w).steps i ≡ (placing shop (w ++ j ∷ [])).steps i
+        others_last i ne = sym (ap (λ (q : Placing). q.steps i) (placing-snoc shop w j)
+            ∙ (place_next-is shop (placing shop w) j).steps_other i ne)
+
+        pub ends_less : CanKeepEnds greatest s.layout p.steps new
+        ends_less = can_keep greatest shop w s.layout new gone_back p.steps
+            (steps_of_placement shop (placing shop w) p placed) (ap length back.beside.ends ∙ kept.ends.jobs)
+
+        pub job_less : j < length p.steps
+        job_less = let a = its_job shop w j kept.kept.word in let b = placed.places.steps in omega arith
+
+        pub fit_less : AreNotesFit greatest (length new.heads) behind
+        fit_less = subst (λ (n : ℕ). AreNotesFit greatest n behind) (sym back.beside.positions)
+            (subst (AreNotesFit greatest (length s.rows.heads)) (sym notes_behind)
+            (all_drop (λ (n : Note). (n.position < length s.rows.heads) × (n.head ≤ greatest)) mark.first
+            s.notes.list kept.notes_fit))
+
+        pub noted_less : mark.whole ≡ true → AreEndsButJob greatest s.layout p.steps new behind j
+        noted_less all =
+            ends_between greatest shop (w ++ j ∷ []) w j s.layout s.rows new kept.kept kept.ends p placed others_last
+            back.beside behind (λ q none. ap (λ (hs : List ℕ). get_or hs q 0)
+            (same_heads shop kept.kept.limits s.layout kept.kept.laid (placing shop w) new.heads
+            (restored behind s.rows.heads) gone_back.heads (were all)) ∙ restored_other behind s.rows.heads q none)
+
+        pub kept_less : (ended : Rows) → HasEnds new ended → AreEndsOf greatest s.layout p.steps ended
+            → (after : NotesState) → after ≡ record s.notes { list = take mark.first s.notes.list }
+            → (room : ℕ) → room ≡ s.room → IsKeptInLanes greatest shop w
+            (record {
+              layout = s.layout;
+              rows = ended;
+              notes = after;
+              marks = marks;
+              room = room;
+              machines = s.machines;
+              raises = s.raises;
+              top = s.top;
+            })
+        kept_less ended beside ends after truncated room same =
+            let list : after.list ≡ take mark.first s.notes.list = ap (λ (n : NotesState). n.list) truncated
+            in let heads = with_ends greatest shop w s.layout new ended beside gone_back
+            in record {
+              kept = heads;
+              notes_fit = subst (λ (hs : List ℕ). AreNotesFit greatest (length hs) after.list) (sym beside.heads)
+                  (subst (λ (n : ℕ). AreNotesFit greatest n after.list) (sym back.beside.positions)
+                  (subst (AreNotesFit greatest (length s.rows.heads)) (sym list)
+                  (all_take (λ (n : Note). (n.position < length s.rows.heads) × (n.head ≤ greatest)) mark.first
+                  s.notes.list kept.notes_fit)));
+              trail = subst (λ (ns : List Note). IsTrail shop s.layout w marks ns ended.heads) (sym list)
+                  (last.trail ended.heads heads.heads);
+              as_many = (let a = ap length popped in let b = length_push marks mark in let c = length_push w j
+                  in let d = kept.as_many in omega arith);
+              marks_room = (let a = kept.marks_room in omega arith);
+              bounds = kept.bounds;
+              ends = ends_at greatest shop w s.layout ended heads p.steps
+                  (steps_of_placement shop (placing shop w) p placed)
+                  (beside.ends ∙ (ap length back.beside.ends ∙ kept.ends.jobs)) kept.bounds.holds ends;
+            }
 
 -- heads that were raised and put back
 pub kept_again : (greatest : ℕ) (shop : Shop) (w : List ℕ) (s : LaneState) → IsKeptInLanes greatest shop w s
-    → (new : Rows) → AreHeadsInLanes greatest shop w s.layout new → (after : NotesState) → after.list ≡ s.notes.list
+    → (new : Rows) → AreHeadsInLanes greatest shop w s.layout new → new.ends ≡ s.rows.ends → (after : NotesState)
+    → after.list ≡ s.notes.list
     → (raises : ℕ) → raises ≡ s.raises
     → IsKeptInLanes greatest shop w (record s { rows = new; notes = after; raises = raises })
-kept_again greatest shop w s kept new heads after list raises many =
+kept_again greatest shop w s kept new heads ends after list raises many =
     let same = same_heads shop kept.kept.limits s.layout kept.kept.laid (placing shop w) s.rows.heads new.heads
     kept.kept.heads heads.heads
     in record {
@@ -158,4 +236,5 @@ kept_again greatest shop w s kept new heads after list raises many =
         top_is = kept.bounds.top_is;
         holds = kept.bounds.holds;
       };
+      ends = subst (AreEndsAt greatest shop (placing shop w)) (sym ends) kept.ends;
     }

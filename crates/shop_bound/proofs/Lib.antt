@@ -1,10 +1,7 @@
-pub mod ChoosingLemmas
 pub mod RisingLists
 pub mod LaneChoices
 pub mod LaneConflicts
 pub mod LaneEnds
-pub mod LaneGathering
-pub mod PlacedLemmas
 pub mod NonincreasingTails
 pub mod RestoredNotes
 pub mod RaiseWalks

@@ -1,5 +1,3 @@
-pub mod NextOperations
-pub mod Choosing
 pub mod Layouts
 pub mod Layings
 pub mod LaneHeads
@@ -25,6 +23,7 @@ pub mod HeadLimits
 pub mod LaneBounds
 pub mod ChildBounds
 pub mod WaitingBounds
+pub mod WaitingConflicts
 pub mod KeptDesks
 pub mod BoundsUpTo
 pub mod HeadsInRows

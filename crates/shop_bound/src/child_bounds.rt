@@ -66,6 +66,7 @@ fn raised_bound<L: Lanes>(
     ensures bound { TellsRaisedBound L.GREATEST instance.now layout.now placement.now (L.rows lanes.old) job least
         limit result }
     ensures heads { KeepsHeads L.GREATEST instance.now layout.now placement.now (L.rows lanes.old) (L.rows lanes.new) }
+    ensures ends { (L.rows lanes.new).ends ≡ (L.rows lanes.old).ends }
     ensures notes { notes.new.list ≡ notes.old.list }
     ensures long { length raises.new ≡ length raises.old }
 {
@@ -129,6 +130,7 @@ pub(crate) fn child_bound<L: Lanes>(
     ensures bound { TellsChildBound L.GREATEST instance.now layout.now placement.now (L.rows lanes.old) job bound
         limit result }
     ensures heads { KeepsHeads L.GREATEST instance.now layout.now placement.now (L.rows lanes.old) (L.rows lanes.new) }
+    ensures ends { (L.rows lanes.new).ends ≡ (L.rows lanes.old).ends }
     ensures notes { notes.new.list ≡ notes.old.list }
     ensures long { length raises.new ≡ length raises.old }
 {

@@ -66,7 +66,7 @@ impl<'a> Desk<'a> {
         let step = self.placement.steps(job);
         let replaced = self.placement.next_replaces(instance, job);
         self.placement.place_next(instance, job);
-        (*self.waiting).dispatch(instance, job, step);
+        (*self.waiting).dispatch(instance, &self.placement, job, step);
         self.jobs.push(job).unwrap();
         self.replaced.push(replaced).unwrap();
     }
@@ -80,7 +80,7 @@ impl<'a> Desk<'a> {
         let job = self.jobs.pop().unwrap();
         let replaced = self.replaced.pop().unwrap();
         self.placement.take_back(instance, job, replaced);
-        (*self.waiting).undo(instance, &self.placement);
+        (*self.waiting).undo(instance, &self.placement, job);
     }
 
     /// The lower bound of what is dispatched.

@@ -32,7 +32,7 @@ fn stands_before(jobs: &[usize], place: usize, job: usize) -> bool
 
 /// Puts a job into an ascending list, if it isn't there.
 #[inline(always)]
-pub(crate) fn put(jobs: &mut Vec<usize>, job: usize)
+fn put(jobs: &mut Vec<usize>, job: usize)
     requires list { IsRisingBelow (vec_capacity jobs.old) jobs.old.items }
     requires below { job < vec_capacity jobs.old }
     ensures put { HasPut job jobs.old.items jobs.new.items }
@@ -79,7 +79,7 @@ fn gather_in_blocks<L: Lanes>(
 
 /// Puts each job into the list whose next operation waits on this machine with a head below the limit.
 #[inline(always)]
-pub(crate) fn gather_on_machine<L: Lanes>(
+fn gather_on_machine<L: Lanes>(
     jobs: &mut Vec<usize>,
     lanes: &L,
     layout: &Layout,

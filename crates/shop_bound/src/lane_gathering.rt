@@ -1,67 +1,56 @@
-// The jobs in conflict with a chosen operation, gathered from lanes.
-use crate::lane_choices::{gather_on_machine, put};
+// The conflict set of what is dispatched, by lanes.
+use crate::lane_choices::gather_conflict;
 use crate::lane_heads::LaneHeads;
-use crate::next_operations::NextOperation;
-use crate::placings::Placed;
+use crate::placements::Placement;
 use crate::waiting::Waiting;
 use shop_lanes::Lanes;
+use shop_model::Instance;
 
 impl<L: Lanes> LaneHeads<L> {
-    ghost use Rattle.std.specs.Prelude.{◌≡◌, ◌≤◌, length, vec_capacity};
-    ghost use Rattle.shop_bound.specs.inner.Choosing.{IsNextOf, conflicting_with};
-    ghost use Rattle.shop_bound.specs.inner.LaneStates.{IsKeptInLanes};
+    ghost use Rattle.std.specs.Prelude.{◌≤◌, length, vec_capacity};
+    ghost use Rattle.shop_bound.specs.inner.WaitingBounds.{HasWordInLanes};
+    ghost use Rattle.shop_bound.specs.inner.WaitingConflicts.{IsConflictInLanes};
 
-    /// Replaces the list with the jobs whose next operations are in conflict with the chosen one, that one included.
+    /// Replaces the list with the conflict set of the word, of which this is the placement.
     #[inline(always)]
-    pub(crate) fn gather_conflicting(
+    pub(crate) fn gather_conflict(
         &self,
         jobs: &mut Vec<usize>,
-        placed: &Placed,
-        chosen: NextOperation,
+        instance: &Instance,
+        placement: &Placement,
     )
-        requires kept { IsKeptInLanes L.GREATEST placed.now.instance.now placed.now.word.now self.now }
-        requires next { IsNextOf placed.now chosen.job chosen }
-        requires room { length placed.now.instance.now.jobs ≤ vec_capacity jobs.old }
-        ensures jobs { jobs.new.items ≡ conflicting_with placed.now chosen.job }
+        requires kept { HasWordInLanes L.GREATEST instance.now placement.now self.now }
+        requires room { length instance.now.jobs ≤ vec_capacity jobs.old }
+        ensures jobs { IsConflictInLanes L.GREATEST instance.now placement.now self.now jobs.new.items }
         ensures room { vec_capacity jobs.old ≤ vec_capacity jobs.new }
     {
-        jobs.clear();
-        put(jobs, chosen.job);
-        let steps = placed.placement.jobs_steps();
-        gather_on_machine(
-            jobs,
-            &self.lanes,
-            &self.layout,
-            steps,
-            chosen.machine,
-            chosen.end + 1,
-        );
+        let steps = placement.jobs_steps();
+        gather_conflict(jobs, &self.lanes, &self.layout, instance, steps);
     }
 }
 
 impl Waiting {
-    ghost use Rattle.std.specs.Prelude.{◌≡◌, ◌≤◌, length, vec_capacity};
-    ghost use Rattle.shop_bound.specs.inner.Choosing.{IsNextOf, conflicting_with};
-    ghost use Rattle.shop_bound.specs.inner.Waitings.{IsWaiting};
+    ghost use Rattle.std.specs.Prelude.{◌≤◌, length, vec_capacity};
+    ghost use Rattle.shop_bound.specs.inner.WaitingBounds.{HasWordWaiting};
+    ghost use Rattle.shop_bound.specs.inner.WaitingConflicts.{IsConflictWaiting};
 
-    /// Replaces the list with the jobs whose next operations are in conflict with the chosen one, that one included.
+    /// Replaces the list with the conflict set of the word, of which this is the placement.
     #[inline(always)]
-    pub(crate) fn gather_conflicting(
+    pub(crate) fn gather_conflict(
         &self,
         jobs: &mut Vec<usize>,
-        placed: &Placed,
-        chosen: NextOperation,
+        instance: &Instance,
+        placement: &Placement,
     )
-        requires kept { IsWaiting placed.now.instance.now placed.now.word.now self.now }
-        requires next { IsNextOf placed.now chosen.job chosen }
-        requires room { length placed.now.instance.now.jobs ≤ vec_capacity jobs.old }
-        ensures jobs { jobs.new.items ≡ conflicting_with placed.now chosen.job }
+        requires kept { HasWordWaiting instance.now placement.now self.now }
+        requires room { length instance.now.jobs ≤ vec_capacity jobs.old }
+        ensures jobs { IsConflictWaiting instance.now placement.now self.now jobs.new.items }
         ensures room { vec_capacity jobs.old ≤ vec_capacity jobs.new }
     {
         match self {
-            Waiting::InNarrow(heads) => heads.gather_conflicting(jobs, placed, chosen),
-            Waiting::InWide(heads) => heads.gather_conflicting(jobs, placed, chosen),
-            Waiting::InPlain(heads) => heads.gather_conflicting(jobs, placed, chosen),
+            Waiting::InNarrow(heads) => heads.gather_conflict(jobs, instance, placement),
+            Waiting::InWide(heads) => heads.gather_conflict(jobs, instance, placement),
+            Waiting::InPlain(heads) => heads.gather_conflict(jobs, instance, placement),
         }
     }
 }

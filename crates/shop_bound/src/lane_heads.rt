@@ -12,6 +12,7 @@ use crate::dispatching::advance;
 use crate::fills::{fill, go_back};
 use crate::head_raises::{NO_RAISE, Raise};
 use crate::lane_bounds::machines_of;
+use crate::lane_ends::{keep_ends, set_ends};
 use crate::latest_ends::latest_end;
 use crate::layouts::Layout;
 use crate::notes::{Mark, Notes};
@@ -73,6 +74,7 @@ impl<L: Lanes> LaneHeads<L> {
         instance.keeps_limits();
         let mut lanes = L::new(alloc, layout.times(), layout.tails(), instance.jobs())?;
         fill(&mut lanes, &layout, instance, placement);
+        set_ends(&mut lanes, &layout, placement.jobs_steps());
         let room = instance.operations();
         let notes = Notes::with_room(alloc, 4 * room)?;
         let marks = Vec::with_capacity(alloc, room)?;
@@ -87,10 +89,16 @@ impl<L: Lanes> LaneHeads<L> {
         })
     }
 
-    /// One more operation of a job, whose next step this is, is dispatched.
-    pub(crate) fn dispatch(&mut self, instance: &Instance, job: usize, step: usize)
-        requires { HasNextInLanes L.GREATEST instance.now job step self.old }
-        ensures { KeepsNext L.GREATEST instance.now job step self.old self.new }
+    /// One more operation of a job, whose next step this was, is dispatched; the placement is that of the word with it.
+    pub(crate) fn dispatch(
+        &mut self,
+        instance: &Instance,
+        placement: &Placement,
+        job: usize,
+        step: usize,
+    )
+        requires { HasNextInLanes L.GREATEST instance.now placement.now job step self.old }
+        ensures { KeepsNext L.GREATEST instance.now placement.now job step self.old self.new }
     {
         let mark = advance(
             &mut self.lanes,
@@ -100,21 +108,38 @@ impl<L: Lanes> LaneHeads<L> {
             job,
             step,
         );
+        keep_ends(
+            &mut self.lanes,
+            &self.layout,
+            placement.jobs_steps(),
+            job,
+            &self.notes.list()[mark.first..],
+            mark.whole,
+        );
         self.marks.push(mark).unwrap();
     }
 
-    /// The last operation is taken back; the placement is that of the word without it.
-    pub(crate) fn undo(&mut self, instance: &Instance, placement: &Placement)
-        requires { HasLastInLanes L.GREATEST instance.now placement.now self.old }
-        ensures { KeepsLast L.GREATEST instance.now placement.now self.old self.new }
+    /// The last operation, which is of this job, is taken back; the placement is that of the word without it.
+    pub(crate) fn undo(&mut self, instance: &Instance, placement: &Placement, job: usize)
+        requires { HasLastInLanes L.GREATEST instance.now placement.now job self.old }
+        ensures { KeepsLast L.GREATEST instance.now placement.now job self.old self.new }
     {
         let mark = self.marks.pop().unwrap();
+        let noted = &self.notes.list()[mark.first..];
         go_back(
             &mut self.lanes,
             &self.layout,
             instance,
             placement,
-            &self.notes.list()[mark.first..],
+            noted,
+            mark.whole,
+        );
+        keep_ends(
+            &mut self.lanes,
+            &self.layout,
+            placement.jobs_steps(),
+            job,
+            noted,
             mark.whole,
         );
         self.notes.truncate(mark.first);

@@ -33,11 +33,11 @@ impl Waiting {
     {
         let layout = Layout::of(alloc, instance)?;
         let most = latest_end(instance) + 1 + greatest_load(&layout, instance);
-        if most <= <Narrow as Lanes>::GREATEST {
+        if most < <Narrow as Lanes>::GREATEST {
             let heads = LaneHeads::new(alloc, instance, placement, layout)?;
             return Ok(Waiting::InNarrow(heads));
         }
-        if most <= <Wide as Lanes>::GREATEST {
+        if most < <Wide as Lanes>::GREATEST {
             let heads = LaneHeads::new(alloc, instance, placement, layout)?;
             return Ok(Waiting::InWide(heads));
         }
@@ -45,29 +45,35 @@ impl Waiting {
         Ok(Waiting::InPlain(heads))
     }
 
-    /// One more operation of a job, whose next step this is, is dispatched.
+    /// One more operation of a job, whose next step this was, is dispatched; the placement is that of the word with it.
     #[inline(always)]
-    pub(crate) fn dispatch(&mut self, instance: &Instance, job: usize, step: usize)
-        requires { HasNextWaiting instance.now job step self.old }
-        ensures { WaitsOn instance.now job step self.old self.new }
+    pub(crate) fn dispatch(
+        &mut self,
+        instance: &Instance,
+        placement: &Placement,
+        job: usize,
+        step: usize,
+    )
+        requires { HasNextWaiting instance.now placement.now job step self.old }
+        ensures { WaitsOn instance.now placement.now job step self.old self.new }
     {
         match self {
-            Waiting::InNarrow(heads) => heads.dispatch(instance, job, step),
-            Waiting::InWide(heads) => heads.dispatch(instance, job, step),
-            Waiting::InPlain(heads) => heads.dispatch(instance, job, step),
+            Waiting::InNarrow(heads) => heads.dispatch(instance, placement, job, step),
+            Waiting::InWide(heads) => heads.dispatch(instance, placement, job, step),
+            Waiting::InPlain(heads) => heads.dispatch(instance, placement, job, step),
         }
     }
 
-    /// The last operation is taken back; the placement is that of the word without it.
+    /// The last operation, which is of this job, is taken back; the placement is that of the word without it.
     #[inline(always)]
-    pub(crate) fn undo(&mut self, instance: &Instance, placement: &Placement)
-        requires { HasLastWaiting instance.now placement.now self.old }
-        ensures { WaitsBack instance.now placement.now self.old self.new }
+    pub(crate) fn undo(&mut self, instance: &Instance, placement: &Placement, job: usize)
+        requires { HasLastWaiting instance.now placement.now job self.old }
+        ensures { WaitsBack instance.now placement.now job self.old self.new }
     {
         match self {
-            Waiting::InNarrow(heads) => heads.undo(instance, placement),
-            Waiting::InWide(heads) => heads.undo(instance, placement),
-            Waiting::InPlain(heads) => heads.undo(instance, placement),
+            Waiting::InNarrow(heads) => heads.undo(instance, placement, job),
+            Waiting::InWide(heads) => heads.undo(instance, placement, job),
+            Waiting::InPlain(heads) => heads.undo(instance, placement, job),
         }
     }
 

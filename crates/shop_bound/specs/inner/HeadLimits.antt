@@ -5,7 +5,7 @@
 --     load_of times tails            all times and the greatest tail
 --     FitsLanes greatest shop l      from the latest end on, each machine's load ends below the
 --                                    greatest number
-use Rattle.std.specs.Prelude.{ℕ, zero, suc, ◌+◌, ◌≤◌, ◌<◌, List, length, slice_index, sum_by}
+use Rattle.std.specs.Prelude.{ℕ, zero, suc, ◌+◌, ◌<◌, List, length, slice_index, sum_by}
 use Rattle.shop_lanes.specs.Rows.{blocks}
 use Rattle.shop_model.specs.Shop.{Shop, route_of, release_of, greatest_below}
 use Rattle.shop_bound.specs.OneMachine.{greatest_of}
@@ -31,4 +31,4 @@ load_on l m = load_of (blocks (slice_index l.blocks m) (slice_index l.blocks (m 
 
 abbrev pub FitsLanes : ℕ → Shop → LayoutState → Type 0
 FitsLanes greatest shop l =
-    (m : ℕ) → m < shop.machines → latest_end shop + 1 + load_on l m ≤ greatest
+    (m : ℕ) → m < shop.machines → latest_end shop + 1 + load_on l m < greatest

@@ -13,6 +13,7 @@ use Rattle.shop_bound.specs.Placements.{PlacementState, IsPlacement}
 use Rattle.shop_bound.specs.inner.Fills.{AreSameBeside}
 use Rattle.shop_bound.specs.inner.HeadLimits.{FitsLanes, latest_end}
 use Rattle.shop_bound.specs.inner.LaneBounds.{AreMachinesAt}
+use Rattle.shop_bound.specs.inner.LaneChoices.{AreEndsAt}
 use Rattle.shop_bound.specs.inner.LaneHeads.{AreHeadsAt, AreHeadsFit, AreNotesFit, IsTrail}
 use Rattle.shop_bound.specs.inner.LaneHeads.{LeadsBack, NotesState}
 use Rattle.shop_bound.specs.inner.Layouts.{LayoutState, IsLaidOut}
@@ -56,6 +57,7 @@ pub record IsKeptInLanes (greatest : ℕ) (shop : Shop) (w : List ℕ) (s : Lane
   pub as_many : length s.marks ≡ length w
   pub marks_room : operation_count shop ≤ s.room
   pub bounds : HasBounds greatest shop s.layout s.machines s.raises s.top
+  pub ends : AreEndsAt greatest shop (placing shop w) s.rows.ends
 
 -- they are those of a word to which j can be added as this step
 pub record HasNextAt (greatest : ℕ) (shop : Shop) (l : LayoutState) (j step : ℕ)
@@ -74,29 +76,31 @@ pub record Advances (greatest : ℕ) (shop : Shop) (l : LayoutState) (j step : �
   pub heads : (w : List ℕ) → AreHeadsInLanes greatest shop w l old → IsWord shop (w ++ j ∷ [])
       → step ≡ (placing shop w).steps j → AreHeadsInLanes greatest shop (w ++ j ∷ []) l new
 
--- whichever word it was of, one more operation of job j is in it now
-abbrev pub KeepsNext : ℕ → Shop → ℕ → ℕ → LaneState → LaneState → Type 0
-KeepsNext greatest shop j step old new =
+-- whichever word it was of, one more operation of job j is in it now, and in the placement
+abbrev pub KeepsNext : ℕ → Shop → PlacementState → ℕ → ℕ → LaneState → LaneState → Type 0
+KeepsNext greatest shop p j step old new =
     (w : List ℕ) → IsKeptInLanes greatest shop w old → IsWord shop (w ++ j ∷ [])
-    → step ≡ (placing shop w).steps j → IsKeptInLanes greatest shop (w ++ j ∷ []) new
+    → step ≡ (placing shop w).steps j → IsPlacement shop (placing shop (w ++ j ∷ [])) p
+    → IsKeptInLanes greatest shop (w ++ j ∷ []) new
 
-pub record HasNextInLanes (greatest : ℕ) (shop : Shop) (j step : ℕ) (s : LaneState) : Type 0 where
+pub record HasNextInLanes (greatest : ℕ) (shop : Shop) (p : PlacementState) (j step : ℕ)
+    (s : LaneState) : Type 0 where
   pub word : List ℕ
   pub kept : IsKeptInLanes greatest shop word s
   pub fits : IsWord shop (word ++ j ∷ [])
   pub at : step ≡ (placing shop word).steps j
+  pub placed : IsPlacement shop (placing shop (word ++ j ∷ [])) p
 
--- the last operation was of a word whose placement without it is this
-pub record HasLastInLanes (greatest : ℕ) (shop : Shop) (p : PlacementState)
+-- the last operation was of job j, and the placement is that of the word without it
+pub record HasLastInLanes (greatest : ℕ) (shop : Shop) (p : PlacementState) (j : ℕ)
     (s : LaneState) : Type 0 where
   pub word : List ℕ
-  pub job : ℕ
-  pub kept : IsKeptInLanes greatest shop (word ++ job ∷ []) s
+  pub kept : IsKeptInLanes greatest shop (word ++ j ∷ []) s
   pub placed : IsPlacement shop (placing shop word) p
 
-abbrev pub KeepsLast : ℕ → Shop → PlacementState → LaneState → LaneState → Type 0
-KeepsLast greatest shop p old new =
-    (w : List ℕ) (j : ℕ) → IsKeptInLanes greatest shop (w ++ j ∷ []) old
+abbrev pub KeepsLast : ℕ → Shop → PlacementState → ℕ → LaneState → LaneState → Type 0
+KeepsLast greatest shop p j old new =
+    (w : List ℕ) → IsKeptInLanes greatest shop (w ++ j ∷ []) old
     → IsPlacement shop (placing shop w) p → IsKeptInLanes greatest shop w new
 
 -- a word can go on with job j, and this is its placement

@@ -17,25 +17,27 @@ IsWaiting shop w (InNarrow s) = IsKeptInLanes 65535 shop w s
 IsWaiting shop w (InWide s) = IsKeptInLanes 4294967295 shop w s
 IsWaiting shop w (InPlain s) = IsKeptInLanes (2 ^ 64 - 1) shop w s
 
-pub record HasNextWaiting (shop : Shop) (j step : ℕ) (h : Waiting) : Type 0 where
+pub record HasNextWaiting (shop : Shop) (p : PlacementState) (j step : ℕ)
+    (h : Waiting) : Type 0 where
   pub word : List ℕ
   pub kept : IsWaiting shop word h
   pub fits : IsWord shop (word ++ j ∷ [])
   pub at : step ≡ (placing shop word).steps j
+  pub placed : IsPlacement shop (placing shop (word ++ j ∷ [])) p
 
--- whichever word it was of, one more operation of job j is in it now
-abbrev pub WaitsOn : Shop → ℕ → ℕ → Waiting → Waiting → Type 0
-WaitsOn shop j step old new = (w : List ℕ) → IsWaiting shop w old → IsWord shop (w ++ j ∷ [])
-    → step ≡ (placing shop w).steps j → IsWaiting shop (w ++ j ∷ []) new
+-- whichever word it was of, one more operation of job j is in it now, and in the placement
+abbrev pub WaitsOn : Shop → PlacementState → ℕ → ℕ → Waiting → Waiting → Type 0
+WaitsOn shop p j step old new = (w : List ℕ) → IsWaiting shop w old → IsWord shop (w ++ j ∷ [])
+    → step ≡ (placing shop w).steps j → IsPlacement shop (placing shop (w ++ j ∷ [])) p
+    → IsWaiting shop (w ++ j ∷ []) new
 
-pub record HasLastWaiting (shop : Shop) (p : PlacementState) (h : Waiting) : Type 0 where
+pub record HasLastWaiting (shop : Shop) (p : PlacementState) (j : ℕ) (h : Waiting) : Type 0 where
   pub word : List ℕ
-  pub job : ℕ
-  pub kept : IsWaiting shop (word ++ job ∷ []) h
+  pub kept : IsWaiting shop (word ++ j ∷ []) h
   pub placed : IsPlacement shop (placing shop word) p
 
-abbrev pub WaitsBack : Shop → PlacementState → Waiting → Waiting → Type 0
-WaitsBack shop p old new = (w : List ℕ) (j : ℕ) → IsWaiting shop (w ++ j ∷ []) old
+abbrev pub WaitsBack : Shop → PlacementState → ℕ → Waiting → Waiting → Type 0
+WaitsBack shop p j old new = (w : List ℕ) → IsWaiting shop (w ++ j ∷ []) old
     → IsPlacement shop (placing shop w) p → IsWaiting shop w new
 
 -- a word can go on with job j, and this is its placement

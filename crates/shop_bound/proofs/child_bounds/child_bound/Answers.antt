@@ -1,4 +1,5 @@
-use Rattle.std.proofs.Common.{◌<◌, ℕ, get_or, ap, arith}
+use Rattle.std.proofs.Common.{◌<◌, ◌∙◌, ℕ, get_or, ap, arith}
+use Rattle.shop_lanes.specs.Rows.{Rows}
 use Rattle.shop_model.specs.Word.{placing}
 use Rattle.shop_bound.proofs.ChildReads.{at_limit, end_here, end_latest, end_small, foreseen_is, foreseen_low}
 use Rattle.shop_bound.proofs.ChildReads.{head_here, left_fits, place_within}
@@ -68,6 +69,10 @@ returns-clause-bound g c = λ w kept placed fits parent.
     in let same = c.foresee-foreseen.ensures.same
     in let at_least = c.foresee-foreseen.ensures.foresees.low
     in c.raised_bound.ensures.bound w (rw same kept) placed fits (omega arith) (omega arith) low
+
+pub returns-clause-ends : goal.returns-clause-ends
+returns-clause-ends g c =
+    c.raised_bound.ensures.ends ∙ ap (λ (rows : Rows). rows.ends) c.foresee-foreseen.ensures.same
 
 pub returns-clause-heads : goal.returns-clause-heads
 returns-clause-heads g c = λ w kept placed.

@@ -81,6 +81,9 @@ returns-clause-bound g c = λ w kept placed fits parent end most.
     c.bound_by_raises-bound.ensures.within w kept fits
     (c.steps.ensures ∙ placed.steps c.args.job (its_job c.args.instance.now w c.args.job fits)) parent end most
 
+pub returns-clause-ends : goal.returns-clause-ends
+returns-clause-ends g c = c.go_back.ensures.beside.ends ∙ c.advance-mark.ensures.beside.ends
+
 pub returns-clause-heads : goal.returns-clause-heads
 returns-clause-heads g c = λ w kept placed.
     let adv = c.advance-mark.ensures

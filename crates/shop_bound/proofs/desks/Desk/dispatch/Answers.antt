@@ -24,8 +24,10 @@ place_next-requires c =
 pub dispatch-requires : goal.dispatch-requires
 dispatch-requires c =
     let fits = subst (λ (d : DeskState). IsWord d.shop (d.word ++ c.args.job ∷ [])) (sym c.self.view_is) c.requires
-    in subst (HasNextWaiting c.self.inside.instance.now c.args.job c.steps-step.result) (sym c.deref_mut.ensures.value)
-    (waits_on _ _ _ _ _ _ _ c.self.invariant c.args.job fits c.steps-step.result c.steps-step.ensures)
+    in subst (HasNextWaiting c.self.inside.instance.now c.place_next.new.self c.args.job c.steps-step.result)
+    (sym c.deref_mut.ensures.value)
+    (waits_on _ _ _ _ _ _ _ c.self.invariant c.args.job fits c.steps-step.result c.steps-step.ensures
+    c.place_next.new.self c.place_next.ensures)
 
 pub unwrap-requires : goal.unwrap-requires
 unwrap-requires c =
@@ -47,8 +49,8 @@ unwrap-requires-2 c =
 pub invariant_of-self : goal.invariant_of-self
 invariant_of-self c =
     let fits = subst (λ (d : DeskState). IsWord d.shop (d.word ++ c.args.job ∷ [])) (sym c.self.view_is) c.requires
-    in let waits = subst (λ h. WaitsOn c.self.inside.instance.now c.args.job c.steps-step.result h c.dispatch.new.self)
-    c.deref_mut.ensures.value c.dispatch.ensures
+    in let waits = subst (λ h. WaitsOn c.self.inside.instance.now c.place_next.new.self c.args.job c.steps-step.result h
+    c.dispatch.new.self) c.deref_mut.ensures.value c.dispatch.ensures
     in desk_more _ _ _ _ _ _ _ c.self.invariant c.args.job fits c.next_replaces-replaced.result
     c.next_replaces-replaced.ensures _ c.place_next.ensures c.steps-step.result c.steps-step.ensures _
     waits _ (rw c.unwrap.ensures at c.push.ensures.items) _

@@ -12,7 +12,7 @@ take_back-requires c =
 
 pub undo-requires : goal.undo-requires
 undo-requires c =
-    subst (HasLastWaiting c.self.inside.instance.now c.take_back.new.self) (sym c.deref_mut.ensures.value)
+    subst (HasLastWaiting c.self.inside.instance.now c.take_back.new.self c.unwrap-job.result) (sym c.deref_mut.ensures.value)
     (waits_back _ _ _ _ _ _ _ c.self.invariant _ c.unwrap-job.result (rw c.unwrap-job.ensures at c.pop.ensures.items) _
     c.unwrap-replaced.result (rw c.unwrap-replaced.ensures at c.pop-2.ensures.items) _ c.take_back.ensures)
 
@@ -20,8 +20,8 @@ pub invariant_of-self : goal.invariant_of-self
 invariant_of-self c =
     desk_less _ _ _ _ _ _ _ c.self.invariant _ c.unwrap-job.result (rw c.unwrap-job.ensures at c.pop.ensures.items) _
     c.unwrap-replaced.result (rw c.unwrap-replaced.ensures at c.pop-2.ensures.items) _ c.take_back.ensures _
-    (subst (λ h. WaitsBack c.self.inside.instance.now c.take_back.new.self h c.undo.new.self) c.deref_mut.ensures.value
-    c.undo.ensures) _ _ c.pop.ensures.capacity c.pop-2.ensures.capacity
+    (subst (λ h. WaitsBack c.self.inside.instance.now c.take_back.new.self c.unwrap-job.result h c.undo.new.self)
+    c.deref_mut.ensures.value c.undo.ensures) _ _ c.pop.ensures.capacity c.pop-2.ensures.capacity
 
 pub unwrap-replaced-requires : goal.unwrap-replaced-requires
 unwrap-replaced-requires c =

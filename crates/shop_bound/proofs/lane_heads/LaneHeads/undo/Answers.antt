@@ -1,25 +1,88 @@
-use Rattle.std.proofs.Common.{◌-◌, List, [], ◌∷◌, ◌++◌, length, take, drop, sym, subst}
+use Rattle.std.proofs.Common.{◌-◌, ◌<◌, ℕ, List, [], ◌∷◌, ◌++◌, length, take, drop, true, ◌≡◌, sym, subst}
 use Rattle.shop_bound.specs.declared.notes.Note.{Note}
 use Rattle.shop_bound.specs.inner.Fills.{GoesBack}
+use Rattle.shop_bound.specs.inner.LaneEnds.{AreEndsButJob, AreEndsOf, CanKeepEnds}
+use Rattle.shop_bound.specs.inner.LaneHeads.{AreNotesFit}
 use Rattle.shop_bound.specs.inner.LaneStates.{LaneState, HasLastInLanes, IsKeptInLanes}
-use Rattle.shop_bound.proofs.LaneSteps.{can_fill, kept_less}
+use Rattle.shop_bound.proofs.LaneSteps.{can_fill, ends_less, job_less, fit_less, noted_less, kept_less}
 use Rattle.shop_bound.proofs.lane_heads.LaneHeads.undo.Goals as goal
 
 pub go_back-requires-clause-fill : goal.go_back-requires-clause-fill
 go_back-requires-clause-fill g c =
-    let last = subst (λ (s : LaneState). HasLastInLanes g.L.Lanes.GREATEST c.args.instance.now c.args.placement.now s)
-    (sym c.self.view_is) c.requires
-    in can_fill g.L.Lanes.GREATEST c.args.instance.now last.word last.job _ last.kept _ c.unwrap-mark.result
+    let last = subst (λ (s : LaneState). HasLastInLanes g.L.Lanes.GREATEST c.args.instance.now c.args.placement.now
+    c.args.job s) (sym c.self.view_is) c.requires
+    in can_fill g.L.Lanes.GREATEST c.args.instance.now last.word c.args.job _ last.kept _ c.unwrap-mark.result
     (rw c.unwrap-mark.ensures at c.pop.ensures.items) c.args.placement.now last.placed
 
+pub keep_ends-requires-clause-keep : goal.keep_ends-requires-clause-keep
+keep_ends-requires-clause-keep g c =
+    let last = subst (λ (s : LaneState). HasLastInLanes g.L.Lanes.GREATEST c.args.instance.now c.args.placement.now
+    c.args.job s) (sym c.self.view_is) c.requires
+    in let back = subst (λ (ns : List Note). GoesBack c.args.instance.now c.self.inside.layout c.args.placement.now
+    (take (length ns - c.unwrap-mark.result.first) (drop c.unwrap-mark.result.first ns)) c.unwrap-mark.result.whole
+    (g.L.Lanes.rows c.self.inside.lanes) (g.L.Lanes.rows c.go_back.new.lanes)) c.list.ensures c.go_back.ensures
+    in subst (λ (steps : List ℕ). CanKeepEnds g.L.Lanes.GREATEST c.self.inside.layout steps
+    (g.L.Lanes.rows c.go_back.new.lanes)) (sym c.jobs_steps.ensures)
+    (ends_less g.L.Lanes.GREATEST c.args.instance.now last.word c.args.job _ last.kept _ c.unwrap-mark.result
+    (rw c.unwrap-mark.ensures at c.pop.ensures.items) c.args.placement.now last.placed
+    (g.L.Lanes.rows c.go_back.new.lanes) back)
+
+pub keep_ends-requires-clause-job : goal.keep_ends-requires-clause-job
+keep_ends-requires-clause-job g c =
+    let last = subst (λ (s : LaneState). HasLastInLanes g.L.Lanes.GREATEST c.args.instance.now c.args.placement.now
+    c.args.job s) (sym c.self.view_is) c.requires
+    in let back = subst (λ (ns : List Note). GoesBack c.args.instance.now c.self.inside.layout c.args.placement.now
+    (take (length ns - c.unwrap-mark.result.first) (drop c.unwrap-mark.result.first ns)) c.unwrap-mark.result.whole
+    (g.L.Lanes.rows c.self.inside.lanes) (g.L.Lanes.rows c.go_back.new.lanes)) c.list.ensures c.go_back.ensures
+    in subst (λ (steps : List ℕ). c.args.job < length steps) (sym c.jobs_steps.ensures)
+    (job_less g.L.Lanes.GREATEST c.args.instance.now last.word c.args.job _ last.kept _ c.unwrap-mark.result
+    (rw c.unwrap-mark.ensures at c.pop.ensures.items) c.args.placement.now last.placed
+    (g.L.Lanes.rows c.go_back.new.lanes) back)
+
+pub keep_ends-requires-clause-notes : goal.keep_ends-requires-clause-notes
+keep_ends-requires-clause-notes g c =
+    let last = subst (λ (s : LaneState). HasLastInLanes g.L.Lanes.GREATEST c.args.instance.now c.args.placement.now
+    c.args.job s) (sym c.self.view_is) c.requires
+    in let back = subst (λ (ns : List Note). GoesBack c.args.instance.now c.self.inside.layout c.args.placement.now
+    (take (length ns - c.unwrap-mark.result.first) (drop c.unwrap-mark.result.first ns)) c.unwrap-mark.result.whole
+    (g.L.Lanes.rows c.self.inside.lanes) (g.L.Lanes.rows c.go_back.new.lanes)) c.list.ensures c.go_back.ensures
+    in subst (λ (ns : List Note). AreNotesFit g.L.Lanes.GREATEST
+    (length (g.L.Lanes.rows c.go_back.new.lanes).heads)
+    (take (length ns - c.unwrap-mark.result.first) (drop c.unwrap-mark.result.first ns))) (sym c.list.ensures)
+    (fit_less g.L.Lanes.GREATEST c.args.instance.now last.word c.args.job _ last.kept _ c.unwrap-mark.result
+    (rw c.unwrap-mark.ensures at c.pop.ensures.items) c.args.placement.now last.placed
+    (g.L.Lanes.rows c.go_back.new.lanes) back)
+
+pub keep_ends-requires-clause-noted : goal.keep_ends-requires-clause-noted
+keep_ends-requires-clause-noted g c =
+    let last = subst (λ (s : LaneState). HasLastInLanes g.L.Lanes.GREATEST c.args.instance.now c.args.placement.now
+    c.args.job s) (sym c.self.view_is) c.requires
+    in let back = subst (λ (ns : List Note). GoesBack c.args.instance.now c.self.inside.layout c.args.placement.now
+    (take (length ns - c.unwrap-mark.result.first) (drop c.unwrap-mark.result.first ns)) c.unwrap-mark.result.whole
+    (g.L.Lanes.rows c.self.inside.lanes) (g.L.Lanes.rows c.go_back.new.lanes)) c.list.ensures c.go_back.ensures
+    in subst (λ (ns : List Note). c.unwrap-mark.result.whole ≡ true
+    → AreEndsButJob g.L.Lanes.GREATEST c.self.inside.layout c.jobs_steps.result.now
+    (g.L.Lanes.rows c.go_back.new.lanes)
+    (take (length ns - c.unwrap-mark.result.first) (drop c.unwrap-mark.result.first ns)) c.args.job)
+    (sym c.list.ensures) (subst (λ (steps : List ℕ). c.unwrap-mark.result.whole ≡ true
+    → AreEndsButJob g.L.Lanes.GREATEST c.self.inside.layout steps (g.L.Lanes.rows c.go_back.new.lanes)
+    (take (length c.self.inside.notes.list - c.unwrap-mark.result.first)
+    (drop c.unwrap-mark.result.first c.self.inside.notes.list)) c.args.job) (sym c.jobs_steps.ensures)
+    (noted_less g.L.Lanes.GREATEST c.args.instance.now last.word c.args.job _ last.kept _ c.unwrap-mark.result
+    (rw c.unwrap-mark.ensures at c.pop.ensures.items) c.args.placement.now last.placed
+    (g.L.Lanes.rows c.go_back.new.lanes) back))
+
 pub returns : goal.returns
-returns g c w j kept placed =
-    kept_less g.L.Lanes.GREATEST c.args.instance.now w j _
-    (subst (λ (s : LaneState). IsKeptInLanes g.L.Lanes.GREATEST c.args.instance.now (w ++ j ∷ []) s)
+returns g c w kept placed =
+    kept_less g.L.Lanes.GREATEST c.args.instance.now w c.args.job _
+    (subst (λ (s : LaneState). IsKeptInLanes g.L.Lanes.GREATEST c.args.instance.now (w ++ c.args.job ∷ []) s)
     (sym c.self.view_is) kept) _ c.unwrap-mark.result (rw c.unwrap-mark.ensures at c.pop.ensures.items)
     c.args.placement.now placed (g.L.Lanes.rows c.go_back.new.lanes)
     (subst (λ (ns : List Note). GoesBack c.args.instance.now c.self.inside.layout c.args.placement.now
     (take (length ns - c.unwrap-mark.result.first) (drop c.unwrap-mark.result.first ns)) c.unwrap-mark.result.whole
     (g.L.Lanes.rows c.self.inside.lanes)
-    (g.L.Lanes.rows c.go_back.new.lanes)) c.list.ensures c.go_back.ensures) c.truncate.new.self
+    (g.L.Lanes.rows c.go_back.new.lanes)) c.list.ensures c.go_back.ensures) (g.L.Lanes.rows c.keep_ends.new.lanes)
+    c.keep_ends.ensures.beside
+    (subst (λ (steps : List ℕ). AreEndsOf g.L.Lanes.GREATEST c.self.inside.layout steps
+    (g.L.Lanes.rows c.keep_ends.new.lanes)) c.jobs_steps.ensures c.keep_ends.ensures.ends) c.truncate.new.self
     c.truncate.ensures _ c.pop.ensures.capacity
