@@ -108,14 +108,9 @@ impl<L: Lanes> LaneHeads<L> {
             job,
             step,
         );
-        keep_ends(
-            &mut self.lanes,
-            &self.layout,
-            placement.jobs_steps(),
-            job,
-            &self.notes.list()[mark.first..],
-            mark.whole,
-        );
+        let steps = placement.jobs_steps();
+        let noted = &self.notes.list()[mark.first..];
+        keep_ends(&mut self.lanes, &self.layout, steps, job, noted, mark.whole);
         self.marks.push(mark).unwrap();
     }
 
@@ -124,25 +119,19 @@ impl<L: Lanes> LaneHeads<L> {
         requires { HasLastInLanes L.GREATEST instance.now placement.now job self.old }
         ensures { KeepsLast L.GREATEST instance.now placement.now job self.old self.new }
     {
-        let mark = self.marks.pop().unwrap();
-        let noted = &self.notes.list()[mark.first..];
+        let last = self.marks.pop().unwrap();
+        let noted = &self.notes.list()[last.first..];
         go_back(
             &mut self.lanes,
             &self.layout,
             instance,
             placement,
             noted,
-            mark.whole,
+            last.whole,
         );
-        keep_ends(
-            &mut self.lanes,
-            &self.layout,
-            placement.jobs_steps(),
-            job,
-            noted,
-            mark.whole,
-        );
-        self.notes.truncate(mark.first);
+        let steps = placement.jobs_steps();
+        keep_ends(&mut self.lanes, &self.layout, steps, job, noted, last.whole);
+        self.notes.truncate(last.first);
     }
 
     /// The bound after the next operation of a job, or as much of it as reaches the limit, with the bound before it at

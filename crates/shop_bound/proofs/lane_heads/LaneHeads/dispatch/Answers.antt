@@ -10,7 +10,7 @@ keep_ends-requires-clause-keep g c =
     let next = subst (λ (s : LaneState). HasNextInLanes g.L.Lanes.GREATEST c.args.instance.now c.args.placement.now
     c.args.job c.args.step s) (sym c.self.view_is) c.requires
     in subst (λ (steps : List ℕ). CanKeepEnds g.L.Lanes.GREATEST c.self.inside.layout steps
-    (g.L.Lanes.rows c.advance-mark.new.lanes)) (sym c.jobs_steps.ensures)
+    (g.L.Lanes.rows c.advance-mark.new.lanes)) (sym c.jobs_steps-steps.ensures)
     (ends_more g.L.Lanes.GREATEST c.args.instance.now next.word c.args.job _ next.kept next.fits c.args.step next.at
     (g.L.Lanes.rows c.advance-mark.new.lanes) c.advance-mark.new.notes c.advance-mark.result c.advance-mark.ensures
     c.args.placement.now next.placed)
@@ -19,7 +19,7 @@ pub keep_ends-requires-clause-job : goal.keep_ends-requires-clause-job
 keep_ends-requires-clause-job g c =
     let next = subst (λ (s : LaneState). HasNextInLanes g.L.Lanes.GREATEST c.args.instance.now c.args.placement.now
     c.args.job c.args.step s) (sym c.self.view_is) c.requires
-    in subst (λ (steps : List ℕ). c.args.job < length steps) (sym c.jobs_steps.ensures)
+    in subst (λ (steps : List ℕ). c.args.job < length steps) (sym c.jobs_steps-steps.ensures)
     (job_more g.L.Lanes.GREATEST c.args.instance.now next.word c.args.job _ next.kept next.fits c.args.step next.at
     (g.L.Lanes.rows c.advance-mark.new.lanes) c.advance-mark.new.notes c.advance-mark.result c.advance-mark.ensures
     c.args.placement.now next.placed)
@@ -43,7 +43,7 @@ keep_ends-requires-clause-noted g c =
     in subst (λ (steps : List ℕ). c.advance-mark.result.whole ≡ true
     → AreEndsButJob g.L.Lanes.GREATEST c.self.inside.layout steps (g.L.Lanes.rows c.advance-mark.new.lanes)
     (take (length c.list.result.now - c.advance-mark.result.first)
-    (drop c.advance-mark.result.first c.list.result.now)) c.args.job) (sym c.jobs_steps.ensures)
+    (drop c.advance-mark.result.first c.list.result.now)) c.args.job) (sym c.jobs_steps-steps.ensures)
     (noted_more g.L.Lanes.GREATEST c.args.instance.now next.word c.args.job _ next.kept next.fits c.args.step next.at
     (g.L.Lanes.rows c.advance-mark.new.lanes) c.advance-mark.new.notes c.advance-mark.result c.advance-mark.ensures
     c.args.placement.now next.placed _ is)
@@ -64,5 +64,5 @@ returns g c w kept fits at placed =
     c.advance-mark.ensures c.args.placement.now placed (g.L.Lanes.rows c.keep_ends.new.lanes)
     c.keep_ends.ensures.beside
     (subst (λ (steps : List ℕ). AreEndsOf g.L.Lanes.GREATEST c.self.inside.layout steps
-    (g.L.Lanes.rows c.keep_ends.new.lanes)) c.jobs_steps.ensures c.keep_ends.ensures.ends) _
+    (g.L.Lanes.rows c.keep_ends.new.lanes)) c.jobs_steps-steps.ensures c.keep_ends.ensures.ends) _
     (rw c.unwrap.ensures at c.push.ensures.items) _ c.push.ensures.capacity

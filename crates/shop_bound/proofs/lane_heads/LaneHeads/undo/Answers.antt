@@ -11,20 +11,20 @@ pub go_back-requires-clause-fill : goal.go_back-requires-clause-fill
 go_back-requires-clause-fill g c =
     let last = subst (λ (s : LaneState). HasLastInLanes g.L.Lanes.GREATEST c.args.instance.now c.args.placement.now
     c.args.job s) (sym c.self.view_is) c.requires
-    in can_fill g.L.Lanes.GREATEST c.args.instance.now last.word c.args.job _ last.kept _ c.unwrap-mark.result
-    (rw c.unwrap-mark.ensures at c.pop.ensures.items) c.args.placement.now last.placed
+    in can_fill g.L.Lanes.GREATEST c.args.instance.now last.word c.args.job _ last.kept _ c.unwrap-last.result
+    (rw c.unwrap-last.ensures at c.pop.ensures.items) c.args.placement.now last.placed
 
 pub keep_ends-requires-clause-keep : goal.keep_ends-requires-clause-keep
 keep_ends-requires-clause-keep g c =
     let last = subst (λ (s : LaneState). HasLastInLanes g.L.Lanes.GREATEST c.args.instance.now c.args.placement.now
     c.args.job s) (sym c.self.view_is) c.requires
     in let back = subst (λ (ns : List Note). GoesBack c.args.instance.now c.self.inside.layout c.args.placement.now
-    (take (length ns - c.unwrap-mark.result.first) (drop c.unwrap-mark.result.first ns)) c.unwrap-mark.result.whole
+    (take (length ns - c.unwrap-last.result.first) (drop c.unwrap-last.result.first ns)) c.unwrap-last.result.whole
     (g.L.Lanes.rows c.self.inside.lanes) (g.L.Lanes.rows c.go_back.new.lanes)) c.list.ensures c.go_back.ensures
     in subst (λ (steps : List ℕ). CanKeepEnds g.L.Lanes.GREATEST c.self.inside.layout steps
-    (g.L.Lanes.rows c.go_back.new.lanes)) (sym c.jobs_steps.ensures)
-    (ends_less g.L.Lanes.GREATEST c.args.instance.now last.word c.args.job _ last.kept _ c.unwrap-mark.result
-    (rw c.unwrap-mark.ensures at c.pop.ensures.items) c.args.placement.now last.placed
+    (g.L.Lanes.rows c.go_back.new.lanes)) (sym c.jobs_steps-steps.ensures)
+    (ends_less g.L.Lanes.GREATEST c.args.instance.now last.word c.args.job _ last.kept _ c.unwrap-last.result
+    (rw c.unwrap-last.ensures at c.pop.ensures.items) c.args.placement.now last.placed
     (g.L.Lanes.rows c.go_back.new.lanes) back)
 
 pub keep_ends-requires-clause-job : goal.keep_ends-requires-clause-job
@@ -32,11 +32,11 @@ keep_ends-requires-clause-job g c =
     let last = subst (λ (s : LaneState). HasLastInLanes g.L.Lanes.GREATEST c.args.instance.now c.args.placement.now
     c.args.job s) (sym c.self.view_is) c.requires
     in let back = subst (λ (ns : List Note). GoesBack c.args.instance.now c.self.inside.layout c.args.placement.now
-    (take (length ns - c.unwrap-mark.result.first) (drop c.unwrap-mark.result.first ns)) c.unwrap-mark.result.whole
+    (take (length ns - c.unwrap-last.result.first) (drop c.unwrap-last.result.first ns)) c.unwrap-last.result.whole
     (g.L.Lanes.rows c.self.inside.lanes) (g.L.Lanes.rows c.go_back.new.lanes)) c.list.ensures c.go_back.ensures
-    in subst (λ (steps : List ℕ). c.args.job < length steps) (sym c.jobs_steps.ensures)
-    (job_less g.L.Lanes.GREATEST c.args.instance.now last.word c.args.job _ last.kept _ c.unwrap-mark.result
-    (rw c.unwrap-mark.ensures at c.pop.ensures.items) c.args.placement.now last.placed
+    in subst (λ (steps : List ℕ). c.args.job < length steps) (sym c.jobs_steps-steps.ensures)
+    (job_less g.L.Lanes.GREATEST c.args.instance.now last.word c.args.job _ last.kept _ c.unwrap-last.result
+    (rw c.unwrap-last.ensures at c.pop.ensures.items) c.args.placement.now last.placed
     (g.L.Lanes.rows c.go_back.new.lanes) back)
 
 pub keep_ends-requires-clause-notes : goal.keep_ends-requires-clause-notes
@@ -44,13 +44,13 @@ keep_ends-requires-clause-notes g c =
     let last = subst (λ (s : LaneState). HasLastInLanes g.L.Lanes.GREATEST c.args.instance.now c.args.placement.now
     c.args.job s) (sym c.self.view_is) c.requires
     in let back = subst (λ (ns : List Note). GoesBack c.args.instance.now c.self.inside.layout c.args.placement.now
-    (take (length ns - c.unwrap-mark.result.first) (drop c.unwrap-mark.result.first ns)) c.unwrap-mark.result.whole
+    (take (length ns - c.unwrap-last.result.first) (drop c.unwrap-last.result.first ns)) c.unwrap-last.result.whole
     (g.L.Lanes.rows c.self.inside.lanes) (g.L.Lanes.rows c.go_back.new.lanes)) c.list.ensures c.go_back.ensures
     in subst (λ (ns : List Note). AreNotesFit g.L.Lanes.GREATEST
     (length (g.L.Lanes.rows c.go_back.new.lanes).heads)
-    (take (length ns - c.unwrap-mark.result.first) (drop c.unwrap-mark.result.first ns))) (sym c.list.ensures)
-    (fit_less g.L.Lanes.GREATEST c.args.instance.now last.word c.args.job _ last.kept _ c.unwrap-mark.result
-    (rw c.unwrap-mark.ensures at c.pop.ensures.items) c.args.placement.now last.placed
+    (take (length ns - c.unwrap-last.result.first) (drop c.unwrap-last.result.first ns))) (sym c.list.ensures)
+    (fit_less g.L.Lanes.GREATEST c.args.instance.now last.word c.args.job _ last.kept _ c.unwrap-last.result
+    (rw c.unwrap-last.ensures at c.pop.ensures.items) c.args.placement.now last.placed
     (g.L.Lanes.rows c.go_back.new.lanes) back)
 
 pub keep_ends-requires-clause-noted : goal.keep_ends-requires-clause-noted
@@ -58,31 +58,31 @@ keep_ends-requires-clause-noted g c =
     let last = subst (λ (s : LaneState). HasLastInLanes g.L.Lanes.GREATEST c.args.instance.now c.args.placement.now
     c.args.job s) (sym c.self.view_is) c.requires
     in let back = subst (λ (ns : List Note). GoesBack c.args.instance.now c.self.inside.layout c.args.placement.now
-    (take (length ns - c.unwrap-mark.result.first) (drop c.unwrap-mark.result.first ns)) c.unwrap-mark.result.whole
+    (take (length ns - c.unwrap-last.result.first) (drop c.unwrap-last.result.first ns)) c.unwrap-last.result.whole
     (g.L.Lanes.rows c.self.inside.lanes) (g.L.Lanes.rows c.go_back.new.lanes)) c.list.ensures c.go_back.ensures
-    in subst (λ (ns : List Note). c.unwrap-mark.result.whole ≡ true
-    → AreEndsButJob g.L.Lanes.GREATEST c.self.inside.layout c.jobs_steps.result.now
+    in subst (λ (ns : List Note). c.unwrap-last.result.whole ≡ true
+    → AreEndsButJob g.L.Lanes.GREATEST c.self.inside.layout c.jobs_steps-steps.result.now
     (g.L.Lanes.rows c.go_back.new.lanes)
-    (take (length ns - c.unwrap-mark.result.first) (drop c.unwrap-mark.result.first ns)) c.args.job)
-    (sym c.list.ensures) (subst (λ (steps : List ℕ). c.unwrap-mark.result.whole ≡ true
+    (take (length ns - c.unwrap-last.result.first) (drop c.unwrap-last.result.first ns)) c.args.job)
+    (sym c.list.ensures) (subst (λ (steps : List ℕ). c.unwrap-last.result.whole ≡ true
     → AreEndsButJob g.L.Lanes.GREATEST c.self.inside.layout steps (g.L.Lanes.rows c.go_back.new.lanes)
-    (take (length c.self.inside.notes.list - c.unwrap-mark.result.first)
-    (drop c.unwrap-mark.result.first c.self.inside.notes.list)) c.args.job) (sym c.jobs_steps.ensures)
-    (noted_less g.L.Lanes.GREATEST c.args.instance.now last.word c.args.job _ last.kept _ c.unwrap-mark.result
-    (rw c.unwrap-mark.ensures at c.pop.ensures.items) c.args.placement.now last.placed
+    (take (length c.self.inside.notes.list - c.unwrap-last.result.first)
+    (drop c.unwrap-last.result.first c.self.inside.notes.list)) c.args.job) (sym c.jobs_steps-steps.ensures)
+    (noted_less g.L.Lanes.GREATEST c.args.instance.now last.word c.args.job _ last.kept _ c.unwrap-last.result
+    (rw c.unwrap-last.ensures at c.pop.ensures.items) c.args.placement.now last.placed
     (g.L.Lanes.rows c.go_back.new.lanes) back))
 
 pub returns : goal.returns
 returns g c w kept placed =
     kept_less g.L.Lanes.GREATEST c.args.instance.now w c.args.job _
     (subst (λ (s : LaneState). IsKeptInLanes g.L.Lanes.GREATEST c.args.instance.now (w ++ c.args.job ∷ []) s)
-    (sym c.self.view_is) kept) _ c.unwrap-mark.result (rw c.unwrap-mark.ensures at c.pop.ensures.items)
+    (sym c.self.view_is) kept) _ c.unwrap-last.result (rw c.unwrap-last.ensures at c.pop.ensures.items)
     c.args.placement.now placed (g.L.Lanes.rows c.go_back.new.lanes)
     (subst (λ (ns : List Note). GoesBack c.args.instance.now c.self.inside.layout c.args.placement.now
-    (take (length ns - c.unwrap-mark.result.first) (drop c.unwrap-mark.result.first ns)) c.unwrap-mark.result.whole
+    (take (length ns - c.unwrap-last.result.first) (drop c.unwrap-last.result.first ns)) c.unwrap-last.result.whole
     (g.L.Lanes.rows c.self.inside.lanes)
     (g.L.Lanes.rows c.go_back.new.lanes)) c.list.ensures c.go_back.ensures) (g.L.Lanes.rows c.keep_ends.new.lanes)
     c.keep_ends.ensures.beside
     (subst (λ (steps : List ℕ). AreEndsOf g.L.Lanes.GREATEST c.self.inside.layout steps
-    (g.L.Lanes.rows c.keep_ends.new.lanes)) c.jobs_steps.ensures c.keep_ends.ensures.ends) c.truncate.new.self
+    (g.L.Lanes.rows c.keep_ends.new.lanes)) c.jobs_steps-steps.ensures c.keep_ends.ensures.ends) c.truncate.new.self
     c.truncate.ensures _ c.pop.ensures.capacity
