@@ -5,6 +5,7 @@ mod alone;
 mod by_bound;
 mod crews;
 mod entries;
+mod growing;
 mod laws;
 mod limits;
 mod open_nodes;

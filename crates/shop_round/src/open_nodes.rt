@@ -3,6 +3,7 @@ ghost use Rattle.std.specs.Prelude.{◌≡◌, ◌==◌, [], length, IfOk, OnOk}
 ghost use Rattle.shop_round.specs.inner.OpenNodes.{least_of_bounds};
 
 use crate::by_bound::{count_by_bound, keep_by_bound, least_by_bound, pop_by_bound, put_by_bound};
+use crate::growing::push_sparingly;
 use crate::pieces::least_bound;
 use crate::plans::Order;
 use crate::stacks::Stack;
@@ -38,10 +39,7 @@ impl OpenNodes {
         ensures { OnOk result (IsPut node self.old self.new) }
     {
         match self {
-            OpenNodes::AsKept(nodes) => {
-                nodes.push(node)?;
-                Ok(())
-            }
+            OpenNodes::AsKept(nodes) => push_sparingly(nodes, node),
             OpenNodes::ByBound(stacks) => put_by_bound(alloc, stacks, node),
         }
     }

@@ -2,6 +2,7 @@
 ghost use Rattle.std.specs.Prelude.{◌≡◌, ◌∷◌, [], length, OnOk};
 ghost use Rattle.shop_round.specs.inner.Stacks.{words_on, words_left};
 
+use crate::growing::push_sparingly;
 use shop_tree::SharedWord;
 use std::alloc::{AllocError, Global};
 use std::mem;
@@ -29,8 +30,7 @@ impl Stack {
         ensures { OnOk result (words_on self.new ≡ word ∷ words_on self.old) }
     {
         let below = mem::replace(&mut self.top, word);
-        self.below.push(below)?;
-        Ok(())
+        push_sparingly(&mut self.below, below)
     }
 
     /// How many words there are.
