@@ -1,6 +1,7 @@
-use Rattle.std.proofs.Common.{ℕ, List, length, ◌∙◌, ap, subst, arith}
+use Rattle.std.proofs.Common.{ℕ, List, [], length, ◌∙◌, ap, subst, arith}
 use Rattle.shop_bound.specs.inner.RisingLists.{HasPut}
 use Rattle.shop_bound.proofs.LaneConflicts.{next_placed, chosen_at, chosen_job, none_open, is_conflict}
+use Rattle.shop_bound.proofs.RisingLists.{put_below}
 use Rattle.shop_bound.proofs.lane_choices.gather_conflict.Goals as goal
 
 pub returns-then-step-route-clause-jobs : goal.returns-then-step-route-clause-jobs
@@ -57,6 +58,18 @@ pub gather_on_machine-requires-clause-placed : goal.gather_on_machine-requires-c
 gather_on_machine-requires-clause-placed g c =
     next_placed c.args.instance.now c.requires.kept.of c.args.layout.now c.args.steps.now
     (g.L.Lanes.rows c.args.lanes.now) c.requires.kept.choosable.nexts
+
+pub gather_on_machine-requires-clause-list : goal.gather_on_machine-requires-clause-list
+gather_on_machine-requires-clause-list g c =
+    let r = c.first_least_end-chosen.result
+    in let can = c.requires.kept.choosable
+    in let known = chosen_job g.L.Lanes.GREATEST c.args.instance.now c.requires.kept.of c.args.layout.now c.args.steps.now
+    (g.L.Lanes.rows c.args.lanes.now) can r c.first_least_end-chosen.ensures
+    in let many = can.nexts.jobs
+    in put_below (length c.args.steps.now) _ r [] c.put.new.jobs.items
+    (record { rises = tt; below = λ q h. absurd h }) (omega arith)
+    (subst (λ (js : List ℕ). HasPut r js c.put.new.jobs.items) c.clear.ensures.items c.put.ensures.put)
+    c.put.ensures.list
 
 pub returns-clause-jobs : goal.returns-clause-jobs
 returns-clause-jobs g c = λ p can.
