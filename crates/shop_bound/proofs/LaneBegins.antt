@@ -139,7 +139,8 @@ module _ (greatest : ℕ) (shop : Shop) (limits : IsWithinLimits shop) (l : Layo
           raises = raises;
           top = top;
         })
-    kept_none filled_rows filled many rows beside ends notes begun marks none_marked room enough machines raises top bounds =
+    kept_none filled_rows filled many rows beside ends notes begun marks none_marked room enough machines raises top
+        bounds =
         let heads = with_ends greatest shop [] l filled_rows rows beside (heads_none filled_rows filled)
         in let none : IsKeptInLanes greatest shop [] (record {
           layout = l;

@@ -195,6 +195,7 @@ ends_between greatest shop w v j l old new kept ends s placed same beside notes 
     in let is = tabled_is shop (placing shop w)
     in let a = placed.places.steps in let b = is.places.steps
     in ends_but_job greatest l before.steps s.steps old new notes j
-    (ends_of greatest shop w l old kept before.steps (steps_of_placement shop (placing shop w) before is) ends.jobs ends)
+    (ends_of greatest shop w l old kept before.steps (steps_of_placement shop (placing shop w) before is) ends.jobs
+    ends)
     (omega arith) beside.times beside.ends (λ i known ne.
     let x = placed.steps i (omega arith) in let y = is.steps i (omega arith) in let z = same i ne in omega arith) heads

@@ -22,8 +22,8 @@ use shop_model::Instance;
 use std::alloc::{AllocError, Global};
 use std::marker::Model;
 
-/// The heads of what a word leaves, one number a position, with notes that lead back through the word. Notes take more
-/// memory as they need it.
+/// The heads of what a word leaves, one number a position, with notes that lead back through the word, and the ends of
+/// its next operations by job. Notes take more memory as they need it.
 #[derive(Drop)]
 pub(crate) struct LaneHeads<L: Lanes> {
     pub(crate) layout: Layout,
@@ -57,8 +57,8 @@ impl<L: Lanes> Model for LaneHeads<L> {
 }
 
 impl<L: Lanes> LaneHeads<L> {
-    /// With nothing dispatched: the placement is that of no operation. Where memory for notes is refused later, going back
-    /// sets all heads anew. Fails with `AllocError` if memory runs out.
+    /// With nothing dispatched: the placement is that of no operation. Where memory for notes is refused later, going
+    /// back sets all heads anew. Fails with `AllocError` if memory runs out.
     pub(crate) fn new(
         alloc: Global,
         instance: &Instance,

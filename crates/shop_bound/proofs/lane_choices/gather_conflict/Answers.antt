@@ -63,8 +63,8 @@ pub gather_on_machine-requires-clause-list : goal.gather_on_machine-requires-cla
 gather_on_machine-requires-clause-list g c =
     let r = c.first_least_end-chosen.result
     in let can = c.requires.kept.choosable
-    in let known = chosen_job g.L.Lanes.GREATEST c.args.instance.now c.requires.kept.of c.args.layout.now c.args.steps.now
-    (g.L.Lanes.rows c.args.lanes.now) can r c.first_least_end-chosen.ensures
+    in let known = chosen_job g.L.Lanes.GREATEST c.args.instance.now c.requires.kept.of c.args.layout.now
+    c.args.steps.now (g.L.Lanes.rows c.args.lanes.now) can r c.first_least_end-chosen.ensures
     in let many = can.nexts.jobs
     in put_below (length c.args.steps.now) _ r [] c.put.new.jobs.items
     (record { rises = tt; below = λ q h. absurd h }) (omega arith)
