@@ -73,15 +73,13 @@ put_is (x ∷ es) w k s sorted e = elim (cases_lt k x.0) [
       none_at k (x ∷ es) (less, all_above k x.0 (keys_of es) less sorted.0)
       in let words : words_on s ≡ w ∷ [] = e ∙ ap (λ o. w ∷ words_left o) lost
       in rw (cmp_less k x.0 less) (ap (λ ws. nodes_of_bound k ws ++ nodes_by_bound (x ∷ es)) words
-      ∙ sym (insert_here (record { word = w; bound = k }) x.0 x.1 (nodes_by_bound es)
-      (omega arith))))
+      ∙ sym (insert_here (record { word = w; bound = k }) x.0 x.1 (nodes_by_bound es) (omega arith))))
   | inr more ↦ elim (cases_eq k x.0) [
     | inl same ↦ (let found : lookup (is_at (nat_cmp k)) (x ∷ es) ≡ Some x.1 = rw (cmp_equal k x.0 same) refl
         in let words : words_on s ≡ w ∷ words_on x.1 = e ∙ ap (λ o. w ∷ words_left o) found
         in rw (cmp_equal k x.0 same) (ap (λ ws. nodes_of_bound x.0 ws ++ nodes_by_bound es) words
         ∙ (ap (λ b. record { word = w; bound = b } ∷ nodes_by_bound (x ∷ es)) (sym same)
-        ∙ sym (insert_here (record { word = w; bound = k }) x.0 x.1 (nodes_by_bound es)
-        (omega arith)))))
+        ∙ sym (insert_here (record { word = w; bound = k }) x.0 x.1 (nodes_by_bound es) (omega arith)))))
     | inr other ↦ (let below : x.0 < k = omega arith
         in let missed : lookup (is_at (nat_cmp k)) (x ∷ es) ≡ lookup (is_at (nat_cmp k)) es =
         rw (cmp_greater k x.0 below) refl

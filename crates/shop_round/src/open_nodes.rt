@@ -18,8 +18,8 @@ pub(crate) enum OpenNodes {
     ByBound(BTreeMap<u64, Stack>),
 }
 
-/// Puts a node at the end of a list, which takes room for a quarter more where it is full: it is what takes most memory.
-/// Fails with `AllocError` if memory runs out.
+/// Puts a node at the end of a list, which takes room for a quarter more where it is full, since it is what takes most
+/// memory. Fails with `AllocError` if memory runs out.
 fn push_sparingly(nodes: &mut Vec<Node>, node: Node) -> Result<(), AllocError>
     ensures { OnOk result (nodes.new.items ≡ nodes.old.items ++ node ∷ []) }
 {

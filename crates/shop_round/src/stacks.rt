@@ -6,7 +6,7 @@ use shop_tree::SharedWord;
 use std::alloc::{AllocError, Global};
 use std::mem;
 
-/// The words below the top of a full block.
+/// The words below the top of a full block, which take 4 KB.
 const BLOCK: usize = 256;
 
 /// At least one word, and no more than a full block has; the one on top is taken next.
@@ -55,8 +55,8 @@ impl Block {
     }
 }
 
-/// The words of some open nodes of one bound; the one on top is taken next. They lie in blocks, which are not copied
-/// once they are full: below the topmost one all were full when they were covered.
+/// The words of some open nodes of one bound; the one on top is taken next. They lie in blocks: words are put on the
+/// topmost and taken from it, and a full one that another covers is never copied.
 #[derive(Drop)]
 pub(crate) struct Stack {
     pub(crate) topmost: Block,
