@@ -8,7 +8,8 @@
 --     put_before order node nodes     the node before those that the order has behind it
 --     put_all_before order ns nodes   the same of some nodes, the last one first
 --     IsNextOf node before after      the first node is taken from the list, if there is one
-use Rattle.std.specs.Prelude.{◌≡◌, ℕ, Option, Some, None, List, [], ◌∷◌, ◌++◌, map, flat_map, reverse}
+use Rattle.std.specs.Prelude.{◌≡◌, ℕ, Option, Some, None, List, [], ◌∷◌, ◌++◌}
+use Rattle.std.specs.Prelude.{map, flat_map, reverse}
 use Rattle.std.specs.BTreeMap.{BTreeMap}
 use Rattle.shop_tree.specs.Branching.{insert_by}
 use Rattle.shop_tree.specs.declared.nodes.Node.{Node}
