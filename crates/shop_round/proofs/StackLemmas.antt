@@ -1,7 +1,7 @@
 -- Stacks of words by bound: what is put among them, taken from them, and let go.
 use Rattle.std.proofs.Common.{◌≡◌, ℕ, ◌≤◌, ◌<◌, min, inl, inr, cond, Option, Some, None, List, [], ◌∷◌, ◌++◌}
 use Rattle.std.specs.Prelude.{slice_get}
-use Rattle.std.proofs.Common.{refl, sym, ◌∙◌, ap, subst, arith, ltb, reverse}
+use Rattle.std.proofs.Common.{refl, sym, ◌∙◌, ap, subst, arith, ltb, flat_map, reverse}
 use Rattle.std.specs.List.{AllByRecursion, All}
 use Rattle.std.specs.List.Sorted.{IsStrictlySortedBy}
 use Rattle.std.specs.Map.{keys_of, lookup}
@@ -16,7 +16,7 @@ use Rattle.shop_tree.specs.declared.nodes.Node.{Node}
 use Rattle.shop_tree.specs.Branching.{insert_by}
 use Rattle.shop_round.specs.declared.stacks.Stack.{Stack}
 use Rattle.shop_round.specs.inner.OpenNodes.{nodes_below, least_of_bounds}
-use Rattle.shop_round.specs.inner.Stacks.{words_on, words_left, nodes_of_bound, nodes_by_bound}
+use Rattle.shop_round.specs.inner.Stacks.{words_in, words_on, words_left, nodes_of_bound, nodes_by_bound}
 
 cmp_less : (a b : ℕ) → a < b → nat_cmp a b ≡ Less
 cmp_less a b h = rw (lt-ltb a b h) refl
@@ -57,9 +57,9 @@ insert_past n b (w ∷ ws) rest h = rw (lt-leb n.bound b h) (ap (λ ns. record {
     (insert_past n b ws rest h))
 
 -- and before those of its own
-insert_here : (n : Node) (b : ℕ) (ws : List (List ℕ)) (w : List ℕ) (rest : List Node) → n.bound ≤ b
-    → insert_by (λ m. m.bound) n (nodes_of_bound b (w ∷ ws) ++ rest) ≡ n ∷ nodes_of_bound b (w ∷ ws) ++ rest
-insert_here n b ws w rest h = rw (le-leb n.bound b h) refl
+insert_here : (n : Node) (b : ℕ) (s : Stack) (rest : List Node) → n.bound ≤ b
+    → insert_by (λ m. m.bound) n (nodes_of_bound b (words_on s) ++ rest) ≡ n ∷ nodes_of_bound b (words_on s) ++ rest
+insert_here n b s rest h = rw (le-leb n.bound b h) refl
 
 -- a word put on the stack of its bound, which is made where there is none
 pub put_is : (es : List (ℕ × Stack)) (w : List ℕ) (k : ℕ) (s : Stack) → IsStrictlySortedBy nat_cmp (keys_of es)
@@ -73,15 +73,13 @@ put_is (x ∷ es) w k s sorted e = elim (cases_lt k x.0) [
       none_at k (x ∷ es) (less, all_above k x.0 (keys_of es) less sorted.0)
       in let words : words_on s ≡ w ∷ [] = e ∙ ap (λ o. w ∷ words_left o) lost
       in rw (cmp_less k x.0 less) (ap (λ ws. nodes_of_bound k ws ++ nodes_by_bound (x ∷ es)) words
-      ∙ sym (insert_here (record { word = w; bound = k }) x.0 (reverse x.1.below.items) x.1.top (nodes_by_bound es)
-      (omega arith))))
+      ∙ sym (insert_here (record { word = w; bound = k }) x.0 x.1 (nodes_by_bound es) (omega arith))))
   | inr more ↦ elim (cases_eq k x.0) [
     | inl same ↦ (let found : lookup (is_at (nat_cmp k)) (x ∷ es) ≡ Some x.1 = rw (cmp_equal k x.0 same) refl
         in let words : words_on s ≡ w ∷ words_on x.1 = e ∙ ap (λ o. w ∷ words_left o) found
         in rw (cmp_equal k x.0 same) (ap (λ ws. nodes_of_bound x.0 ws ++ nodes_by_bound es) words
         ∙ (ap (λ b. record { word = w; bound = b } ∷ nodes_by_bound (x ∷ es)) (sym same)
-        ∙ sym (insert_here (record { word = w; bound = k }) x.0 (reverse x.1.below.items) x.1.top (nodes_by_bound es)
-        (omega arith)))))
+        ∙ sym (insert_here (record { word = w; bound = k }) x.0 x.1 (nodes_by_bound es) (omega arith)))))
     | inr other ↦ (let below : x.0 < k = omega arith
         in let missed : lookup (is_at (nat_cmp k)) (x ∷ es) ≡ lookup (is_at (nat_cmp k)) es =
         rw (cmp_greater k x.0 below) refl
@@ -173,13 +171,17 @@ lower_keys : (c b : ℕ) (ks : List ℕ) → c ≤ b → AllByRecursion (λ y. b
 lower_keys c b [] h a = tt
 lower_keys c b (k ∷ ks) h a = ((let l = a.0 in omega arith), lower_keys c b ks h a.1)
 
+-- the words of a stack below its top
+abbrev words_under : Stack → List (List ℕ)
+words_under s = reverse s.topmost.below.items ++ flat_map words_in (reverse s.covered.items)
+
 -- the least bound is that of the first stack
 least_first : (c : ℕ) (e : ℕ × Stack) (es : List (ℕ × Stack)) → AllByRecursion (λ y. e.0 ≤ y) (keys_of es)
     → least_of_bounds c (nodes_by_bound (e ∷ es)) ≡ min c e.0
 least_first c e es all =
     let rest = entries_all (min c e.0) es (lower_keys (min c e.0) e.0 (keys_of es) (omega arith) all)
-    in least_all (min c e.0) (nodes_of_bound e.0 (reverse e.1.below.items) ++ nodes_by_bound es)
-    (bounds_all (min c e.0) e.0 (reverse e.1.below.items) (nodes_by_bound es) (omega arith) rest)
+    in least_all (min c e.0) (nodes_of_bound e.0 (words_under e.1) ++ nodes_by_bound es)
+    (bounds_all (min c e.0) e.0 (words_under e.1) (nodes_by_bound es) (omega arith) rest)
 
 pub least_is : (c k : ℕ) (s : Stack) (es : List (ℕ × Stack)) → slice_get es 0 ≡ Some (k, s)
     → All (IsLeBy nat_cmp k) (keys_of es) → least_of_bounds c (nodes_by_bound es) ≡ min c k

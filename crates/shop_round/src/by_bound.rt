@@ -19,7 +19,7 @@ pub(crate) fn put_by_bound(
 {
     let Node { word, bound } = node;
     match stacks.entry(bound)? {
-        Entry::Occupied(stack) => stack.into_mut().push(word)?,
+        Entry::Occupied(stack) => stack.into_mut().push(alloc, word)?,
         Entry::Vacant(place) => {
             place.insert(Stack::of(alloc, word));
         }
@@ -68,7 +68,7 @@ pub(crate) fn count_by_bound(mut stacks: BTreeMap<u64, Stack>) -> Result<usize, 
 {
     let mut count = 0_usize;
     while let Some((_, stack)) = stacks.pop_first() {
-        let Some(sum) = count.checked_add(stack.len()) else {
+        let Some(sum) = count.checked_add(stack.count()?) else {
             return Err(AllocError);
         };
         count = sum;

@@ -5,7 +5,6 @@ mod alone;
 mod by_bound;
 mod crews;
 mod entries;
-mod growing;
 mod laws;
 mod limits;
 mod open_nodes;

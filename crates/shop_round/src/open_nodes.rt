@@ -1,9 +1,8 @@
 // The open nodes of a run, in the order in which the next cut takes them.
-ghost use Rattle.std.specs.Prelude.{◌≡◌, ◌==◌, [], length, IfOk, OnOk};
+ghost use Rattle.std.specs.Prelude.{◌≡◌, ◌==◌, ◌++◌, ◌∷◌, [], length, IfOk, OnOk};
 ghost use Rattle.shop_round.specs.inner.OpenNodes.{least_of_bounds};
 
 use crate::by_bound::{count_by_bound, keep_by_bound, least_by_bound, pop_by_bound, put_by_bound};
-use crate::growing::push_sparingly;
 use crate::pieces::least_bound;
 use crate::plans::Order;
 use crate::stacks::Stack;
@@ -17,6 +16,18 @@ use std::collections::BTreeMap;
 pub(crate) enum OpenNodes {
     AsKept(Vec<Node>),
     ByBound(BTreeMap<u64, Stack>),
+}
+
+/// Puts a node at the end of a list, which takes room for a quarter more where it is full, since it is what takes most
+/// memory. Fails with `AllocError` if memory runs out.
+fn push_sparingly(nodes: &mut Vec<Node>, node: Node) -> Result<(), AllocError>
+    ensures { OnOk result (nodes.new.items ≡ nodes.old.items ++ node ∷ []) }
+{
+    if nodes.len() == nodes.capacity() {
+        nodes.reserve_exact(nodes.len() / 4 + 4)?;
+    }
+    nodes.push(node)?;
+    Ok(())
 }
 
 impl OpenNodes {

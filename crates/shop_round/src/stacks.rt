@@ -1,17 +1,66 @@
 // Words of open nodes of one bound.
-ghost use Rattle.std.specs.Prelude.{◌≡◌, ◌∷◌, [], length, OnOk};
-ghost use Rattle.shop_round.specs.inner.Stacks.{words_on, words_left};
+ghost use Rattle.std.specs.Prelude.{◌≡◌, ◌∷◌, [], length, IfOk, OnOk};
+ghost use Rattle.shop_round.specs.inner.Stacks.{words_in, words_in_rest, words_on, words_left};
 
-use crate::growing::push_sparingly;
 use shop_tree::SharedWord;
 use std::alloc::{AllocError, Global};
 use std::mem;
 
-/// The words of some open nodes of one bound; the one on top is taken next.
+/// The words below the top of a full block, which take 4 KB.
+const BLOCK: usize = 256;
+
+/// At least one word, and no more than a full block has; the one on top is taken next.
 #[derive(Drop)]
-pub(crate) struct Stack {
+pub(crate) struct Block {
     pub(crate) top: SharedWord,
     pub(crate) below: Vec<SharedWord>,
+}
+
+impl Block {
+    /// One word. Takes no memory.
+    fn of(alloc: Global, word: SharedWord) -> Block
+        ensures { words_in result ≡ word ∷ [] }
+    {
+        Block {
+            top: word,
+            below: Vec::new(alloc),
+        }
+    }
+
+    /// Puts a word on top. Fails with `AllocError` if memory runs out; the block is of no use then.
+    fn push(&mut self, word: SharedWord) -> Result<(), AllocError>
+        ensures { OnOk result (words_in self.new ≡ word ∷ words_in self.old) }
+    {
+        let below = mem::replace(&mut self.top, word);
+        self.below.push(below)?;
+        Ok(())
+    }
+
+    /// How many words there are.
+    fn len(&self) -> usize
+        ensures { result ≡ length (words_in self.now) }
+    {
+        self.below.len() + 1
+    }
+
+    /// The word on top, and the others, if there are any.
+    fn pop(self) -> (SharedWord, Option<Block>)
+        ensures { words_in self ≡ result.0 ∷ words_in_rest result.1 }
+    {
+        let Block { top, mut below } = self;
+        match below.pop() {
+            Some(next) => (top, Some(Block { top: next, below })),
+            None => (top, None),
+        }
+    }
+}
+
+/// The words of some open nodes of one bound; the one on top is taken next. They lie in blocks: words are put on the
+/// topmost and taken from it, and a full one that another covers is never copied.
+#[derive(Drop)]
+pub(crate) struct Stack {
+    pub(crate) topmost: Block,
+    pub(crate) covered: Vec<Block>,
 }
 
 impl Stack {
@@ -20,34 +69,56 @@ impl Stack {
         ensures { words_on result ≡ word ∷ [] }
     {
         Stack {
-            top: word,
-            below: Vec::new(alloc),
+            topmost: Block::of(alloc, word),
+            covered: Vec::new(alloc),
         }
     }
 
     /// Puts a word on top. Fails with `AllocError` if memory runs out; the stack is of no use then.
-    pub(crate) fn push(&mut self, word: SharedWord) -> Result<(), AllocError>
+    pub(crate) fn push(&mut self, alloc: Global, word: SharedWord) -> Result<(), AllocError>
         ensures { OnOk result (words_on self.new ≡ word ∷ words_on self.old) }
     {
-        let below = mem::replace(&mut self.top, word);
-        push_sparingly(&mut self.below, below)
+        if self.topmost.below.len() < BLOCK {
+            return self.topmost.push(word);
+        }
+        let full = mem::replace(&mut self.topmost, Block::of(alloc, word));
+        self.covered.push(full)?;
+        Ok(())
     }
 
-    /// How many words there are.
-    pub(crate) fn len(&self) -> usize
-        ensures { result ≡ length (words_on self.now) }
+    /// How many words there are. Fails with `AllocError` if they are more than memory could hold.
+    pub(crate) fn count(self) -> Result<usize, AllocError>
+        ensures { IfOk result (λ n. n ≡ length (words_on self)) }
     {
-        self.below.len() + 1
+        let Stack {
+            topmost,
+            mut covered,
+        } = self;
+        let mut count = topmost.len();
+        while let Some(block) = covered.pop() {
+            let Some(sum) = count.checked_add(block.len()) else {
+                return Err(AllocError);
+            };
+            count = sum;
+        }
+        Ok(count)
     }
 
     /// The word on top, and the others, if there are any.
     pub(crate) fn pop(self) -> (SharedWord, Option<Stack>)
         ensures { words_on self ≡ result.0 ∷ words_left result.1 }
     {
-        let Stack { top, mut below } = self;
-        match below.pop() {
-            Some(next) => (top, Some(Stack { top: next, below })),
-            None => (top, None),
+        let Stack {
+            topmost,
+            mut covered,
+        } = self;
+        let (word, left) = topmost.pop();
+        if let Some(topmost) = left {
+            return (word, Some(Stack { topmost, covered }));
+        }
+        match covered.pop() {
+            Some(topmost) => (word, Some(Stack { topmost, covered })),
+            None => (word, None),
         }
     }
 }

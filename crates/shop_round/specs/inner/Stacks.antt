@@ -1,4 +1,6 @@
 -- Open nodes in the order in which the next cut takes them.
+--     words_in block                  the words of a block, from its top on
+--     words_in_rest block             the same, of a block if there is one
 --     words_on stack                  the words of a stack, from its top on
 --     words_left stack                the same, of a stack if there is one
 --     nodes_of_bound bound words      nodes of these words, of one bound
@@ -6,17 +8,26 @@
 --     put_before order node nodes     the node before those that the order has behind it
 --     put_all_before order ns nodes   the same of some nodes, the last one first
 --     IsNextOf node before after      the first node is taken from the list, if there is one
-use Rattle.std.specs.Prelude.{◌≡◌, ℕ, Option, Some, None, List, [], ◌∷◌, ◌++◌, map, reverse}
+use Rattle.std.specs.Prelude.{◌≡◌, ℕ, Option, Some, None, List, [], ◌∷◌, ◌++◌}
+use Rattle.std.specs.Prelude.{map, flat_map, reverse}
 use Rattle.std.specs.BTreeMap.{BTreeMap}
 use Rattle.shop_tree.specs.Branching.{insert_by}
 use Rattle.shop_tree.specs.declared.nodes.Node.{Node}
+use Rattle.shop_round.specs.declared.stacks.Block.{Block}
 use Rattle.shop_round.specs.declared.stacks.Stack.{Stack}
 use Rattle.shop_round.specs.inner.OpenNodes.{nodes_below}
 use Rattle.shop_round.specs.declared.plans.Order.{Order}
 use Rattle.shop_round.specs.declared.plans.Order.TheVariants.{Kept, Bound}
 
+abbrev pub words_in : Block → List (List ℕ)
+words_in b = b.top ∷ reverse b.below.items
+
+abbrev pub words_in_rest : Option Block → List (List ℕ)
+words_in_rest None = []
+words_in_rest (Some b) = words_in b
+
 abbrev pub words_on : Stack → List (List ℕ)
-words_on s = s.top ∷ reverse s.below.items
+words_on s = words_in s.topmost ++ flat_map words_in (reverse s.covered.items)
 
 abbrev pub words_left : Option Stack → List (List ℕ)
 words_left None = []
