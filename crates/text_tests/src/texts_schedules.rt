@@ -1,5 +1,5 @@
 // Schedule texts that are read and refused.
-use crate::instances::crossing;
+use worked_instances::crossing;
 use shop_model::{Table, Verdict, check};
 use shop_text::{ReadFault, read_table};
 use std::alloc::Global;

@@ -1,7 +1,7 @@
 // Reports, Gantt texts, lists and verdicts, against rows known from outside.
 ghost use Rattle.std.specs.Prelude.{◌≤◌};
 
-use crate::instances::{crossing, with_a_gap};
+use worked_instances::{crossing, with_a_gap};
 use shop_model::{Instance, Op, Position, Table, Verdict, check};
 use shop_text::{Named, ReadFault, Report, gantt, listing, read_table, report, verdict_line};
 use std::alloc::{AllocError, Global};

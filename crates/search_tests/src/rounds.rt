@@ -2,7 +2,7 @@
 ghost use Rattle.std.specs.Prelude.{IfOk};
 ghost use Rattle.shop_round.specs.Runs.{IsStandingOf};
 
-use crate::instances::{crossing, of_rows, op, released, with_a_gap, with_two_orders, with_zeros};
+use worked_instances::{crossing, of_rows, op, released, with_a_gap, with_two_orders, with_zeros};
 use shop_model::Instance;
 use shop_round::{Alone, Answer, Crew, Order, Plan, Round, Standing, gather, run_alone};
 use std::alloc::Global;

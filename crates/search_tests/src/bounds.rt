@@ -1,7 +1,7 @@
 // Heads, tails, bounds and desks of worked instances.
 ghost use Rattle.std.specs.Prelude.{◌≡◌};
 
-use crate::instances::{crossing, of_jobs, of_rows, op, released, with_a_gap};
+use worked_instances::{crossing, of_jobs, of_rows, op, released, with_a_gap};
 use shop_bound::{Desk, Heads, Jackson, Placement, Triple, lower_bound, one_machine, tails};
 use shop_model::{Instance, Job, Word, fits, start_word};
 use std::alloc::{AllocError, Global};

@@ -2,7 +2,7 @@ use Rattle.std.proofs.Common.{◌≡◌, ℕ, ◌<◌, length}
 use Rattle.std.specs.Prelude.{slice_index_or}
 use Rattle.shop_round.specs.Entries.{told}
 use Rattle.shop_round.specs.Crews.{IsEntryOf}
-use Rattle.shop_tests.proofs.crews.all_searched.Given as goal
+use Rattle.crew_tests.proofs.crews.all_searched.Given as goal
 
 abbrev pub invariant-loop-number : goal.invariant-loop-number
 invariant-loop-number l = (length l.entries.items ≡ l.number)

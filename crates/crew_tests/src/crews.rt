@@ -4,7 +4,7 @@ ghost use Rattle.std.specs.Prelude.{IfOk};
 ghost use Rattle.shop_round.specs.Entries.{told};
 ghost use Rattle.shop_round.specs.Crews.{OneForEach};
 
-use crate::instances::with_a_gap;
+use worked_instances::with_a_gap;
 use crate::worked_rounds::{second_round, third_round};
 use shop_board::{BoardCrew, Gate, LockCrew, OpenGate, Seat, SeatGate};
 use shop_round::{

@@ -1,5 +1,5 @@
 // Worked instances and tables, and each public call of shop_model once.
-use crate::instances::{crossing, op, released, with_a_gap, with_zeros};
+use worked_instances::{crossing, op, released, with_a_gap, with_zeros};
 use shop_model::{
     Instance, Job, MAX_START, Position, Table, Verdict, Word, check, check_quickly, fits, is_full,
     makespan, place, start_word,

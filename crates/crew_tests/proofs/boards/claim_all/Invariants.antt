@@ -1,5 +1,5 @@
 use Rattle.shop_board.specs.Seats.{IsSeatOf}
-use Rattle.shop_tests.proofs.boards.claim_all.Given as goal
+use Rattle.crew_tests.proofs.boards.claim_all.Given as goal
 
 abbrev pub invariant-loop-number : goal.invariant-loop-number
 invariant-loop-number l = IsSeatOf l.board l.seat

@@ -2,7 +2,7 @@
 ghost use Rattle.std.specs.Prelude.{◌≡◌, IfOk};
 ghost use Rattle.shop_tree.specs.Nodes.{IsNode, AreNodes};
 
-use crate::instances::{crossing, with_a_gap, with_zeros};
+use worked_instances::{crossing, with_a_gap, with_zeros};
 use shop_model::{Instance, Word, fits, is_full};
 use shop_tree::{Node, Piece, Sheet, children, conflict, search};
 use std::alloc::{AllocError, Global};

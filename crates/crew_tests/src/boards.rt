@@ -4,7 +4,7 @@ ghost use Rattle.shop_board.specs.Hits.{hits_of_round};
 ghost use Rattle.shop_board.specs.Seats.{hits_of, IsSeatOf, HasServedOf};
 
 use crate::crews::{Became, what_became};
-use crate::instances::with_a_gap;
+use worked_instances::with_a_gap;
 use crate::worked_rounds::third_round;
 use shop_board::{Board, OpenGate, Seat, work};
 use shop_round::{Round, search_piece};

@@ -1,9 +1,9 @@
 use Rattle.std.proofs.Common.{vec_len, Option}
 use Rattle.std.specs.Prelude.{All, IfSome}
 use Rattle.shop_board.specs.declared.boards.Board.{Board}
-use Rattle.shop_tests.specs.declared.boards.Worked.{Worked}
+use Rattle.crew_tests.specs.declared.boards.Worked.{Worked}
 use Rattle.shop_board.specs.Seats.{HasServedOf}
-use Rattle.shop_tests.proofs.boards.join_worked.Given as goal
+use Rattle.crew_tests.proofs.boards.join_worked.Given as goal
 
 abbrev HasWorked : Board → Option Worked → Type 0
 HasWorked b o = IfSome o (λ (w : Worked). HasServedOf b w.seat w.won)
