@@ -5,7 +5,7 @@ ghost use Rattle.std.specs.Simd.Lanes.{mask_l};
 ghost use Rattle.shop_lanes.specs.Spans.{FitsSpan};
 ghost use Rattle.shop_lanes.specs.Ends.{IsFirstLeast};
 ghost use Rattle.shop_lanes.specs.inner.Passes.{is_between, least_up_to, lanes_by, spans_by};
-ghost use Rattle.shop_lanes.specs.inner.Passes.{HasSpan, HasSpans, AreSmallBy, IsFirstOf};
+ghost use Rattle.shop_lanes.specs.inner.Passes.{HasSpan, HasSpans, HasSpansBetween, AreSmallBy, IsFirstOf};
 
 use crate::blocks::Block;
 use crate::marking::Marks;
@@ -72,6 +72,60 @@ fn spans_of<B: Block>(
     most
 }
 
+/// The greatest of `most` and those spans, of so many operations, all marked at once: with a number for the count the
+/// passes are laid out without a loop over blocks.
+#[inline(always)]
+fn spans_of_few<B: Block>(
+    count: usize,
+    heads: &[B::Number],
+    times: &[B::Number],
+    tails: &[B::Number],
+    above: u64,
+    upto: u64,
+    most: B,
+) -> B
+    requires count { length heads.now ≡ count }
+    requires whole_blocks { count % 8 ≡ 0 }
+    requires few { count ≤ 64 }
+    requires times { length times.now ≡ length heads.now }
+    requires tails { length tails.now ≡ length heads.now }
+    requires above { above ≤ B.GREATEST }
+    requires most { length (B.numbers most) ≡ 8 }
+    requires fits { FitsSpan B.GREATEST upto (lanes_by B.value heads.now times.now tails.now) }
+    ensures { HasSpansBetween B.numbers B.value heads.now times.now tails.now above upto most result }
+{
+    let (heads, times, tails) = (&heads[..count], &times[..count], &tails[..count]);
+    let bits = bits_between::<B>(heads, above, upto);
+    spans_of(heads, times, tails, Marks::new(0, bits), most)
+}
+
+/// The greatest of `most` and those spans, marked a block at a time.
+#[inline(always)]
+fn spans_of_many<B: Block>(
+    heads: &[B::Number],
+    times: &[B::Number],
+    tails: &[B::Number],
+    above: u64,
+    upto: u64,
+    most: B,
+) -> B
+    requires whole_blocks { length heads.now % 8 ≡ 0 }
+    requires times { length times.now ≡ length heads.now }
+    requires tails { length tails.now ≡ length heads.now }
+    requires room { length heads.now + 64 ≤ 2 ^ 64 }
+    requires above { above ≤ B.GREATEST }
+    requires most { length (B.numbers most) ≡ 8 }
+    requires fits { FitsSpan B.GREATEST upto (lanes_by B.value heads.now times.now tails.now) }
+    ensures { HasSpansBetween B.numbers B.value heads.now times.now tails.now above upto most result }
+{
+    let mut most = most;
+    for block in 0..heads.len() / 8 {
+        let bits = B::bits_between(B::load(heads, block), above, upto);
+        most = spans_of(heads, times, tails, Marks::new(8 * block, bits), most);
+    }
+    most
+}
+
 /// The greatest of `most` and the spans from each head above `above` and up to `upto` on.
 #[inline(always)]
 pub(crate) fn greatest_span<B: Block>(
@@ -91,27 +145,30 @@ pub(crate) fn greatest_span<B: Block>(
     requires fits { FitsSpan B.GREATEST upto (lanes_by B.value heads.now times.now tails.now) }
     ensures { result ≡ max most (spans_by B.value heads.now times.now tails.now above upto) }
 {
-    let mut most = B::splat(most);
-    for block in 0..heads.len() / 8 {
-        let bits = B::bits_between(B::load(heads, block), above, upto);
-        most = spans_of(heads, times, tails, Marks::new(8 * block, bits), most);
-    }
+    let most = B::splat(most);
+    let most = match heads.len() {
+        8 => spans_of_few(8, heads, times, tails, above, upto, most),
+        16 => spans_of_few(16, heads, times, tails, above, upto, most),
+        24 => spans_of_few(24, heads, times, tails, above, upto, most),
+        _ => spans_of_many(heads, times, tails, above, upto, most),
+    };
     greatest_of(most)
 }
 
-/// A bit for each number, the first the lowest, that says whether it is above 0 and at most `upto`.
+/// A bit for each number, the first the lowest, that says whether it is above `above` and at most `upto`.
 #[inline(always)]
-pub(crate) fn bits_up_to<B: Block>(heads: &[B::Number], upto: u64) -> u64
+pub(crate) fn bits_between<B: Block>(heads: &[B::Number], above: u64, upto: u64) -> u64
     requires whole_blocks { length heads.now % 8 ≡ 0 }
     requires few { length heads.now ≤ 64 }
-    requires fits { upto ≤ B.GREATEST }
-    ensures { result ≡ mask_l (map (is_between 0 upto) (map B.value heads.now)) }
+    requires above { above ≤ B.GREATEST }
+    requires upto { upto ≤ B.GREATEST }
+    ensures { result ≡ mask_l (map (is_between above upto) (map B.value heads.now)) }
 {
     let mut bits = 0;
     let mut block = heads.len() / 8;
     while block > 0 {
         block -= 1;
-        bits = B::bits_between(B::load(heads, block), 0, upto) + 256 * bits;
+        bits = B::bits_between(B::load(heads, block), above, upto) + 256 * bits;
     }
     bits
 }

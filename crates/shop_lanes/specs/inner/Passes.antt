@@ -100,6 +100,12 @@ HasSpans numbers value heads times tails marks before after =
     let spans = spans_at (map value heads) (lanes_by value heads times tails) marks
     in AreRaised numbers before spans after
 
+-- raised by their spans from each head above `above` and up to `upto` on
+abbrev pub HasSpansBetween : {A B : Type 0} → (B → List ℕ) → (A → ℕ) → List A → List A → List A
+    → ℕ → ℕ → B → B → Type 0
+HasSpansBetween numbers value heads times tails above upto before after =
+    AreRaised numbers before (spans_by value heads times tails above upto) after
+
 -- the clock after some lanes are served from `least` and `clock` on, and the span of that
 abbrev pub next_clock : {B : Type 0} → (B → List ℕ) → List Lane → B → B → ℕ
 next_clock numbers xs least clock =
