@@ -1,8 +1,7 @@
 -- Rows of numbers of some width, seen as numbers.
-use Rattle.std.proofs.Common.{◌≡◌, ℕ, ◌-◌, ◌*◌, ◌≤◌, List, length, map, take, drop, refl, ap, arith, sym, ◌∙◌}
-use Rattle.std.proofs.lemmas.List.{length-map, take-map, drop-map, take_all}
+use Rattle.std.proofs.Common.{◌≡◌, ℕ, ◌-◌, ◌*◌, List, length, map, take, drop, ap, sym, ◌∙◌}
+use Rattle.std.proofs.lemmas.List.{length-map, take-map, drop-map}
 use Rattle.shop_lanes.specs.Rows.{lanes, blocks}
-use Rattle.shop_lanes.specs.inner.Passes.{lanes_by}
 use Rattle.shop_lanes.proofs.LaneLists.{lanes-blocks}
 
 module _ {A : Type 0} (f : A → ℕ) where
@@ -31,27 +30,3 @@ module _ {A : Type 0} (f : A → ℕ) where
       in let q = values_of_blocks qs tails from to eq
       in rw (h, t, q) (lanes-blocks (map f heads) (map f times) (map f tails) from to (as_long times heads a)
       (as_long tails heads b))
-
-  -- rows cut to the length that they have
-  module _ (heads times tails : List A) (n : ℕ) (count : length heads ≡ n) (a : length times ≡ length heads)
-      (b : length tails ≡ length heads) where
-    heads_whole : take n heads ≡ heads
-    heads_whole = take_all n heads (omega arith)
-
-    times_whole : take n times ≡ times
-    times_whole = take_all n times (omega arith)
-
-    tails_whole : take n tails ≡ tails
-    tails_whole = take_all n tails (omega arith)
-
-    pub lanes_whole : lanes_by f (take n heads) (take n times) (take n tails) ≡ lanes_by f heads times tails
-    lanes_whole = rw (heads_whole, times_whole, tails_whole) refl
-
-    pub cut_few : n ≤ 64 → length (map f (take n heads)) ≤ 64
-    cut_few few = rw heads_whole (omega (arith, length-map heads f))
-
-    pub cut_times : length (map f (take n times)) ≡ length (map f (take n heads))
-    cut_times = rw (heads_whole, times_whole) (as_long times heads a)
-
-    pub cut_tails : length (map f (take n tails)) ≡ length (map f (take n heads))
-    cut_tails = rw (heads_whole, tails_whole) (as_long tails heads b)

@@ -2,7 +2,7 @@
 ghost use Rattle.std.specs.Prelude.{◌≡◌, ℕ, ◌+◌, ◌*◌, ◌%◌, ◌^◌, ◌<◌, ◌≤◌, max, length, map};
 ghost use Rattle.std.specs.Prelude.{slice_index};
 ghost use Rattle.std.specs.Simd.Lanes.{mask_l};
-ghost use Rattle.shop_lanes.specs.Spans.{FitsSpan};
+ghost use Rattle.shop_lanes.specs.Spans.{span, FitsSpan};
 ghost use Rattle.shop_lanes.specs.Ends.{IsFirstLeast};
 ghost use Rattle.shop_lanes.specs.inner.Passes.{is_between, least_up_to, lanes_by, spans_by};
 ghost use Rattle.shop_lanes.specs.inner.Passes.{HasSpan, HasSpans, HasSpansBetween, AreSmallBy, IsFirstOf};
@@ -11,9 +11,11 @@ use crate::blocks::Block;
 use crate::marking::Marks;
 use crate::served_blocks::{greatest_of, least_of, serve};
 
-/// The pass over all blocks: in the lanes the greatest of `most` and the ends, tails included.
+/// The pass over all blocks: in the lanes the greatest of `most` and the ends, tails included. Where a call says the
+/// count by a number, the blocks are served without a loop.
 #[inline(always)]
-pub(crate) fn span_of<B: Block>(
+fn span_of<B: Block>(
+    count: usize,
     heads: &[B::Number],
     times: &[B::Number],
     tails: &[B::Number],
@@ -21,7 +23,8 @@ pub(crate) fn span_of<B: Block>(
     start: u64,
     most: B,
 ) -> B
-    requires whole_blocks { length heads.now % 8 ≡ 0 }
+    requires count { length heads.now ≡ count }
+    requires whole_blocks { count % 8 ≡ 0 }
     requires times { length times.now ≡ length heads.now }
     requires tails { length tails.now ≡ length heads.now }
     requires least { least ≤ B.GREATEST }
@@ -32,7 +35,7 @@ pub(crate) fn span_of<B: Block>(
     let least = B::splat(least);
     let mut clock = B::splat(start);
     let mut most = most;
-    for block in 0..heads.len() / 8 {
+    for block in 0..count / 8 {
         let (after, later) = serve(
             B::load(heads, block),
             B::load(times, block),
@@ -47,16 +50,46 @@ pub(crate) fn span_of<B: Block>(
     most
 }
 
+/// The greatest of `most` and the ends, tails included.
+#[inline(always)]
+pub(crate) fn single_span<B: Block>(
+    heads: &[B::Number],
+    times: &[B::Number],
+    tails: &[B::Number],
+    least: u64,
+    start: u64,
+    most: u64,
+) -> u64
+    requires whole_blocks { length heads.now % 8 ≡ 0 }
+    requires times { length times.now ≡ length heads.now }
+    requires tails { length tails.now ≡ length heads.now }
+    requires least { least ≤ B.GREATEST }
+    requires most { most ≤ B.GREATEST }
+    requires fits { FitsSpan B.GREATEST start (lanes_by B.value heads.now times.now tails.now) }
+    ensures { result ≡ max most (span least start (lanes_by B.value heads.now times.now tails.now)) }
+{
+    let most = B::splat(most);
+    let most = match heads.len() {
+        8 => span_of(8, heads, times, tails, least, start, most),
+        16 => span_of(16, heads, times, tails, least, start, most),
+        24 => span_of(24, heads, times, tails, least, start, most),
+        _ => span_of(heads.len(), heads, times, tails, least, start, most),
+    };
+    greatest_of(most)
+}
+
 /// The greatest of `most` and the spans from the heads at these positions on.
 #[inline(always)]
 fn spans_of<B: Block>(
+    count: usize,
     heads: &[B::Number],
     times: &[B::Number],
     tails: &[B::Number],
     marks: Marks,
     most: B,
 ) -> B
-    requires whole_blocks { length heads.now % 8 ≡ 0 }
+    requires count { length heads.now ≡ count }
+    requires whole_blocks { count % 8 ≡ 0 }
     requires times { length times.now ≡ length heads.now }
     requires tails { length tails.now ≡ length heads.now }
     requires most { length (B.numbers most) ≡ 8 }
@@ -67,13 +100,31 @@ fn spans_of<B: Block>(
     let mut most = most;
     while let Some(position) = marks.pop_first() {
         let head = B::widened(heads[position]);
-        most = span_of(heads, times, tails, head, head, most);
+        most = span_of(count, heads, times, tails, head, head, most);
     }
     most
 }
 
-/// The greatest of `most` and those spans, of so many operations, all marked at once: with a number for the count the
-/// passes are laid out without a loop over blocks.
+/// A bit for each number, the first the lowest, that says whether it is above `above` and at most `upto`.
+#[inline(always)]
+fn bits_between<B: Block>(count: usize, heads: &[B::Number], above: u64, upto: u64) -> u64
+    requires count { length heads.now ≡ count }
+    requires whole_blocks { count % 8 ≡ 0 }
+    requires few { count ≤ 64 }
+    requires above { above ≤ B.GREATEST }
+    requires upto { upto ≤ B.GREATEST }
+    ensures { result ≡ mask_l (map (is_between above upto) (map B.value heads.now)) }
+{
+    let mut bits = 0;
+    let mut block = count / 8;
+    while block > 0 {
+        block -= 1;
+        bits = B::bits_between(B::load(heads, block), above, upto) + 256 * bits;
+    }
+    bits
+}
+
+/// The greatest of `most` and the spans from each head above `above` and up to `upto` on, all marked at once.
 #[inline(always)]
 fn spans_of_few<B: Block>(
     count: usize,
@@ -94,12 +145,11 @@ fn spans_of_few<B: Block>(
     requires fits { FitsSpan B.GREATEST upto (lanes_by B.value heads.now times.now tails.now) }
     ensures { HasSpansBetween B.numbers B.value heads.now times.now tails.now above upto most result }
 {
-    let (heads, times, tails) = (&heads[..count], &times[..count], &tails[..count]);
-    let bits = bits_between::<B>(heads, above, upto);
-    spans_of(heads, times, tails, Marks::new(0, bits), most)
+    let bits = bits_between::<B>(count, heads, above, upto);
+    spans_of(count, heads, times, tails, Marks::new(0, bits), most)
 }
 
-/// The greatest of `most` and those spans, marked a block at a time.
+/// The same, marked a block at a time.
 #[inline(always)]
 fn spans_of_many<B: Block>(
     heads: &[B::Number],
@@ -121,7 +171,14 @@ fn spans_of_many<B: Block>(
     let mut most = most;
     for block in 0..heads.len() / 8 {
         let bits = B::bits_between(B::load(heads, block), above, upto);
-        most = spans_of(heads, times, tails, Marks::new(8 * block, bits), most);
+        most = spans_of(
+            heads.len(),
+            heads,
+            times,
+            tails,
+            Marks::new(8 * block, bits),
+            most,
+        );
     }
     most
 }
@@ -155,22 +212,20 @@ pub(crate) fn greatest_span<B: Block>(
     greatest_of(most)
 }
 
-/// A bit for each number, the first the lowest, that says whether it is above `above` and at most `upto`.
+/// A bit for each number, the first the lowest, that says whether it is above 0 and at most `upto`.
 #[inline(always)]
-pub(crate) fn bits_between<B: Block>(heads: &[B::Number], above: u64, upto: u64) -> u64
+pub(crate) fn bits_up_to<B: Block>(heads: &[B::Number], upto: u64) -> u64
     requires whole_blocks { length heads.now % 8 ≡ 0 }
     requires few { length heads.now ≤ 64 }
-    requires above { above ≤ B.GREATEST }
-    requires upto { upto ≤ B.GREATEST }
-    ensures { result ≡ mask_l (map (is_between above upto) (map B.value heads.now)) }
+    requires fits { upto ≤ B.GREATEST }
+    ensures { result ≡ mask_l (map (is_between 0 upto) (map B.value heads.now)) }
 {
-    let mut bits = 0;
-    let mut block = heads.len() / 8;
-    while block > 0 {
-        block -= 1;
-        bits = B::bits_between(B::load(heads, block), above, upto) + 256 * bits;
+    match heads.len() {
+        8 => bits_between::<B>(8, heads, 0, upto),
+        16 => bits_between::<B>(16, heads, 0, upto),
+        24 => bits_between::<B>(24, heads, 0, upto),
+        _ => bits_between::<B>(heads.len(), heads, 0, upto),
     }
-    bits
 }
 
 /// The least number.

@@ -12,8 +12,10 @@ overflow_mul-bits g c =
     c.loop-block.invariant.0 c.bits_between.result c.loop-block.bits
     (c.bits_between.ensures
     ∙ ap (λ l. mask_l (map (is_between c.args.above c.args.upto) l)) c.load.ensures) c.loop-block.invariant.1
-    in let few = length-map c.args.heads.now g.B.Block.value
-    in omega (arith, sum, mask_small (is_between c.args.above c.args.upto) row (8 * (c.loop-block.block - 1)) (omega (arith, few)))
+    in let few = c.requires.few
+    in let long = length-map c.args.heads.now g.B.Block.value
+    in let count = c.requires.count
+    in omega (arith, sum, mask_small (is_between c.args.above c.args.upto) row (8 * (c.loop-block.block - 1)) (omega (arith, long)))
 
 pub overflow_add-bits : goal.overflow_add-bits
 overflow_add-bits g c =
@@ -22,8 +24,10 @@ overflow_add-bits g c =
     c.loop-block.invariant.0 c.bits_between.result c.loop-block.bits
     (c.bits_between.ensures
     ∙ ap (λ l. mask_l (map (is_between c.args.above c.args.upto) l)) c.load.ensures) c.loop-block.invariant.1
-    in let few = length-map c.args.heads.now g.B.Block.value
-    in omega (arith, sum, mask_small (is_between c.args.above c.args.upto) row (8 * (c.loop-block.block - 1)) (omega (arith, few)))
+    in let few = c.requires.few
+    in let long = length-map c.args.heads.now g.B.Block.value
+    in let count = c.requires.count
+    in omega (arith, sum, mask_small (is_between c.args.above c.args.upto) row (8 * (c.loop-block.block - 1)) (omega (arith, long)))
 
 pub loop-block-preserved : goal.loop-block-preserved
 loop-block-preserved g c =

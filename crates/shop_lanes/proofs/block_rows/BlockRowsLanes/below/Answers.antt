@@ -9,8 +9,8 @@ pub returns : goal.returns
 returns g c =
     let row = map g.B.Block.value c.args.self.now.heads.items
     in let within = c.requires.blocks.within
-    in marks_below row c.args.from c.args.to c.args.limit c.saturating_sub.result c.bits_between.result c.new.result
+    in marks_below row c.args.from c.args.to c.args.limit c.saturating_sub.result c.bits_up_to.result c.new.result
     within c.requires.few c.saturating_sub.ensures c.new.ensures
-    (c.bits_between.ensures ∙ ap (λ l. mask_l (map (is_between 0 c.saturating_sub.result) l))
+    (c.bits_up_to.ensures ∙ ap (λ l. mask_l (map (is_between 0 c.saturating_sub.result) l))
     (values_of_blocks g.B.Block.value c.deref.result.now c.args.self.now.heads.items c.args.from c.args.to
     c.deref.ensures.value))
