@@ -105,7 +105,7 @@ fn spans_of<B: Block>(
     most
 }
 
-/// A bit for each number, the first the lowest, that says whether it is above `above` and at most `upto`.
+/// A bit for each of so many numbers, the first the lowest, that says whether it is above `above` and at most `upto`.
 #[inline(always)]
 fn bits_between<B: Block>(count: usize, heads: &[B::Number], above: u64, upto: u64) -> u64
     requires count { length heads.now ≡ count }
@@ -171,16 +171,42 @@ fn spans_of_many<B: Block>(
     let mut most = most;
     for block in 0..heads.len() / 8 {
         let bits = B::bits_between(B::load(heads, block), above, upto);
-        most = spans_of(
-            heads.len(),
-            heads,
-            times,
-            tails,
-            Marks::new(8 * block, bits),
-            most,
-        );
+        let marks = Marks::new(8 * block, bits);
+        most = spans_of(heads.len(), heads, times, tails, marks, most);
     }
     most
+}
+
+/// The same, laid out by the number of blocks where there are at most eight.
+#[inline(always)]
+fn spans_by_count<B: Block>(
+    heads: &[B::Number],
+    times: &[B::Number],
+    tails: &[B::Number],
+    above: u64,
+    upto: u64,
+    most: B,
+) -> B
+    requires whole_blocks { length heads.now % 8 ≡ 0 }
+    requires times { length times.now ≡ length heads.now }
+    requires tails { length tails.now ≡ length heads.now }
+    requires room { length heads.now + 64 ≤ 2 ^ 64 }
+    requires above { above ≤ B.GREATEST }
+    requires most { length (B.numbers most) ≡ 8 }
+    requires fits { FitsSpan B.GREATEST upto (lanes_by B.value heads.now times.now tails.now) }
+    ensures { HasSpansBetween B.numbers B.value heads.now times.now tails.now above upto most result }
+{
+    match heads.len() {
+        8 => spans_of_few(8, heads, times, tails, above, upto, most),
+        16 => spans_of_few(16, heads, times, tails, above, upto, most),
+        24 => spans_of_few(24, heads, times, tails, above, upto, most),
+        32 => spans_of_few(32, heads, times, tails, above, upto, most),
+        40 => spans_of_few(40, heads, times, tails, above, upto, most),
+        48 => spans_of_few(48, heads, times, tails, above, upto, most),
+        56 => spans_of_few(56, heads, times, tails, above, upto, most),
+        64 => spans_of_few(64, heads, times, tails, above, upto, most),
+        _ => spans_of_many(heads, times, tails, above, upto, most),
+    }
 }
 
 /// The greatest of `most` and the spans from each head above `above` and up to `upto` on.
@@ -203,13 +229,7 @@ pub(crate) fn greatest_span<B: Block>(
     ensures { result ≡ max most (spans_by B.value heads.now times.now tails.now above upto) }
 {
     let most = B::splat(most);
-    let most = match heads.len() {
-        8 => spans_of_few(8, heads, times, tails, above, upto, most),
-        16 => spans_of_few(16, heads, times, tails, above, upto, most),
-        24 => spans_of_few(24, heads, times, tails, above, upto, most),
-        _ => spans_of_many(heads, times, tails, above, upto, most),
-    };
-    greatest_of(most)
+    greatest_of(spans_by_count(heads, times, tails, above, upto, most))
 }
 
 /// A bit for each number, the first the lowest, that says whether it is above 0 and at most `upto`.

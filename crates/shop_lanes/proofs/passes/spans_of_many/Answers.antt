@@ -14,7 +14,7 @@ spans_of-most-requires-clause-fits g c =
     (as_long g.B.Block.value c.args.times.now c.args.heads.now c.requires.times)
     (as_long g.B.Block.value c.args.tails.now c.args.heads.now c.requires.tails)
     g.B.Block.GREATEST c.loop-block.block c.requires.fits (omega (arith, length-map c.args.heads.now g.B.Block.value))
-    c.bits_between-bits.result c.new.result c.new.ensures
+    c.bits_between-bits.result c.new-marks.result c.new-marks.ensures
     (c.bits_between-bits.ensures ∙ ap (λ l. mask_l (map (is_between c.args.above c.args.upto) l)) c.load.ensures)
 
 pub loop-block-preserved : goal.loop-block-preserved
@@ -27,7 +27,7 @@ loop-block-preserved g c =
           (as_long g.B.Block.value c.args.times.now c.args.heads.now c.requires.times)
           (as_long g.B.Block.value c.args.tails.now c.args.heads.now c.requires.tails)
           c.loop-block.block (omega (arith, length-map c.args.heads.now g.B.Block.value))
-          c.bits_between-bits.result c.new.result c.new.ensures
+          c.bits_between-bits.result c.new-marks.result c.new-marks.ensures
           (c.bits_between-bits.ensures ∙ ap (λ l. mask_l (map (is_between c.args.above c.args.upto) l)) c.load.ensures)
           (greatest (g.B.Block.numbers c.loop-block.most)) (greatest (g.B.Block.numbers c.spans_of-most.result)) _
           c.spans_of-most.ensures.most c.loop-block.invariant.1,
