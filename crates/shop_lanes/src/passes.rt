@@ -2,10 +2,10 @@
 ghost use Rattle.std.specs.Prelude.{◌≡◌, ℕ, ◌+◌, ◌*◌, ◌%◌, ◌^◌, ◌<◌, ◌≤◌, max, length, map};
 ghost use Rattle.std.specs.Prelude.{slice_index};
 ghost use Rattle.std.specs.Simd.Lanes.{mask_l};
-ghost use Rattle.shop_lanes.specs.Spans.{span, FitsSpan};
+ghost use Rattle.shop_lanes.specs.Spans.{FitsSpan};
 ghost use Rattle.shop_lanes.specs.Ends.{IsFirstLeast};
-ghost use Rattle.shop_lanes.specs.inner.Passes.{is_between, least_up_to, lanes_by, spans_by};
-ghost use Rattle.shop_lanes.specs.inner.Passes.{HasSpan, HasSpans, HasSpansBetween, AreSmallBy, IsFirstOf};
+ghost use Rattle.shop_lanes.specs.inner.Passes.{is_between, least_up_to, lanes_by, span_by, spans_by};
+ghost use Rattle.shop_lanes.specs.inner.Passes.{HasSpan, HasSpans, HasAllSpans, AreSmallBy, IsFirstOf};
 
 use crate::blocks::Block;
 use crate::marking::Marks;
@@ -66,7 +66,7 @@ pub(crate) fn single_span<B: Block>(
     requires least { least ≤ B.GREATEST }
     requires most { most ≤ B.GREATEST }
     requires fits { FitsSpan B.GREATEST start (lanes_by B.value heads.now times.now tails.now) }
-    ensures { result ≡ max most (span least start (lanes_by B.value heads.now times.now tails.now)) }
+    ensures { result ≡ max most (span_by B.value heads.now times.now tails.now least start) }
 {
     let most = B::splat(most);
     let most = match heads.len() {
@@ -143,7 +143,7 @@ fn spans_of_few<B: Block>(
     requires above { above ≤ B.GREATEST }
     requires most { length (B.numbers most) ≡ 8 }
     requires fits { FitsSpan B.GREATEST upto (lanes_by B.value heads.now times.now tails.now) }
-    ensures { HasSpansBetween B.numbers B.value heads.now times.now tails.now above upto most result }
+    ensures { HasAllSpans B.numbers B.value heads.now times.now tails.now above upto most result }
 {
     let bits = bits_between::<B>(count, heads, above, upto);
     spans_of(count, heads, times, tails, Marks::new(0, bits), most)
@@ -166,7 +166,7 @@ fn spans_of_many<B: Block>(
     requires above { above ≤ B.GREATEST }
     requires most { length (B.numbers most) ≡ 8 }
     requires fits { FitsSpan B.GREATEST upto (lanes_by B.value heads.now times.now tails.now) }
-    ensures { HasSpansBetween B.numbers B.value heads.now times.now tails.now above upto most result }
+    ensures { HasAllSpans B.numbers B.value heads.now times.now tails.now above upto most result }
 {
     let mut most = most;
     for block in 0..heads.len() / 8 {
@@ -194,7 +194,7 @@ fn spans_by_count<B: Block>(
     requires above { above ≤ B.GREATEST }
     requires most { length (B.numbers most) ≡ 8 }
     requires fits { FitsSpan B.GREATEST upto (lanes_by B.value heads.now times.now tails.now) }
-    ensures { HasSpansBetween B.numbers B.value heads.now times.now tails.now above upto most result }
+    ensures { HasAllSpans B.numbers B.value heads.now times.now tails.now above upto most result }
 {
     match heads.len() {
         8 => spans_of_few(8, heads, times, tails, above, upto, most),
