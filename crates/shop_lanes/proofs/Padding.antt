@@ -12,7 +12,7 @@ use Rattle.shop_lanes.specs.Marks.{marked, waits_below}
 use Rattle.shop_lanes.specs.inner.SetBits.{set_bits}
 use Rattle.shop_lanes.specs.Ends.{IsFirstLeast}
 use Rattle.shop_lanes.specs.Spans.{span, spans_from, spans_between}
-use Rattle.shop_lanes.specs.inner.Passes.{greatest, is_between, IsPadded}
+use Rattle.shop_lanes.specs.inner.Passes.{is_between, IsPadded}
 use Rattle.shop_lanes.proofs.LaneLists.{length-blocks}
 use Rattle.shop_lanes.proofs.MarkLemmas.{set_bits-mask}
 
@@ -121,9 +121,6 @@ marks_below heads from to limit upto bits marks room few below marks_are bits_ar
     ∙ ap (λ n. marked (is_between 0 n) (8 * from) part) below
     ∙ marked_alike (is_between 0 (limit - 1)) (waits_below limit) (below_is_between limit) (8 * from) part
 
-pub greatest_splat : (m : ℕ) → greatest (replicate 8 m) ≡ m
-greatest_splat m = omega arith
-
 -- a head is above the lesser of both and at most `upto` exactly where it is above `above` and at most `upto`
 same_heads : (above upto x : ℕ) → (ltb (min above upto) x && leb x upto) ≡ (ltb above x && leb x upto)
 same_heads above upto x = grind (arith, nat_tests)
@@ -137,15 +134,7 @@ spans_above_least above upto all (x ∷ xs) =
     ∙ ap (max (cond (ltb above x.head && leb x.head upto) (span x.head x.head all) 0))
     (spans_above_least above upto all xs)
 
--- what the passes return, by what they come to
-pub span_told : (least start most r : ℕ) (m v : List ℕ) (xs ys : List Lane) → m ≡ replicate 8 most → r ≡ greatest v
-    → greatest v ≡ max (greatest m) (span least start xs) → xs ≡ ys
-    → r ≡ max most (span least start ys)
-span_told least start most r m v xs ys a b c e =
-    b ∙ c
-    ∙ ap (λ n. max n (span least start xs)) (ap greatest a ∙ greatest_splat most)
-    ∙ ap (λ l. max most (span least start l)) e
-
+-- what a pass returns, by what it comes to
 pub spans_told : (above upto most lower r : ℕ) (xs ys : List Lane)
     → r ≡ max most (spans_between lower upto xs) → lower ≡ min above upto → xs ≡ ys
     → r ≡ max most (spans_between above upto ys)

@@ -5,8 +5,7 @@ ghost use Rattle.shop_lanes.specs.inner.Passes.{seen, IsPadded};
 
 use crate::blocks::Block;
 use crate::marking::Marks;
-use crate::passes::{bits_up_to, first_least, greatest_span, span_of};
-use crate::served_blocks::greatest_of;
+use crate::passes::{bits_up_to, first_least, greatest_span, single_span};
 use crate::widths::Lanes;
 use std::alloc::{AllocError, Global};
 
@@ -119,7 +118,7 @@ impl<B: Block> Lanes for BlockRows<B> {
         let heads = &self.heads[first..end];
         let times = &self.times[first..end];
         let tails = &self.tails[first..end];
-        greatest_of(span_of(heads, times, tails, least, start, B::splat(most)))
+        single_span::<B>(heads, times, tails, least, start, most)
     }
 
     #[inline(always)]

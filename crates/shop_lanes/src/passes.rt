@@ -4,16 +4,18 @@ ghost use Rattle.std.specs.Prelude.{slice_index};
 ghost use Rattle.std.specs.Simd.Lanes.{mask_l};
 ghost use Rattle.shop_lanes.specs.Spans.{FitsSpan};
 ghost use Rattle.shop_lanes.specs.Ends.{IsFirstLeast};
-ghost use Rattle.shop_lanes.specs.inner.Passes.{is_between, least_up_to, lanes_by, spans_by};
-ghost use Rattle.shop_lanes.specs.inner.Passes.{HasSpan, HasSpans, AreSmallBy, IsFirstOf};
+ghost use Rattle.shop_lanes.specs.inner.Passes.{is_between, least_up_to, lanes_by, span_by, spans_by};
+ghost use Rattle.shop_lanes.specs.inner.Passes.{HasSpan, HasSpans, HasAllSpans, AreSmallBy, IsFirstOf};
 
 use crate::blocks::Block;
 use crate::marking::Marks;
 use crate::served_blocks::{greatest_of, least_of, serve};
 
-/// The pass over all blocks: in the lanes the greatest of `most` and the ends, tails included.
+/// The pass over all blocks: in the lanes the greatest of `most` and the ends, tails included. Where a call says the
+/// count by a number, the blocks are served without a loop.
 #[inline(always)]
-pub(crate) fn span_of<B: Block>(
+fn span_of<B: Block>(
+    count: usize,
     heads: &[B::Number],
     times: &[B::Number],
     tails: &[B::Number],
@@ -21,7 +23,8 @@ pub(crate) fn span_of<B: Block>(
     start: u64,
     most: B,
 ) -> B
-    requires whole_blocks { length heads.now % 8 ≡ 0 }
+    requires count { length heads.now ≡ count }
+    requires whole_blocks { count % 8 ≡ 0 }
     requires times { length times.now ≡ length heads.now }
     requires tails { length tails.now ≡ length heads.now }
     requires least { least ≤ B.GREATEST }
@@ -32,7 +35,7 @@ pub(crate) fn span_of<B: Block>(
     let least = B::splat(least);
     let mut clock = B::splat(start);
     let mut most = most;
-    for block in 0..heads.len() / 8 {
+    for block in 0..count / 8 {
         let (after, later) = serve(
             B::load(heads, block),
             B::load(times, block),
@@ -47,16 +50,46 @@ pub(crate) fn span_of<B: Block>(
     most
 }
 
+/// The greatest of `most` and the ends, tails included.
+#[inline(always)]
+pub(crate) fn single_span<B: Block>(
+    heads: &[B::Number],
+    times: &[B::Number],
+    tails: &[B::Number],
+    least: u64,
+    start: u64,
+    most: u64,
+) -> u64
+    requires whole_blocks { length heads.now % 8 ≡ 0 }
+    requires times { length times.now ≡ length heads.now }
+    requires tails { length tails.now ≡ length heads.now }
+    requires least { least ≤ B.GREATEST }
+    requires most { most ≤ B.GREATEST }
+    requires fits { FitsSpan B.GREATEST start (lanes_by B.value heads.now times.now tails.now) }
+    ensures { result ≡ max most (span_by B.value heads.now times.now tails.now least start) }
+{
+    let most = B::splat(most);
+    let most = match heads.len() {
+        8 => span_of(8, heads, times, tails, least, start, most),
+        16 => span_of(16, heads, times, tails, least, start, most),
+        24 => span_of(24, heads, times, tails, least, start, most),
+        _ => span_of(heads.len(), heads, times, tails, least, start, most),
+    };
+    greatest_of(most)
+}
+
 /// The greatest of `most` and the spans from the heads at these positions on.
 #[inline(always)]
 fn spans_of<B: Block>(
+    count: usize,
     heads: &[B::Number],
     times: &[B::Number],
     tails: &[B::Number],
     marks: Marks,
     most: B,
 ) -> B
-    requires whole_blocks { length heads.now % 8 ≡ 0 }
+    requires count { length heads.now ≡ count }
+    requires whole_blocks { count % 8 ≡ 0 }
     requires times { length times.now ≡ length heads.now }
     requires tails { length tails.now ≡ length heads.now }
     requires most { length (B.numbers most) ≡ 8 }
@@ -67,9 +100,113 @@ fn spans_of<B: Block>(
     let mut most = most;
     while let Some(position) = marks.pop_first() {
         let head = B::widened(heads[position]);
-        most = span_of(heads, times, tails, head, head, most);
+        most = span_of(count, heads, times, tails, head, head, most);
     }
     most
+}
+
+/// A bit for each of so many numbers, the first the lowest, that says whether it is above `above` and at most `upto`.
+#[inline(always)]
+fn bits_between<B: Block>(count: usize, heads: &[B::Number], above: u64, upto: u64) -> u64
+    requires count { length heads.now ≡ count }
+    requires whole_blocks { count % 8 ≡ 0 }
+    requires few { count ≤ 64 }
+    requires above { above ≤ B.GREATEST }
+    requires upto { upto ≤ B.GREATEST }
+    ensures { result ≡ mask_l (map (is_between above upto) (map B.value heads.now)) }
+{
+    let mut bits = 0;
+    let mut block = count / 8;
+    while block > 0 {
+        block -= 1;
+        bits = B::bits_between(B::load(heads, block), above, upto) + 256 * bits;
+    }
+    bits
+}
+
+/// The greatest of `most` and the spans from each head above `above` and up to `upto` on, all marked at once.
+#[inline(always)]
+fn spans_of_few<B: Block>(
+    count: usize,
+    heads: &[B::Number],
+    times: &[B::Number],
+    tails: &[B::Number],
+    above: u64,
+    upto: u64,
+    most: B,
+) -> B
+    requires count { length heads.now ≡ count }
+    requires whole_blocks { count % 8 ≡ 0 }
+    requires few { count ≤ 64 }
+    requires times { length times.now ≡ length heads.now }
+    requires tails { length tails.now ≡ length heads.now }
+    requires above { above ≤ B.GREATEST }
+    requires most { length (B.numbers most) ≡ 8 }
+    requires fits { FitsSpan B.GREATEST upto (lanes_by B.value heads.now times.now tails.now) }
+    ensures { HasAllSpans B.numbers B.value heads.now times.now tails.now above upto most result }
+{
+    let bits = bits_between::<B>(count, heads, above, upto);
+    spans_of(count, heads, times, tails, Marks::new(0, bits), most)
+}
+
+/// The same, marked a block at a time.
+#[inline(always)]
+fn spans_of_many<B: Block>(
+    heads: &[B::Number],
+    times: &[B::Number],
+    tails: &[B::Number],
+    above: u64,
+    upto: u64,
+    most: B,
+) -> B
+    requires whole_blocks { length heads.now % 8 ≡ 0 }
+    requires times { length times.now ≡ length heads.now }
+    requires tails { length tails.now ≡ length heads.now }
+    requires room { length heads.now + 64 ≤ 2 ^ 64 }
+    requires above { above ≤ B.GREATEST }
+    requires most { length (B.numbers most) ≡ 8 }
+    requires fits { FitsSpan B.GREATEST upto (lanes_by B.value heads.now times.now tails.now) }
+    ensures { HasAllSpans B.numbers B.value heads.now times.now tails.now above upto most result }
+{
+    let mut most = most;
+    for block in 0..heads.len() / 8 {
+        let bits = B::bits_between(B::load(heads, block), above, upto);
+        let marks = Marks::new(8 * block, bits);
+        most = spans_of(heads.len(), heads, times, tails, marks, most);
+    }
+    most
+}
+
+/// The same, laid out by the number of blocks where there are at most eight.
+#[inline(always)]
+fn spans_by_count<B: Block>(
+    heads: &[B::Number],
+    times: &[B::Number],
+    tails: &[B::Number],
+    above: u64,
+    upto: u64,
+    most: B,
+) -> B
+    requires whole_blocks { length heads.now % 8 ≡ 0 }
+    requires times { length times.now ≡ length heads.now }
+    requires tails { length tails.now ≡ length heads.now }
+    requires room { length heads.now + 64 ≤ 2 ^ 64 }
+    requires above { above ≤ B.GREATEST }
+    requires most { length (B.numbers most) ≡ 8 }
+    requires fits { FitsSpan B.GREATEST upto (lanes_by B.value heads.now times.now tails.now) }
+    ensures { HasAllSpans B.numbers B.value heads.now times.now tails.now above upto most result }
+{
+    match heads.len() {
+        8 => spans_of_few(8, heads, times, tails, above, upto, most),
+        16 => spans_of_few(16, heads, times, tails, above, upto, most),
+        24 => spans_of_few(24, heads, times, tails, above, upto, most),
+        32 => spans_of_few(32, heads, times, tails, above, upto, most),
+        40 => spans_of_few(40, heads, times, tails, above, upto, most),
+        48 => spans_of_few(48, heads, times, tails, above, upto, most),
+        56 => spans_of_few(56, heads, times, tails, above, upto, most),
+        64 => spans_of_few(64, heads, times, tails, above, upto, most),
+        _ => spans_of_many(heads, times, tails, above, upto, most),
+    }
 }
 
 /// The greatest of `most` and the spans from each head above `above` and up to `upto` on.
@@ -91,12 +228,8 @@ pub(crate) fn greatest_span<B: Block>(
     requires fits { FitsSpan B.GREATEST upto (lanes_by B.value heads.now times.now tails.now) }
     ensures { result ≡ max most (spans_by B.value heads.now times.now tails.now above upto) }
 {
-    let mut most = B::splat(most);
-    for block in 0..heads.len() / 8 {
-        let bits = B::bits_between(B::load(heads, block), above, upto);
-        most = spans_of(heads, times, tails, Marks::new(8 * block, bits), most);
-    }
-    greatest_of(most)
+    let most = B::splat(most);
+    greatest_of(spans_by_count(heads, times, tails, above, upto, most))
 }
 
 /// A bit for each number, the first the lowest, that says whether it is above 0 and at most `upto`.
@@ -107,13 +240,12 @@ pub(crate) fn bits_up_to<B: Block>(heads: &[B::Number], upto: u64) -> u64
     requires fits { upto ≤ B.GREATEST }
     ensures { result ≡ mask_l (map (is_between 0 upto) (map B.value heads.now)) }
 {
-    let mut bits = 0;
-    let mut block = heads.len() / 8;
-    while block > 0 {
-        block -= 1;
-        bits = B::bits_between(B::load(heads, block), 0, upto) + 256 * bits;
+    match heads.len() {
+        8 => bits_between::<B>(8, heads, 0, upto),
+        16 => bits_between::<B>(16, heads, 0, upto),
+        24 => bits_between::<B>(24, heads, 0, upto),
+        _ => bits_between::<B>(heads.len(), heads, 0, upto),
     }
-    bits
 }
 
 /// The least number.

@@ -69,6 +69,9 @@ abbrev pub AreSmallBy : {A : Type 0} → (A → ℕ) → List A → List A → L
 AreSmallBy value heads times tails marks limit =
     AreSmallAt limit (map value heads) (lanes_by value heads times tails) marks
 
+abbrev pub span_by : {A : Type 0} → (A → ℕ) → List A → List A → List A → ℕ → ℕ → ℕ
+span_by value heads times tails least start = span least start (lanes_by value heads times tails)
+
 abbrev pub spans_by : {A : Type 0} → (A → ℕ) → List A → List A → List A → ℕ → ℕ → ℕ
 spans_by value heads times tails above upto =
     spans_between above upto (lanes_by value heads times tails)
@@ -91,7 +94,7 @@ pub record AreRaised {B : Type 0} (numbers : B → List ℕ) (before : B) (end :
 abbrev pub HasSpan : {A B : Type 0} → (B → List ℕ) → (A → ℕ) → List A → List A → List A → ℕ → ℕ
     → B → B → Type 0
 HasSpan numbers value heads times tails least start before after =
-    AreRaised numbers before (span least start (lanes_by value heads times tails)) after
+    AreRaised numbers before (span_by value heads times tails least start) after
 
 -- raised by their spans from the heads at these positions on
 abbrev pub HasSpans : {A B : Type 0} → (B → List ℕ) → (A → ℕ) → List A → List A → List A → List ℕ
@@ -99,6 +102,12 @@ abbrev pub HasSpans : {A B : Type 0} → (B → List ℕ) → (A → ℕ) → Li
 HasSpans numbers value heads times tails marks before after =
     let spans = spans_at (map value heads) (lanes_by value heads times tails) marks
     in AreRaised numbers before spans after
+
+-- raised by their spans from each head above `above` and up to `upto` on
+abbrev pub HasAllSpans : {A B : Type 0} → (B → List ℕ) → (A → ℕ) → List A → List A → List A
+    → ℕ → ℕ → B → B → Type 0
+HasAllSpans numbers value heads times tails above upto before after =
+    AreRaised numbers before (spans_by value heads times tails above upto) after
 
 -- the clock after some lanes are served from `least` and `clock` on, and the span of that
 abbrev pub next_clock : {B : Type 0} → (B → List ℕ) → List Lane → B → B → ℕ

@@ -1,4 +1,4 @@
-use Rattle.std.proofs.Common.{map, arith}
+use Rattle.std.proofs.Common.{◌∙◌, ◌%◌, ap, map, arith}
 use Rattle.std.proofs.lemmas.List.{length-map}
 use Rattle.shop_lanes.specs.inner.Passes.{greatest}
 use Rattle.shop_lanes.proofs.BlockTurns.{block_fits, block_passed, pass_ends}
@@ -54,6 +54,7 @@ returns g c =
     in let row = map g.B.Block.value
     in let long = length-map c.args.heads.now g.B.Block.value
     in let whole = c.requires.whole_blocks
+    in let count = c.requires.count
     in let test = c.loop-block-test.false
     in record {
       eight = c.loop-block.invariant.0;
@@ -62,5 +63,5 @@ returns g c =
           (as_long g.B.Block.value c.args.times.now c.args.heads.now c.requires.times)
           (as_long g.B.Block.value c.args.tails.now c.args.heads.now c.requires.tails)
           (numbers c.loop-block.clock) (greatest (numbers c.loop-block.most)) c.loop-block.block
-          (rw long whole) (omega (arith, long)) c.loop-block.invariant.1;
+          (ap (λ n. n % 8) (long ∙ count) ∙ whole) (omega (arith, long)) c.loop-block.invariant.1;
     }

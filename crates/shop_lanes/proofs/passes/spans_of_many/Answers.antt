@@ -4,7 +4,7 @@ use lib.Lanes.{mask_l}
 use Rattle.shop_lanes.specs.inner.Passes.{greatest, is_between}
 use Rattle.shop_lanes.proofs.MarkedSpans.{marks_small, marks_spans, marks_end}
 use Rattle.shop_lanes.proofs.RowValues.{as_long}
-use Rattle.shop_lanes.proofs.passes.greatest_span.Goals as goal
+use Rattle.shop_lanes.proofs.passes.spans_of_many.Goals as goal
 
 pub spans_of-most-requires-clause-fits : goal.spans_of-most-requires-clause-fits
 spans_of-most-requires-clause-fits g c =
@@ -14,7 +14,7 @@ spans_of-most-requires-clause-fits g c =
     (as_long g.B.Block.value c.args.times.now c.args.heads.now c.requires.times)
     (as_long g.B.Block.value c.args.tails.now c.args.heads.now c.requires.tails)
     g.B.Block.GREATEST c.loop-block.block c.requires.fits (omega (arith, length-map c.args.heads.now g.B.Block.value))
-    c.bits_between-bits.result c.new.result c.new.ensures
+    c.bits_between-bits.result c.new-marks.result c.new-marks.ensures
     (c.bits_between-bits.ensures ∙ ap (λ l. mask_l (map (is_between c.args.above c.args.upto) l)) c.load.ensures)
 
 pub loop-block-preserved : goal.loop-block-preserved
@@ -27,7 +27,7 @@ loop-block-preserved g c =
           (as_long g.B.Block.value c.args.times.now c.args.heads.now c.requires.times)
           (as_long g.B.Block.value c.args.tails.now c.args.heads.now c.requires.tails)
           c.loop-block.block (omega (arith, length-map c.args.heads.now g.B.Block.value))
-          c.bits_between-bits.result c.new.result c.new.ensures
+          c.bits_between-bits.result c.new-marks.result c.new-marks.ensures
           (c.bits_between-bits.ensures ∙ ap (λ l. mask_l (map (is_between c.args.above c.args.upto) l)) c.load.ensures)
           (greatest (g.B.Block.numbers c.loop-block.most)) (greatest (g.B.Block.numbers c.spans_of-most.result)) _
           c.spans_of-most.ensures.most c.loop-block.invariant.1,
@@ -39,9 +39,11 @@ returns g c =
     in let long = length-map c.args.heads.now g.B.Block.value
     in let whole = c.requires.whole_blocks
     in let test = c.loop-block-test.false
-    in c.greatest_of.ensures
-    ∙ marks_end c.args.above c.args.upto (row c.args.heads.now) (row c.args.times.now) (row c.args.tails.now)
-    (as_long g.B.Block.value c.args.times.now c.args.heads.now c.requires.times)
-    (as_long g.B.Block.value c.args.tails.now c.args.heads.now c.requires.tails)
-    c.loop-block.block (rw long whole) (omega (arith, long))
-    (greatest (g.B.Block.numbers c.loop-block.most)) _ c.loop-block.invariant.1
+    in record {
+      eight = c.loop-block.invariant.0;
+      most = marks_end c.args.above c.args.upto (row c.args.heads.now) (row c.args.times.now) (row c.args.tails.now)
+          (as_long g.B.Block.value c.args.times.now c.args.heads.now c.requires.times)
+          (as_long g.B.Block.value c.args.tails.now c.args.heads.now c.requires.tails)
+          c.loop-block.block (rw long whole) (omega (arith, long))
+          (greatest (g.B.Block.numbers c.loop-block.most)) _ c.loop-block.invariant.1;
+    }
