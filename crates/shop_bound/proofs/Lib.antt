@@ -67,6 +67,7 @@ pub mod MachineLanes
 pub mod ChildExits
 pub mod LaneBoundTurns
 pub mod LaneFits
+pub mod LaneEstimates
 pub mod ChildRaises
 pub mod ChildTurns
 pub mod ChildReads
