@@ -99,7 +99,7 @@ module _ (greatest : ℕ) (shop : Shop) (limits : IsWithinLimits shop) (l : Layo
     pub kept_none : (rows : Rows) → HasFilled shop l p rest rows → (notes : NotesState)
         → notes ≡ record { list = []; whole = true } → (marks : List Mark) → marks ≡ [] → (room : ℕ)
         → operation_count shop ≤ room → (machines : List ℕ) (raises top : ℕ)
-        → HasBounds greatest shop l machines raises top
+        → HasBounds greatest shop l machines raises top → (us : List ℕ) → us ≡ []
         → IsKeptInLanes greatest shop []
         (record {
           layout = l;
@@ -109,9 +109,10 @@ module _ (greatest : ℕ) (shop : Shop) (limits : IsWithinLimits shop) (l : Layo
           room = room;
           machines = machines;
           raises = raises;
+          estimates = us;
           top = top;
         })
-    kept_none rows filled notes begun marks none_marked room enough machines raises top bounds =
+    kept_none rows filled notes begun marks none_marked room enough machines raises top bounds us none_taken =
         let none : IsKeptInLanes greatest shop [] (record {
           layout = l;
           rows = rows;
@@ -120,6 +121,7 @@ module _ (greatest : ℕ) (shop : Shop) (limits : IsWithinLimits shop) (l : Layo
           room = room;
           machines = machines;
           raises = raises;
+          estimates = us;
           top = top;
         }) = record {
           kept = record {
@@ -137,6 +139,7 @@ module _ (greatest : ℕ) (shop : Shop) (limits : IsWithinLimits shop) (l : Layo
           as_many = refl;
           marks_room = enough;
           bounds = bounds;
+          estimates = λ m known. absurd (let long = ap length none_taken in omega arith);
         }
         in subst (λ (n : NotesState). IsKeptInLanes greatest shop []
         (record {
@@ -147,6 +150,7 @@ module _ (greatest : ℕ) (shop : Shop) (limits : IsWithinLimits shop) (l : Layo
           room = room;
           machines = machines;
           raises = raises;
+          estimates = us;
           top = top;
         })) (sym begun)
         (subst (λ (ms : List Mark). IsKeptInLanes greatest shop [] (record {
@@ -157,5 +161,6 @@ module _ (greatest : ℕ) (shop : Shop) (limits : IsWithinLimits shop) (l : Layo
           room = room;
           machines = machines;
           raises = raises;
+          estimates = us;
           top = top;
         })) (sym none_marked) none)

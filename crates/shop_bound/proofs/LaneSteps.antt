@@ -10,6 +10,7 @@ use Rattle.shop_model.proofs.WordLemmas.{IsWord-init}
 use Rattle.shop_bound.specs.Placements.{PlacementState, IsPlacement}
 use Rattle.shop_bound.specs.declared.notes.Mark.{Mark}
 use Rattle.shop_bound.specs.declared.notes.Note.{Note}
+use Rattle.shop_bound.specs.inner.Estimates.{AreEstimates}
 use Rattle.shop_bound.specs.inner.Fills.{CanFill, GoesBack, IsRested}
 use Rattle.shop_bound.specs.inner.LaneHeads.{AreHeadsAt, AreNotesFit, IsTrail, NotesState, restored}
 use Rattle.shop_bound.specs.inner.LaneStates.{LaneState, IsKeptInLanes, Advances, AreHeadsInLanes}
@@ -46,6 +47,7 @@ module _ (greatest : ℕ) (shop : Shop) (w : List ℕ) (j : ℕ) (s : LaneState)
           room = room;
           machines = s.machines;
           raises = s.raises;
+          estimates = [];
           top = s.top;
         })
     kept_more step at new after mark advances marks pushed room more =
@@ -65,6 +67,7 @@ module _ (greatest : ℕ) (shop : Shop) (w : List ℕ) (j : ℕ) (s : LaneState)
               in let d = kept.as_many in omega arith);
           marks_room = (let a = kept.marks_room in omega arith);
           bounds = kept.bounds;
+          estimates = λ m none. absurd (omega arith);
         }
 
   module _ (kept : IsKeptInLanes greatest shop (w ++ j ∷ []) s) (marks : List Mark) (mark : Mark)
@@ -105,6 +108,7 @@ module _ (greatest : ℕ) (shop : Shop) (w : List ℕ) (j : ℕ) (s : LaneState)
             room = room;
             machines = s.machines;
             raises = s.raises;
+            estimates = [];
             top = s.top;
           })
       kept_less new back after truncated room same =
@@ -134,14 +138,15 @@ module _ (greatest : ℕ) (shop : Shop) (w : List ℕ) (j : ℕ) (s : LaneState)
                 in let d = kept.as_many in omega arith);
             marks_room = (let a = kept.marks_room in omega arith);
             bounds = kept.bounds;
+            estimates = λ m none. absurd (omega arith);
           }
 
 -- heads that were raised and put back
 pub kept_again : (greatest : ℕ) (shop : Shop) (w : List ℕ) (s : LaneState) → IsKeptInLanes greatest shop w s
     → (new : Rows) → AreHeadsInLanes greatest shop w s.layout new → (after : NotesState) → after.list ≡ s.notes.list
-    → (raises : ℕ) → raises ≡ s.raises
-    → IsKeptInLanes greatest shop w (record s { rows = new; notes = after; raises = raises })
-kept_again greatest shop w s kept new heads after list raises many =
+    → (raises : ℕ) → raises ≡ s.raises → (us : List ℕ) → AreEstimates s.top s.layout new us
+    → IsKeptInLanes greatest shop w (record s { rows = new; notes = after; raises = raises; estimates = us })
+kept_again greatest shop w s kept new heads after list raises many us estimates =
     let same = same_heads shop kept.kept.limits s.layout kept.kept.laid (placing shop w) s.rows.heads new.heads
     kept.kept.heads heads.heads
     in record {
@@ -158,4 +163,5 @@ kept_again greatest shop w s kept new heads after list raises many =
         top_is = kept.bounds.top_is;
         holds = kept.bounds.holds;
       };
+      estimates = estimates;
     }

@@ -69,6 +69,7 @@ pub mod LaneBoundTurns
 pub mod LaneFits
 pub mod LaneEstimates
 pub mod ChildRaises
+pub mod EstimatedRaises
 pub mod ChildTurns
 pub mod ChildReads
 pub mod LaneStandings

@@ -9,6 +9,7 @@ ghost use Rattle.shop_bound.specs.inner.LaneStates.{CanGoOnInLanes, KeepsLanes, 
 
 use crate::child_bounds::child_bound;
 use crate::dispatching::advance;
+use crate::estimates::Estimates;
 use crate::fills::{fill, go_back};
 use crate::head_raises::{NO_RAISE, Raise};
 use crate::lane_bounds::machines_of;
@@ -20,6 +21,9 @@ use shop_lanes::Lanes;
 use shop_model::Instance;
 use std::alloc::{AllocError, Global};
 use std::marker::Model;
+
+/// Estimates are worth their while where machines have more blocks on average.
+const LONG_BLOCKS: usize = 8;
 
 /// The heads of what a word leaves, one number a position, with notes that lead back through the word. Notes take more
 /// memory as they need it.
@@ -33,6 +37,8 @@ pub(crate) struct LaneHeads<L: Lanes> {
     pub(crate) machines: Vec<u32>,
     /// raises[machine], for the bound at hand
     pub(crate) raises: Vec<Raise>,
+    /// for the heads at hand
+    estimates: Estimates,
     /// one more than the latest end of any operation
     pub(crate) top: u64,
 }
@@ -51,6 +57,7 @@ impl<L: Lanes> Model for LaneHeads<L> {
       room = vec_capacity h.marks;
       machines = h.machines.items;
       raises = length h.raises.items;
+      estimates = h.estimates;
       top = h.top;
     } };
 }
@@ -76,9 +83,11 @@ impl<L: Lanes> LaneHeads<L> {
         let room = instance.operations();
         let notes = Notes::with_room(alloc, 4 * room)?;
         let marks = Vec::with_capacity(alloc, room)?;
+        let are_long = layout.block(instance.machines()) > LONG_BLOCKS * instance.machines();
         Ok(LaneHeads {
             machines: machines_of(alloc, &layout, instance.machines())?,
             raises: vec![in alloc; NO_RAISE; instance.machines()]?,
+            estimates: Estimates::new(alloc, instance.machines(), are_long)?,
             top: latest_end(instance) + 1,
             layout,
             lanes,
@@ -101,6 +110,7 @@ impl<L: Lanes> LaneHeads<L> {
             step,
         );
         self.marks.push(mark).unwrap();
+        self.estimates.forget();
     }
 
     /// The last operation is taken back; the placement is that of the word without it.
@@ -118,6 +128,7 @@ impl<L: Lanes> LaneHeads<L> {
             mark.whole,
         );
         self.notes.truncate(mark.first);
+        self.estimates.forget();
     }
 
     /// The bound after the next operation of a job, or as much of it as reaches the limit, with the bound before it at
@@ -138,6 +149,7 @@ impl<L: Lanes> LaneHeads<L> {
             &mut self.lanes,
             &mut self.notes,
             self.raises.as_mut_slice(),
+            &mut self.estimates,
             &self.layout,
             self.machines.as_slice(),
             instance,

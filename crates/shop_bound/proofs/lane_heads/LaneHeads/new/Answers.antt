@@ -55,4 +55,4 @@ returns g c =
           in omega arith);
       top_is = (let a = c.latest_end.ensures.latest in omega arith);
       holds = c.requires.fits;
-    })
+    }) _ c.in_ok-new.ensures
