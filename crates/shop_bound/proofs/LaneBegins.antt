@@ -11,6 +11,7 @@ use Rattle.shop_model.specs.Limits.{IsWithinLimits}
 use Rattle.shop_model.specs.Shop.{Shop, operation_count}
 use Rattle.shop_model.specs.Word.{IsWord, none_placed}
 use Rattle.shop_bound.specs.inner.HeadLimits.{FitsLanes}
+use Rattle.shop_bound.proofs.LaneEstimates.{no_estimates}
 use Rattle.shop_bound.proofs.LatestEnds.{latest_end_is}
 use Rattle.shop_bound.proofs.Lists.{get_or-le-greatest_of}
 use Rattle.shop_bound.specs.Placements.{PlacementState, IsPlacement}
@@ -139,7 +140,7 @@ module _ (greatest : ℕ) (shop : Shop) (limits : IsWithinLimits shop) (l : Layo
           as_many = refl;
           marks_room = enough;
           bounds = bounds;
-          estimates = λ m known. absurd (let long = ap length none_taken in omega arith);
+          estimates = no_estimates top l rows us none_taken;
         }
         in subst (λ (n : NotesState). IsKeptInLanes greatest shop []
         (record {

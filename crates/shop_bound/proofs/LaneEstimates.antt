@@ -2,10 +2,11 @@
 use Rattle.std.proofs.Common.{◌≡◌, ℕ, zero, suc, ◌+◌, ◌-◌, ◌≤◌, ◌<◌, max, ◌⊎◌, inl, inr, List, [], ◌∷◌, length}
 use Rattle.std.proofs.Common.{get_or, refl, ap, arith}
 use Rattle.std.proofs.lemmas.Bool.{cases_lt}
-use Rattle.shop_lanes.specs.Rows.{Lane, lanes}
+use Rattle.shop_lanes.specs.Rows.{Rows, Lane, lanes}
 use Rattle.shop_lanes.specs.Spans.{span, spans_from, spans_between}
 use Rattle.shop_lanes.proofs.SpanTurns.{span_served, span_left, spans_counted, spans_low, spans_high}
-use Rattle.shop_bound.specs.inner.Estimates.{IsEstimate}
+use Rattle.shop_bound.specs.inner.Estimates.{AreEstimates, IsEstimate}
+use Rattle.shop_bound.specs.inner.Layouts.{LayoutState}
 
 -- lanes that are related one by one
 pub data AreBeside (R : Lane → Lane → Type 0) : List Lane → List Lane → Type 0 where
@@ -157,3 +158,6 @@ lanes_risen s from to (h ∷ hs) (h' ∷ hs') (t ∷ ts) (q ∷ qs) a b c each =
     (record { time = refl; tail = refl; head = each zero (omega arith) })
     (lanes_risen s from to hs hs' ts qs (omega arith) (omega arith) (omega arith)
     (λ i here. each (suc i) (omega arith)))
+
+pub no_estimates : (top : ℕ) (l : LayoutState) (rows : Rows) (us : List ℕ) → us ≡ [] → AreEstimates top l rows us
+no_estimates top l rows us none m known = let long = ap length none in absurd (omega arith)

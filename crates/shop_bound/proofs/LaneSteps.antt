@@ -14,6 +14,7 @@ use Rattle.shop_bound.specs.inner.Estimates.{AreEstimates}
 use Rattle.shop_bound.specs.inner.Fills.{CanFill, GoesBack, IsRested}
 use Rattle.shop_bound.specs.inner.LaneHeads.{AreHeadsAt, AreNotesFit, IsTrail, NotesState, restored}
 use Rattle.shop_bound.specs.inner.LaneStates.{LaneState, IsKeptInLanes, Advances, AreHeadsInLanes}
+use Rattle.shop_bound.proofs.LaneEstimates.{no_estimates}
 use Rattle.shop_bound.proofs.LaneTrails.{same_heads, trail_more, LeadsToLast, trail_less}
 use Rattle.shop_bound.proofs.Lists.{all_append}
 use Rattle.shop_bound.proofs.WordLengths.{word_within}
@@ -37,7 +38,7 @@ module _ (greatest : ℕ) (shop : Shop) (w : List ℕ) (j : ℕ) (s : LaneState)
 
     pub kept_more : (step : ℕ) → step ≡ (placing shop w).steps j → (new : Rows) (after : NotesState) (mark : Mark)
         → Advances greatest shop s.layout j step s.rows new s.notes after mark → (marks : List Mark)
-        → marks ≡ s.marks ++ mark ∷ [] → (room : ℕ) → s.room ≤ room
+        → marks ≡ s.marks ++ mark ∷ [] → (room : ℕ) → s.room ≤ room → (us : List ℕ) → us ≡ []
         → IsKeptInLanes greatest shop (w ++ j ∷ [])
         (record {
           layout = s.layout;
@@ -47,10 +48,10 @@ module _ (greatest : ℕ) (shop : Shop) (w : List ℕ) (j : ℕ) (s : LaneState)
           room = room;
           machines = s.machines;
           raises = s.raises;
-          estimates = [];
+          estimates = us;
           top = s.top;
         })
-    kept_more step at new after mark advances marks pushed room more =
+    kept_more step at new after mark advances marks pushed room more us none =
         let back = advances.noted
         in record {
           kept = advances.heads w kept.kept fits at;
@@ -67,7 +68,7 @@ module _ (greatest : ℕ) (shop : Shop) (w : List ℕ) (j : ℕ) (s : LaneState)
               in let d = kept.as_many in omega arith);
           marks_room = (let a = kept.marks_room in omega arith);
           bounds = kept.bounds;
-          estimates = λ m none. absurd (omega arith);
+          estimates = no_estimates s.top s.layout new us none;
         }
 
   module _ (kept : IsKeptInLanes greatest shop (w ++ j ∷ []) s) (marks : List Mark) (mark : Mark)
@@ -99,7 +100,7 @@ module _ (greatest : ℕ) (shop : Shop) (w : List ℕ) (j : ℕ) (s : LaneState)
       pub kept_less : (new : Rows)
           → GoesBack shop s.layout p (take (length s.notes.list - mark.first) (drop mark.first s.notes.list)) mark.whole
           s.rows new → (after : NotesState) → after ≡ record s.notes { list = take mark.first s.notes.list }
-          → (room : ℕ) → room ≡ s.room → IsKeptInLanes greatest shop w
+          → (room : ℕ) → room ≡ s.room → (us : List ℕ) → us ≡ [] → IsKeptInLanes greatest shop w
           (record {
             layout = s.layout;
             rows = new;
@@ -108,10 +109,10 @@ module _ (greatest : ℕ) (shop : Shop) (w : List ℕ) (j : ℕ) (s : LaneState)
             room = room;
             machines = s.machines;
             raises = s.raises;
-            estimates = [];
+            estimates = us;
             top = s.top;
           })
-      kept_less new back after truncated room same =
+      kept_less new back after truncated room same us none =
           let list : after.list ≡ take mark.first s.notes.list = ap (λ (n : NotesState). n.list) truncated
           in let heads : AreHeadsAt shop (placing shop w) s.layout new.heads =
           back.heads (placing shop w) placed (λ yes. subst
@@ -138,7 +139,7 @@ module _ (greatest : ℕ) (shop : Shop) (w : List ℕ) (j : ℕ) (s : LaneState)
                 in let d = kept.as_many in omega arith);
             marks_room = (let a = kept.marks_room in omega arith);
             bounds = kept.bounds;
-            estimates = λ m none. absurd (omega arith);
+            estimates = no_estimates s.top s.layout new us none;
           }
 
 -- heads that were raised and put back

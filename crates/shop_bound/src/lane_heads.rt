@@ -83,11 +83,12 @@ impl<L: Lanes> LaneHeads<L> {
         let room = instance.operations();
         let notes = Notes::with_room(alloc, 4 * room)?;
         let marks = Vec::with_capacity(alloc, room)?;
-        let are_long = layout.block(instance.machines()) > LONG_BLOCKS * instance.machines();
+        let machines = instance.machines();
+        let are_long = layout.block(machines) > LONG_BLOCKS * machines;
         Ok(LaneHeads {
-            machines: machines_of(alloc, &layout, instance.machines())?,
-            raises: vec![in alloc; NO_RAISE; instance.machines()]?,
-            estimates: Estimates::new(alloc, instance.machines(), are_long)?,
+            machines: machines_of(alloc, &layout, machines)?,
+            raises: vec![in alloc; NO_RAISE; machines]?,
+            estimates: Estimates::new(alloc, machines, are_long)?,
             top: latest_end(instance) + 1,
             layout,
             lanes,

@@ -16,4 +16,4 @@ returns g c w kept fits at =
     kept_more g.L.Lanes.GREATEST c.args.instance.now w c.args.job _
     (subst (λ (s : LaneState). IsKeptInLanes g.L.Lanes.GREATEST c.args.instance.now w s) (sym c.self.view_is) kept)
     fits c.args.step at (g.L.Lanes.rows c.advance-mark.new.lanes) c.advance-mark.new.notes c.advance-mark.result
-    c.advance-mark.ensures _ (rw c.unwrap.ensures at c.push.ensures.items) _ c.push.ensures.capacity
+    c.advance-mark.ensures _ (rw c.unwrap.ensures at c.push.ensures.items) _ c.push.ensures.capacity _ c.forget.ensures

@@ -22,4 +22,4 @@ returns g c w j kept placed =
     (take (length ns - c.unwrap-mark.result.first) (drop c.unwrap-mark.result.first ns)) c.unwrap-mark.result.whole
     (g.L.Lanes.rows c.self.inside.lanes)
     (g.L.Lanes.rows c.go_back.new.lanes)) c.list.ensures c.go_back.ensures) c.truncate.new.self
-    c.truncate.ensures _ c.pop.ensures.capacity
+    c.truncate.ensures _ c.pop.ensures.capacity _ c.forget.ensures
