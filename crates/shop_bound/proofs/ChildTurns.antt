@@ -99,7 +99,7 @@ module _ (greatest : ℕ) (shop : Shop) (l : LayoutState) (j step : ℕ) (rows r
             (subst (λ (ns : List Note). All (IsNoteCovered raises us least ms rows'.heads) ns) is (within e)) m known
             rows rows' refl kept.times kept.tails refl times tails top estimates small parent
             (let a = blocks_within shop kept.limits l kept.laid (m + 1) (omega arith)
-                in let c = kept.heads.positions in let d = kept.laid.positions.times in omega arith)
+            in let c = kept.heads.positions in let d = kept.laid.positions.times in omega arith)
         | inr e ↦ (let r = all e m (omega arith)
             in bounded_by_raise shop kept.limits l kept.laid w j fits rows.heads rows'.heads kept.heads now rows' refl
             times tails least parent (raise_of raises m) m known

@@ -78,7 +78,9 @@ fn raised_bound<L: Lanes>(
     let mark = advance(lanes, notes, layout, instance, job, placement.steps(job));
     let noted = &notes.list()[mark.first..];
     let upper = estimates.upper();
-    set_raises(raises, machines, lanes, noted, mark.whole, upper, least, top);
+    set_raises(
+        raises, machines, lanes, noted, mark.whole, upper, least, top,
+    );
     let bound = bound_by_raises(lanes, layout, raises, top, least, limit);
     go_back(lanes, layout, instance, placement, noted, mark.whole);
     notes.truncate(mark.first);
@@ -161,6 +163,7 @@ pub(crate) fn child_bound<L: Lanes>(
     }
     let least = foreseen.bound;
     raised_bound(
-        lanes, notes, raises, estimates, layout, machines, instance, placement, job, top, least, limit,
+        lanes, notes, raises, estimates, layout, machines, instance, placement, job, top, least,
+        limit,
     )
 }

@@ -51,7 +51,11 @@ impl Cuts {
         } else {
             above.saturating_add(self.width).min(self.greatest)
         };
-        if above < next && next < top { next } else { top }
+        if above < next && next < top {
+            next
+        } else {
+            top
+        }
     }
 }
 
@@ -92,7 +96,11 @@ impl Model for Estimates {
 
 impl Estimates {
     /// None are taken yet. Fails with `AllocError` if memory runs out.
-    pub(crate) fn new(alloc: Global, machines: usize, are_wanted: bool) -> Result<Estimates, AllocError>
+    pub(crate) fn new(
+        alloc: Global,
+        machines: usize,
+        are_wanted: bool,
+    ) -> Result<Estimates, AllocError>
         ensures { IfOk result (λ e. e ≡ []) }
     {
         let room = if are_wanted { machines } else { 0 };
