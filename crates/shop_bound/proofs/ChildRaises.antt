@@ -96,10 +96,12 @@ module _ (shop : Shop) (limits : IsWithinLimits shop) (l : LayoutState) (laid : 
       × (head_of shop (place_next shop (placing shop w) j) i k + 1 ≤ raise.to))
 
   pub covered_by_notes : (ms : List ℕ) → AreMachinesAt l shop.machines ms → (raises : List Raise) (notes : List Note)
-      → restored notes now ≡ was → All (IsNoteWithin raises ms now) notes → (m : ℕ) → m < shop.machines
+      → restored notes now ≡ was → (m : ℕ) → m < shop.machines
+      → ((i : ℕ) (d : Note) → i < length notes → get_or ms (get_or notes i d).position 0 ≡ m
+      → IsNoteWithin raises ms now (get_or notes i d))
       → IsCovered (raise_of raises m) m
   unfolding its_next
-  covered_by_notes ms machines raises notes back within m known i k op on opened =
+  covered_by_notes ms machines raises notes back m known within i k op on opened =
       let x = place l i k
       in let rise = steps_rise shop (placing shop w) j its_next (place_next-is shop (placing shop w) j) i
       in let a = old.waiting i k op (omega arith)
@@ -109,7 +111,6 @@ module _ (shop : Shop) (limits : IsWithinLimits shop) (l : LayoutState) (laid : 
         | inl same ↦ inl (omega arith)
         | inr noted ↦ (let r = noted.1
             in let d : Note = record { position = 0; head = 0 }
-            in let n = within noted.0 d r.below
             in let head = r.head d
             in let index = index_of shop limits l laid i k op
             in let there : x ≡ first_of l m + index.0 =
@@ -119,6 +120,7 @@ module _ (shop : Shop) (limits : IsWithinLimits shop) (l : LayoutState) (laid : 
             in let room = (laid.each m known).room
             in let machine : get_or ms (get_or notes noted.0 d).position 0 ≡ m =
             ap (λ (y : ℕ). get_or ms y 0) (r.position d) ∙ machines.at m x known (omega arith) (omega arith)
+            in let n = within noted.0 d r.below machine
             in let here : get_or now (get_or notes noted.0 d).position 0 ≡ get_or now x 0 =
             ap (λ (y : ℕ). get_or now y 0) (r.position d)
             in let from : (raise_of raises (get_or ms (get_or notes noted.0 d).position 0)).from
@@ -134,36 +136,47 @@ module _ (shop : Shop) (limits : IsWithinLimits shop) (l : LayoutState) (laid : 
   covered_all raise from small m i k op on opened =
       let b = new.waiting i k op opened in let c = small (place l i k) in inr (omega arith, omega arith)
 
-  -- the bound of what begins within the raises
-  pub bound_by_raises_is : (raises : List Raise) → length raises ≡ shop.machines
-      → ((m : ℕ) → m < shop.machines → IsCovered (raise_of raises m) m) → (rows : Rows) → rows.heads ≡ now
-      → rows.times ≡ l.times → rows.tails ≡ l.tails → (least limit b : ℕ) → lb shop w ≤ least
-      → (place_next shop (placing shop w) j).free (machine_of shop j ((placing shop w).steps j)) ≤ least
-      → least ≤ lb shop (w ++ j ∷ []) → least ≤ b
-      → (b < limit → (m : ℕ) → m < length raises
-      → spans_between (raise_of raises m).from (raise_of raises m).to (lanes_on rows l m) ≤ b + 1)
-      → ((c : ℕ) → least ≤ c → ((m above upto : ℕ) → m < length raises
-      → spans_between above upto (lanes_on rows l m) ≤ c + 1) → b ≤ c)
-      → IsBoundUpTo limit (lb shop (w ++ j ∷ [])) b
-  bound_by_raises_is raises long covered rows heads times tails least limit b parent end most low covers within =
-      let same : (m : ℕ) → lanes_on rows l m
-      ≡ blocks (get_or l.blocks m 0) (get_or l.blocks (m + 1) 0) (lanes now l.times l.tails) =
-      (λ m. rw (heads, times, tails) refl)
-      in let at_most = within (lb shop (w ++ j ∷ [])) most (λ m above upto known.
-      (let a = after_spans-le shop limits l laid w j fits now new m (omega arith) above upto
-      in let e = ap (spans_between above upto) (same m) in omega arith))
-      in record {
-        at_most = at_most;
-        exact = λ under.
-            let left : (m : ℕ) → m < shop.machines
-            → one_of m ≤ b = (λ m known. after_spans-cover shop limits l laid w j fits now new m known
-            (raise_of raises m).from (raise_of raises m).to b (covered m known)
-            (let a = covers under m (omega arith)
-            in let e = ap (spans_between (raise_of raises m).from (raise_of raises m).to) (same m) in omega arith)
-            (omega arith))
-            in let a = child-le shop limits laid.slots laid.are w j fits b (omega arith) (omega arith) left
-            in omega arith;
-      }
-    where
-      one_of : ℕ → ℕ
-      one_of m = one (left_for shop laid.slots (place_next shop (placing shop w) j) m)
+  -- in the lanes afterwards
+  module _ (rows : Rows) (heads : rows.heads ≡ now) (times : rows.times ≡ l.times)
+      (tails : rows.tails ≡ l.tails) where
+    pub its_lanes : (m : ℕ) → lanes_on rows l m
+        ≡ blocks (get_or l.blocks m 0) (get_or l.blocks (m + 1) 0) (lanes now l.times l.tails)
+    its_lanes m = rw (heads, times, tails) refl
+
+    -- from `least` on, what bounds the spans that begin within the raise bounds all that is left
+    abbrev pub IsBounded : ℕ → Raise → ℕ → Type 0
+    IsBounded least raise m = (b : ℕ) → least ≤ b
+        → spans_between raise.from raise.to (lanes_on rows l m) ≤ b + 1
+        → one (left_for shop laid.slots (place_next shop (placing shop w) j) m) ≤ b
+
+    pub bounded_by_raise : (least : ℕ) → lb shop w ≤ least → (raise : Raise) (m : ℕ) → m < shop.machines
+        → IsCovered raise m → IsBounded least raise m
+    bounded_by_raise least parent raise m known covered b above inside =
+        after_spans-cover shop limits l laid w j fits now new m known raise.from raise.to b covered
+        (let e = ap (spans_between raise.from raise.to) (its_lanes m) in omega arith) (omega arith)
+
+    -- the bound of what begins within the raises
+    pub bound_by_raises_is : (raises : List Raise) → length raises ≡ shop.machines → (least limit b : ℕ)
+        → ((m : ℕ) → m < shop.machines → IsBounded least (raise_of raises m) m) → lb shop w ≤ least
+        → (place_next shop (placing shop w) j).free (machine_of shop j ((placing shop w).steps j)) ≤ least
+        → least ≤ lb shop (w ++ j ∷ []) → least ≤ b
+        → (b < limit → (m : ℕ) → m < length raises
+        → spans_between (raise_of raises m).from (raise_of raises m).to (lanes_on rows l m) ≤ b + 1)
+        → ((c : ℕ) → least ≤ c → ((m above upto : ℕ) → m < length raises
+        → spans_between above upto (lanes_on rows l m) ≤ c + 1) → b ≤ c)
+        → IsBoundUpTo limit (lb shop (w ++ j ∷ [])) b
+    bound_by_raises_is raises long least limit b bounded parent end most low covers within =
+        let at_most = within (lb shop (w ++ j ∷ [])) most (λ m above upto known.
+        (let a = after_spans-le shop limits l laid w j fits now new m (omega arith) above upto
+        in let e = ap (spans_between above upto) (its_lanes m) in omega arith))
+        in record {
+          at_most = at_most;
+          exact = λ under.
+              let left : (m : ℕ) → m < shop.machines → one_of m ≤ b =
+              (λ m known. bounded m known b low (covers under m (omega arith)))
+              in let a = child-le shop limits laid.slots laid.are w j fits b (omega arith) (omega arith) left
+              in omega arith;
+        }
+      where
+        one_of : ℕ → ℕ
+        one_of m = one (left_for shop laid.slots (place_next shop (placing shop w) j) m)

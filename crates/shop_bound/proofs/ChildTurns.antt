@@ -5,24 +5,28 @@ use Rattle.std.specs.List.{All}
 use Rattle.std.proofs.lemmas.Bool.{cases_Bool}
 use Rattle.std.proofs.lemmas.List.{take_all}
 use Rattle.std.proofs.lemmas.List.Elements.{All-from_recursion}
-use Rattle.shop_lanes.specs.Rows.{Rows, with_head}
-use Rattle.shop_lanes.specs.Spans.{spans_between}
+use Rattle.shop_lanes.specs.Rows.{Rows, Lane, with_head}
+use Rattle.shop_lanes.specs.Spans.{span, spans_between}
 use Rattle.shop_model.specs.Shop.{Shop, machine_of}
 use Rattle.shop_model.specs.Word.{Placing, IsWord, placing, place_next}
 use Rattle.shop_model.proofs.Ends.{IsOperation-job}
 use Rattle.shop_model.proofs.Unders.{next_operation, placing-snoc}
 use Rattle.shop_bound.specs.Bound.{lb}
 use Rattle.shop_bound.specs.inner.BoundsUpTo.{IsBoundUpTo}
+use Rattle.shop_bound.specs.inner.Estimates.{AreEstimates, IsNoteCovered}
 use Rattle.shop_bound.specs.inner.HeadLimits.{latest_end}
 use Rattle.shop_bound.specs.inner.HeadRaises.{raise_of}
-use Rattle.shop_bound.specs.inner.LaneBounds.{lanes_on, AreMachinesAt, IsNoteWithin}
+use Rattle.shop_bound.specs.inner.LaneBounds.{lanes_on, AreMachinesAt}
 use Rattle.shop_bound.specs.inner.LaneHeads.{AreHeadsAt, AreNotesFit, NotesState}
 use Rattle.shop_bound.specs.inner.LaneStates.{AreHeadsInLanes, Advances}
 use Rattle.shop_bound.specs.inner.Layouts.{LayoutState}
 use Rattle.shop_bound.specs.declared.head_raises.Raise.{Raise}
 use Rattle.shop_bound.specs.declared.notes.Mark.{Mark}
 use Rattle.shop_bound.specs.declared.notes.Note.{Note}
-use Rattle.shop_bound.proofs.ChildRaises.{IsCovered, bound_by_raises_is, covered_all, covered_by_notes, heads_small}
+use Rattle.shop_bound.proofs.ChildRaises.{IsBounded, bounded_by_raise, bound_by_raises_is, covered_all, heads_small}
+use Rattle.shop_bound.proofs.EstimatedRaises.{bounded_by_notes}
+use Rattle.shop_bound.proofs.LaneBegins.{blocks_within}
+use Rattle.shop_bound.proofs.LaneTrails.{same_heads}
 use Rattle.shop_bound.proofs.RestoredNotes.{put_back}
 
 -- a head that is taken out and put in again
@@ -68,9 +72,10 @@ module _ (greatest : ℕ) (shop : Shop) (l : LayoutState) (j step : ℕ) (rows r
 
   pub raised_is : (ms : List ℕ) → AreMachinesAt l shop.machines ms → (raises : List Raise)
       → length raises ≡ shop.machines → (noted : List Note) → noted ≡ advances.noted.more
-      → (mark.whole ≡ true → All (IsNoteWithin raises ms rows'.heads) noted) → (top : ℕ) → top ≡ latest_end shop + 1
+      → (us : List ℕ) (top : ℕ) → top ≡ latest_end shop + 1 → AreEstimates top l rows us → (least limit b : ℕ)
+      → (mark.whole ≡ true → All (IsNoteCovered raises us least ms rows'.heads) noted)
       → (mark.whole ≡ false → (m : ℕ) → m < length raises → raise_of raises m ≡ record { from = 0; to = top })
-      → (least limit b : ℕ) → least ≤ b
+      → least ≤ b
       → (b < limit → (m : ℕ) → m < length raises
       → spans_between (raise_of raises m).from (raise_of raises m).to (lanes_on rows' l m) ≤ b + 1)
       → ((c : ℕ) → least ≤ c → ((m above upto : ℕ) → m < length raises
@@ -79,21 +84,39 @@ module _ (greatest : ℕ) (shop : Shop) (l : LayoutState) (j step : ℕ) (rows r
       → step ≡ (placing shop w).steps j → lb shop w ≤ least
       → (place_next shop (placing shop w) j).free (machine_of shop j ((placing shop w).steps j)) ≤ least
       → least ≤ lb shop (w ++ j ∷ []) → IsBoundUpTo limit (lb shop (w ++ j ∷ [])) b
-  raised_is ms machines raises long noted is within top top_is all least limit b low covers inside w kept fits at parent
-      end most =
+  raised_is ms machines raises long noted is us top top_is estimates least limit b within all low covers inside w kept
+      fits at parent end most =
       let now = next_heads w kept fits at
-      in let beside = advances.beside
-      in let covered : (m : ℕ) → m < shop.machines
-      → IsCovered shop kept.limits l kept.laid w j fits rows.heads rows'.heads kept.heads now (raise_of raises m) m =
+      in let times = advances.beside.times ∙ kept.times
+      in let tails = advances.beside.tails ∙ kept.tails
+      in let small : (q : ℕ) → get_or rows'.heads q 0 ≤ top = next_small top top_is w kept fits at
+      in let bounded : (m : ℕ) → m < shop.machines
+      → IsBounded shop kept.limits l kept.laid w j fits rows.heads rows'.heads kept.heads now rows' refl times tails least
+      (raise_of raises m) m =
       (λ m known. elim (cases_Bool mark.whole) [
-        | inl e ↦ covered_by_notes shop kept.limits l kept.laid w j fits rows.heads rows'.heads kept.heads now ms
-            machines raises advances.noted.more (advances.noted.back (sym advances.whole ∙ e))
-            (subst (λ (ns : List Note). All (IsNoteWithin raises ms rows'.heads) ns) is (within e)) m known
+        | inl e ↦ bounded_by_notes shop kept.limits l kept.laid w j fits rows.heads rows'.heads kept.heads now ms
+            machines raises advances.noted.more (advances.noted.back (sym advances.whole ∙ e)) us least
+            (subst (λ (ns : List Note). All (IsNoteCovered raises us least ms rows'.heads) ns) is (within e)) m known
+            rows rows' refl kept.times kept.tails refl times tails top estimates small parent
+            (let a = blocks_within shop kept.limits l kept.laid (m + 1) (omega arith)
+            in let c = kept.heads.positions in let d = kept.laid.positions.times in omega arith)
         | inr e ↦ (let r = all e m (omega arith)
-            in covered_all shop kept.limits l kept.laid w j fits rows.heads rows'.heads kept.heads now
+            in bounded_by_raise shop kept.limits l kept.laid w j fits rows.heads rows'.heads kept.heads now rows' refl
+            times tails least parent (raise_of raises m) m known
+            (covered_all shop kept.limits l kept.laid w j fits rows.heads rows'.heads kept.heads now
             (raise_of raises m) (ap (λ (x : Raise). x.from) r)
-            (λ q. (let a = next_small top top_is w kept fits at q in let t = ap (λ (x : Raise). x.to) r in omega arith))
-            m)
+            (λ q. (let a = small q in let t = ap (λ (x : Raise). x.to) r in omega arith)) m))
       ])
-      in bound_by_raises_is shop kept.limits l kept.laid w j fits rows.heads rows'.heads kept.heads now raises long covered
-      rows' refl (beside.times ∙ kept.times) (beside.tails ∙ kept.tails) least limit b parent end most low covers inside
+      in bound_by_raises_is shop kept.limits l kept.laid w j fits rows.heads rows'.heads kept.heads now rows' refl times
+      tails raises long least limit b bounded parent end most low covers inside
+
+-- estimates stand for the same heads put back
+pub estimates_again : (greatest : ℕ) (shop : Shop) (l : LayoutState) (w : List ℕ) (old new : Rows)
+    → AreHeadsInLanes greatest shop w l old → AreHeadsInLanes greatest shop w l new → (top : ℕ) (us : List ℕ)
+    → AreEstimates top l old us → AreEstimates top l new us
+estimates_again greatest shop l w old new before after top us are m known g some high =
+    let heads = same_heads shop before.limits l before.laid (placing shop w) old.heads new.heads before.heads after.heads
+    in let lanes : lanes_on old l m ≡ lanes_on new l m =
+    rw (heads, before.times ∙ sym after.times, before.tails ∙ sym after.tails) refl
+    in let a = ap (λ (xs : List Lane). span g g xs) lanes
+    in let b = are m known g some high in omega arith

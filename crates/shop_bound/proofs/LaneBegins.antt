@@ -11,6 +11,7 @@ use Rattle.shop_model.specs.Limits.{IsWithinLimits}
 use Rattle.shop_model.specs.Shop.{Shop, operation_count}
 use Rattle.shop_model.specs.Word.{IsWord, none_placed}
 use Rattle.shop_bound.specs.inner.HeadLimits.{FitsLanes}
+use Rattle.shop_bound.proofs.LaneEstimates.{no_estimates}
 use Rattle.shop_bound.proofs.LatestEnds.{latest_end_is}
 use Rattle.shop_bound.proofs.Lists.{get_or-le-greatest_of}
 use Rattle.shop_bound.specs.Placements.{PlacementState, IsPlacement}
@@ -127,7 +128,7 @@ module _ (greatest : ℕ) (shop : Shop) (limits : IsWithinLimits shop) (l : Layo
         → HasEnds filled_rows rows → AreEndsOf greatest l p.steps rows → (notes : NotesState)
         → notes ≡ record { list = []; whole = true } → (marks : List Mark) → marks ≡ [] → (room : ℕ)
         → operation_count shop ≤ room → (machines : List ℕ) (raises top : ℕ)
-        → HasBounds greatest shop l machines raises top
+        → HasBounds greatest shop l machines raises top → (us : List ℕ) → us ≡ []
         → IsKeptInLanes greatest shop []
         (record {
           layout = l;
@@ -137,10 +138,11 @@ module _ (greatest : ℕ) (shop : Shop) (limits : IsWithinLimits shop) (l : Layo
           room = room;
           machines = machines;
           raises = raises;
+          estimates = us;
           top = top;
         })
     kept_none filled_rows filled many rows beside ends notes begun marks none_marked room enough machines raises top
-        bounds =
+        bounds us none_taken =
         let heads = with_ends greatest shop [] l filled_rows rows beside (heads_none filled_rows filled)
         in let none : IsKeptInLanes greatest shop [] (record {
           layout = l;
@@ -150,6 +152,7 @@ module _ (greatest : ℕ) (shop : Shop) (limits : IsWithinLimits shop) (l : Layo
           room = room;
           machines = machines;
           raises = raises;
+          estimates = us;
           top = top;
         }) = record {
           kept = heads;
@@ -160,6 +163,7 @@ module _ (greatest : ℕ) (shop : Shop) (limits : IsWithinLimits shop) (l : Layo
           bounds = bounds;
           ends = ends_at greatest shop [] l rows heads p.steps (steps_of_placement shop (none_placed shop) p placed)
               (beside.ends ∙ ends_none filled_rows filled many) bounds.holds ends;
+          estimates = no_estimates top l rows us none_taken;
         }
         in subst (λ (n : NotesState). IsKeptInLanes greatest shop []
         (record {
@@ -170,6 +174,7 @@ module _ (greatest : ℕ) (shop : Shop) (limits : IsWithinLimits shop) (l : Layo
           room = room;
           machines = machines;
           raises = raises;
+          estimates = us;
           top = top;
         })) (sym begun)
         (subst (λ (ms : List Mark). IsKeptInLanes greatest shop [] (record {
@@ -180,5 +185,6 @@ module _ (greatest : ℕ) (shop : Shop) (limits : IsWithinLimits shop) (l : Layo
           room = room;
           machines = machines;
           raises = raises;
+          estimates = us;
           top = top;
         })) (sym none_marked) none)

@@ -10,6 +10,7 @@ use Rattle.shop_lanes.specs.Spans.{spans_from, spans_between}
 use Rattle.shop_lanes.specs.Marks.{marked, waits_below}
 use Rattle.shop_lanes.proofs.LaneLists.{length-blocks}
 use Rattle.shop_lanes.proofs.SpanTurns.{spans_low, spans_high}
+use Rattle.shop_bound.specs.inner.Estimates.{IsNoteCovered, IsSmallRise}
 use Rattle.shop_bound.specs.inner.HeadRaises.{no_raise, raise_of, widened}
 use Rattle.shop_bound.specs.inner.LaneBounds.{lanes_on, NoneBelow, AreMachinesAt, AreRaisesUpTo, IsNoteWithin}
 use Rattle.shop_bound.specs.inner.Layouts.{LayoutState, first_of}
@@ -92,25 +93,28 @@ module _ (raises : List Raise) (m a b : ℕ) (known : m < length raises) (after 
     | inr ne ↦ (let f = ap (λ (r : Raise). r.to) (raise_other i ne) in omega arith)
   ]
 
-  -- what was within the raises is, and one more note
-  module _ (ms heads : List ℕ) (notes : List Note) (k : ℕ) (d : Note) (at : m ≡ get_or ms (get_or notes k d).position 0)
+  -- what was covered is, and one more note
+  module _ (us : List ℕ) (least : ℕ) (ms heads : List ℕ) (notes : List Note) (k : ℕ) (d : Note)
+      (at : m ≡ get_or ms (get_or notes k d).position 0)
       (before : a ≡ (get_or notes k d).head) (now : b ≡ get_or heads (get_or notes k d).position 0)
       (here : k < length notes) where
-    pub within_turn : ((i : ℕ) (e : Note) → i < k → IsNoteWithin raises ms heads (get_or notes i e))
+    pub within_turn : ((i : ℕ) (e : Note) → i < k → IsNoteCovered raises us least ms heads (get_or notes i e))
         → (i : ℕ) (e : Note)
-        → i < k + 1 → IsNoteWithin after ms heads (get_or notes i e)
+        → i < k + 1 → IsNoteCovered after us least ms heads (get_or notes i e)
     within_turn within i e below = elim (cases_eq i k) [
-      | inl same ↦ subst (IsNoteWithin after ms heads) (sym (ap (λ (n : ℕ). get_or notes n e) same
+      | inl same ↦ inl (subst (IsNoteWithin after ms heads) (sym (ap (λ (n : ℕ). get_or notes n e) same
           ∙ get_or_default notes k e d here)) (let f = ap (λ (r : Raise). r.from) (raise_here _ (sym at))
           in let t = ap (λ (r : Raise). r.to) (raise_here _ (sym at))
-          in record { from = λ some. omega arith; to = λ some. omega arith })
-      | inr ne ↦ (let w = within i e (omega arith)
-          in let f = raise_from (get_or ms (get_or notes i e).position 0)
-          in let t = raise_to (get_or ms (get_or notes i e).position 0)
-          in record {
-            from = λ some. (let x = w.from some in omega arith);
-            to = λ some. (let y = w.to some in omega arith);
-          })
+          in record { from = λ some. omega arith; to = λ some. omega arith }))
+      | inr ne ↦ elim (within i e (omega arith)) [
+        | inl w ↦ (let f = raise_from (get_or ms (get_or notes i e).position 0)
+            in let t = raise_to (get_or ms (get_or notes i e).position 0)
+            in inl (record {
+              from = λ some. (let x = w.from some in omega arith);
+              to = λ some. (let y = w.to some in omega arith);
+            }))
+        | inr small ↦ inr small
+      ]
     ]
 
   pub up_to_turn : (top : ℕ) → b ≤ top → AreRaisesUpTo top raises → AreRaisesUpTo top after
@@ -122,17 +126,30 @@ module _ (raises : List Raise) (m a b : ℕ) (known : m < length raises) (after 
         | inr ne ↦ (let f = ap (λ (r : Raise). r.to) (raise_other i ne) in let u = up_to i (omega arith) in omega arith)
       ]
 
--- one more note, at a position where nothing waits now
-pub within_none : (raises : List Raise) (ms heads : List ℕ) (notes : List Note) (k : ℕ) (d : Note)
-    → get_or heads (get_or notes k d).position 0 ≡ 0 → k < length notes
-    → ((i : ℕ) (e : Note) → i < k → IsNoteWithin raises ms heads (get_or notes i e)) → (i : ℕ) (e : Note)
-    → i < k + 1 → IsNoteWithin raises ms heads (get_or notes i e)
-within_none raises ms heads notes k d none here within i e below = elim (cases_eq i k) [
-  | inl same ↦ subst (IsNoteWithin raises ms heads) (sym (ap (λ (n : ℕ). get_or notes n e) same
-      ∙ get_or_default notes k e d here))
-      (record { from = λ some. absurd (omega arith); to = λ some. absurd (omega arith) })
-  | inr ne ↦ within i e (omega arith)
-]
+module _ (raises : List Raise) (us : List ℕ) (least : ℕ) (ms heads : List ℕ) (notes : List Note) (k : ℕ) (d : Note)
+    (here : k < length notes) where
+  -- one more note that is covered
+  covered_turn : IsNoteCovered raises us least ms heads (get_or notes k d)
+      → ((i : ℕ) (e : Note) → i < k → IsNoteCovered raises us least ms heads (get_or notes i e)) → (i : ℕ) (e : Note)
+      → i < k + 1 → IsNoteCovered raises us least ms heads (get_or notes i e)
+  covered_turn covered within i e below = elim (cases_eq i k) [
+    | inl same ↦ subst (IsNoteCovered raises us least ms heads) (sym (ap (λ (n : ℕ). get_or notes n e) same
+        ∙ get_or_default notes k e d here)) covered
+    | inr ne ↦ within i e (omega arith)
+  ]
+
+  -- at a position where nothing waits now
+  pub within_none : get_or heads (get_or notes k d).position 0 ≡ 0
+      → ((i : ℕ) (e : Note) → i < k → IsNoteCovered raises us least ms heads (get_or notes i e)) → (i : ℕ) (e : Note)
+      → i < k + 1 → IsNoteCovered raises us least ms heads (get_or notes i e)
+  within_none none = covered_turn
+      (inl (record { from = λ some. absurd (omega arith); to = λ some. absurd (omega arith) }))
+
+  -- of a head that rose by little
+  pub within_small : IsSmallRise us least ms heads (get_or notes k d)
+      → ((i : ℕ) (e : Note) → i < k → IsNoteCovered raises us least ms heads (get_or notes i e)) → (i : ℕ) (e : Note)
+      → i < k + 1 → IsNoteCovered raises us least ms heads (get_or notes i e)
+  within_small small = covered_turn (inr small)
 
 -- one more machine looked at for its raise
 pub covers_turn : (raises : List Raise) (rows : Rows) (l : LayoutState) (n old new : ℕ) → old ≤ new

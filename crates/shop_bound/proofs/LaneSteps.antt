@@ -12,6 +12,7 @@ use Rattle.shop_model.proofs.WordLemmas.{IsWord-init}
 use Rattle.shop_bound.specs.Placements.{PlacementState, IsPlacement}
 use Rattle.shop_bound.specs.declared.notes.Mark.{Mark}
 use Rattle.shop_bound.specs.declared.notes.Note.{Note}
+use Rattle.shop_bound.specs.inner.Estimates.{AreEstimates}
 use Rattle.shop_bound.specs.inner.Fills.{CanFill, GoesBack, IsRested}
 use Rattle.shop_bound.specs.inner.LaneChoices.{AreEndsAt}
 use Rattle.shop_bound.specs.inner.LaneEnds.{AreEndsButJob, AreEndsOf, CanKeepEnds, HasEnds}
@@ -19,6 +20,7 @@ use Rattle.shop_bound.specs.inner.LaneHeads.{AreHeadsAt, AreNotesFit, IsTrail, N
 use Rattle.shop_bound.specs.inner.LaneStates.{LaneState, IsKeptInLanes, Advances, AreHeadsInLanes}
 use Rattle.shop_bound.proofs.ChildTurns.{its_job}
 use Rattle.shop_bound.proofs.LaneEnds.{can_keep, ends_at, ends_between, restored_other, steps_of_placement, with_ends}
+use Rattle.shop_bound.proofs.LaneEstimates.{no_estimates}
 use Rattle.shop_bound.proofs.LaneTrails.{same_heads, trail_more, LeadsToLast, trail_less}
 use Rattle.shop_bound.proofs.Lists.{all_append}
 use Rattle.shop_bound.proofs.WordLengths.{word_within}
@@ -68,7 +70,7 @@ module _ (greatest : ℕ) (shop : Shop) (w : List ℕ) (j : ℕ) (s : LaneState)
           ∙ advances.noted.back (sym advances.whole ∙ all)))
 
       pub kept_more : (ended : Rows) → HasEnds new ended → AreEndsOf greatest s.layout p.steps ended
-          → (marks : List Mark) → marks ≡ s.marks ++ mark ∷ [] → (room : ℕ) → s.room ≤ room
+          → (marks : List Mark) → marks ≡ s.marks ++ mark ∷ [] → (room : ℕ) → s.room ≤ room → (us : List ℕ) → us ≡ []
           → IsKeptInLanes greatest shop (w ++ j ∷ [])
           (record {
             layout = s.layout;
@@ -78,9 +80,10 @@ module _ (greatest : ℕ) (shop : Shop) (w : List ℕ) (j : ℕ) (s : LaneState)
             room = room;
             machines = s.machines;
             raises = s.raises;
+            estimates = us;
             top = s.top;
           })
-      kept_more ended beside ends marks pushed room more =
+      kept_more ended beside ends marks pushed room more us none =
           let back = advances.noted
           in let heads = with_ends greatest shop (w ++ j ∷ []) s.layout new ended beside
           (advances.heads w kept.kept fits at)
@@ -104,6 +107,7 @@ module _ (greatest : ℕ) (shop : Shop) (w : List ℕ) (j : ℕ) (s : LaneState)
             ends = ends_at greatest shop (w ++ j ∷ []) s.layout ended heads p.steps
                 (steps_of_placement shop (placing shop (w ++ j ∷ [])) p placed)
                 (beside.ends ∙ (ap length advances.beside.ends ∙ kept.ends.jobs)) kept.bounds.holds ends;
+            estimates = no_estimates s.top s.layout ended us none;
           }
 
   module _ (kept : IsKeptInLanes greatest shop (w ++ j ∷ []) s) (marks : List Mark) (mark : Mark)
@@ -181,7 +185,7 @@ module _ (greatest : ℕ) (shop : Shop) (w : List ℕ) (j : ℕ) (s : LaneState)
 
         pub kept_less : (ended : Rows) → HasEnds new ended → AreEndsOf greatest s.layout p.steps ended
             → (after : NotesState) → after ≡ record s.notes { list = take mark.first s.notes.list }
-            → (room : ℕ) → room ≡ s.room → IsKeptInLanes greatest shop w
+            → (room : ℕ) → room ≡ s.room → (us : List ℕ) → us ≡ [] → IsKeptInLanes greatest shop w
             (record {
               layout = s.layout;
               rows = ended;
@@ -190,9 +194,10 @@ module _ (greatest : ℕ) (shop : Shop) (w : List ℕ) (j : ℕ) (s : LaneState)
               room = room;
               machines = s.machines;
               raises = s.raises;
+              estimates = us;
               top = s.top;
             })
-        kept_less ended beside ends after truncated room same =
+        kept_less ended beside ends after truncated room same us none =
             let list : after.list ≡ take mark.first s.notes.list = ap (λ (n : NotesState). n.list) truncated
             in let heads = with_ends greatest shop w s.layout new ended beside gone_back
             in record {
@@ -211,15 +216,16 @@ module _ (greatest : ℕ) (shop : Shop) (w : List ℕ) (j : ℕ) (s : LaneState)
               ends = ends_at greatest shop w s.layout ended heads p.steps
                   (steps_of_placement shop (placing shop w) p placed)
                   (beside.ends ∙ (ap length back.beside.ends ∙ kept.ends.jobs)) kept.bounds.holds ends;
+              estimates = no_estimates s.top s.layout ended us none;
             }
 
 -- heads that were raised and put back
 pub kept_again : (greatest : ℕ) (shop : Shop) (w : List ℕ) (s : LaneState) → IsKeptInLanes greatest shop w s
     → (new : Rows) → AreHeadsInLanes greatest shop w s.layout new → new.ends ≡ s.rows.ends → (after : NotesState)
     → after.list ≡ s.notes.list
-    → (raises : ℕ) → raises ≡ s.raises
-    → IsKeptInLanes greatest shop w (record s { rows = new; notes = after; raises = raises })
-kept_again greatest shop w s kept new heads ends after list raises many =
+    → (raises : ℕ) → raises ≡ s.raises → (us : List ℕ) → AreEstimates s.top s.layout new us
+    → IsKeptInLanes greatest shop w (record s { rows = new; notes = after; raises = raises; estimates = us })
+kept_again greatest shop w s kept new heads ends after list raises many us estimates =
     let same = same_heads shop kept.kept.limits s.layout kept.kept.laid (placing shop w) s.rows.heads new.heads
     kept.kept.heads heads.heads
     in record {
@@ -237,4 +243,5 @@ kept_again greatest shop w s kept new heads ends after list raises many =
         holds = kept.bounds.holds;
       };
       ends = subst (AreEndsAt greatest shop (placing shop w)) (sym ends) kept.ends;
+      estimates = estimates;
     }

@@ -64,7 +64,9 @@ pub mod MachineLanes
 pub mod ChildExits
 pub mod LaneBoundTurns
 pub mod LaneFits
+pub mod LaneEstimates
 pub mod ChildRaises
+pub mod EstimatedRaises
 pub mod ChildTurns
 pub mod ChildReads
 pub mod LaneStandings

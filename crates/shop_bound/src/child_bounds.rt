@@ -4,9 +4,11 @@ ghost use Rattle.shop_lanes.specs.Rows.{AreBlocks, with_head};
 ghost use Rattle.shop_lanes.specs.Spans.{FitsSpan};
 ghost use Rattle.shop_bound.specs.inner.ChildBounds.{CanBound, KeepsHeads, TellsChildBound, TellsRaisedBound};
 ghost use Rattle.shop_bound.specs.inner.ChildBounds.{HasNextInPlace, IsNextOperation};
+ghost use Rattle.shop_bound.specs.inner.Estimates.{AreEstimates};
 ghost use Rattle.shop_bound.specs.inner.LaneBounds.{Foresees, lanes_on};
 
 use crate::dispatching::advance;
+use crate::estimates::Estimates;
 use crate::fills::go_back;
 use crate::head_raises::Raise;
 use crate::lane_bounds::{Foreseen, bound_by_raises, look_ahead, set_raises};
@@ -52,6 +54,7 @@ fn raised_bound<L: Lanes>(
     lanes: &mut L,
     notes: &mut Notes,
     raises: &mut [Raise],
+    estimates: &mut Estimates,
     layout: &Layout,
     machines: &[u32],
     instance: &Instance,
@@ -61,18 +64,24 @@ fn raised_bound<L: Lanes>(
     least: u64,
     limit: u64,
 ) -> u64
-    requires { CanBound L.GREATEST instance.now layout.now placement.now job machines.now (length raises.old) top
+    requires can { CanBound L.GREATEST instance.now layout.now placement.now job machines.now (length raises.old) top
         (L.rows lanes.old) }
+    requires estimates { AreEstimates top layout.now (L.rows lanes.old) estimates.old }
     ensures bound { TellsRaisedBound L.GREATEST instance.now layout.now placement.now (L.rows lanes.old) job least
         limit result }
     ensures heads { KeepsHeads L.GREATEST instance.now layout.now placement.now (L.rows lanes.old) (L.rows lanes.new) }
     ensures ends { (L.rows lanes.new).ends ≡ (L.rows lanes.old).ends }
     ensures notes { notes.new.list ≡ notes.old.list }
     ensures long { length raises.new ≡ length raises.old }
+    ensures estimates { AreEstimates top layout.now (L.rows lanes.new) estimates.new }
 {
+    estimates.take(lanes, layout, raises.len(), top);
     let mark = advance(lanes, notes, layout, instance, job, placement.steps(job));
     let noted = &notes.list()[mark.first..];
-    set_raises(raises, machines, lanes, noted, mark.whole, top);
+    let upper = estimates.upper();
+    set_raises(
+        raises, machines, lanes, noted, mark.whole, upper, least, top,
+    );
     let bound = bound_by_raises(lanes, layout, raises, top, least, limit);
     go_back(lanes, layout, instance, placement, noted, mark.whole);
     notes.truncate(mark.first);
@@ -116,6 +125,7 @@ pub(crate) fn child_bound<L: Lanes>(
     lanes: &mut L,
     notes: &mut Notes,
     raises: &mut [Raise],
+    estimates: &mut Estimates,
     layout: &Layout,
     machines: &[u32],
     instance: &Instance,
@@ -125,14 +135,16 @@ pub(crate) fn child_bound<L: Lanes>(
     bound: u64,
     limit: u64,
 ) -> u64
-    requires { CanBound L.GREATEST instance.now layout.now placement.now job machines.now (length raises.old) top
+    requires can { CanBound L.GREATEST instance.now layout.now placement.now job machines.now (length raises.old) top
         (L.rows lanes.old) }
+    requires estimates { AreEstimates top layout.now (L.rows lanes.old) estimates.old }
     ensures bound { TellsChildBound L.GREATEST instance.now layout.now placement.now (L.rows lanes.old) job bound
         limit result }
     ensures heads { KeepsHeads L.GREATEST instance.now layout.now placement.now (L.rows lanes.old) (L.rows lanes.new) }
     ensures ends { (L.rows lanes.new).ends ≡ (L.rows lanes.old).ends }
     ensures notes { notes.new.list ≡ notes.old.list }
     ensures long { length raises.new ≡ length raises.old }
+    ensures estimates { AreEstimates top layout.now (L.rows lanes.new) estimates.new }
 {
     let next = next_operation(lanes, layout, machines, instance, placement, job);
     let least = bound.max(next.end - 1);
@@ -153,6 +165,7 @@ pub(crate) fn child_bound<L: Lanes>(
     }
     let least = foreseen.bound;
     raised_bound(
-        lanes, notes, raises, layout, machines, instance, placement, job, top, least, limit,
+        lanes, notes, raises, estimates, layout, machines, instance, placement, job, top, least,
+        limit,
     )
 }

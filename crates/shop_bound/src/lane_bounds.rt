@@ -3,8 +3,9 @@ ghost use Rattle.std.specs.Prelude.{◌≡◌, ℕ, ◌+◌, ◌-◌, ◌*◌, �
 ghost use Rattle.shop_lanes.specs.Rows.{AreBlocks, lanes_between};
 ghost use Rattle.shop_lanes.specs.Spans.{FitsSpan, span, spans_between};
 ghost use Rattle.shop_model.specs.Shop.{greatest_below};
+ghost use Rattle.shop_bound.specs.inner.Estimates.{IsNoteCovered, IsSmallOn};
 ghost use Rattle.shop_bound.specs.inner.HeadRaises.{raise_of};
-ghost use Rattle.shop_bound.specs.inner.LaneBounds.{AreMachinesAt, AreRaisesUpTo, AreSpansFit, IsNoteWithin};
+ghost use Rattle.shop_bound.specs.inner.LaneBounds.{AreMachinesAt, AreRaisesUpTo, AreSpansFit};
 ghost use Rattle.shop_bound.specs.inner.LaneBounds.{Foresees, NoneBelow, lanes_on, part_by_spans};
 
 use crate::head_raises::{NO_RAISE, Raise};
@@ -80,14 +81,33 @@ pub(crate) fn bound_by_raises<L: Lanes>(
     bound
 }
 
-/// Widens the raises of the machines by what was noted and what stands at these positions now, where something waits.
+/// Whether a rise of heads on a machine leaves its spans at most one above a bound, by an estimate of them.
 #[inline(always)]
-pub(crate) fn widen<L: Lanes>(raises: &mut [Raise], machines: &[u32], lanes: &L, notes: &[Note])
+fn is_small(upper: &[u64], least: u64, machine: usize, before: u64, now: u64) -> bool
+    ensures { result ≡ true → IsSmallOn upper.now least machine before now }
+{
+    if machine >= upper.len() {
+        return false;
+    }
+    now.saturating_sub(before) < least.saturating_add(2).saturating_sub(upper[machine])
+}
+
+/// Widens the raises of the machines by what was noted and what stands at these positions now, where something waits,
+/// but for what rose so little that, by the estimates, no span is more than one above `least`.
+#[inline(always)]
+pub(crate) fn widen<L: Lanes>(
+    raises: &mut [Raise],
+    machines: &[u32],
+    lanes: &L,
+    notes: &[Note],
+    upper: &[u64],
+    least: u64,
+)
     requires notes { All (λ n. n.position < length (L.rows lanes.now).heads) notes.now }
     requires positions { length machines.now ≡ length (L.rows lanes.now).heads }
     requires known { (q : ℕ) → q < length machines.now → slice_index machines.now q < length raises.old }
     ensures long { length raises.new ≡ length raises.old }
-    ensures within { All (IsNoteWithin raises.new machines.now (L.rows lanes.now).heads) notes.now }
+    ensures within { All (IsNoteCovered raises.new upper.now least machines.now (L.rows lanes.now).heads) notes.now }
     ensures up_to { (top : ℕ) → ((q : ℕ) → slice_index (L.rows lanes.now).heads q ≤ top)
         → AreRaisesUpTo top raises.old → AreRaisesUpTo top raises.new }
 {
@@ -97,6 +117,9 @@ pub(crate) fn widen<L: Lanes>(raises: &mut [Raise], machines: &[u32], lanes: &L,
             continue;
         }
         let machine = machines[note.position] as usize;
+        if is_small(upper, least, machine, note.head, head) {
+            continue;
+        }
         raises[machine] = raises[machine].with(note.head, head);
     }
 }
@@ -112,7 +135,8 @@ fn set_all(raises: &mut [Raise], raise: Raise)
     }
 }
 
-/// The raises of the machines, if these heads were noted since; if not all was noted, all may have changed.
+/// The raises of the machines, if these heads were noted since, but for what rose by little; if not all was noted, all
+/// may have changed.
 #[inline(always)]
 pub(crate) fn set_raises<L: Lanes>(
     raises: &mut [Raise],
@@ -120,6 +144,8 @@ pub(crate) fn set_raises<L: Lanes>(
     lanes: &L,
     notes: &[Note],
     whole: bool,
+    upper: &[u64],
+    least: u64,
     top: u64,
 )
     requires notes { All (λ n. n.position < length (L.rows lanes.now).heads) notes.now }
@@ -127,14 +153,15 @@ pub(crate) fn set_raises<L: Lanes>(
     requires known { (q : ℕ) → q < length machines.now → slice_index machines.now q < length raises.old }
     requires small { (q : ℕ) → slice_index (L.rows lanes.now).heads q ≤ top }
     ensures long { length raises.new ≡ length raises.old }
-    ensures within { whole ≡ true → All (IsNoteWithin raises.new machines.now (L.rows lanes.now).heads) notes.now }
+    ensures within { whole ≡ true
+        → All (IsNoteCovered raises.new upper.now least machines.now (L.rows lanes.now).heads) notes.now }
     ensures all { whole ≡ false → (m : ℕ) → m < length raises.new
         → raise_of raises.new m ≡ record { from = 0; to = top } }
     ensures up_to { AreRaisesUpTo top raises.new }
 {
     if whole {
         set_all(raises, NO_RAISE);
-        widen(raises, machines, lanes, notes);
+        widen(raises, machines, lanes, notes, upper, least);
     } else {
         set_all(raises, Raise { from: 0, to: top });
     }

@@ -9,6 +9,7 @@ ghost use Rattle.shop_bound.specs.inner.LaneStates.{CanGoOnInLanes, KeepsLanes, 
 
 use crate::child_bounds::child_bound;
 use crate::dispatching::advance;
+use crate::estimates::Estimates;
 use crate::fills::{fill, go_back};
 use crate::head_raises::{NO_RAISE, Raise};
 use crate::lane_bounds::machines_of;
@@ -22,6 +23,9 @@ use shop_model::Instance;
 use std::alloc::{AllocError, Global};
 use std::marker::Model;
 
+/// Estimates are worth their while where machines have more blocks on average.
+const LONG_BLOCKS: usize = 8;
+
 /// The heads of what a word leaves, one number a position, with notes that lead back through the word, and the ends of
 /// its next operations by job. Notes take more memory as they need it.
 #[derive(Drop)]
@@ -34,6 +38,8 @@ pub(crate) struct LaneHeads<L: Lanes> {
     pub(crate) machines: Vec<u32>,
     /// raises[machine], for the bound at hand
     pub(crate) raises: Vec<Raise>,
+    /// for the heads at hand
+    estimates: Estimates,
     /// one more than the latest end of any operation
     pub(crate) top: u64,
 }
@@ -52,6 +58,7 @@ impl<L: Lanes> Model for LaneHeads<L> {
       room = vec_capacity h.marks;
       machines = h.machines.items;
       raises = length h.raises.items;
+      estimates = h.estimates;
       top = h.top;
     } };
 }
@@ -78,9 +85,12 @@ impl<L: Lanes> LaneHeads<L> {
         let room = instance.operations();
         let notes = Notes::with_room(alloc, 4 * room)?;
         let marks = Vec::with_capacity(alloc, room)?;
+        let machines = instance.machines();
+        let are_long = layout.block(machines) > LONG_BLOCKS * machines;
         Ok(LaneHeads {
-            machines: machines_of(alloc, &layout, instance.machines())?,
-            raises: vec![in alloc; NO_RAISE; instance.machines()]?,
+            machines: machines_of(alloc, &layout, machines)?,
+            raises: vec![in alloc; NO_RAISE; machines]?,
+            estimates: Estimates::new(alloc, machines, are_long)?,
             top: latest_end(instance) + 1,
             layout,
             lanes,
@@ -112,6 +122,7 @@ impl<L: Lanes> LaneHeads<L> {
         let noted = &self.notes.list()[mark.first..];
         keep_ends(&mut self.lanes, &self.layout, steps, job, noted, mark.whole);
         self.marks.push(mark).unwrap();
+        self.estimates.forget();
     }
 
     /// The last operation, which is of this job, is taken back; the placement is that of the word without it.
@@ -132,6 +143,7 @@ impl<L: Lanes> LaneHeads<L> {
         let steps = placement.jobs_steps();
         keep_ends(&mut self.lanes, &self.layout, steps, job, noted, last.whole);
         self.notes.truncate(last.first);
+        self.estimates.forget();
     }
 
     /// The bound after the next operation of a job, or as much of it as reaches the limit, with the bound before it at
@@ -152,6 +164,7 @@ impl<L: Lanes> LaneHeads<L> {
             &mut self.lanes,
             &mut self.notes,
             self.raises.as_mut_slice(),
+            &mut self.estimates,
             &self.layout,
             self.machines.as_slice(),
             instance,

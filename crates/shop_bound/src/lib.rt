@@ -5,6 +5,7 @@ mod child_bounds;
 mod conflicts;
 mod desks;
 mod dispatching;
+mod estimates;
 mod fills;
 mod head_raises;
 mod head_rows;

@@ -11,6 +11,7 @@ use Rattle.shop_model.specs.Word.{IsWord, placing}
 use Rattle.shop_bound.specs.Bound.{lb}
 use Rattle.shop_bound.specs.inner.BoundsUpTo.{IsBoundUpTo}
 use Rattle.shop_bound.specs.Placements.{PlacementState, IsPlacement}
+use Rattle.shop_bound.specs.inner.Estimates.{AreEstimates}
 use Rattle.shop_bound.specs.inner.Fills.{AreSameBeside}
 use Rattle.shop_bound.specs.inner.HeadLimits.{FitsLanes, latest_end}
 use Rattle.shop_bound.specs.inner.LaneBounds.{AreMachinesAt}
@@ -49,6 +50,7 @@ pub record LaneState : Type 0 where
   pub room : ℕ
   pub machines : List ℕ
   pub raises : ℕ
+  pub estimates : List ℕ
   pub top : ℕ
 
 pub record IsKeptInLanes (greatest : ℕ) (shop : Shop) (w : List ℕ) (s : LaneState) : Type 0 where
@@ -59,6 +61,7 @@ pub record IsKeptInLanes (greatest : ℕ) (shop : Shop) (w : List ℕ) (s : Lane
   pub marks_room : operation_count shop ≤ s.room
   pub bounds : HasBounds greatest shop s.layout s.machines s.raises s.top
   pub ends : AreEndsAt greatest shop (placing shop w) s.rows.ends
+  pub estimates : AreEstimates s.top s.layout s.rows s.estimates
 
 -- they are those of a word to which j can be added as this step
 pub record HasNextAt (greatest : ℕ) (shop : Shop) (l : LayoutState) (j step : ℕ)

@@ -17,10 +17,10 @@ returns-then-limit-least-clause-bound g c = λ w kept placed fits parent.
 
 pub foresee-foreseen-requires : goal.foresee-foreseen-requires
 foresee-foreseen-requires g c =
-    let shop = c.args.instance.now in let w = c.requires.word in let l = c.args.layout.now
+    let shop = c.args.instance.now in let w = c.requires.can.word in let l = c.args.layout.now
     in let rows = g.L.Lanes.rows c.args.lanes.now
-    in let kept = c.requires.kept in let fits = c.requires.fits
-    in let next = c.next_operation-next.ensures w kept c.requires.placed fits
+    in let kept = c.requires.can.kept in let fits = c.requires.can.fits
+    in let next = c.next_operation-next.ensures w kept c.requires.can.placed fits
     in let machine = next.machine_is in let position = next.position_is in let end = next.end_is
     in let on = kept.limits.on_machines c.args.job ((placing shop w).steps c.args.job)
     in let many = kept.limits.machines
@@ -33,12 +33,12 @@ foresee-foreseen-requires g c =
     in let small = end_small g.L.Lanes.GREATEST shop w l rows kept c.args.job fits
     in let latest = end_latest g.L.Lanes.GREATEST shop w l rows kept c.args.job fits
     in let same = end_here g.L.Lanes.GREATEST shop w l rows kept c.args.job fits
-    in let span = (left_fits g.L.Lanes.GREATEST shop w l rows kept c.args.job fits c.requires.holds
+    in let span = (left_fits g.L.Lanes.GREATEST shop w l rows kept c.args.job fits c.requires.can.holds
     c.next_operation-next.result.position).fits c.next_operation-next.result.machine known
     in record {
       known = omega arith;
       small = omega arith;
-      blocks = (spans_fit shop kept.limits l kept.laid g.L.Lanes.GREATEST c.requires.holds rows kept.times kept.tails
+      blocks = (spans_fit shop kept.limits l kept.laid g.L.Lanes.GREATEST c.requires.can.holds rows kept.times kept.tails
           kept.heads.positions).blocks c.next_operation-next.result.machine known;
       within = omega arith;
       fits_head = omega arith;

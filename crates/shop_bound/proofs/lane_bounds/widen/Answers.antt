@@ -24,7 +24,7 @@ loop-note-preserved g c =
     in record {
       long = length-set c.loop-note.raises m c.with.result ∙ long;
       within = within_turn c.loop-note.raises m note.head c.head-head.result
-          (omega arith) _ is c.args.machines.now heads
+          (omega arith) _ is c.args.upper.now c.args.least c.args.machines.now heads
           c.args.notes.now k d refl refl c.head-head.ensures here c.loop-note.invariant.within;
       up_to = λ top small up_to. up_to_turn c.loop-note.raises m note.head c.head-head.result (omega arith) _ is top
           (let a = c.head-head.ensures in let b = small note.position in omega arith)
@@ -40,7 +40,8 @@ loop-note-preserved-then-head-eq0 g c =
     in let none = c.if-head-eq0.true in let read = c.head-head.ensures
     in record {
       long = c.loop-note.invariant.long;
-      within = within_none c.loop-note.raises c.args.machines.now (g.L.Lanes.rows c.args.lanes.now).heads
-          c.args.notes.now k d (omega arith) here c.loop-note.invariant.within;
+      within = within_none c.loop-note.raises c.args.upper.now c.args.least c.args.machines.now
+          (g.L.Lanes.rows c.args.lanes.now).heads c.args.notes.now k d here (omega arith)
+          c.loop-note.invariant.within;
       up_to = c.loop-note.invariant.up_to;
     }

@@ -12,4 +12,4 @@ returns-clause-kept g c w kept placed =
     (c.child_bound.ensures.heads w was.kept placed) c.child_bound.ensures.ends c.child_bound.new.notes
     c.child_bound.ensures.notes _
     (written_long c.self.inside.raises c.as_mut_slice.result.now c.child_bound.new.raises
-    c.as_mut_slice.ensures.value c.child_bound.ensures.long)
+    c.as_mut_slice.ensures.value c.child_bound.ensures.long) _ c.child_bound.ensures.estimates

@@ -65,4 +65,5 @@ returns g c w kept fits at placed =
     c.keep_ends.ensures.beside
     (subst (λ (steps : List ℕ). AreEndsOf g.L.Lanes.GREATEST c.self.inside.layout steps
     (g.L.Lanes.rows c.keep_ends.new.lanes)) c.jobs_steps-steps.ensures c.keep_ends.ensures.ends) _
-    (rw c.unwrap.ensures at c.push.ensures.items) _ c.push.ensures.capacity
+    (rw c.unwrap.ensures at c.push.ensures.items) _ c.push.ensures.capacity _
+    c.forget.ensures

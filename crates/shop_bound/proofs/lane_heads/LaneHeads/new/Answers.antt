@@ -45,7 +45,7 @@ set_ends-requires g c =
 pub machines_of-requires-clause-small : goal.machines_of-requires-clause-small
 machines_of-requires-clause-small g c m known =
     let a = blocks_within c.args.instance.now c.keeps_limits.ensures c.args.layout c.requires.laid m
-    (let b = c.machines.ensures in omega arith)
+    (let b = c.machines-machines.ensures in omega arith)
     in let long : length c.times.result.now ≡ length c.args.layout.times = ap length c.times.ensures
     in let small = c.times.type_inv.0 in omega arith
 
@@ -67,9 +67,9 @@ returns g c =
     c.in_ok-machines_of.field-0.items (length c.in_ok-vec.field-0.items) (c.latest_end.result + 1)
     (record {
       machines_at = subst (λ (n : ℕ). AreMachinesAt c.args.layout n c.in_ok-machines_of.field-0.items)
-          c.machines.ensures c.in_ok-machines_of.ensures;
-      as_many = (let a = c.in_ok-vec.ensures.len in let b = c.in_ok-vec.field-0.ok.0 in let d = c.machines-2.ensures
+          c.machines-machines.ensures c.in_ok-machines_of.ensures;
+      as_many = (let a = c.in_ok-vec.ensures.len in let b = c.in_ok-vec.field-0.ok.0 in let d = c.machines-machines.ensures
           in omega arith);
       top_is = (let a = c.latest_end.ensures.latest in omega arith);
       holds = c.requires.fits;
-    })
+    }) _ c.in_ok-new.ensures

@@ -85,4 +85,4 @@ returns g c w kept placed =
     c.keep_ends.ensures.beside
     (subst (λ (steps : List ℕ). AreEndsOf g.L.Lanes.GREATEST c.self.inside.layout steps
     (g.L.Lanes.rows c.keep_ends.new.lanes)) c.jobs_steps-steps.ensures c.keep_ends.ensures.ends) c.truncate.new.self
-    c.truncate.ensures _ c.pop.ensures.capacity
+    c.truncate.ensures _ c.pop.ensures.capacity _ c.forget.ensures
