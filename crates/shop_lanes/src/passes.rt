@@ -177,7 +177,36 @@ fn spans_of_many<B: Block>(
     most
 }
 
-/// The same, laid out by the number of blocks where there are at most eight.
+/// The same for machines of four blocks and more, in a function of its own.
+#[inline(never)]
+fn spans_of_longer<B: Block>(
+    heads: &[B::Number],
+    times: &[B::Number],
+    tails: &[B::Number],
+    above: u64,
+    upto: u64,
+    most: B,
+) -> B
+    requires whole_blocks { length heads.now % 8 ≡ 0 }
+    requires times { length times.now ≡ length heads.now }
+    requires tails { length tails.now ≡ length heads.now }
+    requires room { length heads.now + 64 ≤ 2 ^ 64 }
+    requires above { above ≤ B.GREATEST }
+    requires most { length (B.numbers most) ≡ 8 }
+    requires fits { FitsSpan B.GREATEST upto (lanes_by B.value heads.now times.now tails.now) }
+    ensures { HasAllSpans B.numbers B.value heads.now times.now tails.now above upto most result }
+{
+    match heads.len() {
+        32 => spans_of_few(32, heads, times, tails, above, upto, most),
+        40 => spans_of_few(40, heads, times, tails, above, upto, most),
+        48 => spans_of_few(48, heads, times, tails, above, upto, most),
+        56 => spans_of_few(56, heads, times, tails, above, upto, most),
+        64 => spans_of_few(64, heads, times, tails, above, upto, most),
+        _ => spans_of_many(heads, times, tails, above, upto, most),
+    }
+}
+
+/// The same, laid out by the number of blocks.
 #[inline(always)]
 fn spans_by_count<B: Block>(
     heads: &[B::Number],
@@ -200,12 +229,7 @@ fn spans_by_count<B: Block>(
         8 => spans_of_few(8, heads, times, tails, above, upto, most),
         16 => spans_of_few(16, heads, times, tails, above, upto, most),
         24 => spans_of_few(24, heads, times, tails, above, upto, most),
-        32 => spans_of_few(32, heads, times, tails, above, upto, most),
-        40 => spans_of_few(40, heads, times, tails, above, upto, most),
-        48 => spans_of_few(48, heads, times, tails, above, upto, most),
-        56 => spans_of_few(56, heads, times, tails, above, upto, most),
-        64 => spans_of_few(64, heads, times, tails, above, upto, most),
-        _ => spans_of_many(heads, times, tails, above, upto, most),
+        _ => spans_of_longer(heads, times, tails, above, upto, most),
     }
 }
 
