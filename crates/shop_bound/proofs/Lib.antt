@@ -68,3 +68,4 @@ pub mod ChildRaises
 pub mod ChildTurns
 pub mod ChildReads
 pub mod LaneStandings
+pub mod SoleCandidates
