@@ -20,8 +20,8 @@ fn place_above(bound: u64, opens: &[Open]) -> usize
 }
 
 /// Replaces the list with the children of the desk's word with bounds below the limit, by bound, then by job, the first
-/// one last; and tells how many others there are. A child that is alone has the word's bound, which is at hand. There is
-/// room for all jobs in the list of jobs.
+/// one last; and tells how many others there are. The word's bound is at hand, and a child that is alone has it too.
+/// There is room for all jobs in the list of jobs.
 pub(crate) fn gather_children(
     children: &mut Vec<Open>,
     desk: &mut Desk,
