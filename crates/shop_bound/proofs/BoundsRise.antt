@@ -225,6 +225,20 @@ module _ (shop : Shop) (limits : IsWithinLimits shop) (p : Placing) (j : ℕ) (q
       late [] h = tt
       late (w ∷ ws) h = (h.0, late ws h.1)
 
+  -- before it is placed it is among what waits for its machine, so it ends by the bound of that
+  waits_on : (m : ℕ) → was.machine ≡ m → triples_on m (waiting shop p)
+      ≡ triples_on m (fronts p) ++ was.triple ∷ triples_on m (rest_before ++ backs p)
+  waits_on m e =
+      ap (triples_on m) before ∙ (triples_append m (fronts p) (was ∷ (rest_before ++ backs p))
+      ∙ ap (λ (xs : List Triple). triples_on m (fronts p) ++ xs) (triples_next m was (rest_before ++ backs p) e))
+
+  pub end-le-left : (m : ℕ) → machine_of shop j (p.steps j) ≡ m → q.free m ≤ one (triples_on m (waiting shop p))
+  unfolding was placed_op
+  end-le-left m e =
+      let a = alone-le (triples_on m (fronts p)) was.triple (triples_on m (rest_before ++ backs p))
+      in let b = ap one (waits_on m e)
+      in let c = ends_free m e in omega arith
+
   module _ (b : ℕ) (ends : placed_end shop q ≤ b) (each : (m : ℕ) → m < shop.machines
       → one (triples_on m (waiting shop q)) ≤ b) where
     -- its own head, time and tail: it is the last of its route and ends by b, or the next one waits for as much
@@ -273,10 +287,7 @@ module _ (shop : Shop) (limits : IsWithinLimits shop) (p : Placing) (j : ℕ) (q
 
     machine_rises : (m : ℕ) → m < shop.machines → one (triples_on m (waiting shop p)) ≤ b
     machine_rises m known = elim (cases_eq was.machine m) [
-      | inl e ↦ (let split : triples_on m (waiting shop p)
-          ≡ triples_on m (fronts p) ++ was.triple ∷ triples_on m (rest_before ++ backs p) =
-          ap (triples_on m) before ∙ (triples_append m (fronts p) (was ∷ (rest_before ++ backs p))
-          ∙ ap (λ (xs : List Triple). triples_on m (fronts p) ++ xs) (triples_next m was (rest_before ++ backs p) e))
+      | inl e ↦ (let split = waits_on m e
           in rw split (one_taken was.triple (triples_on m (fronts p)) (triples_on m (rest_before ++ backs p))
           (triples_on m (waiting shop q)) b
           (raised_for m) (late_for m e) alone (each m known)))

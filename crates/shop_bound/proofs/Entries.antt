@@ -5,11 +5,11 @@ use Rattle.std.proofs.lemmas.Bool.{cases_eq}
 use Rattle.std.proofs.lemmas.List.{take-append-drop, take_more}
 use Rattle.std.proofs.lemmas.List.Sums.{sum_by-append}
 use Rattle.shop_model.specs.Limits.{IsWithinLimits}
-use Rattle.shop_model.specs.Shop.{Shop, machine_of}
+use Rattle.shop_model.specs.Shop.{Shop, machine_of, route_of}
 use Rattle.shop_model.specs.Word.{Placing, count_of, IsWord, placing, place_next}
 use Rattle.shop_model.proofs.Placings.{IsNext, place_next-is}
 use Rattle.shop_model.proofs.Unders.{placing-snoc}
-use Rattle.shop_model.proofs.WordLemmas.{snoc_induct}
+use Rattle.shop_model.proofs.WordLemmas.{count_of-snoc_same, count_of-snoc_other, snoc_induct}
 
 pub count_of-append : (j : ℕ) (v u : List ℕ) → count_of j (v ++ u) ≡ count_of j v + count_of j u
 count_of-append j v u = sum_by-append (λ x. cond (eqb x j) 1 0) v u
@@ -20,6 +20,16 @@ IsWord-front shop v u h j = let a = h j in let b = count_of-append j v u in omeg
 
 pub IsWord-take : (shop : Shop) (w : List ℕ) (i : ℕ) → IsWord shop w → IsWord shop (take i w)
 IsWord-take shop w i h = IsWord-front shop (take i w) (drop i w) (rw take-append-drop h)
+
+-- a word with one more entry of a job that has a step left
+pub IsWord-snoc : (shop : Shop) (w : List ℕ) (j : ℕ) → IsWord shop w → count_of j w < length (route_of shop j)
+    → IsWord shop (w ++ j ∷ [])
+IsWord-snoc shop w j word h i = elim (cases_eq i j) [
+  | inl e ↦ (let a = count_of-snoc_same w i j e in let b : count_of i w ≡ count_of j w = ap (λ n. count_of n w) e
+      in let c : length (route_of shop i) ≡ length (route_of shop j) = ap (λ n. length (route_of shop n)) e
+      in omega arith)
+  | inr ne ↦ (let a = count_of-snoc_other w i j ne in let b = word i in omega arith)
+]
 
 -- one more entry is placed
 pub placing-take : (shop : Shop) (w : List ℕ) (i : ℕ) → i < length w

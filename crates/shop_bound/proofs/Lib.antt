@@ -70,3 +70,4 @@ pub mod EstimatedRaises
 pub mod ChildTurns
 pub mod ChildReads
 pub mod LaneStandings
+pub mod SoleCandidates

@@ -6,11 +6,14 @@
 --     conflicts_with shop p c j          whether job j's next operation is in conflict with that of
 --                                        job c
 --     conflict shop w                    the conflict set of a word
-use Rattle.std.specs.Prelude.{ℕ, ◌+◌, max, Bool, ◌&&◌, ◌||◌, List, [], ◌∷◌, length, filter}
-use Rattle.std.specs.Prelude.{◌==◌, nat_lt}
+--     SoleCandidateKeepsBound shop w     where the conflict set is one job, its next operation
+--                                        leaves the bound as it is
+use Rattle.std.specs.Prelude.{◌≡◌, ℕ, ◌+◌, max, Bool, ◌&&◌, ◌||◌, List, [], ◌∷◌, ◌++◌, length}
+use Rattle.std.specs.Prelude.{filter, ◌==◌, nat_lt}
 use Rattle.std.specs.List.{range_with_len, best_of}
 use Rattle.shop_model.specs.Shop.{Shop, route_of, machine_of, time_of}
 use Rattle.shop_model.specs.Word.{Placing, placing}
+use Rattle.shop_bound.specs.Bound.{lb}
 
 -- the jobs with steps left, in order
 abbrev pub open_jobs : Shop → Placing → List ℕ
@@ -43,3 +46,7 @@ conflict_among shop p (j ∷ js) = filter (conflicts_with shop p (chosen_of shop
 
 abbrev pub conflict : Shop → List ℕ → List ℕ
 conflict shop w = let p = placing shop w in conflict_among shop p (open_jobs shop p)
+
+abbrev pub SoleCandidateKeepsBound : Shop → List ℕ → Type 0
+SoleCandidateKeepsBound shop w =
+    (j : ℕ) → conflict shop w ≡ j ∷ [] → lb shop (w ++ j ∷ []) ≡ lb shop w

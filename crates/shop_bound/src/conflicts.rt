@@ -1,6 +1,6 @@
 // The conflict set of what is dispatched (Giffler and Thompson 1960).
 ghost use Rattle.std.specs.Prelude.{◌≡◌, ◌≤◌, length, vec_capacity};
-ghost use Rattle.shop_bound.specs.Conflicts.{conflict};
+ghost use Rattle.shop_bound.specs.Conflicts.{conflict, SoleCandidateKeepsBound};
 
 use crate::desks::Desk;
 
@@ -15,5 +15,13 @@ impl<'a> Desk<'a> {
         ensures room { vec_capacity jobs.old ≤ vec_capacity jobs.new }
     {
         (*self.waiting).gather_conflict(jobs, self.instance, &self.placement);
+    }
+
+    /// Where the conflict set is one job, its next operation leaves the bound as it is. (A fact for proofs; the call
+    /// does nothing.)
+    pub fn sole_candidate_keeps_bound(&self)
+        ensures { SoleCandidateKeepsBound self.now.shop self.now.word }
+    {
+        let _jobs = &self.jobs;
     }
 }

@@ -1,6 +1,6 @@
 -- Branching loses no table: for each table under a word that isn't full, some child has one under it that ends no
 -- later.
-use Rattle.std.proofs.Common.{◌≡◌, ℕ, zero, suc, ◌+◌, ◌-◌, ◌≤◌, ◌<◌, ◌⊎◌, inl, inr, false, ◌&&◌, List, [], ◌∷◌, ◌++◌}
+use Rattle.std.proofs.Common.{◌≡◌, ℕ, zero, suc, ◌+◌, ◌-◌, ◌≤◌, ◌⊎◌, inl, inr, false, ◌&&◌, List, [], ◌∷◌, ◌++◌}
 use Rattle.std.proofs.Common.{length, map, refl, sym, ◌∙◌, ap, subst, arith, eqb, ltb}
 use Rattle.std.specs.List.{AllByRecursion, filter, range_with_len}
 use Rattle.shop_tree.specs.Laws.{LosesNoTable}
@@ -15,21 +15,12 @@ use Rattle.shop_model.proofs.Ends.{IsOperation-job}
 use Rattle.shop_model.proofs.Placings.{IsNext, place_next-is, Follows, follows_next, steps_grow, merged, merged_ends}
 use Rattle.shop_model.proofs.Unders.{AfterWord, after_word, follows_word, merged_under, under-snoc, placing-snoc}
 use Rattle.shop_bound.specs.Bound.{lb}
+use Rattle.shop_bound.proofs.Entries.{IsWord-snoc}
 use Rattle.shop_bound.proofs.Lists.{all_filter}
 use Rattle.shop_tree.specs.Branching.{open_jobs, next_machine, next_head, next_end, chosen_of, conflicts_with}
 use Rattle.shop_tree.specs.Branching.{conflict_among, conflict, branch}
 use Rattle.shop_tree.proofs.FirstOn.{IsFirstOn, first_on}
 use Rattle.shop_tree.proofs.Members.{In, in_all, in_filter, in_map, in_sort, in_range, best_of-least, contains_in}
-
--- where j is a next operation that a word can take
-pub IsWord-snoc : (shop : Shop) (w : List ℕ) (j : ℕ) → IsWord shop w → count_of j w < length (route_of shop j)
-    → IsWord shop (w ++ j ∷ [])
-IsWord-snoc shop w j word h i = elim (cases_eq i j) [
-  | inl e ↦ (let a = count_of-snoc_same w i j e in let b : count_of i w ≡ count_of j w = ap (λ n. count_of n w) e
-      in let c : length (route_of shop i) ≡ length (route_of shop j) = ap (λ n. length (route_of shop n)) e
-      in omega arith)
-  | inr ne ↦ (let a = count_of-snoc_other w i j ne in let b = word i in omega arith)
-]
 
 -- a child of w with a table under it that ends no later
 pub record HasChild (shop : Shop) (w : List ℕ) (js : List ℕ) (starts : Starts) : Type 0 where

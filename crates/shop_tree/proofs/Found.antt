@@ -8,12 +8,12 @@ use Rattle.shop_model.specs.Shop.{Shop, route_of}
 use Rattle.shop_model.specs.Word.{placing, IsWord}
 use Rattle.shop_model.proofs.Unders.{after_word}
 use Rattle.shop_bound.specs.Bound.{lb}
+use Rattle.shop_bound.proofs.Entries.{IsWord-snoc}
 use Rattle.shop_bound.proofs.Lists.{all_append, all_filter}
 use Rattle.shop_tree.specs.Branching.{open_jobs, chosen_of, conflicts_with, conflict_among, conflict, branch}
 use Rattle.shop_tree.specs.Walking.{Walk, walk, walk_within, operations_left, taking, unless_cut, sheet}
 use Rattle.shop_tree.specs.Laws.{IsBestOf, SearchesLoseNoTable}
 use Rattle.shop_tree.proofs.Members.{in_contains, contains_in, all_contains, contains_all, all_sort}
-use Rattle.shop_tree.proofs.BetterChildren.{IsWord-snoc}
 use Rattle.shop_tree.proofs.Counting.{full_from}
 use Rattle.shop_tree.proofs.SearchLaw.{walk_goes_on, fold_goes_on, Reaches, reaches_later, fold_reaches, walk_reaches}
 

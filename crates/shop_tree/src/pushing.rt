@@ -20,8 +20,8 @@ fn place_above(bound: u64, opens: &[Open]) -> usize
 }
 
 /// Replaces the list with the children of the desk's word with bounds below the limit, by bound, then by job, the first
-/// one last; and tells how many others there are. The word's bound is at hand, and there is room for all jobs in the
-/// list of jobs.
+/// one last; and tells how many others there are. The word's bound is at hand, and a child that is alone has it too.
+/// There is room for all jobs in the list of jobs.
 pub(crate) fn gather_children(
     children: &mut Vec<Open>,
     desk: &mut Desk,
@@ -39,6 +39,12 @@ pub(crate) fn gather_children(
     desk.gather_conflict(jobs);
     let depth = desk.jobs().len();
     children.clear();
+    if jobs.len() == 1 && bound < limit {
+        desk.sole_candidate_keeps_bound();
+        let job = jobs[0];
+        children.push(Open { depth, job, bound })?;
+        return Ok(0);
+    }
     let mut others = 0;
     // The last job first: of equal bounds the lower job then comes to lie above.
     while let Some(job) = jobs.pop() {

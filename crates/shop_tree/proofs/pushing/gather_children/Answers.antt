@@ -6,7 +6,7 @@ use Rattle.shop_bound.specs.Desks.{DeskState}
 use Rattle.shop_tree.specs.inner.Opens.{IsPlaceAbove}
 use Rattle.shop_tree.specs.declared.opens.Open.{Open}
 use Rattle.shop_tree.proofs.ChildrenLemmas.{child-word}
-use Rattle.shop_tree.proofs.PushLemmas.{gathered_none, gathered_other, gathered_open}
+use Rattle.shop_tree.proofs.PushLemmas.{gathered_none, gathered_other, gathered_open, only_child}
 use Rattle.shop_tree.proofs.pushing.gather_children.Goals as goal
 
 pub loop-job-init : goal.loop-job-init
@@ -80,3 +80,12 @@ loop-job-preserved c =
         room = (let a = now.1.room in let b = c.pop.ensures.capacity in omega arith);
       },
     )
+
+pub returns-then-bound-limit-clause-children : goal.returns-then-bound-limit-clause-children
+returns-then-bound-limit-clause-children c =
+    let desk = c.args.desk.now
+    in only_child desk.shop c.args.limit desk.word c.keeps_word.ensures.word c.sole_candidate_keeps_bound.ensures
+    c.gather_conflict.new.jobs.items c.gather_conflict.ensures.jobs (omega arith)
+    (record { depth = length c.jobs-depth.result.now; job = c.index-job.result.now; bound = c.args.bound }) _
+    c.index-job.ensures (ap length c.jobs-depth.ensures) c.requires.bound (omega arith) _ _ c.clear.ensures.items
+    c.in_ok-push.ensures.items

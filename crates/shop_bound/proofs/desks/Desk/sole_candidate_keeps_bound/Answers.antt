@@ -1,0 +1,12 @@
+use Rattle.std.proofs.Common.{subst}
+use Rattle.shop_bound.specs.Conflicts.{SoleCandidateKeepsBound}
+use Rattle.shop_bound.specs.Desks.{DeskState}
+use Rattle.shop_bound.proofs.SoleCandidates.{waiting_keeps_bound}
+use Rattle.shop_bound.proofs.desks.Desk.sole_candidate_keeps_bound.Goals as goal
+
+pub returns : goal.returns
+returns c =
+    let kept = c.self.invariant.kept
+    in subst (λ (d : DeskState). SoleCandidateKeepsBound d.shop d.word) c.self.view_is
+    (waiting_keeps_bound c.self.inside.instance.now kept.limits c.self.inside.jobs.items kept.word _
+    c.self.invariant.lanes)
