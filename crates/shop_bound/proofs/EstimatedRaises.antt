@@ -1,14 +1,14 @@
 -- Notes and estimates from before together bound what is left after one more operation.
-use Rattle.std.proofs.Common.{◌≡◌, ℕ, ◌+◌, ◌-◌, ◌*◌, ◌≤◌, ◌<◌, ◌⊎◌, inl, inr, List, [], ◌∷◌, ◌++◌, length}
-use Rattle.std.proofs.Common.{get_or, refl, sym, ◌∙◌, ap, subst, arith, take, drop}
+use Rattle.std.proofs.Common.{◌≡◌, ℕ, ◌+◌, ◌-◌, ◌*◌, ◌≤◌, ◌<◌, inl, inr, List, [], ◌∷◌, ◌++◌, length}
+use Rattle.std.proofs.Common.{get_or, refl, sym, ◌∙◌, ap, subst, arith, drop}
 use Rattle.std.specs.List.{All}
 use Rattle.std.proofs.lemmas.Bool.{cases_lt}
 use Rattle.std.proofs.lemmas.List.{get_or-take, get_or-drop}
-use Rattle.shop_lanes.specs.Rows.{Rows, Lane, AreBlocks, lanes, blocks}
+use Rattle.shop_lanes.specs.Rows.{Rows, Lane, lanes, blocks}
 use Rattle.shop_lanes.proofs.LaneLists.{length-blocks, lanes-blocks}
 use Rattle.shop_model.specs.Limits.{IsWithinLimits}
 use Rattle.shop_model.specs.Shop.{Shop}
-use Rattle.shop_model.specs.Word.{Placing, IsWord, placing, place_next}
+use Rattle.shop_model.specs.Word.{IsWord, placing, place_next}
 use Rattle.shop_model.proofs.Placings.{place_next-is}
 use Rattle.shop_bound.specs.Bound.{lb}
 use Rattle.shop_bound.specs.inner.Estimates.{AreEstimates, IsNoteCovered}
@@ -18,7 +18,7 @@ use Rattle.shop_bound.specs.inner.LaneHeads.{AreHeadsAt, restored}
 use Rattle.shop_bound.specs.inner.Layouts.{LayoutState, IsLaidOut, place, first_of}
 use Rattle.shop_bound.specs.declared.head_raises.Raise.{Raise}
 use Rattle.shop_bound.specs.declared.notes.Note.{Note}
-use Rattle.shop_bound.proofs.ChildRaises.{IsBounded, bounded_by_raise, covered_by_notes, covered_all, heads_small}
+use Rattle.shop_bound.proofs.ChildRaises.{IsBounded, bounded_by_raise, covered_by_notes, covered_all}
 use Rattle.shop_bound.proofs.ChildRaises.{noted_or_same}
 use Rattle.shop_bound.proofs.HeadsStay.{steps_rise}
 use Rattle.shop_bound.proofs.LaidPlaces.{each_position}

@@ -11,7 +11,7 @@ use std::alloc::{AllocError, Global};
 use std::marker::Model;
 
 /// The heads of a machine are cut into so many parts.
-const PARTS: u64 = 8;
+const PARTS: u64 = 6;
 
 /// Where the heads of a machine are cut: at the least, and then in equal parts up to the greatest.
 #[derive(Clone, Copy, Debug)]
@@ -111,6 +111,7 @@ impl Estimates {
     }
 
     /// Takes them, unless they are there or aren't wanted.
+    #[inline(always)]
     pub(crate) fn take<L: Lanes>(&mut self, lanes: &L, layout: &Layout, machines: usize, top: u64)
         requires small { length (L.rows lanes.now).heads < 2 ^ 64 }
         requires fits { AreSpansFit L.GREATEST top machines layout.now (L.rows lanes.now) }
@@ -126,9 +127,9 @@ impl Estimates {
     fn take_all<L: Lanes>(&mut self, lanes: &L, layout: &Layout, machines: usize, top: u64)
         requires small { length (L.rows lanes.now).heads < 2 ^ 64 }
         requires fits { AreSpansFit L.GREATEST top machines layout.now (L.rows lanes.now) }
+        requires none { self.old ≡ [] }
         ensures { AreEstimates top layout.now (L.rows lanes.now) self.new }
     {
-        self.upper.clear();
         for machine in 0..machines {
             let (from, to) = (layout.block(machine), layout.block(machine + 1));
             let estimate = estimate_of(lanes, from, to, top);

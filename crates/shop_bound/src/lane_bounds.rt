@@ -161,7 +161,12 @@ pub(crate) fn set_raises<L: Lanes>(
 {
     if whole {
         set_all(raises, NO_RAISE);
-        widen(raises, machines, lanes, notes, upper, least);
+        // no note is tested where there are no estimates
+        if upper.is_empty() {
+            widen(raises, machines, lanes, notes, &[], least);
+        } else {
+            widen(raises, machines, lanes, notes, upper, least);
+        }
     } else {
         set_all(raises, Raise { from: 0, to: top });
     }

@@ -24,7 +24,7 @@ use std::alloc::{AllocError, Global};
 use std::marker::Model;
 
 /// Estimates are worth their while where machines have more blocks on average.
-const LONG_BLOCKS: usize = 8;
+const LONG_BLOCKS: usize = 4;
 
 /// The heads of what a word leaves, one number a position, with notes that lead back through the word, and the ends of
 /// its next operations by job. Notes take more memory as they need it.

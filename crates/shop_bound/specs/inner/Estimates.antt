@@ -3,7 +3,7 @@
 --     AreEstimates top l rows us     those of the first machines
 --     IsSmallRise                    a head that rose, and by no more than the estimate of its
 --                                    machine is below a bound
-use Rattle.std.specs.Prelude.{◌≡◌, ℕ, ◌+◌, ◌≤◌, ◌<◌, ◌⊎◌, List, length, slice_index}
+use Rattle.std.specs.Prelude.{ℕ, ◌+◌, ◌≤◌, ◌<◌, ◌⊎◌, List, length, slice_index}
 use Rattle.shop_lanes.specs.Rows.{Rows, Lane}
 use Rattle.shop_lanes.specs.Spans.{span}
 use Rattle.shop_bound.specs.inner.LaneBounds.{IsNoteWithin, lanes_on}
