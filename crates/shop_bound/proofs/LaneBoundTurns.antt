@@ -10,7 +10,7 @@ use Rattle.shop_lanes.specs.Spans.{spans_from, spans_between}
 use Rattle.shop_lanes.specs.Marks.{marked, waits_below}
 use Rattle.shop_lanes.proofs.LaneLists.{length-blocks}
 use Rattle.shop_lanes.proofs.SpanTurns.{spans_low, spans_high}
-use Rattle.shop_bound.specs.inner.Estimates.{IsNoteCovered, IsSmallRise}
+use Rattle.shop_bound.specs.inner.Estimates.{IsNoteCovered}
 use Rattle.shop_bound.specs.inner.HeadRaises.{no_raise, raise_of, widened}
 use Rattle.shop_bound.specs.inner.LaneBounds.{lanes_on, NoneBelow, AreMachinesAt, AreRaisesUpTo, IsNoteWithin}
 use Rattle.shop_bound.specs.inner.Layouts.{LayoutState, first_of}
@@ -126,30 +126,17 @@ module _ (raises : List Raise) (m a b : ℕ) (known : m < length raises) (after 
         | inr ne ↦ (let f = ap (λ (r : Raise). r.to) (raise_other i ne) in let u = up_to i (omega arith) in omega arith)
       ]
 
-module _ (raises : List Raise) (us : List ℕ) (least : ℕ) (ms heads : List ℕ) (notes : List Note) (k : ℕ) (d : Note)
-    (here : k < length notes) where
-  -- one more note that is covered
-  covered_turn : IsNoteCovered raises us least ms heads (get_or notes k d)
-      → ((i : ℕ) (e : Note) → i < k → IsNoteCovered raises us least ms heads (get_or notes i e)) → (i : ℕ) (e : Note)
-      → i < k + 1 → IsNoteCovered raises us least ms heads (get_or notes i e)
-  covered_turn covered within i e below = elim (cases_eq i k) [
-    | inl same ↦ subst (IsNoteCovered raises us least ms heads) (sym (ap (λ (n : ℕ). get_or notes n e) same
-        ∙ get_or_default notes k e d here)) covered
-    | inr ne ↦ within i e (omega arith)
-  ]
-
-  -- at a position where nothing waits now
-  pub within_none : get_or heads (get_or notes k d).position 0 ≡ 0
-      → ((i : ℕ) (e : Note) → i < k → IsNoteCovered raises us least ms heads (get_or notes i e)) → (i : ℕ) (e : Note)
-      → i < k + 1 → IsNoteCovered raises us least ms heads (get_or notes i e)
-  within_none none = covered_turn
-      (inl (record { from = λ some. absurd (omega arith); to = λ some. absurd (omega arith) }))
-
-  -- of a head that rose by little
-  pub within_small : IsSmallRise us least ms heads (get_or notes k d)
-      → ((i : ℕ) (e : Note) → i < k → IsNoteCovered raises us least ms heads (get_or notes i e)) → (i : ℕ) (e : Note)
-      → i < k + 1 → IsNoteCovered raises us least ms heads (get_or notes i e)
-  within_small small = covered_turn (inr small)
+-- one more note, at a position where nothing waits now
+pub within_none : (raises : List Raise) (us : List ℕ) (least : ℕ) (ms heads : List ℕ) (notes : List Note) (k : ℕ)
+    (d : Note) → k < length notes → get_or heads (get_or notes k d).position 0 ≡ 0
+    → ((i : ℕ) (e : Note) → i < k → IsNoteCovered raises us least ms heads (get_or notes i e)) → (i : ℕ) (e : Note)
+    → i < k + 1 → IsNoteCovered raises us least ms heads (get_or notes i e)
+within_none raises us least ms heads notes k d here none within i e below = elim (cases_eq i k) [
+  | inl same ↦ inl (subst (IsNoteWithin raises ms heads) (sym (ap (λ (n : ℕ). get_or notes n e) same
+      ∙ get_or_default notes k e d here))
+      (record { from = λ some. absurd (omega arith); to = λ some. absurd (omega arith) }))
+  | inr ne ↦ within i e (omega arith)
+]
 
 -- one more machine looked at for its raise
 pub covers_turn : (raises : List Raise) (rows : Rows) (l : LayoutState) (n old new : ℕ) → old ≤ new

@@ -1,8 +1,10 @@
 -- Upper estimates of the bounds of machines, by heads in lanes.
---     IsEstimate top u xs            no span of these lanes, from a moment up to `top` on, is above u
+--     IsEstimate top u xs            no span of these lanes is above u, from whatever moment up to
+--                                    `top` all that begins no earlier is served
 --     AreEstimates top l rows us     those of the first machines
---     IsSmallRise                    a head that rose, and by no more than the estimate of its
---                                    machine is below a bound
+--     IsSmallOn us least m a b       by the estimate of its machine m, a head that rose from a to b
+--                                    brings no span above least + 1
+--     IsNoteCovered                  a head that was noted did so, or is within a raise
 use Rattle.std.specs.Prelude.{ℕ, ◌+◌, ◌≤◌, ◌<◌, ◌⊎◌, List, length, slice_index}
 use Rattle.shop_lanes.specs.Rows.{Rows, Lane}
 use Rattle.shop_lanes.specs.Spans.{span}
@@ -18,18 +20,14 @@ abbrev pub AreEstimates : ℕ → LayoutState → Rows → List ℕ → Type 0
 AreEstimates top l rows us =
     (m : ℕ) → m < length us → IsEstimate top (slice_index us m) (lanes_on rows l m)
 
--- an estimate is known of machine m, and with a head's rise it is at most one more than `least`
+-- an estimate of machine m is known, and together with the rise it is at most least + 1
 pub record IsSmallOn (us : List ℕ) (least m before now : ℕ) : Type 0 where
   pub known : m < length us
   pub low : slice_index us m ≤ least + 1
   pub small : slice_index us m + now ≤ before + (least + 1)
 
--- the head that was replaced at the note's position rose by little
-abbrev pub IsSmallRise : List ℕ → ℕ → List ℕ → List ℕ → Note → Type 0
-IsSmallRise us least ms heads note = IsSmallOn us least (slice_index ms note.position) note.head
-    (slice_index heads note.position)
-
--- it is within the raise of its machine, or rose by little
 abbrev pub IsNoteCovered : List Raise → List ℕ → ℕ → List ℕ → List ℕ → Note → Type 0
 IsNoteCovered raises us least ms heads note =
-    IsNoteWithin raises ms heads note ⊎ IsSmallRise us least ms heads note
+    IsNoteWithin raises ms heads note
+    ⊎ IsSmallOn us least (slice_index ms note.position) note.head
+    (slice_index heads note.position)
