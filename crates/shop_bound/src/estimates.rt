@@ -13,6 +13,9 @@ use std::marker::Model;
 /// The heads of a machine are cut into so many parts.
 const PARTS: u64 = 6;
 
+/// So many children of a word are bounded without estimates before these are taken.
+const PATIENCE: usize = 4;
+
 /// Where the heads of a machine are cut: at the least, and then in equal parts up to the greatest.
 #[derive(Clone, Copy, Debug)]
 struct Cuts {
@@ -84,6 +87,8 @@ fn estimate_of<L: Lanes>(lanes: &L, from: usize, to: usize, top: u64) -> u64
 pub(crate) struct Estimates {
     upper: Vec<u64>,
     are_wanted: bool,
+    /// how often they were asked for and not taken since the heads changed
+    asked: usize,
 }
 
 impl Model for Estimates {
@@ -107,10 +112,11 @@ impl Estimates {
         Ok(Estimates {
             upper: Vec::with_capacity(alloc, room)?,
             are_wanted,
+            asked: 0,
         })
     }
 
-    /// Takes them, unless they are there or aren't wanted.
+    /// Takes them where they were asked for several times, unless they are there or aren't wanted.
     #[inline(always)]
     pub(crate) fn take<L: Lanes>(&mut self, lanes: &L, layout: &Layout, machines: usize, top: u64)
         requires small { length (L.rows lanes.now).heads < 2 ^ 64 }
@@ -118,9 +124,14 @@ impl Estimates {
         requires known { AreEstimates top layout.now (L.rows lanes.now) self.old }
         ensures { AreEstimates top layout.now (L.rows lanes.now) self.new }
     {
-        if self.are_wanted && self.upper.is_empty() {
-            self.take_all(lanes, layout, machines, top);
+        if !self.are_wanted || !self.upper.is_empty() {
+            return;
         }
+        if self.asked < PATIENCE {
+            self.asked += 1;
+            return;
+        }
+        self.take_all(lanes, layout, machines, top);
     }
 
     /// Takes that of each machine; fewer where memory for them is refused.
@@ -146,6 +157,7 @@ impl Estimates {
         ensures { self.new ≡ [] }
     {
         self.upper.clear();
+        self.asked = 0;
     }
 
     #[inline(always)]
