@@ -124,7 +124,6 @@ impl Estimates {
     }
 
     /// Takes that of each machine; fewer where memory for them is refused.
-    #[inline(never)]
     fn take_all<L: Lanes>(&mut self, lanes: &L, layout: &Layout, machines: usize, top: u64)
         requires small { length (L.rows lanes.now).heads < 2 ^ 64 }
         requires fits { AreSpansFit L.GREATEST top machines layout.now (L.rows lanes.now) }
