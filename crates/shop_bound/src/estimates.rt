@@ -13,8 +13,11 @@ use std::marker::Model;
 /// The heads of a machine are cut into so many parts.
 const PARTS: u64 = 6;
 
-/// So many children of a word are bounded without estimates before these are taken.
-const PATIENCE: usize = 4;
+/// Estimates are worth their while where machines have more blocks on average.
+const LONG_BLOCKS: usize = 4;
+
+/// Divided by the blocks of a machine: so many children of a word are bounded before its estimates are taken.
+const PATIENCE: usize = 24;
 
 /// Where the heads of a machine are cut: at the least, and then in equal parts up to the greatest.
 #[derive(Clone, Copy, Debug)]
@@ -87,7 +90,8 @@ fn estimate_of<L: Lanes>(lanes: &L, from: usize, to: usize, top: u64) -> u64
 pub(crate) struct Estimates {
     upper: Vec<u64>,
     are_wanted: bool,
-    /// how often they were asked for and not taken since the heads changed
+    /// how often they are asked for before they are taken, and how often they were since the heads changed
+    patience: usize,
     asked: usize,
 }
 
@@ -100,18 +104,20 @@ impl Model for Estimates {
 }
 
 impl Estimates {
-    /// None are taken yet. Fails with `AllocError` if memory runs out.
+    /// None are taken yet; a machine has so many blocks on average. Fails with `AllocError` if memory runs out.
     pub(crate) fn new(
         alloc: Global,
         machines: usize,
-        are_wanted: bool,
+        blocks: usize,
     ) -> Result<Estimates, AllocError>
         ensures { IfOk result (λ e. e ≡ []) }
     {
+        let are_wanted = blocks > LONG_BLOCKS;
         let room = if are_wanted { machines } else { 0 };
         Ok(Estimates {
             upper: Vec::with_capacity(alloc, room)?,
             are_wanted,
+            patience: PATIENCE / blocks.max(1),
             asked: 0,
         })
     }
@@ -127,7 +133,7 @@ impl Estimates {
         if !self.are_wanted || !self.upper.is_empty() {
             return;
         }
-        if self.asked < PATIENCE {
+        if self.asked < self.patience {
             self.asked += 1;
             return;
         }
@@ -135,7 +141,6 @@ impl Estimates {
     }
 
     /// Takes that of each machine; fewer where memory for them is refused.
-    #[inline(never)]
     fn take_all<L: Lanes>(&mut self, lanes: &L, layout: &Layout, machines: usize, top: u64)
         requires small { length (L.rows lanes.now).heads < 2 ^ 64 }
         requires fits { AreSpansFit L.GREATEST top machines layout.now (L.rows lanes.now) }

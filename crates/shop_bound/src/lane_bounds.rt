@@ -135,6 +135,28 @@ fn set_all(raises: &mut [Raise], raise: Raise)
     }
 }
 
+/// The raises of the machines, if these heads were noted since and some estimates are known.
+#[inline(never)]
+fn set_large_raises<L: Lanes>(
+    raises: &mut [Raise],
+    machines: &[u32],
+    lanes: &L,
+    notes: &[Note],
+    upper: &[u64],
+    least: u64,
+)
+    requires notes { All (λ n. n.position < length (L.rows lanes.now).heads) notes.now }
+    requires positions { length machines.now ≡ length (L.rows lanes.now).heads }
+    requires known { (q : ℕ) → q < length machines.now → slice_index machines.now q < length raises.old }
+    ensures long { length raises.new ≡ length raises.old }
+    ensures within { All (IsNoteCovered raises.new upper.now least machines.now (L.rows lanes.now).heads) notes.now }
+    ensures up_to { (top : ℕ) → ((q : ℕ) → slice_index (L.rows lanes.now).heads q ≤ top)
+        → AreRaisesUpTo top raises.new }
+{
+    set_all(raises, NO_RAISE);
+    widen(raises, machines, lanes, notes, upper, least);
+}
+
 /// The raises of the machines, if these heads were noted since, but for what rose by little; if not all was noted, all
 /// may have changed.
 #[inline(always)]
@@ -159,16 +181,14 @@ pub(crate) fn set_raises<L: Lanes>(
         → raise_of raises.new m ≡ record { from = 0; to = top } }
     ensures up_to { AreRaisesUpTo top raises.new }
 {
-    if whole {
-        set_all(raises, NO_RAISE);
-        // no note is tested where there are no estimates
-        if upper.is_empty() {
-            widen(raises, machines, lanes, notes, &[], least);
-        } else {
-            widen(raises, machines, lanes, notes, upper, least);
-        }
-    } else {
+    if !whole {
         set_all(raises, Raise { from: 0, to: top });
+    } else if upper.is_empty() {
+        // no note is tested where there are no estimates
+        set_all(raises, NO_RAISE);
+        widen(raises, machines, lanes, notes, &[], least);
+    } else {
+        set_large_raises(raises, machines, lanes, notes, upper, least);
     }
 }
 

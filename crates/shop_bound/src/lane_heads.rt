@@ -23,9 +23,6 @@ use shop_model::Instance;
 use std::alloc::{AllocError, Global};
 use std::marker::Model;
 
-/// Estimates are worth their while where machines have more blocks on average.
-const LONG_BLOCKS: usize = 4;
-
 /// The heads of what a word leaves, one number a position, with notes that lead back through the word, and the ends of
 /// its next operations by job. Notes take more memory as they need it.
 #[derive(Drop)]
@@ -86,11 +83,11 @@ impl<L: Lanes> LaneHeads<L> {
         let notes = Notes::with_room(alloc, 4 * room)?;
         let marks = Vec::with_capacity(alloc, room)?;
         let machines = instance.machines();
-        let are_long = layout.block(machines) > LONG_BLOCKS * machines;
+        let blocks = layout.block(machines) / machines.max(1);
         Ok(LaneHeads {
             machines: machines_of(alloc, &layout, machines)?,
             raises: vec![in alloc; NO_RAISE; machines]?,
-            estimates: Estimates::new(alloc, machines, are_long)?,
+            estimates: Estimates::new(alloc, machines, blocks)?,
             top: latest_end(instance) + 1,
             layout,
             lanes,
