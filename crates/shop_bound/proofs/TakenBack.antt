@@ -13,7 +13,7 @@ use Rattle.shop_model.proofs.Unders.{after_word, next_operation}
 use Rattle.shop_model.proofs.WordLemmas.{IsWord-init}
 use Rattle.shop_bound.specs.Placements.{PlacementState, HasPlaces, IsPlacement}
 use Rattle.shop_bound.specs.Trails.{replaced_at}
-use Rattle.shop_bound.specs.inner.TakingBack.{HasLast, TakesBack, TellsNextEnd}
+use Rattle.shop_bound.specs.inner.TakingBack.{HasLast, TakesBack}
 use Rattle.shop_bound.specs.declared.placements.Replaced.{Replaced}
 use Rattle.std.proofs.Common.{max, refl, ◌+◌}
 use Rattle.shop_model.specs.Shop.{time_of}
@@ -115,18 +115,3 @@ replaced_reads shop j s job k o r f reads p is =
     reads.free ∙ (is.free o.machine reads.machine ∙ ap p.free m)
     in ap (λ (x : ℕ). record { ready = x; free = f }) ready
     ∙ ap (λ (x : ℕ). record { ready = p.ready j; free = x }) free
-
--- when the next step ends
-pub next_end_reads : (shop : Shop) (j : ℕ) (s : PlacementState) → j < length shop.jobs → (k : ℕ) (o : Op) (r f : ℕ)
-    → AreReads shop j s k o r f → (begin : ℕ) → begin ≡ max r f → TellsNextEnd shop j s (begin + o.time)
-next_end_reads shop j s job k o r f reads begin e p is =
-    let n = place_next-is shop p j
-    in let step : k ≡ p.steps j = reads.step ∙ is.steps j job
-    in let m : o.machine ≡ machine_of shop j (p.steps j) =
-    ap (λ (x : Op). x.machine) reads.operation ∙ ap (machine_of shop j) step
-    in let t : o.time ≡ time_of shop j (p.steps j) =
-    ap (λ (x : Op). x.time) reads.operation ∙ ap (time_of shop j) step
-    in let ready : r ≡ p.ready j = reads.ready ∙ is.ready j job
-    in let free : f ≡ p.free (machine_of shop j (p.steps j)) =
-    reads.free ∙ (is.free o.machine reads.machine ∙ ap p.free m)
-    in let ends = n.free_here (machine_of shop j (p.steps j)) refl in let begins = n.begins_here in omega arith

@@ -1,5 +1,4 @@
--- The operations of a machine as a program keeps them, and those that aren't placed with their
--- heads.
+-- The operations of a machine as a program keeps them.
 --     operations_on shop m           the operations of machine m, job by job, step by step
 --     AreSlotsOf shop m slots        these, in an order in which the tails fall
 use Rattle.std.specs.Prelude.{◌≡◌, ℕ, ◌≤◌, ◌<◌, ◌==◌, List, [], ◌∷◌, length, map, filter, flat_map}

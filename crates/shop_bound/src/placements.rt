@@ -3,7 +3,7 @@ ghost use Rattle.std.specs.Prelude.{◌≡◌, ◌<◌, IfOk, length, slice_inde
 ghost use Rattle.shop_model.specs.Word.{IsWord, none_placed, placing};
 ghost use Rattle.shop_bound.specs.Placements.{IsPlacement};
 ghost use Rattle.shop_bound.specs.inner.NextSteps.{HasNext, PlacesNext};
-ghost use Rattle.shop_bound.specs.inner.TakingBack.{HasLast, TakesBack, TellsNextEnd, TellsReplaced};
+ghost use Rattle.shop_bound.specs.inner.TakingBack.{HasLast, TakesBack, TellsReplaced};
 
 use shop_model::{Instance, Word};
 use std::alloc::{AllocError, Global};
@@ -82,17 +82,6 @@ impl Placement {
             ready: self.ready[j],
             free: self.free[machine],
         }
-    }
-
-    /// When the next step of job j ends once it is placed.
-    pub(crate) fn next_end(&self, instance: &Instance, j: usize) -> u64
-        requires { HasNext instance.now j self.now }
-        ensures { TellsNextEnd instance.now j self.now result }
-    {
-        let k = self.steps[j];
-        let op = instance.route(j)[k];
-        let start = self.ready[j].max(self.free[op.machine]);
-        start + op.time
     }
 
     /// Takes back the last placed step of job j, which no other one followed, and which replaced this.

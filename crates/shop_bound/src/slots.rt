@@ -1,4 +1,4 @@
-// The operations of each machine by nonincreasing tails, and those that are not placed.
+// The operations of each machine by nonincreasing tails.
 ghost use Rattle.std.specs.Prelude.{◌≡◌, ℕ, ◌<◌, [], slice_index_or, IfOk, OnOk, length, map, replicate};
 ghost use Rattle.shop_model.specs.Shop.{no_op};
 ghost use Rattle.shop_bound.specs.inner.HeadRows.{AreTimesSmall};

@@ -1,5 +1,4 @@
 -- A bound that matters only below a limit.
---     IsBoundUpTo, TellsBoundBelow   a bound that matters only below a limit
 use Rattle.std.specs.Prelude.{◌≡◌, ◌≤◌, ◌<◌, ℕ}
 
 -- b is the bound, or no greater and reaches the limit

@@ -1,7 +1,6 @@
 -- What changed among the heads of a machine, and of rows of heads.
 --     IsWithin r a b                 a head that went from a to b stayed, or `from` is at most a
 --                                    and `to` at least b
---     AreWidened old new             each raise is as it was, or wider
 --     RowWithin shop j old new raises    each head of the row stayed, or changed within its
 --                                        machine's raise
 use Rattle.std.specs.Prelude.{◌≡◌, ℕ, ◌≤◌, ◌⊎◌, min, max, List, [], length, slice_index}
@@ -22,11 +21,6 @@ widened r a b = record { from = min r.from a; to = max r.to b }
 
 abbrev pub IsWithin : Raise → ℕ → ℕ → Type 0
 IsWithin r a b = (a ≡ b) ⊎ ((r.from ≤ a) × (b ≤ r.to))
-
-pub record AreWidened (old new : List Raise) : Type 0 where
-  pub machines : length new ≡ length old
-  pub from : (m : ℕ) → (raise_of new m).from ≤ (raise_of old m).from
-  pub to : (m : ℕ) → (raise_of old m).to ≤ (raise_of new m).to
 
 abbrev pub RowWithin : Shop → ℕ → List ℕ → List ℕ → List Raise → Type 0
 RowWithin shop j old new raises = (k : ℕ) → IsOperation shop j k

@@ -1,4 +1,4 @@
--- The last step of a placement taken back, and when the next one ends.
+-- The last step of a placement taken back.
 --     TellsReplaced, TakesBack       the same of what a program keeps of a placing
 use Rattle.std.specs.Prelude.{◌≡◌, ℕ, List, [], ◌∷◌, ◌++◌}
 use Rattle.shop_model.specs.Shop.{Shop, machine_of}
@@ -23,8 +23,3 @@ abbrev pub TakesBack : Shop → ℕ → Replaced → PlacementState → Placemen
 TakesBack shop j r s t =
     (p : Placing) → IsPlacement shop (place_next shop p j) s → r ≡ replaced_at shop p j
     → IsPlacement shop p t
-
--- whatever was placed, the next step of j ends then
-abbrev pub TellsNextEnd : Shop → ℕ → PlacementState → ℕ → Type 0
-TellsNextEnd shop j s e = (p : Placing) → IsPlacement shop p s
-    → e ≡ (place_next shop p j).free (machine_of shop j (p.steps j))
