@@ -2,7 +2,8 @@
 ghost use Rattle.std.specs.Prelude.{◌≡◌, ℕ, ◌+◌, ◌≤◌, ◌<◌, ◌^◌, length, slice_index};
 ghost use Rattle.shop_lanes.specs.Rows.{AreBlocks, with_head};
 ghost use Rattle.shop_lanes.specs.Spans.{FitsSpan};
-ghost use Rattle.shop_bound.specs.inner.ChildBounds.{CanBound, KeepsHeads, TellsChildBound, TellsRaisedBound};
+ghost use Rattle.shop_bound.specs.inner.ChildBounds.{CanBound, KeepsHeads, TellsChildBound};
+ghost use Rattle.shop_bound.specs.inner.ChildBounds.{TellsRaisedBound};
 ghost use Rattle.shop_bound.specs.inner.ChildBounds.{HasNextInPlace, IsNextOperation};
 ghost use Rattle.shop_bound.specs.inner.Estimates.{AreEstimates};
 ghost use Rattle.shop_bound.specs.inner.LaneBounds.{Foresees, lanes_on};

@@ -1,7 +1,8 @@
 // Heads by position are set anew from a placement, or put back by notes.
 ghost use Rattle.std.specs.Prelude.{◌<◌, length};
 ghost use Rattle.shop_bound.specs.inner.LaneHeads.{AreNotesFit};
-ghost use Rattle.shop_bound.specs.inner.Fills.{CanFill, GoesBack, HasFilled, HasFilledJob, HasPutBack, IsRested};
+ghost use Rattle.shop_bound.specs.inner.Fills.{CanFill, GoesBack, HasFilled, HasFilledJob};
+ghost use Rattle.shop_bound.specs.inner.Fills.{HasPutBack, IsRested};
 
 use crate::layouts::Layout;
 use crate::notes::Note;

@@ -1,9 +1,11 @@
 // The choice among the next operations by lanes.
 ghost use Rattle.std.specs.Prelude.{◌≡◌, ◌+◌, ◌≤◌, ◌<◌, length, vec_capacity};
 ghost use Rattle.shop_lanes.specs.Rows.{AreBlocks};
-ghost use Rattle.shop_bound.specs.inner.LaneChoices.{AreInConflict, AreNextPlaced, CanChoose, IsNextBelow};
+ghost use Rattle.shop_bound.specs.inner.LaneChoices.{AreInConflict, AreNextPlaced, CanChoose};
+ghost use Rattle.shop_bound.specs.inner.LaneChoices.{IsNextBelow};
 ghost use Rattle.shop_bound.specs.inner.Raises.{HasBlocks, IsInBlocks, IsOnMachine};
-ghost use Rattle.shop_bound.specs.inner.RisingLists.{HasGathered, HasPut, IsPlaceFor, IsRisingBelow, TellsBefore};
+ghost use Rattle.shop_bound.specs.inner.RisingLists.{HasGathered, HasPut, IsPlaceFor};
+ghost use Rattle.shop_bound.specs.inner.RisingLists.{IsRisingBelow, TellsBefore};
 
 use crate::layouts::Layout;
 use shop_lanes::Lanes;

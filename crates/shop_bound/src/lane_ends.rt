@@ -1,7 +1,8 @@
 // The ends of next operations are kept up in lanes.
 ghost use Rattle.std.specs.Prelude.{◌≡◌, ◌<◌, true, length};
 ghost use Rattle.shop_lanes.specs.Rows.{with_end};
-ghost use Rattle.shop_bound.specs.inner.LaneEnds.{AreEndsButJob, AreEndsButNoted, AreEndsOf, CanKeepEnds, HasEnds};
+ghost use Rattle.shop_bound.specs.inner.LaneEnds.{AreEndsButJob, AreEndsButNoted, AreEndsOf};
+ghost use Rattle.shop_bound.specs.inner.LaneEnds.{CanKeepEnds, HasEnds};
 ghost use Rattle.shop_bound.specs.inner.LaneEnds.{TellsNextAt, end_at};
 ghost use Rattle.shop_bound.specs.inner.LaneHeads.{AreNotesFit};
 

@@ -2,7 +2,8 @@
 ghost use Rattle.std.specs.Prelude.{◌≡◌, ◌+◌, ◌*◌, ◌<◌, ◌≤◌, ◌^◌, All, IfOk, length, map};
 ghost use Rattle.shop_bound.specs.Slots.{AreMachineSlots};
 ghost use Rattle.shop_bound.specs.Vectors.{items_in};
-ghost use Rattle.shop_bound.specs.inner.Layings.{AreApart, AreCells, AreNoted, ArePlaces, AreShorter, HasRoutes};
+ghost use Rattle.shop_bound.specs.inner.Layings.{AreApart, AreCells, AreNoted, ArePlaces};
+ghost use Rattle.shop_bound.specs.inner.Layings.{AreShorter, HasRoutes};
 ghost use Rattle.shop_bound.specs.inner.Layings.{IsInRows};
 
 use crate::slots::Slot;

@@ -3,7 +3,8 @@ ghost use Rattle.std.specs.Prelude.{◌≡◌, ◌<◌, IfOk, length, slice_inde
 ghost use Rattle.shop_model.specs.Word.{IsWord, none_placed, placing};
 ghost use Rattle.shop_bound.specs.Placements.{IsPlacement};
 ghost use Rattle.shop_bound.specs.inner.NextSteps.{HasNext, PlacesNext};
-ghost use Rattle.shop_bound.specs.inner.TakingBack.{HasLast, TakesBack, TellsNextEnd, TellsReplaced};
+ghost use Rattle.shop_bound.specs.inner.TakingBack.{HasLast, TakesBack, TellsNextEnd};
+ghost use Rattle.shop_bound.specs.inner.TakingBack.{TellsReplaced};
 
 use shop_model::{Instance, Word};
 use std::alloc::{AllocError, Global};

@@ -1,6 +1,7 @@
 // Heads by position are raised once an operation is placed.
 ghost use Rattle.std.specs.Prelude.{◌+◌, ◌*◌, ◌≤◌, ◌<◌, length, slice_index};
-ghost use Rattle.shop_bound.specs.inner.Raises.{HasBlocks, IsInBlocks, IsPosition, IsRaisable, Raises};
+ghost use Rattle.shop_bound.specs.inner.Raises.{HasBlocks, IsInBlocks, IsPosition, IsRaisable};
+ghost use Rattle.shop_bound.specs.inner.Raises.{Raises};
 ghost use Rattle.shop_bound.specs.inner.Raises.{Replaces, IsOnMachine};
 
 use crate::layouts::Layout;

@@ -1,5 +1,6 @@
 // The operations of each machine by nonincreasing tails, and those that are not placed.
-ghost use Rattle.std.specs.Prelude.{◌≡◌, ℕ, ◌<◌, [], slice_index_or, IfOk, OnOk, length, map, replicate};
+ghost use Rattle.std.specs.Prelude.{◌≡◌, ℕ, ◌<◌, [], slice_index_or, IfOk, OnOk, length, map};
+ghost use Rattle.std.specs.Prelude.{replicate};
 ghost use Rattle.shop_model.specs.Shop.{no_op};
 ghost use Rattle.shop_bound.specs.inner.HeadRows.{AreTimesSmall};
 ghost use Rattle.shop_bound.specs.Slots.{AreMachineSlots};
