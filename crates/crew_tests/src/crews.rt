@@ -4,7 +4,6 @@ ghost use Rattle.std.specs.Prelude.{IfOk};
 ghost use Rattle.shop_round.specs.Entries.{told};
 ghost use Rattle.shop_round.specs.Crews.{OneForEach};
 
-use worked_instances::with_a_gap;
 use crate::worked_rounds::{second_round, third_round};
 use shop_board::{BoardCrew, Gate, LockCrew, OpenGate, Seat, SeatGate};
 use shop_round::{
@@ -17,6 +16,7 @@ use std::sync::atomic::{AtomicBool, AtomicUsize, Ordering};
 use std::test::Fail;
 use std::thread;
 use std::thread::Threads;
+use worked_instances::with_a_gap;
 
 // The makespan, the bound, and how many nodes are open, rounds were done and nodes counted.
 fn assert_answer(

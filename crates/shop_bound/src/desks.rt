@@ -34,8 +34,8 @@ impl<'a> Model for Desk<'a> {
 
     ghost view = { λ d. record { shop = d.instance.now; word = d.jobs.items } };
 
-    ghost invariant = { λ d. IsDesk d.instance.now d.jobs.items d.placement d.waiting.value d.replaced.items
-        (vec_capacity d.jobs) (vec_capacity d.replaced) };
+    ghost invariant = { λ d. IsDesk d.instance.now d.jobs.items d.placement d.waiting.value
+        d.replaced.items (vec_capacity d.jobs) (vec_capacity d.replaced) };
 }
 
 impl<'a> Desk<'a> {
@@ -109,7 +109,8 @@ impl<'a> Desk<'a> {
     pub fn bound_below(&mut self, job: usize, bound: u64, limit: u64) -> Option<u64>
         requires fits { IsWord self.old.shop (self.old.word ++ job ∷ []) }
         requires bound { bound ≡ lb self.old.shop self.old.word }
-        ensures bound { TellsBoundBelow limit (lb self.old.shop (self.old.word ++ job ∷ [])) result }
+        ensures bound { TellsBoundBelow limit
+            (lb self.old.shop (self.old.word ++ job ∷ [])) result }
         ensures same { self.new ≡ self.old }
     {
         let after = self.bound_up_to(job, bound, limit);

@@ -33,7 +33,8 @@ fn set_end_of<L: Lanes>(lanes: &mut L, layout: &Layout, steps: &[usize], job: us
     requires keep { CanKeepEnds L.GREATEST layout.now steps.now (L.rows lanes.old) }
     requires job { job < length steps.now }
     ensures { L.rows lanes.new
-        ≡ with_end (L.rows lanes.old) job (end_at L.GREATEST layout.now steps.now (L.rows lanes.old) job) }
+        ≡ with_end (L.rows lanes.old) job
+        (end_at L.GREATEST layout.now steps.now (L.rows lanes.old) job) }
 {
     let end = end_of(lanes, layout, steps, job);
     lanes.set_end(job, end);
@@ -90,7 +91,8 @@ pub(crate) fn keep_ends<L: Lanes>(
     requires keep { CanKeepEnds L.GREATEST layout.now steps.now (L.rows lanes.old) }
     requires job { job < length steps.now }
     requires notes { AreNotesFit L.GREATEST (length (L.rows lanes.old).heads) notes.now }
-    requires noted { whole ≡ true → AreEndsButJob L.GREATEST layout.now steps.now (L.rows lanes.old) notes.now job }
+    requires noted { whole ≡ true → AreEndsButJob L.GREATEST layout.now steps.now
+        (L.rows lanes.old) notes.now job }
     ensures ends { AreEndsOf L.GREATEST layout.now steps.now (L.rows lanes.new) }
     ensures beside { HasEnds (L.rows lanes.old) (L.rows lanes.new) }
 {

@@ -159,7 +159,8 @@ impl<L: Lanes> LaneHeads<L> {
         limit: u64,
     ) -> u64
         requires { CanGoOnInLanes L.GREATEST instance.now job placement.now self.old }
-        ensures bound { TellsBoundInLanes L.GREATEST instance.now job placement.now bound limit self.old result }
+        ensures bound { TellsBoundInLanes L.GREATEST instance.now job placement.now bound
+            limit self.old result }
         ensures kept { KeepsLanes L.GREATEST instance.now placement.now self.old self.new }
     {
         child_bound(

@@ -14,7 +14,8 @@ pub(crate) fn replace<L: Lanes>(lanes: &mut L, notes: &mut Notes, position: usiz
     requires within { position < length (L.rows lanes.old).heads }
     requires fits { head ≤ L.GREATEST }
     requires fits_now { slice_index (L.rows lanes.old).heads position ≤ L.GREATEST }
-    ensures { Replaces L.GREATEST position head (L.rows lanes.old) (L.rows lanes.new) notes.old notes.new }
+    ensures { Replaces L.GREATEST position head (L.rows lanes.old)
+        (L.rows lanes.new) notes.old notes.new }
 {
     notes.add(position, lanes.head(position));
     lanes.set_head(position, head);
@@ -31,8 +32,10 @@ fn raise_from<L: Lanes>(
 )
     requires waits { 0 < slice_index (L.rows lanes.old).heads position }
     requires below { slice_index (L.rows lanes.old).heads position ≤ end }
-    requires raisable { IsRaisable L.GREATEST layout.now (L.rows lanes.old) (IsPosition position) end }
-    ensures { Raises L.GREATEST layout.now (IsPosition position) end (L.rows lanes.old) (L.rows lanes.new) notes.old notes.new }
+    requires raisable { IsRaisable L.GREATEST layout.now (L.rows lanes.old)
+        (IsPosition position) end }
+    ensures { Raises L.GREATEST layout.now (IsPosition position) end (L.rows lanes.old)
+        (L.rows lanes.new) notes.old notes.new }
 {
     replace(lanes, notes, position, end);
     let mut ready = end + lanes.time(position);
@@ -61,8 +64,10 @@ fn raise_blocks<L: Lanes>(
     requires ordered { from ≤ to }
     requires within { 8 * to ≤ length (L.rows lanes.old).heads }
     requires fits { end ≤ L.GREATEST }
-    requires raisable { IsRaisable L.GREATEST layout.now (L.rows lanes.old) (IsInBlocks from to) end }
-    ensures { Raises L.GREATEST layout.now (IsInBlocks from to) end (L.rows lanes.old) (L.rows lanes.new) notes.old notes.new }
+    requires raisable { IsRaisable L.GREATEST layout.now (L.rows lanes.old)
+        (IsInBlocks from to) end }
+    ensures { Raises L.GREATEST layout.now (IsInBlocks from to) end (L.rows lanes.old)
+        (L.rows lanes.new) notes.old notes.new }
 {
     let mut below = lanes.below(from, to, end);
     while let Some(position) = below.pop_first() {
@@ -84,9 +89,10 @@ pub(crate) fn raise<L: Lanes>(
 )
     requires machine { HasBlocks layout.now (length (L.rows lanes.old).heads) machine }
     requires fits { end ≤ L.GREATEST }
-    requires raisable { IsRaisable L.GREATEST layout.now (L.rows lanes.old) (IsOnMachine layout.now machine) end }
-    ensures { Raises L.GREATEST layout.now (IsOnMachine layout.now machine) end (L.rows lanes.old) (L.rows lanes.new) notes.old
-        notes.new }
+    requires raisable { IsRaisable L.GREATEST layout.now (L.rows lanes.old)
+        (IsOnMachine layout.now machine) end }
+    ensures { Raises L.GREATEST layout.now (IsOnMachine layout.now machine) end (L.rows lanes.old)
+        (L.rows lanes.new) notes.old notes.new }
 {
     let behind = layout.block(machine + 1);
     let mut from = layout.block(machine);

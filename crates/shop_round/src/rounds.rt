@@ -35,7 +35,8 @@ pub struct Round<'r> {
     pub ghost small_budget: { budget ≤ MAX_BUDGET },
     pub ghost rounds_left: { rounds < MAX_ROUNDS },
     pub ghost counted: { IsCountWithin rounds nodes },
-    pub ghost is_round: { IsRound (told_of instance.now word best bound budget pieces.items rest.items rounds nodes) },
+    pub ghost is_round: { IsRound (told_of instance.now word best bound budget pieces.items
+        rest.items rounds nodes) },
 }
 
 impl<'r> Round<'r> {

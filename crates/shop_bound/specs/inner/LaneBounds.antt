@@ -4,7 +4,7 @@
 --                                    latest fits
 --     NoneBelow heads from to limit  nothing waits in these blocks with a head below the limit
 --     AreMachinesAt l machines ms    the machine of each position
---     AreNoted raises machines ..    each note is within its machine's raise
+--     IsNoteWithin raises ms ..      what was noted is within its machine's raise
 use Rattle.std.specs.Prelude.{◌≡◌, true, ℕ, ◌+◌, ◌-◌, ◌*◌, ◌≤◌, ◌<◌, ◌⊎◌, max, List, length}
 use Rattle.std.specs.Prelude.{slice_index}
 use Rattle.shop_lanes.specs.Rows.{Rows, Lane, AreBlocks, lanes_between}
