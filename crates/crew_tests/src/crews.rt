@@ -365,8 +365,8 @@ fn entries_after_a_hit_do_not_count(rt: HostRuntime) -> Result<(), Fail> {
     Ok(())
 }
 
-// One worker keeps what it searched, and passes what stands behind a piece that ends at the opening bound. Its gate hears
-// of the piece that is searched, and of no other.
+// One worker keeps what it searched, and passes what stands behind a piece that ends at the opening bound. Its gate
+// hears of the piece that is searched, and of no other.
 #[test]
 fn one_worker_passes_what_stands_behind_a_hit(rt: HostRuntime) -> Result<(), Fail> {
     let alloc = rt.alloc();

@@ -78,7 +78,8 @@ pub(crate) fn set_ends<L: Lanes>(lanes: &mut L, layout: &Layout, steps: &[usize]
     }
 }
 
-/// Keeps the ends up where the step of a job has changed, and with it the heads at the noted positions, if all is noted.
+/// Keeps the ends up where the step of a job has changed, and with it the heads at the noted positions, if all is
+/// noted.
 #[inline(always)]
 pub(crate) fn keep_ends<L: Lanes>(
     lanes: &mut L,

@@ -77,8 +77,8 @@ fn raise_blocks<L: Lanes>(
     }
 }
 
-/// Raises the heads of what waits on a machine below `end`, one more than the end of what was placed there, and those of
-/// the routes behind as far as they are too small then.
+/// Raises the heads of what waits on a machine below `end`, one more than the end of what was placed there, and those
+/// of the routes behind as far as they are too small then.
 #[inline(always)]
 pub(crate) fn raise<L: Lanes>(
     lanes: &mut L,

@@ -1,5 +1,6 @@
 -- Upper estimates of the bounds of machines, by heads in lanes.
---     IsEstimate top u xs            no span of these lanes, from a moment up to `top` on, is above u
+--     IsEstimate top u xs            no span of these lanes, from a moment up to `top` on, is
+--                                    above u
 --     AreEstimates top l rows us     those of the first machines
 --     IsSmallRise                    a head that rose, and by no more than the estimate of its
 --                                    machine is below a bound
