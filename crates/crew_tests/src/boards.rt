@@ -4,7 +4,6 @@ ghost use Rattle.shop_board.specs.Hits.{hits_of_round};
 ghost use Rattle.shop_board.specs.Seats.{hits_of, IsSeatOf, HasServedOf};
 
 use crate::crews::{Became, what_became};
-use worked_instances::with_a_gap;
 use crate::worked_rounds::third_round;
 use shop_board::{Board, OpenGate, Seat, work};
 use shop_round::{Round, search_piece};
@@ -12,6 +11,7 @@ use std::alloc::{AllocError, Global};
 use std::test::Fail;
 use std::thread;
 use std::thread::Threads;
+use worked_instances::with_a_gap;
 
 #[test]
 fn two_seats_on_one_thread(rt: HostRuntime) -> Result<(), Fail> {
@@ -151,7 +151,8 @@ fn work_by_threads<'r, R: Threads + Sync>(
 ) -> Result<Vec<Option<Worked>>, AllocError>
     requires seats { All (λ s. HasServedOf board.now s 0) seats.items }
     requires round { hits_of board.now ≡ hits_of_round round.now }
-    ensures { IfOk result (λ v. All (λ o. IfSome o (λ w. HasServedOf board.now w.seat w.won)) v.items) }
+    ensures { IfOk result
+        (λ v. All (λ o. IfSome o (λ w. HasServedOf board.now w.seat w.won)) v.items) }
 {
     let worker = move |seat: Seat| -> Option<Worked>
         requires { HasServedOf board.now seat 0 × (hits_of board.now ≡ hits_of_round round.now) }

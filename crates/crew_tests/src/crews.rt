@@ -4,7 +4,6 @@ ghost use Rattle.std.specs.Prelude.{IfOk};
 ghost use Rattle.shop_round.specs.Entries.{told};
 ghost use Rattle.shop_round.specs.Crews.{OneForEach};
 
-use worked_instances::with_a_gap;
 use crate::worked_rounds::{second_round, third_round};
 use shop_board::{BoardCrew, Gate, LockCrew, OpenGate, Seat, SeatGate};
 use shop_round::{
@@ -17,6 +16,7 @@ use std::sync::atomic::{AtomicBool, AtomicUsize, Ordering};
 use std::test::Fail;
 use std::thread;
 use std::thread::Threads;
+use worked_instances::with_a_gap;
 
 // The makespan, the bound, and how many nodes are open, rounds were done and nodes counted.
 fn assert_answer(
@@ -365,8 +365,8 @@ fn entries_after_a_hit_do_not_count(rt: HostRuntime) -> Result<(), Fail> {
     Ok(())
 }
 
-// One worker keeps what it searched, and passes what stands behind a piece that ends at the opening bound. Its gate hears
-// of the piece that is searched, and of no other.
+// One worker keeps what it searched, and passes what stands behind a piece that ends at the opening bound. Its gate
+// hears of the piece that is searched, and of no other.
 #[test]
 fn one_worker_passes_what_stands_behind_a_hit(rt: HostRuntime) -> Result<(), Fail> {
     let alloc = rt.alloc();

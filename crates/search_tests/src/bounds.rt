@@ -1,11 +1,11 @@
 // Heads, tails, bounds and desks of worked instances.
 ghost use Rattle.std.specs.Prelude.{◌≡◌};
 
-use worked_instances::{crossing, of_jobs, of_rows, op, released, with_a_gap};
 use shop_bound::{Desk, Heads, Jackson, Placement, Triple, lower_bound, one_machine, tails};
 use shop_model::{Instance, Job, Word, fits, start_word};
 use std::alloc::{AllocError, Global};
 use std::test::Fail;
+use worked_instances::{crossing, of_jobs, of_rows, op, released, with_a_gap};
 
 fn triple(head: u64, time: u64, tail: u64) -> Triple
     ensures { result ≡ record { head = head; time = time; tail = tail } }

@@ -1,10 +1,10 @@
 // Worked instances and tables, and each public call of shop_model once.
-use worked_instances::{crossing, op, released, with_a_gap, with_zeros};
 use shop_model::{
     Instance, Job, MAX_START, Position, Table, Verdict, Word, check, check_quickly, fits, is_full,
     makespan, place, start_word,
 };
 use std::test::Fail;
+use worked_instances::{crossing, op, released, with_a_gap, with_zeros};
 
 fn at(job: usize, step: usize) -> Position {
     Position { job, step }

@@ -2,12 +2,12 @@
 ghost use Rattle.std.specs.Prelude.{IfOk};
 ghost use Rattle.shop_round.specs.Runs.{IsStandingOf};
 
-use worked_instances::{crossing, of_rows, op, released, with_a_gap, with_two_orders, with_zeros};
 use shop_model::Instance;
 use shop_round::{Alone, Answer, Crew, Order, Plan, Round, Standing, gather, run_alone};
 use std::alloc::Global;
 use std::process::Abort;
 use std::test::Fail;
+use worked_instances::{crossing, of_rows, op, released, with_a_gap, with_two_orders, with_zeros};
 
 /// The answer's makespan, bound, open nodes, rounds and nodes.
 fn assert_numbers(rt: &impl Abort, answer: &Answer, numbers: [u64; 5]) {

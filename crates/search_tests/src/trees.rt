@@ -2,12 +2,12 @@
 ghost use Rattle.std.specs.Prelude.{◌≡◌, IfOk};
 ghost use Rattle.shop_tree.specs.Nodes.{IsNode, AreNodes};
 
-use worked_instances::{crossing, with_a_gap, with_zeros};
 use shop_model::{Instance, Word, fits, is_full};
 use shop_tree::{Node, Piece, Sheet, children, conflict, search};
 use std::alloc::{AllocError, Global};
 use std::process::Abort;
 use std::test::Fail;
+use worked_instances::{crossing, with_a_gap, with_zeros};
 
 fn word(alloc: Global, jobs: &[usize]) -> Result<Word, Fail>
     ensures { IfOk result (λ w. w ≡ jobs.now) }

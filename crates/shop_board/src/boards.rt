@@ -41,8 +41,10 @@ fn first_words(alloc: Global, pieces: usize) -> Result<Vec<u64>, AllocError>
 impl<'r> Board<'r> {
     ghost use Rattle.std.specs.Prelude.{◌<◌, ℕ};
     ghost use Rattle.shop_board.specs.Hits.{hits_of_round};
-    ghost use Rattle.shop_board.specs.Views.{has, is_hit_in, IsHitOrEnd, IsLeastHit, HasServed, HasAll};
-    ghost use Rattle.shop_board.specs.Moves.{newcomer, empty_handed, joined, HaveWonApart, KeepsServed};
+    ghost use Rattle.shop_board.specs.Views.{has, is_hit_in, IsHitOrEnd, IsLeastHit, HasServed};
+    ghost use Rattle.shop_board.specs.Views.{HasAll};
+    ghost use Rattle.shop_board.specs.Moves.{newcomer, empty_handed, joined, HaveWonApart};
+    ghost use Rattle.shop_board.specs.Moves.{KeepsServed};
     ghost use Rattle.shop_board.specs.Moves.{IsTold, with_low, IsAtMostMarked, HasMarked};
     ghost use Rattle.shop_board.specs.Seats.{knows, hits_of, IsSeatOf};
     ghost use Rattle.shop_board.specs.Winners.{IsDecided};

@@ -1,9 +1,11 @@
 // Entries that workers brought, put in the order of their pieces.
-ghost use Rattle.std.specs.Prelude.{◌≡◌, ◌<◌, length, All, IfOk, IfSome, None, slice_set, slice_index_or, vec_len};
+ghost use Rattle.std.specs.Prelude.{◌≡◌, ◌<◌, length, All, IfOk, IfSome, None, slice_set};
+ghost use Rattle.std.specs.Prelude.{slice_index_or, vec_len};
 ghost use Rattle.shop_round.specs.Entries.{told};
 ghost use Rattle.shop_round.specs.Crews.{OneForEach, IsEntryOf};
 ghost use Rattle.shop_board.specs.Entries.{OfRound};
-ghost use Rattle.shop_board.specs.inner.Gathered.{AllOfRound, Placed, AreFilled, AreKept, Fills, StayFilled};
+ghost use Rattle.shop_board.specs.inner.Gathered.{AllOfRound, Placed, AreFilled, AreKept, Fills};
+ghost use Rattle.shop_board.specs.inner.Gathered.{StayFilled};
 
 use crate::piece_searchers::PieceSearcher;
 use shop_round::{Entry, Round};

@@ -123,7 +123,8 @@ module _ (greatest : ℕ) (shop : Shop) (l : LayoutState) (j step : ℕ) (rows :
         (left shop kept.limits l kept.laid before j after next_is first_left rows.heads kept.heads) (h + t)
         (end_is q h t is read timed) greatest lifted lifted_heads lifted_times kept.computable next_fits)
 
-    module _ (new : Rows) (last : NotesState) (raising : Raises greatest l (IsOnMachine l m) (h + t) lifted new mid last)
+    module _ (new : Rows) (last : NotesState)
+        (raising : Raises greatest l (IsOnMachine l m) (h + t) lifted new mid last)
       where
         pub advanced_beside : AreSameBeside rows new
         advanced_beside = record {
@@ -150,7 +151,8 @@ module _ (greatest : ℕ) (shop : Shop) (l : LayoutState) (j step : ℕ) (rows :
               (set rows.heads (place l j (before.steps j)) 0)
               (left shop kept.limits l kept.laid before j after next_is first_left rows.heads kept.heads) (h + t)
               (end_is q h t is read timed) new.heads
-              (subst (λ (x : ℕ). IsLeastRaise l (IsOnMachine l x) (h + t) (set rows.heads (place l j (before.steps j)) 0)
+              (subst (λ (x : ℕ). IsLeastRaise l (IsOnMachine l x) (h + t)
+              (set rows.heads (place l j (before.steps j)) 0)
               new.heads) machine_is
               (subst (λ (xs : List ℕ). IsLeastRaise l (IsOnMachine l m) (h + t) xs new.heads) lifted_heads
               raising.raised)));

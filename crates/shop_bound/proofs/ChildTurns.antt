@@ -91,7 +91,8 @@ module _ (greatest : ℕ) (shop : Shop) (l : LayoutState) (j step : ℕ) (rows r
       in let tails = advances.beside.tails ∙ kept.tails
       in let small : (q : ℕ) → get_or rows'.heads q 0 ≤ top = next_small top top_is w kept fits at
       in let bounded : (m : ℕ) → m < shop.machines
-      → IsBounded shop kept.limits l kept.laid w j fits rows.heads rows'.heads kept.heads now rows' refl times tails least
+      → IsBounded shop kept.limits l kept.laid w j fits rows.heads rows'.heads kept.heads now rows' refl
+      times tails least
       (raise_of raises m) m =
       (λ m known. elim (cases_Bool mark.whole) [
         | inl e ↦ bounded_by_notes shop kept.limits l kept.laid w j fits rows.heads rows'.heads kept.heads now ms
@@ -115,7 +116,8 @@ pub estimates_again : (greatest : ℕ) (shop : Shop) (l : LayoutState) (w : List
     → AreHeadsInLanes greatest shop w l old → AreHeadsInLanes greatest shop w l new → (top : ℕ) (us : List ℕ)
     → AreEstimates top l old us → AreEstimates top l new us
 estimates_again greatest shop l w old new before after top us are m known g some high =
-    let heads = same_heads shop before.limits l before.laid (placing shop w) old.heads new.heads before.heads after.heads
+    let heads = same_heads shop before.limits l before.laid (placing shop w) old.heads new.heads
+    before.heads after.heads
     in let lanes : lanes_on old l m ≡ lanes_on new l m =
     rw (heads, before.times ∙ sym after.times, before.tails ∙ sym after.tails) refl
     in let a = ap (λ (xs : List Lane). span g g xs) lanes

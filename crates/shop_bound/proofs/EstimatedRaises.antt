@@ -148,7 +148,8 @@ module _ (shop : Shop) (limits : IsWithinLimits shop) (l : LayoutState) (laid : 
           (beside (get_or us m 0) refl low) inside
           in bounded_by_raise shop limits l laid w j fits was now old new rows' heads' times' tails' least parent
           (record { from = 0; to = top }) m known
-          (covered_all shop limits l laid w j fits was now old new (record { from = 0; to = top }) refl small m) b above a
+          (covered_all shop limits l laid w j fits was now old new (record { from = 0; to = top }) refl small m)
+          b above a
 
       pub bounded_by_notes : IsBounded shop limits l laid w j fits was now old new rows' heads' times' tails' least
           (raise_of raises m) m

@@ -13,8 +13,8 @@ use Rattle.shop_model.specs.Word.{Placing, placing}
 use Rattle.shop_model.proofs.Ends.{IsOperation-job}
 use Rattle.shop_bound.specs.Heads.{ready_after, head_of}
 use Rattle.shop_bound.specs.Placements.{PlacementState, IsPlacement}
-use Rattle.shop_bound.specs.inner.Fills.{IsStored, IsPositionFree, IsRested, CanFill, AreSameBeside, HasFilledJob, HasFilled}
-use Rattle.shop_bound.specs.inner.Fills.{HasPutBack, GoesBack}
+use Rattle.shop_bound.specs.inner.Fills.{IsStored, IsPositionFree, IsRested, CanFill, AreSameBeside, HasFilledJob}
+use Rattle.shop_bound.specs.inner.Fills.{HasFilled, HasPutBack, GoesBack}
 use Rattle.shop_bound.specs.inner.LaneHeads.{AreHeadsAt, AreNotesFit, restored}
 use Rattle.shop_bound.specs.inner.Layouts.{LayoutState, place, first_of}
 use Rattle.shop_bound.specs.declared.notes.Note.{Note}
@@ -149,7 +149,8 @@ module _ (greatest : ℕ) (shop : Shop) (l : LayoutState) (s : PlacementState) (
         (greater : head ≡ max ready (get_or s.free (get_or route k no_op).machine 0)) where
       turn : (p : Placing) → IsPlacement shop p s → (head ≡ head_of shop p j k)
           × (head + (get_or route k no_op).time ≡ ready_after shop p j (k + 1 - p.steps j))
-      turn p is = open_turn shop can.limits s j job route is_route k ready head so_far.ready_is (omega arith) greater p is
+      turn p is = open_turn shop can.limits s j job route is_route k ready head so_far.ready_is (omega arith)
+          greater p is
 
       -- it waits, and its head and its end fit
       pub open_fits : (head + 1 ≤ greatest) × (head + (get_or route k no_op).time < greatest)

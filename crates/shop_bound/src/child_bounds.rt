@@ -2,7 +2,8 @@
 ghost use Rattle.std.specs.Prelude.{◌≡◌, ℕ, ◌+◌, ◌≤◌, ◌<◌, ◌^◌, length, slice_index};
 ghost use Rattle.shop_lanes.specs.Rows.{AreBlocks, with_head};
 ghost use Rattle.shop_lanes.specs.Spans.{FitsSpan};
-ghost use Rattle.shop_bound.specs.inner.ChildBounds.{CanBound, KeepsHeads, TellsChildBound, TellsRaisedBound};
+ghost use Rattle.shop_bound.specs.inner.ChildBounds.{CanBound, KeepsHeads, TellsChildBound};
+ghost use Rattle.shop_bound.specs.inner.ChildBounds.{TellsRaisedBound};
 ghost use Rattle.shop_bound.specs.inner.ChildBounds.{HasNextInPlace, IsNextOperation};
 ghost use Rattle.shop_bound.specs.inner.Estimates.{AreEstimates};
 ghost use Rattle.shop_bound.specs.inner.LaneBounds.{Foresees, lanes_on};
@@ -35,11 +36,13 @@ fn foresee<L: Lanes>(
         (slice_index layout.now.blocks (machine + 1)) }
     requires within { position < length (L.rows lanes.old).heads }
     requires fits_head { slice_index (L.rows lanes.old).heads position ≤ L.GREATEST }
-    requires fits { FitsSpan L.GREATEST end (lanes_on (with_head (L.rows lanes.old) position 0) layout.now machine) }
+    requires fits { FitsSpan L.GREATEST end
+        (lanes_on (with_head (L.rows lanes.old) position 0) layout.now machine) }
     requires some { 0 < end }
     ensures same { L.rows lanes.new ≡ L.rows lanes.old }
-    ensures foresees { Foresees (with_head (L.rows lanes.old) position 0) (slice_index layout.now.blocks machine)
-        (slice_index layout.now.blocks (machine + 1)) end least limit result }
+    ensures foresees { Foresees (with_head (L.rows lanes.old) position 0)
+        (slice_index layout.now.blocks machine) (slice_index layout.now.blocks (machine + 1))
+        end least limit result }
 {
     let head = lanes.head(position);
     lanes.set_head(position, 0);
@@ -64,12 +67,13 @@ fn raised_bound<L: Lanes>(
     least: u64,
     limit: u64,
 ) -> u64
-    requires can { CanBound L.GREATEST instance.now layout.now placement.now job machines.now (length raises.old) top
-        (L.rows lanes.old) }
+    requires can { CanBound L.GREATEST instance.now layout.now placement.now job machines.now
+        (length raises.old) top (L.rows lanes.old) }
     requires estimates { AreEstimates top layout.now (L.rows lanes.old) estimates.old }
-    ensures bound { TellsRaisedBound L.GREATEST instance.now layout.now placement.now (L.rows lanes.old) job least
-        limit result }
-    ensures heads { KeepsHeads L.GREATEST instance.now layout.now placement.now (L.rows lanes.old) (L.rows lanes.new) }
+    ensures bound { TellsRaisedBound L.GREATEST instance.now layout.now placement.now
+        (L.rows lanes.old) job least limit result }
+    ensures heads { KeepsHeads L.GREATEST instance.now layout.now placement.now
+        (L.rows lanes.old) (L.rows lanes.new) }
     ensures ends { (L.rows lanes.new).ends ≡ (L.rows lanes.old).ends }
     ensures notes { notes.new.list ≡ notes.old.list }
     ensures long { length raises.new ≡ length raises.old }
@@ -106,9 +110,10 @@ fn next_operation<L: Lanes>(
     placement: &Placement,
     job: usize,
 ) -> NextOperation
-    requires { HasNextInPlace L.GREATEST instance.now layout.now placement.now job machines.now (L.rows lanes.now) }
-    ensures { IsNextOperation L.GREATEST instance.now layout.now placement.now job (L.rows lanes.now) result.position
-        result.machine result.end }
+    requires { HasNextInPlace L.GREATEST instance.now layout.now placement.now job
+        machines.now (L.rows lanes.now) }
+    ensures { IsNextOperation L.GREATEST instance.now layout.now placement.now job
+        (L.rows lanes.now) result.position result.machine result.end }
 {
     let position = layout.places(job)[placement.steps(job)] as usize;
     let end = lanes.head(position) + lanes.time(position);
@@ -135,12 +140,13 @@ pub(crate) fn child_bound<L: Lanes>(
     bound: u64,
     limit: u64,
 ) -> u64
-    requires can { CanBound L.GREATEST instance.now layout.now placement.now job machines.now (length raises.old) top
-        (L.rows lanes.old) }
+    requires can { CanBound L.GREATEST instance.now layout.now placement.now job machines.now
+        (length raises.old) top (L.rows lanes.old) }
     requires estimates { AreEstimates top layout.now (L.rows lanes.old) estimates.old }
-    ensures bound { TellsChildBound L.GREATEST instance.now layout.now placement.now (L.rows lanes.old) job bound
-        limit result }
-    ensures heads { KeepsHeads L.GREATEST instance.now layout.now placement.now (L.rows lanes.old) (L.rows lanes.new) }
+    ensures bound { TellsChildBound L.GREATEST instance.now layout.now placement.now
+        (L.rows lanes.old) job bound limit result }
+    ensures heads { KeepsHeads L.GREATEST instance.now layout.now placement.now
+        (L.rows lanes.old) (L.rows lanes.new) }
     ensures ends { (L.rows lanes.new).ends ≡ (L.rows lanes.old).ends }
     ensures notes { notes.new.list ≡ notes.old.list }
     ensures long { length raises.new ≡ length raises.old }

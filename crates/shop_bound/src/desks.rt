@@ -2,7 +2,8 @@
 ghost use Rattle.std.specs.Prelude.{◌≡◌, ◌++◌, ◌∷◌, [], ◌<◌, ◌^◌, IfOk, length};
 ghost use Rattle.shop_model.specs.Word.{IsWord};
 ghost use Rattle.shop_bound.specs.Bound.{lb};
-ghost use Rattle.shop_bound.specs.Desks.{IsPlacedWord, IsUndone, IsWordOfShop, goes_on, nothing_dispatched};
+ghost use Rattle.shop_bound.specs.Desks.{IsPlacedWord, IsUndone, IsWordOfShop, goes_on};
+ghost use Rattle.shop_bound.specs.Desks.{nothing_dispatched};
 ghost use Rattle.shop_bound.specs.Desks.{TellsBoundBelow};
 ghost use Rattle.shop_bound.specs.inner.BoundsUpTo.{IsBoundUpTo};
 
@@ -33,8 +34,8 @@ impl<'a> Model for Desk<'a> {
 
     ghost view = { λ d. record { shop = d.instance.now; word = d.jobs.items } };
 
-    ghost invariant = { λ d. IsDesk d.instance.now d.jobs.items d.placement d.waiting.value d.replaced.items
-        (vec_capacity d.jobs) (vec_capacity d.replaced) };
+    ghost invariant = { λ d. IsDesk d.instance.now d.jobs.items d.placement d.waiting.value
+        d.replaced.items (vec_capacity d.jobs) (vec_capacity d.replaced) };
 }
 
 impl<'a> Desk<'a> {
@@ -108,7 +109,8 @@ impl<'a> Desk<'a> {
     pub fn bound_below(&mut self, job: usize, bound: u64, limit: u64) -> Option<u64>
         requires fits { IsWord self.old.shop (self.old.word ++ job ∷ []) }
         requires bound { bound ≡ lb self.old.shop self.old.word }
-        ensures bound { TellsBoundBelow limit (lb self.old.shop (self.old.word ++ job ∷ [])) result }
+        ensures bound { TellsBoundBelow limit
+            (lb self.old.shop (self.old.word ++ job ∷ [])) result }
         ensures same { self.new ≡ self.old }
     {
         let after = self.bound_up_to(job, bound, limit);

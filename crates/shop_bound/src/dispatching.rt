@@ -19,8 +19,8 @@ pub(crate) fn advance<L: Lanes>(
     step: usize,
 ) -> Mark
     requires { HasNextAt L.GREATEST instance.now layout.now job step (L.rows lanes.old) }
-    ensures { Advances L.GREATEST instance.now layout.now job step (L.rows lanes.old) (L.rows lanes.new) notes.old
-        notes.new result }
+    ensures { Advances L.GREATEST instance.now layout.now job step (L.rows lanes.old)
+        (L.rows lanes.new) notes.old notes.new result }
 {
     let position = layout.places(job)[step] as usize;
     let machine = instance.route(job)[step].machine;

@@ -1,7 +1,8 @@
 // Heads by position are set anew from a placement, or put back by notes.
 ghost use Rattle.std.specs.Prelude.{◌<◌, length};
 ghost use Rattle.shop_bound.specs.inner.LaneHeads.{AreNotesFit};
-ghost use Rattle.shop_bound.specs.inner.Fills.{CanFill, GoesBack, HasFilled, HasFilledJob, HasPutBack, IsRested};
+ghost use Rattle.shop_bound.specs.inner.Fills.{CanFill, GoesBack, HasFilled, HasFilledJob};
+ghost use Rattle.shop_bound.specs.inner.Fills.{HasPutBack, IsRested};
 
 use crate::layouts::Layout;
 use crate::notes::Note;
@@ -33,7 +34,8 @@ fn fill_job<L: Lanes>(
 )
     requires job { job < length instance.now.jobs }
     requires fill { CanFill L.GREATEST instance.now layout.now placement.now (L.rows lanes.old) }
-    ensures { HasFilledJob instance.now layout.now placement.now job (L.rows lanes.old) (L.rows lanes.new) }
+    ensures { HasFilledJob instance.now layout.now placement.now job
+        (L.rows lanes.old) (L.rows lanes.new) }
 {
     let route = instance.route(job);
     let places = layout.places(job);
@@ -60,7 +62,8 @@ pub(crate) fn fill<L: Lanes>(
     placement: &Placement,
 )
     requires fill { CanFill L.GREATEST instance.now layout.now placement.now (L.rows lanes.old) }
-    ensures { HasFilled instance.now layout.now placement.now (L.rows lanes.old) (L.rows lanes.new) }
+    ensures { HasFilled instance.now layout.now placement.now
+        (L.rows lanes.old) (L.rows lanes.new) }
 {
     for job in 0..instance.jobs() {
         fill_job(lanes, layout, instance, placement, job);
@@ -80,7 +83,8 @@ pub(crate) fn go_back<L: Lanes>(
     requires fill { CanFill L.GREATEST instance.now layout.now placement.now (L.rows lanes.old) }
     requires rested { IsRested instance.now layout.now (L.rows lanes.old).heads }
     requires notes { AreNotesFit L.GREATEST (length (L.rows lanes.old).heads) notes.now }
-    ensures { GoesBack instance.now layout.now placement.now notes.now whole (L.rows lanes.old) (L.rows lanes.new) }
+    ensures { GoesBack instance.now layout.now placement.now notes.now whole
+        (L.rows lanes.old) (L.rows lanes.new) }
 {
     if whole {
         put_back(lanes, notes);

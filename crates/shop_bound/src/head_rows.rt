@@ -7,6 +7,7 @@ ghost use Rattle.shop_bound.specs.Heads.{head_if_left, heads_at, TellsHeads};
 ghost use Rattle.shop_bound.specs.inner.HeadRows.{AreHeadsOfJob, AreHeadsOf};
 ghost use Rattle.shop_bound.specs.Placements.{IsPlacement};
 ghost use Rattle.shop_bound.specs.inner.NextSteps.{IsOfWord};
+ghost use Rattle.shop_bound.specs.Vectors.{items_in};
 
 use crate::placements::Placement;
 use shop_model::{Instance, Word};
@@ -47,7 +48,7 @@ fn heads_of_jobs(
     placement: &Placement,
 ) -> Result<Vec<Vec<Option<u64>>>, AllocError>
     requires { IsOfWord instance.now placement.now }
-    ensures { IfOk result (λ v. AreHeadsOf instance.now placement.now (map (λ r. r.items) v.items)) }
+    ensures { IfOk result (λ v. AreHeadsOf instance.now placement.now (items_in v.items)) }
 {
     let mut rows = Vec::with_capacity(alloc, instance.jobs())?;
     for j in 0..instance.jobs() {

@@ -1,5 +1,6 @@
 // Bounds by heads in lanes.
-ghost use Rattle.std.specs.Prelude.{◌≡◌, ℕ, ◌+◌, ◌-◌, ◌*◌, ◌≤◌, ◌<◌, ◌^◌, All, IfOk, length, slice_index, true, false, max};
+ghost use Rattle.std.specs.Prelude.{◌≡◌, ℕ, ◌+◌, ◌-◌, ◌*◌, ◌≤◌, ◌<◌, ◌^◌, All, IfOk, length};
+ghost use Rattle.std.specs.Prelude.{slice_index, true, false, max};
 ghost use Rattle.shop_lanes.specs.Rows.{AreBlocks, lanes_between};
 ghost use Rattle.shop_lanes.specs.Spans.{FitsSpan, span, spans_between};
 ghost use Rattle.shop_model.specs.Shop.{greatest_below};
@@ -36,7 +37,8 @@ pub(crate) fn is_none_below<L: Lanes>(lanes: &L, from: usize, to: usize, limit: 
 /// the latest end.
 pub(crate) fn bound_of_machines<L: Lanes>(lanes: &L, layout: &Layout, free: &[u64], top: u64) -> u64
     requires fits { AreSpansFit L.GREATEST top (length free.now) layout.now (L.rows lanes.now) }
-    ensures { result ≡ greatest_below (length free.now) (part_by_spans top free.now (L.rows lanes.now) layout.now) }
+    ensures { result ≡ greatest_below (length free.now)
+        (part_by_spans top free.now (L.rows lanes.now) layout.now) }
 {
     let mut bound = 0;
     for machine in 0..free.len() {
@@ -61,10 +63,11 @@ pub(crate) fn bound_by_raises<L: Lanes>(
     requires up_to { AreRaisesUpTo top raises.now }
     ensures least { least ≤ result }
     ensures covers { result < limit → (m : ℕ) → m < length raises.now
-        → spans_between (raise_of raises.now m).from (raise_of raises.now m).to (lanes_on (L.rows lanes.now) layout.now m)
-        ≤ result + 1 }
+        → spans_between (raise_of raises.now m).from (raise_of raises.now m).to
+        (lanes_on (L.rows lanes.now) layout.now m) ≤ result + 1 }
     ensures within { (c : ℕ) → least ≤ c → ((m above upto : ℕ) → m < length raises.now
-        → spans_between above upto (lanes_on (L.rows lanes.now) layout.now m) ≤ c + 1) → result ≤ c }
+        → spans_between above upto (lanes_on (L.rows lanes.now) layout.now m) ≤ c + 1)
+        → result ≤ c }
 {
     let mut bound = least;
     for machine in 0..raises.len() {
@@ -105,9 +108,12 @@ pub(crate) fn widen<L: Lanes>(
 )
     requires notes { All (λ n. n.position < length (L.rows lanes.now).heads) notes.now }
     requires positions { length machines.now ≡ length (L.rows lanes.now).heads }
-    requires known { (q : ℕ) → q < length machines.now → slice_index machines.now q < length raises.old }
+    requires known { (q : ℕ) → q < length machines.now
+        → slice_index machines.now q < length raises.old }
     ensures long { length raises.new ≡ length raises.old }
-    ensures within { All (IsNoteCovered raises.new upper.now least machines.now (L.rows lanes.now).heads) notes.now }
+    ensures within { All
+        (IsNoteCovered raises.new upper.now least machines.now (L.rows lanes.now).heads)
+        notes.now }
     ensures up_to { (top : ℕ) → ((q : ℕ) → slice_index (L.rows lanes.now).heads q ≤ top)
         → AreRaisesUpTo top raises.old → AreRaisesUpTo top raises.new }
 {
@@ -172,11 +178,13 @@ pub(crate) fn set_raises<L: Lanes>(
 )
     requires notes { All (λ n. n.position < length (L.rows lanes.now).heads) notes.now }
     requires positions { length machines.now ≡ length (L.rows lanes.now).heads }
-    requires known { (q : ℕ) → q < length machines.now → slice_index machines.now q < length raises.old }
+    requires known { (q : ℕ) → q < length machines.now
+        → slice_index machines.now q < length raises.old }
     requires small { (q : ℕ) → slice_index (L.rows lanes.now).heads q ≤ top }
     ensures long { length raises.new ≡ length raises.old }
     ensures within { whole ≡ true
-        → All (IsNoteCovered raises.new upper.now least machines.now (L.rows lanes.now).heads) notes.now }
+        → All (IsNoteCovered raises.new upper.now least machines.now (L.rows lanes.now).heads)
+        notes.now }
     ensures all { whole ≡ false → (m : ℕ) → m < length raises.new
         → raise_of raises.new m ≡ record { from = 0; to = top } }
     ensures up_to { AreRaisesUpTo top raises.new }

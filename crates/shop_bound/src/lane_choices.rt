@@ -1,9 +1,11 @@
 // The choice among the next operations by lanes.
 ghost use Rattle.std.specs.Prelude.{◌≡◌, ◌+◌, ◌≤◌, ◌<◌, length, vec_capacity};
 ghost use Rattle.shop_lanes.specs.Rows.{AreBlocks};
-ghost use Rattle.shop_bound.specs.inner.LaneChoices.{AreInConflict, AreNextPlaced, CanChoose, IsNextBelow};
+ghost use Rattle.shop_bound.specs.inner.LaneChoices.{AreInConflict, AreNextPlaced, CanChoose};
+ghost use Rattle.shop_bound.specs.inner.LaneChoices.{IsNextBelow};
 ghost use Rattle.shop_bound.specs.inner.Raises.{HasBlocks, IsInBlocks, IsOnMachine};
-ghost use Rattle.shop_bound.specs.inner.RisingLists.{HasGathered, HasPut, IsPlaceFor, IsRisingBelow, TellsBefore};
+ghost use Rattle.shop_bound.specs.inner.RisingLists.{HasGathered, HasPut, IsPlaceFor};
+ghost use Rattle.shop_bound.specs.inner.RisingLists.{IsRisingBelow, TellsBefore};
 
 use crate::layouts::Layout;
 use shop_lanes::Lanes;
@@ -63,7 +65,8 @@ fn gather_in_blocks<L: Lanes>(
     requires placed { AreNextPlaced layout.now (L.rows lanes.now).heads steps.now }
     requires list { IsRisingBelow (length steps.now) jobs.old.items }
     requires room { length steps.now ≤ vec_capacity jobs.old }
-    ensures gathered { HasGathered (IsNextBelow layout.now steps.now (L.rows lanes.now).heads (IsInBlocks from to) limit)
+    ensures gathered { HasGathered
+        (IsNextBelow layout.now steps.now (L.rows lanes.now).heads (IsInBlocks from to) limit)
         jobs.old.items jobs.new.items }
     ensures list { IsRisingBelow (length steps.now) jobs.new.items }
     ensures room { vec_capacity jobs.old ≤ vec_capacity jobs.new }
@@ -93,8 +96,8 @@ fn gather_on_machine<L: Lanes>(
     requires list { IsRisingBelow (length steps.now) jobs.old.items }
     requires room { length steps.now ≤ vec_capacity jobs.old }
     ensures gathered { HasGathered
-        (IsNextBelow layout.now steps.now (L.rows lanes.now).heads (IsOnMachine layout.now machine) limit)
-        jobs.old.items jobs.new.items }
+        (IsNextBelow layout.now steps.now (L.rows lanes.now).heads
+        (IsOnMachine layout.now machine) limit) jobs.old.items jobs.new.items }
     ensures list { IsRisingBelow (length steps.now) jobs.new.items }
     ensures room { vec_capacity jobs.old ≤ vec_capacity jobs.new }
 {
@@ -118,7 +121,8 @@ pub(crate) fn gather_conflict<L: Lanes>(
 )
     requires kept { CanChoose L.GREATEST instance.now layout.now steps.now (L.rows lanes.now) }
     requires room { length instance.now.jobs ≤ vec_capacity jobs.old }
-    ensures jobs { AreInConflict L.GREATEST instance.now layout.now steps.now (L.rows lanes.now) jobs.new.items }
+    ensures jobs { AreInConflict L.GREATEST instance.now layout.now steps.now
+        (L.rows lanes.now) jobs.new.items }
     ensures room { vec_capacity jobs.old ≤ vec_capacity jobs.new }
 {
     jobs.clear();

@@ -1,7 +1,8 @@
 // The ends of next operations are kept up in lanes.
 ghost use Rattle.std.specs.Prelude.{◌≡◌, ◌<◌, true, length};
 ghost use Rattle.shop_lanes.specs.Rows.{with_end};
-ghost use Rattle.shop_bound.specs.inner.LaneEnds.{AreEndsButJob, AreEndsButNoted, AreEndsOf, CanKeepEnds, HasEnds};
+ghost use Rattle.shop_bound.specs.inner.LaneEnds.{AreEndsButJob, AreEndsButNoted, AreEndsOf};
+ghost use Rattle.shop_bound.specs.inner.LaneEnds.{CanKeepEnds, HasEnds};
 ghost use Rattle.shop_bound.specs.inner.LaneEnds.{TellsNextAt, end_at};
 ghost use Rattle.shop_bound.specs.inner.LaneHeads.{AreNotesFit};
 
@@ -32,7 +33,8 @@ fn set_end_of<L: Lanes>(lanes: &mut L, layout: &Layout, steps: &[usize], job: us
     requires keep { CanKeepEnds L.GREATEST layout.now steps.now (L.rows lanes.old) }
     requires job { job < length steps.now }
     ensures { L.rows lanes.new
-        ≡ with_end (L.rows lanes.old) job (end_at L.GREATEST layout.now steps.now (L.rows lanes.old) job) }
+        ≡ with_end (L.rows lanes.old) job
+        (end_at L.GREATEST layout.now steps.now (L.rows lanes.old) job) }
 {
     let end = end_of(lanes, layout, steps, job);
     lanes.set_end(job, end);
@@ -76,7 +78,8 @@ pub(crate) fn set_ends<L: Lanes>(lanes: &mut L, layout: &Layout, steps: &[usize]
     }
 }
 
-/// Keeps the ends up where the step of a job has changed, and with it the heads at the noted positions, if all is noted.
+/// Keeps the ends up where the step of a job has changed, and with it the heads at the noted positions, if all is
+/// noted.
 #[inline(always)]
 pub(crate) fn keep_ends<L: Lanes>(
     lanes: &mut L,
@@ -89,7 +92,8 @@ pub(crate) fn keep_ends<L: Lanes>(
     requires keep { CanKeepEnds L.GREATEST layout.now steps.now (L.rows lanes.old) }
     requires job { job < length steps.now }
     requires notes { AreNotesFit L.GREATEST (length (L.rows lanes.old).heads) notes.now }
-    requires noted { whole ≡ true → AreEndsButJob L.GREATEST layout.now steps.now (L.rows lanes.old) notes.now job }
+    requires noted { whole ≡ true → AreEndsButJob L.GREATEST layout.now steps.now
+        (L.rows lanes.old) notes.now job }
     ensures ends { AreEndsOf L.GREATEST layout.now steps.now (L.rows lanes.new) }
     ensures beside { HasEnds (L.rows lanes.old) (L.rows lanes.new) }
 {

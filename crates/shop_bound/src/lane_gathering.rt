@@ -21,7 +21,8 @@ impl<L: Lanes> LaneHeads<L> {
     )
         requires kept { HasWordInLanes L.GREATEST instance.now placement.now self.now }
         requires room { length instance.now.jobs ≤ vec_capacity jobs.old }
-        ensures jobs { IsConflictInLanes L.GREATEST instance.now placement.now self.now jobs.new.items }
+        ensures jobs { IsConflictInLanes L.GREATEST instance.now placement.now self.now
+            jobs.new.items }
         ensures room { vec_capacity jobs.old ≤ vec_capacity jobs.new }
     {
         let steps = placement.jobs_steps();
@@ -44,7 +45,8 @@ impl Waiting {
     )
         requires kept { HasWordWaiting instance.now placement.now self.now }
         requires room { length instance.now.jobs ≤ vec_capacity jobs.old }
-        ensures jobs { IsConflictWaiting instance.now placement.now self.now jobs.new.items }
+        ensures jobs { IsConflictWaiting instance.now placement.now self.now
+            jobs.new.items }
         ensures room { vec_capacity jobs.old ≤ vec_capacity jobs.new }
     {
         match self {

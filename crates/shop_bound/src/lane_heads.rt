@@ -4,8 +4,10 @@ ghost use Rattle.shop_model.specs.Word.{none_placed};
 ghost use Rattle.shop_bound.specs.Placements.{IsPlacement};
 ghost use Rattle.shop_bound.specs.inner.HeadLimits.{FitsLanes};
 ghost use Rattle.shop_bound.specs.inner.Layouts.{IsLaidOut};
-ghost use Rattle.shop_bound.specs.inner.LaneStates.{HasLastInLanes, HasNextInLanes, IsKeptInLanes, KeepsLast};
-ghost use Rattle.shop_bound.specs.inner.LaneStates.{CanGoOnInLanes, KeepsLanes, KeepsNext, TellsBoundInLanes};
+ghost use Rattle.shop_bound.specs.inner.LaneStates.{HasLastInLanes, HasNextInLanes, IsKeptInLanes};
+ghost use Rattle.shop_bound.specs.inner.LaneStates.{KeepsLast};
+ghost use Rattle.shop_bound.specs.inner.LaneStates.{CanGoOnInLanes, KeepsLanes, KeepsNext};
+ghost use Rattle.shop_bound.specs.inner.LaneStates.{TellsBoundInLanes};
 
 use crate::child_bounds::child_bound;
 use crate::dispatching::advance;
@@ -154,7 +156,8 @@ impl<L: Lanes> LaneHeads<L> {
         limit: u64,
     ) -> u64
         requires { CanGoOnInLanes L.GREATEST instance.now job placement.now self.old }
-        ensures bound { TellsBoundInLanes L.GREATEST instance.now job placement.now bound limit self.old result }
+        ensures bound { TellsBoundInLanes L.GREATEST instance.now job placement.now bound
+            limit self.old result }
         ensures kept { KeepsLanes L.GREATEST instance.now placement.now self.old self.new }
     {
         child_bound(

@@ -2,7 +2,8 @@
 ghost use Rattle.std.specs.Prelude.{◌≡◌, ◌+◌, ◌*◌, ◌<◌, ◌≤◌, ◌^◌, All, IfOk, length, map};
 ghost use Rattle.shop_bound.specs.Slots.{AreMachineSlots};
 ghost use Rattle.shop_bound.specs.Vectors.{items_in};
-ghost use Rattle.shop_bound.specs.inner.Layings.{AreApart, AreCells, AreNoted, ArePlaces, AreShorter, HasRoutes};
+ghost use Rattle.shop_bound.specs.inner.Layings.{AreApart, AreCells, AreNoted, ArePlaces};
+ghost use Rattle.shop_bound.specs.inner.Layings.{AreShorter, HasRoutes};
 ghost use Rattle.shop_bound.specs.inner.Layings.{IsInRows};
 
 use crate::slots::Slot;
@@ -28,7 +29,8 @@ pub(crate) struct Cells {
 pub(crate) fn cells_of(alloc: Global, lists: &[Vec<Slot>]) -> Result<Cells, AllocError>
     requires few { length lists.now ≤ 100 }
     requires short { AreShorter 100000 (items_in lists.now) }
-    ensures { IfOk result (λ c. AreCells (items_in lists.now) (length lists.now) c.slots.items c.blocks.items) }
+    ensures { IfOk result (λ c. AreCells (items_in lists.now) (length lists.now)
+        c.slots.items c.blocks.items) }
 {
     let mut slots = Vec::new(alloc);
     let mut blocks = Vec::new(alloc);
@@ -97,7 +99,8 @@ fn note_places(places: &mut [Vec<u32>], slots: &[Slot], first: usize)
     requires apart { AreApart slots.now }
     requires small { first + length slots.now < 2 ^ 32 }
     ensures long { length places.new ≡ length places.old }
-    ensures noted { AreNoted (length slots.now) first slots.now (items_in places.old) (items_in places.new) }
+    ensures noted { AreNoted (length slots.now) first slots.now
+        (items_in places.old) (items_in places.new) }
 {
     for i in 0..slots.len() {
         let slot = slots[i];
@@ -115,8 +118,8 @@ pub(crate) fn places_of(
     requires slots { AreMachineSlots instance.now (items_in lists.now) }
     requires blocks { length blocks.now ≡ instance.now.machines + 1 }
     requires few { All (λ b. b ≤ 10000800) blocks.now }
-    ensures { IfOk result (λ v. ArePlaces instance.now (items_in lists.now) blocks.now instance.now.machines
-        (items_in v.items)) }
+    ensures { IfOk result (λ v. ArePlaces instance.now (items_in lists.now) blocks.now
+        instance.now.machines (items_in v.items)) }
 {
     instance.keeps_limits();
     let mut places = empty_places(alloc, instance)?;

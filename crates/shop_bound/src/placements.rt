@@ -30,7 +30,11 @@ impl Model for Placement {
 
     ghost Value = { PlacementState };
 
-    ghost view = { λ p. record { steps = p.steps.items; ready = p.ready.items; free = p.free.items } };
+    ghost view = { λ p. record {
+      steps = p.steps.items;
+      ready = p.ready.items;
+      free = p.free.items;
+    } };
 }
 
 impl Placement {

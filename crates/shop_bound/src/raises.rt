@@ -1,6 +1,7 @@
 // Heads by position are raised once an operation is placed.
 ghost use Rattle.std.specs.Prelude.{◌+◌, ◌*◌, ◌≤◌, ◌<◌, length, slice_index};
-ghost use Rattle.shop_bound.specs.inner.Raises.{HasBlocks, IsInBlocks, IsPosition, IsRaisable, Raises};
+ghost use Rattle.shop_bound.specs.inner.Raises.{HasBlocks, IsInBlocks, IsPosition, IsRaisable};
+ghost use Rattle.shop_bound.specs.inner.Raises.{Raises};
 ghost use Rattle.shop_bound.specs.inner.Raises.{Replaces, IsOnMachine};
 
 use crate::layouts::Layout;
@@ -13,7 +14,8 @@ pub(crate) fn replace<L: Lanes>(lanes: &mut L, notes: &mut Notes, position: usiz
     requires within { position < length (L.rows lanes.old).heads }
     requires fits { head ≤ L.GREATEST }
     requires fits_now { slice_index (L.rows lanes.old).heads position ≤ L.GREATEST }
-    ensures { Replaces L.GREATEST position head (L.rows lanes.old) (L.rows lanes.new) notes.old notes.new }
+    ensures { Replaces L.GREATEST position head (L.rows lanes.old)
+        (L.rows lanes.new) notes.old notes.new }
 {
     notes.add(position, lanes.head(position));
     lanes.set_head(position, head);
@@ -30,8 +32,10 @@ fn raise_from<L: Lanes>(
 )
     requires waits { 0 < slice_index (L.rows lanes.old).heads position }
     requires below { slice_index (L.rows lanes.old).heads position ≤ end }
-    requires raisable { IsRaisable L.GREATEST layout.now (L.rows lanes.old) (IsPosition position) end }
-    ensures { Raises L.GREATEST layout.now (IsPosition position) end (L.rows lanes.old) (L.rows lanes.new) notes.old notes.new }
+    requires raisable { IsRaisable L.GREATEST layout.now (L.rows lanes.old)
+        (IsPosition position) end }
+    ensures { Raises L.GREATEST layout.now (IsPosition position) end (L.rows lanes.old)
+        (L.rows lanes.new) notes.old notes.new }
 {
     replace(lanes, notes, position, end);
     let mut ready = end + lanes.time(position);
@@ -60,8 +64,10 @@ fn raise_blocks<L: Lanes>(
     requires ordered { from ≤ to }
     requires within { 8 * to ≤ length (L.rows lanes.old).heads }
     requires fits { end ≤ L.GREATEST }
-    requires raisable { IsRaisable L.GREATEST layout.now (L.rows lanes.old) (IsInBlocks from to) end }
-    ensures { Raises L.GREATEST layout.now (IsInBlocks from to) end (L.rows lanes.old) (L.rows lanes.new) notes.old notes.new }
+    requires raisable { IsRaisable L.GREATEST layout.now (L.rows lanes.old)
+        (IsInBlocks from to) end }
+    ensures { Raises L.GREATEST layout.now (IsInBlocks from to) end (L.rows lanes.old)
+        (L.rows lanes.new) notes.old notes.new }
 {
     let mut below = lanes.below(from, to, end);
     while let Some(position) = below.pop_first() {
@@ -71,8 +77,8 @@ fn raise_blocks<L: Lanes>(
     }
 }
 
-/// Raises the heads of what waits on a machine below `end`, one more than the end of what was placed there, and those of
-/// the routes behind as far as they are too small then.
+/// Raises the heads of what waits on a machine below `end`, one more than the end of what was placed there, and those
+/// of the routes behind as far as they are too small then.
 #[inline(always)]
 pub(crate) fn raise<L: Lanes>(
     lanes: &mut L,
@@ -83,9 +89,10 @@ pub(crate) fn raise<L: Lanes>(
 )
     requires machine { HasBlocks layout.now (length (L.rows lanes.old).heads) machine }
     requires fits { end ≤ L.GREATEST }
-    requires raisable { IsRaisable L.GREATEST layout.now (L.rows lanes.old) (IsOnMachine layout.now machine) end }
-    ensures { Raises L.GREATEST layout.now (IsOnMachine layout.now machine) end (L.rows lanes.old) (L.rows lanes.new) notes.old
-        notes.new }
+    requires raisable { IsRaisable L.GREATEST layout.now (L.rows lanes.old)
+        (IsOnMachine layout.now machine) end }
+    ensures { Raises L.GREATEST layout.now (IsOnMachine layout.now machine) end (L.rows lanes.old)
+        (L.rows lanes.new) notes.old notes.new }
 {
     let behind = layout.block(machine + 1);
     let mut from = layout.block(machine);

@@ -3,7 +3,8 @@
 ghost use Rattle.std.specs.Prelude.{◌≡◌, ℕ, ◌+◌, ◌*◌, ◌^◌, ◌<◌, ◌≤◌, length, map, vec_len, IfOk};
 ghost use Rattle.shop_bound.specs.OneMachine.{one, IsSmall};
 ghost use Rattle.shop_bound.specs.Schedules.{JacksonState};
-ghost use Rattle.shop_bound.specs.inner.Serving.{IsChoice, IsFresh, IsReady, IsRun, IsServed, IsStop, fresh};
+ghost use Rattle.shop_bound.specs.inner.Serving.{IsChoice, IsFresh, IsReady, IsRun, IsServed};
+ghost use Rattle.shop_bound.specs.inner.Serving.{IsStop, fresh};
 ghost use Rattle.shop_bound.specs.inner.Serving.{triples_of, turns_left, undone};
 
 use crate::triples::{NO_TRIPLE, Triple};

@@ -1,9 +1,11 @@
 // The operations of each machine by nonincreasing tails.
-ghost use Rattle.std.specs.Prelude.{◌≡◌, ℕ, ◌<◌, [], slice_index_or, IfOk, OnOk, length, map, replicate};
+ghost use Rattle.std.specs.Prelude.{◌≡◌, ℕ, ◌<◌, [], slice_index_or, IfOk, OnOk, length, map};
+ghost use Rattle.std.specs.Prelude.{replicate};
 ghost use Rattle.shop_model.specs.Shop.{no_op};
 ghost use Rattle.shop_bound.specs.inner.HeadRows.{AreTimesSmall};
 ghost use Rattle.shop_bound.specs.Slots.{AreMachineSlots};
 ghost use Rattle.shop_bound.specs.inner.OpenSlots.{AddsOperations, AreOperations};
+ghost use Rattle.shop_bound.specs.Vectors.{items_in};
 
 use crate::tail_rows::total_time;
 use shop_model::{Instance, Op};
@@ -24,7 +26,7 @@ fn add_operations(lists: &mut [Vec<Slot>], route: &[Op], job: usize) -> Result<(
     requires times { AreTimesSmall route.now }
     requires machines { (k : ℕ) → (slice_index_or route.now k no_op).machine < length lists.old }
     ensures { OnOk result
-        (AddsOperations (map (λ slots. slots.items) lists.old) (map (λ slots. slots.items) lists.new) route.now job) }
+        (AddsOperations (items_in lists.old) (items_in lists.new) route.now job) }
 {
     let mut tail = total_time(route);
     for k in 0..route.len() {
@@ -43,7 +45,7 @@ fn add_operations(lists: &mut [Vec<Slot>], route: &[Op], job: usize) -> Result<(
 
 /// An empty list for each machine, with room for one operation of each job.
 fn empty_lists(alloc: Global, instance: &Instance) -> Result<Vec<Vec<Slot>>, AllocError>
-    ensures { IfOk result (λ v. map (λ slots. slots.items) v.items ≡ replicate instance.now.machines []) }
+    ensures { IfOk result (λ v. items_in v.items ≡ replicate instance.now.machines []) }
 {
     let mut lists = Vec::with_capacity(alloc, instance.machines())?;
     for _ in 0..instance.machines() {

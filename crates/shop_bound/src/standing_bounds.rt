@@ -1,5 +1,6 @@
 // The bound of what is dispatched, by lanes.
-ghost use Rattle.shop_bound.specs.inner.WaitingBounds.{HasWordInLanes, HasWordWaiting, IsBoundInLanes, IsBoundWaiting};
+ghost use Rattle.shop_bound.specs.inner.WaitingBounds.{HasWordInLanes, HasWordWaiting};
+ghost use Rattle.shop_bound.specs.inner.WaitingBounds.{IsBoundInLanes, IsBoundWaiting};
 
 use crate::lane_bounds::bound_of_machines;
 use crate::lane_heads::LaneHeads;

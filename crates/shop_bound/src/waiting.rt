@@ -3,7 +3,8 @@ ghost use Rattle.std.specs.Prelude.{◌≡◌, ◌∷◌, ◌++◌, [], IfOk};
 ghost use Rattle.shop_model.specs.Word.{none_placed};
 ghost use Rattle.shop_bound.specs.Placements.{IsPlacement};
 ghost use Rattle.shop_bound.specs.inner.Waitings.{CanGoOnWaiting, TellsBoundAfter, WaitsStill};
-ghost use Rattle.shop_bound.specs.inner.Waitings.{HasLastWaiting, HasNextWaiting, IsWaiting, WaitsBack, WaitsOn};
+ghost use Rattle.shop_bound.specs.inner.Waitings.{HasLastWaiting, HasNextWaiting, IsWaiting};
+ghost use Rattle.shop_bound.specs.inner.Waitings.{WaitsBack, WaitsOn};
 
 use crate::lane_heads::LaneHeads;
 use crate::latest_ends::{greatest_load, latest_end};

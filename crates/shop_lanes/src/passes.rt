@@ -4,8 +4,10 @@ ghost use Rattle.std.specs.Prelude.{slice_index};
 ghost use Rattle.std.specs.Simd.Lanes.{mask_l};
 ghost use Rattle.shop_lanes.specs.Spans.{FitsSpan};
 ghost use Rattle.shop_lanes.specs.Ends.{IsFirstLeast};
-ghost use Rattle.shop_lanes.specs.inner.Passes.{is_between, least_up_to, lanes_by, span_by, spans_by};
-ghost use Rattle.shop_lanes.specs.inner.Passes.{HasSpan, HasSpans, HasAllSpans, AreSmallBy, IsFirstOf};
+ghost use Rattle.shop_lanes.specs.inner.Passes.{is_between, least_up_to, lanes_by, span_by};
+ghost use Rattle.shop_lanes.specs.inner.Passes.{spans_by};
+ghost use Rattle.shop_lanes.specs.inner.Passes.{HasSpan, HasSpans, HasAllSpans, AreSmallBy};
+ghost use Rattle.shop_lanes.specs.inner.Passes.{IsFirstOf};
 
 use crate::blocks::Block;
 use crate::marking::Marks;

@@ -1,7 +1,8 @@
 // Open nodes by bound: a stack of words for each bound.
 ghost use Rattle.std.specs.Prelude.{◌≡◌, length, IfOk, OnOk};
 ghost use Rattle.shop_round.specs.inner.OpenNodes.{least_of_bounds};
-ghost use Rattle.shop_round.specs.inner.Stacks.{nodes_in_stacks, IsPutByBound, IsNextByBound, KeepsBelow};
+ghost use Rattle.shop_round.specs.inner.Stacks.{nodes_in_stacks, IsPutByBound, IsNextByBound};
+ghost use Rattle.shop_round.specs.inner.Stacks.{KeepsBelow};
 
 use crate::stacks::Stack;
 use shop_tree::Node;

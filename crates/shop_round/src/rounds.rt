@@ -35,14 +35,16 @@ pub struct Round<'r> {
     pub ghost small_budget: { budget ≤ MAX_BUDGET },
     pub ghost rounds_left: { rounds < MAX_ROUNDS },
     pub ghost counted: { IsCountWithin rounds nodes },
-    pub ghost is_round: { IsRound (told_of instance.now word best bound budget pieces.items rest.items rounds nodes) },
+    pub ghost is_round: { IsRound (told_of instance.now word best bound budget pieces.items
+        rest.items rounds nodes) },
 }
 
 impl<'r> Round<'r> {
     ghost use Rattle.std.specs.Prelude.{IfOk};
     ghost use Rattle.shop_round.specs.Entries.{told};
     ghost use Rattle.shop_round.specs.inner.Outcomes.{IsOutcome};
-    ghost use Rattle.shop_round.specs.Runs.{IsCutOf, CutCovers, IsGatheredOf, GatheredCovers, IsStandingOf};
+    ghost use Rattle.shop_round.specs.Runs.{IsCutOf, CutCovers, IsGatheredOf, GatheredCovers};
+    ghost use Rattle.shop_round.specs.Runs.{IsStandingOf};
 
     /// Cuts the open nodes, in the plan's order, into at most 256 pieces; the others are the rest.
     /// Fails with `AllocError` if memory runs out.

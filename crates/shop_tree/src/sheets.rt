@@ -24,5 +24,6 @@ pub struct Sheet<'r> {
     pub ghost of_piece: { number ≡ piece.now.number },
     pub ghost spent: { taken ≤ budget },
     pub ghost nodes_left: { AreNodes instance.now left.items },
-    pub ghost is_sheet: { IsSheet instance.now piece.now best budget found makespan left.items taken },
+    pub ghost is_sheet: { IsSheet instance.now piece.now best budget
+        found makespan left.items taken },
 }

@@ -33,8 +33,10 @@ pub(crate) struct Walker<'a> {
 
 impl<'a> Walker<'a> {
     ghost use Rattle.shop_tree.specs.declared.opens.Waiting.TheVariants.{Child, Rest};
-    ghost use Rattle.shop_tree.specs.inner.Walkers.{HasBranched, HasExpanded, HasWalked, IsInOrder, IsNextOn, IsTurn};
-    ghost use Rattle.shop_tree.specs.inner.Walkers.{node_walk, nodes_walk, stack_walk, GoesBackTo, BeginsWithWord};
+    ghost use Rattle.shop_tree.specs.inner.Walkers.{HasBranched, HasExpanded, HasWalked, IsInOrder};
+    ghost use Rattle.shop_tree.specs.inner.Walkers.{IsNextOn, IsTurn};
+    ghost use Rattle.shop_tree.specs.inner.Walkers.{node_walk, nodes_walk, stack_walk, GoesBackTo};
+    ghost use Rattle.shop_tree.specs.inner.Walkers.{BeginsWithWord};
 
     /// For pieces of this instance. Fails with `AllocError` if memory runs out.
     pub(crate) fn new(alloc: Global, instance: &'a Instance) -> Result<Walker<'a>, AllocError>

@@ -1,11 +1,11 @@
 // Reports, Gantt texts, lists and verdicts, against rows known from outside.
 ghost use Rattle.std.specs.Prelude.{◌≤◌};
 
-use worked_instances::{crossing, with_a_gap};
 use shop_model::{Instance, Op, Position, Table, Verdict, check};
 use shop_text::{Named, ReadFault, Report, gantt, listing, read_table, report, verdict_line};
 use std::alloc::{AllocError, Global};
 use std::test::Fail;
+use worked_instances::{crossing, with_a_gap};
 
 fn route(alloc: Global, pairs: &[(usize, u64)]) -> Result<Vec<Op>, AllocError> {
     let mut operations = Vec::new(alloc);

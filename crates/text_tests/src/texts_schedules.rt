@@ -1,9 +1,9 @@
 // Schedule texts that are read and refused.
-use worked_instances::crossing;
 use shop_model::{Table, Verdict, check};
 use shop_text::{ReadFault, read_table};
 use std::alloc::Global;
 use std::test::Fail;
+use worked_instances::crossing;
 
 #[test]
 fn schedules_are_read(rt: HostRuntime) -> Result<(), Fail> {

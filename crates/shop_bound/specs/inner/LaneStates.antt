@@ -1,7 +1,7 @@
 -- What is kept of a word in lanes.
 --     AreHeadsInLanes greatest shop w ..   the heads of what the word leaves, one number a position
---     LaneState, IsKeptInLanes       these, with notes that lead back through the word, and the ends of
---                                    its next operations
+--     LaneState, IsKeptInLanes       these, with notes that lead back through the word, and the
+--                                    ends of its next operations
 --     HasNextInLanes, Advances       one more operation
 use Rattle.std.specs.Prelude.{◌≡◌, ℕ, ◌+◌, ◌≤◌, ◌<◌, ◌^◌, true, List, [], ◌∷◌, ◌++◌, length}
 use Rattle.shop_lanes.specs.Rows.{Rows}

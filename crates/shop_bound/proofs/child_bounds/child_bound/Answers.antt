@@ -38,7 +38,8 @@ foresee-foreseen-requires g c =
     in record {
       known = omega arith;
       small = omega arith;
-      blocks = (spans_fit shop kept.limits l kept.laid g.L.Lanes.GREATEST c.requires.can.holds rows kept.times kept.tails
+      blocks = (spans_fit shop kept.limits l kept.laid g.L.Lanes.GREATEST c.requires.can.holds rows
+          kept.times kept.tails
           kept.heads.positions).blocks c.next_operation-next.result.machine known;
       within = omega arith;
       fits_head = omega arith;

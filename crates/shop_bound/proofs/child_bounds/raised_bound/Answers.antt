@@ -31,7 +31,8 @@ advance-mark-requires g c = record {
   kept = c.requires.can.kept;
   fits = c.requires.can.fits;
   at = c.steps.ensures
-      ∙ c.requires.can.placed.steps c.args.job (its_job c.args.instance.now c.requires.can.word c.args.job c.requires.can.fits);
+      ∙ c.requires.can.placed.steps c.args.job (its_job c.args.instance.now c.requires.can.word c.args.job
+      c.requires.can.fits);
 }
 
 pub set_raises-requires-clause-notes : goal.set_raises-requires-clause-notes
@@ -53,10 +54,12 @@ set_raises-requires-clause-small g c =
     next_small g.L.Lanes.GREATEST c.args.instance.now c.args.layout.now c.args.job c.steps.result
     (g.L.Lanes.rows c.args.lanes.now)
     (g.L.Lanes.rows c.advance-mark.new.lanes) c.args.notes.now c.advance-mark.new.notes
-    c.advance-mark.result c.advance-mark.ensures c.args.top c.requires.can.top_is c.requires.can.word c.requires.can.kept
+    c.advance-mark.result c.advance-mark.ensures c.args.top c.requires.can.top_is c.requires.can.word
+    c.requires.can.kept
     c.requires.can.fits
     (c.steps.ensures
-    ∙ c.requires.can.placed.steps c.args.job (its_job c.args.instance.now c.requires.can.word c.args.job c.requires.can.fits))
+    ∙ c.requires.can.placed.steps c.args.job (its_job c.args.instance.now c.requires.can.word c.args.job
+    c.requires.can.fits))
 
 pub bound_by_raises-bound-requires-clause-fits : goal.bound_by_raises-bound-requires-clause-fits
 bound_by_raises-bound-requires-clause-fits g c =
@@ -75,7 +78,8 @@ pub go_back-requires-clause-rested : goal.go_back-requires-clause-rested
 go_back-requires-clause-rested g c =
     let after = c.advance-mark.ensures.heads c.requires.can.word c.requires.can.kept c.requires.can.fits
     (c.steps.ensures
-    ∙ c.requires.can.placed.steps c.args.job (its_job c.args.instance.now c.requires.can.word c.args.job c.requires.can.fits))
+    ∙ c.requires.can.placed.steps c.args.job (its_job c.args.instance.now c.requires.can.word c.args.job
+    c.requires.can.fits))
     in after.heads.padding
 
 pub returns-clause-bound : goal.returns-clause-bound

@@ -74,7 +74,8 @@ overflow_add-end g c =
     c.head.ensures c.time.ensures).2 in omega arith
 
 pub replace-requires-clause-within : goal.replace-requires-clause-within
-replace-requires-clause-within g c = within g.L.Lanes.GREATEST c.args.instance.now c.args.layout.now c.args.job c.args.step (g.L.Lanes.rows c.args.lanes.now)
+replace-requires-clause-within g c = within g.L.Lanes.GREATEST c.args.instance.now c.args.layout.now c.args.job
+    c.args.step (g.L.Lanes.rows c.args.lanes.now)
     c.requires.word c.requires.kept c.requires.fits c.requires.at
     (get_or c.places.result.now c.args.step 0)
     (places_read c.args.layout.now c.args.job c.places.result.now c.places.ensures c.args.step)
@@ -89,7 +90,8 @@ replace-requires-clause-fits_now g c =
     c.head.ensures c.time.ensures).0 in let b = c.head.ensures in omega arith
 
 pub raise-requires-clause-machine : goal.raise-requires-clause-machine
-raise-requires-clause-machine g c = lifted_blocks g.L.Lanes.GREATEST c.args.instance.now c.args.layout.now c.args.job c.args.step (g.L.Lanes.rows c.args.lanes.now)
+raise-requires-clause-machine g c = lifted_blocks g.L.Lanes.GREATEST c.args.instance.now c.args.layout.now c.args.job
+    c.args.step (g.L.Lanes.rows c.args.lanes.now)
     c.requires.word c.requires.kept c.requires.fits c.requires.at
     (get_or c.places.result.now c.args.step 0) c.head.result c.time.result
     (places_read c.args.layout.now c.args.job c.places.result.now c.places.ensures c.args.step)
@@ -107,7 +109,8 @@ raise-requires-clause-fits g c =
     c.head.ensures c.time.ensures).1
 
 pub raise-requires-clause-raisable : goal.raise-requires-clause-raisable
-raise-requires-clause-raisable g c = lifted_raisable g.L.Lanes.GREATEST c.args.instance.now c.args.layout.now c.args.job c.args.step (g.L.Lanes.rows c.args.lanes.now)
+raise-requires-clause-raisable g c = lifted_raisable g.L.Lanes.GREATEST c.args.instance.now c.args.layout.now c.args.job
+    c.args.step (g.L.Lanes.rows c.args.lanes.now)
     c.requires.word c.requires.kept c.requires.fits c.requires.at
     (get_or c.places.result.now c.args.step 0) c.head.result c.time.result
     (places_read c.args.layout.now c.args.job c.places.result.now c.places.ensures c.args.step)

@@ -12,7 +12,8 @@ take_back-requires c =
 
 pub undo-requires : goal.undo-requires
 undo-requires c =
-    subst (HasLastWaiting c.self.inside.instance.now c.take_back.new.self c.unwrap-job.result) (sym c.deref_mut.ensures.value)
+    subst (HasLastWaiting c.self.inside.instance.now c.take_back.new.self c.unwrap-job.result)
+    (sym c.deref_mut.ensures.value)
     (waits_back _ _ _ _ _ _ _ c.self.invariant _ c.unwrap-job.result (rw c.unwrap-job.ensures at c.pop.ensures.items) _
     c.unwrap-replaced.result (rw c.unwrap-replaced.ensures at c.pop-2.ensures.items) _ c.take_back.ensures)
 

@@ -68,7 +68,8 @@ returns g c =
     (record {
       machines_at = subst (λ (n : ℕ). AreMachinesAt c.args.layout n c.in_ok-machines_of.field-0.items)
           c.machines-machines.ensures c.in_ok-machines_of.ensures;
-      as_many = (let a = c.in_ok-vec.ensures.len in let b = c.in_ok-vec.field-0.ok.0 in let d = c.machines-machines.ensures
+      as_many = (let a = c.in_ok-vec.ensures.len in let b = c.in_ok-vec.field-0.ok.0 in let d =
+          c.machines-machines.ensures
           in omega arith);
       top_is = (let a = c.latest_end.ensures.latest in omega arith);
       holds = c.requires.fits;
