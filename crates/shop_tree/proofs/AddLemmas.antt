@@ -40,12 +40,12 @@ module _ (shop : Shop) (limit : ℕ) (word : List ℕ) (opens : List Open) (n : 
       in omega arith
 
 -- closed children below open ones
-adds-rest : (shop : Shop) (best : ℕ) (word : List ℕ) (opens : List Open) (n depth : ℕ) (old : List Waiting)
-    → AreChildren shop best word opens n → depth ≡ length word
+adds-rest : (shop : Shop) (best : ℕ) (word : List ℕ) (opens : List Open) (n depth bound : ℕ) (old : List Waiting)
+    → AreChildren shop best word opens n → depth ≡ length word → bound ≡ lb shop word
     → Adds shop best word (reverse (branch shop word)) old
-    (with_opens (old ++ Rest (record { depth = depth; count = n }) ∷ []) opens)
-adds-rest shop best word opens n depth old kids at =
-    let c : Closed = record { depth = depth; count = n }
+    (with_opens (old ++ Rest (record { depth = depth; count = n; bound = bound }) ∷ []) opens)
+adds-rest shop best word opens n depth bound old kids at is =
+    let c : Closed = record { depth = depth; count = n; bound = bound }
     in let whole : take depth word ≡ word = ap (λ k. take k word) at ∙ take-length word
     in let closed : words_of_closed shop word c ≡ reverse kids.others =
     ap (λ (w : List ℕ). take n (reverse (branch shop w))) whole
@@ -63,6 +63,7 @@ adds-rest shop best word opens n depth old kids at =
         record {
           depth = (let a = at in omega arith);
           count = subst (λ (w : List ℕ). n ≤ length (branch shop w)) (sym whole) (omega arith);
+          bound = is ∙ ap (lb shop) (sym whole);
           high = subst (λ (ws : List (List ℕ)). AllByRecursion (λ v. best ≤ lb shop v) ws) (sym closed)
               (all_reverse (λ v. best ≤ lb shop v) kids.others kids.high);
         },
@@ -92,11 +93,12 @@ adds-open shop best word opens n old kids none =
     empty (w ∷ ws) e = absurd (omega arith)
 
 -- both
-pub adds-children : (shop : Shop) (best : ℕ) (word : List ℕ) (opens : List Open) (n depth : ℕ) (old : List Waiting)
-    → AreChildren shop best word opens n → depth ≡ length word
-    → Adds shop best word (reverse (branch shop word)) old (with_opens (with_rest old depth n) opens)
-adds-children shop best word opens zero depth old kids at = adds-open shop best word opens 0 old kids refl
-adds-children shop best word opens (suc n) depth old kids at = adds-rest shop best word opens (suc n) depth old kids at
+pub adds-children : (shop : Shop) (best : ℕ) (word : List ℕ) (opens : List Open) (n depth bound : ℕ)
+    (old : List Waiting) → AreChildren shop best word opens n → depth ≡ length word → bound ≡ lb shop word
+    → Adds shop best word (reverse (branch shop word)) old (with_opens (with_rest old depth n bound) opens)
+adds-children shop best word opens zero depth bound old kids at is = adds-open shop best word opens 0 old kids refl
+adds-children shop best word opens (suc n) depth bound old kids at is =
+    adds-rest shop best word opens (suc n) depth bound old kids at is
 
 -- no bound is so large
 pub no_others : (shop : Shop) (limit : ℕ) (word : List ℕ) (opens : List Open) (n : ℕ) → IsWithinLimits shop
@@ -133,12 +135,12 @@ adds-last shop best limit word opens n k old limits is large kids =
         (sym (take-append-drop k opens)) h)
 
 -- what these entries come to
-weight-rest : (shop : Shop) (limit : ℕ) (word : List ℕ) (opens : List Open) (n depth : ℕ) (old : List Waiting)
-    → AreChildren shop limit word opens n
-    → weight (with_opens (old ++ Rest (record { depth = depth; count = n }) ∷ []) opens)
+weight-rest : (shop : Shop) (limit : ℕ) (word : List ℕ) (opens : List Open) (n depth bound : ℕ)
+    (old : List Waiting) → AreChildren shop limit word opens n
+    → weight (with_opens (old ++ Rest (record { depth = depth; count = n; bound = bound }) ∷ []) opens)
     ≤ weight old + length shop.jobs + 1
-weight-rest shop limit word opens n depth old kids =
-    let c : Closed = record { depth = depth; count = n }
+weight-rest shop limit word opens n depth bound old kids =
+    let c : Closed = record { depth = depth; count = n; bound = bound }
     in let a = weight-append (old ++ Rest c ∷ []) (map (λ o. Child o) opens) in let b = weight-append old (Rest c ∷ [])
     in let d = weight-opens opens in let e = counts shop limit word opens n kids in let f = branch_few shop word
     in omega arith
@@ -152,9 +154,10 @@ pub few_open : (shop : Shop) (limit : ℕ) (word : List ℕ) (opens : List Open)
 few_open shop limit word opens n kids =
     let a = counts shop limit word opens n kids in let b = branch_few shop word in omega arith
 
-pub weight-children : (shop : Shop) (limit : ℕ) (word : List ℕ) (opens : List Open) (n depth : ℕ)
+pub weight-children : (shop : Shop) (limit : ℕ) (word : List ℕ) (opens : List Open) (n depth bound : ℕ)
     (old : List Waiting) → AreChildren shop limit word opens n
-    → weight (with_opens (with_rest old depth n) opens) ≤ weight old + length shop.jobs + 1
-weight-children shop limit word opens zero depth old kids =
+    → weight (with_opens (with_rest old depth n bound) opens) ≤ weight old + length shop.jobs + 1
+weight-children shop limit word opens zero depth bound old kids =
     let a = weight-with old opens in let b = few_open shop limit word opens 0 kids in omega arith
-weight-children shop limit word opens (suc n) depth old kids = weight-rest shop limit word opens (suc n) depth old kids
+weight-children shop limit word opens (suc n) depth bound old kids =
+    weight-rest shop limit word opens (suc n) depth bound old kids

@@ -50,6 +50,7 @@ module _ (shop : Shop) (v w : List ℕ) (n : ℕ) (alike : take n v ≡ take n w
       in record {
         depth = omega arith;
         count = subst (λ (u : List ℕ). c.count ≤ length (branch shop u)) same own.count;
+        bound = own.bound ∙ ap (lb shop) same;
         high = subst (λ (u : List ℕ). AllByRecursion (λ x. best ≤ lb shop x) (take c.count (reverse (branch shop u))))
             same own.high;
       }
@@ -69,6 +70,7 @@ lower-best shop best lower w (Child o) le own = own
 lower-best shop best lower w (Rest c) le own = record {
   depth = own.depth;
   count = own.count;
+  bound = own.bound;
   high = all_weaker (λ v. best ≤ lb shop v) (λ v. lower ≤ lb shop v) (λ v h. omega arith) (words_of_closed shop w c)
       own.high;
 }

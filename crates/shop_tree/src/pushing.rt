@@ -68,16 +68,22 @@ pub(crate) fn push_open(stack: &mut Vec<Waiting>, children: &[Open]) -> Result<(
     Ok(())
 }
 
-/// Puts so many closed children on the stack, if there are any.
+/// Puts so many closed children of a word with this bound on the stack, if there are any.
 pub(crate) fn push_rest(
     stack: &mut Vec<Waiting>,
     depth: usize,
     count: usize,
+    bound: u64,
 ) -> Result<(), AllocError>
-    ensures { OnOk result (stack.new.items ≡ with_rest stack.old.items depth count) }
+    ensures { OnOk result (stack.new.items ≡ with_rest stack.old.items depth count bound) }
 {
     if count > 0 {
-        stack.push(Waiting::Rest(Closed { depth, count }))?;
+        let closed = Closed {
+            depth,
+            count,
+            bound,
+        };
+        stack.push(Waiting::Rest(closed))?;
     }
     Ok(())
 }

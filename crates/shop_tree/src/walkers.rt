@@ -63,7 +63,7 @@ impl<'a> Walker<'a> {
             self.progress.best,
             &mut self.jobs,
         )?;
-        push_rest(&mut self.stack, self.desk.jobs().len(), others)?;
+        push_rest(&mut self.stack, self.desk.jobs().len(), others, bound)?;
         push_open(&mut self.stack, self.children.as_slice())
     }
 
@@ -107,11 +107,10 @@ impl<'a> Walker<'a> {
         ensures budget { OnOk result (self.new.progress ≡ self.old.progress) }
     {
         undo_to(&mut self.desk, closed.depth);
-        let bound = self.desk.bound();
         gather_children(
             &mut self.children,
             &mut self.desk,
-            bound,
+            closed.bound,
             u64::MAX,
             &mut self.jobs,
         )?;

@@ -12,8 +12,8 @@
 --     IsOpen shop word o                     the word of o is one of the instance, no longer than
 --                                            word and a job, with
 --                                            its bound
---     IsClosed shop best word c              there are so many children, and none has a bound
---                                            below the best
+--     IsClosed shop best word c              there are so many children, none has a bound below
+--                                            the best, and their parent's bound is told
 --     IsWaiting shop best word x             the entry is such an open child, or such closed
 --                                            children
 --     IsRising stack                         nothing begins with less of the desk's word than what
@@ -65,6 +65,7 @@ pub record IsOpen (shop : Shop) (word : List ℕ) (o : Open) : Type 0 where
 pub record IsClosed (shop : Shop) (best : ℕ) (word : List ℕ) (c : Closed) : Type 0 where
   pub depth : c.depth ≤ length word
   pub count : c.count ≤ length (branch shop (take c.depth word))
+  pub bound : c.bound ≡ lb shop (take c.depth word)
   pub high : AllByRecursion (λ v. best ≤ lb shop v) (words_of_closed shop word c)
 
 abbrev pub depth_of : Waiting → ℕ

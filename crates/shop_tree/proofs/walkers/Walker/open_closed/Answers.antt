@@ -2,6 +2,7 @@ use Rattle.std.proofs.Common.{◌≡◌, ◌∙◌, ◌++◌, ◌∷◌, [], ℕ
 use Rattle.std.proofs.Common.{sym, ap, subst, arith}
 use Rattle.std.proofs.lemmas.List.{length-take}
 use Rattle.shop_model.specs.Shop.{Shop}
+use Rattle.shop_bound.specs.Bound.{lb}
 use Rattle.shop_bound.specs.Desks.{DeskState}
 use Rattle.shop_tree.specs.Branching.{branch}
 use Rattle.shop_tree.specs.inner.Moving.{at_word}
@@ -23,6 +24,12 @@ undo_to-requires c =
     in (popped self.desk.shop self.progress.best self.desk.word self.stack.items (Rest c.args.closed)
     c.requires).own.depth
 
+pub gather_children-requires-clause-bound : goal.gather_children-requires-clause-bound
+gather_children-requires-clause-bound c =
+    let self = c.args.self.now
+    in (popped self.desk.shop self.progress.best self.desk.word self.stack.items (Rest c.args.closed)
+    c.requires).own.bound ∙ sym (ap (λ (d : DeskState). lb d.shop d.word) c.undo_to.ensures)
+
 pub returns-clause-turn : goal.returns-clause-turn
 returns-clause-turn c =
     let self = c.args.self.now
@@ -33,9 +40,8 @@ returns-clause-turn c =
     in let to = c.gather_children.new.desk
     in let opens = c.gather_children.new.children.items
     in let new = c.push_open.new.stack.items
-    in let before = c.bound-bound.new.self
     in let went : to ≡ at_word self.desk (take closed.depth self.desk.word) = c.in_ok-gather_children.ensures.same
-    ∙ (c.bound-bound.ensures.same ∙ c.undo_to.ensures)
+    ∙ c.undo_to.ensures
     in let limit : ℕ = 18446744073709551615
     in let kids : AreChildren to.shop limit to.word opens c.in_ok-gather_children.field-0 = subst
     (λ (d : DeskState). AreChildren d.shop limit d.word opens c.in_ok-gather_children.field-0)

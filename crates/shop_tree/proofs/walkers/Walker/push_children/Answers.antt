@@ -22,14 +22,15 @@ returns c =
     ∙ ap (λ (d : DeskState). length d.word) c.in_ok-others.ensures.same
     in on_ok _ (HasBranched self _) (λ e.
     let put : c.push_open.new.stack.items
-    ≡ with_opens (with_rest self.stack.items (length c.jobs.result.now) others) opens = e
+    ≡ with_opens (with_rest self.stack.items (length c.jobs.result.now) others c.args.bound) opens = e
     ∙ (ap (λ (xs : List Waiting). with_opens xs c.as_slice.result.now) c.in_ok-push_rest.ensures
-    ∙ ap (with_opens (with_rest self.stack.items (length c.jobs.result.now) others)) c.as_slice.ensures.value)
+    ∙ ap (with_opens (with_rest self.stack.items (length c.jobs.result.now) others c.args.bound)) c.as_slice.ensures.value)
     in record {
       stack = subst (λ (xs : List Waiting). Adds shop best word (reverse (branch shop word)) self.stack.items xs)
-          (sym put) (adds-children shop best word opens others (length c.jobs.result.now) self.stack.items kids depth);
+          (sym put) (adds-children shop best word opens others (length c.jobs.result.now) c.args.bound self.stack.items
+          kids depth c.requires);
       weight = subst (λ (xs : List Waiting). weight xs ≤ weight self.stack.items + length shop.jobs + 1) (sym put)
-          (weight-children shop best word opens others (length c.jobs.result.now) self.stack.items kids);
+          (weight-children shop best word opens others (length c.jobs.result.now) c.args.bound self.stack.items kids);
       desk = c.in_ok-others.ensures.same;
       progress = refl;
     }) c.push_open.result c.push_open.ensures
