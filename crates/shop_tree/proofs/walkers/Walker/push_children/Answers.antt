@@ -24,7 +24,8 @@ returns c =
     let put : c.push_open.new.stack.items
     ≡ with_opens (with_rest self.stack.items (length c.jobs.result.now) others c.args.bound) opens = e
     ∙ (ap (λ (xs : List Waiting). with_opens xs c.as_slice.result.now) c.in_ok-push_rest.ensures
-    ∙ ap (with_opens (with_rest self.stack.items (length c.jobs.result.now) others c.args.bound)) c.as_slice.ensures.value)
+    ∙ ap (with_opens (with_rest self.stack.items (length c.jobs.result.now) others c.args.bound))
+    c.as_slice.ensures.value)
     in record {
       stack = subst (λ (xs : List Waiting). Adds shop best word (reverse (branch shop word)) self.stack.items xs)
           (sym put) (adds-children shop best word opens others (length c.jobs.result.now) c.args.bound self.stack.items
