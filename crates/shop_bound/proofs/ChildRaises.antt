@@ -1,6 +1,6 @@
 -- Raises that notes tell cover what the heads after one more operation bound.
 use Rattle.std.proofs.Common.{◌≡◌, ℕ, suc, ◌+◌, ◌≤◌, ◌<◌, ◌⊎◌, inl, inr, List, [], ◌∷◌, ◌++◌, length}
-use Rattle.std.proofs.Common.{get_or, set, refl, sym, ◌∙◌, ap, subst, arith}
+use Rattle.std.proofs.Common.{get_or, set, refl, sym, ◌∙◌, ap, arith}
 use Rattle.std.proofs.lemmas.Bool.{cases_eq, cases_lt}
 use Rattle.std.proofs.lemmas.List.{get_or-set_same, get_or-set_other, get_or_past}
 use Rattle.shop_lanes.specs.Rows.{Rows, lanes, blocks}
@@ -8,24 +8,20 @@ use Rattle.shop_lanes.specs.Spans.{spans_between}
 use Rattle.shop_model.specs.Limits.{IsWithinLimits}
 use Rattle.shop_model.specs.Shop.{Shop, machine_of, IsOperation}
 use Rattle.shop_model.specs.Word.{Placing, IsWord, placing, place_next}
-use Rattle.shop_model.proofs.Placings.{place_next-is}
 use Rattle.shop_bound.specs.Bound.{lb}
 use Rattle.shop_bound.specs.inner.BoundsUpTo.{IsBoundUpTo}
 use Rattle.shop_bound.specs.Heads.{head_of}
 use Rattle.shop_bound.specs.OneMachine.{one}
 use Rattle.shop_bound.specs.inner.HeadLimits.{latest_end}
-use Rattle.shop_bound.specs.inner.HeadRaises.{raise_of}
-use Rattle.shop_bound.specs.inner.LaneBounds.{lanes_on, AreMachinesAt, IsNoteWithin}
+use Rattle.shop_bound.specs.inner.LaneBounds.{lanes_on}
 use Rattle.shop_bound.specs.inner.LaneHeads.{AreHeadsAt, restored}
-use Rattle.shop_bound.specs.inner.Layouts.{LayoutState, IsLaidOut, place, first_of}
+use Rattle.shop_bound.specs.inner.Layouts.{LayoutState, IsLaidOut, place}
 use Rattle.shop_bound.specs.declared.head_raises.Raise.{Raise}
 use Rattle.shop_bound.specs.declared.notes.Note.{Note}
 use Rattle.shop_bound.proofs.ChildBounds.{child-le}
 use Rattle.shop_bound.proofs.ChildExits.{after_spans-cover, after_spans-le}
-use Rattle.shop_bound.proofs.HeadsStay.{steps_rise}
 use Rattle.shop_bound.proofs.LaidPlaces.{each_position}
 use Rattle.shop_bound.proofs.LatestEnds.{latest_end_is}
-use Rattle.shop_bound.proofs.MachineLanes.{index_of}
 use Rattle.shop_bound.proofs.RestoredNotes.{length-restored}
 use Rattle.shop_bound.proofs.TabledHeads.{left_for}
 
@@ -94,42 +90,6 @@ module _ (shop : Shop) (limits : IsWithinLimits shop) (l : LayoutState) (laid : 
       ⊎ ((raise.from ≤ head_of shop (placing shop w) i k + 1)
       × (head_of shop (place_next shop (placing shop w) j) i k + 1 ≤ raise.to))
 
-  pub covered_by_notes : (ms : List ℕ) → AreMachinesAt l shop.machines ms → (raises : List Raise) (notes : List Note)
-      → restored notes now ≡ was → (m : ℕ) → m < shop.machines
-      → ((i : ℕ) (d : Note) → i < length notes → get_or ms (get_or notes i d).position 0 ≡ m
-      → IsNoteWithin raises ms now (get_or notes i d))
-      → IsCovered (raise_of raises m) m
-  unfolding its_next
-  covered_by_notes ms machines raises notes back m known within i k op on opened =
-      let x = place l i k
-      in let rise = steps_rise shop (placing shop w) j its_next (place_next-is shop (placing shop w) j) i
-      in let a = old.waiting i k op (omega arith)
-      in let b = new.waiting i k op opened
-      in let before : get_or (restored notes now) x 0 ≡ get_or was x 0 = ap (λ (hs : List ℕ). get_or hs x 0) back
-      in elim (noted_or_same notes now x) [
-        | inl same ↦ inl (omega arith)
-        | inr noted ↦ (let r = noted.1
-            in let d : Note = record { position = 0; head = 0 }
-            in let head = r.head d
-            in let index = index_of shop limits l laid i k op
-            in let there : x ≡ first_of l m + index.0 =
-            index.1.place ∙ ap (λ (y : ℕ). first_of l y + index.0) on
-            in let below : index.0 < length (get_or laid.slots m []) =
-            subst (λ (y : ℕ). index.0 < length (get_or laid.slots y [])) on index.1.below
-            in let room = (laid.each m known).room
-            in let machine : get_or ms (get_or notes noted.0 d).position 0 ≡ m =
-            ap (λ (y : ℕ). get_or ms y 0) (r.position d) ∙ machines.at m x known (omega arith) (omega arith)
-            in let n = within noted.0 d r.below machine
-            in let here : get_or now (get_or notes noted.0 d).position 0 ≡ get_or now x 0 =
-            ap (λ (y : ℕ). get_or now y 0) (r.position d)
-            in let from : (raise_of raises (get_or ms (get_or notes noted.0 d).position 0)).from
-            ≡ (raise_of raises m).from = ap (λ (y : ℕ). (raise_of raises y).from) machine
-            in let to : (raise_of raises (get_or ms (get_or notes noted.0 d).position 0)).to
-            ≡ (raise_of raises m).to = ap (λ (y : ℕ). (raise_of raises y).to) machine
-            in let low = n.from (omega arith) in let high = n.to (omega arith)
-            in inr (omega arith, omega arith))
-      ]
-
   pub covered_all : (raise : Raise) → raise.from ≡ 0 → ((q : ℕ) → get_or now q 0 ≤ raise.to) → (m : ℕ)
       → IsCovered raise m
   covered_all raise from small m i k op on opened =
@@ -154,28 +114,22 @@ module _ (shop : Shop) (limits : IsWithinLimits shop) (l : LayoutState) (laid : 
         after_spans-cover shop limits l laid w j fits now new m known raise.from raise.to b covered
         (let e = ap (spans_between raise.from raise.to) (its_lanes m) in omega arith) (omega arith)
 
-    -- the bound of what begins within the raises
-    pub bound_by_raises_is : (raises : List Raise) → length raises ≡ shop.machines → (least limit b : ℕ)
-        → ((m : ℕ) → m < shop.machines → IsBounded least (raise_of raises m) m) → lb shop w ≤ least
+    -- what bounds all that is left is the bound, where it is no more than that and spans bound
+    pub bound_is : (least limit b : ℕ) → lb shop w ≤ least
         → (place_next shop (placing shop w) j).free (machine_of shop j ((placing shop w).steps j)) ≤ least
         → least ≤ lb shop (w ++ j ∷ []) → least ≤ b
-        → (b < limit → (m : ℕ) → m < length raises
-        → spans_between (raise_of raises m).from (raise_of raises m).to (lanes_on rows l m) ≤ b + 1)
-        → ((c : ℕ) → least ≤ c → ((m above upto : ℕ) → m < length raises
+        → (b < limit → (m : ℕ) → m < shop.machines
+        → one (left_for shop laid.slots (place_next shop (placing shop w) j) m) ≤ b)
+        → ((c : ℕ) → least ≤ c → ((m above upto : ℕ) → m < shop.machines
         → spans_between above upto (lanes_on rows l m) ≤ c + 1) → b ≤ c)
         → IsBoundUpTo limit (lb shop (w ++ j ∷ [])) b
-    bound_by_raises_is raises long least limit b bounded parent end most low covers within =
+    bound_is least limit b parent end most low left within =
         let at_most = within (lb shop (w ++ j ∷ [])) most (λ m above upto known.
-        (let a = after_spans-le shop limits l laid w j fits now new m (omega arith) above upto
+        (let a = after_spans-le shop limits l laid w j fits now new m known above upto
         in let e = ap (spans_between above upto) (its_lanes m) in omega arith))
         in record {
           at_most = at_most;
           exact = λ under.
-              let left : (m : ℕ) → m < shop.machines → one_of m ≤ b =
-              (λ m known. bounded m known b low (covers under m (omega arith)))
-              in let a = child-le shop limits laid.slots laid.are w j fits b (omega arith) (omega arith) left
+              let a = child-le shop limits laid.slots laid.are w j fits b (omega arith) (omega arith) (left under)
               in omega arith;
         }
-      where
-        one_of : ℕ → ℕ
-        one_of m = one (left_for shop laid.slots (place_next shop (placing shop w) j) m)

@@ -1,5 +1,5 @@
 -- What is read of the next operation of a job, and what is foreseen of the bound after it.
-use Rattle.std.proofs.Common.{◌≡◌, ℕ, ◌+◌, ◌≤◌, ◌<◌, max, inl, inr, true, List, [], ◌∷◌, ◌++◌, set}
+use Rattle.std.proofs.Common.{◌≡◌, ℕ, ◌+◌, ◌≤◌, ◌<◌, max, inl, inr, true, false, List, [], ◌∷◌, ◌++◌, set}
 use Rattle.std.proofs.Common.{get_or, refl, sym, ◌∙◌, ap, subst, arith}
 use Rattle.shop_lanes.specs.Rows.{Rows, Lane, with_head, lanes, blocks}
 use Rattle.shop_lanes.specs.Spans.{span}
@@ -11,11 +11,12 @@ use Rattle.shop_model.proofs.WordLemmas.{IsWord-init}
 use Rattle.shop_bound.specs.Bound.{lb}
 use Rattle.shop_bound.specs.inner.BoundsUpTo.{IsBoundUpTo}
 use Rattle.shop_bound.specs.Heads.{head_of}
+use Rattle.shop_bound.specs.inner.ChildBounds.{IsLeastAfter}
 use Rattle.shop_bound.specs.inner.HeadLimits.{FitsLanes, latest_end}
 use Rattle.shop_bound.specs.inner.LaneBounds.{AreMachinesAt, AreSpansFit, Foresees}
 use Rattle.shop_bound.specs.inner.LaneStates.{AreHeadsInLanes}
 use Rattle.shop_bound.specs.inner.Layouts.{LayoutState, first_of, place}
-use Rattle.shop_bound.specs.declared.lane_bounds.Foreseen.{Foreseen}
+use Rattle.shop_bound.specs.declared.look_aheads.Foreseen.{Foreseen}
 use Rattle.shop_bound.proofs.ChildBounds.{child-ge-before}
 use Rattle.shop_bound.proofs.ChildExits.{none_below-is, open_span-le}
 use Rattle.shop_bound.proofs.HeadTurns.{ready_first}
@@ -144,3 +145,12 @@ module _ (greatest : ℕ) (shop : Shop) (w : List ℕ) (l : LayoutState) (rows :
             in let same = none.1 in record { at_most = omega arith; exact = λ under. omega arith })
         | inr reached ↦ record { at_most = foreseen_low; exact = λ under. absurd (omega arith) }
       ]
+
+      pub after_foresight : f.is_final ≡ false → IsLeastAfter shop w l rows j x m e f.bound
+      after_foresight not_final = record {
+        next = record { position_is = x_is; machine_is = m_is; end_is = e_is };
+        parent = (let a = foresees.low in omega arith);
+        ends = (let a = foresees.low in omega arith);
+        ahead = foresees.covers not_final;
+        most = foreseen_low;
+      }

@@ -1,39 +1,47 @@
 -- What is read and kept while the bound after one more operation is found.
-use Rattle.std.proofs.Common.{◌≡◌, ℕ, ◌+◌, ◌-◌, ◌≤◌, ◌<◌, inl, inr, true, false, List, [], ◌∷◌, ◌++◌, length}
-use Rattle.std.proofs.Common.{get_or, take, drop, refl, sym, ◌∙◌, ap, subst, arith, length-append}
+use Rattle.std.proofs.Common.{◌≡◌, ℕ, ◌+◌, ◌-◌, ◌*◌, ◌≤◌, ◌<◌, inl, inr, true, false, List, [], ◌∷◌, ◌++◌, length}
+use Rattle.std.proofs.Common.{get_or, set, take, drop, refl, sym, ◌∙◌, ap, subst, arith, length-append}
 use Rattle.std.specs.List.{All}
 use Rattle.std.proofs.lemmas.Bool.{cases_Bool}
-use Rattle.std.proofs.lemmas.List.{take_all}
+use Rattle.std.proofs.lemmas.List.{length-set, take_all}
 use Rattle.std.proofs.lemmas.List.Elements.{All-from_recursion}
-use Rattle.shop_lanes.specs.Rows.{Rows, Lane, with_head}
+use Rattle.shop_lanes.specs.Rows.{Rows, Lane, with_head, lanes, blocks}
 use Rattle.shop_lanes.specs.Spans.{span, spans_between}
-use Rattle.shop_model.specs.Shop.{Shop, machine_of}
+use Rattle.shop_model.specs.Shop.{Shop}
 use Rattle.shop_model.specs.Word.{Placing, IsWord, placing, place_next}
 use Rattle.shop_model.proofs.Ends.{IsOperation-job}
 use Rattle.shop_model.proofs.Unders.{next_operation, placing-snoc}
 use Rattle.shop_bound.specs.Bound.{lb}
 use Rattle.shop_bound.specs.inner.BoundsUpTo.{IsBoundUpTo}
+use Rattle.shop_bound.specs.OneMachine.{one}
+use Rattle.shop_bound.specs.inner.ChildBounds.{IsLeastAfter}
 use Rattle.shop_bound.specs.inner.Estimates.{AreEstimates, IsNoteCovered}
 use Rattle.shop_bound.specs.inner.HeadLimits.{latest_end}
 use Rattle.shop_bound.specs.inner.HeadRaises.{raise_of}
 use Rattle.shop_bound.specs.inner.LaneBounds.{lanes_on, AreMachinesAt}
 use Rattle.shop_bound.specs.inner.LaneHeads.{AreHeadsAt, AreNotesFit, NotesState}
 use Rattle.shop_bound.specs.inner.LaneStates.{AreHeadsInLanes, Advances}
-use Rattle.shop_bound.specs.inner.Layouts.{LayoutState}
+use Rattle.shop_bound.specs.inner.Layouts.{LayoutState, place}
 use Rattle.shop_bound.specs.declared.head_raises.Raise.{Raise}
 use Rattle.shop_bound.specs.declared.notes.Mark.{Mark}
 use Rattle.shop_bound.specs.declared.notes.Note.{Note}
-use Rattle.shop_bound.proofs.ChildRaises.{IsBounded, bounded_by_raise, bound_by_raises_is, covered_all, heads_small}
-use Rattle.shop_bound.proofs.EstimatedRaises.{bounded_by_notes}
+use Rattle.shop_bound.proofs.ChildRaises.{bounded_by_raise, bound_is, covered_all, heads_small, its_lanes}
+use Rattle.shop_bound.proofs.ChildReads.{left_stored}
+use Rattle.shop_bound.proofs.EstimatedRaises.{bounded_by_notes, span_ahead}
 use Rattle.shop_bound.proofs.LaneBegins.{blocks_within}
 use Rattle.shop_bound.proofs.LaneTrails.{same_heads}
 use Rattle.shop_bound.proofs.RestoredNotes.{put_back}
+use Rattle.shop_bound.proofs.TabledHeads.{left_for}
+
+-- where the next step of a job stands
+abbrev its_place : (shop : Shop) → LayoutState → ℕ → Placing → ℕ
+its_place shop l j p = place l j (p.steps j)
 
 -- a head that is taken out and put in again
 pub head_again : (rows : Rows) (x : ℕ) → with_head (with_head rows x 0) x (get_or rows.heads x 0) ≡ rows
 head_again rows x = ap (λ (hs : List ℕ). record rows { heads = hs }) (put_back rows.heads x 0)
 
-drop_front : {A : Type 0} (xs ys : List A) → drop (length xs) (xs ++ ys) ≡ ys
+pub drop_front : {A : Type 0} (xs ys : List A) → drop (length xs) (xs ++ ys) ≡ ys
 drop_front [] ys = refl
 drop_front (x ∷ xs) ys = drop_front xs ys
 
@@ -70,46 +78,74 @@ module _ (greatest : ℕ) (shop : Shop) (l : LayoutState) (j step : ℕ) (rows r
       let a = heads_small shop kept.limits l kept.laid (w ++ j ∷ []) fits rows'.heads
       (advances.heads w kept fits at).heads q in omega arith
 
-  pub raised_is : (ms : List ℕ) → AreMachinesAt l shop.machines ms → (raises : List Raise)
-      → length raises ≡ shop.machines → (noted : List Note) → noted ≡ advances.noted.more
-      → (us : List ℕ) (top : ℕ) → top ≡ latest_end shop + 1 → AreEstimates top l rows us → (least limit b : ℕ)
-      → (mark.whole ≡ true → All (IsNoteCovered raises us least ms rows'.heads) noted)
-      → (mark.whole ≡ false → (m : ℕ) → m < length raises → raise_of raises m ≡ record { from = 0; to = top })
-      → least ≤ b
-      → (b < limit → (m : ℕ) → m < length raises
-      → spans_between (raise_of raises m).from (raise_of raises m).to (lanes_on rows' l m) ≤ b + 1)
-      → ((c : ℕ) → least ≤ c → ((m above upto : ℕ) → m < length raises
-      → spans_between above upto (lanes_on rows' l m) ≤ c + 1) → b ≤ c)
-      → (w : List ℕ) → AreHeadsInLanes greatest shop w l rows → IsWord shop (w ++ j ∷ [])
-      → step ≡ (placing shop w).steps j → lb shop w ≤ least
-      → (place_next shop (placing shop w) j).free (machine_of shop j ((placing shop w).steps j)) ≤ least
-      → least ≤ lb shop (w ++ j ∷ []) → IsBoundUpTo limit (lb shop (w ++ j ∷ [])) b
-  raised_is ms machines raises long noted is us top top_is estimates least limit b within all low covers inside w kept
-      fits at parent end most =
-      let now = next_heads w kept fits at
-      in let times = advances.beside.times ∙ kept.times
-      in let tails = advances.beside.tails ∙ kept.tails
-      in let small : (q : ℕ) → get_or rows'.heads q 0 ≤ top = next_small top top_is w kept fits at
-      in let bounded : (m : ℕ) → m < shop.machines
-      → IsBounded shop kept.limits l kept.laid w j fits rows.heads rows'.heads kept.heads now rows' refl
-      times tails least
-      (raise_of raises m) m =
-      (λ m known. elim (cases_Bool mark.whole) [
-        | inl e ↦ bounded_by_notes shop kept.limits l kept.laid w j fits rows.heads rows'.heads kept.heads now ms
-            machines raises advances.noted.more (advances.noted.back (sym advances.whole ∙ e)) us least
-            (subst (λ (ns : List Note). All (IsNoteCovered raises us least ms rows'.heads) ns) is (within e)) m known
-            rows rows' refl kept.times kept.tails refl times tails top estimates small parent
-            (let a = blocks_within shop kept.limits l kept.laid (m + 1) (omega arith)
-            in let c = kept.heads.positions in let d = kept.laid.positions.times in omega arith)
-        | inr e ↦ (let r = all e m (omega arith)
-            in bounded_by_raise shop kept.limits l kept.laid w j fits rows.heads rows'.heads kept.heads now rows' refl
-            times tails least parent (raise_of raises m) m known
-            (covered_all shop kept.limits l kept.laid w j fits rows.heads rows'.heads kept.heads now
-            (raise_of raises m) (ap (λ (x : Raise). x.from) r)
-            (λ q. (let a = small q in let t = ap (λ (x : Raise). x.to) r in omega arith)) m))
-      ])
-      in bound_by_raises_is shop kept.limits l kept.laid w j fits rows.heads rows'.heads kept.heads now rows' refl times
-      tails raises long least limit b bounded parent end most low covers inside
+  -- what the raises of all notes cover, or else all that waits
+  module _ (ms : List ℕ) (machines : AreMachinesAt l shop.machines ms) (noted : List Note)
+      (is : noted ≡ advances.noted.more) (us : List ℕ) (top : ℕ) (top_is : top ≡ latest_end shop + 1)
+      (estimates : AreEstimates top l rows us) (position own end least limit b : ℕ) where
+    abbrev pub AreRaisesCovered : List Raise → Type 0
+    AreRaisesCovered raises = All (IsNoteCovered raises own end us least ms rows'.heads) noted
+        × ((m : ℕ) → spans_between (raise_of raises m).from (raise_of raises m).to (lanes_on rows' l m) ≤ b + 1)
+
+    pub raised_is : (b < limit → mark.whole ≡ true → (raises : List Raise) × AreRaisesCovered raises)
+        → (mark.whole ≡ false → b < limit → (m : ℕ) → m < shop.machines
+        → spans_between 0 top (lanes_on rows' l m) ≤ b + 1)
+        → least ≤ b
+        → ((c : ℕ) → least ≤ c → ((m above upto : ℕ) → m < shop.machines
+        → spans_between above upto (lanes_on rows' l m) ≤ c + 1) → b ≤ c)
+        → (w : List ℕ) → AreHeadsInLanes greatest shop w l rows → IsWord shop (w ++ j ∷ [])
+        → step ≡ (placing shop w).steps j → IsLeastAfter shop w l rows j position own end least
+        → IsBoundUpTo limit (lb shop (w ++ j ∷ [])) b
+    raised_is by_raises by_all low inside w kept fits at after =
+        let ends = after.ends in let end_is = after.next.end_is
+        in bound_is shop kept.limits l kept.laid w j fits rows.heads rows'.heads kept.heads now_heads rows' refl times
+        tails least limit b after.parent (omega arith) after.most low left inside
+      where
+        now_heads : AreHeadsAt shop (place_next shop (placing shop w) j) l rows'.heads
+        now_heads = next_heads w kept fits at
+
+        times : rows'.times ≡ l.times
+        times = advances.beside.times ∙ kept.times
+
+        tails : rows'.tails ≡ l.tails
+        tails = advances.beside.tails ∙ kept.tails
+
+        small : (q : ℕ) → get_or rows'.heads q 0 ≤ top
+        small = next_small top top_is w kept fits at
+
+        within : (m : ℕ) → m < shop.machines → 8 * get_or l.blocks (m + 1) 0 ≤ length rows.heads
+        within m known =
+            let a = blocks_within shop kept.limits l kept.laid (m + 1) (omega arith)
+            in let c = kept.heads.positions in let d = kept.laid.positions.times in omega arith
+
+        ahead : (m : ℕ) → m < shop.machines → m ≡ own → (h : ℕ) → 0 < h → h ≤ end
+            → span h h (lanes_on rows' l m) ≤ least + 1
+        ahead m known on h some up =
+            let x = its_place shop l j (placing shop w)
+            in let a = span_ahead shop kept.limits l kept.laid w j fits rows.heads rows'.heads kept.heads now_heads
+            (set rows.heads x 0) (left_stored greatest shop w l rows kept j fits) top m h end small some up
+            (let long = length-set rows.heads x 0 in let b = within m known in omega arith)
+            in let e = ap (span h h) (its_lanes shop kept.limits l kept.laid w j fits rows.heads rows'.heads kept.heads
+            now_heads rows' refl times tails m)
+            in let f : lanes_on (with_head rows position 0) l own
+            ≡ blocks (get_or l.blocks m 0) (get_or l.blocks (m + 1) 0) (lanes (set rows.heads x 0) l.times l.tails) =
+            rw (after.next.position_is, on, kept.times, kept.tails) refl
+            in let g = ap (span 1 end) f in let ahead = after.ahead in omega arith
+
+        left : b < limit → (m : ℕ) → m < shop.machines
+            → one (left_for shop kept.laid.slots (place_next shop (placing shop w) j) m) ≤ b
+        left under m known = elim (cases_Bool mark.whole) [
+          | inl e ↦ (let r = by_raises under e
+              in let covered = subst (λ (ns : List Note). All (IsNoteCovered r.0 own end us least ms rows'.heads) ns) is
+              r.1.0
+              in bounded_by_notes shop kept.limits l kept.laid w j fits rows.heads rows'.heads kept.heads now_heads ms
+              machines r.0 advances.noted.more (advances.noted.back (sym advances.whole ∙ e)) own end us least covered m
+              known rows rows' refl kept.times kept.tails refl times tails top estimates small after.parent
+              (within m known) (ahead m known) b low (r.1.1 m))
+          | inr e ↦ bounded_by_raise shop kept.limits l kept.laid w j fits rows.heads rows'.heads kept.heads now_heads
+              rows' refl times tails least after.parent (record { from = 0; to = top }) m known
+              (covered_all shop kept.limits l kept.laid w j fits rows.heads rows'.heads kept.heads now_heads
+              (record { from = 0; to = top }) refl small m) b low (by_all e under m known)
+        ]
 
 -- estimates stand for the same heads put back
 pub estimates_again : (greatest : ℕ) (shop : Shop) (l : LayoutState) (w : List ℕ) (old new : Rows)

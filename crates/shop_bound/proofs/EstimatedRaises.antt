@@ -2,27 +2,35 @@
 use Rattle.std.proofs.Common.{◌≡◌, ℕ, ◌+◌, ◌-◌, ◌*◌, ◌≤◌, ◌<◌, inl, inr, List, [], ◌∷◌, ◌++◌, length}
 use Rattle.std.proofs.Common.{get_or, refl, sym, ◌∙◌, ap, subst, arith, drop}
 use Rattle.std.specs.List.{All}
-use Rattle.std.proofs.lemmas.Bool.{cases_lt}
+use Rattle.std.proofs.lemmas.Bool.{cases_eq, cases_lt}
 use Rattle.std.proofs.lemmas.List.{get_or-take, get_or-drop}
 use Rattle.shop_lanes.specs.Rows.{Rows, Lane, lanes, blocks}
+use Rattle.shop_lanes.specs.Spans.{span}
 use Rattle.shop_lanes.proofs.LaneLists.{length-blocks, lanes-blocks}
 use Rattle.shop_model.specs.Limits.{IsWithinLimits}
 use Rattle.shop_model.specs.Shop.{Shop}
 use Rattle.shop_model.specs.Word.{IsWord, placing, place_next}
 use Rattle.shop_model.proofs.Placings.{place_next-is}
+use Rattle.shop_model.proofs.WordLemmas.{IsWord-init}
 use Rattle.shop_bound.specs.Bound.{lb}
-use Rattle.shop_bound.specs.inner.Estimates.{AreEstimates, IsNoteCovered}
+use Rattle.shop_bound.specs.Heads.{head_of}
+use Rattle.shop_bound.specs.inner.Estimates.{AreEstimates, IsEstimate, IsNoteCovered}
 use Rattle.shop_bound.specs.inner.HeadRaises.{raise_of}
-use Rattle.shop_bound.specs.inner.LaneBounds.{lanes_on, AreMachinesAt, IsNoteWithin}
+use Rattle.shop_bound.specs.inner.LaneBounds.{lanes_on, AreMachinesAt}
 use Rattle.shop_bound.specs.inner.LaneHeads.{AreHeadsAt, restored}
 use Rattle.shop_bound.specs.inner.Layouts.{LayoutState, IsLaidOut, place, first_of}
 use Rattle.shop_bound.specs.declared.head_raises.Raise.{Raise}
 use Rattle.shop_bound.specs.declared.notes.Note.{Note}
-use Rattle.shop_bound.proofs.ChildRaises.{IsBounded, bounded_by_raise, covered_by_notes, covered_all}
-use Rattle.shop_bound.proofs.ChildRaises.{noted_or_same}
+use Rattle.shop_bound.proofs.ChildBounds.{left-le-lb}
+use Rattle.shop_bound.proofs.ChildRaises.{IsBounded, bounded_by_raise, covered_all, noted_or_same}
 use Rattle.shop_bound.proofs.HeadsStay.{steps_rise}
 use Rattle.shop_bound.proofs.LaidPlaces.{each_position}
-use Rattle.shop_bound.proofs.LaneEstimates.{AreBeside, IsRisen, IsRisenLane, lanes_risen, spans_risen}
+use Rattle.shop_bound.proofs.LaneEstimates.{AreBeside, IsRisen, IsRisenLane, IsServedBefore, beside_as, lanes_risen}
+use Rattle.shop_bound.proofs.LaneEstimates.{span_beside, spans_risen}
+use Rattle.shop_bound.proofs.LaneSpans.{from_head_within}
+use Rattle.shop_bound.proofs.MachineLanes.{AreStored, left_matched}
+use Rattle.shop_bound.proofs.OpenSlots.{open_falls}
+use Rattle.shop_bound.proofs.TabledHeads.{tabled, tabled_heads}
 
 -- the blocks of a row
 block_at : (from to i : ℕ) (xs : List ℕ) → i < 8 * to - 8 * from
@@ -31,24 +39,24 @@ block_at from to i xs below = get_or-take (8 * to - 8 * from) (drop (8 * from) x
     ∙ get_or-drop (8 * from) xs i 0
 
 -- lanes of the same blocks of rows whose heads rose there
-blocks_risen : (s from to first end : ℕ) (hs hs' ts qs : List ℕ) → length ts ≡ length hs → length qs ≡ length hs
+blocks_risen : (s from to floor first end : ℕ) (hs hs' ts qs : List ℕ) → length ts ≡ length hs → length qs ≡ length hs
     → length hs' ≡ length hs → 8 * end ≤ length hs
-    → ((q : ℕ) → 8 * first ≤ q → q < 8 * end → IsRisen s from to (get_or hs q 0) (get_or hs' q 0))
-    → AreBeside (IsRisenLane s from to) (blocks first end (lanes hs ts qs)) (blocks first end (lanes hs' ts qs))
-blocks_risen s from to first end hs hs' ts qs a b c within each =
+    → ((q : ℕ) → 8 * first ≤ q → q < 8 * end → IsRisen s from to floor (get_or hs q 0) (get_or hs' q 0))
+    → AreBeside (IsRisenLane s from to floor) (blocks first end (lanes hs ts qs)) (blocks first end (lanes hs' ts qs))
+blocks_risen s from to floor first end hs hs' ts qs a b c within each =
     let lh = length-blocks first end hs within
     in let lh' = length-blocks first end hs' (omega arith)
     in let lt = length-blocks first end ts (omega arith)
     in let lq = length-blocks first end qs (omega arith)
-    in let risen = lanes_risen s from to (blocks first end hs) (blocks first end hs') (blocks first end ts)
+    in let risen = lanes_risen s from to floor (blocks first end hs) (blocks first end hs') (blocks first end ts)
     (blocks first end qs) (omega arith) (omega arith) (omega arith)
-    (λ i here. subst (λ (x : ℕ). IsRisen s from to x (get_or (blocks first end hs') i 0))
+    (λ i here. subst (λ (x : ℕ). IsRisen s from to floor x (get_or (blocks first end hs') i 0))
     (sym (block_at first end i hs (omega arith)))
-    (subst (IsRisen s from to (get_or hs (8 * first + i) 0)) (sym (block_at first end i hs' (omega arith)))
+    (subst (IsRisen s from to floor (get_or hs (8 * first + i) 0)) (sym (block_at first end i hs' (omega arith)))
     (each (8 * first + i) (omega arith) (omega arith))))
-    in subst (λ (xs : List Lane). AreBeside (IsRisenLane s from to) xs (blocks first end (lanes hs' ts qs)))
+    in subst (λ (xs : List Lane). AreBeside (IsRisenLane s from to floor) xs (blocks first end (lanes hs' ts qs)))
     (lanes-blocks hs ts qs first end a b)
-    (subst (AreBeside (IsRisenLane s from to) (lanes (blocks first end hs) (blocks first end ts) (blocks first end qs)))
+    (subst (AreBeside (IsRisenLane s from to floor) (lanes (blocks first end hs) (blocks first end ts) (blocks first end qs)))
     (lanes-blocks hs' ts qs first end (omega arith) (omega arith)) risen)
 
 -- the lanes of a machine by what stands in the rows
@@ -74,13 +82,47 @@ module _ (shop : Shop) (limits : IsWithinLimits shop) (l : LayoutState) (laid : 
     | inr free ↦ (let c = new.padding q free in absurd (omega arith))
   ]
 
+  -- from the end on, all that waits now waited before, the operation aside
+  module _ (left : List ℕ) (stored : AreStored shop (place_next shop (placing shop w) j).steps
+      (head_of shop (placing shop w)) l left) where
+    waited_left : (q : ℕ) → 0 < get_or now q 0 → 0 < get_or left q 0
+    waited_left q some = elim (each_position shop limits l laid q) [
+      | inl o ↦ (let b : get_or now (place l o.job o.step) 0 ≡ get_or now q 0 = ap (λ (x : ℕ). get_or now x 0) o.at
+          in let a : get_or left (place l o.job o.step) 0 ≡ get_or left q 0 = ap (λ (x : ℕ). get_or left x 0) o.at
+          in elim (cases_lt o.step ((place_next shop (placing shop w) j).steps o.job)) [
+            | inl before ↦ (let c = new.placed o.job o.step o.is before in absurd (omega arith))
+            | inr opened ↦ (let c = stored.waiting o.job o.step o.is opened in omega arith)
+          ])
+      | inr free ↦ (let c = new.padding q free in absurd (omega arith))
+    ]
+
+    pub span_ahead : (top m h end : ℕ) → ((q : ℕ) → get_or now q 0 ≤ top) → 0 < h → h ≤ end
+        → 8 * get_or l.blocks (m + 1) 0 ≤ length left
+        → span h h (blocks (get_or l.blocks m 0) (get_or l.blocks (m + 1) 0) (lanes now l.times l.tails))
+        ≤ span 1 end (blocks (get_or l.blocks m 0) (get_or l.blocks (m + 1) 0) (lanes left l.times l.tails))
+    span_ahead top m h end small some up within =
+        let risen = blocks_risen 0 0 0 top (get_or l.blocks m 0) (get_or l.blocks (m + 1) 0) left now l.times l.tails
+        (laid.positions.times ∙ sym stored.positions) (laid.positions.tails ∙ sym stored.positions)
+        (new.positions ∙ sym stored.positions) within
+        (λ q a b. record { some = waited_left q; risen = λ there. inr (inr (small q)) })
+        in span_beside 1 h (beside_as (IsRisenLane 0 0 0 top) (IsServedBefore 1 h) (λ x y r. record {
+          time = r.time;
+          tail = r.tail;
+          counts = λ on. r.head.some (omega arith);
+        }) risen) h end up
+
   module _ (ms : List ℕ) (machines : AreMachinesAt l shop.machines ms) (raises : List Raise) (notes : List Note)
-      (back : restored notes now ≡ was) (us : List ℕ) (least : ℕ)
-      (covered : All (IsNoteCovered raises us least ms now) notes) (m : ℕ) (known : m < shop.machines) where
-    -- on a machine with an estimate
-    risen : (u : ℕ) → u ≡ get_or us m 0 → u ≤ least + 1 → (q : ℕ) → first_of l m ≤ q → q < first_of l (m + 1)
-        → IsRisen (least + 1 - u) (raise_of raises m).from (raise_of raises m).to (get_or was q 0) (get_or now q 0)
-    risen u is low q from to =
+      (back : restored notes now ≡ was) (own end : ℕ) (us : List ℕ) (least : ℕ)
+      (covered : All (IsNoteCovered raises own end us least ms now) notes) (m : ℕ) (known : m < shop.machines) where
+    -- by what no span was above: an estimate that is of use, or else the bound before
+    abbrev IsUsed : ℕ → Type 0
+    IsUsed u = m < length us → get_or us m 0 ≤ least + 1 → get_or us m 0 ≡ u
+
+    risen : (u floor : ℕ) → u ≤ least + 1 → IsUsed u → (m ≡ own → end ≤ floor) → (q : ℕ) → first_of l m ≤ q
+        → q < first_of l (m + 1)
+        → IsRisen (least + 1 - u) (raise_of raises m).from (raise_of raises m).to floor (get_or was q 0)
+        (get_or now q 0)
+    risen u floor low used foreseen q from to =
         let before : get_or (restored notes now) q 0 ≡ get_or was q 0 = ap (λ (hs : List ℕ). get_or hs q 0) back
         in record {
           some = waited q;
@@ -100,69 +142,87 @@ module _ (shop : Shop) (limits : IsWithinLimits shop) (l : LayoutState) (laid : 
                       in let t : (raise_of raises (get_or ms n.position 0)).to ≡ (raise_of raises m).to =
                       ap (λ (y : ℕ). (raise_of raises y).to) machine
                       in let x = within.from (omega arith) in let y = within.to (omega arith)
-                      in inr (omega arith, omega arith))
-                  | inr small ↦ (let e : get_or us (get_or ms n.position 0) 0 ≡ get_or us m 0 =
-                      ap (λ (y : ℕ). get_or us y 0) machine
-                      in let x = small.small in inl (omega arith))
+                      in inr (inl (omega arith, omega arith)))
+                  | inr more ↦ elim more [
+                    | inl small ↦ (let e : get_or us (get_or ms n.position 0) 0 ≡ get_or us m 0 =
+                        ap (λ (y : ℕ). get_or us y 0) machine
+                        in let a = small.known in let b = small.low in let x = small.small
+                        in let is = used (omega arith) (omega arith) in inl (omega arith))
+                    | inr ahead ↦ (let low = ahead.low in let floor = foreseen (sym machine ∙ ahead.on)
+                        in inr (inr (omega arith)))
+                  ]
                 ])
           ];
         }
-
-    -- on a machine whose estimate is of no use
-    all_within : (m < length us → least + 1 < get_or us m 0) → (i : ℕ) (d : Note) → i < length notes
-        → get_or ms (get_or notes i d).position 0 ≡ m → IsNoteWithin raises ms now (get_or notes i d)
-    all_within useless i d below on = elim (covered i d below) [
-      | inl within ↦ within
-      | inr small ↦ (let a = small.known in let b = small.low
-          in let e : get_or us (get_or ms (get_or notes i d).position 0) 0 ≡ get_or us m 0 =
-          ap (λ (y : ℕ). get_or us y 0) on
-          in let c = useless (omega arith) in absurd (omega arith))
-    ]
 
     module _ (rows rows' : Rows) (heads : rows.heads ≡ was) (times : rows.times ≡ l.times)
         (tails : rows.tails ≡ l.tails) (heads' : rows'.heads ≡ now) (times' : rows'.times ≡ l.times)
         (tails' : rows'.tails ≡ l.tails) (top : ℕ)
         (estimates : AreEstimates top l rows us) (small : (q : ℕ) → get_or now q 0 ≤ top)
-        (parent : lb shop w ≤ least) (within : 8 * get_or l.blocks (m + 1) 0 ≤ length was) where
-      beside : (u : ℕ) → u ≡ get_or us m 0 → u ≤ least + 1
-          → AreBeside (IsRisenLane (least + 1 - u) (raise_of raises m).from (raise_of raises m).to)
+        (parent : lb shop w ≤ least) (within : 8 * get_or l.blocks (m + 1) 0 ≤ length was)
+        (ahead : m ≡ own → (h : ℕ) → 0 < h → h ≤ end → span h h (lanes_on rows' l m) ≤ least + 1) where
+      beside : (u floor : ℕ) → u ≤ least + 1 → IsUsed u → (m ≡ own → end ≤ floor)
+          → AreBeside (IsRisenLane (least + 1 - u) (raise_of raises m).from (raise_of raises m).to floor)
           (lanes_on rows l m) (lanes_on rows' l m)
-      beside u is low =
-          let a = blocks_risen (least + 1 - u) (raise_of raises m).from (raise_of raises m).to (get_or l.blocks m 0)
-          (get_or l.blocks (m + 1) 0) was now l.times l.tails
+      beside u floor low used foreseen =
+          let a = blocks_risen (least + 1 - u) (raise_of raises m).from (raise_of raises m).to floor
+          (get_or l.blocks m 0) (get_or l.blocks (m + 1) 0) was now l.times l.tails
           (laid.positions.times ∙ sym old.positions) (laid.positions.tails ∙ sym old.positions)
-          (new.positions ∙ sym old.positions) within (risen u is low)
+          (new.positions ∙ sym old.positions) within (risen u floor low used foreseen)
           in subst (λ (xs : List Lane). AreBeside IsRisenHere xs (lanes_on rows' l m))
           (lanes_of l rows was heads times tails m)
           (subst (AreBeside IsRisenHere (blocks (get_or l.blocks m 0) (get_or l.blocks (m + 1) 0)
           (lanes was l.times l.tails))) (lanes_of l rows' now heads' times' tails' m) a)
         where
           IsRisenHere : Lane → Lane → Type 0
-          IsRisenHere = IsRisenLane (least + 1 - u) (raise_of raises m).from (raise_of raises m).to
+          IsRisenHere = IsRisenLane (least + 1 - u) (raise_of raises m).from (raise_of raises m).to floor
 
-      bounded_by_estimate : m < length us → get_or us m 0 ≤ least + 1
-          → IsBounded shop limits l laid w j fits was now old new rows' heads' times' tails' least (raise_of raises m) m
-      bounded_by_estimate here low b above inside =
-          let a = spans_risen top (get_or us m 0) (least + 1 - get_or us m 0) (raise_of raises m).from
-          (raise_of raises m).to (lanes_on rows l m) (estimates m here) (b + 1) (omega arith) (lanes_on rows' l m)
-          (beside (get_or us m 0) refl low) inside
+      IsHere : Type 0
+      IsHere = IsBounded shop limits l laid w j fits was now old new rows' heads' times' tails' least
+          (raise_of raises m) m
+
+      bounded_from : (u floor : ℕ) → IsEstimate top u (lanes_on rows l m) → u ≤ least + 1 → IsUsed u
+          → (m ≡ own → end ≤ floor)
+          → ((h : ℕ) → 0 < h → h ≤ floor → span h h (lanes_on rows' l m) ≤ least + 1) → IsHere
+      unfolding IsHere
+      bounded_from u floor estimate low used foreseen lowest b above inside =
+          let a = spans_risen top u (least + 1 - u) (raise_of raises m).from (raise_of raises m).to floor
+          (lanes_on rows l m) estimate (b + 1) (omega arith) (lanes_on rows' l m)
+          (beside u floor low used foreseen) (λ h some up. let c = lowest h some up in omega arith) inside
           in bounded_by_raise shop limits l laid w j fits was now old new rows' heads' times' tails' least parent
           (record { from = 0; to = top }) m known
           (covered_all shop limits l laid w j fits was now old new (record { from = 0; to = top }) refl small m)
           b above a
 
+      -- on the machine of the operation what begins up to its end is foreseen
+      bounded_with : (u : ℕ) → IsEstimate top u (lanes_on rows l m) → u ≤ least + 1 → IsUsed u → IsHere
+      bounded_with u estimate low used = elim (cases_eq m own) [
+        | inl on ↦ bounded_from u end estimate low used (λ here. omega arith) (ahead on)
+        | inr off ↦ bounded_from u 0 estimate low used (λ here. absurd (off here))
+            (λ h some up. absurd (omega arith))
+      ]
+
+      -- no span before was above the bound before
+      estimate_before : IsEstimate top (lb shop w + 1) (lanes_on rows l m)
+      estimate_before g some high =
+          let p = placing shop w
+          in let word = IsWord-init shop w j fits
+          in let falls = open_falls (tabled_heads shop p) (tabled shop p).steps (get_or laid.slots m [])
+          (laid.are.slots m known).nonincreasing
+          in let a = from_head_within (left_matched shop limits l laid m known p was old) falls (g - 1)
+          in let b = left-le-lb shop limits laid.slots laid.are w word m known
+          in let e = ap (λ (xs : List Lane). span (g - 1 + 1) (g - 1 + 1) xs) (lanes_of l rows was heads times tails m)
+          in let f : span (g - 1 + 1) (g - 1 + 1) (lanes_on rows l m) ≡ span g g (lanes_on rows l m) =
+          ap (λ (n : ℕ). span n n (lanes_on rows l m)) (omega arith)
+          in omega arith
+
       pub bounded_by_notes : IsBounded shop limits l laid w j fits was now old new rows' heads' times' tails' least
           (raise_of raises m) m
+      unfolding IsHere
       bounded_by_notes = elim (cases_lt m (length us)) [
         | inl here ↦ elim (cases_lt (least + 1) (get_or us m 0)) [
-          | inl over ↦ by_notes (λ here. over)
-          | inr low ↦ bounded_by_estimate here low
+          | inl over ↦ bounded_with (lb shop w + 1) estimate_before (omega arith) (λ a b. absurd (omega arith))
+          | inr low ↦ bounded_with (get_or us m 0) (estimates m here) low (λ a b. refl)
         ]
-        | inr none ↦ by_notes (λ here. absurd (omega arith))
-      ] where
-        by_notes : (m < length us → least + 1 < get_or us m 0) → IsBounded shop limits l laid w j fits was now old new
-            rows' heads' times' tails' least (raise_of raises m) m
-        by_notes useless = bounded_by_raise shop limits l laid w j fits was now old new rows' heads' times' tails' least
-            parent (raise_of raises m) m known
-            (covered_by_notes shop limits l laid w j fits was now old new ms machines raises notes back m known
-            (all_within useless))
+        | inr none ↦ bounded_with (lb shop w + 1) estimate_before (omega arith) (λ a b. absurd (omega arith))
+      ]

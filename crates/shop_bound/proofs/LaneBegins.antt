@@ -15,6 +15,7 @@ use Rattle.shop_bound.proofs.LaneEstimates.{no_estimates}
 use Rattle.shop_bound.proofs.LatestEnds.{latest_end_is}
 use Rattle.shop_bound.proofs.Lists.{get_or-le-greatest_of}
 use Rattle.shop_bound.specs.Placements.{PlacementState, IsPlacement}
+use Rattle.shop_bound.specs.declared.head_raises.Raise.{Raise}
 use Rattle.shop_bound.specs.declared.notes.Mark.{Mark}
 use Rattle.shop_bound.specs.inner.Fills.{CanFill, HasFilled, IsRested}
 use Rattle.shop_bound.specs.inner.LaneEnds.{AreEndsOf, CanKeepEnds, HasEnds}
@@ -127,7 +128,7 @@ module _ (greatest : ℕ) (shop : Shop) (limits : IsWithinLimits shop) (l : Layo
     pub kept_none : (filled_rows : Rows) → HasFilled shop l p rest filled_rows → jobs ≡ length shop.jobs → (rows : Rows)
         → HasEnds filled_rows rows → AreEndsOf greatest l p.steps rows → (notes : NotesState)
         → notes ≡ record { list = []; whole = true } → (marks : List Mark) → marks ≡ [] → (room : ℕ)
-        → operation_count shop ≤ room → (machines : List ℕ) (raises top : ℕ)
+        → operation_count shop ≤ room → (machines : List ℕ) (raises : List Raise) (top : ℕ)
         → HasBounds greatest shop l machines raises top → (us : List ℕ) → us ≡ []
         → IsKeptInLanes greatest shop []
         (record {

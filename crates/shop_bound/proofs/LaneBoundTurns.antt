@@ -5,14 +5,14 @@ use Rattle.std.proofs.lemmas.Bool.{cases_Bool, cases_eq, cases_lt}
 use Rattle.std.proofs.lemmas.Bool.Decides.{nat_tests}
 use Rattle.std.proofs.lemmas.List.{get_or-set_same, get_or-set_other, length-set, get_or_default, get_or-take}
 use Rattle.std.proofs.lemmas.List.{get_or-drop}
-use Rattle.shop_lanes.specs.Rows.{Rows, Lane, blocks}
-use Rattle.shop_lanes.specs.Spans.{spans_from, spans_between}
+use Rattle.shop_lanes.specs.Rows.{Lane, blocks}
+use Rattle.shop_lanes.specs.Spans.{spans_from}
 use Rattle.shop_lanes.specs.Marks.{marked, waits_below}
 use Rattle.shop_lanes.proofs.LaneLists.{length-blocks}
 use Rattle.shop_lanes.proofs.SpanTurns.{spans_low, spans_high}
 use Rattle.shop_bound.specs.inner.Estimates.{IsNoteCovered}
 use Rattle.shop_bound.specs.inner.HeadRaises.{no_raise, raise_of, widened}
-use Rattle.shop_bound.specs.inner.LaneBounds.{lanes_on, NoneBelow, AreMachinesAt, AreRaisesUpTo, IsNoteWithin}
+use Rattle.shop_bound.specs.inner.LaneBounds.{NoneBelow, AreMachinesAt, AreRaisesUpTo, IsNoteWithin}
 use Rattle.shop_bound.specs.inner.Layouts.{LayoutState, first_of}
 use Rattle.shop_bound.specs.declared.head_raises.Raise.{Raise}
 use Rattle.shop_bound.specs.declared.notes.Note.{Note}
@@ -94,13 +94,13 @@ module _ (raises : List Raise) (m a b : ℕ) (known : m < length raises) (after 
   ]
 
   -- what was covered is, and one more note
-  module _ (us : List ℕ) (least : ℕ) (ms heads : List ℕ) (notes : List Note) (k : ℕ) (d : Note)
+  module _ (own end : ℕ) (us : List ℕ) (least : ℕ) (ms heads : List ℕ) (notes : List Note) (k : ℕ) (d : Note)
       (at : m ≡ get_or ms (get_or notes k d).position 0)
       (before : a ≡ (get_or notes k d).head) (now : b ≡ get_or heads (get_or notes k d).position 0)
       (here : k < length notes) where
-    pub within_turn : ((i : ℕ) (e : Note) → i < k → IsNoteCovered raises us least ms heads (get_or notes i e))
+    pub within_turn : ((i : ℕ) (e : Note) → i < k → IsNoteCovered raises own end us least ms heads (get_or notes i e))
         → (i : ℕ) (e : Note)
-        → i < k + 1 → IsNoteCovered after us least ms heads (get_or notes i e)
+        → i < k + 1 → IsNoteCovered after own end us least ms heads (get_or notes i e)
     within_turn within i e below = elim (cases_eq i k) [
       | inl same ↦ inl (subst (IsNoteWithin after ms heads) (sym (ap (λ (n : ℕ). get_or notes n e) same
           ∙ get_or_default notes k e d here)) (let f = ap (λ (r : Raise). r.from) (raise_here _ (sym at))
@@ -113,7 +113,7 @@ module _ (raises : List Raise) (m a b : ℕ) (known : m < length raises) (after 
               from = λ some. (let x = w.from some in omega arith);
               to = λ some. (let y = w.to some in omega arith);
             }))
-        | inr small ↦ inr small
+        | inr else_covered ↦ inr else_covered
       ]
     ]
 
@@ -126,27 +126,23 @@ module _ (raises : List Raise) (m a b : ℕ) (known : m < length raises) (after 
         | inr ne ↦ (let f = ap (λ (r : Raise). r.to) (raise_other i ne) in let u = up_to i (omega arith) in omega arith)
       ]
 
--- one more note, at a position where nothing waits now
-pub within_none : (raises : List Raise) (us : List ℕ) (least : ℕ) (ms heads : List ℕ) (notes : List Note) (k : ℕ)
-    (d : Note) → k < length notes → get_or heads (get_or notes k d).position 0 ≡ 0
-    → ((i : ℕ) (e : Note) → i < k → IsNoteCovered raises us least ms heads (get_or notes i e)) → (i : ℕ) (e : Note)
-    → i < k + 1 → IsNoteCovered raises us least ms heads (get_or notes i e)
-within_none raises us least ms heads notes k d here none within i e below = elim (cases_eq i k) [
-  | inl same ↦ inl (subst (IsNoteWithin raises ms heads) (sym (ap (λ (n : ℕ). get_or notes n e) same
-      ∙ get_or_default notes k e d here))
-      (record { from = λ some. absurd (omega arith); to = λ some. absurd (omega arith) }))
-  | inr ne ↦ within i e (omega arith)
+-- one more note that no raise has to cover
+pub skipped_turn : (raises : List Raise) (own end : ℕ) (us : List ℕ) (least : ℕ) (ms heads : List ℕ)
+    (notes : List Note) (k : ℕ) (d : Note) → k < length notes
+    → IsNoteCovered raises own end us least ms heads (get_or notes k d)
+    → ((i : ℕ) (e : Note) → i < k → IsNoteCovered raises own end us least ms heads (get_or notes i e))
+    → (i : ℕ) (e : Note) → i < k + 1 → IsNoteCovered raises own end us least ms heads (get_or notes i e)
+skipped_turn raises own end us least ms heads notes k d here covered before i e below = elim (cases_eq i k) [
+  | inl same ↦ subst (IsNoteCovered raises own end us least ms heads) (sym (ap (λ (n : ℕ). get_or notes n e) same
+      ∙ get_or_default notes k e d here)) covered
+  | inr ne ↦ before i e (omega arith)
 ]
 
--- one more machine looked at for its raise
-pub covers_turn : (raises : List Raise) (rows : Rows) (l : LayoutState) (n old new : ℕ) → old ≤ new
-    → ((m : ℕ) → m < n → spans_between (raise_of raises m).from (raise_of raises m).to (lanes_on rows l m) ≤ old + 1)
-    → spans_between (raise_of raises n).from (raise_of raises n).to (lanes_on rows l n) ≤ new + 1 → (m : ℕ) → m < n + 1
-    → spans_between (raise_of raises m).from (raise_of raises m).to (lanes_on rows l m) ≤ new + 1
-covers_turn raises rows l n old new rises before here m below = elim (cases_eq m n) [
-  | inl e ↦ rw e here
-  | inr ne ↦ (let a = before m (omega arith) in omega arith)
-]
+-- nothing waits at its position now
+pub none_waits : (raises : List Raise) (ms heads : List ℕ) (note : Note) → get_or heads note.position 0 ≡ 0
+    → IsNoteWithin raises ms heads note
+none_waits raises ms heads note none =
+    record { from = λ some. absurd (omega arith); to = λ some. absurd (omega arith) }
 
 -- the positions of one more machine
 pub machines_turn : (l : LayoutState) (n : ℕ) (old new : List ℕ) (to : ℕ) → AreMachinesAt l n old

@@ -13,7 +13,7 @@ pub data AreBeside (R : Lane → Lane → Type 0) : List Lane → List Lane → 
   nothing : AreBeside R [] []
   beside : {xs ys : List Lane} (x y : Lane) → R x y → AreBeside R xs ys → AreBeside R (x ∷ xs) (y ∷ ys)
 
-beside_as : (R S : Lane → Lane → Type 0) → ((x y : Lane) → R x y → S x y) → {xs ys : List Lane} → AreBeside R xs ys
+pub beside_as : (R S : Lane → Lane → Type 0) → ((x y : Lane) → R x y → S x y) → {xs ys : List Lane} → AreBeside R xs ys
     → AreBeside S xs ys
 beside_as R S f nothing = nothing
 beside_as R S f (beside x y r rest) = beside x y (f x y r) (beside_as R S f rest)
@@ -23,12 +23,12 @@ beside_itself R f [] = nothing
 beside_itself R f (x ∷ xs) = beside x x (f x) (beside_itself R f xs)
 
 -- the second lane counts from a on only where the first counts from b on
-record IsServedBefore (b a : ℕ) (x y : Lane) : Type 0 where
+pub record IsServedBefore (b a : ℕ) (x y : Lane) : Type 0 where
   pub time : y.time ≡ x.time
   pub tail : y.tail ≡ x.tail
   pub counts : a ≤ y.head → b ≤ x.head
 
-span_beside : (b a : ℕ) → {xs ys : List Lane} → AreBeside (IsServedBefore b a) xs ys → (c e : ℕ) → c ≤ e
+pub span_beside : (b a : ℕ) → {xs ys : List Lane} → AreBeside (IsServedBefore b a) xs ys → (c e : ℕ) → c ≤ e
     → span a c ys ≤ span b e xs
 span_beside b a nothing c e le = omega arith
 span_beside b a (beside {xs} {ys} x y r rest) c e le =
@@ -70,15 +70,15 @@ part_turn xs above upto old new before more here g some high = elim (cases_lt ab
   | inr within ↦ (let a = before g some within in omega arith)
 ]
 
--- what waits waited before, and rose by at most s or within a raise
-pub record IsRisen (s from to : ℕ) (a b : ℕ) : Type 0 where
+-- what waits waited before, and rose by at most s, within a raise or to a floor at most
+pub record IsRisen (s from to floor : ℕ) (a b : ℕ) : Type 0 where
   pub some : 0 < b → 0 < a
-  pub risen : 0 < b → (b ≤ a + s) ⊎ ((from ≤ a) × (b ≤ to))
+  pub risen : 0 < b → (b ≤ a + s) ⊎ (((from ≤ a) × (b ≤ to)) ⊎ (b ≤ floor))
 
-pub record IsRisenLane (s from to : ℕ) (x y : Lane) : Type 0 where
+pub record IsRisenLane (s from to floor : ℕ) (x y : Lane) : Type 0 where
   pub time : y.time ≡ x.time
   pub tail : y.tail ≡ x.tail
-  pub head : IsRisen s from to x.head y.head
+  pub head : IsRisen s from to floor x.head y.head
 
 -- of fewer lanes no more
 spans_fewer : (above upto : ℕ) (all : List Lane) (x : Lane) (xs : List Lane)
@@ -91,21 +91,24 @@ spans_fewer above upto all x xs = elim (cases_lt above x.head) [
   | inr none ↦ (let a = spans_low above upto all x xs none in omega arith)
 ]
 
-module _ (top u s from to : ℕ) (xs : List Lane) (estimate : IsEstimate top u xs) where
-  -- outside of the raise
-  span_outside : (ys : List Lane) → AreBeside (IsRisenLane s from to) xs ys → (h : ℕ) → 0 < h → h ≤ top
+module _ (top u s from to floor : ℕ) (xs : List Lane) (estimate : IsEstimate top u xs) where
+  -- outside of the raise, and above the floor
+  span_outside : (ys : List Lane) → AreBeside (IsRisenLane s from to floor) xs ys → (h : ℕ) → floor < h → h ≤ top
       → (h ≤ from) ⊎ (to < h) → span h h ys ≤ u + s
   span_outside ys are h some high out =
-      let served = beside_as (IsRisenLane s from to) (IsServedBefore (max (h - s) 1) h) (λ x y r. record {
+      let served = beside_as (IsRisenLane s from to floor) (IsServedBefore (max (h - s) 1) h) (λ x y r. record {
         time = r.time;
         tail = r.tail;
         counts = λ on. (let before = r.head.some (omega arith)
             in elim (r.head.risen (omega arith)) [
               | inl little ↦ omega arith
-              | inr inside ↦ (let i = inside.0 in let o = inside.1 in elim out [
-                | inl low ↦ omega arith
-                | inr past ↦ absurd (omega arith)
-              ])
+              | inr more ↦ elim more [
+                | inl inside ↦ (let i = inside.0 in let o = inside.1 in elim out [
+                  | inl low ↦ omega arith
+                  | inr past ↦ absurd (omega arith)
+                ])
+                | inr below ↦ absurd (omega arith)
+              ]
             ]);
       }) are
       in let a = span_beside (max (h - s) 1) h served h h (omega arith)
@@ -115,16 +118,20 @@ module _ (top u s from to : ℕ) (xs : List Lane) (estimate : IsEstimate top u x
       ap (λ (n : ℕ). span (max (h - s) 1) n xs) (omega arith)
       in omega arith
 
-  -- with the spans that begin within it
-  module _ (b : ℕ) (under : u + s ≤ b) (ys : List Lane) (are : AreBeside (IsRisenLane s from to) xs ys) where
+  -- with the spans that begin within it, and those from a floor at most
+  module _ (b : ℕ) (under : u + s ≤ b) (ys : List Lane) (are : AreBeside (IsRisenLane s from to floor) xs ys)
+      (lowest : (h : ℕ) → 0 < h → h ≤ floor → span h h ys ≤ b) where
     span_risen : (z : Lane) (zs : List Lane) → spans_from from to ys (z ∷ zs) ≤ b → 0 < z.head → z.head ≤ top
         → span z.head z.head ys ≤ b
-    span_risen z zs inside some high = elim (cases_lt from z.head) [
-      | inl low ↦ elim (cases_lt to z.head) [
-        | inl past ↦ (let a = span_outside ys are z.head some high (inr past) in omega arith)
-        | inr within ↦ (let a = spans_counted from to ys z zs low within in omega arith)
+    span_risen z zs inside some high = elim (cases_lt floor z.head) [
+      | inl above ↦ elim (cases_lt from z.head) [
+        | inl low ↦ elim (cases_lt to z.head) [
+          | inl past ↦ (let a = span_outside ys are z.head above high (inr past) in omega arith)
+          | inr within ↦ (let a = spans_counted from to ys z zs low within in omega arith)
+        ]
+        | inr out ↦ (let a = span_outside ys are z.head above high (inl out) in omega arith)
       ]
-      | inr out ↦ (let a = span_outside ys are z.head some high (inl out) in omega arith)
+      | inr below ↦ lowest z.head some below
     ]
 
     spans_risen_of : (zs : List Lane) → spans_from from to ys zs ≤ b → spans_from 0 top ys zs ≤ b
@@ -145,18 +152,18 @@ module _ (top u s from to : ℕ) (xs : List Lane) (estimate : IsEstimate top u x
     spans_risen inside = spans_risen_of ys inside
 
 -- lanes of rows whose heads rose
-pub lanes_risen : (s from to : ℕ) (hs hs' ts qs : List ℕ) → length ts ≡ length hs → length qs ≡ length hs
-    → length hs' ≡ length hs → ((i : ℕ) → i < length hs → IsRisen s from to (get_or hs i 0) (get_or hs' i 0))
-    → AreBeside (IsRisenLane s from to) (lanes hs ts qs) (lanes hs' ts qs)
-lanes_risen s from to [] [] ts qs a b c each = nothing
-lanes_risen s from to [] (h' ∷ hs') ts qs a b c each = absurd (omega arith)
-lanes_risen s from to (h ∷ hs) [] ts qs a b c each = absurd (omega arith)
-lanes_risen s from to (h ∷ hs) (h' ∷ hs') [] qs a b c each = absurd (omega arith)
-lanes_risen s from to (h ∷ hs) (h' ∷ hs') (t ∷ ts) [] a b c each = absurd (omega arith)
-lanes_risen s from to (h ∷ hs) (h' ∷ hs') (t ∷ ts) (q ∷ qs) a b c each =
+pub lanes_risen : (s from to floor : ℕ) (hs hs' ts qs : List ℕ) → length ts ≡ length hs → length qs ≡ length hs
+    → length hs' ≡ length hs → ((i : ℕ) → i < length hs → IsRisen s from to floor (get_or hs i 0) (get_or hs' i 0))
+    → AreBeside (IsRisenLane s from to floor) (lanes hs ts qs) (lanes hs' ts qs)
+lanes_risen s from to floor [] [] ts qs a b c each = nothing
+lanes_risen s from to floor [] (h' ∷ hs') ts qs a b c each = absurd (omega arith)
+lanes_risen s from to floor (h ∷ hs) [] ts qs a b c each = absurd (omega arith)
+lanes_risen s from to floor (h ∷ hs) (h' ∷ hs') [] qs a b c each = absurd (omega arith)
+lanes_risen s from to floor (h ∷ hs) (h' ∷ hs') (t ∷ ts) [] a b c each = absurd (omega arith)
+lanes_risen s from to floor (h ∷ hs) (h' ∷ hs') (t ∷ ts) (q ∷ qs) a b c each =
     beside (record { head = h; time = t; tail = q }) (record { head = h'; time = t; tail = q })
     (record { time = refl; tail = refl; head = each zero (omega arith) })
-    (lanes_risen s from to hs hs' ts qs (omega arith) (omega arith) (omega arith)
+    (lanes_risen s from to floor hs hs' ts qs (omega arith) (omega arith) (omega arith)
     (λ i here. each (suc i) (omega arith)))
 
 pub no_estimates : (top : ℕ) (l : LayoutState) (rows : Rows) (us : List ℕ) → us ≡ [] → AreEstimates top l rows us

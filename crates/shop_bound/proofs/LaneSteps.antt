@@ -10,6 +10,8 @@ use Rattle.shop_model.proofs.Placings.{place_next-is}
 use Rattle.shop_model.proofs.Unders.{placing-snoc}
 use Rattle.shop_model.proofs.WordLemmas.{IsWord-init}
 use Rattle.shop_bound.specs.Placements.{PlacementState, IsPlacement}
+use Rattle.shop_bound.specs.inner.MachineRaises.{AreEmpty}
+use Rattle.shop_bound.specs.declared.head_raises.Raise.{Raise}
 use Rattle.shop_bound.specs.declared.notes.Mark.{Mark}
 use Rattle.shop_bound.specs.declared.notes.Note.{Note}
 use Rattle.shop_bound.specs.inner.Estimates.{AreEstimates}
@@ -223,9 +225,9 @@ module _ (greatest : ℕ) (shop : Shop) (w : List ℕ) (j : ℕ) (s : LaneState)
 pub kept_again : (greatest : ℕ) (shop : Shop) (w : List ℕ) (s : LaneState) → IsKeptInLanes greatest shop w s
     → (new : Rows) → AreHeadsInLanes greatest shop w s.layout new → new.ends ≡ s.rows.ends → (after : NotesState)
     → after.list ≡ s.notes.list
-    → (raises : ℕ) → raises ≡ s.raises → (us : List ℕ) → AreEstimates s.top s.layout new us
+    → (raises : List Raise) → length raises ≡ length s.raises → AreEmpty raises → (us : List ℕ) → AreEstimates s.top s.layout new us
     → IsKeptInLanes greatest shop w (record s { rows = new; notes = after; raises = raises; estimates = us })
-kept_again greatest shop w s kept new heads ends after list raises many us estimates =
+kept_again greatest shop w s kept new heads ends after list raises many empty us estimates =
     let same = same_heads shop kept.kept.limits s.layout kept.kept.laid (placing shop w) s.rows.heads new.heads
     kept.kept.heads heads.heads
     in record {
@@ -239,6 +241,7 @@ kept_again greatest shop w s kept new heads ends after list raises many us estim
       bounds = record {
         machines_at = kept.bounds.machines_at;
         as_many = many ∙ kept.bounds.as_many;
+        at_rest = empty;
         top_is = kept.bounds.top_is;
         holds = kept.bounds.holds;
       };

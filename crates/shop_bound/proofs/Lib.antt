@@ -63,11 +63,13 @@ pub mod LatestEnds
 pub mod MachineLanes
 pub mod ChildExits
 pub mod LaneBoundTurns
+pub mod RaisedMachines
 pub mod LaneFits
 pub mod LaneEstimates
 pub mod ChildRaises
 pub mod EstimatedRaises
 pub mod ChildTurns
 pub mod ChildReads
+pub mod ChildSteps
 pub mod LaneStandings
 pub mod SoleCandidates

@@ -21,6 +21,7 @@ pub mod TakingBack
 pub mod StandingBounds
 pub mod HeadLimits
 pub mod LaneBounds
+pub mod MachineRaises
 pub mod Estimates
 pub mod ChildBounds
 pub mod WaitingBounds

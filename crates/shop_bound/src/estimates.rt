@@ -1,8 +1,8 @@
 // Upper estimates of the bounds of machines with many operations.
-ghost use Rattle.std.specs.Prelude.{◌≡◌, ℕ, ◌+◌, ◌*◌, ◌≤◌, ◌<◌, ◌^◌, IfOk, length, []};
+ghost use Rattle.std.specs.Prelude.{◌≡◌, ℕ, ◌+◌, ◌*◌, ◌≤◌, ◌<◌, ◌^◌, IfOk, length, [], true};
 ghost use Rattle.shop_lanes.specs.Rows.{AreBlocks, lanes_between};
 ghost use Rattle.shop_lanes.specs.Spans.{FitsSpan};
-ghost use Rattle.shop_bound.specs.inner.Estimates.{AreEstimates, IsEstimate};
+ghost use Rattle.shop_bound.specs.inner.Estimates.{AreEstimates, IsEstimate, IsSmallOn};
 ghost use Rattle.shop_bound.specs.inner.LaneBounds.{AreSpansFit};
 
 use crate::layouts::Layout;
@@ -82,6 +82,17 @@ fn estimate_of<L: Lanes>(lanes: &L, from: usize, to: usize, top: u64) -> u64
         above = upto;
     }
     estimate
+}
+
+/// Whether a rise of heads on a machine leaves its spans at most one above a bound, by an estimate of them.
+#[inline(always)]
+pub(crate) fn is_small(upper: &[u64], least: u64, machine: usize, before: u64, now: u64) -> bool
+    ensures { result ≡ true → IsSmallOn upper.now least machine before now }
+{
+    if machine >= upper.len() {
+        return false;
+    }
+    now.saturating_sub(before) < least.saturating_add(2).saturating_sub(upper[machine])
 }
 
 /// Of each machine, once they are taken, a number that no span of what waits on it is above. They are worth their while

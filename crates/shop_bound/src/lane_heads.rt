@@ -6,18 +6,16 @@ ghost use Rattle.shop_bound.specs.inner.HeadLimits.{FitsLanes};
 ghost use Rattle.shop_bound.specs.inner.Layouts.{IsLaidOut};
 ghost use Rattle.shop_bound.specs.inner.LaneStates.{HasLastInLanes, HasNextInLanes, IsKeptInLanes};
 ghost use Rattle.shop_bound.specs.inner.LaneStates.{KeepsLast};
-ghost use Rattle.shop_bound.specs.inner.LaneStates.{CanGoOnInLanes, KeepsLanes, KeepsNext};
-ghost use Rattle.shop_bound.specs.inner.LaneStates.{TellsBoundInLanes};
+ghost use Rattle.shop_bound.specs.inner.LaneStates.{KeepsNext};
 
-use crate::child_bounds::child_bound;
 use crate::dispatching::advance;
 use crate::estimates::Estimates;
 use crate::fills::{fill, go_back};
-use crate::head_raises::{NO_RAISE, Raise};
 use crate::lane_bounds::machines_of;
 use crate::lane_ends::{keep_ends, set_ends};
 use crate::latest_ends::latest_end;
 use crate::layouts::Layout;
+use crate::machine_raises::MachineRaises;
 use crate::notes::{Mark, Notes};
 use crate::placements::Placement;
 use shop_lanes::Lanes;
@@ -35,16 +33,16 @@ pub(crate) struct LaneHeads<L: Lanes> {
     marks: Vec<Mark>,
     /// machines[position]
     pub(crate) machines: Vec<u32>,
-    /// raises[machine], for the bound at hand
-    pub(crate) raises: Vec<Raise>,
+    /// for the bound at hand
+    pub(crate) raises: MachineRaises,
     /// for the heads at hand
-    estimates: Estimates,
+    pub(crate) estimates: Estimates,
     /// one more than the latest end of any operation
     pub(crate) top: u64,
 }
 
 impl<L: Lanes> Model for LaneHeads<L> {
-    ghost use Rattle.std.specs.Prelude.{length, vec_capacity};
+    ghost use Rattle.std.specs.Prelude.{vec_capacity};
     ghost use Rattle.shop_bound.specs.inner.LaneStates.{LaneState};
 
     ghost Value = { LaneState };
@@ -56,7 +54,7 @@ impl<L: Lanes> Model for LaneHeads<L> {
       marks = h.marks.items;
       room = vec_capacity h.marks;
       machines = h.machines.items;
-      raises = length h.raises.items;
+      raises = h.raises;
       estimates = h.estimates;
       top = h.top;
     } };
@@ -88,7 +86,7 @@ impl<L: Lanes> LaneHeads<L> {
         let blocks = layout.block(machines) / machines.max(1);
         Ok(LaneHeads {
             machines: machines_of(alloc, &layout, machines)?,
-            raises: vec![in alloc; NO_RAISE; machines]?,
+            raises: MachineRaises::new(alloc, machines)?,
             estimates: Estimates::new(alloc, machines, blocks)?,
             top: latest_end(instance) + 1,
             layout,
@@ -143,36 +141,5 @@ impl<L: Lanes> LaneHeads<L> {
         keep_ends(&mut self.lanes, &self.layout, steps, job, noted, last.whole);
         self.notes.truncate(last.first);
         self.estimates.forget();
-    }
-
-    /// The bound after the next operation of a job, or as much of it as reaches the limit, with the bound before it at
-    /// hand; the placement is that of the word.
-    pub(crate) fn bound_up_to(
-        &mut self,
-        instance: &Instance,
-        placement: &Placement,
-        job: usize,
-        bound: u64,
-        limit: u64,
-    ) -> u64
-        requires { CanGoOnInLanes L.GREATEST instance.now job placement.now self.old }
-        ensures bound { TellsBoundInLanes L.GREATEST instance.now job placement.now bound
-            limit self.old result }
-        ensures kept { KeepsLanes L.GREATEST instance.now placement.now self.old self.new }
-    {
-        child_bound(
-            &mut self.lanes,
-            &mut self.notes,
-            self.raises.as_mut_slice(),
-            &mut self.estimates,
-            &self.layout,
-            self.machines.as_slice(),
-            instance,
-            placement,
-            job,
-            self.top,
-            bound,
-            limit,
-        )
     }
 }

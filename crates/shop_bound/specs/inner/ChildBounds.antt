@@ -1,52 +1,27 @@
 -- The bound after one more operation, by heads in lanes.
---     CanBound greatest shop ..      heads in lanes of a word to which an operation can be added,
---                                    and what bounds it
---     KeepsHeads                     the same heads, whichever word they were of
---     TellsChildBound                the bound after one more operation, as far as the limit
-use Rattle.std.specs.Prelude.{◌≡◌, ℕ, ◌+◌, ◌≤◌, List, [], ◌∷◌, ◌++◌}
-use Rattle.shop_lanes.specs.Rows.{Rows}
+--     HasNextInPlace greatest ..     heads in lanes of a word to which an operation can be added
+--     IsNextAt, IsNextOperation      the next operation of a job
+--     HasRaised greatest mark s      heads were raised, and what they were is noted behind a mark
+--     IsBoundByRaises ..             what begins within these raises, as far as the limit
+--     TellsRaisedBound               the bound after it, as far as the limit, where what waits on
+--                                    its machine is looked at before
+use Rattle.std.specs.Prelude.{◌≡◌, ℕ, ◌+◌, ◌≤◌, ◌<◌, true, false, List, [], ◌∷◌, ◌++◌, All, drop}
+use Rattle.std.specs.Prelude.{length, slice_index}
+use Rattle.shop_lanes.specs.Rows.{Rows, with_head}
+use Rattle.shop_lanes.specs.Spans.{span, spans_between}
 use Rattle.shop_model.specs.Shop.{Shop, machine_of}
 use Rattle.shop_model.specs.Word.{IsWord, place_next, placing}
 use Rattle.shop_bound.specs.Bound.{lb}
 use Rattle.shop_bound.specs.inner.BoundsUpTo.{IsBoundUpTo}
 use Rattle.shop_bound.specs.Placements.{PlacementState, IsPlacement}
-use Rattle.shop_bound.specs.inner.HeadLimits.{FitsLanes, latest_end}
-use Rattle.shop_bound.specs.inner.LaneBounds.{AreMachinesAt}
-use Rattle.shop_bound.specs.inner.LaneStates.{AreHeadsInLanes}
+use Rattle.shop_bound.specs.inner.LaneBounds.{AreMachinesAt, AreSpansFit, lanes_on}
+use Rattle.shop_bound.specs.inner.Estimates.{IsNoteCovered}
+use Rattle.shop_bound.specs.inner.HeadRaises.{raise_of}
+use Rattle.shop_bound.specs.inner.MachineRaises.{AreEmpty}
+use Rattle.shop_bound.specs.inner.LaneStates.{AreHeadsInLanes, IsKeptInLanes, LaneState}
 use Rattle.shop_bound.specs.inner.Layouts.{LayoutState, place}
-
-pub record CanBound (greatest : ℕ) (shop : Shop) (l : LayoutState) (s : PlacementState) (job : ℕ)
-    (ms : List ℕ)
-    (raises top : ℕ) (rows : Rows) : Type 0 where
-  pub word : List ℕ
-  pub kept : AreHeadsInLanes greatest shop word l rows
-  pub fits : IsWord shop (word ++ job ∷ [])
-  pub placed : IsPlacement shop (placing shop word) s
-  pub machines : AreMachinesAt l shop.machines ms
-  pub as_many : raises ≡ shop.machines
-  pub top_is : top ≡ latest_end shop + 1
-  pub holds : FitsLanes greatest shop l
-
-abbrev pub KeepsHeads : ℕ → Shop → LayoutState → PlacementState → Rows → Rows → Type 0
-KeepsHeads greatest shop l s old new = (w : List ℕ) → AreHeadsInLanes greatest shop w l old
-    → IsPlacement shop (placing shop w) s → AreHeadsInLanes greatest shop w l new
-
--- whichever word the heads are of, if `least` is at least its bound and the end of the operation,
--- and at most the bound after it
-abbrev pub TellsRaisedBound : ℕ → Shop → LayoutState → PlacementState → Rows → ℕ → ℕ → ℕ → ℕ
-    → Type 0
-TellsRaisedBound greatest shop l s rows job least limit b =
-    (w : List ℕ) → AreHeadsInLanes greatest shop w l rows
-    → IsPlacement shop (placing shop w) s → IsWord shop (w ++ job ∷ []) → lb shop w ≤ least
-    → (place_next shop (placing shop w) job).free (machine_of shop job ((placing shop w).steps job))
-    ≤ least
-    → least ≤ lb shop (w ++ job ∷ []) → IsBoundUpTo limit (lb shop (w ++ job ∷ [])) b
-
-abbrev pub TellsChildBound : ℕ → Shop → LayoutState → PlacementState → Rows → ℕ → ℕ → ℕ → ℕ → Type 0
-TellsChildBound greatest shop l s rows job bound limit b =
-    (w : List ℕ) → AreHeadsInLanes greatest shop w l rows
-    → IsPlacement shop (placing shop w) s → IsWord shop (w ++ job ∷ []) → bound ≡ lb shop w
-    → IsBoundUpTo limit (lb shop (w ++ job ∷ [])) b
+use Rattle.shop_bound.specs.declared.head_raises.Raise.{Raise}
+use Rattle.shop_bound.specs.declared.notes.Mark.{Mark}
 
 -- heads in lanes of a word to which an operation can be added, and the machine of each position
 pub record HasNextInPlace (greatest : ℕ) (shop : Shop) (l : LayoutState) (s : PlacementState)
@@ -72,3 +47,56 @@ IsNextOperation greatest shop l s job rows position machine end = (w : List ℕ)
     → AreHeadsInLanes greatest shop w l rows → IsPlacement shop (placing shop w) s
     → IsWord shop (w ++ job ∷ [])
     → IsNextAt shop w l job position machine end
+
+pub record HasRaised (greatest : ℕ) (mark : Mark) (s : LaneState) : Type 0 where
+  pub fits : AreSpansFit greatest s.top (length s.raises) s.layout s.rows
+  pub at_rest : AreEmpty s.raises
+  pub positions : length s.machines ≡ length s.rows.heads
+  pub known : (q : ℕ) → q < length s.machines → slice_index s.machines q < length s.raises
+  pub first : mark.first ≤ length s.notes.list
+  pub notes : All (λ n. n.position < length s.rows.heads) (drop mark.first s.notes.list)
+  pub small : (q : ℕ) → slice_index s.rows.heads q ≤ s.top
+
+-- the raises alone differ, and are empty as before
+pub record KeepsRaises (old new : LaneState) : Type 0 where
+  pub same : new ≡ record old { raises = new.raises }
+  pub as_many : length new.raises ≡ length old.raises
+  pub at_rest : AreEmpty new.raises
+
+-- each note behind the mark is within a raise, rose little or is foreseen; and what begins within
+-- the raises is at most b
+pub record AreBounded (s : LaneState) (mark : Mark) (own end least b : ℕ) (raises : List Raise)
+    : Type 0 where
+  pub covered : All
+      (IsNoteCovered raises own end s.estimates least s.machines s.rows.heads)
+      (drop mark.first s.notes.list)
+  pub spans : (m : ℕ) → spans_between (raise_of raises m).from (raise_of raises m).to
+      (lanes_on s.rows s.layout m) ≤ b + 1
+
+pub record IsBoundByRaises (s : LaneState) (mark : Mark) (own end least limit b : ℕ) : Type 0 where
+  pub low : least ≤ b
+  pub noted : b < limit → mark.whole ≡ true
+      → (raises : List Raise) × AreBounded s mark own end least b raises
+  pub all : b < limit → mark.whole ≡ false → (m : ℕ) → m < length s.raises
+      → spans_between 0 s.top (lanes_on s.rows s.layout m) ≤ b + 1
+  pub within : (c : ℕ) → least ≤ c → ((m above upto : ℕ) → m < length s.raises
+      → spans_between above upto (lanes_on s.rows s.layout m) ≤ c + 1) → b ≤ c
+
+-- `least` is at least the bound of the word, the end of its next operation and what all else that
+-- waits on the machine comes to from this end on, and at most the bound after it
+pub record IsLeastAfter (shop : Shop) (w : List ℕ) (l : LayoutState) (rows : Rows)
+    (job position machine end least : ℕ) : Type 0 where
+  pub next : IsNextAt shop w l job position machine end
+  pub parent : lb shop w ≤ least
+  pub ends : end ≤ least + 1
+  pub ahead : span 1 end (lanes_on (with_head rows position 0) l machine) ≤ least + 1
+  pub most : least ≤ lb shop (w ++ job ∷ [])
+
+-- whichever word the heads are of
+abbrev pub TellsRaisedBound : ℕ → Shop → ℕ → PlacementState → LaneState → ℕ → ℕ → ℕ → ℕ → ℕ → ℕ
+    → Type 0
+TellsRaisedBound greatest shop job p s position machine end least limit b =
+    (w : List ℕ) → IsKeptInLanes greatest shop w s → IsPlacement shop (placing shop w) p
+    → IsWord shop (w ++ job ∷ [])
+    → IsLeastAfter shop w s.layout s.rows job position machine end least
+    → IsBoundUpTo limit (lb shop (w ++ job ∷ [])) b

@@ -4,8 +4,9 @@
 --     AreEstimates top l rows us     those of the first machines
 --     IsSmallOn us least m a b       by the estimate of its machine m, a head that rose from a to b
 --                                    brings no span above least + 1
---     IsNoteCovered                  a head that was noted did so, or is within a raise
-use Rattle.std.specs.Prelude.{ℕ, ◌+◌, ◌≤◌, ◌<◌, ◌⊎◌, List, length, slice_index}
+--     IsForeseen own end m h         a head on this machine that is no later than this end
+--     IsNoteCovered                  a head that was noted is within a raise, rose so or is foreseen
+use Rattle.std.specs.Prelude.{◌≡◌, ℕ, ◌+◌, ◌≤◌, ◌<◌, ◌⊎◌, List, length, slice_index}
 use Rattle.shop_lanes.specs.Rows.{Rows, Lane}
 use Rattle.shop_lanes.specs.Spans.{span}
 use Rattle.shop_bound.specs.inner.LaneBounds.{IsNoteWithin, lanes_on}
@@ -26,8 +27,13 @@ pub record IsSmallOn (us : List ℕ) (least m before now : ℕ) : Type 0 where
   pub low : slice_index us m ≤ least + 1
   pub small : slice_index us m + now ≤ before + (least + 1)
 
-abbrev pub IsNoteCovered : List Raise → List ℕ → ℕ → List ℕ → List ℕ → Note → Type 0
-IsNoteCovered raises us least ms heads note =
+pub record IsForeseen (own end m head : ℕ) : Type 0 where
+  pub on : m ≡ own
+  pub low : head ≤ end
+
+abbrev pub IsNoteCovered : List Raise → ℕ → ℕ → List ℕ → ℕ → List ℕ → List ℕ → Note → Type 0
+IsNoteCovered raises own end us least ms heads note =
     IsNoteWithin raises ms heads note
-    ⊎ IsSmallOn us least (slice_index ms note.position) note.head
+    ⊎ (IsSmallOn us least (slice_index ms note.position) note.head
     (slice_index heads note.position)
+    ⊎ IsForeseen own end (slice_index ms note.position) (slice_index heads note.position))

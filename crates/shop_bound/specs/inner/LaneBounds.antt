@@ -5,14 +5,14 @@
 --     NoneBelow heads from to limit  nothing waits in these blocks with a head below the limit
 --     AreMachinesAt l machines ms    the machine of each position
 --     IsNoteWithin raises ms heads   a note is within the raise of its machine
-use Rattle.std.specs.Prelude.{◌≡◌, true, ℕ, ◌+◌, ◌-◌, ◌*◌, ◌≤◌, ◌<◌, ◌⊎◌, max, List, length}
+use Rattle.std.specs.Prelude.{◌≡◌, true, false, ℕ, ◌+◌, ◌-◌, ◌*◌, ◌≤◌, ◌<◌, ◌⊎◌, max, List, length}
 use Rattle.std.specs.Prelude.{slice_index}
 use Rattle.shop_lanes.specs.Rows.{Rows, Lane, AreBlocks, lanes_between}
 use Rattle.shop_lanes.specs.Spans.{span, spans_between, FitsSpan}
 use Rattle.shop_bound.specs.inner.HeadRaises.{raise_of}
 use Rattle.shop_bound.specs.inner.Layouts.{LayoutState, first_of}
 use Rattle.shop_bound.specs.declared.head_raises.Raise.{Raise}
-use Rattle.shop_bound.specs.declared.lane_bounds.Foreseen.{Foreseen}
+use Rattle.shop_bound.specs.declared.look_aheads.Foreseen.{Foreseen}
 use Rattle.shop_bound.specs.declared.notes.Note.{Note}
 
 abbrev pub lanes_on : Rows → LayoutState → ℕ → List Lane
@@ -51,10 +51,11 @@ pub record IsNoteWithin (raises : List Raise) (ms heads : List ℕ) (note : Note
 abbrev pub AreRaisesUpTo : ℕ → List Raise → Type 0
 AreRaisesUpTo top raises = (m : ℕ) → m < length raises → (raise_of raises m).to ≤ top
 
--- the bound is `least` if nothing waits below the end; it is else at least `least`, and no more
--- than that or the span of all that waits from the end on
+-- the bound is `least` if nothing waits below the end; it is else at least `least` and, unless it
+-- reaches the limit, the span of all that waits from the end on, and no more than these
 pub record Foresees (rows : Rows) (from to end least limit : ℕ) (f : Foreseen) : Type 0 where
   pub low : least ≤ f.bound
   pub high : f.bound ≤ max least (span 1 end (lanes_between rows from to) - 1)
   pub final : f.is_final ≡ true → (NoneBelow rows.heads from to end × (f.bound ≡ least))
       ⊎ (limit ≤ f.bound)
+  pub covers : f.is_final ≡ false → span 1 end (lanes_between rows from to) ≤ f.bound + 1

@@ -19,6 +19,8 @@ use Rattle.shop_bound.specs.inner.LaneChoices.{AreEndsAt}
 use Rattle.shop_bound.specs.inner.LaneHeads.{AreHeadsAt, AreHeadsFit, AreNotesFit, IsTrail}
 use Rattle.shop_bound.specs.inner.LaneHeads.{LeadsBack, NotesState}
 use Rattle.shop_bound.specs.inner.Layouts.{LayoutState, IsLaidOut}
+use Rattle.shop_bound.specs.inner.MachineRaises.{AreEmpty}
+use Rattle.shop_bound.specs.declared.head_raises.Raise.{Raise}
 use Rattle.shop_bound.specs.declared.notes.Mark.{Mark}
 
 pub record AreHeadsInLanes (greatest : ℕ) (shop : Shop) (w : List ℕ) (l : LayoutState)
@@ -32,12 +34,13 @@ pub record AreHeadsInLanes (greatest : ℕ) (shop : Shop) (w : List ℕ) (l : La
   pub computable : greatest < 2 ^ 64
   pub heads : AreHeadsAt shop (placing shop w) l rows.heads
 
--- what bounds are computed by: the machine of each position, a raise for each machine, and one more
--- than the latest end
+-- what bounds are computed by: the machine of each position, an empty raise for each machine, and
+-- one more than the latest end
 pub record HasBounds (greatest : ℕ) (shop : Shop) (l : LayoutState) (machines : List ℕ)
-    (raises top : ℕ) : Type 0 where
+    (raises : List Raise) (top : ℕ) : Type 0 where
   pub machines_at : AreMachinesAt l shop.machines machines
-  pub as_many : raises ≡ shop.machines
+  pub as_many : length raises ≡ shop.machines
+  pub at_rest : AreEmpty raises
   pub top_is : top ≡ latest_end shop + 1
   pub holds : FitsLanes greatest shop l
 
@@ -49,7 +52,7 @@ pub record LaneState : Type 0 where
   -- for so many marks there is room
   pub room : ℕ
   pub machines : List ℕ
-  pub raises : ℕ
+  pub raises : List Raise
   pub estimates : List ℕ
   pub top : ℕ
 

@@ -1,15 +1,79 @@
-use Rattle.std.proofs.Common.{sym, subst}
-use Rattle.shop_bound.specs.inner.LaneStates.{LaneState, IsKeptInLanes}
-use Rattle.shop_bound.proofs.DeskSteps.{written_long}
-use Rattle.shop_bound.proofs.LaneSteps.{kept_again}
+use Rattle.std.proofs.Common.{◌<◌, ℕ, get_or, ap, sym, subst, arith}
+use Rattle.shop_model.specs.Word.{placing}
+use Rattle.shop_bound.specs.inner.LaneStates.{CanGoOnInLanes, IsKeptInLanes, LaneState}
+use Rattle.shop_bound.proofs.ChildReads.{after_foresight, at_limit, end_here, end_latest, end_small, foreseen_is}
+use Rattle.shop_bound.proofs.ChildReads.{head_here, left_fits, place_within}
+use Rattle.shop_bound.proofs.LaneFits.{spans_fit}
 use Rattle.shop_bound.proofs.lane_heads.LaneHeads.bound_up_to.Goals as goal
 
-pub returns-clause-kept : goal.returns-clause-kept
-returns-clause-kept g c w kept placed =
-    let was = subst (λ (s : LaneState). IsKeptInLanes g.L.Lanes.GREATEST c.args.instance.now w s)
-    (sym c.self.view_is) kept
-    in kept_again g.L.Lanes.GREATEST c.args.instance.now w _ was (g.L.Lanes.rows c.child_bound.new.lanes)
-    (c.child_bound.ensures.heads w was.kept placed) c.child_bound.ensures.ends c.child_bound.new.notes
-    c.child_bound.ensures.notes _
-    (written_long c.self.inside.raises c.as_mut_slice.result.now c.child_bound.new.raises
-    c.as_mut_slice.ensures.value c.child_bound.ensures.long) _ c.child_bound.ensures.estimates
+pub returns-then-limit-least-clause-bound : goal.returns-then-limit-least-clause-bound
+returns-then-limit-least-clause-bound g c = λ w was placed fits parent.
+    let kept = subst (λ (s : LaneState). IsKeptInLanes g.L.Lanes.GREATEST c.args.instance.now w s) (sym c.self.view_is)
+    was
+    in let next = c.next_operation-next.ensures w kept.kept placed fits
+    in let end = next.end_is
+    in let least = c.max-least.ensures
+    in at_limit g.L.Lanes.GREATEST c.args.instance.now w c.self.inside.layout
+    (g.L.Lanes.rows c.self.inside.lanes) kept.kept c.args.job
+    fits c.max-least.result c.args.limit (omega arith) c.if-limit-least.true
+
+pub foresee-foreseen-requires : goal.foresee-foreseen-requires
+foresee-foreseen-requires g c =
+    let can = subst (λ (s : LaneState). CanGoOnInLanes g.L.Lanes.GREATEST c.args.instance.now c.args.job
+    c.args.placement.now s) (sym c.self.view_is) c.requires
+    in let shop = c.args.instance.now in let w = can.word in let l = c.self.inside.layout
+    in let rows = g.L.Lanes.rows c.self.inside.lanes
+    in let kept = can.kept.kept in let fits = can.fits in let holds = can.kept.bounds.holds
+    in let next = c.next_operation-next.ensures w kept can.placed fits
+    in let machine = next.machine_is in let position = next.position_is in let end = next.end_is
+    in let on = kept.limits.on_machines c.args.job ((placing shop w).steps c.args.job)
+    in let many = kept.limits.machines
+    in let known : c.next_operation-next.result.machine < shop.machines = omega arith
+    in let blocks = kept.laid.machines
+    in let within = place_within g.L.Lanes.GREATEST shop w l rows kept c.args.job fits
+    in let positions = kept.heads.positions
+    in let head = head_here g.L.Lanes.GREATEST shop w l rows kept c.args.job fits
+    in let read = ap (λ (q : ℕ). get_or rows.heads q 0) position
+    in let small = end_small g.L.Lanes.GREATEST shop w l rows kept c.args.job fits
+    in let latest = end_latest g.L.Lanes.GREATEST shop w l rows kept c.args.job fits
+    in let same = end_here g.L.Lanes.GREATEST shop w l rows kept c.args.job fits
+    in let span = (left_fits g.L.Lanes.GREATEST shop w l rows kept c.args.job fits holds
+    c.next_operation-next.result.position).fits c.next_operation-next.result.machine known
+    in record {
+      known = omega arith;
+      small = omega arith;
+      blocks = (spans_fit shop kept.limits l kept.laid g.L.Lanes.GREATEST holds rows kept.times kept.tails
+          kept.heads.positions).blocks c.next_operation-next.result.machine known;
+      within = omega arith;
+      fits_head = omega arith;
+      fits = omega arith;
+      some = omega arith;
+    }
+
+pub returns-then-foreseen-clause-bound : goal.returns-then-foreseen-clause-bound
+returns-then-foreseen-clause-bound g c = λ w was placed fits parent.
+    let kept = subst (λ (s : LaneState). IsKeptInLanes g.L.Lanes.GREATEST c.args.instance.now w s) (sym c.self.view_is)
+    was
+    in let next = c.next_operation-next.ensures w kept.kept placed fits
+    in let end = next.end_is
+    in let least = c.max-least.ensures
+    in foreseen_is g.L.Lanes.GREATEST c.args.instance.now w c.self.inside.layout (g.L.Lanes.rows c.self.inside.lanes)
+    kept.kept c.args.job fits c.max-least.result c.args.limit (omega arith) c.next_operation-next.result.position
+    c.next_operation-next.result.machine c.next_operation-next.result.end next.position_is next.machine_is next.end_is
+    c.foresee-foreseen.result c.foresee-foreseen.ensures.foresees c.if-foreseen.true
+
+pub returns-clause-bound : goal.returns-clause-bound
+returns-clause-bound g c = λ w was placed fits parent.
+    let kept = subst (λ (s : LaneState). IsKeptInLanes g.L.Lanes.GREATEST c.args.instance.now w s) (sym c.self.view_is)
+    was
+    in let next = c.next_operation-next.ensures w kept.kept placed fits
+    in let end = next.end_is
+    in let least = c.max-least.ensures
+    in let low = c.foresee-foreseen.ensures.foresees.low
+    in let same = c.foresee-foreseen.ensures.same
+    in c.raised_bound.ensures.bound w (rw same kept) placed fits
+    (rw same (after_foresight g.L.Lanes.GREATEST c.args.instance.now w c.self.inside.layout
+    (g.L.Lanes.rows c.self.inside.lanes) kept.kept c.args.job fits c.max-least.result c.args.limit (omega arith)
+    c.next_operation-next.result.position c.next_operation-next.result.machine c.next_operation-next.result.end
+    next.position_is next.machine_is next.end_is c.foresee-foreseen.result c.foresee-foreseen.ensures.foresees
+    c.if-foreseen.false))

@@ -64,13 +64,12 @@ returns g c =
     c.jobs_steps.ensures c.set_ends.ensures.ends) c.in_ok-notes.notes c.in_ok-notes.ensures
     c.in_ok-marks.marks.items c.in_ok-marks.ensures.items _
     (let a = c.in_ok-marks.ensures.capacity in let b = c.operations-room.ensures.count in omega arith)
-    c.in_ok-machines_of.field-0.items (length c.in_ok-vec.field-0.items) (c.latest_end.result + 1)
+    c.in_ok-machines_of.field-0.items _ (c.latest_end.result + 1)
     (record {
       machines_at = subst (λ (n : ℕ). AreMachinesAt c.args.layout n c.in_ok-machines_of.field-0.items)
           c.machines-machines.ensures c.in_ok-machines_of.ensures;
-      as_many = (let a = c.in_ok-vec.ensures.len in let b = c.in_ok-vec.field-0.ok.0 in let d =
-          c.machines-machines.ensures
-          in omega arith);
+      as_many = c.in_ok-new.ensures.0 ∙ c.machines-machines.ensures;
+      at_rest = c.in_ok-new.ensures.1;
       top_is = (let a = c.latest_end.ensures.latest in omega arith);
       holds = c.requires.fits;
-    }) _ c.in_ok-new.ensures
+    }) _ c.in_ok-new-2.ensures

@@ -1,6 +1,6 @@
 use Rattle.std.proofs.Common.{◌-◌, ◌≤◌}
 use Rattle.shop_bound.specs.inner.LaneBounds.{NoneBelow}
-use Rattle.shop_bound.proofs.lane_bounds.is_none_below.Given as goal
+use Rattle.shop_bound.proofs.look_aheads.is_none_below.Given as goal
 
 abbrev pub invariant-loop-first : goal.invariant-loop-first
 invariant-loop-first g l = record {

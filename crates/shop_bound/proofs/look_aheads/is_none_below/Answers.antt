@@ -1,7 +1,7 @@
 use Rattle.std.proofs.Common.{◌≤◌, ◌∙◌, arith, sym}
 use Rattle.shop_bound.proofs.LaneBoundTurns.{none_turn}
-use Rattle.shop_bound.proofs.lane_bounds.is_none_below.Goals as goal
-use Rattle.shop_bound.proofs.lane_bounds.is_none_below.Goals.{then-to-first-gt8, else-to-first-gt8}
+use Rattle.shop_bound.proofs.look_aheads.is_none_below.Goals as goal
+use Rattle.shop_bound.proofs.look_aheads.is_none_below.Goals.{then-to-first-gt8, else-to-first-gt8}
 
 pub loop-first-preserved : goal.loop-first-preserved
 loop-first-preserved g c =

@@ -1,0 +1,205 @@
+// What changed among the heads of each machine, and the machines on which something did.
+ghost use Rattle.std.specs.Prelude.{◌≡◌, ℕ, ◌+◌, ◌≤◌, ◌<◌, All, IfOk, length, slice_index};
+ghost use Rattle.std.specs.Prelude.{slice_set, true, ◌^◌};
+ghost use Rattle.shop_lanes.specs.Spans.{spans_between};
+ghost use Rattle.shop_bound.specs.inner.Estimates.{IsForeseen, IsNoteCovered};
+ghost use Rattle.shop_bound.specs.inner.HeadRaises.{raise_of, widened};
+ghost use Rattle.shop_bound.specs.inner.LaneBounds.{AreRaisesUpTo, lanes_on};
+ghost use Rattle.shop_bound.specs.inner.MachineRaises.{AreEmpty, AreRaisesFit};
+
+use crate::child_bounds::NextOperation;
+use crate::estimates::is_small;
+use crate::head_raises::{NO_RAISE, Raise};
+use crate::lane_bounds::bound_by_raise;
+use crate::layouts::Layout;
+use crate::notes::Note;
+use shop_lanes::Lanes;
+use std::alloc::{AllocError, Global};
+use std::marker::Model;
+use std::mem;
+
+/// The raise of each machine, empty at rest, with a list of the machines that have one: so a bound visits only those.
+#[derive(Drop)]
+pub(crate) struct MachineRaises {
+    /// raises[machine]
+    raises: Vec<Raise>,
+    /// the first `count` are the machines with a raise
+    raised: Vec<u32>,
+    count: usize,
+}
+
+impl Model for MachineRaises {
+    ghost use Rattle.std.specs.Prelude.{List};
+    ghost use Rattle.shop_bound.specs.inner.MachineRaises.{AreListed};
+    ghost use Rattle.shop_bound.specs.declared.head_raises.Raise.{Raise};
+
+    ghost Value = { List Raise };
+
+    ghost view = { λ r. r.raises.items };
+
+    ghost invariant = { λ r. AreListed r.raises.items r.raised.items r.count };
+}
+
+/// Whether what stands at a position on this machine is no later than the end of the next operation, which is on the
+/// same machine: the look ahead bounds what begins up to there.
+#[inline(always)]
+fn is_foreseen(next: NextOperation, machine: u32, head: u64) -> bool
+    ensures { result ≡ true → IsForeseen next.machine next.end machine head }
+{
+    machine as usize == next.machine && head <= next.end
+}
+
+impl MachineRaises {
+    /// Of so many machines, all empty. Fails with `AllocError` if memory runs out.
+    pub(crate) fn new(alloc: Global, machines: usize) -> Result<MachineRaises, AllocError>
+        requires { machines < 2 ^ 32 }
+        ensures { IfOk result (λ r. (length r ≡ machines) × AreEmpty r) }
+    {
+        Ok(MachineRaises {
+            raises: vec![in alloc; NO_RAISE; machines]?,
+            raised: vec![in alloc; 0; machines + 1]?,
+            count: 0,
+        })
+    }
+
+    /// How many machines there are.
+    #[inline(always)]
+    pub(crate) fn machines(&self) -> usize
+        ensures { result ≡ length self.now }
+    {
+        self.raises.len()
+    }
+
+    /// One more head on a machine changed.
+    #[inline(always)]
+    fn add(&mut self, machine: u32, before: u64, after: u64)
+        requires known { machine < length self.old }
+        requires waits { 0 < after }
+        ensures { self.new
+            ≡ slice_set self.old machine (widened (raise_of self.old machine) before after) }
+    {
+        let raise = self.raises[machine as usize];
+        // written in any case, and kept where it is the first raise of the machine
+        self.raised[self.count] = machine;
+        self.count += usize::from(raise.to == 0);
+        self.raises[machine as usize] = raise.with(before, after);
+    }
+
+    /// Adds what was noted and stands at these positions now, where something waits, but for what is foreseen and for
+    /// what rose so little that, by the estimates, no span is more than one above `least`.
+    #[inline(always)]
+    fn widen<L: Lanes>(
+        &mut self,
+        lanes: &L,
+        machines: &[u32],
+        notes: &[Note],
+        next: NextOperation,
+        upper: &[u64],
+        least: u64,
+    )
+        requires notes { All (λ n. n.position < length (L.rows lanes.now).heads) notes.now }
+        requires positions { length machines.now ≡ length (L.rows lanes.now).heads }
+        requires known { (q : ℕ) → q < length machines.now
+            → slice_index machines.now q < length self.old }
+        ensures long { length self.new ≡ length self.old }
+        ensures covered { All (IsNoteCovered self.new next.machine next.end upper.now least
+            machines.now (L.rows lanes.now).heads) notes.now }
+        ensures up_to { (top : ℕ) → ((q : ℕ) → slice_index (L.rows lanes.now).heads q ≤ top)
+            → AreRaisesUpTo top self.old → AreRaisesUpTo top self.new }
+    {
+        for note in notes {
+            let head = lanes.head(note.position);
+            let machine = machines[note.position];
+            if head == 0
+                || is_foreseen(next, machine, head)
+                || is_small(upper, least, machine as usize, note.head, head)
+            {
+                continue;
+            }
+            self.add(machine, note.head, head);
+        }
+    }
+
+    /// The same, if some estimates are known.
+    #[inline(never)]
+    fn widen_by_estimates<L: Lanes>(
+        &mut self,
+        lanes: &L,
+        machines: &[u32],
+        notes: &[Note],
+        next: NextOperation,
+        upper: &[u64],
+        least: u64,
+    )
+        requires notes { All (λ n. n.position < length (L.rows lanes.now).heads) notes.now }
+        requires positions { length machines.now ≡ length (L.rows lanes.now).heads }
+        requires known { (q : ℕ) → q < length machines.now
+            → slice_index machines.now q < length self.old }
+        ensures long { length self.new ≡ length self.old }
+        ensures covered { All (IsNoteCovered self.new next.machine next.end upper.now least
+            machines.now (L.rows lanes.now).heads) notes.now }
+        ensures up_to { (top : ℕ) → ((q : ℕ) → slice_index (L.rows lanes.now).heads q ≤ top)
+            → AreRaisesUpTo top self.old → AreRaisesUpTo top self.new }
+    {
+        self.widen(lanes, machines, notes, next, upper, least);
+    }
+
+    /// The same, with estimates or without.
+    #[inline(always)]
+    pub(crate) fn add_notes<L: Lanes>(
+        &mut self,
+        lanes: &L,
+        machines: &[u32],
+        notes: &[Note],
+        next: NextOperation,
+        upper: &[u64],
+        least: u64,
+    )
+        requires notes { All (λ n. n.position < length (L.rows lanes.now).heads) notes.now }
+        requires positions { length machines.now ≡ length (L.rows lanes.now).heads }
+        requires known { (q : ℕ) → q < length machines.now
+            → slice_index machines.now q < length self.old }
+        ensures long { length self.new ≡ length self.old }
+        ensures covered { All (IsNoteCovered self.new next.machine next.end upper.now least
+            machines.now (L.rows lanes.now).heads) notes.now }
+        ensures up_to { (top : ℕ) → ((q : ℕ) → slice_index (L.rows lanes.now).heads q ≤ top)
+            → AreRaisesUpTo top self.old → AreRaisesUpTo top self.new }
+    {
+        if upper.is_empty() {
+            // no note is tested where there are no estimates
+            self.widen(lanes, machines, notes, next, &[], least);
+        } else {
+            self.widen_by_estimates(lanes, machines, notes, next, upper, least);
+        }
+    }
+
+    /// The greater of a number and of what begins within the raises; or as much of it as reaches the limit. They are
+    /// empty afterwards.
+    #[inline(always)]
+    pub(crate) fn take_bound<L: Lanes>(
+        &mut self,
+        lanes: &L,
+        layout: &Layout,
+        least: u64,
+        limit: u64,
+    ) -> u64
+        requires fits { AreRaisesFit L.GREATEST self.old layout.now (L.rows lanes.now) }
+        ensures long { length self.new ≡ length self.old }
+        ensures empty { AreEmpty self.new }
+        ensures least { least ≤ result }
+        ensures covers { result < limit → (m : ℕ) → spans_between (raise_of self.old m).from
+            (raise_of self.old m).to (lanes_on (L.rows lanes.now) layout.now m) ≤ result + 1 }
+        ensures within { (c : ℕ) → least ≤ c → ((m above upto : ℕ) → m < length self.old
+            → spans_between above upto (lanes_on (L.rows lanes.now) layout.now m) ≤ c + 1)
+            → result ≤ c }
+    {
+        let mut bound = least;
+        while self.count > 0 {
+            self.count -= 1;
+            let machine = self.raised[self.count] as usize;
+            let raise = mem::replace(&mut self.raises[machine], NO_RAISE);
+            bound = bound_by_raise(lanes, layout, machine, raise, bound, limit);
+        }
+        bound
+    }
+}
