@@ -127,8 +127,8 @@ module _ (greatest : ℕ) (shop : Shop) (limits : IsWithinLimits shop) (l : Layo
     pub kept_none : (filled_rows : Rows) → HasFilled shop l p rest filled_rows → jobs ≡ length shop.jobs → (rows : Rows)
         → HasEnds filled_rows rows → AreEndsOf greatest l p.steps rows → (notes : NotesState)
         → notes ≡ record { list = []; whole = true } → (marks : List Mark) → marks ≡ [] → (room : ℕ)
-        → operation_count shop ≤ room → (machines : List ℕ) (raises top : ℕ)
-        → HasBounds greatest shop l machines raises top → (us : List ℕ) → us ≡ []
+        → operation_count shop ≤ room → (raises top : ℕ)
+        → HasBounds greatest shop l raises top → (us : List ℕ) → us ≡ []
         → IsKeptInLanes greatest shop []
         (record {
           layout = l;
@@ -136,12 +136,11 @@ module _ (greatest : ℕ) (shop : Shop) (limits : IsWithinLimits shop) (l : Layo
           notes = notes;
           marks = marks;
           room = room;
-          machines = machines;
           raises = raises;
           estimates = us;
           top = top;
         })
-    kept_none filled_rows filled many rows beside ends notes begun marks none_marked room enough machines raises top
+    kept_none filled_rows filled many rows beside ends notes begun marks none_marked room enough raises top
         bounds us none_taken =
         let heads = with_ends greatest shop [] l filled_rows rows beside (heads_none filled_rows filled)
         in let none : IsKeptInLanes greatest shop [] (record {
@@ -150,7 +149,6 @@ module _ (greatest : ℕ) (shop : Shop) (limits : IsWithinLimits shop) (l : Layo
           notes = record { list = []; whole = true };
           marks = [];
           room = room;
-          machines = machines;
           raises = raises;
           estimates = us;
           top = top;
@@ -172,7 +170,6 @@ module _ (greatest : ℕ) (shop : Shop) (limits : IsWithinLimits shop) (l : Layo
           notes = n;
           marks = marks;
           room = room;
-          machines = machines;
           raises = raises;
           estimates = us;
           top = top;
@@ -183,7 +180,6 @@ module _ (greatest : ℕ) (shop : Shop) (limits : IsWithinLimits shop) (l : Layo
           notes = record { list = []; whole = true };
           marks = ms;
           room = room;
-          machines = machines;
           raises = raises;
           estimates = us;
           top = top;

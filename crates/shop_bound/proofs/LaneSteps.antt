@@ -78,7 +78,6 @@ module _ (greatest : ℕ) (shop : Shop) (w : List ℕ) (j : ℕ) (s : LaneState)
             notes = after;
             marks = marks;
             room = room;
-            machines = s.machines;
             raises = s.raises;
             estimates = us;
             top = s.top;
@@ -192,7 +191,6 @@ module _ (greatest : ℕ) (shop : Shop) (w : List ℕ) (j : ℕ) (s : LaneState)
               notes = after;
               marks = marks;
               room = room;
-              machines = s.machines;
               raises = s.raises;
               estimates = us;
               top = s.top;
@@ -237,7 +235,6 @@ kept_again greatest shop w s kept new heads ends after list raises many us estim
       as_many = kept.as_many;
       marks_room = kept.marks_room;
       bounds = record {
-        machines_at = kept.bounds.machines_at;
         as_many = many ∙ kept.bounds.as_many;
         top_is = kept.bounds.top_is;
         holds = kept.bounds.holds;

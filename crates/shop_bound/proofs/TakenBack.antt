@@ -15,8 +15,6 @@ use Rattle.shop_bound.specs.Placements.{PlacementState, HasPlaces, IsPlacement}
 use Rattle.shop_bound.specs.Trails.{replaced_at}
 use Rattle.shop_bound.specs.inner.TakingBack.{HasLast, TakesBack}
 use Rattle.shop_bound.specs.declared.placements.Replaced.{Replaced}
-use Rattle.std.proofs.Common.{max, refl, ◌+◌}
-use Rattle.shop_model.specs.Shop.{time_of}
 use Rattle.shop_bound.proofs.PlacementLemmas.{AreReads, read_is}
 
 -- what is known of the job whose step was placed last

@@ -6,14 +6,13 @@ ghost use Rattle.shop_lanes.specs.Spans.{FitsSpan, span, spans_between};
 ghost use Rattle.shop_model.specs.Shop.{greatest_below};
 ghost use Rattle.shop_bound.specs.inner.Estimates.{IsNoteCovered, IsSmallOn};
 ghost use Rattle.shop_bound.specs.inner.HeadRaises.{raise_of};
-ghost use Rattle.shop_bound.specs.inner.LaneBounds.{AreMachinesAt, AreRaisesUpTo, AreSpansFit};
+ghost use Rattle.shop_bound.specs.inner.LaneBounds.{AreRaisesUpTo, AreSpansFit};
 ghost use Rattle.shop_bound.specs.inner.LaneBounds.{Foresees, NoneBelow, lanes_on, part_by_spans};
 
 use crate::head_raises::{NO_RAISE, Raise};
 use crate::layouts::Layout;
 use crate::notes::Note;
 use shop_lanes::Lanes;
-use std::alloc::{AllocError, Global};
 
 /// Whether nothing waits in these blocks with a head below the limit.
 #[inline(always)]
@@ -234,25 +233,4 @@ pub(crate) fn look_ahead<L: Lanes>(
         bound,
         is_final: limit <= bound,
     }
-}
-
-/// The machine of each position. Fails with `AllocError` if memory runs out.
-pub(crate) fn machines_of(
-    alloc: Global,
-    layout: &Layout,
-    machines: usize,
-) -> Result<Vec<u32>, AllocError>
-    requires known { length layout.now.blocks ≡ machines + 1 }
-    requires few { machines < 2 ^ 32 }
-    requires from_0 { slice_index layout.now.blocks 0 ≡ 0 }
-    requires ordered { (m : ℕ) → m < machines
-        → slice_index layout.now.blocks m ≤ slice_index layout.now.blocks (m + 1) }
-    requires small { (m : ℕ) → m ≤ machines → 8 * slice_index layout.now.blocks m < 2 ^ 64 }
-    ensures { IfOk result (λ v. AreMachinesAt layout.now machines v.items) }
-{
-    let mut positions = Vec::new(alloc);
-    for machine in 0..machines {
-        positions.resize(8 * layout.block(machine + 1), machine as u32)?;
-    }
-    Ok(positions)
 }

@@ -14,7 +14,6 @@ use crate::dispatching::advance;
 use crate::estimates::Estimates;
 use crate::fills::{fill, go_back};
 use crate::head_raises::{NO_RAISE, Raise};
-use crate::lane_bounds::machines_of;
 use crate::lane_ends::{keep_ends, set_ends};
 use crate::latest_ends::latest_end;
 use crate::layouts::Layout;
@@ -33,8 +32,6 @@ pub(crate) struct LaneHeads<L: Lanes> {
     pub(crate) lanes: L,
     pub(crate) notes: Notes,
     marks: Vec<Mark>,
-    /// machines[position]
-    pub(crate) machines: Vec<u32>,
     /// raises[machine], for the bound at hand
     pub(crate) raises: Vec<Raise>,
     /// for the heads at hand
@@ -55,7 +52,6 @@ impl<L: Lanes> Model for LaneHeads<L> {
       notes = h.notes;
       marks = h.marks.items;
       room = vec_capacity h.marks;
-      machines = h.machines.items;
       raises = length h.raises.items;
       estimates = h.estimates;
       top = h.top;
@@ -87,7 +83,6 @@ impl<L: Lanes> LaneHeads<L> {
         let machines = instance.machines();
         let blocks = layout.block(machines) / machines.max(1);
         Ok(LaneHeads {
-            machines: machines_of(alloc, &layout, machines)?,
             raises: vec![in alloc; NO_RAISE; machines]?,
             estimates: Estimates::new(alloc, machines, blocks)?,
             top: latest_end(instance) + 1,
@@ -166,7 +161,7 @@ impl<L: Lanes> LaneHeads<L> {
             self.raises.as_mut_slice(),
             &mut self.estimates,
             &self.layout,
-            self.machines.as_slice(),
+            self.layout.machines(),
             instance,
             placement,
             job,

@@ -3,7 +3,7 @@
 --                                    and `to` at least b
 --     RowWithin shop j old new raises    each head of the row stayed, or changed within its
 --                                        machine's raise
-use Rattle.std.specs.Prelude.{◌≡◌, ℕ, ◌≤◌, ◌⊎◌, min, max, List, [], length, slice_index}
+use Rattle.std.specs.Prelude.{◌≡◌, ℕ, ◌≤◌, ◌⊎◌, min, max, List, [], slice_index}
 use Rattle.std.specs.Prelude.{slice_index_or}
 use Rattle.shop_model.specs.Shop.{Shop, machine_of, IsOperation}
 use Rattle.shop_bound.specs.declared.head_raises.Raise.{Raise}

@@ -14,7 +14,6 @@ use Rattle.shop_bound.specs.Placements.{PlacementState, IsPlacement}
 use Rattle.shop_bound.specs.inner.Estimates.{AreEstimates}
 use Rattle.shop_bound.specs.inner.Fills.{AreSameBeside}
 use Rattle.shop_bound.specs.inner.HeadLimits.{FitsLanes, latest_end}
-use Rattle.shop_bound.specs.inner.LaneBounds.{AreMachinesAt}
 use Rattle.shop_bound.specs.inner.LaneChoices.{AreEndsAt}
 use Rattle.shop_bound.specs.inner.LaneHeads.{AreHeadsAt, AreHeadsFit, AreNotesFit, IsTrail}
 use Rattle.shop_bound.specs.inner.LaneHeads.{LeadsBack, NotesState}
@@ -32,11 +31,8 @@ pub record AreHeadsInLanes (greatest : ℕ) (shop : Shop) (w : List ℕ) (l : La
   pub computable : greatest < 2 ^ 64
   pub heads : AreHeadsAt shop (placing shop w) l rows.heads
 
--- what bounds are computed by: the machine of each position, a raise for each machine, and one more
--- than the latest end
-pub record HasBounds (greatest : ℕ) (shop : Shop) (l : LayoutState) (machines : List ℕ)
-    (raises top : ℕ) : Type 0 where
-  pub machines_at : AreMachinesAt l shop.machines machines
+-- what bounds are computed by: a raise for each machine, and one more than the latest end
+pub record HasBounds (greatest : ℕ) (shop : Shop) (l : LayoutState) (raises top : ℕ) : Type 0 where
   pub as_many : raises ≡ shop.machines
   pub top_is : top ≡ latest_end shop + 1
   pub holds : FitsLanes greatest shop l
@@ -48,7 +44,6 @@ pub record LaneState : Type 0 where
   pub marks : List Mark
   -- for so many marks there is room
   pub room : ℕ
-  pub machines : List ℕ
   pub raises : ℕ
   pub estimates : List ℕ
   pub top : ℕ
@@ -59,7 +54,7 @@ pub record IsKeptInLanes (greatest : ℕ) (shop : Shop) (w : List ℕ) (s : Lane
   pub trail : IsTrail shop s.layout w s.marks s.notes.list s.rows.heads
   pub as_many : length s.marks ≡ length w
   pub marks_room : operation_count shop ≤ s.room
-  pub bounds : HasBounds greatest shop s.layout s.machines s.raises s.top
+  pub bounds : HasBounds greatest shop s.layout s.raises s.top
   pub ends : AreEndsAt greatest shop (placing shop w) s.rows.ends
   pub estimates : AreEstimates s.top s.layout s.rows s.estimates
 

@@ -1,7 +1,7 @@
 -- The last step of a placement taken back.
 --     TellsReplaced, TakesBack       the same of what a program keeps of a placing
 use Rattle.std.specs.Prelude.{◌≡◌, ℕ, List, [], ◌∷◌, ◌++◌}
-use Rattle.shop_model.specs.Shop.{Shop, machine_of}
+use Rattle.shop_model.specs.Shop.{Shop}
 use Rattle.shop_model.specs.Word.{Placing, IsWord, place_next, placing}
 use Rattle.shop_bound.specs.Placements.{PlacementState, IsPlacement}
 use Rattle.shop_bound.specs.declared.placements.Replaced.{Replaced}

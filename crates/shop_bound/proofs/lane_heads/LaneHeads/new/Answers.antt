@@ -1,9 +1,8 @@
-use Rattle.std.proofs.Common.{◌≡◌, ℕ, ◌+◌, ◌≤◌, ◌∙◌, List, length, sym, ap, subst, arith}
+use Rattle.std.proofs.Common.{ℕ, ◌+◌, ◌≤◌, ◌∙◌, List, length, sym, ap, subst, arith}
 use Rattle.std.specs.List.{All}
 use Rattle.shop_lanes.specs.Rows.{at_rest}
-use Rattle.shop_bound.proofs.LaneBegins.{times_fit, tails_fit, kept_none, heads_fit, can_begin, blocks_within}
+use Rattle.shop_bound.proofs.LaneBegins.{times_fit, tails_fit, kept_none, heads_fit, can_begin}
 use Rattle.shop_bound.proofs.LaneBegins.{ends_begin}
-use Rattle.shop_bound.specs.inner.LaneBounds.{AreMachinesAt}
 use Rattle.shop_bound.specs.inner.LaneEnds.{AreEndsOf, CanKeepEnds}
 use Rattle.shop_bound.proofs.lane_heads.LaneHeads.new.Goals as goal
 
@@ -42,13 +41,6 @@ set_ends-requires g c =
     ∙ ap (λ (qs : List ℕ). at_rest c.args.layout.times qs c.jobs.result g.L.Lanes.GREATEST) c.tails.ensures))
     (g.L.Lanes.rows c.fill.new.lanes) c.fill.ensures c.jobs.ensures)
 
-pub machines_of-requires-clause-small : goal.machines_of-requires-clause-small
-machines_of-requires-clause-small g c m known =
-    let a = blocks_within c.args.instance.now c.keeps_limits.ensures c.args.layout c.requires.laid m
-    (let b = c.machines-machines.ensures in omega arith)
-    in let long : length c.times.result.now ≡ length c.args.layout.times = ap length c.times.ensures
-    in let small = c.times.type_inv.0 in omega arith
-
 pub returns : goal.returns
 returns g c =
     kept_none g.L.Lanes.GREATEST c.args.instance.now c.keeps_limits.ensures c.args.layout c.requires.laid
@@ -64,10 +56,8 @@ returns g c =
     c.jobs_steps.ensures c.set_ends.ensures.ends) c.in_ok-notes.notes c.in_ok-notes.ensures
     c.in_ok-marks.marks.items c.in_ok-marks.ensures.items _
     (let a = c.in_ok-marks.ensures.capacity in let b = c.operations-room.ensures.count in omega arith)
-    c.in_ok-machines_of.field-0.items (length c.in_ok-vec.field-0.items) (c.latest_end.result + 1)
+    (length c.in_ok-vec.field-0.items) (c.latest_end.result + 1)
     (record {
-      machines_at = subst (λ (n : ℕ). AreMachinesAt c.args.layout n c.in_ok-machines_of.field-0.items)
-          c.machines-machines.ensures c.in_ok-machines_of.ensures;
       as_many = (let a = c.in_ok-vec.ensures.len in let b = c.in_ok-vec.field-0.ok.0 in let d =
           c.machines-machines.ensures
           in omega arith);
