@@ -7,6 +7,7 @@ ghost use Rattle.shop_bound.specs.inner.ChildBounds.{TellsRaisedBound};
 ghost use Rattle.shop_bound.specs.inner.ChildBounds.{HasNextInPlace, IsNextOperation};
 ghost use Rattle.shop_bound.specs.inner.Estimates.{AreEstimates};
 ghost use Rattle.shop_bound.specs.inner.LaneBounds.{Foresees, lanes_on};
+ghost use Rattle.shop_bound.specs.inner.Layouts.{place};
 
 use crate::dispatching::advance;
 use crate::estimates::Estimates;
@@ -52,7 +53,8 @@ fn foresee<L: Lanes>(
     foreseen
 }
 
-/// The bound after the next step of a job, by the heads that it raises, or as much of it as reaches the limit.
+/// The bound after the next step of a job, which stands at this position, by the heads that it raises, or as much of it
+/// as reaches the limit.
 fn raised_bound<L: Lanes>(
     lanes: &mut L,
     notes: &mut Notes,
@@ -63,12 +65,16 @@ fn raised_bound<L: Lanes>(
     instance: &Instance,
     placement: &Placement,
     job: usize,
+    position: usize,
+    machine: usize,
     top: u64,
     least: u64,
     limit: u64,
 ) -> u64
     requires can { CanBound L.GREATEST instance.now layout.now placement.now job machines.now
         (length raises.old) top (L.rows lanes.old) }
+    requires position { position ≡ place layout.now job (slice_index placement.now.steps job) }
+    requires machine { machine ≡ slice_index layout.now.machines position }
     requires estimates { AreEstimates top layout.now (L.rows lanes.old) estimates.old }
     ensures bound { TellsRaisedBound L.GREATEST instance.now layout.now placement.now
         (L.rows lanes.old) job least limit result }
@@ -80,7 +86,7 @@ fn raised_bound<L: Lanes>(
     ensures estimates { AreEstimates top layout.now (L.rows lanes.new) estimates.new }
 {
     estimates.take(lanes, layout, raises.len(), top);
-    let mark = advance(lanes, notes, layout, instance, job, placement.steps(job));
+    let mark = advance(lanes, notes, layout, position, machine);
     let noted = &notes.list()[mark.first..];
     let upper = estimates.upper();
     set_raises(
@@ -100,22 +106,13 @@ struct NextOperation {
     end: u64,
 }
 
-/// Where the next operation of a job stands, and when it ends.
+/// The next operation of a job, which stands at this position.
 #[inline(always)]
-fn next_operation<L: Lanes>(
-    lanes: &L,
-    layout: &Layout,
-    machines: &[u32],
-    instance: &Instance,
-    placement: &Placement,
-    job: usize,
-) -> NextOperation
-    requires { HasNextInPlace L.GREATEST instance.now layout.now placement.now job
-        machines.now (L.rows lanes.now) }
-    ensures { IsNextOperation L.GREATEST instance.now layout.now placement.now job
-        (L.rows lanes.now) result.position result.machine result.end }
+fn next_operation<L: Lanes>(lanes: &L, machines: &[u32], position: usize) -> NextOperation
+    requires { HasNextInPlace L.GREATEST machines.now position (L.rows lanes.now) }
+    ensures { IsNextOperation L.GREATEST machines.now position (L.rows lanes.now)
+        result.position result.machine result.end }
 {
-    let position = layout.places(job)[placement.steps(job)] as usize;
     let end = lanes.head(position) + lanes.time(position);
     NextOperation {
         position,
@@ -124,8 +121,8 @@ fn next_operation<L: Lanes>(
     }
 }
 
-/// The bound after the next step of a job, or as much of it as reaches the limit, with the bound before it at hand.
-/// The heads are raised only where it isn't known before.
+/// The bound after the next step of a job, which stands at this position, or as much of it as reaches the limit, with
+/// the bound before it at hand. The heads are raised only where it isn't known before.
 pub(crate) fn child_bound<L: Lanes>(
     lanes: &mut L,
     notes: &mut Notes,
@@ -136,12 +133,14 @@ pub(crate) fn child_bound<L: Lanes>(
     instance: &Instance,
     placement: &Placement,
     job: usize,
+    position: usize,
     top: u64,
     bound: u64,
     limit: u64,
 ) -> u64
     requires can { CanBound L.GREATEST instance.now layout.now placement.now job machines.now
         (length raises.old) top (L.rows lanes.old) }
+    requires position { position ≡ place layout.now job (slice_index placement.now.steps job) }
     requires estimates { AreEstimates top layout.now (L.rows lanes.old) estimates.old }
     ensures bound { TellsChildBound L.GREATEST instance.now layout.now placement.now
         (L.rows lanes.old) job bound limit result }
@@ -152,7 +151,7 @@ pub(crate) fn child_bound<L: Lanes>(
     ensures long { length raises.new ≡ length raises.old }
     ensures estimates { AreEstimates top layout.now (L.rows lanes.new) estimates.new }
 {
-    let next = next_operation(lanes, layout, machines, instance, placement, job);
+    let next = next_operation(lanes, machines, position);
     let least = bound.max(next.end - 1);
     if limit <= least {
         return least;
@@ -171,7 +170,19 @@ pub(crate) fn child_bound<L: Lanes>(
     }
     let least = foreseen.bound;
     raised_bound(
-        lanes, notes, raises, estimates, layout, machines, instance, placement, job, top, least,
+        lanes,
+        notes,
+        raises,
+        estimates,
+        layout,
+        machines,
+        instance,
+        placement,
+        job,
+        next.position,
+        next.machine,
+        top,
+        least,
         limit,
     )
 }

@@ -30,6 +30,8 @@ use std::marker::Model;
 pub(crate) struct LaneHeads<L: Lanes> {
     pub(crate) layout: Layout,
     pub(crate) lanes: L,
+    /// next[job]: the position of its next operation, or the number of all positions
+    pub(crate) next: Vec<usize>,
     pub(crate) notes: Notes,
     marks: Vec<Mark>,
     /// raises[machine], for the bound at hand
@@ -49,6 +51,7 @@ impl<L: Lanes> Model for LaneHeads<L> {
     ghost view = { λ h. record {
       layout = h.layout;
       rows = L.rows h.lanes;
+      nexts = h.next.items;
       notes = h.notes;
       marks = h.marks.items;
       room = vec_capacity h.marks;
@@ -76,7 +79,8 @@ impl<L: Lanes> LaneHeads<L> {
         instance.keeps_limits();
         let mut lanes = L::new(alloc, layout.times(), layout.tails(), instance.jobs())?;
         fill(&mut lanes, &layout, instance, placement);
-        set_ends(&mut lanes, &layout, placement.jobs_steps());
+        let next = layout.first_positions(alloc, instance.jobs())?;
+        set_ends(&mut lanes, &layout, next.as_slice());
         let room = instance.operations();
         let notes = Notes::with_room(alloc, 4 * room)?;
         let marks = Vec::with_capacity(alloc, room)?;
@@ -88,33 +92,30 @@ impl<L: Lanes> LaneHeads<L> {
             top: latest_end(instance) + 1,
             layout,
             lanes,
+            next,
             notes,
             marks,
         })
     }
 
-    /// One more operation of a job, whose next step this was, is dispatched; the placement is that of the word with it.
-    pub(crate) fn dispatch(
-        &mut self,
-        instance: &Instance,
-        placement: &Placement,
-        job: usize,
-        step: usize,
-    )
-        requires { HasNextInLanes L.GREATEST instance.now placement.now job step self.old }
-        ensures { KeepsNext L.GREATEST instance.now placement.now job step self.old self.new }
+    /// One more operation of a job is dispatched.
+    pub(crate) fn dispatch(&mut self, job: usize)
+        requires { HasNextInLanes L.GREATEST job self.old }
+        ensures { KeepsNext L.GREATEST job self.old self.new }
     {
+        let position = self.next[job];
+        let machine = self.layout.machines()[position] as usize;
         let mark = advance(
             &mut self.lanes,
             &mut self.notes,
             &self.layout,
-            instance,
-            job,
-            step,
+            position,
+            machine,
         );
-        let steps = placement.jobs_steps();
+        self.next[job] = self.layout.following(position);
+        let next = self.next.as_slice();
         let noted = &self.notes.list()[mark.first..];
-        keep_ends(&mut self.lanes, &self.layout, steps, job, noted, mark.whole);
+        keep_ends(&mut self.lanes, &self.layout, next, job, noted, mark.whole);
         self.marks.push(mark).unwrap();
         self.estimates.forget();
     }
@@ -134,8 +135,9 @@ impl<L: Lanes> LaneHeads<L> {
             noted,
             last.whole,
         );
-        let steps = placement.jobs_steps();
-        keep_ends(&mut self.lanes, &self.layout, steps, job, noted, last.whole);
+        self.next[job] = last.position;
+        let next = self.next.as_slice();
+        keep_ends(&mut self.lanes, &self.layout, next, job, noted, last.whole);
         self.notes.truncate(last.first);
         self.estimates.forget();
     }
@@ -165,6 +167,7 @@ impl<L: Lanes> LaneHeads<L> {
             instance,
             placement,
             job,
+            self.next[job],
             self.top,
             bound,
             limit,

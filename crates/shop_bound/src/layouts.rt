@@ -1,6 +1,6 @@
 // The operations of an instance by position.
 ghost use Rattle.std.specs.Prelude.{◌≡◌, ◌<◌, IfOk, length, slice_index, slice_index_or, []};
-ghost use Rattle.shop_bound.specs.inner.Layouts.{IsLaidOut};
+ghost use Rattle.shop_bound.specs.inner.Layouts.{AreFirsts, IsLaidOut};
 
 use crate::layings::{
     Cells, cells_of, following_of, jobs_of, machines_of, places_of, steps_of, tails_of, times_of,
@@ -138,5 +138,27 @@ impl Layout {
         ensures { result ≡ length self.now.following }
     {
         self.following.len()
+    }
+
+    /// The position of each job's first step, or the number of all positions where it has none. Fails with `AllocError`
+    /// if memory runs out.
+    pub(crate) fn first_positions(
+        &self,
+        alloc: Global,
+        jobs: usize,
+    ) -> Result<Vec<usize>, AllocError>
+        requires { length self.now.places ≡ jobs }
+        ensures { IfOk result (λ v. AreFirsts self.now jobs v.items) }
+    {
+        let mut next = Vec::with_capacity(alloc, jobs)?;
+        for job in 0..jobs {
+            let route = self.places(job);
+            next.push(if route.is_empty() {
+                self.positions()
+            } else {
+                route[0] as usize
+            })?;
+        }
+        Ok(next)
     }
 }

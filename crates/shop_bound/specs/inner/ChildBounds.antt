@@ -48,15 +48,18 @@ TellsChildBound greatest shop l s rows job bound limit b =
     → IsPlacement shop (placing shop w) s → IsWord shop (w ++ job ∷ []) → bound ≡ lb shop w
     → IsBoundUpTo limit (lb shop (w ++ job ∷ [])) b
 
--- heads in lanes of a word to which an operation can be added, and the machine of each position
-pub record HasNextInPlace (greatest : ℕ) (shop : Shop) (l : LayoutState) (s : PlacementState)
-    (job : ℕ) (ms : List ℕ)
+-- heads in lanes of a word to which an operation can be added, which stands at this position, and
+-- the machine of each position
+pub record HasNextInPlace (greatest : ℕ) (machines : List ℕ) (position : ℕ)
     (rows : Rows) : Type 0 where
+  pub l : LayoutState
+  pub shop : Shop
   pub word : List ℕ
+  pub job : ℕ
   pub kept : AreHeadsInLanes greatest shop word l rows
   pub fits : IsWord shop (word ++ job ∷ [])
-  pub placed : IsPlacement shop (placing shop word) s
-  pub machines : AreMachinesAt l shop.machines ms
+  pub at : position ≡ place l job ((placing shop word).steps job)
+  pub machines_at : AreMachinesAt l shop.machines machines
 
 -- the position and the machine of the next operation of a job, and one more than its end
 pub record IsNextAt (shop : Shop) (w : List ℕ) (l : LayoutState)
@@ -67,8 +70,8 @@ pub record IsNextAt (shop : Shop) (w : List ℕ) (l : LayoutState)
       ≡ (place_next shop (placing shop w) job).free
       (machine_of shop job ((placing shop w).steps job)) + 1
 
-abbrev pub IsNextOperation : ℕ → Shop → LayoutState → PlacementState → ℕ → Rows → ℕ → ℕ → ℕ → Type 0
-IsNextOperation greatest shop l s job rows position machine end = (w : List ℕ)
-    → AreHeadsInLanes greatest shop w l rows → IsPlacement shop (placing shop w) s
-    → IsWord shop (w ++ job ∷ [])
-    → IsNextAt shop w l job position machine end
+abbrev pub IsNextOperation : ℕ → List ℕ → ℕ → Rows → ℕ → ℕ → ℕ → Type 0
+IsNextOperation greatest machines position rows its_position machine end =
+    (l : LayoutState) (shop : Shop) (w : List ℕ) (job : ℕ) → AreHeadsInLanes greatest shop w l rows
+    → IsWord shop (w ++ job ∷ []) → position ≡ place l job ((placing shop w).steps job)
+    → AreMachinesAt l shop.machines machines → IsNextAt shop w l job its_position machine end

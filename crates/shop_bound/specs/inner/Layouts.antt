@@ -75,3 +75,8 @@ pub record IsLaidOut (shop : Shop) (l : LayoutState) : Type 0 where
   pub follows : (q : ℕ) → q < first_of l shop.machines → slice_index l.following q
       ≡ place_or (first_of l shop.machines) l.places (slice_index l.jobs q)
       (slice_index l.steps q + 1)
+
+-- the positions of the first steps of n jobs, or the number of all positions
+pub record AreFirsts (l : LayoutState) (n : ℕ) (firsts : List ℕ) : Type 0 where
+  pub jobs : length firsts ≡ n
+  pub are : (j : ℕ) → j < n → slice_index firsts j ≡ place_or (length l.following) l.places j 0

@@ -5,14 +5,9 @@ use Rattle.shop_bound.specs.inner.Estimates.{IsNoteCovered}
 use Rattle.shop_bound.specs.inner.LaneBounds.{AreSpansFit}
 use Rattle.shop_bound.specs.inner.LaneHeads.{AreHeadsAt, restored}
 use Rattle.shop_bound.specs.declared.notes.Note.{Note}
-use Rattle.shop_bound.proofs.ChildTurns.{estimates_again, its_job, next_small, noted_is, notes_within, raised_is}
+use Rattle.shop_bound.proofs.ChildTurns.{at_word, estimates_again, next_small, noted_is, notes_within, raised_is}
 use Rattle.shop_bound.proofs.LaneFits.{spans_fit}
 use Rattle.shop_bound.proofs.child_bounds.raised_bound.Goals as goal
-
-pub steps-requires : goal.steps-requires
-steps-requires g c =
-    let a = its_job c.args.instance.now c.requires.can.word c.args.job c.requires.can.fits
-    in let b = c.requires.can.placed.places.steps in omega arith
 
 pub take-requires-clause-fits : goal.take-requires-clause-fits
 take-requires-clause-fits g c =
@@ -25,14 +20,15 @@ take-requires-clause-fits g c =
     in subst (λ (n : ℕ). AreSpansFit g.L.Lanes.GREATEST c.args.top n l rows) many
     (subst (λ (n : ℕ). AreSpansFit g.L.Lanes.GREATEST n shop.machines l rows) (sym c.requires.can.top_is) fit)
 
-pub advance-mark-requires : goal.advance-mark-requires
-advance-mark-requires g c = record {
+pub advance-mark-requires-clause-next : goal.advance-mark-requires-clause-next
+advance-mark-requires-clause-next g c = record {
+  shop = c.args.instance.now;
   word = c.requires.can.word;
+  job = c.args.job;
   kept = c.requires.can.kept;
   fits = c.requires.can.fits;
-  at = c.steps.ensures
-      ∙ c.requires.can.placed.steps c.args.job (its_job c.args.instance.now c.requires.can.word c.args.job
-      c.requires.can.fits);
+  at = (at_word c.args.instance.now c.args.layout.now c.args.placement.now c.requires.can.word c.args.job
+      c.requires.can.placed c.requires.can.fits c.args.position c.requires.position);
 }
 
 pub set_raises-requires-clause-notes : goal.set_raises-requires-clause-notes
@@ -51,15 +47,14 @@ set_raises-requires-clause-known g c = λ q here.
 
 pub set_raises-requires-clause-small : goal.set_raises-requires-clause-small
 set_raises-requires-clause-small g c =
-    next_small g.L.Lanes.GREATEST c.args.instance.now c.args.layout.now c.args.job c.steps.result
+    next_small g.L.Lanes.GREATEST c.args.instance.now c.args.layout.now c.args.job c.args.position
     (g.L.Lanes.rows c.args.lanes.now)
     (g.L.Lanes.rows c.advance-mark.new.lanes) c.args.notes.now c.advance-mark.new.notes
     c.advance-mark.result c.advance-mark.ensures c.args.top c.requires.can.top_is c.requires.can.word
     c.requires.can.kept
     c.requires.can.fits
-    (c.steps.ensures
-    ∙ c.requires.can.placed.steps c.args.job (its_job c.args.instance.now c.requires.can.word c.args.job
-    c.requires.can.fits))
+    (at_word c.args.instance.now c.args.layout.now c.args.placement.now c.requires.can.word c.args.job
+    c.requires.can.placed c.requires.can.fits c.args.position c.requires.position)
 
 pub bound_by_raises-bound-requires-clause-fits : goal.bound_by_raises-bound-requires-clause-fits
 bound_by_raises-bound-requires-clause-fits g c =
@@ -76,10 +71,9 @@ bound_by_raises-bound-requires-clause-fits g c =
 
 pub go_back-requires-clause-rested : goal.go_back-requires-clause-rested
 go_back-requires-clause-rested g c =
-    let after = c.advance-mark.ensures.heads c.requires.can.word c.requires.can.kept c.requires.can.fits
-    (c.steps.ensures
-    ∙ c.requires.can.placed.steps c.args.job (its_job c.args.instance.now c.requires.can.word c.args.job
-    c.requires.can.fits))
+    let after = c.advance-mark.ensures.heads c.args.instance.now c.requires.can.word c.args.job c.requires.can.kept c.requires.can.fits
+    (at_word c.args.instance.now c.args.layout.now c.args.placement.now c.requires.can.word c.args.job
+    c.requires.can.placed c.requires.can.fits c.args.position c.requires.position)
     in after.heads.padding
 
 pub returns-clause-bound : goal.returns-clause-bound
@@ -87,7 +81,7 @@ returns-clause-bound g c = λ w kept placed fits parent end most.
     let adv = c.advance-mark.ensures
     in let is = noted_is c.list.result.now c.args.notes.now.list adv.noted.more c.advance-mark.result.first
     (c.list.ensures ∙ adv.noted.are) adv.first
-    in raised_is g.L.Lanes.GREATEST c.args.instance.now c.args.layout.now c.args.job c.steps.result
+    in raised_is g.L.Lanes.GREATEST c.args.instance.now c.args.layout.now c.args.job c.args.position
     (g.L.Lanes.rows c.args.lanes.now)
     (g.L.Lanes.rows c.advance-mark.new.lanes) c.args.notes.now c.advance-mark.new.notes
     c.advance-mark.result adv c.args.machines.now c.requires.can.machines c.set_raises.new.raises
@@ -100,7 +94,8 @@ returns-clause-bound g c = λ w kept placed fits parent end most.
     c.set_raises.ensures.within) c.set_raises.ensures.all
     c.bound_by_raises-bound.ensures.least c.bound_by_raises-bound.ensures.covers
     c.bound_by_raises-bound.ensures.within w kept fits
-    (c.steps.ensures ∙ placed.steps c.args.job (its_job c.args.instance.now w c.args.job fits)) parent end most
+    (at_word c.args.instance.now c.args.layout.now c.args.placement.now w c.args.job placed fits c.args.position
+    c.requires.position) parent end most
 
 pub returns-clause-ends : goal.returns-clause-ends
 returns-clause-ends g c = c.go_back.ensures.beside.ends ∙ c.advance-mark.ensures.beside.ends

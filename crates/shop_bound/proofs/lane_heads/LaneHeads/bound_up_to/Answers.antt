@@ -1,8 +1,26 @@
-use Rattle.std.proofs.Common.{sym, subst}
-use Rattle.shop_bound.specs.inner.LaneStates.{LaneState, IsKeptInLanes}
+use Rattle.std.proofs.Common.{◌∙◌, ap, sym, subst, arith}
+use Rattle.shop_bound.specs.inner.LaneStates.{LaneState, CanGoOnInLanes, IsKeptInLanes}
+use Rattle.shop_bound.specs.inner.Layouts.{place}
+use Rattle.shop_bound.proofs.ChildTurns.{its_job}
 use Rattle.shop_bound.proofs.DeskSteps.{written_long}
-use Rattle.shop_bound.proofs.LaneSteps.{kept_again}
+use Rattle.shop_bound.proofs.LaneSteps.{kept_again, next_at, next_known}
 use Rattle.shop_bound.proofs.lane_heads.LaneHeads.bound_up_to.Goals as goal
+
+pub index-requires : goal.index-requires
+index-requires g c =
+    let can = subst (λ (s : LaneState). CanGoOnInLanes g.L.Lanes.GREATEST c.args.instance.now c.args.job
+    c.args.placement.now s) (sym c.self.view_is) c.requires
+    in let known = next_known g.L.Lanes.GREATEST c.args.instance.now can.word c.args.job _ can.kept can.fits
+    in let long = c.self.inside.next.ok.0 in omega arith
+
+pub child_bound-requires-clause-position : goal.child_bound-requires-clause-position
+child_bound-requires-clause-position g c =
+    let can = subst (λ (s : LaneState). CanGoOnInLanes g.L.Lanes.GREATEST c.args.instance.now c.args.job
+    c.args.placement.now s) (sym c.self.view_is) c.requires
+    in next_at g.L.Lanes.GREATEST c.args.instance.now can.word c.args.job _ can.kept can.fits c.index.result.now
+    c.index.ensures
+    ∙ ap (place c.self.inside.layout c.args.job) (sym (can.placed.steps c.args.job
+    (its_job c.args.instance.now can.word c.args.job can.fits)))
 
 pub returns-clause-kept : goal.returns-clause-kept
 returns-clause-kept g c w kept placed =
