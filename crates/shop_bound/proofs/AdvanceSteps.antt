@@ -5,7 +5,6 @@ use Rattle.std.proofs.lemmas.List.{length-set}
 use Rattle.shop_lanes.specs.Rows.{Rows}
 use Rattle.shop_model.specs.Shop.{Shop, IsOperation, machine_of, time_of}
 use Rattle.shop_model.specs.Word.{Placing, IsWord, placing, place_next}
-use Rattle.shop_model.proofs.Ends.{IsOperation-job}
 use Rattle.shop_model.proofs.Placings.{IsNext, place_next-is}
 use Rattle.shop_model.proofs.Unders.{placing-snoc, next_operation, after_word}
 use Rattle.shop_bound.specs.Heads.{head_of}
@@ -19,9 +18,8 @@ use Rattle.shop_bound.proofs.LaidPlaces.{place_of}
 use Rattle.shop_bound.proofs.RaisedHeads.{left, raisable, raised, has_blocks}
 use Rattle.shop_bound.proofs.RestoredNotes.{back_both}
 
-module _ (greatest : ℕ) (shop : Shop) (l : LayoutState) (j step : ℕ) (rows : Rows) (w : List ℕ)
-    (kept : AreHeadsInLanes greatest shop w l rows) (fits : IsWord shop (w ++ j ∷ []))
-    (at : step ≡ (placing shop w).steps j) where
+module _ (greatest : ℕ) (shop : Shop) (l : LayoutState) (rows : Rows) (w : List ℕ) (j : ℕ)
+    (kept : AreHeadsInLanes greatest shop w l rows) (fits : IsWord shop (w ++ j ∷ [])) where
   abbrev before : Placing
   before = placing shop w
 
@@ -34,48 +32,43 @@ module _ (greatest : ℕ) (shop : Shop) (l : LayoutState) (j step : ℕ) (rows :
   first_left : IsOperation shop j (before.steps j)
   first_left = let a = next_operation shop w j fits in let b = (after_word shop w kept.word).steps j in omega arith
 
-  pub operation : IsOperation shop j step
-  operation = let a = first_left in omega arith
+  machine_known : machine_of shop j (before.steps j) < shop.machines
+  machine_known = kept.limits.on_machines j (before.steps j)
 
-  pub job_known : j < length l.places
-  job_known = let a = IsOperation-job shop j step operation in let b = kept.laid.jobs in omega arith
+  -- the machine of its position
+  pub machine_here : (q m : ℕ) → q ≡ place l j (before.steps j) → m ≡ get_or l.machines q 0
+      → m ≡ machine_of shop j (before.steps j)
+  machine_here q m is read =
+      let a = place_of shop kept.limits l kept.laid j (before.steps j) first_left
+      in let from = a.from in let to = a.to
+      in read ∙ (ap (λ (x : ℕ). get_or l.machines x 0) is
+      ∙ kept.laid.machines_at.at (machine_of shop j (before.steps j)) (place l j (before.steps j)) machine_known
+      (omega arith) (omega arith))
 
-  pub step_known : step < length (get_or l.places j [])
-  step_known = let a = operation in let b = kept.laid.routes j in omega arith
-
-  position : place l j step ≡ place l j (before.steps j)
-  position = ap (place l j) at
-
-  machine_same : machine_of shop j step ≡ machine_of shop j (before.steps j)
-  machine_same = ap (machine_of shop j) at
-
-  pub machine_known : machine_of shop j step < shop.machines
-  machine_known = kept.limits.on_machines j step
-
-  pub within : (q : ℕ) → q ≡ place l j step → q < length rows.heads
-  within q is = let a = place_of shop kept.limits l kept.laid j step operation in let b = a.within
+  pub within : (q : ℕ) → q ≡ place l j (before.steps j) → q < length rows.heads
+  within q is = let a = place_of shop kept.limits l kept.laid j (before.steps j) first_left in let b = a.within
       in let c = kept.heads.positions in omega arith
 
   -- what is read of it
-  pub head_is : (q : ℕ) → q ≡ place l j step → get_or rows.heads q 0 ≡ head_of shop before j (before.steps j) + 1
-  head_is q is = ap (λ (x : ℕ). get_or rows.heads x 0) (is ∙ position)
+  pub head_is : (q : ℕ) → q ≡ place l j (before.steps j) → get_or rows.heads q 0 ≡ head_of shop before j (before.steps j) + 1
+  head_is q is = ap (λ (x : ℕ). get_or rows.heads x 0) is
       ∙ kept.heads.waiting j (before.steps j) first_left (omega arith)
 
-  pub time_is : (q : ℕ) → q ≡ place l j step → get_or rows.times q 0 ≡ time_of shop j (before.steps j)
+  pub time_is : (q : ℕ) → q ≡ place l j (before.steps j) → get_or rows.times q 0 ≡ time_of shop j (before.steps j)
   time_is q is = ap (λ (xs : List ℕ). get_or xs q 0) kept.times
-      ∙ (ap (λ (x : ℕ). get_or l.times x 0) (is ∙ position)
+      ∙ (ap (λ (x : ℕ). get_or l.times x 0) is
       ∙ (place_of shop kept.limits l kept.laid j (before.steps j) first_left).time)
 
   small : head_of shop before j (before.steps j) + time_of shop j (before.steps j) < greatest
   small = kept.fits w kept.word j (before.steps j) first_left (omega arith)
 
-  pub end_small : (q h t : ℕ) → q ≡ place l j step → h ≡ get_or rows.heads q 0 → t ≡ get_or rows.times q 0
+  pub end_small : (q h t : ℕ) → q ≡ place l j (before.steps j) → h ≡ get_or rows.heads q 0 → t ≡ get_or rows.times q 0
       → (h ≤ greatest) × (h + t ≤ greatest) × (h + t < 2 ^ 64)
   end_small q h t is read timed =
       let a = head_is q is in let b = time_is q is in let c = small in let d = kept.computable
       in (omega arith, omega arith, omega arith)
 
-  end_is : (q h t : ℕ) → q ≡ place l j step → h ≡ get_or rows.heads q 0 → t ≡ get_or rows.times q 0
+  end_is : (q h t : ℕ) → q ≡ place l j (before.steps j) → h ≡ get_or rows.heads q 0 → t ≡ get_or rows.times q 0
       → h + t ≡ after.free (machine_of shop j (before.steps j)) + 1
   end_is q h t is read timed =
       let a = head_is q is in let b = time_is q is
@@ -95,11 +88,11 @@ module _ (greatest : ℕ) (shop : Shop) (l : LayoutState) (j step : ℕ) (rows :
       in let a = kept.fits (w ++ j ∷ []) fits i k op (omega arith)
       in omega arith
 
-  module _ (q h t : ℕ) (is : q ≡ place l j step) (read : h ≡ get_or rows.heads q 0) (timed : t ≡ get_or rows.times q 0)
+  module _ (q h t : ℕ) (is : q ≡ place l j (before.steps j)) (read : h ≡ get_or rows.heads q 0) (timed : t ≡ get_or rows.times q 0)
       (lifted : Rows) (notes mid : NotesState) (wrote : Replaces greatest q 0 rows lifted notes mid) (m : ℕ)
-      (on : m ≡ machine_of shop j step) where
+      (on : m ≡ machine_of shop j (before.steps j)) where
     lifted_heads : lifted.heads ≡ set rows.heads (place l j (before.steps j)) 0
-    lifted_heads = ap (λ (r : Rows). r.heads) wrote.rows ∙ ap (λ (x : ℕ). set rows.heads x 0) (is ∙ position)
+    lifted_heads = ap (λ (r : Rows). r.heads) wrote.rows ∙ ap (λ (x : ℕ). set rows.heads x 0) is
 
     lifted_times : lifted.times ≡ l.times
     lifted_times = ap (λ (r : Rows). r.times) wrote.rows ∙ kept.times
@@ -108,16 +101,13 @@ module _ (greatest : ℕ) (shop : Shop) (l : LayoutState) (j step : ℕ) (rows :
     lifted_long = ap (λ (xs : List ℕ). length xs) lifted_heads
         ∙ (length-set rows.heads (place l j (before.steps j)) 0 ∙ kept.heads.positions)
 
-    machine_is : m ≡ machine_of shop j (before.steps j)
-    machine_is = on ∙ machine_same
-
     pub lifted_blocks : HasBlocks l (length lifted.heads) m
     lifted_blocks = has_blocks shop kept.limits l kept.laid (length lifted.heads) m lifted_long
         (let a = machine_known in omega arith)
 
     pub lifted_raisable : IsRaisable greatest l lifted (IsOnMachine l m) (h + t)
     lifted_raisable =
-        subst (λ (x : ℕ). IsRaisable greatest l lifted (IsOnMachine l x) (h + t)) (sym machine_is)
+        subst (λ (x : ℕ). IsRaisable greatest l lifted (IsOnMachine l x) (h + t)) (sym on)
         (raisable shop kept.limits l kept.laid before j after next_is first_left
         (set rows.heads (place l j (before.steps j)) 0)
         (left shop kept.limits l kept.laid before j after next_is first_left rows.heads kept.heads) (h + t)
@@ -153,7 +143,7 @@ module _ (greatest : ℕ) (shop : Shop) (l : LayoutState) (j step : ℕ) (rows :
               (end_is q h t is read timed) new.heads
               (subst (λ (x : ℕ). IsLeastRaise l (IsOnMachine l x) (h + t)
               (set rows.heads (place l j (before.steps j)) 0)
-              new.heads) machine_is
+              new.heads) on
               (subst (λ (xs : List ℕ). IsLeastRaise l (IsOnMachine l m) (h + t) xs new.heads) lifted_heads
               raising.raised)));
         }

@@ -19,6 +19,7 @@ cells_none lists = record {
   whole = refl;
   each = λ m below. absurd (omega arith);
   few = omega arith;
+  some = λ any. absurd (omega arith);
 }
 
 module _ (cells slots : List Slot) (pads : ℕ) where
@@ -108,6 +109,10 @@ cells_more lists n cells blocks before short slots are count low high more pushe
             })
       ];
       few = (let a = before.few in let b = short n in let d = ap length are in omega arith);
+      some = λ any. elim (cases_eq (length cells) 0) [
+        | inl none ↦ (n, omega arith, (let d = ap length are in omega arith))
+        | inr have ↦ (let x = before.some (omega arith) in (x.0, (let b = x.1 in omega arith), x.2))
+      ];
     }
 
 -- a number of cells in whole blocks

@@ -17,15 +17,16 @@ use Rattle.shop_bound.specs.inner.Fills.{AreSameBeside, GoesBack, IsRested}
 use Rattle.shop_bound.specs.inner.HeadRaises.{raise_of}
 use Rattle.shop_bound.specs.inner.LaneBounds.{AreRaisesUpTo, AreSpansFit, lanes_on}
 use Rattle.shop_bound.specs.inner.LaneHeads.{AreHeadsAt, NotesState, restored}
+use Rattle.shop_bound.specs.inner.Layouts.{place}
 use Rattle.shop_bound.specs.inner.LaneStates.{Advances, AreHeadsInLanes, HasNextAt, IsKeptInLanes, LaneState}
 use Rattle.shop_bound.specs.inner.MachineRaises.{AreEmpty, AreRaisesFit}
 use Rattle.shop_bound.specs.declared.head_raises.Raise.{Raise}
 use Rattle.shop_bound.specs.declared.notes.Mark.{Mark}
 use Rattle.shop_bound.specs.declared.notes.Note.{Note}
-use Rattle.shop_bound.proofs.ChildTurns.{drop_front, estimates_again, its_job, next_small, noted_is, notes_within}
+use Rattle.shop_bound.proofs.ChildTurns.{drop_front, estimates_again, next_small, noted_is, notes_within}
 use Rattle.shop_bound.proofs.ChildTurns.{raised_is}
 use Rattle.shop_bound.proofs.LaneFits.{spans_fit}
-use Rattle.shop_bound.proofs.LaneSteps.{kept_again}
+use Rattle.shop_bound.proofs.LaneSteps.{kept_again, next_is}
 
 -- raises that notes widened, from empty ones on, fit
 pub raises_fit : (greatest : ℕ) (mark : Mark) (s : LaneState) → HasRaised greatest mark s → (raises : List Raise)
@@ -44,15 +45,15 @@ raises_fit greatest mark s has raises long up_to =
 
 -- what begins within the raises of all notes behind a mark is bounded
 pub raises_bounded : (s : LaneState) (mark : Mark) (own end least b : ℕ) (raises : List Raise) (list : List Note)
-    → list ≡ s.notes.list → (us ms : List ℕ) → us ≡ s.estimates → ms ≡ s.machines
+    → list ≡ s.notes.list → (us ms : List ℕ) → us ≡ s.estimates → ms ≡ s.layout.machines
     → All (IsNoteCovered raises own end us least ms s.rows.heads)
     (take (length list - mark.first) (drop mark.first list))
     → ((m : ℕ) → spans_between (raise_of raises m).from (raise_of raises m).to (lanes_on s.rows s.layout m) ≤ b + 1)
     → AreBounded s mark own end least b raises
 raises_bounded s mark own end least b raises list list_is us ms us_is ms_is covered spans = record {
-  covered = subst (λ (ns : List Note). All (IsNoteCovered raises own end s.estimates least s.machines s.rows.heads)
+  covered = subst (λ (ns : List Note). All (IsNoteCovered raises own end s.estimates least s.layout.machines s.rows.heads)
       (drop mark.first ns)) list_is
-      (subst (λ (ns : List Note). All (IsNoteCovered raises own end s.estimates least s.machines s.rows.heads) ns)
+      (subst (λ (ns : List Note). All (IsNoteCovered raises own end s.estimates least s.layout.machines s.rows.heads) ns)
       (take_all (length list - mark.first) (drop mark.first list) (let a = length-drop mark.first list in omega arith))
       (subst (λ (xs : List ℕ). All (IsNoteCovered raises own end s.estimates least xs s.rows.heads)
       (take (length list - mark.first) (drop mark.first list))) ms_is
@@ -74,19 +75,16 @@ kept_fit greatest shop w s kept rows times tails positions =
     (positions ∙ k.heads.positions)))
 
 module _ (greatest : ℕ) (shop : Shop) (w : List ℕ) (s : LaneState) (kept : IsKeptInLanes greatest shop w s) (j : ℕ)
-    (fits : IsWord shop (w ++ j ∷ [])) (p : PlacementState) (placed : IsPlacement shop (placing shop w) p) where
-  pub job_placed : j < length p.steps
-  job_placed = let a = its_job shop w j fits in let b = placed.places.steps in omega arith
+    (fits : IsWord shop (w ++ j ∷ [])) where
+  module _ (position : ℕ) (position_is : position ≡ get_or s.nexts j 0) where
+    its_place : position ≡ place s.layout j ((placing shop w).steps j)
+    its_place = position_is ∙ next_is greatest shop w j s kept fits
 
-  module _ (step : ℕ) (step_is : step ≡ get_or p.steps j 0) where
-    pub its_step : step ≡ (placing shop w).steps j
-    its_step = step_is ∙ placed.steps j (its_job shop w j fits)
-
-    pub has_next : HasNextAt greatest shop s.layout j step s.rows
-    has_next = record { word = w; kept = kept.kept; fits = fits; at = its_step }
+    pub has_next : HasNextAt greatest s.layout position s.rows
+    has_next = record { shop = shop; word = w; job = j; kept = kept.kept; fits = fits; at = its_place }
 
     module _ (rows : Rows) (after : NotesState) (mark : Mark)
-        (advances : Advances greatest shop s.layout j step s.rows rows s.notes after mark) (us : List ℕ)
+        (advances : Advances greatest s.layout position s.rows rows s.notes after mark) (us : List ℕ)
         (estimates : AreEstimates s.top s.layout s.rows us) where
       -- with the heads raised
       abbrev pub raised_state : LaneState
@@ -100,7 +98,7 @@ module _ (greatest : ℕ) (shop : Shop) (w : List ℕ) (s : LaneState) (kept : I
       pub has_raised : HasRaised greatest mark raised_state
       has_raised =
           let beside = advances.beside
-          in let many = kept.bounds.as_many in let machines = kept.bounds.machines_at
+          in let many = kept.bounds.as_many in let machines = kept.kept.laid.machines_at
           in let long = ap (λ (ns : List Note). length ns) advances.noted.are
           in let both = length-append s.notes.list advances.noted.more
           in record {
@@ -113,34 +111,34 @@ module _ (greatest : ℕ) (shop : Shop) (w : List ℕ) (s : LaneState) (kept : I
             notes = subst (λ (ns : List Note). All (λ n. n.position < length rows.heads) ns) (sym behind)
                 (notes_within greatest (length rows.heads) (length s.rows.heads) advances.noted.more
                 advances.noted.fit (sym beside.positions));
-            small = next_small greatest shop s.layout j step s.rows rows s.notes after mark advances s.top
-                kept.bounds.top_is w kept.kept fits its_step;
+            small = next_small greatest shop s.layout j position s.rows rows s.notes after mark advances s.top
+                kept.bounds.top_is w kept.kept fits its_place;
           }
 
       -- the bound
-      pub child_is : (position own end least limit b : ℕ)
+      pub child_is : (own end least limit b : ℕ)
           → IsBoundByRaises raised_state mark own end least limit b
           → IsLeastAfter shop w s.layout s.rows j position own end least
           → IsBoundUpTo limit (lb shop (w ++ j ∷ [])) b
-      child_is position own end least limit b bound after_is =
-          raised_is greatest shop s.layout j step s.rows rows s.notes after mark advances s.machines
-          kept.bounds.machines_at (drop mark.first after.list) behind us s.top kept.bounds.top_is estimates position own
-          end least limit b
+      child_is own end least limit b bound after_is =
+          raised_is greatest shop s.layout j position s.rows rows s.notes after mark advances s.layout.machines
+          kept.kept.laid.machines_at (drop mark.first after.list) behind us s.top kept.bounds.top_is estimates own end
+          least limit b
           (λ under whole. (let r = bound.noted under whole in (r.0, (r.1.covered, r.1.spans))))
           (λ whole under m known. bound.all under whole m (let a = kept.bounds.as_many in omega arith))
           bound.low
           (λ c above each. bound.within c above (λ m x y known. each m x y (let a = kept.bounds.as_many in omega arith)))
-          w kept.kept fits its_step after_is
+          w kept.kept fits its_place after_is
 
       pub rested_after : (raises : List Raise) (v : LaneState) → v ≡ record raised_state { raises = raises }
           → IsRested shop v.layout v.rows.heads
       rested_after raises v v_is = subst (λ (x : LaneState). IsRested shop x.layout x.rows.heads) (sym v_is)
-          (advances.heads w kept.kept fits its_step).heads.padding
+          (advances.heads shop w j kept.kept fits its_place).heads.padding
 
 -- what is kept once the heads are put back, whichever word they were of
 module _ (greatest : ℕ) (shop : Shop) (w : List ℕ) (s : LaneState) (kept : IsKeptInLanes greatest shop w s)
-    (p : PlacementState) (placed : IsPlacement shop (placing shop w) p) (j step : ℕ) (rows : Rows) (after : NotesState)
-    (mark : Mark) (advances : Advances greatest shop s.layout j step s.rows rows s.notes after mark) (us : List ℕ)
+    (p : PlacementState) (placed : IsPlacement shop (placing shop w) p) (position : ℕ) (rows : Rows) (after : NotesState)
+    (mark : Mark) (advances : Advances greatest s.layout position s.rows rows s.notes after mark) (us : List ℕ)
     (estimates : AreEstimates s.top s.layout s.rows us) (raises : List Raise) (v : LaneState)
     (v_is : v ≡ record s { rows = rows; notes = after; estimates = us; raises = raises }) where
   pub noted_are : (list : List Note) → list ≡ v.notes.list → (noted : List Note)

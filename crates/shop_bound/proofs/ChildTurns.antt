@@ -12,6 +12,7 @@ use Rattle.shop_model.specs.Word.{Placing, IsWord, placing, place_next}
 use Rattle.shop_model.proofs.Ends.{IsOperation-job}
 use Rattle.shop_model.proofs.Unders.{next_operation, placing-snoc}
 use Rattle.shop_bound.specs.Bound.{lb}
+use Rattle.shop_bound.specs.Placements.{PlacementState, IsPlacement}
 use Rattle.shop_bound.specs.inner.BoundsUpTo.{IsBoundUpTo}
 use Rattle.shop_bound.specs.OneMachine.{one}
 use Rattle.shop_bound.specs.inner.ChildBounds.{IsLeastAfter}
@@ -64,24 +65,30 @@ notes_within greatest n k notes fit e i d here =
 pub its_job : (shop : Shop) (w : List ℕ) (j : ℕ) → IsWord shop (w ++ j ∷ []) → j < length shop.jobs
 its_job shop w j fits = IsOperation-job shop j _ (next_operation shop w j fits)
 
-module _ (greatest : ℕ) (shop : Shop) (l : LayoutState) (j step : ℕ) (rows rows' : Rows) (before after : NotesState)
-    (mark : Mark) (advances : Advances greatest shop l j step rows rows' before after mark) where
+-- the position, for each word that this is the placement of
+pub at_word : (shop : Shop) (l : LayoutState) (s : PlacementState) (w : List ℕ) (j : ℕ)
+    → IsPlacement shop (placing shop w) s → IsWord shop (w ++ j ∷ []) → (position : ℕ)
+    → position ≡ place l j (get_or s.steps j 0) → position ≡ place l j ((placing shop w).steps j)
+at_word shop l s w j placed fits position at = at ∙ ap (place l j) (placed.steps j (its_job shop w j fits))
+
+module _ (greatest : ℕ) (shop : Shop) (l : LayoutState) (j position : ℕ) (rows rows' : Rows) (before after : NotesState)
+    (mark : Mark) (advances : Advances greatest l position rows rows' before after mark) where
   -- the heads of the word with the operation
   pub next_heads : (w : List ℕ) → AreHeadsInLanes greatest shop w l rows → IsWord shop (w ++ j ∷ [])
-      → step ≡ (placing shop w).steps j → AreHeadsAt shop (place_next shop (placing shop w) j) l rows'.heads
+      → position ≡ place l j ((placing shop w).steps j) → AreHeadsAt shop (place_next shop (placing shop w) j) l rows'.heads
   next_heads w kept fits at = subst (λ (q : Placing). AreHeadsAt shop q l rows'.heads) (placing-snoc shop w j)
-      (advances.heads w kept fits at).heads
+      (advances.heads shop w j kept fits at).heads
 
   pub next_small : (top : ℕ) → top ≡ latest_end shop + 1 → (w : List ℕ) → AreHeadsInLanes greatest shop w l rows
-      → IsWord shop (w ++ j ∷ []) → step ≡ (placing shop w).steps j → (q : ℕ) → get_or rows'.heads q 0 ≤ top
+      → IsWord shop (w ++ j ∷ []) → position ≡ place l j ((placing shop w).steps j) → (q : ℕ) → get_or rows'.heads q 0 ≤ top
   next_small top is w kept fits at q =
       let a = heads_small shop kept.limits l kept.laid (w ++ j ∷ []) fits rows'.heads
-      (advances.heads w kept fits at).heads q in omega arith
+      (advances.heads shop w j kept fits at).heads q in omega arith
 
   -- what the raises of all notes cover, or else all that waits
   module _ (ms : List ℕ) (machines : AreMachinesAt l shop.machines ms) (noted : List Note)
       (is : noted ≡ advances.noted.more) (us : List ℕ) (top : ℕ) (top_is : top ≡ latest_end shop + 1)
-      (estimates : AreEstimates top l rows us) (position own end least limit b : ℕ) where
+      (estimates : AreEstimates top l rows us) (own end least limit b : ℕ) where
     abbrev pub AreRaisesCovered : List Raise → Type 0
     AreRaisesCovered raises = All (IsNoteCovered raises own end us least ms rows'.heads) noted
         × ((m : ℕ) → spans_between (raise_of raises m).from (raise_of raises m).to (lanes_on rows' l m) ≤ b + 1)
@@ -93,7 +100,7 @@ module _ (greatest : ℕ) (shop : Shop) (l : LayoutState) (j step : ℕ) (rows r
         → ((c : ℕ) → least ≤ c → ((m above upto : ℕ) → m < shop.machines
         → spans_between above upto (lanes_on rows' l m) ≤ c + 1) → b ≤ c)
         → (w : List ℕ) → AreHeadsInLanes greatest shop w l rows → IsWord shop (w ++ j ∷ [])
-        → step ≡ (placing shop w).steps j → IsLeastAfter shop w l rows j position own end least
+        → position ≡ place l j ((placing shop w).steps j) → IsLeastAfter shop w l rows j position own end least
         → IsBoundUpTo limit (lb shop (w ++ j ∷ [])) b
     raised_is by_raises by_all low inside w kept fits at after =
         let ends = after.ends in let end_is = after.next.end_is

@@ -1,13 +1,12 @@
 -- What a desk keeps, as operations are dispatched and taken back.
-use Rattle.std.proofs.Common.{◌≡◌, ℕ, ◌≤◌, ◌<◌, List, [], ◌∷◌, ◌++◌, length, take, drop, get_or, ap, sym, subst, ◌∙◌}
+use Rattle.std.proofs.Common.{◌≡◌, ℕ, ◌≤◌, List, [], ◌∷◌, ◌++◌, length, take, drop, ap, sym, subst, ◌∙◌}
 use Rattle.std.proofs.Common.{arith}
 use Rattle.std.specs.Prelude.{Vec}
 use Rattle.std.specs.declared.alloc.Global.{Global}
 use Rattle.std.proofs.lemmas.List.{append-nil, drop_all, take_all}
 use Rattle.shop_model.specs.Limits.{IsWithinLimits}
 use Rattle.shop_model.specs.Shop.{Shop, operation_count}
-use Rattle.shop_model.specs.Word.{Placing, IsWord, none_placed, placing}
-use Rattle.shop_model.proofs.Unders.{placing-snoc}
+use Rattle.shop_model.specs.Word.{IsWord, none_placed, placing}
 use Rattle.shop_bound.specs.inner.KeptDesks.{IsDesk}
 use Rattle.shop_bound.specs.Placements.{PlacementState, IsPlacement}
 use Rattle.shop_bound.specs.inner.NextSteps.{PlacesNext}
@@ -15,7 +14,6 @@ use Rattle.shop_bound.specs.inner.TakingBack.{TakesBack, TellsReplaced}
 use Rattle.shop_bound.specs.inner.Waitings.{HasNextWaiting, HasLastWaiting, IsWaiting, WaitsOn, WaitsBack}
 use Rattle.shop_bound.specs.declared.placements.Replaced.{Replaced}
 use Rattle.shop_bound.specs.declared.waiting.Waiting.{Waiting}
-use Rattle.shop_bound.proofs.ChildTurns.{its_job}
 use Rattle.shop_bound.proofs.Trails.{kept_more, kept_less, kept_none}
 
 -- a vector after a slice of all of it was written
@@ -37,38 +35,18 @@ written_long v given new e long =
 
 module _ (shop : Shop) (w : List ℕ) (s : PlacementState) (h : Waiting) (replaced : List Replaced) (jobs trail : ℕ)
     (d : IsDesk shop w s h replaced jobs trail) where
-  -- the step of the next operation, which is read
-  pub step_is : (j : ℕ) → IsWord shop (w ++ j ∷ []) → (step : ℕ) → step ≡ get_or s.steps j 0
-      → step ≡ (placing shop w).steps j
-  step_is j fits step read = read ∙ d.kept.placed.steps j (its_job shop w j fits)
-
-  pub has_steps : (j : ℕ) → IsWord shop (w ++ j ∷ []) → j < length s.steps
-  has_steps j fits = let a = its_job shop w j fits in let b = d.kept.placed.places.steps in omega arith
-
-  -- the placement with one more operation
-  next_is : (j : ℕ) (t : PlacementState) → PlacesNext shop j s t → IsPlacement shop (placing shop (w ++ j ∷ [])) t
-  next_is j t places = subst (λ (p : Placing). IsPlacement shop p t) (sym (placing-snoc shop w j))
-      (places (placing shop w) d.kept.placed)
-
-  pub waits_on : (j : ℕ) → IsWord shop (w ++ j ∷ []) → (step : ℕ) → step ≡ get_or s.steps j 0 → (t : PlacementState)
-      → PlacesNext shop j s t → HasNextWaiting shop t j step h
-  waits_on j fits step read t places = record {
-    word = w;
-    kept = d.lanes;
-    fits = fits;
-    at = step_is j fits step read;
-    placed = next_is j t places;
-  }
+  pub waits_on : (j : ℕ) → IsWord shop (w ++ j ∷ []) → HasNextWaiting j h
+  waits_on j fits = record { shop = shop; word = w; kept = d.lanes; fits = fits }
 
   pub desk_more : (j : ℕ) → IsWord shop (w ++ j ∷ []) → (r : Replaced) → TellsReplaced shop j s r
-      → (t : PlacementState) → PlacesNext shop j s t → (step : ℕ) → step ≡ get_or s.steps j 0 → (i : Waiting)
-      → WaitsOn shop t j step h i → (v : List ℕ) → v ≡ w ++ j ∷ [] → (rs : List Replaced)
+      → (t : PlacementState) → PlacesNext shop j s t → (i : Waiting)
+      → WaitsOn j h i → (v : List ℕ) → v ≡ w ++ j ∷ [] → (rs : List Replaced)
       → rs ≡ replaced ++ r ∷ [] → (jobs' trail' : ℕ) → jobs ≤ jobs' → trail ≤ trail'
       → IsDesk shop v t i rs jobs' trail'
-  desk_more j fits r tells t places step read i waits v pushed rs also jobs' trail' more more_also = record {
+  desk_more j fits r tells t places i waits v pushed rs also jobs' trail' more more_also = record {
     kept = kept_more shop w s replaced d.kept j fits r tells t places v pushed rs also;
     lanes = subst (λ (u : List ℕ). IsWaiting shop u i) (sym pushed)
-        (waits w d.lanes fits (step_is j fits step read) (next_is j t places));
+        (waits shop w d.lanes fits);
     jobs_room = (let a = d.jobs_room in omega arith);
     trail_room = (let a = d.trail_room in omega arith);
   }

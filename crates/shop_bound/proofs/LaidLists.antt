@@ -9,7 +9,7 @@ use Rattle.shop_model.specs.Shop.{Shop, machine_of}
 use Rattle.shop_bound.specs.declared.slots.Slot.{Slot}
 use Rattle.shop_bound.specs.Slots.{AreMachineSlots, AreSlotsOf}
 use Rattle.shop_bound.specs.inner.Layings.{AreCells, AreNoted, ArePlaces, AreShorter, HasRoutes, IsInRows, no_slot}
-use Rattle.shop_bound.specs.inner.Layings.{place_in}
+use Rattle.shop_bound.specs.inner.Layings.{AreMachinesOf, place_after, place_in, place_or}
 use Rattle.shop_bound.specs.inner.Layouts.{IsLaidOut, LayoutState}
 use Rattle.shop_bound.proofs.ApartSlots.{slots_few}
 use Rattle.shop_bound.proofs.SlotFacts.{slots_are_operations}
@@ -56,6 +56,43 @@ places_turn shop lists blocks n old new are known before slots is first from not
   ];
 }
 
+-- the positions of one more machine
+pub machines_turn : (blocks : List ℕ) (n : ℕ) (old new : List ℕ) (to : ℕ) → AreMachinesOf blocks n old
+    → to ≡ get_or blocks (n + 1) 0 → get_or blocks n 0 ≤ get_or blocks (n + 1) 0
+    → ((m : ℕ) → m < n → get_or blocks m 0 ≤ get_or blocks (m + 1) 0)
+    → length new ≡ 8 * to
+    → ((k d : ℕ) → k < 8 * to → k < length old → get_or new k d ≡ get_or old k d)
+    → ((k d : ℕ) → length old ≤ k → k < 8 * to → get_or new k d ≡ n)
+    → AreMachinesOf blocks (n + 1) new
+machines_turn blocks n old new to before is order orders long front behind =
+    let positions = before.positions
+    in record {
+      positions = omega arith;
+      known = λ q here. elim (cases_lt q (length old)) [
+        | inl a ↦ (let e = front q 0 (omega arith) a in let k = before.known q a in omega arith)
+        | inr a ↦ (let e = behind q 0 a (omega arith) in omega arith)
+      ];
+      at = λ m q known low high. elim (cases_eq m n) [
+        | inl e ↦ (let f : 8 * get_or blocks m 0 ≡ 8 * get_or blocks n 0 = ap (λ (x : ℕ). 8 * get_or blocks x 0) e
+            in let g : 8 * get_or blocks (m + 1) 0 ≡ 8 * get_or blocks (n + 1) 0 =
+            ap (λ (x : ℕ). 8 * get_or blocks (x + 1) 0) e
+            in let b = behind q 0 (omega arith) (omega arith) in omega arith)
+        | inr ne ↦ (let within = rises (m + 1) (n - (m + 1)) n (omega arith) (omega arith)
+            in let e = front q 0 (omega arith) (omega arith)
+            in let b = before.at m q (omega arith) low high in omega arith)
+      ];
+    }
+  where
+    rises : (a d b : ℕ) → a + d ≡ b → b ≤ n → get_or blocks a 0 ≤ get_or blocks b 0
+    rises a zero b e within =
+        let f : get_or blocks b 0 ≡ get_or blocks a 0 =
+        ap (λ (x : ℕ). get_or blocks x 0) (omega arith) in omega arith
+    rises a (suc d) b e within =
+        let x = rises a d (a + d) refl (omega arith)
+        in let y = orders (a + d) (omega arith)
+        in let f : get_or blocks b 0 ≡ get_or blocks (a + d + 1) 0 =
+        ap (λ (z : ℕ). get_or blocks z 0) (omega arith) in omega arith
+
 module _ (shop : Shop) (limits : IsWithinLimits shop) (lists : List (List Slot)) (are : AreMachineSlots shop lists)
     (cells : List Slot) (blocks : List ℕ) (laid : AreCells lists shop.machines cells blocks) where
   -- which machine a cell belongs to
@@ -70,7 +107,14 @@ module _ (shop : Shop) (limits : IsWithinLimits shop) (lists : List (List Slot))
         | inr l ↦ (k, omega arith, l, omega arith)
       ]
 
-  pub cells_known : All (λ s. (s.job < 1000) × (s.step < 100)) cells
+  -- where there are cells there is a job
+  jobs_known : 0 < length cells → 0 < length shop.jobs
+  jobs_known any =
+      let x = laid.some any
+      in let op = slots_are_operations shop x.0 (get_or lists x.0 []) (are.slots x.0 x.1) 0 no_slot x.2
+      in let job = op.job in omega arith
+
+  pub cells_known : All (λ s. (s.job < length shop.jobs) × (s.step < 100)) cells
   cells_known q d here =
       let whole = laid.whole
       in let at = machine_at shop.machines q (omega arith) (omega arith)
@@ -91,8 +135,13 @@ module _ (shop : Shop) (limits : IsWithinLimits shop) (lists : List (List Slot))
             in (omega arith, omega arith))
         | inr l ↦ (let is : get_or cells q d ≡ no_slot = same ∙ list.padding q l high
             in let a = ap (λ (s : Slot). s.job) is in let b = ap (λ (s : Slot). s.step) is
+            in let some = jobs_known (omega arith)
             in (omega arith, omega arith))
       ]
+
+  -- the blocks of the machines stand one after another
+  pub blocks_rise : (m : ℕ) → m < shop.machines → get_or blocks m 0 ≤ get_or blocks (m + 1) 0
+  blocks_rise m known = let room = (laid.each m known).room in omega arith
 
   pub blocks_few : All (λ b. b ≤ 10000800) blocks
   blocks_few k d here =
@@ -116,8 +165,10 @@ module _ (shop : Shop) (limits : IsWithinLimits shop) (lists : List (List Slot))
 
   pub laid_out : (rows : List (List ℕ)) → ArePlaces shop lists blocks shop.machines rows → (l : LayoutState)
       → l.jobs ≡ map (λ s. s.job) cells → l.steps ≡ map (λ s. s.step) cells → l.times ≡ map (λ s. s.time) cells
-      → l.tails ≡ map (λ s. s.tail) cells → l.places ≡ rows → l.blocks ≡ blocks → IsLaidOut shop l
-  laid_out rows placed l jobs steps times tails places is =
+      → l.tails ≡ map (λ s. s.tail) cells → l.places ≡ rows → l.blocks ≡ blocks
+      → AreMachinesOf blocks shop.machines l.machines → l.following ≡ map (place_after (length cells) rows) cells
+      → IsLaidOut shop l
+  laid_out rows placed l jobs steps times tails places is machines following =
       let block : (m : ℕ) → 8 * get_or l.blocks m 0 ≡ 8 * get_or blocks m 0 =
       (λ m. ap (λ (xs : List ℕ). 8 * get_or xs m 0) is)
       in let whole = laid.whole
@@ -137,6 +188,7 @@ module _ (shop : Shop) (limits : IsWithinLimits shop) (lists : List (List Slot))
           steps = ap length steps ∙ (length-map cells (λ s. s.step) ∙ many);
           times = ap length times ∙ (length-map cells (λ s. s.time) ∙ many);
           tails = ap length tails ∙ (length-map cells (λ s. s.tail) ∙ many);
+          following = ap length following ∙ (length-map cells (place_after (length cells) rows) ∙ many);
         };
         each = λ m known. (let list = laid.each m known
             in let a = block m in let b = block (m + 1) in let room = list.room
@@ -163,4 +215,15 @@ module _ (shop : Shop) (limits : IsWithinLimits shop) (lists : List (List Slot))
             });
         jobs = ap length places ∙ placed.shape.jobs;
         routes = λ j. ap (λ (xs : List (List ℕ)). length (get_or xs j [])) places ∙ placed.shape.routes j;
+        machines_at = subst (λ (bs : List ℕ). AreMachinesOf bs shop.machines l.machines) (sym is) machines;
+        known = λ q here. (let a = job q in let b = cells_known q no_slot (omega arith) in let d = b.0 in omega arith);
+        follows = λ q here. ap (λ (xs : List ℕ). get_or xs q 0) following
+            ∙ (get_or-map (place_after (length cells) rows) cells q no_slot 0 (omega arith)
+            ∙ (ap (λ (n : ℕ). place_after n rows (get_or cells q no_slot)) many
+            ∙ (ap (λ (xs : List (List ℕ)). place_after (8 * get_or l.blocks shop.machines 0) xs
+            (get_or cells q no_slot)) (sym places)
+            ∙ (ap (λ (j : ℕ). place_or (8 * get_or l.blocks shop.machines 0) l.places j
+            ((get_or cells q no_slot).step + 1)) (sym (job q))
+            ∙ ap (λ (k : ℕ). place_or (8 * get_or l.blocks shop.machines 0) l.places (get_or l.jobs q 0) (k + 1))
+            (sym (step q))))));
       }

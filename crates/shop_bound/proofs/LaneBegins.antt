@@ -9,7 +9,7 @@ use Rattle.std.proofs.lemmas.List.{get_or-drop, length-drop, length-take-le}
 use Rattle.shop_lanes.specs.Rows.{Rows, at_rest}
 use Rattle.shop_model.specs.Limits.{IsWithinLimits}
 use Rattle.shop_model.specs.Shop.{Shop, operation_count}
-use Rattle.shop_model.specs.Word.{IsWord, none_placed}
+use Rattle.shop_model.specs.Word.{IsWord, none_placed, placing}
 use Rattle.shop_bound.specs.inner.HeadLimits.{FitsLanes}
 use Rattle.shop_bound.proofs.LaneEstimates.{no_estimates}
 use Rattle.shop_bound.proofs.LatestEnds.{latest_end_is}
@@ -18,12 +18,14 @@ use Rattle.shop_bound.specs.Placements.{PlacementState, IsPlacement}
 use Rattle.shop_bound.specs.declared.head_raises.Raise.{Raise}
 use Rattle.shop_bound.specs.declared.notes.Mark.{Mark}
 use Rattle.shop_bound.specs.inner.Fills.{CanFill, HasFilled, IsRested}
+use Rattle.shop_bound.specs.inner.LaneChoices.{AreNextsOf}
 use Rattle.shop_bound.specs.inner.LaneEnds.{AreEndsOf, CanKeepEnds, HasEnds}
 use Rattle.shop_bound.specs.inner.LaneHeads.{AreHeadsFit, NotesState}
 use Rattle.shop_bound.specs.inner.LaneStates.{AreHeadsInLanes, HasBounds, IsKeptInLanes}
-use Rattle.shop_bound.specs.inner.Layouts.{LayoutState, place, first_of, IsLaidOut}
+use Rattle.shop_bound.specs.inner.Layings.{place_or}
+use Rattle.shop_bound.specs.inner.Layouts.{LayoutState, place, first_of, AreFirsts, IsLaidOut}
 use Rattle.shop_bound.proofs.LaidPlaces.{place_of, cell_at, machine_at, machines_rise}
-use Rattle.shop_bound.proofs.LaneEnds.{can_keep, ends_at, steps_of_placement, with_ends}
+use Rattle.shop_bound.proofs.LaneEnds.{can_keep, ends_at, with_ends}
 
 pub no_word : (shop : Shop) → IsWord shop []
 no_word shop j = omega arith
@@ -119,50 +121,58 @@ module _ (greatest : ℕ) (shop : Shop) (limits : IsWithinLimits shop) (l : Layo
         let a = ap length filled.beside.ends in let b = ap (λ (r : Rows). length r.ends) resting
         in omega (arith, length-replicate jobs none)
 
+    firsts_are : (nexts : List ℕ) → AreFirsts l (length shop.jobs) nexts → AreNextsOf shop (placing shop []) l nexts
+    firsts_are nexts firsts = record {
+      jobs = firsts.jobs;
+      are = λ j known. firsts.are j known ∙ ap (λ (n : ℕ). place_or n l.places j 0) laid.positions.following;
+    }
+
     pub ends_begin : (rows : Rows) → HasFilled shop l p rest rows → jobs ≡ length shop.jobs
-        → CanKeepEnds greatest l p.steps rows
-    ends_begin rows filled many =
-        can_keep greatest shop [] l rows (heads_none rows filled) p.steps
-        (steps_of_placement shop (none_placed shop) p placed) (ends_none rows filled many)
+        → (nexts : List ℕ) → AreFirsts l (length shop.jobs) nexts → CanKeepEnds greatest l nexts rows
+    ends_begin rows filled many nexts firsts =
+        can_keep greatest shop [] l rows (heads_none rows filled) nexts (firsts_are nexts firsts)
+        (ends_none rows filled many)
 
     pub kept_none : (filled_rows : Rows) → HasFilled shop l p rest filled_rows → jobs ≡ length shop.jobs → (rows : Rows)
-        → HasEnds filled_rows rows → AreEndsOf greatest l p.steps rows → (notes : NotesState)
+        → HasEnds filled_rows rows → (nexts : List ℕ) → AreFirsts l (length shop.jobs) nexts
+        → AreEndsOf greatest nexts rows → (notes : NotesState)
         → notes ≡ record { list = []; whole = true } → (marks : List Mark) → marks ≡ [] → (room : ℕ)
-        → operation_count shop ≤ room → (machines : List ℕ) (raises : List Raise) (top : ℕ)
-        → HasBounds greatest shop l machines raises top → (us : List ℕ) → us ≡ []
+        → operation_count shop ≤ room → (raises : List Raise) (top : ℕ)
+        → HasBounds greatest shop l raises top → (us : List ℕ) → us ≡ []
         → IsKeptInLanes greatest shop []
         (record {
           layout = l;
           rows = rows;
+          nexts = nexts;
           notes = notes;
           marks = marks;
           room = room;
-          machines = machines;
           raises = raises;
           estimates = us;
           top = top;
         })
-    kept_none filled_rows filled many rows beside ends notes begun marks none_marked room enough machines raises top
+    kept_none filled_rows filled many rows beside nexts firsts ends notes begun marks none_marked room enough raises top
         bounds us none_taken =
         let heads = with_ends greatest shop [] l filled_rows rows beside (heads_none filled_rows filled)
         in let none : IsKeptInLanes greatest shop [] (record {
           layout = l;
           rows = rows;
+          nexts = nexts;
           notes = record { list = []; whole = true };
           marks = [];
           room = room;
-          machines = machines;
           raises = raises;
           estimates = us;
           top = top;
         }) = record {
           kept = heads;
+          nexts = firsts_are nexts firsts;
           notes_fit = tt;
           trail = refl;
           as_many = refl;
           marks_room = enough;
           bounds = bounds;
-          ends = ends_at greatest shop [] l rows heads p.steps (steps_of_placement shop (none_placed shop) p placed)
+          ends = ends_at greatest shop [] l rows heads nexts (firsts_are nexts firsts)
               (beside.ends ∙ ends_none filled_rows filled many) bounds.holds ends;
           estimates = no_estimates top l rows us none_taken;
         }
@@ -170,10 +180,10 @@ module _ (greatest : ℕ) (shop : Shop) (limits : IsWithinLimits shop) (l : Layo
         (record {
           layout = l;
           rows = rows;
+          nexts = nexts;
           notes = n;
           marks = marks;
           room = room;
-          machines = machines;
           raises = raises;
           estimates = us;
           top = top;
@@ -181,10 +191,10 @@ module _ (greatest : ℕ) (shop : Shop) (limits : IsWithinLimits shop) (l : Layo
         (subst (λ (ms : List Mark). IsKeptInLanes greatest shop [] (record {
           layout = l;
           rows = rows;
+          nexts = nexts;
           notes = record { list = []; whole = true };
           marks = ms;
           room = room;
-          machines = machines;
           raises = raises;
           estimates = us;
           top = top;

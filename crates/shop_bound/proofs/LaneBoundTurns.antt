@@ -12,8 +12,7 @@ use Rattle.shop_lanes.proofs.LaneLists.{length-blocks}
 use Rattle.shop_lanes.proofs.SpanTurns.{spans_low, spans_high}
 use Rattle.shop_bound.specs.inner.Estimates.{IsNoteCovered}
 use Rattle.shop_bound.specs.inner.HeadRaises.{no_raise, raise_of, widened}
-use Rattle.shop_bound.specs.inner.LaneBounds.{NoneBelow, AreMachinesAt, AreRaisesUpTo, IsNoteWithin}
-use Rattle.shop_bound.specs.inner.Layouts.{LayoutState, first_of}
+use Rattle.shop_bound.specs.inner.LaneBounds.{NoneBelow, AreRaisesUpTo, IsNoteWithin}
 use Rattle.shop_bound.specs.declared.head_raises.Raise.{Raise}
 use Rattle.shop_bound.specs.declared.notes.Note.{Note}
 
@@ -143,39 +142,3 @@ pub none_waits : (raises : List Raise) (ms heads : List ℕ) (note : Note) → g
     → IsNoteWithin raises ms heads note
 none_waits raises ms heads note none =
     record { from = λ some. absurd (omega arith); to = λ some. absurd (omega arith) }
-
--- the positions of one more machine
-pub machines_turn : (l : LayoutState) (n : ℕ) (old new : List ℕ) (to : ℕ) → AreMachinesAt l n old
-    → to ≡ get_or l.blocks (n + 1) 0 → get_or l.blocks n 0 ≤ get_or l.blocks (n + 1) 0
-    → ((m : ℕ) → m < n → get_or l.blocks m 0 ≤ get_or l.blocks (m + 1) 0)
-    → length new ≡ 8 * to
-    → ((k d : ℕ) → k < 8 * to → k < length old → get_or new k d ≡ get_or old k d)
-    → ((k d : ℕ) → length old ≤ k → k < 8 * to → get_or new k d ≡ n)
-    → AreMachinesAt l (n + 1) new
-machines_turn l n old new to before is order orders long front behind =
-    let positions = before.positions
-    in record {
-      positions = omega arith;
-      known = λ q here. elim (cases_lt q (length old)) [
-        | inl a ↦ (let e = front q 0 (omega arith) a in let k = before.known q a in omega arith)
-        | inr a ↦ (let e = behind q 0 a (omega arith) in omega arith)
-      ];
-      at = λ m q known low high. elim (cases_eq m n) [
-        | inl e ↦ (let f : first_of l m ≡ first_of l n = ap (first_of l) e
-            in let g : first_of l (m + 1) ≡ first_of l (n + 1) = ap (λ (x : ℕ). first_of l (x + 1)) e
-            in let b = behind q 0 (omega arith) (omega arith) in omega arith)
-        | inr ne ↦ (let within = rises (m + 1) (n - (m + 1)) n (omega arith) (omega arith)
-            in let e = front q 0 (omega arith) (omega arith)
-            in let b = before.at m q (omega arith) low high in omega arith)
-      ];
-    }
-  where
-    rises : (a d b : ℕ) → a + d ≡ b → b ≤ n → get_or l.blocks a 0 ≤ get_or l.blocks b 0
-    rises a zero b e within =
-        let f : get_or l.blocks b 0 ≡ get_or l.blocks a 0 =
-        ap (λ (x : ℕ). get_or l.blocks x 0) (omega arith) in omega arith
-    rises a (suc d) b e within =
-        let x = rises a d (a + d) refl (omega arith)
-        in let y = orders (a + d) (omega arith)
-        in let f : get_or l.blocks b 0 ≡ get_or l.blocks (a + d + 1) 0 =
-        ap (λ (z : ℕ). get_or l.blocks z 0) (omega arith) in omega arith

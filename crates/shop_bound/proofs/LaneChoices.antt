@@ -2,12 +2,12 @@
 use Rattle.std.proofs.Common.{◌≡◌, ℕ, ◌+◌, ◌*◌, ◌-◌, ◌≤◌, ◌<◌, ◌⊎◌, inl, inr, List, [], ◌∷◌, length}
 use Rattle.std.proofs.Common.{get_or, take, drop, refl, sym, ◌∙◌, ap, subst, arith, ltb}
 use Rattle.std.proofs.lemmas.Bool.{cases_lt, and_from, and_parts, lt-ltb, ltb-true}
-use Rattle.std.proofs.lemmas.List.{get_or-take, get_or-drop, length-take-le, length-drop}
+use Rattle.std.proofs.lemmas.List.{get_or_past, get_or-take, get_or-drop, length-take-le, length-drop}
 use Rattle.shop_lanes.specs.Rows.{Rows}
 use Rattle.shop_lanes.specs.Marks.{marked, waits_below, positions_below}
-use Rattle.shop_bound.specs.inner.Layouts.{LayoutState, place}
-use Rattle.shop_bound.specs.inner.LaneChoices.{next_place, IsNextBelow, AreNextPlaced}
-use Rattle.shop_bound.specs.inner.Raises.{steps_of, IsInBlocks, IsPlace, IsStepAt}
+use Rattle.shop_bound.specs.inner.Layouts.{LayoutState}
+use Rattle.shop_bound.specs.inner.LaneChoices.{IsNextBelow, AreNextPlaced}
+use Rattle.shop_bound.specs.inner.Raises.{IsInBlocks}
 use Rattle.shop_bound.specs.inner.RisingLists.{IsIn, HasGathered, HasPut}
 use Rattle.shop_bound.proofs.RaiseLoops.{marked_in, marked_out}
 
@@ -56,142 +56,127 @@ module _ (rows : Rows) (from to limit : ℕ) (ordered : from ≤ to) (within : 8
       in record { there = (omega arith, omega arith); waits = omega arith; below = omega arith }
 
 -- what is gathered while some positions are still to come
-pub record AreGathering (l : LayoutState) (steps heads : List ℕ) (from to limit : ℕ) (todo old now : List ℕ) : Type 0
+pub record AreGathering (nexts heads : List ℕ) (from to limit : ℕ) (todo old now : List ℕ) : Type 0
   where
     pub to_come : (q : ℕ) → IsIn todo q → IsBelow heads from to limit q
     pub kept : (j : ℕ) → IsIn old j → IsIn now j
-    pub gathered : (j : ℕ) → IsNextBelow l steps heads (IsInBlocks from to) limit j
-        → IsIn now j ⊎ IsIn todo (next_place l steps j)
-    pub only : (j : ℕ) → IsIn now j → IsIn old j ⊎ IsNextBelow l steps heads (IsInBlocks from to) limit j
+    pub gathered : (j : ℕ) → IsNextBelow nexts heads (IsInBlocks from to) limit j
+        → IsIn now j ⊎ IsIn todo (get_or nexts j 0)
+    pub only : (j : ℕ) → IsIn now j → IsIn old j ⊎ IsNextBelow nexts heads (IsInBlocks from to) limit j
 
-module _ (l : LayoutState) (steps heads : List ℕ) (placed : AreNextPlaced l heads steps) where
-  -- what stands at the position of a next operation
-  next_at : (j : ℕ) → get_or steps j 0 < steps_of l j → IsStepAt l (next_place l steps j) j (get_or steps j 0)
-  next_at j step = placed.indexed.step j (get_or steps j 0) step
-
+module _ (l : LayoutState) (nexts heads : List ℕ) (placed : AreNextPlaced l heads nexts) where
   module _ (from to limit : ℕ) where
     pub gathering_begins : (rows : Rows) → rows.heads ≡ heads → from ≤ to → 8 * to ≤ length heads
         → (todo old : List ℕ) → todo ≡ positions_below rows from to limit
-        → AreGathering l steps heads from to limit todo old old
+        → AreGathering nexts heads from to limit todo old old
     gathering_begins rows are ordered within todo old is =
         let high : 8 * to ≤ length rows.heads = (let a = ap (λ (xs : List ℕ). length xs) are in omega arith)
         in record {
           to_come = λ q h. subst (λ (xs : List ℕ). IsBelow xs from to limit q) are
               (in_is_below rows from to limit ordered high q (subst (λ (xs : List ℕ). IsIn xs q) is h));
           kept = λ j h. h;
-          gathered = λ j next. inr (subst (λ (xs : List ℕ). IsIn xs (next_place l steps j)) (sym is)
-              (below_is_in rows from to limit ordered high (next_place l steps j)
-              (subst (λ (xs : List ℕ). IsBelow xs from to limit (next_place l steps j)) (sym are)
+          gathered = λ j next. inr (subst (λ (xs : List ℕ). IsIn xs (get_or nexts j 0)) (sym is)
+              (below_is_in rows from to limit ordered high (get_or nexts j 0)
+              (subst (λ (xs : List ℕ). IsBelow xs from to limit (get_or nexts j 0)) (sym are)
               (record { there = next.there; waits = next.waits; below = next.below }))));
           only = λ j h. inl h;
         }
 
-    pub gathering_ends : (todo old now : List ℕ) → todo ≡ [] → AreGathering l steps heads from to limit todo old now
-        → HasGathered (IsNextBelow l steps heads (IsInBlocks from to) limit) old now
+    pub gathering_ends : (todo old now : List ℕ) → todo ≡ [] → AreGathering nexts heads from to limit todo old now
+        → HasGathered (IsNextBelow nexts heads (IsInBlocks from to) limit) old now
     gathering_ends todo old now none so_far = record {
       kept = so_far.kept;
       gathered = λ j next. elim (so_far.gathered j next) [
         | inl h ↦ h
-        | inr h ↦ absurd (subst (λ (xs : List ℕ). IsIn xs (next_place l steps j)) none h)
+        | inr h ↦ absurd (subst (λ (xs : List ℕ). IsIn xs (get_or nexts j 0)) none h)
       ];
       only = so_far.only;
     }
 
-    module _ (todo old now : List ℕ) (so_far : AreGathering l steps heads from to limit todo old now) (q : ℕ)
+    module _ (todo old now : List ℕ) (so_far : AreGathering nexts heads from to limit todo old now) (q : ℕ)
         (rest : List ℕ) (popped : todo ≡ q ∷ rest) where
       popped_below : IsBelow heads from to limit q
       popped_below = so_far.to_come q (subst (λ (xs : List ℕ). IsIn xs q) (sym popped) (inl refl))
 
-      pub popped_place : IsPlace l q
-      popped_place = placed.places q popped_below.waits
+      popped_within : q < length heads
+      popped_within = elim (cases_lt q (length heads)) [
+        | inl here ↦ here
+        | inr past ↦ absurd (let a = popped_below.waits in let b = get_or_past heads q 0 past in omega arith)
+      ]
 
-      popped_at : IsStepAt l q (get_or l.jobs q 0) (get_or l.steps q 0)
-      popped_at = subst (λ (x : ℕ). IsStepAt l x (get_or l.jobs q 0) (get_or l.steps q 0)) popped_place.is
-          (placed.indexed.step (get_or l.jobs q 0) (get_or l.steps q 0) popped_place.step)
+      pub position_known : q < length l.jobs
+      position_known = let a = placed.positions in let b = popped_within in omega arith
 
-      pub position_known : (q < length l.jobs) × (q < length l.steps)
-      position_known = let a = popped_at.within in let b = placed.indexed.jobs in let d = placed.indexed.steps
-          in (a, omega arith)
-
-      pub job_known : get_or l.jobs q 0 < length steps
-      job_known = let a = popped_place.job in let b = placed.jobs in omega arith
+      pub job_known : get_or l.jobs q 0 < length nexts
+      job_known = placed.jobs q popped_within
 
       left_to_come : (r : ℕ) → IsIn rest r → IsBelow heads from to limit r
       left_to_come r h = so_far.to_come r (subst (λ (xs : List ℕ). IsIn xs r) (sym popped) (inr h))
 
       -- whose next operation stands there
-      whose : (j : ℕ) → IsNextBelow l steps heads (IsInBlocks from to) limit j → next_place l steps j ≡ q
-          → (j ≡ get_or l.jobs q 0) × (get_or steps j 0 ≡ get_or l.steps q 0)
+      whose : (j : ℕ) → IsNextBelow nexts heads (IsInBlocks from to) limit j → get_or nexts j 0 ≡ q
+          → j ≡ get_or l.jobs q 0
       whose j next e =
-          let at = next_at j next.step
-          in (sym at.job ∙ ap (λ (x : ℕ). get_or l.jobs x 0) e, sym at.step ∙ ap (λ (x : ℕ). get_or l.steps x 0) e)
+          let within = popped_within
+          in sym (placed.own j next.job (omega arith)) ∙ ap (λ (x : ℕ). get_or l.jobs x 0) e
 
-      here_or_left : (j : ℕ) → IsIn todo (next_place l steps j)
-          → (next_place l steps j ≡ q) ⊎ IsIn rest (next_place l steps j)
-      here_or_left j h = subst (λ (xs : List ℕ). IsIn xs (next_place l steps j)) popped h
+      here_or_left : (j : ℕ) → IsIn todo (get_or nexts j 0)
+          → (get_or nexts j 0 ≡ q) ⊎ IsIn rest (get_or nexts j 0)
+      here_or_left j h = subst (λ (xs : List ℕ). IsIn xs (get_or nexts j 0)) popped h
 
       -- it is no next operation
-      pub gathering_past : (get_or l.steps q 0 ≡ get_or steps (get_or l.jobs q 0) 0 → ⊥)
-          → AreGathering l steps heads from to limit rest old now
+      pub gathering_past : (get_or nexts (get_or l.jobs q 0) 0 ≡ q → ⊥)
+          → AreGathering nexts heads from to limit rest old now
       gathering_past other = record {
         to_come = left_to_come;
         kept = so_far.kept;
         gathered = λ j next. elim (so_far.gathered j next) [
           | inl h ↦ inl h
           | inr h ↦ elim (here_or_left j h) [
-            | inl e ↦ (let w = whose j next e
-                in absurd (other (sym w.1 ∙ ap (λ (x : ℕ). get_or steps x 0) w.0)))
+            | inl e ↦ absurd (other (ap (λ (x : ℕ). get_or nexts x 0) (sym (whose j next e)) ∙ e))
             | inr g ↦ inr g
           ]
         ];
         only = so_far.only;
       }
 
-      next_here : get_or l.steps q 0 ≡ get_or steps (get_or l.jobs q 0) 0
-          → IsNextBelow l steps heads (IsInBlocks from to) limit (get_or l.jobs q 0)
+      next_here : get_or nexts (get_or l.jobs q 0) 0 ≡ q
+          → IsNextBelow nexts heads (IsInBlocks from to) limit (get_or l.jobs q 0)
       next_here e =
-          let j = get_or l.jobs q 0
-          in let at : next_place l steps j ≡ q = ap (place l j) (sym e) ∙ popped_place.is
-          in let low = popped_below
-          in let is = subst (λ (x : ℕ). IsBelow heads from to limit x) (sym at) low
-          in record {
-            step = (let a = popped_place.step in omega arith);
-            there = is.there;
-            waits = is.waits;
-            below = is.below;
-          }
+          let is = subst (λ (x : ℕ). IsBelow heads from to limit x) (sym e) popped_below
+          in record { job = job_known; there = is.there; waits = is.waits; below = is.below }
 
-      pub gathering_on : get_or l.steps q 0 ≡ get_or steps (get_or l.jobs q 0) 0 → (new : List ℕ)
-          → HasPut (get_or l.jobs q 0) now new → AreGathering l steps heads from to limit rest old new
+      pub gathering_on : get_or nexts (get_or l.jobs q 0) 0 ≡ q → (new : List ℕ)
+          → HasPut (get_or l.jobs q 0) now new → AreGathering nexts heads from to limit rest old new
       gathering_on same new put = record {
         to_come = left_to_come;
         kept = λ j h. put.kept j (so_far.kept j h);
         gathered = λ j next. elim (so_far.gathered j next) [
           | inl h ↦ inl (put.kept j h)
           | inr h ↦ elim (here_or_left j h) [
-            | inl e ↦ inl (put.gathered j (whose j next e).0)
+            | inl e ↦ inl (put.gathered j (whose j next e))
             | inr g ↦ inr g
           ]
         ];
         only = λ j h. elim (put.only j h) [
           | inl g ↦ so_far.only j g
-          | inr e ↦ inr (subst (IsNextBelow l steps heads (IsInBlocks from to) limit) (sym e) (next_here same))
+          | inr e ↦ inr (subst (IsNextBelow nexts heads (IsInBlocks from to) limit) (sym e) (next_here same))
         ];
       }
 
 -- some blocks, and those behind them
-module _ (l : LayoutState) (steps heads : List ℕ) (limit : ℕ) where
+module _ (nexts heads : List ℕ) (limit : ℕ) where
   moved : (among others : ℕ → Type 0) → ((q : ℕ) → among q → others q) → (j : ℕ)
-      → IsNextBelow l steps heads among limit j → IsNextBelow l steps heads others limit j
+      → IsNextBelow nexts heads among limit j → IsNextBelow nexts heads others limit j
   moved among others in_others j next = record {
-    step = next.step;
-    there = in_others (next_place l steps j) next.there;
+    job = next.job;
+    there = in_others (get_or nexts j 0) next.there;
     waits = next.waits;
     below = next.below;
   }
 
   pub none_gathered : (from : ℕ) (old : List ℕ)
-      → HasGathered (IsNextBelow l steps heads (IsInBlocks from from) limit) old old
+      → HasGathered (IsNextBelow nexts heads (IsInBlocks from from) limit) old old
   none_gathered from old = record {
     kept = λ j h. h;
     gathered = λ j next. (let a = next.there.0 in let b = next.there.1 in absurd (omega arith));
@@ -199,20 +184,20 @@ module _ (l : LayoutState) (steps heads : List ℕ) (limit : ℕ) where
   }
 
   pub more_gathered : (first from to : ℕ) (old now new : List ℕ) → first ≤ from → from ≤ to
-      → HasGathered (IsNextBelow l steps heads (IsInBlocks first from) limit) old now
-      → HasGathered (IsNextBelow l steps heads (IsInBlocks from to) limit) now new
-      → HasGathered (IsNextBelow l steps heads (IsInBlocks first to) limit) old new
+      → HasGathered (IsNextBelow nexts heads (IsInBlocks first from) limit) old now
+      → HasGathered (IsNextBelow nexts heads (IsInBlocks from to) limit) now new
+      → HasGathered (IsNextBelow nexts heads (IsInBlocks first to) limit) old new
   more_gathered first from to old now new low high before then = record {
     kept = λ j h. then.kept j (before.kept j h);
-    gathered = λ j next. elim (cases_lt (next_place l steps j) (8 * from)) [
+    gathered = λ j next. elim (cases_lt (get_or nexts j 0) (8 * from)) [
       | inl lt ↦ then.kept j (before.gathered j (record {
-        step = next.step;
+        job = next.job;
         there = (next.there.0, lt);
         waits = next.waits;
         below = next.below;
       }))
       | inr ge ↦ then.gathered j (record {
-        step = next.step;
+        job = next.job;
         there = (ge, next.there.1);
         waits = next.waits;
         below = next.below;

@@ -5,21 +5,22 @@ use Rattle.std.proofs.Common.{length, get_or, max, refl, sym, ◌∙◌, ap, sub
 use Rattle.std.specs.List.{filter, range_with_len, best_of}
 use Rattle.std.proofs.lemmas.Bool.{cases_Bool, cases_eq, cases_lt, and_from, and_parts, lt-ltb, le-ltb, ltb-true}
 use Rattle.std.proofs.lemmas.Bool.{or_left, or_right, eq-eqb, eqb-true}
+use Rattle.std.proofs.lemmas.List.{get_or_past}
 use Rattle.shop_lanes.specs.Ends.{IsFirstLeast}
 use Rattle.shop_lanes.specs.Rows.{Rows}
-use Rattle.shop_model.specs.declared.ops.Op.{Op}
-use Rattle.shop_model.specs.Shop.{Shop, no_op, IsOperation, route_of, machine_of, time_of}
+use Rattle.shop_model.specs.Shop.{Shop, IsOperation, route_of, machine_of, time_of}
 use Rattle.shop_model.specs.Word.{Placing}
 use Rattle.shop_model.proofs.Ends.{IsOperation-job}
 use Rattle.shop_bound.specs.Conflicts.{open_jobs, next_machine, next_head, next_end, conflicts_with}
 use Rattle.shop_bound.specs.Conflicts.{conflict_among}
 use Rattle.shop_bound.specs.Heads.{head_of, ready_after}
-use Rattle.shop_bound.specs.inner.LaneChoices.{next_place, AreChoosable, AreNextPlaced, AreNextsAt, IsNextBelow}
+use Rattle.shop_bound.specs.inner.LaneChoices.{AreChoosable, AreNextPlaced, AreNextsAt, IsNextBelow}
 use Rattle.shop_bound.specs.inner.Layouts.{LayoutState, place, first_of}
 use Rattle.shop_bound.specs.inner.Raises.{HasBlocks, IsOnMachine}
 use Rattle.shop_bound.specs.inner.RisingLists.{IsIn, Rises, IsRisingBelow, HasGathered, HasPut}
-use Rattle.shop_bound.proofs.LaidPlaces.{place_of, each_position, on_machine}
-use Rattle.shop_bound.proofs.RaisedHeads.{indexed, has_blocks, is_place}
+use Rattle.shop_bound.proofs.LaidPlaces.{place_of, on_machine}
+use Rattle.shop_bound.proofs.Followed.{place_past, place_there}
+use Rattle.shop_bound.proofs.RaisedHeads.{has_blocks}
 use Rattle.shop_bound.proofs.RisingLists.{one_rising}
 
 -- the first of the least, going through a list
@@ -124,29 +125,32 @@ either : (a b : Bool) → (a || b) ≡ true → (a ≡ true) ⊎ (b ≡ true)
 either true b e = inl refl
 either false b e = inr e
 
-module _ (shop : Shop) (p : Placing) (l : LayoutState) (steps : List ℕ) (rows : Rows)
-    (can : AreNextsAt shop p l steps rows) where
-  pub next_placed : AreNextPlaced l rows.heads steps
+module _ (shop : Shop) (p : Placing) (l : LayoutState) (nexts : List ℕ) (rows : Rows)
+    (can : AreNextsAt shop p l nexts rows) where
+  -- the next operation of a job, or none, and what stands where it waits
+  pub next_there : (j : ℕ) → IsOperation shop j (p.steps j) → get_or nexts j 0 ≡ place l j (p.steps j)
+  next_there j op =
+      let route = can.laid.routes j
+      in can.are.are j (IsOperation-job shop j (p.steps j) op)
+      ∙ place_there l (first_of l shop.machines) j (p.steps j) (omega arith)
+
+  pub next_op : (j : ℕ) → j < length shop.jobs → get_or nexts j 0 < length rows.heads → IsOperation shop j (p.steps j)
+  next_op j known below = elim (cases_lt (p.steps j) (length (route_of shop j))) [
+    | inl op ↦ op
+    | inr past ↦ absurd (let route = can.laid.routes j in let a = can.are.are j known
+        in let b = place_past l (first_of l shop.machines) j (p.steps j) (omega arith)
+        in let d = can.heads.positions in omega arith)
+  ]
+
+  pub next_placed : AreNextPlaced l rows.heads nexts
   next_placed = record {
-    indexed = indexed shop can.limits l can.laid (length rows.heads) can.heads.positions;
-    jobs = can.jobs ∙ sym can.laid.jobs;
-    places = λ q waits. elim (each_position shop can.limits l can.laid q) [
-      | inl o ↦ is_place shop can.limits l can.laid o.job o.step q o.is o.at
-      | inr free ↦ (let a = can.heads.padding q free in absurd (omega arith))
-    ];
+    positions = can.laid.positions.jobs ∙ sym can.heads.positions;
+    jobs = λ q here. (let a = can.heads.positions in let b = can.laid.known q (omega arith) in let d = can.are.jobs
+        in omega arith);
+    own = λ j known here. (let many = can.are.jobs in let op = next_op j (omega arith) here
+        in ap (λ (x : ℕ). get_or l.jobs x 0) (next_there j op)
+        ∙ (place_of shop can.limits l can.laid j (p.steps j) op).job);
   }
-
-  -- the next operation of a job, and what stands where it waits
-  step_is : (j : ℕ) → j < length shop.jobs → get_or steps j 0 ≡ p.steps j
-  step_is j known = can.steps j known
-
-  pub open_from : (j : ℕ) → get_or steps j 0 < length (route_of shop j) → IsOperation shop j (p.steps j)
-  open_from j below =
-      let known = IsOperation-job shop j (get_or steps j 0) below
-      in let e = step_is j known in omega arith
-
-  place_is : (j : ℕ) → j < length shop.jobs → next_place l steps j ≡ place l j (p.steps j)
-  place_is j known = ap (place l j) (step_is j known)
 
   head_is : (j : ℕ) → head_of shop p j (p.steps j) ≡ next_head shop p j
   head_is j = ap (λ (d : ℕ). max (ready_after shop p j d) (p.free (machine_of shop j (p.steps j))))
@@ -170,23 +174,27 @@ module _ (shop : Shop) (p : Placing) (l : LayoutState) (steps : List ℕ) (rows 
   module _ (r : ℕ) (op : IsOperation shop r (p.steps r)) where
     module _ (m limit : ℕ) (on : m ≡ machine_of shop r (p.steps r)) (end : limit ≡ next_end shop p r + 1) where
       abbrev pub Below : ℕ → Type 0
-      Below = IsNextBelow l steps rows.heads (IsOnMachine l m) limit
+      Below = IsNextBelow nexts rows.heads (IsOnMachine l m) limit
 
       in_conflict : (i : ℕ) → Below i
           → IsOperation shop i (p.steps i) × (conflicts_with shop p r i ≡ true)
       in_conflict i next =
-          let route = can.laid.routes i
-          in let below = next.step
-          in let o = open_from i (omega arith)
-          in let known = IsOperation-job shop i (p.steps i) o
-          in let at = place_is i known
+          let many = can.are.jobs
+          in let known = next.job
+          in let here : get_or nexts i 0 < length rows.heads = elim (cases_lt (get_or nexts i 0) (length rows.heads)) [
+            | inl h ↦ h
+            | inr past ↦ absurd (let a = next.waits in let b = get_or_past rows.heads (get_or nexts i 0) 0 past
+                in omega arith)
+          ]
+          in let o = next_op i (omega arith) here
+          in let at = next_there i o
           in let there = next.there
           in let low = there.0 in let high = there.1
           in let machines = can.limits.on_machines r (p.steps r)
           in let machine = on_machine shop can.limits l can.laid m i (p.steps i) (omega arith) o (omega arith)
           (omega arith)
           in let head = stored_head i o
-          in let same : get_or rows.heads (next_place l steps i) 0 ≡ get_or rows.heads (place l i (p.steps i)) 0 =
+          in let same : get_or rows.heads (get_or nexts i 0) 0 ≡ get_or rows.heads (place l i (p.steps i)) 0 =
           ap (λ (x : ℕ). get_or rows.heads x 0) at
           in let under = next.below
           in (
@@ -202,9 +210,10 @@ module _ (shop : Shop) (p : Placing) (l : LayoutState) (steps : List ℕ) (rows 
           → next_head shop p i < next_end shop p r → Below i
       below_from i o machine lt =
           let known = IsOperation-job shop i (p.steps i) o
-          in let at = place_is i known
+          in let at = next_there i o
+          in let many = can.are.jobs
           in let head = stored_head i o
-          in let same : get_or rows.heads (next_place l steps i) 0 ≡ get_or rows.heads (place l i (p.steps i)) 0 =
+          in let same : get_or rows.heads (get_or nexts i 0) 0 ≡ get_or rows.heads (place l i (p.steps i)) 0 =
           ap (λ (x : ℕ). get_or rows.heads x 0) at
           in let stands = place_of shop can.limits l can.laid i (p.steps i) o
           in let its : machine_of shop i (p.steps i) ≡ m = machine ∙ sym on
@@ -212,9 +221,8 @@ module _ (shop : Shop) (p : Placing) (l : LayoutState) (steps : List ℕ) (rows 
           in let behind : first_of l (machine_of shop i (p.steps i) + 1) ≡ first_of l (m + 1) =
           ap (λ (x : ℕ). first_of l (x + 1)) its
           in let from = stands.from in let to = stands.to
-          in let route = can.laid.routes i in let step = step_is i known
           in record {
-            step = omega arith;
+            job = omega arith;
             there = (omega arith, omega arith);
             waits = omega arith;
             below = omega arith;
@@ -247,51 +255,64 @@ module _ (shop : Shop) (p : Placing) (l : LayoutState) (steps : List ℕ) (rows 
                 (ltb-true (next_head shop p q) (next_end shop p r) parts.1)))
           ])
 
-module _ (greatest : ℕ) (shop : Shop) (p : Placing) (l : LayoutState) (steps : List ℕ) (rows : Rows)
-    (can : AreChoosable greatest shop p l steps rows) where
+module _ (greatest : ℕ) (shop : Shop) (p : Placing) (l : LayoutState) (nexts : List ℕ) (rows : Rows)
+    (can : AreChoosable greatest shop p l nexts rows) where
+  -- as many positions as heads
+  followings : length l.following ≡ length rows.heads
+  followings = can.at.laid.positions.following ∙ sym can.at.heads.positions
+
   module _ (r : ℕ) (is : IsFirstLeast rows.ends r) where
     pub chosen_job : r < length shop.jobs
     chosen_job = let a = is.within in let b = can.ends.jobs in omega arith
 
-    pub none_open : length (route_of shop r) ≤ p.steps r → [] ≡ conflict_among shop p (open_jobs shop p)
-    none_open past = sym (ap (conflict_among shop p) (none_in (open_jobs shop p) (λ i h.
+    none_left : (n : ℕ) → n ≡ length l.following → n ≤ get_or nexts r 0 → length (route_of shop r) ≤ p.steps r
+    none_left n many past = elim (cases_lt (p.steps r) (length (route_of shop r))) [
+      | inl op ↦ absurd (let at = next_there shop p l nexts rows can.at r op
+          in let a = (place_of shop can.at.limits l can.at.laid r (p.steps r) op).within
+          in let b = can.at.heads.positions in let d = followings in omega arith)
+      | inr done ↦ done
+    ]
+
+    pub none_open : (n : ℕ) → n ≡ length l.following → n ≤ get_or nexts r 0
+        → [] ≡ conflict_among shop p (open_jobs shop p)
+    none_open n many past = sym (ap (conflict_among shop p) (none_in (open_jobs shop p) (λ i h.
         let o = open_is shop p i h
         in let a = is.least i (let b = can.ends.jobs in let d = o.0 in omega arith)
         in let b = can.ends.next i o.1
-        in let d = can.ends.none r chosen_job past
+        in let d = can.ends.none r chosen_job (none_left n many past)
         in let e = can.ends.fits i o.1 in omega arith)))
 
     -- what was read of it
-    pub record IsChosenAt (row : List ℕ) (route : List Op) (step : ℕ) : Type 0 where
+    pub record IsChosenAt (position machine : ℕ) : Type 0 where
       pub operation : IsOperation shop r (p.steps r)
-      pub machine : (get_or route step no_op).machine ≡ machine_of shop r (p.steps r)
-      pub blocks : HasBlocks l (length rows.heads) (get_or route step no_op).machine
-      pub within : get_or row step 0 < length rows.heads
-      pub end : get_or rows.heads (get_or row step 0) 0 + get_or rows.times (get_or row step 0) 0
-          ≡ next_end shop p r + 1
+      pub machine_is : machine ≡ machine_of shop r (p.steps r)
+      pub blocks : HasBlocks l (length rows.heads) machine
+      pub within : position < length rows.heads
+      pub end : get_or rows.heads position 0 + get_or rows.times position 0 ≡ next_end shop p r + 1
       pub fits : next_end shop p r + 1 < greatest
 
-    pub chosen_at : (row : List ℕ) → row ≡ get_or l.places r [] → (route : List Op) → route ≡ route_of shop r
-        → (get_or steps r 0 < length route) → IsChosenAt row route (get_or steps r 0)
-    chosen_at row row_is route route_is below =
-        let step = get_or steps r 0
-        in let long : length route ≡ length (route_of shop r) = ap (λ (xs : List Op). length xs) route_is
-        in let op = open_from shop p l steps rows can.nexts r (omega arith)
-        in let is_step : step ≡ p.steps r = can.nexts.steps r chosen_job
-        in let at : get_or row step 0 ≡ place l r (p.steps r) =
-        ap (λ (xs : List ℕ). get_or xs step 0) row_is ∙ ap (place l r) is_step
-        in let machine : (get_or route step no_op).machine ≡ machine_of shop r (p.steps r) =
-        ap (λ (xs : List Op). (get_or xs step no_op).machine) route_is ∙ ap (machine_of shop r) is_step
-        in let head = ap (λ (x : ℕ). get_or rows.heads x 0) at ∙ stored_head shop p l steps rows can.nexts r op
-        in let time = ap (λ (x : ℕ). get_or rows.times x 0) at ∙ stored_time shop p l steps rows can.nexts r op
-        in let within = stored_within shop p l steps rows can.nexts r op
+    pub chosen_at : (n : ℕ) → n ≡ length l.following → get_or nexts r 0 < n
+        → IsChosenAt (get_or nexts r 0) (get_or l.machines (get_or nexts r 0) 0)
+    chosen_at n many below =
+        let position = get_or nexts r 0
+        in let here : position < length rows.heads = (let a = followings in omega arith)
+        in let op = next_op shop p l nexts rows can.at r chosen_job here
+        in let at : position ≡ place l r (p.steps r) = next_there shop p l nexts rows can.at r op
+        in let stands = place_of shop can.at.limits l can.at.laid r (p.steps r) op
+        in let from = stands.from in let to = stands.to
+        in let known = can.at.limits.on_machines r (p.steps r)
+        in let machine : get_or l.machines position 0 ≡ machine_of shop r (p.steps r) =
+        ap (λ (x : ℕ). get_or l.machines x 0) at
+        ∙ can.at.laid.machines_at.at (machine_of shop r (p.steps r)) (place l r (p.steps r)) known (omega arith)
+        (omega arith)
+        in let head = ap (λ (x : ℕ). get_or rows.heads x 0) at ∙ stored_head shop p l nexts rows can.at r op
+        in let time = ap (λ (x : ℕ). get_or rows.times x 0) at ∙ stored_time shop p l nexts rows can.at r op
         in record {
           operation = op;
-          machine = machine;
-          blocks = has_blocks shop can.nexts.limits l can.nexts.laid (length rows.heads)
-              (get_or route step no_op).machine
-              can.nexts.heads.positions (let a = can.nexts.limits.on_machines r (p.steps r) in omega arith);
-          within = omega arith;
+          machine_is = machine;
+          blocks = has_blocks shop can.at.limits l can.at.laid (length rows.heads) (get_or l.machines position 0)
+              can.at.heads.positions (omega arith);
+          within = here;
           end = omega arith;
           fits = can.ends.fits r op;
         }
@@ -308,7 +329,7 @@ module _ (greatest : ℕ) (shop : Shop) (p : Placing) (l : LayoutState) (steps :
 
       pub is_conflict : (m limit : ℕ) → m ≡ machine_of shop r (p.steps r) → limit ≡ next_end shop p r + 1 → (n : ℕ)
           (one new : List ℕ) → HasPut r [] one
-          → HasGathered (IsNextBelow l steps rows.heads (IsOnMachine l m) limit) one new
+          → HasGathered (IsNextBelow nexts rows.heads (IsOnMachine l m) limit) one new
           → IsRisingBelow n new → new ≡ conflict_among shop p (open_jobs shop p)
       is_conflict m limit on end n one new put gathered list =
-          are_conflicting shop p l steps rows can.nexts r op m limit on end n one new put gathered list ∙ sym chosen_is
+          are_conflicting shop p l nexts rows can.at r op m limit on end n one new put gathered list ∙ sym chosen_is

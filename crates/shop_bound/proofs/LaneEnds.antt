@@ -1,29 +1,28 @@
 -- The ends of next operations are kept up in lanes.
-use Rattle.std.proofs.Common.{◌≡◌, ℕ, ◌+◌, ◌-◌, ◌<◌, ◌⊎◌, inl, inr, List, [], ◌∷◌}
-use Rattle.std.proofs.Common.{length, get_or, max, refl, sym, ◌∙◌, ap, subst, arith}
-use Rattle.std.proofs.lemmas.Bool.{cases_eq, cases_lt, lt-ltb, le-ltb}
-use Rattle.std.proofs.lemmas.List.{get_or-set_other}
-use Rattle.shop_lanes.specs.Rows.{Rows}
-use Rattle.shop_model.specs.Shop.{Shop, IsOperation, machine_of}
+use Rattle.std.proofs.Common.{◌≡◌, ℕ, ◌+◌, ◌-◌, ◌≤◌, ◌<◌, ◌⊎◌, inl, inr, List, [], ◌∷◌}
+use Rattle.std.specs.Bool.{◌==◌}
+use Rattle.std.proofs.Common.{false, drop, length, get_or, max, refl, sym, ◌∙◌, ap, subst, arith}
+use Rattle.std.proofs.lemmas.Bool.{cases_eq, cases_lt, eq-eqb, lt-ltb, le-ltb}
+use Rattle.std.proofs.lemmas.Grind.{get_or-set_at}
+use Rattle.std.proofs.lemmas.List.{drop_more, get_or-set_other, length-set}
+use Rattle.shop_lanes.specs.Rows.{Rows, with_end}
+use Rattle.shop_model.specs.Shop.{Shop, IsOperation, machine_of, route_of}
 use Rattle.shop_model.specs.Word.{Placing, placing}
 use Rattle.shop_model.proofs.Ends.{IsOperation-job}
 use Rattle.shop_bound.specs.Conflicts.{next_end, next_head}
 use Rattle.shop_bound.specs.Heads.{head_of, ready_after}
-use Rattle.shop_bound.specs.Placements.{PlacementState, IsPlacement}
 use Rattle.shop_bound.specs.declared.notes.Note.{Note}
 use Rattle.shop_bound.specs.inner.Fills.{AreSameBeside}
 use Rattle.shop_bound.specs.inner.HeadLimits.{FitsLanes}
-use Rattle.shop_bound.specs.inner.LaneChoices.{next_place, AreEndsAt}
-use Rattle.shop_bound.specs.inner.LaneEnds.{end_at, AreEndsOf, CanKeepEnds, IsNotedAt}
+use Rattle.shop_bound.specs.inner.LaneChoices.{AreEndsAt, AreNextPlaced, AreNextsOf}
+use Rattle.shop_bound.specs.inner.LaneEnds.{end_at, AreEndsButNoted, AreEndsOf, CanKeepEnds, IsEndOf, IsNotedAt}
 use Rattle.shop_bound.specs.inner.LaneEnds.{AreEndsButJob, HasEnds}
-use Rattle.shop_bound.specs.inner.LaneHeads.{AreHeadsAt, restored}
+use Rattle.shop_bound.specs.inner.LaneHeads.{AreHeadsAt, AreNotesFit, restored}
 use Rattle.shop_bound.specs.inner.LaneStates.{AreHeadsInLanes}
-use Rattle.shop_bound.specs.inner.Layouts.{LayoutState, place}
-use Rattle.shop_bound.specs.inner.Raises.{steps_of}
+use Rattle.shop_bound.specs.inner.Layouts.{LayoutState, place, first_of}
 use Rattle.shop_bound.proofs.LaidPlaces.{place_of}
 use Rattle.shop_bound.proofs.LatestEnds.{latest_end_is}
-use Rattle.shop_bound.proofs.RaisedHeads.{indexed}
-use Rattle.shop_bound.proofs.TabledHeads.{tabled, tabled_is}
+use Rattle.shop_bound.proofs.Followed.{place_past, place_there}
 
 -- what notes leave out is as it was
 pub restored_other : (notes : List Note) (heads : List ℕ) (q : ℕ) → (IsNotedAt notes q → ⊥)
@@ -46,124 +45,266 @@ noted_or_not (note ∷ notes) q = elim (cases_eq note.position q) [
   ]
 ]
 
--- where heads changed at noted positions alone and the step of one job did, the ends of the others are still right or
--- their next operations are noted
-pub ends_but_job : (greatest : ℕ) (l : LayoutState) (before steps : List ℕ) (old new : Rows) (notes : List Note)
-    (job : ℕ)
-    → AreEndsOf greatest l before old → length before ≡ length steps → new.times ≡ old.times → new.ends ≡ old.ends
-    → ((j : ℕ) → j < length steps → (j ≡ job → ⊥) → get_or steps j 0 ≡ get_or before j 0)
+-- where heads changed at noted positions alone and the next operation of one job did, the ends of the others are still
+-- right or their next operations are noted
+pub ends_but_job : (greatest : ℕ) (before nexts : List ℕ) (old new : Rows) (notes : List Note) (job : ℕ)
+    → AreEndsOf greatest before old → length before ≡ length nexts → new.times ≡ old.times → new.ends ≡ old.ends
+    → length new.heads ≡ length old.heads
+    → ((j : ℕ) → j < length nexts → (j ≡ job → ⊥) → get_or nexts j 0 ≡ get_or before j 0)
     → ((q : ℕ) → (IsNotedAt notes q → ⊥) → get_or new.heads q 0 ≡ get_or old.heads q 0)
-    → AreEndsButJob greatest l steps new notes job
-ends_but_job greatest l before steps old new notes job ends long times same others heads j known ne =
-    let step = others j known ne
+    → AreEndsButJob greatest nexts new notes job
+ends_but_job greatest before nexts old new notes job ends long times same positions others heads j known ne =
+    let next = others j known ne
     in let was = ends j (omega arith)
-    in let now : get_or new.ends j 0 ≡ end_at greatest l before old j =
+    in let now : get_or new.ends j 0 ≡ end_at greatest before old j =
     ap (λ (xs : List ℕ). get_or xs j 0) same ∙ was
-    in elim (cases_lt (get_or steps j 0) (steps_of l j)) [
-      | inl lt ↦ elim (noted_or_not notes (next_place l steps j)) [
-        | inl h ↦ inr (record { step = lt; noted = h })
-        | inr none ↦ inl (now ∙ sym (
-            let q = next_place l steps j
-            in let at : q ≡ next_place l before j = ap (place l j) step
-            in let a = heads q none
-            in let b : get_or old.heads q 0 ≡ get_or old.heads (next_place l before j) 0 =
-            ap (λ (x : ℕ). get_or old.heads x 0) at
-            in let d : get_or new.times q 0 ≡ get_or old.times (next_place l before j) 0 =
-            ap (λ (ts : List ℕ). get_or ts q 0) times ∙ ap (λ (x : ℕ). get_or old.times x 0) at
-            in rw (lt-ltb (get_or steps j 0) (steps_of l j) lt, lt-ltb (get_or before j 0) (steps_of l j) (omega arith))
-            (omega arith)))
-      ]
-      | inr ge ↦ inl (now ∙ sym (rw (
-        le-ltb (get_or steps j 0) (steps_of l j) ge,
-        le-ltb (get_or before j 0) (steps_of l j) (omega arith),
-      ) refl))
+    in elim (noted_or_not notes (get_or nexts j 0)) [
+      | inl h ↦ inr h
+      | inr none ↦ inl (now ∙ sym (
+          let q = get_or nexts j 0
+          in let a = heads q none
+          in let b : get_or old.heads q 0 ≡ get_or old.heads (get_or before j 0) 0 =
+          ap (λ (x : ℕ). get_or old.heads x 0) next
+          in let d : get_or new.times q 0 ≡ get_or old.times (get_or before j 0) 0 =
+          ap (λ (ts : List ℕ). get_or ts q 0) times ∙ ap (λ (x : ℕ). get_or old.times x 0) next
+          in elim (cases_lt q (length new.heads)) [
+            | inl lt ↦ rw (lt-ltb q (length new.heads) lt, lt-ltb (get_or before j 0) (length old.heads) (omega arith))
+                (omega arith)
+            | inr ge ↦ rw (le-ltb q (length new.heads) ge, le-ltb (get_or before j 0) (length old.heads) (omega arith))
+                refl
+          ]))
     ]
 
--- the steps of a placing
-pub record AreStepsOf (shop : Shop) (p : Placing) (steps : List ℕ) : Type 0 where
-  pub jobs : length steps ≡ length shop.jobs
-  pub are : (j : ℕ) → j < length shop.jobs → get_or steps j 0 ≡ p.steps j
+-- one more end is set, and with it one note less is left
+module _ (greatest : ℕ) (l : LayoutState) (nexts : List ℕ) (old : Rows) (keep : CanKeepEnds greatest l nexts old)
+    (now : Rows) (beside : HasEnds old now) where
+  pub still_keep : CanKeepEnds greatest l nexts now
+  still_keep = record {
+    placed = subst (λ (hs : List ℕ). AreNextPlaced l hs nexts) (sym beside.heads) keep.placed;
+    positions = keep.positions ∙ sym (ap length beside.heads);
+    ends = beside.ends ∙ keep.ends;
+    fits = λ j known. subst (λ (e : ℕ). e ≤ greatest) (sym (same_end j)) (keep.fits j known);
+    computable = keep.computable;
+  }
+    where
+      same_end : (j : ℕ) → end_at greatest nexts now j ≡ end_at greatest nexts old j
+      same_end j = rw (beside.heads, beside.times) refl
+
+  module _ (job : ℕ) (known : job < length nexts) (new : Rows)
+      (wrote : new ≡ with_end now job (end_at greatest nexts now job)) where
+    pub beside_more : HasEnds old new
+    beside_more = record {
+      heads = ap (λ (r : Rows). r.heads) wrote ∙ beside.heads;
+      times = ap (λ (r : Rows). r.times) wrote ∙ beside.times;
+      tails = ap (λ (r : Rows). r.tails) wrote ∙ beside.tails;
+      ends = ap (λ (r : Rows). length r.ends) wrote
+          ∙ (length-set now.ends job (end_at greatest nexts now job) ∙ beside.ends);
+    }
+
+    same_at : (j : ℕ) → end_at greatest nexts new j ≡ end_at greatest nexts now j
+    same_at j = ap (λ (r : Rows). end_at greatest nexts r j) wrote
+
+    pub end_here : IsEndOf greatest nexts new job
+    end_here =
+        let long = beside.ends in let as_many = keep.ends
+        in ap (λ (r : Rows). get_or r.ends job 0) wrote
+        ∙ (get_or-set_at now.ends job job (end_at greatest nexts now job) 0 refl (omega arith) ∙ sym (same_at job))
+
+    pub end_other : (j : ℕ) → (j ≡ job → ⊥) → IsEndOf greatest nexts now j → IsEndOf greatest nexts new j
+    end_other j ne is = ap (λ (r : Rows). get_or r.ends j 0) wrote
+        ∙ (get_or-set_other now.ends job j (end_at greatest nexts now job) 0 ne ∙ (is ∙ sym (same_at j)))
+
+    pub noted_after : (note : Note) (notes : List Note) → AreEndsButNoted greatest nexts now (note ∷ notes)
+        → get_or l.jobs note.position 0 ≡ job → note.position < length old.heads
+        → AreEndsButNoted greatest nexts new notes
+    noted_after note notes but is within j below = elim (cases_eq j job) [
+      | inl e ↦ inl (subst (IsEndOf greatest nexts new) (sym e) end_here)
+      | inr ne ↦ elim (but j below) [
+        | inl h ↦ inl (end_other j ne h)
+        | inr (inl at) ↦ absurd (ne (
+            let own = keep.placed.own j below (omega arith)
+            in sym own ∙ (ap (λ (x : ℕ). get_or l.jobs x 0) (sym at) ∙ is)))
+        | inr (inr h) ↦ inr h
+      ]
+    ]
+
+    pub noted_but : (notes : List Note) → AreEndsButJob greatest nexts now notes job
+        → AreEndsButNoted greatest nexts new notes
+    noted_but notes but j below = elim (cases_eq j job) [
+      | inl e ↦ inl (subst (IsEndOf greatest nexts new) (sym e) end_here)
+      | inr ne ↦ elim (but j below ne) [
+        | inl h ↦ inl (end_other j ne h)
+        | inr h ↦ inr h
+      ]
+    ]
+
+  -- a note that isn't at a next operation
+  pub noted_past : (note : Note) (notes : List Note) → AreEndsButNoted greatest nexts now (note ∷ notes)
+      → (get_or nexts (get_or l.jobs note.position 0) 0 ≡ note.position → ⊥) → note.position < length old.heads
+      → AreEndsButNoted greatest nexts now notes
+  noted_past note notes but other within j below = elim (but j below) [
+    | inl h ↦ inl h
+    | inr (inl at) ↦ absurd (other (
+        let own = keep.placed.own j below (omega arith)
+        in ap (λ (x : ℕ). get_or nexts x 0) (ap (λ (x : ℕ). get_or l.jobs x 0) at ∙ own) ∙ sym at))
+    | inr (inr h) ↦ inr h
+  ]
+
+-- the notes that are still to be looked at
+pub record IsSettingEnds (greatest : ℕ) (nexts : List ℕ) (notes : List Note) (old now : Rows) : Type 0 where
+  pub beside : HasEnds old now
+  pub fit : AreNotesFit greatest (length old.heads) notes
+  pub noted : AreEndsButNoted greatest nexts now notes
+
+module _ (greatest : ℕ) (l : LayoutState) (nexts : List ℕ) (old now : Rows) (keep : CanKeepEnds greatest l nexts old)
+    (notes : List Note) (i : ℕ) (d : Note) (here : i < length notes)
+    (so_far : IsSettingEnds greatest nexts (drop i notes) old now) where
+  abbrev note : Note
+  note = get_or notes i d
+
+  left : IsSettingEnds greatest nexts (note ∷ drop (i + 1) notes) old now
+  left = subst (λ (ns : List Note). IsSettingEnds greatest nexts ns old now) (drop_more notes i d here) so_far
+
+  pub note_within : note.position < length old.heads
+  note_within = left.fit.0.0
+
+  pub note_known : note.position < length l.jobs
+  note_known = let a = keep.placed.positions in let b = note_within in omega arith
+
+  pub note_job : get_or l.jobs note.position 0 < length nexts
+  note_job = keep.placed.jobs note.position note_within
+
+  pub now_keeps : CanKeepEnds greatest l nexts now
+  now_keeps = still_keep greatest l nexts old keep now so_far.beside
+
+  pub end_set : (job : ℕ) → job ≡ get_or l.jobs note.position 0 → (new : Rows)
+      → new ≡ with_end now job (end_at greatest nexts now job)
+      → IsSettingEnds greatest nexts (drop (i + 1) notes) old new
+  end_set job is new wrote =
+      let known : job < length nexts = (let a = note_job in omega arith)
+      in record {
+        beside = beside_more greatest l nexts old keep now so_far.beside job known new wrote;
+        fit = left.fit.1;
+        noted = noted_after greatest l nexts old keep now so_far.beside job known new wrote note (drop (i + 1) notes)
+            left.noted (sym is) note_within;
+      }
+
+  pub end_left : (get_or nexts (get_or l.jobs note.position 0) 0 == note.position) ≡ false → (new : Rows) → new ≡ now
+      → IsSettingEnds greatest nexts (drop (i + 1) notes) old new
+  end_left other new same = subst (IsSettingEnds greatest nexts (drop (i + 1) notes) old) (sym same) (record {
+    beside = so_far.beside;
+    fit = left.fit.1;
+    noted = noted_past greatest l nexts old keep now so_far.beside note (drop (i + 1) notes) left.noted
+        (λ e. absurd (let a = eq-eqb (get_or nexts (get_or l.jobs note.position 0) 0) note.position e in cc))
+        note_within;
+  })
 
 module _ (greatest : ℕ) (shop : Shop) (w : List ℕ) (l : LayoutState) (rows : Rows)
-    (kept : AreHeadsInLanes greatest shop w l rows) (steps : List ℕ) (counts : AreStepsOf shop (placing shop w) steps)
-    (as_many : length rows.ends ≡ length shop.jobs) where
-  abbrev p : Placing
-  p = placing shop w
+    (kept : AreHeadsInLanes greatest shop w l rows) (nexts : List ℕ) (are : AreNextsOf shop (placing shop w) l nexts)
+  where
+    abbrev p : Placing
+    p = placing shop w
 
-  next_is : (j : ℕ) → get_or steps j 0 < steps_of l j → IsOperation shop j (p.steps j)
-  next_is j lt =
-      let route = kept.laid.routes j
-      in let op : IsOperation shop j (get_or steps j 0) = omega arith
-      in let e = counts.are j (IsOperation-job shop j (get_or steps j 0) op) in omega arith
+    abbrev n : ℕ
+    n = first_of l shop.machines
 
-  is_next : (j : ℕ) → IsOperation shop j (p.steps j) → get_or steps j 0 < steps_of l j
-  is_next j op =
-      let route = kept.laid.routes j in let e = counts.are j (IsOperation-job shop j (p.steps j) op) in omega arith
+    -- the next operation of a job, or none
+    pub next_there : (j : ℕ) → IsOperation shop j (p.steps j) → get_or nexts j 0 ≡ place l j (p.steps j)
+    next_there j op =
+        let route = kept.laid.routes j
+        in are.are j (IsOperation-job shop j (p.steps j) op) ∙ place_there l n j (p.steps j) (omega arith)
 
-  -- head and time of a next operation where it waits
-  pub next_stored : (j : ℕ) → IsOperation shop j (p.steps j)
-      → get_or rows.heads (next_place l steps j) 0 + get_or rows.times (next_place l steps j) 0 ≡ next_end shop p j + 1
-  next_stored j op =
-      let at : next_place l steps j ≡ place l j (p.steps j) =
-      ap (place l j) (counts.are j (IsOperation-job shop j (p.steps j) op))
-      in let none : p.steps j - p.steps j ≡ 0 = omega arith
-      in let head : head_of shop p j (p.steps j) ≡ next_head shop p j =
-      ap (λ (d : ℕ). max (ready_after shop p j d) (p.free (machine_of shop j (p.steps j)))) none
-      in let stored = ap (λ (x : ℕ). get_or rows.heads x 0) at ∙ kept.heads.waiting j (p.steps j) op (omega arith)
-      in let time = ap (λ (ts : List ℕ). get_or ts (next_place l steps j) 0) kept.times
-      ∙ (ap (λ (x : ℕ). get_or l.times x 0) at ∙ (place_of shop kept.limits l kept.laid j (p.steps j) op).time)
-      in omega arith
+    pub next_within : (j : ℕ) → IsOperation shop j (p.steps j) → get_or nexts j 0 < length rows.heads
+    next_within j op =
+        let at = next_there j op in let a = (place_of shop kept.limits l kept.laid j (p.steps j) op).within
+        in let b = kept.heads.positions in omega arith
 
-  next_fits : (j : ℕ) → IsOperation shop j (p.steps j) → next_end shop p j < greatest
-  next_fits j op =
-      let none : p.steps j - p.steps j ≡ 0 = omega arith
-      in let head : head_of shop p j (p.steps j) ≡ next_head shop p j =
-      ap (λ (d : ℕ). max (ready_after shop p j d) (p.free (machine_of shop j (p.steps j)))) none
-      in let fits = kept.fits w kept.word j (p.steps j) op (omega arith) in omega arith
+    pub next_past : (j : ℕ) → j < length shop.jobs → length (route_of shop j) ≤ p.steps j
+        → length rows.heads ≤ get_or nexts j 0
+    next_past j known past =
+        let route = kept.laid.routes j
+        in let a = are.are j known in let b = place_past l n j (p.steps j) (omega arith)
+        in let d = kept.heads.positions in omega arith
 
-  pub can_keep : CanKeepEnds greatest l steps rows
-  can_keep = record {
-    indexed = indexed shop kept.limits l kept.laid (length rows.heads) kept.heads.positions;
-    jobs = counts.jobs ∙ sym kept.laid.jobs;
-    ends = as_many ∙ sym counts.jobs;
-    fits = λ j known. elim (cases_lt (get_or steps j 0) (steps_of l j)) [
-      | inl lt ↦ (let op = next_is j lt in let a = next_stored j op in let b = next_fits j op
-          in rw (lt-ltb (get_or steps j 0) (steps_of l j) lt) (omega arith))
-      | inr ge ↦ rw (le-ltb (get_or steps j 0) (steps_of l j) ge) (omega arith)
-    ];
-    computable = kept.computable;
-  }
+    pub next_is : (j : ℕ) → j < length shop.jobs → get_or nexts j 0 < length rows.heads → IsOperation shop j (p.steps j)
+    next_is j known below = elim (cases_lt (p.steps j) (length (route_of shop j))) [
+      | inl op ↦ op
+      | inr past ↦ absurd (let a = next_past j known past in omega arith)
+    ]
 
-  -- the ends of the placing, by the lists that stand for it, and back
-  pub ends_of : AreEndsAt greatest shop p rows.ends → AreEndsOf greatest l steps rows
-  ends_of ends j known =
-      let here : j < length shop.jobs = (let a = counts.jobs in omega arith)
-      in elim (cases_lt (get_or steps j 0) (steps_of l j)) [
-        | inl lt ↦ (let op = next_is j lt
-            in ends.next j op ∙ sym (rw (lt-ltb (get_or steps j 0) (steps_of l j) lt) (next_stored j op)))
-        | inr ge ↦ (let route = kept.laid.routes j in let e = counts.are j here
-            in ends.none j here (omega arith) ∙ sym (rw (le-ltb (get_or steps j 0) (steps_of l j) ge) refl))
-      ]
+    pub next_placed : AreNextPlaced l rows.heads nexts
+    next_placed = record {
+      positions = kept.laid.positions.jobs ∙ sym kept.heads.positions;
+      jobs = λ q here. (let a = kept.heads.positions in let b = kept.laid.known q (omega arith) in let d = are.jobs
+          in omega arith);
+      own = λ j known here. (let many = are.jobs in let op = next_is j (omega arith) here
+          in ap (λ (x : ℕ). get_or l.jobs x 0) (next_there j op)
+          ∙ (place_of shop kept.limits l kept.laid j (p.steps j) op).job);
+    }
 
-  -- if no end is the greatest number
-  pub ends_at : FitsLanes greatest shop l → AreEndsOf greatest l steps rows → AreEndsAt greatest shop p rows.ends
-  ends_at holds ends = record {
-    jobs = as_many;
-    next = λ j op. (
-        let known = IsOperation-job shop j (p.steps j) op
-        in ends j (let a = counts.jobs in omega arith)
-        ∙ (rw (lt-ltb (get_or steps j 0) (steps_of l j) (is_next j op)) (next_stored j op)));
-    none = λ j known past. (
-        let route = kept.laid.routes j in let e = counts.are j known
-        in ends j (let a = counts.jobs in omega arith)
-        ∙ (rw (le-ltb (get_or steps j 0) (steps_of l j) (omega arith)) refl));
-    fits = λ j op. (
+    -- head and time of a next operation where it waits
+    pub next_stored : (j : ℕ) → IsOperation shop j (p.steps j)
+        → get_or rows.heads (get_or nexts j 0) 0 + get_or rows.times (get_or nexts j 0) 0 ≡ next_end shop p j + 1
+    next_stored j op =
+        let at = next_there j op
+        in let none : p.steps j - p.steps j ≡ 0 = omega arith
+        in let head : head_of shop p j (p.steps j) ≡ next_head shop p j =
+        ap (λ (d : ℕ). max (ready_after shop p j d) (p.free (machine_of shop j (p.steps j)))) none
+        in let stored = ap (λ (x : ℕ). get_or rows.heads x 0) at ∙ kept.heads.waiting j (p.steps j) op (omega arith)
+        in let time = ap (λ (ts : List ℕ). get_or ts (get_or nexts j 0) 0) kept.times
+        ∙ (ap (λ (x : ℕ). get_or l.times x 0) at ∙ (place_of shop kept.limits l kept.laid j (p.steps j) op).time)
+        in omega arith
+
+    next_fits : (j : ℕ) → IsOperation shop j (p.steps j) → next_end shop p j < greatest
+    next_fits j op =
         let none : p.steps j - p.steps j ≡ 0 = omega arith
         in let head : head_of shop p j (p.steps j) ≡ next_head shop p j =
         ap (λ (d : ℕ). max (ready_after shop p j d) (p.free (machine_of shop j (p.steps j)))) none
-        in let latest = latest_end_is shop w kept.word j (p.steps j) op (omega arith)
-        in let fits = holds 0 (let some = kept.limits.some_machine in omega arith) in omega arith);
-  }
+        in let fits = kept.fits w kept.word j (p.steps j) op (omega arith) in omega arith
+
+    module _ (as_many : length rows.ends ≡ length shop.jobs) where
+      pub can_keep : CanKeepEnds greatest l nexts rows
+      can_keep = record {
+        placed = next_placed;
+        positions = kept.laid.positions.following ∙ sym kept.heads.positions;
+        ends = as_many ∙ sym are.jobs;
+        fits = λ j known. elim (cases_lt (get_or nexts j 0) (length rows.heads)) [
+          | inl lt ↦ (let many = are.jobs
+              in let op = next_is j (omega arith) lt in let a = next_stored j op in let b = next_fits j op
+              in rw (lt-ltb (get_or nexts j 0) (length rows.heads) lt) (omega arith))
+          | inr ge ↦ rw (le-ltb (get_or nexts j 0) (length rows.heads) ge) (omega arith)
+        ];
+        computable = kept.computable;
+      }
+
+      -- the ends of the placing, by the lists that stand for it, and back
+      pub ends_of : AreEndsAt greatest shop p rows.ends → AreEndsOf greatest nexts rows
+      ends_of ends j known =
+          let here : j < length shop.jobs = (let a = are.jobs in omega arith)
+          in elim (cases_lt (p.steps j) (length (route_of shop j))) [
+            | inl op ↦ ends.next j op
+                ∙ sym (rw (lt-ltb (get_or nexts j 0) (length rows.heads) (next_within j op)) (next_stored j op))
+            | inr past ↦ ends.none j here past
+                ∙ sym (rw (le-ltb (get_or nexts j 0) (length rows.heads) (next_past j here past)) refl)
+          ]
+
+      -- if no end is the greatest number
+      pub ends_at : FitsLanes greatest shop l → AreEndsOf greatest nexts rows → AreEndsAt greatest shop p rows.ends
+      ends_at holds ends = record {
+        jobs = as_many;
+        next = λ j op. (
+            let known = IsOperation-job shop j (p.steps j) op
+            in ends j (let a = are.jobs in omega arith)
+            ∙ (rw (lt-ltb (get_or nexts j 0) (length rows.heads) (next_within j op)) (next_stored j op)));
+        none = λ j known past. ends j (let a = are.jobs in omega arith)
+            ∙ (rw (le-ltb (get_or nexts j 0) (length rows.heads) (next_past j known past)) refl);
+        fits = λ j op. (
+            let none : p.steps j - p.steps j ≡ 0 = omega arith
+            in let head : head_of shop p j (p.steps j) ≡ next_head shop p j =
+            ap (λ (d : ℕ). max (ready_after shop p j d) (p.free (machine_of shop j (p.steps j)))) none
+            in let latest = latest_end_is shop w kept.word j (p.steps j) op (omega arith)
+            in let fits = holds 0 (let some = kept.limits.some_machine in omega arith) in omega arith);
+      }
 
 -- the ends alone differ
 pub with_ends : (greatest : ℕ) (shop : Shop) (w : List ℕ) (l : LayoutState) (old new : Rows) → HasEnds old new
@@ -179,23 +320,13 @@ with_ends greatest shop w l old new beside kept = record {
   heads = subst (AreHeadsAt shop (placing shop w) l) (sym beside.heads) kept.heads;
 }
 
-pub steps_of_placement : (shop : Shop) (p : Placing) (s : PlacementState) → IsPlacement shop p s
-    → AreStepsOf shop p s.steps
-steps_of_placement shop p s placed = record { jobs = placed.places.steps; are = placed.steps }
-
--- from one word to another that has the same steps of all jobs but one
+-- from one word to another that has the same next operations of all jobs but one
 pub ends_between : (greatest : ℕ) (shop : Shop) (w v : List ℕ) (j : ℕ) (l : LayoutState) (old new : Rows)
     → AreHeadsInLanes greatest shop w l old → AreEndsAt greatest shop (placing shop w) old.ends
-    → (s : PlacementState) → IsPlacement shop (placing shop v) s
-    → ((i : ℕ) → (i ≡ j → ⊥) → (placing shop v).steps i ≡ (placing shop w).steps i) → AreSameBeside old new
+    → (before nexts : List ℕ) → AreNextsOf shop (placing shop w) l before → AreNextsOf shop (placing shop v) l nexts
+    → ((i : ℕ) → (i ≡ j → ⊥) → get_or nexts i 0 ≡ get_or before i 0) → AreSameBeside old new
     → (notes : List Note) → ((q : ℕ) → (IsNotedAt notes q → ⊥) → get_or new.heads q 0 ≡ get_or old.heads q 0)
-    → AreEndsButJob greatest l s.steps new notes j
-ends_between greatest shop w v j l old new kept ends s placed same beside notes heads =
-    let before = tabled shop (placing shop w)
-    in let is = tabled_is shop (placing shop w)
-    in let a = placed.places.steps in let b = is.places.steps
-    in ends_but_job greatest l before.steps s.steps old new notes j
-    (ends_of greatest shop w l old kept before.steps (steps_of_placement shop (placing shop w) before is) ends.jobs
-    ends)
-    (omega arith) beside.times beside.ends (λ i known ne.
-    let x = placed.steps i (omega arith) in let y = is.steps i (omega arith) in let z = same i ne in omega arith) heads
+    → AreEndsButJob greatest nexts new notes j
+ends_between greatest shop w v j l old new kept ends before nexts were are same beside notes heads =
+    ends_but_job greatest before nexts old new notes j (ends_of greatest shop w l old kept before were ends.jobs ends)
+    (were.jobs ∙ sym are.jobs) beside.times beside.ends beside.positions (λ i known ne. same i ne) heads

@@ -1,13 +1,15 @@
 -- What is kept of a word in lanes, with one entry more and one less.
-use Rattle.std.proofs.Common.{◌≡◌, ℕ, zero, suc, ◌-◌, ◌≤◌, ◌<◌, true, List, [], ◌∷◌, ◌++◌, length}
-use Rattle.std.proofs.Common.{take, drop, get_or, refl, sym, ◌∙◌, ap, subst, arith}
+use Rattle.std.proofs.Common.{◌≡◌, ℕ, zero, suc, ◌+◌, ◌-◌, ◌≤◌, ◌<◌, inl, inr, true, List, [], ◌∷◌, ◌++◌, length}
+use Rattle.std.proofs.Common.{take, drop, get_or, set, refl, sym, ◌∙◌, ap, subst, arith}
 use Rattle.std.specs.List.{AllByRecursion}
-use Rattle.std.proofs.lemmas.List.{length_push, length-drop, take_all}
+use Rattle.std.proofs.lemmas.Bool.{cases_eq}
+use Rattle.std.proofs.lemmas.Grind.{get_or-set_at}
+use Rattle.std.proofs.lemmas.List.{get_or_default, get_or-set_other, length_push, length-drop, length-set, take_all}
 use Rattle.shop_lanes.specs.Rows.{Rows}
-use Rattle.shop_model.specs.Shop.{Shop}
-use Rattle.shop_model.specs.Word.{Placing, IsWord, placing}
+use Rattle.shop_model.specs.Shop.{Shop, IsOperation}
+use Rattle.shop_model.specs.Word.{Placing, IsWord, placing, place_next}
 use Rattle.shop_model.proofs.Placings.{place_next-is}
-use Rattle.shop_model.proofs.Unders.{placing-snoc}
+use Rattle.shop_model.proofs.Unders.{after_word, next_operation, placing-snoc}
 use Rattle.shop_model.proofs.WordLemmas.{IsWord-init}
 use Rattle.shop_bound.specs.Placements.{PlacementState, IsPlacement}
 use Rattle.shop_bound.specs.inner.MachineRaises.{AreEmpty}
@@ -16,15 +18,21 @@ use Rattle.shop_bound.specs.declared.notes.Mark.{Mark}
 use Rattle.shop_bound.specs.declared.notes.Note.{Note}
 use Rattle.shop_bound.specs.inner.Estimates.{AreEstimates}
 use Rattle.shop_bound.specs.inner.Fills.{CanFill, GoesBack, IsRested}
-use Rattle.shop_bound.specs.inner.LaneChoices.{AreEndsAt}
+use Rattle.shop_bound.specs.inner.LaneChoices.{AreEndsAt, AreNextsOf}
 use Rattle.shop_bound.specs.inner.LaneEnds.{AreEndsButJob, AreEndsOf, CanKeepEnds, HasEnds}
 use Rattle.shop_bound.specs.inner.LaneHeads.{AreHeadsAt, AreNotesFit, IsTrail, NotesState, restored}
 use Rattle.shop_bound.specs.inner.LaneStates.{LaneState, IsKeptInLanes, Advances, AreHeadsInLanes}
+use Rattle.shop_bound.specs.inner.Layings.{place_or}
+use Rattle.shop_bound.specs.inner.Layouts.{first_of, place}
+use Rattle.shop_bound.proofs.ChildReads.{is_operation}
 use Rattle.shop_bound.proofs.ChildTurns.{its_job}
-use Rattle.shop_bound.proofs.LaneEnds.{can_keep, ends_at, ends_between, restored_other, steps_of_placement, with_ends}
+use Rattle.shop_bound.proofs.Followed.{place_there}
+use Rattle.shop_bound.proofs.LaneEnds.{can_keep, ends_at, ends_between, next_there, next_within}
+use Rattle.shop_bound.proofs.LaneEnds.{restored_other, with_ends}
 use Rattle.shop_bound.proofs.LaneEstimates.{no_estimates}
 use Rattle.shop_bound.proofs.LaneTrails.{same_heads, trail_more, LeadsToLast, trail_less}
 use Rattle.shop_bound.proofs.Lists.{all_append}
+use Rattle.shop_bound.proofs.RaisedHeads.{followed}
 use Rattle.shop_bound.proofs.WordLengths.{word_within}
 
 all_drop : {A : Type 0} (P : A → Type 0) (n : ℕ) (xs : List A) → AllByRecursion P xs → AllByRecursion P (drop n xs)
@@ -44,53 +52,109 @@ module _ (greatest : ℕ) (shop : Shop) (w : List ℕ) (j : ℕ) (s : LaneState)
     mark_fits = let a = word_within shop (w ++ j ∷ []) fits in let b = length_push w j in let c = kept.as_many
         in let d = kept.marks_room in omega arith
 
-    pub others_next : (i : ℕ) → (i ≡ j → ⊥) → (placing shop (w ++ j ∷ [])).steps i ≡ (placing shop w).steps i
-    others_next i ne = ap (λ (p : Placing). p.steps i) (placing-snoc shop w j)
-        ∙ (place_next-is shop (placing shop w) j).steps_other i ne
+    pub next_known : j < length s.nexts
+    next_known = let a = its_job shop w j fits in let b = kept.nexts.jobs in omega arith
 
-    module _ (step : ℕ) (at : step ≡ (placing shop w).steps j) (new : Rows) (after : NotesState) (mark : Mark)
-        (advances : Advances greatest shop s.layout j step s.rows new s.notes after mark) (p : PlacementState)
-        (placed : IsPlacement shop (placing shop (w ++ j ∷ [])) p) where
-      pub ends_more : CanKeepEnds greatest s.layout p.steps new
-      ends_more = can_keep greatest shop (w ++ j ∷ []) s.layout new (advances.heads w kept.kept fits at) p.steps
-          (steps_of_placement shop (placing shop (w ++ j ∷ [])) p placed)
-          (ap length advances.beside.ends ∙ kept.ends.jobs)
+    operation : IsOperation shop j ((placing shop w).steps j)
+    operation = is_operation greatest shop w s.layout s.rows kept.kept j fits
 
-      pub job_more : j < length p.steps
-      job_more = let a = its_job shop w j fits in let b = placed.places.steps in omega arith
+    pub next_is : get_or s.nexts j 0 ≡ place s.layout j ((placing shop w).steps j)
+    next_is = next_there greatest shop w s.layout s.rows kept.kept s.nexts kept.nexts j operation
+
+    -- where its next operation stands
+    module _ (x : ℕ) (stands : x ≡ get_or s.nexts j x) where
+      next_read : x ≡ get_or s.nexts j 0
+      next_read = stands ∙ get_or_default s.nexts j x 0 next_known
+
+      pub next_at : x ≡ place s.layout j ((placing shop w).steps j)
+      next_at = next_read ∙ next_is
+
+      pub position_known : x < first_of s.layout shop.machines
+      position_known =
+          let a = next_within greatest shop w s.layout s.rows kept.kept s.nexts kept.nexts j operation
+          in let b = next_read in let d = kept.kept.heads.positions in omega arith
+
+      -- and the one behind it
+      module _ (q : ℕ) (read : q ≡ get_or s.layout.following x 0) (nexts : List ℕ) (wrote : nexts ≡ set s.nexts j q)
+        where
+          pub nexts_more : AreNextsOf shop (placing shop (w ++ j ∷ [])) s.layout nexts
+          nexts_more =
+              let next = place_next-is shop (placing shop w) j
+              in let op = operation
+              in let route = kept.kept.laid.routes j
+              in let n = first_of s.layout shop.machines
+              in let after : placing shop (w ++ j ∷ []) ≡ place_next shop (placing shop w) j = placing-snoc shop w j
+              in let follows : q ≡ place_or n s.layout.places j ((placing shop w).steps j + 1) =
+              read ∙ (ap (λ (y : ℕ). get_or s.layout.following y 0) next_at
+              ∙ (followed shop kept.kept.limits s.layout kept.kept.laid n refl).follows j ((placing shop w).steps j)
+              (omega arith))
+              in let here : get_or (set s.nexts j q) j 0
+              ≡ place_or n s.layout.places j ((placing shop (w ++ j ∷ [])).steps j) =
+              get_or-set_at s.nexts j j q 0 refl next_known
+              ∙ (follows ∙ ap (place_or n s.layout.places j) (sym (ap (λ (p : Placing). p.steps j) after
+              ∙ next.steps_here)))
+              in record {
+                jobs = ap length wrote ∙ (length-set s.nexts j q ∙ kept.nexts.jobs);
+                are = λ i known. ap (λ (xs : List ℕ). get_or xs i 0) wrote ∙ elim (cases_eq i j) [
+                  | inl e ↦ subst (λ (y : ℕ). get_or (set s.nexts j q) y 0
+                      ≡ place_or n s.layout.places y ((placing shop (w ++ j ∷ [])).steps y)) (sym e) here
+                  | inr ne ↦ get_or-set_other s.nexts j i q 0 ne
+                      ∙ (kept.nexts.are i known ∙ ap (place_or n s.layout.places i) (sym (
+                      ap (λ (p : Placing). p.steps i) after ∙ next.steps_other i ne)))
+                ];
+              }
+
+    module _ (new : Rows) (after : NotesState) (mark : Mark)
+        (x : ℕ) (stands : x ≡ get_or s.nexts j x)
+        (advances : Advances greatest s.layout x s.rows new s.notes after mark) (q : ℕ)
+        (read : q ≡ get_or s.layout.following x 0) (nexts : List ℕ) (wrote : nexts ≡ set s.nexts j q) where
+      now : AreHeadsInLanes greatest shop (w ++ j ∷ []) s.layout new
+      now = advances.heads shop w j kept.kept fits (next_at x stands)
+
+      as_many_ends : length new.ends ≡ length shop.jobs
+      as_many_ends = ap length advances.beside.ends ∙ kept.ends.jobs
+
+      pub ends_more : CanKeepEnds greatest s.layout nexts new
+      ends_more = can_keep greatest shop (w ++ j ∷ []) s.layout new now nexts (nexts_more x stands q read nexts wrote) as_many_ends
+
+      pub job_more : j < length nexts
+      job_more = let a = next_known in let b = ap length wrote in omega (arith, length-set s.nexts j q)
 
       pub fit_more : (notes : List Note) → notes ≡ advances.noted.more → AreNotesFit greatest (length new.heads) notes
       fit_more notes is = subst (λ (n : ℕ). AreNotesFit greatest n notes) (sym advances.beside.positions)
           (subst (AreNotesFit greatest (length s.rows.heads)) (sym is) advances.noted.fit)
 
       pub noted_more : (notes : List Note) → notes ≡ advances.noted.more → mark.whole ≡ true
-          → AreEndsButJob greatest s.layout p.steps new notes j
+          → AreEndsButJob greatest nexts new notes j
       noted_more notes is all =
-          ends_between greatest shop w (w ++ j ∷ []) j s.layout s.rows new kept.kept kept.ends p placed others_next
-          advances.beside notes (λ q none. sym (restored_other notes new.heads q none)
-          ∙ ap (λ (hs : List ℕ). get_or hs q 0) (ap (λ (ns : List Note). restored ns new.heads) is
+          ends_between greatest shop w (w ++ j ∷ []) j s.layout s.rows new kept.kept kept.ends s.nexts nexts kept.nexts
+          (nexts_more x stands q read nexts wrote)
+          (λ i ne. ap (λ (xs : List ℕ). get_or xs i 0) wrote ∙ get_or-set_other s.nexts j i q 0 ne)
+          advances.beside notes (λ y none. sym (restored_other notes new.heads y none)
+          ∙ ap (λ (hs : List ℕ). get_or hs y 0) (ap (λ (ns : List Note). restored ns new.heads) is
           ∙ advances.noted.back (sym advances.whole ∙ all)))
 
-      pub kept_more : (ended : Rows) → HasEnds new ended → AreEndsOf greatest s.layout p.steps ended
+      pub kept_more : (ended : Rows) → HasEnds new ended → AreEndsOf greatest nexts ended
           → (marks : List Mark) → marks ≡ s.marks ++ mark ∷ [] → (room : ℕ) → s.room ≤ room → (us : List ℕ) → us ≡ []
           → IsKeptInLanes greatest shop (w ++ j ∷ [])
           (record {
             layout = s.layout;
             rows = ended;
+            nexts = nexts;
             notes = after;
             marks = marks;
             room = room;
-            machines = s.machines;
             raises = s.raises;
             estimates = us;
             top = s.top;
           })
       kept_more ended beside ends marks pushed room more us none =
           let back = advances.noted
-          in let heads = with_ends greatest shop (w ++ j ∷ []) s.layout new ended beside
-          (advances.heads w kept.kept fits at)
+          in let heads = with_ends greatest shop (w ++ j ∷ []) s.layout new ended beside now
+          in let are = nexts_more x stands q read nexts wrote
           in record {
             kept = heads;
+            nexts = are;
             notes_fit = subst (λ (hs : List ℕ). AreNotesFit greatest (length hs) after.list) (sym beside.heads)
                 (subst (λ (n : ℕ). AreNotesFit greatest n after.list) (sym advances.beside.positions)
                 (subst (AreNotesFit greatest (length s.rows.heads)) (sym back.are)
@@ -101,20 +165,19 @@ module _ (greatest : ℕ) (shop : Shop) (w : List ℕ) (j : ℕ) (s : LaneState)
                 (subst (λ (ms : List Mark). IsTrail shop s.layout (w ++ j ∷ []) ms after.list new.heads) (sym pushed)
                 (trail_more shop kept.kept.limits s.layout kept.kept.laid greatest w j s.marks mark s.notes
                 (record s.notes { whole = true }) after s.rows.heads new.heads kept.kept.heads kept.trail refl
-                advances.first advances.whole back));
+                advances.first advances.whole back (advances.at ∙ next_at x stands)));
             as_many = (let a = ap length pushed in let b = length_push s.marks mark in let c = length_push w j
                 in let d = kept.as_many in omega arith);
             marks_room = (let a = kept.marks_room in omega arith);
             bounds = kept.bounds;
-            ends = ends_at greatest shop (w ++ j ∷ []) s.layout ended heads p.steps
-                (steps_of_placement shop (placing shop (w ++ j ∷ [])) p placed)
-                (beside.ends ∙ (ap length advances.beside.ends ∙ kept.ends.jobs)) kept.bounds.holds ends;
+            ends = ends_at greatest shop (w ++ j ∷ []) s.layout ended heads nexts are
+                (beside.ends ∙ as_many_ends) kept.bounds.holds ends;
             estimates = no_estimates s.top s.layout ended us none;
           }
 
   module _ (kept : IsKeptInLanes greatest shop (w ++ j ∷ []) s) (marks : List Mark) (mark : Mark)
       (popped : s.marks ≡ marks ++ mark ∷ []) where
-    last : LeadsToLast shop s.layout w marks mark s.notes.list s.rows.heads
+    last : LeadsToLast shop s.layout w j marks mark s.notes.list s.rows.heads
     last = trail_less shop s.layout w j marks mark s.notes.list s.rows.heads
         (subst (λ (ms : List Mark). IsTrail shop s.layout (w ++ j ∷ []) ms s.notes.list s.rows.heads) popped kept.trail)
 
@@ -126,6 +189,32 @@ module _ (greatest : ℕ) (shop : Shop) (w : List ℕ) (j : ℕ) (s : LaneState)
 
     pub rested : IsRested shop s.layout s.rows.heads
     rested = kept.kept.heads.padding
+
+    pub last_known : j < length s.nexts
+    last_known = let a = its_job shop w j kept.kept.word in let b = kept.nexts.jobs in omega arith
+
+    -- its last operation is its next one again
+    nexts_less : (nexts : List ℕ) → nexts ≡ set s.nexts j mark.position → AreNextsOf shop (placing shop w) s.layout nexts
+    nexts_less nexts wrote =
+        let next = place_next-is shop (placing shop w) j
+        in let counted = next_operation shop w j kept.kept.word
+        in let steps = (after_word shop w (IsWord-init shop w j kept.kept.word)).steps j
+        in let route = kept.kept.laid.routes j
+        in let n = first_of s.layout shop.machines
+        in let here : get_or (set s.nexts j mark.position) j 0
+        ≡ place_or n s.layout.places j ((placing shop w).steps j) =
+        get_or-set_at s.nexts j j mark.position 0 refl last_known
+        ∙ (last.position ∙ sym (place_there s.layout n j ((placing shop w).steps j) (omega arith)))
+        in record {
+          jobs = ap length wrote ∙ (length-set s.nexts j mark.position ∙ kept.nexts.jobs);
+          are = λ i known. ap (λ (xs : List ℕ). get_or xs i 0) wrote ∙ elim (cases_eq i j) [
+            | inl e ↦ subst (λ (y : ℕ). get_or (set s.nexts j mark.position) y 0
+                ≡ place_or n s.layout.places y ((placing shop w).steps y)) (sym e) here
+            | inr ne ↦ get_or-set_other s.nexts j i mark.position 0 ne
+                ∙ (kept.nexts.are i known ∙ ap (place_or n s.layout.places i) (
+                ap (λ (p : Placing). p.steps i) (placing-snoc shop w j) ∙ next.steps_other i ne))
+          ];
+        }
 
     module _ (p : PlacementState) (placed : IsPlacement shop (placing shop w) p) where
       pub can_fill : CanFill greatest shop s.layout p s.rows
@@ -161,65 +250,69 @@ module _ (greatest : ℕ) (shop : Shop) (w : List ℕ) (j : ℕ) (s : LaneState)
           heads = back.heads (placing shop w) placed were;
         }
 
-        others_last : (i : ℕ) → (i ≡ j → ⊥) → (placing shop w).steps i ≡ (placing shop (w ++ j ∷ [])).steps i
-        others_last i ne = sym (ap (λ (q : Placing). q.steps i) (placing-snoc shop w j)
-            ∙ (place_next-is shop (placing shop w) j).steps_other i ne)
+        as_many_before : length new.ends ≡ length shop.jobs
+        as_many_before = ap length back.beside.ends ∙ kept.ends.jobs
 
-        pub ends_less : CanKeepEnds greatest s.layout p.steps new
-        ends_less = can_keep greatest shop w s.layout new gone_back p.steps
-            (steps_of_placement shop (placing shop w) p placed) (ap length back.beside.ends ∙ kept.ends.jobs)
+        module _ (nexts : List ℕ) (wrote : nexts ≡ set s.nexts j mark.position) where
+          are_before : AreNextsOf shop (placing shop w) s.layout nexts
+          are_before = nexts_less nexts wrote
 
-        pub job_less : j < length p.steps
-        job_less = let a = its_job shop w j kept.kept.word in let b = placed.places.steps in omega arith
+          pub ends_less : CanKeepEnds greatest s.layout nexts new
+          ends_less = can_keep greatest shop w s.layout new gone_back nexts are_before as_many_before
 
-        pub fit_less : AreNotesFit greatest (length new.heads) behind
-        fit_less = subst (λ (n : ℕ). AreNotesFit greatest n behind) (sym back.beside.positions)
-            (subst (AreNotesFit greatest (length s.rows.heads)) (sym notes_behind)
-            (all_drop (λ (n : Note). (n.position < length s.rows.heads) × (n.head ≤ greatest)) mark.first
-            s.notes.list kept.notes_fit))
+          pub job_less : j < length nexts
+          job_less = let a = last_known in let b = ap length wrote in omega (arith, length-set s.nexts j mark.position)
 
-        pub noted_less : mark.whole ≡ true → AreEndsButJob greatest s.layout p.steps new behind j
-        noted_less all =
-            ends_between greatest shop (w ++ j ∷ []) w j s.layout s.rows new kept.kept kept.ends p placed others_last
-            back.beside behind (λ q none. ap (λ (hs : List ℕ). get_or hs q 0)
-            (same_heads shop kept.kept.limits s.layout kept.kept.laid (placing shop w) new.heads
-            (restored behind s.rows.heads) gone_back.heads (were all)) ∙ restored_other behind s.rows.heads q none)
+          pub fit_less : AreNotesFit greatest (length new.heads) behind
+          fit_less = subst (λ (n : ℕ). AreNotesFit greatest n behind) (sym back.beside.positions)
+              (subst (AreNotesFit greatest (length s.rows.heads)) (sym notes_behind)
+              (all_drop (λ (n : Note). (n.position < length s.rows.heads) × (n.head ≤ greatest)) mark.first
+              s.notes.list kept.notes_fit))
 
-        pub kept_less : (ended : Rows) → HasEnds new ended → AreEndsOf greatest s.layout p.steps ended
-            → (after : NotesState) → after ≡ record s.notes { list = take mark.first s.notes.list }
-            → (room : ℕ) → room ≡ s.room → (us : List ℕ) → us ≡ [] → IsKeptInLanes greatest shop w
-            (record {
-              layout = s.layout;
-              rows = ended;
-              notes = after;
-              marks = marks;
-              room = room;
-              machines = s.machines;
-              raises = s.raises;
-              estimates = us;
-              top = s.top;
-            })
-        kept_less ended beside ends after truncated room same us none =
-            let list : after.list ≡ take mark.first s.notes.list = ap (λ (n : NotesState). n.list) truncated
-            in let heads = with_ends greatest shop w s.layout new ended beside gone_back
-            in record {
-              kept = heads;
-              notes_fit = subst (λ (hs : List ℕ). AreNotesFit greatest (length hs) after.list) (sym beside.heads)
-                  (subst (λ (n : ℕ). AreNotesFit greatest n after.list) (sym back.beside.positions)
-                  (subst (AreNotesFit greatest (length s.rows.heads)) (sym list)
-                  (all_take (λ (n : Note). (n.position < length s.rows.heads) × (n.head ≤ greatest)) mark.first
-                  s.notes.list kept.notes_fit)));
-              trail = subst (λ (ns : List Note). IsTrail shop s.layout w marks ns ended.heads) (sym list)
-                  (last.trail ended.heads heads.heads);
-              as_many = (let a = ap length popped in let b = length_push marks mark in let c = length_push w j
-                  in let d = kept.as_many in omega arith);
-              marks_room = (let a = kept.marks_room in omega arith);
-              bounds = kept.bounds;
-              ends = ends_at greatest shop w s.layout ended heads p.steps
-                  (steps_of_placement shop (placing shop w) p placed)
-                  (beside.ends ∙ (ap length back.beside.ends ∙ kept.ends.jobs)) kept.bounds.holds ends;
-              estimates = no_estimates s.top s.layout ended us none;
-            }
+          pub noted_less : mark.whole ≡ true → AreEndsButJob greatest nexts new behind j
+          noted_less all =
+              ends_between greatest shop (w ++ j ∷ []) w j s.layout s.rows new kept.kept kept.ends s.nexts nexts
+              kept.nexts are_before
+              (λ i ne. ap (λ (xs : List ℕ). get_or xs i 0) wrote ∙ get_or-set_other s.nexts j i mark.position 0 ne)
+              back.beside behind (λ q none. ap (λ (hs : List ℕ). get_or hs q 0)
+              (same_heads shop kept.kept.limits s.layout kept.kept.laid (placing shop w) new.heads
+              (restored behind s.rows.heads) gone_back.heads (were all)) ∙ restored_other behind s.rows.heads q none)
+
+          pub kept_less : (ended : Rows) → HasEnds new ended → AreEndsOf greatest nexts ended
+              → (after : NotesState) → after ≡ record s.notes { list = take mark.first s.notes.list }
+              → (room : ℕ) → room ≡ s.room → (us : List ℕ) → us ≡ [] → IsKeptInLanes greatest shop w
+              (record {
+                layout = s.layout;
+                rows = ended;
+                nexts = nexts;
+                notes = after;
+                marks = marks;
+                room = room;
+                raises = s.raises;
+                estimates = us;
+                top = s.top;
+              })
+          kept_less ended beside ends after truncated room same us none =
+              let list : after.list ≡ take mark.first s.notes.list = ap (λ (n : NotesState). n.list) truncated
+              in let heads = with_ends greatest shop w s.layout new ended beside gone_back
+              in record {
+                kept = heads;
+                nexts = are_before;
+                notes_fit = subst (λ (hs : List ℕ). AreNotesFit greatest (length hs) after.list) (sym beside.heads)
+                    (subst (λ (n : ℕ). AreNotesFit greatest n after.list) (sym back.beside.positions)
+                    (subst (AreNotesFit greatest (length s.rows.heads)) (sym list)
+                    (all_take (λ (n : Note). (n.position < length s.rows.heads) × (n.head ≤ greatest)) mark.first
+                    s.notes.list kept.notes_fit)));
+                trail = subst (λ (ns : List Note). IsTrail shop s.layout w marks ns ended.heads) (sym list)
+                    (last.trail ended.heads heads.heads);
+                as_many = (let a = ap length popped in let b = length_push marks mark in let c = length_push w j
+                    in let d = kept.as_many in omega arith);
+                marks_room = (let a = kept.marks_room in omega arith);
+                bounds = kept.bounds;
+                ends = ends_at greatest shop w s.layout ended heads nexts are_before
+                    (beside.ends ∙ as_many_before) kept.bounds.holds ends;
+                estimates = no_estimates s.top s.layout ended us none;
+              }
 
 -- heads that were raised and put back
 pub kept_again : (greatest : ℕ) (shop : Shop) (w : List ℕ) (s : LaneState) → IsKeptInLanes greatest shop w s
@@ -232,6 +325,7 @@ kept_again greatest shop w s kept new heads ends after list raises many empty us
     kept.kept.heads heads.heads
     in record {
       kept = heads;
+      nexts = kept.nexts;
       notes_fit = subst (λ (hs : List ℕ). AreNotesFit greatest (length hs) after.list) same
           (subst (AreNotesFit greatest (length s.rows.heads)) (sym list) kept.notes_fit);
       trail = subst (λ (hs : List ℕ). IsTrail shop s.layout w s.marks after.list hs) same
@@ -239,7 +333,6 @@ kept_again greatest shop w s kept new heads ends after list raises many empty us
       as_many = kept.as_many;
       marks_room = kept.marks_room;
       bounds = record {
-        machines_at = kept.bounds.machines_at;
         as_many = many ∙ kept.bounds.as_many;
         at_rest = empty;
         top_is = kept.bounds.top_is;

@@ -9,7 +9,7 @@ use Rattle.shop_model.specs.Limits.{IsWithinLimits}
 use Rattle.shop_model.specs.Shop.{Shop}
 use Rattle.shop_model.specs.Word.{Placing, placing}
 use Rattle.shop_bound.specs.inner.LaneHeads.{AreHeadsAt, IsTrail, IsTrailBack, LeadsBack, NotesState, restored}
-use Rattle.shop_bound.specs.inner.Layouts.{LayoutState, IsLaidOut}
+use Rattle.shop_bound.specs.inner.Layouts.{LayoutState, IsLaidOut, place}
 use Rattle.shop_bound.specs.declared.notes.Mark.{Mark}
 use Rattle.shop_bound.specs.declared.notes.Note.{Note}
 use Rattle.shop_bound.proofs.LaidPlaces.{each_position}
@@ -43,8 +43,9 @@ pub trail_more : (shop : Shop) → IsWithinLimits shop → (l : LayoutState) →
     → (w : List ℕ) (j : ℕ) (marks : List Mark) (mark : Mark) (before begun after : NotesState) (old new : List ℕ)
     → AreHeadsAt shop (placing shop w) l old → IsTrail shop l w marks before.list old → begun.list ≡ before.list
     → mark.first ≡ length before.list → mark.whole ≡ after.whole → LeadsBack greatest begun after old new
+    → mark.position ≡ place l j ((placing shop w).steps j)
     → IsTrail shop l (w ++ j ∷ []) (marks ++ mark ∷ []) after.list new
-trail_more shop limits l laid greatest w j marks mark before begun after old new heads trail same first whole back =
+trail_more shop limits l laid greatest w j marks mark before begun after old new heads trail same first whole back at =
     let are : after.list ≡ before.list ++ back.more = back.are ∙ ap (λ (ns : List Note). ns ++ back.more) same
     in let cut : take mark.first after.list ≡ before.list =
     ap (take mark.first) are ∙ (ap (λ (n : ℕ). take n (before.list ++ back.more)) first
@@ -63,6 +64,7 @@ trail_more shop limits l laid greatest w j marks mark before begun after old new
           (subst (λ (hs : List ℕ). IsTrailBack shop l (reverse w) (reverse marks) before.list hs)
           (same_heads shop limits l laid (placing shop w) old was heads
           (subst (λ (p : Placing). AreHeadsAt shop p l was) back_to are_was)) trail)),
+      at ∙ ap (λ (p : Placing). place l j (p.steps j)) (sym back_to),
     )
     in subst (λ (v : List ℕ). IsTrailBack shop l v (reverse (marks ++ mark ∷ [])) after.list new)
     (sym (reverse_push w j))
@@ -70,8 +72,9 @@ trail_more shop limits l laid greatest w j marks mark before begun after old new
     trail_back)
 
 -- what the last mark says
-pub record LeadsToLast (shop : Shop) (l : LayoutState) (w : List ℕ) (marks : List Mark) (mark : Mark)
+pub record LeadsToLast (shop : Shop) (l : LayoutState) (w : List ℕ) (j : ℕ) (marks : List Mark) (mark : Mark)
     (notes : List Note) (heads : List ℕ) : Type 0 where
+  pub position : mark.position ≡ place l j ((placing shop w).steps j)
   pub first : mark.first ≤ length notes
   pub whole : mark.whole ≡ true → AreHeadsAt shop (placing shop w) l (restored (drop mark.first notes) heads)
   pub trail : (before : List ℕ) → AreHeadsAt shop (placing shop w) l before
@@ -79,13 +82,14 @@ pub record LeadsToLast (shop : Shop) (l : LayoutState) (w : List ℕ) (marks : L
 
 pub trail_less : (shop : Shop) (l : LayoutState) (w : List ℕ) (j : ℕ) (marks : List Mark) (mark : Mark)
     (notes : List Note) (heads : List ℕ) → IsTrail shop l (w ++ j ∷ []) (marks ++ mark ∷ []) notes heads
-    → LeadsToLast shop l w marks mark notes heads
+    → LeadsToLast shop l w j marks mark notes heads
 trail_less shop l w j marks mark notes heads trail =
     let back_to : placing shop (reverse (reverse w)) ≡ placing shop w = ap (placing shop) (reverse-reverse w)
     in let last : IsTrailBack shop l (j ∷ reverse w) (mark ∷ reverse marks) notes heads =
     subst (λ (ms : List Mark). IsTrailBack shop l (j ∷ reverse w) ms notes heads) (reverse_push marks mark)
     (subst (λ (v : List ℕ). IsTrailBack shop l v (reverse (marks ++ mark ∷ [])) notes heads) (reverse_push w j) trail)
     in record {
+      position = last.3 ∙ ap (λ (p : Placing). place l j (p.steps j)) back_to;
       first = last.0;
       whole = λ yes. subst (λ (p : Placing). AreHeadsAt shop p l (restored (drop mark.first notes) heads)) back_to
           (last.1 yes);

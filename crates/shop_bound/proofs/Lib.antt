@@ -4,6 +4,7 @@ pub mod LaneConflicts
 pub mod LaneEnds
 pub mod NonincreasingTails
 pub mod RestoredNotes
+pub mod Followed
 pub mod RaiseWalks
 pub mod RaiseSteps
 pub mod RaiseLoops

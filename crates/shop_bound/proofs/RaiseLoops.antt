@@ -10,7 +10,7 @@ use Rattle.shop_bound.specs.inner.Layouts.{LayoutState}
 use Rattle.shop_bound.specs.inner.LaneHeads.{NotesState}
 use Rattle.shop_bound.specs.inner.RisingLists.{IsIn, Rises}
 use Rattle.shop_bound.specs.inner.Raises.{at_in, AreInRouteOrder, IsRaised, IsLeastRaise, IsRaisable, Raises}
-use Rattle.shop_bound.specs.inner.Raises.{IsIndexed, IsPosition, IsInBlocks}
+use Rattle.shop_bound.specs.inner.Raises.{IsFollowed, IsIndexed, IsPosition, IsInBlocks}
 use Rattle.shop_bound.proofs.RestoredNotes.{back_none, back_both}
 
 weaker : (l : LayoutState) (A B : ℕ → Type 0) (e : ℕ) (old new : ℕ → ℕ) → ((q : ℕ) → B q → A q)
@@ -71,6 +71,7 @@ pub still_raisable : (greatest : ℕ) (l : LayoutState) (A B C : ℕ → Type 0)
     → IsRaisable greatest l b B e
 still_raisable greatest l A B C e a b n m can x in_a in_b = record {
   indexed = subst (λ (k : ℕ). IsIndexed l k) (sym x.raised.positions) can.indexed;
+  followed = subst (λ (k : ℕ). IsFollowed l k) (sym x.raised.positions) can.followed;
   times = x.times ∙ can.times;
   places = λ q waits. can.places q (elim (cases_eq (get_or a.heads q 0) 0) [
     | inl z ↦ (let y = x.raised.raised.rests q z in absurd (omega arith))

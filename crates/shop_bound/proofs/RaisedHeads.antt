@@ -12,8 +12,9 @@ use Rattle.shop_model.proofs.Placings.{IsNext}
 use Rattle.shop_lanes.specs.Rows.{Rows}
 use Rattle.shop_bound.specs.Heads.{head_of, ready_after}
 use Rattle.shop_bound.specs.inner.LaneHeads.{AreHeadsAt}
+use Rattle.shop_bound.specs.inner.Layings.{place_or}
 use Rattle.shop_bound.specs.inner.Layouts.{LayoutState, place, first_of, IsLaidOut}
-use Rattle.shop_bound.specs.inner.Raises.{steps_of, at_in, IsIndexed, IsPlace, AreInRouteOrder, IsRaised}
+use Rattle.shop_bound.specs.inner.Raises.{steps_of, at_in, IsFollowed, IsIndexed, IsPlace, AreInRouteOrder, IsRaised}
 use Rattle.shop_bound.specs.inner.Raises.{IsLeastRaise, IsRaisable, IsOnMachine, HasBlocks}
 use Rattle.shop_bound.proofs.HeadsRise.{heads_up}
 use Rattle.shop_bound.proofs.HeadsStay.{ready_first_same, steps_rise}
@@ -41,6 +42,16 @@ module _ (shop : Shop) (limits : IsWithinLimits shop) (l : LayoutState) (laid : 
       job = a.job;
       step = a.step;
     });
+  }
+
+  pub followed : (n : ℕ) → n ≡ first_of l shop.machines → IsFollowed l n
+  followed n is = record {
+    following = laid.positions.following ∙ sym is;
+    follows = λ j k h. (let a = place_of shop limits l laid j k (operation_in j k h)
+        in laid.follows (place l j k) a.within
+        ∙ (ap (λ (i : ℕ). place_or (first_of l shop.machines) l.places i (get_or l.steps (place l j k) 0 + 1)) a.job
+        ∙ (ap (λ (t : ℕ). place_or (first_of l shop.machines) l.places j (t + 1)) a.step
+        ∙ ap (λ (x : ℕ). place_or x l.places j (k + 1)) (sym is))));
   }
 
   pub has_blocks : (n m : ℕ) → n ≡ first_of l shop.machines → m < shop.machines → HasBlocks l n m
@@ -201,6 +212,7 @@ module _ (shop : Shop) (limits : IsWithinLimits shop) (l : LayoutState) (laid : 
             target_raised)
             in record {
               indexed = indexed (length rows.heads) (ap length heads ∙ are.positions);
+              followed = followed (length rows.heads) (ap length heads ∙ are.positions);
               times = times;
               places = λ r some.
                   let w = waits_at r (let a : get_or rows.heads r 0 ≡ get_or old r 0 =

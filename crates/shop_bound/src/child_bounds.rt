@@ -1,5 +1,5 @@
 // The bound after one more operation, by heads in lanes.
-ghost use Rattle.std.specs.Prelude.{◌≡◌};
+ghost use Rattle.std.specs.Prelude.{◌≡◌, ◌<◌, ◌^◌, length, slice_index};
 ghost use Rattle.shop_bound.specs.inner.ChildBounds.{HasNextInPlace, IsNextOperation};
 ghost use Rattle.shop_bound.specs.inner.ChildBounds.{HasRaised, IsBoundByRaises, KeepsRaises};
 ghost use Rattle.shop_bound.specs.inner.ChildBounds.{TellsRaisedBound};
@@ -24,22 +24,13 @@ pub(crate) struct NextOperation {
     pub end: u64,
 }
 
-/// Where the next operation of a job stands, and when it ends.
+/// The next operation of a job, which stands at this position.
 #[inline(always)]
-fn next_operation<L: Lanes>(
-    lanes: &L,
-    layout: &Layout,
-    machines: &[u32],
-    instance: &Instance,
-    placement: &Placement,
-    job: usize,
-) -> NextOperation
-    requires { HasNextInPlace L.GREATEST instance.now layout.now placement.now job
-        machines.now (L.rows lanes.now) }
-    ensures { IsNextOperation L.GREATEST instance.now layout.now placement.now job
-        (L.rows lanes.now) result.position result.machine result.end }
+fn next_operation<L: Lanes>(lanes: &L, machines: &[u32], position: usize) -> NextOperation
+    requires { HasNextInPlace L.GREATEST machines.now position (L.rows lanes.now) }
+    ensures { IsNextOperation L.GREATEST machines.now position (L.rows lanes.now)
+        result.position result.machine result.end }
 {
-    let position = layout.places(job)[placement.steps(job)] as usize;
     let end = lanes.head(position) + lanes.time(position);
     NextOperation {
         position,
@@ -65,7 +56,7 @@ impl<L: Lanes> LaneHeads<L> {
         let upper = self.estimates.upper();
         self.raises.add_notes(
             &self.lanes,
-            self.machines.as_slice(),
+            self.layout.machines(),
             noted,
             next,
             upper,
@@ -85,7 +76,10 @@ impl<L: Lanes> LaneHeads<L> {
         least: u64,
         limit: u64,
     ) -> u64
-        requires { CanGoOnInLanes L.GREATEST instance.now job placement.now self.old }
+        requires can { CanGoOnInLanes L.GREATEST instance.now job placement.now self.old }
+        requires position { next.position ≡ slice_index self.old.nexts job }
+        requires machine { next.machine ≡ slice_index self.old.layout.machines next.position }
+        requires small { length self.old.rows.heads < 2 ^ 64 }
         ensures bound { TellsRaisedBound L.GREATEST instance.now job placement.now self.old
             next.position next.machine next.end least limit result }
         ensures kept { KeepsLanes L.GREATEST instance.now placement.now self.old self.new }
@@ -93,14 +87,12 @@ impl<L: Lanes> LaneHeads<L> {
         let machines = self.raises.machines();
         self.estimates
             .take(&self.lanes, &self.layout, machines, self.top);
-        let step = placement.steps(job);
         let mark = advance(
             &mut self.lanes,
             &mut self.notes,
             &self.layout,
-            instance,
-            job,
-            step,
+            next.position,
+            next.machine,
         );
         let bound = self.bound_by_raises(mark, next, least, limit);
         let noted = &self.notes.list()[mark.first..];
@@ -131,15 +123,8 @@ impl<L: Lanes> LaneHeads<L> {
             limit self.old result }
         ensures kept { KeepsLanes L.GREATEST instance.now placement.now self.old self.new }
     {
-        let machines = self.machines.as_slice();
-        let next = next_operation(
-            &self.lanes,
-            &self.layout,
-            machines,
-            instance,
-            placement,
-            job,
-        );
+        let machines = self.layout.machines();
+        let next = next_operation(&self.lanes, machines, self.next[job]);
         let least = bound.max(next.end - 1);
         if limit <= least {
             return least;

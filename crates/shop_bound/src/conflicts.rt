@@ -14,7 +14,7 @@ impl<'a> Desk<'a> {
         ensures jobs { jobs.new.items ≡ conflict self.now.shop self.now.word }
         ensures room { vec_capacity jobs.old ≤ vec_capacity jobs.new }
     {
-        (*self.waiting).gather_conflict(jobs, self.instance, &self.placement);
+        (*self.waiting).gather_conflict(jobs);
     }
 
     /// Where the conflict set is one job, its next operation leaves the bound as it is. (A fact for proofs; the call

@@ -64,10 +64,9 @@ impl<'a> Desk<'a> {
         ensures { self.new ≡ goes_on self.old job }
     {
         let instance = self.instance;
-        let step = self.placement.steps(job);
         let replaced = self.placement.next_replaces(instance, job);
         self.placement.place_next(instance, job);
-        (*self.waiting).dispatch(instance, &self.placement, job, step);
+        (*self.waiting).dispatch(job);
         self.jobs.push(job).unwrap();
         self.replaced.push(replaced).unwrap();
     }

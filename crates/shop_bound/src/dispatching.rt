@@ -1,34 +1,33 @@
 // Heads by position with one more operation.
+ghost use Rattle.std.specs.Prelude.{◌≡◌, slice_index};
 ghost use Rattle.shop_bound.specs.inner.LaneStates.{Advances, HasNextAt};
 
 use crate::layouts::Layout;
 use crate::notes::{Mark, Notes};
 use crate::raises::{raise, replace};
 use shop_lanes::Lanes;
-use shop_model::Instance;
 
-/// Takes the next step of a job, which is this one, out of the heads and raises those that its end raises. What they
-/// were is noted behind the mark.
+/// Takes the next operation of a job, which stands at this position and is on this machine, out of the heads and raises
+/// those that its end raises. What they were is noted behind the mark.
 #[inline(always)]
 pub(crate) fn advance<L: Lanes>(
     lanes: &mut L,
     notes: &mut Notes,
     layout: &Layout,
-    instance: &Instance,
-    job: usize,
-    step: usize,
+    position: usize,
+    machine: usize,
 ) -> Mark
-    requires { HasNextAt L.GREATEST instance.now layout.now job step (L.rows lanes.old) }
-    ensures { Advances L.GREATEST instance.now layout.now job step (L.rows lanes.old)
+    requires next { HasNextAt L.GREATEST layout.now position (L.rows lanes.old) }
+    requires machine { machine ≡ slice_index layout.now.machines position }
+    ensures { Advances L.GREATEST layout.now position (L.rows lanes.old)
         (L.rows lanes.new) notes.old notes.new result }
 {
-    let position = layout.places(job)[step] as usize;
-    let machine = instance.route(job)[step].machine;
     let end = lanes.head(position) + lanes.time(position);
     let first = notes.begin();
     replace(lanes, notes, position, 0);
     raise(lanes, notes, layout, machine, end);
     Mark {
+        position,
         first,
         whole: notes.is_whole(),
     }

@@ -3,14 +3,13 @@ ghost use Rattle.std.specs.Prelude.{◌≡◌, ℕ, ◌+◌, ◌*◌, ◌≤◌,
 ghost use Rattle.shop_lanes.specs.Rows.{AreBlocks};
 ghost use Rattle.shop_lanes.specs.Spans.{FitsSpan, spans_between};
 ghost use Rattle.shop_model.specs.Shop.{greatest_below};
-ghost use Rattle.shop_bound.specs.inner.LaneBounds.{AreMachinesAt, AreSpansFit, lanes_on};
+ghost use Rattle.shop_bound.specs.inner.LaneBounds.{AreSpansFit, lanes_on};
 ghost use Rattle.shop_bound.specs.inner.LaneBounds.{part_by_spans};
 ghost use Rattle.shop_bound.specs.inner.MachineRaises.{IsBoundByRaise};
 
 use crate::head_raises::Raise;
 use crate::layouts::Layout;
 use shop_lanes::Lanes;
-use std::alloc::{AllocError, Global};
 
 /// The greatest, over the machines, of when it is free and of the bound of what waits for it. `top` is one more than
 /// the latest end.
@@ -78,25 +77,4 @@ pub(crate) fn bound_by_all<L: Lanes>(
         bound = bound_by_raise(lanes, layout, machine, all, bound, limit);
     }
     bound
-}
-
-/// The machine of each position. Fails with `AllocError` if memory runs out.
-pub(crate) fn machines_of(
-    alloc: Global,
-    layout: &Layout,
-    machines: usize,
-) -> Result<Vec<u32>, AllocError>
-    requires known { length layout.now.blocks ≡ machines + 1 }
-    requires few { machines < 2 ^ 32 }
-    requires from_0 { slice_index layout.now.blocks 0 ≡ 0 }
-    requires ordered { (m : ℕ) → m < machines
-        → slice_index layout.now.blocks m ≤ slice_index layout.now.blocks (m + 1) }
-    requires small { (m : ℕ) → m ≤ machines → 8 * slice_index layout.now.blocks m < 2 ^ 64 }
-    ensures { IfOk result (λ v. AreMachinesAt layout.now machines v.items) }
-{
-    let mut positions = Vec::new(alloc);
-    for machine in 0..machines {
-        positions.resize(8 * layout.block(machine + 1), machine as u32)?;
-    }
-    Ok(positions)
 }

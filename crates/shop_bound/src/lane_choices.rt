@@ -9,7 +9,6 @@ ghost use Rattle.shop_bound.specs.inner.RisingLists.{IsRisingBelow, TellsBefore}
 
 use crate::layouts::Layout;
 use shop_lanes::Lanes;
-use shop_model::Instance;
 
 /// The place in an ascending list behind all jobs that are no higher.
 #[inline(always)]
@@ -54,7 +53,7 @@ fn gather_in_blocks<L: Lanes>(
     jobs: &mut Vec<usize>,
     lanes: &L,
     layout: &Layout,
-    steps: &[usize],
+    next: &[usize],
     from: usize,
     to: usize,
     limit: u64,
@@ -62,19 +61,19 @@ fn gather_in_blocks<L: Lanes>(
     requires blocks { AreBlocks (L.rows lanes.now) from to }
     requires few { to ≤ from + 8 }
     requires fits { limit ≤ L.GREATEST }
-    requires placed { AreNextPlaced layout.now (L.rows lanes.now).heads steps.now }
-    requires list { IsRisingBelow (length steps.now) jobs.old.items }
-    requires room { length steps.now ≤ vec_capacity jobs.old }
+    requires placed { AreNextPlaced layout.now (L.rows lanes.now).heads next.now }
+    requires list { IsRisingBelow (length next.now) jobs.old.items }
+    requires room { length next.now ≤ vec_capacity jobs.old }
     ensures gathered { HasGathered
-        (IsNextBelow layout.now steps.now (L.rows lanes.now).heads (IsInBlocks from to) limit)
+        (IsNextBelow next.now (L.rows lanes.now).heads (IsInBlocks from to) limit)
         jobs.old.items jobs.new.items }
-    ensures list { IsRisingBelow (length steps.now) jobs.new.items }
+    ensures list { IsRisingBelow (length next.now) jobs.new.items }
     ensures room { vec_capacity jobs.old ≤ vec_capacity jobs.new }
 {
     let mut below = lanes.below(from, to, limit);
     while let Some(position) = below.pop_first() {
         let job = layout.job(position);
-        if layout.step(position) == steps[job] {
+        if next[job] == position {
             put(jobs, job);
         }
     }
@@ -86,26 +85,26 @@ fn gather_on_machine<L: Lanes>(
     jobs: &mut Vec<usize>,
     lanes: &L,
     layout: &Layout,
-    steps: &[usize],
+    next: &[usize],
     machine: usize,
     limit: u64,
 )
     requires machine { HasBlocks layout.now (length (L.rows lanes.now).heads) machine }
     requires fits { limit ≤ L.GREATEST }
-    requires placed { AreNextPlaced layout.now (L.rows lanes.now).heads steps.now }
-    requires list { IsRisingBelow (length steps.now) jobs.old.items }
-    requires room { length steps.now ≤ vec_capacity jobs.old }
+    requires placed { AreNextPlaced layout.now (L.rows lanes.now).heads next.now }
+    requires list { IsRisingBelow (length next.now) jobs.old.items }
+    requires room { length next.now ≤ vec_capacity jobs.old }
     ensures gathered { HasGathered
-        (IsNextBelow layout.now steps.now (L.rows lanes.now).heads
+        (IsNextBelow next.now (L.rows lanes.now).heads
         (IsOnMachine layout.now machine) limit) jobs.old.items jobs.new.items }
-    ensures list { IsRisingBelow (length steps.now) jobs.new.items }
+    ensures list { IsRisingBelow (length next.now) jobs.new.items }
     ensures room { vec_capacity jobs.old ≤ vec_capacity jobs.new }
 {
     let behind = layout.block(machine + 1);
     let mut from = layout.block(machine);
     while from < behind {
         let to = from + (behind - from).min(8);
-        gather_in_blocks(jobs, lanes, layout, steps, from, to, limit);
+        gather_in_blocks(jobs, lanes, layout, next, from, to, limit);
         from = to;
     }
 }
@@ -116,24 +115,27 @@ pub(crate) fn gather_conflict<L: Lanes>(
     jobs: &mut Vec<usize>,
     lanes: &L,
     layout: &Layout,
-    instance: &Instance,
-    steps: &[usize],
+    next: &[usize],
 )
-    requires kept { CanChoose L.GREATEST instance.now layout.now steps.now (L.rows lanes.now) }
-    requires room { length instance.now.jobs ≤ vec_capacity jobs.old }
-    ensures jobs { AreInConflict L.GREATEST instance.now layout.now steps.now
-        (L.rows lanes.now) jobs.new.items }
+    requires kept { CanChoose L.GREATEST layout.now next.now (L.rows lanes.now) }
+    requires room { length next.now ≤ vec_capacity jobs.old }
+    ensures jobs { AreInConflict L.GREATEST layout.now next.now (L.rows lanes.now) jobs.new.items }
     ensures room { vec_capacity jobs.old ≤ vec_capacity jobs.new }
 {
     jobs.clear();
     let chosen = lanes.first_least_end();
-    let step = steps[chosen];
-    let route = instance.route(chosen);
-    if step >= route.len() {
+    let position = next[chosen];
+    if position >= layout.positions() {
         return;
     }
-    let position = layout.places(chosen)[step] as usize;
     let end = lanes.head(position) + lanes.time(position);
     put(jobs, chosen);
-    gather_on_machine(jobs, lanes, layout, steps, route[step].machine, end);
+    gather_on_machine(
+        jobs,
+        lanes,
+        layout,
+        next,
+        layout.machines()[position] as usize,
+        end,
+    );
 }

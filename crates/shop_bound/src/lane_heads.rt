@@ -11,7 +11,6 @@ ghost use Rattle.shop_bound.specs.inner.LaneStates.{KeepsNext};
 use crate::dispatching::advance;
 use crate::estimates::Estimates;
 use crate::fills::{fill, go_back};
-use crate::lane_bounds::machines_of;
 use crate::lane_ends::{keep_ends, set_ends};
 use crate::latest_ends::latest_end;
 use crate::layouts::Layout;
@@ -29,10 +28,10 @@ use std::marker::Model;
 pub(crate) struct LaneHeads<L: Lanes> {
     pub(crate) layout: Layout,
     pub(crate) lanes: L,
+    /// next[job]: the position of its next operation, or the number of all positions
+    pub(crate) next: Vec<usize>,
     pub(crate) notes: Notes,
     marks: Vec<Mark>,
-    /// machines[position]
-    pub(crate) machines: Vec<u32>,
     /// for the bound at hand
     pub(crate) raises: MachineRaises,
     /// for the heads at hand
@@ -50,10 +49,10 @@ impl<L: Lanes> Model for LaneHeads<L> {
     ghost view = { λ h. record {
       layout = h.layout;
       rows = L.rows h.lanes;
+      nexts = h.next.items;
       notes = h.notes;
       marks = h.marks.items;
       room = vec_capacity h.marks;
-      machines = h.machines.items;
       raises = h.raises;
       estimates = h.estimates;
       top = h.top;
@@ -78,46 +77,43 @@ impl<L: Lanes> LaneHeads<L> {
         instance.keeps_limits();
         let mut lanes = L::new(alloc, layout.times(), layout.tails(), instance.jobs())?;
         fill(&mut lanes, &layout, instance, placement);
-        set_ends(&mut lanes, &layout, placement.jobs_steps());
+        let next = layout.first_positions(alloc, instance.jobs())?;
+        set_ends(&mut lanes, &layout, next.as_slice());
         let room = instance.operations();
         let notes = Notes::with_room(alloc, 4 * room)?;
         let marks = Vec::with_capacity(alloc, room)?;
         let machines = instance.machines();
         let blocks = layout.block(machines) / machines.max(1);
         Ok(LaneHeads {
-            machines: machines_of(alloc, &layout, machines)?,
             raises: MachineRaises::new(alloc, machines)?,
             estimates: Estimates::new(alloc, machines, blocks)?,
             top: latest_end(instance) + 1,
             layout,
             lanes,
+            next,
             notes,
             marks,
         })
     }
 
-    /// One more operation of a job, whose next step this was, is dispatched; the placement is that of the word with it.
-    pub(crate) fn dispatch(
-        &mut self,
-        instance: &Instance,
-        placement: &Placement,
-        job: usize,
-        step: usize,
-    )
-        requires { HasNextInLanes L.GREATEST instance.now placement.now job step self.old }
-        ensures { KeepsNext L.GREATEST instance.now placement.now job step self.old self.new }
+    /// One more operation of a job is dispatched.
+    pub(crate) fn dispatch(&mut self, job: usize)
+        requires { HasNextInLanes L.GREATEST job self.old }
+        ensures { KeepsNext L.GREATEST job self.old self.new }
     {
+        let position = self.next[job];
+        let machine = self.layout.machines()[position] as usize;
         let mark = advance(
             &mut self.lanes,
             &mut self.notes,
             &self.layout,
-            instance,
-            job,
-            step,
+            position,
+            machine,
         );
-        let steps = placement.jobs_steps();
+        self.next[job] = self.layout.following(position);
+        let next = self.next.as_slice();
         let noted = &self.notes.list()[mark.first..];
-        keep_ends(&mut self.lanes, &self.layout, steps, job, noted, mark.whole);
+        keep_ends(&mut self.lanes, &self.layout, next, job, noted, mark.whole);
         self.marks.push(mark).unwrap();
         self.estimates.forget();
     }
@@ -137,8 +133,9 @@ impl<L: Lanes> LaneHeads<L> {
             noted,
             last.whole,
         );
-        let steps = placement.jobs_steps();
-        keep_ends(&mut self.lanes, &self.layout, steps, job, noted, last.whole);
+        self.next[job] = last.position;
+        let next = self.next.as_slice();
+        keep_ends(&mut self.lanes, &self.layout, next, job, noted, last.whole);
         self.notes.truncate(last.first);
         self.estimates.forget();
     }

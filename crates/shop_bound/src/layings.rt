@@ -1,10 +1,11 @@
 // The operations of an instance come to their positions.
-ghost use Rattle.std.specs.Prelude.{◌≡◌, ◌+◌, ◌*◌, ◌<◌, ◌≤◌, ◌^◌, All, IfOk, length, map};
+ghost use Rattle.std.specs.Prelude.{◌≡◌, ℕ, ◌+◌, ◌-◌, ◌*◌, ◌<◌, ◌≤◌, ◌^◌, All, IfOk, length, map};
+ghost use Rattle.std.specs.Prelude.{slice_index};
 ghost use Rattle.shop_bound.specs.Slots.{AreMachineSlots};
 ghost use Rattle.shop_bound.specs.Vectors.{items_in};
 ghost use Rattle.shop_bound.specs.inner.Layings.{AreApart, AreCells, AreNoted, ArePlaces};
-ghost use Rattle.shop_bound.specs.inner.Layings.{AreShorter, HasRoutes};
-ghost use Rattle.shop_bound.specs.inner.Layings.{IsInRows};
+ghost use Rattle.shop_bound.specs.inner.Layings.{AreMachinesOf, AreShorter, HasRoutes};
+ghost use Rattle.shop_bound.specs.inner.Layings.{IsInRows, place_after};
 
 use crate::slots::Slot;
 use shop_model::Instance;
@@ -128,4 +129,46 @@ pub(crate) fn places_of(
         note_places(places.as_mut_slice(), lists[m].as_slice(), first);
     }
     Ok(places)
+}
+
+/// The position of the step that follows each cell's on its route, or the number of all positions where none does.
+pub(crate) fn following_of(
+    alloc: Global,
+    slots: &[Slot],
+    places: &[Vec<u32>],
+) -> Result<Vec<u32>, AllocError>
+    requires jobs { All (λ s. s.job < length places.now) slots.now }
+    requires steps { All (λ s. s.step < 2 ^ 32) slots.now }
+    requires few { length slots.now < 2 ^ 32 }
+    ensures { IfOk result (λ v. v.items
+        ≡ map (place_after (length slots.now) (items_in places.now)) slots.now) }
+{
+    let mut following = Vec::new(alloc);
+    for s in slots {
+        let route = places[s.job].as_slice();
+        let next = s.step + 1;
+        following.push(if next < route.len() {
+            route[next]
+        } else {
+            slots.len() as u32
+        })?;
+    }
+    Ok(following)
+}
+
+/// The machine of each cell, by the first block of each machine.
+pub(crate) fn machines_of(alloc: Global, blocks: &[u32]) -> Result<Vec<u32>, AllocError>
+    requires from_0 { slice_index blocks.now 0 ≡ 0 }
+    requires some { 0 < length blocks.now }
+    requires ordered { (m : ℕ) → m + 1 < length blocks.now
+        → slice_index blocks.now m ≤ slice_index blocks.now (m + 1) }
+    requires few { All (λ b. b ≤ 10000800) blocks.now }
+    requires small { length blocks.now ≤ 101 }
+    ensures { IfOk result (λ v. AreMachinesOf blocks.now (length blocks.now - 1) v.items) }
+{
+    let mut machines = Vec::new(alloc);
+    for machine in 0..blocks.len() - 1 {
+        machines.resize(8 * blocks[machine + 1] as usize, machine as u32)?;
+    }
+    Ok(machines)
 }

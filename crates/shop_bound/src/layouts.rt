@@ -1,8 +1,10 @@
 // The operations of an instance by position.
 ghost use Rattle.std.specs.Prelude.{◌≡◌, ◌<◌, IfOk, length, slice_index, slice_index_or, []};
-ghost use Rattle.shop_bound.specs.inner.Layouts.{IsLaidOut};
+ghost use Rattle.shop_bound.specs.inner.Layouts.{AreFirsts, IsLaidOut};
 
-use crate::layings::{Cells, cells_of, jobs_of, places_of, steps_of, tails_of, times_of};
+use crate::layings::{
+    Cells, cells_of, following_of, jobs_of, machines_of, places_of, steps_of, tails_of, times_of,
+};
 use crate::slots::machine_slots;
 use shop_model::Instance;
 use std::alloc::{AllocError, Global};
@@ -24,6 +26,10 @@ pub(crate) struct Layout {
     places: Vec<Vec<u32>>,
     /// blocks[machine]: its first block; behind the last machine's the number of all blocks
     blocks: Vec<u32>,
+    /// machines[position]
+    machines: Vec<u32>,
+    /// following[position]: the position of the step that follows on the route, or the number of all positions
+    following: Vec<u32>,
 }
 
 impl Model for Layout {
@@ -39,6 +45,8 @@ impl Model for Layout {
       tails = l.tails.items;
       places = items_in l.places.items;
       blocks = l.blocks.items;
+      machines = l.machines.items;
+      following = l.following.items;
     } };
 }
 
@@ -56,6 +64,8 @@ impl Layout {
             steps: steps_of(alloc, slots.as_slice())?,
             times: times_of(alloc, slots.as_slice())?,
             tails: tails_of(alloc, slots.as_slice())?,
+            machines: machines_of(alloc, blocks.as_slice())?,
+            following: following_of(alloc, slots.as_slice(), places.as_slice())?,
             places,
             blocks,
         })
@@ -105,5 +115,50 @@ impl Layout {
         ensures { result ≡ slice_index self.now.blocks machine }
     {
         self.blocks[machine] as usize
+    }
+
+    /// The machine of the operation at each position.
+    pub(crate) fn machines(&self) -> &[u32]
+        ensures { result.now ≡ self.now.machines }
+    {
+        self.machines.as_slice()
+    }
+
+    /// The position of the step that follows on the route of the operation at a position, or the number of all
+    /// positions.
+    pub(crate) fn following(&self, position: usize) -> usize
+        requires { position < length self.now.following }
+        ensures { result ≡ slice_index self.now.following position }
+    {
+        self.following[position] as usize
+    }
+
+    /// How many positions there are.
+    pub(crate) fn positions(&self) -> usize
+        ensures { result ≡ length self.now.following }
+    {
+        self.following.len()
+    }
+
+    /// The position of each job's first step, or the number of all positions where it has none. Fails with `AllocError`
+    /// if memory runs out.
+    pub(crate) fn first_positions(
+        &self,
+        alloc: Global,
+        jobs: usize,
+    ) -> Result<Vec<usize>, AllocError>
+        requires { length self.now.places ≡ jobs }
+        ensures { IfOk result (λ v. AreFirsts self.now jobs v.items) }
+    {
+        let mut next = Vec::with_capacity(alloc, jobs)?;
+        for job in 0..jobs {
+            let route = self.places(job);
+            next.push(if route.is_empty() {
+                self.positions()
+            } else {
+                route[0] as usize
+            })?;
+        }
+        Ok(next)
     }
 }

@@ -12,9 +12,11 @@ pub(crate) struct Note {
     pub head: u64,
 }
 
-/// How many notes stood before an operation was dispatched, and whether all that it replaced was noted.
+/// The position of an operation that was dispatched, how many notes stood before, and whether all that it replaced was
+/// noted.
 #[derive(Clone, Copy, Debug)]
 pub(crate) struct Mark {
+    pub position: usize,
     pub first: usize,
     pub whole: bool,
 }

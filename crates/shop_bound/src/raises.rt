@@ -39,14 +39,14 @@ fn raise_from<L: Lanes>(
 {
     replace(lanes, notes, position, end);
     let mut ready = end + lanes.time(position);
-    let route = layout.places(layout.job(position));
-    for step in layout.step(position) + 1..route.len() {
-        let next = route[step] as usize;
+    let mut next = layout.following(position);
+    while next < layout.positions() {
         if lanes.head(next) >= ready {
             return;
         }
         replace(lanes, notes, next, ready);
         ready += lanes.time(next);
+        next = layout.following(next);
     }
 }
 

@@ -46,22 +46,16 @@ impl Waiting {
         Ok(Waiting::InPlain(heads))
     }
 
-    /// One more operation of a job, whose next step this was, is dispatched; the placement is that of the word with it.
+    /// One more operation of a job is dispatched.
     #[inline(always)]
-    pub(crate) fn dispatch(
-        &mut self,
-        instance: &Instance,
-        placement: &Placement,
-        job: usize,
-        step: usize,
-    )
-        requires { HasNextWaiting instance.now placement.now job step self.old }
-        ensures { WaitsOn instance.now placement.now job step self.old self.new }
+    pub(crate) fn dispatch(&mut self, job: usize)
+        requires { HasNextWaiting job self.old }
+        ensures { WaitsOn job self.old self.new }
     {
         match self {
-            Waiting::InNarrow(heads) => heads.dispatch(instance, placement, job, step),
-            Waiting::InWide(heads) => heads.dispatch(instance, placement, job, step),
-            Waiting::InPlain(heads) => heads.dispatch(instance, placement, job, step),
+            Waiting::InNarrow(heads) => heads.dispatch(job),
+            Waiting::InWide(heads) => heads.dispatch(job),
+            Waiting::InPlain(heads) => heads.dispatch(job),
         }
     }
 

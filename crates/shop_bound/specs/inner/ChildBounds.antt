@@ -23,15 +23,18 @@ use Rattle.shop_bound.specs.inner.Layouts.{LayoutState, place}
 use Rattle.shop_bound.specs.declared.head_raises.Raise.{Raise}
 use Rattle.shop_bound.specs.declared.notes.Mark.{Mark}
 
--- heads in lanes of a word to which an operation can be added, and the machine of each position
-pub record HasNextInPlace (greatest : ℕ) (shop : Shop) (l : LayoutState) (s : PlacementState)
-    (job : ℕ) (ms : List ℕ)
+-- heads in lanes of a word to which an operation can be added, which stands at this position, and
+-- the machine of each position
+pub record HasNextInPlace (greatest : ℕ) (machines : List ℕ) (position : ℕ)
     (rows : Rows) : Type 0 where
+  pub l : LayoutState
+  pub shop : Shop
   pub word : List ℕ
+  pub job : ℕ
   pub kept : AreHeadsInLanes greatest shop word l rows
   pub fits : IsWord shop (word ++ job ∷ [])
-  pub placed : IsPlacement shop (placing shop word) s
-  pub machines : AreMachinesAt l shop.machines ms
+  pub at : position ≡ place l job ((placing shop word).steps job)
+  pub machines_at : AreMachinesAt l shop.machines machines
 
 -- the position and the machine of the next operation of a job, and one more than its end
 pub record IsNextAt (shop : Shop) (w : List ℕ) (l : LayoutState)
@@ -42,17 +45,18 @@ pub record IsNextAt (shop : Shop) (w : List ℕ) (l : LayoutState)
       ≡ (place_next shop (placing shop w) job).free
       (machine_of shop job ((placing shop w).steps job)) + 1
 
-abbrev pub IsNextOperation : ℕ → Shop → LayoutState → PlacementState → ℕ → Rows → ℕ → ℕ → ℕ → Type 0
-IsNextOperation greatest shop l s job rows position machine end = (w : List ℕ)
-    → AreHeadsInLanes greatest shop w l rows → IsPlacement shop (placing shop w) s
-    → IsWord shop (w ++ job ∷ [])
-    → IsNextAt shop w l job position machine end
+abbrev pub IsNextOperation : ℕ → List ℕ → ℕ → Rows → ℕ → ℕ → ℕ → Type 0
+IsNextOperation greatest machines position rows its_position machine end =
+    (l : LayoutState) (shop : Shop) (w : List ℕ) (job : ℕ) → AreHeadsInLanes greatest shop w l rows
+    → IsWord shop (w ++ job ∷ []) → position ≡ place l job ((placing shop w).steps job)
+    → AreMachinesAt l shop.machines machines → IsNextAt shop w l job its_position machine end
 
 pub record HasRaised (greatest : ℕ) (mark : Mark) (s : LaneState) : Type 0 where
   pub fits : AreSpansFit greatest s.top (length s.raises) s.layout s.rows
   pub at_rest : AreEmpty s.raises
-  pub positions : length s.machines ≡ length s.rows.heads
-  pub known : (q : ℕ) → q < length s.machines → slice_index s.machines q < length s.raises
+  pub positions : length s.layout.machines ≡ length s.rows.heads
+  pub known : (q : ℕ) → q < length s.layout.machines
+      → slice_index s.layout.machines q < length s.raises
   pub first : mark.first ≤ length s.notes.list
   pub notes : All (λ n. n.position < length s.rows.heads) (drop mark.first s.notes.list)
   pub small : (q : ℕ) → slice_index s.rows.heads q ≤ s.top
@@ -68,7 +72,7 @@ pub record KeepsRaises (old new : LaneState) : Type 0 where
 pub record AreBounded (s : LaneState) (mark : Mark) (own end least b : ℕ) (raises : List Raise)
     : Type 0 where
   pub covered : All
-      (IsNoteCovered raises own end s.estimates least s.machines s.rows.heads)
+      (IsNoteCovered raises own end s.estimates least s.layout.machines s.rows.heads)
       (drop mark.first s.notes.list)
   pub spans : (m : ℕ) → spans_between (raise_of raises m).from (raise_of raises m).to
       (lanes_on s.rows s.layout m) ≤ b + 1

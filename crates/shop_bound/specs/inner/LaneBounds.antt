@@ -10,7 +10,8 @@ use Rattle.std.specs.Prelude.{slice_index}
 use Rattle.shop_lanes.specs.Rows.{Rows, Lane, AreBlocks, lanes_between}
 use Rattle.shop_lanes.specs.Spans.{span, spans_between, FitsSpan}
 use Rattle.shop_bound.specs.inner.HeadRaises.{raise_of}
-use Rattle.shop_bound.specs.inner.Layouts.{LayoutState, first_of}
+use Rattle.shop_bound.specs.inner.Layings.{AreMachinesOf}
+use Rattle.shop_bound.specs.inner.Layouts.{LayoutState}
 use Rattle.shop_bound.specs.declared.head_raises.Raise.{Raise}
 use Rattle.shop_bound.specs.declared.look_aheads.Foreseen.{Foreseen}
 use Rattle.shop_bound.specs.declared.notes.Note.{Note}
@@ -33,11 +34,8 @@ abbrev pub part_by_spans : ℕ → List ℕ → Rows → LayoutState → ℕ →
 part_by_spans top free rows l m =
     max (slice_index free m) (spans_between 0 top (lanes_on rows l m) - 1)
 
-pub record AreMachinesAt (l : LayoutState) (machines : ℕ) (ms : List ℕ) : Type 0 where
-  pub positions : length ms ≡ first_of l machines
-  pub known : (q : ℕ) → q < length ms → slice_index ms q < machines
-  pub at : (m q : ℕ) → m < machines → first_of l m ≤ q → q < first_of l (m + 1)
-      → slice_index ms q ≡ m
+abbrev pub AreMachinesAt : LayoutState → ℕ → List ℕ → Type 0
+AreMachinesAt l machines ms = AreMachinesOf l.blocks machines ms
 
 -- if something waits at its position now, what stood there before and what stands there now are
 -- within the raise of its machine

@@ -1,11 +1,12 @@
 -- The choice among next operations by lanes.
---     next_place l steps j           the position of the next operation of job j
---     IsNextBelow l steps heads ..   the next operation of job j waits among some positions with a
+--     AreNextsOf shop p l nexts      the position of the next operation of each job, or the number
+--                                    of all positions
+--     IsNextBelow nexts heads ..     the next operation of job j waits among some positions with a
 --                                    head below a limit
---     AreNextPlaced l heads steps    each step has its position, and nothing waits at others
+--     AreNextPlaced l heads nexts    each position has a job, and the next operations have theirs
 --     AreEndsAt greatest shop p ..   when the next operations can end
 --     AreInConflict .. jobs          the list is the conflict set
---     AreNextsAt shop p l steps ..   heads and steps are those of the placing
+--     AreNextsAt shop p l nexts ..   heads and next operations are those of the placing
 --     AreChoosable greatest ..       all that the choice by lanes stands on
 use Rattle.std.specs.Prelude.{◌≡◌, ℕ, ◌+◌, ◌≤◌, ◌<◌, ◌^◌, List, length, slice_index}
 use Rattle.shop_lanes.specs.Rows.{Rows}
@@ -14,23 +15,26 @@ use Rattle.shop_model.specs.Shop.{Shop, route_of, IsOperation}
 use Rattle.shop_model.specs.Word.{Placing}
 use Rattle.shop_bound.specs.Conflicts.{next_end, open_jobs, conflict_among}
 use Rattle.shop_bound.specs.inner.LaneHeads.{AreHeadsAt}
-use Rattle.shop_bound.specs.inner.Layouts.{LayoutState, IsLaidOut, place}
-use Rattle.shop_bound.specs.inner.Raises.{steps_of, IsIndexed, IsPlace}
+use Rattle.shop_bound.specs.inner.Layings.{place_or}
+use Rattle.shop_bound.specs.inner.Layouts.{LayoutState, IsLaidOut, first_of}
 
-abbrev pub next_place : LayoutState → List ℕ → ℕ → ℕ
-next_place l steps j = place l j (slice_index steps j)
+pub record AreNextsOf (shop : Shop) (p : Placing) (l : LayoutState)
+    (nexts : List ℕ) : Type 0 where
+  pub jobs : length nexts ≡ length shop.jobs
+  pub are : (j : ℕ) → j < length shop.jobs
+      → slice_index nexts j ≡ place_or (first_of l shop.machines) l.places j (p.steps j)
 
-pub record IsNextBelow (l : LayoutState) (steps heads : List ℕ) (among : ℕ → Type 0)
-    (limit j : ℕ) : Type 0 where
-  pub step : slice_index steps j < steps_of l j
-  pub there : among (next_place l steps j)
-  pub waits : 0 < slice_index heads (next_place l steps j)
-  pub below : slice_index heads (next_place l steps j) < limit
+pub record IsNextBelow (nexts heads : List ℕ) (among : ℕ → Type 0) (limit j : ℕ) : Type 0 where
+  pub job : j < length nexts
+  pub there : among (slice_index nexts j)
+  pub waits : 0 < slice_index heads (slice_index nexts j)
+  pub below : slice_index heads (slice_index nexts j) < limit
 
-pub record AreNextPlaced (l : LayoutState) (heads steps : List ℕ) : Type 0 where
-  pub indexed : IsIndexed l (length heads)
-  pub jobs : length steps ≡ length l.places
-  pub places : (q : ℕ) → 0 < slice_index heads q → IsPlace l q
+pub record AreNextPlaced (l : LayoutState) (heads nexts : List ℕ) : Type 0 where
+  pub positions : length l.jobs ≡ length heads
+  pub jobs : (q : ℕ) → q < length heads → slice_index l.jobs q < length nexts
+  pub own : (j : ℕ) → j < length nexts → slice_index nexts j < length heads
+      → slice_index l.jobs (slice_index nexts j) ≡ j
 
 -- The ends by job: one more than when the next operation can end, or the greatest number, which
 -- none of these is.
@@ -41,31 +45,31 @@ pub record AreEndsAt (greatest : ℕ) (shop : Shop) (p : Placing) (ends : List �
       → slice_index ends j ≡ greatest
   pub fits : (j : ℕ) → IsOperation shop j (p.steps j) → next_end shop p j + 1 < greatest
 
--- heads and steps of one placing
-pub record AreNextsAt (shop : Shop) (p : Placing) (l : LayoutState) (taken : List ℕ)
+-- heads and next operations of one placing
+pub record AreNextsAt (shop : Shop) (p : Placing) (l : LayoutState) (nexts : List ℕ)
     (rows : Rows) : Type 0 where
   pub laid : IsLaidOut shop l
   pub limits : IsWithinLimits shop
-  pub jobs : length taken ≡ length shop.jobs
-  pub steps : (j : ℕ) → j < length shop.jobs → slice_index taken j ≡ p.steps j
+  pub are : AreNextsOf shop p l nexts
   pub heads : AreHeadsAt shop p l rows.heads
   pub times : rows.times ≡ l.times
 
 pub record AreChoosable (greatest : ℕ) (shop : Shop) (p : Placing) (l : LayoutState)
-    (steps : List ℕ) (rows : Rows)
+    (nexts : List ℕ) (rows : Rows)
     : Type 0 where
-  pub nexts : AreNextsAt shop p l steps rows
+  pub at : AreNextsAt shop p l nexts rows
   pub ends : AreEndsAt greatest shop p rows.ends
   pub computable : greatest < 2 ^ 64
 
 -- so for some placing
-pub record CanChoose (greatest : ℕ) (shop : Shop) (l : LayoutState) (steps : List ℕ)
+pub record CanChoose (greatest : ℕ) (l : LayoutState) (nexts : List ℕ)
     (rows : Rows) : Type 0 where
+  pub shop : Shop
   pub of : Placing
-  pub choosable : AreChoosable greatest shop of l steps rows
+  pub choosable : AreChoosable greatest shop of l nexts rows
 
 -- whatever they are of, the list is its conflict set
-abbrev pub AreInConflict : ℕ → Shop → LayoutState → List ℕ → Rows → List ℕ → Type 0
-AreInConflict greatest shop l steps rows jobs =
-    (p : Placing) → AreChoosable greatest shop p l steps rows
+abbrev pub AreInConflict : ℕ → LayoutState → List ℕ → Rows → List ℕ → Type 0
+AreInConflict greatest l nexts rows jobs =
+    (shop : Shop) (p : Placing) → AreChoosable greatest shop p l nexts rows
     → jobs ≡ conflict_among shop p (open_jobs shop p)

@@ -54,7 +54,8 @@ pub record LeadsBack (greatest : ℕ) (old new : NotesState) (was now : List ℕ
   pub back : new.whole ≡ true → restored more now ≡ was
 
 -- The marks and the entries of the word are given last first: what was noted behind the last mark,
--- if nothing was left out, leads back to the heads of the word without its last entry, and so on.
+-- if nothing was left out, leads back to the heads of the word without its last entry, whose
+-- operation stands at the mark's position, and so on.
 abbrev pub IsTrailBack : Shop → LayoutState → List ℕ → List Mark → List Note → List ℕ → Type 0
 IsTrailBack shop l [] marks notes heads = marks ≡ []
 IsTrailBack shop l (j ∷ word) [] notes heads = ⊥
@@ -64,6 +65,7 @@ IsTrailBack shop l (j ∷ word) (mark ∷ marks) notes heads =
     → AreHeadsAt shop (placing shop (reverse word)) l (restored (drop mark.first notes) heads))
     × ((before : List ℕ) → AreHeadsAt shop (placing shop (reverse word)) l before
     → IsTrailBack shop l word marks (take mark.first notes) before)
+    × (mark.position ≡ place l j ((placing shop (reverse word)).steps j))
 
 abbrev pub IsTrail : Shop → LayoutState → List ℕ → List Mark → List Note → List ℕ → Type 0
 IsTrail shop l w marks notes heads = IsTrailBack shop l (reverse w) (reverse marks) notes heads

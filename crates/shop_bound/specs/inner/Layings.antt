@@ -5,8 +5,10 @@
 --     AreNoted n first slots ..      the places of the first n of a machine's slots were written,
 --                                    and nothing else
 --     ArePlaces shop lists n ..      the places of the slots of the first n machines
+--     place_or n rows j k            the place of step k of job j, or n if its route has none
+--     AreMachinesOf blocks n ms      the machine of each position, of the first n machines
 use Rattle.std.specs.Prelude.{◌≡◌, ℕ, ◌+◌, ◌*◌, ◌≤◌, ◌<◌, List, [], length, slice_index}
-use Rattle.std.specs.Prelude.{slice_index_or}
+use Rattle.std.specs.Prelude.{slice_index_or, if◌then◌else◌, nat_lt}
 use Rattle.shop_model.specs.Shop.{Shop, route_of}
 use Rattle.shop_bound.specs.declared.slots.Slot.{Slot}
 
@@ -35,6 +37,7 @@ pub record AreCells (lists : List (List Slot)) (n : ℕ) (cells : List Slot)
   pub whole : length cells ≡ 8 * slice_index blocks n
   pub each : (m : ℕ) → m < n → IsListIn cells blocks m (slice_index_or lists m [])
   pub few : length cells ≤ n * 100008
+  pub some : 0 < length cells → (m : ℕ) × (m < n) × (0 < length (slice_index_or lists m []))
 
 abbrev pub AreApart : List Slot → Type 0
 AreApart slots = (p q : ℕ) (d : Slot) → p < q → q < length slots
@@ -72,3 +75,17 @@ pub record ArePlaces (shop : Shop) (lists : List (List Slot)) (blocks : List ℕ
   pub each : (m i : ℕ) (d : Slot) → m < n → i < length (slice_index_or lists m [])
       → place_in rows (slice_index_or (slice_index_or lists m []) i d).job
       (slice_index_or (slice_index_or lists m []) i d).step ≡ 8 * slice_index blocks m + i
+
+abbrev pub place_or : ℕ → List (List ℕ) → ℕ → ℕ → ℕ
+place_or n rows j k =
+    if nat_lt k (length (slice_index_or rows j [])) then place_in rows j k else n
+
+-- the place of the step after this one
+abbrev pub place_after : ℕ → List (List ℕ) → Slot → ℕ
+place_after n rows s = place_or n rows s.job (s.step + 1)
+
+pub record AreMachinesOf (blocks : List ℕ) (machines : ℕ) (ms : List ℕ) : Type 0 where
+  pub positions : length ms ≡ 8 * slice_index blocks machines
+  pub known : (q : ℕ) → q < length ms → slice_index ms q < machines
+  pub at : (m q : ℕ) → m < machines → 8 * slice_index blocks m ≤ q
+      → q < 8 * slice_index blocks (m + 1) → slice_index ms q ≡ m

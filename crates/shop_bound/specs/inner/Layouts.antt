@@ -10,11 +10,13 @@ use Rattle.std.specs.Prelude.{◌≡◌, ℕ, ◌+◌, ◌*◌, ◌≤◌, ◌<�
 use Rattle.std.specs.Prelude.{slice_index_or}
 use Rattle.shop_model.specs.Shop.{Shop, route_of}
 use Rattle.shop_bound.specs.Slots.{AreMachineSlots}
+use Rattle.shop_bound.specs.inner.Layings.{AreMachinesOf, place_or}
 use Rattle.shop_bound.specs.declared.slots.Slot.{Slot}
 
 -- the job, the step, the time and the tail of the operation at a position; the position of each
--- step of each job; and the first block of eight positions of each machine, with the number of all
--- blocks behind the last
+-- step of each job; the first block of eight positions of each machine, with the number of all
+-- blocks behind the last; and at a position its machine, and the position of the step that follows on
+-- the route, or the number of all positions
 pub record LayoutState : Type 0 where
   pub jobs : List ℕ
   pub steps : List ℕ
@@ -22,6 +24,8 @@ pub record LayoutState : Type 0 where
   pub tails : List ℕ
   pub places : List (List ℕ)
   pub blocks : List ℕ
+  pub machines : List ℕ
+  pub following : List ℕ
 
 abbrev pub place : LayoutState → ℕ → ℕ → ℕ
 place l j k = slice_index (slice_index_or l.places j []) k
@@ -47,6 +51,7 @@ pub record HasPositions (l : LayoutState) (n : ℕ) : Type 0 where
   pub steps : length l.steps ≡ n
   pub times : length l.times ≡ n
   pub tails : length l.tails ≡ n
+  pub following : length l.following ≡ n
 
 -- the operations of machine m, by nonincreasing tail, stand from its first position on, and padding
 -- behind them
@@ -65,3 +70,13 @@ pub record IsLaidOut (shop : Shop) (l : LayoutState) : Type 0 where
   pub each : (m : ℕ) → m < shop.machines → IsMachineLaidOut l m (slice_index_or slots m [])
   pub jobs : length l.places ≡ length shop.jobs
   pub routes : (j : ℕ) → length (slice_index_or l.places j []) ≡ length (route_of shop j)
+  pub machines_at : AreMachinesOf l.blocks shop.machines l.machines
+  pub known : (q : ℕ) → q < first_of l shop.machines → slice_index l.jobs q < length shop.jobs
+  pub follows : (q : ℕ) → q < first_of l shop.machines → slice_index l.following q
+      ≡ place_or (first_of l shop.machines) l.places (slice_index l.jobs q)
+      (slice_index l.steps q + 1)
+
+-- the positions of the first steps of n jobs, or the number of all positions
+pub record AreFirsts (l : LayoutState) (n : ℕ) (firsts : List ℕ) : Type 0 where
+  pub jobs : length firsts ≡ n
+  pub are : (j : ℕ) → j < n → slice_index firsts j ≡ place_or (length l.following) l.places j 0

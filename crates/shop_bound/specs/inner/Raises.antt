@@ -9,6 +9,7 @@
 use Rattle.std.specs.Prelude.{◌≡◌, ℕ, ◌+◌, ◌*◌, ◌≤◌, ◌<◌, ◌^◌, List, [], length, slice_index}
 use Rattle.std.specs.Prelude.{slice_index_or}
 use Rattle.shop_lanes.specs.Rows.{Rows, with_head}
+use Rattle.shop_bound.specs.inner.Layings.{place_or}
 use Rattle.shop_bound.specs.inner.Layouts.{LayoutState, place}
 use Rattle.shop_bound.specs.inner.LaneHeads.{NotesState, LeadsBack}
 
@@ -30,6 +31,12 @@ pub record IsIndexed (l : LayoutState) (n : ℕ) : Type 0 where
   pub jobs : length l.jobs ≡ n
   pub steps : length l.steps ≡ n
   pub step : (j k : ℕ) → k < steps_of l j → IsStepAt l (place l j k) j k
+
+-- of the n positions, that of the step behind each step
+pub record IsFollowed (l : LayoutState) (n : ℕ) : Type 0 where
+  pub following : length l.following ≡ n
+  pub follows : (j k : ℕ) → k < steps_of l j
+      → slice_index l.following (place l j k) ≡ place_or n l.places j (k + 1)
 
 -- a step stands at position q
 pub record IsPlace (l : LayoutState) (q : ℕ) : Type 0 where
@@ -58,6 +65,7 @@ pub record IsLeastRaise (l : LayoutState) (among : ℕ → Type 0) (e : ℕ)
 pub record IsRaisable (greatest : ℕ) (l : LayoutState) (rows : Rows) (among : ℕ → Type 0)
     (e : ℕ) : Type 0 where
   pub indexed : IsIndexed l (length rows.heads)
+  pub followed : IsFollowed l (length rows.heads)
   pub times : rows.times ≡ l.times
   pub places : (q : ℕ) → 0 < slice_index rows.heads q → IsPlace l q
   pub order : AreInRouteOrder l (at_in rows.heads)

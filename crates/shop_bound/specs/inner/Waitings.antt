@@ -17,18 +17,15 @@ IsWaiting shop w (InNarrow s) = IsKeptInLanes 65535 shop w s
 IsWaiting shop w (InWide s) = IsKeptInLanes 4294967295 shop w s
 IsWaiting shop w (InPlain s) = IsKeptInLanes (2 ^ 64 - 1) shop w s
 
-pub record HasNextWaiting (shop : Shop) (p : PlacementState) (j step : ℕ)
-    (h : Waiting) : Type 0 where
+pub record HasNextWaiting (j : ℕ) (h : Waiting) : Type 0 where
+  pub shop : Shop
   pub word : List ℕ
   pub kept : IsWaiting shop word h
   pub fits : IsWord shop (word ++ j ∷ [])
-  pub at : step ≡ (placing shop word).steps j
-  pub placed : IsPlacement shop (placing shop (word ++ j ∷ [])) p
 
--- whichever word it was of, one more operation of job j is in it now, and in the placement
-abbrev pub WaitsOn : Shop → PlacementState → ℕ → ℕ → Waiting → Waiting → Type 0
-WaitsOn shop p j step old new = (w : List ℕ) → IsWaiting shop w old → IsWord shop (w ++ j ∷ [])
-    → step ≡ (placing shop w).steps j → IsPlacement shop (placing shop (w ++ j ∷ [])) p
+-- whichever word it was of, one more operation of job j is in it now
+abbrev pub WaitsOn : ℕ → Waiting → Waiting → Type 0
+WaitsOn j old new = (shop : Shop) (w : List ℕ) → IsWaiting shop w old → IsWord shop (w ++ j ∷ [])
     → IsWaiting shop (w ++ j ∷ []) new
 
 pub record HasLastWaiting (shop : Shop) (p : PlacementState) (j : ℕ) (h : Waiting) : Type 0 where

@@ -9,7 +9,7 @@ pub loop-position-init : goal.loop-position-init
 loop-position-init g c =
     let rows = g.L.Lanes.rows c.args.lanes.now
     in record {
-      gathering = gathering_begins c.args.layout.now c.args.steps.now rows.heads c.requires.placed c.args.from c.args.to
+      gathering = gathering_begins c.args.layout.now c.args.next.now rows.heads c.requires.placed c.args.from c.args.to
           c.args.limit rows refl c.requires.blocks.ordered c.requires.blocks.within c.below-below.result
           c.args.jobs.now.items c.below-below.ensures;
       list = c.requires.list;
@@ -18,26 +18,26 @@ loop-position-init g c =
 
 pub job-job-requires : goal.job-job-requires
 job-job-requires g c =
-    (position_known c.args.layout.now c.args.steps.now (g.L.Lanes.rows c.args.lanes.now).heads c.requires.placed
+    (position_known c.args.layout.now c.args.next.now (g.L.Lanes.rows c.args.lanes.now).heads c.requires.placed
     c.args.from c.args.to c.args.limit c.loop-position.below c.args.jobs.now.items c.loop-position.jobs.items
-    c.loop-position.invariant.gathering c.in-Some.position c.pop_first.new.self c.in-Some.ensures).0
+    c.loop-position.invariant.gathering c.in-Some.position c.pop_first.new.self c.in-Some.ensures)
 
-pub loop-position-preserved-then-step-steps : goal.loop-position-preserved-then-step-steps
-loop-position-preserved-then-step-steps g c =
+pub loop-position-preserved-then-next-job : goal.loop-position-preserved-then-next-job
+loop-position-preserved-then-next-job g c =
     let l = c.args.layout.now
-    in let steps = c.args.steps.now
+    in let nexts = c.args.next.now
     in let heads = (g.L.Lanes.rows c.args.lanes.now).heads
     in let q = c.in-Some.position
     in let now = c.loop-position.invariant
-    in let known = job_known l steps heads c.requires.placed c.args.from c.args.to c.args.limit c.loop-position.below
+    in let known = job_known l nexts heads c.requires.placed c.args.from c.args.to c.args.limit c.loop-position.below
     c.args.jobs.now.items c.loop-position.jobs.items now.gathering q c.pop_first.new.self c.in-Some.ensures
     in let job : c.job-job.result ≡ get_or l.jobs q 0 = c.job-job.ensures
     in record {
-      gathering = gathering_on l steps heads c.requires.placed c.args.from c.args.to c.args.limit c.loop-position.below
+      gathering = gathering_on l nexts heads c.requires.placed c.args.from c.args.to c.args.limit c.loop-position.below
           c.args.jobs.now.items c.loop-position.jobs.items now.gathering q c.pop_first.new.self c.in-Some.ensures
-          (sym c.step.ensures ∙ (c.if-step-steps.true ∙ ap (λ (x : ℕ). get_or steps x 0) job)) c.put.new.jobs.items
+          (ap (λ (x : ℕ). get_or nexts x 0) (sym job) ∙ c.if-next-job.true) c.put.new.jobs.items
           (subst (λ (j : ℕ). HasPut j c.loop-position.jobs.items c.put.new.jobs.items) job c.put.ensures.put);
-      list = put_below (length steps) (vec_capacity c.loop-position.jobs) c.job-job.result c.loop-position.jobs.items
+      list = put_below (length nexts) (vec_capacity c.loop-position.jobs) c.job-job.result c.loop-position.jobs.items
           c.put.new.jobs.items now.list (omega arith) c.put.ensures.put c.put.ensures.list;
       room = (let a = now.room in let b = c.put.ensures.room in omega arith);
     }
@@ -45,16 +45,22 @@ loop-position-preserved-then-step-steps g c =
 pub loop-position-preserved : goal.loop-position-preserved
 loop-position-preserved g c =
     let l = c.args.layout.now
-    in let steps = c.args.steps.now
+    in let nexts = c.args.next.now
     in let heads = (g.L.Lanes.rows c.args.lanes.now).heads
     in let q = c.in-Some.position
     in let now = c.loop-position.invariant
     in record {
       gathering =
-          gathering_past l steps heads c.requires.placed c.args.from c.args.to c.args.limit c.loop-position.below
+          gathering_past l nexts heads c.requires.placed c.args.from c.args.to c.args.limit c.loop-position.below
           c.args.jobs.now.items c.loop-position.jobs.items now.gathering q c.pop_first.new.self c.in-Some.ensures
-          (λ e. c.if-step-steps.false
-          (c.step.ensures ∙ (e ∙ sym (ap (λ (x : ℕ). get_or steps x 0) c.job-job.ensures))));
+          (λ e. c.if-next-job.false (ap (λ (x : ℕ). get_or nexts x 0) c.job-job.ensures ∙ e));
       list = now.list;
       room = now.room;
     }
+
+pub bounds-next-job : goal.bounds-next-job
+bounds-next-job g c =
+    let known = job_known c.args.layout.now c.args.next.now (g.L.Lanes.rows c.args.lanes.now).heads c.requires.placed
+    c.args.from c.args.to c.args.limit c.loop-position.below c.args.jobs.now.items c.loop-position.jobs.items
+    c.loop-position.invariant.gathering c.in-Some.position c.pop_first.new.self c.in-Some.ensures
+    in let job = c.job-job.ensures in omega arith

@@ -5,9 +5,9 @@ use Rattle.shop_bound.proofs.lane_choices.gather_in_blocks.Given as goal
 
 abbrev pub invariant-loop-position : goal.invariant-loop-position
 invariant-loop-position g l = record {
-  gathering : AreGathering l.layout l.steps (g.L.Lanes.rows l.lanes).heads l.from l.to l.limit l.below l.fn.jobs.items
+  gathering : AreGathering l.next (g.L.Lanes.rows l.lanes).heads l.from l.to l.limit l.below l.fn.jobs.items
       l.jobs.items;
-  list : IsRisingBelow (length l.steps) l.jobs.items;
+  list : IsRisingBelow (length l.next) l.jobs.items;
   room : vec_capacity l.fn.jobs ≤ vec_capacity l.jobs;
 }
 

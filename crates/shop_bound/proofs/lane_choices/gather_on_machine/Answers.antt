@@ -11,7 +11,7 @@ overflow_add-machine g c = let a = c.requires.machine.small in omega arith
 pub loop-from-init : goal.loop-from-init
 loop-from-init g c =
     let l = c.args.layout.now
-    in let steps = c.args.steps.now
+    in let nexts = c.args.next.now
     in let heads = (g.L.Lanes.rows c.args.lanes.now).heads
     in let first = get_or l.blocks c.args.machine 0
     in let jobs = c.args.jobs.now.items
@@ -19,8 +19,8 @@ loop-from-init g c =
       ordered = (let a = c.block-from.ensures in omega arith);
       within = (let a = c.block-from.ensures in let b = c.block-behind.ensures in let d = c.requires.machine.ordered
           in omega arith);
-      gathered = subst (λ (x : ℕ). HasGathered (IsNextBelow l steps heads (IsInBlocks first x) c.args.limit) jobs jobs)
-          (sym c.block-from.ensures) (none_gathered l steps heads c.args.limit first jobs);
+      gathered = subst (λ (x : ℕ). HasGathered (IsNextBelow nexts heads (IsInBlocks first x) c.args.limit) jobs jobs)
+          (sym c.block-from.ensures) (none_gathered nexts heads c.args.limit first jobs);
       list = c.requires.list;
       room = omega arith;
     }
@@ -33,7 +33,7 @@ loop-from-preserved g c =
     in record {
       ordered = omega arith;
       within = omega arith;
-      gathered = more_gathered c.args.layout.now c.args.steps.now (g.L.Lanes.rows c.args.lanes.now).heads c.args.limit
+      gathered = more_gathered c.args.next.now (g.L.Lanes.rows c.args.lanes.now).heads c.args.limit
           (get_or c.args.layout.now.blocks c.args.machine 0) c.loop-from.from (c.loop-from.from + c.min.result)
           c.args.jobs.now.items c.loop-from.jobs.items c.gather_in_blocks.new.jobs.items o (omega arith) now.gathered
           c.gather_in_blocks.ensures.gathered;
@@ -44,9 +44,9 @@ loop-from-preserved g c =
 pub returns-clause-gathered : goal.returns-clause-gathered
 returns-clause-gathered g c =
     let l = c.args.layout.now
-    in let steps = c.args.steps.now
+    in let nexts = c.args.next.now
     in let heads = (g.L.Lanes.rows c.args.lanes.now).heads
     in let first = get_or l.blocks c.args.machine 0
     in let b = c.block-behind.ensures in let d = c.loop-from-test.false in let w = c.loop-from.invariant.within
-    in subst (λ (x : ℕ). HasGathered (IsNextBelow l steps heads (IsInBlocks first x) c.args.limit) c.args.jobs.now.items
+    in subst (λ (x : ℕ). HasGathered (IsNextBelow nexts heads (IsInBlocks first x) c.args.limit) c.args.jobs.now.items
     c.loop-from.jobs.items) (omega arith) c.loop-from.invariant.gathered

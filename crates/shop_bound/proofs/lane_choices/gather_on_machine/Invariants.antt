@@ -8,9 +8,9 @@ abbrev pub invariant-loop-from : goal.invariant-loop-from
 invariant-loop-from g l = record {
   ordered : get_or l.layout.blocks l.machine 0 ≤ l.from;
   within : l.from ≤ l.behind;
-  gathered : HasGathered (IsNextBelow l.layout l.steps (g.L.Lanes.rows l.lanes).heads
+  gathered : HasGathered (IsNextBelow l.next (g.L.Lanes.rows l.lanes).heads
       (IsInBlocks (get_or l.layout.blocks l.machine 0) l.from) l.limit) l.fn.jobs.items l.jobs.items;
-  list : IsRisingBelow (length l.steps) l.jobs.items;
+  list : IsRisingBelow (length l.next) l.jobs.items;
   room : vec_capacity l.fn.jobs ≤ vec_capacity l.jobs;
 }
 

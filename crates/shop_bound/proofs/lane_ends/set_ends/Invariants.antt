@@ -5,5 +5,5 @@ use Rattle.shop_bound.proofs.lane_ends.set_ends.Given as goal
 abbrev pub invariant-loop-job : goal.invariant-loop-job
 invariant-loop-job g l = record {
   beside : HasEnds (g.L.Lanes.rows l.initial.lanes) (g.L.Lanes.rows l.lanes);
-  ends : (j : ℕ) → j < l.job → IsEndOf g.L.Lanes.GREATEST l.layout l.steps (g.L.Lanes.rows l.lanes) j;
+  ends : (j : ℕ) → j < l.job → IsEndOf g.L.Lanes.GREATEST l.next (g.L.Lanes.rows l.lanes) j;
 }

@@ -1,7 +1,11 @@
-use Rattle.shop_bound.proofs.RaiseSteps.{IsWalking}
+use Rattle.std.proofs.Common.{get_or, length}
+use Rattle.shop_bound.proofs.Followed.{left_from}
+use Rattle.shop_bound.proofs.RaiseSteps.{IsFollowing}
 use Rattle.shop_bound.proofs.raises.raise_from.Given as goal
 
-abbrev pub invariant-loop-step : goal.invariant-loop-step
-invariant-loop-step g l =
-    IsWalking g.L.Lanes.GREATEST l.layout l.position l.end l.step l.ready (g.L.Lanes.rows l.fn.lanes)
-    (g.L.Lanes.rows l.lanes) l.fn.notes l.notes
+abbrev pub invariant-loop-next : goal.invariant-loop-next
+invariant-loop-next g l = IsFollowing g.L.Lanes.GREATEST l.layout l.position l.end l.next l.ready
+    (g.L.Lanes.rows l.fn.lanes) (g.L.Lanes.rows l.lanes) l.fn.notes l.notes
+
+abbrev pub decreases-loop-next : goal.decreases-loop-next
+decreases-loop-next g l = left_from l.layout (length l.layout.following) (get_or l.layout.jobs l.position 0) l.next

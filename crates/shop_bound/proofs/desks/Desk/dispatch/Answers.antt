@@ -3,13 +3,8 @@ use Rattle.shop_model.specs.Word.{IsWord}
 use Rattle.shop_bound.specs.Desks.{DeskState}
 use Rattle.shop_bound.specs.inner.Waitings.{HasNextWaiting, WaitsOn}
 use Rattle.shop_bound.proofs.Trails.{room_left, as_long, has_next}
-use Rattle.shop_bound.proofs.DeskSteps.{desk_more, has_steps, waits_on}
+use Rattle.shop_bound.proofs.DeskSteps.{desk_more, waits_on}
 use Rattle.shop_bound.proofs.desks.Desk.dispatch.Goals as goal
-
-pub steps-step-requires : goal.steps-step-requires
-steps-step-requires c =
-    let fits = subst (λ (d : DeskState). IsWord d.shop (d.word ++ c.args.job ∷ [])) (sym c.self.view_is) c.requires
-    in has_steps _ _ _ _ _ _ _ c.self.invariant c.args.job fits
 
 pub next_replaces-replaced-requires : goal.next_replaces-replaced-requires
 next_replaces-replaced-requires c =
@@ -24,10 +19,8 @@ place_next-requires c =
 pub dispatch-requires : goal.dispatch-requires
 dispatch-requires c =
     let fits = subst (λ (d : DeskState). IsWord d.shop (d.word ++ c.args.job ∷ [])) (sym c.self.view_is) c.requires
-    in subst (HasNextWaiting c.self.inside.instance.now c.place_next.new.self c.args.job c.steps-step.result)
-    (sym c.deref_mut.ensures.value)
-    (waits_on _ _ _ _ _ _ _ c.self.invariant c.args.job fits c.steps-step.result c.steps-step.ensures
-    c.place_next.new.self c.place_next.ensures)
+    in subst (HasNextWaiting c.args.job) (sym c.deref_mut.ensures.value)
+    (waits_on _ _ _ _ _ _ _ c.self.invariant c.args.job fits)
 
 pub unwrap-requires : goal.unwrap-requires
 unwrap-requires c =
@@ -49,9 +42,8 @@ unwrap-requires-2 c =
 pub invariant_of-self : goal.invariant_of-self
 invariant_of-self c =
     let fits = subst (λ (d : DeskState). IsWord d.shop (d.word ++ c.args.job ∷ [])) (sym c.self.view_is) c.requires
-    in let waits = subst (λ h. WaitsOn c.self.inside.instance.now c.place_next.new.self c.args.job c.steps-step.result h
-    c.dispatch.new.self) c.deref_mut.ensures.value c.dispatch.ensures
+    in let waits = subst (λ h. WaitsOn c.args.job h c.dispatch.new.self) c.deref_mut.ensures.value c.dispatch.ensures
     in desk_more _ _ _ _ _ _ _ c.self.invariant c.args.job fits c.next_replaces-replaced.result
-    c.next_replaces-replaced.ensures _ c.place_next.ensures c.steps-step.result c.steps-step.ensures _
+    c.next_replaces-replaced.ensures _ c.place_next.ensures _
     waits _ (rw c.unwrap.ensures at c.push.ensures.items) _
     (rw c.unwrap-2.ensures at c.push-2.ensures.items) _ _ c.push.ensures.capacity c.push-2.ensures.capacity

@@ -1,69 +1,114 @@
-use Rattle.std.proofs.Common.{◌-◌, ◌<◌, ℕ, List, length, take, drop, true, ◌≡◌, ◌∙◌, sym, subst, arith}
-use Rattle.shop_bound.specs.inner.LaneEnds.{AreEndsButJob, AreEndsOf, CanKeepEnds}
+use Rattle.std.proofs.Common.{◌≡◌, ℕ, List, length, refl, sym, subst, ap, ◌∙◌, arith}
+use Rattle.shop_bound.specs.inner.LaneEnds.{AreEndsOf}
 use Rattle.shop_bound.specs.inner.LaneStates.{LaneState, HasNextInLanes, IsKeptInLanes}
+use Rattle.shop_bound.proofs.LaneSteps.{mark_fits, next_known, next_at, position_known}
+use Rattle.shop_bound.proofs.LaneSteps.{ends_more, job_more, fit_more, noted_more, kept_more}
 use Rattle.shop_bound.proofs.ChildTurns.{noted_is}
-use Rattle.shop_bound.proofs.LaneSteps.{mark_fits, ends_more, job_more, fit_more, noted_more, kept_more}
 use Rattle.shop_bound.proofs.lane_heads.LaneHeads.dispatch.Goals as goal
+
+pub advance-mark-requires-clause-next : goal.advance-mark-requires-clause-next
+advance-mark-requires-clause-next g c =
+    let next = subst (λ (s : LaneState). HasNextInLanes g.L.Lanes.GREATEST c.args.job s) (sym c.self.view_is) c.requires
+    in record {
+      shop = next.shop;
+      word = next.word;
+      job = c.args.job;
+      kept = next.kept.kept;
+      fits = next.fits;
+      at = next_at g.L.Lanes.GREATEST next.shop next.word c.args.job _ next.kept next.fits c.index-position.result.now c.index-position.ensures;
+    }
+
+pub index-position-requires : goal.index-position-requires
+index-position-requires g c =
+    let next = subst (λ (s : LaneState). HasNextInLanes g.L.Lanes.GREATEST c.args.job s) (sym c.self.view_is) c.requires
+    in let known = next_known g.L.Lanes.GREATEST next.shop next.word c.args.job _ next.kept next.fits
+    in let long = c.self.inside.next.ok.0 in omega arith
+
+pub offset_bounds-machines-position : goal.offset_bounds-machines-position
+offset_bounds-machines-position g c =
+    let next = subst (λ (s : LaneState). HasNextInLanes g.L.Lanes.GREATEST c.args.job s) (sym c.self.view_is) c.requires
+    in let below = position_known g.L.Lanes.GREATEST next.shop next.word c.args.job _ next.kept next.fits
+    c.index-position.result.now c.index-position.ensures
+    in let long = next.kept.kept.laid.machines_at.positions
+    in let same : length c.machines.result.now ≡ length c.self.inside.layout.machines =
+    ap (λ (xs : List ℕ). length xs) c.machines.ensures
+    in let small = c.machines.type_inv.1 in omega arith
+
+pub bounds-machines-position : goal.bounds-machines-position
+bounds-machines-position g c =
+    let next = subst (λ (s : LaneState). HasNextInLanes g.L.Lanes.GREATEST c.args.job s) (sym c.self.view_is) c.requires
+    in let below = position_known g.L.Lanes.GREATEST next.shop next.word c.args.job _ next.kept next.fits
+    c.index-position.result.now c.index-position.ensures
+    in let long = next.kept.kept.laid.machines_at.positions
+    in let same : length c.machines.result.now ≡ length c.self.inside.layout.machines =
+    ap (λ (xs : List ℕ). length xs) c.machines.ensures
+    in omega arith
+
+pub following-requires : goal.following-requires
+following-requires g c =
+    let next = subst (λ (s : LaneState). HasNextInLanes g.L.Lanes.GREATEST c.args.job s) (sym c.self.view_is) c.requires
+    in let below = position_known g.L.Lanes.GREATEST next.shop next.word c.args.job _ next.kept next.fits
+    c.index-position.result.now c.index-position.ensures
+    in let long = next.kept.kept.laid.positions.following
+    in omega arith
+
+pub index_mut-requires : goal.index_mut-requires
+index_mut-requires g c =
+    let next = subst (λ (s : LaneState). HasNextInLanes g.L.Lanes.GREATEST c.args.job s) (sym c.self.view_is) c.requires
+    in let known = next_known g.L.Lanes.GREATEST next.shop next.word c.args.job _ next.kept next.fits
+    in let long = c.self.inside.next.ok.0 in omega arith
 
 pub keep_ends-requires-clause-keep : goal.keep_ends-requires-clause-keep
 keep_ends-requires-clause-keep g c =
-    let next = subst (λ (s : LaneState). HasNextInLanes g.L.Lanes.GREATEST c.args.instance.now c.args.placement.now
-    c.args.job c.args.step s) (sym c.self.view_is) c.requires
-    in subst (λ (steps : List ℕ). CanKeepEnds g.L.Lanes.GREATEST c.self.inside.layout steps
-    (g.L.Lanes.rows c.advance-mark.new.lanes)) (sym c.jobs_steps-steps.ensures)
-    (ends_more g.L.Lanes.GREATEST c.args.instance.now next.word c.args.job _ next.kept next.fits c.args.step next.at
-    (g.L.Lanes.rows c.advance-mark.new.lanes) c.advance-mark.new.notes c.advance-mark.result c.advance-mark.ensures
-    c.args.placement.now next.placed)
+    let next = subst (λ (s : LaneState). HasNextInLanes g.L.Lanes.GREATEST c.args.job s) (sym c.self.view_is) c.requires
+    in ends_more g.L.Lanes.GREATEST next.shop next.word c.args.job _ next.kept next.fits
+    (g.L.Lanes.rows c.advance-mark.new.lanes) c.advance-mark.new.notes c.advance-mark.result
+    c.index-position.result.now c.index-position.ensures c.advance-mark.ensures c.following.result c.following.ensures
+    c.as_slice-next.result.now c.as_slice-next.ensures.value
 
 pub keep_ends-requires-clause-job : goal.keep_ends-requires-clause-job
 keep_ends-requires-clause-job g c =
-    let next = subst (λ (s : LaneState). HasNextInLanes g.L.Lanes.GREATEST c.args.instance.now c.args.placement.now
-    c.args.job c.args.step s) (sym c.self.view_is) c.requires
-    in subst (λ (steps : List ℕ). c.args.job < length steps) (sym c.jobs_steps-steps.ensures)
-    (job_more g.L.Lanes.GREATEST c.args.instance.now next.word c.args.job _ next.kept next.fits c.args.step next.at
-    (g.L.Lanes.rows c.advance-mark.new.lanes) c.advance-mark.new.notes c.advance-mark.result c.advance-mark.ensures
-    c.args.placement.now next.placed)
+    let next = subst (λ (s : LaneState). HasNextInLanes g.L.Lanes.GREATEST c.args.job s) (sym c.self.view_is) c.requires
+    in job_more g.L.Lanes.GREATEST next.shop next.word c.args.job _ next.kept next.fits
+    (g.L.Lanes.rows c.advance-mark.new.lanes) c.advance-mark.new.notes c.advance-mark.result
+    c.index-position.result.now c.index-position.ensures c.advance-mark.ensures c.following.result c.following.ensures
+    c.as_slice-next.result.now c.as_slice-next.ensures.value
 
 pub keep_ends-requires-clause-notes : goal.keep_ends-requires-clause-notes
 keep_ends-requires-clause-notes g c =
-    let next = subst (λ (s : LaneState). HasNextInLanes g.L.Lanes.GREATEST c.args.instance.now c.args.placement.now
-    c.args.job c.args.step s) (sym c.self.view_is) c.requires
+    let next = subst (λ (s : LaneState). HasNextInLanes g.L.Lanes.GREATEST c.args.job s) (sym c.self.view_is) c.requires
     in let is = noted_is c.list.result.now c.self.inside.notes.list c.advance-mark.ensures.noted.more
     c.advance-mark.result.first (c.list.ensures ∙ c.advance-mark.ensures.noted.are) c.advance-mark.ensures.first
-    in fit_more g.L.Lanes.GREATEST c.args.instance.now next.word c.args.job _ next.kept next.fits c.args.step next.at
-    (g.L.Lanes.rows c.advance-mark.new.lanes) c.advance-mark.new.notes c.advance-mark.result c.advance-mark.ensures
-    c.args.placement.now next.placed _ is
+    in fit_more g.L.Lanes.GREATEST next.shop next.word c.args.job _ next.kept next.fits
+    (g.L.Lanes.rows c.advance-mark.new.lanes) c.advance-mark.new.notes c.advance-mark.result
+    c.index-position.result.now c.index-position.ensures c.advance-mark.ensures c.following.result c.following.ensures
+    c.as_slice-next.result.now c.as_slice-next.ensures.value _ is
 
 pub keep_ends-requires-clause-noted : goal.keep_ends-requires-clause-noted
 keep_ends-requires-clause-noted g c =
-    let next = subst (λ (s : LaneState). HasNextInLanes g.L.Lanes.GREATEST c.args.instance.now c.args.placement.now
-    c.args.job c.args.step s) (sym c.self.view_is) c.requires
+    let next = subst (λ (s : LaneState). HasNextInLanes g.L.Lanes.GREATEST c.args.job s) (sym c.self.view_is) c.requires
     in let is = noted_is c.list.result.now c.self.inside.notes.list c.advance-mark.ensures.noted.more
     c.advance-mark.result.first (c.list.ensures ∙ c.advance-mark.ensures.noted.are) c.advance-mark.ensures.first
-    in subst (λ (steps : List ℕ). c.advance-mark.result.whole ≡ true
-    → AreEndsButJob g.L.Lanes.GREATEST c.self.inside.layout steps (g.L.Lanes.rows c.advance-mark.new.lanes)
-    (take (length c.list.result.now - c.advance-mark.result.first)
-    (drop c.advance-mark.result.first c.list.result.now)) c.args.job) (sym c.jobs_steps-steps.ensures)
-    (noted_more g.L.Lanes.GREATEST c.args.instance.now next.word c.args.job _ next.kept next.fits c.args.step next.at
-    (g.L.Lanes.rows c.advance-mark.new.lanes) c.advance-mark.new.notes c.advance-mark.result c.advance-mark.ensures
-    c.args.placement.now next.placed _ is)
+    in noted_more g.L.Lanes.GREATEST next.shop next.word c.args.job _ next.kept next.fits
+    (g.L.Lanes.rows c.advance-mark.new.lanes) c.advance-mark.new.notes c.advance-mark.result
+    c.index-position.result.now c.index-position.ensures c.advance-mark.ensures c.following.result c.following.ensures
+    c.as_slice-next.result.now c.as_slice-next.ensures.value _ is
 
 pub unwrap-requires : goal.unwrap-requires
 unwrap-requires g c =
-    let next = subst (λ (s : LaneState). HasNextInLanes g.L.Lanes.GREATEST c.args.instance.now c.args.placement.now
-    c.args.job c.args.step s) (sym c.self.view_is) c.requires
-    in let a = mark_fits g.L.Lanes.GREATEST c.args.instance.now next.word c.args.job _ next.kept next.fits
+    let next = subst (λ (s : LaneState). HasNextInLanes g.L.Lanes.GREATEST c.args.job s) (sym c.self.view_is) c.requires
+    in let a = mark_fits g.L.Lanes.GREATEST next.shop next.word c.args.job _ next.kept next.fits
     in let long = c.self.inside.marks.ok.0
     in c.push.ensures.succeeds (omega arith)
 
 pub returns : goal.returns
-returns g c w kept fits at placed =
-    kept_more g.L.Lanes.GREATEST c.args.instance.now w c.args.job _
-    (subst (λ (s : LaneState). IsKeptInLanes g.L.Lanes.GREATEST c.args.instance.now w s) (sym c.self.view_is) kept)
-    fits c.args.step at (g.L.Lanes.rows c.advance-mark.new.lanes) c.advance-mark.new.notes c.advance-mark.result
-    c.advance-mark.ensures c.args.placement.now placed (g.L.Lanes.rows c.keep_ends.new.lanes)
-    c.keep_ends.ensures.beside
-    (subst (λ (steps : List ℕ). AreEndsOf g.L.Lanes.GREATEST c.self.inside.layout steps
-    (g.L.Lanes.rows c.keep_ends.new.lanes)) c.jobs_steps-steps.ensures c.keep_ends.ensures.ends) _
+returns g c shop w kept fits =
+    kept_more g.L.Lanes.GREATEST shop w c.args.job _
+    (subst (λ (s : LaneState). IsKeptInLanes g.L.Lanes.GREATEST shop w s) (sym c.self.view_is) kept) fits
+    (g.L.Lanes.rows c.advance-mark.new.lanes) c.advance-mark.new.notes c.advance-mark.result
+    c.index-position.result.now c.index-position.ensures c.advance-mark.ensures c.following.result c.following.ensures
+    _ refl (g.L.Lanes.rows c.keep_ends.new.lanes) c.keep_ends.ensures.beside
+    (subst (λ (nexts : List ℕ). AreEndsOf g.L.Lanes.GREATEST nexts (g.L.Lanes.rows c.keep_ends.new.lanes))
+    c.as_slice-next.ensures.value c.keep_ends.ensures.ends) _
     (rw c.unwrap.ensures at c.push.ensures.items) _ c.push.ensures.capacity _
     c.forget.ensures

@@ -1,10 +1,10 @@
-use Rattle.std.proofs.Common.{◌≡◌, ℕ, ◌+◌, ◌≤◌, ◌∙◌, List, length, sym, ap, subst, arith}
+use Rattle.std.proofs.Common.{ℕ, ◌+◌, ◌≤◌, ◌∙◌, List, length, sym, ap, subst, arith}
 use Rattle.std.specs.List.{All}
 use Rattle.shop_lanes.specs.Rows.{at_rest}
-use Rattle.shop_bound.proofs.LaneBegins.{times_fit, tails_fit, kept_none, heads_fit, can_begin, blocks_within}
+use Rattle.shop_bound.proofs.LaneBegins.{times_fit, tails_fit, kept_none, heads_fit, can_begin}
 use Rattle.shop_bound.proofs.LaneBegins.{ends_begin}
-use Rattle.shop_bound.specs.inner.LaneBounds.{AreMachinesAt}
 use Rattle.shop_bound.specs.inner.LaneEnds.{AreEndsOf, CanKeepEnds}
+use Rattle.shop_bound.specs.inner.Layouts.{AreFirsts}
 use Rattle.shop_bound.proofs.lane_heads.LaneHeads.new.Goals as goal
 
 pub new-requires-clause-fitting_times : goal.new-requires-clause-fitting_times
@@ -30,24 +30,21 @@ fill-requires g c = record {
       ∙ ap (λ (qs : List ℕ). at_rest c.args.layout.times qs c.jobs.result g.L.Lanes.GREATEST) c.tails.ensures));
 }
 
+pub first_positions-requires : goal.first_positions-requires
+first_positions-requires g c = let a = c.requires.laid.jobs in let b = c.jobs-2.ensures in omega arith
+
 pub set_ends-requires : goal.set_ends-requires
 set_ends-requires g c =
-    subst (λ (steps : List ℕ). CanKeepEnds g.L.Lanes.GREATEST c.args.layout steps (g.L.Lanes.rows c.fill.new.lanes))
-    (sym c.jobs_steps.ensures)
+    subst (λ (nexts : List ℕ). CanKeepEnds g.L.Lanes.GREATEST c.args.layout nexts (g.L.Lanes.rows c.fill.new.lanes))
+    (sym c.as_slice.ensures.value)
     (ends_begin g.L.Lanes.GREATEST c.args.instance.now c.keeps_limits.ensures c.args.layout c.requires.laid
     (heads_fit g.L.Lanes.GREATEST c.args.instance.now c.args.layout c.keeps_limits.ensures c.requires.fits)
     c.requires.computable c.args.placement.now c.requires.none (g.L.Lanes.rows c.in_ok-lanes.lanes) c.jobs.result
     g.L.Lanes.GREATEST (c.in_ok-lanes.ensures
     ∙ (ap (λ (ts : List ℕ). at_rest ts c.tails.result.now c.jobs.result g.L.Lanes.GREATEST) c.times.ensures
     ∙ ap (λ (qs : List ℕ). at_rest c.args.layout.times qs c.jobs.result g.L.Lanes.GREATEST) c.tails.ensures))
-    (g.L.Lanes.rows c.fill.new.lanes) c.fill.ensures c.jobs.ensures)
-
-pub machines_of-requires-clause-small : goal.machines_of-requires-clause-small
-machines_of-requires-clause-small g c m known =
-    let a = blocks_within c.args.instance.now c.keeps_limits.ensures c.args.layout c.requires.laid m
-    (let b = c.machines-machines.ensures in omega arith)
-    in let long : length c.times.result.now ≡ length c.args.layout.times = ap length c.times.ensures
-    in let small = c.times.type_inv.0 in omega arith
+    (g.L.Lanes.rows c.fill.new.lanes) c.fill.ensures c.jobs.ensures c.in_ok-next.next.items
+    (subst (λ (n : ℕ). AreFirsts c.args.layout n c.in_ok-next.next.items) c.jobs-2.ensures c.in_ok-next.ensures))
 
 pub returns : goal.returns
 returns g c =
@@ -59,15 +56,14 @@ returns g c =
     ∙ (ap (λ (ts : List ℕ). at_rest ts c.tails.result.now c.jobs.result g.L.Lanes.GREATEST) c.times.ensures
     ∙ ap (λ (qs : List ℕ). at_rest c.args.layout.times qs c.jobs.result g.L.Lanes.GREATEST) c.tails.ensures))
     (g.L.Lanes.rows c.fill.new.lanes) c.fill.ensures c.jobs.ensures (g.L.Lanes.rows c.set_ends.new.lanes)
-    c.set_ends.ensures.beside
-    (subst (λ (steps : List ℕ). AreEndsOf g.L.Lanes.GREATEST c.args.layout steps (g.L.Lanes.rows c.set_ends.new.lanes))
-    c.jobs_steps.ensures c.set_ends.ensures.ends) c.in_ok-notes.notes c.in_ok-notes.ensures
+    c.set_ends.ensures.beside c.in_ok-next.next.items
+    (subst (λ (n : ℕ). AreFirsts c.args.layout n c.in_ok-next.next.items) c.jobs-2.ensures c.in_ok-next.ensures)
+    (subst (λ (nexts : List ℕ). AreEndsOf g.L.Lanes.GREATEST nexts (g.L.Lanes.rows c.set_ends.new.lanes))
+    c.as_slice.ensures.value c.set_ends.ensures.ends) c.in_ok-notes.notes c.in_ok-notes.ensures
     c.in_ok-marks.marks.items c.in_ok-marks.ensures.items _
     (let a = c.in_ok-marks.ensures.capacity in let b = c.operations-room.ensures.count in omega arith)
-    c.in_ok-machines_of.field-0.items _ (c.latest_end.result + 1)
+    _ (c.latest_end.result + 1)
     (record {
-      machines_at = subst (λ (n : ℕ). AreMachinesAt c.args.layout n c.in_ok-machines_of.field-0.items)
-          c.machines-machines.ensures c.in_ok-machines_of.ensures;
       as_many = c.in_ok-new.ensures.0 ∙ c.machines-machines.ensures;
       at_rest = c.in_ok-new.ensures.1;
       top_is = (let a = c.latest_end.ensures.latest in omega arith);

@@ -1,10 +1,10 @@
-use Rattle.std.proofs.Common.{◌-◌, ◌<◌, ℕ, List, [], ◌∷◌, ◌++◌, length, take, drop, true, ◌≡◌, sym, subst}
+use Rattle.std.proofs.Common.{◌-◌, ℕ, List, [], ◌∷◌, ◌++◌, length, take, drop, true, ◌≡◌, refl, sym, subst, arith}
 use Rattle.shop_bound.specs.declared.notes.Note.{Note}
 use Rattle.shop_bound.specs.inner.Fills.{GoesBack}
-use Rattle.shop_bound.specs.inner.LaneEnds.{AreEndsButJob, AreEndsOf, CanKeepEnds}
+use Rattle.shop_bound.specs.inner.LaneEnds.{AreEndsButJob, AreEndsOf}
 use Rattle.shop_bound.specs.inner.LaneHeads.{AreNotesFit}
 use Rattle.shop_bound.specs.inner.LaneStates.{LaneState, HasLastInLanes, IsKeptInLanes}
-use Rattle.shop_bound.proofs.LaneSteps.{can_fill, ends_less, job_less, fit_less, noted_less, kept_less}
+use Rattle.shop_bound.proofs.LaneSteps.{can_fill, ends_less, job_less, fit_less, noted_less, kept_less, last_known}
 use Rattle.shop_bound.proofs.lane_heads.LaneHeads.undo.Goals as goal
 
 pub go_back-requires-clause-fill : goal.go_back-requires-clause-fill
@@ -14,6 +14,14 @@ go_back-requires-clause-fill g c =
     in can_fill g.L.Lanes.GREATEST c.args.instance.now last.word c.args.job _ last.kept _ c.unwrap-last.result
     (rw c.unwrap-last.ensures at c.pop.ensures.items) c.args.placement.now last.placed
 
+pub index_mut-requires : goal.index_mut-requires
+index_mut-requires g c =
+    let last = subst (λ (s : LaneState). HasLastInLanes g.L.Lanes.GREATEST c.args.instance.now c.args.placement.now
+    c.args.job s) (sym c.self.view_is) c.requires
+    in let known = last_known g.L.Lanes.GREATEST c.args.instance.now last.word c.args.job _ last.kept _ c.unwrap-last.result
+    (rw c.unwrap-last.ensures at c.pop.ensures.items)
+    in let long = c.self.inside.next.ok.0 in omega arith
+
 pub keep_ends-requires-clause-keep : goal.keep_ends-requires-clause-keep
 keep_ends-requires-clause-keep g c =
     let last = subst (λ (s : LaneState). HasLastInLanes g.L.Lanes.GREATEST c.args.instance.now c.args.placement.now
@@ -21,11 +29,9 @@ keep_ends-requires-clause-keep g c =
     in let back = subst (λ (ns : List Note). GoesBack c.args.instance.now c.self.inside.layout c.args.placement.now
     (take (length ns - c.unwrap-last.result.first) (drop c.unwrap-last.result.first ns)) c.unwrap-last.result.whole
     (g.L.Lanes.rows c.self.inside.lanes) (g.L.Lanes.rows c.go_back.new.lanes)) c.list.ensures c.go_back.ensures
-    in subst (λ (steps : List ℕ). CanKeepEnds g.L.Lanes.GREATEST c.self.inside.layout steps
-    (g.L.Lanes.rows c.go_back.new.lanes)) (sym c.jobs_steps-steps.ensures)
-    (ends_less g.L.Lanes.GREATEST c.args.instance.now last.word c.args.job _ last.kept _ c.unwrap-last.result
-    (rw c.unwrap-last.ensures at c.pop.ensures.items) c.args.placement.now last.placed
-    (g.L.Lanes.rows c.go_back.new.lanes) back)
+    in ends_less g.L.Lanes.GREATEST c.args.instance.now last.word c.args.job _ last.kept _ c.unwrap-last.result
+    (rw c.unwrap-last.ensures at c.pop.ensures.items) c.args.placement.now last.placed (g.L.Lanes.rows c.go_back.new.lanes) back
+    c.as_slice-next.result.now c.as_slice-next.ensures.value
 
 pub keep_ends-requires-clause-job : goal.keep_ends-requires-clause-job
 keep_ends-requires-clause-job g c =
@@ -34,10 +40,9 @@ keep_ends-requires-clause-job g c =
     in let back = subst (λ (ns : List Note). GoesBack c.args.instance.now c.self.inside.layout c.args.placement.now
     (take (length ns - c.unwrap-last.result.first) (drop c.unwrap-last.result.first ns)) c.unwrap-last.result.whole
     (g.L.Lanes.rows c.self.inside.lanes) (g.L.Lanes.rows c.go_back.new.lanes)) c.list.ensures c.go_back.ensures
-    in subst (λ (steps : List ℕ). c.args.job < length steps) (sym c.jobs_steps-steps.ensures)
-    (job_less g.L.Lanes.GREATEST c.args.instance.now last.word c.args.job _ last.kept _ c.unwrap-last.result
-    (rw c.unwrap-last.ensures at c.pop.ensures.items) c.args.placement.now last.placed
-    (g.L.Lanes.rows c.go_back.new.lanes) back)
+    in job_less g.L.Lanes.GREATEST c.args.instance.now last.word c.args.job _ last.kept _ c.unwrap-last.result
+    (rw c.unwrap-last.ensures at c.pop.ensures.items) c.args.placement.now last.placed (g.L.Lanes.rows c.go_back.new.lanes) back
+    c.as_slice-next.result.now c.as_slice-next.ensures.value
 
 pub keep_ends-requires-clause-notes : goal.keep_ends-requires-clause-notes
 keep_ends-requires-clause-notes g c =
@@ -50,8 +55,8 @@ keep_ends-requires-clause-notes g c =
     (length (g.L.Lanes.rows c.go_back.new.lanes).heads)
     (take (length ns - c.unwrap-last.result.first) (drop c.unwrap-last.result.first ns))) (sym c.list.ensures)
     (fit_less g.L.Lanes.GREATEST c.args.instance.now last.word c.args.job _ last.kept _ c.unwrap-last.result
-    (rw c.unwrap-last.ensures at c.pop.ensures.items) c.args.placement.now last.placed
-    (g.L.Lanes.rows c.go_back.new.lanes) back)
+    (rw c.unwrap-last.ensures at c.pop.ensures.items) c.args.placement.now last.placed (g.L.Lanes.rows c.go_back.new.lanes) back
+    c.as_slice-next.result.now c.as_slice-next.ensures.value)
 
 pub keep_ends-requires-clause-noted : goal.keep_ends-requires-clause-noted
 keep_ends-requires-clause-noted g c =
@@ -61,16 +66,12 @@ keep_ends-requires-clause-noted g c =
     (take (length ns - c.unwrap-last.result.first) (drop c.unwrap-last.result.first ns)) c.unwrap-last.result.whole
     (g.L.Lanes.rows c.self.inside.lanes) (g.L.Lanes.rows c.go_back.new.lanes)) c.list.ensures c.go_back.ensures
     in subst (λ (ns : List Note). c.unwrap-last.result.whole ≡ true
-    → AreEndsButJob g.L.Lanes.GREATEST c.self.inside.layout c.jobs_steps-steps.result.now
-    (g.L.Lanes.rows c.go_back.new.lanes)
+    → AreEndsButJob g.L.Lanes.GREATEST c.as_slice-next.result.now (g.L.Lanes.rows c.go_back.new.lanes)
     (take (length ns - c.unwrap-last.result.first) (drop c.unwrap-last.result.first ns)) c.args.job)
-    (sym c.list.ensures) (subst (λ (steps : List ℕ). c.unwrap-last.result.whole ≡ true
-    → AreEndsButJob g.L.Lanes.GREATEST c.self.inside.layout steps (g.L.Lanes.rows c.go_back.new.lanes)
-    (take (length c.self.inside.notes.list - c.unwrap-last.result.first)
-    (drop c.unwrap-last.result.first c.self.inside.notes.list)) c.args.job) (sym c.jobs_steps-steps.ensures)
+    (sym c.list.ensures)
     (noted_less g.L.Lanes.GREATEST c.args.instance.now last.word c.args.job _ last.kept _ c.unwrap-last.result
-    (rw c.unwrap-last.ensures at c.pop.ensures.items) c.args.placement.now last.placed
-    (g.L.Lanes.rows c.go_back.new.lanes) back))
+    (rw c.unwrap-last.ensures at c.pop.ensures.items) c.args.placement.now last.placed (g.L.Lanes.rows c.go_back.new.lanes) back
+    c.as_slice-next.result.now c.as_slice-next.ensures.value)
 
 pub returns : goal.returns
 returns g c w kept placed =
@@ -80,9 +81,8 @@ returns g c w kept placed =
     c.args.placement.now placed (g.L.Lanes.rows c.go_back.new.lanes)
     (subst (λ (ns : List Note). GoesBack c.args.instance.now c.self.inside.layout c.args.placement.now
     (take (length ns - c.unwrap-last.result.first) (drop c.unwrap-last.result.first ns)) c.unwrap-last.result.whole
-    (g.L.Lanes.rows c.self.inside.lanes)
-    (g.L.Lanes.rows c.go_back.new.lanes)) c.list.ensures c.go_back.ensures) (g.L.Lanes.rows c.keep_ends.new.lanes)
-    c.keep_ends.ensures.beside
-    (subst (λ (steps : List ℕ). AreEndsOf g.L.Lanes.GREATEST c.self.inside.layout steps
-    (g.L.Lanes.rows c.keep_ends.new.lanes)) c.jobs_steps-steps.ensures c.keep_ends.ensures.ends) c.truncate.new.self
+    (g.L.Lanes.rows c.self.inside.lanes) (g.L.Lanes.rows c.go_back.new.lanes)) c.list.ensures c.go_back.ensures) _ refl
+    (g.L.Lanes.rows c.keep_ends.new.lanes) c.keep_ends.ensures.beside
+    (subst (λ (nexts : List ℕ). AreEndsOf g.L.Lanes.GREATEST nexts (g.L.Lanes.rows c.keep_ends.new.lanes))
+    c.as_slice-next.ensures.value c.keep_ends.ensures.ends) c.truncate.new.self
     c.truncate.ensures _ c.pop.ensures.capacity _ c.forget.ensures
