@@ -52,14 +52,12 @@ impl<L: Lanes> LaneHeads<L> {
             let machines = self.raises.machines();
             return bound_by_all(&self.lanes, &self.layout, machines, self.top, least, limit);
         }
-        let noted = &self.notes.list()[mark.first..];
-        let upper = self.estimates.upper();
         self.raises.add_notes(
             &self.lanes,
             self.layout.machines(),
-            noted,
+            &self.notes.list()[mark.first..],
             next,
-            upper,
+            self.estimates.upper(),
             least,
         );
         self.raises

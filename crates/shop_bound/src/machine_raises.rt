@@ -1,11 +1,11 @@
 // What changed among the heads of each machine, and the machines on which something did.
-ghost use Rattle.std.specs.Prelude.{◌≡◌, ℕ, ◌+◌, ◌≤◌, ◌<◌, All, IfOk, length, slice_index};
-ghost use Rattle.std.specs.Prelude.{slice_set, true, ◌^◌};
+ghost use Rattle.std.specs.Prelude.{◌≡◌, ℕ, ◌+◌, ◌≤◌, ◌<◌, ◌^◌, IfOk, length, slice_set, true};
 ghost use Rattle.shop_lanes.specs.Spans.{spans_between};
-ghost use Rattle.shop_bound.specs.inner.Estimates.{IsForeseen, IsNoteCovered};
+ghost use Rattle.shop_bound.specs.inner.Estimates.{IsForeseen};
 ghost use Rattle.shop_bound.specs.inner.HeadRaises.{raise_of, widened};
-ghost use Rattle.shop_bound.specs.inner.LaneBounds.{AreRaisesUpTo, lanes_on};
-ghost use Rattle.shop_bound.specs.inner.MachineRaises.{AreEmpty, AreRaisesFit};
+ghost use Rattle.shop_bound.specs.inner.LaneBounds.{lanes_on};
+ghost use Rattle.shop_bound.specs.inner.MachineRaises.{AreEmpty, AreRaisesFit, CanAddNotes};
+ghost use Rattle.shop_bound.specs.inner.MachineRaises.{HasAddedNotes};
 
 use crate::child_bounds::NextOperation;
 use crate::estimates::is_small;
@@ -97,15 +97,9 @@ impl MachineRaises {
         upper: &[u64],
         least: u64,
     )
-        requires notes { All (λ n. n.position < length (L.rows lanes.now).heads) notes.now }
-        requires positions { length machines.now ≡ length (L.rows lanes.now).heads }
-        requires known { (q : ℕ) → q < length machines.now
-            → slice_index machines.now q < length self.old }
-        ensures long { length self.new ≡ length self.old }
-        ensures covered { All (IsNoteCovered self.new next.machine next.end upper.now least
-            machines.now (L.rows lanes.now).heads) notes.now }
-        ensures up_to { (top : ℕ) → ((q : ℕ) → slice_index (L.rows lanes.now).heads q ≤ top)
-            → AreRaisesUpTo top self.old → AreRaisesUpTo top self.new }
+        requires { CanAddNotes self.old machines.now (L.rows lanes.now).heads notes.now }
+        ensures { HasAddedNotes next.machine next.end upper.now least machines.now
+            (L.rows lanes.now).heads notes.now self.old self.new }
     {
         for note in notes {
             let head = lanes.head(note.position);
@@ -131,15 +125,9 @@ impl MachineRaises {
         upper: &[u64],
         least: u64,
     )
-        requires notes { All (λ n. n.position < length (L.rows lanes.now).heads) notes.now }
-        requires positions { length machines.now ≡ length (L.rows lanes.now).heads }
-        requires known { (q : ℕ) → q < length machines.now
-            → slice_index machines.now q < length self.old }
-        ensures long { length self.new ≡ length self.old }
-        ensures covered { All (IsNoteCovered self.new next.machine next.end upper.now least
-            machines.now (L.rows lanes.now).heads) notes.now }
-        ensures up_to { (top : ℕ) → ((q : ℕ) → slice_index (L.rows lanes.now).heads q ≤ top)
-            → AreRaisesUpTo top self.old → AreRaisesUpTo top self.new }
+        requires { CanAddNotes self.old machines.now (L.rows lanes.now).heads notes.now }
+        ensures { HasAddedNotes next.machine next.end upper.now least machines.now
+            (L.rows lanes.now).heads notes.now self.old self.new }
     {
         self.widen(lanes, machines, notes, next, upper, least);
     }
@@ -155,15 +143,9 @@ impl MachineRaises {
         upper: &[u64],
         least: u64,
     )
-        requires notes { All (λ n. n.position < length (L.rows lanes.now).heads) notes.now }
-        requires positions { length machines.now ≡ length (L.rows lanes.now).heads }
-        requires known { (q : ℕ) → q < length machines.now
-            → slice_index machines.now q < length self.old }
-        ensures long { length self.new ≡ length self.old }
-        ensures covered { All (IsNoteCovered self.new next.machine next.end upper.now least
-            machines.now (L.rows lanes.now).heads) notes.now }
-        ensures up_to { (top : ℕ) → ((q : ℕ) → slice_index (L.rows lanes.now).heads q ≤ top)
-            → AreRaisesUpTo top self.old → AreRaisesUpTo top self.new }
+        requires { CanAddNotes self.old machines.now (L.rows lanes.now).heads notes.now }
+        ensures { HasAddedNotes next.machine next.end upper.now least machines.now
+            (L.rows lanes.now).heads notes.now self.old self.new }
     {
         if upper.is_empty() {
             // no note is tested where there are no estimates

@@ -2,15 +2,18 @@
 --     AreEmpty raises                no head changed on any machine
 --     AreListed raises raised count  the machines with a raise are among the first `count` of a list
 --     AreRaisesFit greatest ..       each machine has its blocks, and a span from its raise fits
+--     CanAddNotes, HasAddedNotes     raises are widened by notes
 --     IsBoundByRaise ..              the greater of a bound and of what begins within a raise
 use Rattle.std.specs.Prelude.{◌≡◌, ℕ, ◌+◌, ◌≤◌, ◌<◌, List, length, sum_by, if◌then◌else◌, nat_lt}
-use Rattle.std.specs.Prelude.{slice_index}
+use Rattle.std.specs.Prelude.{All, slice_index}
 use Rattle.shop_lanes.specs.Rows.{Rows, Lane, AreBlocks}
 use Rattle.shop_lanes.specs.Spans.{spans_between, FitsSpan}
+use Rattle.shop_bound.specs.inner.Estimates.{IsNoteCovered}
 use Rattle.shop_bound.specs.inner.HeadRaises.{raise_of}
-use Rattle.shop_bound.specs.inner.LaneBounds.{lanes_on}
+use Rattle.shop_bound.specs.inner.LaneBounds.{AreRaisesUpTo, lanes_on}
 use Rattle.shop_bound.specs.inner.Layouts.{LayoutState}
 use Rattle.shop_bound.specs.declared.head_raises.Raise.{Raise}
+use Rattle.shop_bound.specs.declared.notes.Note.{Note}
 
 abbrev pub AreEmpty : List Raise → Type 0
 AreEmpty raises = (m : ℕ) → (raise_of raises m).to ≡ 0
@@ -33,6 +36,20 @@ pub record AreRaisesFit (greatest : ℕ) (raises : List Raise) (l : LayoutState)
       → AreBlocks rows (slice_index l.blocks m) (slice_index l.blocks (m + 1))
   pub fits : (m : ℕ) → m < length raises
       → FitsSpan greatest (raise_of raises m).to (lanes_on rows l m)
+
+-- each note has a position, and each position a machine with a raise
+pub record CanAddNotes (raises : List Raise) (ms heads : List ℕ) (notes : List Note) : Type 0 where
+  pub inside : All (λ n. n.position < length heads) notes
+  pub positions : length ms ≡ length heads
+  pub known : (q : ℕ) → q < length ms → slice_index ms q < length raises
+
+-- each note is within a raise, rose little or is foreseen, and no raise goes beyond all heads
+pub record HasAddedNotes (own end : ℕ) (us : List ℕ) (least : ℕ) (ms heads : List ℕ)
+    (notes : List Note) (old new : List Raise) : Type 0 where
+  pub long : length new ≡ length old
+  pub covered : All (IsNoteCovered new own end us least ms heads) notes
+  pub up_to : (top : ℕ) → ((q : ℕ) → slice_index heads q ≤ top) → AreRaisesUpTo top old
+      → AreRaisesUpTo top new
 
 -- b is at least `least`, and no more than that and the spans of these lanes bound; if it is below
 -- the limit, it bounds what begins within the raise

@@ -22,8 +22,8 @@ returns-clause-bound g c =
       noted = λ under whole. (
         c.add_notes.new.self,
         raises_bounded _ c.args.mark c.args.next.machine c.args.next.end c.args.least c.take_bound.result
-            c.add_notes.new.self c.list.result.now c.list.ensures c.upper-upper.result.now c.machines.result.now
-            c.upper-upper.ensures c.machines.ensures c.add_notes.ensures.covered (c.take_bound.ensures.covers under),
+            c.add_notes.new.self c.list.result.now c.list.ensures c.upper.result.now c.machines.result.now
+            c.upper.ensures c.machines.ensures c.add_notes.ensures.covered (c.take_bound.ensures.covers under),
       );
       all = λ under whole. absurd (true≢false (sym (ap not whole) ∙ c.if-not-mark.false));
       within = λ b above each. c.take_bound.ensures.within b above (λ m x y known. each m x y (omega arith));

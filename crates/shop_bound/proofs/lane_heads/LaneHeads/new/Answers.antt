@@ -1,4 +1,4 @@
-use Rattle.std.proofs.Common.{ℕ, ◌+◌, ◌≤◌, ◌∙◌, List, length, sym, ap, subst, arith}
+use Rattle.std.proofs.Common.{ℕ, ◌+◌, ◌≤◌, ◌∙◌, List, sym, ap, subst, arith}
 use Rattle.std.specs.List.{All}
 use Rattle.shop_lanes.specs.Rows.{at_rest}
 use Rattle.shop_bound.proofs.LaneBegins.{times_fit, tails_fit, kept_none, heads_fit, can_begin}
