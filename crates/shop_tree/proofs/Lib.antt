@@ -5,6 +5,7 @@ pub mod BetterChildren
 pub mod WalkSteps
 pub mod SearchLaw
 pub mod Found
+pub mod AlikeWalks
 mod Counting
 mod ChildrenLemmas
 mod FirstOn

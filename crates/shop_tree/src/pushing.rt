@@ -4,7 +4,7 @@ ghost use Rattle.shop_bound.specs.Bound.{lb};
 ghost use Rattle.shop_tree.specs.inner.Opens.{AreChildrenOf, IsPlaceAbove};
 ghost use Rattle.shop_tree.specs.inner.Pushing.{with_opens, with_rest};
 
-use crate::opens::{Closed, Open, Waiting};
+use crate::opens::{Open, Waiting};
 use shop_bound::Desk;
 use std::alloc::AllocError;
 
@@ -68,22 +68,12 @@ pub(crate) fn push_open(stack: &mut Vec<Waiting>, children: &[Open]) -> Result<(
     Ok(())
 }
 
-/// Puts so many closed children of a word with this bound on the stack, if there are any.
-pub(crate) fn push_rest(
-    stack: &mut Vec<Waiting>,
-    depth: usize,
-    count: usize,
-    bound: u64,
-) -> Result<(), AllocError>
-    ensures { OnOk result (stack.new.items ≡ with_rest stack.old.items depth count bound) }
+/// Puts so many closed children on the stack, if there are any.
+pub(crate) fn push_rest(stack: &mut Vec<Waiting>, count: usize) -> Result<(), AllocError>
+    ensures { OnOk result (stack.new.items ≡ with_rest stack.old.items count) }
 {
     if count > 0 {
-        let closed = Closed {
-            depth,
-            count,
-            bound,
-        };
-        stack.push(Waiting::Rest(closed))?;
+        stack.push(Waiting::Rest(count))?;
     }
     Ok(())
 }

@@ -7,7 +7,7 @@ ghost use Rattle.shop_bound.specs.Bound.{lb};
 
 use crate::moving::{go_to, undo_to};
 use crate::nodes::Node;
-use crate::opens::{Closed, Open, Waiting};
+use crate::opens::{Open, Waiting};
 use crate::pieces::Piece;
 use crate::progress::Progress;
 use crate::pushing::{gather_children, push_open, push_rest};
@@ -35,7 +35,7 @@ impl<'a> Walker<'a> {
     ghost use Rattle.shop_tree.specs.declared.opens.Waiting.TheVariants.{Child, Rest};
     ghost use Rattle.shop_tree.specs.inner.Walkers.{HasBranched, HasExpanded, HasWalked, IsInOrder};
     ghost use Rattle.shop_tree.specs.inner.Walkers.{IsNextOn, IsTurn};
-    ghost use Rattle.shop_tree.specs.inner.Walkers.{node_walk, nodes_walk, stack_walk, GoesBackTo};
+    ghost use Rattle.shop_tree.specs.inner.Walkers.{node_walk, nodes_walk, stack_walk};
     ghost use Rattle.shop_tree.specs.inner.Walkers.{BeginsWithWord};
 
     /// For pieces of this instance. Fails with `AllocError` if memory runs out.
@@ -63,7 +63,7 @@ impl<'a> Walker<'a> {
             self.progress.best,
             &mut self.jobs,
         )?;
-        push_rest(&mut self.stack, self.desk.jobs().len(), others, bound)?;
+        push_rest(&mut self.stack, others)?;
         push_open(&mut self.stack, self.children.as_slice())
     }
 
@@ -72,6 +72,7 @@ impl<'a> Walker<'a> {
     fn expand(&mut self, alloc: Global, bound: u64) -> Result<(), AllocError>
         requires bound { bound ≡ lb self.old.desk.shop self.old.desk.word }
         requires below { bound < self.old.progress.best }
+        requires none_left { self.old.progress.left.items ≡ [] }
         requires in_order { IsInOrder self.old }
         ensures { OnOk result (HasExpanded self.old self.new) }
     {
@@ -99,41 +100,16 @@ impl<'a> Walker<'a> {
         self.expand(alloc, child.bound)
     }
 
-    /// Puts closed children, which lay on top of the stack, on it as open ones, whatever their bounds.
-    fn open_closed(&mut self, closed: Closed) -> Result<(), AllocError>
-        requires { IsNextOn self.old (Rest closed) }
-        ensures turn { OnOk result (IsTurn self.old (Rest closed) self.new) }
-        ensures desk { OnOk result (GoesBackTo closed.depth self.old self.new) }
-        ensures budget { OnOk result (self.new.progress ≡ self.old.progress) }
+    /// Counts closed children, which lay on top of the stack, as far as the budget goes.
+    fn count_closed(&mut self, count: usize)
+        requires { IsNextOn self.old (Rest count) }
+        ensures { IsTurn self.old (Rest count) self.new }
     {
-        undo_to(&mut self.desk, closed.depth);
-        gather_children(
-            &mut self.children,
-            &mut self.desk,
-            closed.bound,
-            u64::MAX,
-            &mut self.jobs,
-        )?;
-        self.desk.keeps_word();
-        self.children.truncate(closed.count);
-        push_open(&mut self.stack, self.children.as_slice())
+        self.progress.budget = self.progress.budget.saturating_sub(count as u64);
     }
 
-    /// Counts closed children, which lay on top of the stack. Where the budget ends among them, they are put on the
-    /// stack as open ones.
-    fn count_closed(&mut self, closed: Closed) -> Result<(), AllocError>
-        requires { IsNextOn self.old (Rest closed) }
-        ensures { OnOk result (IsTurn self.old (Rest closed) self.new) }
-    {
-        let count = closed.count as u64;
-        if count <= self.progress.budget {
-            self.progress.budget -= count;
-            return Ok(());
-        }
-        self.open_closed(closed)
-    }
-
-    /// Leaves an open child, which lay on top of the stack; the path begins with the desk's word.
+    /// Leaves an open child, which lay on top of the stack, if its bound is below the best; the path begins with the
+    /// desk's word.
     fn leave_open(&mut self, path: &ArcSlice<u16, Global>, child: Open) -> Result<(), AllocError>
         requires spent { self.old.progress.budget ≡ 0 }
         requires on { IsNextOn self.old (Child child) }
@@ -142,6 +118,9 @@ impl<'a> Walker<'a> {
         ensures desk { OnOk result (self.new.desk ≡ self.old.desk) }
         ensures budget { OnOk result (self.new.progress.budget ≡ self.old.progress.budget) }
     {
+        if child.bound >= self.progress.best {
+            return Ok(());
+        }
         self.desk.keeps_word();
         let word = SharedWord::along(path, child.depth, child.job)?;
         let bound = child.bound;
@@ -160,9 +139,8 @@ impl<'a> Walker<'a> {
         self.desk.keeps_word();
         let path = path_of(alloc, self.desk.jobs())?;
         while let Some(waiting) = self.stack.pop() {
-            match waiting {
-                Waiting::Child(child) => self.leave_open(&path, child)?,
-                Waiting::Rest(closed) => self.open_closed(closed)?,
+            if let Waiting::Child(child) = waiting {
+                self.leave_open(&path, child)?;
             }
         }
         Ok(())
@@ -179,10 +157,23 @@ impl<'a> Walker<'a> {
             };
             match waiting {
                 Waiting::Child(child) => self.walk_open(alloc, child)?,
-                Waiting::Rest(closed) => self.count_closed(closed)?,
+                Waiting::Rest(count) => self.count_closed(count),
             }
         }
         self.leave_stack(alloc)
+    }
+
+    /// Leaves a node, if its bound is below the best.
+    fn leave_node(&mut self, node: &Node) -> Result<(), AllocError>
+        requires spent { self.old.progress.budget ≡ 0 }
+        requires node { IsNode self.old.progress.instance.now node.now }
+        requires empty { self.old.stack.items ≡ [] }
+        ensures { OnOk result (HasWalked self.old self.new (node_walk self.old node.now)) }
+    {
+        if node.bound >= self.progress.best {
+            return Ok(());
+        }
+        self.progress.leave(node.shared()?)
     }
 
     /// Walks a node.
@@ -192,7 +183,7 @@ impl<'a> Walker<'a> {
         ensures { OnOk result (HasWalked self.old self.new (node_walk self.old node.now)) }
     {
         if self.progress.budget == 0 {
-            return self.progress.leave(node.shared()?);
+            return self.leave_node(node);
         }
         self.progress.budget -= 1;
         if node.bound >= self.progress.best {

@@ -25,5 +25,4 @@ returns c =
     self.same_shop
     in let long : operation_count self.desk.shop ≤ length self.desk.word = (let a = c.if-jobs-self.false
     in let b = self.progress.counted in omega arith)
-    in expands_found self _ long (let a = c.requires.bound in let b = c.requires.below in omega arith)
-    c.requires.in_order refl refl (search rules) refl
+    in expands_found self _ long c.requires.in_order refl refl (search rules) refl
