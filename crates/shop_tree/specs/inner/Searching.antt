@@ -2,8 +2,8 @@
 --     AreAlike shop s t                 alike but for words left whose bounds reach the best
 --     walk_entry shop word s x          the walk of what waits: closed children are only counted
 --     walk_stack shop word s stack      the walks of all that waits, from the top of the stack on
---     Adds shop best word old new       on top of the old stack lie the children of word, where no
---                                       walk is better than the best
+--     Adds shop best word old new       on top of the old stack lie the children of word, for
+--                                       walks whose best is at most this one
 --     opening_walk best budget          a walk that begins: nothing is found, nothing is left
 --     walked progress                   what a walk carries, told by its progress
 --     entered shop t w                  where a walk comes to that goes on from w, taken with a
