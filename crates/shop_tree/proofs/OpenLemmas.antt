@@ -48,7 +48,7 @@ module _ (shop : Shop) (v w : List ℕ) (n : ℕ) (alike : take n v ≡ take n w
   all-same long [] low all = tt
   all-same long (x ∷ stack) low all = (waits-same x long low.0 all.0, all-same long stack low.1 all.1)
 
-deep : (shop : Shop) (w : List ℕ) (x : Waiting) → IsWaiting shop w x → IsUpTo (length w) x
+pub deep : (shop : Shop) (w : List ℕ) (x : Waiting) → IsWaiting shop w x → IsUpTo (length w) x
 deep shop w (Child o) h = h.depth
 deep shop w (Rest count) h = tt
 

@@ -4,6 +4,7 @@ ghost use Rattle.std.specs.Arc.{arc_slice_items};
 ghost use Rattle.shop_tree.specs.Nodes.{IsNode, AreNodes};
 ghost use Rattle.shop_tree.specs.Sheets.{IsSheetOf, KeepsTables};
 ghost use Rattle.shop_bound.specs.Bound.{lb};
+ghost use Rattle.shop_tree.specs.Branching.{conflict};
 
 use crate::moving::{go_to, undo_to};
 use crate::nodes::Node;
@@ -36,7 +37,7 @@ impl<'a> Walker<'a> {
     ghost use Rattle.shop_tree.specs.inner.Walkers.{HasBranched, HasExpanded, HasWalked, IsInOrder};
     ghost use Rattle.shop_tree.specs.inner.Walkers.{IsNextOn, IsTurn};
     ghost use Rattle.shop_tree.specs.inner.Walkers.{node_walk, nodes_walk, stack_walk};
-    ghost use Rattle.shop_tree.specs.inner.Walkers.{BeginsWithWord};
+    ghost use Rattle.shop_tree.specs.inner.Walkers.{BeginsWithWord, HasFollowed, HasConflict};
 
     /// For pieces of this instance. Fails with `AllocError` if memory runs out.
     pub(crate) fn new(alloc: Global, instance: &'a Instance) -> Result<Walker<'a>, AllocError>
@@ -51,9 +52,33 @@ impl<'a> Walker<'a> {
         })
     }
 
-    /// Puts the children of the desk's word on the stack, the first one on top; the word's bound is at hand.
+    /// Goes on from the desk's word, which was taken and has this bound, to its child and on, as long as the budget
+    /// lasts and there is one child alone: this has the same bound. Where the word that it comes to isn't full, its
+    /// conflict set is in the list of jobs.
+    fn follow_sole(&mut self, bound: u64)
+        requires bound { bound ≡ lb self.old.desk.shop self.old.desk.word }
+        requires below { bound < self.old.progress.best }
+        requires in_order { IsInOrder self.old }
+        ensures followed { HasFollowed self.old self.new }
+        ensures jobs { HasConflict self.new }
+    {
+        while self.desk.jobs().len() < self.progress.operations {
+            self.desk.gather_conflict(&mut self.jobs);
+            if self.jobs.len() != 1 || self.progress.budget == 0 {
+                return;
+            }
+            self.desk.keeps_word();
+            self.desk.sole_candidate_keeps_bound();
+            self.progress.budget -= 1;
+            self.desk.dispatch(self.jobs[0]);
+        }
+    }
+
+    /// Puts the children of the desk's word on the stack, the first one on top; the word's bound and its conflict set
+    /// are at hand.
     fn push_children(&mut self, bound: u64) -> Result<(), AllocError>
-        requires { bound ≡ lb self.old.desk.shop self.old.desk.word }
+        requires bound { bound ≡ lb self.old.desk.shop self.old.desk.word }
+        requires jobs { self.old.jobs.items ≡ conflict self.old.desk.shop self.old.desk.word }
         ensures { OnOk result (HasBranched self.old self.new) }
     {
         let others = gather_children(
@@ -67,8 +92,8 @@ impl<'a> Walker<'a> {
         push_open(&mut self.stack, self.children.as_slice())
     }
 
-    /// Goes on from the desk's word, which was taken and whose bound is below the best: a full word is found, the
-    /// children of another one are put on the stack.
+    /// Goes on from the desk's word, which was taken and whose bound is below the best: as far as there is one way
+    /// alone, then a full word is found, and the children of another one are put on the stack.
     fn expand(&mut self, alloc: Global, bound: u64) -> Result<(), AllocError>
         requires bound { bound ≡ lb self.old.desk.shop self.old.desk.word }
         requires below { bound < self.old.progress.best }
@@ -76,6 +101,7 @@ impl<'a> Walker<'a> {
         requires in_order { IsInOrder self.old }
         ensures { OnOk result (HasExpanded self.old self.new) }
     {
+        self.follow_sole(bound);
         if self.desk.jobs().len() < self.progress.operations {
             return self.push_children(bound);
         }
