@@ -24,7 +24,8 @@ use Rattle.shop_round.specs.inner.OpenNodes.{nodes_below}
 use Rattle.shop_round.proofs.NodeLemmas.{below_is}
 use Rattle.shop_round.proofs.SheetLemmas.{IsOfRound, hit_in, found_is, least_is_bound}
 use Rattle.shop_round.proofs.StandingLemmas.{known, best_of_round}
-use Rattle.shop_round.proofs.GatherLemmas.{GatheredSoFar, IsSheetAt, whole_of, below_best, best_among, first_sheets, map_at, inside, at_place}
+use Rattle.shop_round.proofs.GatherLemmas.{GatheredSoFar, IsSheetAt, whole_of, below_best, best_among, first_sheets}
+use Rattle.shop_round.proofs.GatherLemmas.{map_at, inside, at_place}
 use Rattle.shop_round.proofs.GatherLemmas.{next_sheets, next_taken, few_here, gathered_better, gathered_worse}
 
 -- the first of some walks that ends at c, where none before it does
@@ -89,7 +90,8 @@ module _ (r : Told) (is : IsRound r) (i : ℕ) (found : Option (List ℕ)) (make
         let m = many_sheets r
         in let below = inside r i s at
         in hit_at r.bound (sheets_of r) i (whole_of r i s) below
-        (λ k l. sheet_hits r k (whole_of r i s) (omega arith) ∙ was.none_hits k l) (at_place r i s at (whole_of r i s)) hit
+        (λ k l. sheet_hits r k (whole_of r i s) (omega arith) ∙ was.none_hits k l)
+        (at_place r i s at (whole_of r i s)) hit
 
     pub closed_is : gathered r ≡ closed_stand r s.found (nodes + s.taken)
     closed_is =

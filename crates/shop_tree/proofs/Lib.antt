@@ -16,4 +16,5 @@ mod AddLemmas
 mod TurnLemmas
 mod PushLemmas
 mod SmallJobs
+mod ExpandLemmas
 mod WalkerLemmas

@@ -2,9 +2,9 @@
 --     walk_told found best left budget                             what a walk carries, told by
 --                                                                  nodes
 --     words_below shop c words                                     the words of bounds below c
---     still_open shop s                                            what a walk carries, of the words
---                                                                  left those of bounds below its
---                                                                  best
+--     still_open shop s                                            what a walk carries, and of what
+--                                                                  is left the words of bounds
+--                                                                  below its best
 --     IsSheet shop piece best budget found makespan left taken     what was found, the makespan,
 --                                                                  what is left of bounds below it
 --                                                                  and how many were taken are the

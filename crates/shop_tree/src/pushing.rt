@@ -21,7 +21,7 @@ fn place_above(bound: u64, opens: &[Open]) -> usize
 }
 
 /// Replaces the list with the children of the desk's word with bounds below the limit, by bound, then by job, the first
-/// one last; and tells how many others there are. The word's bound and its conflict set are at hand, and a child that is
+/// one last; and tells how many others there are. The word's bound and its conflict set are at hand; a child that is
 /// alone has the same bound.
 pub(crate) fn gather_children(
     children: &mut Vec<Open>,

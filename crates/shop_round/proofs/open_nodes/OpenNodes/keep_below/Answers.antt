@@ -18,4 +18,6 @@ returns-in-AsKept c =
 
 pub returns-then-opening-makespan : goal.returns-then-opening-makespan
 returns-then-opening-makespan c =
-    (refl, sym (none_closed c.args.opening c.args.makespan (open_list c.args.self.now) c.if-opening-makespan.true c.requires))
+    let kept = none_closed c.args.opening c.args.makespan (open_list c.args.self.now) c.if-opening-makespan.true
+    c.requires
+    in (refl, sym kept)

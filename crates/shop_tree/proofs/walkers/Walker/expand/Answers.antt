@@ -3,7 +3,7 @@ use Rattle.shop_model.specs.Shop.{operation_count}
 use Rattle.shop_bound.specs.Bound.{lb}
 use Rattle.shop_tree.specs.inner.Walkers.{HasExpanded}
 use Rattle.shop_tree.proofs.ListLemmas.{on_ok}
-use Rattle.shop_tree.proofs.WalkerLemmas.{expands_branched, expands_followed, found_followed}
+use Rattle.shop_tree.proofs.ExpandLemmas.{expands_branched, expands_followed, found_followed}
 use Rattle.shop_tree.proofs.walkers.Walker.expand.Goals as goal
 
 pub push_children-requires-clause-bound : goal.push_children-requires-clause-bound

@@ -4,7 +4,7 @@ use Rattle.shop_bound.specs.Bound.{lb}
 use Rattle.shop_tree.specs.Branching.{conflict}
 use Rattle.shop_tree.proofs.ChildrenLemmas.{child-word}
 use Rattle.shop_tree.proofs.PushLemmas.{one_alone}
-use Rattle.shop_tree.proofs.WalkerLemmas.{follows_one, followed_then}
+use Rattle.shop_tree.proofs.ExpandLemmas.{follows_one, followed_then}
 use Rattle.shop_tree.proofs.walkers.Walker.follow_sole.Goals as goal
 
 pub dispatch-requires : goal.dispatch-requires
@@ -31,5 +31,5 @@ loop-self-preserved c =
     in let below : lb self.desk.shop self.desk.word < self.progress.best =
     (let a = now.bound in let b = now.best in let d = c.requires.bound in let e = c.requires.below in omega arith)
     in followed_then c.args.self.now self _ now
-    (follows_one self _ job short alone c.sole_candidate_keeps_bound.ensures (let a = c.if-self-eq0.false in omega arith)
-    below now.in_order c.dispatch.ensures refl refl refl refl)
+    (follows_one self _ job short alone c.sole_candidate_keeps_bound.ensures
+    (let a = c.if-self-eq0.false in omega arith) below now.in_order c.dispatch.ensures refl refl refl refl)

@@ -45,6 +45,7 @@ invariant_of-result-clause-is_sheet c =
     c.in_ok-walk_nodes.ensures.walk
     ∙ ap (λ (ns : List Node). still_open shop (fold (walk shop) (walked c.begin.new.self) (words_of ns)))
     c.as_slice.ensures.value
-    in subst (λ x. IsSheet x c.args.piece.now best budget c.end-found.result.0 p.best left (budget - p.budget)) (sym same)
+    in subst (λ x. IsSheet x c.args.piece.now best budget c.end-found.result.0 p.best left (budget - p.budget))
+    (sym same)
     (told_sheet shop nodes best budget c.begin.new.self p c.end-found.result.0 left same c.begin.ensures.walk
     c.in_ok-walk_nodes.ensures.spent walks c.end-found.ensures.found c.end-found.ensures.left)
