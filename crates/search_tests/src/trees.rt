@@ -248,25 +248,18 @@ fn budget_that_ends_among_children_that_only_count(rt: HostRuntime) -> Result<()
     let alloc = rt.alloc();
     let instance = with_a_gap(alloc)?;
     let piece = one_node(&rt, alloc, &instance, &[])?;
-    // The children of [1] have bounds 10 and 12.
-    for (budget, left, bounds) in [
-        (
-            2,
-            [[1, 1].as_slice(), [1, 0].as_slice()].as_slice(),
-            [10, 12].as_slice(),
-        ),
-        (3, [[1, 0].as_slice()].as_slice(), [12].as_slice()),
-        (4, [].as_slice(), [].as_slice()),
-    ] {
+    // The children of [1] have bounds 10 and 12, so none is below the best.
+    for budget in [2, 3, 4] {
         let sheet = search(alloc, &instance, &piece, 10, budget)?;
         assert_sheet(&rt, &sheet, None, 10, budget);
-        assert_left(&rt, &sheet, left);
-        assert_bounds(&rt, &sheet, bounds);
+        assert_left(&rt, &sheet, &[]);
     }
-    let seven = search(alloc, &instance, &piece, 12, 7)?;
-    assert_sheet(&rt, &seven, Some(&[1, 1, 0, 1, 0, 0]), 10, 7);
-    assert_left(&rt, &seven, &[&[1, 0]]);
-    assert_bounds(&rt, &seven, &[12]);
+    // The bound of [1, 0] reaches the makespan found, whether or not it is below the opening best.
+    for best in [12, 13] {
+        let seven = search(alloc, &instance, &piece, best, 7)?;
+        assert_sheet(&rt, &seven, Some(&[1, 1, 0, 1, 0, 0]), 10, 7);
+        assert_left(&rt, &seven, &[]);
+    }
     Ok(())
 }
 

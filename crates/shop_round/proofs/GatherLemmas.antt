@@ -11,6 +11,8 @@ use Rattle.std.proofs.lemmas.List.Elements.{All-append}
 use Rattle.shop_tree.specs.declared.nodes.Node.{Node}
 use Rattle.shop_tree.specs.declared.sheets.Sheet.{Sheet}
 use Rattle.shop_tree.specs.Nodes.{words_of, IsNode, AreNodes}
+use Rattle.shop_model.specs.Shop.{Shop}
+use Rattle.shop_tree.specs.Pieces.{words_below, still_open}
 use Rattle.shop_tree.specs.Walking.{Walk, sheet}
 use Rattle.shop_tree.specs.Sheets.{walk_of}
 use Rattle.shop_round.specs.Round.{Told, taken_of, sheet_in, sheets_of}
@@ -25,13 +27,17 @@ best_among r ss = fold better_of (first_of r.best r.word) ss
 abbrev pub first_sheets : Told → ℕ → List Walk
 first_sheets r i = take i (sheets_of r)
 
+-- the words left of a sheet with bounds below its best
+abbrev pub below_best : Shop → Walk → List (List ℕ)
+below_best shop t = words_below shop t.best t.left
+
 -- the first i entries were searched, none of their sheets ends at the opening bound, and this is what they come to
 pub record GatheredSoFar (r : Told) (i : ℕ) (found : Option (List ℕ)) (makespan : ℕ) (left : List Node)
     (nodes : ℕ) : Type 0 where
   pub none_hits : (k : ℕ) → k < i → is_hit r k ≡ false
   pub makespan_is : makespan ≡ (best_among r (first_sheets r i)).best
   pub word_is : unwrap_or found r.word ≡ unwrap_or (best_among r (first_sheets r i)).found r.word
-  pub left_is : words_of left ≡ flat_map (λ t. t.left) (first_sheets r i)
+  pub left_is : words_of left ≡ flat_map (below_best r.shop) (first_sheets r i)
   pub nodes_left : AreNodes r.shop left
   pub nodes_is : nodes ≡ r.nodes + sum_by (taken_of r.budget) (first_sheets r i)
   pub few : nodes ≤ r.nodes + i * 10000000
@@ -58,35 +64,45 @@ pub record IsSheetAt (r : Told) (i : ℕ) (s : Sheet) : Type 0 where
   pub of_round : IsOf r s
   pub number : s.number ≡ i
 
+-- the walk that a sheet tells of, with all words left
+abbrev pub whole_of : Told → ℕ → Sheet → Walk
+whole_of r i s = record (walk_of s) { left = (sheet_in r (slice_index_or r.pieces i [])).left }
+
 module _ (r : Told) (i : ℕ) (s : Sheet) (at : IsSheetAt r i s) where
-  sheet_is : walk_of s ≡ sheet_in r (slice_index_or r.pieces i [])
-  sheet_is =
+  told_is : walk_of s ≡ still_open r.shop (sheet_in r (slice_index_or r.pieces i []))
+  told_is =
       let o = at.of_round
-      in s.is_sheet ∙ ((λ j. sheet (o.0 j) (o.4 j) (o.1 j) (o.2 j))
-      ∙ ap (λ k. sheet_in r (slice_index_or r.pieces k [])) at.number)
+      in s.is_sheet ∙ ((λ j. still_open (o.0 j) (sheet (o.0 j) (o.4 j) (o.1 j) (o.2 j)))
+      ∙ ap (λ k. still_open r.shop (sheet_in r (slice_index_or r.pieces k []))) at.number)
+
+  sheet_is : whole_of r i s ≡ sheet_in r (slice_index_or r.pieces i [])
+  sheet_is = ap (λ (t : Walk). record t { left = (sheet_in r (slice_index_or r.pieces i [])).left }) told_is
+
+  left_below : words_of s.left.items ≡ below_best r.shop (whole_of r i s)
+  left_below = ap (λ (t : Walk). t.left) told_is ∙ sym (ap (below_best r.shop) sheet_is)
 
   pub inside : i < length (sheets_of r)
   inside = let o = at.of_round in let below = o.3 in let n = at.number
       in let m : length (sheets_of r) ≡ length r.pieces = length-map r.pieces (sheet_in r) in omega arith
 
-  pub at_place : (d : Walk) → get_or (sheets_of r) i d ≡ walk_of s
+  pub at_place : (d : Walk) → get_or (sheets_of r) i d ≡ whole_of r i s
   at_place d = let m : length (sheets_of r) ≡ length r.pieces = length-map r.pieces (sheet_in r) in let h = inside
       in map_at r r.pieces i d (omega arith) ∙ sym sheet_is
 
-  pub next_sheets : first_sheets r (i + 1) ≡ first_sheets r i ++ walk_of s ∷ []
-  next_sheets = take_more (sheets_of r) i (walk_of s) inside
-      ∙ ap (λ w. first_sheets r i ++ w ∷ []) (at_place (walk_of s))
+  pub next_sheets : first_sheets r (i + 1) ≡ first_sheets r i ++ whole_of r i s ∷ []
+  next_sheets = take_more (sheets_of r) i (whole_of r i s) inside
+      ∙ ap (λ w. first_sheets r i ++ w ∷ []) (at_place (whole_of r i s))
 
   pub hits_here : is_hit r i ≡ eqb s.makespan r.bound
   hits_here = ap (λ (w : Walk). eqb w.best r.bound) (sym sheet_is)
 
-  taken_here : taken_of r.budget (walk_of s) ≡ s.taken
+  taken_here : taken_of r.budget (whole_of r i s) ≡ s.taken
   taken_here = let e = (at.of_round).2 in let h = s.spent in omega arith
 
   pub next_taken : sum_by (taken_of r.budget) (first_sheets r (i + 1)) ≡ sum_by (taken_of r.budget)
       (first_sheets r i) + s.taken
   next_taken =
-      let a = sum_by-append (taken_of r.budget) (first_sheets r i) (walk_of s ∷ [])
+      let a = sum_by-append (taken_of r.budget) (first_sheets r i) (whole_of r i s ∷ [])
       in let b = ap (sum_by (taken_of r.budget)) next_sheets
       in let e = taken_here in omega arith
 
@@ -105,29 +121,29 @@ module _ (r : Told) (i : ℕ) (s : Sheet) (at : IsSheetAt r i s) where
       | inr m ↦ (let same : i ≡ k = omega arith in subst (λ j. is_hit r j ≡ false) same (hits_here ∙ e))
     ]
 
-    left_here : words_of (left ++ s.left.items) ≡ flat_map (λ t. t.left) (first_sheets r (i + 1))
+    left_here : words_of (left ++ s.left.items) ≡ flat_map (below_best r.shop) (first_sheets r (i + 1))
     left_here =
         map-append (λ (n : Node). n.word) left s.left.items
-        ∙ (ap (λ ws. ws ++ words_of s.left.items) was.left_is
-        ∙ (flat_map_more (λ (t : Walk). t.left) [] (first_sheets r i) (walk_of s)
-        ∙ sym (ap (flat_map (λ t. t.left)) next_sheets)))
+        ∙ ((λ j. was.left_is j ++ left_below j)
+        ∙ (flat_map_more (below_best r.shop) [] (first_sheets r i) (whole_of r i s)
+        ∙ sym (ap (flat_map (below_best r.shop)) next_sheets)))
 
     nodes_left_here : AreNodes r.shop (left ++ s.left.items)
     nodes_left_here = All-append (IsNode r.shop) left s.left.items was.nodes_left
         (subst (λ shop. AreNodes shop s.left.items) (at.of_round).0 s.nodes_left)
 
-    best_here : best_among r (first_sheets r (i + 1)) ≡ better_of (best_among r (first_sheets r i)) (walk_of s)
+    best_here : best_among r (first_sheets r (i + 1)) ≡ better_of (best_among r (first_sheets r i)) (whole_of r i s)
     best_here = ap (best_among r) next_sheets
-        ∙ fold-append better_of (first_of r.best r.word) (first_sheets r i) (walk_of s ∷ [])
+        ∙ fold-append better_of (first_of r.best r.word) (first_sheets r i) (whole_of r i s ∷ [])
 
     turn : (b : Bool) (f : Option (List ℕ)) (m : ℕ) → ltb s.makespan (best_among r (first_sheets r i)).best ≡ b
         → eqb s.makespan r.bound ≡ false
-        → m ≡ (cond b (walk_of s) (best_among r (first_sheets r i))).best
-        → unwrap_or f r.word ≡ unwrap_or (cond b (walk_of s) (best_among r (first_sheets r i))).found r.word
+        → m ≡ (cond b (whole_of r i s) (best_among r (first_sheets r i))).best
+        → unwrap_or f r.word ≡ unwrap_or (cond b (whole_of r i s) (best_among r (first_sheets r i))).found r.word
         → GatheredSoFar r (i + 1) f m (left ++ s.left.items) (nodes + s.taken)
     turn b f m t e is word =
-        let best : best_among r (first_sheets r (i + 1)) ≡ cond b (walk_of s) (best_among r (first_sheets r i)) =
-        best_here ∙ ap (λ c. cond c (walk_of s) (best_among r (first_sheets r i))) t
+        let best : best_among r (first_sheets r (i + 1)) ≡ cond b (whole_of r i s) (best_among r (first_sheets r i)) =
+        best_here ∙ ap (λ c. cond c (whole_of r i s) (best_among r (first_sheets r i))) t
         in record {
           none_hits = none_here e;
           makespan_is = is ∙ sym (ap (λ (w : Walk). w.best) best);

@@ -1,18 +1,28 @@
 -- Nodes against their words: orders, bounds, and what is below a makespan.
-use Rattle.std.proofs.Common.{◌≡◌, ℕ, min, inl, inr, List, [], ◌∷◌, refl, ◌∙◌, ap, leb, ltb}
-use Rattle.std.specs.List.{AllByRecursion}
-use Rattle.std.proofs.lemmas.Bool.{cases_Bool}
+use Rattle.std.proofs.Common.{◌≡◌, ℕ, ◌≤◌, ◌<◌, min, inl, inr, true, List, [], ◌∷◌, refl, ◌∙◌, ap, arith, leb, ltb}
+use Rattle.std.specs.List.{AllByRecursion, Contains}
+use Rattle.std.proofs.lemmas.Bool.{cases_Bool, lt-ltb}
 use Rattle.std.proofs.lemmas.List.Elements.{recursion_from_All, All-from_recursion}
 use Rattle.shop_model.specs.Shop.{Shop}
 use Rattle.shop_bound.specs.Bound.{lb}
 use Rattle.shop_tree.specs.declared.nodes.Node.{Node}
 use Rattle.shop_tree.specs.Branching.{insert_by, sort_by}
 use Rattle.shop_tree.specs.Nodes.{words_of, IsNode, AreNodes}
-use Rattle.shop_tree.proofs.Members.{all_sort}
+use Rattle.shop_tree.proofs.Members.{all_sort, all_contains}
 use Rattle.shop_round.specs.declared.plans.Order.{Order}
 use Rattle.shop_round.specs.declared.plans.Order.TheVariants.{Kept, Bound}
 use Rattle.shop_round.specs.Round.{in_order, words_below, least_bound}
-use Rattle.shop_round.specs.inner.OpenNodes.{least_of_bounds, nodes_in_order, nodes_below}
+use Rattle.shop_round.specs.inner.OpenNodes.{least_of_bounds, nodes_in_order, nodes_below, AreBelow}
+
+-- where all are below a makespan, those below a greater one are all
+same_below : (c d : ℕ) (ns : List Node) → c ≤ d → AllByRecursion (λ n. n.bound < c) ns → nodes_below d ns ≡ ns
+same_below c d [] le low = refl
+same_below c d (n ∷ ns) le low =
+    let up : ltb n.bound d ≡ true = lt-ltb n.bound d (let a = low.0 in omega arith)
+    in rw up (ap (λ ms. n ∷ ms) (same_below c d ns le low.1))
+
+pub none_closed : (c d : ℕ) (ns : List Node) → c ≤ d → AreBelow c ns → nodes_below d ns ≡ ns
+none_closed c d ns le low = same_below c d ns le (recursion_from_All (λ n. n.bound < c) ns low)
 
 module _ (shop : Shop) where
   least_by_recursion : (c : ℕ) (ns : List Node) → AllByRecursion (IsNode shop) ns
@@ -38,6 +48,18 @@ module _ (shop : Shop) where
   pub below_is : (c : ℕ) (ns : List Node) → AreNodes shop ns
       → words_of (nodes_below c ns) ≡ words_below shop c (words_of ns)
   below_is c ns a = below_by_recursion c ns (recursion_from_All (IsNode shop) ns a)
+
+  below_words : (c : ℕ) (ns : List Node) → AllByRecursion (IsNode shop) ns
+      → AllByRecursion (λ w. lb shop w < c) (words_of ns) → AllByRecursion (λ n. n.bound < c) ns
+  below_words c [] a low = tt
+  below_words c (n ∷ ns) a low = ((let e = a.0.1 in let b = low.0 in omega arith), below_words c ns a.1 low.1)
+
+  -- the open nodes of a standing are below its makespan
+  pub all_below : (c : ℕ) (ns : List Node) → AreNodes shop ns
+      → ((w : List ℕ) → Contains (words_of ns) w → lb shop w < c) → AreBelow c ns
+  all_below c ns a low = All-from_recursion (λ n. n.bound < c) ns
+      (below_words c ns (recursion_from_All (IsNode shop) ns a)
+      (all_contains (λ w. lb shop w < c) (words_of ns) low))
 
   pub insert_words : (n : Node) (ns : List Node) → IsNode shop n → AllByRecursion (IsNode shop) ns
       → words_of (insert_by (λ m. m.bound) n ns) ≡ insert_by (lb shop) n.word (words_of ns)

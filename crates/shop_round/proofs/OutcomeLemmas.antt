@@ -2,17 +2,18 @@
 use Rattle.std.proofs.Common.{◌≡◌, ℕ, zero, suc, ◌+◌, ◌≤◌, ◌<◌, inl, inr, true, false, cond, Option, Some, None, List}
 use Rattle.std.proofs.Common.{[], ◌∷◌, ◌++◌, length, get_or, take, refl, sym, ◌∙◌, ap, subst, arith, eqb, ltb, eqb-true}
 use Rattle.std.specs.Prelude.{unwrap_or}
-use Rattle.std.specs.List.{flat_map, sum_by}
+use Rattle.std.specs.List.{AllByRecursion, flat_map, sum_by}
 use Rattle.std.proofs.lemmas.Bool.{cases_Bool, ltb-true, ltb-false}
 use Rattle.std.proofs.lemmas.List.{take_all, length-map}
 use Rattle.std.proofs.lemmas.List.Elements.{All-filter, filter-append}
+use Rattle.shop_model.specs.Shop.{Shop}
 use Rattle.shop_bound.specs.Bound.{lb}
+use Rattle.shop_tree.proofs.AlikeWalks.{below-below}
 use Rattle.shop_tree.specs.declared.nodes.Node.{Node}
 use Rattle.shop_tree.specs.declared.sheets.Sheet.{Sheet}
 use Rattle.shop_tree.specs.Nodes.{words_of, IsNode, AreNodes}
 use Rattle.shop_tree.specs.Walking.{Walk}
-use Rattle.shop_tree.specs.Sheets.{walk_of}
-use Rattle.shop_tree.proofs.Members.{in_all}
+use Rattle.shop_tree.proofs.Members.{in_all, all_in}
 use Rattle.shop_round.specs.Round.{Stand, Told, taken_of, hit_or, up_to_hit, best_word, sheet_in, sheets_of}
 use Rattle.shop_round.specs.Round.{after_round, gathered, words_below}
 use Rattle.shop_round.specs.Laws.{IsRound}
@@ -22,8 +23,9 @@ use Rattle.shop_round.specs.Entries.{is_hit}
 use Rattle.shop_round.specs.inner.OpenNodes.{nodes_below}
 use Rattle.shop_round.proofs.NodeLemmas.{below_is}
 use Rattle.shop_round.proofs.SheetLemmas.{IsOfRound, hit_in, found_is, least_is_bound}
-use Rattle.shop_round.proofs.StandingLemmas.{known}
-use Rattle.shop_round.proofs.GatherLemmas.{GatheredSoFar, IsSheetAt, best_among, first_sheets, map_at, inside, at_place}
+use Rattle.shop_round.proofs.StandingLemmas.{known, best_of_round}
+use Rattle.shop_round.proofs.GatherLemmas.{GatheredSoFar, IsSheetAt, whole_of, below_best, best_among, first_sheets}
+use Rattle.shop_round.proofs.GatherLemmas.{map_at, inside, at_place}
 use Rattle.shop_round.proofs.GatherLemmas.{next_sheets, next_taken, few_here, gathered_better, gathered_worse}
 
 -- the first of some walks that ends at c, where none before it does
@@ -71,30 +73,40 @@ open_stand r found makespan left nodes = record {
   nodes = nodes;
 }
 
+-- what the sheets left below their own bests, once more below a lower one
+lefts_below : (shop : Shop) (c : ℕ) (ss : List Walk) → AllByRecursion (λ t. c ≤ t.best) ss
+    → words_below shop c (flat_map (below_best shop) ss) ≡ words_below shop c (flat_map (λ t. t.left) ss)
+lefts_below shop c [] low = refl
+lefts_below shop c (s ∷ ss) low =
+    filter-append (λ w. ltb (lb shop w) c) (below_best shop s) (flat_map (below_best shop) ss)
+    ∙ ((λ j. below-below shop s.best c s.left low.0 j ++ lefts_below shop c ss low.1 j)
+    ∙ sym (filter-append (λ w. ltb (lb shop w) c) s.left (flat_map (λ t. t.left) ss)))
+
 module _ (r : Told) (is : IsRound r) (i : ℕ) (found : Option (List ℕ)) (makespan : ℕ) (left : List Node) (nodes : ℕ)
     (was : GatheredSoFar r i found makespan left nodes) where
   module _ (s : Sheet) (at : IsSheetAt r i s) (hit : eqb s.makespan r.bound ≡ true) where
-    first_hit : up_to_hit r.bound (sheets_of r) ≡ Some (walk_of s, first_sheets r i ++ walk_of s ∷ [])
+    first_hit : up_to_hit r.bound (sheets_of r) ≡ Some (whole_of r i s, first_sheets r i ++ whole_of r i s ∷ [])
     first_hit =
         let m = many_sheets r
         in let below = inside r i s at
-        in hit_at r.bound (sheets_of r) i (walk_of s) below
-        (λ k l. sheet_hits r k (walk_of s) (omega arith) ∙ was.none_hits k l) (at_place r i s at (walk_of s)) hit
+        in hit_at r.bound (sheets_of r) i (whole_of r i s) below
+        (λ k l. sheet_hits r k (whole_of r i s) (omega arith) ∙ was.none_hits k l)
+        (at_place r i s at (whole_of r i s)) hit
 
     pub closed_is : gathered r ≡ closed_stand r s.found (nodes + s.taken)
     closed_is =
         let a = next_taken r i s at
         in let b = was.nodes_is
         in let d = ap (sum_by (taken_of r.budget)) (next_sheets r i s at)
-        in let n : r.nodes + sum_by (taken_of r.budget) (first_sheets r i ++ walk_of s ∷ []) ≡ nodes + s.taken =
+        in let n : r.nodes + sum_by (taken_of r.budget) (first_sheets r i ++ whole_of r i s ∷ []) ≡ nodes + s.taken =
         omega arith
         in ap (after_round r (sheets_of r)) first_hit ∙ ap (closed_stand r s.found) n
 
     pub closed_bound : s.makespan ≡ lb r.shop (unwrap_or s.found r.word)
     closed_bound =
         let e : s.makespan ≡ r.bound = eqb-true s.makespan r.bound hit
-        in let m = hit_in r.bound (sheets_of r) (walk_of s) (first_sheets r i ++ walk_of s ∷ []) first_hit
-        in let k = in_all (IsOfRound r.shop r.best) (walk_of s) (sheets_of r) m.0 (known r is)
+        in let m = hit_in r.bound (sheets_of r) (whole_of r i s) (first_sheets r i ++ whole_of r i s ∷ []) first_hit
+        in let k = in_all (IsOfRound r.shop r.best) (whole_of r i s) (sheets_of r) m.0 (known r is)
         in let f = found_is r.shop r.word r.best r.bound s.found s.makespan is.best is.full k.found e
         in e ∙ sym f.1
 
@@ -121,13 +133,18 @@ module _ (r : Told) (is : IsRound r) (i : ℕ) (found : Option (List ℕ)) (make
     open_is =
         let better = best_word r.best r.word (sheets_of r)
         in let c : lb r.shop better ≡ makespan = sym (open_bound ∙ ap (lb r.shop) word_of_all)
-        in let lefts : flat_map (λ t. t.left) (sheets_of r) ≡ words_of left =
-        sym (was.left_is ∙ ap (flat_map (λ t. t.left)) all_sheets)
+        in let each : AllByRecursion (λ t. makespan ≤ t.best) (sheets_of r) = all_in (λ t. makespan ≤ t.best)
+        (sheets_of r) (λ t h. let a = (best_of_round r is).each t h in omega arith)
+        in let lefts : words_below r.shop makespan (flat_map (λ t. t.left) (sheets_of r))
+        ≡ words_of (nodes_below makespan left) =
+        sym (below_is r.shop makespan left was.nodes_left
+        ∙ (ap (words_below r.shop makespan) (was.left_is ∙ ap (flat_map (below_best r.shop)) all_sheets)
+        ∙ lefts_below r.shop makespan (sheets_of r) each))
         in let words : words_below r.shop (lb r.shop better) (flat_map (λ t. t.left) (sheets_of r) ++ r.rest)
         ≡ words_of (nodes_below makespan left) ++ words_below r.shop makespan r.rest =
-        (λ j. words_below r.shop (c j) (lefts j ++ r.rest))
-        ∙ (filter-append (λ w. ltb (lb r.shop w) makespan) (words_of left) r.rest
-        ∙ ap (λ ws. ws ++ words_below r.shop makespan r.rest) (sym (below_is r.shop makespan left was.nodes_left)))
+        (λ j. words_below r.shop (c j) (flat_map (λ t. t.left) (sheets_of r) ++ r.rest))
+        ∙ (filter-append (λ w. ltb (lb r.shop w) makespan) (flat_map (λ t. t.left) (sheets_of r)) r.rest
+        ∙ ap (λ ws. ws ++ words_below r.shop makespan r.rest) lefts)
         in let n : r.nodes + sum_by (taken_of r.budget) (sheets_of r) ≡ nodes =
         sym (was.nodes_is ∙ ap (λ ss. r.nodes + sum_by (taken_of r.budget) ss) all_sheets)
         in ap (after_round r (sheets_of r)) none_hit

@@ -1,12 +1,13 @@
 -- Rounds, and the answer of a plan: branch and bound over words, whose plan of pieces, budgets and
 -- rounds is this project's own.
 use Rattle.std.specs.Prelude.{ℕ, zero, suc, ◌+◌, ◌-◌, ◌*◌, ◌≤◌, ◌⊎◌, min, Bool, true, false, Option}
-use Rattle.std.specs.Prelude.{Some, None, List, [], ◌∷◌, ◌++◌, take, drop, map, filter, sum_by}
+use Rattle.std.specs.Prelude.{Some, None, List, [], ◌∷◌, ◌++◌, take, drop, map, sum_by}
 use Rattle.std.specs.Prelude.{fold, flat_map, nat_lt, ◌==◌, if◌then◌else◌, unwrap_or}
 use Rattle.shop_model.specs.Shop.{Shop, Starts, end_of, IsFeasible}
 use Rattle.shop_model.specs.Word.{start_jobs}
 use Rattle.shop_bound.specs.Bound.{lb}
 use Rattle.shop_tree.specs.Branching.{sort_by}
+pub use Rattle.shop_tree.specs.Pieces.{words_below}
 use Rattle.shop_tree.specs.Walking.{Walk, sheet}
 use Rattle.shop_tree.specs.Laws.{HasBetter}
 use Rattle.shop_round.specs.declared.limits.TheConstants.{MAX_PIECES}
@@ -35,9 +36,6 @@ cut_into (suc n) size (x ∷ xs) = take size (x ∷ xs) ∷ cut_into n size (dro
 abbrev pub in_order : Shop → Order → List (List ℕ) → List (List ℕ)
 in_order shop Kept ws = ws
 in_order shop Bound ws = sort_by (lb shop) ws
-
-abbrev pub words_below : Shop → ℕ → List (List ℕ) → List (List ℕ)
-words_below shop c ws = filter (λ w. nat_lt (lb shop w) c) ws
 
 -- the least of c and the bounds of the words
 abbrev pub least_bound : Shop → ℕ → List (List ℕ) → ℕ

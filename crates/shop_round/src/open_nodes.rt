@@ -1,6 +1,6 @@
 // The open nodes of a run, in the order in which the next cut takes them.
 ghost use Rattle.std.specs.Prelude.{◌≡◌, ◌==◌, ◌++◌, ◌∷◌, [], length, IfOk, OnOk};
-ghost use Rattle.shop_round.specs.inner.OpenNodes.{least_of_bounds};
+ghost use Rattle.shop_round.specs.inner.OpenNodes.{least_of_bounds, AreBelow};
 
 use crate::by_bound::{count_by_bound, keep_by_bound, least_by_bound, pop_by_bound, put_by_bound};
 use crate::pieces::least_bound;
@@ -90,10 +90,15 @@ impl OpenNodes {
         Ok(taken)
     }
 
-    /// Lets go of the nodes whose bounds are at least this makespan.
-    pub(crate) fn keep_below(&mut self, makespan: u64) -> Result<(), AllocError>
+    /// Lets go of the nodes whose bounds are at least this makespan. All are below the opening one, so there are none
+    /// where it stays.
+    pub(crate) fn keep_below(&mut self, opening: u64, makespan: u64) -> Result<(), AllocError>
+        requires { AreBelow opening (open_list self.old) }
         ensures { OnOk result (IsKeptBelow makespan self.old self.new) }
     {
+        if opening <= makespan {
+            return Ok(());
+        }
         match self {
             OpenNodes::AsKept(nodes) => {
                 nodes.retain(|node| node.bound < makespan);

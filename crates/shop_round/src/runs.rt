@@ -41,10 +41,11 @@ fn last_search<R, C: Crew<R>>(
         if search.open.is_empty() {
             return Ok(search);
         }
+        let opening = search.makespan;
         let (round, others) = search.cut(alloc, instance, plan)?;
         let entries = crew.search(rt, alloc, &round)?;
         let outcome = outcome_of(alloc, &round, entries)?;
-        search = Search::joined(alloc, round.closed(outcome)?, others)?;
+        search = Search::joined(alloc, round.closed(outcome)?, others, opening)?;
     }
     Ok(search)
 }

@@ -25,6 +25,7 @@ pub(crate) struct Search {
 impl Search {
     ghost use Rattle.std.specs.Prelude.{◌<◌, length, IfOk};
     ghost use Rattle.shop_round.specs.Round.{opening};
+    ghost use Rattle.shop_round.specs.inner.OpenNodes.{AreBelow};
     ghost use Rattle.shop_round.specs.inner.Stores.{open_list};
     ghost use Rattle.shop_round.specs.inner.Searches.{IsSearchAt, IsSearchOf, IsJoined, IsFront};
 
@@ -37,16 +38,18 @@ impl Search {
         ensures { IfOk result (λ t. IsSearchAt instance.now order (opening instance.now) t) }
     {
         let open = OpenNodes::new(alloc, order);
-        Search::joined(alloc, Standing::start(alloc, instance)?, open)
+        Search::joined(alloc, Standing::start(alloc, instance)?, open, 0)
     }
 
     /// What stands after a round, once the open nodes that it didn't take have joined, those of bounds below the
-    /// makespan. Fails with `AllocError` if memory runs out.
+    /// makespan; all are below the opening one. Fails with `AllocError` if memory runs out.
     pub(crate) fn joined(
         alloc: Global,
         standing: Standing,
         mut others: OpenNodes,
+        opening: u64,
     ) -> Result<Search, AllocError>
+        requires { AreBelow opening (open_list others) }
         ensures { IfOk result (λ t. IsJoined standing others t) }
     {
         let Standing {
@@ -56,7 +59,7 @@ impl Search {
             rounds,
             nodes,
         } = standing;
-        others.keep_below(makespan)?;
+        others.keep_below(opening, makespan)?;
         others.put_all(alloc, left)?;
         Ok(Search {
             word,

@@ -5,6 +5,7 @@ pub mod BetterChildren
 pub mod WalkSteps
 pub mod SearchLaw
 pub mod Found
+pub mod AlikeWalks
 mod Counting
 mod ChildrenLemmas
 mod FirstOn
@@ -15,4 +16,5 @@ mod AddLemmas
 mod TurnLemmas
 mod PushLemmas
 mod SmallJobs
+mod ExpandLemmas
 mod WalkerLemmas

@@ -74,6 +74,14 @@ module _ {A : Type 0} where
     ])
   ]
 
+  pub filter_in : (test : A → Bool) (x : A) (xs : List A) → In x (filter test xs) → In x xs
+  filter_in test x [] h = absurd h
+  filter_in test x (y ∷ ys) h = elim (cases_Bool (test y)) [
+    | inl e ↦ (let k : In x (y ∷ filter test ys) = rw e at h
+        in elim k [ inl s ↦ inl s | inr g ↦ inr (filter_in test x ys g) ])
+    | inr e ↦ (let k : In x (filter test ys) = rw e at h in inr (filter_in test x ys k))
+  ]
+
   pub in_insert_first : (key : A → ℕ) (x : A) (ys : List A) → In x (insert_by key x ys)
   in_insert_first key x [] = inl refl
   in_insert_first key x (y ∷ ys) = elim (cases_Bool (leb (key x) (key y))) [

@@ -1,10 +1,10 @@
--- One turn of the walk of a stack of words.
+-- One turn of a walk.
 use Rattle.std.proofs.Common.{◌≡◌, ℕ, zero, suc, ◌+◌, ◌-◌, ◌≤◌, ◌<◌, inl, inr, false, Option, Some, List, []}
-use Rattle.std.proofs.Common.{◌∷◌, ◌++◌, length, map, reverse, refl, sym, ◌∙◌, ap, subst, arith, leb, length-append}
+use Rattle.std.proofs.Common.{◌∷◌, ◌++◌, length, map, refl, sym, ◌∙◌, ap, subst, arith, leb, length-append}
 use Rattle.std.specs.List.{AllByRecursion, fold, range_with_len}
 use Rattle.std.proofs.lemmas.Bool.{cases_Bool, le-leb, leb-true}
-use Rattle.std.proofs.lemmas.List.{reverse-append, reverse-reverse, length-map}
-use Rattle.std.proofs.lemmas.List.Sums.{fold-append, length-filter, count_by-le-length}
+use Rattle.std.proofs.lemmas.List.{length-map}
+use Rattle.std.proofs.lemmas.List.Sums.{length-filter, count_by-le-length}
 use Rattle.std.specs.Prelude.{nat_lt}
 use Rattle.shop_model.specs.Shop.{Shop, route_of, operation_count}
 use Rattle.shop_bound.specs.Bound.{lb}
@@ -12,14 +12,7 @@ use Rattle.shop_model.specs.Word.{placing}
 use Rattle.shop_tree.specs.Branching.{branch, conflict, conflict_among, open_jobs, sort_by, insert_by, conflicts_with}
 use Rattle.shop_tree.specs.Branching.{chosen_of}
 use Rattle.shop_tree.specs.Walking.{Walk, walk, walk_within, operations_left}
-use Rattle.shop_tree.specs.inner.Searching.{walk_stack, entered_within, entered}
-
--- words put on the stack, the last one first, are walked next
-pub walk_stack-append : (shop : Shop) (s : Walk) (ws vs : List (List ℕ)) → walk_stack shop s (ws ++ reverse vs)
-    ≡ walk_stack shop (fold (walk shop) s vs) ws
-walk_stack-append shop s ws vs =
-    ap (fold (walk shop) s) (reverse-append ws (reverse vs) ∙ ap (λ x. x ++ reverse ws) (reverse-reverse vs))
-    ∙ fold-append (walk shop) s vs (reverse ws)
+use Rattle.shop_tree.specs.inner.Searching.{entered_within, entered}
 
 module _ (shop : Shop) (found : Option (List ℕ)) (best : ℕ) (left : List (List ℕ)) (w : List ℕ) where
   before : ℕ → Walk
@@ -137,19 +130,3 @@ branch_few shop w =
     few [] = omega arith
     few (j ∷ js) = let test = conflicts_with shop (placing shop w) (chosen_of shop (placing shop w) j js)
         in let a = length-filter test (j ∷ js) in let b = count_by-le-length test (j ∷ js) in omega arith
-
--- words whose bounds reach the best are only counted
-pub walk-counts : (shop : Shop) (found : Option (List ℕ)) (best : ℕ) (left ws : List (List ℕ)) (budget : ℕ)
-    → AllByRecursion (λ w. best ≤ lb shop w) ws → length ws ≤ budget
-    → fold (walk shop) (record { found = found; best = best; left = left; budget = budget }) ws
-    ≡ record { found = found; best = best; left = left; budget = budget - length ws }
-walk-counts shop found best left [] budget high few =
-    ap (λ b. record { found = found; best = best; left = left; budget = b })
-    (let e : budget ≡ budget - 0 = omega arith in e)
-walk-counts shop found best left (w ∷ ws) budget high few =
-    ap (λ b. fold (walk shop) (walk shop (record { found = found; best = best; left = left; budget = b }) w) ws)
-    (let e : budget ≡ suc (budget - 1) = omega arith in e)
-    ∙ (ap (λ s. fold (walk shop) s ws) (walk-cut shop found best left w (budget - 1) high.0)
-    ∙ (walk-counts shop found best left ws (budget - 1) high.1 (omega arith)
-    ∙ ap (λ b. record { found = found; best = best; left = left; budget = b })
-    (let e : budget - 1 - length ws ≡ budget - suc (length ws) = omega arith in e)))

@@ -28,6 +28,7 @@ pub fn children(alloc: Global, instance: &Instance, node: &Node) -> Result<Vec<N
     let depth = path.len();
     let mut jobs = Vec::with_capacity(alloc, instance.jobs())?;
     let mut opens = Vec::with_capacity(alloc, instance.jobs())?;
+    desk.gather_conflict(&mut jobs);
     gather_children(&mut opens, &mut desk, node.bound, u64::MAX, &mut jobs)?;
     let mut children = Vec::with_capacity(alloc, opens.len())?;
     while let Some(child) = opens.pop() {

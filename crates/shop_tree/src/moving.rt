@@ -16,27 +16,31 @@ pub(crate) fn undo_to(desk: &mut Desk, depth: usize)
     }
 }
 
-/// How many entries these jobs and a word begin with in common.
-fn common_length(jobs: &[usize], word: &SharedWord) -> usize
-    ensures { IsCommonLength jobs.now word.now result }
+/// How many entries these jobs and a path begin with in common.
+fn common_length(jobs: &[usize], path: &[u16]) -> usize
+    ensures { IsCommonLength jobs.now path.now result }
 {
-    let most = jobs.len().min(word.len());
+    let most = jobs.len().min(path.len());
     let mut common = 0;
-    while common < most && jobs[common] == word.job(common) {
+    while common < most && jobs[common] == path[common] as usize {
         common += 1;
     }
     common
 }
 
-/// Brings the desk to this word, one of the instance: takes back what lies beyond the entries in common, and dispatches
-/// the rest.
+/// Brings the desk to this word, one of the instance: takes back what lies beyond the entries in common with its path,
+/// and dispatches the rest.
 pub(crate) fn go_to(desk: &mut Desk, word: &SharedWord)
     requires { IsWord desk.old.shop word.now }
     ensures { desk.new ≡ at_word desk.old word.now }
 {
-    let common = common_length(desk.jobs(), word);
+    let (path, last) = word.parts();
+    let common = common_length(desk.jobs(), path);
     undo_to(desk, common);
-    for index in common..word.len() {
-        desk.dispatch(word.job(index));
+    for index in common..path.len() {
+        desk.dispatch(path[index] as usize);
+    }
+    if let Some(job) = last {
+        desk.dispatch(job as usize);
     }
 }

@@ -7,18 +7,10 @@ pub(crate) struct Open {
     pub(crate) bound: u64,
 }
 
-/// The last children, so many, of the first `depth` entries of the desk's word, which have this bound. No child has a
-/// bound below the best makespan, so that they are only counted.
-#[derive(Clone, Copy)]
-pub(crate) struct Closed {
-    pub(crate) depth: usize,
-    pub(crate) count: usize,
-    pub(crate) bound: u64,
-}
-
-/// What waits on the stack of a walk.
+/// What waits on the stack of a walk: a child, or so many closed ones, whose bounds reach the best makespan, so that
+/// they are only counted.
 #[derive(Clone, Copy)]
 pub(crate) enum Waiting {
     Child(Open),
-    Rest(Closed),
+    Rest(usize),
 }

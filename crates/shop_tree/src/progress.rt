@@ -1,5 +1,5 @@
 // What a walk carries.
-ghost use Rattle.std.specs.Prelude.{◌≡◌, None, [], OnOk};
+ghost use Rattle.std.specs.Prelude.{◌≡◌, ◌<◌, None, [], OnOk, All};
 ghost use Rattle.shop_model.specs.Shop.{operation_count};
 ghost use Rattle.shop_tree.specs.Nodes.{AreNodes, IsNode};
 
@@ -8,7 +8,8 @@ use shop_model::{Instance, Word};
 use std::alloc::{AllocError, Global};
 use std::mem;
 
-/// What a walk carries: the last word found, the best makespan, the nodes left, and how many more may be taken.
+/// What a walk carries: the last word found, the best makespan, the nodes left, and how many more may be taken. Nodes
+/// are left only once none may be taken, so that the best stays above their bounds.
 #[derive(Drop)]
 pub(crate) struct Progress<'a> {
     pub(crate) instance: &'a Instance,
@@ -19,6 +20,8 @@ pub(crate) struct Progress<'a> {
     pub(crate) budget: u64,
     pub ghost counted: { operations ≡ operation_count instance.now },
     pub ghost nodes_left: { AreNodes instance.now left.items },
+    pub ghost left_last: { 0 < budget → left.items ≡ [] },
+    pub ghost left_below: { All (λ n. n.bound < best) left.items },
 }
 
 impl<'a> Progress<'a> {
@@ -49,9 +52,11 @@ impl<'a> Progress<'a> {
         self.budget = budget;
     }
 
-    /// Leaves a node.
+    /// Leaves a node with a bound below the best.
     pub(crate) fn leave(&mut self, node: Node) -> Result<(), AllocError>
-        requires { IsNode self.old.instance.now node }
+        requires spent { self.old.budget ≡ 0 }
+        requires node { IsNode self.old.instance.now node }
+        requires below { node.bound < self.old.best }
         ensures left { OnOk result (walked self.new ≡ with_left (walked self.old) node.word) }
         ensures instance { self.new.instance.now ≡ self.old.instance.now }
     {

@@ -1,10 +1,11 @@
 // The children of a desk's word, in order.
-ghost use Rattle.std.specs.Prelude.{◌≡◌, ◌≤◌, length, vec_capacity, OnOk, IfOk};
+ghost use Rattle.std.specs.Prelude.{◌≡◌, ◌≤◌, vec_capacity, OnOk, IfOk};
 ghost use Rattle.shop_bound.specs.Bound.{lb};
+ghost use Rattle.shop_tree.specs.Branching.{conflict};
 ghost use Rattle.shop_tree.specs.inner.Opens.{AreChildrenOf, IsPlaceAbove};
 ghost use Rattle.shop_tree.specs.inner.Pushing.{with_opens, with_rest};
 
-use crate::opens::{Closed, Open, Waiting};
+use crate::opens::{Open, Waiting};
 use shop_bound::Desk;
 use std::alloc::AllocError;
 
@@ -20,8 +21,8 @@ fn place_above(bound: u64, opens: &[Open]) -> usize
 }
 
 /// Replaces the list with the children of the desk's word with bounds below the limit, by bound, then by job, the first
-/// one last; and tells how many others there are. The word's bound is at hand, and a child that is alone has it too.
-/// There is room for all jobs in the list of jobs.
+/// one last; and tells how many others there are. The word's bound and its conflict set are at hand; a child that is
+/// alone has the same bound.
 pub(crate) fn gather_children(
     children: &mut Vec<Open>,
     desk: &mut Desk,
@@ -30,13 +31,12 @@ pub(crate) fn gather_children(
     jobs: &mut Vec<usize>,
 ) -> Result<usize, AllocError>
     requires bound { bound ≡ lb desk.old.shop desk.old.word }
-    requires room { length desk.old.shop.jobs ≤ vec_capacity jobs.old }
+    requires jobs { jobs.old.items ≡ conflict desk.old.shop desk.old.word }
     ensures children { IfOk result (λ n. AreChildrenOf desk.old limit children.new.items n) }
     ensures same { desk.new ≡ desk.old }
     ensures room { vec_capacity jobs.old ≤ vec_capacity jobs.new }
 {
     desk.keeps_word();
-    desk.gather_conflict(jobs);
     let depth = desk.jobs().len();
     children.clear();
     if jobs.len() == 1 && bound < limit {
@@ -68,22 +68,12 @@ pub(crate) fn push_open(stack: &mut Vec<Waiting>, children: &[Open]) -> Result<(
     Ok(())
 }
 
-/// Puts so many closed children of a word with this bound on the stack, if there are any.
-pub(crate) fn push_rest(
-    stack: &mut Vec<Waiting>,
-    depth: usize,
-    count: usize,
-    bound: u64,
-) -> Result<(), AllocError>
-    ensures { OnOk result (stack.new.items ≡ with_rest stack.old.items depth count bound) }
+/// Puts so many closed children on the stack, if there are any.
+pub(crate) fn push_rest(stack: &mut Vec<Waiting>, count: usize) -> Result<(), AllocError>
+    ensures { OnOk result (stack.new.items ≡ with_rest stack.old.items count) }
 {
     if count > 0 {
-        let closed = Closed {
-            depth,
-            count,
-            bound,
-        };
-        stack.push(Waiting::Rest(closed))?;
+        stack.push(Waiting::Rest(count))?;
     }
     Ok(())
 }

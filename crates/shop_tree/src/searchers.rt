@@ -35,9 +35,10 @@ impl<'a> Searcher<'a> {
     }
 
     /// The search of a piece by branch and bound: its nodes in order, depth first, the children of each by bound.
-    /// `best` is the makespan to beat, `budget` how many nodes may be taken; what isn't taken is left, in order. No
-    /// table under a node of the piece is lost: it ends at the sheet's makespan or later, or no earlier than one under
-    /// a node left. Fails with `AllocError` if memory runs out; the searcher is of no use then.
+    /// `best` is the makespan to beat, `budget` how many nodes may be taken; what isn't taken is left, in order, where
+    /// its bound is below the sheet's makespan. No table under a node of the piece is lost: it ends at the sheet's
+    /// makespan or later, or no earlier than one under a node left. Fails with `AllocError` if memory runs out; the
+    /// searcher is of no use then.
     pub fn search(
         &mut self,
         alloc: Global,

@@ -1,7 +1,7 @@
 // Words that share their jobs with others.
 ghost use Rattle.std.specs.Prelude.{◌≡◌, ◌≤◌, ◌<◌, ◌++◌, ◌∷◌, [], length, take, slice_index, IfOk};
 ghost use Rattle.std.specs.Arc.{arc_slice_items};
-ghost use Rattle.shop_tree.specs.SharedWords.{AreSmallJobs};
+ghost use Rattle.shop_tree.specs.SharedWords.{AreSmallJobs, shared_word};
 
 use shop_model::Word;
 use std::alloc::{AllocError, Global};
@@ -33,9 +33,10 @@ pub(crate) fn path_of(alloc: Global, jobs: &[usize]) -> Result<ArcSlice<u16, Glo
     requires { AreSmallJobs jobs.now }
     ensures { IfOk result (λ p. arc_slice_items p ≡ jobs.now) }
 {
-    let mut path = Vec::with_capacity(alloc, jobs.len())?;
-    for &job in jobs {
-        path.push(job as u16)?;
+    let mut path = vec![in alloc; 0; jobs.len()]?;
+    let places = path.as_mut_slice();
+    for index in 0..jobs.len() {
+        places[index] = jobs[index] as u16;
     }
     ArcSlice::from_vec(path)
 }
@@ -83,6 +84,13 @@ impl SharedWord {
             depth: self.depth,
             last: self.last,
         })
+    }
+
+    /// The jobs that it shares, and the one more, if any.
+    pub(crate) fn parts(&self) -> (&[u16], Option<u16>)
+        ensures { self.now ≡ shared_word result.0.now (length result.0.now) result.1 }
+    {
+        (&self.path.as_slice()[..self.depth as usize], self.last)
     }
 
     /// How many jobs the word has.

@@ -8,8 +8,8 @@ use crate::pieces::Piece;
 use shop_model::{Instance, Word};
 
 /// What the search of a piece gave: the last word found, the makespan (the opening one, `best`, where nothing was
-/// found), the nodes left in order and how many were taken, at most `budget`. It keeps what it was made from, and is
-/// the sheet that the definition gives of this.
+/// found), the nodes left in order, those with bounds below the makespan, and how many were taken, at most `budget`. It
+/// keeps what it was made from, and is the sheet that the definition gives of this.
 #[derive(Drop)]
 pub struct Sheet<'r> {
     pub number: usize,

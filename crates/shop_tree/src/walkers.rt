@@ -4,10 +4,11 @@ ghost use Rattle.std.specs.Arc.{arc_slice_items};
 ghost use Rattle.shop_tree.specs.Nodes.{IsNode, AreNodes};
 ghost use Rattle.shop_tree.specs.Sheets.{IsSheetOf, KeepsTables};
 ghost use Rattle.shop_bound.specs.Bound.{lb};
+ghost use Rattle.shop_tree.specs.Branching.{conflict};
 
 use crate::moving::{go_to, undo_to};
 use crate::nodes::Node;
-use crate::opens::{Closed, Open, Waiting};
+use crate::opens::{Open, Waiting};
 use crate::pieces::Piece;
 use crate::progress::Progress;
 use crate::pushing::{gather_children, push_open, push_rest};
@@ -35,8 +36,8 @@ impl<'a> Walker<'a> {
     ghost use Rattle.shop_tree.specs.declared.opens.Waiting.TheVariants.{Child, Rest};
     ghost use Rattle.shop_tree.specs.inner.Walkers.{HasBranched, HasExpanded, HasWalked, IsInOrder};
     ghost use Rattle.shop_tree.specs.inner.Walkers.{IsNextOn, IsTurn};
-    ghost use Rattle.shop_tree.specs.inner.Walkers.{node_walk, nodes_walk, stack_walk, GoesBackTo};
-    ghost use Rattle.shop_tree.specs.inner.Walkers.{BeginsWithWord};
+    ghost use Rattle.shop_tree.specs.inner.Walkers.{node_walk, nodes_walk, stack_walk};
+    ghost use Rattle.shop_tree.specs.inner.Walkers.{BeginsWithWord, HasFollowed, HasConflict};
 
     /// For pieces of this instance. Fails with `AllocError` if memory runs out.
     pub(crate) fn new(alloc: Global, instance: &'a Instance) -> Result<Walker<'a>, AllocError>
@@ -51,9 +52,33 @@ impl<'a> Walker<'a> {
         })
     }
 
-    /// Puts the children of the desk's word on the stack, the first one on top; the word's bound is at hand.
+    /// Goes on from the desk's word, which was taken and has this bound, to its child and on, as long as the budget
+    /// lasts and there is one child alone: this has the same bound. Where the word that it comes to isn't full, its
+    /// conflict set is in the list of jobs.
+    fn follow_sole(&mut self, bound: u64)
+        requires bound { bound ≡ lb self.old.desk.shop self.old.desk.word }
+        requires below { bound < self.old.progress.best }
+        requires in_order { IsInOrder self.old }
+        ensures followed { HasFollowed self.old self.new }
+        ensures jobs { HasConflict self.new }
+    {
+        while self.desk.jobs().len() < self.progress.operations {
+            self.desk.gather_conflict(&mut self.jobs);
+            if self.jobs.len() != 1 || self.progress.budget == 0 {
+                return;
+            }
+            self.desk.keeps_word();
+            self.desk.sole_candidate_keeps_bound();
+            self.progress.budget -= 1;
+            self.desk.dispatch(self.jobs[0]);
+        }
+    }
+
+    /// Puts the children of the desk's word on the stack, the first one on top; the word's bound and its conflict set
+    /// are at hand.
     fn push_children(&mut self, bound: u64) -> Result<(), AllocError>
-        requires { bound ≡ lb self.old.desk.shop self.old.desk.word }
+        requires bound { bound ≡ lb self.old.desk.shop self.old.desk.word }
+        requires jobs { self.old.jobs.items ≡ conflict self.old.desk.shop self.old.desk.word }
         ensures { OnOk result (HasBranched self.old self.new) }
     {
         let others = gather_children(
@@ -63,18 +88,20 @@ impl<'a> Walker<'a> {
             self.progress.best,
             &mut self.jobs,
         )?;
-        push_rest(&mut self.stack, self.desk.jobs().len(), others, bound)?;
+        push_rest(&mut self.stack, others)?;
         push_open(&mut self.stack, self.children.as_slice())
     }
 
-    /// Goes on from the desk's word, which was taken and whose bound is below the best: a full word is found, the
-    /// children of another one are put on the stack.
+    /// Goes on from the desk's word, which was taken and whose bound is below the best: as far as there is one way
+    /// alone, then a full word is found, and the children of another one are put on the stack.
     fn expand(&mut self, alloc: Global, bound: u64) -> Result<(), AllocError>
         requires bound { bound ≡ lb self.old.desk.shop self.old.desk.word }
         requires below { bound < self.old.progress.best }
+        requires none_left { self.old.progress.left.items ≡ [] }
         requires in_order { IsInOrder self.old }
         ensures { OnOk result (HasExpanded self.old self.new) }
     {
+        self.follow_sole(bound);
         if self.desk.jobs().len() < self.progress.operations {
             return self.push_children(bound);
         }
@@ -99,41 +126,16 @@ impl<'a> Walker<'a> {
         self.expand(alloc, child.bound)
     }
 
-    /// Puts closed children, which lay on top of the stack, on it as open ones, whatever their bounds.
-    fn open_closed(&mut self, closed: Closed) -> Result<(), AllocError>
-        requires { IsNextOn self.old (Rest closed) }
-        ensures turn { OnOk result (IsTurn self.old (Rest closed) self.new) }
-        ensures desk { OnOk result (GoesBackTo closed.depth self.old self.new) }
-        ensures budget { OnOk result (self.new.progress ≡ self.old.progress) }
+    /// Counts closed children, which lay on top of the stack, as far as the budget goes.
+    fn count_closed(&mut self, count: usize)
+        requires { IsNextOn self.old (Rest count) }
+        ensures { IsTurn self.old (Rest count) self.new }
     {
-        undo_to(&mut self.desk, closed.depth);
-        gather_children(
-            &mut self.children,
-            &mut self.desk,
-            closed.bound,
-            u64::MAX,
-            &mut self.jobs,
-        )?;
-        self.desk.keeps_word();
-        self.children.truncate(closed.count);
-        push_open(&mut self.stack, self.children.as_slice())
+        self.progress.budget = self.progress.budget.saturating_sub(count as u64);
     }
 
-    /// Counts closed children, which lay on top of the stack. Where the budget ends among them, they are put on the
-    /// stack as open ones.
-    fn count_closed(&mut self, closed: Closed) -> Result<(), AllocError>
-        requires { IsNextOn self.old (Rest closed) }
-        ensures { OnOk result (IsTurn self.old (Rest closed) self.new) }
-    {
-        let count = closed.count as u64;
-        if count <= self.progress.budget {
-            self.progress.budget -= count;
-            return Ok(());
-        }
-        self.open_closed(closed)
-    }
-
-    /// Leaves an open child, which lay on top of the stack; the path begins with the desk's word.
+    /// Leaves an open child, which lay on top of the stack, if its bound is below the best; the path begins with the
+    /// desk's word.
     fn leave_open(&mut self, path: &ArcSlice<u16, Global>, child: Open) -> Result<(), AllocError>
         requires spent { self.old.progress.budget ≡ 0 }
         requires on { IsNextOn self.old (Child child) }
@@ -142,6 +144,9 @@ impl<'a> Walker<'a> {
         ensures desk { OnOk result (self.new.desk ≡ self.old.desk) }
         ensures budget { OnOk result (self.new.progress.budget ≡ self.old.progress.budget) }
     {
+        if child.bound >= self.progress.best {
+            return Ok(());
+        }
         self.desk.keeps_word();
         let word = SharedWord::along(path, child.depth, child.job)?;
         let bound = child.bound;
@@ -160,9 +165,8 @@ impl<'a> Walker<'a> {
         self.desk.keeps_word();
         let path = path_of(alloc, self.desk.jobs())?;
         while let Some(waiting) = self.stack.pop() {
-            match waiting {
-                Waiting::Child(child) => self.leave_open(&path, child)?,
-                Waiting::Rest(closed) => self.open_closed(closed)?,
+            if let Waiting::Child(child) = waiting {
+                self.leave_open(&path, child)?;
             }
         }
         Ok(())
@@ -179,10 +183,23 @@ impl<'a> Walker<'a> {
             };
             match waiting {
                 Waiting::Child(child) => self.walk_open(alloc, child)?,
-                Waiting::Rest(closed) => self.count_closed(closed)?,
+                Waiting::Rest(count) => self.count_closed(count),
             }
         }
         self.leave_stack(alloc)
+    }
+
+    /// Leaves a node, if its bound is below the best.
+    fn leave_node(&mut self, node: &Node) -> Result<(), AllocError>
+        requires spent { self.old.progress.budget ≡ 0 }
+        requires node { IsNode self.old.progress.instance.now node.now }
+        requires empty { self.old.stack.items ≡ [] }
+        ensures { OnOk result (HasWalked self.old self.new (node_walk self.old node.now)) }
+    {
+        if node.bound >= self.progress.best {
+            return Ok(());
+        }
+        self.progress.leave(node.shared()?)
     }
 
     /// Walks a node.
@@ -192,7 +209,7 @@ impl<'a> Walker<'a> {
         ensures { OnOk result (HasWalked self.old self.new (node_walk self.old node.now)) }
     {
         if self.progress.budget == 0 {
-            return self.progress.leave(node.shared()?);
+            return self.leave_node(node);
         }
         self.progress.budget -= 1;
         if node.bound >= self.progress.best {

@@ -1,5 +1,5 @@
 -- Open nodes: their least bound, their order, and those of pieces.
-use Rattle.std.specs.Prelude.{ℕ, min, List, map, filter, fold, nat_lt}
+use Rattle.std.specs.Prelude.{ℕ, ◌<◌, min, List, map, filter, fold, nat_lt, All}
 use Rattle.shop_tree.specs.Branching.{sort_by}
 use Rattle.shop_tree.specs.declared.nodes.Node.{Node}
 use Rattle.shop_tree.specs.declared.pieces.Piece.{Piece}
@@ -18,6 +18,10 @@ nodes_in_order Bound nodes = sort_by (λ n. n.bound) nodes
 -- those that hold a bound below c
 abbrev pub nodes_below : ℕ → List Node → List Node
 nodes_below c nodes = filter (λ n. nat_lt n.bound c) nodes
+
+-- all hold bounds below c
+abbrev pub AreBelow : ℕ → List Node → Type 0
+AreBelow c nodes = All (λ n. n.bound < c) nodes
 
 -- the nodes of each piece
 abbrev pub nodes_in : List Piece → List (List Node)

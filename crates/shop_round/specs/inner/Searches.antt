@@ -14,7 +14,7 @@ use Rattle.shop_round.specs.Round.{Stand, Told, in_order, makespan_of, cut_of}
 use Rattle.shop_round.specs.Laws.{IsStanding}
 use Rattle.shop_round.specs.Entries.{told}
 use Rattle.shop_round.specs.Runs.{planned}
-use Rattle.shop_round.specs.inner.OpenNodes.{nodes_below}
+use Rattle.shop_round.specs.inner.OpenNodes.{nodes_below, AreBelow}
 use Rattle.shop_round.specs.inner.Stacks.{put_all_before}
 use Rattle.shop_round.specs.inner.Stores.{open_list, order_of}
 use Rattle.shop_round.specs.declared.open_nodes.OpenNodes.{OpenNodes}
@@ -62,4 +62,5 @@ pub record IsFront (shop : Shop) (plan : Plan) (t : Search) (r : Round) (others 
   pub round : told r ≡ front_of (cut_of shop (planned plan) (stand_of t))
   pub rest : words_of (open_list others) ≡ (cut_of shop (planned plan) (stand_of t)).rest
   pub bounds : AreNodes shop (open_list others)
+  pub below : AreBelow t.makespan (open_list others)
   pub kept : order_of others ≡ order_of t.open

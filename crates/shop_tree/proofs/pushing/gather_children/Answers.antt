@@ -13,11 +13,11 @@ pub loop-job-init : goal.loop-job-init
 loop-job-init c = (
   [],
   record {
-    all = append-nil _ ∙ c.gather_conflict.ensures.jobs;
+    all = append-nil _ ∙ c.requires.jobs;
     gathered = gathered_none _ _ _ _ c.clear.ensures.items;
     counted = omega arith;
     same = refl;
-    room = c.gather_conflict.ensures.room;
+    room = omega arith;
   },
 )
 
@@ -85,7 +85,7 @@ pub returns-then-bound-limit-clause-children : goal.returns-then-bound-limit-cla
 returns-then-bound-limit-clause-children c =
     let desk = c.args.desk.now
     in only_child desk.shop c.args.limit desk.word c.keeps_word.ensures.word c.sole_candidate_keeps_bound.ensures
-    c.gather_conflict.new.jobs.items c.gather_conflict.ensures.jobs (omega arith)
+    c.args.jobs.now.items c.requires.jobs (omega arith)
     (record { depth = length c.jobs-depth.result.now; job = c.index-job.result.now; bound = c.args.bound }) _
     c.index-job.ensures (ap length c.jobs-depth.ensures) c.requires.bound (omega arith) _ _ c.clear.ensures.items
     c.in_ok-push.ensures.items

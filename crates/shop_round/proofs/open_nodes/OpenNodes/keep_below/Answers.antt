@@ -1,7 +1,8 @@
-use Rattle.std.proofs.Common.{◌≡◌, rules, sym, ◌∙◌, ap, reverse}
+use Rattle.std.proofs.Common.{◌≡◌, rules, refl, sym, ◌∙◌, ap, reverse}
 use Rattle.std.proofs.lemmas.Fn.{filter_same}
 use Rattle.shop_round.specs.inner.OpenNodes.{nodes_below}
 use Rattle.shop_round.specs.inner.Stores.{open_list, order_of}
+use Rattle.shop_round.proofs.NodeLemmas.{none_closed}
 use Rattle.shop_round.proofs.StoreLemmas.{below_reverse}
 use Rattle.shop_round.proofs.open_nodes.OpenNodes.keep_below.Goals as goal
 
@@ -14,3 +15,9 @@ returns-in-AsKept c =
       ap reverse kept ∙ (below_reverse c.args.makespan c.in-AsKept.nodes.items
           ∙ ap (λ s. nodes_below c.args.makespan (open_list s)) (sym c.in-AsKept.is)),
     )
+
+pub returns-then-opening-makespan : goal.returns-then-opening-makespan
+returns-then-opening-makespan c =
+    let kept = none_closed c.args.opening c.args.makespan (open_list c.args.self.now) c.if-opening-makespan.true
+    c.requires
+    in (refl, sym kept)

@@ -1,9 +1,11 @@
-use Rattle.std.proofs.Common.{◌*◌, sym, subst, arith}
+use Rattle.std.proofs.Common.{◌*◌, ◌<◌, sym, subst, arith}
 use Rattle.std.proofs.lemmas.List.Elements.{All-drop}
 use Rattle.shop_tree.specs.Nodes.{IsNode, AreNodes}
 use Rattle.shop_round.specs.Runs.{planned}
+use Rattle.shop_round.specs.inner.OpenNodes.{AreBelow}
 use Rattle.shop_round.specs.inner.Stores.{open_list}
 use Rattle.shop_round.proofs.FrontCuts.{IsFrontCut, front_told, front_pieces, front_few, front_round, others_are}
+use Rattle.shop_round.proofs.NodeLemmas.{all_below}
 use Rattle.shop_round.proofs.searches.Search.cut.Goals as goal
 
 pub invariant_of-round : goal.invariant_of-round
@@ -56,5 +58,9 @@ returns c =
       rest = others_are shop plan c.args.self bound front ps c.requires.search cut (open_list c.take.new.self) others;
       bounds = subst (AreNodes shop) (sym others)
           (All-drop (IsNode shop) (256 * plan.piece) (open_list c.args.self.open) c.requires.search.bounds);
+      below = subst (AreBelow c.args.self.makespan) (sym others)
+          (All-drop (λ n. n.bound < c.args.self.makespan) (256 * plan.piece) (open_list c.args.self.open)
+          (all_below shop c.args.self.makespan (open_list c.args.self.open) c.requires.search.bounds
+          (λ w h. let a = c.requires.search.standing.below w h in let b = c.requires.search.makespan in omega arith)));
       kept = c.in_ok-front.ensures.0;
     }

@@ -9,14 +9,14 @@ use Rattle.shop_tree.specs.inner.Searching.{walked, with_left}
 use Rattle.shop_tree.specs.declared.opens.Waiting.TheVariants.{Child}
 use Rattle.shop_tree.proofs.OpenLemmas.{popped}
 use Rattle.shop_tree.proofs.ListLemmas.{on_ok}
-use Rattle.shop_tree.proofs.WalkerLemmas.{turn_left}
+use Rattle.shop_tree.proofs.WalkerLemmas.{turn_left, turn_dropped}
 use Rattle.shop_tree.proofs.SmallJobs.{small_last}
 use Rattle.shop_tree.proofs.walkers.Walker.leave_open.Goals as goal
 
 pub along-requires-clause-short : goal.along-requires-clause-short
 along-requires-clause-short c =
     let self = c.args.self.now
-    in let p = popped self.desk.shop self.progress.best self.desk.word self.stack.items (Child c.args.child)
+    in let p = popped self.desk.shop self.desk.word self.stack.items (Child c.args.child)
     c.requires.on
     in let a = p.own.depth
     in let b = word_length self.desk.shop self.desk.word c.keeps_word.ensures.limits c.keeps_word.ensures.word
@@ -26,7 +26,7 @@ pub along-requires-clause-small : goal.along-requires-clause-small
 along-requires-clause-small c =
     let self = c.args.self.now
     in let o = c.args.child
-    in let p = popped self.desk.shop self.progress.best self.desk.word self.stack.items (Child o) c.requires.on
+    in let p = popped self.desk.shop self.desk.word self.stack.items (Child o) c.requires.on
     in small_last self.desk.shop (take o.depth self.desk.word) o.job c.keeps_word.ensures.limits p.own.is_word
 
 -- the same entries of the path as of the desk's word
@@ -37,11 +37,15 @@ left_word : (path word w : List ℕ) (n j : ℕ) → n ≤ length word → take 
     → w ≡ take n path ++ j ∷ [] → w ≡ take n word ++ j ∷ []
 left_word path word w n j h e is = is ∙ ap (λ (v : List ℕ). v ++ j ∷ []) (same_front path word n h e)
 
-pub leave-requires : goal.leave-requires
-leave-requires c =
+pub returns-then-child-self-clause-turn : goal.returns-then-child-self-clause-turn
+returns-then-child-self-clause-turn c = turn_dropped c.args.self.now _ c.args.child c.requires.on c.requires.spent
+    c.if-child-self.true refl refl refl
+
+pub leave-requires-clause-node : goal.leave-requires-clause-node
+leave-requires-clause-node c =
     let self = c.args.self.now
     in let o = c.args.child
-    in let p = popped self.desk.shop self.progress.best self.desk.word self.stack.items (Child o) c.requires.on
+    in let p = popped self.desk.shop self.desk.word self.stack.items (Child o) c.requires.on
     in let is = left_word (arc_slice_items c.args.path.now) self.desk.word c.in_ok-word.word o.depth o.job p.own.depth
     c.requires.path c.in_ok-word.ensures
     in subst (λ (x : Shop). IsNode x (record { word = c.in_ok-word.word; bound = o.bound })) self.same_shop
@@ -52,7 +56,7 @@ pub returns-clause-turn : goal.returns-clause-turn
 returns-clause-turn c =
     let self = c.args.self.now
     in let o = c.args.child
-    in let p = popped self.desk.shop self.progress.best self.desk.word self.stack.items (Child o) c.requires.on
+    in let p = popped self.desk.shop self.desk.word self.stack.items (Child o) c.requires.on
     in let is = left_word (arc_slice_items c.args.path.now) self.desk.word c.in_ok-word.word o.depth o.job p.own.depth
     c.requires.path c.in_ok-word.ensures
     in on_ok _ (IsTurn self (Child o) _)

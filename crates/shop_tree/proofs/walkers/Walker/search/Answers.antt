@@ -1,13 +1,15 @@
-use Rattle.std.proofs.Common.{◌≡◌, ◌-◌, ◌≤◌, ◌∙◌, ℕ, Option, List, arith, sym, ap, subst}
+use Rattle.std.proofs.Common.{◌≡◌, ◌-◌, ◌∙◌, List, sym, ap, subst}
 use Rattle.std.specs.List.{fold}
 use Rattle.shop_tree.specs.Laws.{KeepsPiece}
 use Rattle.shop_tree.specs.Nodes.{words_of}
-use Rattle.shop_tree.specs.Pieces.{walk_told}
-use Rattle.shop_tree.specs.Walking.{Walk, walk, sheet}
-use Rattle.shop_tree.specs.inner.Searching.{walked}
+use Rattle.shop_tree.specs.Pieces.{IsSheet, still_open}
+use Rattle.shop_tree.specs.Walking.{walk, sheet}
+use Rattle.shop_tree.specs.inner.Searching.{AreAlike, walked}
 use Rattle.shop_tree.specs.declared.nodes.Node.{Node}
+use Rattle.shop_tree.proofs.AlikeWalks.{open_keeps}
 use Rattle.shop_tree.proofs.NodeLemmas.{are_words}
 use Rattle.shop_tree.proofs.Found.{searches_keep}
+use Rattle.shop_tree.proofs.WalkerLemmas.{told_sheet}
 use Rattle.shop_tree.proofs.walkers.Walker.search.Goals as goal
 
 pub returns-clause-keeps : goal.returns-clause-keeps
@@ -17,16 +19,33 @@ returns-clause-keeps c =
     in let best = c.args.best
     in let budget = c.args.budget
     in let p = c.walk_nodes.new.self.progress
-    in let begun : c.begin.new.self.budget ≡ budget = ap (λ (s : Walk). s.budget) c.begin.ensures.walk
-    in let spent : p.budget ≤ c.begin.new.self.budget = c.in_ok-walk_nodes.ensures.spent
-    in let rest : p.budget ≡ budget - (budget - p.budget) = omega arith
-    in let whole : sheet shop (words_of nodes) best budget ≡ walked p = sym (c.in_ok-walk_nodes.ensures.walk
-    ∙ (ap (λ (s : Walk). fold (walk shop) s (words_of c.as_slice.result.now)) c.begin.ensures.walk
-    ∙ ap (λ (ns : List Node). sheet shop (words_of ns) best budget) c.as_slice.ensures.value))
-    in let told : walked p
-    ≡ walk_told c.end-found.result.0 p.best c.end-found.result.1.items (budget - (budget - p.budget)) =
-    ap (λ (f : Option (List ℕ)). walk_told f p.best p.left.items p.budget) (sym c.end-found.ensures.found)
-    ∙ (ap (λ (ns : List Node). walk_told c.end-found.result.0 p.best ns p.budget) (sym c.end-found.ensures.left)
-    ∙ ap (walk_told c.end-found.result.0 p.best c.end-found.result.1.items) rest)
-    in subst (KeepsPiece shop (words_of nodes) best) (whole ∙ told)
-    (searches_keep shop (words_of nodes) best budget (are_words shop nodes c.requires.nodes))
+    in let same : p.instance.now ≡ shop = c.in_ok-walk_nodes.ensures.instance ∙ (c.begin.ensures.instance
+    ∙ sym c.args.self.now.same_shop)
+    in let walks : AreAlike shop (walked p) (fold (walk shop) (walked c.begin.new.self) (words_of nodes)) =
+    c.in_ok-walk_nodes.ensures.walk
+    ∙ ap (λ (ns : List Node). still_open shop (fold (walk shop) (walked c.begin.new.self) (words_of ns)))
+    c.as_slice.ensures.value
+    in subst (KeepsPiece shop (words_of nodes) best)
+    (sym (told_sheet shop nodes best budget c.begin.new.self p c.end-found.result.0 c.end-found.result.1.items same
+    c.begin.ensures.walk c.in_ok-walk_nodes.ensures.spent walks c.end-found.ensures.found c.end-found.ensures.left))
+    (open_keeps shop (words_of nodes) best (sheet shop (words_of nodes) best budget)
+    (searches_keep shop (words_of nodes) best budget (are_words shop nodes c.requires.nodes)))
+
+pub invariant_of-result-clause-is_sheet : goal.invariant_of-result-clause-is_sheet
+invariant_of-result-clause-is_sheet c =
+    let shop = c.args.self.now.desk.shop
+    in let nodes = c.args.piece.now.nodes.items
+    in let best = c.args.best
+    in let budget = c.args.budget
+    in let p = c.walk_nodes.new.self.progress
+    in let left = c.end-found.result.1.items
+    in let same : p.instance.now ≡ shop = c.in_ok-walk_nodes.ensures.instance ∙ (c.begin.ensures.instance
+    ∙ sym c.args.self.now.same_shop)
+    in let walks : AreAlike shop (walked p) (fold (walk shop) (walked c.begin.new.self) (words_of nodes)) =
+    c.in_ok-walk_nodes.ensures.walk
+    ∙ ap (λ (ns : List Node). still_open shop (fold (walk shop) (walked c.begin.new.self) (words_of ns)))
+    c.as_slice.ensures.value
+    in subst (λ x. IsSheet x c.args.piece.now best budget c.end-found.result.0 p.best left (budget - p.budget))
+    (sym same)
+    (told_sheet shop nodes best budget c.begin.new.self p c.end-found.result.0 left same c.begin.ensures.walk
+    c.in_ok-walk_nodes.ensures.spent walks c.end-found.ensures.found c.end-found.ensures.left)

@@ -19,21 +19,21 @@ returns-then-child-self c =
 pub undo_to-requires : goal.undo_to-requires
 undo_to-requires c =
     let self = c.args.self.now
-    in (popped self.desk.shop self.progress.best self.desk.word self.stack.items (Child c.args.child)
+    in (popped self.desk.shop self.desk.word self.stack.items (Child c.args.child)
     c.requires.on).own.depth
 
 pub dispatch-requires : goal.dispatch-requires
 dispatch-requires c =
     let self = c.args.self.now
     in let o = c.args.child
-    in let p = popped self.desk.shop self.progress.best self.desk.word self.stack.items (Child o) c.requires.on
+    in let p = popped self.desk.shop self.desk.word self.stack.items (Child o) c.requires.on
     in subst (λ (d : DeskState). IsWord d.shop (d.word ++ o.job ∷ [])) (sym c.undo_to.ensures) p.own.is_word
 
 pub expand-requires-clause-bound : goal.expand-requires-clause-bound
 expand-requires-clause-bound c =
     let self = c.args.self.now
     in let o = c.args.child
-    in let p = popped self.desk.shop self.progress.best self.desk.word self.stack.items (Child o) c.requires.on
+    in let p = popped self.desk.shop self.desk.word self.stack.items (Child o) c.requires.on
     in subst (λ (d : DeskState). o.bound ≡ lb d.shop d.word) (sym c.dispatch.ensures)
     (subst (λ (d : DeskState). o.bound ≡ lb d.shop (d.word ++ o.job ∷ [])) (sym c.undo_to.ensures) p.own.bound)
 
@@ -43,7 +43,7 @@ expand-requires-clause-in_order c =
     in let o = c.args.child
     in let went : c.dispatch.new.self ≡ at_word self.desk (word_at self.desk.word o) = c.dispatch.ensures
     ∙ ap (λ (d : DeskState). goes_on d o.job) c.undo_to.ensures
-    in below_waits self.desk c.dispatch.new.self self.stack.items o self.progress.best went c.requires.on
+    in below_waits self.desk c.dispatch.new.self self.stack.items o went c.requires.on
 
 pub returns : goal.returns
 returns c =

@@ -1,10 +1,11 @@
 use Rattle.std.proofs.Common.{◌≡◌, ◌≤◌}
+use Rattle.shop_tree.specs.inner.Searching.{AreAlike}
 use Rattle.shop_tree.specs.inner.Walkers.{IsInOrder, stack_walk, turns_left}
 use Rattle.shop_tree.proofs.walkers.Walker.walk_stack.Given as goal
 
 abbrev pub invariant-loop-self : goal.invariant-loop-self
 invariant-loop-self l = record {
-  walk : stack_walk l.self ≡ stack_walk l.fn.self;
+  walk : AreAlike l.fn.self.desk.shop (stack_walk l.self) (stack_walk l.fn.self);
   in_order : IsInOrder l.self;
   spent : l.self.progress.budget ≤ l.fn.self.progress.budget;
   shop : l.self.desk.shop ≡ l.fn.self.desk.shop;
