@@ -16,7 +16,7 @@ use worked_instances::with_a_gap;
 #[test]
 fn two_seats_on_one_thread(rt: HostRuntime) -> Result<(), Fail> {
     let alloc = rt.alloc();
-    let instance = with_a_gap(alloc)?;
+    let instance = with_a_gap(alloc).ok_or("an instance")?;
     let round = third_round(alloc, &instance)?;
     let (board, seat) = Board::open(alloc, &round)?;
     assert_eq!(rt; board.pieces(), 3);
@@ -41,7 +41,7 @@ fn two_seats_on_one_thread(rt: HostRuntime) -> Result<(), Fail> {
 #[test]
 fn a_worker_passes_behind_the_mark_of_another_seat(rt: HostRuntime) -> Result<(), Fail> {
     let alloc = rt.alloc();
-    let instance = with_a_gap(alloc)?;
+    let instance = with_a_gap(alloc).ok_or("an instance")?;
     let round = third_round(alloc, &instance)?;
     let (board, seat) = Board::open(alloc, &round)?;
     assert_eq!(rt; board.pieces(), 3);
@@ -106,7 +106,7 @@ fn claim_by_threads<R: Threads + Sync>(
 #[test]
 fn each_piece_is_won_once(rt: HostRuntime) -> Result<(), Fail> {
     let alloc = rt.alloc();
-    let instance = with_a_gap(alloc)?;
+    let instance = with_a_gap(alloc).ok_or("an instance")?;
     let round = third_round(alloc, &instance)?;
     let (board, seat) = Board::open(alloc, &round)?;
     let seats = three_seats(alloc, &board, seat)?;
@@ -191,7 +191,7 @@ fn join_worked(board: &Board, mut all: Vec<Option<Worked>>) -> Option<Worked>
 #[test]
 fn three_seats_work_and_close(rt: HostRuntime) -> Result<(), Fail> {
     let alloc = rt.alloc();
-    let instance = with_a_gap(alloc)?;
+    let instance = with_a_gap(alloc).ok_or("an instance")?;
     let round = third_round(alloc, &instance)?;
     let (board, seat) = Board::open(alloc, &round)?;
     let seats = three_seats(alloc, &board, seat)?;

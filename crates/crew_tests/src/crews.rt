@@ -36,7 +36,7 @@ fn assert_answer(
 #[test]
 fn same_answer_by_any_number_of_workers(rt: HostRuntime) -> Result<(), Fail> {
     let alloc = rt.alloc();
-    let instance = with_a_gap(alloc)?;
+    let instance = with_a_gap(alloc).ok_or("an instance")?;
     let rows = [
         (1, (16, 10, 2, 1, 3)),
         (2, (16, 10, 3, 2, 9)),
@@ -216,7 +216,7 @@ impl<R: Threads + Wait + Sync> Crew<R> for MeetingCrew {
 #[test]
 fn two_workers_meet_at_the_gate(rt: HostRuntime) -> Result<(), Fail> {
     let alloc = rt.alloc();
-    let instance = with_a_gap(alloc)?;
+    let instance = with_a_gap(alloc).ok_or("an instance")?;
     let plan = Plan::new(2, 3, 1).ok_or("a plan within the limits")?;
     for on_a_board in [false, true] {
         let mut crew = MeetingCrew {
@@ -278,7 +278,7 @@ impl SeatGate for Tally {
 #[test]
 fn one_worker_is_worker_0(rt: HostRuntime) -> Result<(), Fail> {
     let alloc = rt.alloc();
-    let instance = with_a_gap(alloc)?;
+    let instance = with_a_gap(alloc).ok_or("an instance")?;
     let round = second_round(alloc, &instance)?;
     let lock = LockCrew::new(1, Tally::new()).ok_or("1 to 64 workers")?;
     lock.search_round(&rt, alloc, &round)?;
@@ -311,7 +311,7 @@ pub fn what_became(alloc: Global, entries: &[Entry]) -> Result<Vec<Became>, Allo
 #[test]
 fn same_entries_by_each_crew(rt: HostRuntime) -> Result<(), Fail> {
     let alloc = rt.alloc();
-    let instance = with_a_gap(alloc)?;
+    let instance = with_a_gap(alloc).ok_or("an instance")?;
     let round = second_round(alloc, &instance)?;
     let sheets = [Became::Searched(16, 3, 1), Became::Searched(16, 3, 2)];
     let alone = Alone.search(&rt, alloc, &round)?;
@@ -347,7 +347,7 @@ fn all_searched<'r>(alloc: Global, round: &'r Round<'r>) -> Result<Vec<Entry<'r>
 #[test]
 fn entries_after_a_hit_do_not_count(rt: HostRuntime) -> Result<(), Fail> {
     let alloc = rt.alloc();
-    let instance = with_a_gap(alloc)?;
+    let instance = with_a_gap(alloc).ok_or("an instance")?;
     let round = third_round(alloc, &instance)?;
     let passed = Alone.search(&rt, alloc, &round)?;
     let searched = all_searched(alloc, &round)?;
@@ -370,7 +370,7 @@ fn entries_after_a_hit_do_not_count(rt: HostRuntime) -> Result<(), Fail> {
 #[test]
 fn one_worker_passes_what_stands_behind_a_hit(rt: HostRuntime) -> Result<(), Fail> {
     let alloc = rt.alloc();
-    let instance = with_a_gap(alloc)?;
+    let instance = with_a_gap(alloc).ok_or("an instance")?;
     let round = third_round(alloc, &instance)?;
     let kinds = [
         Became::Searched(10, 1, 0),

@@ -95,7 +95,7 @@ fn told(
 #[test]
 fn jobs_that_cross_are_told_and_drawn(rt: HostRuntime) -> Result<(), Fail> {
     let alloc = rt.alloc();
-    let instance = crossing(alloc)?;
+    let instance = crossing(alloc).ok_or("an instance")?;
     let table = read_table(alloc, &instance, b"job 0: 0 3\njob 1: 0 3\n".as_slice())?;
     let text = told(alloc, "1", &instance, &table, 1, 6)?;
     let wanted = joined(
@@ -154,7 +154,7 @@ fn the_start_schedule_of_ft06_is_told(rt: HostRuntime) -> Result<(), Fail> {
 #[test]
 fn a_gap_and_a_time_of_0_are_drawn(rt: HostRuntime) -> Result<(), Fail> {
     let alloc = rt.alloc();
-    let instance = with_a_gap(alloc)?;
+    let instance = with_a_gap(alloc).ok_or("an instance")?;
     let table = read_table(
         alloc,
         &instance,
@@ -275,11 +275,11 @@ fn instances_are_listed(rt: HostRuntime) -> Result<(), Fail> {
     let alloc = rt.alloc();
     let alpha = Named {
         name: String::from_str(alloc, "alpha")?,
-        instance: crossing(alloc)?,
+        instance: crossing(alloc).ok_or("an instance")?,
     };
     let other = Named {
         name: String::from_str(alloc, "gap")?,
-        instance: with_a_gap(alloc)?,
+        instance: with_a_gap(alloc).ok_or("an instance")?,
     };
     let named = vec![in alloc; alpha, other]?;
     let text = listing(alloc, named.as_slice())?;

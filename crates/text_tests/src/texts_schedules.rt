@@ -8,7 +8,7 @@ use worked_instances::crossing;
 #[test]
 fn schedules_are_read(rt: HostRuntime) -> Result<(), Fail> {
     let alloc = rt.alloc();
-    let instance = crossing(alloc)?;
+    let instance = crossing(alloc).ok_or("an instance")?;
     let table = read_table(
         alloc,
         &instance,
@@ -33,7 +33,7 @@ fn schedules_are_read(rt: HostRuntime) -> Result<(), Fail> {
 
 /// The line at which a schedule for the two jobs that cross is faulty, behind the three lines of their instance.
 fn faulty_line(alloc: Global, lines: &[u8]) -> Result<usize, Fail> {
-    let instance = crossing(alloc)?;
+    let instance = crossing(alloc).ok_or("an instance")?;
     let mut text = b"2 2\n0 3 1 2\n1 2 0 4\n".to_vec(alloc)?;
     text.extend_from_slice(lines)?;
     match read_table(alloc, &instance, text.as_slice()) {
@@ -79,7 +79,7 @@ fn faulty_schedules_are_refused_by_line(rt: HostRuntime) -> Result<(), Fail> {
 #[test]
 fn a_text_too_long_is_refused(rt: HostRuntime) -> Result<(), Fail> {
     let alloc = rt.alloc();
-    let instance = crossing(alloc)?;
+    let instance = crossing(alloc).ok_or("an instance")?;
     let text = vec![in alloc; b' '; 16_777_217]?;
     match read_table(alloc, &instance, text.as_slice()) {
         Err(fault) => assert_eq!(rt; fault, ReadFault::TooLong),
