@@ -2,7 +2,7 @@
 ghost use Rattle.std.specs.Prelude.{◌≤◌};
 
 use shop_model::{Instance, Op, Position, Table, Verdict, check};
-use shop_text::{Named, ReadFault, Report, gantt, listing, read_table, report, verdict_line};
+use shop_text::{Named, Report, gantt, listing, read_table, report, verdict_line};
 use std::alloc::{AllocError, Global};
 use std::process::Abort;
 use worked_instances::{crossing, with_a_gap};
