@@ -8,24 +8,23 @@ use crate::worked_rounds::third_round;
 use shop_board::{Board, OpenGate, Seat, work};
 use shop_round::{Round, search_piece};
 use std::alloc::{AllocError, Global};
-use std::test::Fail;
 use std::thread;
 use std::thread::Threads;
 use worked_instances::with_a_gap;
 
 #[test]
-fn two_seats_on_one_thread(rt: HostRuntime) -> Result<(), Fail> {
+fn two_seats_on_one_thread(rt: HostRuntime) {
     let alloc = rt.alloc();
-    let instance = with_a_gap(alloc)?;
-    let round = third_round(alloc, &instance)?;
-    let (board, seat) = Board::open(alloc, &round)?;
+    let instance = with_a_gap(alloc).expect(&rt, "an instance");
+    let round = third_round(&rt, alloc, &instance);
+    let (board, seat) = Board::open(alloc, &round).expect(&rt, "memory");
     assert_eq!(rt; board.pieces(), 3);
     let (mut a, mut b) = board.split(seat);
     assert!(rt; board.claim(&mut a, 0));
     assert!(rt; !board.claim(&mut b, 0));
     assert!(rt; board.claim(&mut b, 1));
     assert!(rt; board.claim(&mut a, 2));
-    let sheet = search_piece(alloc, &round, 0)?;
+    let sheet = search_piece(alloc, &round, 0).expect(&rt, "memory");
     assert_eq!(rt; sheet.makespan, 10);
     assert_eq!(rt; sheet.taken, 1);
     assert_eq!(rt; round.bound, 10);
@@ -35,29 +34,27 @@ fn two_seats_on_one_thread(rt: HostRuntime) -> Result<(), Fail> {
     assert_eq!(rt; board.look(&mut b), 0);
     let seat = board.join(a, b);
     assert_eq!(rt; board.close(seat), 0);
-    Ok(())
 }
 
 #[test]
-fn a_worker_passes_behind_the_mark_of_another_seat(rt: HostRuntime) -> Result<(), Fail> {
+fn a_worker_passes_behind_the_mark_of_another_seat(rt: HostRuntime) {
     let alloc = rt.alloc();
-    let instance = with_a_gap(alloc)?;
-    let round = third_round(alloc, &instance)?;
-    let (board, seat) = Board::open(alloc, &round)?;
+    let instance = with_a_gap(alloc).expect(&rt, "an instance");
+    let round = third_round(&rt, alloc, &instance);
+    let (board, seat) = Board::open(alloc, &round).expect(&rt, "memory");
     assert_eq!(rt; board.pieces(), 3);
     let (mut a, b) = board.split(seat);
     assert!(rt; board.claim(&mut a, 0));
-    let sheet = search_piece(alloc, &round, 0)?;
+    let sheet = search_piece(alloc, &round, 0).expect(&rt, "memory");
     assert_eq!(rt; sheet.makespan, 10);
     assert_eq!(rt; round.bound, 10);
     board.mark(&mut a, 0);
     let (_b, entries) = work(alloc, &board, b, &round, 1, &OpenGate);
     let passed = [Became::Passed(0), Became::Passed(0)];
     assert_eq!(rt;
-        what_became(alloc, &entries?)?.as_slice(),
+        what_became(&rt, alloc, &entries.expect(&rt, "memory")).as_slice(),
         passed.as_slice()
     );
-    Ok(())
 }
 
 // Three seats for one that has won nothing.
@@ -104,19 +101,20 @@ fn claim_by_threads<R: Threads + Sync>(
 }
 
 #[test]
-fn each_piece_is_won_once(rt: HostRuntime) -> Result<(), Fail> {
+fn each_piece_is_won_once(rt: HostRuntime) {
     let alloc = rt.alloc();
-    let instance = with_a_gap(alloc)?;
-    let round = third_round(alloc, &instance)?;
-    let (board, seat) = Board::open(alloc, &round)?;
-    let seats = three_seats(alloc, &board, seat)?;
+    let instance = with_a_gap(alloc).expect(&rt, "an instance");
+    let round = third_round(&rt, alloc, &instance);
+    let (board, seat) = Board::open(alloc, &round).expect(&rt, "memory");
+    let seats = three_seats(alloc, &board, seat).expect(&rt, "memory");
     let mut numbers = Vec::new(alloc);
-    for won in claim_by_threads(&rt, alloc, &board, seats)? {
-        numbers.append(&mut won?)?;
+    for won in claim_by_threads(&rt, alloc, &board, seats).expect(&rt, "memory") {
+        numbers
+            .append(&mut won.expect(&rt, "memory"))
+            .expect(&rt, "memory");
     }
-    numbers.sort()?;
+    numbers.sort().expect(&rt, "memory");
     assert_eq!(rt; numbers.as_slice(), [0, 1, 2].as_slice());
-    Ok(())
 }
 
 // A seat that has worked, and how many pieces it won.
@@ -189,17 +187,14 @@ fn join_worked(board: &Board, mut all: Vec<Option<Worked>>) -> Option<Worked>
 }
 
 #[test]
-fn three_seats_work_and_close(rt: HostRuntime) -> Result<(), Fail> {
+fn three_seats_work_and_close(rt: HostRuntime) {
     let alloc = rt.alloc();
-    let instance = with_a_gap(alloc)?;
-    let round = third_round(alloc, &instance)?;
-    let (board, seat) = Board::open(alloc, &round)?;
-    let seats = three_seats(alloc, &board, seat)?;
-    let worked = work_by_threads(&rt, alloc, &board, seats, &round)?;
-    let all = join_worked(&board, worked).ok_or("memory")?;
-    if all.won != board.pieces() {
-        return Err(Fail::from("each piece was won"));
-    }
+    let instance = with_a_gap(alloc).expect(&rt, "an instance");
+    let round = third_round(&rt, alloc, &instance);
+    let (board, seat) = Board::open(alloc, &round).expect(&rt, "memory");
+    let seats = three_seats(alloc, &board, seat).expect(&rt, "memory");
+    let worked = work_by_threads(&rt, alloc, &board, seats, &round).expect(&rt, "memory");
+    let all = join_worked(&board, worked).expect(&rt, "memory");
+    assert_eq!(rt; all.won, board.pieces(), "each piece was won");
     assert_eq!(rt; board.close(all.seat), 0);
-    Ok(())
 }

@@ -13,7 +13,6 @@ use std::alloc::{AllocError, Global};
 use std::process::Abort;
 use std::sync::Wait;
 use std::sync::atomic::{AtomicBool, AtomicUsize, Ordering};
-use std::test::Fail;
 use std::thread;
 use std::thread::Threads;
 use worked_instances::with_a_gap;
@@ -34,9 +33,9 @@ fn assert_answer(
 }
 
 #[test]
-fn same_answer_by_any_number_of_workers(rt: HostRuntime) -> Result<(), Fail> {
+fn same_answer_by_any_number_of_workers(rt: HostRuntime) {
     let alloc = rt.alloc();
-    let instance = with_a_gap(alloc)?;
+    let instance = with_a_gap(alloc).expect(&rt, "an instance");
     let rows = [
         (1, (16, 10, 2, 1, 3)),
         (2, (16, 10, 3, 2, 9)),
@@ -45,24 +44,23 @@ fn same_answer_by_any_number_of_workers(rt: HostRuntime) -> Result<(), Fail> {
     ];
     for workers in [1, 2, 3, 64] {
         for (rounds, numbers) in rows {
-            let plan = Plan::new(rounds, 3, 1).ok_or("a plan within the limits")?;
-            let mut lock = LockCrew::new(workers, OpenGate).ok_or("1 to 64 workers")?;
-            let mut board = BoardCrew::new(workers, OpenGate).ok_or("1 to 64 workers")?;
+            let plan = Plan::new(rounds, 3, 1).expect(&rt, "a plan within the limits");
+            let mut lock = LockCrew::new(workers, OpenGate).expect(&rt, "1 to 64 workers");
+            let mut board = BoardCrew::new(workers, OpenGate).expect(&rt, "1 to 64 workers");
             assert_answer(
                 &rt,
-                &run(&rt, alloc, &instance, &plan, &mut lock)?,
+                &run(&rt, alloc, &instance, &plan, &mut lock).expect(&rt, "memory"),
                 numbers,
                 "lock",
             );
             assert_answer(
                 &rt,
-                &run(&rt, alloc, &instance, &plan, &mut board)?,
+                &run(&rt, alloc, &instance, &plan, &mut board).expect(&rt, "memory"),
                 numbers,
                 "board",
             );
         }
     }
-    Ok(())
 }
 
 #[test]
@@ -214,23 +212,22 @@ impl<R: Threads + Wait + Sync> Crew<R> for MeetingCrew {
 }
 
 #[test]
-fn two_workers_meet_at_the_gate(rt: HostRuntime) -> Result<(), Fail> {
+fn two_workers_meet_at_the_gate(rt: HostRuntime) {
     let alloc = rt.alloc();
-    let instance = with_a_gap(alloc)?;
-    let plan = Plan::new(2, 3, 1).ok_or("a plan within the limits")?;
+    let instance = with_a_gap(alloc).expect(&rt, "an instance");
+    let plan = Plan::new(2, 3, 1).expect(&rt, "a plan within the limits");
     for on_a_board in [false, true] {
         let mut crew = MeetingCrew {
             on_a_board,
             met: NOBODY,
             left: [None, None],
         };
-        let answer = run(&rt, alloc, &instance, &plan, &mut crew)?;
+        let answer = run(&rt, alloc, &instance, &plan, &mut crew).expect(&rt, "memory");
         assert_eq!(rt; crew.met.count, 2);
         assert!(rt; [[0, 1], [1, 0]].contains(&crew.met.workers));
         assert_eq!(rt; crew.left, [Some(1), Some(2)]);
         assert_eq!(rt; answer.nodes, 9);
     }
-    Ok(())
 }
 
 // Counts the pieces that are searched, and of these those by another worker than worker 0.
@@ -276,17 +273,16 @@ impl SeatGate for Tally {
 }
 
 #[test]
-fn one_worker_is_worker_0(rt: HostRuntime) -> Result<(), Fail> {
+fn one_worker_is_worker_0(rt: HostRuntime) {
     let alloc = rt.alloc();
-    let instance = with_a_gap(alloc)?;
-    let round = second_round(alloc, &instance)?;
-    let lock = LockCrew::new(1, Tally::new()).ok_or("1 to 64 workers")?;
-    lock.search_round(&rt, alloc, &round)?;
+    let instance = with_a_gap(alloc).expect(&rt, "an instance");
+    let round = second_round(&rt, alloc, &instance);
+    let lock = LockCrew::new(1, Tally::new()).expect(&rt, "1 to 64 workers");
+    lock.search_round(&rt, alloc, &round).expect(&rt, "memory");
     assert_eq!(rt; lock.gate().counts(), (2, 0));
-    let board = BoardCrew::new(1, Tally::new()).ok_or("1 to 64 workers")?;
-    board.search_round(&rt, alloc, &round)?;
+    let board = BoardCrew::new(1, Tally::new()).expect(&rt, "1 to 64 workers");
+    board.search_round(&rt, alloc, &round).expect(&rt, "memory");
     assert_eq!(rt; board.gate().counts(), (2, 0));
-    Ok(())
 }
 
 // What became of a piece: the makespan of its sheet, the nodes taken and the nodes left; or the number that it was
@@ -297,34 +293,46 @@ pub enum Became {
     Passed(usize),
 }
 
-pub fn what_became(alloc: Global, entries: &[Entry]) -> Result<Vec<Became>, AllocError> {
+fn what_one_became(entry: &Entry) -> Became {
+    match &entry.kind {
+        Kind::Done(sheet) => Became::Searched(sheet.makespan, sheet.taken, sheet.left.len()),
+        Kind::Passed { number: _, by } => Became::Passed(*by),
+    }
+}
+
+pub fn what_became(rt: &impl Abort, alloc: Global, entries: &[Entry]) -> Vec<Became> {
     let mut all = Vec::new(alloc);
     for entry in entries {
-        all.push(match &entry.kind {
-            Kind::Done(sheet) => Became::Searched(sheet.makespan, sheet.taken, sheet.left.len()),
-            Kind::Passed { number: _, by } => Became::Passed(*by),
-        })?;
+        all.push(what_one_became(entry)).expect(rt, "memory");
     }
-    Ok(all)
+    all
 }
 
 #[test]
-fn same_entries_by_each_crew(rt: HostRuntime) -> Result<(), Fail> {
+fn same_entries_by_each_crew(rt: HostRuntime) {
     let alloc = rt.alloc();
-    let instance = with_a_gap(alloc)?;
-    let round = second_round(alloc, &instance)?;
+    let instance = with_a_gap(alloc).expect(&rt, "an instance");
+    let round = second_round(&rt, alloc, &instance);
     let sheets = [Became::Searched(16, 3, 1), Became::Searched(16, 3, 2)];
-    let alone = Alone.search(&rt, alloc, &round)?;
-    assert_eq!(rt; what_became(alloc, &alone)?.as_slice(), sheets.as_slice());
+    let alone = Alone.search(&rt, alloc, &round).expect(&rt, "memory");
+    assert_eq!(rt;
+        what_became(&rt, alloc, &alone).as_slice(),
+        sheets.as_slice()
+    );
     for workers in [1, 2, 64] {
-        let lock = LockCrew::new(workers, OpenGate).ok_or("1 to 64 workers")?;
-        let entries = lock.search_round(&rt, alloc, &round)?;
-        assert_eq!(rt; what_became(alloc, &entries)?.as_slice(), sheets.as_slice());
-        let board = BoardCrew::new(workers, OpenGate).ok_or("1 to 64 workers")?;
-        let entries = board.search_round(&rt, alloc, &round)?;
-        assert_eq!(rt; what_became(alloc, &entries)?.as_slice(), sheets.as_slice());
+        let lock = LockCrew::new(workers, OpenGate).expect(&rt, "1 to 64 workers");
+        let entries = lock.search_round(&rt, alloc, &round).expect(&rt, "memory");
+        assert_eq!(rt;
+            what_became(&rt, alloc, &entries).as_slice(),
+            sheets.as_slice()
+        );
+        let board = BoardCrew::new(workers, OpenGate).expect(&rt, "1 to 64 workers");
+        let entries = board.search_round(&rt, alloc, &round).expect(&rt, "memory");
+        assert_eq!(rt;
+            what_became(&rt, alloc, &entries).as_slice(),
+            sheets.as_slice()
+        );
     }
-    Ok(())
 }
 
 fn assert_closed(rt: &impl Abort, standing: &Standing) {
@@ -345,47 +353,54 @@ fn all_searched<'r>(alloc: Global, round: &'r Round<'r>) -> Result<Vec<Entry<'r>
 }
 
 #[test]
-fn entries_after_a_hit_do_not_count(rt: HostRuntime) -> Result<(), Fail> {
+fn entries_after_a_hit_do_not_count(rt: HostRuntime) {
     let alloc = rt.alloc();
-    let instance = with_a_gap(alloc)?;
-    let round = third_round(alloc, &instance)?;
-    let passed = Alone.search(&rt, alloc, &round)?;
-    let searched = all_searched(alloc, &round)?;
+    let instance = with_a_gap(alloc).expect(&rt, "an instance");
+    let round = third_round(&rt, alloc, &instance);
+    let passed = Alone.search(&rt, alloc, &round).expect(&rt, "memory");
+    let searched = all_searched(alloc, &round).expect(&rt, "memory");
     let sheets = [
         Became::Searched(10, 1, 0),
         Became::Searched(12, 2, 0),
         Became::Searched(14, 2, 0),
     ];
     assert_eq!(rt;
-        what_became(alloc, &searched)?.as_slice(),
+        what_became(&rt, alloc, &searched).as_slice(),
         sheets.as_slice()
     );
-    assert_closed(&rt, &gather(alloc, &round, passed)?);
-    assert_closed(&rt, &gather(alloc, &round, searched)?);
-    Ok(())
+    assert_closed(&rt, &gather(alloc, &round, passed).expect(&rt, "memory"));
+    assert_closed(&rt, &gather(alloc, &round, searched).expect(&rt, "memory"));
 }
 
 // One worker keeps what it searched, and passes what stands behind a piece that ends at the opening bound. Its gate
 // hears of the piece that is searched, and of no other.
 #[test]
-fn one_worker_passes_what_stands_behind_a_hit(rt: HostRuntime) -> Result<(), Fail> {
+fn one_worker_passes_what_stands_behind_a_hit(rt: HostRuntime) {
     let alloc = rt.alloc();
-    let instance = with_a_gap(alloc)?;
-    let round = third_round(alloc, &instance)?;
+    let instance = with_a_gap(alloc).expect(&rt, "an instance");
+    let round = third_round(&rt, alloc, &instance);
     let kinds = [
         Became::Searched(10, 1, 0),
         Became::Passed(0),
         Became::Passed(0),
     ];
-    let alone = Alone.search(&rt, alloc, &round)?;
-    assert_eq!(rt; what_became(alloc, &alone)?.as_slice(), kinds.as_slice());
-    let lock = LockCrew::new(1, Tally::new()).ok_or("1 to 64 workers")?;
-    let by_lock = lock.search_round(&rt, alloc, &round)?;
-    assert_eq!(rt; what_became(alloc, &by_lock)?.as_slice(), kinds.as_slice());
+    let alone = Alone.search(&rt, alloc, &round).expect(&rt, "memory");
+    assert_eq!(rt;
+        what_became(&rt, alloc, &alone).as_slice(),
+        kinds.as_slice()
+    );
+    let lock = LockCrew::new(1, Tally::new()).expect(&rt, "1 to 64 workers");
+    let by_lock = lock.search_round(&rt, alloc, &round).expect(&rt, "memory");
+    assert_eq!(rt;
+        what_became(&rt, alloc, &by_lock).as_slice(),
+        kinds.as_slice()
+    );
     assert_eq!(rt; lock.gate().counts(), (1, 0));
-    let board = BoardCrew::new(1, Tally::new()).ok_or("1 to 64 workers")?;
-    let by_board = board.search_round(&rt, alloc, &round)?;
-    assert_eq!(rt; what_became(alloc, &by_board)?.as_slice(), kinds.as_slice());
+    let board = BoardCrew::new(1, Tally::new()).expect(&rt, "1 to 64 workers");
+    let by_board = board.search_round(&rt, alloc, &round).expect(&rt, "memory");
+    assert_eq!(rt;
+        what_became(&rt, alloc, &by_board).as_slice(),
+        kinds.as_slice()
+    );
     assert_eq!(rt; board.gate().counts(), (1, 0));
-    Ok(())
 }

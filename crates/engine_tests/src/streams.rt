@@ -2,7 +2,6 @@
 use shop_engine::{Fault, Format, ListArgs, Memory, Reading, Writing, list_text, write_all};
 use std::io;
 use std::io::{ErrorKind, Read, Write};
-use std::test::Fail;
 
 const TEXT: &[u8] = b"2 2\n0 3 1 2\n1 2 0 4\n";
 
@@ -63,14 +62,14 @@ impl Write for FailingWriter {
 }
 
 #[test]
-fn failed_reads_are_not_tried_again(rt: HostRuntime) -> Result<(), Fail> {
+fn failed_reads_are_not_tried_again(rt: HostRuntime) {
     for k in 1..23 {
         let mut reader = FailingReader {
             left: TEXT,
             calls: 0,
             fails_at: k,
         };
-        let mut sink = Memory::with_room(rt.alloc(), 64)?;
+        let mut sink = Memory::with_room(rt.alloc(), 64).expect(&rt, "memory");
         let answer = list_text(
             rt.alloc(),
             &mut Reading::new(&mut reader),
@@ -86,11 +85,10 @@ fn failed_reads_are_not_tried_again(rt: HostRuntime) -> Result<(), Fail> {
         assert_eq!(rt; sink.bytes(), listed, "at call {k}");
         assert_eq!(rt; reader.calls, k.min(21));
     }
-    Ok(())
 }
 
 #[test]
-fn failed_writes_are_not_tried_again(rt: HostRuntime) -> Result<(), Fail> {
+fn failed_writes_are_not_tried_again(rt: HostRuntime) {
     for k in 1..8 {
         let mut writer = FailingWriter {
             held: Vec::new(rt.alloc()),
@@ -109,20 +107,19 @@ fn failed_writes_are_not_tried_again(rt: HostRuntime) -> Result<(), Fail> {
         assert_eq!(rt; writer.held.as_slice(), &LISTED[..taken], "at call {k}");
         assert_eq!(rt; writer.calls, k.min(6));
     }
-    Ok(())
 }
 
 #[test]
-fn long_texts_go_out_in_one_call(rt: HostRuntime) -> Result<(), Fail> {
-    let text = vec![in rt.alloc(); b'x'; 100_000]?;
+fn long_texts_go_out_in_one_call(rt: HostRuntime) {
+    let text = vec![in rt.alloc(); b'x'; 100_000].expect(&rt, "memory");
     let mut writer = FailingWriter {
         held: Vec::new(rt.alloc()),
         most: 100_000,
         calls: 0,
         fails_at: 0,
     };
-    write_all(&mut Writing::new(&mut writer), text.as_slice())?;
+    let answer = write_all(&mut Writing::new(&mut writer), text.as_slice());
+    assert_eq!(rt; answer, Ok(()));
     assert_eq!(rt; writer.held.as_slice(), text.as_slice());
     assert_eq!(rt; writer.calls, 1);
-    Ok(())
 }

@@ -1,10 +1,11 @@
 // Heads, tails, bounds and desks of worked instances.
-ghost use Rattle.std.specs.Prelude.{◌≡◌};
+ghost use Rattle.std.specs.Prelude.{◌≡◌, ◌++◌, ◌∷◌, [], IsTrue};
+ghost use Rattle.shop_model.specs.Word.{IsWord};
 
 use shop_bound::{Desk, Heads, Jackson, Placement, Triple, lower_bound, one_machine, tails};
-use shop_model::{Instance, Job, Word, fits, start_word};
+use shop_model::{Instance, Job, Op, Word, fits, start_word};
 use std::alloc::{AllocError, Global};
-use std::test::Fail;
+use std::process::Abort;
 use worked_instances::{crossing, of_jobs, of_rows, op, released, with_a_gap};
 
 fn triple(head: u64, time: u64, tail: u64) -> Triple
@@ -13,38 +14,40 @@ fn triple(head: u64, time: u64, tail: u64) -> Triple
     Triple { head, time, tail }
 }
 
-/// Fisher and Thompson's 6 jobs on 6 machines.
-fn ft06(alloc: Global) -> Result<Instance, Fail> {
-    let rows = vec![in alloc;
-        vec![in alloc; op(2, 1), op(0, 3), op(1, 6), op(3, 7), op(5, 3), op(4, 6)]?,
-        vec![in alloc;
-            op(1, 8),
-            op(2, 5),
-            op(4, 10),
-            op(5, 10),
-            op(0, 10),
-            op(3, 4)
-        ]?,
-        vec![in alloc; op(2, 5), op(3, 4), op(5, 8), op(0, 9), op(1, 1), op(4, 7)]?,
-        vec![in alloc; op(1, 5), op(0, 5), op(2, 5), op(3, 3), op(4, 8), op(5, 9)]?,
-        vec![in alloc; op(2, 9), op(1, 3), op(4, 5), op(5, 4), op(0, 3), op(3, 1)]?,
-        vec![in alloc; op(1, 3), op(3, 3), op(5, 9), op(0, 10), op(4, 4), op(2, 1)]?,
-    ]?;
-    of_rows(6, rows)
+/// Fisher and Thompson's 6 jobs on 6 machines: the machine and the time of each operation.
+const FT06: [[(usize, u64); 6]; 6] = [
+    [(2, 1), (0, 3), (1, 6), (3, 7), (5, 3), (4, 6)],
+    [(1, 8), (2, 5), (4, 10), (5, 10), (0, 10), (3, 4)],
+    [(2, 5), (3, 4), (5, 8), (0, 9), (1, 1), (4, 7)],
+    [(1, 5), (0, 5), (2, 5), (3, 3), (4, 8), (5, 9)],
+    [(2, 9), (1, 3), (4, 5), (5, 4), (0, 3), (3, 1)],
+    [(1, 3), (3, 3), (5, 9), (0, 10), (4, 4), (2, 1)],
+];
+
+fn ft06_rows(alloc: Global) -> Result<Vec<Vec<Op>>, AllocError> {
+    let mut rows = Vec::with_capacity(alloc, 6)?;
+    for row in FT06 {
+        let mut route = Vec::with_capacity(alloc, 6)?;
+        for (machine, time) in row {
+            route.push(op(machine, time))?;
+        }
+        rows.push(route)?;
+    }
+    Ok(rows)
 }
 
 /// The bound of the word of these jobs, if they are a word.
-fn bound(alloc: Global, instance: &Instance, jobs: &[usize]) -> Result<Option<u64>, AllocError> {
-    let word = Word::of_jobs(jobs.to_vec(alloc)?);
+fn bound(rt: &impl Abort, alloc: Global, instance: &Instance, jobs: &[usize]) -> Option<u64> {
+    let word = Word::of_jobs(jobs.to_vec(alloc).expect(rt, "memory"));
     if !fits(instance, &word) {
-        return Ok(None);
+        return None;
     }
-    Ok(Some(lower_bound(alloc, instance, &word)?))
+    Some(lower_bound(alloc, instance, &word).expect(rt, "memory"))
 }
 
 #[test]
-fn jackson_turn_by_turn(rt: HostRuntime) -> Result<(), Fail> {
-    let mut jackson = Jackson::with_room(rt.alloc(), 2)?;
+fn jackson_turn_by_turn(rt: HostRuntime) {
+    let mut jackson = Jackson::with_room(rt.alloc(), 2).expect(&rt, "memory");
     assert_eq!(rt; jackson.turns(), 0);
     assert_eq!(rt; jackson.bound(&[]), 0);
     assert_eq!(rt; jackson.turns(), 0);
@@ -57,12 +60,11 @@ fn jackson_turn_by_turn(rt: HostRuntime) -> Result<(), Fail> {
     assert_eq!(rt; jackson.bound(&idle), 25);
     assert_eq!(rt; jackson.turns(), 2);
     assert_eq!(rt; one_machine(&idle), 25);
-    Ok(())
 }
 
 #[test]
-fn jackson_at_releases_and_times_of_0(rt: HostRuntime) -> Result<(), Fail> {
-    let mut jackson = Jackson::with_room(rt.alloc(), 2)?;
+fn jackson_at_releases_and_times_of_0(rt: HostRuntime) {
+    let mut jackson = Jackson::with_room(rt.alloc(), 2).expect(&rt, "memory");
     let later = [triple(0, 4, 1), triple(2, 2, 5)];
     assert_eq!(rt; jackson.bound(&later), 9);
     assert_eq!(rt; jackson.turns(), 3);
@@ -75,7 +77,6 @@ fn jackson_at_releases_and_times_of_0(rt: HostRuntime) -> Result<(), Fail> {
     assert_eq!(rt; jackson.bound(&alone), 10);
     assert_eq!(rt; jackson.turns(), 1);
     assert_eq!(rt; one_machine(&alone), 10);
-    Ok(())
 }
 
 #[test]
@@ -92,12 +93,12 @@ fn thresholds_on_a_machine_of_ft06(rt: HostRuntime) {
 }
 
 #[test]
-fn heads_and_tails_of_two_jobs_that_cross(rt: HostRuntime) -> Result<(), Fail> {
+fn heads_and_tails_of_two_jobs_that_cross(rt: HostRuntime) {
     let alloc = rt.alloc();
-    let instance = crossing(alloc)?;
-    let word = Word::of_jobs(vec![in alloc; 1]?);
+    let instance = crossing(alloc).expect(&rt, "an instance");
+    let word = Word::of_jobs(vec![in alloc; 1].expect(&rt, "memory"));
     if fits(&instance, &word) {
-        let heads = Heads::of(alloc, &instance, &word)?;
+        let heads = Heads::of(alloc, &instance, &word).expect(&rt, "memory");
         assert_eq!(rt; heads.head(0, 0), Some(0));
         assert_eq!(rt; heads.head(0, 1), Some(3));
         assert_eq!(rt; heads.head(1, 0), None);
@@ -107,185 +108,212 @@ fn heads_and_tails_of_two_jobs_that_cross(rt: HostRuntime) -> Result<(), Fail> {
     } else {
         assert!(rt; false, "job 1 has a step");
     }
-    let rows = tails(alloc, &instance)?;
+    let rows = tails(alloc, &instance).expect(&rt, "memory");
     assert_eq!(rt; rows.len(), 2);
     assert_eq!(rt; rows[0].as_slice(), [2, 0].as_slice());
     assert_eq!(rt; rows[1].as_slice(), [4, 0].as_slice());
-    Ok(())
 }
 
 #[test]
-fn what_a_word_leaves(rt: HostRuntime) -> Result<(), Fail> {
+fn what_a_word_leaves(rt: HostRuntime) {
     let alloc = rt.alloc();
-    let instance = released(alloc)?;
-    let word = Word::of_jobs(vec![in alloc; 1]?);
+    let instance = released(alloc).expect(&rt, "an instance");
+    let word = Word::of_jobs(vec![in alloc; 1].expect(&rt, "memory"));
     if !fits(&instance, &word) {
         assert!(rt; false, "job 1 has a step");
-        return Ok(());
+        return;
     }
-    let placement = Placement::of(alloc, &instance, &word)?;
+    let placement = Placement::of(alloc, &instance, &word).expect(&rt, "memory");
     assert_eq!(rt; placement.machines_free(), [0, 6].as_slice());
     assert!(rt; instance.jobs() == 3);
     assert_eq!(rt; placement.steps(1), 1);
     assert_eq!(rt; placement.ready(0), 0);
     assert_eq!(rt; placement.ready(1), 6);
     assert_eq!(rt; placement.ready(2), 7);
-    Ok(())
 }
 
 #[test]
-fn bounds_of_words(rt: HostRuntime) -> Result<(), Fail> {
+fn bounds_of_words(rt: HostRuntime) {
     let alloc = rt.alloc();
-    let crossing = crossing(alloc)?;
-    assert_eq!(rt; bound(alloc, &crossing, &[])?, Some(7));
-    assert_eq!(rt; bound(alloc, &crossing, &[1])?, Some(7));
-    assert_eq!(rt; bound(alloc, &crossing, &[1, 1])?, Some(11));
-    assert_eq!(rt; bound(alloc, &crossing, &[1, 0, 0])?, Some(7));
-    let gap = with_a_gap(alloc)?;
-    assert_eq!(rt; bound(alloc, &gap, &[])?, Some(9));
-    assert_eq!(rt; bound(alloc, &gap, &[1, 1])?, Some(10));
-    assert_eq!(rt; bound(alloc, &gap, &[1, 0])?, Some(12));
-    let release = released(alloc)?;
-    assert_eq!(rt; bound(alloc, &release, &[])?, Some(10));
-    assert_eq!(rt; bound(alloc, &release, &[0, 0, 1, 1])?, Some(11));
-    Ok(())
+    let crossing = crossing(alloc).expect(&rt, "an instance");
+    assert_eq!(rt; bound(&rt, alloc, &crossing, &[]), Some(7));
+    assert_eq!(rt; bound(&rt, alloc, &crossing, &[1]), Some(7));
+    assert_eq!(rt; bound(&rt, alloc, &crossing, &[1, 1]), Some(11));
+    assert_eq!(rt; bound(&rt, alloc, &crossing, &[1, 0, 0]), Some(7));
+    let gap = with_a_gap(alloc).expect(&rt, "an instance");
+    assert_eq!(rt; bound(&rt, alloc, &gap, &[]), Some(9));
+    assert_eq!(rt; bound(&rt, alloc, &gap, &[1, 1]), Some(10));
+    assert_eq!(rt; bound(&rt, alloc, &gap, &[1, 0]), Some(12));
+    let release = released(alloc).expect(&rt, "an instance");
+    assert_eq!(rt; bound(&rt, alloc, &release, &[]), Some(10));
+    assert_eq!(rt; bound(&rt, alloc, &release, &[0, 0, 1, 1]), Some(11));
 }
 
 #[test]
-fn ft06_before_and_after_its_start_word(rt: HostRuntime) -> Result<(), Fail> {
+fn ft06_before_and_after_its_start_word(rt: HostRuntime) {
     let alloc = rt.alloc();
-    let instance = ft06(alloc)?;
-    assert_eq!(rt; bound(alloc, &instance, &[])?, Some(52));
-    let start = start_word(alloc, &instance)?;
-    assert_eq!(rt; bound(alloc, &instance, start.jobs())?, Some(152));
-    Ok(())
+    let rows = ft06_rows(alloc).expect(&rt, "memory");
+    let instance = of_rows(6, rows).expect(&rt, "an instance");
+    assert_eq!(rt; bound(&rt, alloc, &instance, &[]), Some(52));
+    let start = start_word(alloc, &instance).expect(&rt, "memory");
+    assert_eq!(rt; bound(&rt, alloc, &instance, start.jobs()), Some(152));
 }
 
-#[test]
-fn a_thousand_operations_on_one_machine(rt: HostRuntime) -> Result<(), Fail> {
-    let alloc = rt.alloc();
-    let mut rows = Vec::with_capacity(alloc, 1000)?;
-    for _ in 0..1000 {
+/// Rows of one operation each, all of one machine and of the greatest time.
+fn long_rows(alloc: Global, count: usize) -> Result<Vec<Vec<Op>>, AllocError> {
+    let mut rows = Vec::with_capacity(alloc, count)?;
+    for _ in 0..count {
         rows.push(vec![in alloc; op(0, 1_000_000_000)]?)?;
     }
-    let instance = of_rows(1, rows)?;
-    assert_eq!(rt; bound(alloc, &instance, &[])?, Some(1_000_000_000_000));
-    Ok(())
+    Ok(rows)
 }
 
 #[test]
-fn a_thousand_jobs_that_visit_one_machine_a_hundred_times(rt: HostRuntime) -> Result<(), Fail> {
+fn a_thousand_operations_on_one_machine(rt: HostRuntime) {
     let alloc = rt.alloc();
-    let mut jobs = Vec::with_capacity(alloc, 1000)?;
-    for _ in 0..1000 {
-        let mut route = Vec::with_capacity(alloc, 100)?;
-        for _ in 0..100 {
-            route.push(op(0, 7))?;
-        }
+    let rows = long_rows(alloc, 1000).expect(&rt, "memory");
+    let instance = of_rows(1, rows).expect(&rt, "an instance");
+    assert_eq!(rt; bound(&rt, alloc, &instance, &[]), Some(1_000_000_000_000));
+}
+
+/// A hundred operations of time 7 on one machine.
+fn long_route(alloc: Global) -> Result<Vec<Op>, AllocError> {
+    let mut route = Vec::with_capacity(alloc, 100)?;
+    for _ in 0..100 {
+        route.push(op(0, 7))?;
+    }
+    Ok(route)
+}
+
+/// As many jobs of such routes.
+fn long_routes(alloc: Global, count: usize) -> Result<Vec<Job>, AllocError> {
+    let mut jobs = Vec::with_capacity(alloc, count)?;
+    for _ in 0..count {
+        let route = long_route(alloc)?;
         jobs.push(Job { release: 0, route })?;
     }
+    Ok(jobs)
+}
+
+#[test]
+fn a_thousand_jobs_that_visit_one_machine_a_hundred_times(rt: HostRuntime) {
+    let alloc = rt.alloc();
     // The machine is never idle, and the last of its 100,000 operations is the last of a job.
-    let instance = of_jobs(1, jobs)?;
-    assert_eq!(rt; bound(alloc, &instance, &[])?, Some(700_000));
-    Ok(())
+    let jobs = long_routes(alloc, 1000).expect(&rt, "memory");
+    let instance = of_jobs(1, jobs).expect(&rt, "an instance");
+    assert_eq!(rt; bound(&rt, alloc, &instance, &[]), Some(700_000));
 }
 
 /// A long operation on machine 0, and jobs i = 1 to 999, released at 2 i, of time 1 on machine 0 and then on machine 1.
-fn staggered(alloc: Global, long: u64) -> Result<Instance, Fail> {
+fn staggered(alloc: Global, long: u64) -> Option<Instance> {
+    of_jobs(2, staggered_jobs(alloc, long).ok()?)
+}
+
+fn staggered_jobs(alloc: Global, long: u64) -> Result<Vec<Job>, AllocError> {
     let mut jobs = Vec::with_capacity(alloc, 1000)?;
+    let first = vec![in alloc; op(0, long)]?;
     jobs.push(Job {
         release: 0,
-        route: vec![in alloc; op(0, long)]?,
+        route: first,
     })?;
     for i in 1..1000 {
+        let route = vec![in alloc; op(0, 1), op(1, 1)]?;
         jobs.push(Job {
             release: 2 * i,
-            route: vec![in alloc; op(0, 1), op(1, 1)]?,
+            route,
         })?;
     }
-    of_jobs(2, jobs)
+    Ok(jobs)
 }
 
 #[test]
-fn a_thousand_jobs_one_after_another(rt: HostRuntime) -> Result<(), Fail> {
+fn a_thousand_jobs_one_after_another(rt: HostRuntime) {
     let alloc = rt.alloc();
     // From job i on, on either machine: 2 i + (1000 - i) + 1, at most 2000. With the long one: its time + 999 at most.
-    let short = staggered(alloc, 1000)?;
-    assert_eq!(rt; bound(alloc, &short, &[])?, Some(2000));
-    let instance = staggered(alloc, 1500)?;
-    assert_eq!(rt; bound(alloc, &instance, &[])?, Some(2499));
+    let short = staggered(alloc, 1000).expect(&rt, "an instance");
+    assert_eq!(rt; bound(&rt, alloc, &short, &[]), Some(2000));
+    let instance = staggered(alloc, 1500).expect(&rt, "an instance");
+    assert_eq!(rt; bound(&rt, alloc, &instance, &[]), Some(2499));
     // With the long one placed no head is below 1500, and all that is left of machine 0 has a tail of 1.
-    assert_eq!(rt; bound(alloc, &instance, &[0])?, Some(2500));
-    let mut desk = Desk::new(alloc, &instance)?;
+    assert_eq!(rt; bound(&rt, alloc, &instance, &[0]), Some(2500));
+    let mut desk = Desk::new(alloc, &instance).expect(&rt, "memory");
     assert_eq!(rt; desk.bound(), 2499);
-    assert_eq!(rt; bound_after(alloc, &instance, &mut desk, 0)?, Some(2500));
-    assert_eq!(rt; bound_below(alloc, &instance, &mut desk, 0, 2500)?, None);
-    assert!(rt; dispatch(alloc, &instance, &mut desk, 0)?);
+    assert_eq!(rt;
+        bound_after(&rt, alloc, &instance, &mut desk, 0),
+        Some(2500)
+    );
+    assert_eq!(rt;
+        bound_below(&rt, alloc, &instance, &mut desk, 0, 2500),
+        None
+    );
+    assert!(rt; dispatch(&rt, alloc, &instance, &mut desk, 0));
     assert_eq!(rt; desk.bound(), 2500);
     undo(&mut desk);
     assert_eq!(rt; desk.bound(), 2499);
-    Ok(())
+}
+
+/// Whether a job has an operation left after what is dispatched.
+fn has_next(rt: &impl Abort, alloc: Global, instance: &Instance, desk: &Desk, job: usize) -> bool
+    ensures { IsTrue result → IsWord instance.now (desk.now.word ++ job ∷ []) }
+{
+    let mut jobs = desk.jobs().to_vec(alloc).expect(rt, "memory");
+    jobs.push(job).expect(rt, "memory");
+    fits(instance, &Word::of_jobs(jobs))
 }
 
 /// Dispatches the next operation of a job; whether it had one left.
 fn dispatch(
+    rt: &impl Abort,
     alloc: Global,
     instance: &Instance,
     desk: &mut Desk,
     job: usize,
-) -> Result<bool, AllocError>
+) -> bool
     requires { desk.old.shop ≡ instance.now }
-    ensures { desk.new.shop ≡ instance.now }
+    ensures { desk.new.shop ≡ desk.old.shop }
 {
-    let mut jobs = desk.jobs().to_vec(alloc)?;
-    jobs.push(job)?;
-    let word = Word::of_jobs(jobs);
-    let has_one = fits(instance, &word);
-    if has_one {
-        desk.dispatch(job);
+    if !has_next(rt, alloc, instance, desk, job) {
+        return false;
     }
-    Ok(has_one)
+    desk.dispatch(job);
+    true
 }
 
 /// The bound after the next operation of a job, if it has one left.
 fn bound_after(
+    rt: &impl Abort,
     alloc: Global,
     instance: &Instance,
     desk: &mut Desk,
     job: usize,
-) -> Result<Option<u64>, AllocError>
+) -> Option<u64>
     requires { desk.old.shop ≡ instance.now }
-    ensures { desk.new.shop ≡ instance.now }
+    ensures { desk.new ≡ desk.old }
 {
-    let mut jobs = desk.jobs().to_vec(alloc)?;
-    jobs.push(job)?;
-    let word = Word::of_jobs(jobs);
-    if !fits(instance, &word) {
-        return Ok(None);
+    if !has_next(rt, alloc, instance, desk, job) {
+        return None;
     }
     let bound = desk.bound();
-    Ok(Some(desk.bound_after(job, bound)))
+    Some(desk.bound_after(job, bound))
 }
 
 /// The same, if it is below the limit.
 fn bound_below(
+    rt: &impl Abort,
     alloc: Global,
     instance: &Instance,
     desk: &mut Desk,
     job: usize,
     limit: u64,
-) -> Result<Option<u64>, AllocError>
+) -> Option<u64>
     requires { desk.old.shop ≡ instance.now }
-    ensures { desk.new.shop ≡ instance.now }
+    ensures { desk.new ≡ desk.old }
 {
-    let mut jobs = desk.jobs().to_vec(alloc)?;
-    jobs.push(job)?;
-    let word = Word::of_jobs(jobs);
-    if !fits(instance, &word) {
-        return Ok(None);
+    if !has_next(rt, alloc, instance, desk, job) {
+        return None;
     }
     let bound = desk.bound();
-    Ok(desk.bound_below(job, bound, limit))
+    desk.bound_below(job, bound, limit)
 }
 
 /// Takes back what was dispatched last, if anything was.
@@ -298,50 +326,51 @@ fn undo(desk: &mut Desk)
 }
 
 #[test]
-fn a_desk_of_two_jobs_that_cross(rt: HostRuntime) -> Result<(), Fail> {
+fn a_desk_of_two_jobs_that_cross(rt: HostRuntime) {
     let alloc = rt.alloc();
-    let instance = crossing(alloc)?;
-    let mut desk = Desk::new(alloc, &instance)?;
+    let instance = crossing(alloc).expect(&rt, "an instance");
+    let mut desk = Desk::new(alloc, &instance).expect(&rt, "memory");
     assert_eq!(rt; desk.bound(), 7);
-    assert_eq!(rt; bound_after(alloc, &instance, &mut desk, 1)?, Some(7));
-    assert!(rt; dispatch(alloc, &instance, &mut desk, 1)?);
+    assert_eq!(rt; bound_after(&rt, alloc, &instance, &mut desk, 1), Some(7));
+    assert!(rt; dispatch(&rt, alloc, &instance, &mut desk, 1));
     assert_eq!(rt; desk.bound(), 7);
-    assert_eq!(rt; bound_after(alloc, &instance, &mut desk, 1)?, Some(11));
-    assert_eq!(rt; bound_below(alloc, &instance, &mut desk, 1, 12)?, Some(11));
-    assert_eq!(rt; bound_below(alloc, &instance, &mut desk, 1, 11)?, None);
-    assert_eq!(rt; bound_after(alloc, &instance, &mut desk, 0)?, Some(7));
-    assert!(rt; dispatch(alloc, &instance, &mut desk, 1)?);
+    assert_eq!(rt; bound_after(&rt, alloc, &instance, &mut desk, 1), Some(11));
+    assert_eq!(rt;
+        bound_below(&rt, alloc, &instance, &mut desk, 1, 12),
+        Some(11)
+    );
+    assert_eq!(rt; bound_below(&rt, alloc, &instance, &mut desk, 1, 11), None);
+    assert_eq!(rt; bound_after(&rt, alloc, &instance, &mut desk, 0), Some(7));
+    assert!(rt; dispatch(&rt, alloc, &instance, &mut desk, 1));
     assert_eq!(rt; desk.bound(), 11);
     assert_eq!(rt; desk.jobs(), [1, 1].as_slice());
-    assert_eq!(rt; bound_after(alloc, &instance, &mut desk, 1)?, None);
+    assert_eq!(rt; bound_after(&rt, alloc, &instance, &mut desk, 1), None);
     undo(&mut desk);
     assert_eq!(rt; desk.bound(), 7);
-    assert!(rt; dispatch(alloc, &instance, &mut desk, 0)?);
+    assert!(rt; dispatch(&rt, alloc, &instance, &mut desk, 0));
     assert_eq!(rt; desk.bound(), 7);
     assert_eq!(rt; desk.jobs(), [1, 0].as_slice());
     assert_eq!(rt; desk.placement().machines_free(), [3, 2].as_slice());
-    Ok(())
 }
 
 #[test]
-fn a_desk_of_a_route_that_ends_in_a_time_of_0(rt: HostRuntime) -> Result<(), Fail> {
+fn a_desk_of_a_route_that_ends_in_a_time_of_0(rt: HostRuntime) {
     let alloc = rt.alloc();
-    let instance = with_a_gap(alloc)?;
-    let mut desk = Desk::new(alloc, &instance)?;
+    let instance = with_a_gap(alloc).expect(&rt, "an instance");
+    let mut desk = Desk::new(alloc, &instance).expect(&rt, "memory");
     assert_eq!(rt; desk.bound(), 9);
-    assert!(rt; dispatch(alloc, &instance, &mut desk, 1)?);
+    assert!(rt; dispatch(&rt, alloc, &instance, &mut desk, 1));
     assert_eq!(rt; desk.bound(), 9);
-    assert_eq!(rt; bound_after(alloc, &instance, &mut desk, 1)?, Some(10));
-    assert!(rt; dispatch(alloc, &instance, &mut desk, 1)?);
+    assert_eq!(rt; bound_after(&rt, alloc, &instance, &mut desk, 1), Some(10));
+    assert!(rt; dispatch(&rt, alloc, &instance, &mut desk, 1));
     assert_eq!(rt; desk.bound(), 10);
     undo(&mut desk);
     assert_eq!(rt; desk.bound(), 9);
-    assert_eq!(rt; bound_after(alloc, &instance, &mut desk, 0)?, Some(12));
-    assert!(rt; dispatch(alloc, &instance, &mut desk, 0)?);
+    assert_eq!(rt; bound_after(&rt, alloc, &instance, &mut desk, 0), Some(12));
+    assert!(rt; dispatch(&rt, alloc, &instance, &mut desk, 0));
     assert_eq!(rt; desk.bound(), 12);
     undo(&mut desk);
     undo(&mut desk);
     assert_eq!(rt; desk.bound(), 9);
     assert_eq!(rt; desk.jobs().len(), 0);
-    Ok(())
 }

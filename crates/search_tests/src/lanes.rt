@@ -5,7 +5,6 @@ ghost use Rattle.shop_lanes.specs.Vectors.{two_blocks};
 use shop_lanes::{Lanes, Narrow, Plain, Wide};
 use std::alloc::{AllocError, Global};
 use std::process::Abort;
-use std::test::Fail;
 
 const TIMES: [u64; 16] = [4, 2, 3, 0, 0, 0, 0, 0, 0, 7, 0, 0, 0, 0, 0, 1];
 
@@ -56,13 +55,12 @@ fn assert_two_blocks<L: Lanes>(rt: &impl Abort, rows: &L)
 }
 
 #[test]
-fn two_blocks_by_each_width(rt: HostRuntime) -> Result<(), Fail> {
+fn two_blocks_by_each_width(rt: HostRuntime) {
     let alloc = rt.alloc();
-    let narrow: Narrow = two_blocks(alloc)?;
+    let narrow: Narrow = two_blocks(alloc).expect(&rt, "memory");
     assert_two_blocks(&rt, &narrow);
-    let wide: Wide = two_blocks(alloc)?;
+    let wide: Wide = two_blocks(alloc).expect(&rt, "memory");
     assert_two_blocks(&rt, &wide);
-    let plain: Plain = two_blocks(alloc)?;
+    let plain: Plain = two_blocks(alloc).expect(&rt, "memory");
     assert_two_blocks(&rt, &plain);
-    Ok(())
 }

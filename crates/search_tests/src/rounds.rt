@@ -1,12 +1,10 @@
 // Worked instances and plans, and each public call of rounds and runs once.
-ghost use Rattle.std.specs.Prelude.{IfOk};
 ghost use Rattle.shop_round.specs.Runs.{IsStandingOf};
 
 use shop_model::Instance;
 use shop_round::{Alone, Answer, Crew, Order, Plan, Round, Standing, gather, run_alone};
 use std::alloc::Global;
 use std::process::Abort;
-use std::test::Fail;
 use worked_instances::{crossing, of_rows, op, released, with_a_gap, with_two_orders, with_zeros};
 
 /// The answer's makespan, bound, open nodes, rounds and nodes.
@@ -26,21 +24,20 @@ fn assert_answer(
     plan: Option<Plan>,
     numbers: [u64; 5],
     rows: &[&[u64]],
-) -> Result<(), Fail> {
-    let answer = run_alone(alloc, instance, &plan.ok_or("plan")?)?;
+) {
+    let answer = run_alone(alloc, instance, &plan.expect(rt, "plan")).expect(rt, "memory");
     assert_numbers(rt, &answer, numbers);
     assert_eq!(rt; answer.table.len(), rows.len());
     for (j, row) in rows.iter().enumerate() {
         assert!(rt; j < answer.table.len());
         assert_eq!(rt; answer.table.row(j), *row);
     }
-    Ok(())
 }
 
 #[test]
-fn two_jobs_that_cross(rt: HostRuntime) -> Result<(), Fail> {
+fn two_jobs_that_cross(rt: HostRuntime) {
     let alloc = rt.alloc();
-    let instance = crossing(alloc)?;
+    let instance = crossing(alloc).expect(&rt, "an instance");
     let start: [&[u64]; 2] = [&[0, 3], &[5, 7]];
     let least: [&[u64]; 2] = [&[0, 3], &[0, 3]];
     for (rounds, budget, numbers, rows) in [
@@ -50,15 +47,14 @@ fn two_jobs_that_cross(rt: HostRuntime) -> Result<(), Fail> {
         (1, 1, [11, 7, 1, 1, 1], start),
     ] {
         let plan = Plan::new(rounds, budget, 1);
-        assert_answer(&rt, alloc, &instance, plan, numbers, &rows)?;
+        assert_answer(&rt, alloc, &instance, plan, numbers, &rows);
     }
-    Ok(())
 }
 
 #[test]
-fn operations_that_take_no_time(rt: HostRuntime) -> Result<(), Fail> {
+fn operations_that_take_no_time(rt: HostRuntime) {
     let alloc = rt.alloc();
-    let instance = with_zeros(alloc)?;
+    let instance = with_zeros(alloc).expect(&rt, "an instance");
     let plan = Plan::new(1, 100, 1);
     assert_answer(
         &rt,
@@ -67,13 +63,13 @@ fn operations_that_take_no_time(rt: HostRuntime) -> Result<(), Fail> {
         plan,
         [5, 5, 0, 1, 8],
         &[&[0, 4, 5], &[0, 0, 5]],
-    )
+    );
 }
 
 #[test]
-fn optimum_above_the_first_bound(rt: HostRuntime) -> Result<(), Fail> {
+fn optimum_above_the_first_bound(rt: HostRuntime) {
     let alloc = rt.alloc();
-    let instance = with_a_gap(alloc)?;
+    let instance = with_a_gap(alloc).expect(&rt, "an instance");
     let start: [&[u64]; 2] = [&[0, 5, 8], &[8, 9, 10]];
     let least: [&[u64]; 2] = [&[2, 7, 10], &[0, 1, 2]];
     for (rounds, budget, numbers, rows) in [
@@ -84,17 +80,27 @@ fn optimum_above_the_first_bound(rt: HostRuntime) -> Result<(), Fail> {
         (1000, 3, [10, 10, 0, 3, 10], least),
     ] {
         let plan = Plan::new(rounds, budget, 1);
-        assert_answer(&rt, alloc, &instance, plan, numbers, &rows)?;
+        assert_answer(&rt, alloc, &instance, plan, numbers, &rows);
     }
-    Ok(())
+}
+
+/// Two jobs of one machine.
+fn one_of_two(alloc: Global) -> Option<Instance> {
+    let first = vec![in alloc; op(0, 5)].ok()?;
+    let second = vec![in alloc; op(0, 0)].ok()?;
+    of_rows(1, vec![in alloc; first, second].ok()?)
+}
+
+/// One job of three operations.
+fn one_route(alloc: Global) -> Option<Instance> {
+    let route = vec![in alloc; op(2, 4), op(0, 0), op(1, 5)].ok()?;
+    of_rows(3, vec![in alloc; route].ok()?)
 }
 
 #[test]
-fn start_words_that_end_at_their_bound(rt: HostRuntime) -> Result<(), Fail> {
+fn start_words_that_end_at_their_bound(rt: HostRuntime) {
     let alloc = rt.alloc();
-    let first = vec![in alloc; op(0, 5)]?;
-    let second = vec![in alloc; op(0, 0)]?;
-    let one_machine = of_rows(1, vec![in alloc; first, second]?)?;
+    let one_machine = one_of_two(alloc).expect(&rt, "an instance");
     let plan = Plan::new(1000, 100_000, 1);
     assert_answer(
         &rt,
@@ -103,60 +109,59 @@ fn start_words_that_end_at_their_bound(rt: HostRuntime) -> Result<(), Fail> {
         plan,
         [5, 5, 0, 0, 0],
         &[&[0], &[5]],
-    )?;
-    let route = vec![in alloc; op(2, 4), op(0, 0), op(1, 5)]?;
-    let one_job = of_rows(3, vec![in alloc; route]?)?;
+    );
+    let one_job = one_route(alloc).expect(&rt, "an instance");
     let plan = Plan::new(0, 1, 1000);
-    assert_answer(&rt, alloc, &one_job, plan, [9, 9, 0, 0, 0], &[&[0, 4, 4]])
+    assert_answer(&rt, alloc, &one_job, plan, [9, 9, 0, 0, 0], &[&[0, 4, 4]]);
 }
 
 #[test]
-fn releases_and_a_job_without_operations(rt: HostRuntime) -> Result<(), Fail> {
+fn releases_and_a_job_without_operations(rt: HostRuntime) {
     let alloc = rt.alloc();
-    let instance = released(alloc)?;
+    let instance = released(alloc).expect(&rt, "an instance");
     let plan = Plan::new(1, 100, 1);
     let rows: [&[u64]; 3] = [&[0, 6], &[4, 6], &[]];
-    assert_answer(&rt, alloc, &instance, plan, [10, 10, 0, 1, 6], &rows)
+    assert_answer(&rt, alloc, &instance, plan, [10, 10, 0, 1, 6], &rows);
 }
 
 #[test]
-fn two_orders_of_the_open_nodes(rt: HostRuntime) -> Result<(), Fail> {
+fn two_orders_of_the_open_nodes(rt: HostRuntime) {
     let alloc = rt.alloc();
-    let instance = with_two_orders(alloc)?;
+    let instance = with_two_orders(alloc).expect(&rt, "an instance");
     for order in [Order::Kept, Order::Bound] {
         for (rounds, numbers) in [
             (1, [12, 9, 2, 1, 2]),
             (2, [12, 10, 2, 2, 6]),
             (3, [12, 10, 2, 3, 10]),
         ] {
-            let plan = Plan::ordered(rounds, 2, 1, order).ok_or("plan")?;
-            assert_numbers(&rt, &run_alone(alloc, &instance, &plan)?, numbers);
+            let plan = Plan::ordered(rounds, 2, 1, order).expect(&rt, "plan");
+            let answer = run_alone(alloc, &instance, &plan).expect(&rt, "memory");
+            assert_numbers(&rt, &answer, numbers);
         }
     }
     let kept = Plan::ordered(4, 2, 1, Order::Kept);
     let rows: [&[u64]; 4] = [&[2, 7], &[1, 2], &[0], &[1]];
-    assert_answer(&rt, alloc, &instance, kept, [10, 10, 0, 4, 11], &rows)?;
+    assert_answer(&rt, alloc, &instance, kept, [10, 10, 0, 4, 11], &rows);
     let by_bound = Plan::ordered(1000, 2, 1, Order::Bound);
     let rows: [&[u64]; 4] = [&[2, 7], &[1, 2], &[1], &[0]];
-    assert_answer(&rt, alloc, &instance, by_bound, [10, 10, 0, 4, 12], &rows)
+    assert_answer(&rt, alloc, &instance, by_bound, [10, 10, 0, 4, 12], &rows);
 }
 
 /// One round by hand, from a standing that has an open node and a round left.
 fn after_round(
+    rt: &impl Abort,
     alloc: Global,
     instance: &Instance,
     plan: &Plan,
     standing: Standing,
-) -> Result<Standing, Fail>
+) -> Standing
     requires { IsStandingOf instance.now standing }
-    ensures { IfOk result (λ s. IsStandingOf instance.now s) }
+    ensures { IsStandingOf instance.now result }
 {
-    if standing.open.is_empty() || standing.rounds >= plan.rounds {
-        return Err(Fail::from("no round is left"));
-    }
-    let round = Round::cut(alloc, instance, plan, standing)?;
-    let entries = Alone.search(&(), alloc, &round)?;
-    Ok(gather(alloc, &round, entries)?)
+    assert!(rt; !standing.open.is_empty() && standing.rounds < plan.rounds);
+    let round = Round::cut(alloc, instance, plan, standing).expect(rt, "memory");
+    let entries = Alone.search(&(), alloc, &round).expect(rt, "memory");
+    gather(alloc, &round, entries).expect(rt, "memory")
 }
 
 fn assert_standing(
@@ -173,18 +178,17 @@ fn assert_standing(
 }
 
 #[test]
-fn rounds_cut_and_gathered_one_by_one(rt: HostRuntime) -> Result<(), Fail> {
+fn rounds_cut_and_gathered_one_by_one(rt: HostRuntime) {
     let alloc = rt.alloc();
-    let instance = with_a_gap(alloc)?;
-    let plan = Plan::new(3, 3, 1).ok_or("plan")?;
-    let start = Standing::start(alloc, &instance)?;
-    let first = after_round(alloc, &instance, &plan, start)?;
+    let instance = with_a_gap(alloc).expect(&rt, "an instance");
+    let plan = Plan::new(3, 3, 1).expect(&rt, "plan");
+    let start = Standing::start(alloc, &instance).expect(&rt, "memory");
+    let first = after_round(&rt, alloc, &instance, &plan, start);
     assert_standing(&rt, &first, 16, 2, (1, 3));
-    let second = after_round(alloc, &instance, &plan, first)?;
+    let second = after_round(&rt, alloc, &instance, &plan, first);
     assert_standing(&rt, &second, 16, 3, (2, 9));
-    let third = after_round(alloc, &instance, &plan, second)?;
+    let third = after_round(&rt, alloc, &instance, &plan, second);
     assert_standing(&rt, &third, 10, 0, (3, 10));
-    Ok(())
 }
 
 #[test]

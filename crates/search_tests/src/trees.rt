@@ -1,37 +1,32 @@
 // Worked conflict sets, children and sheets, and each public call of branching and search once.
-ghost use Rattle.std.specs.Prelude.{◌≡◌, IfOk};
+ghost use Rattle.std.specs.Prelude.{◌≡◌};
 ghost use Rattle.shop_tree.specs.Nodes.{IsNode, AreNodes};
 
 use shop_model::{Instance, Word, fits, is_full};
 use shop_tree::{Node, Piece, Sheet, children, conflict, search};
-use std::alloc::{AllocError, Global};
+use std::alloc::Global;
 use std::process::Abort;
-use std::test::Fail;
 use worked_instances::{crossing, with_a_gap, with_zeros};
 
-fn word(alloc: Global, jobs: &[usize]) -> Result<Word, Fail>
-    ensures { IfOk result (λ w. w ≡ jobs.now) }
+fn word(rt: &impl Abort, alloc: Global, jobs: &[usize]) -> Word
+    ensures { result ≡ jobs.now }
 {
-    Ok(Word::of_jobs(jobs.to_vec(alloc)?))
+    Word::of_jobs(jobs.to_vec(alloc).expect(rt, "memory"))
 }
 
-fn node(rt: &impl Abort, alloc: Global, instance: &Instance, jobs: &[usize]) -> Result<Node, Fail>
-    ensures { IfOk result (λ n. IsNode instance.now n) }
+fn node(rt: &impl Abort, alloc: Global, instance: &Instance, jobs: &[usize]) -> Node
+    ensures { IsNode instance.now result }
 {
-    let word = word(alloc, jobs)?;
+    let word = word(rt, alloc, jobs);
     assert!(rt; fits(instance, &word));
-    Ok(Node::new(alloc, instance, word)?)
+    Node::new(alloc, instance, word).expect(rt, "memory")
 }
 
-fn one_node(
-    rt: &impl Abort,
-    alloc: Global,
-    instance: &Instance,
-    jobs: &[usize],
-) -> Result<Piece, Fail>
-    ensures { IfOk result (λ p. AreNodes instance.now p.nodes.items) }
+fn one_node(rt: &impl Abort, alloc: Global, instance: &Instance, jobs: &[usize]) -> Piece
+    ensures { AreNodes instance.now result.nodes.items }
 {
-    Ok(Piece::new(0, vec![in alloc; node(rt, alloc, instance, jobs)?]?))
+    let node = node(rt, alloc, instance, jobs);
+    Piece::new(0, vec![in alloc; node].expect(rt, "memory"))
 }
 
 fn assert_sheet(
@@ -69,113 +64,113 @@ fn assert_jobs(rt: &impl Abort, node: &Node, jobs: &[usize]) {
 }
 
 #[test]
-fn conflict_sets_of_two_jobs_that_cross(rt: HostRuntime) -> Result<(), Fail> {
+fn conflict_sets_of_two_jobs_that_cross(rt: HostRuntime) {
     let alloc = rt.alloc();
-    let instance = crossing(alloc)?;
+    let instance = crossing(alloc).expect(&rt, "an instance");
     for (jobs, set) in [
         ([].as_slice(), [1].as_slice()),
         ([1].as_slice(), [0, 1].as_slice()),
     ] {
-        let word = word(alloc, jobs)?;
+        let word = word(&rt, alloc, jobs);
         assert!(&rt; fits(&instance, &word) && !is_full(&instance, &word));
-        assert_eq!(&rt; conflict(alloc, &instance, &word)?.as_slice(), set);
+        assert_eq!(&rt;
+            conflict(alloc, &instance, &word)
+                .expect(&rt, "memory")
+                .as_slice(),
+            set
+        );
     }
-    Ok(())
 }
 
 #[test]
-fn the_chosen_operation_begins_where_it_can_end(rt: HostRuntime) -> Result<(), Fail> {
+fn the_chosen_operation_begins_where_it_can_end(rt: HostRuntime) {
     let alloc = rt.alloc();
-    let instance = with_zeros(alloc)?;
-    let word = word(alloc, &[])?;
+    let instance = with_zeros(alloc).expect(&rt, "an instance");
+    let word = word(&rt, alloc, &[]);
     assert!(&rt; fits(&instance, &word) && !is_full(&instance, &word));
     assert_eq!(&rt;
-        conflict(alloc, &instance, &word)?.as_slice(),
+        conflict(alloc, &instance, &word)
+            .expect(&rt, "memory")
+            .as_slice(),
         [1].as_slice()
     );
-    Ok(())
 }
 
 #[test]
-fn children_by_bound(rt: HostRuntime) -> Result<(), Fail> {
+fn children_by_bound(rt: HostRuntime) {
     let alloc = rt.alloc();
-    let instance = with_a_gap(alloc)?;
-    let node = node(&rt, alloc, &instance, &[1])?;
-    let word = node.word.to_word(alloc)?;
+    let instance = with_a_gap(alloc).expect(&rt, "an instance");
+    let node = node(&rt, alloc, &instance, &[1]);
+    let word = node.word.to_word(alloc).expect(&rt, "memory");
     assert!(&rt; !is_full(&instance, &word));
-    let children = children(alloc, &instance, &node)?;
+    let children = children(alloc, &instance, &node).expect(&rt, "memory");
     assert_eq!(&rt; children.len(), 2);
     assert_jobs(&rt, &children[0], &[1, 1]);
     assert_eq!(&rt; children[0].bound, 10);
     assert_jobs(&rt, &children[1], &[1, 0]);
     assert_eq!(&rt; children[1].bound, 12);
-    Ok(())
 }
 
 #[test]
-fn sheets_of_the_empty_word(rt: HostRuntime) -> Result<(), Fail> {
+fn sheets_of_the_empty_word(rt: HostRuntime) {
     let alloc = rt.alloc();
-    let instance = crossing(alloc)?;
-    let piece = one_node(&rt, alloc, &instance, &[])?;
+    let instance = crossing(alloc).expect(&rt, "an instance");
+    let piece = one_node(&rt, alloc, &instance, &[]);
     let found = [1, 0, 0, 1];
-    let all = search(alloc, &instance, &piece, 11, 100)?;
+    let all = search(alloc, &instance, &piece, 11, 100).expect(&rt, "memory");
     assert_sheet(&rt, &all, Some(&found), 7, 6);
     assert_left(&rt, &all, &[]);
-    let five = search(alloc, &instance, &piece, 11, 5)?;
+    let five = search(alloc, &instance, &piece, 11, 5).expect(&rt, "memory");
     assert_sheet(&rt, &five, Some(&found), 7, 5);
     assert_left(&rt, &five, &[&[1, 1]]);
-    let one = search(alloc, &instance, &piece, 11, 1)?;
+    let one = search(alloc, &instance, &piece, 11, 1).expect(&rt, "memory");
     assert_sheet(&rt, &one, None, 11, 1);
     assert_left(&rt, &one, &[&[1]]);
-    Ok(())
 }
 
 #[test]
-fn optimum_above_the_first_bound(rt: HostRuntime) -> Result<(), Fail> {
+fn optimum_above_the_first_bound(rt: HostRuntime) {
     let alloc = rt.alloc();
-    let instance = with_a_gap(alloc)?;
-    assert_eq!(&rt; node(&rt, alloc, &instance, &[])?.bound, 9);
-    let piece = one_node(&rt, alloc, &instance, &[])?;
-    let sheet = search(alloc, &instance, &piece, 16, 100)?;
+    let instance = with_a_gap(alloc).expect(&rt, "an instance");
+    assert_eq!(&rt; node(&rt, alloc, &instance, &[]).bound, 9);
+    let piece = one_node(&rt, alloc, &instance, &[]);
+    let sheet = search(alloc, &instance, &piece, 16, 100).expect(&rt, "memory");
     assert_sheet(&rt, &sheet, Some(&[1, 1, 0, 1, 0, 0]), 10, 8);
     assert_left(&rt, &sheet, &[]);
-    Ok(())
 }
 
 #[test]
-fn operations_that_take_no_time(rt: HostRuntime) -> Result<(), Fail> {
+fn operations_that_take_no_time(rt: HostRuntime) {
     let alloc = rt.alloc();
-    let instance = with_zeros(alloc)?;
-    let piece = one_node(&rt, alloc, &instance, &[])?;
-    let sheet = search(alloc, &instance, &piece, 10, 100)?;
+    let instance = with_zeros(alloc).expect(&rt, "an instance");
+    let piece = one_node(&rt, alloc, &instance, &[]);
+    let sheet = search(alloc, &instance, &piece, 10, 100).expect(&rt, "memory");
     assert_eq!(&rt; sheet.makespan, 5);
     assert_eq!(&rt; sheet.taken, 8);
     assert_left(&rt, &sheet, &[]);
-    Ok(())
 }
 
 #[test]
-fn first_round_leaves_two_nodes(rt: HostRuntime) -> Result<(), Fail> {
+fn first_round_leaves_two_nodes(rt: HostRuntime) {
     let alloc = rt.alloc();
-    let instance = with_a_gap(alloc)?;
-    let piece = one_node(&rt, alloc, &instance, &[])?;
-    let sheet = search(alloc, &instance, &piece, 16, 3)?;
+    let instance = with_a_gap(alloc).expect(&rt, "an instance");
+    let piece = one_node(&rt, alloc, &instance, &[]);
+    let sheet = search(alloc, &instance, &piece, 16, 3).expect(&rt, "memory");
     assert_sheet(&rt, &sheet, None, 16, 3);
     assert_left(&rt, &sheet, &[&[1, 1, 0], &[1, 0]]);
     assert_bounds(&rt, &sheet, &[10, 12]);
-    Ok(())
 }
 
 #[test]
-fn sheets_of_later_rounds(rt: HostRuntime) -> Result<(), Fail> {
+fn sheets_of_later_rounds(rt: HostRuntime) {
     let alloc = rt.alloc();
-    let instance = with_a_gap(alloc)?;
-    let second = one_node(&rt, alloc, &instance, &[1, 1, 0])?;
-    let sheet = search(alloc, &instance, &second, 16, 3)?;
+    let instance = with_a_gap(alloc).expect(&rt, "an instance");
+    let second = one_node(&rt, alloc, &instance, &[1, 1, 0]);
+    let sheet = search(alloc, &instance, &second, 16, 3).expect(&rt, "memory");
     assert_sheet(&rt, &sheet, None, 16, 3);
     assert_left(&rt, &sheet, &[&[1, 1, 0, 1, 0, 0]]);
-    let second = one_node(&rt, alloc, &instance, &[1, 0])?;
-    let sheet = search(alloc, &instance, &second, 16, 3)?;
+    let second = one_node(&rt, alloc, &instance, &[1, 0]);
+    let sheet = search(alloc, &instance, &second, 16, 3).expect(&rt, "memory");
     assert_sheet(&rt, &sheet, None, 16, 3);
     assert_left(&rt, &sheet, &[&[1, 0, 1, 0, 1], &[1, 0, 1, 0, 0]]);
     let third = [
@@ -184,13 +179,12 @@ fn sheets_of_later_rounds(rt: HostRuntime) -> Result<(), Fail> {
         ([1, 0, 1, 0, 0].as_slice(), 14, 2),
     ];
     for (jobs, makespan, taken) in third {
-        let piece = one_node(&rt, alloc, &instance, jobs)?;
-        let sheet = search(alloc, &instance, &piece, 16, 3)?;
+        let piece = one_node(&rt, alloc, &instance, jobs);
+        let sheet = search(alloc, &instance, &piece, 16, 3).expect(&rt, "memory");
         assert_eq!(&rt; sheet.makespan, makespan);
         assert_eq!(&rt; sheet.taken, taken);
         assert_left(&rt, &sheet, &[]);
     }
-    Ok(())
 }
 
 /// A piece of two nodes of G: the words [1, 1, 0] and [1, 0], or the other way round.
@@ -200,79 +194,80 @@ fn two_nodes(
     instance: &Instance,
     first: &[usize],
     second: &[usize],
-) -> Result<Piece, Fail>
-    ensures { IfOk result (λ p. AreNodes instance.now p.nodes.items) }
+) -> Piece
+    ensures { AreNodes instance.now result.nodes.items }
 {
-    let nodes = vec![in alloc;
-        node(rt, alloc, instance, first)?,
-        node(rt, alloc, instance, second)?,
-    ]?;
-    Ok(Piece::new(0, nodes))
+    let first = node(rt, alloc, instance, first);
+    let second = node(rt, alloc, instance, second);
+    Piece::new(0, vec![in alloc; first, second].expect(rt, "memory"))
 }
 
 #[test]
-fn nodes_of_a_piece_in_order(rt: HostRuntime) -> Result<(), Fail> {
+fn nodes_of_a_piece_in_order(rt: HostRuntime) {
     let alloc = rt.alloc();
-    let instance = with_a_gap(alloc)?;
-    let piece = two_nodes(&rt, alloc, &instance, &[1, 1, 0], &[1, 0])?;
-    let sheet = search(alloc, &instance, &piece, 16, 100)?;
+    let instance = with_a_gap(alloc).expect(&rt, "an instance");
+    let piece = two_nodes(&rt, alloc, &instance, &[1, 1, 0], &[1, 0]);
+    let sheet = search(alloc, &instance, &piece, 16, 100).expect(&rt, "memory");
     assert_sheet(&rt, &sheet, Some(&[1, 1, 0, 1, 0, 0]), 10, 5);
     assert_left(&rt, &sheet, &[]);
-    let piece = two_nodes(&rt, alloc, &instance, &[1, 0], &[1, 1, 0])?;
-    let sheet = search(alloc, &instance, &piece, 16, 100)?;
+    let piece = two_nodes(&rt, alloc, &instance, &[1, 0], &[1, 1, 0]);
+    let sheet = search(alloc, &instance, &piece, 16, 100).expect(&rt, "memory");
     assert_sheet(&rt, &sheet, Some(&[1, 1, 0, 1, 0, 0]), 10, 10);
     assert_left(&rt, &sheet, &[]);
-    Ok(())
 }
 
 #[test]
-fn budget_that_ends_among_the_nodes_of_a_piece(rt: HostRuntime) -> Result<(), Fail> {
+fn budget_that_ends_among_the_nodes_of_a_piece(rt: HostRuntime) {
     let alloc = rt.alloc();
-    let instance = with_a_gap(alloc)?;
-    let piece = two_nodes(&rt, alloc, &instance, &[1, 0], &[1, 1, 0])?;
-    let three = search(alloc, &instance, &piece, 16, 3)?;
+    let instance = with_a_gap(alloc).expect(&rt, "an instance");
+    let piece = two_nodes(&rt, alloc, &instance, &[1, 0], &[1, 1, 0]);
+    let three = search(alloc, &instance, &piece, 16, 3).expect(&rt, "memory");
     assert_sheet(&rt, &three, None, 16, 3);
     assert_left(
         &rt,
         &three,
         &[&[1, 0, 1, 0, 1], &[1, 0, 1, 0, 0], &[1, 1, 0]],
     );
-    let seven = search(alloc, &instance, &piece, 16, 7)?;
+    let seven = search(alloc, &instance, &piece, 16, 7).expect(&rt, "memory");
     assert_sheet(&rt, &seven, Some(&[1, 0, 1, 0, 1, 0]), 12, 7);
     assert_left(&rt, &seven, &[&[1, 1, 0, 1]]);
-    Ok(())
 }
 
 #[test]
-fn budget_that_ends_among_children_that_only_count(rt: HostRuntime) -> Result<(), Fail> {
+fn budget_that_ends_among_children_that_only_count(rt: HostRuntime) {
     let alloc = rt.alloc();
-    let instance = with_a_gap(alloc)?;
-    let piece = one_node(&rt, alloc, &instance, &[])?;
+    let instance = with_a_gap(alloc).expect(&rt, "an instance");
+    let piece = one_node(&rt, alloc, &instance, &[]);
     // The children of [1] have bounds 10 and 12, so none is below the best.
     for budget in [2, 3, 4] {
-        let sheet = search(alloc, &instance, &piece, 10, budget)?;
+        let sheet = search(alloc, &instance, &piece, 10, budget).expect(&rt, "memory");
         assert_sheet(&rt, &sheet, None, 10, budget);
         assert_left(&rt, &sheet, &[]);
     }
     // The bound of [1, 0] reaches the makespan found, whether or not it is below the opening best.
     for best in [12, 13] {
-        let seven = search(alloc, &instance, &piece, best, 7)?;
+        let seven = search(alloc, &instance, &piece, best, 7).expect(&rt, "memory");
         assert_sheet(&rt, &seven, Some(&[1, 1, 0, 1, 0, 0]), 10, 7);
         assert_left(&rt, &seven, &[]);
     }
-    Ok(())
 }
 
 #[test]
-fn a_node_shared(rt: HostRuntime) -> Result<(), Fail> {
+fn a_node_shared(rt: HostRuntime) {
     let alloc = rt.alloc();
-    let instance = with_a_gap(alloc)?;
-    let node = node(&rt, alloc, &instance, &[1, 1, 0])?.shared()?;
+    let instance = with_a_gap(alloc).expect(&rt, "an instance");
+    let node = node(&rt, alloc, &instance, &[1, 1, 0])
+        .shared()
+        .expect(&rt, "memory");
     assert_eq!(&rt; node.bound, 10);
     assert_jobs(&rt, &node, &[1, 1, 0]);
     assert_eq!(&rt;
-        node.word.shared()?.to_word(alloc)?.jobs(),
+        node.word
+            .shared()
+            .expect(&rt, "memory")
+            .to_word(alloc)
+            .expect(&rt, "memory")
+            .jobs(),
         [1, 1, 0].as_slice()
     );
-    Ok(())
 }

@@ -1,10 +1,9 @@
 // Texts cut to their first n bytes, for each n; the answers are derived from the formats' description.
 use crate::texts_readers::{told, two_examples};
 use shop_text::{read_orlib, read_taillard};
-use std::test::Fail;
 
 #[test]
-fn orlib_cut_at_each_byte(rt: HostRuntime) -> Result<(), Fail> {
+fn orlib_cut_at_each_byte(rt: HostRuntime) {
     let text = b"2 2\n0 3 1 2\n1 2 0 4\n".as_slice();
     for n in 0..=20 {
         let want = match n {
@@ -17,16 +16,15 @@ fn orlib_cut_at_each_byte(rt: HostRuntime) -> Result<(), Fail> {
             _ => "[1 2 | 0 0:3 1:2 | 0 1:2 0:4]",
         };
         let answer = read_orlib(rt.alloc(), &text[..n]);
-        assert_eq!(rt; told(rt.alloc(), &answer)?.as_str(), want, "at {n}");
+        assert_eq!(rt; told(&rt, rt.alloc(), &answer).as_str(), want, "at {n}");
     }
-    Ok(())
 }
 
 // The first header is whole with the first byte of its name, the 42nd: until then line 2 stands as a size line. Each
 // line of numbers begins with a space, which is a line by itself where it ends the text.
 #[test]
-fn named_instances_cut_at_each_byte(rt: HostRuntime) -> Result<(), Fail> {
-    let text = two_examples(rt.alloc())?;
+fn named_instances_cut_at_each_byte(rt: HostRuntime) {
+    let text = two_examples(&rt, rt.alloc());
     let bytes = text.as_bytes();
     assert_eq!(rt; bytes.len(), 174);
     for n in 0..=174 {
@@ -52,13 +50,12 @@ fn named_instances_cut_at_each_byte(rt: HostRuntime) -> Result<(), Fail> {
             _ => "[alpha 2 | 0 0:3 1:2 | 0 1:2 0:4][gap 3 | 0 0:5 1:3 2:0 | 0 1:1 0:1 2:6]",
         };
         let answer = read_orlib(rt.alloc(), &bytes[..n]);
-        assert_eq!(rt; told(rt.alloc(), &answer)?.as_str(), want, "at {n}");
+        assert_eq!(rt; told(&rt, rt.alloc(), &answer).as_str(), want, "at {n}");
     }
-    Ok(())
 }
 
 #[test]
-fn taillard_cut_at_each_byte(rt: HostRuntime) -> Result<(), Fail> {
+fn taillard_cut_at_each_byte(rt: HostRuntime) {
     let text =
         b"a heading in words\n2 2 11 22 6 6\nTimes\n3 2\n2 4\nMachines\n1 2\n2 1\n".as_slice();
     assert_eq!(rt; text.len(), 64);
@@ -79,7 +76,6 @@ fn taillard_cut_at_each_byte(rt: HostRuntime) -> Result<(), Fail> {
             _ => "[1 2 | 0 0:3 1:2 | 0 1:2 0:4]",
         };
         let answer = read_taillard(rt.alloc(), &text[..n]);
-        assert_eq!(rt; told(rt.alloc(), &answer)?.as_str(), want, "at {n}");
+        assert_eq!(rt; told(&rt, rt.alloc(), &answer).as_str(), want, "at {n}");
     }
-    Ok(())
 }

@@ -4,31 +4,31 @@ use shop_text::{
 };
 use std::alloc::Global;
 use std::fmt::Write;
-use std::test::Fail;
+use std::process::Abort;
 
 /// NAME MACHINES, then for each job its release and its operations, or the fault.
-pub fn told(alloc: Global, answer: &Result<Vec<Named>, ReadFault>) -> Result<String, Fail> {
+pub fn told(rt: &impl Abort, alloc: Global, answer: &Result<Vec<Named>, ReadFault>) -> String {
     let mut text = String::new(alloc);
     match answer {
-        Err(fault) => write!(text, "{fault}")?,
+        Err(fault) => write!(text, "{fault}").expect(rt, "memory"),
         Ok(named) => {
             for n in named {
-                write!(text, "[{} {}", n.name, n.instance.machines())?;
+                write!(text, "[{} {}", n.name, n.instance.machines()).expect(rt, "memory");
                 for j in 0..n.instance.jobs() {
-                    write!(text, " | {}", n.instance.release(j))?;
+                    write!(text, " | {}", n.instance.release(j)).expect(rt, "memory");
                     for op in n.instance.route(j) {
-                        write!(text, " {}:{}", op.machine, op.time)?;
+                        write!(text, " {}:{}", op.machine, op.time).expect(rt, "memory");
                     }
                 }
-                text.push_str("]")?;
+                text.push_str("]").expect(rt, "memory");
             }
         }
     }
-    Ok(text)
+    text
 }
 
 #[test]
-fn texts_of_orlib(rt: HostRuntime) -> Result<(), Fail> {
+fn texts_of_orlib(rt: HostRuntime) {
     let cases = [
         ("", "error 4: no instance"),
         ("words alone\n\n", "error 4: no instance"),
@@ -99,13 +99,12 @@ fn texts_of_orlib(rt: HostRuntime) -> Result<(), Fail> {
     ];
     for (text, want) in cases {
         let answer = read_orlib(rt.alloc(), text.as_bytes());
-        assert_eq!(rt; told(rt.alloc(), &answer)?.as_str(), want, "at {text}");
+        assert_eq!(rt; told(&rt, rt.alloc(), &answer).as_str(), want, "at {text}");
     }
-    Ok(())
 }
 
 #[test]
-fn texts_of_taillard(rt: HostRuntime) -> Result<(), Fail> {
+fn texts_of_taillard(rt: HostRuntime) {
     let cases = [
         ("2 2 1 2 3 4 5", "error 5: line 1: bad shape of size line"),
         ("2", "error 5: line 1: bad shape of size line"),
@@ -135,13 +134,12 @@ fn texts_of_taillard(rt: HostRuntime) -> Result<(), Fail> {
     ];
     for (text, want) in cases {
         let answer = read_taillard(rt.alloc(), text.as_bytes());
-        assert_eq!(rt; told(rt.alloc(), &answer)?.as_str(), want, "at {text}");
+        assert_eq!(rt; told(&rt, rt.alloc(), &answer).as_str(), want, "at {text}");
     }
-    Ok(())
 }
 
 #[test]
-fn texts_of_routes(rt: HostRuntime) -> Result<(), Fail> {
+fn texts_of_routes(rt: HostRuntime) {
     let cases = [
         (
             "3 2\n0 0 3 1 2\n4 1 2 0 4\n7\n",
@@ -159,13 +157,12 @@ fn texts_of_routes(rt: HostRuntime) -> Result<(), Fail> {
     ];
     for (text, want) in cases {
         let answer = read_routes(rt.alloc(), text.as_bytes());
-        assert_eq!(rt; told(rt.alloc(), &answer)?.as_str(), want, "at {text}");
+        assert_eq!(rt; told(&rt, rt.alloc(), &answer).as_str(), want, "at {text}");
     }
-    Ok(())
 }
 
 // two instances with names, lines ended by CR LF
-pub fn two_examples(alloc: Global) -> Result<String, Fail> {
+pub fn two_examples(rt: &impl Abort, alloc: Global) -> String {
     let lines = [
         "Two small examples",
         "82",
@@ -186,21 +183,21 @@ pub fn two_examples(alloc: Global) -> Result<String, Fail> {
     ];
     let mut text = String::new(alloc);
     for line in lines {
-        text.push_str(line)?;
-        text.push_str("\r\n")?;
+        text.push_str(line).expect(rt, "memory");
+        text.push_str("\r\n").expect(rt, "memory");
     }
-    Ok(text)
+    text
 }
 
 #[test]
-fn instances_by_name(rt: HostRuntime) -> Result<(), Fail> {
-    let text = two_examples(rt.alloc())?;
+fn instances_by_name(rt: HostRuntime) {
+    let text = two_examples(&rt, rt.alloc());
     let answer = read_orlib(rt.alloc(), text.as_bytes());
     assert_eq!(rt;
-        told(rt.alloc(), &answer)?.as_str(),
+        told(&rt, rt.alloc(), &answer).as_str(),
         "[alpha 2 | 0 0:3 1:2 | 0 1:2 0:4][gap 3 | 0 0:5 1:3 2:0 | 0 1:1 0:1 2:6]"
     );
-    let named = answer?;
+    let named = answer.expect(&rt, "two instances");
     assert!(rt; named.len() == 2);
     let cases = [
         (None, Ok(2)),
@@ -217,57 +214,58 @@ fn instances_by_name(rt: HostRuntime) -> Result<(), Fail> {
     let twice = read_orlib(
         rt.alloc(),
         b"instance a\n1 1\n0 1\ninstance a\n1 2\n0 1 1 1\n".as_slice(),
-    )?;
+    )
+    .expect(&rt, "memory");
     assert!(rt; twice.len() == 2);
     assert_eq!(rt;
         pick(twice.as_slice(), Some("a")).map(|n| n.instance.machines()),
         Ok(1)
     );
-    Ok(())
 }
 
 #[test]
-fn forged_texts(rt: HostRuntime) -> Result<(), Fail> {
-    let mut zeros = Vec::from_slice(rt.alloc(), b"1 1\n0 ".as_slice())?;
-    let mut nines = Vec::from_slice(rt.alloc(), b"1 1\n0 ".as_slice())?;
+fn forged_texts(rt: HostRuntime) {
+    let mut zeros = Vec::from_slice(rt.alloc(), b"1 1\n0 ".as_slice()).expect(&rt, "memory");
+    let mut nines = Vec::from_slice(rt.alloc(), b"1 1\n0 ".as_slice()).expect(&rt, "memory");
     for _ in 0..9_999 {
-        zeros.push(b'0')?;
-        nines.push(b'9')?;
+        zeros.push(b'0').expect(&rt, "memory");
+        nines.push(b'9').expect(&rt, "memory");
     }
-    zeros.push(b'7')?;
-    nines.push(b'9')?;
+    zeros.push(b'7').expect(&rt, "memory");
+    nines.push(b'9').expect(&rt, "memory");
     let seven = read_orlib(rt.alloc(), zeros.as_slice());
-    assert_eq!(rt; told(rt.alloc(), &seven)?.as_str(), "[1 1 | 0 0:7]");
+    assert_eq!(rt; told(&rt, rt.alloc(), &seven).as_str(), "[1 1 | 0 0:7]");
     let over = read_orlib(rt.alloc(), nines.as_slice());
     assert_eq!(rt;
-        told(rt.alloc(), &over)?.as_str(),
+        told(&rt, rt.alloc(), &over).as_str(),
         "error 10: line 2: time out of range"
     );
     let before = read_orlib(rt.alloc(), b"\xff\x00\n1 1\n0 7\n".as_slice());
-    assert_eq!(rt; told(rt.alloc(), &before)?.as_str(), "[1 1 | 0 0:7]");
+    assert_eq!(rt; told(&rt, rt.alloc(), &before).as_str(), "[1 1 | 0 0:7]");
     let among = read_orlib(rt.alloc(), b"1 1\n\xff\x00\n0 7\n".as_slice());
     assert_eq!(rt;
-        told(rt.alloc(), &among)?.as_str(),
+        told(&rt, rt.alloc(), &among).as_str(),
         "error 7: line 2: bad row"
     );
-    Ok(())
 }
 
 #[test]
-fn texts_at_the_limit_of_bytes(rt: HostRuntime) -> Result<(), Fail> {
-    let mut text = Vec::with_capacity(rt.alloc(), 16_777_217)?;
+fn texts_at_the_limit_of_bytes(rt: HostRuntime) {
+    let mut text = Vec::with_capacity(rt.alloc(), 16_777_217).expect(&rt, "memory");
     for _ in 0..16_777_216 {
-        text.push(b' ')?;
+        text.push(b' ').expect(&rt, "memory");
     }
     let longest = read_orlib(rt.alloc(), text.as_slice());
     assert_eq!(rt;
-        told(rt.alloc(), &longest)?.as_str(),
+        told(&rt, rt.alloc(), &longest).as_str(),
         "error 4: no instance"
     );
-    text.push(b' ')?;
+    text.push(b' ').expect(&rt, "memory");
     let over = read_orlib(rt.alloc(), text.as_slice());
-    assert_eq!(rt; told(rt.alloc(), &over)?.as_str(), "error 3: text too long");
-    Ok(())
+    assert_eq!(rt;
+        told(&rt, rt.alloc(), &over).as_str(),
+        "error 3: text too long"
+    );
 }
 
 #[test]
@@ -281,7 +279,7 @@ fn words_of_formats(rt: HostRuntime) {
 }
 
 #[test]
-fn one_text_in_each_format(rt: HostRuntime) -> Result<(), Fail> {
+fn one_text_in_each_format(rt: HostRuntime) {
     let text = b"1 1\n0 7\n".as_slice();
     let answers = [
         (Format::Orlib, "[1 1 | 0 0:7]"),
@@ -290,13 +288,12 @@ fn one_text_in_each_format(rt: HostRuntime) -> Result<(), Fail> {
     ];
     for (format, want) in answers {
         let answer = read(rt.alloc(), format, text);
-        assert_eq!(rt; told(rt.alloc(), &answer)?.as_str(), want);
+        assert_eq!(rt; told(&rt, rt.alloc(), &answer).as_str(), want);
     }
-    Ok(())
 }
 
 #[test]
-fn words_of_faults(rt: HostRuntime) -> Result<(), Fail> {
+fn words_of_faults(rt: HostRuntime) {
     let words = [
         (ReadFault::NoMemory, "error 1: out of memory"),
         (ReadFault::TooLong, "error 3: text too long"),
@@ -329,8 +326,7 @@ fn words_of_faults(rt: HostRuntime) -> Result<(), Fail> {
         ),
     ];
     for (fault, want) in words {
-        let said = format!(in rt.alloc(); "{fault}")?;
+        let said = format!(in rt.alloc(); "{fault}").expect(&rt, "memory");
         assert_eq!(rt; said.as_str(), want);
     }
-    Ok(())
 }

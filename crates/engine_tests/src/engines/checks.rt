@@ -1,10 +1,9 @@
 // Verdicts on schedules.
-use crate::engines::runs::check;
+use crate::engines::runs::assert_checked;
 use shop_engine::Format;
-use std::test::Fail;
 
 #[test]
-fn schedules_are_judged(rt: HostRuntime) -> Result<(), Fail> {
+fn schedules_are_judged(rt: HostRuntime) {
     let rows = [
         (
             b"2 2\n0 3 1 2\n1 2 0 4\njob 0: 0 3\njob 1: 0 3\n".as_slice(),
@@ -33,30 +32,36 @@ fn schedules_are_judged(rt: HostRuntime) -> Result<(), Fail> {
         ),
     ];
     for (text, feasible, line) in rows {
-        let (answer, sink) = check(rt.alloc(), Format::Orlib, text, None)?;
-        assert_eq!(rt; answer, feasible);
-        assert_eq!(rt; sink.bytes(), line);
+        assert_checked(
+            &rt,
+            rt.alloc(),
+            Format::Orlib,
+            text,
+            None,
+            (Ok(feasible), line),
+        );
     }
-    Ok(())
 }
 
 #[test]
-fn releases_are_kept(rt: HostRuntime) -> Result<(), Fail> {
+fn releases_are_kept(rt: HostRuntime) {
     let text = b"3 2\n0 0 3 1 2\n4 1 2 0 4\n7\njob 0: 0 6\njob 1: 3 6\njob 2:\n".as_slice();
-    let (answer, sink) = check(rt.alloc(), Format::Routes, text, None)?;
-    assert_eq!(rt; answer, false);
     let line = b"infeasible: job 1 step 0 begins before its release\n".as_slice();
-    assert_eq!(rt; sink.bytes(), line);
-    Ok(())
+    assert_checked(
+        &rt,
+        rt.alloc(),
+        Format::Routes,
+        text,
+        None,
+        (Ok(false), line),
+    );
 }
 
 #[test]
-fn a_changed_report_is_judged_by_its_starts(rt: HostRuntime) -> Result<(), Fail> {
+fn a_changed_report_is_judged_by_its_starts(rt: HostRuntime) {
     let text = b"2 2\n0 3 1 2\n1 2 0 4\n".as_slice();
     let report =
-        b"instance 1\nsize 2 2\nmakespan 3\nbound 7\nstatus optimal\njob 0: 0 3\njob 1: 0 3\n";
-    let (answer, sink) = check(rt.alloc(), Format::Orlib, text, Some(report.as_slice()))?;
-    assert_eq!(rt; answer, true);
-    assert_eq!(rt; sink.bytes(), b"feasible 7\n".as_slice());
-    Ok(())
+        b"instance 1\nsize 2 2\nmakespan 3\nbound 7\nstatus optimal\njob 0: 0 3\njob 1: 0 3\n".as_slice();
+    let expected = (Ok(true), b"feasible 7\n".as_slice());
+    assert_checked(&rt, rt.alloc(), Format::Orlib, text, Some(report), expected);
 }

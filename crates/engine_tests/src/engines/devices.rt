@@ -1,10 +1,9 @@
 // Failing, slow and endless devices.
 use crate::engines::fakes::{Dripping, Endless, Trickling};
-use crate::engines::runs::{with_plan, without_name};
-use shop_engine::{Fault, Format, ListArgs, Memory, Reading, check_text, list_text, solve_text};
-use shop_round::{Alone, Plan};
+use crate::engines::runs::{plan, room, solve, with_plan, without_name};
+use shop_engine::{Fault, Format, ListArgs, Reading, check_text, list_text, solve_text};
+use shop_round::Alone;
 use shop_text::ReadFault;
-use std::test::Fail;
 
 const FIRST: &[u8] = b"2 2\n0 3 1 2\n1 2 0 4\n";
 
@@ -15,10 +14,10 @@ const ORLIB: ListArgs = ListArgs {
 };
 
 #[test]
-fn source_that_fails_is_never_at_its_end(rt: HostRuntime) -> Result<(), Fail> {
+fn source_that_fails_is_never_at_its_end(rt: HostRuntime) {
     for k in 1..23 {
         let mut source = Dripping::new(FIRST, k);
-        let mut sink = Memory::with_room(rt.alloc(), 64)?;
+        let mut sink = room(&rt, rt.alloc(), 64);
         let answer = list_text(rt.alloc(), &mut source, &mut sink, &ORLIB);
         if k <= 21 {
             assert_eq!(rt; answer, Err(Fault::ReadFailed), "at call {k}");
@@ -29,13 +28,12 @@ fn source_that_fails_is_never_at_its_end(rt: HostRuntime) -> Result<(), Fail> {
             assert_eq!(rt; sink.bytes(), FIRST_SIZE, "at call {k}");
         }
     }
-    Ok(())
 }
 
 #[test]
-fn sink_that_fails_holds_a_beginning(rt: HostRuntime) -> Result<(), Fail> {
+fn sink_that_fails_holds_a_beginning(rt: HostRuntime) {
     for k in 1..8 {
-        let mut sink = Trickling::new(Memory::with_room(rt.alloc(), 64)?, k);
+        let mut sink = Trickling::new(room(&rt, rt.alloc(), 64), k);
         let answer = list_text(rt.alloc(), &mut Reading::new(FIRST), &mut sink, &ORLIB);
         let taken = (k - 1) as usize;
         if k <= 6 {
@@ -49,21 +47,19 @@ fn sink_that_fails_holds_a_beginning(rt: HostRuntime) -> Result<(), Fail> {
             "at call {k}"
         );
     }
-    Ok(())
 }
 
 #[test]
-fn source_without_end_is_left(rt: HostRuntime) -> Result<(), Fail> {
+fn source_without_end_is_left(rt: HostRuntime) {
     let mut source = Endless { given: 0 };
-    let mut sink = Memory::with_room(rt.alloc(), 64)?;
+    let mut sink = room(&rt, rt.alloc(), 64);
     let answer = list_text(rt.alloc(), &mut source, &mut sink, &ORLIB);
     assert_eq!(rt; answer, Err(Fault::Text(ReadFault::TooLong)));
     assert_eq!(rt; source.given, 16_777_217);
-    Ok(())
 }
 
 #[test]
-fn schedule_is_not_read_where_the_instance_is_refused(rt: HostRuntime) -> Result<(), Fail> {
+fn schedule_is_not_read_where_the_instance_is_refused(rt: HostRuntime) {
     let rows = [
         (
             b"2".as_slice(),
@@ -74,7 +70,7 @@ fn schedule_is_not_read_where_the_instance_is_refused(rt: HostRuntime) -> Result
     ];
     for (text, fails_at, fault) in rows {
         let mut schedule = Some(Endless { given: 0 });
-        let mut sink = Memory::with_room(rt.alloc(), 64)?;
+        let mut sink = room(&rt, rt.alloc(), 64);
         let mut source = Dripping::new(text, fails_at);
         let answer = check_text(
             rt.alloc(),
@@ -88,25 +84,16 @@ fn schedule_is_not_read_where_the_instance_is_refused(rt: HostRuntime) -> Result
             assert_eq!(rt; unread.given, 0);
         }
     }
-    Ok(())
 }
 
 #[test]
-fn slow_devices_give_the_same_report(rt: HostRuntime) -> Result<(), Fail> {
-    let args = with_plan(Plan::new(1, 100, 1).ok_or("plan")?, false);
-    let mut slow = Trickling::new(Memory::with_room(rt.alloc(), 1024)?, 0);
+fn slow_devices_give_the_same_report(rt: HostRuntime) {
+    let args = with_plan(plan(&rt, 1, 100), false);
+    let mut slow = Trickling::new(room(&rt, rt.alloc(), 1024), 0);
     let mut source = Dripping::new(FIRST, 0);
-    solve_text(&(), rt.alloc(), &mut source, &mut slow, &args, &mut Alone)?;
-    let mut sink = Memory::with_room(rt.alloc(), 1024)?;
-    solve_text(
-        &(),
-        rt.alloc(),
-        &mut Reading::new(FIRST),
-        &mut sink,
-        &args,
-        &mut Alone,
-    )?;
+    let answer = solve_text(&(), rt.alloc(), &mut source, &mut slow, &args, &mut Alone);
+    assert_eq!(rt; answer, Ok(()));
+    let sink = solve(&rt, rt.alloc(), &args, FIRST);
     assert_eq!(rt; slow.memory.bytes(), sink.bytes());
     assert_eq!(rt; slow.calls, sink.bytes().len() as u64);
-    Ok(())
 }

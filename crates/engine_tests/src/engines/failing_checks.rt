@@ -1,10 +1,9 @@
 // Verdicts with devices that move one byte a call and fail at one of the calls, and with sources that never end.
 use crate::engines::fakes::{Dripping, Endless, Trickling};
-use crate::engines::runs::without_name;
-use shop_engine::{Fault, Memory, Reading, Sink, Source, check_text};
+use crate::engines::runs::{room, without_name};
+use shop_engine::{Fault, Reading, Sink, Source, check_text};
 use shop_text::ReadFault;
 use std::alloc::Global;
-use std::test::Fail;
 
 const INSTANCE: &[u8] = b"2 2\n0 3 1 2\n1 2 0 4\n";
 
@@ -34,25 +33,24 @@ fn read_answer(k: u64, calls: u64) -> (Result<bool, Fault>, &'static [u8]) {
 }
 
 #[test]
-fn instance_that_fails_is_never_at_its_end(rt: HostRuntime) -> Result<(), Fail> {
+fn instance_that_fails_is_never_at_its_end(rt: HostRuntime) {
     for k in 1..45 {
         let mut source = Dripping::new(BOTH, k);
-        let mut sink = Memory::with_room(rt.alloc(), 64)?;
+        let mut sink = room(&rt, rt.alloc(), 64);
         let answer = check_one(rt.alloc(), &mut source, &mut sink);
         let (expected, line) = read_answer(k, 43);
         assert_eq!(rt; answer, expected, "at call {k}");
         assert_eq!(rt; sink.bytes(), line, "at call {k}");
         assert_eq!(rt; source.calls, k.min(43));
     }
-    Ok(())
 }
 
 #[test]
-fn instance_beside_a_schedule_is_never_at_its_end(rt: HostRuntime) -> Result<(), Fail> {
+fn instance_beside_a_schedule_is_never_at_its_end(rt: HostRuntime) {
     for k in 1..23 {
         let mut source = Dripping::new(INSTANCE, k);
         let mut second = Some(Reading::new(SCHEDULE));
-        let mut sink = Memory::with_room(rt.alloc(), 64)?;
+        let mut sink = room(&rt, rt.alloc(), 64);
         let answer = check_text(
             rt.alloc(),
             &mut source,
@@ -65,14 +63,13 @@ fn instance_beside_a_schedule_is_never_at_its_end(rt: HostRuntime) -> Result<(),
         assert_eq!(rt; sink.bytes(), line, "at call {k}");
         assert_eq!(rt; source.calls, k.min(21));
     }
-    Ok(())
 }
 
 #[test]
-fn schedule_that_fails_is_never_at_its_end(rt: HostRuntime) -> Result<(), Fail> {
+fn schedule_that_fails_is_never_at_its_end(rt: HostRuntime) {
     for k in 1..25 {
         let mut second = Some(Dripping::new(SCHEDULE, k));
-        let mut sink = Memory::with_room(rt.alloc(), 64)?;
+        let mut sink = room(&rt, rt.alloc(), 64);
         let answer = check_text(
             rt.alloc(),
             &mut Reading::new(INSTANCE),
@@ -87,13 +84,12 @@ fn schedule_that_fails_is_never_at_its_end(rt: HostRuntime) -> Result<(), Fail> 
             assert_eq!(rt; schedule.calls, k.min(23));
         }
     }
-    Ok(())
 }
 
 #[test]
-fn sink_of_a_verdict_holds_a_beginning(rt: HostRuntime) -> Result<(), Fail> {
+fn sink_of_a_verdict_holds_a_beginning(rt: HostRuntime) {
     for k in 1..13 {
-        let mut sink = Trickling::new(Memory::with_room(rt.alloc(), 64)?, k);
+        let mut sink = Trickling::new(room(&rt, rt.alloc(), 64), k);
         let answer = check_one(rt.alloc(), &mut Reading::new(BOTH), &mut sink);
         let expected = if k <= 11 {
             Err(Fault::WriteFailed)
@@ -104,24 +100,22 @@ fn sink_of_a_verdict_holds_a_beginning(rt: HostRuntime) -> Result<(), Fail> {
         let taken = (k - 1) as usize;
         assert_eq!(rt; sink.memory.bytes(), &LINE[..taken], "at call {k}");
     }
-    Ok(())
 }
 
 #[test]
-fn instance_without_end_is_left(rt: HostRuntime) -> Result<(), Fail> {
+fn instance_without_end_is_left(rt: HostRuntime) {
     let mut source = Endless { given: 0 };
-    let mut sink = Memory::with_room(rt.alloc(), 64)?;
+    let mut sink = room(&rt, rt.alloc(), 64);
     let answer = check_one(rt.alloc(), &mut source, &mut sink);
     assert_eq!(rt; answer, Err(Fault::Text(ReadFault::TooLong)));
     assert_eq!(rt; source.given, 16_777_217);
     assert_eq!(rt; sink.bytes(), b"".as_slice());
-    Ok(())
 }
 
 #[test]
-fn schedule_without_end_is_left(rt: HostRuntime) -> Result<(), Fail> {
+fn schedule_without_end_is_left(rt: HostRuntime) {
     let mut second = Some(Endless { given: 0 });
-    let mut sink = Memory::with_room(rt.alloc(), 64)?;
+    let mut sink = room(&rt, rt.alloc(), 64);
     let answer = check_text(
         rt.alloc(),
         &mut Reading::new(INSTANCE),
@@ -134,14 +128,13 @@ fn schedule_without_end_is_left(rt: HostRuntime) -> Result<(), Fail> {
     if let Some(schedule) = second {
         assert_eq!(rt; schedule.given, 16_777_217);
     }
-    Ok(())
 }
 
 #[test]
-fn slow_devices_give_the_same_verdict(rt: HostRuntime) -> Result<(), Fail> {
+fn slow_devices_give_the_same_verdict(rt: HostRuntime) {
     let mut source = Dripping::new(INSTANCE, 0);
     let mut second = Some(Dripping::new(SCHEDULE, 0));
-    let mut sink = Trickling::new(Memory::with_room(rt.alloc(), 64)?, 0);
+    let mut sink = Trickling::new(room(&rt, rt.alloc(), 64), 0);
     let answer = check_text(
         rt.alloc(),
         &mut source,
@@ -152,5 +145,4 @@ fn slow_devices_give_the_same_verdict(rt: HostRuntime) -> Result<(), Fail> {
     assert_eq!(rt; answer, Ok(true));
     assert_eq!(rt; sink.memory.bytes(), LINE);
     assert_eq!(rt; sink.calls, 11);
-    Ok(())
 }

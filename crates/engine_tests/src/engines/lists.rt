@@ -1,8 +1,7 @@
 // Lists, and instance texts that are refused.
-use crate::engines::runs::list;
+use crate::engines::runs::assert_listed;
 use shop_engine::{Fault, Format};
 use shop_text::ReadFault;
-use std::test::Fail;
 
 const TWO: &[u8] =
     b"Two small examples\r\n82\r\n+++++\r\n instance alpha\r\n +++++\r\n First, 2x2\r\n 2 2\r\n\
@@ -10,10 +9,9 @@ const TWO: &[u8] =
     \x20 1 1 0 1 2 6\r\n";
 
 #[test]
-fn names_and_sizes_are_listed(rt: HostRuntime) -> Result<(), Fail> {
-    let sink = list(rt.alloc(), Format::Orlib, TWO)?;
-    assert_eq!(rt; sink.bytes(), b"alpha 2 2\ngap 2 3\n".as_slice());
-    Ok(())
+fn names_and_sizes_are_listed(rt: HostRuntime) {
+    let expected = (Ok(()), b"alpha 2 2\ngap 2 3\n".as_slice());
+    assert_listed(&rt, rt.alloc(), Format::Orlib, TWO, expected);
 }
 
 #[test]
@@ -50,7 +48,7 @@ fn faulty_instance_texts_are_refused(rt: HostRuntime) {
         ),
     ];
     for (text, fault) in rows {
-        let refused = list(rt.alloc(), Format::Orlib, text).err();
-        assert_eq!(rt; refused, Some(Fault::Text(fault)), "in {fault:?}");
+        let expected = (Err(Fault::Text(fault)), b"".as_slice());
+        assert_listed(&rt, rt.alloc(), Format::Orlib, text, expected);
     }
 }

@@ -1,9 +1,8 @@
 // Releases, routes of unequal length, and the orders of the open nodes.
-use crate::engines::runs::{list, solve};
+use crate::engines::runs::{assert_listed, plan, solve};
 use shop_engine::{Fault, Format, SolveArgs};
 use shop_round::{Order, Plan};
 use shop_text::ReadFault;
-use std::test::Fail;
 
 fn with_plan(plan: Plan, gantt: bool) -> SolveArgs {
     SolveArgs {
@@ -15,22 +14,22 @@ fn with_plan(plan: Plan, gantt: bool) -> SolveArgs {
 }
 
 #[test]
-fn released_jobs_are_solved(rt: HostRuntime) -> Result<(), Fail> {
-    let args = with_plan(Plan::new(1, 100, 1).ok_or("plan")?, true);
+fn released_jobs_are_solved(rt: HostRuntime) {
+    let args = with_plan(plan(&rt, 1, 100), true);
     let sink = solve(
+        &rt,
         rt.alloc(),
         &args,
         b"3 2\n0 0 3 1 2\n4 1 2 0 4\n7\n".as_slice(),
-    )?;
+    );
     let report =
         b"instance 1\nsize 3 2\nmakespan 10\nbound 10\nstatus optimal\nopen 0\nrounds 1\nnodes 6\n\
         job 0: 0 6\njob 1: 4 6\njob 2:\nunit 1\nmachine 0 |000...1111|\nmachine 1 |....1100..|\n";
     assert_eq!(rt; sink.bytes(), report.as_slice());
-    Ok(())
 }
 
 #[test]
-fn jobs_without_operations_are_solved(rt: HostRuntime) -> Result<(), Fail> {
+fn jobs_without_operations_are_solved(rt: HostRuntime) {
     let rows = [
         (
             b"2 1\n0\n5\n".as_slice(),
@@ -45,12 +44,11 @@ fn jobs_without_operations_are_solved(rt: HostRuntime) -> Result<(), Fail> {
                 .as_slice(),
         ),
     ];
-    let args = with_plan(Plan::new(1, 100, 1).ok_or("plan")?, false);
+    let args = with_plan(plan(&rt, 1, 100), false);
     for (text, report) in rows {
-        let sink = solve(rt.alloc(), &args, text)?;
+        let sink = solve(&rt, rt.alloc(), &args, text);
         assert_eq!(rt; sink.bytes(), report);
     }
-    Ok(())
 }
 
 #[test]
@@ -67,13 +65,13 @@ fn faulty_rows_are_refused(rt: HostRuntime) {
         ),
     ];
     for (text, fault) in rows {
-        let refused = list(rt.alloc(), Format::Routes, text).err();
-        assert_eq!(rt; refused, Some(Fault::Text(fault)));
+        let expected = (Err(Fault::Text(fault)), b"".as_slice());
+        assert_listed(&rt, rt.alloc(), Format::Routes, text, expected);
     }
 }
 
 #[test]
-fn orders_count_their_nodes(rt: HostRuntime) -> Result<(), Fail> {
+fn orders_count_their_nodes(rt: HostRuntime) {
     let text = b"4 3\n0 0 5 1 3\n1 0 1 2 6\n0 1 1\n0 1 1\n".as_slice();
     let rows = [
         (
@@ -90,9 +88,9 @@ fn orders_count_their_nodes(rt: HostRuntime) -> Result<(), Fail> {
         ),
     ];
     for (order, report) in rows {
-        let args = with_plan(Plan::ordered(9, 2, 1, order).ok_or("plan")?, false);
-        let sink = solve(rt.alloc(), &args, text)?;
+        let plan = Plan::ordered(9, 2, 1, order).expect(&rt, "plan");
+        let args = with_plan(plan, false);
+        let sink = solve(&rt, rt.alloc(), &args, text);
         assert_eq!(rt; sink.bytes(), report);
     }
-    Ok(())
 }

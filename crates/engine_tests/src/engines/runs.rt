@@ -5,54 +5,63 @@ use shop_engine::{
 };
 use shop_round::{Alone, Plan};
 use std::alloc::Global;
+use std::process::Abort;
 
-/// What `list` writes of a text.
-pub(super) fn list(alloc: Global, format: Format, text: &[u8]) -> Result<Memory, Fault> {
-    let mut sink = Memory::with_room(alloc, 65_536)?;
-    list_text(
-        alloc,
-        &mut Reading::new(text),
-        &mut sink,
-        &ListArgs { format },
-    )?;
-    Ok(sink)
+/// Memory for this many bytes.
+pub(super) fn room(rt: &impl Abort, alloc: Global, bytes: usize) -> Memory {
+    Memory::with_room(alloc, bytes).expect(rt, "memory")
 }
 
-/// What `check` answers and writes of a text and, where there is one, a schedule beside it.
-pub(super) fn check(
+/// Asserts what `list` answers and writes of a text.
+pub(super) fn assert_listed(
+    rt: &impl Abort,
+    alloc: Global,
+    format: Format,
+    text: &[u8],
+    expected: (Result<(), Fault>, &[u8]),
+) {
+    let (answer, lines) = expected;
+    let mut sink = room(rt, alloc, 1024);
+    let args = ListArgs { format };
+    assert_eq!(rt;
+        list_text(alloc, &mut Reading::new(text), &mut sink, &args),
+        answer
+    );
+    assert_eq!(rt; sink.bytes(), lines);
+}
+
+/// Asserts what `check` answers and writes of a text and, where there is one, a schedule beside it.
+pub(super) fn assert_checked(
+    rt: &impl Abort,
     alloc: Global,
     format: Format,
     text: &[u8],
     schedule: Option<&[u8]>,
-) -> Result<(bool, Memory), Fault> {
-    let mut sink = Memory::with_room(alloc, 65_536)?;
-    let mut second = match schedule {
-        Some(bytes) => Some(Reading::new(bytes)),
-        None => None,
-    };
+    expected: (Result<bool, Fault>, &[u8]),
+) {
+    let (answer, line) = expected;
+    let mut sink = room(rt, alloc, 1024);
+    let mut second = schedule.map(Reading::new);
     let args = CheckArgs { format, name: None };
-    let feasible = check_text(
-        alloc,
-        &mut Reading::new(text),
-        &mut second,
-        &mut sink,
-        &args,
-    )?;
-    Ok((feasible, sink))
+    assert_eq!(rt;
+        check_text(
+            alloc,
+            &mut Reading::new(text),
+            &mut second,
+            &mut sink,
+            &args
+        ),
+        answer
+    );
+    assert_eq!(rt; sink.bytes(), line);
 }
 
 /// What `solve` writes of a text, with one worker.
-pub(super) fn solve(alloc: Global, args: &SolveArgs, text: &[u8]) -> Result<Memory, Fault> {
-    let mut sink = Memory::with_room(alloc, 65_536)?;
-    solve_text(
-        &(),
-        alloc,
-        &mut Reading::new(text),
-        &mut sink,
-        args,
-        &mut Alone,
-    )?;
-    Ok(sink)
+pub(super) fn solve(rt: &impl Abort, alloc: Global, args: &SolveArgs, text: &[u8]) -> Memory {
+    let mut sink = room(rt, alloc, 65_536);
+    let mut source = Reading::new(text);
+    solve_text(&(), alloc, &mut source, &mut sink, args, &mut Alone).expect(rt, "a report");
+    sink
 }
 
 /// The arguments for the verdict on the first instance of an `orlib` text.
@@ -61,6 +70,11 @@ pub(super) fn without_name() -> CheckArgs {
         format: Format::Orlib,
         name: None,
     }
+}
+
+/// A plan by the kept order, with pieces of one node.
+pub(super) fn plan(rt: &impl Abort, rounds: u64, budget: u64) -> Plan {
+    Plan::new(rounds, budget, 1).expect(rt, "plan")
 }
 
 /// The arguments for the report of the first instance of an `orlib` text.

@@ -1,13 +1,16 @@
 // Schedule texts, accepted and refused.
-use crate::engines::runs::check;
+use crate::engines::runs::assert_checked;
 use shop_engine::{Fault, Format};
 use shop_text::ReadFault;
-use std::test::Fail;
 
 const FIRST: &[u8] = b"2 2\n0 3 1 2\n1 2 0 4\n";
 
+fn refused_at(line: usize) -> Result<bool, Fault> {
+    Err(Fault::Text(ReadFault::BadTable { line }))
+}
+
 #[test]
-fn schedule_texts_are_read(rt: HostRuntime) -> Result<(), Fail> {
+fn schedule_texts_are_read(rt: HostRuntime) {
     let rows = [
         (
             b"job 0: 0 3\njob 1: 0 1000000000000000\n".as_slice(),
@@ -23,14 +26,20 @@ fn schedule_texts_are_read(rt: HostRuntime) -> Result<(), Fail> {
         ),
     ];
     for (schedule, line) in rows {
-        let (_, sink) = check(rt.alloc(), Format::Orlib, FIRST, Some(schedule))?;
-        assert_eq!(rt; sink.bytes(), line);
+        let expected = (Ok(true), line);
+        assert_checked(
+            &rt,
+            rt.alloc(),
+            Format::Orlib,
+            FIRST,
+            Some(schedule),
+            expected,
+        );
     }
-    Ok(())
 }
 
 #[test]
-fn schedules_of_a_second_source_are_judged(rt: HostRuntime) -> Result<(), Fail> {
+fn schedules_of_a_second_source_are_judged(rt: HostRuntime) {
     let rows = [
         (
             b"job 0: 0 3\njob 1: 0 3\n".as_slice(),
@@ -44,11 +53,16 @@ fn schedules_of_a_second_source_are_judged(rt: HostRuntime) -> Result<(), Fail> 
         ),
     ];
     for (schedule, feasible, line) in rows {
-        let (answer, sink) = check(rt.alloc(), Format::Orlib, FIRST, Some(schedule))?;
-        assert_eq!(rt; answer, feasible);
-        assert_eq!(rt; sink.bytes(), line);
+        let expected = (Ok(feasible), line);
+        assert_checked(
+            &rt,
+            rt.alloc(),
+            Format::Orlib,
+            FIRST,
+            Some(schedule),
+            expected,
+        );
     }
-    Ok(())
 }
 
 #[test]
@@ -58,16 +72,23 @@ fn faulty_schedules_of_a_second_source_are_refused(rt: HostRuntime) {
         b"job 0: 0 3\n".as_slice(),
     ];
     for schedule in schedules {
-        let refused = check(rt.alloc(), Format::Orlib, FIRST, Some(schedule)).err();
-        assert_eq!(rt; refused, Some(Fault::Text(ReadFault::BadTable { line: 2 })));
+        let expected = (refused_at(2), b"".as_slice());
+        assert_checked(
+            &rt,
+            rt.alloc(),
+            Format::Orlib,
+            FIRST,
+            Some(schedule),
+            expected,
+        );
     }
 }
 
 #[test]
 fn job_without_operations_has_its_line(rt: HostRuntime) {
     let text = b"3 2\n0 0 3 1 2\n4 1 2 0 4\n7\njob 0: 0 6\njob 1: 3 6\n".as_slice();
-    let refused = check(rt.alloc(), Format::Routes, text, None).err();
-    assert_eq!(rt; refused, Some(Fault::Text(ReadFault::BadTable { line: 7 })));
+    let expected = (refused_at(7), b"".as_slice());
+    assert_checked(&rt, rt.alloc(), Format::Routes, text, None, expected);
 }
 
 #[test]
@@ -100,7 +121,7 @@ fn faulty_schedule_texts_are_refused(rt: HostRuntime) {
         ),
     ];
     for (text, line) in rows {
-        let refused = check(rt.alloc(), Format::Orlib, text, None).err();
-        assert_eq!(rt; refused, Some(Fault::Text(ReadFault::BadTable { line })));
+        let expected = (refused_at(line), b"".as_slice());
+        assert_checked(&rt, rt.alloc(), Format::Orlib, text, None, expected);
     }
 }

@@ -1,9 +1,10 @@
 // Reports of small instances, by hand.
-use crate::engines::runs::{solve, with_plan};
-use shop_engine::{Fault, Format, SolveArgs};
-use shop_round::Plan;
+use crate::engines::runs::{plan, room, solve, with_plan};
+use shop_engine::{Fault, Format, Reading, SolveArgs, solve_text};
+use shop_round::Alone;
 use shop_text::ReadFault;
-use std::test::Fail;
+use std::alloc::Global;
+use std::process::Abort;
 
 pub(super) const FIRST: &[u8] = b"2 2\n0 3 1 2\n1 2 0 4\n";
 
@@ -16,18 +17,17 @@ pub(super) const SOLVED: &[u8] =
     job 0: 0 3\njob 1: 0 3\n";
 
 #[test]
-fn small_instance_is_solved_with_its_chart(rt: HostRuntime) -> Result<(), Fail> {
-    let args = with_plan(Plan::new(1, 100, 1).ok_or("plan")?, true);
-    let sink = solve(rt.alloc(), &args, FIRST)?;
+fn small_instance_is_solved_with_its_chart(rt: HostRuntime) {
+    let args = with_plan(plan(&rt, 1, 100), true);
+    let sink = solve(&rt, rt.alloc(), &args, FIRST);
     let report =
         b"instance 1\nsize 2 2\nmakespan 7\nbound 7\nstatus optimal\nopen 0\nrounds 1\nnodes 6\n\
         job 0: 0 3\njob 1: 0 3\nunit 1\nmachine 0 |0001111|\nmachine 1 |11.00..|\n";
     assert_eq!(rt; sink.bytes(), report.as_slice());
-    Ok(())
 }
 
 #[test]
-fn small_plans_leave_nodes_open(rt: HostRuntime) -> Result<(), Fail> {
+fn small_plans_leave_nodes_open(rt: HostRuntime) {
     let rows = [
         (
             0,
@@ -52,15 +52,14 @@ fn small_plans_leave_nodes_open(rt: HostRuntime) -> Result<(), Fail> {
         ),
     ];
     for (rounds, budget, report) in rows {
-        let args = with_plan(Plan::new(rounds, budget, 1).ok_or("plan")?, false);
-        let sink = solve(rt.alloc(), &args, FIRST)?;
+        let args = with_plan(plan(&rt, rounds, budget), false);
+        let sink = solve(&rt, rt.alloc(), &args, FIRST);
         assert_eq!(rt; sink.bytes(), report, "rounds {rounds}, budget {budget}");
     }
-    Ok(())
 }
 
 #[test]
-fn instances_are_solved_to_the_end(rt: HostRuntime) -> Result<(), Fail> {
+fn instances_are_solved_to_the_end(rt: HostRuntime) {
     let rows = [
         (
             ZERO_TIMES,
@@ -87,16 +86,15 @@ fn instances_are_solved_to_the_end(rt: HostRuntime) -> Result<(), Fail> {
                 .as_slice(),
         ),
     ];
-    let args = with_plan(Plan::new(1, 100, 1).ok_or("plan")?, false);
+    let args = with_plan(plan(&rt, 1, 100), false);
     for (text, report) in rows {
-        let sink = solve(rt.alloc(), &args, text)?;
+        let sink = solve(&rt, rt.alloc(), &args, text);
         assert_eq!(rt; sink.bytes(), report);
     }
-    Ok(())
 }
 
 #[test]
-fn rounds_go_on_where_they_stopped(rt: HostRuntime) -> Result<(), Fail> {
+fn rounds_go_on_where_they_stopped(rt: HostRuntime) {
     let rows = [
         (
             1,
@@ -116,64 +114,62 @@ fn rounds_go_on_where_they_stopped(rt: HostRuntime) -> Result<(), Fail> {
         ),
     ];
     for (rounds, lines) in rows {
-        let args = with_plan(Plan::new(rounds, 3, 1).ok_or("plan")?, false);
-        let sink = solve(rt.alloc(), &args, GAP)?;
+        let args = with_plan(plan(&rt, rounds, 3), false);
+        let sink = solve(&rt, rt.alloc(), &args, GAP);
         let head = b"instance 1\nsize 2 3\n".len();
         let bytes = sink.bytes();
         assert!(rt; head + lines.len() <= bytes.len());
         assert_eq!(rt; &bytes[head..head + lines.len()], lines, "rounds {rounds}");
     }
-    Ok(())
 }
 
 #[test]
-fn an_empty_schedule_has_an_empty_chart(rt: HostRuntime) -> Result<(), Fail> {
-    let args = with_plan(Plan::new(1, 100, 1).ok_or("plan")?, true);
-    let sink = solve(rt.alloc(), &args, b"1 1\n0 0\n")?;
+fn an_empty_schedule_has_an_empty_chart(rt: HostRuntime) {
+    let args = with_plan(plan(&rt, 1, 100), true);
+    let sink = solve(&rt, rt.alloc(), &args, b"1 1\n0 0\n");
     let report =
         b"instance 1\nsize 1 1\nmakespan 0\nbound 0\nstatus optimal\nopen 0\nrounds 0\nnodes 0\n\
         job 0: 0\nunit 1\nmachine 0 ||\n";
     assert_eq!(rt; sink.bytes(), report.as_slice());
-    Ok(())
 }
 
 #[test]
-fn bounds_of_a_text_are_not_trusted(rt: HostRuntime) -> Result<(), Fail> {
+fn bounds_of_a_text_are_not_trusted(rt: HostRuntime) {
     let args = SolveArgs {
         format: Format::Taillard,
         name: None,
-        plan: Plan::new(1, 100, 1).ok_or("plan")?,
+        plan: plan(&rt, 1, 100),
         gantt: false,
     };
     let text = b"a heading in words\n2 2 11 22 6 6\nTimes\n3 2\n2 4\nMachines\n1 2\n2 1\n";
-    let sink = solve(rt.alloc(), &args, text.as_slice())?;
+    let sink = solve(&rt, rt.alloc(), &args, text.as_slice());
     assert_eq!(rt; sink.bytes(), SOLVED);
-    Ok(())
+}
+
+const NAMED: &[u8] =
+    b"instance alpha\n2 2\n0 3 1 2\n1 2 0 4\ninstance gap\n2 3\n0 5 1 3 2 0\n1 1 0 1 2 6\n";
+
+fn with_name(rt: &impl Abort, alloc: Global, name: &str) -> SolveArgs {
+    SolveArgs {
+        format: Format::Orlib,
+        name: Some(String::from_str(alloc, name).expect(rt, "memory")),
+        plan: plan(rt, 1, 100),
+        gantt: false,
+    }
 }
 
 #[test]
-fn names_are_looked_for(rt: HostRuntime) -> Result<(), Fail> {
-    let text =
-        b"instance alpha\n2 2\n0 3 1 2\n1 2 0 4\ninstance gap\n2 3\n0 5 1 3 2 0\n1 1 0 1 2 6\n";
-    let rows = [
-        ("gap", None),
-        ("beta", Some(Fault::Text(ReadFault::NoSuchName))),
-    ];
-    for (name, fault) in rows {
-        let args = SolveArgs {
-            format: Format::Orlib,
-            name: Some(String::from_str(rt.alloc(), name)?),
-            plan: Plan::new(1, 100, 1).ok_or("plan")?,
-            gantt: false,
-        };
-        let answer = solve(rt.alloc(), &args, text.as_slice());
-        match answer {
-            Ok(sink) => assert!(rt;
-                sink.bytes()
-                    .starts_with(b"instance gap\nsize 2 3\nmakespan 10\n")
-            ),
-            Err(refused) => assert_eq!(rt; Some(refused), fault),
-        }
-    }
-    Ok(())
+fn names_are_looked_for(rt: HostRuntime) {
+    let sink = solve(&rt, rt.alloc(), &with_name(&rt, rt.alloc(), "gap"), NAMED);
+    let head = b"instance gap\nsize 2 3\nmakespan 10\n";
+    assert!(rt; sink.bytes().starts_with(head.as_slice()));
+}
+
+#[test]
+fn a_name_that_is_not_there_is_refused(rt: HostRuntime) {
+    let mut source = Reading::new(NAMED);
+    let mut sink = room(&rt, rt.alloc(), 64);
+    let args = with_name(&rt, rt.alloc(), "beta");
+    let answer = solve_text(&(), rt.alloc(), &mut source, &mut sink, &args, &mut Alone);
+    assert_eq!(rt; answer, Err(Fault::Text(ReadFault::NoSuchName)));
 }
