@@ -9,9 +9,9 @@ pub mod Placings
 pub mod Unders
 pub mod Ranges
 pub mod StartWord
-pub mod Mirrors
+pub mod PlacementLemmas
 pub mod WordLengths
-pub mod PlacingTurns
+pub mod StartRows
 pub mod PlacedTables
 pub mod Merging
 pub mod SwappedPairs

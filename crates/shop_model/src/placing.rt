@@ -5,6 +5,7 @@ ghost use Rattle.shop_model.specs.inner.NonePlaced.{no_starts};
 ghost use Rattle.shop_model.specs.Placed.{IsPlacedBy};
 
 use crate::instances::Instance;
+use crate::placements::Placement;
 use crate::tables::Table;
 use crate::words::Word;
 use std::alloc::{AllocError, Global};
@@ -30,18 +31,12 @@ pub fn place(alloc: Global, instance: &Instance, word: &Word) -> Result<Table, A
     // It is feasible, lies under the word and each of its beginnings, and ends at the greatest placed end.
     ensures law { IfOk result (λ t. IsPlacedBy instance.now word.now t) }
 {
-    instance.keeps_limits();
-    let mut ready = instance.releases(alloc)?;
-    let mut free = vec![in alloc; 0; instance.machines()]?;
+    let mut placement = Placement::none(alloc, instance)?;
     let mut rows = empty_rows(alloc, instance)?;
     for &j in word.jobs() {
-        let row = &mut rows[j];
-        let operation = instance.route(j)[row.len()];
-        let start = ready[j].max(free[operation.machine]);
-        let finish = start + operation.time;
-        row.push(start)?;
-        ready[j] = finish;
-        free[operation.machine] = finish;
+        let start = placement.place_next(instance, j);
+        rows[j].push(start)?;
     }
+    instance.keeps_limits();
     Ok(Table::of_checked(rows))
 }

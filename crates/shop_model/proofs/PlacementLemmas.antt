@@ -1,0 +1,199 @@
+-- Placements kept as lists.
+use Rattle.std.proofs.Common.{◌≡◌, ℕ, ◌<◌, ◌≤◌, ◌+◌, ◌^◌, max, inl, inr, List, length, map, take, replicate, get_or}
+use Rattle.std.proofs.Common.{set, sym, ◌∙◌, ap, subst, arith, cond, eqb}
+use Rattle.std.proofs.lemmas.Bool.{cases_eq}
+use Rattle.std.proofs.lemmas.Grind.{get_or_default_zero, get_or-set_at}
+use Rattle.std.proofs.lemmas.List.{get_or-replicate, length-replicate, take_more, get_or-set_other, length-set}
+use Rattle.std.proofs.lemmas.List.FromFn.{get_or-map-range_with_len, length-map-range_with_len}
+use Rattle.std.proofs.lemmas.List.Sums.{sum_by-take-le}
+use Rattle.std.specs.List.{range_with_len}
+use Rattle.shop_model.specs.Limits.{IsWithinLimits}
+use Rattle.shop_model.specs.declared.ops.Op.{Op}
+use Rattle.shop_model.specs.Shop.{Shop, no_op, release_of, route_of, op_of, machine_of, time_of, IsOperation}
+use Rattle.shop_model.specs.Word.{Placing, IsWord, place_next, placing, none_placed, count_of}
+use Rattle.shop_model.proofs.Placings.{place_next-is}
+use Rattle.shop_model.proofs.Ends.{IsOperation-job}
+use Rattle.shop_model.proofs.Unders.{after_word, next_operation, placing-snoc}
+use Rattle.shop_model.proofs.WordLemmas.{IsWord-init}
+use Rattle.shop_model.specs.Placements.{PlacementState, HasPlaces, IsPlacement, HasNext}
+use Rattle.shop_model.proofs.WordLengths.{word_length, ready_word}
+
+-- a beginning of a word is a word
+pub IsWord-take : (shop : Shop) (w : List ℕ) (k : ℕ) → IsWord shop w → IsWord shop (take k w)
+IsWord-take shop w k word i = let a = sum_by-take-le (λ x. cond (eqb x i) 1 0) w k in let b = word i in omega arith
+
+-- one more entry is placed
+pub placing-take : (shop : Shop) (w : List ℕ) (i : ℕ) → i < length w
+    → placing shop (take (i + 1) w) ≡ place_next shop (placing shop (take i w)) (get_or w i 0)
+placing-take shop w i below =
+    ap (placing shop) (take_more w i 0 below) ∙ placing-snoc shop (take i w) (get_or w i 0)
+
+-- what nothing placed looks like
+pub none_is : (shop : Shop) (s : PlacementState) → s.steps ≡ replicate (length shop.jobs) 0
+    → s.ready ≡ map (λ j. release_of shop j) (range_with_len 0 (length shop.jobs)) → s.free ≡ replicate shop.machines 0
+    → IsPlacement shop (none_placed shop) s
+none_is shop s steps ready free = record {
+  places = record {
+    steps = ap (λ (xs : List ℕ). length xs) steps ∙ length-replicate (length shop.jobs) 0;
+    ready = ap (λ (xs : List ℕ). length xs) ready ∙ length-map-range_with_len (release_of shop) 0 (length shop.jobs);
+    free = ap (λ (xs : List ℕ). length xs) free ∙ length-replicate shop.machines 0;
+  };
+  steps = λ j h. ap (λ (xs : List ℕ). get_or xs j 0) steps ∙ get_or-replicate (length shop.jobs) j 0 0 h;
+  ready = λ j h. ap (λ (xs : List ℕ). get_or xs j 0) ready
+      ∙ get_or-map-range_with_len (release_of shop) 0 (length shop.jobs) j j 0 h (omega arith);
+  free = λ m h. ap (λ (xs : List ℕ). get_or xs m 0) free ∙ get_or-replicate shop.machines m 0 0 h;
+}
+
+-- what is known where a word can go on with j
+pub record IsAboutToPlace (shop : Shop) (j : ℕ) (s : PlacementState) : Type 0 where
+  pub job : j < length shop.jobs
+  pub places : HasPlaces shop s
+  pub operation : IsOperation shop j (get_or s.steps j 0)
+  pub ready : get_or s.ready j 0 ≤ 1000000000000000
+  pub free : (m : ℕ) → m < shop.machines → get_or s.free m 0 ≤ 1000000000000000
+
+pub about_to_place : (shop : Shop) (j : ℕ) (s : PlacementState) → IsWithinLimits shop → HasNext shop j s
+    → IsAboutToPlace shop j s
+about_to_place shop j s limits next =
+    let w = next.word
+    in let word = IsWord-init shop w j next.fits
+    in let operation = next_operation shop w j next.fits
+    in let job = IsOperation-job shop j (count_of j w) operation
+    in let steps = next.placed.steps j job
+    in let counts = (after_word shop w word).steps j
+    in let few = word_length shop w limits word
+    in let small = ready_word shop limits w
+    in record {
+      job = job;
+      places = next.placed.places;
+      operation = rw (steps, counts) operation;
+      ready = (let a = small.ready j in let b = next.placed.ready j job in omega arith);
+      free = λ m h. (let a = small.free m in let b = next.placed.free m h in omega arith);
+    }
+
+pub job_of_next : (shop : Shop) (j : ℕ) (s : PlacementState) → HasNext shop j s → j < length shop.jobs
+job_of_next shop j s next = IsOperation-job shop j (count_of j next.word) (next_operation shop next.word j next.fits)
+
+-- the entry that comes next can be placed
+pub next_of_word : (shop : Shop) (w : List ℕ) → IsWord shop w → (i : ℕ) → i < length w → (s : PlacementState)
+    → IsPlacement shop (placing shop (take i w)) s → HasNext shop (get_or w i 0) s
+next_of_word shop w word i below s is = record {
+  word = take i w;
+  fits = subst (IsWord shop) (take_more w i 0 below) (IsWord-take shop w (i + 1) word);
+  placed = is;
+}
+
+-- what was read, for one more step to be placed: its number, the operation, and when its job and its machine are ready
+pub record AreReads (shop : Shop) (j : ℕ) (s : PlacementState) (k : ℕ) (o : Op) (r f : ℕ) : Type 0 where
+  pub step : k ≡ get_or s.steps j 0
+  pub operation : o ≡ op_of shop j k
+  pub machine : o.machine < shop.machines
+  pub ready : r ≡ get_or s.ready j 0
+  pub free : f ≡ get_or s.free o.machine 0
+
+pub read_is : (xs : List ℕ) (i x : ℕ) → i < length xs → x ≡ get_or xs i x → x ≡ get_or xs i 0
+read_is xs i x below read = read ∙ get_or_default_zero xs i x below
+
+pub reads : (shop : Shop) (j : ℕ) (s : PlacementState) → IsWithinLimits shop → IsAboutToPlace shop j s
+    → (route : List Op) → route ≡ route_of shop j → (k r f : ℕ) → k ≡ get_or s.steps j k → r ≡ get_or s.ready j r
+    → f ≡ get_or s.free (get_or route k no_op).machine f → AreReads shop j s k (get_or route k no_op) r f
+reads shop j s limits next route e k r f read_k read_r read_f =
+    let o : get_or route k no_op ≡ op_of shop j k = ap (λ (xs : List Op). get_or xs k no_op) e
+    in let m : (get_or route k no_op).machine < shop.machines = rw o (limits.on_machines j k)
+    in record {
+      step = read_is s.steps j k (let a = next.job in let b = next.places.steps in omega arith) read_k;
+      operation = o;
+      machine = m;
+      ready = read_is s.ready j r (let a = next.job in let b = next.places.ready in omega arith) read_r;
+      free = read_is s.free (get_or route k no_op).machine f (let b = next.places.free in omega arith) read_f;
+    }
+
+-- the step is one of the route, which is short
+pub step_read : (shop : Shop) (j : ℕ) (s : PlacementState) → IsWithinLimits shop → IsAboutToPlace shop j s
+    → (route : List Op) → route ≡ route_of shop j → (k : ℕ) → k ≡ get_or s.steps j k → (k < length route) × (k < 100)
+step_read shop j s limits next route e k read =
+    let step = read_is s.steps j k (let a = next.job in let b = next.places.steps in omega arith) read
+    in let long : length route ≡ length (route_of shop j) = ap (λ (xs : List Op). length xs) e
+    in let a = next.operation in let b = limits.routes j in (omega arith, omega arith)
+
+-- the sum fits
+pub finish_small : (shop : Shop) (j : ℕ) (s : PlacementState) → IsWithinLimits shop → IsAboutToPlace shop j s
+    → (k : ℕ) (o : Op) (r f : ℕ) → AreReads shop j s k o r f → max r f + o.time < 2 ^ 64
+finish_small shop j s limits next k o r f reads =
+    let a = next.ready
+    in let b = next.free o.machine reads.machine
+    in let c = limits.times j k
+    in let d : o.time ≡ time_of shop j k = ap (λ (x : Op). x.time) reads.operation
+    in let e = reads.ready in let g = reads.free in omega arith
+
+-- the lists after the next step of j was written into them
+module _ (shop : Shop) (p : Placing) (s : PlacementState) (is : IsPlacement shop p s) (j : ℕ)
+    (job : j < length shop.jobs)
+    (k m finish : ℕ) (step : k ≡ p.steps j) (on_machine : m ≡ machine_of shop j k) (known : m < shop.machines)
+    (ends : finish ≡ max (p.ready j) (p.free m) + time_of shop j k) where
+  placed_next : IsPlacement shop (place_next shop p j) (record {
+    steps = set s.steps j (k + 1);
+    ready = set s.ready j finish;
+    free = set s.free m finish;
+  })
+  placed_next =
+      let n = place_next-is shop p j
+      in let begins = n.begins_here
+      in let here : m ≡ machine_of shop j (p.steps j) = on_machine ∙ ap (machine_of shop j) step
+      in let t : time_of shop j k ≡ time_of shop j (p.steps j) = ap (time_of shop j) step
+      in let fm : p.free m ≡ p.free (machine_of shop j (p.steps j)) = ap p.free here
+      in record {
+        places = record {
+          steps = length-set s.steps j (k + 1) ∙ is.places.steps;
+          ready = length-set s.ready j finish ∙ is.places.ready;
+          free = length-set s.free m finish ∙ is.places.free;
+        };
+        steps = λ i h. elim (cases_eq i j) [
+          | inl e ↦ (let a = get_or-set_at s.steps j i (k + 1) 0 e (let l = is.places.steps in omega arith)
+              in let b = n.steps_here in let d : (place_next shop p j).steps i ≡ (place_next shop p j).steps j =
+              ap (place_next shop p j).steps e
+              in omega arith)
+          | inr ne ↦ get_or-set_other s.steps j i (k + 1) 0 ne ∙ (is.steps i h ∙ sym (n.steps_other i ne))
+        ];
+        ready = λ i h. elim (cases_eq i j) [
+          | inl e ↦ (let a = get_or-set_at s.ready j i finish 0 e (let l = is.places.ready in omega arith)
+              in let b = n.ready_here in let d : (place_next shop p j).ready i ≡ (place_next shop p j).ready j =
+              ap (place_next shop p j).ready e
+              in omega arith)
+          | inr ne ↦ get_or-set_other s.ready j i finish 0 ne ∙ (is.ready i h ∙ sym (n.ready_other i ne))
+        ];
+        free = λ i h. elim (cases_eq i m) [
+          | inl e ↦ (let a = get_or-set_at s.free m i finish 0 e (let l = is.places.free in omega arith)
+              in let b = n.free_here i (e ∙ here) in omega arith)
+          | inr ne ↦ get_or-set_other s.free m i finish 0 ne
+              ∙ (is.free i h ∙ sym (n.free_other i (λ e. ne (e ∙ sym here))))
+        ];
+      }
+
+pub placed_by_reads : (shop : Shop) (j : ℕ) (s : PlacementState) → j < length shop.jobs → (k : ℕ) (o : Op) (r f : ℕ)
+    → AreReads shop j s k o r f
+    → (begin : ℕ) → begin ≡ max r f → (p : Placing) → IsPlacement shop p s
+    → IsPlacement shop (place_next shop p j) (record {
+      steps = set s.steps j (k + 1);
+      ready = set s.ready j (begin + o.time);
+      free = set s.free o.machine (begin + o.time);
+    })
+placed_by_reads shop j s job k o r f reads begin e p is =
+    let m : o.machine ≡ machine_of shop j k = ap (λ (x : Op). x.machine) reads.operation
+    in let t : o.time ≡ time_of shop j k = ap (λ (x : Op). x.time) reads.operation
+    in let a = is.ready j job in let b = is.free o.machine reads.machine in let c = reads.ready in let d = reads.free
+    in placed_next shop p s is j job k o.machine (begin + o.time) (reads.step ∙ is.steps j job) m reads.machine
+    (omega arith)
+
+-- when the next step of j begins
+pub start_by_reads : (shop : Shop) (j : ℕ) (s : PlacementState) → j < length shop.jobs → (k : ℕ) (o : Op) (r f : ℕ)
+    → AreReads shop j s k o r f → (begin : ℕ) → begin ≡ max r f → (p : Placing) → IsPlacement shop p s
+    → begin ≡ (place_next shop p j).begins j (p.steps j)
+start_by_reads shop j s job k o r f reads begin e p is =
+    let n = place_next-is shop p j
+    in let m : o.machine ≡ machine_of shop j k = ap (λ (x : Op). x.machine) reads.operation
+    in let step : k ≡ p.steps j = reads.step ∙ is.steps j job
+    in let here : machine_of shop j k ≡ machine_of shop j (p.steps j) = ap (machine_of shop j) step
+    in let fm : p.free o.machine ≡ p.free (machine_of shop j (p.steps j)) = ap p.free (m ∙ here)
+    in let a = is.ready j job in let b = is.free o.machine reads.machine in let c = reads.ready in let d = reads.free
+    in let g = n.begins_here in omega arith

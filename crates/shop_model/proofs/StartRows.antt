@@ -1,0 +1,103 @@
+-- The rows of starts that `place` keeps, against the placing that they stand for.
+use Rattle.std.proofs.Common.{◌≡◌, ℕ, ◌+◌, ◌<◌, inl, inr, List, [], ◌∷◌, ◌++◌, length, map}
+use Rattle.std.proofs.Common.{set, replicate, slice_index_or, sym, ◌∙◌, ap, arith}
+use Rattle.std.specs.List.{range_with_len}
+use Rattle.std.proofs.lemmas.Bool.{cases_eq, cases_lt}
+use Rattle.std.specs.Prelude.{Vec}
+use Rattle.std.specs.declared.alloc.Global.{Global}
+use Rattle.std.proofs.lemmas.List.{length-map, map-set, length-set, length-replicate, get_or-replicate, get_or-set_same}
+use Rattle.std.proofs.lemmas.List.{get_or-set_other, get_or_past}
+use Rattle.std.proofs.lemmas.List.FromFn.{fill_by_all, length-map-range_with_len, get_or-map-range_with_len}
+use Rattle.std.proofs.lemmas.List.FromFn.{map-range_with_len_more}
+use Rattle.shop_model.specs.Shop.{Shop, route_of, machine_of}
+use Rattle.shop_model.specs.Limits.{IsWithinLimits, AreStarts}
+use Rattle.shop_model.specs.Word.{Placing, none_placed, place_next, placing, placed, IsWord, IsFull, rows_of}
+use Rattle.shop_model.proofs.Placings.{place_next-is}
+use Rattle.shop_model.proofs.TableLemmas.{rows_at}
+use Rattle.shop_model.proofs.Unders.{after_word}
+use Rattle.shop_model.proofs.WordLemmas.{full_is_word}
+use Rattle.shop_model.proofs.WordLengths.{word_length, ready_word}
+
+-- for each job the starts of its placed steps
+pub record HasRows (shop : Shop) (p : Placing) (rows : List (List ℕ)) : Type 0 where
+  pub rows_length : length rows ≡ length shop.jobs
+  pub begins : (i : ℕ) → i < length shop.jobs
+      → slice_index_or rows i [] ≡ map (p.begins i) (range_with_len 0 (p.steps i))
+
+-- nothing is placed
+pub rows_none : (shop : Shop) (rows : List (List ℕ)) → rows ≡ replicate (length shop.jobs) []
+    → HasRows shop (none_placed shop) rows
+rows_none shop rows e = record {
+  rows_length = rw e (length-replicate (length shop.jobs) []);
+  begins = λ i h. rw e (get_or-replicate (length shop.jobs) i [] [] h);
+}
+
+-- rows that agree below n
+pub map-range_with_len_same : (f g : ℕ → ℕ) (n : ℕ) → ((l : ℕ) → l < n → f l ≡ g l)
+    → map f (range_with_len 0 n) ≡ map g (range_with_len 0 n)
+map-range_with_len_same f g n h = fill_by_all g (map f (range_with_len 0 n)) n 0 (length-map-range_with_len f 0 n)
+    (λ k below. get_or-map-range_with_len f 0 n k k 0 below (omega arith) ∙ h k below)
+
+-- the row of the job that is placed next
+row_next : (p q : Placing) (j : ℕ) → q.steps j ≡ p.steps j + 1 → ((l : ℕ) → l < p.steps j → q.begins j l ≡ p.begins j l)
+    → map (p.begins j) (range_with_len 0 (p.steps j)) ++ q.begins j (p.steps j) ∷ [] ≡ map (q.begins j)
+    (range_with_len 0 (q.steps j))
+row_next p q j steps old =
+    let more = map-range_with_len_more (q.begins j) 0 (p.steps j) (p.steps j) (omega arith)
+    in let same = map-range_with_len_same (p.begins j) (q.begins j) (p.steps j) (λ l h. sym (old l h))
+    in rw steps (ap (λ xs. xs ++ q.begins j (p.steps j) ∷ []) same ∙ sym more)
+
+-- one more step is placed
+pub rows_next : (shop : Shop) (p next : Placing) (j : ℕ) (rows : List (Vec ℕ Global)) (row new : Vec ℕ Global)
+    (start : ℕ) → next ≡ place_next shop p j → HasRows shop p (map (λ r. r.items) rows) → j < length shop.jobs → row ≡ slice_index_or rows j row
+    → start ≡ (place_next shop p j).begins j (p.steps j) → new.items ≡ row.items ++ start ∷ []
+    → HasRows shop next (map (λ r. r.items) (set rows j new))
+rows_next shop p next j rows row new start e o job at begin pushed =
+    let q = place_next shop p j
+    in let n = place_next-is shop p j
+    in let lists = map (λ (r : Vec ℕ Global). r.items) rows
+    in let below : j < length rows =
+    (let a = o.rows_length in let b = length-map rows (λ (r : Vec ℕ Global). r.items) in omega arith)
+    in let old : slice_index_or lists j [] ≡ row.items = rows_at rows j row below
+    ∙ ap (λ (v : Vec ℕ Global). v.items) (sym at)
+    in let here : new.items ≡ map (q.begins j) (range_with_len 0 (q.steps j)) =
+    pushed ∙ (ap (λ xs. xs ++ start ∷ []) (sym old ∙ o.begins j job)
+    ∙ (ap (λ (x : ℕ). map (p.begins j) (range_with_len 0 (p.steps j)) ++ x ∷ []) begin
+    ∙ row_next p q j n.steps_here (n.begins_old j)))
+    in rw (e, map-set (λ (r : Vec ℕ Global). r.items) rows j new) record {
+      rows_length = rw length-set o.rows_length;
+      begins = λ i h. elim (cases_eq i j) [
+        | inl e ↦ rw e (get_or-set_same lists j new.items [] (rw o.rows_length job) ∙ here)
+        | inr ne ↦ get_or-set_other lists j i new.items [] ne ∙ (o.begins i h
+            ∙ rw (n.steps_other i ne) (map-range_with_len_same (p.begins i) (q.begins i) (p.steps i)
+            (λ l below. sym (n.begins_old i l below))))
+      ];
+    }
+
+-- no start is over its limit
+pub rows_starts : (shop : Shop) (w : List ℕ) (rows : List (List ℕ)) → IsWithinLimits shop → IsWord shop w
+    → HasRows shop (placing shop w) rows → AreStarts rows
+rows_starts shop w rows limits word m j k =
+    let p = placing shop w
+    in let a = after_word shop w word
+    in let by = ready_word shop limits w
+    in let short = word_length shop w limits word
+    in elim (cases_lt j (length shop.jobs)) [
+      | inl h ↦ rw (m.begins j h) (elim (cases_lt k (p.steps j)) [
+        | inl g ↦ rw (get_or-map-range_with_len (p.begins j) 0 (p.steps j) k k 0 g (omega arith))
+            (let free = a.sound.free j k g in let b = by.free (machine_of shop j k) in omega arith)
+        | inr g ↦ rw (get_or_past (map (p.begins j) (range_with_len 0 (p.steps j))) k 0
+            (rw (length-map-range_with_len (p.begins j) 0 (p.steps j)) g)) (omega arith)
+      ])
+      | inr h ↦ rw (get_or_past rows j [] (let e = m.rows_length in omega arith)) (omega arith)
+    ]
+
+-- the rows are those of the table that the full word places
+pub rows_are : (shop : Shop) (w : List ℕ) (rows : List (List ℕ)) → IsFull shop w
+    → HasRows shop (placing shop w) rows → rows ≡ rows_of shop (placed shop w)
+rows_are shop w rows full m =
+    let p = placing shop w
+    in let a = after_word shop w (full_is_word shop w full)
+    in fill_by_all (λ j. map (p.begins j) (range_with_len 0 (length (route_of shop j)))) rows
+    (length shop.jobs) [] m.rows_length
+    (λ j h. m.begins j h ∙ ap (λ n. map (p.begins j) (range_with_len 0 n)) (a.steps j ∙ full j))

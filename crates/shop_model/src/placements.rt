@@ -1,0 +1,110 @@
+// What stands once the operations of a word are placed.
+ghost use Rattle.std.specs.Prelude.{◌≡◌, ◌<◌, IfOk, length, slice_index};
+ghost use Rattle.shop_model.specs.Placements.{HasNext, IsPlacement, PlacesNext, TellsNextStart};
+ghost use Rattle.shop_model.specs.Word.{IsWord, none_placed, placing};
+
+use crate::instances::Instance;
+use crate::words::Word;
+use std::alloc::{AllocError, Global};
+use std::marker::Model;
+
+/// What a word that was placed leaves: for each job how many of its steps are placed and when it is ready for the next
+/// one, and for each machine when it is free.
+#[derive(Drop)]
+pub struct Placement {
+    steps: Vec<usize>,
+    ready: Vec<u64>,
+    free: Vec<u64>,
+}
+
+impl Model for Placement {
+    ghost use Rattle.shop_model.specs.Placements.{PlacementState};
+
+    ghost Value = { PlacementState };
+
+    ghost view = { λ p. record {
+      steps = p.steps.items;
+      ready = p.ready.items;
+      free = p.free.items;
+    } };
+}
+
+impl Placement {
+    /// Nothing is placed. Fails with `AllocError` if memory runs out.
+    pub fn none(alloc: Global, instance: &Instance) -> Result<Placement, AllocError>
+        ensures { IfOk result (λ s. IsPlacement instance.now (none_placed instance.now) s) }
+    {
+        let steps = vec![in alloc; 0; instance.jobs()]?;
+        let ready = instance.releases(alloc)?;
+        let free = vec![in alloc; 0; instance.machines()]?;
+        Ok(Placement { steps, ready, free })
+    }
+
+    /// Places the operations of a word that fits the instance, in its order, each as soon as its job and its machine
+    /// can. Fails with `AllocError` if memory runs out.
+    pub fn of(alloc: Global, instance: &Instance, word: &Word) -> Result<Placement, AllocError>
+        requires { IsWord instance.now word.now }
+        ensures { IfOk result (λ s. IsPlacement instance.now (placing instance.now word.now) s) }
+    {
+        let mut placement = Placement::none(alloc, instance)?;
+        let jobs = word.jobs();
+        for &j in jobs {
+            let _start = placement.place_next(instance, j);
+        }
+        Ok(placement)
+    }
+
+    /// Places the next step of job j as soon as the job and its machine can; tells when it begins.
+    pub fn place_next(&mut self, instance: &Instance, j: usize) -> u64
+        requires { HasNext instance.now j self.old }
+        ensures placed { PlacesNext instance.now j self.old self.new }
+        ensures start { TellsNextStart instance.now j self.old result }
+    {
+        let k = self.steps[j];
+        let op = instance.route(j)[k];
+        let start = self.ready[j].max(self.free[op.machine]);
+        let finish = start + op.time;
+        self.steps[j] = k + 1;
+        self.ready[j] = finish;
+        self.free[op.machine] = finish;
+        start
+    }
+
+    /// How many steps of the job are placed.
+    pub fn steps(&self, job: usize) -> usize
+        requires { job < length self.now.steps }
+        ensures { result ≡ slice_index self.now.steps job }
+    {
+        self.steps[job]
+    }
+
+    /// How many steps of each job are placed.
+    pub fn jobs_steps(&self) -> &[usize]
+        ensures { result.now ≡ self.now.steps }
+    {
+        self.steps.as_slice()
+    }
+
+    /// When the job is ready for its next step: when its last placed step ends, or its release if there is none.
+    pub fn ready(&self, job: usize) -> u64
+        requires { job < length self.now.ready }
+        ensures { result ≡ slice_index self.now.ready job }
+    {
+        self.ready[job]
+    }
+
+    /// When the machine is free: when its last placed operation ends, or 0 if there is none.
+    pub fn free(&self, machine: usize) -> u64
+        requires { machine < length self.now.free }
+        ensures { result ≡ slice_index self.now.free machine }
+    {
+        self.free[machine]
+    }
+
+    /// When each machine is free.
+    pub fn machines_free(&self) -> &[u64]
+        ensures { result.now ≡ self.now.free }
+    {
+        self.free.as_slice()
+    }
+}
