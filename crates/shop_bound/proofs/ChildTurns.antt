@@ -64,7 +64,7 @@ pub at_word : (shop : Shop) (l : LayoutState) (s : PlacementState) (w : List ℕ
 at_word shop l s w j placed fits position at = at ∙ ap (place l j) (placed.steps j (its_job shop w j fits))
 
 module _ (greatest : ℕ) (shop : Shop) (l : LayoutState) (j position : ℕ) (rows rows' : Rows) (before after : NotesState)
-    (mark : Mark) (advances : Advances greatest l position rows rows' before after mark) where
+    (mark : Mark) (advances : Advances greatest l [] position rows rows' before after mark) where
   -- the heads of the word with the operation
   pub next_heads : (w : List ℕ) → AreHeadsInLanes greatest shop w l rows → IsWord shop (w ++ j ∷ [])
       → position ≡ place l j ((placing shop w).steps j) → AreHeadsAt shop (place_next shop (placing shop w) j) l rows'.heads
@@ -94,8 +94,8 @@ module _ (greatest : ℕ) (shop : Shop) (l : LayoutState) (j position : ℕ) (ro
   raised_is ms machines raises long noted is us top top_is estimates least limit b within all low covers inside w kept
       fits at parent end most =
       let now = next_heads w kept fits at
-      in let times = advances.beside.times ∙ kept.times
-      in let tails = advances.beside.tails ∙ kept.tails
+      in let times = advances.times ∙ kept.times
+      in let tails = advances.tails ∙ kept.tails
       in let small : (q : ℕ) → get_or rows'.heads q 0 ≤ top = next_small top top_is w kept fits at
       in let bounded : (m : ℕ) → m < shop.machines
       → IsBounded shop kept.limits l kept.laid w j fits rows.heads rows'.heads kept.heads now rows' refl

@@ -86,7 +86,7 @@ fn raised_bound<L: Lanes>(
     ensures estimates { AreEstimates top layout.now (L.rows lanes.new) estimates.new }
 {
     estimates.take(lanes, layout, raises.len(), top);
-    let mark = advance(lanes, notes, layout, position, machine);
+    let mark = advance(lanes, notes, layout, &[], position, machine);
     let noted = &notes.list()[mark.first..];
     let upper = estimates.upper();
     set_raises(

@@ -1,4 +1,4 @@
-use Rattle.std.proofs.Common.{take, drop, ◌-◌, ◌≡◌, ◌<◌, ◌∙◌, ℕ, true, List, length, ap, subst, sym, arith}
+use Rattle.std.proofs.Common.{take, drop, ◌-◌, ◌≡◌, ◌<◌, ◌∙◌, ℕ, true, List, length, ap, refl, subst, sym, arith}
 use Rattle.std.specs.List.{All}
 use Rattle.shop_model.specs.Word.{placing}
 use Rattle.shop_bound.specs.inner.Estimates.{IsNoteCovered}
@@ -29,6 +29,8 @@ advance-mark-requires-clause-next g c = record {
   fits = c.requires.can.fits;
   at = (at_word c.args.instance.now c.args.layout.now c.args.placement.now c.requires.can.word c.args.job
       c.requires.can.placed c.requires.can.fits c.args.position c.requires.position);
+  firsts = record { own = λ j known here. absurd (omega arith); first = λ j i k known more at. absurd (omega arith) };
+  ends = omega arith;
 }
 
 pub set_raises-requires-clause-notes : goal.set_raises-requires-clause-notes
@@ -60,7 +62,7 @@ pub bound_by_raises-bound-requires-clause-fits : goal.bound_by_raises-bound-requ
 bound_by_raises-bound-requires-clause-fits g c =
     let shop = c.args.instance.now in let l = c.args.layout.now
     in let kept = c.requires.can.kept
-    in let beside = c.advance-mark.ensures.beside
+    in let beside = c.advance-mark.ensures
     in let rows = g.L.Lanes.rows c.advance-mark.new.lanes
     in let fit = spans_fit shop kept.limits l kept.laid g.L.Lanes.GREATEST c.requires.can.holds rows
     (beside.times ∙ kept.times) (beside.tails ∙ kept.tails) (beside.positions ∙ kept.heads.positions)
@@ -98,13 +100,13 @@ returns-clause-bound g c = λ w kept placed fits parent end most.
     c.requires.position) parent end most
 
 pub returns-clause-ends : goal.returns-clause-ends
-returns-clause-ends g c = c.go_back.ensures.beside.ends ∙ c.advance-mark.ensures.beside.ends
+returns-clause-ends g c = c.go_back.ensures.beside.ends ∙ c.advance-mark.ensures.none refl
 
 pub returns-clause-heads : goal.returns-clause-heads
 returns-clause-heads g c = λ w kept placed.
     let adv = c.advance-mark.ensures
     in let now = (g.L.Lanes.rows c.advance-mark.new.lanes).heads
-    in let one = c.advance-mark.ensures.beside
+    in let one = c.advance-mark.ensures
     in let two = c.go_back.ensures.beside
     in let is = noted_is c.list.result.now c.args.notes.now.list adv.noted.more c.advance-mark.result.first
     (c.list.ensures ∙ adv.noted.are) adv.first
