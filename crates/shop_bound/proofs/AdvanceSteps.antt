@@ -1,18 +1,20 @@
 -- One more operation in the heads by position.
-use Rattle.std.proofs.Common.{◌≡◌, ℕ, ◌+◌, ◌≤◌, ◌<◌, ◌^◌, List, [], ◌∷◌, ◌++◌, length}
+use Rattle.std.proofs.Common.{◌≡◌, ℕ, ◌+◌, ◌≤◌, ◌<◌, ◌^◌, inl, inr, List, [], ◌∷◌, ◌++◌, length}
 use Rattle.std.proofs.Common.{get_or, set, refl, sym, ◌∙◌, ap, subst, arith}
-use Rattle.std.proofs.lemmas.List.{length-set}
+use Rattle.std.proofs.lemmas.Bool.{cases_eq, cases_lt, lt-ltb, le-ltb}
+use Rattle.std.proofs.lemmas.Grind.{get_or-set_at}
+use Rattle.std.proofs.lemmas.List.{get_or-set_other, length-set}
 use Rattle.shop_lanes.specs.Rows.{Rows}
 use Rattle.shop_model.specs.Shop.{Shop, IsOperation, machine_of, time_of}
 use Rattle.shop_model.specs.Word.{Placing, IsWord, placing, place_next}
 use Rattle.shop_model.proofs.Placings.{IsNext, place_next-is}
 use Rattle.shop_model.proofs.Unders.{placing-snoc, next_operation, after_word}
 use Rattle.shop_bound.specs.Heads.{head_of}
-use Rattle.shop_bound.specs.inner.Fills.{AreSameBeside}
+use Rattle.shop_bound.specs.inner.LaneEnds.{IsEndOf}
 use Rattle.shop_bound.specs.inner.LaneHeads.{AreHeadsAt, LeadsBack, NotesState}
 use Rattle.shop_bound.specs.inner.LaneStates.{AreHeadsInLanes}
 use Rattle.shop_bound.specs.inner.Layouts.{LayoutState, place, first_of}
-use Rattle.shop_bound.specs.inner.Raises.{HasBlocks, IsLeastRaise, IsOnMachine, IsRaisable, Raises, Replaces}
+use Rattle.shop_bound.specs.inner.Raises.{AreFirst, HasBlocks, IsLeastRaise, IsOnMachine, IsRaisable, Raises, Replaces}
 use Rattle.shop_bound.proofs.HeadTurns.{ready_first}
 use Rattle.shop_bound.proofs.LaidPlaces.{place_of}
 use Rattle.shop_bound.proofs.RaisedHeads.{left, raisable, raised, has_blocks}
@@ -105,24 +107,68 @@ module _ (greatest : ℕ) (shop : Shop) (l : LayoutState) (rows : Rows) (w : Lis
     lifted_blocks = has_blocks shop kept.limits l kept.laid (length lifted.heads) m lifted_long
         (let a = machine_known in omega arith)
 
-    pub lifted_raisable : IsRaisable greatest l lifted (IsOnMachine l m) (h + t)
-    lifted_raisable =
-        subst (λ (x : ℕ). IsRaisable greatest l lifted (IsOnMachine l x) (h + t)) (sym on)
-        (raisable shop kept.limits l kept.laid before j after next_is first_left
-        (set rows.heads (place l j (before.steps j)) 0)
-        (left shop kept.limits l kept.laid before j after next_is first_left rows.heads kept.heads) (h + t)
-        (end_is q h t is read timed) greatest lifted lifted_heads lifted_times kept.computable next_fits)
+    lifted_ends : lifted.ends ≡ rows.ends
+    lifted_ends = ap (λ (r : Rows). r.ends) wrote.rows
 
-    module _ (new : Rows) (last : NotesState)
-        (raising : Raises greatest l (IsOnMachine l m) (h + t) lifted new mid last)
+    lifted_here : length lifted.heads ≡ length rows.heads
+    lifted_here = lifted_long ∙ sym kept.heads.positions
+
+    lifted_other : (x : ℕ) → (x ≡ q → ⊥) → get_or lifted.heads x 0 ≡ get_or rows.heads x 0
+    lifted_other x ne = ap (λ (r : Rows). get_or r.heads x 0) wrote.rows ∙ get_or-set_other rows.heads q x 0 0 ne
+
+    lifted_none : (x : ℕ) → get_or rows.heads x 0 ≡ 0 → get_or lifted.heads x 0 ≡ 0
+    lifted_none x none = elim (cases_eq x q) [
+      | inl e ↦ ap (λ (r : Rows). get_or r.heads x 0) wrote.rows ∙ get_or-set_at rows.heads q x 0 0 e (within q is)
+      | inr ne ↦ lifted_other x ne ∙ none
+    ]
+
+    module _ (nexts : List ℕ) (firsts : AreFirst l nexts rows.heads) (ends : length nexts ≤ length rows.ends) where
+      lifted_firsts : AreFirst l nexts lifted.heads
+      lifted_firsts = record {
+        own = λ i known here. firsts.own i known (let a = lifted_here in omega arith);
+        first = λ i t k known more at. lifted_none (place l t k) (firsts.first i t k known more at);
+      }
+
+      pub lifted_raisable : IsRaisable greatest l nexts lifted (IsOnMachine l m) (h + t)
+      lifted_raisable =
+          subst (λ (x : ℕ). IsRaisable greatest l nexts lifted (IsOnMachine l x) (h + t)) (sym on)
+          (raisable shop kept.limits l kept.laid before j after next_is first_left
+          (set rows.heads (place l j (before.steps j)) 0)
+          (left shop kept.limits l kept.laid before j after next_is first_left rows.heads kept.heads) (h + t)
+          (end_is q h t is read timed) greatest nexts lifted lifted_firsts
+          (let a = ap length lifted_ends in omega arith) lifted_heads lifted_times kept.computable next_fits)
+
+    module _ (nexts : List ℕ) (new : Rows) (last : NotesState)
+        (raising : Raises greatest l nexts (IsOnMachine l m) (h + t) lifted new mid last)
       where
-        pub advanced_beside : AreSameBeside rows new
-        advanced_beside = record {
-          times = raising.times ∙ ap (λ (r : Rows). r.times) wrote.rows;
-          tails = raising.tails ∙ ap (λ (r : Rows). r.tails) wrote.rows;
-          ends = raising.ends ∙ ap (λ (r : Rows). r.ends) wrote.rows;
-          positions = raising.raised.positions ∙ (lifted_long ∙ sym kept.heads.positions);
-        }
+        pub advanced_times : new.times ≡ rows.times
+        advanced_times = raising.times ∙ ap (λ (r : Rows). r.times) wrote.rows
+
+        pub advanced_tails : new.tails ≡ rows.tails
+        advanced_tails = raising.tails ∙ ap (λ (r : Rows). r.tails) wrote.rows
+
+        pub advanced_positions : length new.heads ≡ length rows.heads
+        advanced_positions = raising.raised.positions ∙ lifted_here
+
+        pub advanced_long : length new.ends ≡ length rows.ends
+        advanced_long = raising.ends.long ∙ ap length lifted_ends
+
+        pub advanced_none : nexts ≡ [] → new.ends ≡ rows.ends
+        advanced_none none = raising.ends.none none ∙ lifted_ends
+
+        pub advanced_others : (i : ℕ) → i < length nexts → (get_or nexts i 0 ≡ q → ⊥) → IsEndOf greatest nexts rows i
+            → IsEndOf greatest nexts new i
+        advanced_others i known ne was =
+            let x = get_or nexts i 0
+            in let head = lifted_other x ne
+            in let time : get_or lifted.times x 0 ≡ get_or rows.times x 0 =
+            ap (λ (r : Rows). get_or r.times x 0) wrote.rows
+            in let long = lifted_here
+            in raising.ends.each i known (ap (λ (xs : List ℕ). get_or xs i 0) lifted_ends
+            ∙ (was ∙ (elim (cases_lt x (length rows.heads)) [
+              | inl lt ↦ rw (lt-ltb x (length rows.heads) lt, lt-ltb x (length lifted.heads) (omega arith)) (omega arith)
+              | inr ge ↦ rw (le-ltb x (length rows.heads) ge, le-ltb x (length lifted.heads) (omega arith)) refl
+            ])))
 
         pub advanced_noted : LeadsBack greatest notes last rows.heads new.heads
         advanced_noted = back_both greatest notes mid last rows.heads lifted.heads new.heads wrote.noted raising.noted
@@ -132,8 +178,8 @@ module _ (greatest : ℕ) (shop : Shop) (l : LayoutState) (rows : Rows) (w : Lis
           limits = kept.limits;
           word = fits;
           laid = kept.laid;
-          times = advanced_beside.times ∙ kept.times;
-          tails = advanced_beside.tails ∙ kept.tails;
+          times = advanced_times ∙ kept.times;
+          tails = advanced_tails ∙ kept.tails;
           fits = kept.fits;
           computable = kept.computable;
           heads = subst (λ (p : Placing). AreHeadsAt shop p l new.heads) (sym (placing-snoc shop w j))

@@ -1,6 +1,6 @@
 -- What is kept, step by step, while the bound after one more operation is found.
 use Rattle.std.proofs.Common.{◌≡◌, ℕ, ◌+◌, ◌-◌, ◌≤◌, ◌<◌, List, [], ◌∷◌, ◌++◌, length, take, drop}
-use Rattle.std.proofs.Common.{get_or, sym, ◌∙◌, ap, subst, arith, length-append}
+use Rattle.std.proofs.Common.{get_or, refl, sym, ◌∙◌, ap, subst, arith, length-append}
 use Rattle.std.specs.List.{All}
 use Rattle.std.proofs.lemmas.List.{length-drop, take_all}
 use Rattle.std.proofs.Math.Seq.{take-append_seam}
@@ -80,11 +80,23 @@ module _ (greatest : ℕ) (shop : Shop) (w : List ℕ) (s : LaneState) (kept : I
     its_place : position ≡ place s.layout j ((placing shop w).steps j)
     its_place = position_is ∙ next_is greatest shop w j s kept fits
 
-    pub has_next : HasNextAt greatest s.layout position s.rows
-    has_next = record { shop = shop; word = w; job = j; kept = kept.kept; fits = fits; at = its_place }
+    pub has_next : HasNextAt greatest s.layout [] position s.rows
+    has_next = record {
+      shop = shop;
+      word = w;
+      job = j;
+      kept = kept.kept;
+      fits = fits;
+      at = its_place;
+      firsts = record {
+        own = λ j known here. absurd (omega arith);
+        first = λ j i k known more at. absurd (omega arith);
+      };
+      ends = omega arith;
+    }
 
     module _ (rows : Rows) (after : NotesState) (mark : Mark)
-        (advances : Advances greatest s.layout position s.rows rows s.notes after mark) (us : List ℕ)
+        (advances : Advances greatest s.layout [] position s.rows rows s.notes after mark) (us : List ℕ)
         (estimates : AreEstimates s.top s.layout s.rows us) where
       -- with the heads raised
       abbrev pub raised_state : LaneState
@@ -97,7 +109,7 @@ module _ (greatest : ℕ) (shop : Shop) (w : List ℕ) (s : LaneState) (kept : I
 
       pub has_raised : HasRaised greatest mark raised_state
       has_raised =
-          let beside = advances.beside
+          let beside = advances
           in let many = kept.bounds.as_many in let machines = kept.kept.laid.machines_at
           in let long = ap (λ (ns : List Note). length ns) advances.noted.are
           in let both = length-append s.notes.list advances.noted.more
@@ -138,7 +150,7 @@ module _ (greatest : ℕ) (shop : Shop) (w : List ℕ) (s : LaneState) (kept : I
 -- what is kept once the heads are put back, whichever word they were of
 module _ (greatest : ℕ) (shop : Shop) (w : List ℕ) (s : LaneState) (kept : IsKeptInLanes greatest shop w s)
     (p : PlacementState) (placed : IsPlacement shop (placing shop w) p) (position : ℕ) (rows : Rows) (after : NotesState)
-    (mark : Mark) (advances : Advances greatest s.layout position s.rows rows s.notes after mark) (us : List ℕ)
+    (mark : Mark) (advances : Advances greatest s.layout [] position s.rows rows s.notes after mark) (us : List ℕ)
     (estimates : AreEstimates s.top s.layout s.rows us) (raises : List Raise) (v : LaneState)
     (v_is : v ≡ record s { rows = rows; notes = after; estimates = us; raises = raises }) where
   pub noted_are : (list : List Note) → list ≡ v.notes.list → (noted : List Note)
@@ -160,7 +172,7 @@ module _ (greatest : ℕ) (shop : Shop) (w : List ℕ) (s : LaneState) (kept : I
   child_again many empty noted is rested back notes list =
       subst (λ (x : LaneState). IsKeptInLanes greatest shop w (record x { rows = rested; notes = notes }))
       (sym v_is)
-      (kept_again greatest shop w s kept rested heads (two.ends ∙ advances.beside.ends) notes list raises many
+      (kept_again greatest shop w s kept rested heads (two.ends ∙ advances.none refl) notes list raises many
       empty us (estimates_again greatest shop s.layout w s.rows rested kept.kept heads s.top us estimates))
     where
       back_here : GoesBack shop s.layout p noted mark.whole rows rested
@@ -174,8 +186,8 @@ module _ (greatest : ℕ) (shop : Shop) (w : List ℕ) (s : LaneState) (kept : I
         limits = kept.kept.limits;
         word = kept.kept.word;
         laid = kept.kept.laid;
-        times = two.times ∙ (advances.beside.times ∙ kept.kept.times);
-        tails = two.tails ∙ (advances.beside.tails ∙ kept.kept.tails);
+        times = two.times ∙ (advances.times ∙ kept.kept.times);
+        tails = two.tails ∙ (advances.tails ∙ kept.kept.tails);
         fits = kept.kept.fits;
         computable = kept.kept.computable;
         heads = back_here.heads (placing shop w) placed (λ whole.

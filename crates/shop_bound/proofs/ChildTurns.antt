@@ -72,7 +72,7 @@ pub at_word : (shop : Shop) (l : LayoutState) (s : PlacementState) (w : List ℕ
 at_word shop l s w j placed fits position at = at ∙ ap (place l j) (placed.steps j (its_job shop w j fits))
 
 module _ (greatest : ℕ) (shop : Shop) (l : LayoutState) (j position : ℕ) (rows rows' : Rows) (before after : NotesState)
-    (mark : Mark) (advances : Advances greatest l position rows rows' before after mark) where
+    (mark : Mark) (advances : Advances greatest l [] position rows rows' before after mark) where
   -- the heads of the word with the operation
   pub next_heads : (w : List ℕ) → AreHeadsInLanes greatest shop w l rows → IsWord shop (w ++ j ∷ [])
       → position ≡ place l j ((placing shop w).steps j) → AreHeadsAt shop (place_next shop (placing shop w) j) l rows'.heads
@@ -111,10 +111,10 @@ module _ (greatest : ℕ) (shop : Shop) (l : LayoutState) (j position : ℕ) (ro
         now_heads = next_heads w kept fits at
 
         times : rows'.times ≡ l.times
-        times = advances.beside.times ∙ kept.times
+        times = advances.times ∙ kept.times
 
         tails : rows'.tails ≡ l.tails
-        tails = advances.beside.tails ∙ kept.tails
+        tails = advances.tails ∙ kept.tails
 
         small : (q : ℕ) → get_or rows'.heads q 0 ≤ top
         small = next_small top top_is w kept fits at

@@ -20,8 +20,11 @@ use Rattle.shop_bound.specs.inner.LaneEnds.{AreEndsButJob, HasEnds}
 use Rattle.shop_bound.specs.inner.LaneHeads.{AreHeadsAt, AreNotesFit, restored}
 use Rattle.shop_bound.specs.inner.LaneStates.{AreHeadsInLanes}
 use Rattle.shop_bound.specs.inner.Layouts.{LayoutState, place, first_of}
+use Rattle.shop_bound.specs.inner.Raises.{AreFirst}
 use Rattle.shop_bound.proofs.LaidPlaces.{place_of}
 use Rattle.shop_bound.proofs.LatestEnds.{latest_end_is}
+use Rattle.shop_bound.proofs.RaisedHeads.{indexed}
+use Rattle.shop_bound.proofs.RaiseWalks.{apart, place_within}
 use Rattle.shop_bound.proofs.Followed.{place_past, place_there}
 
 -- what notes leave out is as it was
@@ -240,6 +243,23 @@ module _ (greatest : ℕ) (shop : Shop) (w : List ℕ) (l : LayoutState) (rows :
       own = λ j known here. (let many = are.jobs in let op = next_is j (omega arith) here
           in ap (λ (x : ℕ). get_or l.jobs x 0) (next_there j op)
           ∙ (place_of shop kept.limits l kept.laid j (p.steps j) op).job);
+    }
+
+    -- what stands before a next operation on its route is placed
+    pub next_first : AreFirst l nexts rows.heads
+    next_first = record {
+      own = next_placed.own;
+      first = λ j i k known more at.
+          let ix = indexed shop kept.limits l kept.laid (length rows.heads) kept.heads.positions
+          in let many = are.jobs
+          in let op = next_is j (omega arith) (let a = place_within l (length rows.heads) ix i (k + 1) more in omega arith)
+          in let route = kept.laid.routes j
+          in let same = apart l (length rows.heads) ix i (k + 1) j (p.steps j) more (omega arith)
+          (at ∙ next_there j op)
+          in let steps : p.steps i ≡ p.steps j = ap p.steps same.0
+          in let b = same.1
+          in let its = kept.laid.routes i
+          in kept.heads.placed i k (omega arith) (omega arith);
     }
 
     -- head and time of a next operation where it waits

@@ -5,7 +5,7 @@ use Rattle.std.specs.List.{AllByRecursion}
 use Rattle.std.proofs.lemmas.Bool.{cases_eq}
 use Rattle.std.proofs.lemmas.Grind.{get_or-set_at}
 use Rattle.std.proofs.lemmas.List.{get_or_default, get_or-set_other, length_push, length-drop, length-set, take_all}
-use Rattle.shop_lanes.specs.Rows.{Rows}
+use Rattle.shop_lanes.specs.Rows.{Rows, with_end}
 use Rattle.shop_model.specs.Shop.{Shop, IsOperation}
 use Rattle.shop_model.specs.Word.{Placing, IsWord, placing, place_next}
 use Rattle.shop_model.proofs.Placings.{place_next-is}
@@ -19,15 +19,17 @@ use Rattle.shop_bound.specs.declared.notes.Note.{Note}
 use Rattle.shop_bound.specs.inner.Estimates.{AreEstimates}
 use Rattle.shop_bound.specs.inner.Fills.{CanFill, GoesBack, IsRested}
 use Rattle.shop_bound.specs.inner.LaneChoices.{AreEndsAt, AreNextsOf}
-use Rattle.shop_bound.specs.inner.LaneEnds.{AreEndsButJob, AreEndsOf, CanKeepEnds, HasEnds}
+use Rattle.shop_bound.specs.inner.LaneEnds.{AreEndsButJob, AreEndsOf, CanKeepEnds, HasEnds, IsEndOf, end_at}
 use Rattle.shop_bound.specs.inner.LaneHeads.{AreHeadsAt, AreNotesFit, IsTrail, NotesState, restored}
 use Rattle.shop_bound.specs.inner.LaneStates.{LaneState, IsKeptInLanes, Advances, AreHeadsInLanes}
 use Rattle.shop_bound.specs.inner.Layings.{place_or}
 use Rattle.shop_bound.specs.inner.Layouts.{first_of, place}
+use Rattle.shop_bound.specs.inner.Raises.{AreFirst}
 use Rattle.shop_bound.proofs.ChildReads.{is_operation}
 use Rattle.shop_bound.proofs.ChildTurns.{its_job}
 use Rattle.shop_bound.proofs.Followed.{place_there}
-use Rattle.shop_bound.proofs.LaneEnds.{can_keep, ends_at, ends_between, next_there, next_within}
+use Rattle.shop_bound.proofs.LaneEnds.{beside_more, can_keep, end_here, end_other, ends_at, ends_between, ends_of}
+use Rattle.shop_bound.proofs.LaneEnds.{next_first, next_there, next_within}
 use Rattle.shop_bound.proofs.LaneEnds.{restored_other, with_ends}
 use Rattle.shop_bound.proofs.LaneEstimates.{no_estimates}
 use Rattle.shop_bound.proofs.LaneTrails.{same_heads, trail_more, LeadsToLast, trail_less}
@@ -54,6 +56,12 @@ module _ (greatest : ℕ) (shop : Shop) (w : List ℕ) (j : ℕ) (s : LaneState)
 
     pub next_known : j < length s.nexts
     next_known = let a = its_job shop w j fits in let b = kept.nexts.jobs in omega arith
+
+    pub firsts : AreFirst s.layout s.nexts s.rows.heads
+    firsts = next_first greatest shop w s.layout s.rows kept.kept s.nexts kept.nexts
+
+    pub ends_room : length s.nexts ≤ length s.rows.ends
+    ends_room = let a = kept.nexts.jobs in let b = kept.ends.jobs in omega arith
 
     operation : IsOperation shop j ((placing shop w).steps j)
     operation = is_operation greatest shop w s.layout s.rows kept.kept j fits
@@ -106,13 +114,13 @@ module _ (greatest : ℕ) (shop : Shop) (w : List ℕ) (j : ℕ) (s : LaneState)
 
     module _ (new : Rows) (after : NotesState) (mark : Mark)
         (x : ℕ) (stands : x ≡ get_or s.nexts j x)
-        (advances : Advances greatest s.layout x s.rows new s.notes after mark) (q : ℕ)
+        (advances : Advances greatest s.layout s.nexts x s.rows new s.notes after mark) (q : ℕ)
         (read : q ≡ get_or s.layout.following x 0) (nexts : List ℕ) (wrote : nexts ≡ set s.nexts j q) where
       now : AreHeadsInLanes greatest shop (w ++ j ∷ []) s.layout new
       now = advances.heads shop w j kept.kept fits (next_at x stands)
 
       as_many_ends : length new.ends ≡ length shop.jobs
-      as_many_ends = ap length advances.beside.ends ∙ kept.ends.jobs
+      as_many_ends = advances.long ∙ kept.ends.jobs
 
       pub ends_more : CanKeepEnds greatest s.layout nexts new
       ends_more = can_keep greatest shop (w ++ j ∷ []) s.layout new now nexts (nexts_more x stands q read nexts wrote) as_many_ends
@@ -120,60 +128,76 @@ module _ (greatest : ℕ) (shop : Shop) (w : List ℕ) (j : ℕ) (s : LaneState)
       pub job_more : j < length nexts
       job_more = let a = next_known in let b = ap length wrote in omega (arith, length-set s.nexts j q)
 
-      pub fit_more : (notes : List Note) → notes ≡ advances.noted.more → AreNotesFit greatest (length new.heads) notes
-      fit_more notes is = subst (λ (n : ℕ). AreNotesFit greatest n notes) (sym advances.beside.positions)
-          (subst (AreNotesFit greatest (length s.rows.heads)) (sym is) advances.noted.fit)
+      -- another job's next operation doesn't stand there
+      elsewhere : (i : ℕ) → i < length s.nexts → (i ≡ j → ⊥) → get_or s.nexts i 0 ≡ x → ⊥
+      elsewhere i known ne at =
+          let within = position_known x stands in let here = next_read x stands
+          in let long = kept.kept.heads.positions
+          in let a = firsts.own i known (omega arith)
+          in let b = firsts.own j next_known (omega arith)
+          in ne (sym a ∙ (ap (λ (y : ℕ). get_or s.layout.jobs y 0) (at ∙ here) ∙ b))
 
-      pub noted_more : (notes : List Note) → notes ≡ advances.noted.more → mark.whole ≡ true
-          → AreEndsButJob greatest nexts new notes j
-      noted_more notes is all =
-          ends_between greatest shop w (w ++ j ∷ []) j s.layout s.rows new kept.kept kept.ends s.nexts nexts kept.nexts
-          (nexts_more x stands q read nexts wrote)
-          (λ i ne. ap (λ (xs : List ℕ). get_or xs i 0) wrote ∙ get_or-set_other s.nexts j i q 0 ne)
-          advances.beside notes (λ y none. sym (restored_other notes new.heads y none)
-          ∙ ap (λ (hs : List ℕ). get_or hs y 0) (ap (λ (ns : List Note). restored ns new.heads) is
-          ∙ advances.noted.back (sym advances.whole ∙ all)))
+      module _ (ended : Rows) (set_end : ended ≡ with_end new j (end_at greatest nexts new j)) where
+        same : HasEnds new new
+        same = record { heads = refl; times = refl; tails = refl; ends = refl }
 
-      pub kept_more : (ended : Rows) → HasEnds new ended → AreEndsOf greatest nexts ended
-          → (marks : List Mark) → marks ≡ s.marks ++ mark ∷ [] → (room : ℕ) → s.room ≤ room → (us : List ℕ) → us ≡ []
-          → IsKeptInLanes greatest shop (w ++ j ∷ [])
-          (record {
-            layout = s.layout;
-            rows = ended;
-            nexts = nexts;
-            notes = after;
-            marks = marks;
-            room = room;
-            raises = s.raises;
-            estimates = us;
-            top = s.top;
-          })
-      kept_more ended beside ends marks pushed room more us none =
-          let back = advances.noted
-          in let heads = with_ends greatest shop (w ++ j ∷ []) s.layout new ended beside now
-          in let are = nexts_more x stands q read nexts wrote
-          in record {
-            kept = heads;
-            nexts = are;
-            notes_fit = subst (λ (hs : List ℕ). AreNotesFit greatest (length hs) after.list) (sym beside.heads)
-                (subst (λ (n : ℕ). AreNotesFit greatest n after.list) (sym advances.beside.positions)
-                (subst (AreNotesFit greatest (length s.rows.heads)) (sym back.are)
-                (all_append
-                (λ (n : Note). (n.position < length s.rows.heads) × (n.head ≤ greatest)) s.notes.list back.more
-                kept.notes_fit back.fit)));
-            trail = subst (λ (hs : List ℕ). IsTrail shop s.layout (w ++ j ∷ []) marks after.list hs) (sym beside.heads)
-                (subst (λ (ms : List Mark). IsTrail shop s.layout (w ++ j ∷ []) ms after.list new.heads) (sym pushed)
-                (trail_more shop kept.kept.limits s.layout kept.kept.laid greatest w j s.marks mark s.notes
-                (record s.notes { whole = true }) after s.rows.heads new.heads kept.kept.heads kept.trail refl
-                advances.first advances.whole back (advances.at ∙ next_at x stands)));
-            as_many = (let a = ap length pushed in let b = length_push s.marks mark in let c = length_push w j
-                in let d = kept.as_many in omega arith);
-            marks_room = (let a = kept.marks_room in omega arith);
-            bounds = kept.bounds;
-            ends = ends_at greatest shop (w ++ j ∷ []) s.layout ended heads nexts are
-                (beside.ends ∙ as_many_ends) kept.bounds.holds ends;
-            estimates = no_estimates s.top s.layout ended us none;
-          }
+        beside : HasEnds new ended
+        beside = beside_more greatest s.layout nexts new ends_more new same j job_more ended set_end
+
+        ends_set : AreEndsOf greatest nexts ended
+        ends_set i known = elim (cases_eq i j) [
+          | inl e ↦ subst (IsEndOf greatest nexts ended) (sym e)
+              (end_here greatest s.layout nexts new ends_more new same j job_more ended set_end)
+          | inr ne ↦ (
+              let before : i < length s.nexts = (let a = ap length wrote in omega (arith, length-set s.nexts j q))
+              in let was = ends_of greatest shop w s.layout s.rows kept.kept s.nexts kept.nexts kept.ends.jobs kept.ends
+              i before
+              in let now = advances.others i before (elsewhere i before ne) was
+              in let next : get_or nexts i 0 ≡ get_or s.nexts i 0 =
+              ap (λ (xs : List ℕ). get_or xs i 0) wrote ∙ get_or-set_other s.nexts j i q 0 ne
+              in end_other greatest s.layout nexts new ends_more new same j job_more ended set_end i ne
+              (rw next now))
+        ]
+
+        pub kept_more : (marks : List Mark) → marks ≡ s.marks ++ mark ∷ [] → (room : ℕ) → s.room ≤ room → (us : List ℕ) → us ≡ []
+            → IsKeptInLanes greatest shop (w ++ j ∷ [])
+            (record {
+              layout = s.layout;
+              rows = ended;
+              nexts = nexts;
+              notes = after;
+              marks = marks;
+              room = room;
+              raises = s.raises;
+              estimates = us;
+              top = s.top;
+            })
+        kept_more marks pushed room more us none =
+            let back = advances.noted
+            in let heads = with_ends greatest shop (w ++ j ∷ []) s.layout new ended beside now
+            in let are = nexts_more x stands q read nexts wrote
+            in record {
+              kept = heads;
+              nexts = are;
+              notes_fit = subst (λ (hs : List ℕ). AreNotesFit greatest (length hs) after.list) (sym beside.heads)
+                  (subst (λ (n : ℕ). AreNotesFit greatest n after.list) (sym advances.positions)
+                  (subst (AreNotesFit greatest (length s.rows.heads)) (sym back.are)
+                  (all_append
+                  (λ (n : Note). (n.position < length s.rows.heads) × (n.head ≤ greatest)) s.notes.list back.more
+                  kept.notes_fit back.fit)));
+              trail = subst (λ (hs : List ℕ). IsTrail shop s.layout (w ++ j ∷ []) marks after.list hs) (sym beside.heads)
+                  (subst (λ (ms : List Mark). IsTrail shop s.layout (w ++ j ∷ []) ms after.list new.heads) (sym pushed)
+                  (trail_more shop kept.kept.limits s.layout kept.kept.laid greatest w j s.marks mark s.notes
+                  (record s.notes { whole = true }) after s.rows.heads new.heads kept.kept.heads kept.trail refl
+                  advances.first advances.whole back (advances.at ∙ next_at x stands)));
+              as_many = (let a = ap length pushed in let b = length_push s.marks mark in let c = length_push w j
+                  in let d = kept.as_many in omega arith);
+              marks_room = (let a = kept.marks_room in omega arith);
+              bounds = kept.bounds;
+              ends = ends_at greatest shop (w ++ j ∷ []) s.layout ended heads nexts are
+                  (beside.ends ∙ as_many_ends) kept.bounds.holds ends_set;
+              estimates = no_estimates s.top s.layout ended us none;
+            }
 
   module _ (kept : IsKeptInLanes greatest shop (w ++ j ∷ []) s) (marks : List Mark) (mark : Mark)
       (popped : s.marks ≡ marks ++ mark ∷ []) where

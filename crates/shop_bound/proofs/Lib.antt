@@ -7,6 +7,7 @@ pub mod RestoredNotes
 pub mod Followed
 pub mod RaiseWalks
 pub mod RaiseSteps
+pub mod RaisedEnds
 pub mod RaiseLoops
 pub mod HeadsRise
 pub mod LaidPlaces

@@ -6,7 +6,7 @@ use Rattle.std.proofs.lemmas.Bool.{cases_Bool, cases_eq, cases_lt, and_from, and
 use Rattle.std.proofs.lemmas.List.{get_or_past, get_or-take, get_or-drop, length-take-le, length-drop}
 use Rattle.shop_lanes.specs.Rows.{Rows}
 use Rattle.shop_lanes.specs.Marks.{marked, waits_below, positions_below}
-use Rattle.shop_bound.specs.inner.Layouts.{LayoutState}
+use Rattle.shop_bound.specs.inner.Layouts.{LayoutState, place}
 use Rattle.shop_bound.specs.inner.LaneHeads.{NotesState}
 use Rattle.shop_bound.specs.inner.RisingLists.{IsIn, Rises}
 use Rattle.shop_bound.specs.inner.Raises.{at_in, AreInRouteOrder, IsRaised, IsLeastRaise, IsRaisable, Raises}
@@ -53,23 +53,32 @@ then_least l A B C e a b c x y split in_a in_b = record {
   least = λ other raised. y.least other (go_on l A B C e a b other x in_a in_b raised);
 }
 
-pub then_raises : (greatest : ℕ) (l : LayoutState) (A B C : ℕ → Type 0) (e : ℕ) (a b c : Rows) (n m o : NotesState)
-    → Raises greatest l A e a b n m → Raises greatest l B e b c m o → ((q : ℕ) → C q → A q ⊎ B q)
+pub then_raises : (greatest : ℕ) (l : LayoutState) (nexts : List ℕ) (A B C : ℕ → Type 0) (e : ℕ) (a b c : Rows) (n m o : NotesState)
+    → Raises greatest l nexts A e a b n m → Raises greatest l nexts B e b c m o → ((q : ℕ) → C q → A q ⊎ B q)
     → ((q : ℕ) → A q → C q)
-    → ((q : ℕ) → B q → C q) → Raises greatest l C e a c n o
-then_raises greatest l A B C e a b c n m o x y split in_a in_b = record {
+    → ((q : ℕ) → B q → C q) → Raises greatest l nexts C e a c n o
+then_raises greatest l nexts A B C e a b c n m o x y split in_a in_b = record {
   raised = then_least l A B C e a.heads b.heads c.heads x.raised y.raised split in_a in_b;
   times = y.times ∙ x.times;
   tails = y.tails ∙ x.tails;
-  ends = y.ends ∙ x.ends;
+  ends = record {
+    long = y.ends.long ∙ x.ends.long;
+    none = λ f. y.ends.none f ∙ x.ends.none f;
+    each = λ j known is. y.ends.each j known (x.ends.each j known is);
+  };
   noted = back_both greatest n m o a.heads b.heads c.heads x.noted y.noted;
 }
 
 -- what can be raised at more positions can be raised at those that are left
-pub still_raisable : (greatest : ℕ) (l : LayoutState) (A B C : ℕ → Type 0) (e : ℕ) (a b : Rows) (n m : NotesState)
-    → IsRaisable greatest l a C e → Raises greatest l A e a b n m → ((q : ℕ) → A q → C q) → ((q : ℕ) → B q → C q)
-    → IsRaisable greatest l b B e
-still_raisable greatest l A B C e a b n m can x in_a in_b = record {
+pub still_raisable : (greatest : ℕ) (l : LayoutState) (nexts : List ℕ) (A B C : ℕ → Type 0) (e : ℕ) (a b : Rows) (n m : NotesState)
+    → IsRaisable greatest l nexts a C e → Raises greatest l nexts A e a b n m → ((q : ℕ) → A q → C q) → ((q : ℕ) → B q → C q)
+    → IsRaisable greatest l nexts b B e
+still_raisable greatest l nexts A B C e a b n m can x in_a in_b = record {
+  firsts = record {
+    own = λ j known here. can.firsts.own j known (let y = x.raised.positions in omega arith);
+    first = λ j i k known more at. x.raised.raised.rests (place l i k) (can.firsts.first j i k known more at);
+  };
+  ends = (let y = x.ends.long in let z = can.ends in omega arith);
   indexed = subst (λ (k : ℕ). IsIndexed l k) (sym x.raised.positions) can.indexed;
   followed = subst (λ (k : ℕ). IsFollowed l k) (sym x.raised.positions) can.followed;
   times = x.times ∙ can.times;
@@ -85,10 +94,10 @@ still_raisable greatest l A B C e a b n m can x in_a in_b = record {
 }
 
 -- at no position
-pub raises_none : (greatest : ℕ) (l : LayoutState) (A : ℕ → Type 0) (e : ℕ) (a : Rows) (n : NotesState)
+pub raises_none : (greatest : ℕ) (l : LayoutState) (nexts : List ℕ) (A : ℕ → Type 0) (e : ℕ) (a : Rows) (n : NotesState)
     → AreInRouteOrder l (at_in a.heads) → ((q : ℕ) → A q → 0 < get_or a.heads q 0 → e ≤ get_or a.heads q 0)
-    → Raises greatest l A e a a n n
-raises_none greatest l A e a n order enough = record {
+    → Raises greatest l nexts A e a a n n
+raises_none greatest l nexts A e a n order enough = record {
   raised = record {
     positions = refl;
     raised = record { rises = λ q. omega arith; rests = λ q z. z; order = order; reach = enough };
@@ -96,7 +105,7 @@ raises_none greatest l A e a n order enough = record {
   };
   times = refl;
   tails = refl;
-  ends = refl;
+  ends = record { long = refl; none = λ f. refl; each = λ j known is. is };
   noted = back_none greatest n a.heads;
 }
 
@@ -148,15 +157,15 @@ pub record AreToCome (from to : ℕ) (todo : List ℕ) (heads : List ℕ) : Type
   pub waits : (q : ℕ) → IsIn todo q → IsInBlocks from to q × (0 < get_or heads q 0)
   pub rises : Rises todo
 
-pub record AreBlocksRaised (greatest : ℕ) (l : LayoutState) (from to e : ℕ) (todo : List ℕ) (old now : Rows)
+pub record AreBlocksRaised (greatest : ℕ) (l : LayoutState) (nexts : List ℕ) (from to e : ℕ) (todo : List ℕ) (old now : Rows)
     (before after : NotesState) : Type 0 where
-  pub raises : Raises greatest l (IsDone from to todo) e old now before after
+  pub raises : Raises greatest l nexts (IsDone from to todo) e old now before after
   pub to_come : AreToCome from to todo old.heads
 
-module _ (greatest : ℕ) (l : LayoutState) (from to e : ℕ) (old : Rows)
-    (can : IsRaisable greatest l old (IsInBlocks from to) e) where
+module _ (greatest : ℕ) (l : LayoutState) (nexts : List ℕ) (from to e : ℕ) (old : Rows)
+    (can : IsRaisable greatest l nexts old (IsInBlocks from to) e) where
   pub blocks_begin : from ≤ to → 8 * to ≤ length old.heads → (before : NotesState) (todo : List ℕ)
-      → todo ≡ positions_below old from to e → AreBlocksRaised greatest l from to e todo old old before before
+      → todo ≡ positions_below old from to e → AreBlocksRaised greatest l nexts from to e todo old old before before
   blocks_begin ordered within before todo is =
       let part : List ℕ = take (8 * to - 8 * from) (drop (8 * from) old.heads)
       in let p : ℕ → Bool = waits_below e
@@ -166,7 +175,7 @@ module _ (greatest : ℕ) (l : LayoutState) (from to e : ℕ) (old : Rows)
       (λ i below. get_or-take (8 * to - 8 * from) (drop (8 * from) old.heads) i 0 below
       ∙ get_or-drop (8 * from) old.heads i 0)
       in record {
-        raises = raises_none greatest l (IsDone from to todo) e old before can.order (λ q done waits.
+        raises = raises_none greatest l nexts (IsDone from to todo) e old before can.order (λ q done waits.
             elim (cases_lt (get_or old.heads q 0) e) [
               | inl low ↦ (
                   let i = q - 8 * from
@@ -196,7 +205,7 @@ module _ (greatest : ℕ) (l : LayoutState) (from to e : ℕ) (old : Rows)
       }
 
   module _ (todo : List ℕ) (now : Rows) (before mid : NotesState)
-      (so_far : AreBlocksRaised greatest l from to e todo old now before mid) (q : ℕ) (rest : List ℕ)
+      (so_far : AreBlocksRaised greatest l nexts from to e todo old now before mid) (q : ℕ) (rest : List ℕ)
       (popped : todo ≡ q ∷ rest) where
     is_in : IsIn todo q
     is_in = subst (λ (xs : List ℕ). IsIn xs q) (sym popped) (inl refl)
@@ -241,28 +250,28 @@ module _ (greatest : ℕ) (l : LayoutState) (from to e : ℕ) (old : Rows)
       λ h. not_in_rest (subst (IsIn rest) f h),
     )
 
-    pub popped_raisable : IsRaisable greatest l now (IsPosition q) e
+    pub popped_raisable : IsRaisable greatest l nexts now (IsPosition q) e
     popped_raisable =
-        still_raisable greatest l (IsDone from to todo) (IsPosition q) (IsInBlocks from to) e old now before mid can
+        still_raisable greatest l nexts (IsDone from to todo) (IsPosition q) (IsInBlocks from to) e old now before mid can
         so_far.raises (λ r d. d.0) (λ r f. (here_done r f).0)
 
-    pub blocks_on : (new : Rows) (after : NotesState) → Raises greatest l (IsPosition q) e now new mid after
-        → AreBlocksRaised greatest l from to e rest old new before after
+    pub blocks_on : (new : Rows) (after : NotesState) → Raises greatest l nexts (IsPosition q) e now new mid after
+        → AreBlocksRaised greatest l nexts from to e rest old new before after
     blocks_on new after raised = record {
-      raises = then_raises greatest l (IsDone from to todo) (IsPosition q)
+      raises = then_raises greatest l nexts (IsDone from to todo) (IsPosition q)
           (IsDone from to rest) e old now new before mid
           after so_far.raises raised more_done still_done here_done;
       to_come = popped_to_come;
     }
 
-    pub blocks_past : e ≤ get_or now.heads q 0 → AreBlocksRaised greatest l from to e rest old now before mid
+    pub blocks_past : e ≤ get_or now.heads q 0 → AreBlocksRaised greatest l nexts from to e rest old now before mid
     blocks_past enough = blocks_on now mid
-        (raises_none greatest l (IsPosition q) e now mid so_far.raises.raised.raised.order
+        (raises_none greatest l nexts (IsPosition q) e now mid so_far.raises.raised.raised.order
         (λ r f _. subst (λ (x : ℕ). e ≤ get_or now.heads x 0) (sym f) enough))
 
   pub blocks_end : (todo : List ℕ) (now : Rows) (before after : NotesState) → todo ≡ []
-      → AreBlocksRaised greatest l from to e todo old now before after
-      → Raises greatest l (IsInBlocks from to) e old now before after
+      → AreBlocksRaised greatest l nexts from to e todo old now before after
+      → Raises greatest l nexts (IsInBlocks from to) e old now before after
   blocks_end todo now before after none so_far = record {
     raised = record {
       positions = so_far.raises.raised.positions;
@@ -283,20 +292,20 @@ module _ (greatest : ℕ) (l : LayoutState) (from to e : ℕ) (old : Rows)
   }
 
 -- blocks after blocks
-module _ (greatest : ℕ) (l : LayoutState) (first from to behind e : ℕ) (old now : Rows) (before mid : NotesState)
-    (raises : Raises greatest l (IsInBlocks first from) e old now before mid) (ordered : first ≤ from)
+module _ (greatest : ℕ) (l : LayoutState) (nexts : List ℕ) (first from to behind e : ℕ) (old now : Rows) (before mid : NotesState)
+    (raises : Raises greatest l nexts (IsInBlocks first from) e old now before mid) (ordered : first ≤ from)
     (on : from ≤ to) (within : to ≤ behind) where
-  pub blocks_raisable : IsRaisable greatest l old (IsInBlocks first behind) e
-      → IsRaisable greatest l now (IsInBlocks from to) e
+  pub blocks_raisable : IsRaisable greatest l nexts old (IsInBlocks first behind) e
+      → IsRaisable greatest l nexts now (IsInBlocks from to) e
   blocks_raisable can =
-      still_raisable greatest l (IsInBlocks first from) (IsInBlocks from to) (IsInBlocks first behind) e old now before
+      still_raisable greatest l nexts (IsInBlocks first from) (IsInBlocks from to) (IsInBlocks first behind) e old now before
       mid can raises (λ q h. let a = h.0 in let b = h.1 in (omega arith, omega arith))
       (λ q h. let a = h.0 in let b = h.1 in (omega arith, omega arith))
 
-  pub more_blocks : (new : Rows) (after : NotesState) → Raises greatest l (IsInBlocks from to) e now new mid after
-      → Raises greatest l (IsInBlocks first to) e old new before after
+  pub more_blocks : (new : Rows) (after : NotesState) → Raises greatest l nexts (IsInBlocks from to) e now new mid after
+      → Raises greatest l nexts (IsInBlocks first to) e old new before after
   more_blocks new after raised =
-      then_raises greatest l (IsInBlocks first from) (IsInBlocks from to) (IsInBlocks first to) e old now new before mid
+      then_raises greatest l nexts (IsInBlocks first from) (IsInBlocks from to) (IsInBlocks first to) e old now new before mid
       after raises raised
       (λ q h. let a = h.0 in let b = h.1 in elim (cases_lt q (8 * from)) [
         | inl low ↦ inl (a, low)
@@ -306,15 +315,15 @@ module _ (greatest : ℕ) (l : LayoutState) (first from to behind e : ℕ) (old 
       (λ q h. let a = h.0 in let b = h.1 in (omega arith, omega arith))
 
 -- no blocks yet
-pub no_blocks : (greatest : ℕ) (l : LayoutState) (first behind e : ℕ) (old : Rows) (before : NotesState)
-    → IsRaisable greatest l old (IsInBlocks first behind) e
-    → Raises greatest l (IsInBlocks first first) e old old before before
-no_blocks greatest l first behind e old before can =
-    raises_none greatest l (IsInBlocks first first) e old before can.order
+pub no_blocks : (greatest : ℕ) (l : LayoutState) (nexts : List ℕ) (first behind e : ℕ) (old : Rows) (before : NotesState)
+    → IsRaisable greatest l nexts old (IsInBlocks first behind) e
+    → Raises greatest l nexts (IsInBlocks first first) e old old before before
+no_blocks greatest l nexts first behind e old before can =
+    raises_none greatest l nexts (IsInBlocks first first) e old before can.order
     (λ q h waits. let a = h.0 in let b = h.1 in absurd (omega arith))
 
-pub all_blocks : (greatest : ℕ) (l : LayoutState) (first from behind e : ℕ) (old now : Rows) (before after : NotesState)
-    → from ≡ behind → Raises greatest l (IsInBlocks first from) e old now before after
-    → Raises greatest l (IsInBlocks first behind) e old now before after
-all_blocks greatest l first from behind e old now before after same raises =
-    subst (λ (x : ℕ). Raises greatest l (IsInBlocks first x) e old now before after) same raises
+pub all_blocks : (greatest : ℕ) (l : LayoutState) (nexts : List ℕ) (first from behind e : ℕ) (old now : Rows) (before after : NotesState)
+    → from ≡ behind → Raises greatest l nexts (IsInBlocks first from) e old now before after
+    → Raises greatest l nexts (IsInBlocks first behind) e old now before after
+all_blocks greatest l nexts first from behind e old now before after same raises =
+    subst (λ (x : ℕ). Raises greatest l nexts (IsInBlocks first x) e old now before after) same raises

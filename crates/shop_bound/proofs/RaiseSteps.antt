@@ -1,5 +1,5 @@
 -- A raise over rows, head by head, with its notes.
-use Rattle.std.proofs.Common.{◌≡◌, ℕ, ◌+◌, ◌≤◌, ◌<◌, List, length}
+use Rattle.std.proofs.Common.{◌≡◌, ℕ, ◌+◌, ◌≤◌, ◌<◌, List, [], length}
 use Rattle.std.proofs.Common.{get_or, set, refl, sym, ◌∙◌, ap, subst, arith}
 use Rattle.shop_lanes.specs.Rows.{Rows, with_head}
 use Rattle.shop_bound.specs.inner.Layings.{place_or}
@@ -31,7 +31,7 @@ pub record IsWalking (greatest : ℕ) (l : LayoutState) (p e t ready : ℕ) (old
   pub noted : LeadsBack greatest before after old.heads new.heads
 
 module _ (greatest : ℕ) (l : LayoutState) (p e : ℕ) (old : Rows)
-    (can : IsRaisable greatest l old (IsPosition p) e) (some : 0 < get_or old.heads p 0) where
+    (can : IsRaisable greatest l [] old (IsPosition p) e) (some : 0 < get_or old.heads p 0) where
   -- its end fits
   pub end_fits : e + get_or l.times p 0 ≤ greatest
   end_fits = let a = can.raised.reach p refl some in let b = can.fits p (let c = can.raised.rises p in omega arith)
@@ -96,13 +96,17 @@ module _ (greatest : ℕ) (l : LayoutState) (p e : ℕ) (old : Rows)
   pub ended : (t ready : ℕ) (now : Rows) (before after : NotesState)
       → IsWalking greatest l p e t ready old now before after
       → (t < steps_of l (get_or l.jobs p 0) → ready ≤ get_or now.heads (place l (get_or l.jobs p 0) t) 0)
-      → Raises greatest l (IsPosition p) e old now before after
+      → Raises greatest l [] (IsPosition p) e old now before after
   ended t ready now before after so_far enough = record {
     raised = walk_ends l (length old.heads) can.indexed p e (get_or l.jobs p 0) old.heads refl t ready now.heads
         so_far.up_to enough;
     times = so_far.times;
     tails = so_far.tails;
-    ends = so_far.ends;
+    ends = record {
+      long = ap length so_far.ends;
+      none = λ f. so_far.ends;
+      each = λ j known is. absurd (omega arith);
+    };
     noted = so_far.noted;
   }
 
@@ -114,7 +118,7 @@ pub record IsFollowing (greatest : ℕ) (l : LayoutState) (p e next ready : ℕ)
   pub walking : IsWalking greatest l p e step ready old new before after
 
 module _ (greatest : ℕ) (l : LayoutState) (p e : ℕ) (old : Rows)
-    (can : IsRaisable greatest l old (IsPosition p) e) (some : 0 < get_or old.heads p 0) where
+    (can : IsRaisable greatest l [] old (IsPosition p) e) (some : 0 < get_or old.heads p 0) where
   pub begun_following : get_or old.heads p 0 ≤ e → (new : Rows) (before after : NotesState)
       → Replaces greatest p e old new before after
       → (next ready time : ℕ) → next ≡ get_or l.following p 0 → time ≡ get_or new.times p 0 → ready ≡ e + time
@@ -171,7 +175,7 @@ module _ (greatest : ℕ) (l : LayoutState) (p e : ℕ) (old : Rows)
 
     -- the head there is late enough, or there is none
     pub following_ended : (next < n → ready ≤ get_or now.heads next 0)
-        → Raises greatest l (IsPosition p) e old now before mid
+        → Raises greatest l [] (IsPosition p) e old now before mid
     following_ended enough = ended greatest l p e old can some so_far.step ready now before mid so_far.walking
         (λ there. let a = place_there l (length old.heads) (get_or l.jobs p 0) so_far.step there
         in let b = so_far.next_is

@@ -14,7 +14,7 @@ use Rattle.shop_bound.specs.Heads.{head_of, ready_after}
 use Rattle.shop_bound.specs.inner.LaneHeads.{AreHeadsAt}
 use Rattle.shop_bound.specs.inner.Layings.{place_or}
 use Rattle.shop_bound.specs.inner.Layouts.{LayoutState, place, first_of, IsLaidOut}
-use Rattle.shop_bound.specs.inner.Raises.{steps_of, at_in, IsFollowed, IsIndexed, IsPlace, AreInRouteOrder, IsRaised}
+use Rattle.shop_bound.specs.inner.Raises.{steps_of, at_in, AreFirst, IsFollowed, IsIndexed, IsPlace, AreInRouteOrder, IsRaised}
 use Rattle.shop_bound.specs.inner.Raises.{IsLeastRaise, IsRaisable, IsOnMachine, HasBlocks}
 use Rattle.shop_bound.proofs.HeadsRise.{heads_up}
 use Rattle.shop_bound.proofs.HeadsStay.{ready_first_same, steps_rise}
@@ -203,14 +203,17 @@ module _ (shop : Shop) (limits : IsWithinLimits shop) (l : LayoutState) (laid : 
               in omega arith;
         }
 
-        pub raisable : (greatest : ℕ) (rows : Rows) → rows.heads ≡ old → rows.times ≡ l.times → greatest < 2 ^ 64
+        pub raisable : (greatest : ℕ) (nexts : List ℕ) (rows : Rows) → AreFirst l nexts rows.heads
+            → length nexts ≤ length rows.ends → rows.heads ≡ old → rows.times ≡ l.times → greatest < 2 ^ 64
             → ((i k : ℕ) → IsOperation shop i k → q.steps i ≤ k → head_of shop q i k + time_of shop i k < greatest)
-            → IsRaisable greatest l rows (IsOnMachine l machine) e
-        raisable greatest rows heads times computable fits =
+            → IsRaisable greatest l nexts rows (IsOnMachine l machine) e
+        raisable greatest nexts rows firsts ends heads times computable fits =
             let of : (hs : List ℕ) → hs ≡ old → IsRaised l (IsOnMachine l machine) e (at_in hs) target =
             (λ hs is. subst (λ (xs : List ℕ). IsRaised l (IsOnMachine l machine) e (at_in xs) target) (sym is)
             target_raised)
             in record {
+              firsts = firsts;
+              ends = ends;
               indexed = indexed (length rows.heads) (ap length heads ∙ are.positions);
               followed = followed (length rows.heads) (ap length heads ∙ are.positions);
               times = times;

@@ -89,6 +89,7 @@ impl<L: Lanes> LaneHeads<L> {
             &mut self.lanes,
             &mut self.notes,
             &self.layout,
+            &[],
             next.position,
             next.machine,
         );

@@ -8,24 +8,26 @@ use crate::raises::{raise, replace};
 use shop_lanes::Lanes;
 
 /// Takes the next operation of a job, which stands at this position and is on this machine, out of the heads and raises
-/// those that its end raises. What they were is noted behind the mark.
+/// those that its end raises; and keeps the ends of these next operations up. What the heads were is noted behind the
+/// mark.
 #[inline(always)]
 pub(crate) fn advance<L: Lanes>(
     lanes: &mut L,
     notes: &mut Notes,
     layout: &Layout,
+    next: &[usize],
     position: usize,
     machine: usize,
 ) -> Mark
-    requires next { HasNextAt L.GREATEST layout.now position (L.rows lanes.old) }
+    requires next { HasNextAt L.GREATEST layout.now next.now position (L.rows lanes.old) }
     requires machine { machine ≡ slice_index layout.now.machines position }
-    ensures { Advances L.GREATEST layout.now position (L.rows lanes.old)
+    ensures { Advances L.GREATEST layout.now next.now position (L.rows lanes.old)
         (L.rows lanes.new) notes.old notes.new result }
 {
     let end = lanes.head(position) + lanes.time(position);
     let first = notes.begin();
     replace(lanes, notes, position, 0);
-    raise(lanes, notes, layout, machine, end);
+    raise(lanes, notes, layout, next, machine, end);
     Mark {
         position,
         first,

@@ -27,7 +27,7 @@ fn end_of<L: Lanes>(lanes: &L, layout: &Layout, next: &[usize], job: usize) -> u
 
 /// Sets the end of a job.
 #[inline(always)]
-fn set_end_of<L: Lanes>(lanes: &mut L, layout: &Layout, next: &[usize], job: usize)
+pub(crate) fn set_end_of<L: Lanes>(lanes: &mut L, layout: &Layout, next: &[usize], job: usize)
     requires keep { CanKeepEnds L.GREATEST layout.now next.now (L.rows lanes.old) }
     requires job { job < length next.now }
     ensures { L.rows lanes.new

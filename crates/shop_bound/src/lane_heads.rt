@@ -11,7 +11,7 @@ ghost use Rattle.shop_bound.specs.inner.LaneStates.{KeepsNext};
 use crate::dispatching::advance;
 use crate::estimates::Estimates;
 use crate::fills::{fill, go_back};
-use crate::lane_ends::{keep_ends, set_ends};
+use crate::lane_ends::{keep_ends, set_end_of, set_ends};
 use crate::latest_ends::latest_end;
 use crate::layouts::Layout;
 use crate::machine_raises::MachineRaises;
@@ -107,13 +107,13 @@ impl<L: Lanes> LaneHeads<L> {
             &mut self.lanes,
             &mut self.notes,
             &self.layout,
+            self.next.as_slice(),
             position,
             machine,
         );
         self.next[job] = self.layout.following(position);
         let next = self.next.as_slice();
-        let noted = &self.notes.list()[mark.first..];
-        keep_ends(&mut self.lanes, &self.layout, next, job, noted, mark.whole);
+        set_end_of(&mut self.lanes, &self.layout, next, job);
         self.marks.push(mark).unwrap();
         self.estimates.forget();
     }

@@ -1,8 +1,8 @@
 // Heads by position are raised once an operation is placed.
-ghost use Rattle.std.specs.Prelude.{◌+◌, ◌*◌, ◌≤◌, ◌<◌, length, slice_index};
+ghost use Rattle.std.specs.Prelude.{◌+◌, ◌*◌, ◌≤◌, ◌<◌, ◌^◌, [], length, slice_index};
 ghost use Rattle.shop_bound.specs.inner.Raises.{HasBlocks, IsInBlocks, IsPosition, IsRaisable};
 ghost use Rattle.shop_bound.specs.inner.Raises.{Raises};
-ghost use Rattle.shop_bound.specs.inner.Raises.{Replaces, IsOnMachine};
+ghost use Rattle.shop_bound.specs.inner.Raises.{Replaces, IsOnMachine, SetsEndAt};
 
 use crate::layouts::Layout;
 use crate::notes::Notes;
@@ -23,7 +23,7 @@ pub(crate) fn replace<L: Lanes>(lanes: &mut L, notes: &mut Notes, position: usiz
 
 /// Raises the head of what waits at a position to `end`, and those of its route behind it that are too small then.
 #[inline(always)]
-fn raise_from<L: Lanes>(
+fn raise_route<L: Lanes>(
     lanes: &mut L,
     notes: &mut Notes,
     layout: &Layout,
@@ -32,9 +32,9 @@ fn raise_from<L: Lanes>(
 )
     requires waits { 0 < slice_index (L.rows lanes.old).heads position }
     requires below { slice_index (L.rows lanes.old).heads position ≤ end }
-    requires raisable { IsRaisable L.GREATEST layout.now (L.rows lanes.old)
+    requires raisable { IsRaisable L.GREATEST layout.now [] (L.rows lanes.old)
         (IsPosition position) end }
-    ensures { Raises L.GREATEST layout.now (IsPosition position) end (L.rows lanes.old)
+    ensures { Raises L.GREATEST layout.now [] (IsPosition position) end (L.rows lanes.old)
         (L.rows lanes.new) notes.old notes.new }
 {
     replace(lanes, notes, position, end);
@@ -50,12 +50,52 @@ fn raise_from<L: Lanes>(
     }
 }
 
+/// Sets the end of what stands at a position, once its head is raised to `begin`, if it is one of these next operations.
+#[inline(always)]
+fn set_end_at<L: Lanes>(lanes: &mut L, layout: &Layout, next: &[usize], position: usize, begin: u64)
+    requires within { position < length (L.rows lanes.old).heads }
+    requires job { position < length layout.now.jobs }
+    requires ends { length next.now ≤ length (L.rows lanes.old).ends }
+    requires fits { begin + slice_index (L.rows lanes.old).times position ≤ L.GREATEST }
+    requires computable { L.GREATEST < 2 ^ 64 }
+    ensures { SetsEndAt layout.now next.now position begin (L.rows lanes.old)
+        (L.rows lanes.new) }
+{
+    let job = layout.job(position);
+    if job < next.len() && next[job] == position {
+        lanes.set_end(job, begin + lanes.time(position));
+    }
+}
+
+/// Raises the head of what waits at a position to `end`, those of its route behind it that are too small then, and its
+/// end if it is one of these next operations.
+#[inline(always)]
+fn raise_from<L: Lanes>(
+    lanes: &mut L,
+    notes: &mut Notes,
+    layout: &Layout,
+    next: &[usize],
+    position: usize,
+    end: u64,
+)
+    requires waits { 0 < slice_index (L.rows lanes.old).heads position }
+    requires below { slice_index (L.rows lanes.old).heads position ≤ end }
+    requires raisable { IsRaisable L.GREATEST layout.now next.now (L.rows lanes.old)
+        (IsPosition position) end }
+    ensures { Raises L.GREATEST layout.now next.now (IsPosition position) end (L.rows lanes.old)
+        (L.rows lanes.new) notes.old notes.new }
+{
+    set_end_at(lanes, layout, next, position, end);
+    raise_route(lanes, notes, layout, position, end);
+}
+
 /// Raises the heads of what waits in at most eight blocks below `end`.
 #[inline(always)]
 fn raise_blocks<L: Lanes>(
     lanes: &mut L,
     notes: &mut Notes,
     layout: &Layout,
+    next: &[usize],
     from: usize,
     to: usize,
     end: u64,
@@ -64,41 +104,42 @@ fn raise_blocks<L: Lanes>(
     requires ordered { from ≤ to }
     requires within { 8 * to ≤ length (L.rows lanes.old).heads }
     requires fits { end ≤ L.GREATEST }
-    requires raisable { IsRaisable L.GREATEST layout.now (L.rows lanes.old)
+    requires raisable { IsRaisable L.GREATEST layout.now next.now (L.rows lanes.old)
         (IsInBlocks from to) end }
-    ensures { Raises L.GREATEST layout.now (IsInBlocks from to) end (L.rows lanes.old)
+    ensures { Raises L.GREATEST layout.now next.now (IsInBlocks from to) end (L.rows lanes.old)
         (L.rows lanes.new) notes.old notes.new }
 {
     let mut below = lanes.below(from, to, end);
     while let Some(position) = below.pop_first() {
         if lanes.head(position) < end {
-            raise_from(lanes, notes, layout, position, end);
+            raise_from(lanes, notes, layout, next, position, end);
         }
     }
 }
 
 /// Raises the heads of what waits on a machine below `end`, one more than the end of what was placed there, and those
-/// of the routes behind as far as they are too small then.
+/// of the routes behind as far as they are too small then; and keeps the ends of these next operations up.
 #[inline(always)]
 pub(crate) fn raise<L: Lanes>(
     lanes: &mut L,
     notes: &mut Notes,
     layout: &Layout,
+    next: &[usize],
     machine: usize,
     end: u64,
 )
     requires machine { HasBlocks layout.now (length (L.rows lanes.old).heads) machine }
     requires fits { end ≤ L.GREATEST }
-    requires raisable { IsRaisable L.GREATEST layout.now (L.rows lanes.old)
+    requires raisable { IsRaisable L.GREATEST layout.now next.now (L.rows lanes.old)
         (IsOnMachine layout.now machine) end }
-    ensures { Raises L.GREATEST layout.now (IsOnMachine layout.now machine) end (L.rows lanes.old)
+    ensures { Raises L.GREATEST layout.now next.now (IsOnMachine layout.now machine) end (L.rows lanes.old)
         (L.rows lanes.new) notes.old notes.new }
 {
     let behind = layout.block(machine + 1);
     let mut from = layout.block(machine);
     while from < behind {
         let to = from + (behind - from).min(8);
-        raise_blocks(lanes, notes, layout, from, to, end);
+        raise_blocks(lanes, notes, layout, next, from, to, end);
         from = to;
     }
 }

@@ -3,7 +3,7 @@
 --     LaneState, IsKeptInLanes       these, with notes that lead back through the word, its next
 --                                    operations and their ends
 --     HasNextInLanes, Advances       one more operation
-use Rattle.std.specs.Prelude.{◌≡◌, ℕ, ◌+◌, ◌≤◌, ◌<◌, ◌^◌, true, List, [], ◌∷◌, ◌++◌, length}
+use Rattle.std.specs.Prelude.{◌≡◌, ℕ, ◌+◌, ◌≤◌, ◌<◌, ◌^◌, true, List, [], ◌∷◌, ◌++◌, length, slice_index}
 use Rattle.shop_lanes.specs.Rows.{Rows}
 use Rattle.shop_model.specs.Limits.{IsWithinLimits}
 use Rattle.shop_model.specs.Shop.{Shop, operation_count}
@@ -12,13 +12,14 @@ use Rattle.shop_bound.specs.Bound.{lb}
 use Rattle.shop_bound.specs.inner.BoundsUpTo.{IsBoundUpTo}
 use Rattle.shop_bound.specs.Placements.{PlacementState, IsPlacement}
 use Rattle.shop_bound.specs.inner.Estimates.{AreEstimates}
-use Rattle.shop_bound.specs.inner.Fills.{AreSameBeside}
 use Rattle.shop_bound.specs.inner.HeadLimits.{FitsLanes, latest_end}
 use Rattle.shop_bound.specs.inner.LaneChoices.{AreEndsAt, AreNextsOf}
+use Rattle.shop_bound.specs.inner.LaneEnds.{IsEndOf}
 use Rattle.shop_bound.specs.inner.LaneHeads.{AreHeadsAt, AreHeadsFit, AreNotesFit, IsTrail}
 use Rattle.shop_bound.specs.inner.LaneHeads.{LeadsBack, NotesState}
 use Rattle.shop_bound.specs.inner.Layouts.{LayoutState, IsLaidOut, place}
 use Rattle.shop_bound.specs.inner.MachineRaises.{AreEmpty}
+use Rattle.shop_bound.specs.inner.Raises.{AreFirst}
 use Rattle.shop_bound.specs.declared.head_raises.Raise.{Raise}
 use Rattle.shop_bound.specs.declared.notes.Mark.{Mark}
 
@@ -65,17 +66,27 @@ pub record IsKeptInLanes (greatest : ℕ) (shop : Shop) (w : List ℕ) (s : Lane
   pub estimates : AreEstimates s.top s.layout s.rows s.estimates
 
 -- they are those of a word to which an operation can be added, which stands at this position
-pub record HasNextAt (greatest : ℕ) (l : LayoutState) (position : ℕ) (rows : Rows) : Type 0 where
+pub record HasNextAt (greatest : ℕ) (l : LayoutState) (nexts : List ℕ) (position : ℕ)
+    (rows : Rows) : Type 0 where
   pub shop : Shop
   pub word : List ℕ
   pub job : ℕ
   pub kept : AreHeadsInLanes greatest shop word l rows
   pub fits : IsWord shop (word ++ job ∷ [])
   pub at : position ≡ place l job ((placing shop word).steps job)
+  pub firsts : AreFirst l nexts rows.heads
+  pub ends : length nexts ≤ length rows.ends
 
-pub record Advances (greatest : ℕ) (l : LayoutState) (position : ℕ) (old new : Rows)
+pub record Advances (greatest : ℕ) (l : LayoutState) (nexts : List ℕ) (position : ℕ)
+    (old new : Rows)
     (before after : NotesState) (mark : Mark) : Type 0 where
-  pub beside : AreSameBeside old new
+  pub times : new.times ≡ old.times
+  pub tails : new.tails ≡ old.tails
+  pub positions : length new.heads ≡ length old.heads
+  pub long : length new.ends ≡ length old.ends
+  pub none : nexts ≡ [] → new.ends ≡ old.ends
+  pub others : (j : ℕ) → j < length nexts → (slice_index nexts j ≡ position → ⊥)
+      → IsEndOf greatest nexts old j → IsEndOf greatest nexts new j
   pub first : mark.first ≡ length before.list
   pub whole : mark.whole ≡ after.whole
   pub at : mark.position ≡ position

@@ -4,13 +4,15 @@
 --     IsRaised l among e old new     no head fell, those that wait at some positions are at least
 --                                    e, routes are in order
 --     IsLeastRaise l among e ..      the least such heads
---     IsRaisable greatest l rows ..  heads that can be raised so
---     Raises greatest l among e ..   they were, and what was replaced is noted
+--     IsRaisable greatest l nexts .. heads that can be raised so
+--     Raises greatest l nexts ..     they were, what was replaced is noted, and the ends of next
+--                                    operations are kept up
 use Rattle.std.specs.Prelude.{◌≡◌, ℕ, ◌+◌, ◌*◌, ◌≤◌, ◌<◌, ◌^◌, List, [], length, slice_index}
 use Rattle.std.specs.Prelude.{slice_index_or}
 use Rattle.shop_lanes.specs.Rows.{Rows, with_head}
 use Rattle.shop_bound.specs.inner.Layings.{place_or}
 use Rattle.shop_bound.specs.inner.Layouts.{LayoutState, place}
+use Rattle.shop_bound.specs.inner.LaneEnds.{IsEndOf}
 use Rattle.shop_bound.specs.inner.LaneHeads.{NotesState, LeadsBack}
 
 abbrev pub steps_of : LayoutState → ℕ → ℕ
@@ -61,9 +63,19 @@ pub record IsLeastRaise (l : LayoutState) (among : ℕ → Type 0) (e : ℕ)
   pub least : (other : ℕ → ℕ) → IsRaised l among e (at_in old) other → (q : ℕ)
       → slice_index new q ≤ other q
 
--- some raise fits into lanes
-pub record IsRaisable (greatest : ℕ) (l : LayoutState) (rows : Rows) (among : ℕ → Type 0)
+-- next operations are the first of their routes that wait
+pub record AreFirst (l : LayoutState) (nexts heads : List ℕ) : Type 0 where
+  pub own : (j : ℕ) → j < length nexts → slice_index nexts j < length heads
+      → slice_index l.jobs (slice_index nexts j) ≡ j
+  pub first : (j i k : ℕ) → j < length nexts → k + 1 < steps_of l i
+      → place l i (k + 1) ≡ slice_index nexts j → slice_index heads (place l i k) ≡ 0
+
+-- some raise fits into lanes, and so do the ends of next operations
+pub record IsRaisable (greatest : ℕ) (l : LayoutState) (nexts : List ℕ) (rows : Rows)
+    (among : ℕ → Type 0)
     (e : ℕ) : Type 0 where
+  pub firsts : AreFirst l nexts rows.heads
+  pub ends : length nexts ≤ length rows.ends
   pub indexed : IsIndexed l (length rows.heads)
   pub followed : IsFollowed l (length rows.heads)
   pub times : rows.times ≡ l.times
@@ -74,12 +86,20 @@ pub record IsRaisable (greatest : ℕ) (l : LayoutState) (rows : Rows) (among : 
   pub fits : (q : ℕ) → 0 < other q → other q + slice_index l.times q ≤ greatest
   pub computable : greatest < 2 ^ 64
 
-pub record Raises (greatest : ℕ) (l : LayoutState) (among : ℕ → Type 0) (e : ℕ) (old new : Rows)
+-- the ends of these next operations are kept up, and where there are none nothing is changed
+pub record KeepsEnds (greatest : ℕ) (nexts : List ℕ) (old new : Rows) : Type 0 where
+  pub long : length new.ends ≡ length old.ends
+  pub none : nexts ≡ [] → new.ends ≡ old.ends
+  pub each : (j : ℕ) → j < length nexts → IsEndOf greatest nexts old j
+      → IsEndOf greatest nexts new j
+
+pub record Raises (greatest : ℕ) (l : LayoutState) (nexts : List ℕ) (among : ℕ → Type 0) (e : ℕ)
+    (old new : Rows)
     (before after : NotesState) : Type 0 where
   pub raised : IsLeastRaise l among e old.heads new.heads
   pub times : new.times ≡ old.times
   pub tails : new.tails ≡ old.tails
-  pub ends : new.ends ≡ old.ends
+  pub ends : KeepsEnds greatest nexts old new
   pub noted : LeadsBack greatest before after old.heads new.heads
 
 -- one head was replaced, and noted
@@ -104,3 +124,17 @@ pub record HasBlocks (l : LayoutState) (n m : ℕ) : Type 0 where
   pub known : m + 1 < length l.blocks
   pub ordered : slice_index l.blocks m ≤ slice_index l.blocks (m + 1)
   pub within : 8 * slice_index l.blocks (m + 1) ≤ n
+
+-- the end of what stands at a position was set, if it is one of these next operations
+pub record SetsEndAt (l : LayoutState) (nexts : List ℕ) (position begin : ℕ)
+    (old new : Rows) : Type 0 where
+  pub heads : new.heads ≡ old.heads
+  pub times : new.times ≡ old.times
+  pub tails : new.tails ≡ old.tails
+  pub long : length new.ends ≡ length old.ends
+  pub none : nexts ≡ [] → new.ends ≡ old.ends
+  pub here : slice_index l.jobs position < length nexts
+      → slice_index nexts (slice_index l.jobs position) ≡ position
+      → slice_index new.ends (slice_index l.jobs position) ≡ begin + slice_index old.times position
+  pub others : (j : ℕ) → j < length nexts → (slice_index nexts j ≡ position → ⊥)
+      → slice_index new.ends j ≡ slice_index old.ends j

@@ -1,7 +1,8 @@
 use Rattle.std.proofs.Common.{refl, subst, arith}
 use Rattle.shop_bound.specs.inner.LaneHeads.{LeadsBack, NotesState}
 use Rattle.shop_bound.proofs.AdvanceSteps.{within, end_small, machine_here}
-use Rattle.shop_bound.proofs.AdvanceSteps.{lifted_blocks, lifted_raisable, advanced_beside, advanced_noted, advanced}
+use Rattle.shop_bound.proofs.AdvanceSteps.{lifted_blocks, lifted_raisable, advanced_times, advanced_tails, advanced_positions}
+use Rattle.shop_bound.proofs.AdvanceSteps.{advanced_long, advanced_none, advanced_others, advanced_noted, advanced}
 use Rattle.shop_bound.proofs.dispatching.advance.Goals as goal
 
 pub head-requires : goal.head-requires
@@ -59,18 +60,58 @@ raise-requires-clause-raisable g c = lifted_raisable g.L.Lanes.GREATEST c.requir
     (machine_here g.L.Lanes.GREATEST c.requires.next.shop c.args.layout.now (g.L.Lanes.rows c.args.lanes.now)
     c.requires.next.word c.requires.next.job c.requires.next.kept c.requires.next.fits
     c.args.position c.args.machine c.requires.next.at c.requires.machine)
+    c.args.next.now c.requires.next.firsts c.requires.next.ends
 
 pub returns : goal.returns
 returns g c = record {
-  beside = advanced_beside g.L.Lanes.GREATEST c.requires.next.shop c.args.layout.now (g.L.Lanes.rows c.args.lanes.now)
+  times = advanced_times g.L.Lanes.GREATEST c.requires.next.shop c.args.layout.now (g.L.Lanes.rows c.args.lanes.now)
       c.requires.next.word c.requires.next.job c.requires.next.kept c.requires.next.fits
       c.args.position c.head.result c.time.result
       c.requires.next.at c.head.ensures c.time.ensures (g.L.Lanes.rows c.replace.new.lanes) c.begin-first.new.self
       c.replace.new.notes c.replace.ensures c.args.machine
       (machine_here g.L.Lanes.GREATEST c.requires.next.shop c.args.layout.now (g.L.Lanes.rows c.args.lanes.now)
       c.requires.next.word c.requires.next.job c.requires.next.kept c.requires.next.fits
-      c.args.position c.args.machine c.requires.next.at c.requires.machine)
-      (g.L.Lanes.rows c.raise.new.lanes) c.raise.new.notes c.raise.ensures;
+      c.args.position c.args.machine c.requires.next.at c.requires.machine) c.args.next.now (g.L.Lanes.rows c.raise.new.lanes) c.raise.new.notes c.raise.ensures;
+  tails = advanced_tails g.L.Lanes.GREATEST c.requires.next.shop c.args.layout.now (g.L.Lanes.rows c.args.lanes.now)
+      c.requires.next.word c.requires.next.job c.requires.next.kept c.requires.next.fits
+      c.args.position c.head.result c.time.result
+      c.requires.next.at c.head.ensures c.time.ensures (g.L.Lanes.rows c.replace.new.lanes) c.begin-first.new.self
+      c.replace.new.notes c.replace.ensures c.args.machine
+      (machine_here g.L.Lanes.GREATEST c.requires.next.shop c.args.layout.now (g.L.Lanes.rows c.args.lanes.now)
+      c.requires.next.word c.requires.next.job c.requires.next.kept c.requires.next.fits
+      c.args.position c.args.machine c.requires.next.at c.requires.machine) c.args.next.now (g.L.Lanes.rows c.raise.new.lanes) c.raise.new.notes c.raise.ensures;
+  positions = advanced_positions g.L.Lanes.GREATEST c.requires.next.shop c.args.layout.now (g.L.Lanes.rows c.args.lanes.now)
+      c.requires.next.word c.requires.next.job c.requires.next.kept c.requires.next.fits
+      c.args.position c.head.result c.time.result
+      c.requires.next.at c.head.ensures c.time.ensures (g.L.Lanes.rows c.replace.new.lanes) c.begin-first.new.self
+      c.replace.new.notes c.replace.ensures c.args.machine
+      (machine_here g.L.Lanes.GREATEST c.requires.next.shop c.args.layout.now (g.L.Lanes.rows c.args.lanes.now)
+      c.requires.next.word c.requires.next.job c.requires.next.kept c.requires.next.fits
+      c.args.position c.args.machine c.requires.next.at c.requires.machine) c.args.next.now (g.L.Lanes.rows c.raise.new.lanes) c.raise.new.notes c.raise.ensures;
+  long = advanced_long g.L.Lanes.GREATEST c.requires.next.shop c.args.layout.now (g.L.Lanes.rows c.args.lanes.now)
+      c.requires.next.word c.requires.next.job c.requires.next.kept c.requires.next.fits
+      c.args.position c.head.result c.time.result
+      c.requires.next.at c.head.ensures c.time.ensures (g.L.Lanes.rows c.replace.new.lanes) c.begin-first.new.self
+      c.replace.new.notes c.replace.ensures c.args.machine
+      (machine_here g.L.Lanes.GREATEST c.requires.next.shop c.args.layout.now (g.L.Lanes.rows c.args.lanes.now)
+      c.requires.next.word c.requires.next.job c.requires.next.kept c.requires.next.fits
+      c.args.position c.args.machine c.requires.next.at c.requires.machine) c.args.next.now (g.L.Lanes.rows c.raise.new.lanes) c.raise.new.notes c.raise.ensures;
+  none = advanced_none g.L.Lanes.GREATEST c.requires.next.shop c.args.layout.now (g.L.Lanes.rows c.args.lanes.now)
+      c.requires.next.word c.requires.next.job c.requires.next.kept c.requires.next.fits
+      c.args.position c.head.result c.time.result
+      c.requires.next.at c.head.ensures c.time.ensures (g.L.Lanes.rows c.replace.new.lanes) c.begin-first.new.self
+      c.replace.new.notes c.replace.ensures c.args.machine
+      (machine_here g.L.Lanes.GREATEST c.requires.next.shop c.args.layout.now (g.L.Lanes.rows c.args.lanes.now)
+      c.requires.next.word c.requires.next.job c.requires.next.kept c.requires.next.fits
+      c.args.position c.args.machine c.requires.next.at c.requires.machine) c.args.next.now (g.L.Lanes.rows c.raise.new.lanes) c.raise.new.notes c.raise.ensures;
+  others = advanced_others g.L.Lanes.GREATEST c.requires.next.shop c.args.layout.now (g.L.Lanes.rows c.args.lanes.now)
+      c.requires.next.word c.requires.next.job c.requires.next.kept c.requires.next.fits
+      c.args.position c.head.result c.time.result
+      c.requires.next.at c.head.ensures c.time.ensures (g.L.Lanes.rows c.replace.new.lanes) c.begin-first.new.self
+      c.replace.new.notes c.replace.ensures c.args.machine
+      (machine_here g.L.Lanes.GREATEST c.requires.next.shop c.args.layout.now (g.L.Lanes.rows c.args.lanes.now)
+      c.requires.next.word c.requires.next.job c.requires.next.kept c.requires.next.fits
+      c.args.position c.args.machine c.requires.next.at c.requires.machine) c.args.next.now (g.L.Lanes.rows c.raise.new.lanes) c.raise.new.notes c.raise.ensures;
   first = c.begin-first.ensures.first;
   whole = c.is_whole.ensures;
   at = refl;
@@ -83,13 +124,12 @@ returns g c = record {
       c.replace.new.notes c.replace.ensures c.args.machine
       (machine_here g.L.Lanes.GREATEST c.requires.next.shop c.args.layout.now (g.L.Lanes.rows c.args.lanes.now)
       c.requires.next.word c.requires.next.job c.requires.next.kept c.requires.next.fits
-      c.args.position c.args.machine c.requires.next.at c.requires.machine)
-      (g.L.Lanes.rows c.raise.new.lanes) c.raise.new.notes c.raise.ensures);
+      c.args.position c.args.machine c.requires.next.at c.requires.machine) c.args.next.now (g.L.Lanes.rows c.raise.new.lanes) c.raise.new.notes c.raise.ensures);
   heads = λ shop w j kept fits at. advanced g.L.Lanes.GREATEST shop c.args.layout.now (g.L.Lanes.rows c.args.lanes.now)
       w j kept fits c.args.position c.head.result c.time.result
       at c.head.ensures c.time.ensures (g.L.Lanes.rows c.replace.new.lanes) c.begin-first.new.self
       c.replace.new.notes c.replace.ensures c.args.machine
       (machine_here g.L.Lanes.GREATEST shop c.args.layout.now (g.L.Lanes.rows c.args.lanes.now) w j kept fits
       c.args.position c.args.machine at c.requires.machine)
-      (g.L.Lanes.rows c.raise.new.lanes) c.raise.new.notes c.raise.ensures;
+      c.args.next.now (g.L.Lanes.rows c.raise.new.lanes) c.raise.new.notes c.raise.ensures;
 }

@@ -11,10 +11,10 @@ loop-from-init g c = record {
   ordered = (let a = c.block-from.ensures in omega arith);
   within = (let a = c.block-from.ensures in let b = c.block-behind.ensures in let d = c.requires.machine.ordered
       in omega arith);
-  raises = subst (λ (x : ℕ). Raises g.L.Lanes.GREATEST c.args.layout.now
+  raises = subst (λ (x : ℕ). Raises g.L.Lanes.GREATEST c.args.layout.now c.args.next.now
       (IsInBlocks (get_or c.args.layout.now.blocks c.args.machine 0) x) c.args.end (g.L.Lanes.rows c.args.lanes.now)
       (g.L.Lanes.rows c.args.lanes.now) c.args.notes.now c.args.notes.now) (sym c.block-from.ensures)
-      (no_blocks g.L.Lanes.GREATEST c.args.layout.now (get_or c.args.layout.now.blocks c.args.machine 0)
+      (no_blocks g.L.Lanes.GREATEST c.args.layout.now c.args.next.now (get_or c.args.layout.now.blocks c.args.machine 0)
       (get_or c.args.layout.now.blocks (c.args.machine + 1) 0) c.args.end (g.L.Lanes.rows c.args.lanes.now)
       c.args.notes.now c.requires.raisable);
 }
@@ -22,7 +22,7 @@ loop-from-init g c = record {
 pub raise_blocks-requires-clause-raisable : goal.raise_blocks-requires-clause-raisable
 raise_blocks-requires-clause-raisable g c =
     let a = c.min.ensures in let b = c.block-behind.ensures in let d = c.loop-from-test.true
-    in blocks_raisable g.L.Lanes.GREATEST c.args.layout.now (get_or c.args.layout.now.blocks c.args.machine 0)
+    in blocks_raisable g.L.Lanes.GREATEST c.args.layout.now c.args.next.now (get_or c.args.layout.now.blocks c.args.machine 0)
     c.loop-from.from (c.loop-from.from + c.min.result)
     (get_or c.args.layout.now.blocks (c.args.machine + 1) 0) c.args.end
     (g.L.Lanes.rows c.args.lanes.now) (g.L.Lanes.rows c.loop-from.lanes) c.args.notes.now c.loop-from.notes
@@ -34,7 +34,7 @@ loop-from-preserved g c =
     in let o = c.loop-from.invariant.ordered in record {
       ordered = omega arith;
       within = omega arith;
-      raises = more_blocks g.L.Lanes.GREATEST c.args.layout.now (get_or c.args.layout.now.blocks c.args.machine 0)
+      raises = more_blocks g.L.Lanes.GREATEST c.args.layout.now c.args.next.now (get_or c.args.layout.now.blocks c.args.machine 0)
           c.loop-from.from (c.loop-from.from + c.min.result)
           (get_or c.args.layout.now.blocks (c.args.machine + 1) 0) c.args.end
           (g.L.Lanes.rows c.args.lanes.now) (g.L.Lanes.rows c.loop-from.lanes) c.args.notes.now c.loop-from.notes
@@ -45,7 +45,7 @@ loop-from-preserved g c =
 pub returns : goal.returns
 returns g c =
     let a = c.block-behind.ensures in let b = c.loop-from-test.false in let d = c.loop-from.invariant.within
-    in all_blocks g.L.Lanes.GREATEST c.args.layout.now (get_or c.args.layout.now.blocks c.args.machine 0)
+    in all_blocks g.L.Lanes.GREATEST c.args.layout.now c.args.next.now (get_or c.args.layout.now.blocks c.args.machine 0)
     c.loop-from.from (get_or c.args.layout.now.blocks (c.args.machine + 1) 0) c.args.end
     (g.L.Lanes.rows c.args.lanes.now) (g.L.Lanes.rows c.loop-from.lanes) c.args.notes.now c.loop-from.notes
     (omega arith) c.loop-from.invariant.raises

@@ -6,7 +6,7 @@ abbrev pub invariant-loop-from : goal.invariant-loop-from
 invariant-loop-from g l = record {
   ordered : get_or l.layout.blocks l.machine 0 ≤ l.from;
   within : l.from ≤ l.behind;
-  raises : Raises g.L.Lanes.GREATEST l.layout (IsInBlocks (get_or l.layout.blocks l.machine 0) l.from) l.end
+  raises : Raises g.L.Lanes.GREATEST l.layout l.next (IsInBlocks (get_or l.layout.blocks l.machine 0) l.from) l.end
       (g.L.Lanes.rows l.fn.lanes) (g.L.Lanes.rows l.lanes) l.fn.notes l.notes;
 }
 

@@ -1,54 +1,34 @@
-use Rattle.std.proofs.Common.{◌≡◌, ◌+◌, get_or, refl, arith}
-use Rattle.shop_bound.proofs.RaiseSteps.{followed, following_fits, following_less, same_times}
+use Rattle.std.proofs.Common.{ℕ, List, get_or, ap, arith}
+use Rattle.shop_bound.proofs.RaisedEnds.{mid_raisable, raised_with_ends, raised_within, raised_fits}
 use Rattle.shop_bound.proofs.raises.raise_from.Goals as goal
 
-pub replace-requires-in-loop-next-clause-fits : goal.replace-requires-in-loop-next-clause-fits
-replace-requires-in-loop-next-clause-fits g c =
-    (following_fits g.L.Lanes.GREATEST c.args.layout.now c.args.position c.args.end (g.L.Lanes.rows c.args.lanes.now)
-    c.requires.raisable c.requires.waits c.loop-next.next c.loop-next.ready (g.L.Lanes.rows c.loop-next.lanes)
-    c.args.notes.now c.loop-next.notes c.loop-next.invariant c.positions.result c.positions.ensures
-    c.loop-next-test.true).0
+pub set_end_at-requires : goal.set_end_at-requires
+set_end_at-requires g c =
+    let can = c.requires.raisable
+    in let within = raised_within g.L.Lanes.GREATEST c.args.layout.now c.args.next.now c.args.position c.args.end
+    (g.L.Lanes.rows c.args.lanes.now) can c.requires.waits
+    in let jobs = can.indexed.jobs
+    in record {
+      within = within;
+      job = omega arith;
+      ends = can.ends;
+      fits = raised_fits g.L.Lanes.GREATEST c.args.layout.now c.args.next.now c.args.position c.args.end
+          (g.L.Lanes.rows c.args.lanes.now) can c.requires.waits;
+      computable = can.computable;
+    }
 
-pub replace-requires-in-loop-next-clause-fits_now : goal.replace-requires-in-loop-next-clause-fits_now
-replace-requires-in-loop-next-clause-fits_now g c =
-    let fits = (following_fits g.L.Lanes.GREATEST c.args.layout.now c.args.position c.args.end
-    (g.L.Lanes.rows c.args.lanes.now) c.requires.raisable c.requires.waits c.loop-next.next c.loop-next.ready
-    (g.L.Lanes.rows c.loop-next.lanes) c.args.notes.now c.loop-next.notes c.loop-next.invariant c.positions.result
-    c.positions.ensures c.loop-next-test.true).0
-    in let head = c.head.ensures
-    in let below = c.if-head-ready.false
-    in omega arith
+pub raise_route-requires : goal.raise_route-requires
+raise_route-requires g c =
+    let same = ap (λ (xs : List ℕ). get_or xs c.args.position 0) c.set_end_at.ensures.heads
+    in let some = c.requires.waits in let below = c.requires.below
+    in record {
+      waits = omega arith;
+      below = omega arith;
+      raisable = mid_raisable g.L.Lanes.GREATEST c.args.layout.now c.args.next.now c.args.position c.args.end
+          (g.L.Lanes.rows c.args.lanes.now) (g.L.Lanes.rows c.set_end_at.new.lanes) c.requires.raisable c.set_end_at.ensures;
+    }
 
-pub overflow_add-ready-in-loop-next : goal.overflow_add-ready-in-loop-next
-overflow_add-ready-in-loop-next g c =
-    let q = c.loop-next.next
-    in let fits = (following_fits g.L.Lanes.GREATEST c.args.layout.now c.args.position c.args.end
-    (g.L.Lanes.rows c.args.lanes.now) c.requires.raisable c.requires.waits q c.loop-next.ready
-    (g.L.Lanes.rows c.loop-next.lanes) c.args.notes.now c.loop-next.notes c.loop-next.invariant c.positions.result
-    c.positions.ensures c.loop-next-test.true).1
-    in let computable = c.requires.raisable.computable
-    in let times : get_or (g.L.Lanes.rows c.replace-in-loop-next.new.lanes).times q 0
-    ≡ get_or (g.L.Lanes.rows c.loop-next.lanes).times q 0 =
-    same_times (g.L.Lanes.rows c.loop-next.lanes) (g.L.Lanes.rows c.replace-in-loop-next.new.lanes)
-    q c.loop-next.ready q c.replace-in-loop-next.ensures.rows
-    in let read_time = c.time-ready.ensures
-    in omega arith
-
-pub loop-next-smaller : goal.loop-next-smaller
-loop-next-smaller g c =
-    following_less g.L.Lanes.GREATEST c.args.layout.now c.args.position c.args.end (g.L.Lanes.rows c.args.lanes.now)
-    c.requires.raisable c.requires.waits c.loop-next.next c.loop-next.ready (g.L.Lanes.rows c.loop-next.lanes)
-    c.args.notes.now c.loop-next.notes c.loop-next.invariant c.positions.result c.positions.ensures
-    c.loop-next-test.true c.following-next-in-loop-next.result c.following-next-in-loop-next.ensures
-
-pub loop-next-preserved : goal.loop-next-preserved
-loop-next-preserved g c =
-    let head = c.head.ensures
-    in let below = c.if-head-ready.false
-    in followed g.L.Lanes.GREATEST c.args.layout.now c.args.position c.args.end (g.L.Lanes.rows c.args.lanes.now)
-    c.requires.raisable c.requires.waits c.loop-next.next c.loop-next.ready (g.L.Lanes.rows c.loop-next.lanes)
-    c.args.notes.now c.loop-next.notes c.loop-next.invariant c.positions.result c.positions.ensures
-    c.loop-next-test.true (omega arith)
-    (g.L.Lanes.rows c.replace-in-loop-next.new.lanes) c.replace-in-loop-next.new.notes c.replace-in-loop-next.ensures
-    (c.loop-next.ready + c.time-ready.result) c.time-ready.result c.following-next-in-loop-next.result
-    c.time-ready.ensures refl c.following-next-in-loop-next.ensures
+pub returns : goal.returns
+returns g c = raised_with_ends g.L.Lanes.GREATEST c.args.layout.now c.args.next.now c.args.position c.args.end
+    (g.L.Lanes.rows c.args.lanes.now) (g.L.Lanes.rows c.set_end_at.new.lanes) c.requires.raisable c.set_end_at.ensures c.requires.waits c.requires.below
+    (g.L.Lanes.rows c.raise_route.new.lanes) c.args.notes.now c.raise_route.new.notes c.raise_route.ensures

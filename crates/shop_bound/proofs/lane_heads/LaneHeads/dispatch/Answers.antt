@@ -1,9 +1,9 @@
-use Rattle.std.proofs.Common.{◌≡◌, ℕ, List, length, refl, sym, subst, ap, ◌∙◌, arith}
-use Rattle.shop_bound.specs.inner.LaneEnds.{AreEndsOf}
+use Rattle.std.proofs.Common.{◌≡◌, ℕ, List, length, refl, sym, subst, ap, arith}
+use Rattle.shop_lanes.specs.Rows.{with_end}
+use Rattle.shop_bound.specs.inner.LaneEnds.{end_at}
 use Rattle.shop_bound.specs.inner.LaneStates.{LaneState, HasNextInLanes, IsKeptInLanes}
 use Rattle.shop_bound.proofs.LaneSteps.{mark_fits, next_known, next_at, position_known}
-use Rattle.shop_bound.proofs.LaneSteps.{ends_more, job_more, fit_more, noted_more, kept_more}
-use Rattle.shop_bound.proofs.ChildTurns.{noted_is}
+use Rattle.shop_bound.proofs.LaneSteps.{ends_more, ends_room, firsts, job_more, kept_more}
 use Rattle.shop_bound.proofs.lane_heads.LaneHeads.dispatch.Goals as goal
 
 pub advance-mark-requires-clause-next : goal.advance-mark-requires-clause-next
@@ -16,6 +16,8 @@ advance-mark-requires-clause-next g c =
       kept = next.kept.kept;
       fits = next.fits;
       at = next_at g.L.Lanes.GREATEST next.shop next.word c.args.job _ next.kept next.fits c.index-position.result.now c.index-position.ensures;
+      firsts = rw c.as_slice.ensures.value (firsts g.L.Lanes.GREATEST next.shop next.word c.args.job _ next.kept next.fits);
+      ends = rw c.as_slice.ensures.value (ends_room g.L.Lanes.GREATEST next.shop next.word c.args.job _ next.kept next.fits);
     }
 
 pub index-position-requires : goal.index-position-requires
@@ -58,41 +60,21 @@ index_mut-requires g c =
     in let known = next_known g.L.Lanes.GREATEST next.shop next.word c.args.job _ next.kept next.fits
     in let long = c.self.inside.next.ok.0 in omega arith
 
-pub keep_ends-requires-clause-keep : goal.keep_ends-requires-clause-keep
-keep_ends-requires-clause-keep g c =
+pub set_end_of-requires-clause-keep : goal.set_end_of-requires-clause-keep
+set_end_of-requires-clause-keep g c =
     let next = subst (λ (s : LaneState). HasNextInLanes g.L.Lanes.GREATEST c.args.job s) (sym c.self.view_is) c.requires
     in ends_more g.L.Lanes.GREATEST next.shop next.word c.args.job _ next.kept next.fits
     (g.L.Lanes.rows c.advance-mark.new.lanes) c.advance-mark.new.notes c.advance-mark.result
-    c.index-position.result.now c.index-position.ensures c.advance-mark.ensures c.following.result c.following.ensures
+    c.index-position.result.now c.index-position.ensures (rw c.as_slice.ensures.value at c.advance-mark.ensures) c.following.result c.following.ensures
     c.as_slice-next.result.now c.as_slice-next.ensures.value
 
-pub keep_ends-requires-clause-job : goal.keep_ends-requires-clause-job
-keep_ends-requires-clause-job g c =
+pub set_end_of-requires-clause-job : goal.set_end_of-requires-clause-job
+set_end_of-requires-clause-job g c =
     let next = subst (λ (s : LaneState). HasNextInLanes g.L.Lanes.GREATEST c.args.job s) (sym c.self.view_is) c.requires
     in job_more g.L.Lanes.GREATEST next.shop next.word c.args.job _ next.kept next.fits
     (g.L.Lanes.rows c.advance-mark.new.lanes) c.advance-mark.new.notes c.advance-mark.result
-    c.index-position.result.now c.index-position.ensures c.advance-mark.ensures c.following.result c.following.ensures
+    c.index-position.result.now c.index-position.ensures (rw c.as_slice.ensures.value at c.advance-mark.ensures) c.following.result c.following.ensures
     c.as_slice-next.result.now c.as_slice-next.ensures.value
-
-pub keep_ends-requires-clause-notes : goal.keep_ends-requires-clause-notes
-keep_ends-requires-clause-notes g c =
-    let next = subst (λ (s : LaneState). HasNextInLanes g.L.Lanes.GREATEST c.args.job s) (sym c.self.view_is) c.requires
-    in let is = noted_is c.list.result.now c.self.inside.notes.list c.advance-mark.ensures.noted.more
-    c.advance-mark.result.first (c.list.ensures ∙ c.advance-mark.ensures.noted.are) c.advance-mark.ensures.first
-    in fit_more g.L.Lanes.GREATEST next.shop next.word c.args.job _ next.kept next.fits
-    (g.L.Lanes.rows c.advance-mark.new.lanes) c.advance-mark.new.notes c.advance-mark.result
-    c.index-position.result.now c.index-position.ensures c.advance-mark.ensures c.following.result c.following.ensures
-    c.as_slice-next.result.now c.as_slice-next.ensures.value _ is
-
-pub keep_ends-requires-clause-noted : goal.keep_ends-requires-clause-noted
-keep_ends-requires-clause-noted g c =
-    let next = subst (λ (s : LaneState). HasNextInLanes g.L.Lanes.GREATEST c.args.job s) (sym c.self.view_is) c.requires
-    in let is = noted_is c.list.result.now c.self.inside.notes.list c.advance-mark.ensures.noted.more
-    c.advance-mark.result.first (c.list.ensures ∙ c.advance-mark.ensures.noted.are) c.advance-mark.ensures.first
-    in noted_more g.L.Lanes.GREATEST next.shop next.word c.args.job _ next.kept next.fits
-    (g.L.Lanes.rows c.advance-mark.new.lanes) c.advance-mark.new.notes c.advance-mark.result
-    c.index-position.result.now c.index-position.ensures c.advance-mark.ensures c.following.result c.following.ensures
-    c.as_slice-next.result.now c.as_slice-next.ensures.value _ is
 
 pub unwrap-requires : goal.unwrap-requires
 unwrap-requires g c =
@@ -106,9 +88,11 @@ returns g c shop w kept fits =
     kept_more g.L.Lanes.GREATEST shop w c.args.job _
     (subst (λ (s : LaneState). IsKeptInLanes g.L.Lanes.GREATEST shop w s) (sym c.self.view_is) kept) fits
     (g.L.Lanes.rows c.advance-mark.new.lanes) c.advance-mark.new.notes c.advance-mark.result
-    c.index-position.result.now c.index-position.ensures c.advance-mark.ensures c.following.result c.following.ensures
-    _ refl (g.L.Lanes.rows c.keep_ends.new.lanes) c.keep_ends.ensures.beside
-    (subst (λ (nexts : List ℕ). AreEndsOf g.L.Lanes.GREATEST nexts (g.L.Lanes.rows c.keep_ends.new.lanes))
-    c.as_slice-next.ensures.value c.keep_ends.ensures.ends) _
+    c.index-position.result.now c.index-position.ensures (rw c.as_slice.ensures.value at c.advance-mark.ensures)
+    c.following.result c.following.ensures _ refl (g.L.Lanes.rows c.set_end_of.new.lanes)
+    (subst (λ (nexts : List ℕ). g.L.Lanes.rows c.set_end_of.new.lanes ≡ with_end (g.L.Lanes.rows
+    c.advance-mark.new.lanes) c.args.job (end_at g.L.Lanes.GREATEST nexts (g.L.Lanes.rows c.advance-mark.new.lanes)
+    c.args.job))
+    c.as_slice-next.ensures.value c.set_end_of.ensures) _
     (rw c.unwrap.ensures at c.push.ensures.items) _ c.push.ensures.capacity _
     c.forget.ensures

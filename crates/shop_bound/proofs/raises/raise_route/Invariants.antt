@@ -1,7 +1,7 @@
 use Rattle.std.proofs.Common.{get_or, length}
 use Rattle.shop_bound.proofs.Followed.{left_from}
 use Rattle.shop_bound.proofs.RaiseSteps.{IsFollowing}
-use Rattle.shop_bound.proofs.raises.raise_from.Given as goal
+use Rattle.shop_bound.proofs.raises.raise_route.Given as goal
 
 abbrev pub invariant-loop-next : goal.invariant-loop-next
 invariant-loop-next g l = IsFollowing g.L.Lanes.GREATEST l.layout l.position l.end l.next l.ready
