@@ -16,7 +16,7 @@ use std::marker::Model;
 pub(crate) struct Layout {
     /// jobs[position], 0 at padding
     jobs: Vec<u32>,
-    /// steps[position], 0 at padding
+    /// steps[position], 0 at padding; proofs alone read it
     steps: Vec<u32>,
     /// times[position], 0 at padding
     times: Vec<u64>,
@@ -77,14 +77,6 @@ impl Layout {
         ensures { result ≡ slice_index self.now.jobs position }
     {
         self.jobs[position] as usize
-    }
-
-    /// The step of the operation at a position.
-    pub(crate) fn step(&self, position: usize) -> usize
-        requires { position < length self.now.steps }
-        ensures { result ≡ slice_index self.now.steps position }
-    {
-        self.steps[position] as usize
     }
 
     /// The time of the operation at each position.
