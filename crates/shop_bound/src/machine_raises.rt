@@ -1,10 +1,10 @@
 // What changed among the heads of each machine, and the machines on which something did.
-ghost use Rattle.std.specs.Prelude.{◌≡◌, ℕ, ◌+◌, ◌≤◌, ◌<◌, ◌^◌, IfOk, length, slice_set, true};
+ghost use Rattle.std.specs.Prelude.{◌≡◌, ℕ, ◌+◌, ◌*◌, ◌≤◌, ◌<◌, ◌^◌, IfOk, length, slice_set, true};
 ghost use Rattle.shop_lanes.specs.Spans.{spans_between};
 ghost use Rattle.shop_bound.specs.inner.Estimates.{IsForeseen};
 ghost use Rattle.shop_bound.specs.inner.HeadRaises.{raise_of, widened};
 ghost use Rattle.shop_bound.specs.inner.LaneBounds.{lanes_on};
-ghost use Rattle.shop_bound.specs.inner.MachineRaises.{AreEmpty, AreRaisesFit, CanAddNotes};
+ghost use Rattle.shop_bound.specs.inner.MachineRaises.{AreEmpty, AreListed, AreRaisesFit, CanAddNotes};
 ghost use Rattle.shop_bound.specs.inner.MachineRaises.{HasAddedNotes};
 
 use crate::child_bounds::NextOperation;
@@ -49,6 +49,31 @@ fn is_foreseen(next: NextOperation, machine: u32, head: u64) -> bool
     machine as usize == next.machine && head <= next.end
 }
 
+/// One more head on a machine changed: widens its raise, and tells how many machines are listed then.
+#[inline(always)]
+fn add(
+    raises: &mut [Raise],
+    raised: &mut [u32],
+    count: usize,
+    machine: u32,
+    before: u64,
+    after: u64,
+) -> usize
+    requires small { 4 * length raised.old < 2 ^ 64 }
+    requires listed { AreListed raises.old raised.old count }
+    requires known { machine < length raises.old }
+    requires waits { 0 < after }
+    ensures raises { raises.new
+        ≡ slice_set raises.old machine (widened (raise_of raises.old machine) before after) }
+    ensures listed { AreListed raises.new raised.new result }
+{
+    let raise = raises[machine as usize];
+    // written in any case, and kept where it is the first raise of the machine
+    raised[count] = machine;
+    raises[machine as usize] = raise.with(before, after);
+    count + usize::from(raise.to == 0)
+}
+
 impl MachineRaises {
     /// Of so many machines, all empty. Fails with `AllocError` if memory runs out.
     pub(crate) fn new(alloc: Global, machines: usize) -> Result<MachineRaises, AllocError>
@@ -70,21 +95,6 @@ impl MachineRaises {
         self.raises.len()
     }
 
-    /// One more head on a machine changed.
-    #[inline(always)]
-    fn add(&mut self, machine: u32, before: u64, after: u64)
-        requires known { machine < length self.old }
-        requires waits { 0 < after }
-        ensures { self.new
-            ≡ slice_set self.old machine (widened (raise_of self.old machine) before after) }
-    {
-        let raise = self.raises[machine as usize];
-        // written in any case, and kept where it is the first raise of the machine
-        self.raised[self.count] = machine;
-        self.count += usize::from(raise.to == 0);
-        self.raises[machine as usize] = raise.with(before, after);
-    }
-
     /// Adds what was noted and stands at these positions now, where something waits, but for what is foreseen and for
     /// what rose so little that, by the estimates, no span is more than one above `least`.
     #[inline(always)]
@@ -101,6 +111,9 @@ impl MachineRaises {
         ensures { HasAddedNotes next.machine next.end upper.now least machines.now
             (L.rows lanes.now).heads notes.now self.old self.new }
     {
+        let mut count = self.count;
+        let raises = self.raises.as_mut_slice();
+        let raised = self.raised.as_mut_slice();
         for note in notes {
             let head = lanes.head(note.position);
             let machine = machines[note.position];
@@ -110,8 +123,9 @@ impl MachineRaises {
             {
                 continue;
             }
-            self.add(machine, note.head, head);
+            count = add(raises, raised, count, machine, note.head, head);
         }
+        self.count = count;
     }
 
     /// The same, if some estimates are known.
