@@ -15,7 +15,7 @@ use Rattle.shop_model.specs.Word.{IsWord}
 use Rattle.shop_bound.proofs.PlacedEnds.{placed_end-free}
 use Rattle.shop_bound.specs.Bound.{lb}
 use Rattle.shop_bound.specs.inner.HeadRaises.{raise_of, IsWithin, RowsWithin}
-use Rattle.shop_bound.specs.Placements.{PlacementState, IsPlacement}
+use Rattle.shop_model.specs.Placements.{PlacementState, IsPlacement}
 use Rattle.shop_bound.specs.inner.StandingBounds.{IsKeptUp}
 use Rattle.shop_bound.specs.declared.head_raises.Raise.{Raise}
 use Rattle.shop_bound.specs.declared.slots.Slot.{Slot}

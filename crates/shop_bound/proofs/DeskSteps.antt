@@ -8,11 +8,11 @@ use Rattle.shop_model.specs.Limits.{IsWithinLimits}
 use Rattle.shop_model.specs.Shop.{Shop, operation_count}
 use Rattle.shop_model.specs.Word.{IsWord, none_placed, placing}
 use Rattle.shop_bound.specs.inner.KeptDesks.{IsDesk}
-use Rattle.shop_bound.specs.Placements.{PlacementState, IsPlacement}
-use Rattle.shop_bound.specs.inner.NextSteps.{PlacesNext}
-use Rattle.shop_bound.specs.inner.TakingBack.{TakesBack, TellsReplaced}
+use Rattle.shop_model.specs.Placements.{PlacementState, IsPlacement}
+use Rattle.shop_model.specs.Placements.{PlacesNext}
+use Rattle.shop_model.specs.Placements.{TakesBack, TellsReplaced}
 use Rattle.shop_bound.specs.inner.Waitings.{HasNextWaiting, HasLastWaiting, IsWaiting, WaitsOn, WaitsBack}
-use Rattle.shop_bound.specs.declared.placements.Replaced.{Replaced}
+use Rattle.shop_model.specs.declared.placements.Replaced.{Replaced}
 use Rattle.shop_bound.specs.declared.waiting.Waiting.{Waiting}
 use Rattle.shop_bound.proofs.Trails.{kept_more, kept_less, kept_none}
 

@@ -12,7 +12,7 @@ use Rattle.shop_model.specs.Shop.{Shop, no_op, IsOperation, route_of, time_of}
 use Rattle.shop_model.specs.Word.{Placing, placing}
 use Rattle.shop_model.proofs.Ends.{IsOperation-job}
 use Rattle.shop_bound.specs.Heads.{ready_after, head_of}
-use Rattle.shop_bound.specs.Placements.{PlacementState, IsPlacement}
+use Rattle.shop_model.specs.Placements.{PlacementState, IsPlacement}
 use Rattle.shop_bound.specs.inner.Fills.{IsStored, IsPositionFree, IsRested, CanFill, AreSameBeside, HasFilledJob}
 use Rattle.shop_bound.specs.inner.Fills.{HasFilled, HasPutBack, GoesBack}
 use Rattle.shop_bound.specs.inner.LaneHeads.{AreHeadsAt, AreNotesFit, restored}

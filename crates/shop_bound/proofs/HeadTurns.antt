@@ -13,8 +13,8 @@ use Rattle.shop_model.specs.Shop.{Shop, ShopJob, no_job, no_op, route_of, machin
 use Rattle.shop_model.specs.Word.{Placing}
 use Rattle.shop_bound.specs.Heads.{ready_after, head_of, head_if_left, heads_at}
 use Rattle.shop_bound.specs.inner.HeadRows.{heads_of}
-use Rattle.shop_bound.specs.Placements.{PlacementState, IsPlacement}
-use Rattle.shop_bound.specs.inner.NextSteps.{IsOfWord}
+use Rattle.shop_model.specs.Placements.{PlacementState, IsPlacement}
+use Rattle.shop_bound.specs.inner.PlacedWords.{IsOfWord}
 use Rattle.shop_bound.proofs.Entries.{placed_ends_small}
 use Rattle.shop_bound.proofs.WordLengths.{length_of_word}
 

@@ -10,7 +10,7 @@ use Rattle.shop_model.specs.Shop.{Shop, greatest_below}
 use Rattle.shop_model.specs.Word.{placing}
 use Rattle.shop_bound.specs.Bound.{lb}
 use Rattle.shop_bound.specs.OneMachine.{one, greatest_of}
-use Rattle.shop_bound.specs.Placements.{PlacementState, IsPlacement}
+use Rattle.shop_model.specs.Placements.{PlacementState, IsPlacement}
 use Rattle.shop_bound.specs.inner.HeadLimits.{latest_end}
 use Rattle.shop_bound.specs.inner.LaneBounds.{lanes_on, part_by_spans}
 use Rattle.shop_bound.specs.inner.LaneStates.{AreHeadsInLanes}

@@ -9,7 +9,7 @@ use Rattle.shop_bound.specs.declared.triples.Triple.{Triple}
 use Rattle.shop_bound.specs.declared.unplaced.Unplaced.{Unplaced}
 use Rattle.shop_bound.specs.Bound.{Waiting, waiting, triples_on, lb}
 use Rattle.shop_bound.specs.OneMachine.{one}
-use Rattle.shop_bound.specs.Placements.{PlacementState, IsPlacement}
+use Rattle.shop_model.specs.Placements.{PlacementState, IsPlacement}
 use Rattle.shop_bound.specs.inner.Unplaced.{unplaced_of, triples_among, bound_among}
 use Rattle.shop_bound.proofs.PlacedEnds.{placed_end-free}
 

@@ -6,7 +6,7 @@ use Rattle.shop_model.specs.Shop.{Shop, greatest_below}
 use Rattle.shop_model.specs.Word.{placing}
 use Rattle.shop_bound.specs.Bound.{waiting, triples_on, lb}
 use Rattle.shop_bound.specs.OneMachine.{one, IsSmall}
-use Rattle.shop_bound.specs.Placements.{PlacementState}
+use Rattle.shop_model.specs.Placements.{PlacementState}
 use Rattle.shop_bound.specs.Slots.{IsNonincreasing}
 use Rattle.shop_bound.specs.inner.OpenSlots.{HasPlace, open_triples}
 use Rattle.shop_bound.specs.inner.StandingBounds.{IsKeptUp, open_on}

@@ -12,7 +12,7 @@ use Rattle.shop_bound.specs.declared.slots.Slot.{Slot}
 use Rattle.shop_bound.specs.Bound.{Waiting, waiting, triples_on}
 use Rattle.shop_bound.specs.Heads.{waiting_at, steps_left}
 use Rattle.shop_bound.specs.OneMachine.{one}
-use Rattle.shop_bound.specs.Placements.{PlacementState, IsPlacement}
+use Rattle.shop_model.specs.Placements.{PlacementState, IsPlacement}
 use Rattle.shop_bound.specs.Slots.{slot_at, operations_in, operations_on, IsNonincreasing, AreSlotsOf}
 use Rattle.shop_bound.specs.inner.HeadsInRows.{AreHeadsKept}
 use Rattle.shop_bound.specs.inner.OpenSlots.{is_open, triple_of, open_triples}

@@ -8,7 +8,7 @@ use Rattle.shop_model.specs.Word.{Placing, IsWord, placing, rows_of}
 use Rattle.shop_model.specs.Limits.{IsWithinLimits}
 use Rattle.shop_model.proofs.PlacedTables.{rows_of-shape, rows_of-starts}
 use Rattle.shop_bound.specs.Heads.{head_of}
-use Rattle.shop_bound.specs.Placements.{PlacementState, IsPlacement}
+use Rattle.shop_model.specs.Placements.{PlacementState, IsPlacement}
 use Rattle.shop_bound.specs.Slots.{AreMachineSlots}
 use Rattle.shop_bound.specs.inner.HeadsInRows.{AreHeadsKept}
 use Rattle.shop_bound.specs.inner.StandingBounds.{IsKeptUp, open_on}

@@ -9,12 +9,15 @@ use Rattle.shop_model.specs.Word.{Placing, IsWord, place_next, placing, none_pla
 use Rattle.shop_model.proofs.Unders.{placing-snoc}
 use Rattle.shop_model.proofs.WordLemmas.{IsWord-init}
 use Rattle.shop_bound.proofs.WordLengths.{word_within}
-use Rattle.shop_bound.specs.Desks.{DeskState, IsKept, IsUndone}
-use Rattle.shop_bound.specs.Placements.{PlacementState, IsPlacement}
-use Rattle.shop_bound.specs.inner.NextSteps.{HasNext, IsOfWord, PlacesNext}
-use Rattle.shop_bound.specs.Trails.{replaced_at, replaced_from}
-use Rattle.shop_bound.specs.inner.TakingBack.{HasLast, TakesBack, TellsReplaced}
-use Rattle.shop_bound.specs.declared.placements.Replaced.{Replaced}
+use Rattle.shop_bound.specs.Desks.{DeskState, IsUndone}
+use Rattle.shop_bound.specs.inner.KeptDesks.{IsKept}
+use Rattle.shop_model.specs.Placements.{PlacementState, IsPlacement}
+use Rattle.shop_bound.specs.inner.PlacedWords.{IsOfWord}
+use Rattle.shop_model.specs.Placements.{HasNext, PlacesNext}
+use Rattle.shop_bound.specs.inner.Trails.{replaced_from}
+use Rattle.shop_model.specs.Placements.{replaced_at}
+use Rattle.shop_model.specs.Placements.{HasLast, TakesBack, TellsReplaced}
+use Rattle.shop_model.specs.declared.placements.Replaced.{Replaced}
 
 replaced_more : (shop : Shop) (p : Placing) (w : List ℕ) (j : ℕ)
     → replaced_from shop p (w ++ j ∷ [])

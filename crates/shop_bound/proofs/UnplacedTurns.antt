@@ -14,8 +14,8 @@ use Rattle.shop_bound.specs.declared.unplaced.Unplaced.{Unplaced}
 use Rattle.shop_bound.specs.Bound.{Waiting, waiting_from, waiting_of}
 use Rattle.shop_bound.specs.Heads.{tail_in}
 use Rattle.shop_bound.specs.inner.HeadRows.{AreTimesSmall}
-use Rattle.shop_bound.specs.Placements.{PlacementState, IsPlacement}
-use Rattle.shop_bound.specs.inner.NextSteps.{IsOfWord}
+use Rattle.shop_model.specs.Placements.{PlacementState, IsPlacement}
+use Rattle.shop_bound.specs.inner.PlacedWords.{IsOfWord}
 use Rattle.shop_bound.specs.inner.Unplaced.{unplaced_of, unplaced_from, CanGoOn}
 use Rattle.shop_bound.proofs.HeadTurns.{ends_of_word}
 use Rattle.shop_bound.proofs.TimeSums.{sum_by-le-each}

@@ -4,14 +4,11 @@
 --     IsUndone s t                   t is s without its last entry
 --     IsPlacedWord s p               p is the placement of the word
 --     IsWordOfShop s                 the word is one of the instance, which is within its limits
---     IsKept shop w s replaced       what a desk keeps of a word, to go on and to go back
 use Rattle.std.specs.Prelude.{◌≡◌, ◌≤◌, ◌<◌, ℕ, Option, Some, None, List, [], ◌∷◌, ◌++◌}
 use Rattle.shop_model.specs.Limits.{IsWithinLimits}
 use Rattle.shop_model.specs.Shop.{Shop}
-use Rattle.shop_model.specs.Word.{IsWord, none_placed, placing}
-use Rattle.shop_bound.specs.Placements.{PlacementState, IsPlacement}
-use Rattle.shop_bound.specs.Trails.{replaced_from}
-use Rattle.shop_bound.specs.declared.placements.Replaced.{Replaced}
+use Rattle.shop_model.specs.Word.{IsWord, placing}
+use Rattle.shop_model.specs.Placements.{PlacementState, IsPlacement}
 
 -- what is dispatched, of which instance
 pub record DeskState : Type 0 where
@@ -34,14 +31,6 @@ IsPlacedWord s p = IsPlacement s.shop (placing s.shop s.word) p
 pub record IsWordOfShop (s : DeskState) : Type 0 where
   pub word : IsWord s.shop s.word
   pub limits : IsWithinLimits s.shop
-
--- the placement of the word, and what each of its entries replaced
-pub record IsKept (shop : Shop) (w : List ℕ) (s : PlacementState)
-    (replaced : List Replaced) : Type 0 where
-  pub limits : IsWithinLimits shop
-  pub word : IsWord shop w
-  pub placed : IsPlacement shop (placing shop w) s
-  pub trail : replaced ≡ replaced_from shop (none_placed shop) w
 
 -- the bound if it is below the limit
 abbrev pub TellsBoundBelow : ℕ → ℕ → Option ℕ → Type 0

@@ -1,12 +1,9 @@
 pub mod OneMachine
-pub mod Vectors
 pub mod Bound
 pub mod Heads
 pub mod Conflicts
-pub mod Placements
 pub mod Schedules
 pub mod Laws
-pub mod Trails
 pub mod Desks
 pub mod Slots
 pub mod inner

@@ -16,8 +16,9 @@ pub mod HeadRaises
 pub mod OpenSlots
 pub mod Serving
 pub mod HeadRows
-pub mod NextSteps
-pub mod TakingBack
+pub mod PlacedWords
+pub mod Trails
+pub mod Vectors
 pub mod StandingBounds
 pub mod HeadLimits
 pub mod LaneBounds

@@ -12,7 +12,7 @@ use crate::lane_heads::LaneHeads;
 use crate::layouts::Layout;
 use crate::look_aheads::foresee;
 use crate::notes::Mark;
-use crate::placements::Placement;
+use shop_model::Placement;
 use shop_lanes::Lanes;
 use shop_model::Instance;
 

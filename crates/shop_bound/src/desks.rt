@@ -7,7 +7,7 @@ ghost use Rattle.shop_bound.specs.Desks.{nothing_dispatched};
 ghost use Rattle.shop_bound.specs.Desks.{TellsBoundBelow};
 ghost use Rattle.shop_bound.specs.inner.BoundsUpTo.{IsBoundUpTo};
 
-use crate::placements::{Placement, Replaced};
+use shop_model::{Placement, Replaced};
 use crate::waiting::Waiting;
 use shop_model::Instance;
 use std::alloc::{AllocError, Global};

@@ -6,7 +6,7 @@ ghost use Rattle.shop_bound.specs.inner.Fills.{HasPutBack, IsRested};
 
 use crate::layouts::Layout;
 use crate::notes::Note;
-use crate::placements::Placement;
+use shop_model::Placement;
 use shop_lanes::Lanes;
 use shop_model::Instance;
 

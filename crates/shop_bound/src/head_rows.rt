@@ -5,11 +5,11 @@ ghost use Rattle.shop_model.specs.Shop.{route_of};
 ghost use Rattle.shop_model.specs.Word.{IsWord, Placing, placing};
 ghost use Rattle.shop_bound.specs.Heads.{head_if_left, heads_at, TellsHeads};
 ghost use Rattle.shop_bound.specs.inner.HeadRows.{AreHeadsOfJob, AreHeadsOf};
-ghost use Rattle.shop_bound.specs.Placements.{IsPlacement};
-ghost use Rattle.shop_bound.specs.inner.NextSteps.{IsOfWord};
-ghost use Rattle.shop_bound.specs.Vectors.{items_in};
+ghost use Rattle.shop_model.specs.Placements.{IsPlacement};
+ghost use Rattle.shop_bound.specs.inner.PlacedWords.{IsOfWord};
+ghost use Rattle.shop_bound.specs.inner.Vectors.{items_in};
 
-use crate::placements::Placement;
+use shop_model::Placement;
 use shop_model::{Instance, Word};
 use std::alloc::{AllocError, Global};
 use std::marker::Model;

@@ -1,7 +1,7 @@
 // Heads by position that are kept up with a word, entry by entry.
 ghost use Rattle.std.specs.Prelude.{◌≡◌, ◌^◌, ◌<◌, IfOk, []};
 ghost use Rattle.shop_model.specs.Word.{none_placed};
-ghost use Rattle.shop_bound.specs.Placements.{IsPlacement};
+ghost use Rattle.shop_model.specs.Placements.{IsPlacement};
 ghost use Rattle.shop_bound.specs.inner.HeadLimits.{FitsLanes};
 ghost use Rattle.shop_bound.specs.inner.Layouts.{IsLaidOut};
 ghost use Rattle.shop_bound.specs.inner.LaneStates.{HasLastInLanes, HasNextInLanes, IsKeptInLanes};
@@ -16,7 +16,7 @@ use crate::latest_ends::latest_end;
 use crate::layouts::Layout;
 use crate::machine_raises::MachineRaises;
 use crate::notes::{Mark, Notes};
-use crate::placements::Placement;
+use shop_model::Placement;
 use shop_lanes::Lanes;
 use shop_model::Instance;
 use std::alloc::{AllocError, Global};

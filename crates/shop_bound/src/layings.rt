@@ -2,7 +2,7 @@
 ghost use Rattle.std.specs.Prelude.{◌≡◌, ℕ, ◌+◌, ◌-◌, ◌*◌, ◌<◌, ◌≤◌, ◌^◌, All, IfOk, length, map};
 ghost use Rattle.std.specs.Prelude.{slice_index};
 ghost use Rattle.shop_bound.specs.Slots.{AreMachineSlots};
-ghost use Rattle.shop_bound.specs.Vectors.{items_in};
+ghost use Rattle.shop_bound.specs.inner.Vectors.{items_in};
 ghost use Rattle.shop_bound.specs.inner.Layings.{AreApart, AreCells, AreNoted, ArePlaces};
 ghost use Rattle.shop_bound.specs.inner.Layings.{AreMachinesOf, AreShorter, HasRoutes};
 ghost use Rattle.shop_bound.specs.inner.Layings.{IsInRows, place_after};

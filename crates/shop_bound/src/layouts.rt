@@ -34,7 +34,7 @@ pub(crate) struct Layout {
 
 impl Model for Layout {
     ghost use Rattle.shop_bound.specs.inner.Layouts.{LayoutState};
-    ghost use Rattle.shop_bound.specs.Vectors.{items_in};
+    ghost use Rattle.shop_bound.specs.inner.Vectors.{items_in};
 
     ghost Value = { LayoutState };
 

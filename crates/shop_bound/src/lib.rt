@@ -22,7 +22,6 @@ mod look_aheads;
 mod lower;
 mod machine_raises;
 mod notes;
-mod placements;
 mod profiles;
 mod raises;
 mod schedules;
@@ -41,7 +40,6 @@ pub use laws::{
     what_waits_is_left,
 };
 pub use lower::lower_bound;
-pub use placements::Placement;
 pub use schedules::Jackson;
 pub use tail_rows::tails;
 pub use thresholds::one_machine;

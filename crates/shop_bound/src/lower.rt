@@ -6,7 +6,7 @@ ghost use Rattle.shop_bound.specs.Laws.{IsLower, EndsThereIfFull};
 ghost use Rattle.shop_bound.specs.OneMachine.{IsSmall};
 ghost use Rattle.shop_bound.specs.inner.Unplaced.{greatest_among, triples_among};
 
-use crate::placements::Placement;
+use shop_model::Placement;
 use crate::profiles::bound_by_profile;
 use crate::unplaced::{Unplaced, gather, list_unplaced};
 use shop_model::{Instance, Word};

@@ -5,7 +5,7 @@ ghost use Rattle.shop_model.specs.Shop.{no_op};
 ghost use Rattle.shop_bound.specs.inner.HeadRows.{AreTimesSmall};
 ghost use Rattle.shop_bound.specs.Slots.{AreMachineSlots};
 ghost use Rattle.shop_bound.specs.inner.OpenSlots.{AddsOperations, AreOperations};
-ghost use Rattle.shop_bound.specs.Vectors.{items_in};
+ghost use Rattle.shop_bound.specs.inner.Vectors.{items_in};
 
 use crate::tail_rows::total_time;
 use shop_model::{Instance, Op};

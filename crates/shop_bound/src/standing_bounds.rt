@@ -4,7 +4,7 @@ ghost use Rattle.shop_bound.specs.inner.WaitingBounds.{IsBoundInLanes, IsBoundWa
 
 use crate::lane_bounds::bound_of_machines;
 use crate::lane_heads::LaneHeads;
-use crate::placements::Placement;
+use shop_model::Placement;
 use crate::waiting::Waiting;
 use shop_lanes::Lanes;
 use shop_model::Instance;

@@ -1,10 +1,10 @@
 // The operations that a word leaves, with their machines, heads, times and tails.
 ghost use Rattle.std.specs.Prelude.{◌≡◌, ◌≤◌, IfOk, OnOk, length, vec_capacity};
-ghost use Rattle.shop_bound.specs.inner.NextSteps.{IsOfWord};
+ghost use Rattle.shop_bound.specs.inner.PlacedWords.{IsOfWord};
 ghost use Rattle.shop_bound.specs.inner.Unplaced.{Adds, AreAsMany, AreUnplaced, CanGoOn};
 ghost use Rattle.shop_bound.specs.inner.Unplaced.{triples_among};
 
-use crate::placements::Placement;
+use shop_model::Placement;
 use crate::tail_rows::total_time;
 use crate::triples::Triple;
 use shop_model::{Instance, Op};

@@ -1,7 +1,7 @@
 // What waits, in lanes as narrow as the instance allows.
 ghost use Rattle.std.specs.Prelude.{◌≡◌, ◌∷◌, ◌++◌, [], IfOk};
 ghost use Rattle.shop_model.specs.Word.{none_placed};
-ghost use Rattle.shop_bound.specs.Placements.{IsPlacement};
+ghost use Rattle.shop_model.specs.Placements.{IsPlacement};
 ghost use Rattle.shop_bound.specs.inner.Waitings.{CanGoOnWaiting, TellsBoundAfter, WaitsStill};
 ghost use Rattle.shop_bound.specs.inner.Waitings.{HasLastWaiting, HasNextWaiting, IsWaiting};
 ghost use Rattle.shop_bound.specs.inner.Waitings.{WaitsBack, WaitsOn};
@@ -9,7 +9,7 @@ ghost use Rattle.shop_bound.specs.inner.Waitings.{WaitsBack, WaitsOn};
 use crate::lane_heads::LaneHeads;
 use crate::latest_ends::{greatest_load, latest_end};
 use crate::layouts::Layout;
-use crate::placements::Placement;
+use shop_model::Placement;
 use shop_lanes::{Lanes, Narrow, Plain, Wide};
 use shop_model::Instance;
 use std::alloc::{AllocError, Global};

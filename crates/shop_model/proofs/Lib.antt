@@ -10,6 +10,7 @@ pub mod Unders
 pub mod Ranges
 pub mod StartWord
 pub mod PlacementLemmas
+pub mod TakenBack
 pub mod WordLengths
 pub mod StartRows
 pub mod PlacedTables

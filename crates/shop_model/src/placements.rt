@@ -1,12 +1,20 @@
 // What stands once the operations of a word are placed.
 ghost use Rattle.std.specs.Prelude.{◌≡◌, ◌<◌, IfOk, length, slice_index};
-ghost use Rattle.shop_model.specs.Placements.{HasNext, IsPlacement, PlacesNext, TellsNextStart};
+ghost use Rattle.shop_model.specs.Placements.{HasLast, HasNext, IsPlacement, PlacesNext};
+ghost use Rattle.shop_model.specs.Placements.{TakesBack, TellsNextStart, TellsReplaced};
 ghost use Rattle.shop_model.specs.Word.{IsWord, none_placed, placing};
 
 use crate::instances::Instance;
 use crate::words::Word;
 use std::alloc::{AllocError, Global};
 use std::marker::Model;
+
+/// What stood before an operation was placed: when its job was ready and when its machine was free.
+#[derive(Clone, Copy, Debug)]
+pub struct Replaced {
+    pub ready: u64,
+    pub free: u64,
+}
 
 /// What a word that was placed leaves: for each job how many of its steps are placed and when it is ready for the next
 /// one, and for each machine when it is free.
@@ -68,6 +76,31 @@ impl Placement {
         self.ready[j] = finish;
         self.free[op.machine] = finish;
         start
+    }
+
+    /// What the next step of job j replaces once it is placed.
+    pub fn next_replaces(&self, instance: &Instance, j: usize) -> Replaced
+        requires { HasNext instance.now j self.now }
+        ensures { TellsReplaced instance.now j self.now result }
+    {
+        let k = self.steps[j];
+        let machine = instance.route(j)[k].machine;
+        Replaced {
+            ready: self.ready[j],
+            free: self.free[machine],
+        }
+    }
+
+    /// Takes back the last placed step of job j, which no other one followed, and which replaced this.
+    pub fn take_back(&mut self, instance: &Instance, j: usize, replaced: Replaced)
+        requires { HasLast instance.now j replaced self.old }
+        ensures { TakesBack instance.now j replaced self.old self.new }
+    {
+        let k = self.steps[j] - 1;
+        let op = instance.route(j)[k];
+        self.steps[j] = k;
+        self.ready[j] = replaced.ready;
+        self.free[op.machine] = replaced.free;
     }
 
     /// How many steps of the job are placed.

@@ -13,7 +13,7 @@ use Rattle.shop_model.specs.Shop.{Shop, machine_of}
 use Rattle.shop_model.specs.Word.{IsWord, place_next, placing}
 use Rattle.shop_bound.specs.Bound.{lb}
 use Rattle.shop_bound.specs.inner.BoundsUpTo.{IsBoundUpTo}
-use Rattle.shop_bound.specs.Placements.{PlacementState, IsPlacement}
+use Rattle.shop_model.specs.Placements.{PlacementState, IsPlacement}
 use Rattle.shop_bound.specs.inner.LaneBounds.{AreMachinesAt, AreSpansFit, lanes_on}
 use Rattle.shop_bound.specs.inner.Estimates.{IsNoteCovered}
 use Rattle.shop_bound.specs.inner.HeadRaises.{raise_of}

@@ -11,10 +11,10 @@ use Rattle.shop_model.specs.Limits.{IsWithinLimits}
 use Rattle.shop_model.specs.Shop.{Shop, IsOperation}
 use Rattle.shop_model.specs.Word.{Placing}
 use Rattle.shop_bound.specs.Heads.{head_of}
-use Rattle.shop_bound.specs.Placements.{PlacementState, IsPlacement}
+use Rattle.shop_model.specs.Placements.{PlacementState, IsPlacement}
 use Rattle.shop_bound.specs.inner.LaneHeads.{AreHeadsAt, AreHeadsFit, restored}
 use Rattle.shop_bound.specs.inner.Layouts.{LayoutState, place, first_of, IsLaidOut}
-use Rattle.shop_bound.specs.inner.NextSteps.{IsOfWord}
+use Rattle.shop_bound.specs.inner.PlacedWords.{IsOfWord}
 use Rattle.shop_bound.specs.declared.notes.Note.{Note}
 
 pub record IsStored (shop : Shop) (p : Placing) (l : LayoutState) (heads : List ℕ)

@@ -5,7 +5,7 @@ use Rattle.shop_model.specs.declared.ops.Op.{Op}
 use Rattle.shop_model.specs.Shop.{Shop, no_op, greatest_below}
 use Rattle.shop_model.specs.Word.{Placing}
 use Rattle.shop_bound.specs.Bound.{Waiting, waiting, waiting_from}
-use Rattle.shop_bound.specs.Placements.{PlacementState, IsPlacement}
+use Rattle.shop_model.specs.Placements.{PlacementState, IsPlacement}
 use Rattle.shop_bound.specs.OneMachine.{one}
 use Rattle.shop_bound.specs.declared.triples.Triple.{Triple}
 use Rattle.shop_bound.specs.declared.unplaced.Unplaced.{Unplaced}

@@ -3,7 +3,7 @@ use Rattle.std.specs.Prelude.{◌≡◌, ℕ, List}
 use Rattle.shop_model.specs.Shop.{Shop}
 use Rattle.shop_model.specs.Word.{placing}
 use Rattle.shop_bound.specs.Bound.{lb}
-use Rattle.shop_bound.specs.Placements.{PlacementState, IsPlacement}
+use Rattle.shop_model.specs.Placements.{PlacementState, IsPlacement}
 use Rattle.shop_bound.specs.inner.LaneStates.{IsKeptInLanes, LaneState}
 use Rattle.shop_bound.specs.inner.Waitings.{IsWaiting}
 use Rattle.shop_bound.specs.declared.waiting.Waiting.{Waiting}

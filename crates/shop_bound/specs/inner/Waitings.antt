@@ -7,7 +7,7 @@ use Rattle.shop_model.specs.Shop.{Shop}
 use Rattle.shop_model.specs.Word.{IsWord, placing}
 use Rattle.shop_bound.specs.Bound.{lb}
 use Rattle.shop_bound.specs.inner.BoundsUpTo.{IsBoundUpTo}
-use Rattle.shop_bound.specs.Placements.{PlacementState, IsPlacement}
+use Rattle.shop_model.specs.Placements.{PlacementState, IsPlacement}
 use Rattle.shop_bound.specs.inner.LaneStates.{IsKeptInLanes}
 use Rattle.shop_bound.specs.declared.waiting.Waiting.{Waiting}
 use Rattle.shop_bound.specs.declared.waiting.Waiting.TheVariants.{InNarrow, InWide, InPlain}

@@ -2,7 +2,7 @@ use Rattle.std.proofs.Common.{◌≡◌, ◌≤◌, length, map, vec_len, vec_ca
 use Rattle.std.specs.List.{range_with_len}
 use Rattle.shop_model.specs.Word.{Placing}
 use Rattle.shop_bound.specs.inner.HeadRows.{heads_of}
-use Rattle.shop_bound.specs.Placements.{IsPlacement}
+use Rattle.shop_model.specs.Placements.{IsPlacement}
 use Rattle.shop_bound.proofs.head_rows.heads_of_jobs.Given as goal
 
 abbrev pub invariant-loop-j : goal.invariant-loop-j

@@ -2,7 +2,7 @@ use Rattle.std.proofs.Common.{◌≡◌, map}
 use Rattle.std.specs.List.{flat_map, range_with_len}
 use Rattle.shop_model.specs.Word.{Placing}
 use Rattle.shop_bound.specs.Bound.{waiting_of}
-use Rattle.shop_bound.specs.Placements.{IsPlacement}
+use Rattle.shop_model.specs.Placements.{IsPlacement}
 use Rattle.shop_bound.specs.inner.Unplaced.{unplaced_of}
 use Rattle.shop_bound.proofs.unplaced.list_unplaced.Given as goal
 

@@ -44,6 +44,6 @@ invariant_of-self c =
     let fits = subst (λ (d : DeskState). IsWord d.shop (d.word ++ c.args.job ∷ [])) (sym c.self.view_is) c.requires
     in let waits = subst (λ h. WaitsOn c.args.job h c.dispatch.new.self) c.deref_mut.ensures.value c.dispatch.ensures
     in desk_more _ _ _ _ _ _ _ c.self.invariant c.args.job fits c.next_replaces-replaced.result
-    c.next_replaces-replaced.ensures _ c.place_next.ensures _
+    c.next_replaces-replaced.ensures _ c.place_next.ensures.placed _
     waits _ (rw c.unwrap.ensures at c.push.ensures.items) _
     (rw c.unwrap-2.ensures at c.push-2.ensures.items) _ _ c.push.ensures.capacity c.push-2.ensures.capacity

@@ -1,9 +1,9 @@
 use Rattle.std.proofs.Common.{arith, sym, subst}
 use Rattle.shop_model.specs.Word.{place_next}
-use Rattle.shop_bound.specs.Placements.{PlacementState, IsPlacement}
-use Rattle.shop_bound.specs.inner.TakingBack.{HasLast}
-use Rattle.shop_bound.proofs.TakenBack.{about_to_take_back, last_read, taken_back}
-use Rattle.shop_bound.proofs.placements.Placement.take_back.Goals as goal
+use Rattle.shop_model.specs.Placements.{PlacementState, IsPlacement}
+use Rattle.shop_model.specs.Placements.{HasLast}
+use Rattle.shop_model.proofs.TakenBack.{about_to_take_back, last_read, taken_back}
+use Rattle.shop_model.proofs.placements.Placement.take_back.Goals as goal
 
 pub index-requires : goal.index-requires
 index-requires c =

@@ -1,9 +1,9 @@
 use Rattle.std.proofs.Common.{arith, sym, subst}
-use Rattle.shop_bound.specs.Placements.{PlacementState, IsPlacement}
-use Rattle.shop_bound.specs.inner.NextSteps.{HasNext}
-use Rattle.shop_bound.proofs.PlacementLemmas.{about_to_place, job_of_next, reads, step_read}
-use Rattle.shop_bound.proofs.TakenBack.{replaced_reads}
-use Rattle.shop_bound.proofs.placements.Placement.next_replaces.Goals as goal
+use Rattle.shop_model.specs.Placements.{PlacementState, IsPlacement}
+use Rattle.shop_model.specs.Placements.{HasNext}
+use Rattle.shop_model.proofs.PlacementLemmas.{about_to_place, job_of_next, reads, step_read}
+use Rattle.shop_model.proofs.TakenBack.{replaced_reads}
+use Rattle.shop_model.proofs.placements.Placement.next_replaces.Goals as goal
 
 pub index-k-requires : goal.index-k-requires
 index-k-requires c =

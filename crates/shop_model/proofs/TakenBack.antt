@@ -11,11 +11,11 @@ use Rattle.shop_model.proofs.Placings.{place_next-is}
 use Rattle.shop_model.proofs.Ends.{IsOperation-job}
 use Rattle.shop_model.proofs.Unders.{after_word, next_operation}
 use Rattle.shop_model.proofs.WordLemmas.{IsWord-init}
-use Rattle.shop_bound.specs.Placements.{PlacementState, HasPlaces, IsPlacement}
-use Rattle.shop_bound.specs.Trails.{replaced_at}
-use Rattle.shop_bound.specs.inner.TakingBack.{HasLast, TakesBack}
-use Rattle.shop_bound.specs.declared.placements.Replaced.{Replaced}
-use Rattle.shop_bound.proofs.PlacementLemmas.{AreReads, read_is}
+use Rattle.shop_model.specs.Placements.{PlacementState, HasPlaces, IsPlacement}
+use Rattle.shop_model.specs.Placements.{replaced_at}
+use Rattle.shop_model.specs.Placements.{HasLast, TakesBack}
+use Rattle.shop_model.specs.declared.placements.Replaced.{Replaced}
+use Rattle.shop_model.proofs.PlacementLemmas.{AreReads, read_is}
 
 -- what is known of the job whose step was placed last
 pub record IsAboutToTakeBack (shop : Shop) (j : ℕ) (s : PlacementState) : Type 0 where
