@@ -108,13 +108,6 @@ impl Placement {
         self.steps[job]
     }
 
-    /// How many steps of each job are placed.
-    pub(crate) fn jobs_steps(&self) -> &[usize]
-        ensures { result.now ≡ self.now.steps }
-    {
-        self.steps.as_slice()
-    }
-
     /// When the job is ready for its next step: when its last placed step ends, or its release if there is none.
     pub fn ready(&self, job: usize) -> u64
         requires { job < length self.now.ready }

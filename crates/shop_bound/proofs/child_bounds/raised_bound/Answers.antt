@@ -73,7 +73,8 @@ bound_by_raises-bound-requires-clause-fits g c =
 
 pub go_back-requires-clause-rested : goal.go_back-requires-clause-rested
 go_back-requires-clause-rested g c =
-    let after = c.advance-mark.ensures.heads c.args.instance.now c.requires.can.word c.args.job c.requires.can.kept c.requires.can.fits
+    let after = c.advance-mark.ensures.heads c.args.instance.now c.requires.can.word c.args.job c.requires.can.kept
+    c.requires.can.fits
     (at_word c.args.instance.now c.args.layout.now c.args.placement.now c.requires.can.word c.args.job
     c.requires.can.placed c.requires.can.fits c.args.position c.requires.position)
     in after.heads.padding
