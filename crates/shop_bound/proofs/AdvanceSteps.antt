@@ -52,7 +52,8 @@ module _ (greatest : ℕ) (shop : Shop) (l : LayoutState) (rows : Rows) (w : Lis
       in let c = kept.heads.positions in omega arith
 
   -- what is read of it
-  pub head_is : (q : ℕ) → q ≡ place l j (before.steps j) → get_or rows.heads q 0 ≡ head_of shop before j (before.steps j) + 1
+  pub head_is : (q : ℕ) → q ≡ place l j (before.steps j) → get_or rows.heads q 0 ≡ head_of shop before j
+      (before.steps j) + 1
   head_is q is = ap (λ (x : ℕ). get_or rows.heads x 0) is
       ∙ kept.heads.waiting j (before.steps j) first_left (omega arith)
 
@@ -90,7 +91,8 @@ module _ (greatest : ℕ) (shop : Shop) (l : LayoutState) (rows : Rows) (w : Lis
       in let a = kept.fits (w ++ j ∷ []) fits i k op (omega arith)
       in omega arith
 
-  module _ (q h t : ℕ) (is : q ≡ place l j (before.steps j)) (read : h ≡ get_or rows.heads q 0) (timed : t ≡ get_or rows.times q 0)
+  module _ (q h t : ℕ) (is : q ≡ place l j (before.steps j)) (read : h ≡ get_or rows.heads q 0)
+      (timed : t ≡ get_or rows.times q 0)
       (lifted : Rows) (notes mid : NotesState) (wrote : Replaces greatest q 0 rows lifted notes mid) (m : ℕ)
       (on : m ≡ machine_of shop j (before.steps j)) where
     lifted_heads : lifted.heads ≡ set rows.heads (place l j (before.steps j)) 0
@@ -166,7 +168,8 @@ module _ (greatest : ℕ) (shop : Shop) (l : LayoutState) (rows : Rows) (w : Lis
             in let long = lifted_here
             in raising.ends.each i known (ap (λ (xs : List ℕ). get_or xs i 0) lifted_ends
             ∙ (was ∙ (elim (cases_lt x (length rows.heads)) [
-              | inl lt ↦ rw (lt-ltb x (length rows.heads) lt, lt-ltb x (length lifted.heads) (omega arith)) (omega arith)
+              | inl lt ↦ rw (lt-ltb x (length rows.heads) lt, lt-ltb x (length lifted.heads) (omega arith))
+                  (omega arith)
               | inr ge ↦ rw (le-ltb x (length rows.heads) ge, le-ltb x (length lifted.heads) (omega arith)) refl
             ])))
 

@@ -75,12 +75,14 @@ module _ (greatest : ℕ) (shop : Shop) (l : LayoutState) (j position : ℕ) (ro
     (mark : Mark) (advances : Advances greatest l [] position rows rows' before after mark) where
   -- the heads of the word with the operation
   pub next_heads : (w : List ℕ) → AreHeadsInLanes greatest shop w l rows → IsWord shop (w ++ j ∷ [])
-      → position ≡ place l j ((placing shop w).steps j) → AreHeadsAt shop (place_next shop (placing shop w) j) l rows'.heads
+      → position ≡ place l j ((placing shop w).steps j) → AreHeadsAt shop (place_next shop (placing shop w) j) l
+      rows'.heads
   next_heads w kept fits at = subst (λ (q : Placing). AreHeadsAt shop q l rows'.heads) (placing-snoc shop w j)
       (advances.heads shop w j kept fits at).heads
 
   pub next_small : (top : ℕ) → top ≡ latest_end shop + 1 → (w : List ℕ) → AreHeadsInLanes greatest shop w l rows
-      → IsWord shop (w ++ j ∷ []) → position ≡ place l j ((placing shop w).steps j) → (q : ℕ) → get_or rows'.heads q 0 ≤ top
+      → IsWord shop (w ++ j ∷ []) → position ≡ place l j ((placing shop w).steps j) → (q : ℕ) → get_or rows'.heads q
+      0 ≤ top
   next_small top is w kept fits at q =
       let a = heads_small shop kept.limits l kept.laid (w ++ j ∷ []) fits rows'.heads
       (advances.heads shop w j kept fits at).heads q in omega arith

@@ -131,16 +131,6 @@ module _ (greatest : ℕ) (l : LayoutState) (nexts : List ℕ) (old : Rows) (kee
       ]
     ]
 
-    pub noted_but : (notes : List Note) → AreEndsButJob greatest nexts now notes job
-        → AreEndsButNoted greatest nexts new notes
-    noted_but notes but j below = elim (cases_eq j job) [
-      | inl e ↦ inl (subst (IsEndOf greatest nexts new) (sym e) end_here)
-      | inr ne ↦ elim (but j below ne) [
-        | inl h ↦ inl (end_other j ne h)
-        | inr h ↦ inr h
-      ]
-    ]
-
   -- a note that isn't at a next operation
   pub noted_past : (note : Note) (notes : List Note) → AreEndsButNoted greatest nexts now (note ∷ notes)
       → (get_or nexts (get_or l.jobs note.position 0) 0 ≡ note.position → ⊥) → note.position < length old.heads
@@ -252,7 +242,8 @@ module _ (greatest : ℕ) (shop : Shop) (w : List ℕ) (l : LayoutState) (rows :
       first = λ j i k known more at.
           let ix = indexed shop kept.limits l kept.laid (length rows.heads) kept.heads.positions
           in let many = are.jobs
-          in let op = next_is j (omega arith) (let a = place_within l (length rows.heads) ix i (k + 1) more in omega arith)
+          in let op = next_is j (omega arith) (let a = place_within l (length rows.heads) ix i (k + 1) more in omega
+          arith)
           in let route = kept.laid.routes j
           in let same = apart l (length rows.heads) ix i (k + 1) j (p.steps j) more (omega arith)
           (at ∙ next_there j op)

@@ -123,7 +123,8 @@ module _ (greatest : ℕ) (shop : Shop) (w : List ℕ) (j : ℕ) (s : LaneState)
       as_many_ends = advances.long ∙ kept.ends.jobs
 
       pub ends_more : CanKeepEnds greatest s.layout nexts new
-      ends_more = can_keep greatest shop (w ++ j ∷ []) s.layout new now nexts (nexts_more x stands q read nexts wrote) as_many_ends
+      ends_more = can_keep greatest shop (w ++ j ∷ []) s.layout new now nexts (nexts_more x stands q read nexts wrote)
+          as_many_ends
 
       pub job_more : j < length nexts
       job_more = let a = next_known in let b = ap length wrote in omega (arith, length-set s.nexts j q)
@@ -159,7 +160,8 @@ module _ (greatest : ℕ) (shop : Shop) (w : List ℕ) (j : ℕ) (s : LaneState)
               (rw next now))
         ]
 
-        pub kept_more : (marks : List Mark) → marks ≡ s.marks ++ mark ∷ [] → (room : ℕ) → s.room ≤ room → (us : List ℕ) → us ≡ []
+        pub kept_more : (marks : List Mark) → marks ≡ s.marks ++ mark ∷ [] → (room : ℕ) → s.room ≤ room → (us : List ℕ)
+            → us ≡ []
             → IsKeptInLanes greatest shop (w ++ j ∷ [])
             (record {
               layout = s.layout;
@@ -185,7 +187,8 @@ module _ (greatest : ℕ) (shop : Shop) (w : List ℕ) (j : ℕ) (s : LaneState)
                   (all_append
                   (λ (n : Note). (n.position < length s.rows.heads) × (n.head ≤ greatest)) s.notes.list back.more
                   kept.notes_fit back.fit)));
-              trail = subst (λ (hs : List ℕ). IsTrail shop s.layout (w ++ j ∷ []) marks after.list hs) (sym beside.heads)
+              trail = subst (λ (hs : List ℕ). IsTrail shop s.layout (w ++ j ∷ []) marks after.list hs)
+                  (sym beside.heads)
                   (subst (λ (ms : List Mark). IsTrail shop s.layout (w ++ j ∷ []) ms after.list new.heads) (sym pushed)
                   (trail_more shop kept.kept.limits s.layout kept.kept.laid greatest w j s.marks mark s.notes
                   (record s.notes { whole = true }) after s.rows.heads new.heads kept.kept.heads kept.trail refl
@@ -218,7 +221,8 @@ module _ (greatest : ℕ) (shop : Shop) (w : List ℕ) (j : ℕ) (s : LaneState)
     last_known = let a = its_job shop w j kept.kept.word in let b = kept.nexts.jobs in omega arith
 
     -- its last operation is its next one again
-    nexts_less : (nexts : List ℕ) → nexts ≡ set s.nexts j mark.position → AreNextsOf shop (placing shop w) s.layout nexts
+    nexts_less : (nexts : List ℕ) → nexts ≡ set s.nexts j mark.position → AreNextsOf shop (placing shop w) s.layout
+        nexts
     nexts_less nexts wrote =
         let next = place_next-is shop (placing shop w) j
         in let counted = next_operation shop w j kept.kept.word

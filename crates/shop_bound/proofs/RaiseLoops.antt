@@ -53,7 +53,8 @@ then_least l A B C e a b c x y split in_a in_b = record {
   least = λ other raised. y.least other (go_on l A B C e a b other x in_a in_b raised);
 }
 
-pub then_raises : (greatest : ℕ) (l : LayoutState) (nexts : List ℕ) (A B C : ℕ → Type 0) (e : ℕ) (a b c : Rows) (n m o : NotesState)
+pub then_raises : (greatest : ℕ) (l : LayoutState) (nexts : List ℕ) (A B C : ℕ → Type 0) (e : ℕ) (a b c : Rows)
+    (n m o : NotesState)
     → Raises greatest l nexts A e a b n m → Raises greatest l nexts B e b c m o → ((q : ℕ) → C q → A q ⊎ B q)
     → ((q : ℕ) → A q → C q)
     → ((q : ℕ) → B q → C q) → Raises greatest l nexts C e a c n o
@@ -70,8 +71,10 @@ then_raises greatest l nexts A B C e a b c n m o x y split in_a in_b = record {
 }
 
 -- what can be raised at more positions can be raised at those that are left
-pub still_raisable : (greatest : ℕ) (l : LayoutState) (nexts : List ℕ) (A B C : ℕ → Type 0) (e : ℕ) (a b : Rows) (n m : NotesState)
-    → IsRaisable greatest l nexts a C e → Raises greatest l nexts A e a b n m → ((q : ℕ) → A q → C q) → ((q : ℕ) → B q → C q)
+pub still_raisable : (greatest : ℕ) (l : LayoutState) (nexts : List ℕ) (A B C : ℕ → Type 0) (e : ℕ) (a b : Rows)
+    (n m : NotesState)
+    → IsRaisable greatest l nexts a C e → Raises greatest l nexts A e a b n m → ((q : ℕ) → A q → C q)
+    → ((q : ℕ) → B q → C q)
     → IsRaisable greatest l nexts b B e
 still_raisable greatest l nexts A B C e a b n m can x in_a in_b = record {
   firsts = record {
@@ -157,7 +160,8 @@ pub record AreToCome (from to : ℕ) (todo : List ℕ) (heads : List ℕ) : Type
   pub waits : (q : ℕ) → IsIn todo q → IsInBlocks from to q × (0 < get_or heads q 0)
   pub rises : Rises todo
 
-pub record AreBlocksRaised (greatest : ℕ) (l : LayoutState) (nexts : List ℕ) (from to e : ℕ) (todo : List ℕ) (old now : Rows)
+pub record AreBlocksRaised (greatest : ℕ) (l : LayoutState) (nexts : List ℕ) (from to e : ℕ) (todo : List ℕ)
+    (old now : Rows)
     (before after : NotesState) : Type 0 where
   pub raises : Raises greatest l nexts (IsDone from to todo) e old now before after
   pub to_come : AreToCome from to todo old.heads
@@ -252,7 +256,8 @@ module _ (greatest : ℕ) (l : LayoutState) (nexts : List ℕ) (from to e : ℕ)
 
     pub popped_raisable : IsRaisable greatest l nexts now (IsPosition q) e
     popped_raisable =
-        still_raisable greatest l nexts (IsDone from to todo) (IsPosition q) (IsInBlocks from to) e old now before mid can
+        still_raisable greatest l nexts (IsDone from to todo) (IsPosition q) (IsInBlocks from to) e old now before mid
+        can
         so_far.raises (λ r d. d.0) (λ r f. (here_done r f).0)
 
     pub blocks_on : (new : Rows) (after : NotesState) → Raises greatest l nexts (IsPosition q) e now new mid after
@@ -292,20 +297,23 @@ module _ (greatest : ℕ) (l : LayoutState) (nexts : List ℕ) (from to e : ℕ)
   }
 
 -- blocks after blocks
-module _ (greatest : ℕ) (l : LayoutState) (nexts : List ℕ) (first from to behind e : ℕ) (old now : Rows) (before mid : NotesState)
+module _ (greatest : ℕ) (l : LayoutState) (nexts : List ℕ) (first from to behind e : ℕ) (old now : Rows)
+    (before mid : NotesState)
     (raises : Raises greatest l nexts (IsInBlocks first from) e old now before mid) (ordered : first ≤ from)
     (on : from ≤ to) (within : to ≤ behind) where
   pub blocks_raisable : IsRaisable greatest l nexts old (IsInBlocks first behind) e
       → IsRaisable greatest l nexts now (IsInBlocks from to) e
   blocks_raisable can =
-      still_raisable greatest l nexts (IsInBlocks first from) (IsInBlocks from to) (IsInBlocks first behind) e old now before
+      still_raisable greatest l nexts (IsInBlocks first from) (IsInBlocks from to) (IsInBlocks first behind) e old now
+      before
       mid can raises (λ q h. let a = h.0 in let b = h.1 in (omega arith, omega arith))
       (λ q h. let a = h.0 in let b = h.1 in (omega arith, omega arith))
 
   pub more_blocks : (new : Rows) (after : NotesState) → Raises greatest l nexts (IsInBlocks from to) e now new mid after
       → Raises greatest l nexts (IsInBlocks first to) e old new before after
   more_blocks new after raised =
-      then_raises greatest l nexts (IsInBlocks first from) (IsInBlocks from to) (IsInBlocks first to) e old now new before mid
+      then_raises greatest l nexts (IsInBlocks first from) (IsInBlocks from to) (IsInBlocks first to) e old now new
+      before mid
       after raises raised
       (λ q h. let a = h.0 in let b = h.1 in elim (cases_lt q (8 * from)) [
         | inl low ↦ inl (a, low)
@@ -315,14 +323,16 @@ module _ (greatest : ℕ) (l : LayoutState) (nexts : List ℕ) (first from to be
       (λ q h. let a = h.0 in let b = h.1 in (omega arith, omega arith))
 
 -- no blocks yet
-pub no_blocks : (greatest : ℕ) (l : LayoutState) (nexts : List ℕ) (first behind e : ℕ) (old : Rows) (before : NotesState)
+pub no_blocks : (greatest : ℕ) (l : LayoutState) (nexts : List ℕ) (first behind e : ℕ) (old : Rows)
+    (before : NotesState)
     → IsRaisable greatest l nexts old (IsInBlocks first behind) e
     → Raises greatest l nexts (IsInBlocks first first) e old old before before
 no_blocks greatest l nexts first behind e old before can =
     raises_none greatest l nexts (IsInBlocks first first) e old before can.order
     (λ q h waits. let a = h.0 in let b = h.1 in absurd (omega arith))
 
-pub all_blocks : (greatest : ℕ) (l : LayoutState) (nexts : List ℕ) (first from behind e : ℕ) (old now : Rows) (before after : NotesState)
+pub all_blocks : (greatest : ℕ) (l : LayoutState) (nexts : List ℕ) (first from behind e : ℕ) (old now : Rows)
+    (before after : NotesState)
     → from ≡ behind → Raises greatest l nexts (IsInBlocks first from) e old now before after
     → Raises greatest l nexts (IsInBlocks first behind) e old now before after
 all_blocks greatest l nexts first from behind e old now before after same raises =

@@ -146,7 +146,8 @@ module _ (greatest : ℕ) (l : LayoutState) (p e : ℕ) (old : Rows)
       here = so_far.next_is ∙ place_there l (length old.heads) (get_or l.jobs p 0) so_far.step more
 
       pub following_fits : (ready ≤ greatest) × (ready + get_or now.times next 0 ≤ greatest)
-      following_fits = next_fits greatest l p e old can some so_far.step ready now before mid so_far.walking more next here
+      following_fits = next_fits greatest l p e old can some so_far.step ready now before mid so_far.walking more next
+          here
 
       pub follows_next : (after : ℕ) → after ≡ get_or l.following next 0
           → after ≡ place_or (length old.heads) l.places (get_or l.jobs p 0) (so_far.step + 1)

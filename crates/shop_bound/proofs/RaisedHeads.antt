@@ -14,7 +14,8 @@ use Rattle.shop_bound.specs.Heads.{head_of, ready_after}
 use Rattle.shop_bound.specs.inner.LaneHeads.{AreHeadsAt}
 use Rattle.shop_bound.specs.inner.Layings.{place_or}
 use Rattle.shop_bound.specs.inner.Layouts.{LayoutState, place, first_of, IsLaidOut}
-use Rattle.shop_bound.specs.inner.Raises.{steps_of, at_in, AreFirst, IsFollowed, IsIndexed, IsPlace, AreInRouteOrder, IsRaised}
+use Rattle.shop_bound.specs.inner.Raises.{steps_of, at_in, AreFirst, IsFollowed, IsIndexed, IsPlace, AreInRouteOrder}
+use Rattle.shop_bound.specs.inner.Raises.{IsRaised}
 use Rattle.shop_bound.specs.inner.Raises.{IsLeastRaise, IsRaisable, IsOnMachine, HasBlocks}
 use Rattle.shop_bound.proofs.HeadsRise.{heads_up}
 use Rattle.shop_bound.proofs.HeadsStay.{ready_first_same, steps_rise}

@@ -50,7 +50,8 @@ fn raise_route<L: Lanes>(
     }
 }
 
-/// Sets the end of what stands at a position, once its head is raised to `begin`, if it is one of these next operations.
+/// Sets the end of what stands at a position, once its head is raised to `begin`, if it is one of these next
+/// operations.
 #[inline(always)]
 fn set_end_at<L: Lanes>(lanes: &mut L, layout: &Layout, next: &[usize], position: usize, begin: u64)
     requires within { position < length (L.rows lanes.old).heads }

@@ -111,13 +111,7 @@ impl Placement {
         self.steps[job]
     }
 
-    /// How many steps of each job are placed.
-    pub fn jobs_steps(&self) -> &[usize]
-        ensures { result.now ≡ self.now.steps }
-    {
-        self.steps.as_slice()
-    }
-
+<<<<<<< HEAD:crates/shop_model/src/placements.rt
     /// When the job is ready for its next step: when its last placed step ends, or its release if there is none.
     pub fn ready(&self, job: usize) -> u64
         requires { job < length self.now.ready }

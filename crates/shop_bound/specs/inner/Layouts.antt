@@ -15,8 +15,8 @@ use Rattle.shop_bound.specs.declared.slots.Slot.{Slot}
 
 -- the job, the step, the time and the tail of the operation at a position; the position of each
 -- step of each job; the first block of eight positions of each machine, with the number of all
--- blocks behind the last; and at a position its machine, and the position of the step that follows on
--- the route, or the number of all positions
+-- blocks behind the last; and of a position its machine, and the position of the step that follows
+-- on the route, or the number of all positions
 pub record LayoutState : Type 0 where
   pub jobs : List ℕ
   pub steps : List ℕ

@@ -1,7 +1,8 @@
 use Rattle.std.proofs.Common.{refl, subst, arith}
 use Rattle.shop_bound.specs.inner.LaneHeads.{LeadsBack, NotesState}
 use Rattle.shop_bound.proofs.AdvanceSteps.{within, end_small, machine_here}
-use Rattle.shop_bound.proofs.AdvanceSteps.{lifted_blocks, lifted_raisable, advanced_times, advanced_tails, advanced_positions}
+use Rattle.shop_bound.proofs.AdvanceSteps.{lifted_blocks, lifted_raisable, advanced_times, advanced_tails}
+use Rattle.shop_bound.proofs.AdvanceSteps.{advanced_positions}
 use Rattle.shop_bound.proofs.AdvanceSteps.{advanced_long, advanced_none, advanced_others, advanced_noted, advanced}
 use Rattle.shop_bound.proofs.dispatching.advance.Goals as goal
 
@@ -23,7 +24,8 @@ overflow_add-end g c =
     c.requires.next.at c.head.ensures c.time.ensures).2 in omega arith
 
 pub replace-requires-clause-within : goal.replace-requires-clause-within
-replace-requires-clause-within g c = within g.L.Lanes.GREATEST c.requires.next.shop c.args.layout.now (g.L.Lanes.rows c.args.lanes.now)
+replace-requires-clause-within g c = within g.L.Lanes.GREATEST c.requires.next.shop c.args.layout.now
+    (g.L.Lanes.rows c.args.lanes.now)
     c.requires.next.word c.requires.next.job c.requires.next.kept c.requires.next.fits
     c.args.position c.requires.next.at
 
@@ -35,7 +37,8 @@ replace-requires-clause-fits_now g c =
     c.requires.next.at c.head.ensures c.time.ensures).0 in let b = c.head.ensures in omega arith
 
 pub raise-requires-clause-machine : goal.raise-requires-clause-machine
-raise-requires-clause-machine g c = lifted_blocks g.L.Lanes.GREATEST c.requires.next.shop c.args.layout.now (g.L.Lanes.rows c.args.lanes.now)
+raise-requires-clause-machine g c = lifted_blocks g.L.Lanes.GREATEST c.requires.next.shop c.args.layout.now
+    (g.L.Lanes.rows c.args.lanes.now)
     c.requires.next.word c.requires.next.job c.requires.next.kept c.requires.next.fits
     c.args.position c.head.result c.time.result
     c.requires.next.at c.head.ensures c.time.ensures (g.L.Lanes.rows c.replace.new.lanes) c.begin-first.new.self
@@ -52,7 +55,8 @@ raise-requires-clause-fits g c =
     c.requires.next.at c.head.ensures c.time.ensures).1
 
 pub raise-requires-clause-raisable : goal.raise-requires-clause-raisable
-raise-requires-clause-raisable g c = lifted_raisable g.L.Lanes.GREATEST c.requires.next.shop c.args.layout.now (g.L.Lanes.rows c.args.lanes.now)
+raise-requires-clause-raisable g c = lifted_raisable g.L.Lanes.GREATEST c.requires.next.shop c.args.layout.now
+    (g.L.Lanes.rows c.args.lanes.now)
     c.requires.next.word c.requires.next.job c.requires.next.kept c.requires.next.fits
     c.args.position c.head.result c.time.result
     c.requires.next.at c.head.ensures c.time.ensures (g.L.Lanes.rows c.replace.new.lanes) c.begin-first.new.self
@@ -71,7 +75,8 @@ returns g c = record {
       c.replace.new.notes c.replace.ensures c.args.machine
       (machine_here g.L.Lanes.GREATEST c.requires.next.shop c.args.layout.now (g.L.Lanes.rows c.args.lanes.now)
       c.requires.next.word c.requires.next.job c.requires.next.kept c.requires.next.fits
-      c.args.position c.args.machine c.requires.next.at c.requires.machine) c.args.next.now (g.L.Lanes.rows c.raise.new.lanes) c.raise.new.notes c.raise.ensures;
+      c.args.position c.args.machine c.requires.next.at c.requires.machine) c.args.next.now
+      (g.L.Lanes.rows c.raise.new.lanes) c.raise.new.notes c.raise.ensures;
   tails = advanced_tails g.L.Lanes.GREATEST c.requires.next.shop c.args.layout.now (g.L.Lanes.rows c.args.lanes.now)
       c.requires.next.word c.requires.next.job c.requires.next.kept c.requires.next.fits
       c.args.position c.head.result c.time.result
@@ -79,15 +84,18 @@ returns g c = record {
       c.replace.new.notes c.replace.ensures c.args.machine
       (machine_here g.L.Lanes.GREATEST c.requires.next.shop c.args.layout.now (g.L.Lanes.rows c.args.lanes.now)
       c.requires.next.word c.requires.next.job c.requires.next.kept c.requires.next.fits
-      c.args.position c.args.machine c.requires.next.at c.requires.machine) c.args.next.now (g.L.Lanes.rows c.raise.new.lanes) c.raise.new.notes c.raise.ensures;
-  positions = advanced_positions g.L.Lanes.GREATEST c.requires.next.shop c.args.layout.now (g.L.Lanes.rows c.args.lanes.now)
+      c.args.position c.args.machine c.requires.next.at c.requires.machine) c.args.next.now
+      (g.L.Lanes.rows c.raise.new.lanes) c.raise.new.notes c.raise.ensures;
+  positions = advanced_positions g.L.Lanes.GREATEST c.requires.next.shop c.args.layout.now
+      (g.L.Lanes.rows c.args.lanes.now)
       c.requires.next.word c.requires.next.job c.requires.next.kept c.requires.next.fits
       c.args.position c.head.result c.time.result
       c.requires.next.at c.head.ensures c.time.ensures (g.L.Lanes.rows c.replace.new.lanes) c.begin-first.new.self
       c.replace.new.notes c.replace.ensures c.args.machine
       (machine_here g.L.Lanes.GREATEST c.requires.next.shop c.args.layout.now (g.L.Lanes.rows c.args.lanes.now)
       c.requires.next.word c.requires.next.job c.requires.next.kept c.requires.next.fits
-      c.args.position c.args.machine c.requires.next.at c.requires.machine) c.args.next.now (g.L.Lanes.rows c.raise.new.lanes) c.raise.new.notes c.raise.ensures;
+      c.args.position c.args.machine c.requires.next.at c.requires.machine) c.args.next.now
+      (g.L.Lanes.rows c.raise.new.lanes) c.raise.new.notes c.raise.ensures;
   long = advanced_long g.L.Lanes.GREATEST c.requires.next.shop c.args.layout.now (g.L.Lanes.rows c.args.lanes.now)
       c.requires.next.word c.requires.next.job c.requires.next.kept c.requires.next.fits
       c.args.position c.head.result c.time.result
@@ -95,7 +103,8 @@ returns g c = record {
       c.replace.new.notes c.replace.ensures c.args.machine
       (machine_here g.L.Lanes.GREATEST c.requires.next.shop c.args.layout.now (g.L.Lanes.rows c.args.lanes.now)
       c.requires.next.word c.requires.next.job c.requires.next.kept c.requires.next.fits
-      c.args.position c.args.machine c.requires.next.at c.requires.machine) c.args.next.now (g.L.Lanes.rows c.raise.new.lanes) c.raise.new.notes c.raise.ensures;
+      c.args.position c.args.machine c.requires.next.at c.requires.machine) c.args.next.now
+      (g.L.Lanes.rows c.raise.new.lanes) c.raise.new.notes c.raise.ensures;
   none = advanced_none g.L.Lanes.GREATEST c.requires.next.shop c.args.layout.now (g.L.Lanes.rows c.args.lanes.now)
       c.requires.next.word c.requires.next.job c.requires.next.kept c.requires.next.fits
       c.args.position c.head.result c.time.result
@@ -103,7 +112,8 @@ returns g c = record {
       c.replace.new.notes c.replace.ensures c.args.machine
       (machine_here g.L.Lanes.GREATEST c.requires.next.shop c.args.layout.now (g.L.Lanes.rows c.args.lanes.now)
       c.requires.next.word c.requires.next.job c.requires.next.kept c.requires.next.fits
-      c.args.position c.args.machine c.requires.next.at c.requires.machine) c.args.next.now (g.L.Lanes.rows c.raise.new.lanes) c.raise.new.notes c.raise.ensures;
+      c.args.position c.args.machine c.requires.next.at c.requires.machine) c.args.next.now
+      (g.L.Lanes.rows c.raise.new.lanes) c.raise.new.notes c.raise.ensures;
   others = advanced_others g.L.Lanes.GREATEST c.requires.next.shop c.args.layout.now (g.L.Lanes.rows c.args.lanes.now)
       c.requires.next.word c.requires.next.job c.requires.next.kept c.requires.next.fits
       c.args.position c.head.result c.time.result
@@ -111,7 +121,8 @@ returns g c = record {
       c.replace.new.notes c.replace.ensures c.args.machine
       (machine_here g.L.Lanes.GREATEST c.requires.next.shop c.args.layout.now (g.L.Lanes.rows c.args.lanes.now)
       c.requires.next.word c.requires.next.job c.requires.next.kept c.requires.next.fits
-      c.args.position c.args.machine c.requires.next.at c.requires.machine) c.args.next.now (g.L.Lanes.rows c.raise.new.lanes) c.raise.new.notes c.raise.ensures;
+      c.args.position c.args.machine c.requires.next.at c.requires.machine) c.args.next.now
+      (g.L.Lanes.rows c.raise.new.lanes) c.raise.new.notes c.raise.ensures;
   first = c.begin-first.ensures.first;
   whole = c.is_whole.ensures;
   at = refl;
@@ -124,7 +135,8 @@ returns g c = record {
       c.replace.new.notes c.replace.ensures c.args.machine
       (machine_here g.L.Lanes.GREATEST c.requires.next.shop c.args.layout.now (g.L.Lanes.rows c.args.lanes.now)
       c.requires.next.word c.requires.next.job c.requires.next.kept c.requires.next.fits
-      c.args.position c.args.machine c.requires.next.at c.requires.machine) c.args.next.now (g.L.Lanes.rows c.raise.new.lanes) c.raise.new.notes c.raise.ensures);
+      c.args.position c.args.machine c.requires.next.at c.requires.machine) c.args.next.now
+      (g.L.Lanes.rows c.raise.new.lanes) c.raise.new.notes c.raise.ensures);
   heads = λ shop w j kept fits at. advanced g.L.Lanes.GREATEST shop c.args.layout.now (g.L.Lanes.rows c.args.lanes.now)
       w j kept fits c.args.position c.head.result c.time.result
       at c.head.ensures c.time.ensures (g.L.Lanes.rows c.replace.new.lanes) c.begin-first.new.self

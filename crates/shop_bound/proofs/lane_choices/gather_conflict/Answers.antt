@@ -11,12 +11,14 @@ machine_read : (machines : List ℕ) (given : List ℕ) (q : ℕ) → given ≡ 
 machine_read machines given q e = ap (λ (xs : List ℕ). get_or xs q 0) e
 
 pub head-requires : goal.head-requires
-head-requires g c = (chosen_at g.L.Lanes.GREATEST c.requires.kept.shop c.requires.kept.of c.args.layout.now c.args.next.now
+head-requires g c = (chosen_at g.L.Lanes.GREATEST c.requires.kept.shop c.requires.kept.of c.args.layout.now
+    c.args.next.now
     (g.L.Lanes.rows c.args.lanes.now) c.requires.kept.choosable c.first_least_end-chosen.result
     c.first_least_end-chosen.ensures c.positions.result c.positions.ensures c.if-position-positions.false).within
 
 pub time-requires : goal.time-requires
-time-requires g c = (chosen_at g.L.Lanes.GREATEST c.requires.kept.shop c.requires.kept.of c.args.layout.now c.args.next.now
+time-requires g c = (chosen_at g.L.Lanes.GREATEST c.requires.kept.shop c.requires.kept.of c.args.layout.now
+    c.args.next.now
     (g.L.Lanes.rows c.args.lanes.now) c.requires.kept.choosable c.first_least_end-chosen.result
     c.first_least_end-chosen.ensures c.positions.result c.positions.ensures c.if-position-positions.false).within
 
@@ -53,7 +55,8 @@ pub gather_on_machine-requires-clause-list : goal.gather_on_machine-requires-cla
 gather_on_machine-requires-clause-list g c =
     let r = c.first_least_end-chosen.result
     in let can = c.requires.kept.choosable
-    in let known = chosen_job g.L.Lanes.GREATEST c.requires.kept.shop c.requires.kept.of c.args.layout.now c.args.next.now
+    in let known = chosen_job g.L.Lanes.GREATEST c.requires.kept.shop c.requires.kept.of c.args.layout.now
+    c.args.next.now
     (g.L.Lanes.rows c.args.lanes.now) c.requires.kept.choosable c.first_least_end-chosen.result
     c.first_least_end-chosen.ensures
     in let many = can.at.are.jobs
@@ -75,7 +78,8 @@ returns-clause-jobs g c = λ shop p can.
     in let l = c.args.layout.now
     in let nexts = c.args.next.now
     in let rows = g.L.Lanes.rows c.args.lanes.now
-    in let at = chosen_at g.L.Lanes.GREATEST shop p l nexts rows can r is c.positions.result c.positions.ensures c.if-position-positions.false
+    in let at = chosen_at g.L.Lanes.GREATEST shop p l nexts rows can r is c.positions.result c.positions.ensures
+    c.if-position-positions.false
     in let read = machine_read l.machines c.machines.result.now (get_or nexts r 0) c.machines.ensures
     in let head = c.head.ensures in let time = c.time.ensures in let end = at.end
     in is_conflict g.L.Lanes.GREATEST shop p l nexts rows can r is at.operation _ _ (read ∙ at.machine_is) (omega arith)

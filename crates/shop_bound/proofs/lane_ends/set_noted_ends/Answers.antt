@@ -4,12 +4,14 @@ use Rattle.shop_bound.proofs.lane_ends.set_noted_ends.Goals as goal
 use Rattle.shop_bound.proofs.lane_ends.set_noted_ends.Goals.{then-is_next, else-is_next}
 
 pub is_next-requires-clause-known : goal.is_next-requires-clause-known
-is_next-requires-clause-known g c = note_known g.L.Lanes.GREATEST c.args.layout.now c.args.next.now (g.L.Lanes.rows c.args.lanes.now)
+is_next-requires-clause-known g c = note_known g.L.Lanes.GREATEST c.args.layout.now c.args.next.now
+    (g.L.Lanes.rows c.args.lanes.now)
     (g.L.Lanes.rows c.loop-note.lanes) c.requires.keep c.args.notes.now c.loop-note.note-index _
     c.loop-note-test.true c.loop-note.invariant
 
 pub is_next-requires-clause-job : goal.is_next-requires-clause-job
-is_next-requires-clause-job g c = note_job g.L.Lanes.GREATEST c.args.layout.now c.args.next.now (g.L.Lanes.rows c.args.lanes.now)
+is_next-requires-clause-job g c = note_job g.L.Lanes.GREATEST c.args.layout.now c.args.next.now
+    (g.L.Lanes.rows c.args.lanes.now)
     (g.L.Lanes.rows c.loop-note.lanes) c.requires.keep c.args.notes.now c.loop-note.note-index _
     c.loop-note-test.true c.loop-note.invariant
 

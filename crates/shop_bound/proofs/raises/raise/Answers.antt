@@ -22,7 +22,8 @@ loop-from-init g c = record {
 pub raise_blocks-requires-clause-raisable : goal.raise_blocks-requires-clause-raisable
 raise_blocks-requires-clause-raisable g c =
     let a = c.min.ensures in let b = c.block-behind.ensures in let d = c.loop-from-test.true
-    in blocks_raisable g.L.Lanes.GREATEST c.args.layout.now c.args.next.now (get_or c.args.layout.now.blocks c.args.machine 0)
+    in blocks_raisable g.L.Lanes.GREATEST c.args.layout.now c.args.next.now
+    (get_or c.args.layout.now.blocks c.args.machine 0)
     c.loop-from.from (c.loop-from.from + c.min.result)
     (get_or c.args.layout.now.blocks (c.args.machine + 1) 0) c.args.end
     (g.L.Lanes.rows c.args.lanes.now) (g.L.Lanes.rows c.loop-from.lanes) c.args.notes.now c.loop-from.notes
@@ -34,7 +35,8 @@ loop-from-preserved g c =
     in let o = c.loop-from.invariant.ordered in record {
       ordered = omega arith;
       within = omega arith;
-      raises = more_blocks g.L.Lanes.GREATEST c.args.layout.now c.args.next.now (get_or c.args.layout.now.blocks c.args.machine 0)
+      raises = more_blocks g.L.Lanes.GREATEST c.args.layout.now c.args.next.now
+          (get_or c.args.layout.now.blocks c.args.machine 0)
           c.loop-from.from (c.loop-from.from + c.min.result)
           (get_or c.args.layout.now.blocks (c.args.machine + 1) 0) c.args.end
           (g.L.Lanes.rows c.args.lanes.now) (g.L.Lanes.rows c.loop-from.lanes) c.args.notes.now c.loop-from.notes
@@ -45,7 +47,8 @@ loop-from-preserved g c =
 pub returns : goal.returns
 returns g c =
     let a = c.block-behind.ensures in let b = c.loop-from-test.false in let d = c.loop-from.invariant.within
-    in all_blocks g.L.Lanes.GREATEST c.args.layout.now c.args.next.now (get_or c.args.layout.now.blocks c.args.machine 0)
+    in all_blocks g.L.Lanes.GREATEST c.args.layout.now c.args.next.now
+    (get_or c.args.layout.now.blocks c.args.machine 0)
     c.loop-from.from (get_or c.args.layout.now.blocks (c.args.machine + 1) 0) c.args.end
     (g.L.Lanes.rows c.args.lanes.now) (g.L.Lanes.rows c.loop-from.lanes) c.args.notes.now c.loop-from.notes
     (omega arith) c.loop-from.invariant.raises

@@ -25,10 +25,12 @@ raise_route-requires g c =
       waits = omega arith;
       below = omega arith;
       raisable = mid_raisable g.L.Lanes.GREATEST c.args.layout.now c.args.next.now c.args.position c.args.end
-          (g.L.Lanes.rows c.args.lanes.now) (g.L.Lanes.rows c.set_end_at.new.lanes) c.requires.raisable c.set_end_at.ensures;
+          (g.L.Lanes.rows c.args.lanes.now) (g.L.Lanes.rows c.set_end_at.new.lanes) c.requires.raisable
+          c.set_end_at.ensures;
     }
 
 pub returns : goal.returns
 returns g c = raised_with_ends g.L.Lanes.GREATEST c.args.layout.now c.args.next.now c.args.position c.args.end
-    (g.L.Lanes.rows c.args.lanes.now) (g.L.Lanes.rows c.set_end_at.new.lanes) c.requires.raisable c.set_end_at.ensures c.requires.waits c.requires.below
+    (g.L.Lanes.rows c.args.lanes.now) (g.L.Lanes.rows c.set_end_at.new.lanes) c.requires.raisable c.set_end_at.ensures
+    c.requires.waits c.requires.below
     (g.L.Lanes.rows c.raise_route.new.lanes) c.args.notes.now c.raise_route.new.notes c.raise_route.ensures

@@ -15,9 +15,12 @@ advance-mark-requires-clause-next g c =
       job = c.args.job;
       kept = next.kept.kept;
       fits = next.fits;
-      at = next_at g.L.Lanes.GREATEST next.shop next.word c.args.job _ next.kept next.fits c.index-position.result.now c.index-position.ensures;
-      firsts = rw c.as_slice.ensures.value (firsts g.L.Lanes.GREATEST next.shop next.word c.args.job _ next.kept next.fits);
-      ends = rw c.as_slice.ensures.value (ends_room g.L.Lanes.GREATEST next.shop next.word c.args.job _ next.kept next.fits);
+      at = next_at g.L.Lanes.GREATEST next.shop next.word c.args.job _ next.kept next.fits c.index-position.result.now
+          c.index-position.ensures;
+      firsts = rw c.as_slice.ensures.value (firsts g.L.Lanes.GREATEST next.shop next.word c.args.job _ next.kept
+          next.fits);
+      ends = rw c.as_slice.ensures.value (ends_room g.L.Lanes.GREATEST next.shop next.word c.args.job _ next.kept
+          next.fits);
     }
 
 pub index-position-requires : goal.index-position-requires
@@ -65,7 +68,8 @@ set_end_of-requires-clause-keep g c =
     let next = subst (λ (s : LaneState). HasNextInLanes g.L.Lanes.GREATEST c.args.job s) (sym c.self.view_is) c.requires
     in ends_more g.L.Lanes.GREATEST next.shop next.word c.args.job _ next.kept next.fits
     (g.L.Lanes.rows c.advance-mark.new.lanes) c.advance-mark.new.notes c.advance-mark.result
-    c.index-position.result.now c.index-position.ensures (rw c.as_slice.ensures.value at c.advance-mark.ensures) c.following.result c.following.ensures
+    c.index-position.result.now c.index-position.ensures (rw c.as_slice.ensures.value at c.advance-mark.ensures)
+    c.following.result c.following.ensures
     c.as_slice-next.result.now c.as_slice-next.ensures.value
 
 pub set_end_of-requires-clause-job : goal.set_end_of-requires-clause-job
@@ -73,7 +77,8 @@ set_end_of-requires-clause-job g c =
     let next = subst (λ (s : LaneState). HasNextInLanes g.L.Lanes.GREATEST c.args.job s) (sym c.self.view_is) c.requires
     in job_more g.L.Lanes.GREATEST next.shop next.word c.args.job _ next.kept next.fits
     (g.L.Lanes.rows c.advance-mark.new.lanes) c.advance-mark.new.notes c.advance-mark.result
-    c.index-position.result.now c.index-position.ensures (rw c.as_slice.ensures.value at c.advance-mark.ensures) c.following.result c.following.ensures
+    c.index-position.result.now c.index-position.ensures (rw c.as_slice.ensures.value at c.advance-mark.ensures)
+    c.following.result c.following.ensures
     c.as_slice-next.result.now c.as_slice-next.ensures.value
 
 pub unwrap-requires : goal.unwrap-requires

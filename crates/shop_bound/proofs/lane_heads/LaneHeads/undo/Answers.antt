@@ -18,7 +18,8 @@ pub index_mut-requires : goal.index_mut-requires
 index_mut-requires g c =
     let last = subst (λ (s : LaneState). HasLastInLanes g.L.Lanes.GREATEST c.args.instance.now c.args.placement.now
     c.args.job s) (sym c.self.view_is) c.requires
-    in let known = last_known g.L.Lanes.GREATEST c.args.instance.now last.word c.args.job _ last.kept _ c.unwrap-last.result
+    in let known = last_known g.L.Lanes.GREATEST c.args.instance.now last.word c.args.job _ last.kept _
+    c.unwrap-last.result
     (rw c.unwrap-last.ensures at c.pop.ensures.items)
     in let long = c.self.inside.next.ok.0 in omega arith
 
@@ -30,7 +31,8 @@ keep_ends-requires-clause-keep g c =
     (take (length ns - c.unwrap-last.result.first) (drop c.unwrap-last.result.first ns)) c.unwrap-last.result.whole
     (g.L.Lanes.rows c.self.inside.lanes) (g.L.Lanes.rows c.go_back.new.lanes)) c.list.ensures c.go_back.ensures
     in ends_less g.L.Lanes.GREATEST c.args.instance.now last.word c.args.job _ last.kept _ c.unwrap-last.result
-    (rw c.unwrap-last.ensures at c.pop.ensures.items) c.args.placement.now last.placed (g.L.Lanes.rows c.go_back.new.lanes) back
+    (rw c.unwrap-last.ensures at c.pop.ensures.items) c.args.placement.now last.placed
+    (g.L.Lanes.rows c.go_back.new.lanes) back
     c.as_slice-next.result.now c.as_slice-next.ensures.value
 
 pub keep_ends-requires-clause-job : goal.keep_ends-requires-clause-job
@@ -41,7 +43,8 @@ keep_ends-requires-clause-job g c =
     (take (length ns - c.unwrap-last.result.first) (drop c.unwrap-last.result.first ns)) c.unwrap-last.result.whole
     (g.L.Lanes.rows c.self.inside.lanes) (g.L.Lanes.rows c.go_back.new.lanes)) c.list.ensures c.go_back.ensures
     in job_less g.L.Lanes.GREATEST c.args.instance.now last.word c.args.job _ last.kept _ c.unwrap-last.result
-    (rw c.unwrap-last.ensures at c.pop.ensures.items) c.args.placement.now last.placed (g.L.Lanes.rows c.go_back.new.lanes) back
+    (rw c.unwrap-last.ensures at c.pop.ensures.items) c.args.placement.now last.placed
+    (g.L.Lanes.rows c.go_back.new.lanes) back
     c.as_slice-next.result.now c.as_slice-next.ensures.value
 
 pub keep_ends-requires-clause-notes : goal.keep_ends-requires-clause-notes
@@ -55,7 +58,8 @@ keep_ends-requires-clause-notes g c =
     (length (g.L.Lanes.rows c.go_back.new.lanes).heads)
     (take (length ns - c.unwrap-last.result.first) (drop c.unwrap-last.result.first ns))) (sym c.list.ensures)
     (fit_less g.L.Lanes.GREATEST c.args.instance.now last.word c.args.job _ last.kept _ c.unwrap-last.result
-    (rw c.unwrap-last.ensures at c.pop.ensures.items) c.args.placement.now last.placed (g.L.Lanes.rows c.go_back.new.lanes) back
+    (rw c.unwrap-last.ensures at c.pop.ensures.items) c.args.placement.now last.placed
+    (g.L.Lanes.rows c.go_back.new.lanes) back
     c.as_slice-next.result.now c.as_slice-next.ensures.value)
 
 pub keep_ends-requires-clause-noted : goal.keep_ends-requires-clause-noted
@@ -70,7 +74,8 @@ keep_ends-requires-clause-noted g c =
     (take (length ns - c.unwrap-last.result.first) (drop c.unwrap-last.result.first ns)) c.args.job)
     (sym c.list.ensures)
     (noted_less g.L.Lanes.GREATEST c.args.instance.now last.word c.args.job _ last.kept _ c.unwrap-last.result
-    (rw c.unwrap-last.ensures at c.pop.ensures.items) c.args.placement.now last.placed (g.L.Lanes.rows c.go_back.new.lanes) back
+    (rw c.unwrap-last.ensures at c.pop.ensures.items) c.args.placement.now last.placed
+    (g.L.Lanes.rows c.go_back.new.lanes) back
     c.as_slice-next.result.now c.as_slice-next.ensures.value)
 
 pub returns : goal.returns

@@ -67,7 +67,8 @@ jobs_of-requires c =
     c.in_ok-lists.ensures
     in let laid = all_cells shop c.as_slice.result.now are c.in_ok-slots.field-0.slots.items
     c.in_ok-slots.field-0.blocks.items c.in_ok-slots.ensures
-    in job_small (length shop.jobs) c.keeps_limits.ensures.jobs c.in_ok-slots.field-0.slots.items c.as_slice-4.result.now c.as_slice-4.ensures.value
+    in job_small (length shop.jobs) c.keeps_limits.ensures.jobs c.in_ok-slots.field-0.slots.items
+    c.as_slice-4.result.now c.as_slice-4.ensures.value
     (cells_known shop c.keeps_limits.ensures (map (λ v. v.items) c.as_slice.result.now) are
     c.in_ok-slots.field-0.slots.items c.in_ok-slots.field-0.blocks.items laid)
 
@@ -78,7 +79,8 @@ steps_of-requires c =
     c.in_ok-lists.ensures
     in let laid = all_cells shop c.as_slice.result.now are c.in_ok-slots.field-0.slots.items
     c.in_ok-slots.field-0.blocks.items c.in_ok-slots.ensures
-    in step_small (length shop.jobs) c.in_ok-slots.field-0.slots.items c.as_slice-5.result.now c.as_slice-5.ensures.value
+    in step_small (length shop.jobs) c.in_ok-slots.field-0.slots.items c.as_slice-5.result.now
+    c.as_slice-5.ensures.value
     (cells_known shop c.keeps_limits.ensures (map (λ v. v.items) c.as_slice.result.now) are
     c.in_ok-slots.field-0.slots.items c.in_ok-slots.field-0.blocks.items laid)
 
