@@ -12,9 +12,8 @@ use crate::lane_heads::LaneHeads;
 use crate::layouts::Layout;
 use crate::look_aheads::foresee;
 use crate::notes::Mark;
-use shop_model::Placement;
 use shop_lanes::Lanes;
-use shop_model::Instance;
+use shop_model::{Instance, Placement};
 
 /// The next operation of a job: its position, its machine, and one more than its end.
 #[derive(Clone, Copy, Debug)]

@@ -7,9 +7,8 @@ ghost use Rattle.shop_bound.specs.Desks.{nothing_dispatched};
 ghost use Rattle.shop_bound.specs.Desks.{TellsBoundBelow};
 ghost use Rattle.shop_bound.specs.inner.BoundsUpTo.{IsBoundUpTo};
 
-use shop_model::{Placement, Replaced};
 use crate::waiting::Waiting;
-use shop_model::Instance;
+use shop_model::{Instance, Placement, Replaced};
 use std::alloc::{AllocError, Global};
 use std::marker::Model;
 

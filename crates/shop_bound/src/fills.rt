@@ -6,9 +6,8 @@ ghost use Rattle.shop_bound.specs.inner.Fills.{HasPutBack, IsRested};
 
 use crate::layouts::Layout;
 use crate::notes::Note;
-use shop_model::Placement;
 use shop_lanes::Lanes;
-use shop_model::Instance;
+use shop_model::{Instance, Placement};
 
 /// Puts back the heads of notes, the last first.
 #[inline(always)]

@@ -9,8 +9,7 @@ ghost use Rattle.shop_model.specs.Placements.{IsPlacement};
 ghost use Rattle.shop_bound.specs.inner.PlacedWords.{IsOfWord};
 ghost use Rattle.shop_bound.specs.inner.Vectors.{items_in};
 
-use shop_model::Placement;
-use shop_model::{Instance, Word};
+use shop_model::{Instance, Placement, Word};
 use std::alloc::{AllocError, Global};
 use std::marker::Model;
 

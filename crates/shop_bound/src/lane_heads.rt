@@ -16,9 +16,8 @@ use crate::latest_ends::latest_end;
 use crate::layouts::Layout;
 use crate::machine_raises::MachineRaises;
 use crate::notes::{Mark, Notes};
-use shop_model::Placement;
 use shop_lanes::Lanes;
-use shop_model::Instance;
+use shop_model::{Instance, Placement};
 use std::alloc::{AllocError, Global};
 use std::marker::Model;
 

@@ -6,10 +6,9 @@ ghost use Rattle.shop_bound.specs.Laws.{IsLower, EndsThereIfFull};
 ghost use Rattle.shop_bound.specs.OneMachine.{IsSmall};
 ghost use Rattle.shop_bound.specs.inner.Unplaced.{greatest_among, triples_among};
 
-use shop_model::Placement;
 use crate::profiles::bound_by_profile;
 use crate::unplaced::{Unplaced, gather, list_unplaced};
-use shop_model::{Instance, Word};
+use shop_model::{Instance, Placement, Word};
 use std::alloc::{AllocError, Global};
 
 /// The greatest, over the machines, of when it is free and of the one-machine bound of what is left for it.

@@ -4,10 +4,9 @@ ghost use Rattle.shop_bound.specs.inner.WaitingBounds.{IsBoundInLanes, IsBoundWa
 
 use crate::lane_bounds::bound_of_machines;
 use crate::lane_heads::LaneHeads;
-use shop_model::Placement;
 use crate::waiting::Waiting;
 use shop_lanes::Lanes;
-use shop_model::Instance;
+use shop_model::{Instance, Placement};
 
 impl<L: Lanes> LaneHeads<L> {
     /// The bound of the word, of which this is the placement.

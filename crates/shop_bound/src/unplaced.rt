@@ -4,10 +4,9 @@ ghost use Rattle.shop_bound.specs.inner.PlacedWords.{IsOfWord};
 ghost use Rattle.shop_bound.specs.inner.Unplaced.{Adds, AreAsMany, AreUnplaced, CanGoOn};
 ghost use Rattle.shop_bound.specs.inner.Unplaced.{triples_among};
 
-use shop_model::Placement;
 use crate::tail_rows::total_time;
 use crate::triples::Triple;
-use shop_model::{Instance, Op};
+use shop_model::{Instance, Op, Placement};
 use std::alloc::{AllocError, Global};
 
 /// An operation that isn't placed: its machine, and its head, time and tail.

@@ -9,9 +9,8 @@ ghost use Rattle.shop_bound.specs.inner.Waitings.{WaitsBack, WaitsOn};
 use crate::lane_heads::LaneHeads;
 use crate::latest_ends::{greatest_load, latest_end};
 use crate::layouts::Layout;
-use shop_model::Placement;
 use shop_lanes::{Lanes, Narrow, Plain, Wide};
-use shop_model::Instance;
+use shop_model::{Instance, Placement};
 use std::alloc::{AllocError, Global};
 
 /// What a word leaves, in lanes of 16, 32 or 64 bits.

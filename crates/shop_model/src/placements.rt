@@ -111,7 +111,6 @@ impl Placement {
         self.steps[job]
     }
 
-<<<<<<< HEAD:crates/shop_model/src/placements.rt
     /// When the job is ready for its next step: when its last placed step ends, or its release if there is none.
     pub fn ready(&self, job: usize) -> u64
         requires { job < length self.now.ready }
