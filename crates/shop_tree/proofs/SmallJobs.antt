@@ -6,7 +6,7 @@ use Rattle.shop_model.specs.Limits.{IsWithinLimits}
 use Rattle.shop_model.specs.Shop.{Shop}
 use Rattle.shop_model.specs.Word.{IsWord}
 use Rattle.shop_model.proofs.WordLemmas.{jobs_below}
-use Rattle.shop_tree.specs.SharedWords.{AreSmallJobs}
+use Rattle.shop_tree.specs.inner.SmallJobs.{AreSmallJobs}
 use Rattle.shop_tree.proofs.ListLemmas.{all_back, all_weaker}
 
 jobs_small : (shop : Shop) (w : List ℕ) → IsWithinLimits shop → IsWord shop w → AllByRecursion (λ j. j < 65536) w

@@ -1,11 +1,7 @@
 -- Words that share their jobs with others.
 --     shared_word path n last      the first n jobs of a path, and one more, if any
---     AreSmallJobs jobs            each is told in 16 bits
-use Rattle.std.specs.Prelude.{ℕ, ◌<◌, Option, Some, None, List, [], ◌∷◌, ◌++◌, take, All}
+use Rattle.std.specs.Prelude.{ℕ, Option, Some, None, List, ◌∷◌, ◌++◌, [], take}
 
 abbrev pub shared_word : List ℕ → ℕ → Option ℕ → List ℕ
 shared_word path n None = take n path
 shared_word path n (Some job) = take n path ++ job ∷ []
-
-abbrev pub AreSmallJobs : List ℕ → Type 0
-AreSmallJobs jobs = All (λ job. job < 65536) jobs

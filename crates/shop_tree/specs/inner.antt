@@ -4,3 +4,4 @@ pub mod Opens
 pub mod Pushing
 pub mod Moving
 pub mod Walkers
+pub mod SmallJobs

@@ -1,7 +1,8 @@
 // Words that share their jobs with others.
 ghost use Rattle.std.specs.Prelude.{◌≡◌, ◌≤◌, ◌<◌, ◌++◌, ◌∷◌, [], length, take, slice_index, IfOk};
 ghost use Rattle.std.specs.Arc.{arc_slice_items};
-ghost use Rattle.shop_tree.specs.SharedWords.{AreSmallJobs, shared_word};
+ghost use Rattle.shop_tree.specs.SharedWords.{shared_word};
+ghost use Rattle.shop_tree.specs.inner.SmallJobs.{AreSmallJobs};
 
 use shop_model::Word;
 use std::alloc::{AllocError, Global};

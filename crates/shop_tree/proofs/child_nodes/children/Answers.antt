@@ -3,7 +3,7 @@ use Rattle.std.specs.Arc.{arc_slice_items}
 use Rattle.std.specs.List.{AllByRecursion}
 use Rattle.std.proofs.Math.Seq.{take-length}
 use Rattle.shop_model.proofs.WordLengths.{word_length}
-use Rattle.shop_tree.specs.SharedWords.{AreSmallJobs}
+use Rattle.shop_tree.specs.inner.SmallJobs.{AreSmallJobs}
 use Rattle.shop_tree.specs.declared.opens.Open.{Open}
 use Rattle.shop_tree.proofs.ListLemmas.{all_back}
 use Rattle.shop_tree.proofs.SmallJobs.{small_jobs, small_last}

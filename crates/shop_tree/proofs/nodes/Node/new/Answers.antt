@@ -1,6 +1,6 @@
 use Rattle.std.proofs.Common.{ℕ, List, ◌≤◌, length, sym, subst}
 use Rattle.shop_model.proofs.WordLengths.{word_length}
-use Rattle.shop_tree.specs.SharedWords.{AreSmallJobs}
+use Rattle.shop_tree.specs.inner.SmallJobs.{AreSmallJobs}
 use Rattle.shop_tree.proofs.SmallJobs.{small_jobs}
 use Rattle.shop_tree.proofs.nodes.Node.new.Goals as goal
 

@@ -1,6 +1,6 @@
 use Rattle.std.proofs.Common.{◌≡◌, ◌∙◌, ◌++◌, ◌∷◌, [], List, sym, ap, subst}
 use Rattle.shop_tree.specs.Pieces.{still_open}
-use Rattle.shop_tree.specs.SharedWords.{AreSmallJobs}
+use Rattle.shop_tree.specs.inner.SmallJobs.{AreSmallJobs}
 use Rattle.shop_tree.specs.inner.Opens.{AreWaiting}
 use Rattle.shop_tree.specs.inner.Searching.{walk_stack, walked}
 use Rattle.shop_tree.specs.declared.opens.Waiting.{Waiting}
