@@ -51,9 +51,10 @@ pub raises_bounded : (s : LaneState) (mark : Mark) (own end least b : ℕ) (rais
     → ((m : ℕ) → spans_between (raise_of raises m).from (raise_of raises m).to (lanes_on s.rows s.layout m) ≤ b + 1)
     → AreBounded s mark own end least b raises
 raises_bounded s mark own end least b raises list list_is us ms us_is ms_is covered spans = record {
-  covered = subst (λ (ns : List Note). All (IsNoteCovered raises own end s.estimates least s.layout.machines s.rows.heads)
-      (drop mark.first ns)) list_is
-      (subst (λ (ns : List Note). All (IsNoteCovered raises own end s.estimates least s.layout.machines s.rows.heads) ns)
+  covered = subst (λ (ns : List Note). All
+      (IsNoteCovered raises own end s.estimates least s.layout.machines s.rows.heads) (drop mark.first ns)) list_is
+      (subst (λ (ns : List Note). All
+      (IsNoteCovered raises own end s.estimates least s.layout.machines s.rows.heads) ns)
       (take_all (length list - mark.first) (drop mark.first list) (let a = length-drop mark.first list in omega arith))
       (subst (λ (xs : List ℕ). All (IsNoteCovered raises own end s.estimates least xs s.rows.heads)
       (take (length list - mark.first) (drop mark.first list))) ms_is
@@ -139,7 +140,8 @@ module _ (greatest : ℕ) (shop : Shop) (w : List ℕ) (s : LaneState) (kept : I
           (λ under whole. (let r = bound.noted under whole in (r.0, (r.1.covered, r.1.spans))))
           (λ whole under m known. bound.all under whole m (let a = kept.bounds.as_many in omega arith))
           bound.low
-          (λ c above each. bound.within c above (λ m x y known. each m x y (let a = kept.bounds.as_many in omega arith)))
+          (λ c above each. bound.within c above (λ m x y known.
+          each m x y (let a = kept.bounds.as_many in omega arith)))
           w kept.kept fits its_place after_is
 
       pub rested_after : (raises : List Raise) (v : LaneState) → v ≡ record raised_state { raises = raises }
@@ -149,8 +151,8 @@ module _ (greatest : ℕ) (shop : Shop) (w : List ℕ) (s : LaneState) (kept : I
 
 -- what is kept once the heads are put back, whichever word they were of
 module _ (greatest : ℕ) (shop : Shop) (w : List ℕ) (s : LaneState) (kept : IsKeptInLanes greatest shop w s)
-    (p : PlacementState) (placed : IsPlacement shop (placing shop w) p) (position : ℕ) (rows : Rows) (after : NotesState)
-    (mark : Mark) (advances : Advances greatest s.layout [] position s.rows rows s.notes after mark) (us : List ℕ)
+    (p : PlacementState) (placed : IsPlacement shop (placing shop w) p) (position : ℕ) (rows : Rows)
+    (after : NotesState) (mark : Mark) (advances : Advances greatest s.layout [] position s.rows rows s.notes after mark) (us : List ℕ)
     (estimates : AreEstimates s.top s.layout s.rows us) (raises : List Raise) (v : LaneState)
     (v_is : v ≡ record s { rows = rows; notes = after; estimates = us; raises = raises }) where
   pub noted_are : (list : List Note) → list ≡ v.notes.list → (noted : List Note)

@@ -56,7 +56,8 @@ blocks_risen s from to floor first end hs hs' ts qs a b c within each =
     (each (8 * first + i) (omega arith) (omega arith))))
     in subst (λ (xs : List Lane). AreBeside (IsRisenLane s from to floor) xs (blocks first end (lanes hs' ts qs)))
     (lanes-blocks hs ts qs first end a b)
-    (subst (AreBeside (IsRisenLane s from to floor) (lanes (blocks first end hs) (blocks first end ts) (blocks first end qs)))
+    (subst (AreBeside (IsRisenLane s from to floor)
+    (lanes (blocks first end hs) (blocks first end ts) (blocks first end qs)))
     (lanes-blocks hs' ts qs first end (omega arith) (omega arith)) risen)
 
 -- the lanes of a machine by what stands in the rows

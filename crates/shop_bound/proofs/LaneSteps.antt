@@ -346,7 +346,8 @@ module _ (greatest : ℕ) (shop : Shop) (w : List ℕ) (j : ℕ) (s : LaneState)
 pub kept_again : (greatest : ℕ) (shop : Shop) (w : List ℕ) (s : LaneState) → IsKeptInLanes greatest shop w s
     → (new : Rows) → AreHeadsInLanes greatest shop w s.layout new → new.ends ≡ s.rows.ends → (after : NotesState)
     → after.list ≡ s.notes.list
-    → (raises : List Raise) → length raises ≡ length s.raises → AreEmpty raises → (us : List ℕ) → AreEstimates s.top s.layout new us
+    → (raises : List Raise) → length raises ≡ length s.raises → AreEmpty raises → (us : List ℕ)
+    → AreEstimates s.top s.layout new us
     → IsKeptInLanes greatest shop w (record s { rows = new; notes = after; raises = raises; estimates = us })
 kept_again greatest shop w s kept new heads ends after list raises many empty us estimates =
     let same = same_heads shop kept.kept.limits s.layout kept.kept.laid (placing shop w) s.rows.heads new.heads

@@ -1,6 +1,6 @@
 -- Machines with a raise are listed: one more, and one less.
-use Rattle.std.proofs.Common.{◌≡◌, ℕ, ◌+◌, ◌≤◌, ◌<◌, ◌⊎◌, inl, inr, List, length, get_or, set, refl, sym, ◌∙◌, ap, arith}
-use Rattle.std.proofs.Common.{if◌then◌else◌, nat_lt}
+use Rattle.std.proofs.Common.{◌≡◌, ℕ, ◌+◌, ◌≤◌, ◌<◌, ◌⊎◌, inl, inr, List, length, get_or, set, refl}
+use Rattle.std.proofs.Common.{sym, ◌∙◌, ap, arith, if◌then◌else◌, nat_lt}
 use Rattle.std.proofs.lemmas.Bool.{cases_eq, cases_lt, le-ltb, lt-ltb}
 use Rattle.std.proofs.lemmas.List.{get_or-set_same, get_or-set_other, length-set}
 use Rattle.std.proofs.lemmas.List.Sums.{sum_by-le, sum_by-set}
@@ -92,7 +92,8 @@ module _ (raises : List Raise) (raised : List ℕ) (count : ℕ) (are : AreListe
         ]
 
   -- the last of the list, whose raise is empty now
-  module _ (last m : ℕ) (is : last + 1 ≡ count) (at : m ≡ get_or raised last 0) (empty : Raise) (none : empty.to ≡ 0) where
+  module _ (last m : ℕ) (is : last + 1 ≡ count) (at : m ≡ get_or raised last 0) (empty : Raise)
+      (none : empty.to ≡ 0) where
     pub last_known : m < length raises
     last_known = let k = are.known last (omega arith) in omega arith
 

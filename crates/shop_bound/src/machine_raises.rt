@@ -4,8 +4,8 @@ ghost use Rattle.shop_lanes.specs.Spans.{spans_between};
 ghost use Rattle.shop_bound.specs.inner.Estimates.{IsForeseen};
 ghost use Rattle.shop_bound.specs.inner.HeadRaises.{raise_of, widened};
 ghost use Rattle.shop_bound.specs.inner.LaneBounds.{lanes_on};
-ghost use Rattle.shop_bound.specs.inner.MachineRaises.{AreEmpty, AreListed, AreRaisesFit, CanAddNotes};
-ghost use Rattle.shop_bound.specs.inner.MachineRaises.{HasAddedNotes};
+ghost use Rattle.shop_bound.specs.inner.MachineRaises.{AreEmpty, AreListed, AreRaisesFit};
+ghost use Rattle.shop_bound.specs.inner.MachineRaises.{CanAddNotes, HasAddedNotes};
 
 use crate::child_bounds::NextOperation;
 use crate::estimates::is_small;

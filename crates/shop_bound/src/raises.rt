@@ -133,8 +133,8 @@ pub(crate) fn raise<L: Lanes>(
     requires fits { end ≤ L.GREATEST }
     requires raisable { IsRaisable L.GREATEST layout.now next.now (L.rows lanes.old)
         (IsOnMachine layout.now machine) end }
-    ensures { Raises L.GREATEST layout.now next.now (IsOnMachine layout.now machine) end (L.rows lanes.old)
-        (L.rows lanes.new) notes.old notes.new }
+    ensures { Raises L.GREATEST layout.now next.now (IsOnMachine layout.now machine) end
+        (L.rows lanes.old) (L.rows lanes.new) notes.old notes.new }
 {
     let behind = layout.block(machine + 1);
     let mut from = layout.block(machine);

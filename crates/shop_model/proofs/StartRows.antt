@@ -49,7 +49,8 @@ row_next p q j steps old =
 
 -- one more step is placed
 pub rows_next : (shop : Shop) (p next : Placing) (j : ℕ) (rows : List (Vec ℕ Global)) (row new : Vec ℕ Global)
-    (start : ℕ) → next ≡ place_next shop p j → HasRows shop p (map (λ r. r.items) rows) → j < length shop.jobs → row ≡ slice_index_or rows j row
+    (start : ℕ) → next ≡ place_next shop p j → HasRows shop p (map (λ r. r.items) rows) → j < length shop.jobs
+    → row ≡ slice_index_or rows j row
     → start ≡ (place_next shop p j).begins j (p.steps j) → new.items ≡ row.items ++ start ∷ []
     → HasRows shop next (map (λ r. r.items) (set rows j new))
 rows_next shop p next j rows row new start e o job at begin pushed =

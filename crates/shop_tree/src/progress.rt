@@ -64,15 +64,14 @@ impl<'a> Progress<'a> {
         Ok(())
     }
 
-    /// Ends a walk: gives what was found, and the nodes left.
+    /// Ends a walk: gives what was found, and the nodes left, in no more room than they need.
     pub(crate) fn end(&mut self, alloc: Global) -> (Option<Word>, Vec<Node>)
         ensures found { result.0 ≡ self.old.found }
         ensures left { result.1.items ≡ self.old.left.items }
         ensures instance { self.new.instance.now ≡ self.old.instance.now }
     {
-        (
-            self.found.take(),
-            mem::replace(&mut self.left, Vec::new(alloc)),
-        )
+        let mut left = mem::replace(&mut self.left, Vec::new(alloc));
+        left.shrink_to_fit();
+        (self.found.take(), left)
     }
 }

@@ -5,7 +5,7 @@
 --     IsSmallOn us least m a b       by the estimate of its machine m, a head that rose from a to b
 --                                    brings no span above least + 1
 --     IsForeseen own end m h         a head on this machine that is no later than this end
---     IsNoteCovered                  a head that was noted is within a raise, rose so or is foreseen
+--     IsNoteCovered                  a noted head is within a raise, rose so or is foreseen
 use Rattle.std.specs.Prelude.{◌≡◌, ℕ, ◌+◌, ◌≤◌, ◌<◌, ◌⊎◌, List, length, slice_index}
 use Rattle.shop_lanes.specs.Rows.{Rows, Lane}
 use Rattle.shop_lanes.specs.Spans.{span}

@@ -1,6 +1,6 @@
 -- The raises of machines, and a list of the machines that have one.
 --     AreEmpty raises                no head changed on any machine
---     AreListed raises raised count  the machines with a raise are among the first `count` of a list
+--     AreListed raises raised count  the machines with a raise are among the first of a list
 --     AreRaisesFit greatest ..       each machine has its blocks, and a span from its raise fits
 --     CanAddNotes, HasAddedNotes     raises are widened by notes
 --     IsBoundByRaise ..              the greater of a bound and of what begins within a raise
