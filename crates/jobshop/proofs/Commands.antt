@@ -9,7 +9,8 @@ use Rattle.clap.specs.declared.builder.arg.Arg.{Arg}
 use Rattle.clap.specs.declared.builder.value_parser.ValueParser.{ValueParser}
 use Rattle.clap.specs.declared.builder.command.Command.{Command}
 use Rattle.clap.specs.declared.builder.command.Command.TheViews.{out-Command}
-use Rattle.jobshop.specs.CommandLine.{IsArgOf, IsCommandOf, needing_subcommand, with_plan_rules}
+use Rattle.jobshop.specs.CommandLine.{IsCommandOf, needing_subcommand, with_plan_rules}
+use Rattle.jobshop.specs.inner.Arguments.{IsArgOf}
 
 pub added_arg : (app : App) (rule : Rule) (old new : Command) (arg : Arg)
     → IsCommandOf app old → IsArgOf rule arg → AddsArg old arg new → IsCommandOf (with_rule app rule) new

@@ -5,10 +5,9 @@
 use Rattle.std.specs.Prelude.{◌≡◌, ◌≤◌, ℕ, true, false, Bool, List, [], ◌∷◌, Option, Some}
 use Rattle.std.specs.Prelude.{codes, option_map, string_bytes}
 use Rattle.std.specs.Str.Parse.{IsNumeral, digits_value, without_leading_plus}
-use Rattle.clap.specs.Words.{App, Row, Rule, Text, app_of, first_of, one_of, rule_of, new_app}
+use Rattle.clap.specs.Words.{App, Row, Rule, Text, app_of, first_of, one_of, new_app}
 use Rattle.clap.specs.Words.{new_rule, subcommand_of, with_rule, with_subcommand}
 use Rattle.clap.specs.declared.builder.action.ArgAction.TheVariants.{SetTrue}
-use Rattle.clap.specs.declared.builder.arg.Arg.{Arg}
 use Rattle.clap.specs.declared.builder.command.Command.{Command}
 use Rattle.clap.specs.declared.builder.command.Command.TheViews.{out-Command}
 use Rattle.clap.specs.declared.builder.value_parser.ValueParser.{ValueParser}
@@ -53,10 +52,7 @@ with_rules app (rule ∷ rules) = with_rules (with_rule app rule) rules
 abbrev pub format_rule : ValueParser → Rule
 format_rule formats = choice_rule (codes "format") formats (codes "orlib")
 
--- an argument of this rule, and a command that reads as this one, with no global argument
-abbrev pub IsArgOf : Rule → Arg → Type 0
-IsArgOf rule arg = (rule_of arg ≡ rule) × (arg.global ≡ false)
-
+-- a command that reads as this one, with no global argument
 abbrev pub IsCommandOf : App → Command → Type 0
 IsCommandOf app command = (app_of command ≡ app) × ((out-Command command).has_globals ≡ false)
 

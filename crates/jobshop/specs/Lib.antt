@@ -2,3 +2,4 @@ pub mod LineFaults
 pub mod CommandLine
 pub mod Statuses
 pub mod Running
+pub mod inner

@@ -5,7 +5,8 @@ ghost use Rattle.clap.specs.declared.builder.command.Command.TheViews.{out-Comma
 ghost use Rattle.clap.specs.declared.builder.value_parser.ValueParser.TheVariants.{Names};
 ghost use Rattle.jobshop.specs.CommandLine.{option_rule, choice_rule, format_rule, number_rule};
 ghost use Rattle.jobshop.specs.CommandLine.{flag_rule, path_rule};
-ghost use Rattle.jobshop.specs.CommandLine.{IsArgOf, IsCommandOf, IsCommandLine};
+ghost use Rattle.jobshop.specs.CommandLine.{IsCommandOf, IsCommandLine};
+ghost use Rattle.jobshop.specs.inner.Arguments.{IsArgOf};
 ghost use Rattle.jobshop.specs.CommandLine.{list_command, check_command, solve_command};
 ghost use Rattle.jobshop.specs.CommandLine.{with_plan_rules};
 

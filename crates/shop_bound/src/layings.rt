@@ -1,6 +1,7 @@
 // The operations of an instance come to their positions.
 ghost use Rattle.std.specs.Prelude.{◌≡◌, ℕ, ◌+◌, ◌-◌, ◌*◌, ◌<◌, ◌≤◌, ◌^◌, All, IfOk, length, map};
 ghost use Rattle.std.specs.Prelude.{slice_index};
+ghost use Rattle.shop_model.specs.declared.limits.TheConstants.{MAX_JOBS, MAX_MACHINES, MAX_STEPS};
 ghost use Rattle.shop_bound.specs.Slots.{AreMachineSlots};
 ghost use Rattle.shop_bound.specs.inner.Vectors.{items_in};
 ghost use Rattle.shop_bound.specs.inner.Layings.{AreApart, AreCells, AreNoted, ArePlaces};
@@ -28,8 +29,8 @@ pub(crate) struct Cells {
 
 /// The lists one after another, each padded to whole blocks of eight positions.
 pub(crate) fn cells_of(alloc: Global, lists: &[Vec<Slot>]) -> Result<Cells, AllocError>
-    requires few { length lists.now ≤ 100 }
-    requires short { AreShorter 100000 (items_in lists.now) }
+    requires few { length lists.now ≤ MAX_MACHINES }
+    requires short { AreShorter (MAX_JOBS * MAX_STEPS) (items_in lists.now) }
     ensures { IfOk result (λ c. AreCells (items_in lists.now) (length lists.now)
         c.slots.items c.blocks.items) }
 {
@@ -118,7 +119,7 @@ pub(crate) fn places_of(
 ) -> Result<Vec<Vec<u32>>, AllocError>
     requires slots { AreMachineSlots instance.now (items_in lists.now) }
     requires blocks { length blocks.now ≡ instance.now.machines + 1 }
-    requires few { All (λ b. b ≤ 10000800) blocks.now }
+    requires few { All (λ b. b ≤ MAX_MACHINES * (MAX_JOBS * MAX_STEPS + 8)) blocks.now }
     ensures { IfOk result (λ v. ArePlaces instance.now (items_in lists.now) blocks.now
         instance.now.machines (items_in v.items)) }
 {
@@ -162,8 +163,8 @@ pub(crate) fn machines_of(alloc: Global, blocks: &[u32]) -> Result<Vec<u32>, All
     requires some { 0 < length blocks.now }
     requires ordered { (m : ℕ) → m + 1 < length blocks.now
         → slice_index blocks.now m ≤ slice_index blocks.now (m + 1) }
-    requires few { All (λ b. b ≤ 10000800) blocks.now }
-    requires small { length blocks.now ≤ 101 }
+    requires few { All (λ b. b ≤ MAX_MACHINES * (MAX_JOBS * MAX_STEPS + 8)) blocks.now }
+    requires small { length blocks.now ≤ MAX_MACHINES + 1 }
     ensures { IfOk result (λ v. AreMachinesOf blocks.now (length blocks.now - 1) v.items) }
 {
     let mut machines = Vec::new(alloc);

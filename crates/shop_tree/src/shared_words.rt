@@ -1,6 +1,8 @@
 // Words that share their jobs with others.
-ghost use Rattle.std.specs.Prelude.{◌≡◌, ◌≤◌, ◌<◌, ◌++◌, ◌∷◌, [], length, take, slice_index, IfOk};
+ghost use Rattle.std.specs.Prelude.{◌≡◌, ◌*◌, ◌≤◌, ◌<◌, ◌++◌, ◌∷◌, [], length, take, slice_index};
+ghost use Rattle.std.specs.Prelude.{IfOk};
 ghost use Rattle.std.specs.Arc.{arc_slice_items};
+ghost use Rattle.shop_model.specs.declared.limits.TheConstants.{MAX_JOBS, MAX_STEPS};
 ghost use Rattle.shop_tree.specs.SharedWords.{shared_word};
 ghost use Rattle.shop_tree.specs.inner.SmallJobs.{AreSmallJobs};
 
@@ -20,7 +22,8 @@ pub struct SharedWord {
 impl Model for SharedWord {
     ghost use Rattle.std.specs.Prelude.{List, ℕ, ◌≤◌, length};
     ghost use Rattle.std.specs.Arc.{arc_slice_items};
-    ghost use Rattle.shop_tree.specs.SharedWords.{shared_word};
+    ghost use Rattle.shop_model.specs.declared.limits.TheConstants.{MAX_JOBS, MAX_STEPS};
+ghost use Rattle.shop_tree.specs.SharedWords.{shared_word};
 
     ghost Value = { List ℕ };
 
@@ -45,7 +48,7 @@ pub(crate) fn path_of(alloc: Global, jobs: &[usize]) -> Result<ArcSlice<u16, Glo
 impl SharedWord {
     /// The word of these jobs. Fails with `AllocError` if memory runs out.
     pub(crate) fn of_jobs(alloc: Global, jobs: &[usize]) -> Result<SharedWord, AllocError>
-        requires short { length jobs.now ≤ 100000 }
+        requires short { length jobs.now ≤ MAX_JOBS * MAX_STEPS }
         requires small { AreSmallJobs jobs.now }
         ensures { IfOk result (λ w. w ≡ jobs.now) }
     {
@@ -65,7 +68,7 @@ impl SharedWord {
         last: usize,
     ) -> Result<SharedWord, AllocError>
         requires long { depth ≤ length (arc_slice_items path.now) }
-        requires short { depth ≤ 100000 }
+        requires short { depth ≤ MAX_JOBS * MAX_STEPS }
         requires small { last < 65536 }
         ensures { IfOk result (λ w. w ≡ take depth (arc_slice_items path.now) ++ last ∷ []) }
     {

@@ -1,5 +1,6 @@
 // Reports, Gantt texts, lists and verdicts, against rows known from outside.
 ghost use Rattle.std.specs.Prelude.{◌≤◌};
+ghost use Rattle.shop_model.specs.declared.limits.TheConstants.{MAX_JOBS, MAX_TIME};
 
 use shop_model::{Instance, Op, Position, Table, Verdict, check};
 use shop_text::{Named, Report, gantt, listing, read_table, report, verdict_line};
@@ -39,8 +40,8 @@ fn ft06(rt: &impl Abort, alloc: Global) -> Instance {
 
 /// Jobs of one operation each on one machine, one behind the other.
 fn row_of_jobs(rt: &impl Abort, alloc: Global, jobs: u64, time: u64) -> (Instance, Table)
-    requires jobs { jobs ≤ 1000 }
-    requires time { time ≤ 1000000000 }
+    requires jobs { jobs ≤ MAX_JOBS }
+    requires time { time ≤ MAX_TIME }
 {
     let mut rows = Vec::new(alloc);
     let mut starts = Vec::new(alloc);

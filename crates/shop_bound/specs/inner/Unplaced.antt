@@ -1,6 +1,7 @@
 -- The operations that a word leaves, as a program lists them.
 use Rattle.std.specs.Prelude.{◌≡◌, ℕ, ◌≤◌, ◌<◌, ◌==◌, max, List, ◌++◌, filter, length, map}
 use Rattle.std.specs.Prelude.{slice_index, slice_index_or}
+use Rattle.shop_model.specs.declared.limits.TheConstants.{MAX_START, MAX_STEPS, MAX_TIME}
 use Rattle.shop_model.specs.declared.ops.Op.{Op}
 use Rattle.shop_model.specs.Shop.{Shop, no_op, greatest_below}
 use Rattle.shop_model.specs.Word.{Placing}
@@ -33,11 +34,11 @@ AreAsMany shop s n = (p : Placing) → IsPlacement shop p s → n ≡ length (wa
 -- the rest of a route is on machines that are there and takes times that can be added to all that
 -- is ready and free
 pub record CanGoOn (free : List ℕ) (ready : ℕ) (rest : List Op) : Type 0 where
-  pub short : length rest ≤ 100
+  pub short : length rest ≤ MAX_STEPS
   pub on_machines : (k : ℕ) → k < length rest → (slice_index_or rest k no_op).machine < length free
-  pub times : (k : ℕ) → (slice_index_or rest k no_op).time ≤ 1000000000
-  pub ready_small : ready ≤ 1000000000000000
-  pub free_small : (m : ℕ) → m < length free → slice_index free m ≤ 1000000000000000
+  pub times : (k : ℕ) → (slice_index_or rest k no_op).time ≤ MAX_TIME
+  pub ready_small : ready ≤ MAX_START
+  pub free_small : (m : ℕ) → m < length free → slice_index free m ≤ MAX_START
 
 -- the triples of those on machine m
 abbrev pub triples_among : List Unplaced → ℕ → List Triple

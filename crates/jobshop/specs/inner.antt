@@ -1,0 +1,2 @@
+-- What only the inside of the crate is told by.
+pub mod Arguments
