@@ -2,8 +2,8 @@
 ghost use Rattle.std.specs.Prelude.{◌≡◌, ◌++◌, ◌∷◌, [], IsTrue};
 ghost use Rattle.shop_model.specs.Word.{IsWord};
 
-use shop_bound::{Desk, Heads, Jackson, Placement, Triple, lower_bound, one_machine, tails};
-use shop_model::{Instance, Job, Op, Word, fits, start_word};
+use shop_bound::{Desk, Heads, Jackson, Triple, lower_bound, one_machine, tails};
+use shop_model::{Instance, Job, Op, Placement, Word, fits, start_word};
 use std::alloc::{AllocError, Global};
 use std::process::Abort;
 use worked_instances::{crossing, of_jobs, of_rows, op, released, with_a_gap};
