@@ -22,8 +22,7 @@ pub struct SharedWord {
 impl Model for SharedWord {
     ghost use Rattle.std.specs.Prelude.{List, ℕ, ◌≤◌, length};
     ghost use Rattle.std.specs.Arc.{arc_slice_items};
-    ghost use Rattle.shop_model.specs.declared.limits.TheConstants.{MAX_JOBS, MAX_STEPS};
-ghost use Rattle.shop_tree.specs.SharedWords.{shared_word};
+    ghost use Rattle.shop_tree.specs.SharedWords.{shared_word};
 
     ghost Value = { List ℕ };
 
