@@ -74,7 +74,7 @@ pub(crate) fn list_unplaced(
     Ok(list)
 }
 
-/// Puts the triples of one machine into the list, in place of what it holds.
+/// Replaces the list with the triples of one machine.
 pub(crate) fn gather(triples: &mut Vec<Triple>, list: &[Unplaced], machine: usize)
     requires { length list.now ≤ vec_capacity triples.old }
     ensures triples { triples.new.items ≡ triples_among list.now machine }
