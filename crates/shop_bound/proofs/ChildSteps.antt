@@ -152,7 +152,8 @@ module _ (greatest : ℕ) (shop : Shop) (w : List ℕ) (s : LaneState) (kept : I
 -- what is kept once the heads are put back, whichever word they were of
 module _ (greatest : ℕ) (shop : Shop) (w : List ℕ) (s : LaneState) (kept : IsKeptInLanes greatest shop w s)
     (p : PlacementState) (placed : IsPlacement shop (placing shop w) p) (position : ℕ) (rows : Rows)
-    (after : NotesState) (mark : Mark) (advances : Advances greatest s.layout [] position s.rows rows s.notes after mark) (us : List ℕ)
+    (after : NotesState) (mark : Mark)
+    (advances : Advances greatest s.layout [] position s.rows rows s.notes after mark) (us : List ℕ)
     (estimates : AreEstimates s.top s.layout s.rows us) (raises : List Raise) (v : LaneState)
     (v_is : v ≡ record s { rows = rows; notes = after; estimates = us; raises = raises }) where
   pub noted_are : (list : List Note) → list ≡ v.notes.list → (noted : List Note)

@@ -6,8 +6,8 @@ use crate::desks::Desk;
 
 impl<'a> Desk<'a> {
     /// Replaces the list with the conflict set of what is dispatched, in ascending order: the job whose next operation
-    /// can end first (the lowest on ties), and each job whose next operation is on the same machine and can begin before
-    /// that end (Giffler and Thompson 1960). None where no job has a step left. The list has room for all jobs.
+    /// can end first (the lowest on ties), and each job whose next operation is on the same machine and can begin
+    /// before that end (Giffler and Thompson 1960). None where no job has a step left. The list has room for all jobs.
     pub fn gather_conflict(&self, jobs: &mut Vec<usize>)
         requires { length self.now.shop.jobs ≤ vec_capacity jobs.old }
         ensures jobs { jobs.new.items ≡ conflict self.now.shop self.now.word }

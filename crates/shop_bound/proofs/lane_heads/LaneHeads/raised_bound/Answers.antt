@@ -64,8 +64,8 @@ returns-clause-kept g c = λ w kept placed.
     in let raises = c.bound_by_raises-bound.ensures.raises
     in let is = c.self-2.view_is ∙ raises.same
     in let advances = c.advance-mark.ensures
-    in let noted = noted_are g.L.Lanes.GREATEST c.args.instance.now w _ was c.args.placement.now placed c.args.next.position rows
-    c.advance-mark.new.notes c.advance-mark.result advances c.take.new.self c.take.ensures
+    in let noted = noted_are g.L.Lanes.GREATEST c.args.instance.now w _ was c.args.placement.now placed
+    c.args.next.position rows c.advance-mark.new.notes c.advance-mark.result advances c.take.new.self c.take.ensures
     c.bound_by_raises-bound.new.self.raises _ is c.list.result.now c.list.ensures _ refl
     in child_again g.L.Lanes.GREATEST c.args.instance.now w _ was c.args.placement.now placed c.args.next.position rows
     c.advance-mark.new.notes c.advance-mark.result advances c.take.new.self c.take.ensures
