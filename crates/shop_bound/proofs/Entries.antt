@@ -1,8 +1,7 @@
 -- The entries of a word, one after another.
-use Rattle.std.proofs.Common.{◌≡◌, ℕ, ◌+◌, ◌*◌, ◌≤◌, ◌<◌, inl, inr, List, [], ◌∷◌, ◌++◌, length, length-append, take}
-use Rattle.std.proofs.Common.{drop, get_or, ◌∙◌, ap, arith, cond, eqb}
+use Rattle.std.proofs.Common.{◌≡◌, ℕ, ◌+◌, ◌*◌, ◌≤◌, ◌<◌, inl, inr, List, [], ◌∷◌, ◌++◌, length, length-append}
+use Rattle.std.proofs.Common.{ap, arith, cond, eqb}
 use Rattle.std.proofs.lemmas.Bool.{cases_eq}
-use Rattle.std.proofs.lemmas.List.{take-append-drop, take_more}
 use Rattle.std.proofs.lemmas.List.Sums.{sum_by-append}
 use Rattle.shop_model.specs.Limits.{IsWithinLimits}
 use Rattle.shop_model.specs.Shop.{Shop, machine_of, route_of}
@@ -18,9 +17,6 @@ count_of-append j v u = sum_by-append (λ x. cond (eqb x j) 1 0) v u
 pub IsWord-front : (shop : Shop) (v u : List ℕ) → IsWord shop (v ++ u) → IsWord shop v
 IsWord-front shop v u h j = let a = h j in let b = count_of-append j v u in omega arith
 
-pub IsWord-take : (shop : Shop) (w : List ℕ) (i : ℕ) → IsWord shop w → IsWord shop (take i w)
-IsWord-take shop w i h = IsWord-front shop (take i w) (drop i w) (rw take-append-drop h)
-
 -- a word with one more entry of a job that has a step left
 pub IsWord-snoc : (shop : Shop) (w : List ℕ) (j : ℕ) → IsWord shop w → count_of j w < length (route_of shop j)
     → IsWord shop (w ++ j ∷ [])
@@ -30,12 +26,6 @@ IsWord-snoc shop w j word h i = elim (cases_eq i j) [
       in omega arith)
   | inr ne ↦ (let a = count_of-snoc_other w i j ne in let b = word i in omega arith)
 ]
-
--- one more entry is placed
-pub placing-take : (shop : Shop) (w : List ℕ) (i : ℕ) → i < length w
-    → placing shop (take (i + 1) w) ≡ place_next shop (placing shop (take i w)) (get_or w i 0)
-placing-take shop w i below =
-    ap (placing shop) (take_more w i 0 below) ∙ placing-snoc shop (take i w) (get_or w i 0)
 
 -- How late the jobs and the machines are at most: each operation takes at most 10 ^ 9, as does a release.
 pub record ArePlacedEndsSmall (shop : Shop) (w : List ℕ) : Type 0 where

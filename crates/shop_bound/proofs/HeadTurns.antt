@@ -16,7 +16,7 @@ use Rattle.shop_bound.specs.inner.HeadRows.{heads_of}
 use Rattle.shop_model.specs.Placements.{PlacementState, IsPlacement}
 use Rattle.shop_bound.specs.inner.PlacedWords.{IsOfWord}
 use Rattle.shop_bound.proofs.Entries.{placed_ends_small}
-use Rattle.shop_bound.proofs.WordLengths.{length_of_word}
+use Rattle.shop_model.proofs.WordLengths.{word_length}
 
 -- the ends of what a word places are small
 pub record AreEndsSmall (shop : Shop) (s : PlacementState) : Type 0 where
@@ -25,7 +25,7 @@ pub record AreEndsSmall (shop : Shop) (s : PlacementState) : Type 0 where
 
 pub ends_of_word : (shop : Shop) → IsWithinLimits shop → (s : PlacementState) → IsOfWord shop s → AreEndsSmall shop s
 ends_of_word shop limits s of =
-    let few = length_of_word shop limits of.word of.fits
+    let few = word_length shop of.word limits of.fits
     in let small = placed_ends_small shop limits of.word
     in record {
       ready = λ j h. (let a = small.ready j in let b = of.placed.ready j h in omega arith);

@@ -19,7 +19,7 @@ use Rattle.shop_bound.proofs.Lists.{all_map, all_append, all_filter, greatest_of
 use Rattle.shop_bound.proofs.PlacedEnds.{placed_end-le}
 use Rattle.shop_bound.proofs.ThresholdLemmas.{one-le-extent}
 use Rattle.shop_bound.proofs.TimeSums.{route_times}
-use Rattle.shop_bound.proofs.WordLengths.{length_of_word}
+use Rattle.shop_model.proofs.WordLengths.{word_length}
 
 -- a head, a time and a tail of at most these
 record IsSmallTriple (h t : ℕ) (x : Triple) : Type 0 where
@@ -59,7 +59,7 @@ module _ (shop : Shop) (limits : IsWithinLimits shop) (w : List ℕ) (word : IsW
   job_small j =
       let p = placing shop w
       in let ends = placed_ends_small shop limits w
-      in let few = length_of_word shop limits w word
+      in let few = word_length shop w limits word
       in let whole = route_times shop limits j
       in let part = sum_by-take-drop (λ (o : Op). o.time) (route_of shop j) (p.steps j)
       in let ready = ends.ready j
@@ -134,7 +134,7 @@ module _ (shop : Shop) (limits : IsWithinLimits shop) (w : List ℕ) (word : IsW
   placed_end_small =
       let p = placing shop w
       in let ends = placed_ends_small shop limits w
-      in let few = length_of_word shop limits w word
+      in let few = word_length shop w limits word
       in let a = placed_end-le shop p 100001000000000
       (λ j k job step. let b =
       (after_word shop w word).sound.free j k step in let c = ends.free (machine_of shop j k) in omega arith)

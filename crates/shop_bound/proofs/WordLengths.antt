@@ -1,9 +1,8 @@
--- A word has no more entries than the instance has operations, of which there are at most 100,000.
-use Rattle.std.proofs.Common.{◌≡◌, ℕ, zero, suc, ◌+◌, ◌*◌, ◌≤◌, ◌<◌, List, [], ◌∷◌, length, refl}
+-- A word has no more entries than the instance has operations.
+use Rattle.std.proofs.Common.{◌≡◌, ℕ, zero, suc, ◌+◌, ◌≤◌, ◌<◌, List, [], ◌∷◌, length, refl}
 use Rattle.std.proofs.Common.{arith, eqb, ltb, cond, add-one}
 use Rattle.std.proofs.lemmas.Bool.Decides.{nat_tests}
 use Rattle.std.proofs.lemmas.List.Sums.{sum_by-cons}
-use Rattle.shop_model.specs.Limits.{IsWithinLimits}
 use Rattle.shop_model.specs.Shop.{Shop, operation_count}
 use Rattle.shop_model.specs.Word.{count_of, IsWord}
 use Rattle.shop_model.proofs.Ends.{IsOperation-job}
@@ -33,15 +32,6 @@ below-next n (x ∷ xs) =
     let a = below-next n xs in let b =
     one_more x n in let c = sum_by-cons (λ y. cond (eqb y n) 1 0) x xs in omega arith
 
-below-le : (w : List ℕ) → ((j : ℕ) → count_of j w ≤ 100) → (n : ℕ) → below n w ≤ n * 100
-unfolding below
-below-le w few zero = none w where
-  none : (w : List ℕ) → below 0 w ≤ 0
-  none [] = omega arith
-  none (x ∷ xs) = let a = none xs in let b = not_below_0 x in omega arith
-below-le w few (suc n) =
-    rw (← add-one) (let a = below-le w few n in let b = below-next n w in let c = few n in omega arith)
-
 below-all : (n : ℕ) (w : List ℕ) → ((x : ℕ) → 0 < count_of x w → x < n) → below n w ≡ length w
 unfolding below
 below-all n [] h = refl
@@ -49,12 +39,6 @@ below-all n (x ∷ xs) h =
     let a = below-all n xs (λ y some. h y (let c = sum_by-cons (λ z. cond (eqb z y) 1 0) x xs in omega arith))
     in let here : x < n = h x (let c = sum_by-cons (λ z. cond (eqb z x) 1 0) x xs in let d = same x in omega arith)
     in let b = is_below x n here in omega arith
-
-pub length_of_word : (shop : Shop) → IsWithinLimits shop → (w : List ℕ) → IsWord shop w → length w ≤ 100000
-length_of_word shop limits w word =
-    let all = below-all (length shop.jobs) w (λ x some. IsOperation-job shop x 0 (let a = word x in omega arith))
-    in let le = below-le w (λ j. let a = word j in let b = limits.routes j in omega arith) (length shop.jobs)
-    in let jobs = limits.jobs in omega arith
 
 -- how many entries are below n: no more than the operations of these jobs
 below-before : (shop : Shop) (w : List ℕ) → IsWord shop w → (n : ℕ) → n ≤ length shop.jobs
