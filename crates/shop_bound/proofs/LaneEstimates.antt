@@ -70,6 +70,33 @@ part_turn xs above upto old new before more here g some high = elim (cases_lt ab
   | inr within ↦ (let a = before g some within in omega arith)
 ]
 
+spans_at_most : (above upto : ℕ) (all xs : List Lane) → spans_from above upto all xs ≤ span (above + 1) upto all
+spans_at_most above upto all [] = omega arith
+spans_at_most above upto all (x ∷ xs) =
+    let rest = spans_at_most above upto all xs
+    in elim (cases_lt above x.head) [
+      | inl low ↦ elim (cases_lt upto x.head) [
+        | inl past ↦ (let a = spans_high above upto all x xs past in omega arith)
+        | inr high ↦ (let a = spans_counted above upto all x xs low high
+            in let b = span_wider (above + 1) x.head (omega arith) x.head upto high all in omega arith)
+      ]
+      | inr none ↦ (let a = spans_low above upto all x xs none in omega arith)
+    ]
+
+-- what begins in a part of the heads is served no later than all that begins in it or behind, from its end on
+pub part_at_most : (above upto : ℕ) (xs : List Lane) → spans_between above upto xs ≤ span (above + 1) upto xs
+part_at_most above upto xs = spans_at_most above upto xs xs
+
+-- a part without heads
+pub no_part : (above upto : ℕ) → upto ≤ above → (all xs : List Lane) → spans_from above upto all xs ≡ 0
+no_part above upto none all [] = refl
+no_part above upto none all (x ∷ xs) =
+    let rest = no_part above upto none all xs
+    in elim (cases_lt above x.head) [
+      | inl low ↦ (let a = spans_high above upto all x xs (omega arith) in omega arith)
+      | inr off ↦ (let a = spans_low above upto all x xs off in omega arith)
+    ]
+
 -- what waits waited before, and rose by at most s, within a raise or to a floor at most
 pub record IsRisen (s from to floor : ℕ) (a b : ℕ) : Type 0 where
   pub some : 0 < b → 0 < a

@@ -1,6 +1,6 @@
 // Bounds of machines by heads in lanes.
-ghost use Rattle.std.specs.Prelude.{◌≡◌, ℕ, ◌+◌, ◌*◌, ◌≤◌, ◌<◌, ◌^◌, IfOk, length, slice_index};
-ghost use Rattle.shop_lanes.specs.Rows.{AreBlocks};
+ghost use Rattle.std.specs.Prelude.{◌≡◌, ℕ, ◌+◌, ◌*◌, ◌≤◌, ◌<◌, ◌^◌, IfOk, length, slice_index, true};
+ghost use Rattle.shop_lanes.specs.Rows.{AreBlocks, lanes_between};
 ghost use Rattle.shop_lanes.specs.Spans.{FitsSpan, spans_between};
 ghost use Rattle.shop_model.specs.Shop.{greatest_below};
 ghost use Rattle.shop_bound.specs.inner.LaneBounds.{AreSpansFit, lanes_on};
@@ -27,6 +27,22 @@ pub(crate) fn bound_of_machines<L: Lanes>(lanes: &L, layout: &Layout, free: &[u6
     bound
 }
 
+/// Whether what begins within the raise of a machine comes to no more than a bound, by one pass: all that begins behind
+/// the least head before, as if it were served from the greatest head after on.
+#[inline(always)]
+fn is_within<L: Lanes>(lanes: &L, from: usize, to: usize, raise: Raise, bound: u64) -> bool
+    requires blocks { AreBlocks (L.rows lanes.now) from to }
+    requires fits { FitsSpan L.GREATEST raise.to (lanes_between (L.rows lanes.now) from to) }
+    ensures { result ≡ true → spans_between raise.from raise.to
+        (lanes_between (L.rows lanes.now) from to) ≤ bound + 1 }
+{
+    if raise.to <= raise.from {
+        return true;
+    }
+    let latest = lanes.span(from, to, raise.from + 1, raise.to, 0);
+    latest.saturating_sub(1) <= bound
+}
+
 /// The greater of a number and of what begins within the raise of a machine; or as much of it as reaches the limit.
 #[inline(always)]
 pub(crate) fn bound_by_raise<L: Lanes>(
@@ -49,6 +65,9 @@ pub(crate) fn bound_by_raise<L: Lanes>(
         return least;
     }
     let (from, to) = (layout.block(machine), layout.block(machine + 1));
+    if is_within(lanes, from, to, raise, least) {
+        return least;
+    }
     let left = lanes.spans_between(from, to, raise.from, raise.to, 0);
     least.max(left.saturating_sub(1))
 }
