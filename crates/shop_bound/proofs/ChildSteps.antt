@@ -9,7 +9,6 @@ use Rattle.shop_lanes.specs.Spans.{spans_between}
 use Rattle.shop_model.specs.Shop.{Shop}
 use Rattle.shop_model.specs.Word.{IsWord, placing}
 use Rattle.shop_bound.specs.Bound.{lb}
-use Rattle.shop_model.specs.Placements.{PlacementState, IsPlacement}
 use Rattle.shop_bound.specs.inner.BoundsUpTo.{IsBoundUpTo}
 use Rattle.shop_bound.specs.inner.ChildBounds.{AreBounded, HasRaised, IsBoundByRaises, IsLeastAfter}
 use Rattle.shop_bound.specs.inner.Estimates.{AreEstimates, IsNoteCovered}
@@ -149,10 +148,9 @@ module _ (greatest : ℕ) (shop : Shop) (w : List ℕ) (s : LaneState) (kept : I
       rested_after raises v v_is = subst (λ (x : LaneState). IsRested shop x.layout x.rows.heads) (sym v_is)
           (advances.heads shop w j kept.kept fits its_place).heads.padding
 
--- what is kept once the heads are put back, whichever word they were of
+-- what is kept once the heads are put back
 module _ (greatest : ℕ) (shop : Shop) (w : List ℕ) (s : LaneState) (kept : IsKeptInLanes greatest shop w s)
-    (p : PlacementState) (placed : IsPlacement shop (placing shop w) p) (position : ℕ) (rows : Rows)
-    (after : NotesState) (mark : Mark)
+    (position : ℕ) (rows : Rows) (after : NotesState) (mark : Mark)
     (advances : Advances greatest s.layout [] position s.rows rows s.notes after mark) (us : List ℕ)
     (estimates : AreEstimates s.top s.layout s.rows us) (raises : List Raise) (v : LaneState)
     (v_is : v ≡ record s { rows = rows; notes = after; estimates = us; raises = raises }) where
@@ -169,7 +167,7 @@ module _ (greatest : ℕ) (shop : Shop) (w : List ℕ) (s : LaneState) (kept : I
       ∙ take-append_seam s.notes.list advances.noted.more)))
 
   pub child_again : length raises ≡ length s.raises → AreEmpty raises → (noted : List Note)
-      → noted ≡ advances.noted.more → (rested : Rows) → GoesBack shop v.layout p noted mark.whole v.rows rested
+      → noted ≡ advances.noted.more → (rested : Rows) → GoesBack shop w v.layout noted mark.whole v.rows rested
       → (notes : NotesState) → notes.list ≡ s.notes.list
       → IsKeptInLanes greatest shop w (record v { rows = rested; notes = notes })
   child_again many empty noted is rested back notes list =
@@ -178,8 +176,8 @@ module _ (greatest : ℕ) (shop : Shop) (w : List ℕ) (s : LaneState) (kept : I
       (kept_again greatest shop w s kept rested heads (two.ends ∙ advances.none refl) notes list raises many
       empty us (estimates_again greatest shop s.layout w s.rows rested kept.kept heads s.top us estimates))
     where
-      back_here : GoesBack shop s.layout p noted mark.whole rows rested
-      back_here = subst (λ (x : LaneState). GoesBack shop x.layout p noted mark.whole x.rows rested) v_is back
+      back_here : GoesBack shop w s.layout noted mark.whole rows rested
+      back_here = subst (λ (x : LaneState). GoesBack shop w x.layout noted mark.whole x.rows rested) v_is back
 
       two : AreSameBeside rows rested
       two = back_here.beside
@@ -193,7 +191,7 @@ module _ (greatest : ℕ) (shop : Shop) (w : List ℕ) (s : LaneState) (kept : I
         tails = two.tails ∙ (advances.tails ∙ kept.kept.tails);
         fits = kept.kept.fits;
         computable = kept.kept.computable;
-        heads = back_here.heads (placing shop w) placed (λ whole.
+        heads = back_here.heads (λ whole.
             subst (AreHeadsAt shop (placing shop w) s.layout)
             (sym (ap (λ (ns : List Note). restored ns rows.heads) is
             ∙ advances.noted.back (sym advances.whole ∙ whole))) kept.kept.heads);

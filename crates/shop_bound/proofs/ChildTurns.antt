@@ -12,7 +12,6 @@ use Rattle.shop_model.specs.Word.{Placing, IsWord, placing, place_next}
 use Rattle.shop_model.proofs.Ends.{IsOperation-job}
 use Rattle.shop_model.proofs.Unders.{next_operation, placing-snoc}
 use Rattle.shop_bound.specs.Bound.{lb}
-use Rattle.shop_model.specs.Placements.{PlacementState, IsPlacement}
 use Rattle.shop_bound.specs.inner.BoundsUpTo.{IsBoundUpTo}
 use Rattle.shop_bound.specs.OneMachine.{one}
 use Rattle.shop_bound.specs.inner.ChildBounds.{IsLeastAfter}
@@ -64,12 +63,6 @@ notes_within greatest n k notes fit e i d here =
 
 pub its_job : (shop : Shop) (w : List ℕ) (j : ℕ) → IsWord shop (w ++ j ∷ []) → j < length shop.jobs
 its_job shop w j fits = IsOperation-job shop j _ (next_operation shop w j fits)
-
--- the position, for each word that this is the placement of
-pub at_word : (shop : Shop) (l : LayoutState) (s : PlacementState) (w : List ℕ) (j : ℕ)
-    → IsPlacement shop (placing shop w) s → IsWord shop (w ++ j ∷ []) → (position : ℕ)
-    → position ≡ place l j (get_or s.steps j 0) → position ≡ place l j ((placing shop w).steps j)
-at_word shop l s w j placed fits position at = at ∙ ap (place l j) (placed.steps j (its_job shop w j fits))
 
 module _ (greatest : ℕ) (shop : Shop) (l : LayoutState) (j position : ℕ) (rows rows' : Rows) (before after : NotesState)
     (mark : Mark) (advances : Advances greatest l [] position rows rows' before after mark) where

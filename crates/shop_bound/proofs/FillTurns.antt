@@ -17,6 +17,7 @@ use Rattle.shop_bound.specs.inner.Fills.{IsStored, IsPositionFree, IsRested, Can
 use Rattle.shop_bound.specs.inner.Fills.{HasFilled, HasPutBack, GoesBack}
 use Rattle.shop_bound.specs.inner.LaneHeads.{AreHeadsAt, AreNotesFit, restored}
 use Rattle.shop_bound.specs.inner.Layouts.{LayoutState, place, first_of}
+use Rattle.shop_bound.specs.inner.PlacedWords.{IsOfWord}
 use Rattle.shop_bound.specs.declared.notes.Note.{Note}
 use Rattle.shop_bound.proofs.HeadTurns.{ready_first}
 use Rattle.shop_bound.proofs.LaidPlaces.{place_of}
@@ -86,7 +87,7 @@ pub record IsFilledUpTo (shop : Shop) (l : LayoutState) (s : PlacementState) (j 
   pub ready_is : (p : Placing) → IsPlacement shop p s → ready ≡ ready_after shop p j (k - p.steps j)
 
 module _ (greatest : ℕ) (shop : Shop) (l : LayoutState) (s : PlacementState) (rows : Rows)
-    (can : CanFill greatest shop l s rows) (j : ℕ) (job : j < length shop.jobs) where
+    (can : CanFill greatest shop l rows) (j : ℕ) (job : j < length shop.jobs) where
   module _ (k : ℕ) (ready : ℕ) (now : Rows) (so_far : IsFilledUpTo shop l s j k ready rows now)
       (op : IsOperation shop j k) (q : ℕ) (at : q ≡ place l j k) where
     here : place l j k < first_of l shop.machines
@@ -153,13 +154,13 @@ module _ (greatest : ℕ) (shop : Shop) (l : LayoutState) (s : PlacementState) (
           greater p is
 
       -- it waits, and its head and its end fit
-      pub open_fits : (head + 1 ≤ greatest) × (head + (get_or route k no_op).time < greatest)
-      open_fits =
-          let p = placing shop can.of.word
-          in let is = can.of.placed
+      pub open_fits : IsOfWord shop s → (head + 1 ≤ greatest) × (head + (get_or route k no_op).time < greatest)
+      open_fits of =
+          let p = placing shop of.word
+          in let is = of.placed
           in let t = turn p is
           in let steps = is.steps j job
-          in let f = can.fits can.of.word can.of.fits j k op (omega arith)
+          in let f = can.fits of.word of.fits j k op (omega arith)
           in let time : (get_or route k no_op).time ≡ time_of shop j k =
           ap (λ (xs : List Op). (get_or xs k no_op).time) is_route
           in let h = t.0
@@ -180,14 +181,13 @@ pub record AreFilledUpTo (shop : Shop) (l : LayoutState) (s : PlacementState) (n
   pub free : (q : ℕ) → IsPositionFree shop l q → get_or now.heads q 0 ≡ get_or old.heads q 0
 
 module _ (greatest : ℕ) (shop : Shop) (l : LayoutState) (s : PlacementState) (rows : Rows)
-    (can : CanFill greatest shop l s rows) where
-  pub jobs_can : (n : ℕ) (now : Rows) → AreFilledUpTo shop l s n rows now → CanFill greatest shop l s now
+    (can : CanFill greatest shop l rows) where
+  pub jobs_can : (n : ℕ) (now : Rows) → AreFilledUpTo shop l s n rows now → CanFill greatest shop l now
   jobs_can n now so_far = record {
     limits = can.limits;
     laid = can.laid;
     fits = can.fits;
     computable = can.computable;
-    of = can.of;
     positions = so_far.beside.positions ∙ can.positions;
   }
 
@@ -227,18 +227,19 @@ module _ (greatest : ℕ) (shop : Shop) (l : LayoutState) (s : PlacementState) (
   }
 
 -- by notes, or anew
-pub back_by_notes : (shop : Shop) (l : LayoutState) (s : PlacementState) (notes : List Note) (whole : Bool)
-    (old new : Rows) → whole ≡ true → HasPutBack notes old new → GoesBack shop l s notes whole old new
-back_by_notes shop l s notes whole old new noted back = record {
+pub back_by_notes : (shop : Shop) (w : List ℕ) (l : LayoutState) (notes : List Note) (whole : Bool) (old new : Rows)
+    → whole ≡ true → HasPutBack notes old new → GoesBack shop w l notes whole old new
+back_by_notes shop w l notes whole old new noted back = record {
   beside = back.beside;
-  heads = λ p is known. subst (AreHeadsAt shop p l) (sym back.heads) (known noted);
+  heads = λ known. subst (AreHeadsAt shop (placing shop w) l) (sym back.heads) (known noted);
 }
 
-pub back_anew : (shop : Shop) (l : LayoutState) (s : PlacementState) (notes : List Note) (whole : Bool)
-    (old new : Rows) → IsRested shop l old.heads → HasFilled shop l s old new → GoesBack shop l s notes whole old new
-back_anew shop l s notes whole old new rested filled = record {
+pub back_anew : (shop : Shop) (w : List ℕ) (l : LayoutState) (s : PlacementState) (notes : List Note) (whole : Bool)
+    (old new : Rows) → IsRested shop l old.heads → HasFilled shop l s old new → IsPlacement shop (placing shop w) s
+    → GoesBack shop w l notes whole old new
+back_anew shop w l s notes whole old new rested filled placed = record {
   beside = filled.beside;
-  heads = λ p is known. filled.filled rested p is;
+  heads = λ known. filled.filled rested (placing shop w) placed;
 }
 
 -- the places and the route of a job, as they are read

@@ -11,7 +11,6 @@ use Rattle.shop_model.specs.Word.{Placing, IsWord, placing, place_next}
 use Rattle.shop_model.proofs.Placings.{place_next-is}
 use Rattle.shop_model.proofs.Unders.{after_word, next_operation, placing-snoc}
 use Rattle.shop_model.proofs.WordLemmas.{IsWord-init}
-use Rattle.shop_model.specs.Placements.{PlacementState, IsPlacement}
 use Rattle.shop_bound.specs.inner.MachineRaises.{AreEmpty}
 use Rattle.shop_bound.specs.declared.head_raises.Raise.{Raise}
 use Rattle.shop_bound.specs.declared.notes.Mark.{Mark}
@@ -244,103 +243,101 @@ module _ (greatest : ℕ) (shop : Shop) (w : List ℕ) (j : ℕ) (s : LaneState)
           ];
         }
 
-    module _ (p : PlacementState) (placed : IsPlacement shop (placing shop w) p) where
-      pub can_fill : CanFill greatest shop s.layout p s.rows
-      can_fill = record {
+    pub can_fill : CanFill greatest shop s.layout s.rows
+    can_fill = record {
+      limits = kept.kept.limits;
+      laid = kept.kept.laid;
+      fits = kept.kept.fits;
+      computable = kept.kept.computable;
+      positions = kept.kept.heads.positions;
+    }
+
+    -- the heads and the ends that go back
+    module _ (new : Rows)
+        (back : GoesBack shop w s.layout (take (length s.notes.list - mark.first) (drop mark.first s.notes.list))
+        mark.whole s.rows new) where
+      abbrev behind : List Note
+      behind = take (length s.notes.list - mark.first) (drop mark.first s.notes.list)
+
+      were : mark.whole ≡ true → AreHeadsAt shop (placing shop w) s.layout (restored behind s.rows.heads)
+      were all = subst (λ (ns : List Note). AreHeadsAt shop (placing shop w) s.layout (restored ns s.rows.heads))
+          (sym notes_behind) (last.whole all)
+
+      gone_back : AreHeadsInLanes greatest shop w s.layout new
+      gone_back = record {
         limits = kept.kept.limits;
+        word = IsWord-init shop w j kept.kept.word;
         laid = kept.kept.laid;
+        times = back.beside.times ∙ kept.kept.times;
+        tails = back.beside.tails ∙ kept.kept.tails;
         fits = kept.kept.fits;
         computable = kept.kept.computable;
-        of = record { word = w; fits = IsWord-init shop w j kept.kept.word; placed = placed };
-        positions = kept.kept.heads.positions;
+        heads = back.heads were;
       }
 
-      -- the heads and the ends that go back
-      module _ (new : Rows)
-          (back : GoesBack shop s.layout p (take (length s.notes.list - mark.first) (drop mark.first s.notes.list))
-          mark.whole s.rows new) where
-        abbrev behind : List Note
-        behind = take (length s.notes.list - mark.first) (drop mark.first s.notes.list)
+      as_many_before : length new.ends ≡ length shop.jobs
+      as_many_before = ap length back.beside.ends ∙ kept.ends.jobs
 
-        were : mark.whole ≡ true → AreHeadsAt shop (placing shop w) s.layout (restored behind s.rows.heads)
-        were all = subst (λ (ns : List Note). AreHeadsAt shop (placing shop w) s.layout (restored ns s.rows.heads))
-            (sym notes_behind) (last.whole all)
+      module _ (nexts : List ℕ) (wrote : nexts ≡ set s.nexts j mark.position) where
+        are_before : AreNextsOf shop (placing shop w) s.layout nexts
+        are_before = nexts_less nexts wrote
 
-        gone_back : AreHeadsInLanes greatest shop w s.layout new
-        gone_back = record {
-          limits = kept.kept.limits;
-          word = IsWord-init shop w j kept.kept.word;
-          laid = kept.kept.laid;
-          times = back.beside.times ∙ kept.kept.times;
-          tails = back.beside.tails ∙ kept.kept.tails;
-          fits = kept.kept.fits;
-          computable = kept.kept.computable;
-          heads = back.heads (placing shop w) placed were;
-        }
+        pub ends_less : CanKeepEnds greatest s.layout nexts new
+        ends_less = can_keep greatest shop w s.layout new gone_back nexts are_before as_many_before
 
-        as_many_before : length new.ends ≡ length shop.jobs
-        as_many_before = ap length back.beside.ends ∙ kept.ends.jobs
+        pub job_less : j < length nexts
+        job_less = let a = last_known in let b = ap length wrote in omega (arith, length-set s.nexts j mark.position)
 
-        module _ (nexts : List ℕ) (wrote : nexts ≡ set s.nexts j mark.position) where
-          are_before : AreNextsOf shop (placing shop w) s.layout nexts
-          are_before = nexts_less nexts wrote
+        pub fit_less : AreNotesFit greatest (length new.heads) behind
+        fit_less = subst (λ (n : ℕ). AreNotesFit greatest n behind) (sym back.beside.positions)
+            (subst (AreNotesFit greatest (length s.rows.heads)) (sym notes_behind)
+            (all_drop (λ (n : Note). (n.position < length s.rows.heads) × (n.head ≤ greatest)) mark.first
+            s.notes.list kept.notes_fit))
 
-          pub ends_less : CanKeepEnds greatest s.layout nexts new
-          ends_less = can_keep greatest shop w s.layout new gone_back nexts are_before as_many_before
+        pub noted_less : mark.whole ≡ true → AreEndsButJob greatest nexts new behind j
+        noted_less all =
+            ends_between greatest shop (w ++ j ∷ []) w j s.layout s.rows new kept.kept kept.ends s.nexts nexts
+            kept.nexts are_before
+            (λ i ne. ap (λ (xs : List ℕ). get_or xs i 0) wrote ∙ get_or-set_other s.nexts j i mark.position 0 ne)
+            back.beside behind (λ q none. ap (λ (hs : List ℕ). get_or hs q 0)
+            (same_heads shop kept.kept.limits s.layout kept.kept.laid (placing shop w) new.heads
+            (restored behind s.rows.heads) gone_back.heads (were all)) ∙ restored_other behind s.rows.heads q none)
 
-          pub job_less : j < length nexts
-          job_less = let a = last_known in let b = ap length wrote in omega (arith, length-set s.nexts j mark.position)
-
-          pub fit_less : AreNotesFit greatest (length new.heads) behind
-          fit_less = subst (λ (n : ℕ). AreNotesFit greatest n behind) (sym back.beside.positions)
-              (subst (AreNotesFit greatest (length s.rows.heads)) (sym notes_behind)
-              (all_drop (λ (n : Note). (n.position < length s.rows.heads) × (n.head ≤ greatest)) mark.first
-              s.notes.list kept.notes_fit))
-
-          pub noted_less : mark.whole ≡ true → AreEndsButJob greatest nexts new behind j
-          noted_less all =
-              ends_between greatest shop (w ++ j ∷ []) w j s.layout s.rows new kept.kept kept.ends s.nexts nexts
-              kept.nexts are_before
-              (λ i ne. ap (λ (xs : List ℕ). get_or xs i 0) wrote ∙ get_or-set_other s.nexts j i mark.position 0 ne)
-              back.beside behind (λ q none. ap (λ (hs : List ℕ). get_or hs q 0)
-              (same_heads shop kept.kept.limits s.layout kept.kept.laid (placing shop w) new.heads
-              (restored behind s.rows.heads) gone_back.heads (were all)) ∙ restored_other behind s.rows.heads q none)
-
-          pub kept_less : (ended : Rows) → HasEnds new ended → AreEndsOf greatest nexts ended
-              → (after : NotesState) → after ≡ record s.notes { list = take mark.first s.notes.list }
-              → (room : ℕ) → room ≡ s.room → (us : List ℕ) → us ≡ [] → IsKeptInLanes greatest shop w
-              (record {
-                layout = s.layout;
-                rows = ended;
-                nexts = nexts;
-                notes = after;
-                marks = marks;
-                room = room;
-                raises = s.raises;
-                estimates = us;
-                top = s.top;
-              })
-          kept_less ended beside ends after truncated room same us none =
-              let list : after.list ≡ take mark.first s.notes.list = ap (λ (n : NotesState). n.list) truncated
-              in let heads = with_ends greatest shop w s.layout new ended beside gone_back
-              in record {
-                kept = heads;
-                nexts = are_before;
-                notes_fit = subst (λ (hs : List ℕ). AreNotesFit greatest (length hs) after.list) (sym beside.heads)
-                    (subst (λ (n : ℕ). AreNotesFit greatest n after.list) (sym back.beside.positions)
-                    (subst (AreNotesFit greatest (length s.rows.heads)) (sym list)
-                    (all_take (λ (n : Note). (n.position < length s.rows.heads) × (n.head ≤ greatest)) mark.first
-                    s.notes.list kept.notes_fit)));
-                trail = subst (λ (ns : List Note). IsTrail shop s.layout w marks ns ended.heads) (sym list)
-                    (last.trail ended.heads heads.heads);
-                as_many = (let a = ap length popped in let b = length_push marks mark in let c = length_push w j
-                    in let d = kept.as_many in omega arith);
-                marks_room = (let a = kept.marks_room in omega arith);
-                bounds = kept.bounds;
-                ends = ends_at greatest shop w s.layout ended heads nexts are_before
-                    (beside.ends ∙ as_many_before) kept.bounds.holds ends;
-                estimates = no_estimates s.top s.layout ended us none;
-              }
+        pub kept_less : (ended : Rows) → HasEnds new ended → AreEndsOf greatest nexts ended
+            → (after : NotesState) → after ≡ record s.notes { list = take mark.first s.notes.list }
+            → (room : ℕ) → room ≡ s.room → (us : List ℕ) → us ≡ [] → IsKeptInLanes greatest shop w
+            (record {
+              layout = s.layout;
+              rows = ended;
+              nexts = nexts;
+              notes = after;
+              marks = marks;
+              room = room;
+              raises = s.raises;
+              estimates = us;
+              top = s.top;
+            })
+        kept_less ended beside ends after truncated room same us none =
+            let list : after.list ≡ take mark.first s.notes.list = ap (λ (n : NotesState). n.list) truncated
+            in let heads = with_ends greatest shop w s.layout new ended beside gone_back
+            in record {
+              kept = heads;
+              nexts = are_before;
+              notes_fit = subst (λ (hs : List ℕ). AreNotesFit greatest (length hs) after.list) (sym beside.heads)
+                  (subst (λ (n : ℕ). AreNotesFit greatest n after.list) (sym back.beside.positions)
+                  (subst (AreNotesFit greatest (length s.rows.heads)) (sym list)
+                  (all_take (λ (n : Note). (n.position < length s.rows.heads) × (n.head ≤ greatest)) mark.first
+                  s.notes.list kept.notes_fit)));
+              trail = subst (λ (ns : List Note). IsTrail shop s.layout w marks ns ended.heads) (sym list)
+                  (last.trail ended.heads heads.heads);
+              as_many = (let a = ap length popped in let b = length_push marks mark in let c = length_push w j
+                  in let d = kept.as_many in omega arith);
+              marks_room = (let a = kept.marks_room in omega arith);
+              bounds = kept.bounds;
+              ends = ends_at greatest shop w s.layout ended heads nexts are_before
+                  (beside.ends ∙ as_many_before) kept.bounds.holds ends;
+              estimates = no_estimates s.top s.layout ended us none;
+            }
 
 -- heads that were raised and put back
 pub kept_again : (greatest : ℕ) (shop : Shop) (w : List ℕ) (s : LaneState) → IsKeptInLanes greatest shop w s

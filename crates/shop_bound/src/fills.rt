@@ -1,9 +1,11 @@
 // Heads by position are set anew from a placement, or put back by notes.
-ghost use Rattle.std.specs.Prelude.{◌<◌, length};
+ghost use Rattle.std.specs.Prelude.{◌≡◌, ◌<◌, length};
 ghost use Rattle.shop_bound.specs.inner.LaneHeads.{AreNotesFit};
 ghost use Rattle.shop_bound.specs.inner.Fills.{CanFill, GoesBack, HasFilled, HasFilledJob};
 ghost use Rattle.shop_bound.specs.inner.Fills.{HasPutBack, IsRested};
+ghost use Rattle.shop_bound.specs.inner.PlacedWords.{IsOfWord};
 
+use crate::dispatched::Dispatched;
 use crate::layouts::Layout;
 use crate::notes::Note;
 use shop_lanes::Lanes;
@@ -32,7 +34,8 @@ fn fill_job<L: Lanes>(
     job: usize,
 )
     requires job { job < length instance.now.jobs }
-    requires fill { CanFill L.GREATEST instance.now layout.now placement.now (L.rows lanes.old) }
+    requires fill { CanFill L.GREATEST instance.now layout.now (L.rows lanes.old) }
+    requires of { IsOfWord instance.now placement.now }
     ensures { HasFilledJob instance.now layout.now placement.now job
         (L.rows lanes.old) (L.rows lanes.new) }
 {
@@ -60,7 +63,8 @@ pub(crate) fn fill<L: Lanes>(
     instance: &Instance,
     placement: &Placement,
 )
-    requires fill { CanFill L.GREATEST instance.now layout.now placement.now (L.rows lanes.old) }
+    requires fill { CanFill L.GREATEST instance.now layout.now (L.rows lanes.old) }
+    requires of { IsOfWord instance.now placement.now }
     ensures { HasFilled instance.now layout.now placement.now
         (L.rows lanes.old) (L.rows lanes.new) }
 {
@@ -69,25 +73,26 @@ pub(crate) fn fill<L: Lanes>(
     }
 }
 
-/// Goes back to the heads of a placement, by notes if all was noted that changed since.
+/// Goes back to the heads of a word, by notes if all was noted that changed since.
 #[inline(always)]
 pub(crate) fn go_back<L: Lanes>(
     lanes: &mut L,
     layout: &Layout,
-    instance: &Instance,
-    placement: &Placement,
+    word: &mut Dispatched,
     notes: &[Note],
     whole: bool,
 )
-    requires fill { CanFill L.GREATEST instance.now layout.now placement.now (L.rows lanes.old) }
-    requires rested { IsRested instance.now layout.now (L.rows lanes.old).heads }
+    requires fill { CanFill L.GREATEST word.old.shop layout.now (L.rows lanes.old) }
+    requires rested { IsRested word.old.shop layout.now (L.rows lanes.old).heads }
     requires notes { AreNotesFit L.GREATEST (length (L.rows lanes.old).heads) notes.now }
-    ensures { GoesBack instance.now layout.now placement.now notes.now whole
+    ensures heads { GoesBack word.old.shop word.old.word layout.now notes.now whole
         (L.rows lanes.old) (L.rows lanes.new) }
+    ensures same { word.new ≡ word.old }
 {
     if whole {
         put_back(lanes, notes);
     } else {
-        fill(lanes, layout, instance, placement);
+        word.placement.set_to(word.instance, word.jobs.as_slice());
+        fill(lanes, layout, word.instance, &word.placement);
     }
 }

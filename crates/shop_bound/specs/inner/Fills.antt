@@ -1,20 +1,19 @@
 -- Heads by position that are set anew, or put back.
 --     IsStored shop p l heads j k    the head of step k of job j, and one more, or 0 where it is
 --                                    placed
---     CanFill greatest shop l s rows all heads of what was placed can be set
+--     CanFill greatest shop l rows   all heads of what was placed can be set
 --     HasFilledJob, HasFilled        those of a job, or of all jobs, were set
 --     HasPutBack notes old new       the heads of the notes were put back
---     GoesBack shop l s notes ..     the one or the other was done
+--     GoesBack shop w l notes ..     the one or the other was done, to go back to a word
 use Rattle.std.specs.Prelude.{◌≡◌, ℕ, ◌+◌, ◌≤◌, ◌<◌, ◌^◌, Bool, true, List, length, slice_index}
 use Rattle.shop_lanes.specs.Rows.{Rows}
 use Rattle.shop_model.specs.Limits.{IsWithinLimits}
 use Rattle.shop_model.specs.Shop.{Shop, IsOperation}
-use Rattle.shop_model.specs.Word.{Placing}
+use Rattle.shop_model.specs.Word.{Placing, placing}
 use Rattle.shop_bound.specs.Heads.{head_of}
 use Rattle.shop_model.specs.Placements.{PlacementState, IsPlacement}
 use Rattle.shop_bound.specs.inner.LaneHeads.{AreHeadsAt, AreHeadsFit, restored}
 use Rattle.shop_bound.specs.inner.Layouts.{LayoutState, place, first_of, IsLaidOut}
-use Rattle.shop_bound.specs.inner.PlacedWords.{IsOfWord}
 use Rattle.shop_bound.specs.declared.notes.Note.{Note}
 
 pub record IsStored (shop : Shop) (p : Placing) (l : LayoutState) (heads : List ℕ)
@@ -30,13 +29,11 @@ IsPositionFree shop l q = (j k : ℕ) → IsOperation shop j k → place l j k �
 abbrev pub IsRested : Shop → LayoutState → List ℕ → Type 0
 IsRested shop l heads = (q : ℕ) → IsPositionFree shop l q → slice_index heads q ≡ 0
 
-pub record CanFill (greatest : ℕ) (shop : Shop) (l : LayoutState) (s : PlacementState)
-    (rows : Rows) : Type 0 where
+pub record CanFill (greatest : ℕ) (shop : Shop) (l : LayoutState) (rows : Rows) : Type 0 where
   pub limits : IsWithinLimits shop
   pub laid : IsLaidOut shop l
   pub fits : AreHeadsFit greatest shop
   pub computable : greatest < 2 ^ 64
-  pub of : IsOfWord shop s
   pub positions : length rows.heads ≡ first_of l shop.machines
 
 -- the heads alone differ
@@ -64,10 +61,8 @@ pub record HasPutBack (notes : List Note) (old new : Rows) : Type 0 where
   pub beside : AreSameBeside old new
   pub heads : new.heads ≡ restored notes old.heads
 
-pub record GoesBack (shop : Shop) (l : LayoutState) (s : PlacementState) (notes : List Note)
-    (whole : Bool)
+pub record GoesBack (shop : Shop) (w : List ℕ) (l : LayoutState) (notes : List Note) (whole : Bool)
     (old new : Rows) : Type 0 where
   pub beside : AreSameBeside old new
-  pub heads : (p : Placing) → IsPlacement shop p s
-      → (whole ≡ true → AreHeadsAt shop p l (restored notes old.heads))
-      → AreHeadsAt shop p l new.heads
+  pub heads : (whole ≡ true → AreHeadsAt shop (placing shop w) l (restored notes old.heads))
+      → AreHeadsAt shop (placing shop w) l new.heads

@@ -9,9 +9,6 @@ use Rattle.shop_lanes.specs.Rows.{Rows}
 use Rattle.shop_model.specs.Limits.{IsWithinLimits}
 use Rattle.shop_model.specs.Shop.{Shop, operation_count}
 use Rattle.shop_model.specs.Word.{IsWord, placing}
-use Rattle.shop_bound.specs.Bound.{lb}
-use Rattle.shop_bound.specs.inner.BoundsUpTo.{IsBoundUpTo}
-use Rattle.shop_model.specs.Placements.{PlacementState, IsPlacement}
 use Rattle.shop_bound.specs.inner.Estimates.{AreEstimates}
 use Rattle.shop_bound.specs.inner.HeadLimits.{FitsLanes, latest_end}
 use Rattle.shop_bound.specs.inner.LaneChoices.{AreEndsAt, AreNextsOf}
@@ -108,32 +105,8 @@ pub record HasNextInLanes (greatest : ℕ) (j : ℕ) (s : LaneState) : Type 0 wh
   pub kept : IsKeptInLanes greatest shop word s
   pub fits : IsWord shop (word ++ j ∷ [])
 
--- the last operation was of job j, and the placement is that of the word without it
-pub record HasLastInLanes (greatest : ℕ) (shop : Shop) (p : PlacementState) (j : ℕ)
+-- the word can go on with job j
+pub record CanGoOnInLanes (greatest : ℕ) (shop : Shop) (w : List ℕ) (j : ℕ)
     (s : LaneState) : Type 0 where
-  pub word : List ℕ
-  pub kept : IsKeptInLanes greatest shop (word ++ j ∷ []) s
-  pub placed : IsPlacement shop (placing shop word) p
-
-abbrev pub KeepsLast : ℕ → Shop → PlacementState → ℕ → LaneState → LaneState → Type 0
-KeepsLast greatest shop p j old new =
-    (w : List ℕ) → IsKeptInLanes greatest shop (w ++ j ∷ []) old
-    → IsPlacement shop (placing shop w) p → IsKeptInLanes greatest shop w new
-
--- a word can go on with job j, and this is its placement
-pub record CanGoOnInLanes (greatest : ℕ) (shop : Shop) (j : ℕ) (p : PlacementState)
-    (s : LaneState) : Type 0 where
-  pub word : List ℕ
-  pub kept : IsKeptInLanes greatest shop word s
-  pub fits : IsWord shop (word ++ j ∷ [])
-  pub placed : IsPlacement shop (placing shop word) p
-
--- the bound after one more operation, as far as the limit
-abbrev pub TellsBoundInLanes : ℕ → Shop → ℕ → PlacementState → ℕ → ℕ → LaneState → ℕ → Type 0
-TellsBoundInLanes greatest shop j p bound limit s b = (w : List ℕ) → IsKeptInLanes greatest shop w s
-    → IsPlacement shop (placing shop w) p → IsWord shop (w ++ j ∷ []) → bound ≡ lb shop w
-    → IsBoundUpTo limit (lb shop (w ++ j ∷ [])) b
-
-abbrev pub KeepsLanes : ℕ → Shop → PlacementState → LaneState → LaneState → Type 0
-KeepsLanes greatest shop p old new = (w : List ℕ) → IsKeptInLanes greatest shop w old
-    → IsPlacement shop (placing shop w) p → IsKeptInLanes greatest shop w new
+  pub kept : IsKeptInLanes greatest shop w s
+  pub fits : IsWord shop (w ++ j ∷ [])
