@@ -55,10 +55,11 @@ noted_is list before more first e f =
     ap (λ (xs : List Note). length xs) e ∙ length-append before more
     in ap (λ (xs : List Note). take (length list - first) xs) d ∙ take_all (length list - first) more (omega arith)
 
-pub notes_within : (greatest n k : ℕ) (notes : List Note) → AreNotesFit greatest k notes → k ≡ n
+pub notes_within : (greatest n k : ℕ) (times : List ℕ) (notes : List Note) → AreNotesFit greatest k times notes → k ≡ n
     → All (λ x. x.position < n) notes
-notes_within greatest n k notes fit e i d here =
-    let a = All-from_recursion (λ (x : Note). (x.position < k) × (x.head ≤ greatest)) notes fit i d here
+notes_within greatest n k times notes fit e i d here =
+    let a = All-from_recursion (λ (x : Note). (x.position < k) × (x.head + get_or times x.position 0 ≤ greatest)) notes
+    fit i d here
     in let b = a.0 in omega arith
 
 pub its_job : (shop : Shop) (w : List ℕ) (j : ℕ) → IsWord shop (w ++ j ∷ []) → j < length shop.jobs

@@ -97,7 +97,7 @@ impl<L: Lanes> LaneHeads<L> {
         );
         let bound = self.bound_by_raises(mark, next, least, limit);
         let noted = &self.notes.list()[mark.first..];
-        go_back(&mut self.lanes, &self.layout, word, noted, mark.whole);
+        go_back(&mut self.lanes, &self.layout, &[], word, noted, mark.whole);
         self.notes.truncate(mark.first);
         bound
     }

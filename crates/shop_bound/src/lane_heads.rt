@@ -124,10 +124,11 @@ impl<L: Lanes> LaneHeads<L> {
     {
         let last = self.marks.pop().unwrap();
         let noted = &self.notes.list()[last.first..];
-        go_back(&mut self.lanes, &self.layout, word, noted, last.whole);
+        let next = self.next.as_slice();
+        go_back(&mut self.lanes, &self.layout, next, word, noted, last.whole);
         self.next[job] = last.position;
         let next = self.next.as_slice();
-        keep_ends(&mut self.lanes, &self.layout, next, job, noted, last.whole);
+        keep_ends(&mut self.lanes, &self.layout, next, job, last.whole);
         self.notes.truncate(last.first);
         self.estimates.forget();
     }

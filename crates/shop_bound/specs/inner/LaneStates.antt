@@ -55,7 +55,7 @@ pub record LaneState : Type 0 where
 pub record IsKeptInLanes (greatest : ℕ) (shop : Shop) (w : List ℕ) (s : LaneState) : Type 0 where
   pub kept : AreHeadsInLanes greatest shop w s.layout s.rows
   pub nexts : AreNextsOf shop (placing shop w) s.layout s.nexts
-  pub notes_fit : AreNotesFit greatest (length s.rows.heads) s.notes.list
+  pub notes_fit : AreNotesFit greatest (length s.rows.heads) s.rows.times s.notes.list
   pub trail : IsTrail shop s.layout w s.marks s.notes.list s.rows.heads
   pub as_many : length s.marks ≡ length w
   pub marks_room : operation_count shop ≤ s.room
@@ -88,7 +88,8 @@ pub record Advances (greatest : ℕ) (l : LayoutState) (nexts : List ℕ) (posit
   pub first : mark.first ≡ length before.list
   pub whole : mark.whole ≡ after.whole
   pub at : mark.position ≡ position
-  pub noted : LeadsBack greatest (record before { whole = true }) after old.heads new.heads
+  pub noted : LeadsBack greatest old.times (record before { whole = true }) after
+      old.heads new.heads
   pub heads : (shop : Shop) (w : List ℕ) (j : ℕ) → AreHeadsInLanes greatest shop w l old
       → IsWord shop (w ++ j ∷ []) → position ≡ place l j ((placing shop w).steps j)
       → AreHeadsInLanes greatest shop (w ++ j ∷ []) l new

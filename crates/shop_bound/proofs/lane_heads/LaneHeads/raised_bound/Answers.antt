@@ -3,7 +3,7 @@ use Rattle.shop_bound.specs.inner.ChildBounds.{IsLeastAfter}
 use Rattle.shop_bound.specs.inner.LaneBounds.{AreSpansFit}
 use Rattle.shop_bound.specs.inner.LaneHeads.{NotesState}
 use Rattle.shop_bound.specs.inner.LaneStates.{CanGoOnInLanes, LaneState}
-use Rattle.shop_bound.proofs.ChildSteps.{child_again, child_is, has_next, has_raised, kept_fit, noted_are}
+use Rattle.shop_bound.proofs.ChildSteps.{can_put_back, child_again, child_is, has_next, has_raised, kept_fit, noted_are}
 use Rattle.shop_bound.proofs.ChildSteps.{notes_again, rested_after}
 use Rattle.shop_bound.proofs.lane_heads.LaneHeads.raised_bound.Goals as goal
 
@@ -48,6 +48,18 @@ go_back-requires-clause-rested g c =
     c.requires.position) (g.L.Lanes.rows c.advance-mark.new.lanes)
     c.advance-mark.new.notes c.advance-mark.result c.advance-mark.ensures c.take.new.self c.take.ensures
     c.bound_by_raises-bound.new.self.raises _ (c.self-2.view_is ∙ c.bound_by_raises-bound.ensures.raises.same)
+
+pub go_back-requires-clause-notes : goal.go_back-requires-clause-notes
+go_back-requires-clause-notes g c =
+    let can = subst (λ (s : LaneState). CanGoOnInLanes g.L.Lanes.GREATEST c.args.word.now.shop c.args.word.now.word
+    c.args.job s) (sym c.self.view_is) c.requires.can
+    in can_put_back g.L.Lanes.GREATEST c.args.word.now.shop c.args.word.now.word _ can.kept c.args.job can.fits
+    c.args.next.position
+    (subst (λ (s : LaneState). c.args.next.position ≡ get_or s.nexts c.args.job 0) (sym c.self.view_is)
+    c.requires.position) (g.L.Lanes.rows c.advance-mark.new.lanes)
+    c.advance-mark.new.notes c.advance-mark.result c.advance-mark.ensures c.take.new.self c.take.ensures
+    c.bound_by_raises-bound.new.self.raises _ (c.self-2.view_is ∙ c.bound_by_raises-bound.ensures.raises.same)
+    c.list.result.now c.list.ensures
 
 pub returns-clause-bound : goal.returns-clause-bound
 returns-clause-bound g c =
