@@ -173,8 +173,9 @@ module _ (greatest : ℕ) (shop : Shop) (l : LayoutState) (rows : Rows) (w : Lis
               | inr ge ↦ rw (le-ltb x (length rows.heads) ge, le-ltb x (length lifted.heads) (omega arith)) refl
             ])))
 
-        pub advanced_noted : LeadsBack greatest notes last rows.heads new.heads
-        advanced_noted = back_both greatest notes mid last rows.heads lifted.heads new.heads wrote.noted raising.noted
+        pub advanced_noted : LeadsBack greatest rows.times notes last rows.heads new.heads
+        advanced_noted = back_both greatest rows.times lifted.times (ap (λ (r : Rows). r.times) wrote.rows) notes mid
+            last rows.heads lifted.heads new.heads wrote.noted raising.noted
 
         pub advanced : AreHeadsInLanes greatest shop (w ++ j ∷ []) l new
         advanced = record {

@@ -9,14 +9,13 @@ use Rattle.shop_lanes.specs.Spans.{spans_between}
 use Rattle.shop_model.specs.Shop.{Shop}
 use Rattle.shop_model.specs.Word.{IsWord, placing}
 use Rattle.shop_bound.specs.Bound.{lb}
-use Rattle.shop_model.specs.Placements.{PlacementState, IsPlacement}
 use Rattle.shop_bound.specs.inner.BoundsUpTo.{IsBoundUpTo}
 use Rattle.shop_bound.specs.inner.ChildBounds.{AreBounded, HasRaised, IsBoundByRaises, IsLeastAfter}
 use Rattle.shop_bound.specs.inner.Estimates.{AreEstimates, IsNoteCovered}
-use Rattle.shop_bound.specs.inner.Fills.{AreSameBeside, GoesBack, IsRested}
+use Rattle.shop_bound.specs.inner.Fills.{CanPutBack, GoesBack, IsRested}
 use Rattle.shop_bound.specs.inner.HeadRaises.{raise_of}
 use Rattle.shop_bound.specs.inner.LaneBounds.{AreRaisesUpTo, AreSpansFit, lanes_on}
-use Rattle.shop_bound.specs.inner.LaneHeads.{AreHeadsAt, NotesState, restored}
+use Rattle.shop_bound.specs.inner.LaneHeads.{AreHeadsAt, AreNotesFit, NotesState, restored}
 use Rattle.shop_bound.specs.inner.Layouts.{place}
 use Rattle.shop_bound.specs.inner.LaneStates.{Advances, AreHeadsInLanes, HasNextAt, IsKeptInLanes, LaneState}
 use Rattle.shop_bound.specs.inner.MachineRaises.{AreEmpty, AreRaisesFit}
@@ -122,7 +121,7 @@ module _ (greatest : ℕ) (shop : Shop) (w : List ℕ) (s : LaneState) (kept : I
             known = λ q here. (let a = machines.known q here in omega arith);
             first = (let a = advances.first in omega arith);
             notes = subst (λ (ns : List Note). All (λ n. n.position < length rows.heads) ns) (sym behind)
-                (notes_within greatest (length rows.heads) (length s.rows.heads) advances.noted.more
+                (notes_within greatest (length rows.heads) (length s.rows.heads) s.rows.times advances.noted.more
                 advances.noted.fit (sym beside.positions));
             small = next_small greatest shop s.layout j position s.rows rows s.notes after mark advances s.top
                 kept.bounds.top_is w kept.kept fits its_place;
@@ -144,15 +143,34 @@ module _ (greatest : ℕ) (shop : Shop) (w : List ℕ) (s : LaneState) (kept : I
           each m x y (let a = kept.bounds.as_many in omega arith)))
           w kept.kept fits its_place after_is
 
+      -- what was noted behind the mark can be put back
+      pub can_put_back : (raises : List Raise) (v : LaneState) → v ≡ record raised_state { raises = raises }
+          → (list : List Note) → list ≡ v.notes.list
+          → CanPutBack greatest v.layout [] v.rows (take (length list - mark.first) (drop mark.first list))
+      can_put_back raises v v_is list list_is =
+          let are : take (length list - mark.first) (drop mark.first list) ≡ advances.noted.more =
+          noted_is list s.notes.list advances.noted.more mark.first
+          (list_is ∙ (ap (λ (x : LaneState). x.notes.list) v_is ∙ advances.noted.are)) advances.first
+          in subst (CanPutBack greatest v.layout [] v.rows) (sym are)
+          (subst (λ (x : LaneState). CanPutBack greatest x.layout [] x.rows advances.noted.more) (sym v_is) (record {
+            fit = subst (λ (ts : List ℕ). AreNotesFit greatest (length rows.heads) ts advances.noted.more)
+                (sym advances.times)
+                (subst (λ (n : ℕ). AreNotesFit greatest n s.rows.times advances.noted.more) (sym advances.positions)
+                advances.noted.fit);
+            jobs = kept.kept.laid.positions.jobs ∙ (sym kept.kept.heads.positions ∙ sym advances.positions);
+            own = λ i known here. absurd (omega arith);
+            ends = omega arith;
+            computable = kept.kept.computable;
+          }))
+
       pub rested_after : (raises : List Raise) (v : LaneState) → v ≡ record raised_state { raises = raises }
           → IsRested shop v.layout v.rows.heads
       rested_after raises v v_is = subst (λ (x : LaneState). IsRested shop x.layout x.rows.heads) (sym v_is)
           (advances.heads shop w j kept.kept fits its_place).heads.padding
 
--- what is kept once the heads are put back, whichever word they were of
+-- what is kept once the heads are put back
 module _ (greatest : ℕ) (shop : Shop) (w : List ℕ) (s : LaneState) (kept : IsKeptInLanes greatest shop w s)
-    (p : PlacementState) (placed : IsPlacement shop (placing shop w) p) (position : ℕ) (rows : Rows)
-    (after : NotesState) (mark : Mark)
+    (position : ℕ) (rows : Rows) (after : NotesState) (mark : Mark)
     (advances : Advances greatest s.layout [] position s.rows rows s.notes after mark) (us : List ℕ)
     (estimates : AreEstimates s.top s.layout s.rows us) (raises : List Raise) (v : LaneState)
     (v_is : v ≡ record s { rows = rows; notes = after; estimates = us; raises = raises }) where
@@ -169,31 +187,28 @@ module _ (greatest : ℕ) (shop : Shop) (w : List ℕ) (s : LaneState) (kept : I
       ∙ take-append_seam s.notes.list advances.noted.more)))
 
   pub child_again : length raises ≡ length s.raises → AreEmpty raises → (noted : List Note)
-      → noted ≡ advances.noted.more → (rested : Rows) → GoesBack shop v.layout p noted mark.whole v.rows rested
+      → noted ≡ advances.noted.more → (rested : Rows) → GoesBack greatest shop w v.layout [] noted mark.whole v.rows rested
       → (notes : NotesState) → notes.list ≡ s.notes.list
       → IsKeptInLanes greatest shop w (record v { rows = rested; notes = notes })
   child_again many empty noted is rested back notes list =
       subst (λ (x : LaneState). IsKeptInLanes greatest shop w (record x { rows = rested; notes = notes }))
       (sym v_is)
-      (kept_again greatest shop w s kept rested heads (two.ends ∙ advances.none refl) notes list raises many
+      (kept_again greatest shop w s kept rested heads (back_here.none refl ∙ advances.none refl) notes list raises many
       empty us (estimates_again greatest shop s.layout w s.rows rested kept.kept heads s.top us estimates))
     where
-      back_here : GoesBack shop s.layout p noted mark.whole rows rested
-      back_here = subst (λ (x : LaneState). GoesBack shop x.layout p noted mark.whole x.rows rested) v_is back
-
-      two : AreSameBeside rows rested
-      two = back_here.beside
+      back_here : GoesBack greatest shop w s.layout [] noted mark.whole rows rested
+      back_here = subst (λ (x : LaneState). GoesBack greatest shop w x.layout [] noted mark.whole x.rows rested) v_is back
 
       heads : AreHeadsInLanes greatest shop w s.layout rested
       heads = record {
         limits = kept.kept.limits;
         word = kept.kept.word;
         laid = kept.kept.laid;
-        times = two.times ∙ (advances.times ∙ kept.kept.times);
-        tails = two.tails ∙ (advances.tails ∙ kept.kept.tails);
+        times = back_here.times ∙ (advances.times ∙ kept.kept.times);
+        tails = back_here.tails ∙ (advances.tails ∙ kept.kept.tails);
         fits = kept.kept.fits;
         computable = kept.kept.computable;
-        heads = back_here.heads (placing shop w) placed (λ whole.
+        heads = back_here.heads (λ whole.
             subst (AreHeadsAt shop (placing shop w) s.layout)
             (sym (ap (λ (ns : List Note). restored ns rows.heads) is
             ∙ advances.noted.back (sym advances.whole ∙ whole))) kept.kept.heads);

@@ -12,7 +12,6 @@ use Rattle.shop_model.specs.Word.{Placing, IsWord, placing, place_next}
 use Rattle.shop_model.proofs.Ends.{IsOperation-job}
 use Rattle.shop_model.proofs.Unders.{next_operation, placing-snoc}
 use Rattle.shop_bound.specs.Bound.{lb}
-use Rattle.shop_model.specs.Placements.{PlacementState, IsPlacement}
 use Rattle.shop_bound.specs.inner.BoundsUpTo.{IsBoundUpTo}
 use Rattle.shop_bound.specs.OneMachine.{one}
 use Rattle.shop_bound.specs.inner.ChildBounds.{IsLeastAfter}
@@ -56,20 +55,15 @@ noted_is list before more first e f =
     ap (λ (xs : List Note). length xs) e ∙ length-append before more
     in ap (λ (xs : List Note). take (length list - first) xs) d ∙ take_all (length list - first) more (omega arith)
 
-pub notes_within : (greatest n k : ℕ) (notes : List Note) → AreNotesFit greatest k notes → k ≡ n
+pub notes_within : (greatest n k : ℕ) (times : List ℕ) (notes : List Note) → AreNotesFit greatest k times notes → k ≡ n
     → All (λ x. x.position < n) notes
-notes_within greatest n k notes fit e i d here =
-    let a = All-from_recursion (λ (x : Note). (x.position < k) × (x.head ≤ greatest)) notes fit i d here
+notes_within greatest n k times notes fit e i d here =
+    let a = All-from_recursion (λ (x : Note). (x.position < k) × (x.head + get_or times x.position 0 ≤ greatest)) notes
+    fit i d here
     in let b = a.0 in omega arith
 
 pub its_job : (shop : Shop) (w : List ℕ) (j : ℕ) → IsWord shop (w ++ j ∷ []) → j < length shop.jobs
 its_job shop w j fits = IsOperation-job shop j _ (next_operation shop w j fits)
-
--- the position, for each word that this is the placement of
-pub at_word : (shop : Shop) (l : LayoutState) (s : PlacementState) (w : List ℕ) (j : ℕ)
-    → IsPlacement shop (placing shop w) s → IsWord shop (w ++ j ∷ []) → (position : ℕ)
-    → position ≡ place l j (get_or s.steps j 0) → position ≡ place l j ((placing shop w).steps j)
-at_word shop l s w j placed fits position at = at ∙ ap (place l j) (placed.steps j (its_job shop w j fits))
 
 module _ (greatest : ℕ) (shop : Shop) (l : LayoutState) (j position : ℕ) (rows rows' : Rows) (before after : NotesState)
     (mark : Mark) (advances : Advances greatest l [] position rows rows' before after mark) where

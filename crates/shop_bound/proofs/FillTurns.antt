@@ -1,7 +1,7 @@
 -- Heads by position are set one by one, or put back.
-use Rattle.std.proofs.Common.{◌≡◌, ℕ, ◌+◌, ◌-◌, ◌≤◌, ◌<◌, max, inl, inr, Bool, true, List, [], ◌∷◌, ◌++◌, length}
+use Rattle.std.proofs.Common.{◌≡◌, ℕ, ◌+◌, ◌-◌, ◌≤◌, ◌<◌, max, inl, inr, Bool, true, false, List, [], ◌∷◌, ◌++◌, length}
 use Rattle.std.proofs.Common.{get_or, set, take, refl, sym, ◌∙◌, ap, subst, arith}
-use Rattle.std.proofs.lemmas.Bool.{cases_eq}
+use Rattle.std.proofs.lemmas.Bool.{cases_eq, cases_lt, lt-ltb, le-ltb, true≢false}
 use Rattle.std.proofs.lemmas.Grind.{get_or-set_at}
 use Rattle.std.proofs.lemmas.List.{get_or-set_other, length-set}
 use Rattle.std.proofs.lemmas.List.Elements.{All-from_recursion}
@@ -14,9 +14,11 @@ use Rattle.shop_model.proofs.Ends.{IsOperation-job}
 use Rattle.shop_bound.specs.Heads.{ready_after, head_of}
 use Rattle.shop_model.specs.Placements.{PlacementState, IsPlacement}
 use Rattle.shop_bound.specs.inner.Fills.{IsStored, IsPositionFree, IsRested, CanFill, AreSameBeside, HasFilledJob}
-use Rattle.shop_bound.specs.inner.Fills.{HasFilled, HasPutBack, GoesBack}
-use Rattle.shop_bound.specs.inner.LaneHeads.{AreHeadsAt, AreNotesFit, restored}
+use Rattle.shop_bound.specs.inner.Fills.{HasFilled, CanPutBack, HasPutBack, GoesBack}
+use Rattle.shop_bound.specs.inner.Raises.{KeepsEnds, SetsEndAt}
+use Rattle.shop_bound.specs.inner.LaneHeads.{AreHeadsAt, restored}
 use Rattle.shop_bound.specs.inner.Layouts.{LayoutState, place, first_of}
+use Rattle.shop_bound.specs.inner.PlacedWords.{IsOfWord}
 use Rattle.shop_bound.specs.declared.notes.Note.{Note}
 use Rattle.shop_bound.proofs.HeadTurns.{ready_first}
 use Rattle.shop_bound.proofs.LaidPlaces.{place_of}
@@ -39,41 +41,103 @@ beside_one a b q v e = record {
   positions = ap (λ (r : Rows). length r.heads) e ∙ length-set a.heads q v;
 }
 
--- what is left to put back, from the last note to the first
-pub record IsPuttingBack (notes : List Note) (count : ℕ) (old now : Rows) : Type 0 where
-  pub within : count ≤ length notes
-  pub beside : AreSameBeside old now
-  pub left : restored (take count notes) now.heads ≡ restored notes old.heads
-
-pub putting_more : (notes : List Note) (count c : ℕ) (note d : Note) (old now new : Rows)
-    → IsPuttingBack notes count old now → 0 < count → c ≡ count - 1 → note ≡ get_or notes c d
-    → new ≡ with_head now note.position note.head → IsPuttingBack notes c old new
-putting_more notes count c note d old now new so_far some less read wrote =
-    let e : count ≡ c + 1 = omega arith
-    in let w = so_far.within
-    in let heads : new.heads ≡ set now.heads note.position note.head = ap (λ (r : Rows). r.heads) wrote
-    in let more : take count notes ≡ take c notes ++ note ∷ [] =
-    ap (λ (k : ℕ). take k notes) e ∙ (take_more notes c d (omega arith)
-    ∙ ap (λ (n : Note). take c notes ++ n ∷ []) (sym read))
+-- the end of a next operation is set with its head
+pub end_put : (greatest : ℕ) (l : LayoutState) (nexts : List ℕ) (now mid new : Rows) (q v : ℕ)
+    → ((j : ℕ) → j < length nexts → get_or nexts j 0 < length now.heads → get_or l.jobs (get_or nexts j 0) 0 ≡ j)
+    → q < length now.heads → SetsEndAt l nexts q v now mid → new ≡ with_head mid q v → KeepsEnds greatest nexts now new
+end_put greatest l nexts now mid new q v own within sets wrote =
+    let heads : new.heads ≡ set now.heads q v =
+    ap (λ (r : Rows). r.heads) wrote ∙ ap (λ (xs : List ℕ). set xs q v) sets.heads
+    in let times : new.times ≡ now.times = ap (λ (r : Rows). r.times) wrote ∙ sets.times
+    in let ends : new.ends ≡ mid.ends = ap (λ (r : Rows). r.ends) wrote
+    in let long : length new.heads ≡ length now.heads = ap length heads ∙ length-set now.heads q v
     in record {
-      within = omega arith;
-      beside = beside_both old now new so_far.beside (beside_one now new note.position note.head wrote);
-      left = ap (restored (take c notes)) heads
-          ∙ (sym (restored-append (take c notes) (note ∷ []) now.heads)
-          ∙ (ap (λ (ns : List Note). restored ns now.heads) (sym more) ∙ so_far.left));
+      long = ap length ends ∙ sets.long;
+      none = λ e. ends ∙ sets.none e;
+      each = λ j known was.
+          let x = get_or nexts j 0
+          in let end : get_or new.ends j 0 ≡ get_or mid.ends j 0 = ap (λ (xs : List ℕ). get_or xs j 0) ends
+          in let time : get_or new.times x 0 ≡ get_or now.times x 0 = ap (λ (xs : List ℕ). get_or xs x 0) times
+          in let head : get_or new.heads x 0 ≡ get_or (set now.heads q v) x 0 = ap (λ (xs : List ℕ). get_or xs x 0) heads
+          in elim (cases_eq x q) [
+            | inl e ↦ (
+                let mine = own j known (omega arith)
+                in let job : get_or l.jobs q 0 ≡ j = ap (λ (y : ℕ). get_or l.jobs y 0) (sym e) ∙ mine
+                in let next : get_or nexts (get_or l.jobs q 0) 0 ≡ q = ap (λ (y : ℕ). get_or nexts y 0) job ∙ e
+                in let here = sets.here (omega arith) next
+                in let same : get_or mid.ends (get_or l.jobs q 0) 0 ≡ get_or mid.ends j 0 =
+                ap (λ (y : ℕ). get_or mid.ends y 0) job
+                in let put = get_or-set_at now.heads q x v 0 e within
+                in let its : get_or now.times x 0 ≡ get_or now.times q 0 = ap (λ (y : ℕ). get_or now.times y 0) e
+                in rw (lt-ltb x (length new.heads) (omega arith)) (omega arith))
+            | inr ne ↦ (
+                let other = sets.others j known ne
+                in let left = get_or-set_other now.heads q x v 0 ne
+                in end ∙ (other ∙ (was ∙ (elim (cases_lt x (length now.heads)) [
+                  | inl lt ↦ rw (lt-ltb x (length now.heads) lt, lt-ltb x (length new.heads) (omega arith)) (omega arith)
+                  | inr ge ↦ rw (le-ltb x (length now.heads) ge, le-ltb x (length new.heads) (omega arith)) refl
+                ]))))
+          ];
     }
 
-pub note_fits : (greatest : ℕ) (notes : List Note) (count c : ℕ) (note d : Note) (old now : Rows)
-    → AreNotesFit greatest (length old.heads) notes → IsPuttingBack notes count old now → 0 < count → c ≡ count - 1
-    → note ≡ get_or notes c d → (note.position < length now.heads) × (note.head ≤ greatest)
-note_fits greatest notes count c note d old now fit so_far some less read =
-    let w = so_far.within
-    in let n = All-from_recursion (λ (x : Note). (x.position < length old.heads) × (x.head ≤ greatest)) notes fit c d
-    (omega arith)
-    in let p : note.position ≡ (get_or notes c d).position = ap (λ (x : Note). x.position) read
-    in let h : note.head ≡ (get_or notes c d).head = ap (λ (x : Note). x.head) read
-    in let a = n.0 in let b = n.1 in let long = so_far.beside.positions
-    in (omega arith, omega arith)
+-- what is left to put back, from the last note to the first
+pub record IsPuttingBack (greatest : ℕ) (nexts : List ℕ) (notes : List Note) (count : ℕ) (old now : Rows) : Type 0 where
+  pub within : count ≤ length notes
+  pub times : now.times ≡ old.times
+  pub tails : now.tails ≡ old.tails
+  pub positions : length now.heads ≡ length old.heads
+  pub ends : KeepsEnds greatest nexts old now
+  pub left : restored (take count notes) now.heads ≡ restored notes old.heads
+
+module _ (greatest : ℕ) (l : LayoutState) (nexts : List ℕ) (notes : List Note) (count c : ℕ) (note d : Note)
+    (old now : Rows) (can : CanPutBack greatest l nexts old notes)
+    (so_far : IsPuttingBack greatest nexts notes count old now) (some : 0 < count) (less : c ≡ count - 1)
+    (read : note ≡ get_or notes c d) where
+  pub note_fits : (note.position < length now.heads)
+      × (note.head + get_or now.times note.position 0 ≤ greatest)
+  note_fits =
+      let w = so_far.within
+      in let n = All-from_recursion
+      (λ (x : Note). (x.position < length old.heads) × (x.head + get_or old.times x.position 0 ≤ greatest)) notes
+      can.fit c d (omega arith)
+      in let m = subst (λ (x : Note). (x.position < length old.heads)
+      × (x.head + get_or old.times x.position 0 ≤ greatest)) (sym read) n
+      in let long = so_far.positions
+      in let a = m.0 in let b = m.1
+      in let same : get_or now.times note.position 0 ≡ get_or old.times note.position 0 =
+      ap (λ (ts : List ℕ). get_or ts note.position 0) so_far.times
+      in (omega arith, omega arith)
+
+  pub ends_fit : length nexts ≤ length now.ends
+  ends_fit = let a = so_far.ends.long in let b = can.ends in omega arith
+
+  pub putting_more : (mid new : Rows) → SetsEndAt l nexts note.position note.head now mid
+      → new ≡ with_head mid note.position note.head → IsPuttingBack greatest nexts notes c old new
+  putting_more mid new sets wrote =
+      let e : count ≡ c + 1 = omega arith
+      in let w = so_far.within
+      in let heads : new.heads ≡ set now.heads note.position note.head =
+      ap (λ (r : Rows). r.heads) wrote ∙ ap (λ (xs : List ℕ). set xs note.position note.head) sets.heads
+      in let more : take count notes ≡ take c notes ++ note ∷ [] =
+      ap (λ (k : ℕ). take k notes) e ∙ (take_more notes c d (omega arith)
+      ∙ ap (λ (n : Note). take c notes ++ n ∷ []) (sym read))
+      in let long = so_far.positions
+      in let put = end_put greatest l nexts now mid new note.position note.head
+      (λ j known here. can.own j known (omega arith)) note_fits.0 sets wrote
+      in record {
+        within = omega arith;
+        times = ap (λ (r : Rows). r.times) wrote ∙ (sets.times ∙ so_far.times);
+        tails = ap (λ (r : Rows). r.tails) wrote ∙ (sets.tails ∙ so_far.tails);
+        positions = ap length heads ∙ (length-set now.heads note.position note.head ∙ so_far.positions);
+        ends = record {
+          long = put.long ∙ so_far.ends.long;
+          none = λ f. put.none f ∙ so_far.ends.none f;
+          each = λ j known was. put.each j known (so_far.ends.each j known was);
+        };
+        left = ap (restored (take c notes)) heads
+            ∙ (sym (restored-append (take c notes) (note ∷ []) now.heads)
+            ∙ (ap (λ (ns : List Note). restored ns now.heads) (sym more) ∙ so_far.left));
+      }
 
 -- the heads of job j below step k
 pub record IsFilledUpTo (shop : Shop) (l : LayoutState) (s : PlacementState) (j k ready : ℕ) (old now : Rows)
@@ -86,7 +150,7 @@ pub record IsFilledUpTo (shop : Shop) (l : LayoutState) (s : PlacementState) (j 
   pub ready_is : (p : Placing) → IsPlacement shop p s → ready ≡ ready_after shop p j (k - p.steps j)
 
 module _ (greatest : ℕ) (shop : Shop) (l : LayoutState) (s : PlacementState) (rows : Rows)
-    (can : CanFill greatest shop l s rows) (j : ℕ) (job : j < length shop.jobs) where
+    (can : CanFill greatest shop l rows) (j : ℕ) (job : j < length shop.jobs) where
   module _ (k : ℕ) (ready : ℕ) (now : Rows) (so_far : IsFilledUpTo shop l s j k ready rows now)
       (op : IsOperation shop j k) (q : ℕ) (at : q ≡ place l j k) where
     here : place l j k < first_of l shop.machines
@@ -153,13 +217,13 @@ module _ (greatest : ℕ) (shop : Shop) (l : LayoutState) (s : PlacementState) (
           greater p is
 
       -- it waits, and its head and its end fit
-      pub open_fits : (head + 1 ≤ greatest) × (head + (get_or route k no_op).time < greatest)
-      open_fits =
-          let p = placing shop can.of.word
-          in let is = can.of.placed
+      pub open_fits : IsOfWord shop s → (head + 1 ≤ greatest) × (head + (get_or route k no_op).time < greatest)
+      open_fits of =
+          let p = placing shop of.word
+          in let is = of.placed
           in let t = turn p is
           in let steps = is.steps j job
-          in let f = can.fits can.of.word can.of.fits j k op (omega arith)
+          in let f = can.fits of.word of.fits j k op (omega arith)
           in let time : (get_or route k no_op).time ≡ time_of shop j k =
           ap (λ (xs : List Op). (get_or xs k no_op).time) is_route
           in let h = t.0
@@ -180,14 +244,13 @@ pub record AreFilledUpTo (shop : Shop) (l : LayoutState) (s : PlacementState) (n
   pub free : (q : ℕ) → IsPositionFree shop l q → get_or now.heads q 0 ≡ get_or old.heads q 0
 
 module _ (greatest : ℕ) (shop : Shop) (l : LayoutState) (s : PlacementState) (rows : Rows)
-    (can : CanFill greatest shop l s rows) where
-  pub jobs_can : (n : ℕ) (now : Rows) → AreFilledUpTo shop l s n rows now → CanFill greatest shop l s now
+    (can : CanFill greatest shop l rows) where
+  pub jobs_can : (n : ℕ) (now : Rows) → AreFilledUpTo shop l s n rows now → CanFill greatest shop l now
   jobs_can n now so_far = record {
     limits = can.limits;
     laid = can.laid;
     fits = can.fits;
     computable = can.computable;
-    of = can.of;
     positions = so_far.beside.positions ∙ can.positions;
   }
 
@@ -227,18 +290,29 @@ module _ (greatest : ℕ) (shop : Shop) (l : LayoutState) (s : PlacementState) (
   }
 
 -- by notes, or anew
-pub back_by_notes : (shop : Shop) (l : LayoutState) (s : PlacementState) (notes : List Note) (whole : Bool)
-    (old new : Rows) → whole ≡ true → HasPutBack notes old new → GoesBack shop l s notes whole old new
-back_by_notes shop l s notes whole old new noted back = record {
-  beside = back.beside;
-  heads = λ p is known. subst (AreHeadsAt shop p l) (sym back.heads) (known noted);
+pub back_by_notes : (greatest : ℕ) (shop : Shop) (w : List ℕ) (l : LayoutState) (nexts : List ℕ) (notes : List Note)
+    (whole : Bool) (old new : Rows) → whole ≡ true → HasPutBack greatest nexts notes old new
+    → GoesBack greatest shop w l nexts notes whole old new
+back_by_notes greatest shop w l nexts notes whole old new noted back = record {
+  times = back.times;
+  tails = back.tails;
+  long = back.ends.long;
+  none = back.ends.none;
+  each = λ all. back.ends.each;
+  heads = λ known. subst (AreHeadsAt shop (placing shop w) l) (sym back.heads) (known noted);
 }
 
-pub back_anew : (shop : Shop) (l : LayoutState) (s : PlacementState) (notes : List Note) (whole : Bool)
-    (old new : Rows) → IsRested shop l old.heads → HasFilled shop l s old new → GoesBack shop l s notes whole old new
-back_anew shop l s notes whole old new rested filled = record {
-  beside = filled.beside;
-  heads = λ p is known. filled.filled rested p is;
+pub back_anew : (greatest : ℕ) (shop : Shop) (w : List ℕ) (l : LayoutState) (s : PlacementState) (nexts : List ℕ)
+    (notes : List Note) (whole : Bool) (old new : Rows) → whole ≡ false → IsRested shop l old.heads
+    → HasFilled shop l s old new → IsPlacement shop (placing shop w) s
+    → GoesBack greatest shop w l nexts notes whole old new
+back_anew greatest shop w l s nexts notes whole old new lost rested filled placed = record {
+  times = filled.beside.times;
+  tails = filled.beside.tails;
+  long = ap length filled.beside.ends;
+  none = λ e. filled.beside.ends;
+  each = λ all. absurd (true≢false (sym all ∙ lost));
+  heads = λ known. filled.filled rested (placing shop w) placed;
 }
 
 -- the places and the route of a job, as they are read

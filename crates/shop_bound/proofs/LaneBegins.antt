@@ -24,6 +24,7 @@ use Rattle.shop_bound.specs.inner.LaneHeads.{AreHeadsFit, NotesState}
 use Rattle.shop_bound.specs.inner.LaneStates.{AreHeadsInLanes, HasBounds, IsKeptInLanes}
 use Rattle.shop_bound.specs.inner.Layings.{place_or}
 use Rattle.shop_bound.specs.inner.Layouts.{LayoutState, place, first_of, AreFirsts, IsLaidOut}
+use Rattle.shop_bound.specs.inner.PlacedWords.{IsOfWord}
 use Rattle.shop_bound.proofs.LaidPlaces.{place_of, cell_at, machine_at, machines_rise}
 use Rattle.shop_bound.proofs.LaneEnds.{can_keep, ends_at, with_ends}
 
@@ -85,15 +86,17 @@ module _ (greatest : ℕ) (shop : Shop) (limits : IsWithinLimits shop) (l : Layo
     rest_heads : rest.heads ≡ replicate (length l.times) 0
     rest_heads = ap (λ (r : Rows). r.heads) resting
 
-    pub can_begin : CanFill greatest shop l p rest
+    pub can_begin : CanFill greatest shop l rest
     can_begin = record {
       limits = limits;
       laid = laid;
       fits = fits;
       computable = computable;
-      of = record { word = []; fits = no_word shop; placed = placed };
       positions = ap length rest_heads ∙ (length-replicate (length l.times) 0 ∙ laid.positions.times);
     }
+
+    pub of_none : IsOfWord shop p
+    of_none = record { word = []; fits = no_word shop; placed = placed }
 
     at_rest_rested : IsRested shop l rest.heads
     at_rest_rested q free = ap (λ (xs : List ℕ). get_or xs q 0) rest_heads ∙ elim (cases_lt q (length l.times)) [

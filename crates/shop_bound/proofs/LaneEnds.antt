@@ -1,23 +1,19 @@
 -- The ends of next operations are kept up in lanes.
-use Rattle.std.proofs.Common.{◌≡◌, ℕ, ◌+◌, ◌-◌, ◌≤◌, ◌<◌, ◌⊎◌, inl, inr, List, [], ◌∷◌}
-use Rattle.std.specs.Bool.{◌==◌}
-use Rattle.std.proofs.Common.{false, drop, length, get_or, max, refl, sym, ◌∙◌, ap, subst, arith}
-use Rattle.std.proofs.lemmas.Bool.{cases_eq, cases_lt, eq-eqb, lt-ltb, le-ltb}
+use Rattle.std.proofs.Common.{◌≡◌, ℕ, ◌+◌, ◌-◌, ◌≤◌, ◌<◌, inl, inr, List}
+use Rattle.std.proofs.Common.{length, get_or, max, refl, sym, ◌∙◌, ap, subst, arith}
+use Rattle.std.proofs.lemmas.Bool.{cases_lt, lt-ltb, le-ltb}
 use Rattle.std.proofs.lemmas.Grind.{get_or-set_at}
-use Rattle.std.proofs.lemmas.List.{drop_more, get_or-set_other, length-set}
+use Rattle.std.proofs.lemmas.List.{get_or-set_other, length-set}
 use Rattle.shop_lanes.specs.Rows.{Rows, with_end}
 use Rattle.shop_model.specs.Shop.{Shop, IsOperation, machine_of, route_of}
 use Rattle.shop_model.specs.Word.{Placing, placing}
 use Rattle.shop_model.proofs.Ends.{IsOperation-job}
 use Rattle.shop_bound.specs.Conflicts.{next_end, next_head}
 use Rattle.shop_bound.specs.Heads.{head_of, ready_after}
-use Rattle.shop_bound.specs.declared.notes.Note.{Note}
-use Rattle.shop_bound.specs.inner.Fills.{AreSameBeside}
 use Rattle.shop_bound.specs.inner.HeadLimits.{FitsLanes}
 use Rattle.shop_bound.specs.inner.LaneChoices.{AreEndsAt, AreNextPlaced, AreNextsOf}
-use Rattle.shop_bound.specs.inner.LaneEnds.{end_at, AreEndsButNoted, AreEndsOf, CanKeepEnds, IsEndOf, IsNotedAt}
-use Rattle.shop_bound.specs.inner.LaneEnds.{AreEndsButJob, HasEnds}
-use Rattle.shop_bound.specs.inner.LaneHeads.{AreHeadsAt, AreNotesFit, restored}
+use Rattle.shop_bound.specs.inner.LaneEnds.{end_at, AreEndsOf, CanKeepEnds, HasEnds, IsEndOf}
+use Rattle.shop_bound.specs.inner.LaneHeads.{AreHeadsAt}
 use Rattle.shop_bound.specs.inner.LaneStates.{AreHeadsInLanes}
 use Rattle.shop_bound.specs.inner.Layouts.{LayoutState, place, first_of}
 use Rattle.shop_bound.specs.inner.Raises.{AreFirst}
@@ -27,72 +23,9 @@ use Rattle.shop_bound.proofs.RaisedHeads.{indexed}
 use Rattle.shop_bound.proofs.RaiseWalks.{apart, place_within}
 use Rattle.shop_bound.proofs.Followed.{place_past, place_there}
 
--- what notes leave out is as it was
-pub restored_other : (notes : List Note) (heads : List ℕ) (q : ℕ) → (IsNotedAt notes q → ⊥)
-    → get_or (restored notes heads) q 0 ≡ get_or heads q 0
-restored_other [] heads q none = refl
-restored_other (note ∷ notes) heads q none =
-    get_or-set_other (restored notes heads) note.position q note.head 0 (λ e. none (inl (sym e)))
-    ∙ restored_other notes heads q (λ h. none (inr h))
-
-pub noted_or_not : (notes : List Note) (q : ℕ) → IsNotedAt notes q ⊎ (IsNotedAt notes q → ⊥)
-noted_or_not [] q = inr (λ h. h)
-noted_or_not (note ∷ notes) q = elim (cases_eq note.position q) [
-  | inl e ↦ inl (inl e)
-  | inr ne ↦ elim (noted_or_not notes q) [
-    | inl h ↦ inl (inr h)
-    | inr none ↦ inr (λ h. elim h [
-      | inl e ↦ ne e
-      | inr g ↦ none g
-    ])
-  ]
-]
-
--- where heads changed at noted positions alone and the next operation of one job did, the ends of the others are still
--- right or their next operations are noted
-pub ends_but_job : (greatest : ℕ) (before nexts : List ℕ) (old new : Rows) (notes : List Note) (job : ℕ)
-    → AreEndsOf greatest before old → length before ≡ length nexts → new.times ≡ old.times → new.ends ≡ old.ends
-    → length new.heads ≡ length old.heads
-    → ((j : ℕ) → j < length nexts → (j ≡ job → ⊥) → get_or nexts j 0 ≡ get_or before j 0)
-    → ((q : ℕ) → (IsNotedAt notes q → ⊥) → get_or new.heads q 0 ≡ get_or old.heads q 0)
-    → AreEndsButJob greatest nexts new notes job
-ends_but_job greatest before nexts old new notes job ends long times same positions others heads j known ne =
-    let next = others j known ne
-    in let was = ends j (omega arith)
-    in let now : get_or new.ends j 0 ≡ end_at greatest before old j =
-    ap (λ (xs : List ℕ). get_or xs j 0) same ∙ was
-    in elim (noted_or_not notes (get_or nexts j 0)) [
-      | inl h ↦ inr h
-      | inr none ↦ inl (now ∙ sym (
-          let q = get_or nexts j 0
-          in let a = heads q none
-          in let b : get_or old.heads q 0 ≡ get_or old.heads (get_or before j 0) 0 =
-          ap (λ (x : ℕ). get_or old.heads x 0) next
-          in let d : get_or new.times q 0 ≡ get_or old.times (get_or before j 0) 0 =
-          ap (λ (ts : List ℕ). get_or ts q 0) times ∙ ap (λ (x : ℕ). get_or old.times x 0) next
-          in elim (cases_lt q (length new.heads)) [
-            | inl lt ↦ rw (lt-ltb q (length new.heads) lt, lt-ltb (get_or before j 0) (length old.heads) (omega arith))
-                (omega arith)
-            | inr ge ↦ rw (le-ltb q (length new.heads) ge, le-ltb (get_or before j 0) (length old.heads) (omega arith))
-                refl
-          ]))
-    ]
-
--- one more end is set, and with it one note less is left
+-- one more end is set
 module _ (greatest : ℕ) (l : LayoutState) (nexts : List ℕ) (old : Rows) (keep : CanKeepEnds greatest l nexts old)
     (now : Rows) (beside : HasEnds old now) where
-  pub still_keep : CanKeepEnds greatest l nexts now
-  still_keep = record {
-    placed = subst (λ (hs : List ℕ). AreNextPlaced l hs nexts) (sym beside.heads) keep.placed;
-    positions = keep.positions ∙ sym (ap length beside.heads);
-    ends = beside.ends ∙ keep.ends;
-    fits = λ j known. subst (λ (e : ℕ). e ≤ greatest) (sym (same_end j)) (keep.fits j known);
-    computable = keep.computable;
-  }
-    where
-      same_end : (j : ℕ) → end_at greatest nexts now j ≡ end_at greatest nexts old j
-      same_end j = rw (beside.heads, beside.times) refl
-
   module _ (job : ℕ) (known : job < length nexts) (new : Rows)
       (wrote : new ≡ with_end now job (end_at greatest nexts now job)) where
     pub beside_more : HasEnds old new
@@ -116,81 +49,6 @@ module _ (greatest : ℕ) (l : LayoutState) (nexts : List ℕ) (old : Rows) (kee
     pub end_other : (j : ℕ) → (j ≡ job → ⊥) → IsEndOf greatest nexts now j → IsEndOf greatest nexts new j
     end_other j ne is = ap (λ (r : Rows). get_or r.ends j 0) wrote
         ∙ (get_or-set_other now.ends job j (end_at greatest nexts now job) 0 ne ∙ (is ∙ sym (same_at j)))
-
-    pub noted_after : (note : Note) (notes : List Note) → AreEndsButNoted greatest nexts now (note ∷ notes)
-        → get_or l.jobs note.position 0 ≡ job → note.position < length old.heads
-        → AreEndsButNoted greatest nexts new notes
-    noted_after note notes but is within j below = elim (cases_eq j job) [
-      | inl e ↦ inl (subst (IsEndOf greatest nexts new) (sym e) end_here)
-      | inr ne ↦ elim (but j below) [
-        | inl h ↦ inl (end_other j ne h)
-        | inr (inl at) ↦ absurd (ne (
-            let own = keep.placed.own j below (omega arith)
-            in sym own ∙ (ap (λ (x : ℕ). get_or l.jobs x 0) (sym at) ∙ is)))
-        | inr (inr h) ↦ inr h
-      ]
-    ]
-
-  -- a note that isn't at a next operation
-  pub noted_past : (note : Note) (notes : List Note) → AreEndsButNoted greatest nexts now (note ∷ notes)
-      → (get_or nexts (get_or l.jobs note.position 0) 0 ≡ note.position → ⊥) → note.position < length old.heads
-      → AreEndsButNoted greatest nexts now notes
-  noted_past note notes but other within j below = elim (but j below) [
-    | inl h ↦ inl h
-    | inr (inl at) ↦ absurd (other (
-        let own = keep.placed.own j below (omega arith)
-        in ap (λ (x : ℕ). get_or nexts x 0) (ap (λ (x : ℕ). get_or l.jobs x 0) at ∙ own) ∙ sym at))
-    | inr (inr h) ↦ inr h
-  ]
-
--- the notes that are still to be looked at
-pub record IsSettingEnds (greatest : ℕ) (nexts : List ℕ) (notes : List Note) (old now : Rows) : Type 0 where
-  pub beside : HasEnds old now
-  pub fit : AreNotesFit greatest (length old.heads) notes
-  pub noted : AreEndsButNoted greatest nexts now notes
-
-module _ (greatest : ℕ) (l : LayoutState) (nexts : List ℕ) (old now : Rows) (keep : CanKeepEnds greatest l nexts old)
-    (notes : List Note) (i : ℕ) (d : Note) (here : i < length notes)
-    (so_far : IsSettingEnds greatest nexts (drop i notes) old now) where
-  abbrev note : Note
-  note = get_or notes i d
-
-  left : IsSettingEnds greatest nexts (note ∷ drop (i + 1) notes) old now
-  left = subst (λ (ns : List Note). IsSettingEnds greatest nexts ns old now) (drop_more notes i d here) so_far
-
-  pub note_within : note.position < length old.heads
-  note_within = left.fit.0.0
-
-  pub note_known : note.position < length l.jobs
-  note_known = let a = keep.placed.positions in let b = note_within in omega arith
-
-  pub note_job : get_or l.jobs note.position 0 < length nexts
-  note_job = keep.placed.jobs note.position note_within
-
-  pub now_keeps : CanKeepEnds greatest l nexts now
-  now_keeps = still_keep greatest l nexts old keep now so_far.beside
-
-  pub end_set : (job : ℕ) → job ≡ get_or l.jobs note.position 0 → (new : Rows)
-      → new ≡ with_end now job (end_at greatest nexts now job)
-      → IsSettingEnds greatest nexts (drop (i + 1) notes) old new
-  end_set job is new wrote =
-      let known : job < length nexts = (let a = note_job in omega arith)
-      in record {
-        beside = beside_more greatest l nexts old keep now so_far.beside job known new wrote;
-        fit = left.fit.1;
-        noted = noted_after greatest l nexts old keep now so_far.beside job known new wrote note (drop (i + 1) notes)
-            left.noted (sym is) note_within;
-      }
-
-  pub end_left : (get_or nexts (get_or l.jobs note.position 0) 0 == note.position) ≡ false → (new : Rows) → new ≡ now
-      → IsSettingEnds greatest nexts (drop (i + 1) notes) old new
-  end_left other new same = subst (IsSettingEnds greatest nexts (drop (i + 1) notes) old) (sym same) (record {
-    beside = so_far.beside;
-    fit = left.fit.1;
-    noted = noted_past greatest l nexts old keep now so_far.beside note (drop (i + 1) notes) left.noted
-        (λ e. absurd (let a = eq-eqb (get_or nexts (get_or l.jobs note.position 0) 0) note.position e in cc))
-        note_within;
-  })
 
 module _ (greatest : ℕ) (shop : Shop) (w : List ℕ) (l : LayoutState) (rows : Rows)
     (kept : AreHeadsInLanes greatest shop w l rows) (nexts : List ℕ) (are : AreNextsOf shop (placing shop w) l nexts)
@@ -330,14 +188,3 @@ with_ends greatest shop w l old new beside kept = record {
   computable = kept.computable;
   heads = subst (AreHeadsAt shop (placing shop w) l) (sym beside.heads) kept.heads;
 }
-
--- from one word to another that has the same next operations of all jobs but one
-pub ends_between : (greatest : ℕ) (shop : Shop) (w v : List ℕ) (j : ℕ) (l : LayoutState) (old new : Rows)
-    → AreHeadsInLanes greatest shop w l old → AreEndsAt greatest shop (placing shop w) old.ends
-    → (before nexts : List ℕ) → AreNextsOf shop (placing shop w) l before → AreNextsOf shop (placing shop v) l nexts
-    → ((i : ℕ) → (i ≡ j → ⊥) → get_or nexts i 0 ≡ get_or before i 0) → AreSameBeside old new
-    → (notes : List Note) → ((q : ℕ) → (IsNotedAt notes q → ⊥) → get_or new.heads q 0 ≡ get_or old.heads q 0)
-    → AreEndsButJob greatest nexts new notes j
-ends_between greatest shop w v j l old new kept ends before nexts were are same beside notes heads =
-    ends_but_job greatest before nexts old new notes j (ends_of greatest shop w l old kept before were ends.jobs ends)
-    (were.jobs ∙ sym are.jobs) beside.times beside.ends beside.positions (λ i known ne. same i ne) heads

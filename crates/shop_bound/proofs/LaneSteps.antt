@@ -1,5 +1,5 @@
 -- What is kept of a word in lanes, with one entry more and one less.
-use Rattle.std.proofs.Common.{◌≡◌, ℕ, zero, suc, ◌+◌, ◌-◌, ◌≤◌, ◌<◌, inl, inr, true, List, [], ◌∷◌, ◌++◌, length}
+use Rattle.std.proofs.Common.{◌≡◌, ℕ, zero, suc, ◌+◌, ◌-◌, ◌≤◌, ◌<◌, inl, inr, Bool, true, List, [], ◌∷◌, ◌++◌, length}
 use Rattle.std.proofs.Common.{take, drop, get_or, set, refl, sym, ◌∙◌, ap, subst, arith}
 use Rattle.std.specs.List.{AllByRecursion}
 use Rattle.std.proofs.lemmas.Bool.{cases_eq}
@@ -11,26 +11,25 @@ use Rattle.shop_model.specs.Word.{Placing, IsWord, placing, place_next}
 use Rattle.shop_model.proofs.Placings.{place_next-is}
 use Rattle.shop_model.proofs.Unders.{after_word, next_operation, placing-snoc}
 use Rattle.shop_model.proofs.WordLemmas.{IsWord-init}
-use Rattle.shop_model.specs.Placements.{PlacementState, IsPlacement}
 use Rattle.shop_bound.specs.inner.MachineRaises.{AreEmpty}
 use Rattle.shop_bound.specs.declared.head_raises.Raise.{Raise}
 use Rattle.shop_bound.specs.declared.notes.Mark.{Mark}
 use Rattle.shop_bound.specs.declared.notes.Note.{Note}
 use Rattle.shop_bound.specs.inner.Estimates.{AreEstimates}
-use Rattle.shop_bound.specs.inner.Fills.{CanFill, GoesBack, IsRested}
+use Rattle.shop_bound.specs.inner.Fills.{CanFill, CanPutBack, GoesBack, IsRested}
 use Rattle.shop_bound.specs.inner.LaneChoices.{AreEndsAt, AreNextsOf}
-use Rattle.shop_bound.specs.inner.LaneEnds.{AreEndsButJob, AreEndsOf, CanKeepEnds, HasEnds, IsEndOf, end_at}
+use Rattle.shop_bound.specs.inner.LaneEnds.{AreEndsButOf, AreEndsOf, CanKeepEnds, HasEnds, IsEndOf, end_at}
 use Rattle.shop_bound.specs.inner.LaneHeads.{AreHeadsAt, AreNotesFit, IsTrail, NotesState, restored}
 use Rattle.shop_bound.specs.inner.LaneStates.{LaneState, IsKeptInLanes, Advances, AreHeadsInLanes}
 use Rattle.shop_bound.specs.inner.Layings.{place_or}
-use Rattle.shop_bound.specs.inner.Layouts.{first_of, place}
+use Rattle.shop_bound.specs.inner.Layouts.{LayoutState, first_of, place}
 use Rattle.shop_bound.specs.inner.Raises.{AreFirst}
 use Rattle.shop_bound.proofs.ChildReads.{is_operation}
 use Rattle.shop_bound.proofs.ChildTurns.{its_job}
 use Rattle.shop_bound.proofs.Followed.{place_there}
-use Rattle.shop_bound.proofs.LaneEnds.{beside_more, can_keep, end_here, end_other, ends_at, ends_between, ends_of}
+use Rattle.shop_bound.proofs.LaneEnds.{beside_more, can_keep, end_here, end_other, ends_at, ends_of}
 use Rattle.shop_bound.proofs.LaneEnds.{next_first, next_there, next_within}
-use Rattle.shop_bound.proofs.LaneEnds.{restored_other, with_ends}
+use Rattle.shop_bound.proofs.LaneEnds.{with_ends}
 use Rattle.shop_bound.proofs.LaneEstimates.{no_estimates}
 use Rattle.shop_bound.proofs.LaneTrails.{same_heads, trail_more, LeadsToLast, trail_less}
 use Rattle.shop_bound.proofs.Lists.{all_append}
@@ -46,6 +45,24 @@ all_take : {A : Type 0} (P : A → Type 0) (n : ℕ) (xs : List A) → AllByRecu
 all_take P zero xs h = tt
 all_take P (suc n) [] h = tt
 all_take P (suc n) (x ∷ xs) h = (h.0, all_take P n xs h.1)
+
+-- what was gone back to, with next operations and notes as they were read
+pub gone_back_to : (greatest : ℕ) (shop : Shop) (w : List ℕ) (l : LayoutState) (xs nexts : List ℕ) → xs ≡ nexts
+    → (ys notes : List Note) → ys ≡ notes → (first : ℕ) (whole : Bool) (old new : Rows)
+    → GoesBack greatest shop w l xs (take (length ys - first) (drop first ys)) whole old new
+    → GoesBack greatest shop w l nexts (take (length notes - first) (drop first notes)) whole old new
+gone_back_to greatest shop w l xs nexts e ys notes f first whole old new back =
+    subst (λ (ns : List Note). GoesBack greatest shop w l nexts (take (length ns - first) (drop first ns)) whole old new)
+    f (subst (λ (zs : List ℕ). GoesBack greatest shop w l zs (take (length ys - first) (drop first ys)) whole old new)
+    e back)
+
+-- notes fit into rows of as many positions with the same times
+still_fit : (greatest : ℕ) (old new : Rows) → length new.heads ≡ length old.heads → new.times ≡ old.times
+    → (notes : List Note) → AreNotesFit greatest (length old.heads) old.times notes
+    → AreNotesFit greatest (length new.heads) new.times notes
+still_fit greatest old new long times notes fit =
+    subst (λ (n : ℕ). AreNotesFit greatest n new.times notes) (sym long)
+    (subst (λ (ts : List ℕ). AreNotesFit greatest (length old.heads) ts notes) (sym times) fit)
 
 module _ (greatest : ℕ) (shop : Shop) (w : List ℕ) (j : ℕ) (s : LaneState) where
   module _ (kept : IsKeptInLanes greatest shop w s) (fits : IsWord shop (w ++ j ∷ [])) where
@@ -181,16 +198,17 @@ module _ (greatest : ℕ) (shop : Shop) (w : List ℕ) (j : ℕ) (s : LaneState)
             in record {
               kept = heads;
               nexts = are;
-              notes_fit = subst (λ (hs : List ℕ). AreNotesFit greatest (length hs) after.list) (sym beside.heads)
-                  (subst (λ (n : ℕ). AreNotesFit greatest n after.list) (sym advances.positions)
-                  (subst (AreNotesFit greatest (length s.rows.heads)) (sym back.are)
+              notes_fit = still_fit greatest s.rows ended (ap length beside.heads ∙ advances.positions)
+                  (beside.times ∙ advances.times) after.list
+                  (subst (AreNotesFit greatest (length s.rows.heads) s.rows.times) (sym back.are)
                   (all_append
-                  (λ (n : Note). (n.position < length s.rows.heads) × (n.head ≤ greatest)) s.notes.list back.more
-                  kept.notes_fit back.fit)));
+                  (λ (n : Note). (n.position < length s.rows.heads)
+                  × (n.head + get_or s.rows.times n.position 0 ≤ greatest)) s.notes.list back.more kept.notes_fit
+                  back.fit));
               trail = subst (λ (hs : List ℕ). IsTrail shop s.layout (w ++ j ∷ []) marks after.list hs)
                   (sym beside.heads)
                   (subst (λ (ms : List Mark). IsTrail shop s.layout (w ++ j ∷ []) ms after.list new.heads) (sym pushed)
-                  (trail_more shop kept.kept.limits s.layout kept.kept.laid greatest w j s.marks mark s.notes
+                  (trail_more shop kept.kept.limits s.layout kept.kept.laid greatest w j s.marks mark s.rows.times s.notes
                   (record s.notes { whole = true }) after s.rows.heads new.heads kept.kept.heads kept.trail refl
                   advances.first advances.whole back (advances.at ∙ next_at x stands)));
               as_many = (let a = ap length pushed in let b = length_push s.marks mark in let c = length_push w j
@@ -244,103 +262,106 @@ module _ (greatest : ℕ) (shop : Shop) (w : List ℕ) (j : ℕ) (s : LaneState)
           ];
         }
 
-    module _ (p : PlacementState) (placed : IsPlacement shop (placing shop w) p) where
-      pub can_fill : CanFill greatest shop s.layout p s.rows
-      can_fill = record {
+    pub can_fill : CanFill greatest shop s.layout s.rows
+    can_fill = record {
+      limits = kept.kept.limits;
+      laid = kept.kept.laid;
+      fits = kept.kept.fits;
+      computable = kept.kept.computable;
+      positions = kept.kept.heads.positions;
+    }
+
+    abbrev behind : List Note
+    behind = take (length s.notes.list - mark.first) (drop mark.first s.notes.list)
+
+    pub can_put_back : CanPutBack greatest s.layout s.nexts s.rows behind
+    can_put_back = record {
+      fit = subst (AreNotesFit greatest (length s.rows.heads) s.rows.times) (sym notes_behind)
+          (all_drop (λ (n : Note). (n.position < length s.rows.heads)
+          × (n.head + get_or s.rows.times n.position 0 ≤ greatest)) mark.first s.notes.list kept.notes_fit);
+      jobs = kept.kept.laid.positions.jobs ∙ sym kept.kept.heads.positions;
+      own = (next_first greatest shop (w ++ j ∷ []) s.layout s.rows kept.kept s.nexts kept.nexts).own;
+      ends = (let a = kept.nexts.jobs in let b = kept.ends.jobs in omega arith);
+      computable = kept.kept.computable;
+    }
+
+    -- the heads and the ends that go back
+    module _ (new : Rows) (back : GoesBack greatest shop w s.layout s.nexts behind mark.whole s.rows new) where
+      were : mark.whole ≡ true → AreHeadsAt shop (placing shop w) s.layout (restored behind s.rows.heads)
+      were all = subst (λ (ns : List Note). AreHeadsAt shop (placing shop w) s.layout (restored ns s.rows.heads))
+          (sym notes_behind) (last.whole all)
+
+      gone_back : AreHeadsInLanes greatest shop w s.layout new
+      gone_back = record {
         limits = kept.kept.limits;
+        word = IsWord-init shop w j kept.kept.word;
         laid = kept.kept.laid;
+        times = back.times ∙ kept.kept.times;
+        tails = back.tails ∙ kept.kept.tails;
         fits = kept.kept.fits;
         computable = kept.kept.computable;
-        of = record { word = w; fits = IsWord-init shop w j kept.kept.word; placed = placed };
-        positions = kept.kept.heads.positions;
+        heads = back.heads were;
       }
 
-      -- the heads and the ends that go back
-      module _ (new : Rows)
-          (back : GoesBack shop s.layout p (take (length s.notes.list - mark.first) (drop mark.first s.notes.list))
-          mark.whole s.rows new) where
-        abbrev behind : List Note
-        behind = take (length s.notes.list - mark.first) (drop mark.first s.notes.list)
+      as_many_before : length new.ends ≡ length shop.jobs
+      as_many_before = back.long ∙ kept.ends.jobs
 
-        were : mark.whole ≡ true → AreHeadsAt shop (placing shop w) s.layout (restored behind s.rows.heads)
-        were all = subst (λ (ns : List Note). AreHeadsAt shop (placing shop w) s.layout (restored ns s.rows.heads))
-            (sym notes_behind) (last.whole all)
+      module _ (nexts : List ℕ) (wrote : nexts ≡ set s.nexts j mark.position) where
+        are_before : AreNextsOf shop (placing shop w) s.layout nexts
+        are_before = nexts_less nexts wrote
 
-        gone_back : AreHeadsInLanes greatest shop w s.layout new
-        gone_back = record {
-          limits = kept.kept.limits;
-          word = IsWord-init shop w j kept.kept.word;
-          laid = kept.kept.laid;
-          times = back.beside.times ∙ kept.kept.times;
-          tails = back.beside.tails ∙ kept.kept.tails;
-          fits = kept.kept.fits;
-          computable = kept.kept.computable;
-          heads = back.heads (placing shop w) placed were;
-        }
+        pub ends_less : CanKeepEnds greatest s.layout nexts new
+        ends_less = can_keep greatest shop w s.layout new gone_back nexts are_before as_many_before
 
-        as_many_before : length new.ends ≡ length shop.jobs
-        as_many_before = ap length back.beside.ends ∙ kept.ends.jobs
+        pub job_less : j < length nexts
+        job_less = let a = last_known in let b = ap length wrote in omega (arith, length-set s.nexts j mark.position)
 
-        module _ (nexts : List ℕ) (wrote : nexts ≡ set s.nexts j mark.position) where
-          are_before : AreNextsOf shop (placing shop w) s.layout nexts
-          are_before = nexts_less nexts wrote
+        pub others_less : mark.whole ≡ true → AreEndsButOf greatest nexts new j
+        others_less all i known ne =
+            let next : get_or nexts i 0 ≡ get_or s.nexts i 0 =
+            ap (λ (xs : List ℕ). get_or xs i 0) wrote ∙ get_or-set_other s.nexts j i mark.position 0 ne
+            in let before : i < length s.nexts = (let a = are_before.jobs in let b = kept.nexts.jobs in omega arith)
+            in let was = ends_of greatest shop (w ++ j ∷ []) s.layout s.rows kept.kept s.nexts kept.nexts kept.ends.jobs
+            kept.ends i before
+            in let now = back.each all i before was
+            in rw next now
 
-          pub ends_less : CanKeepEnds greatest s.layout nexts new
-          ends_less = can_keep greatest shop w s.layout new gone_back nexts are_before as_many_before
-
-          pub job_less : j < length nexts
-          job_less = let a = last_known in let b = ap length wrote in omega (arith, length-set s.nexts j mark.position)
-
-          pub fit_less : AreNotesFit greatest (length new.heads) behind
-          fit_less = subst (λ (n : ℕ). AreNotesFit greatest n behind) (sym back.beside.positions)
-              (subst (AreNotesFit greatest (length s.rows.heads)) (sym notes_behind)
-              (all_drop (λ (n : Note). (n.position < length s.rows.heads) × (n.head ≤ greatest)) mark.first
-              s.notes.list kept.notes_fit))
-
-          pub noted_less : mark.whole ≡ true → AreEndsButJob greatest nexts new behind j
-          noted_less all =
-              ends_between greatest shop (w ++ j ∷ []) w j s.layout s.rows new kept.kept kept.ends s.nexts nexts
-              kept.nexts are_before
-              (λ i ne. ap (λ (xs : List ℕ). get_or xs i 0) wrote ∙ get_or-set_other s.nexts j i mark.position 0 ne)
-              back.beside behind (λ q none. ap (λ (hs : List ℕ). get_or hs q 0)
-              (same_heads shop kept.kept.limits s.layout kept.kept.laid (placing shop w) new.heads
-              (restored behind s.rows.heads) gone_back.heads (were all)) ∙ restored_other behind s.rows.heads q none)
-
-          pub kept_less : (ended : Rows) → HasEnds new ended → AreEndsOf greatest nexts ended
-              → (after : NotesState) → after ≡ record s.notes { list = take mark.first s.notes.list }
-              → (room : ℕ) → room ≡ s.room → (us : List ℕ) → us ≡ [] → IsKeptInLanes greatest shop w
-              (record {
-                layout = s.layout;
-                rows = ended;
-                nexts = nexts;
-                notes = after;
-                marks = marks;
-                room = room;
-                raises = s.raises;
-                estimates = us;
-                top = s.top;
-              })
-          kept_less ended beside ends after truncated room same us none =
-              let list : after.list ≡ take mark.first s.notes.list = ap (λ (n : NotesState). n.list) truncated
-              in let heads = with_ends greatest shop w s.layout new ended beside gone_back
-              in record {
-                kept = heads;
-                nexts = are_before;
-                notes_fit = subst (λ (hs : List ℕ). AreNotesFit greatest (length hs) after.list) (sym beside.heads)
-                    (subst (λ (n : ℕ). AreNotesFit greatest n after.list) (sym back.beside.positions)
-                    (subst (AreNotesFit greatest (length s.rows.heads)) (sym list)
-                    (all_take (λ (n : Note). (n.position < length s.rows.heads) × (n.head ≤ greatest)) mark.first
-                    s.notes.list kept.notes_fit)));
-                trail = subst (λ (ns : List Note). IsTrail shop s.layout w marks ns ended.heads) (sym list)
-                    (last.trail ended.heads heads.heads);
-                as_many = (let a = ap length popped in let b = length_push marks mark in let c = length_push w j
-                    in let d = kept.as_many in omega arith);
-                marks_room = (let a = kept.marks_room in omega arith);
-                bounds = kept.bounds;
-                ends = ends_at greatest shop w s.layout ended heads nexts are_before
-                    (beside.ends ∙ as_many_before) kept.bounds.holds ends;
-                estimates = no_estimates s.top s.layout ended us none;
-              }
+        pub kept_less : (ended : Rows) → HasEnds new ended → AreEndsOf greatest nexts ended
+            → (after : NotesState) → after ≡ record s.notes { list = take mark.first s.notes.list }
+            → (room : ℕ) → room ≡ s.room → (us : List ℕ) → us ≡ [] → IsKeptInLanes greatest shop w
+            (record {
+              layout = s.layout;
+              rows = ended;
+              nexts = nexts;
+              notes = after;
+              marks = marks;
+              room = room;
+              raises = s.raises;
+              estimates = us;
+              top = s.top;
+            })
+        kept_less ended beside ends after truncated room same us none =
+            let list : after.list ≡ take mark.first s.notes.list = ap (λ (n : NotesState). n.list) truncated
+            in let heads = with_ends greatest shop w s.layout new ended beside gone_back
+            in record {
+              kept = heads;
+              nexts = are_before;
+              notes_fit = still_fit greatest s.rows ended
+                  (ap length beside.heads ∙ (gone_back.heads.positions ∙ sym kept.kept.heads.positions))
+                  (beside.times ∙ back.times) after.list
+                  (subst (AreNotesFit greatest (length s.rows.heads) s.rows.times) (sym list)
+                  (all_take (λ (n : Note). (n.position < length s.rows.heads)
+                  × (n.head + get_or s.rows.times n.position 0 ≤ greatest)) mark.first s.notes.list kept.notes_fit));
+              trail = subst (λ (ns : List Note). IsTrail shop s.layout w marks ns ended.heads) (sym list)
+                  (last.trail ended.heads heads.heads);
+              as_many = (let a = ap length popped in let b = length_push marks mark in let c = length_push w j
+                  in let d = kept.as_many in omega arith);
+              marks_room = (let a = kept.marks_room in omega arith);
+              bounds = kept.bounds;
+              ends = ends_at greatest shop w s.layout ended heads nexts are_before
+                  (beside.ends ∙ as_many_before) kept.bounds.holds ends;
+              estimates = no_estimates s.top s.layout ended us none;
+            }
 
 -- heads that were raised and put back
 pub kept_again : (greatest : ℕ) (shop : Shop) (w : List ℕ) (s : LaneState) → IsKeptInLanes greatest shop w s
@@ -355,8 +376,8 @@ kept_again greatest shop w s kept new heads ends after list raises many empty us
     in record {
       kept = heads;
       nexts = kept.nexts;
-      notes_fit = subst (λ (hs : List ℕ). AreNotesFit greatest (length hs) after.list) same
-          (subst (AreNotesFit greatest (length s.rows.heads)) (sym list) kept.notes_fit);
+      notes_fit = still_fit greatest s.rows new (ap length (sym same)) (heads.times ∙ sym kept.kept.times) after.list
+          (subst (AreNotesFit greatest (length s.rows.heads) s.rows.times) (sym list) kept.notes_fit);
       trail = subst (λ (hs : List ℕ). IsTrail shop s.layout w s.marks after.list hs) same
           (subst (λ (ns : List Note). IsTrail shop s.layout w s.marks ns s.rows.heads) (sym list) kept.trail);
       as_many = kept.as_many;

@@ -40,12 +40,13 @@ reverse_push xs x = reverse-append xs (x ∷ [])
 
 -- one entry more
 pub trail_more : (shop : Shop) → IsWithinLimits shop → (l : LayoutState) → IsLaidOut shop l → (greatest : ℕ)
-    → (w : List ℕ) (j : ℕ) (marks : List Mark) (mark : Mark) (before begun after : NotesState) (old new : List ℕ)
+    → (w : List ℕ) (j : ℕ) (marks : List Mark) (mark : Mark) (times : List ℕ) (before begun after : NotesState)
+    (old new : List ℕ)
     → AreHeadsAt shop (placing shop w) l old → IsTrail shop l w marks before.list old → begun.list ≡ before.list
-    → mark.first ≡ length before.list → mark.whole ≡ after.whole → LeadsBack greatest begun after old new
+    → mark.first ≡ length before.list → mark.whole ≡ after.whole → LeadsBack greatest times begun after old new
     → mark.position ≡ place l j ((placing shop w).steps j)
     → IsTrail shop l (w ++ j ∷ []) (marks ++ mark ∷ []) after.list new
-trail_more shop limits l laid greatest w j marks mark before begun after old new heads trail same first whole back at =
+trail_more shop limits l laid greatest w j marks mark times before begun after old new heads trail same first whole back at =
     let are : after.list ≡ before.list ++ back.more = back.are ∙ ap (λ (ns : List Note). ns ++ back.more) same
     in let cut : take mark.first after.list ≡ before.list =
     ap (take mark.first) are ∙ (ap (λ (n : ℕ). take n (before.list ++ back.more)) first

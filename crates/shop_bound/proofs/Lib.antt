@@ -46,7 +46,6 @@ pub mod HeadTurns
 pub mod Filled
 pub mod TimeSums
 pub mod WordLengths
-pub mod Trails
 pub mod RowTurns
 pub mod HeadsStay
 pub mod OpenBounds

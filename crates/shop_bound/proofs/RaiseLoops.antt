@@ -67,7 +67,7 @@ then_raises greatest l nexts A B C e a b c n m o x y split in_a in_b = record {
     none = λ f. y.ends.none f ∙ x.ends.none f;
     each = λ j known is. y.ends.each j known (x.ends.each j known is);
   };
-  noted = back_both greatest n m o a.heads b.heads c.heads x.noted y.noted;
+  noted = back_both greatest a.times b.times x.times n m o a.heads b.heads c.heads x.noted y.noted;
 }
 
 -- what can be raised at more positions can be raised at those that are left
@@ -109,7 +109,7 @@ raises_none greatest l nexts A e a n order enough = record {
   times = refl;
   tails = refl;
   ends = record { long = refl; none = λ f. refl; each = λ j known is. is };
-  noted = back_none greatest n a.heads;
+  noted = back_none greatest a.times n a.heads;
 }
 
 module _ (p : ℕ → Bool) where

@@ -12,13 +12,13 @@ use Rattle.shop_bound.proofs.RaiseWalks.{IsRaisedUpTo, walk_begins, next_least, 
 use Rattle.shop_bound.proofs.RestoredNotes.{back_one, back_both}
 
 pub replaced : (greatest : ℕ) (old new : Rows) (before after : NotesState) (q v h : ℕ) → h ≡ get_or old.heads q 0
-    → q < length old.heads → get_or old.heads q 0 ≤ greatest
+    → q < length old.heads → get_or old.heads q 0 + get_or old.times q 0 ≤ greatest
     → new ≡ with_head old q v → IsNoted (record { position = q; head = h }) before after
     → Replaces greatest q v old new before after
 replaced greatest old new before after q v h read within fits written noted = record {
   rows = written;
-  noted = subst (λ (r : Rows). LeadsBack greatest before after old.heads r.heads) (sym written)
-      (back_one greatest before after old.heads q h v read within (omega arith) noted);
+  noted = subst (λ (r : Rows). LeadsBack greatest old.times before after old.heads r.heads) (sym written)
+      (back_one greatest old.times before after old.heads q h v read within (omega arith) noted);
 }
 
 -- the same of rows and notes
@@ -28,7 +28,7 @@ pub record IsWalking (greatest : ℕ) (l : LayoutState) (p e t ready : ℕ) (old
   pub times : new.times ≡ old.times
   pub tails : new.tails ≡ old.tails
   pub ends : new.ends ≡ old.ends
-  pub noted : LeadsBack greatest before after old.heads new.heads
+  pub noted : LeadsBack greatest old.times before after old.heads new.heads
 
 module _ (greatest : ℕ) (l : LayoutState) (p e : ℕ) (old : Rows)
     (can : IsRaisable greatest l [] old (IsPosition p) e) (some : 0 < get_or old.heads p 0) where
@@ -90,7 +90,8 @@ module _ (greatest : ℕ) (l : LayoutState) (p e : ℕ) (old : Rows)
           times = times ∙ so_far.times;
           tails = ap (λ (r : Rows). r.tails) wrote.rows ∙ so_far.tails;
           ends = ap (λ (r : Rows). r.ends) wrote.rows ∙ so_far.ends;
-          noted = back_both greatest before mid after old.heads now.heads new.heads so_far.noted wrote.noted;
+          noted = back_both greatest old.times now.times so_far.times before mid after old.heads now.heads new.heads
+              so_far.noted wrote.noted;
         }
 
   pub ended : (t ready : ℕ) (now : Rows) (before after : NotesState)

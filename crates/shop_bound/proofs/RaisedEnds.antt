@@ -156,5 +156,5 @@ module _ (greatest : ℕ) (l : LayoutState) (nexts : List ℕ) (p e : ℕ) (old 
         none = λ f. raised.ends.none refl ∙ set.none f;
         each = each;
       };
-      noted = rw set.heads at raised.noted;
+      noted = rw (set.heads, set.times) at raised.noted;
     }

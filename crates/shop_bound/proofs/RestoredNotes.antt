@@ -1,5 +1,5 @@
 -- Notes lead back.
-use Rattle.std.proofs.Common.{◌≡◌, ℕ, zero, suc, ◌<◌, ◌≤◌, true, false, inl, inr, List, [], ◌∷◌, ◌++◌, length}
+use Rattle.std.proofs.Common.{◌≡◌, ℕ, zero, suc, ◌+◌, ◌<◌, ◌≤◌, true, false, inl, inr, List, [], ◌∷◌, ◌++◌, length}
 use Rattle.std.proofs.Common.{get_or, set, refl, sym, ◌∙◌, ap, subst, append_assoc, append-nil}
 use Rattle.std.proofs.lemmas.List.{length-set, set-get_or}
 use Rattle.shop_bound.specs.declared.notes.Note.{Note}
@@ -23,8 +23,9 @@ pub put_back : (xs : List ℕ) (i a : ℕ) → set (set xs i a) i (get_or xs i 0
 put_back xs i a = set_twice xs i a (get_or xs i 0) ∙ set-get_or xs i 0
 
 -- nothing was replaced
-pub back_none : (greatest : ℕ) (old : NotesState) (was : List ℕ) → LeadsBack greatest old old was was
-back_none greatest old was = record {
+pub back_none : (greatest : ℕ) (times : List ℕ) (old : NotesState) (was : List ℕ)
+    → LeadsBack greatest times old old was was
+back_none greatest times old was = record {
   more = [];
   fit = tt;
   positions = refl;
@@ -34,10 +35,10 @@ back_none greatest old was = record {
 }
 
 -- one head was replaced
-pub back_one : (greatest : ℕ) (old new : NotesState) (was : List ℕ) (q h v : ℕ) → h ≡ get_or was q 0
-    → q < length was → h ≤ greatest
-    → IsNoted (record { position = q; head = h }) old new → LeadsBack greatest old new was (set was q v)
-back_one greatest old new was q h v is within fits noted = elim noted [
+pub back_one : (greatest : ℕ) (times : List ℕ) (old new : NotesState) (was : List ℕ) (q h v : ℕ) → h ≡ get_or was q 0
+    → q < length was → h + get_or times q 0 ≤ greatest
+    → IsNoted (record { position = q; head = h }) old new → LeadsBack greatest times old new was (set was q v)
+back_one greatest times old new was q h v is within fits noted = elim noted [
   | inl added ↦ record {
     more = record { position = q; head = h } ∷ [];
     fit = ((within, fits), tt);
@@ -57,12 +58,15 @@ back_one greatest old new was q h v is within fits noted = elim noted [
 ]
 
 -- one after the other
-pub back_both : (greatest : ℕ) (a b c : NotesState) (first mid last : List ℕ) → LeadsBack greatest a b first mid
-    → LeadsBack greatest b c mid last → LeadsBack greatest a c first last
-back_both greatest a b c first mid last x y = record {
+pub back_both : (greatest : ℕ) (times times' : List ℕ) → times' ≡ times → (a b c : NotesState)
+    (first mid last : List ℕ) → LeadsBack greatest times a b first mid → LeadsBack greatest times' b c mid last
+    → LeadsBack greatest times a c first last
+back_both greatest times times' same a b c first mid last x y = record {
   more = x.more ++ y.more;
-  fit = all_append (λ n. (n.position < length first) × (n.head ≤ greatest)) x.more y.more x.fit
-      (subst (λ (k : ℕ). AreNotesFit greatest k y.more) x.positions y.fit);
+  fit = all_append (λ n. (n.position < length first) × (n.head + get_or times n.position 0 ≤ greatest)) x.more y.more
+      x.fit
+      (subst (λ (k : ℕ). AreNotesFit greatest k times y.more) x.positions
+      (subst (λ (ts : List ℕ). AreNotesFit greatest (length mid) ts y.more) same y.fit));
   positions = y.positions ∙ x.positions;
   are = y.are ∙ (ap (λ (ns : List Note). ns ++ y.more) x.are ∙ append_assoc a.list x.more y.more);
   whole = λ t. x.whole (y.whole t);

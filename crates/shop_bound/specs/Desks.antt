@@ -2,13 +2,11 @@
 --     DeskState                      the instance, and the word of what is dispatched
 --     goes_on s job                  the same with one more operation of the job
 --     IsUndone s t                   t is s without its last entry
---     IsPlacedWord s p               p is the placement of the word
 --     IsWordOfShop s                 the word is one of the instance, which is within its limits
 use Rattle.std.specs.Prelude.{◌≡◌, ◌≤◌, ◌<◌, ℕ, Option, Some, None, List, [], ◌∷◌, ◌++◌}
 use Rattle.shop_model.specs.Limits.{IsWithinLimits}
 use Rattle.shop_model.specs.Shop.{Shop}
-use Rattle.shop_model.specs.Word.{IsWord, placing}
-use Rattle.shop_model.specs.Placements.{PlacementState, IsPlacement}
+use Rattle.shop_model.specs.Word.{IsWord}
 
 -- what is dispatched, of which instance
 pub record DeskState : Type 0 where
@@ -24,9 +22,6 @@ goes_on s job = record { shop = s.shop; word = s.word ++ job ∷ [] }
 abbrev pub IsUndone : DeskState → DeskState → Type 0
 IsUndone s t = (word : List ℕ) (job : ℕ) → s.word ≡ word ++ job ∷ []
     → t ≡ record { shop = s.shop; word = word }
-
-abbrev pub IsPlacedWord : DeskState → PlacementState → Type 0
-IsPlacedWord s p = IsPlacement s.shop (placing s.shop s.word) p
 
 pub record IsWordOfShop (s : DeskState) : Type 0 where
   pub word : IsWord s.shop s.word

@@ -17,7 +17,6 @@ pub mod OpenSlots
 pub mod Serving
 pub mod HeadRows
 pub mod PlacedWords
-pub mod Trails
 pub mod Vectors
 pub mod StandingBounds
 pub mod HeadLimits
@@ -25,8 +24,7 @@ pub mod LaneBounds
 pub mod MachineRaises
 pub mod Estimates
 pub mod ChildBounds
-pub mod WaitingBounds
 pub mod WaitingConflicts
-pub mod KeptDesks
+pub mod DispatchedWords
 pub mod BoundsUpTo
 pub mod HeadsInRows

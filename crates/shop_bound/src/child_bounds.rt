@@ -1,10 +1,13 @@
 // The bound after one more operation, by heads in lanes.
-ghost use Rattle.std.specs.Prelude.{◌≡◌, ◌<◌, ◌^◌, length, slice_index};
+ghost use Rattle.std.specs.Prelude.{◌≡◌, ◌<◌, ◌^◌, ◌++◌, ◌∷◌, [], length, slice_index};
+ghost use Rattle.shop_bound.specs.Bound.{lb};
+ghost use Rattle.shop_bound.specs.inner.BoundsUpTo.{IsBoundUpTo};
 ghost use Rattle.shop_bound.specs.inner.ChildBounds.{HasNextInPlace, IsNextOperation};
 ghost use Rattle.shop_bound.specs.inner.ChildBounds.{HasRaised, IsBoundByRaises, KeepsRaises};
-ghost use Rattle.shop_bound.specs.inner.ChildBounds.{TellsRaisedBound};
-ghost use Rattle.shop_bound.specs.inner.LaneStates.{CanGoOnInLanes, KeepsLanes, TellsBoundInLanes};
+ghost use Rattle.shop_bound.specs.inner.ChildBounds.{IsLeastAfter};
+ghost use Rattle.shop_bound.specs.inner.LaneStates.{CanGoOnInLanes, IsKeptInLanes};
 
+use crate::dispatched::Dispatched;
 use crate::dispatching::advance;
 use crate::fills::go_back;
 use crate::lane_bounds::bound_by_all;
@@ -13,7 +16,6 @@ use crate::layouts::Layout;
 use crate::look_aheads::foresee;
 use crate::notes::Mark;
 use shop_lanes::Lanes;
-use shop_model::{Instance, Placement};
 
 /// The next operation of a job: its position, its machine, and one more than its end.
 #[derive(Clone, Copy, Debug)]
@@ -66,20 +68,21 @@ impl<L: Lanes> LaneHeads<L> {
     /// The bound after the next operation of a job, by the heads that it raises, or as much of it as reaches the limit.
     fn raised_bound(
         &mut self,
-        instance: &Instance,
-        placement: &Placement,
+        word: &mut Dispatched,
         job: usize,
         next: NextOperation,
         least: u64,
         limit: u64,
     ) -> u64
-        requires can { CanGoOnInLanes L.GREATEST instance.now job placement.now self.old }
+        requires can { CanGoOnInLanes L.GREATEST word.old.shop word.old.word job self.old }
         requires position { next.position ≡ slice_index self.old.nexts job }
         requires machine { next.machine ≡ slice_index self.old.layout.machines next.position }
         requires small { length self.old.rows.heads < 2 ^ 64 }
-        ensures bound { TellsRaisedBound L.GREATEST instance.now job placement.now self.old
-            next.position next.machine next.end least limit result }
-        ensures kept { KeepsLanes L.GREATEST instance.now placement.now self.old self.new }
+        requires least { IsLeastAfter word.old.shop word.old.word self.old.layout self.old.rows job
+            next.position next.machine next.end least }
+        ensures bound { IsBoundUpTo limit (lb word.old.shop (word.old.word ++ job ∷ [])) result }
+        ensures kept { IsKeptInLanes L.GREATEST word.old.shop word.old.word self.new }
+        ensures same { word.new ≡ word.old }
     {
         let machines = self.raises.machines();
         self.estimates
@@ -94,32 +97,25 @@ impl<L: Lanes> LaneHeads<L> {
         );
         let bound = self.bound_by_raises(mark, next, least, limit);
         let noted = &self.notes.list()[mark.first..];
-        go_back(
-            &mut self.lanes,
-            &self.layout,
-            instance,
-            placement,
-            noted,
-            mark.whole,
-        );
+        go_back(&mut self.lanes, &self.layout, &[], word, noted, mark.whole);
         self.notes.truncate(mark.first);
         bound
     }
 
     /// The bound after the next operation of a job, or as much of it as reaches the limit, with the bound before it at
-    /// hand; the placement is that of the word. The heads are raised only where it isn't known before.
+    /// hand. The heads are raised only where it isn't known before.
     pub(crate) fn bound_up_to(
         &mut self,
-        instance: &Instance,
-        placement: &Placement,
+        word: &mut Dispatched,
         job: usize,
         bound: u64,
         limit: u64,
     ) -> u64
-        requires { CanGoOnInLanes L.GREATEST instance.now job placement.now self.old }
-        ensures bound { TellsBoundInLanes L.GREATEST instance.now job placement.now bound
-            limit self.old result }
-        ensures kept { KeepsLanes L.GREATEST instance.now placement.now self.old self.new }
+        requires can { CanGoOnInLanes L.GREATEST word.old.shop word.old.word job self.old }
+        requires bound { bound ≡ lb word.old.shop word.old.word }
+        ensures bound { IsBoundUpTo limit (lb word.old.shop (word.old.word ++ job ∷ [])) result }
+        ensures kept { IsKeptInLanes L.GREATEST word.old.shop word.old.word self.new }
+        ensures same { word.new ≡ word.old }
     {
         let machines = self.layout.machines();
         let next = next_operation(&self.lanes, machines, self.next[job]);
@@ -131,6 +127,6 @@ impl<L: Lanes> LaneHeads<L> {
         if foreseen.is_final {
             return foreseen.bound;
         }
-        self.raised_bound(instance, placement, job, next, foreseen.bound, limit)
+        self.raised_bound(word, job, next, foreseen.bound, limit)
     }
 }

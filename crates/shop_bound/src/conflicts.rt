@@ -21,6 +21,6 @@ impl<'a> Desk<'a> {
     pub fn sole_candidate_keeps_bound(&self)
         ensures { SoleCandidateKeepsBound self.now.shop self.now.word }
     {
-        let _jobs = &self.jobs;
+        self.word.keeps_word();
     }
 }

@@ -2,39 +2,35 @@
 ghost use Rattle.std.specs.Prelude.{◌≡◌, ◌++◌, ◌∷◌, [], ◌<◌, ◌^◌, IfOk, length};
 ghost use Rattle.shop_model.specs.Word.{IsWord};
 ghost use Rattle.shop_bound.specs.Bound.{lb};
-ghost use Rattle.shop_bound.specs.Desks.{IsPlacedWord, IsUndone, IsWordOfShop, goes_on};
+ghost use Rattle.shop_bound.specs.Desks.{IsUndone, IsWordOfShop, goes_on};
 ghost use Rattle.shop_bound.specs.Desks.{nothing_dispatched};
 ghost use Rattle.shop_bound.specs.Desks.{TellsBoundBelow};
 ghost use Rattle.shop_bound.specs.inner.BoundsUpTo.{IsBoundUpTo};
 
+use crate::dispatched::Dispatched;
 use crate::waiting::Waiting;
-use shop_model::{Instance, Placement, Replaced};
+use shop_model::{Instance, Placement};
 use std::alloc::{AllocError, Global};
 use std::marker::Model;
 
-/// An instance and a word of it that is dispatched entry by entry, with its placement and its bound. It keeps the heads
-/// of what is left up with each entry, so the bound after one more operation looks only at the machines on which heads
-/// change. It takes memory in `new`; what it takes later it can do without, more slowly.
+/// An instance and a word of it that is dispatched entry by entry, with its bound. It keeps the heads of what is left up
+/// with each entry, so the bound after one more operation looks only at the machines on which heads change. It takes
+/// memory in `new`; what it takes later it can do without, more slowly.
 #[derive(Drop)]
 pub struct Desk<'a> {
-    pub(crate) instance: &'a Instance,
-    pub(crate) placement: Placement,
+    pub(crate) word: Dispatched<'a>,
     pub(crate) waiting: Box<Waiting>,
-    pub(crate) jobs: Vec<usize>,
-    replaced: Vec<Replaced>,
 }
 
 impl<'a> Model for Desk<'a> {
-    ghost use Rattle.std.specs.Prelude.{vec_capacity};
     ghost use Rattle.shop_bound.specs.Desks.{DeskState};
-    ghost use Rattle.shop_bound.specs.inner.KeptDesks.{IsDesk};
+    ghost use Rattle.shop_bound.specs.inner.Waitings.{IsWaiting};
 
     ghost Value = { DeskState };
 
-    ghost view = { λ d. record { shop = d.instance.now; word = d.jobs.items } };
+    ghost view = { λ d. d.word };
 
-    ghost invariant = { λ d. IsDesk d.instance.now d.jobs.items d.placement d.waiting.value
-        d.replaced.items (vec_capacity d.jobs) (vec_capacity d.replaced) };
+    ghost invariant = { λ d. IsWaiting d.word.shop d.word.word d.waiting.value };
 }
 
 impl<'a> Desk<'a> {
@@ -42,19 +38,10 @@ impl<'a> Desk<'a> {
     pub fn new(alloc: Global, instance: &'a Instance) -> Result<Desk<'a>, AllocError>
         ensures { IfOk result (λ d. d ≡ nothing_dispatched instance.now) }
     {
-        instance.keeps_limits();
         let placement = Placement::none(alloc, instance)?;
         let waiting = Box::new(alloc, Waiting::new(alloc, instance, &placement)?)?;
-        let room = instance.operations();
-        let jobs = Vec::with_capacity(alloc, room)?;
-        let replaced = Vec::with_capacity(alloc, room)?;
-        Ok(Desk {
-            instance,
-            placement,
-            waiting,
-            jobs,
-            replaced,
-        })
+        let word = Dispatched::none(alloc, instance, placement)?;
+        Ok(Desk { word, waiting })
     }
 
     /// Dispatches the next operation of a job, which has one left.
@@ -62,12 +49,8 @@ impl<'a> Desk<'a> {
         requires { IsWord self.old.shop (self.old.word ++ job ∷ []) }
         ensures { self.new ≡ goes_on self.old job }
     {
-        let instance = self.instance;
-        let replaced = self.placement.next_replaces(instance, job);
-        self.placement.place_next(instance, job);
         (*self.waiting).dispatch(job);
-        self.jobs.push(job).unwrap();
-        self.replaced.push(replaced).unwrap();
+        self.word.push(job);
     }
 
     /// Takes back what was dispatched last; something is dispatched.
@@ -75,11 +58,8 @@ impl<'a> Desk<'a> {
         requires { 0 < length self.old.word }
         ensures { IsUndone self.old self.new }
     {
-        let instance = self.instance;
-        let job = self.jobs.pop().unwrap();
-        let replaced = self.replaced.pop().unwrap();
-        self.placement.take_back(instance, job, replaced);
-        (*self.waiting).undo(instance, &self.placement, job);
+        let job = self.word.pop();
+        (*self.waiting).undo(&mut self.word, job);
     }
 
     /// The lower bound of what is dispatched.
@@ -87,7 +67,7 @@ impl<'a> Desk<'a> {
         ensures bound { result ≡ lb self.old.shop self.old.word }
         ensures same { self.new ≡ self.old }
     {
-        (*self.waiting).bound(self.instance, &self.placement)
+        (*self.waiting).bound(&mut self.word)
     }
 
     /// The lower bound of what is dispatched and the next operation of a job, which has one left, with the bound of
@@ -123,22 +103,15 @@ impl<'a> Desk<'a> {
         ensures small { result < 2 ^ 50 }
         ensures same { self.new ≡ self.old }
     {
-        let instance = self.instance;
-        (*self.waiting).bound_up_to(instance, &self.placement, job, bound, limit)
+        self.word.keeps_word();
+        (*self.waiting).bound_up_to(&mut self.word, job, bound, limit)
     }
 
     /// The jobs of what is dispatched, in order.
     pub fn jobs(&self) -> &[usize]
         ensures { result.now ≡ self.now.word }
     {
-        self.jobs.as_slice()
-    }
-
-    /// What stands once the word is placed.
-    pub fn placement(&self) -> &Placement
-        ensures { IsPlacedWord self.now result.now }
-    {
-        &self.placement
+        self.word.jobs()
     }
 
     /// What is dispatched is a word of the instance, which is within its limits. (A fact for proofs; the call does
@@ -146,6 +119,6 @@ impl<'a> Desk<'a> {
     pub fn keeps_word(&self)
         ensures { IsWordOfShop self.now }
     {
-        let _jobs = &self.jobs;
+        self.word.keeps_word();
     }
 }

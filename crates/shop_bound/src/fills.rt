@@ -1,24 +1,27 @@
 // Heads by position are set anew from a placement, or put back by notes.
-ghost use Rattle.std.specs.Prelude.{◌<◌, length};
-ghost use Rattle.shop_bound.specs.inner.LaneHeads.{AreNotesFit};
-ghost use Rattle.shop_bound.specs.inner.Fills.{CanFill, GoesBack, HasFilled, HasFilledJob};
-ghost use Rattle.shop_bound.specs.inner.Fills.{HasPutBack, IsRested};
+ghost use Rattle.std.specs.Prelude.{◌≡◌, ◌<◌, length};
+ghost use Rattle.shop_bound.specs.inner.Fills.{CanFill, CanPutBack, GoesBack, HasFilled};
+ghost use Rattle.shop_bound.specs.inner.Fills.{HasFilledJob, HasPutBack, IsRested};
+ghost use Rattle.shop_bound.specs.inner.PlacedWords.{IsOfWord};
 
+use crate::dispatched::Dispatched;
 use crate::layouts::Layout;
 use crate::notes::Note;
+use crate::raises::set_end_at;
 use shop_lanes::Lanes;
 use shop_model::{Instance, Placement};
 
-/// Puts back the heads of notes, the last first.
+/// Puts back the heads of notes, the last first, and with them the ends of these next operations.
 #[inline(always)]
-fn put_back<L: Lanes>(lanes: &mut L, notes: &[Note])
-    requires { AreNotesFit L.GREATEST (length (L.rows lanes.old).heads) notes.now }
-    ensures { HasPutBack notes.now (L.rows lanes.old) (L.rows lanes.new) }
+fn put_back<L: Lanes>(lanes: &mut L, layout: &Layout, next: &[usize], notes: &[Note])
+    requires { CanPutBack L.GREATEST layout.now next.now (L.rows lanes.old) notes.now }
+    ensures { HasPutBack L.GREATEST next.now notes.now (L.rows lanes.old) (L.rows lanes.new) }
 {
     let mut count = notes.len();
     while count > 0 {
         count -= 1;
         let note = notes[count];
+        set_end_at(lanes, layout, next, note.position, note.head);
         lanes.set_head(note.position, note.head);
     }
 }
@@ -32,7 +35,8 @@ fn fill_job<L: Lanes>(
     job: usize,
 )
     requires job { job < length instance.now.jobs }
-    requires fill { CanFill L.GREATEST instance.now layout.now placement.now (L.rows lanes.old) }
+    requires fill { CanFill L.GREATEST instance.now layout.now (L.rows lanes.old) }
+    requires of { IsOfWord instance.now placement.now }
     ensures { HasFilledJob instance.now layout.now placement.now job
         (L.rows lanes.old) (L.rows lanes.new) }
 {
@@ -60,7 +64,8 @@ pub(crate) fn fill<L: Lanes>(
     instance: &Instance,
     placement: &Placement,
 )
-    requires fill { CanFill L.GREATEST instance.now layout.now placement.now (L.rows lanes.old) }
+    requires fill { CanFill L.GREATEST instance.now layout.now (L.rows lanes.old) }
+    requires of { IsOfWord instance.now placement.now }
     ensures { HasFilled instance.now layout.now placement.now
         (L.rows lanes.old) (L.rows lanes.new) }
 {
@@ -69,25 +74,28 @@ pub(crate) fn fill<L: Lanes>(
     }
 }
 
-/// Goes back to the heads of a placement, by notes if all was noted that changed since.
+/// Goes back to the heads of a word, by notes if all was noted that changed since: then the ends of these next
+/// operations are kept up.
 #[inline(always)]
 pub(crate) fn go_back<L: Lanes>(
     lanes: &mut L,
     layout: &Layout,
-    instance: &Instance,
-    placement: &Placement,
+    next: &[usize],
+    word: &mut Dispatched,
     notes: &[Note],
     whole: bool,
 )
-    requires fill { CanFill L.GREATEST instance.now layout.now placement.now (L.rows lanes.old) }
-    requires rested { IsRested instance.now layout.now (L.rows lanes.old).heads }
-    requires notes { AreNotesFit L.GREATEST (length (L.rows lanes.old).heads) notes.now }
-    ensures { GoesBack instance.now layout.now placement.now notes.now whole
-        (L.rows lanes.old) (L.rows lanes.new) }
+    requires fill { CanFill L.GREATEST word.old.shop layout.now (L.rows lanes.old) }
+    requires rested { IsRested word.old.shop layout.now (L.rows lanes.old).heads }
+    requires notes { CanPutBack L.GREATEST layout.now next.now (L.rows lanes.old) notes.now }
+    ensures heads { GoesBack L.GREATEST word.old.shop word.old.word layout.now next.now notes.now
+        whole (L.rows lanes.old) (L.rows lanes.new) }
+    ensures same { word.new ≡ word.old }
 {
     if whole {
-        put_back(lanes, notes);
+        put_back(lanes, layout, next, notes);
     } else {
-        fill(lanes, layout, instance, placement);
+        word.placement.set_to(word.instance, word.jobs.as_slice());
+        fill(lanes, layout, word.instance, &word.placement);
     }
 }

@@ -1,13 +1,12 @@
 // Heads by position that are kept up with a word, entry by entry.
-ghost use Rattle.std.specs.Prelude.{◌≡◌, ◌^◌, ◌<◌, IfOk, []};
+ghost use Rattle.std.specs.Prelude.{◌≡◌, ◌++◌, ◌∷◌, ◌^◌, ◌<◌, IfOk, []};
 ghost use Rattle.shop_model.specs.Word.{none_placed};
 ghost use Rattle.shop_model.specs.Placements.{IsPlacement};
 ghost use Rattle.shop_bound.specs.inner.HeadLimits.{FitsLanes};
 ghost use Rattle.shop_bound.specs.inner.Layouts.{IsLaidOut};
-ghost use Rattle.shop_bound.specs.inner.LaneStates.{HasLastInLanes, HasNextInLanes, IsKeptInLanes};
-ghost use Rattle.shop_bound.specs.inner.LaneStates.{KeepsLast};
-ghost use Rattle.shop_bound.specs.inner.LaneStates.{KeepsNext};
+ghost use Rattle.shop_bound.specs.inner.LaneStates.{HasNextInLanes, IsKeptInLanes, KeepsNext};
 
+use crate::dispatched::Dispatched;
 use crate::dispatching::advance;
 use crate::estimates::Estimates;
 use crate::fills::{fill, go_back};
@@ -117,24 +116,19 @@ impl<L: Lanes> LaneHeads<L> {
         self.estimates.forget();
     }
 
-    /// The last operation, which is of this job, is taken back; the placement is that of the word without it.
-    pub(crate) fn undo(&mut self, instance: &Instance, placement: &Placement, job: usize)
-        requires { HasLastInLanes L.GREATEST instance.now placement.now job self.old }
-        ensures { KeepsLast L.GREATEST instance.now placement.now job self.old self.new }
+    /// The last operation, which is of this job, is taken back; the word is without it.
+    pub(crate) fn undo(&mut self, word: &mut Dispatched, job: usize)
+        requires { IsKeptInLanes L.GREATEST word.old.shop (word.old.word ++ job ∷ []) self.old }
+        ensures kept { IsKeptInLanes L.GREATEST word.old.shop word.old.word self.new }
+        ensures same { word.new ≡ word.old }
     {
         let last = self.marks.pop().unwrap();
         let noted = &self.notes.list()[last.first..];
-        go_back(
-            &mut self.lanes,
-            &self.layout,
-            instance,
-            placement,
-            noted,
-            last.whole,
-        );
+        let next = self.next.as_slice();
+        go_back(&mut self.lanes, &self.layout, next, word, noted, last.whole);
         self.next[job] = last.position;
         let next = self.next.as_slice();
-        keep_ends(&mut self.lanes, &self.layout, next, job, noted, last.whole);
+        keep_ends(&mut self.lanes, &self.layout, next, job, last.whole);
         self.notes.truncate(last.first);
         self.estimates.forget();
     }

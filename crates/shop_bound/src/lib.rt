@@ -4,6 +4,7 @@
 mod child_bounds;
 mod conflicts;
 mod desks;
+mod dispatched;
 mod dispatching;
 mod estimates;
 mod fills;

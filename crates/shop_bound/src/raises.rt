@@ -13,7 +13,8 @@ use shop_lanes::Lanes;
 pub(crate) fn replace<L: Lanes>(lanes: &mut L, notes: &mut Notes, position: usize, head: u64)
     requires within { position < length (L.rows lanes.old).heads }
     requires fits { head ≤ L.GREATEST }
-    requires fits_now { slice_index (L.rows lanes.old).heads position ≤ L.GREATEST }
+    requires fits_now { slice_index (L.rows lanes.old).heads position
+        + slice_index (L.rows lanes.old).times position ≤ L.GREATEST }
     ensures { Replaces L.GREATEST position head (L.rows lanes.old)
         (L.rows lanes.new) notes.old notes.new }
 {
@@ -50,10 +51,15 @@ fn raise_route<L: Lanes>(
     }
 }
 
-/// Sets the end of what stands at a position, once its head is raised to `begin`, if it is one of these next
-/// operations.
+/// Sets the end of what stands at a position, whose head is to be `begin`, if it is one of these next operations.
 #[inline(always)]
-fn set_end_at<L: Lanes>(lanes: &mut L, layout: &Layout, next: &[usize], position: usize, begin: u64)
+pub(crate) fn set_end_at<L: Lanes>(
+    lanes: &mut L,
+    layout: &Layout,
+    next: &[usize],
+    position: usize,
+    begin: u64,
+)
     requires within { position < length (L.rows lanes.old).heads }
     requires job { position < length layout.now.jobs }
     requires ends { length next.now ≤ length (L.rows lanes.old).ends }

@@ -1,11 +1,12 @@
 // What waits, in lanes as narrow as the instance allows.
 ghost use Rattle.std.specs.Prelude.{◌≡◌, ◌∷◌, ◌++◌, [], IfOk};
-ghost use Rattle.shop_model.specs.Word.{none_placed};
+ghost use Rattle.shop_model.specs.Word.{IsWord, none_placed};
 ghost use Rattle.shop_model.specs.Placements.{IsPlacement};
-ghost use Rattle.shop_bound.specs.inner.Waitings.{CanGoOnWaiting, TellsBoundAfter, WaitsStill};
-ghost use Rattle.shop_bound.specs.inner.Waitings.{HasLastWaiting, HasNextWaiting, IsWaiting};
-ghost use Rattle.shop_bound.specs.inner.Waitings.{WaitsBack, WaitsOn};
+ghost use Rattle.shop_bound.specs.Bound.{lb};
+ghost use Rattle.shop_bound.specs.inner.BoundsUpTo.{IsBoundUpTo};
+ghost use Rattle.shop_bound.specs.inner.Waitings.{HasNextWaiting, IsWaiting, WaitsOn};
 
+use crate::dispatched::Dispatched;
 use crate::lane_heads::LaneHeads;
 use crate::latest_ends::{greatest_load, latest_end};
 use crate::layouts::Layout;
@@ -58,38 +59,41 @@ impl Waiting {
         }
     }
 
-    /// The last operation, which is of this job, is taken back; the placement is that of the word without it.
+    /// The last operation, which is of this job, is taken back; the word is without it.
     #[inline(always)]
-    pub(crate) fn undo(&mut self, instance: &Instance, placement: &Placement, job: usize)
-        requires { HasLastWaiting instance.now placement.now job self.old }
-        ensures { WaitsBack instance.now placement.now job self.old self.new }
+    pub(crate) fn undo(&mut self, word: &mut Dispatched, job: usize)
+        requires { IsWaiting word.old.shop (word.old.word ++ job ∷ []) self.old }
+        ensures kept { IsWaiting word.old.shop word.old.word self.new }
+        ensures same { word.new ≡ word.old }
     {
         match self {
-            Waiting::InNarrow(heads) => heads.undo(instance, placement, job),
-            Waiting::InWide(heads) => heads.undo(instance, placement, job),
-            Waiting::InPlain(heads) => heads.undo(instance, placement, job),
+            Waiting::InNarrow(heads) => heads.undo(word, job),
+            Waiting::InWide(heads) => heads.undo(word, job),
+            Waiting::InPlain(heads) => heads.undo(word, job),
         }
     }
 
-    /// The bound after the next operation of a job, or as much of it as reaches the limit, with the bound before it at
-    /// hand; the placement is that of the word.
+    /// The bound after the next operation of a job, or as much of it as reaches the limit, with the bound of the word at
+    /// hand.
     #[inline(always)]
     pub(crate) fn bound_up_to(
         &mut self,
-        instance: &Instance,
-        placement: &Placement,
+        word: &mut Dispatched,
         job: usize,
         bound: u64,
         limit: u64,
     ) -> u64
-        requires { CanGoOnWaiting instance.now job placement.now self.old }
-        ensures bound { TellsBoundAfter instance.now job placement.now bound limit self.old result }
-        ensures kept { WaitsStill instance.now placement.now self.old self.new }
+        requires kept { IsWaiting word.old.shop word.old.word self.old }
+        requires fits { IsWord word.old.shop (word.old.word ++ job ∷ []) }
+        requires bound { bound ≡ lb word.old.shop word.old.word }
+        ensures bound { IsBoundUpTo limit (lb word.old.shop (word.old.word ++ job ∷ [])) result }
+        ensures kept { IsWaiting word.old.shop word.old.word self.new }
+        ensures same { word.new ≡ word.old }
     {
         match self {
-            Waiting::InNarrow(heads) => heads.bound_up_to(instance, placement, job, bound, limit),
-            Waiting::InWide(heads) => heads.bound_up_to(instance, placement, job, bound, limit),
-            Waiting::InPlain(heads) => heads.bound_up_to(instance, placement, job, bound, limit),
+            Waiting::InNarrow(heads) => heads.bound_up_to(word, job, bound, limit),
+            Waiting::InWide(heads) => heads.bound_up_to(word, job, bound, limit),
+            Waiting::InPlain(heads) => heads.bound_up_to(word, job, bound, limit),
         }
     }
 }

@@ -10,7 +10,6 @@ pub mod Unders
 pub mod Ranges
 pub mod StartWord
 pub mod PlacementLemmas
-pub mod TakenBack
 pub mod WordLengths
 pub mod StartRows
 pub mod PlacedTables

@@ -1,8 +1,7 @@
 -- What a program keeps of a placing: lists in place of functions.
 use Rattle.std.specs.Prelude.{◌≡◌, ℕ, ◌<◌, List, [], ◌∷◌, ◌++◌, length, slice_index}
-use Rattle.shop_model.specs.Shop.{Shop, machine_of}
+use Rattle.shop_model.specs.Shop.{Shop}
 use Rattle.shop_model.specs.Word.{Placing, IsWord, place_next, placing}
-use Rattle.shop_model.specs.declared.placements.Replaced.{Replaced}
 
 -- for each job how many of its steps are placed and when it is ready for the next one, and when
 -- each machine is free
@@ -39,24 +38,3 @@ PlacesNext shop j s t =
 abbrev pub TellsNextStart : Shop → ℕ → PlacementState → ℕ → Type 0
 TellsNextStart shop j s start =
     (p : Placing) → IsPlacement shop p s → start ≡ (place_next shop p j).begins j (p.steps j)
-
--- what the next step of job j replaces: when the job was ready and when the machine was free
-abbrev pub replaced_at : Shop → Placing → ℕ → Replaced
-replaced_at shop p j = record { ready = p.ready j; free = p.free (machine_of shop j (p.steps j)) }
-
--- whatever was placed, the next step of j replaces this
-abbrev pub TellsReplaced : Shop → ℕ → PlacementState → Replaced → Type 0
-TellsReplaced shop j s r = (p : Placing) → IsPlacement shop p s → r ≡ replaced_at shop p j
-
--- it is the placement of a word whose last entry is j, which replaced this
-pub record HasLast (shop : Shop) (j : ℕ) (r : Replaced) (s : PlacementState) : Type 0 where
-  pub word : List ℕ
-  pub fits : IsWord shop (word ++ j ∷ [])
-  pub placed : IsPlacement shop (place_next shop (placing shop word) j) s
-  pub replaced : r ≡ replaced_at shop (placing shop word) j
-
--- whatever was placed before the last step of j, which replaced this, t is the placement of it
-abbrev pub TakesBack : Shop → ℕ → Replaced → PlacementState → PlacementState → Type 0
-TakesBack shop j r s t =
-    (p : Placing) → IsPlacement shop (place_next shop p j) s → r ≡ replaced_at shop p j
-    → IsPlacement shop p t

@@ -2,3 +2,4 @@ pub mod Steps
 pub mod Spans
 pub mod FirstFaults
 pub mod NonePlaced
+pub mod ClearPlacements

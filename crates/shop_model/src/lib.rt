@@ -19,7 +19,7 @@ pub use instances::{Instance, JobsFault, SizeFault};
 pub use laws::operations_begin_as_soon_as_they_can;
 pub use limits::{MAX_JOBS, MAX_MACHINES, MAX_START, MAX_STEPS, MAX_TIME};
 pub use ops::{Job, Op, Position};
-pub use placements::{Placement, Replaced};
+pub use placements::Placement;
 pub use placing::place;
 pub use tables::Table;
 pub use words::{Word, fits, is_full, start_word};

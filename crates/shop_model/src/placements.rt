@@ -1,20 +1,14 @@
 // What stands once the operations of a word are placed.
 ghost use Rattle.std.specs.Prelude.{◌≡◌, ◌<◌, IfOk, length, slice_index};
-ghost use Rattle.shop_model.specs.Placements.{HasLast, HasNext, IsPlacement, PlacesNext};
-ghost use Rattle.shop_model.specs.Placements.{TakesBack, TellsNextStart, TellsReplaced};
+ghost use Rattle.shop_model.specs.Placements.{HasNext, HasPlaces, IsPlacement, PlacesNext};
+ghost use Rattle.shop_model.specs.Placements.{TellsNextStart};
 ghost use Rattle.shop_model.specs.Word.{IsWord, none_placed, placing};
+ghost use Rattle.shop_model.specs.inner.ClearPlacements.{IsClearUpTo};
 
 use crate::instances::Instance;
 use crate::words::Word;
 use std::alloc::{AllocError, Global};
 use std::marker::Model;
-
-/// What stood before an operation was placed: when its job was ready and when its machine was free.
-#[derive(Clone, Copy, Debug)]
-pub struct Replaced {
-    pub ready: u64,
-    pub free: u64,
-}
 
 /// What a word that was placed leaves: for each job how many of its steps are placed and when it is ready for the next
 /// one, and for each machine when it is free.
@@ -55,11 +49,51 @@ impl Placement {
         ensures { IfOk result (λ s. IsPlacement instance.now (placing instance.now word.now) s) }
     {
         let mut placement = Placement::none(alloc, instance)?;
-        let jobs = word.jobs();
-        for &j in jobs {
-            let _start = placement.place_next(instance, j);
-        }
+        placement.place_all(instance, word.jobs());
         Ok(placement)
+    }
+
+    /// Places the operations of a list of jobs that fits the instance in place of what was placed; takes no memory.
+    pub fn set_to(&mut self, instance: &Instance, jobs: &[usize])
+        requires places { HasPlaces instance.now self.old }
+        requires word { IsWord instance.now jobs.now }
+        ensures { IsPlacement instance.now (placing instance.now jobs.now) self.new }
+    {
+        self.clear_jobs(instance);
+        self.clear_machines(instance);
+        self.place_all(instance, jobs);
+    }
+
+    /// No step of any job is placed.
+    fn clear_jobs(&mut self, instance: &Instance)
+        requires { HasPlaces instance.now self.old }
+        ensures { IsClearUpTo instance.now (length instance.now.jobs) 0 self.new }
+    {
+        for j in 0..instance.jobs() {
+            self.steps[j] = 0;
+            self.ready[j] = instance.release(j);
+        }
+    }
+
+    /// Nothing is placed, where no step of any job is.
+    fn clear_machines(&mut self, instance: &Instance)
+        requires { IsClearUpTo instance.now (length instance.now.jobs) 0 self.old }
+        ensures { IsPlacement instance.now (none_placed instance.now) self.new }
+    {
+        for m in 0..instance.machines() {
+            self.free[m] = 0;
+        }
+    }
+
+    /// Places the operations of a list of jobs that fits the instance, where nothing is placed.
+    fn place_all(&mut self, instance: &Instance, jobs: &[usize])
+        requires none { IsPlacement instance.now (none_placed instance.now) self.old }
+        requires word { IsWord instance.now jobs.now }
+        ensures { IsPlacement instance.now (placing instance.now jobs.now) self.new }
+    {
+        for &j in jobs {
+            let _start = self.place_next(instance, j);
+        }
     }
 
     /// Places the next step of job j as soon as the job and its machine can; tells when it begins.
@@ -76,31 +110,6 @@ impl Placement {
         self.ready[j] = finish;
         self.free[op.machine] = finish;
         start
-    }
-
-    /// What the next step of job j replaces once it is placed.
-    pub fn next_replaces(&self, instance: &Instance, j: usize) -> Replaced
-        requires { HasNext instance.now j self.now }
-        ensures { TellsReplaced instance.now j self.now result }
-    {
-        let k = self.steps[j];
-        let machine = instance.route(j)[k].machine;
-        Replaced {
-            ready: self.ready[j],
-            free: self.free[machine],
-        }
-    }
-
-    /// Takes back the last placed step of job j, which no other one followed, and which replaced this.
-    pub fn take_back(&mut self, instance: &Instance, j: usize, replaced: Replaced)
-        requires { HasLast instance.now j replaced self.old }
-        ensures { TakesBack instance.now j replaced self.old self.new }
-    {
-        let k = self.steps[j] - 1;
-        let op = instance.route(j)[k];
-        self.steps[j] = k;
-        self.ready[j] = replaced.ready;
-        self.free[op.machine] = replaced.free;
     }
 
     /// How many steps of the job are placed.

@@ -3,8 +3,7 @@
 --     IsNextAt, IsNextOperation      the next operation of a job
 --     HasRaised greatest mark s      heads were raised, and what they were is noted behind a mark
 --     IsBoundByRaises ..             what begins within these raises, as far as the limit
---     TellsRaisedBound               the bound after it, as far as the limit, where what waits on
---                                    its machine is looked at before
+--     IsLeastAfter                   what is known of the bound after it before heads are raised
 use Rattle.std.specs.Prelude.{◌≡◌, ℕ, ◌+◌, ◌≤◌, ◌<◌, true, false, List, [], ◌∷◌, ◌++◌, All, drop}
 use Rattle.std.specs.Prelude.{length, slice_index}
 use Rattle.shop_lanes.specs.Rows.{Rows, with_head}
@@ -12,13 +11,11 @@ use Rattle.shop_lanes.specs.Spans.{span, spans_between}
 use Rattle.shop_model.specs.Shop.{Shop, machine_of}
 use Rattle.shop_model.specs.Word.{IsWord, place_next, placing}
 use Rattle.shop_bound.specs.Bound.{lb}
-use Rattle.shop_bound.specs.inner.BoundsUpTo.{IsBoundUpTo}
-use Rattle.shop_model.specs.Placements.{PlacementState, IsPlacement}
 use Rattle.shop_bound.specs.inner.LaneBounds.{AreMachinesAt, AreSpansFit, lanes_on}
 use Rattle.shop_bound.specs.inner.Estimates.{IsNoteCovered}
 use Rattle.shop_bound.specs.inner.HeadRaises.{raise_of}
 use Rattle.shop_bound.specs.inner.MachineRaises.{AreEmpty}
-use Rattle.shop_bound.specs.inner.LaneStates.{AreHeadsInLanes, IsKeptInLanes, LaneState}
+use Rattle.shop_bound.specs.inner.LaneStates.{AreHeadsInLanes, LaneState}
 use Rattle.shop_bound.specs.inner.Layouts.{LayoutState, place}
 use Rattle.shop_bound.specs.declared.head_raises.Raise.{Raise}
 use Rattle.shop_bound.specs.declared.notes.Mark.{Mark}
@@ -95,12 +92,3 @@ pub record IsLeastAfter (shop : Shop) (w : List ℕ) (l : LayoutState) (rows : R
   pub ends : end ≤ least + 1
   pub ahead : span 1 end (lanes_on (with_head rows position 0) l machine) ≤ least + 1
   pub most : least ≤ lb shop (w ++ job ∷ [])
-
--- whichever word the heads are of
-abbrev pub TellsRaisedBound : ℕ → Shop → ℕ → PlacementState → LaneState → ℕ → ℕ → ℕ → ℕ → ℕ → ℕ
-    → Type 0
-TellsRaisedBound greatest shop job p s position machine end least limit b =
-    (w : List ℕ) → IsKeptInLanes greatest shop w s → IsPlacement shop (placing shop w) p
-    → IsWord shop (w ++ job ∷ [])
-    → IsLeastAfter shop w s.layout s.rows job position machine end least
-    → IsBoundUpTo limit (lb shop (w ++ job ∷ [])) b

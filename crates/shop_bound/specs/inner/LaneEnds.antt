@@ -5,15 +5,13 @@
 --     AreEndsOf greatest nexts rows      the ends are these
 --     CanKeepEnds greatest l nexts rows  they can be set
 --     HasEnds old new                    the ends alone differ
---     AreEndsButNoted .. notes           the ends are these but where a note stands at the next
---                                        operation
-use Rattle.std.specs.Prelude.{◌≡◌, ℕ, ◌+◌, ◌≤◌, ◌<◌, ◌^◌, ◌⊎◌, List, [], ◌∷◌}
+--     AreEndsButOf greatest nexts rows job   the ends are these but for one job
+use Rattle.std.specs.Prelude.{◌≡◌, ℕ, ◌+◌, ◌≤◌, ◌<◌, ◌^◌, List}
 use Rattle.std.specs.Prelude.{length, slice_index}
 use Rattle.std.specs.Prelude.{if◌then◌else◌, nat_lt}
 use Rattle.shop_lanes.specs.Rows.{Rows}
 use Rattle.shop_bound.specs.inner.LaneChoices.{AreNextPlaced}
 use Rattle.shop_bound.specs.inner.Layouts.{LayoutState}
-use Rattle.shop_bound.specs.declared.notes.Note.{Note}
 
 abbrev pub end_at : ℕ → List ℕ → Rows → ℕ → ℕ
 end_at greatest nexts rows j =
@@ -43,14 +41,6 @@ pub record HasEnds (old new : Rows) : Type 0 where
   pub tails : new.tails ≡ old.tails
   pub ends : length new.ends ≡ length old.ends
 
-abbrev pub IsNotedAt : List Note → ℕ → Type 0
-IsNotedAt [] q = ⊥
-IsNotedAt (note ∷ notes) q = (note.position ≡ q) ⊎ IsNotedAt notes q
-
-abbrev pub AreEndsButNoted : ℕ → List ℕ → Rows → List Note → Type 0
-AreEndsButNoted greatest nexts rows notes = (j : ℕ) → j < length nexts
-    → IsEndOf greatest nexts rows j ⊎ IsNotedAt notes (slice_index nexts j)
-
-abbrev pub AreEndsButJob : ℕ → List ℕ → Rows → List Note → ℕ → Type 0
-AreEndsButJob greatest nexts rows notes job = (j : ℕ) → j < length nexts → (j ≡ job → ⊥)
-    → IsEndOf greatest nexts rows j ⊎ IsNotedAt notes (slice_index nexts j)
+abbrev pub AreEndsButOf : ℕ → List ℕ → Rows → ℕ → Type 0
+AreEndsButOf greatest nexts rows job =
+    (j : ℕ) → j < length nexts → (j ≡ job → ⊥) → IsEndOf greatest nexts rows j

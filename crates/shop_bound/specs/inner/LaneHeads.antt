@@ -2,8 +2,8 @@
 --     AreHeadsAt shop p l heads      one more than the head of what waits at a position, 0 where
 --                                    nothing does
 --     restored notes heads           the heads before what was noted, the last note put back first
---     LeadsBack greatest old new was now      if all was noted since, the new notes lead from the
---                                             heads back to what they were
+--     LeadsBack greatest times old new was now   if all was noted since, the new notes lead from
+--                                    the heads back to what they were
 --     IsTrail shop l w marks notes heads   the notes lead back through all entries of the word
 --     AreHeadsFit greatest shop      no head or end is too great to be stored
 use Rattle.std.specs.Prelude.{◌≡◌, ℕ, ◌+◌, ◌≤◌, ◌<◌, Bool, true, false, ◌⊎◌, ◌++◌, List, [], ◌∷◌}
@@ -40,14 +40,16 @@ abbrev pub IsNoted : Note → NotesState → NotesState → Type 0
 IsNoted note old new = ((new.list ≡ old.list ++ note ∷ []) × (new.whole ≡ old.whole))
     ⊎ ((new.list ≡ old.list) × (new.whole ≡ false))
 
--- each can be put back into lanes
-abbrev pub AreNotesFit : ℕ → ℕ → List Note → Type 0
-AreNotesFit greatest positions notes =
-    AllByRecursion (λ n. (n.position < positions) × (n.head ≤ greatest)) notes
+-- each can be put back into lanes, and its end with it
+abbrev pub AreNotesFit : ℕ → ℕ → List ℕ → List Note → Type 0
+AreNotesFit greatest positions times notes =
+    AllByRecursion (λ n. (n.position < positions)
+    × (n.head + slice_index times n.position ≤ greatest)) notes
 
-pub record LeadsBack (greatest : ℕ) (old new : NotesState) (was now : List ℕ) : Type 0 where
+pub record LeadsBack (greatest : ℕ) (times : List ℕ) (old new : NotesState)
+    (was now : List ℕ) : Type 0 where
   pub more : List Note
-  pub fit : AreNotesFit greatest (length was) more
+  pub fit : AreNotesFit greatest (length was) times more
   pub positions : length now ≡ length was
   pub are : new.list ≡ old.list ++ more
   pub whole : new.whole ≡ true → old.whole ≡ true

@@ -9,9 +9,6 @@ use Rattle.shop_lanes.specs.Rows.{Rows}
 use Rattle.shop_model.specs.Limits.{IsWithinLimits}
 use Rattle.shop_model.specs.Shop.{Shop, operation_count}
 use Rattle.shop_model.specs.Word.{IsWord, placing}
-use Rattle.shop_bound.specs.Bound.{lb}
-use Rattle.shop_bound.specs.inner.BoundsUpTo.{IsBoundUpTo}
-use Rattle.shop_model.specs.Placements.{PlacementState, IsPlacement}
 use Rattle.shop_bound.specs.inner.Estimates.{AreEstimates}
 use Rattle.shop_bound.specs.inner.HeadLimits.{FitsLanes, latest_end}
 use Rattle.shop_bound.specs.inner.LaneChoices.{AreEndsAt, AreNextsOf}
@@ -58,7 +55,7 @@ pub record LaneState : Type 0 where
 pub record IsKeptInLanes (greatest : ℕ) (shop : Shop) (w : List ℕ) (s : LaneState) : Type 0 where
   pub kept : AreHeadsInLanes greatest shop w s.layout s.rows
   pub nexts : AreNextsOf shop (placing shop w) s.layout s.nexts
-  pub notes_fit : AreNotesFit greatest (length s.rows.heads) s.notes.list
+  pub notes_fit : AreNotesFit greatest (length s.rows.heads) s.rows.times s.notes.list
   pub trail : IsTrail shop s.layout w s.marks s.notes.list s.rows.heads
   pub as_many : length s.marks ≡ length w
   pub marks_room : operation_count shop ≤ s.room
@@ -91,7 +88,8 @@ pub record Advances (greatest : ℕ) (l : LayoutState) (nexts : List ℕ) (posit
   pub first : mark.first ≡ length before.list
   pub whole : mark.whole ≡ after.whole
   pub at : mark.position ≡ position
-  pub noted : LeadsBack greatest (record before { whole = true }) after old.heads new.heads
+  pub noted : LeadsBack greatest old.times (record before { whole = true }) after
+      old.heads new.heads
   pub heads : (shop : Shop) (w : List ℕ) (j : ℕ) → AreHeadsInLanes greatest shop w l old
       → IsWord shop (w ++ j ∷ []) → position ≡ place l j ((placing shop w).steps j)
       → AreHeadsInLanes greatest shop (w ++ j ∷ []) l new
@@ -108,32 +106,8 @@ pub record HasNextInLanes (greatest : ℕ) (j : ℕ) (s : LaneState) : Type 0 wh
   pub kept : IsKeptInLanes greatest shop word s
   pub fits : IsWord shop (word ++ j ∷ [])
 
--- the last operation was of job j, and the placement is that of the word without it
-pub record HasLastInLanes (greatest : ℕ) (shop : Shop) (p : PlacementState) (j : ℕ)
+-- the word can go on with job j
+pub record CanGoOnInLanes (greatest : ℕ) (shop : Shop) (w : List ℕ) (j : ℕ)
     (s : LaneState) : Type 0 where
-  pub word : List ℕ
-  pub kept : IsKeptInLanes greatest shop (word ++ j ∷ []) s
-  pub placed : IsPlacement shop (placing shop word) p
-
-abbrev pub KeepsLast : ℕ → Shop → PlacementState → ℕ → LaneState → LaneState → Type 0
-KeepsLast greatest shop p j old new =
-    (w : List ℕ) → IsKeptInLanes greatest shop (w ++ j ∷ []) old
-    → IsPlacement shop (placing shop w) p → IsKeptInLanes greatest shop w new
-
--- a word can go on with job j, and this is its placement
-pub record CanGoOnInLanes (greatest : ℕ) (shop : Shop) (j : ℕ) (p : PlacementState)
-    (s : LaneState) : Type 0 where
-  pub word : List ℕ
-  pub kept : IsKeptInLanes greatest shop word s
-  pub fits : IsWord shop (word ++ j ∷ [])
-  pub placed : IsPlacement shop (placing shop word) p
-
--- the bound after one more operation, as far as the limit
-abbrev pub TellsBoundInLanes : ℕ → Shop → ℕ → PlacementState → ℕ → ℕ → LaneState → ℕ → Type 0
-TellsBoundInLanes greatest shop j p bound limit s b = (w : List ℕ) → IsKeptInLanes greatest shop w s
-    → IsPlacement shop (placing shop w) p → IsWord shop (w ++ j ∷ []) → bound ≡ lb shop w
-    → IsBoundUpTo limit (lb shop (w ++ j ∷ [])) b
-
-abbrev pub KeepsLanes : ℕ → Shop → PlacementState → LaneState → LaneState → Type 0
-KeepsLanes greatest shop p old new = (w : List ℕ) → IsKeptInLanes greatest shop w old
-    → IsPlacement shop (placing shop w) p → IsKeptInLanes greatest shop w new
+  pub kept : IsKeptInLanes greatest shop w s
+  pub fits : IsWord shop (w ++ j ∷ [])

@@ -100,13 +100,13 @@ pub record Raises (greatest : ℕ) (l : LayoutState) (nexts : List ℕ) (among :
   pub times : new.times ≡ old.times
   pub tails : new.tails ≡ old.tails
   pub ends : KeepsEnds greatest nexts old new
-  pub noted : LeadsBack greatest before after old.heads new.heads
+  pub noted : LeadsBack greatest old.times before after old.heads new.heads
 
 -- one head was replaced, and noted
 pub record Replaces (greatest position head : ℕ) (old new : Rows)
     (before after : NotesState) : Type 0 where
   pub rows : new ≡ with_head old position head
-  pub noted : LeadsBack greatest before after old.heads new.heads
+  pub noted : LeadsBack greatest old.times before after old.heads new.heads
 
 -- one position, and those of some blocks
 abbrev pub IsPosition : ℕ → ℕ → Type 0

@@ -34,7 +34,7 @@ replace-requires-clause-fits_now g c =
     let a = (end_small g.L.Lanes.GREATEST c.requires.next.shop c.args.layout.now (g.L.Lanes.rows c.args.lanes.now)
     c.requires.next.word c.requires.next.job c.requires.next.kept c.requires.next.fits
     c.args.position c.head.result c.time.result
-    c.requires.next.at c.head.ensures c.time.ensures).0 in let b = c.head.ensures in omega arith
+    c.requires.next.at c.head.ensures c.time.ensures).1 in let b = c.head.ensures in let d = c.time.ensures in omega arith
 
 pub raise-requires-clause-machine : goal.raise-requires-clause-machine
 raise-requires-clause-machine g c = lifted_blocks g.L.Lanes.GREATEST c.requires.next.shop c.args.layout.now
@@ -126,8 +126,8 @@ returns g c = record {
   first = c.begin-first.ensures.first;
   whole = c.is_whole.ensures;
   at = refl;
-  noted = subst (λ (n : NotesState). LeadsBack g.L.Lanes.GREATEST n c.raise.new.notes
-      (g.L.Lanes.rows c.args.lanes.now).heads (g.L.Lanes.rows c.raise.new.lanes).heads) c.begin-first.ensures.whole
+  noted = subst (λ (n : NotesState). LeadsBack g.L.Lanes.GREATEST (g.L.Lanes.rows c.args.lanes.now).times n
+      c.raise.new.notes (g.L.Lanes.rows c.args.lanes.now).heads (g.L.Lanes.rows c.raise.new.lanes).heads) c.begin-first.ensures.whole
       (advanced_noted g.L.Lanes.GREATEST c.requires.next.shop c.args.layout.now (g.L.Lanes.rows c.args.lanes.now)
       c.requires.next.word c.requires.next.job c.requires.next.kept c.requires.next.fits
       c.args.position c.head.result c.time.result

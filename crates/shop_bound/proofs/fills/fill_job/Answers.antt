@@ -46,7 +46,8 @@ set_head-requires-in-loop-step-clause-fits g c =
     (places_read c.args.layout.now c.args.job c.places-places.result.now c.places-places.ensures c.loop-step.step)
     c.steps-placed.result c.steps-placed.ensures c.if-step-placed.false c.route-route.result.now
     c.route-route.ensures.route c.max-head.result
-    (subst (λ (x : ℕ). c.max-head.result ≡ max c.loop-step.ready x) c.free.ensures c.max-head.ensures)).0
+    (subst (λ (x : ℕ). c.max-head.result ≡ max c.loop-step.ready x) c.free.ensures c.max-head.ensures)
+    c.requires.of).0
 
 pub loop-step-preserved : goal.loop-step-preserved
 loop-step-preserved g c =

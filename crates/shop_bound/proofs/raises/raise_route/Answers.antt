@@ -14,7 +14,7 @@ replace-requires-in-loop-next-clause-fits_now g c =
     let fits = (following_fits g.L.Lanes.GREATEST c.args.layout.now c.args.position c.args.end
     (g.L.Lanes.rows c.args.lanes.now) c.requires.raisable c.requires.waits c.loop-next.next c.loop-next.ready
     (g.L.Lanes.rows c.loop-next.lanes) c.args.notes.now c.loop-next.notes c.loop-next.invariant c.positions.result
-    c.positions.ensures c.loop-next-test.true).0
+    c.positions.ensures c.loop-next-test.true).1
     in let head = c.head.ensures
     in let below = c.if-head-ready.false
     in omega arith

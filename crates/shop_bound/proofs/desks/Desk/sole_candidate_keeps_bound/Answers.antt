@@ -6,7 +6,6 @@ use Rattle.shop_bound.proofs.desks.Desk.sole_candidate_keeps_bound.Goals as goal
 
 pub returns : goal.returns
 returns c =
-    let kept = c.self.invariant.kept
+    let w = c.self.inside.word
     in subst (λ (d : DeskState). SoleCandidateKeepsBound d.shop d.word) c.self.view_is
-    (waiting_keeps_bound c.self.inside.instance.now kept.limits c.self.inside.jobs.items kept.word _
-    c.self.invariant.lanes)
+    (waiting_keeps_bound w.shop c.keeps_word.ensures.limits w.word c.keeps_word.ensures.word _ c.self.invariant)

@@ -4,6 +4,7 @@ use Rattle.shop_model.specs.Word.{placing}
 use Rattle.shop_model.specs.Placements.{PlacementState, IsPlacement}
 use Rattle.shop_bound.specs.inner.LaneBounds.{AreSpansFit}
 use Rattle.shop_bound.specs.inner.LaneStates.{IsKeptInLanes, LaneState}
+use Rattle.shop_bound.proofs.DeskSteps.{placed_word}
 use Rattle.shop_bound.proofs.LaneFits.{spans_fit}
 use Rattle.shop_bound.proofs.LaneStandings.{standing_is}
 use Rattle.shop_bound.proofs.lane_heads.LaneHeads.bound.Goals as goal
@@ -21,17 +22,22 @@ kept_fit greatest shop w s kept p placed free is =
 
 pub bound_of_machines-requires : goal.bound_of_machines-requires
 bound_of_machines-requires g c = record {
-  fits = kept_fit g.L.Lanes.GREATEST c.args.instance.now c.requires.word _
-      (subst (λ (s : LaneState). IsKeptInLanes g.L.Lanes.GREATEST c.args.instance.now c.requires.word s)
-      (sym c.self.view_is) c.requires.kept) c.args.placement.now c.requires.placed c.machines_free.result.now
-      c.machines_free.ensures;
+  fits = kept_fit g.L.Lanes.GREATEST c.args.word.now.shop c.args.word.now.word _
+      (subst (λ (s : LaneState). IsKeptInLanes g.L.Lanes.GREATEST c.args.word.now.shop c.args.word.now.word s)
+      (sym c.self.view_is) c.requires) c.set_to.new.self
+      (placed_word c.word.inside.instance.now c.word.inside.jobs.items _ c.word.view_is c.as_slice.result.now
+      c.as_slice.ensures.value c.set_to.new.self c.set_to.ensures) c.machines_free-free.result.now
+      c.machines_free-free.ensures;
 }
 
-pub returns : goal.returns
-returns g c = λ w kept placed.
-    let k = subst (λ (s : LaneState). IsKeptInLanes g.L.Lanes.GREATEST c.args.instance.now w s)
-    (sym c.self.view_is) kept
+pub returns-clause-bound : goal.returns-clause-bound
+returns-clause-bound g c =
+    let k = subst (λ (s : LaneState). IsKeptInLanes g.L.Lanes.GREATEST c.args.word.now.shop c.args.word.now.word s)
+    (sym c.self.view_is) c.requires
     in c.bound_of_machines.ensures
-    ∙ standing_is g.L.Lanes.GREATEST c.args.instance.now w c.self.inside.layout
+    ∙ standing_is g.L.Lanes.GREATEST c.args.word.now.shop c.args.word.now.word c.self.inside.layout
     (g.L.Lanes.rows c.self.inside.lanes) k.kept
-    c.args.placement.now placed c.machines_free.result.now c.machines_free.ensures c.self.inside.top k.bounds.top_is
+    c.set_to.new.self
+    (placed_word c.word.inside.instance.now c.word.inside.jobs.items _ c.word.view_is c.as_slice.result.now
+    c.as_slice.ensures.value c.set_to.new.self c.set_to.ensures) c.machines_free-free.result.now c.machines_free-free.ensures
+    c.self.inside.top k.bounds.top_is

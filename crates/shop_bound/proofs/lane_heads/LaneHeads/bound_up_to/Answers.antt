@@ -1,6 +1,6 @@
 use Rattle.std.proofs.Common.{◌∙◌, ◌<◌, ℕ, get_or, ap, sym, subst, arith}
 use Rattle.shop_model.specs.Word.{placing}
-use Rattle.shop_bound.specs.inner.LaneStates.{CanGoOnInLanes, IsKeptInLanes, LaneState}
+use Rattle.shop_bound.specs.inner.LaneStates.{CanGoOnInLanes, LaneState}
 use Rattle.shop_bound.proofs.ChildReads.{after_foresight, at_limit, end_here, end_latest, end_small, foreseen_is}
 use Rattle.shop_bound.proofs.ChildReads.{head_here, left_fits, machine_here, place_within}
 use Rattle.shop_bound.proofs.LaneFits.{spans_fit}
@@ -9,56 +9,57 @@ use Rattle.shop_bound.proofs.lane_heads.LaneHeads.bound_up_to.Goals as goal
 
 pub index-requires : goal.index-requires
 index-requires g c =
-    let can = subst (λ (s : LaneState). CanGoOnInLanes g.L.Lanes.GREATEST c.args.instance.now c.args.job
-    c.args.placement.now s) (sym c.self.view_is) c.requires
-    in let known = next_known g.L.Lanes.GREATEST c.args.instance.now can.word c.args.job _ can.kept can.fits
+    let can = subst (λ (s : LaneState). CanGoOnInLanes g.L.Lanes.GREATEST c.args.word.now.shop c.args.word.now.word
+    c.args.job s) (sym c.self.view_is) c.requires.can
+    in let known = next_known g.L.Lanes.GREATEST c.args.word.now.shop c.args.word.now.word c.args.job _ can.kept can.fits
     in let long = c.self.inside.next.ok.0 in omega arith
 
 pub next_operation-next-requires : goal.next_operation-next-requires
 next_operation-next-requires g c =
-    let can = subst (λ (s : LaneState). CanGoOnInLanes g.L.Lanes.GREATEST c.args.instance.now c.args.job
-    c.args.placement.now s) (sym c.self.view_is) c.requires
+    let can = subst (λ (s : LaneState). CanGoOnInLanes g.L.Lanes.GREATEST c.args.word.now.shop c.args.word.now.word
+    c.args.job s) (sym c.self.view_is) c.requires.can
     in record {
       l = c.self.inside.layout;
-      shop = c.args.instance.now;
-      word = can.word;
+      shop = c.args.word.now.shop;
+      word = c.args.word.now.word;
       job = c.args.job;
       kept = can.kept.kept;
       fits = can.fits;
-      at = next_at g.L.Lanes.GREATEST c.args.instance.now can.word c.args.job _ can.kept can.fits c.index.result.now
+      at = next_at g.L.Lanes.GREATEST c.args.word.now.shop c.args.word.now.word c.args.job _ can.kept can.fits c.index.result.now
           c.index.ensures;
       machines_at = rw c.machines-machines.ensures can.kept.kept.laid.machines_at;
     }
 
 pub overflow_sub-next : goal.overflow_sub-next
 overflow_sub-next g c =
-    let can = subst (λ (s : LaneState). CanGoOnInLanes g.L.Lanes.GREATEST c.args.instance.now c.args.job
-    c.args.placement.now s) (sym c.self.view_is) c.requires
-    in let next = c.next_operation-next.ensures c.self.inside.layout c.args.instance.now can.word c.args.job
+    let can = subst (λ (s : LaneState). CanGoOnInLanes g.L.Lanes.GREATEST c.args.word.now.shop c.args.word.now.word
+    c.args.job s) (sym c.self.view_is) c.requires.can
+    in let next = c.next_operation-next.ensures c.self.inside.layout c.args.word.now.shop c.args.word.now.word c.args.job
     can.kept.kept can.fits
-    (next_at g.L.Lanes.GREATEST c.args.instance.now can.word c.args.job _ can.kept can.fits c.index.result.now
+    (next_at g.L.Lanes.GREATEST c.args.word.now.shop c.args.word.now.word c.args.job _ can.kept can.fits c.index.result.now
     c.index.ensures)
     (rw c.machines-machines.ensures can.kept.kept.laid.machines_at)
     in let end = next.end_is in omega arith
 
 pub returns-then-limit-least-clause-bound : goal.returns-then-limit-least-clause-bound
-returns-then-limit-least-clause-bound g c = λ w was placed fits parent.
-    let kept = subst (λ (s : LaneState). IsKeptInLanes g.L.Lanes.GREATEST c.args.instance.now w s) (sym c.self.view_is)
-    was
-    in let next = c.next_operation-next.ensures c.self.inside.layout c.args.instance.now w c.args.job kept.kept fits
-    (next_at g.L.Lanes.GREATEST c.args.instance.now w c.args.job _ kept fits c.index.result.now c.index.ensures)
+returns-then-limit-least-clause-bound g c =
+    let can = subst (λ (s : LaneState). CanGoOnInLanes g.L.Lanes.GREATEST c.args.word.now.shop c.args.word.now.word
+    c.args.job s) (sym c.self.view_is) c.requires.can
+    in let w = c.args.word.now.word in let kept = can.kept in let fits = can.fits in let parent = c.requires.bound
+    in let next = c.next_operation-next.ensures c.self.inside.layout c.args.word.now.shop w c.args.job kept.kept fits
+    (next_at g.L.Lanes.GREATEST c.args.word.now.shop w c.args.job _ kept fits c.index.result.now c.index.ensures)
     (rw c.machines-machines.ensures kept.kept.laid.machines_at)
     in let end = next.end_is
     in let least = c.max-least.ensures
-    in at_limit g.L.Lanes.GREATEST c.args.instance.now w c.self.inside.layout
+    in at_limit g.L.Lanes.GREATEST c.args.word.now.shop w c.self.inside.layout
     (g.L.Lanes.rows c.self.inside.lanes) kept.kept c.args.job
     fits c.max-least.result c.args.limit (omega arith) c.if-limit-least.true
 
 pub foresee-foreseen-requires : goal.foresee-foreseen-requires
 foresee-foreseen-requires g c =
-    let can = subst (λ (s : LaneState). CanGoOnInLanes g.L.Lanes.GREATEST c.args.instance.now c.args.job
-    c.args.placement.now s) (sym c.self.view_is) c.requires
-    in let shop = c.args.instance.now in let w = can.word in let l = c.self.inside.layout
+    let can = subst (λ (s : LaneState). CanGoOnInLanes g.L.Lanes.GREATEST c.args.word.now.shop c.args.word.now.word
+    c.args.job s) (sym c.self.view_is) c.requires.can
+    in let shop = c.args.word.now.shop in let w = c.args.word.now.word in let l = c.self.inside.layout
     in let rows = g.L.Lanes.rows c.self.inside.lanes
     in let kept = can.kept.kept in let fits = can.fits in let holds = can.kept.bounds.holds
     in let next = c.next_operation-next.ensures l shop w c.args.job kept fits
@@ -90,59 +91,66 @@ foresee-foreseen-requires g c =
     }
 
 pub returns-then-foreseen-clause-bound : goal.returns-then-foreseen-clause-bound
-returns-then-foreseen-clause-bound g c = λ w was placed fits parent.
-    let kept = subst (λ (s : LaneState). IsKeptInLanes g.L.Lanes.GREATEST c.args.instance.now w s) (sym c.self.view_is)
-    was
-    in let next = c.next_operation-next.ensures c.self.inside.layout c.args.instance.now w c.args.job kept.kept fits
-    (next_at g.L.Lanes.GREATEST c.args.instance.now w c.args.job _ kept fits c.index.result.now c.index.ensures)
+returns-then-foreseen-clause-bound g c =
+    let can = subst (λ (s : LaneState). CanGoOnInLanes g.L.Lanes.GREATEST c.args.word.now.shop c.args.word.now.word
+    c.args.job s) (sym c.self.view_is) c.requires.can
+    in let w = c.args.word.now.word in let kept = can.kept in let fits = can.fits in let parent = c.requires.bound
+    in let next = c.next_operation-next.ensures c.self.inside.layout c.args.word.now.shop w c.args.job kept.kept fits
+    (next_at g.L.Lanes.GREATEST c.args.word.now.shop w c.args.job _ kept fits c.index.result.now c.index.ensures)
     (rw c.machines-machines.ensures kept.kept.laid.machines_at)
     in let end = next.end_is
     in let least = c.max-least.ensures
-    in foreseen_is g.L.Lanes.GREATEST c.args.instance.now w c.self.inside.layout (g.L.Lanes.rows c.self.inside.lanes)
+    in foreseen_is g.L.Lanes.GREATEST c.args.word.now.shop w c.self.inside.layout (g.L.Lanes.rows c.self.inside.lanes)
     kept.kept c.args.job fits c.max-least.result c.args.limit (omega arith) c.next_operation-next.result.position
     c.next_operation-next.result.machine c.next_operation-next.result.end next.position_is next.machine_is next.end_is
     c.foresee-foreseen.result c.foresee-foreseen.ensures.foresees c.if-foreseen.true
 
 pub raised_bound-requires-clause-position : goal.raised_bound-requires-clause-position
 raised_bound-requires-clause-position g c =
-    let can = subst (λ (s : LaneState). CanGoOnInLanes g.L.Lanes.GREATEST c.args.instance.now c.args.job
-    c.args.placement.now s) (sym c.self.view_is) c.requires
-    in let next = c.next_operation-next.ensures c.self.inside.layout c.args.instance.now can.word c.args.job
+    let can = subst (λ (s : LaneState). CanGoOnInLanes g.L.Lanes.GREATEST c.args.word.now.shop c.args.word.now.word
+    c.args.job s) (sym c.self.view_is) c.requires.can
+    in let next = c.next_operation-next.ensures c.self.inside.layout c.args.word.now.shop c.args.word.now.word c.args.job
     can.kept.kept can.fits
-    (next_at g.L.Lanes.GREATEST c.args.instance.now can.word c.args.job _ can.kept can.fits c.index.result.now
+    (next_at g.L.Lanes.GREATEST c.args.word.now.shop c.args.word.now.word c.args.job _ can.kept can.fits c.index.result.now
     c.index.ensures)
     (rw c.machines-machines.ensures can.kept.kept.laid.machines_at)
-    in next.position_is ∙ sym (next_is g.L.Lanes.GREATEST c.args.instance.now can.word c.args.job _ can.kept can.fits)
+    in next.position_is ∙ sym (next_is g.L.Lanes.GREATEST c.args.word.now.shop c.args.word.now.word c.args.job _ can.kept can.fits)
 
 pub raised_bound-requires-clause-machine : goal.raised_bound-requires-clause-machine
 raised_bound-requires-clause-machine g c =
-    let can = subst (λ (s : LaneState). CanGoOnInLanes g.L.Lanes.GREATEST c.args.instance.now c.args.job
-    c.args.placement.now s) (sym c.self.view_is) c.requires
-    in let next = c.next_operation-next.ensures c.self.inside.layout c.args.instance.now can.word c.args.job
+    let can = subst (λ (s : LaneState). CanGoOnInLanes g.L.Lanes.GREATEST c.args.word.now.shop c.args.word.now.word
+    c.args.job s) (sym c.self.view_is) c.requires.can
+    in let next = c.next_operation-next.ensures c.self.inside.layout c.args.word.now.shop c.args.word.now.word c.args.job
     can.kept.kept can.fits
-    (next_at g.L.Lanes.GREATEST c.args.instance.now can.word c.args.job _ can.kept can.fits c.index.result.now
+    (next_at g.L.Lanes.GREATEST c.args.word.now.shop c.args.word.now.word c.args.job _ can.kept can.fits c.index.result.now
     c.index.ensures)
     (rw c.machines-machines.ensures can.kept.kept.laid.machines_at)
     in next.machine_is
-    ∙ (sym (machine_here g.L.Lanes.GREATEST c.args.instance.now can.word c.self.inside.layout
+    ∙ (sym (machine_here g.L.Lanes.GREATEST c.args.word.now.shop c.args.word.now.word c.self.inside.layout
     (g.L.Lanes.rows c.self.inside.lanes) can.kept.kept c.args.job can.fits c.self.inside.layout.machines
     can.kept.kept.laid.machines_at)
     ∙ ap (λ (q : ℕ). get_or c.self.inside.layout.machines q 0) (sym next.position_is))
 
-pub returns-clause-bound : goal.returns-clause-bound
-returns-clause-bound g c = λ w was placed fits parent.
-    let kept = subst (λ (s : LaneState). IsKeptInLanes g.L.Lanes.GREATEST c.args.instance.now w s) (sym c.self.view_is)
-    was
-    in let next = c.next_operation-next.ensures c.self.inside.layout c.args.instance.now w c.args.job kept.kept fits
-    (next_at g.L.Lanes.GREATEST c.args.instance.now w c.args.job _ kept fits c.index.result.now c.index.ensures)
+pub raised_bound-requires-clause-can : goal.raised_bound-requires-clause-can
+raised_bound-requires-clause-can g c =
+    let can = subst (λ (s : LaneState). CanGoOnInLanes g.L.Lanes.GREATEST c.args.word.now.shop c.args.word.now.word
+    c.args.job s) (sym c.self.view_is) c.requires.can
+    in let same = c.foresee-foreseen.ensures.same
+    in record { kept = rw same can.kept; fits = can.fits }
+
+pub raised_bound-requires-clause-least : goal.raised_bound-requires-clause-least
+raised_bound-requires-clause-least g c =
+    let can = subst (λ (s : LaneState). CanGoOnInLanes g.L.Lanes.GREATEST c.args.word.now.shop c.args.word.now.word
+    c.args.job s) (sym c.self.view_is) c.requires.can
+    in let w = c.args.word.now.word in let kept = can.kept in let fits = can.fits in let parent = c.requires.bound
+    in let next = c.next_operation-next.ensures c.self.inside.layout c.args.word.now.shop w c.args.job kept.kept fits
+    (next_at g.L.Lanes.GREATEST c.args.word.now.shop w c.args.job _ kept fits c.index.result.now c.index.ensures)
     (rw c.machines-machines.ensures kept.kept.laid.machines_at)
     in let end = next.end_is
     in let least = c.max-least.ensures
-    in let low = c.foresee-foreseen.ensures.foresees.low
     in let same = c.foresee-foreseen.ensures.same
-    in c.raised_bound.ensures.bound w (rw same kept) placed fits
-    (rw same (after_foresight g.L.Lanes.GREATEST c.args.instance.now w c.self.inside.layout
+    in rw same (after_foresight g.L.Lanes.GREATEST c.args.word.now.shop w c.self.inside.layout
     (g.L.Lanes.rows c.self.inside.lanes) kept.kept c.args.job fits c.max-least.result c.args.limit (omega arith)
     c.next_operation-next.result.position c.next_operation-next.result.machine c.next_operation-next.result.end
     next.position_is next.machine_is next.end_is c.foresee-foreseen.result c.foresee-foreseen.ensures.foresees
-    c.if-foreseen.false))
+    c.if-foreseen.false)

@@ -1,7 +1,7 @@
 use Rattle.std.proofs.Common.{ℕ, ◌+◌, ◌≤◌, ◌∙◌, List, sym, ap, subst, arith}
 use Rattle.std.specs.List.{All}
 use Rattle.shop_lanes.specs.Rows.{at_rest}
-use Rattle.shop_bound.proofs.LaneBegins.{times_fit, tails_fit, kept_none, heads_fit, can_begin}
+use Rattle.shop_bound.proofs.LaneBegins.{times_fit, tails_fit, kept_none, heads_fit, can_begin, of_none}
 use Rattle.shop_bound.proofs.LaneBegins.{ends_begin}
 use Rattle.shop_bound.specs.inner.LaneEnds.{AreEndsOf, CanKeepEnds}
 use Rattle.shop_bound.specs.inner.Layouts.{AreFirsts}
@@ -23,6 +23,12 @@ new-requires-clause-fitting_tails g c =
 pub fill-requires : goal.fill-requires
 fill-requires g c = record {
   fill = can_begin g.L.Lanes.GREATEST c.args.instance.now c.keeps_limits.ensures c.args.layout c.requires.laid
+      (heads_fit g.L.Lanes.GREATEST c.args.instance.now c.args.layout c.keeps_limits.ensures c.requires.fits)
+      c.requires.computable c.args.placement.now c.requires.none (g.L.Lanes.rows c.in_ok-lanes.lanes) c.jobs.result
+      g.L.Lanes.GREATEST (c.in_ok-lanes.ensures
+      ∙ (ap (λ (ts : List ℕ). at_rest ts c.tails.result.now c.jobs.result g.L.Lanes.GREATEST) c.times.ensures
+      ∙ ap (λ (qs : List ℕ). at_rest c.args.layout.times qs c.jobs.result g.L.Lanes.GREATEST) c.tails.ensures));
+  of = of_none g.L.Lanes.GREATEST c.args.instance.now c.keeps_limits.ensures c.args.layout c.requires.laid
       (heads_fit g.L.Lanes.GREATEST c.args.instance.now c.args.layout c.keeps_limits.ensures c.requires.fits)
       c.requires.computable c.args.placement.now c.requires.none (g.L.Lanes.rows c.in_ok-lanes.lanes) c.jobs.result
       g.L.Lanes.GREATEST (c.in_ok-lanes.ensures
