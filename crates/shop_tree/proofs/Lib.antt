@@ -15,6 +15,7 @@ mod OpenLemmas
 mod AddLemmas
 mod TurnLemmas
 mod PushLemmas
+mod PutLemmas
 mod SmallJobs
 mod ExpandLemmas
 mod WalkerLemmas

@@ -1,9 +1,8 @@
-use Rattle.std.proofs.Common.{◌≡◌, ◌≤◌, ◌++◌, ◌∷◌, ◌∙◌, [], List, length, refl, sym, ap, subst, arith, append-nil}
+use Rattle.std.proofs.Common.{◌≡◌, ◌≤◌, ◌++◌, ◌∷◌, ◌∙◌, [], length, refl, sym, ap, subst, arith, append-nil}
 use Rattle.std.proofs.Common.{append_assoc}
 use Rattle.shop_model.specs.Word.{IsWord}
 use Rattle.shop_bound.specs.Bound.{lb}
 use Rattle.shop_bound.specs.Desks.{DeskState}
-use Rattle.shop_tree.specs.inner.Opens.{IsPlaceAbove}
 use Rattle.shop_tree.specs.declared.opens.Open.{Open}
 use Rattle.shop_tree.proofs.ChildrenLemmas.{child-word}
 use Rattle.shop_tree.proofs.PushLemmas.{gathered_none, gathered_other, gathered_open, only_child}
@@ -63,18 +62,16 @@ loop-job-preserved c =
     in let child : Open = record { depth = length c.jobs-depth.result.now; job = job; bound = below }
     in let bound : below ≡ lb desk.shop (desk.word ++ job ∷ []) = c.in-Some-bound_below.ensures.bound.0
     ∙ ap (λ (d : DeskState). lb d.shop (d.word ++ job ∷ [])) now.1.same
-    in let place : IsPlaceAbove below c.loop-job.children.items c.place_above-place.result = subst
-    (λ (os : List Open). IsPlaceAbove below os c.place_above-place.result)
-    c.as_slice.ensures.value c.place_above-place.ensures
+    in let put = c.in_ok-put.ensures
     in (
       job ∷ now.0,
       record {
         all = split;
-        gathered = gathered_open desk.shop c.args.limit desk.word c.loop-job.children.items c.insert.new.self.items
-            c.loop-job.others now.0 child c.place_above-place.result now.1.gathered
+        gathered = gathered_open desk.shop c.args.limit desk.word c.loop-job.children.items c.put.new.children.items
+            c.loop-job.others now.0 child put.at now.1.gathered
             (child-word desk.shop desk.word c.keeps_word.ensures.word c.pop.new.self.items now.0 job split)
             (ap length c.jobs-depth.ensures) bound
-            (let a = c.in-Some-bound_below.ensures.bound in a.1) place c.in_ok-insert.ensures.items;
+            (let a = c.in-Some-bound_below.ensures.bound in a.1) put.place put.put;
         counted = (let a = now.1.counted in omega arith);
         same = c.bound_below.ensures.same ∙ now.1.same;
         room = (let a = now.1.room in let b = c.pop.ensures.capacity in omega arith);
