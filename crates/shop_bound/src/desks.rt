@@ -20,7 +20,7 @@ pub struct Desk<'a> {
     pub(crate) instance: &'a Instance,
     pub(crate) placement: Placement,
     pub(crate) waiting: Box<Waiting>,
-    pub(crate) jobs: Vec<usize>,
+    pub(crate) jobs: Vec<u16>,
     replaced: Vec<Replaced>,
 }
 
@@ -66,7 +66,7 @@ impl<'a> Desk<'a> {
         let replaced = self.placement.next_replaces(instance, job);
         self.placement.place_next(instance, job);
         (*self.waiting).dispatch(job);
-        self.jobs.push(job).unwrap();
+        self.jobs.push(job as u16).unwrap();
         self.replaced.push(replaced).unwrap();
     }
 
@@ -76,7 +76,7 @@ impl<'a> Desk<'a> {
         ensures { IsUndone self.old self.new }
     {
         let instance = self.instance;
-        let job = self.jobs.pop().unwrap();
+        let job = self.jobs.pop().unwrap() as usize;
         let replaced = self.replaced.pop().unwrap();
         self.placement.take_back(instance, job, replaced);
         (*self.waiting).undo(instance, &self.placement, job);
@@ -128,7 +128,7 @@ impl<'a> Desk<'a> {
     }
 
     /// The jobs of what is dispatched, in order.
-    pub fn jobs(&self) -> &[usize]
+    pub fn jobs(&self) -> &[u16]
         ensures { result.now ≡ self.now.word }
     {
         self.jobs.as_slice()

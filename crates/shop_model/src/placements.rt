@@ -57,7 +57,7 @@ impl Placement {
         let mut placement = Placement::none(alloc, instance)?;
         let jobs = word.jobs();
         for &j in jobs {
-            let _start = placement.place_next(instance, j);
+            let _start = placement.place_next(instance, j as usize);
         }
         Ok(placement)
     }

@@ -16,6 +16,5 @@ mod AddLemmas
 mod TurnLemmas
 mod PushLemmas
 mod PutLemmas
-mod SmallJobs
 mod ExpandLemmas
 mod WalkerLemmas

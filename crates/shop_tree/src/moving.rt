@@ -17,12 +17,12 @@ pub(crate) fn undo_to(desk: &mut Desk, depth: usize)
 }
 
 /// How many entries these jobs and a path begin with in common.
-fn common_length(jobs: &[usize], path: &[u16]) -> usize
+fn common_length(jobs: &[u16], path: &[u16]) -> usize
     ensures { IsCommonLength jobs.now path.now result }
 {
     let most = jobs.len().min(path.len());
     let mut common = 0;
-    while common < most && jobs[common] == path[common] as usize {
+    while common < most && jobs[common] == path[common] {
         common += 1;
     }
     common

@@ -41,11 +41,11 @@ pub(crate) fn gather_children(
     ensures room { vec_capacity jobs.old ≤ vec_capacity jobs.new }
 {
     desk.keeps_word();
-    let depth = desk.jobs().len();
+    let depth = desk.jobs().len() as u32;
     children.clear();
     if jobs.len() == 1 && bound < limit {
         desk.sole_candidate_keeps_bound();
-        let job = jobs[0];
+        let job = jobs[0] as u16;
         children.push(Open { depth, job, bound })?;
         return Ok(0);
     }
@@ -56,6 +56,7 @@ pub(crate) fn gather_children(
             others += 1;
             continue
         };
+        let job = job as u16;
         put(children, Open { depth, job, bound })?;
     }
     Ok(others)

@@ -4,6 +4,7 @@ use Rattle.shop_bound.specs.Desks.{DeskState}
 use Rattle.shop_bound.specs.inner.Waitings.{HasNextWaiting, WaitsOn}
 use Rattle.shop_bound.proofs.Trails.{room_left, as_long, has_next}
 use Rattle.shop_bound.proofs.DeskSteps.{desk_more, waits_on}
+use Rattle.shop_bound.proofs.SmallJobs.{small_last}
 use Rattle.shop_bound.proofs.desks.Desk.dispatch.Goals as goal
 
 pub next_replaces-replaced-requires : goal.next_replaces-replaced-requires
@@ -21,6 +22,12 @@ dispatch-requires c =
     let fits = subst (λ (d : DeskState). IsWord d.shop (d.word ++ c.args.job ∷ [])) (sym c.self.view_is) c.requires
     in subst (HasNextWaiting c.args.job) (sym c.deref_mut.ensures.value)
     (waits_on _ _ _ _ _ _ _ c.self.invariant c.args.job fits)
+
+pub overflow_cast-job : goal.overflow_cast-job
+overflow_cast-job c =
+    let fits = subst (λ (d : DeskState). IsWord d.shop (d.word ++ c.args.job ∷ [])) (sym c.self.view_is) c.requires
+    in let small = small_last _ c.self.inside.jobs.items c.args.job c.self.invariant.kept.limits fits
+    in omega arith
 
 pub unwrap-requires : goal.unwrap-requires
 unwrap-requires c =
