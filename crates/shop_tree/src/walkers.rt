@@ -245,12 +245,12 @@ impl<'a> Walker<'a> {
         ensures shop { OnOk result (self.new.desk.shop ≡ self.old.desk.shop) }
     {
         self.stack.clear();
-        self.progress.begin(alloc, best, budget);
+        self.progress.begin(best, budget);
         self.walk_nodes(alloc, piece.nodes.as_slice())?;
         let instance = self.progress.instance;
         let makespan = self.progress.best;
         let taken = budget - self.progress.budget;
-        let (found, left) = self.progress.end(alloc);
+        let (found, left) = self.progress.end(alloc)?;
         Ok(Sheet {
             number: piece.number,
             found,
