@@ -37,7 +37,7 @@ fn ft06_rows(alloc: Global) -> Result<Vec<Vec<Op>>, AllocError> {
 }
 
 /// The bound of the word of these jobs, if they are a word.
-fn bound(rt: &impl Abort, alloc: Global, instance: &Instance, jobs: &[usize]) -> Option<u64> {
+fn bound(rt: &impl Abort, alloc: Global, instance: &Instance, jobs: &[u16]) -> Option<u64> {
     let word = Word::of_jobs(jobs.to_vec(alloc).expect(rt, "memory"));
     if !fits(instance, &word) {
         return None;
@@ -253,7 +253,7 @@ fn a_thousand_jobs_one_after_another(rt: HostRuntime) {
 }
 
 /// Whether a job has an operation left after what is dispatched.
-fn has_next(rt: &impl Abort, alloc: Global, instance: &Instance, desk: &Desk, job: usize) -> bool
+fn has_next(rt: &impl Abort, alloc: Global, instance: &Instance, desk: &Desk, job: u16) -> bool
     ensures { IsTrue result → IsWord instance.now (desk.now.word ++ job ∷ []) }
 {
     let mut jobs = desk.jobs().to_vec(alloc).expect(rt, "memory");
@@ -262,20 +262,14 @@ fn has_next(rt: &impl Abort, alloc: Global, instance: &Instance, desk: &Desk, jo
 }
 
 /// Dispatches the next operation of a job; whether it had one left.
-fn dispatch(
-    rt: &impl Abort,
-    alloc: Global,
-    instance: &Instance,
-    desk: &mut Desk,
-    job: usize,
-) -> bool
+fn dispatch(rt: &impl Abort, alloc: Global, instance: &Instance, desk: &mut Desk, job: u16) -> bool
     requires { desk.old.shop ≡ instance.now }
     ensures { desk.new.shop ≡ desk.old.shop }
 {
     if !has_next(rt, alloc, instance, desk, job) {
         return false;
     }
-    desk.dispatch(job);
+    desk.dispatch(job as usize);
     true
 }
 
@@ -285,7 +279,7 @@ fn bound_after(
     alloc: Global,
     instance: &Instance,
     desk: &mut Desk,
-    job: usize,
+    job: u16,
 ) -> Option<u64>
     requires { desk.old.shop ≡ instance.now }
     ensures { desk.new ≡ desk.old }
@@ -294,7 +288,7 @@ fn bound_after(
         return None;
     }
     let bound = desk.bound();
-    Some(desk.bound_after(job, bound))
+    Some(desk.bound_after(job as usize, bound))
 }
 
 /// The same, if it is below the limit.
@@ -303,7 +297,7 @@ fn bound_below(
     alloc: Global,
     instance: &Instance,
     desk: &mut Desk,
-    job: usize,
+    job: u16,
     limit: u64,
 ) -> Option<u64>
     requires { desk.old.shop ≡ instance.now }
@@ -313,7 +307,7 @@ fn bound_below(
         return None;
     }
     let bound = desk.bound();
-    desk.bound_below(job, bound, limit)
+    desk.bound_below(job as usize, bound, limit)
 }
 
 /// Takes back what was dispatched last, if anything was.

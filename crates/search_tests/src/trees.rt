@@ -8,13 +8,13 @@ use std::alloc::Global;
 use std::process::Abort;
 use worked_instances::{crossing, with_a_gap, with_zeros};
 
-fn word(rt: &impl Abort, alloc: Global, jobs: &[usize]) -> Word
+fn word(rt: &impl Abort, alloc: Global, jobs: &[u16]) -> Word
     ensures { result ≡ jobs.now }
 {
     Word::of_jobs(jobs.to_vec(alloc).expect(rt, "memory"))
 }
 
-fn node(rt: &impl Abort, alloc: Global, instance: &Instance, jobs: &[usize]) -> Node
+fn node(rt: &impl Abort, alloc: Global, instance: &Instance, jobs: &[u16]) -> Node
     ensures { IsNode instance.now result }
 {
     let word = word(rt, alloc, jobs);
@@ -22,20 +22,14 @@ fn node(rt: &impl Abort, alloc: Global, instance: &Instance, jobs: &[usize]) -> 
     Node::new(alloc, instance, word).expect(rt, "memory")
 }
 
-fn one_node(rt: &impl Abort, alloc: Global, instance: &Instance, jobs: &[usize]) -> Piece
+fn one_node(rt: &impl Abort, alloc: Global, instance: &Instance, jobs: &[u16]) -> Piece
     ensures { AreNodes instance.now result.nodes.items }
 {
     let node = node(rt, alloc, instance, jobs);
     Piece::new(0, vec![in alloc; node].expect(rt, "memory"))
 }
 
-fn assert_sheet(
-    rt: &impl Abort,
-    sheet: &Sheet,
-    found: Option<&[usize]>,
-    makespan: u64,
-    taken: u64,
-) {
+fn assert_sheet(rt: &impl Abort, sheet: &Sheet, found: Option<&[u16]>, makespan: u64, taken: u64) {
     assert_eq!(rt; sheet.found.as_ref().map(|word| word.jobs()), found);
     assert_eq!(rt; sheet.makespan, makespan);
     assert_eq!(rt; sheet.taken, taken);
@@ -48,18 +42,18 @@ fn assert_bounds(rt: &impl Abort, sheet: &Sheet, bounds: &[u64]) {
     }
 }
 
-fn assert_left(rt: &impl Abort, sheet: &Sheet, words: &[&[usize]]) {
+fn assert_left(rt: &impl Abort, sheet: &Sheet, words: &[&[u16]]) {
     assert_eq!(rt; sheet.left.len(), words.len());
     for (node, word) in sheet.left.iter().zip(words) {
         assert_jobs(rt, node, word);
     }
 }
 
-fn assert_jobs(rt: &impl Abort, node: &Node, jobs: &[usize]) {
+fn assert_jobs(rt: &impl Abort, node: &Node, jobs: &[u16]) {
     assert_eq!(rt; node.word.len(), jobs.len());
     for (index, job) in jobs.iter().enumerate() {
         assert!(rt; index < node.word.len());
-        assert_eq!(rt; node.word.job(index), *job);
+        assert_eq!(rt; node.word.job(index), *job as usize);
     }
 }
 
@@ -193,8 +187,8 @@ fn two_nodes(
     rt: &impl Abort,
     alloc: Global,
     instance: &Instance,
-    first: &[usize],
-    second: &[usize],
+    first: &[u16],
+    second: &[u16],
 ) -> Piece
     ensures { AreNodes instance.now result.nodes.items }
 {

@@ -38,6 +38,7 @@ pub mod BoundsRise
 pub mod Entries
 pub mod HeadWalks
 pub mod SmallSums
+pub mod SmallJobs
 pub mod PlacedEnds
 pub mod LowerBounds
 pub mod Routes

@@ -108,7 +108,7 @@ impl<'a> Desk<'a> {
     }
 
     /// The jobs of what is dispatched, in order.
-    pub fn jobs(&self) -> &[usize]
+    pub fn jobs(&self) -> &[u16]
         ensures { result.now ≡ self.now.word }
     {
         self.word.jobs()

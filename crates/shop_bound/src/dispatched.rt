@@ -8,7 +8,7 @@ use std::marker::Model;
 #[derive(Drop)]
 pub(crate) struct Dispatched<'a> {
     pub(crate) instance: &'a Instance,
-    pub(crate) jobs: Vec<usize>,
+    pub(crate) jobs: Vec<u16>,
     /// of some word
     pub(crate) placement: Placement,
 }
@@ -51,7 +51,7 @@ impl<'a> Dispatched<'a> {
     }
 
     /// The jobs of the word, in order.
-    pub(crate) fn jobs(&self) -> &[usize]
+    pub(crate) fn jobs(&self) -> &[u16]
         ensures { result.now ≡ self.now.word }
     {
         self.jobs.as_slice()
@@ -63,7 +63,7 @@ impl<'a> Dispatched<'a> {
         requires { IsWord self.old.shop (self.old.word ++ job ∷ []) }
         ensures { self.new ≡ goes_on self.old job }
     {
-        self.jobs.push(job).unwrap();
+        self.jobs.push(job as u16).unwrap();
     }
 
     /// Takes the last operation away, which there is; its job.
@@ -72,7 +72,7 @@ impl<'a> Dispatched<'a> {
         requires { 0 < length self.old.word }
         ensures { self.old ≡ goes_on self.new result }
     {
-        self.jobs.pop().unwrap()
+        self.jobs.pop().unwrap() as usize
     }
 
     /// It is a word of the instance, which is within its limits. (A fact for proofs; the call does nothing.)

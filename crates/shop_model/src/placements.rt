@@ -54,7 +54,7 @@ impl Placement {
     }
 
     /// Places the operations of a list of jobs that fits the instance in place of what was placed; takes no memory.
-    pub fn set_to(&mut self, instance: &Instance, jobs: &[usize])
+    pub fn set_to(&mut self, instance: &Instance, jobs: &[u16])
         requires places { HasPlaces instance.now self.old }
         requires word { IsWord instance.now jobs.now }
         ensures { IsPlacement instance.now (placing instance.now jobs.now) self.new }
@@ -86,13 +86,13 @@ impl Placement {
     }
 
     /// Places the operations of a list of jobs that fits the instance, where nothing is placed.
-    fn place_all(&mut self, instance: &Instance, jobs: &[usize])
+    fn place_all(&mut self, instance: &Instance, jobs: &[u16])
         requires none { IsPlacement instance.now (none_placed instance.now) self.old }
         requires word { IsWord instance.now jobs.now }
         ensures { IsPlacement instance.now (placing instance.now jobs.now) self.new }
     {
         for &j in jobs {
-            let _start = self.place_next(instance, j);
+            let _start = self.place_next(instance, j as usize);
         }
     }
 

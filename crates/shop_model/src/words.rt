@@ -10,7 +10,7 @@ use std::marker::Model;
 /// entry is a job, and stands for the job's next step.
 #[derive(Drop)]
 pub struct Word {
-    entries: Vec<usize>,
+    entries: Vec<u16>,
 }
 
 impl Model for Word {
@@ -23,14 +23,14 @@ impl Model for Word {
 
 impl Word {
     /// The word of just these jobs.
-    pub fn of_jobs(jobs: Vec<usize>) -> Word
+    pub fn of_jobs(jobs: Vec<u16>) -> Word
         ensures { result ≡ jobs.items }
     {
         Word { entries: jobs }
     }
 
     /// The jobs of the word, in order.
-    pub fn jobs(&self) -> &[usize]
+    pub fn jobs(&self) -> &[u16]
         ensures { result.now ≡ self.now }
     {
         self.entries.as_slice()
@@ -46,7 +46,7 @@ impl Word {
     }
 
     /// The word with one more job at its end, in one copy. Fails with `AllocError` if memory runs out.
-    pub fn followed_by(&self, alloc: Global, job: usize) -> Result<Word, AllocError>
+    pub fn followed_by(&self, alloc: Global, job: u16) -> Result<Word, AllocError>
         ensures { IfOk result (λ w. w ≡ self.now ++ job ∷ []) }
     {
         let mut entries = Vec::with_capacity(alloc, self.entries.len() + 1)?;
@@ -57,17 +57,17 @@ impl Word {
 }
 
 /// How often the job stands among the entries.
-fn count(entries: &[usize], job: usize) -> usize
+fn count(entries: &[u16], job: usize) -> usize
     ensures { result ≡ count_of job entries.now }
 {
-    entries.iter().filter(|&&i| i == job).count()
+    entries.iter().filter(|&&i| i as usize == job).count()
 }
 
 /// Whether each entry is one of the jobs.
-fn are_below(jobs: usize, entries: &[usize]) -> bool
+fn are_below(jobs: usize, entries: &[u16]) -> bool
     ensures { IsTrue result ↔ All (λ j. j < jobs) entries.now }
 {
-    entries.iter().all(|&j| j < jobs)
+    entries.iter().all(|&j| (j as usize) < jobs)
 }
 
 /// Whether the word fits the instance: each entry is one of its jobs, and none stands in it more often than its route
@@ -106,9 +106,10 @@ pub fn is_full(instance: &Instance, word: &Word) -> bool
 pub fn start_word(alloc: Global, instance: &Instance) -> Result<Word, AllocError>
     ensures { IfOk result (λ w. w ≡ start_jobs instance.now) }
 {
+    instance.keeps_limits();
     let mut entries = Vec::with_capacity(alloc, instance.operations())?;
     for j in 0..instance.jobs() {
-        entries.resize(entries.len() + instance.route(j).len(), j)?;
+        entries.resize(entries.len() + instance.route(j).len(), j as u16)?;
     }
     Ok(Word { entries })
 }

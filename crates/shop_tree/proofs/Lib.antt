@@ -15,6 +15,6 @@ mod OpenLemmas
 mod AddLemmas
 mod TurnLemmas
 mod PushLemmas
-mod SmallJobs
+mod PutLemmas
 mod ExpandLemmas
 mod WalkerLemmas

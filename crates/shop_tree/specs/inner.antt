@@ -4,4 +4,3 @@ pub mod Opens
 pub mod Pushing
 pub mod Moving
 pub mod Walkers
-pub mod SmallJobs

@@ -17,7 +17,7 @@ pub fn conflict(alloc: Global, instance: &Instance, word: &Word) -> Result<Vec<u
 {
     let mut desk = Desk::new(alloc, instance)?;
     for &job in word.jobs() {
-        desk.dispatch(job);
+        desk.dispatch(job as usize);
     }
     let mut jobs = Vec::with_capacity(alloc, instance.jobs())?;
     desk.gather_conflict(&mut jobs);

@@ -7,10 +7,11 @@ ghost use Rattle.shop_tree.specs.Nodes.{IsNode, AreNodes, words_of, AreBetterChi
 use crate::moving::go_to;
 use crate::nodes::Node;
 use crate::pushing::gather_children;
-use crate::shared_words::{SharedWord, path_of};
+use crate::shared_words::SharedWord;
 use shop_bound::Desk;
 use shop_model::Instance;
 use std::alloc::{AllocError, Global};
+use std::sync::ArcSlice;
 
 /// The children of a node whose word isn't full, by bound, then by job: its word followed by each job of the conflict
 /// set. For each table under the word some child has one under it that ends no later. An error where memory is refused.
@@ -24,8 +25,8 @@ pub fn children(alloc: Global, instance: &Instance, node: &Node) -> Result<Vec<N
     let mut desk = Desk::new(alloc, instance)?;
     go_to(&mut desk, &node.word);
     desk.keeps_word();
-    let path = path_of(alloc, desk.jobs())?;
-    let depth = path.len();
+    let path = ArcSlice::from_slice(alloc, desk.jobs())?;
+    let depth = path.len() as u32;
     let mut jobs = Vec::with_capacity(alloc, instance.jobs())?;
     let mut opens = Vec::with_capacity(alloc, instance.jobs())?;
     desk.gather_conflict(&mut jobs);

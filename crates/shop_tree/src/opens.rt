@@ -2,8 +2,8 @@
 /// A child that waits: the first `depth` entries of the desk's word and this job, with its bound.
 #[derive(Clone, Copy)]
 pub(crate) struct Open {
-    pub(crate) depth: usize,
-    pub(crate) job: usize,
+    pub(crate) depth: u32,
+    pub(crate) job: u16,
     pub(crate) bound: u64,
 }
 

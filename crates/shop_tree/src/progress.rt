@@ -1,12 +1,11 @@
 // What a walk carries.
-ghost use Rattle.std.specs.Prelude.{◌≡◌, ◌<◌, None, [], OnOk, All};
+ghost use Rattle.std.specs.Prelude.{◌≡◌, ◌<◌, None, [], OnOk, IfOk, All};
 ghost use Rattle.shop_model.specs.Shop.{operation_count};
 ghost use Rattle.shop_tree.specs.Nodes.{AreNodes, IsNode};
 
 use crate::nodes::Node;
 use shop_model::{Instance, Word};
 use std::alloc::{AllocError, Global};
-use std::mem;
 
 /// What a walk carries: the last word found, the best makespan, the nodes left, and how many more may be taken. Nodes
 /// are left only once none may be taken, so that the best stays above their bounds.
@@ -42,13 +41,13 @@ impl<'a> Progress<'a> {
     }
 
     /// Begins a walk: nothing is found, and nothing is left.
-    pub(crate) fn begin(&mut self, alloc: Global, best: u64, budget: u64)
+    pub(crate) fn begin(&mut self, best: u64, budget: u64)
         ensures walk { walked self.new ≡ opening_walk best budget }
         ensures instance { self.new.instance.now ≡ self.old.instance.now }
     {
         self.found = None;
         self.best = best;
-        self.left = Vec::new(alloc);
+        self.left.clear();
         self.budget = budget;
     }
 
@@ -64,14 +63,15 @@ impl<'a> Progress<'a> {
         Ok(())
     }
 
-    /// Ends a walk: gives what was found, and the nodes left, in no more room than they need.
-    pub(crate) fn end(&mut self, alloc: Global) -> (Option<Word>, Vec<Node>)
-        ensures found { result.0 ≡ self.old.found }
-        ensures left { result.1.items ≡ self.old.left.items }
+    /// Ends a walk: gives what was found, and the nodes left, in no more room than they need. Its own room stays for the
+    /// next walk. Fails with `AllocError` if memory runs out.
+    pub(crate) fn end(&mut self, alloc: Global) -> Result<(Option<Word>, Vec<Node>), AllocError>
+        ensures found { IfOk result (λ r. r.0 ≡ self.old.found) }
+        ensures left { IfOk result (λ r. r.1.items ≡ self.old.left.items) }
         ensures instance { self.new.instance.now ≡ self.old.instance.now }
     {
-        let mut left = mem::replace(&mut self.left, Vec::new(alloc));
-        left.shrink_to_fit();
-        (self.found.take(), left)
+        let mut left = Vec::with_capacity(alloc, self.left.len())?;
+        left.append(&mut self.left)?;
+        Ok((self.found.take(), left))
     }
 }

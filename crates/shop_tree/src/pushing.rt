@@ -2,22 +2,26 @@
 ghost use Rattle.std.specs.Prelude.{◌≡◌, ◌≤◌, vec_capacity, OnOk, IfOk};
 ghost use Rattle.shop_bound.specs.Bound.{lb};
 ghost use Rattle.shop_tree.specs.Branching.{conflict};
-ghost use Rattle.shop_tree.specs.inner.Opens.{AreChildrenOf, IsPlaceAbove};
+ghost use Rattle.shop_tree.specs.inner.Opens.{AreChildrenOf, HasPut};
 ghost use Rattle.shop_tree.specs.inner.Pushing.{with_opens, with_rest};
 
 use crate::opens::{Open, Waiting};
 use shop_bound::Desk;
 use std::alloc::AllocError;
 
-/// The place above the last entry whose bound is not below this one, or the bottom.
-fn place_above(bound: u64, opens: &[Open]) -> usize
-    ensures { IsPlaceAbove bound opens.now result }
+/// Puts a child in its place: above those whose bounds are not below its own.
+fn put(children: &mut Vec<Open>, child: Open) -> Result<(), AllocError>
+    ensures { OnOk result (HasPut child children.old.items children.new.items) }
 {
-    let mut place = opens.len();
-    while place > 0 && opens[place - 1].bound < bound {
+    let mut place = children.len();
+    children.push(child)?;
+    let opens = children.as_mut_slice();
+    while place > 0 && opens[place - 1].bound < child.bound {
+        opens[place] = opens[place - 1];
         place -= 1;
     }
-    place
+    opens[place] = child;
+    Ok(())
 }
 
 /// Replaces the list with the children of the desk's word with bounds below the limit, by bound, then by job, the first
@@ -37,11 +41,11 @@ pub(crate) fn gather_children(
     ensures room { vec_capacity jobs.old ≤ vec_capacity jobs.new }
 {
     desk.keeps_word();
-    let depth = desk.jobs().len();
+    let depth = desk.jobs().len() as u32;
     children.clear();
     if jobs.len() == 1 && bound < limit {
         desk.sole_candidate_keeps_bound();
-        let job = jobs[0];
+        let job = jobs[0] as u16;
         children.push(Open { depth, job, bound })?;
         return Ok(0);
     }
@@ -52,8 +56,8 @@ pub(crate) fn gather_children(
             others += 1;
             continue
         };
-        let place = place_above(bound, children.as_slice());
-        children.insert(place, Open { depth, job, bound })?;
+        let job = job as u16;
+        put(children, Open { depth, job, bound })?;
     }
     Ok(others)
 }

@@ -4,7 +4,6 @@ ghost use Rattle.std.specs.Prelude.{IfOk};
 ghost use Rattle.std.specs.Arc.{arc_slice_items};
 ghost use Rattle.shop_model.specs.declared.limits.TheConstants.{MAX_JOBS, MAX_STEPS};
 ghost use Rattle.shop_tree.specs.SharedWords.{shared_word};
-ghost use Rattle.shop_tree.specs.inner.SmallJobs.{AreSmallJobs};
 
 use shop_model::Word;
 use std::alloc::{AllocError, Global};
@@ -31,27 +30,13 @@ impl Model for SharedWord {
     ghost invariant = { λ w. w.depth ≤ length (arc_slice_items w.path) };
 }
 
-/// A path of these jobs, for words to share. Fails with `AllocError` if memory runs out.
-pub(crate) fn path_of(alloc: Global, jobs: &[usize]) -> Result<ArcSlice<u16, Global>, AllocError>
-    requires { AreSmallJobs jobs.now }
-    ensures { IfOk result (λ p. arc_slice_items p ≡ jobs.now) }
-{
-    let mut path = vec![in alloc; 0; jobs.len()]?;
-    let places = path.as_mut_slice();
-    for index in 0..jobs.len() {
-        places[index] = jobs[index] as u16;
-    }
-    ArcSlice::from_vec(path)
-}
-
 impl SharedWord {
     /// The word of these jobs. Fails with `AllocError` if memory runs out.
-    pub(crate) fn of_jobs(alloc: Global, jobs: &[usize]) -> Result<SharedWord, AllocError>
-        requires short { length jobs.now ≤ MAX_JOBS * MAX_STEPS }
-        requires small { AreSmallJobs jobs.now }
+    pub(crate) fn of_jobs(alloc: Global, jobs: &[u16]) -> Result<SharedWord, AllocError>
+        requires { length jobs.now ≤ MAX_JOBS * MAX_STEPS }
         ensures { IfOk result (λ w. w ≡ jobs.now) }
     {
-        let path = path_of(alloc, jobs)?;
+        let path = ArcSlice::from_slice(alloc, jobs)?;
         let depth = jobs.len() as u32;
         Ok(SharedWord {
             path,
@@ -63,18 +48,16 @@ impl SharedWord {
     /// The first jobs of a path, so many, and this one. Takes no memory.
     pub(crate) fn along(
         path: &ArcSlice<u16, Global>,
-        depth: usize,
-        last: usize,
+        depth: u32,
+        last: u16,
     ) -> Result<SharedWord, AllocError>
-        requires long { depth ≤ length (arc_slice_items path.now) }
-        requires short { depth ≤ MAX_JOBS * MAX_STEPS }
-        requires small { last < 65536 }
+        requires { depth ≤ length (arc_slice_items path.now) }
         ensures { IfOk result (λ w. w ≡ take depth (arc_slice_items path.now) ++ last ∷ []) }
     {
         Ok(SharedWord {
             path: path.clone()?,
-            depth: depth as u32,
-            last: Some(last as u16),
+            depth,
+            last: Some(last),
         })
     }
 
@@ -126,8 +109,10 @@ impl SharedWord {
         ensures { IfOk result (λ w. w ≡ self.now) }
     {
         let mut jobs = Vec::with_capacity(alloc, self.len())?;
-        for index in 0..self.len() {
-            jobs.push(self.job(index))?;
+        let (path, last) = self.parts();
+        jobs.extend_from_slice(path)?;
+        if let Some(job) = last {
+            jobs.push(job)?;
         }
         Ok(Word::of_jobs(jobs))
     }

@@ -12,7 +12,7 @@ use crate::opens::{Open, Waiting};
 use crate::pieces::Piece;
 use crate::progress::Progress;
 use crate::pushing::{gather_children, push_open, push_rest};
-use crate::shared_words::{SharedWord, path_of};
+use crate::shared_words::SharedWord;
 use crate::sheets::Sheet;
 use shop_bound::Desk;
 use shop_model::{Instance, Word};
@@ -121,8 +121,8 @@ impl<'a> Walker<'a> {
         if child.bound >= self.progress.best {
             return Ok(());
         }
-        undo_to(&mut self.desk, child.depth);
-        self.desk.dispatch(child.job);
+        undo_to(&mut self.desk, child.depth as usize);
+        self.desk.dispatch(child.job as usize);
         self.expand(alloc, child.bound)
     }
 
@@ -147,7 +147,6 @@ impl<'a> Walker<'a> {
         if child.bound >= self.progress.best {
             return Ok(());
         }
-        self.desk.keeps_word();
         let word = SharedWord::along(path, child.depth, child.job)?;
         let bound = child.bound;
         self.progress.leave(Node { word, bound })
@@ -162,8 +161,7 @@ impl<'a> Walker<'a> {
         if self.stack.is_empty() {
             return Ok(());
         }
-        self.desk.keeps_word();
-        let path = path_of(alloc, self.desk.jobs())?;
+        let path = ArcSlice::from_slice(alloc, self.desk.jobs())?;
         while let Some(waiting) = self.stack.pop() {
             if let Waiting::Child(child) = waiting {
                 self.leave_open(&path, child)?;
@@ -247,12 +245,12 @@ impl<'a> Walker<'a> {
         ensures shop { OnOk result (self.new.desk.shop ≡ self.old.desk.shop) }
     {
         self.stack.clear();
-        self.progress.begin(alloc, best, budget);
+        self.progress.begin(best, budget);
         self.walk_nodes(alloc, piece.nodes.as_slice())?;
         let instance = self.progress.instance;
         let makespan = self.progress.best;
         let taken = budget - self.progress.budget;
-        let (found, left) = self.progress.end(alloc);
+        let (found, left) = self.progress.end(alloc)?;
         Ok(Sheet {
             number: piece.number,
             found,

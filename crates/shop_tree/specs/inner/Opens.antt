@@ -14,13 +14,16 @@
 --     IsPlaceAbove bound opens i             from place i on all bounds are below this one, and
 --                                            the one before, if any,
 --                                            is not
+--     HasPut o old new                       o was put into the list, at its place above
+--     IsMakingPlace o old now i              from place i on all bounds are below that of o, and
+--                                            these entries were moved up by one
 --     AreChildren shop limit word opens n    the children of word with bounds below the limit, the
 --                                            first one last, and
 --                                            how many others there are
 --     AreChildrenOf desk limit opens n       the same of the desk's word
-use Rattle.std.specs.Prelude.{◌≡◌, ℕ, ◌-◌, ◌≤◌, ◌<◌, List, [], ◌∷◌, ◌++◌, length, map, reverse}
+use Rattle.std.specs.Prelude.{◌≡◌, ℕ, ◌+◌, ◌-◌, ◌≤◌, ◌<◌, List, [], ◌∷◌, ◌++◌, length, map, reverse}
 use Rattle.std.specs.Prelude.{take, slice_index_or}
-use Rattle.std.specs.List.{AllByRecursion}
+use Rattle.std.specs.List.{AllByRecursion, insert}
 use Rattle.shop_model.specs.Shop.{Shop}
 use Rattle.shop_model.specs.Word.{IsWord}
 use Rattle.shop_bound.specs.Bound.{lb}
@@ -71,6 +74,18 @@ pub record IsPlaceAbove (bound : ℕ) (opens : List Open) (i : ℕ) : Type 0 whe
   pub above : (k : ℕ) (d : Open) → i ≤ k → k < length opens
       → (slice_index_or opens k d).bound < bound
   pub below : (d : Open) → 0 < i → bound ≤ (slice_index_or opens (i - 1) d).bound
+
+pub record HasPut (o : Open) (old new : List Open) : Type 0 where
+  pub at : ℕ
+  pub place : IsPlaceAbove o.bound old at
+  pub put : new ≡ insert old at o
+
+pub record IsMakingPlace (o : Open) (old now : List Open) (i : ℕ) : Type 0 where
+  pub within : i ≤ length old
+  pub above : (k : ℕ) (d : Open) → i ≤ k → k < length old → (slice_index_or old k d).bound < o.bound
+  pub long : length now ≡ length old + 1
+  pub spare : Open
+  pub now_is : now ≡ insert old i spare
 
 pub record AreChildren (shop : Shop) (limit : ℕ) (word : List ℕ) (opens : List Open) (n : ℕ)
     : Type 0 where

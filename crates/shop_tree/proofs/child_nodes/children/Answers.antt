@@ -1,16 +1,11 @@
 use Rattle.std.proofs.Common.{◌≡◌, ◌++◌, ◌∷◌, ◌∙◌, [], ℕ, List, length, take, refl, sym, ap, subst, arith}
 use Rattle.std.specs.Arc.{arc_slice_items}
-use Rattle.std.specs.List.{AllByRecursion}
 use Rattle.std.proofs.Math.Seq.{take-length}
 use Rattle.shop_model.proofs.WordLengths.{word_length}
-use Rattle.shop_tree.specs.inner.SmallJobs.{AreSmallJobs}
-use Rattle.shop_tree.specs.declared.opens.Open.{Open}
-use Rattle.shop_tree.proofs.ListLemmas.{all_back}
-use Rattle.shop_tree.proofs.SmallJobs.{small_jobs, small_last}
 use Rattle.shop_bound.specs.Desks.{DeskState, IsWordOfShop}
 use Rattle.shop_tree.specs.Laws.{HaveBetterChildren}
 use Rattle.shop_tree.specs.inner.Moving.{at_word}
-use Rattle.shop_tree.specs.inner.Opens.{AreChildren, IsOpen}
+use Rattle.shop_tree.specs.inner.Opens.{AreChildren}
 use Rattle.shop_tree.specs.declared.nodes.Node.{Node}
 use Rattle.shop_tree.proofs.ChildrenLemmas.{all_to_come, one_came, all_came, better_children}
 use Rattle.shop_tree.proofs.child_nodes.children.Goals as goal
@@ -35,32 +30,14 @@ loop-child-init c =
           in let e = c.in_ok-children.ensures.capacity in omega arith);
     }
 
-pub path_of-requires : goal.path_of-requires
-path_of-requires c = subst AreSmallJobs (sym c.jobs.ensures)
-    (small_jobs c.go_to.new.desk.shop c.go_to.new.desk.word c.keeps_word.ensures.limits c.keeps_word.ensures.word)
-
-pub along-requires-clause-short : goal.along-requires-clause-short
-along-requires-clause-short c =
+pub overflow_cast-depth : goal.overflow_cast-depth
+overflow_cast-depth c =
     let a = c.len-depth.ensures
-    in let b = ap (λ (v : List ℕ). length v) c.in_ok-path.ensures
+    in let b = ap (λ (v : List ℕ). length v) c.in_ok-path.ensures.ok
     in let d = ap (λ (v : List ℕ). length v) c.jobs.ensures
     in let e = word_length c.go_to.new.desk.shop c.go_to.new.desk.word c.keeps_word.ensures.limits
     c.keeps_word.ensures.word
     in omega arith
-
-pub along-requires-clause-small : goal.along-requires-clause-small
-along-requires-clause-small c =
-    let shop = c.args.instance.now
-    in let w = c.args.node.now.word
-    in let at : DeskState = record { shop = shop; word = w }
-    in let went : c.go_to.new.desk ≡ at = c.go_to.ensures
-    ∙ ap (λ (d : DeskState). at_word d w) c.in_ok-desk.ensures
-    in let is : IsWordOfShop at = subst (λ (d : DeskState). IsWordOfShop d) went c.keeps_word.ensures
-    in let o = c.in-Some.child
-    in let all : AllByRecursion (IsOpen shop w) (c.pop.new.self.items ++ o ∷ []) = subst
-    (λ (os : List Open). AllByRecursion (IsOpen shop w) os) c.in-Some.ensures.items c.loop-child.invariant.come.each
-    in small_last shop (take o.depth w) o.job is.limits (all_back (IsOpen shop w) c.pop.new.self.items (o ∷ [])
-    all).0.is_word
 
 -- the whole path, and one job
 whole_path : (path w u : List ℕ) (n j : ℕ) → n ≡ length path → path ≡ w → u ≡ take n path ++ j ∷ []
@@ -77,7 +54,7 @@ loop-child-preserved c =
     in let nodes = c.loop-child.children.items
     in let node : Node = record { word = c.in_ok-word.word; bound = o.bound }
     in let went : c.go_to.new.desk.word ≡ w = ap (λ (d : DeskState). d.word) c.go_to.ensures
-    in let path : arc_slice_items c.in_ok-path.path ≡ w = c.in_ok-path.ensures ∙ (c.jobs.ensures ∙ went)
+    in let path : arc_slice_items c.in_ok-path.path ≡ w = c.in_ok-path.ensures.ok ∙ (c.jobs.ensures ∙ went)
     in let added : c.push.new.self.items ≡ nodes ++ node ∷ [] = rw c.unwrap.ensures at c.push.ensures.items
     in record {
       come = one_came shop w c.loop-child.opens.items c.pop.new.self.items o nodes c.push.new.self.items node

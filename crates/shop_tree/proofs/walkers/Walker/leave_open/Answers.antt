@@ -1,8 +1,7 @@
-use Rattle.std.proofs.Common.{◌≡◌, ◌∙◌, ◌++◌, ◌∷◌, ◌≤◌, [], ℕ, List, length, take, refl, sym, ap, subst, arith}
+use Rattle.std.proofs.Common.{◌≡◌, ◌∙◌, ◌++◌, ◌∷◌, ◌≤◌, [], ℕ, List, length, take, refl, sym, ap, subst}
 use Rattle.std.specs.Arc.{arc_slice_items}
 use Rattle.std.proofs.lemmas.List.{take-take}
 use Rattle.shop_model.specs.Shop.{Shop}
-use Rattle.shop_model.proofs.WordLengths.{word_length}
 use Rattle.shop_tree.specs.Nodes.{IsNode}
 use Rattle.shop_tree.specs.inner.Walkers.{IsTurn}
 use Rattle.shop_tree.specs.inner.Searching.{walked, with_left}
@@ -10,24 +9,7 @@ use Rattle.shop_tree.specs.declared.opens.Waiting.TheVariants.{Child}
 use Rattle.shop_tree.proofs.OpenLemmas.{popped}
 use Rattle.shop_tree.proofs.ListLemmas.{on_ok}
 use Rattle.shop_tree.proofs.WalkerLemmas.{turn_left, turn_dropped}
-use Rattle.shop_tree.proofs.SmallJobs.{small_last}
 use Rattle.shop_tree.proofs.walkers.Walker.leave_open.Goals as goal
-
-pub along-requires-clause-short : goal.along-requires-clause-short
-along-requires-clause-short c =
-    let self = c.args.self.now
-    in let p = popped self.desk.shop self.desk.word self.stack.items (Child c.args.child)
-    c.requires.on
-    in let a = p.own.depth
-    in let b = word_length self.desk.shop self.desk.word c.keeps_word.ensures.limits c.keeps_word.ensures.word
-    in omega arith
-
-pub along-requires-clause-small : goal.along-requires-clause-small
-along-requires-clause-small c =
-    let self = c.args.self.now
-    in let o = c.args.child
-    in let p = popped self.desk.shop self.desk.word self.stack.items (Child o) c.requires.on
-    in small_last self.desk.shop (take o.depth self.desk.word) o.job c.keeps_word.ensures.limits p.own.is_word
 
 -- the same entries of the path as of the desk's word
 same_front : (path word : List ℕ) (n : ℕ) → n ≤ length word → take (length word) path ≡ word → take n path ≡ take n word

@@ -1,20 +1,12 @@
 use Rattle.std.proofs.Common.{◌≡◌, ◌∙◌, ◌++◌, ◌∷◌, [], List, sym, ap, subst}
 use Rattle.shop_tree.specs.Pieces.{still_open}
-use Rattle.shop_tree.specs.inner.SmallJobs.{AreSmallJobs}
 use Rattle.shop_tree.specs.inner.Opens.{AreWaiting}
 use Rattle.shop_tree.specs.inner.Searching.{walk_stack, walked}
 use Rattle.shop_tree.specs.declared.opens.Waiting.{Waiting}
 use Rattle.shop_tree.specs.declared.opens.Waiting.TheVariants.{Rest}
 use Rattle.shop_tree.proofs.OpenLemmas.{popped}
 use Rattle.shop_tree.proofs.WalkerLemmas.{rest_passed}
-use Rattle.shop_tree.proofs.SmallJobs.{small_jobs}
 use Rattle.shop_tree.proofs.walkers.Walker.leave_stack.Goals as goal
-
-pub path_of-requires : goal.path_of-requires
-path_of-requires c =
-    let self = c.args.self.now
-    in subst AreSmallJobs (sym c.jobs.ensures)
-    (small_jobs self.desk.shop self.desk.word c.keeps_word.ensures.limits c.keeps_word.ensures.word)
 
 pub loop-waiting-preserved : goal.loop-waiting-preserved
 loop-waiting-preserved c =

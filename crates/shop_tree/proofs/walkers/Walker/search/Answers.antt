@@ -26,8 +26,8 @@ returns-clause-keeps c =
     ∙ ap (λ (ns : List Node). still_open shop (fold (walk shop) (walked c.begin.new.self) (words_of ns)))
     c.as_slice.ensures.value
     in subst (KeepsPiece shop (words_of nodes) best)
-    (sym (told_sheet shop nodes best budget c.begin.new.self p c.end-found.result.0 c.end-found.result.1.items same
-    c.begin.ensures.walk c.in_ok-walk_nodes.ensures.spent walks c.end-found.ensures.found c.end-found.ensures.left))
+    (sym (told_sheet shop nodes best budget c.begin.new.self p c.in_ok-found.found c.in_ok-found.left.items same
+    c.begin.ensures.walk c.in_ok-walk_nodes.ensures.spent walks c.in_ok-found.ensures.found c.in_ok-found.ensures.left))
     (open_keeps shop (words_of nodes) best (sheet shop (words_of nodes) best budget)
     (searches_keep shop (words_of nodes) best budget (are_words shop nodes c.requires.nodes)))
 
@@ -38,14 +38,14 @@ invariant_of-result-clause-is_sheet c =
     in let best = c.args.best
     in let budget = c.args.budget
     in let p = c.walk_nodes.new.self.progress
-    in let left = c.end-found.result.1.items
+    in let left = c.in_ok-found.left.items
     in let same : p.instance.now ≡ shop = c.in_ok-walk_nodes.ensures.instance ∙ (c.begin.ensures.instance
     ∙ sym c.args.self.now.same_shop)
     in let walks : AreAlike shop (walked p) (fold (walk shop) (walked c.begin.new.self) (words_of nodes)) =
     c.in_ok-walk_nodes.ensures.walk
     ∙ ap (λ (ns : List Node). still_open shop (fold (walk shop) (walked c.begin.new.self) (words_of ns)))
     c.as_slice.ensures.value
-    in subst (λ x. IsSheet x c.args.piece.now best budget c.end-found.result.0 p.best left (budget - p.budget))
+    in subst (λ x. IsSheet x c.args.piece.now best budget c.in_ok-found.found p.best left (budget - p.budget))
     (sym same)
-    (told_sheet shop nodes best budget c.begin.new.self p c.end-found.result.0 left same c.begin.ensures.walk
-    c.in_ok-walk_nodes.ensures.spent walks c.end-found.ensures.found c.end-found.ensures.left)
+    (told_sheet shop nodes best budget c.begin.new.self p c.in_ok-found.found left same c.begin.ensures.walk
+    c.in_ok-walk_nodes.ensures.spent walks c.in_ok-found.ensures.found c.in_ok-found.ensures.left)
