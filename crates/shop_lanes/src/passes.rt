@@ -52,6 +52,34 @@ fn span_of<B: Block>(
     most
 }
 
+/// The same for machines of four blocks and more, in a function of its own.
+#[inline(never)]
+fn span_of_longer<B: Block>(
+    heads: &[B::Number],
+    times: &[B::Number],
+    tails: &[B::Number],
+    least: u64,
+    start: u64,
+    most: B,
+) -> B
+    requires whole_blocks { length heads.now % 8 ≡ 0 }
+    requires times { length times.now ≡ length heads.now }
+    requires tails { length tails.now ≡ length heads.now }
+    requires least { least ≤ B.GREATEST }
+    requires most { length (B.numbers most) ≡ 8 }
+    requires fits { FitsSpan B.GREATEST start (lanes_by B.value heads.now times.now tails.now) }
+    ensures { HasSpan B.numbers B.value heads.now times.now tails.now least start most result }
+{
+    match heads.len() {
+        32 => span_of(32, heads, times, tails, least, start, most),
+        40 => span_of(40, heads, times, tails, least, start, most),
+        48 => span_of(48, heads, times, tails, least, start, most),
+        56 => span_of(56, heads, times, tails, least, start, most),
+        64 => span_of(64, heads, times, tails, least, start, most),
+        _ => span_of(heads.len(), heads, times, tails, least, start, most),
+    }
+}
+
 /// The greatest of `most` and the ends, tails included.
 #[inline(always)]
 pub(crate) fn single_span<B: Block>(
@@ -75,7 +103,7 @@ pub(crate) fn single_span<B: Block>(
         8 => span_of(8, heads, times, tails, least, start, most),
         16 => span_of(16, heads, times, tails, least, start, most),
         24 => span_of(24, heads, times, tails, least, start, most),
-        _ => span_of(heads.len(), heads, times, tails, least, start, most),
+        _ => span_of_longer(heads, times, tails, least, start, most),
     };
     greatest_of(most)
 }
@@ -258,6 +286,25 @@ pub(crate) fn greatest_span<B: Block>(
     greatest_of(spans_by_count(heads, times, tails, above, upto, most))
 }
 
+/// A bit for each of the numbers of four blocks and more, the first the lowest, that says whether it is above 0 and at
+/// most `upto`; in a function of its own.
+#[inline(never)]
+fn bits_of_longer<B: Block>(heads: &[B::Number], upto: u64) -> u64
+    requires whole_blocks { length heads.now % 8 ≡ 0 }
+    requires few { length heads.now ≤ 64 }
+    requires fits { upto ≤ B.GREATEST }
+    ensures { result ≡ mask_l (map (is_between 0 upto) (map B.value heads.now)) }
+{
+    match heads.len() {
+        32 => bits_between::<B>(32, heads, 0, upto),
+        40 => bits_between::<B>(40, heads, 0, upto),
+        48 => bits_between::<B>(48, heads, 0, upto),
+        56 => bits_between::<B>(56, heads, 0, upto),
+        64 => bits_between::<B>(64, heads, 0, upto),
+        _ => bits_between::<B>(heads.len(), heads, 0, upto),
+    }
+}
+
 /// A bit for each number, the first the lowest, that says whether it is above 0 and at most `upto`.
 #[inline(always)]
 pub(crate) fn bits_up_to<B: Block>(heads: &[B::Number], upto: u64) -> u64
@@ -270,7 +317,7 @@ pub(crate) fn bits_up_to<B: Block>(heads: &[B::Number], upto: u64) -> u64
         8 => bits_between::<B>(8, heads, 0, upto),
         16 => bits_between::<B>(16, heads, 0, upto),
         24 => bits_between::<B>(24, heads, 0, upto),
-        _ => bits_between::<B>(heads.len(), heads, 0, upto),
+        _ => bits_of_longer::<B>(heads, upto),
     }
 }
 
