@@ -1,7 +1,8 @@
 // A board by hand: three pieces, of which the first ends at the opening bound.
 ghost use Rattle.std.specs.Prelude.{◌≡◌, All, IfOk, IfSome};
 ghost use Rattle.shop_board.specs.Hits.{hits_of_round};
-ghost use Rattle.shop_board.specs.Seats.{hits_of, IsSeatOf, HasServedOf};
+ghost use Rattle.shop_board.specs.Seats.{hits_of, IsSeatOf};
+ghost use Rattle.crew_tests.specs.inner.Served.{HasServedOf};
 
 use crate::crews::{Became, what_became};
 use crate::worked_rounds::third_round;

@@ -1,20 +1,15 @@
-// The same answer by any number of workers of either crew, and workers that come to the gate at once.
-ghost use Rattle.std.specs.Thread.{IsSync};
+// The same answer and the same entries by any number of workers of either crew.
 ghost use Rattle.std.specs.Prelude.{IfOk};
 ghost use Rattle.shop_round.specs.Entries.{told};
 ghost use Rattle.shop_round.specs.Crews.{OneForEach};
 
 use crate::worked_rounds::{second_round, third_round};
-use shop_board::{BoardCrew, Gate, LockCrew, OpenGate, Seat, SeatGate};
+use shop_board::{BoardCrew, LockCrew, OpenGate};
 use shop_round::{
     Alone, Answer, Crew, Entry, Kind, Plan, Round, Standing, gather, run, search_piece,
 };
 use std::alloc::{AllocError, Global};
 use std::process::Abort;
-use std::sync::Wait;
-use std::sync::atomic::{AtomicBool, AtomicUsize, Ordering};
-use std::thread;
-use std::thread::Threads;
 use worked_instances::with_a_gap;
 
 // The makespan, the bound, and how many nodes are open, rounds were done and nodes counted.
@@ -71,218 +66,6 @@ fn crews_have_1_to_64_workers(rt: HostRuntime) {
         let board = BoardCrew::new(workers, OpenGate);
         assert_eq!(rt; board.is_some(), within, "{workers} workers");
     }
-}
-
-// How many workers met, and which worker searched piece 0 and which piece 1.
-#[derive(Clone, Copy, Debug, PartialEq)]
-struct Met {
-    count: usize,
-    workers: [usize; 2],
-}
-
-const NOBODY: Met = Met {
-    count: 0,
-    workers: [usize::MAX, usize::MAX],
-};
-
-// Holds back whoever searches piece 0 or 1 until the other is searched too, for 10,000,000 turns at most.
-#[derive(Drop)]
-struct Meeting {
-    began: [AtomicBool; 2],
-    workers: [AtomicUsize; 2],
-    met: AtomicUsize,
-}
-
-impl Meeting {
-    fn new() -> Meeting {
-        Meeting {
-            began: [AtomicBool::new(false), AtomicBool::new(false)],
-            workers: [AtomicUsize::new(usize::MAX), AtomicUsize::new(usize::MAX)],
-            met: AtomicUsize::new(0),
-        }
-    }
-
-    fn met(&self) -> Met {
-        Met {
-            count: self.met.load(Ordering::SeqCst),
-            workers: [
-                self.workers[0].load(Ordering::SeqCst),
-                self.workers[1].load(Ordering::SeqCst),
-            ],
-        }
-    }
-
-    fn meet(&self, worker: usize, piece: usize) {
-        if piece >= 2 {
-            return;
-        }
-        self.workers[piece].store(worker, Ordering::SeqCst);
-        self.began[piece].store(true, Ordering::SeqCst);
-        for _ in 0..10_000_000 {
-            if self.began[1 - piece].load(Ordering::SeqCst) {
-                self.met.fetch_add(1, Ordering::SeqCst);
-                return;
-            }
-            thread::yield_now();
-        }
-    }
-}
-
-impl Gate for Meeting {
-    fn before(&self, worker: usize, piece: usize) {
-        self.meet(worker, piece);
-    }
-}
-
-impl SeatGate for Meeting {
-    fn won(&self, worker: usize, _seat: &Seat, piece: usize) {
-        self.meet(worker, piece);
-    }
-}
-
-// The entries by two workers of a crew that takes numbers under a lock, and who met.
-fn by_lock<'r, R: Threads + Wait + Sync>(
-    rt: &R,
-    alloc: Global,
-    round: &'r Round<'r>,
-) -> Result<(Vec<Entry<'r>>, Met), AllocError>
-    ensures { IfOk result (λ p. OneForEach (told round.now) p.0.items) }
-{
-    let Some(crew) = LockCrew::new(2, Meeting::new()) else {
-        return Err(AllocError);
-    };
-    let entries = crew.search_round(rt, alloc, round)?;
-    let met = crew.gate().met();
-    Ok((entries, met))
-}
-
-// The same, of a crew that claims pieces on a board.
-fn by_board<'r, R: Threads + Sync>(
-    rt: &R,
-    alloc: Global,
-    round: &'r Round<'r>,
-) -> Result<(Vec<Entry<'r>>, Met), AllocError>
-    ensures { IfOk result (λ p. OneForEach (told round.now) p.0.items) }
-{
-    let Some(crew) = BoardCrew::new(2, Meeting::new()) else {
-        return Err(AllocError);
-    };
-    let entries = crew.search_round(rt, alloc, round)?;
-    let met = crew.gate().met();
-    Ok((entries, met))
-}
-
-// Searches a round of two pieces by two workers that meet, and any other alone. Of the sheets of the two pieces that
-// took 3 nodes and found no makespan below 16 it notes how many nodes they left.
-#[derive(Drop)]
-struct MeetingCrew {
-    on_a_board: bool,
-    met: Met,
-    left: [Option<usize>; 2],
-}
-
-impl<R: Threads + Wait + Sync> Crew<R> for MeetingCrew {
-    ghost ready = { IsSync R.row };
-
-    fn search<'r>(
-        &mut self,
-        rt: &R,
-        alloc: Global,
-        round: &'r Round<'r>,
-    ) -> Result<Vec<Entry<'r>>, AllocError> {
-        if round.pieces.len() != 2 {
-            return Alone.search(rt, alloc, round);
-        }
-        let (entries, met) = if self.on_a_board {
-            by_board(rt, alloc, round)?
-        } else {
-            by_lock(rt, alloc, round)?
-        };
-        self.met = met;
-        for (entry, left) in entries.iter().zip(&mut self.left) {
-            if let Kind::Done(sheet) = &entry.kind
-                && sheet.makespan == 16
-                && sheet.taken == 3
-            {
-                *left = Some(sheet.left.len());
-            }
-        }
-        Ok(entries)
-    }
-}
-
-#[test]
-fn two_workers_meet_at_the_gate(rt: HostRuntime) {
-    let alloc = rt.alloc();
-    let instance = with_a_gap(alloc).expect(&rt, "an instance");
-    let plan = Plan::new(2, 3, 1).expect(&rt, "a plan within the limits");
-    for on_a_board in [false, true] {
-        let mut crew = MeetingCrew {
-            on_a_board,
-            met: NOBODY,
-            left: [None, None],
-        };
-        let answer = run(&rt, alloc, &instance, &plan, &mut crew).expect(&rt, "memory");
-        assert_eq!(rt; crew.met.count, 2);
-        assert!(rt; [[0, 1], [1, 0]].contains(&crew.met.workers));
-        assert_eq!(rt; crew.left, [Some(1), Some(2)]);
-        assert_eq!(rt; answer.nodes, 9);
-    }
-}
-
-// Counts the pieces that are searched, and of these those by another worker than worker 0.
-#[derive(Drop)]
-struct Tally {
-    pieces: AtomicUsize,
-    by_others: AtomicUsize,
-}
-
-impl Tally {
-    fn new() -> Tally {
-        Tally {
-            pieces: AtomicUsize::new(0),
-            by_others: AtomicUsize::new(0),
-        }
-    }
-
-    fn count(&self, worker: usize) {
-        self.pieces.fetch_add(1, Ordering::SeqCst);
-        if worker != 0 {
-            self.by_others.fetch_add(1, Ordering::SeqCst);
-        }
-    }
-
-    fn counts(&self) -> (usize, usize) {
-        (
-            self.pieces.load(Ordering::SeqCst),
-            self.by_others.load(Ordering::SeqCst),
-        )
-    }
-}
-
-impl Gate for Tally {
-    fn before(&self, worker: usize, _piece: usize) {
-        self.count(worker);
-    }
-}
-
-impl SeatGate for Tally {
-    fn won(&self, worker: usize, _seat: &Seat, _piece: usize) {
-        self.count(worker);
-    }
-}
-
-#[test]
-fn one_worker_is_worker_0(rt: HostRuntime) {
-    let alloc = rt.alloc();
-    let instance = with_a_gap(alloc).expect(&rt, "an instance");
-    let round = second_round(&rt, alloc, &instance);
-    let lock = LockCrew::new(1, Tally::new()).expect(&rt, "1 to 64 workers");
-    lock.search_round(&rt, alloc, &round).expect(&rt, "memory");
-    assert_eq!(rt; lock.gate().counts(), (2, 0));
-    let board = BoardCrew::new(1, Tally::new()).expect(&rt, "1 to 64 workers");
-    board.search_round(&rt, alloc, &round).expect(&rt, "memory");
-    assert_eq!(rt; board.gate().counts(), (2, 0));
 }
 
 // What became of a piece: the makespan of its sheet, the nodes taken and the nodes left; or the number that it was
@@ -370,37 +153,4 @@ fn entries_after_a_hit_do_not_count(rt: HostRuntime) {
     );
     assert_closed(&rt, &gather(alloc, &round, passed).expect(&rt, "memory"));
     assert_closed(&rt, &gather(alloc, &round, searched).expect(&rt, "memory"));
-}
-
-// One worker keeps what it searched, and passes what stands behind a piece that ends at the opening bound. Its gate
-// hears of the piece that is searched, and of no other.
-#[test]
-fn one_worker_passes_what_stands_behind_a_hit(rt: HostRuntime) {
-    let alloc = rt.alloc();
-    let instance = with_a_gap(alloc).expect(&rt, "an instance");
-    let round = third_round(&rt, alloc, &instance);
-    let kinds = [
-        Became::Searched(10, 1, 0),
-        Became::Passed(0),
-        Became::Passed(0),
-    ];
-    let alone = Alone.search(&rt, alloc, &round).expect(&rt, "memory");
-    assert_eq!(rt;
-        what_became(&rt, alloc, &alone).as_slice(),
-        kinds.as_slice()
-    );
-    let lock = LockCrew::new(1, Tally::new()).expect(&rt, "1 to 64 workers");
-    let by_lock = lock.search_round(&rt, alloc, &round).expect(&rt, "memory");
-    assert_eq!(rt;
-        what_became(&rt, alloc, &by_lock).as_slice(),
-        kinds.as_slice()
-    );
-    assert_eq!(rt; lock.gate().counts(), (1, 0));
-    let board = BoardCrew::new(1, Tally::new()).expect(&rt, "1 to 64 workers");
-    let by_board = board.search_round(&rt, alloc, &round).expect(&rt, "memory");
-    assert_eq!(rt;
-        what_became(&rt, alloc, &by_board).as_slice(),
-        kinds.as_slice()
-    );
-    assert_eq!(rt; board.gate().counts(), (1, 0));
 }

@@ -1,6 +1,6 @@
 // Rows of each width on numbers worked by hand.
 ghost use Rattle.std.specs.Prelude.{◌≡◌, ℕ, ◌≤◌, IfOk};
-ghost use Rattle.shop_lanes.specs.Vectors.{two_blocks};
+ghost use Rattle.shop_lanes.proofs.Rows.{two_blocks};
 
 use shop_lanes::{Lanes, Narrow, Plain, Wide};
 use std::alloc::{AllocError, Global};

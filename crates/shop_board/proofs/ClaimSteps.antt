@@ -9,7 +9,8 @@ use Rattle.atomic_table.specs.Table.{step, Me, Allows, keeps}
 use Rattle.shop_board.specs.declared.views.View.{View}
 use Rattle.shop_board.specs.Views.{has, IsHitOrEnd}
 use Rattle.shop_board.specs.Moments.{hit_word, IsLive, IsClaimed, Knows, IsLawful}
-use Rattle.shop_board.specs.Moves.{with_mine, with_seen, IsTold, Claims}
+use Rattle.shop_board.specs.Moves.{with_mine, with_seen, IsTold}
+use Rattle.shop_board.specs.inner.Steps.{Claims}
 use Rattle.shop_board.specs.Winners.{IsDecided}
 use Rattle.shop_board.proofs.Numbers.{has_cons, has_head, has_tail, has_same, is_false, once_cons}
 use Rattle.shop_board.proofs.Words.{word_here, word_else, words_length, same_word}

@@ -7,7 +7,8 @@ use Rattle.atomic_table.specs.Table.{step, Me, Allows, keeps}
 use Rattle.shop_board.specs.declared.views.View.{View}
 use Rattle.shop_board.specs.Views.{has, is_hit_in, IsHitOrEnd}
 use Rattle.shop_board.specs.Moments.{hit_word, IsLive, Knows, IsLawful}
-use Rattle.shop_board.specs.Moves.{with_low, with_done, IsAtMostMarked, Looks, Marks}
+use Rattle.shop_board.specs.Moves.{with_low, with_done, IsAtMostMarked}
+use Rattle.shop_board.specs.inner.Steps.{Looks, Marks}
 use Rattle.shop_board.proofs.Numbers.{has_cons, has_head, has_tail}
 use Rattle.shop_board.proofs.Words.{word_here, word_else, words_length, same_word}
 use Rattle.shop_board.proofs.LawfulSteps.{Moment, Risen, Step, still_knows, stepped_lawful, quiet}

@@ -11,7 +11,8 @@ use Rattle.atomic_table.proofs.Lists.{at_set, set_else}
 use Rattle.shop_board.specs.declared.views.View.{View}
 use Rattle.shop_board.specs.Views.{has, IsHitOrEnd}
 use Rattle.shop_board.specs.Moments.{hit_word, IsLive, Somebody, Knows, IsLawful}
-use Rattle.shop_board.specs.Moves.{spent, joined, Recalls}
+use Rattle.shop_board.specs.Moves.{joined}
+use Rattle.shop_board.specs.inner.Steps.{spent, Recalls}
 use Rattle.shop_board.proofs.Numbers.{has_append, has_left, has_right, once_append}
 use Rattle.shop_board.proofs.Words.{same_word}
 use Rattle.shop_board.proofs.LawfulSteps.{Moment, Step, view_here, stepped_lawful, quiet}

@@ -1,8 +1,8 @@
--- How what a seat knows changes, and what each step tells its seat.
+-- How what a seat knows changes.
 --     newcomer hits          the first seat has won, seen and marked nothing
 --     empty_handed v         the second of two seats has seen as much, and won nothing
---     joined v w             one seat for two; the other is spent
---     HaveWonApart v w           the two seats have won no piece in common
+--     joined v w             one seat for two
+--     HaveWonApart v w       the two seats have won no piece in common
 --     KeepsServed v w x      where both have served what they won, so has the third
 --     HasWon n v w           the piece joins those that the seat won, and wasn't among them
 --     with_seen v n          the piece joins those that the seat knows to be claimed
@@ -11,13 +11,10 @@
 --     IsAtMostMarked v n     n is at most each number that the seat marked
 --     with_done v n low      the piece joins those that the seat marked
 --     HasMarked n v w        the piece was marked
---     Claims, Looks, Marks   of a step, the seat before, the number found and the seat after
---     Recalls                nothing changes; no number stands twice among those that the seat won
 use Rattle.std.specs.Prelude.{◌≡◌, ℕ, ◌≤◌, List, [], ◌∷◌, ◌++◌, length, min, Bool, true, false}
-use Rattle.std.specs.Prelude.{◌==◌, MatchBool}
-use Rattle.atomic_table.specs.Table.{Step, Me}
+use Rattle.std.specs.Prelude.{MatchBool}
 use Rattle.shop_board.specs.declared.views.View.{View}
-use Rattle.shop_board.specs.Views.{has, once, IsHitOrEnd, HasServed}
+use Rattle.shop_board.specs.Views.{has, HasServed}
 
 abbrev pub newcomer : List Bool → View
 newcomer hits =
@@ -28,9 +25,6 @@ HaveWonApart v w = (n : ℕ) → has v.mine n ≡ true → has w.mine n ≡ true
 
 abbrev pub KeepsServed : View → View → View → Type 0
 KeepsServed v w x = HasServed v → HasServed w → HasServed x
-
-abbrev pub spent : View
-spent = record { live = false; hits = []; mine = []; seen = []; done = []; low = 0 }
 
 abbrev pub with_mine : View → ℕ → View
 with_mine v n = record v { mine = n ∷ v.mine }
@@ -68,23 +62,3 @@ joined v w = record {
   done = v.done ++ w.done;
   low = min v.low w.low;
 }
-
--- what a step tells
-abbrev pub Telling : Type 1
-Telling = Step (Unit {0}) → Me (Unit {0}) View → ℕ → Me (Unit {0}) View → Type 0
-
-abbrev pub Claims : Telling
-Claims s me found after =
-    (after.1 ≡ me.1) × IsTold (found == 0) s.word me.0 after.0
-
-abbrev pub Looks : Telling
-Looks s me found after =
-    (after.1 ≡ me.1) × (after.0 ≡ with_low me.0 found) × IsHitOrEnd me.0.hits found
-    × (found ≤ me.0.low) × IsAtMostMarked me.0 found
-
-abbrev pub Marks : Telling
-Marks s me found after =
-    (after.1 ≡ me.1) × (after.0 ≡ with_done me.0 s.first (min s.first found)) × (found ≤ me.0.low)
-
-abbrev pub Recalls : Telling
-Recalls s me found after = (after ≡ me) × (once me.0.mine ≡ true)

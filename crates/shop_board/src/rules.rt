@@ -17,7 +17,7 @@ impl<'r> TableRule<(), View, RoundHits<'r>> for Law {
 pub struct Claim;
 
 impl Play<(), View> for Claim {
-    ghost use Rattle.shop_board.specs.Moves.{Claims};
+    ghost use Rattle.shop_board.specs.inner.Steps.{Claims};
 
     ghost then = { Claims };
 }
@@ -25,7 +25,7 @@ impl Play<(), View> for Claim {
 pub struct Look;
 
 impl Play<(), View> for Look {
-    ghost use Rattle.shop_board.specs.Moves.{Looks};
+    ghost use Rattle.shop_board.specs.inner.Steps.{Looks};
 
     ghost then = { Looks };
 }
@@ -33,7 +33,7 @@ impl Play<(), View> for Look {
 pub struct Mark;
 
 impl Play<(), View> for Mark {
-    ghost use Rattle.shop_board.specs.Moves.{Marks};
+    ghost use Rattle.shop_board.specs.inner.Steps.{Marks};
 
     ghost then = { Marks };
 }
@@ -41,7 +41,7 @@ impl Play<(), View> for Mark {
 pub struct Recall;
 
 impl Play<(), View> for Recall {
-    ghost use Rattle.shop_board.specs.Moves.{Recalls};
+    ghost use Rattle.shop_board.specs.inner.Steps.{Recalls};
 
     ghost then = { Recalls };
 }
@@ -57,7 +57,8 @@ impl Split<View> for Share {
 }
 
 impl Join<View> for Share {
-    ghost use Rattle.shop_board.specs.Moves.{joined, spent};
+    ghost use Rattle.shop_board.specs.Moves.{joined};
+    ghost use Rattle.shop_board.specs.inner.Steps.{spent};
 
     ghost both = { joined };
 

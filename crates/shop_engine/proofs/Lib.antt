@@ -5,3 +5,4 @@ pub mod Reported
 pub mod Headline
 pub mod RefusedTexts
 pub mod SolvedSchedules
+pub mod Rows

@@ -20,16 +20,14 @@
 --     HasShape, starts_of               a table in rows has a start for each operation; the
 --                                       schedule that it gives
 --     report_text                       the lines of a report
-use Rattle.std.specs.Prelude.{◌≡◌, ℕ, ◌≤◌, Bool, true, false, List, [], ◌∷◌, ◌++◌, codes, Option}
-use Rattle.std.specs.Prelude.{Some, Result, IsOk, refl}
-use Rattle.std.specs.Fmt.{digits}
+use Rattle.std.specs.Prelude.{◌≡◌, ℕ, ◌≤◌, Bool, false, List, [], ◌++◌, Option}
+use Rattle.std.specs.Prelude.{Some, Result, IsOk}
 use Rattle.shop_model.specs.Shop.{Starts, IsFeasible, end_of, IsLeast}
 use Rattle.shop_model.specs.Checking.{HasShape, starts_of}
 use Rattle.shop_text.specs.Texts.{NamedShop}
 use Rattle.shop_text.specs.Writing.{Reported, report_text}
 use Rattle.shop_round.specs.Round.{Planned}
 use Rattle.shop_round.specs.Runs.{planned}
-use Rattle.shop_round.specs.declared.plans.Order.TheVariants.{Kept}
 use Rattle.shop_text.specs.declared.formats.Format.{Format}
 use Rattle.shop_engine.specs.declared.arguments.SolveArgs.{SolveArgs}
 use Rattle.shop_engine.specs.declared.faults.Fault.{Fault}
@@ -77,35 +75,3 @@ abbrev pub WhereKnown : (List ℕ → List ℕ → Type 0) → Device → Device
     → Result (Unit {0}) Fault → Type 0
 WhereKnown Written source sink sink' result = (text held : List ℕ) → source.bytes ≡ Some text
     → sink.bytes ≡ Some held → IsOk result → HoldsThen (Written text) held sink'
-
--- One report, computed from the definition: job 0 takes machine 0 for 3 and then machine 1 for 2,
--- job 1 machine 1 for 2 and then machine 0 for 4.
-abbrev pub crossing : NamedShop
-crossing = record {
-  name = codes "crossing";
-  shop = record {
-    machines = 2;
-    jobs =
-        record {
-          release = 0;
-          route = record { machine = 0; time = 3 }
-              ∷ record { machine = 1; time = 2 } ∷ [];
-        }
-        ∷ record {
-          release = 0;
-          route = record { machine = 1; time = 2 }
-              ∷ record { machine = 0; time = 4 } ∷ [];
-        }
-        ∷ [];
-  };
-}
-
-abbrev pub one_round : Planned
-one_round = record { rounds = 1; budget = 100; piece = 1; order = Kept }
-
-pub crossing_report : text_with_gantt (answer_of crossing one_round) true
-    ≡ codes "instance crossing\nsize 2 2\nmakespan 7\nbound 7\n"
-    ++ codes "status optimal\nopen 0\nrounds 1\nnodes 6\n"
-    ++ codes "job 0: 0 3\njob 1: 0 3\nunit 1\nmachine 0 |0001111|\nmachine 1 |11.00..|\n"
-unfolding digits
-crossing_report = refl

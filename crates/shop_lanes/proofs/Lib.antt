@@ -11,3 +11,4 @@ pub mod BlockMasks
 pub mod MarkedSpans
 pub mod Padding
 pub mod RowValues
+pub mod Rows

@@ -2,5 +2,4 @@ pub mod Rows
 pub mod Spans
 pub mod Marks
 pub mod Ends
-pub mod Vectors
 pub mod inner

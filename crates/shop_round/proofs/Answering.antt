@@ -15,7 +15,7 @@ use Rattle.shop_round.specs.Runs.{stands, StandsAt, Says}
 use Rattle.shop_round.specs.declared.open_nodes.OpenNodes.{OpenNodes}
 use Rattle.shop_round.specs.declared.plans.Order.{Order}
 use Rattle.shop_round.specs.declared.rounds.Round.{Round}
-use Rattle.shop_round.specs.declared.searches.Search.{Search}
+use Rattle.shop_round.specs.declared.runs.Search.{Search}
 use Rattle.shop_round.specs.inner.OpenNodes.{least_of_bounds}
 use Rattle.shop_round.specs.inner.Searches.{IsSearchAt, IsSearchOf, IsJoined, front_of, stand_of}
 use Rattle.shop_round.specs.inner.Stores.{open_list, order_of}

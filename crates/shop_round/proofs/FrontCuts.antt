@@ -5,7 +5,7 @@ use Rattle.shop_bound.specs.Bound.{lb}
 use Rattle.shop_tree.specs.declared.nodes.Node.{Node}
 use Rattle.shop_tree.specs.declared.pieces.Piece.{Piece}
 use Rattle.shop_tree.specs.Nodes.{words_of}
-use Rattle.shop_round.specs.declared.searches.Search.{Search}
+use Rattle.shop_round.specs.declared.runs.Search.{Search}
 use Rattle.shop_round.specs.Round.{Planned, cut_into, in_order, least_bound, cut_of}
 use Rattle.shop_round.specs.Nodes.{ArePieces, told_of}
 use Rattle.shop_round.specs.Laws.{IsRound}

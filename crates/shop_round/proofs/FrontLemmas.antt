@@ -19,7 +19,7 @@ use Rattle.shop_round.specs.declared.plans.Order.{Order}
 use Rattle.shop_round.specs.declared.plans.Order.TheVariants.{Kept, Bound}
 use Rattle.shop_round.specs.declared.standings.Standing.{Standing}
 use Rattle.shop_round.specs.declared.open_nodes.OpenNodes.{OpenNodes}
-use Rattle.shop_round.specs.declared.searches.Search.{Search}
+use Rattle.shop_round.specs.declared.runs.Search.{Search}
 use Rattle.shop_round.specs.Round.{Stand, Told, in_order, words_below, words_of_round, sheets_of, up_to_hit}
 use Rattle.shop_round.specs.Round.{after_round, gathered, best_word, makespan_of, least_bound}
 use Rattle.shop_round.specs.Laws.{IsRound, IsStanding}

@@ -10,7 +10,7 @@ use Rattle.shop_tree.specs.Branching.{sort_by}
 pub use Rattle.shop_tree.specs.Pieces.{words_below}
 use Rattle.shop_tree.specs.Walking.{Walk, sheet}
 use Rattle.shop_tree.specs.Laws.{HasBetter}
-use Rattle.shop_round.specs.declared.limits.TheConstants.{MAX_PIECES}
+use Rattle.shop_round.specs.declared.plans.TheConstants.{MAX_PIECES}
 use Rattle.shop_round.specs.declared.plans.Order.{Order}
 use Rattle.shop_round.specs.declared.plans.Order.TheVariants.{Kept, Bound}
 

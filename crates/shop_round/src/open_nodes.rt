@@ -2,10 +2,11 @@
 ghost use Rattle.std.specs.Prelude.{◌≡◌, ◌==◌, ◌++◌, ◌∷◌, [], length, IfOk, OnOk};
 ghost use Rattle.shop_round.specs.inner.OpenNodes.{least_of_bounds, AreBelow};
 
-use crate::by_bound::{count_by_bound, keep_by_bound, least_by_bound, pop_by_bound, put_by_bound};
-use crate::pieces::least_bound;
 use crate::plans::Order;
-use crate::stacks::Stack;
+use crate::rounds::least_bound;
+use crate::stacks::{
+    Stack, count_by_bound, keep_by_bound, least_by_bound, pop_by_bound, put_by_bound,
+};
 use shop_tree::Node;
 use std::alloc::{AllocError, Global};
 use std::collections::BTreeMap;

@@ -7,8 +7,7 @@ ghost use Rattle.shop_round.specs.Runs.{IsGatheredOf, GatheredCovers, IsStanding
 ghost use Rattle.shop_round.specs.inner.Outcomes.{IsOutcome, TakesIn, IsStandingAfter};
 
 use crate::entries::{Entry, Kind};
-use crate::pieces::copies_of;
-use crate::rounds::Round;
+use crate::rounds::{Round, copies_of};
 use crate::standings::Standing;
 use shop_model::Word;
 use shop_tree::{Node, Sheet};

@@ -1,7 +1,17 @@
-// Plans: how long a search goes on, and how its rounds are cut.
+// Plans: how long a search goes on, and how its rounds are cut; the limits of plans and rounds.
 ghost use Rattle.shop_round.specs.Limits.{IsPlanWithin};
 
-use crate::limits::{MAX_BUDGET, MAX_PIECE, MAX_ROUNDS};
+/// Rounds of a plan at most.
+pub const MAX_ROUNDS: u64 = 100_000;
+
+/// Nodes that are taken in one piece at most.
+pub const MAX_BUDGET: u64 = 10_000_000;
+
+/// Nodes of a piece at most.
+pub const MAX_PIECE: usize = 1_000;
+
+/// Pieces of a round at most.
+pub const MAX_PIECES: usize = 256;
 
 /// The order in which the open nodes are cut: as they stand, or by their bounds, ties keeping their
 /// places.

@@ -1,19 +1,21 @@
-// Rounds: cut from a standing, searched piece by piece, and closed to the next standing.
-ghost use Rattle.std.specs.Prelude.{◌≡◌, ◌≤◌, ◌<◌, length, true};
+// Rounds: cut from a standing, in an order and into pieces, and closed to the next standing.
+ghost use Rattle.std.specs.Prelude.{◌≡◌, ◌≤◌, ◌<◌, length, take, drop, true, IfOk, OnOk};
+ghost use Rattle.std.specs.Vec.Iter.{into_iter_items};
 ghost use Rattle.shop_tree.specs.Nodes.{AreNodes};
 ghost use Rattle.shop_round.specs.Limits.{IsCountWithin};
+ghost use Rattle.shop_round.specs.Round.{cut_into};
 ghost use Rattle.shop_round.specs.Nodes.{numbered, told_of, ArePieces};
 ghost use Rattle.shop_round.specs.Laws.{IsRound};
-ghost use Rattle.shop_round.specs.declared.limits.TheConstants.{MAX_BUDGET, MAX_PIECES, MAX_ROUNDS};
+ghost use Rattle.shop_round.specs.inner.OpenNodes.{least_of_bounds, nodes_in_order, nodes_in};
+ghost use Rattle.shop_round.specs.declared.plans.TheConstants.{MAX_BUDGET, MAX_PIECES, MAX_ROUNDS};
 
-use crate::limits::MAX_PIECES;
 use crate::outcomes::Outcome;
-use crate::pieces::{cut_pieces, least_bound, put_in_order};
-use crate::plans::Plan;
+use crate::plans::{MAX_PIECES, Order, Plan};
 use crate::standings::Standing;
 use shop_model::{Instance, Word};
 use shop_tree::{Node, Piece};
 use std::alloc::{AllocError, Global};
+use std::vec::IntoIter;
 
 /// A round: the opening best with its makespan, the opening bound, the budget, the pieces and the
 /// rest, and the rounds done and nodes counted before it.
@@ -40,7 +42,6 @@ pub struct Round<'r> {
 }
 
 impl<'r> Round<'r> {
-    ghost use Rattle.std.specs.Prelude.{IfOk};
     ghost use Rattle.shop_round.specs.Entries.{told};
     ghost use Rattle.shop_round.specs.inner.Outcomes.{IsOutcome};
     ghost use Rattle.shop_round.specs.Runs.{IsCutOf, CutCovers, IsGatheredOf, GatheredCovers};
@@ -86,7 +87,7 @@ impl<'r> Round<'r> {
 
     /// What stands after the round, of what its sheets come to: as `gather`, but the rest moves, so
     /// no word is copied.
-    pub fn closed(self, outcome: Outcome) -> Result<Standing, AllocError>
+    pub(crate) fn closed(self, outcome: Outcome) -> Result<Standing, AllocError>
         requires { IsOutcome (told self) outcome }
         ensures gathered { IfOk result (λ s. IsGatheredOf self.entry s) }
         ensures standing { IfOk result (λ s. IsStandingOf self.entry.instance.now s) }
@@ -100,4 +101,75 @@ impl<'r> Round<'r> {
         } = self;
         outcome.standing_after(word, rest, rounds)
     }
+}
+
+/// The least of a makespan and the bounds of nodes.
+pub fn least_bound(makespan: u64, nodes: &[Node]) -> u64
+    ensures { result ≡ least_of_bounds makespan nodes.now }
+{
+    let mut bound = makespan;
+    for node in nodes {
+        if node.bound < bound {
+            bound = node.bound;
+        }
+    }
+    bound
+}
+
+/// The same nodes once more, in order; their words share their jobs.
+pub fn copies_of(alloc: Global, nodes: &[Node]) -> Result<Vec<Node>, AllocError>
+    ensures { IfOk result (λ v. v.items ≡ nodes.now) }
+{
+    let mut copies = Vec::with_capacity(alloc, nodes.len())?;
+    for node in nodes {
+        copies.push(node.shared()?)?;
+    }
+    Ok(copies)
+}
+
+/// Puts nodes in an order; by bound, ties keep their places.
+pub fn put_in_order(nodes: &mut Vec<Node>, order: Order) -> Result<(), AllocError>
+    ensures { OnOk result (nodes.new.items ≡ nodes_in_order order nodes.old.items) }
+{
+    match order {
+        Order::Kept => Ok(()),
+        Order::Bound => nodes.sort_by_key(|node| node.bound),
+    }
+}
+
+/// The next nodes, as many as the size says if so many are left.
+fn next_piece(
+    alloc: Global,
+    nodes: &mut IntoIter<Node, Global>,
+    size: usize,
+) -> Result<Vec<Node>, AllocError>
+    ensures taken { IfOk result (λ v. v.items ≡ take size (into_iter_items nodes.old)) }
+    ensures left { OnOk result (into_iter_items nodes.new ≡ drop size (into_iter_items nodes.old)) }
+{
+    let mut piece = Vec::with_capacity(alloc, size.min(nodes.len()))?;
+    for _ in 0..size {
+        let Some(node) = nodes.next() else {
+            break;
+        };
+        piece.push(node)?;
+    }
+    Ok(piece)
+}
+
+/// Cuts nodes into at most 256 pieces of this size, in order; the last may be shorter, and what goes beyond is let go.
+pub fn cut_pieces(alloc: Global, nodes: Vec<Node>, size: usize) -> Result<Vec<Piece>, AllocError>
+    requires { 0 < size }
+    ensures nodes { IfOk result (λ v. nodes_in v.items ≡ cut_into MAX_PIECES size nodes.items) }
+    ensures numbers { IfOk result (λ v. numbered 0 v.items ≡ true) }
+{
+    let mut pieces = Vec::with_capacity(alloc, MAX_PIECES.min(nodes.len()))?;
+    let mut nodes = nodes.into_iter();
+    for number in 0..MAX_PIECES {
+        let piece = next_piece(alloc, &mut nodes, size)?;
+        if piece.is_empty() {
+            break;
+        }
+        pieces.push(Piece::new(number, piece))?;
+    }
+    Ok(pieces)
 }

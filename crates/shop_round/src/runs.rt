@@ -1,15 +1,139 @@
-// Runs: round after round, up to the answer of a plan.
+// Runs: where one stands between two rounds, and the answer of a plan.
 ghost use Rattle.std.specs.Prelude.{IfOk};
+ghost use Rattle.shop_round.specs.Limits.{IsCountWithin};
 ghost use Rattle.shop_round.specs.Runs.{SaysAnswer, IsTrusted};
-ghost use Rattle.shop_round.specs.inner.Closing.{IsAtAnswer};
 
-use crate::alone::Alone;
-use crate::crews::Crew;
+use crate::crews::{Alone, Crew};
+use crate::open_nodes::OpenNodes;
 use crate::outcomes::outcome_of;
-use crate::plans::Plan;
-use crate::searches::Search;
+use crate::plans::{MAX_PIECES, Order, Plan};
+use crate::rounds::{Round, cut_pieces};
+use crate::standings::Standing;
 use shop_model::{Instance, Table, Word, place};
 use std::alloc::{AllocError, Global};
+
+/// Where a run stands: the best word and its makespan, the open nodes in the order of the next cut, the rounds done and
+/// the nodes counted.
+#[derive(Drop)]
+pub(crate) struct Search {
+    pub(crate) word: Word,
+    pub(crate) makespan: u64,
+    pub(crate) open: OpenNodes,
+    pub(crate) rounds: u64,
+    pub(crate) nodes: u64,
+    pub ghost within: { IsCountWithin rounds nodes },
+}
+
+impl Search {
+    ghost use Rattle.std.specs.Prelude.{◌<◌, length};
+    ghost use Rattle.shop_round.specs.Round.{opening};
+    ghost use Rattle.shop_round.specs.inner.OpenNodes.{AreBelow};
+    ghost use Rattle.shop_round.specs.inner.Stores.{open_list};
+    ghost use Rattle.shop_round.specs.inner.Searches.{IsSearchAt, IsSearchOf, IsJoined, IsFront};
+    ghost use Rattle.shop_round.specs.inner.Closing.{IsAtAnswer};
+
+    /// Where a run begins. Fails with `AllocError` if memory runs out.
+    pub(crate) fn start(
+        alloc: Global,
+        instance: &Instance,
+        order: Order,
+    ) -> Result<Search, AllocError>
+        ensures { IfOk result (λ t. IsSearchAt instance.now order (opening instance.now) t) }
+    {
+        let open = OpenNodes::new(alloc, order);
+        Search::joined(alloc, Standing::start(alloc, instance)?, open, 0)
+    }
+
+    /// What stands after a round, once the open nodes that it didn't take have joined, those of bounds below the
+    /// makespan; all are below the opening one. Fails with `AllocError` if memory runs out.
+    pub(crate) fn joined(
+        alloc: Global,
+        standing: Standing,
+        mut others: OpenNodes,
+        opening: u64,
+    ) -> Result<Search, AllocError>
+        requires { AreBelow opening (open_list others) }
+        ensures { IfOk result (λ t. IsJoined standing others t) }
+    {
+        let Standing {
+            word,
+            makespan,
+            open: left,
+            rounds,
+            nodes,
+        } = standing;
+        others.keep_below(opening, makespan)?;
+        others.put_all(alloc, left)?;
+        Ok(Search {
+            word,
+            makespan,
+            open: others,
+            rounds,
+            nodes,
+        })
+    }
+
+    /// Cuts the first open nodes into at most 256 pieces, a round without a rest, and sets the others apart.
+    /// Fails with `AllocError` if memory runs out.
+    pub(crate) fn cut<'r>(
+        self,
+        alloc: Global,
+        instance: &'r Instance,
+        plan: &Plan,
+    ) -> Result<(Round<'r>, OpenNodes), AllocError>
+        requires rounds { self.rounds < plan.now.rounds }
+        requires search { IsSearchOf instance.now plan.now.order self }
+        ensures { IfOk result (λ p. IsFront instance.now plan.now self p.0 p.1) }
+    {
+        let Search {
+            word,
+            makespan,
+            mut open,
+            rounds,
+            nodes,
+        } = self;
+        let bound = open.least_bound(makespan);
+        let front = open.take(alloc, MAX_PIECES * plan.piece)?;
+        let pieces = cut_pieces(alloc, front, plan.piece)?;
+        let round = Round {
+            instance,
+            word,
+            best: makespan,
+            bound,
+            budget: plan.budget,
+            pieces,
+            rest: Vec::new(alloc),
+            rounds,
+            nodes,
+        };
+        Ok((round, open))
+    }
+
+    /// Where a run stands after the rounds of a plan, or as soon as nothing is open.
+    fn at_end<R, C: Crew<R>>(
+        rt: &R,
+        alloc: Global,
+        instance: &Instance,
+        plan: &Plan,
+        crew: &mut C,
+    ) -> Result<Search, AllocError>
+        requires { C.ready }
+        ensures { IfOk result (λ t. IsAtAnswer instance.now plan.now t) }
+    {
+        let mut search = Search::start(alloc, instance, plan.order)?;
+        for done in 0..plan.rounds {
+            if search.open.is_empty() {
+                return Ok(search);
+            }
+            let opening = search.makespan;
+            let (round, others) = search.cut(alloc, instance, plan)?;
+            let entries = crew.search(rt, alloc, &round)?;
+            let outcome = outcome_of(alloc, &round, entries)?;
+            search = Search::joined(alloc, round.closed(outcome)?, others, opening)?;
+        }
+        Ok(search)
+    }
+}
 
 /// What a run has come to: the best word with its table and makespan, the bound that no feasible
 /// table ends before, how many nodes are open (none: the makespan is least), the rounds done and
@@ -23,31 +147,6 @@ pub struct Answer {
     pub open_nodes: usize,
     pub rounds: u64,
     pub nodes: u64,
-}
-
-/// Where a run stands after the rounds of a plan, or as soon as nothing is open.
-fn last_search<R, C: Crew<R>>(
-    rt: &R,
-    alloc: Global,
-    instance: &Instance,
-    plan: &Plan,
-    crew: &mut C,
-) -> Result<Search, AllocError>
-    requires { C.ready }
-    ensures { IfOk result (λ t. IsAtAnswer instance.now plan.now t) }
-{
-    let mut search = Search::start(alloc, instance, plan.order)?;
-    for done in 0..plan.rounds {
-        if search.open.is_empty() {
-            return Ok(search);
-        }
-        let opening = search.makespan;
-        let (round, others) = search.cut(alloc, instance, plan)?;
-        let entries = crew.search(rt, alloc, &round)?;
-        let outcome = outcome_of(alloc, &round, entries)?;
-        search = Search::joined(alloc, round.closed(outcome)?, others, opening)?;
-    }
-    Ok(search)
 }
 
 /// The answer of a plan on an instance, with any crew: its table is feasible and ends at the
@@ -70,7 +169,7 @@ pub fn run<R, C: Crew<R>>(
         open,
         rounds,
         nodes,
-    } = last_search(rt, alloc, instance, plan, crew)?;
+    } = Search::at_end(rt, alloc, instance, plan, crew)?;
     let bound = open.least_bound(makespan);
     let open_nodes = open.count()?;
     let table = place(alloc, instance, &word)?;

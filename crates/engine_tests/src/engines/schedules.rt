@@ -2,8 +2,20 @@
 use crate::engines::runs::assert_checked;
 use shop_engine::{Fault, Format};
 use shop_text::ReadFault;
+use std::alloc::Global;
+use std::process::Abort;
 
 const FIRST: &[u8] = b"2 2\n0 3 1 2\n1 2 0 4\n";
+
+/// The answer and the line for a schedule text of its own, of the first example.
+fn assert_judged(
+    rt: &impl Abort,
+    alloc: Global,
+    schedule: &[u8],
+    expected: (Result<bool, Fault>, &[u8]),
+) {
+    assert_checked(rt, alloc, Format::Orlib, FIRST, Some(schedule), expected);
+}
 
 fn refused_at(line: usize) -> Result<bool, Fault> {
     Err(Fault::Text(ReadFault::BadTable { line }))
@@ -27,14 +39,7 @@ fn schedule_texts_are_read(rt: HostRuntime) {
     ];
     for (schedule, line) in rows {
         let expected = (Ok(true), line);
-        assert_checked(
-            &rt,
-            rt.alloc(),
-            Format::Orlib,
-            FIRST,
-            Some(schedule),
-            expected,
-        );
+        assert_judged(&rt, rt.alloc(), schedule, expected);
     }
 }
 
@@ -54,14 +59,7 @@ fn schedules_of_a_second_source_are_judged(rt: HostRuntime) {
     ];
     for (schedule, feasible, line) in rows {
         let expected = (Ok(feasible), line);
-        assert_checked(
-            &rt,
-            rt.alloc(),
-            Format::Orlib,
-            FIRST,
-            Some(schedule),
-            expected,
-        );
+        assert_judged(&rt, rt.alloc(), schedule, expected);
     }
 }
 
@@ -73,14 +71,7 @@ fn faulty_schedules_of_a_second_source_are_refused(rt: HostRuntime) {
     ];
     for schedule in schedules {
         let expected = (refused_at(2), b"".as_slice());
-        assert_checked(
-            &rt,
-            rt.alloc(),
-            Format::Orlib,
-            FIRST,
-            Some(schedule),
-            expected,
-        );
+        assert_judged(&rt, rt.alloc(), schedule, expected);
     }
 }
 

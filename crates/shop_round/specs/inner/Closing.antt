@@ -4,7 +4,7 @@ use Rattle.shop_round.specs.Round.{answer}
 use Rattle.shop_round.specs.Runs.{planned}
 use Rattle.shop_round.specs.inner.Searches.{IsSearchAt}
 use Rattle.shop_round.specs.declared.plans.Plan.{Plan}
-use Rattle.shop_round.specs.declared.searches.Search.{Search}
+use Rattle.shop_round.specs.declared.runs.Search.{Search}
 
 -- the run is where the plan's rounds end
 abbrev pub IsAtAnswer : Shop → Plan → Search → Type 0

@@ -21,7 +21,7 @@ use Rattle.shop_round.specs.declared.open_nodes.OpenNodes.{OpenNodes}
 use Rattle.shop_round.specs.declared.plans.Order.{Order}
 use Rattle.shop_round.specs.declared.plans.Plan.{Plan}
 use Rattle.shop_round.specs.declared.rounds.Round.{Round}
-use Rattle.shop_round.specs.declared.searches.Search.{Search}
+use Rattle.shop_round.specs.declared.runs.Search.{Search}
 use Rattle.shop_round.specs.declared.standings.Standing.{Standing}
 
 abbrev pub stand_of : Search → Stand

@@ -1,0 +1,22 @@
+use Rattle.std.proofs.Common.{rules, ◌≡◌, ◌∙◌, ◌∷◌, Some, None, ap, sym}
+use Rattle.std.specs.BTreeMap.{is_at}
+use Rattle.std.specs.Map.{lookup}
+use Rattle.std.specs.Ordering.{nat_cmp}
+use Rattle.shop_round.specs.inner.Stacks.{nodes_by_bound, words_left}
+use Rattle.shop_round.proofs.StackLemmas.{put_is}
+use Rattle.shop_round.proofs.stacks.put_by_bound.Goals as goal
+
+pub returns-in_ok-push-in-Occupied : goal.returns-in_ok-push-in-Occupied
+returns-in_ok-push-in-Occupied c =
+    let es = c.args.stacks.now.entries
+    in let found : lookup (is_at (nat_cmp c.args.node.bound)) es ≡ Some c.into_mut.result.now = search rules
+    in ap nodes_by_bound (search rules) ∙ put_is es c.args.node.word c.args.node.bound c.push.new.self
+    c.entry.ensures.ordered
+    (c.in_ok-push-in-Occupied.ensures ∙ ap (λ o. c.args.node.word ∷ words_left o) (sym found))
+
+pub returns-in-Vacant : goal.returns-in-Vacant
+returns-in-Vacant c =
+    let es = c.args.stacks.now.entries
+    in let none : lookup (is_at (nat_cmp c.args.node.bound)) es ≡ None = search rules
+    in ap nodes_by_bound (search rules) ∙ put_is es c.args.node.word c.args.node.bound c.of.result
+    c.entry.ensures.ordered (c.of.ensures ∙ ap (λ o. c.args.node.word ∷ words_left o) (sym none))
