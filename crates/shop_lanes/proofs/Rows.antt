@@ -1,9 +1,10 @@
--- Worked rows: lanes served by hand.
+-- Worked rows: lanes served by hand, and the bits of a number.
 use Rattle.std.specs.Prelude.{◌≡◌, List, [], ◌∷◌}
 use Rattle.std.proofs.Common.{refl}
 use Rattle.shop_lanes.specs.Rows.{Rows, Lane, lanes_between}
 use Rattle.shop_lanes.specs.Spans.{span, spans_between}
 use Rattle.shop_lanes.specs.Marks.{positions_below}
+use Rattle.shop_lanes.specs.inner.SetBits.{set_bits}
 
 -- three operations with heads of 3, 1 and 6, and a position where nothing waits
 abbrev pub three : List Lane
@@ -73,3 +74,8 @@ second_block_from_20 = refl
 -- both blocks from 0 on: at 4, 6, 9, 16 and 17, with their tails at 13, 11, 10, 24 and 19
 pub both_blocks : span 1 0 (lanes_between two_blocks 0 2) ≡ 24
 both_blocks = refl
+
+-- 10 is 1010 in binary
+pub bits_of_10 : set_bits 4 16 10 ≡ 17 ∷ 19 ∷ []
+unfolding set_bits
+bits_of_10 = refl
