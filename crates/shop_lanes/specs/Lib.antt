@@ -1,6 +1,7 @@
 pub mod Rows
 pub mod Spans
 pub mod Marks
+pub mod SetBits
 pub mod Ends
 pub mod Vectors
 pub mod inner
