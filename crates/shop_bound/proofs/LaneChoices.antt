@@ -1,14 +1,15 @@
 -- The choice among next operations by lanes.
-use Rattle.std.proofs.Common.{◌≡◌, ℕ, ◌+◌, ◌*◌, ◌-◌, ◌≤◌, ◌<◌, ◌⊎◌, inl, inr, List, [], ◌∷◌, length}
+use Rattle.std.proofs.Common.{◌≡◌, ℕ, ◌+◌, ◌*◌, ◌-◌, ◌≤◌, ◌<◌, ◌⊎◌, inl, inr, Bool, true, false, List, [], ◌∷◌, length}
 use Rattle.std.proofs.Common.{get_or, take, drop, refl, sym, ◌∙◌, ap, subst, arith, ltb}
-use Rattle.std.proofs.lemmas.Bool.{cases_lt, and_from, and_parts, lt-ltb, ltb-true}
+use Rattle.std.proofs.lemmas.Bool.{cases_Bool, cases_lt, and_from, and_parts, lt-ltb, ltb-true}
 use Rattle.std.proofs.lemmas.List.{get_or_past, get_or-take, get_or-drop, length-take-le, length-drop}
 use Rattle.shop_lanes.specs.Rows.{Rows}
 use Rattle.shop_lanes.specs.Marks.{marked, waits_below, positions_below}
 use Rattle.shop_bound.specs.inner.Layouts.{LayoutState}
 use Rattle.shop_bound.specs.inner.LaneChoices.{IsNextBelow, AreNextPlaced}
 use Rattle.shop_bound.specs.inner.Raises.{IsInBlocks}
-use Rattle.shop_bound.specs.inner.RisingLists.{IsIn, HasGathered, HasPut}
+use Rattle.shop_bound.specs.inner.JobSets.{HasPutIf}
+use Rattle.shop_bound.specs.inner.RisingLists.{IsIn, HasGathered}
 use Rattle.shop_bound.proofs.RaiseLoops.{marked_in, marked_out}
 
 -- the positions of some blocks at which something waits below a limit
@@ -124,43 +125,32 @@ module _ (l : LayoutState) (nexts heads : List ℕ) (placed : AreNextPlaced l he
           → (get_or nexts j 0 ≡ q) ⊎ IsIn rest (get_or nexts j 0)
       here_or_left j h = subst (λ (xs : List ℕ). IsIn xs (get_or nexts j 0)) popped h
 
-      -- it is no next operation
-      pub gathering_past : (get_or nexts (get_or l.jobs q 0) 0 ≡ q → ⊥)
-          → AreGathering nexts heads from to limit rest old now
-      gathering_past other = record {
-        to_come = left_to_come;
-        kept = so_far.kept;
-        gathered = λ j next. elim (so_far.gathered j next) [
-          | inl h ↦ inl h
-          | inr h ↦ elim (here_or_left j h) [
-            | inl e ↦ absurd (other (ap (λ (x : ℕ). get_or nexts x 0) (sym (whose j next e)) ∙ e))
-            | inr g ↦ inr g
-          ]
-        ];
-        only = so_far.only;
-      }
-
       next_here : get_or nexts (get_or l.jobs q 0) 0 ≡ q
           → IsNextBelow nexts heads (IsInBlocks from to) limit (get_or l.jobs q 0)
       next_here e =
           let is = subst (λ (x : ℕ). IsBelow heads from to limit x) (sym e) popped_below
           in record { job = job_known; there = is.there; waits = is.waits; below = is.below }
 
-      pub gathering_on : get_or nexts (get_or l.jobs q 0) 0 ≡ q → (new : List ℕ)
-          → HasPut (get_or l.jobs q 0) now new → AreGathering nexts heads from to limit rest old new
-      gathering_on same new put = record {
+      -- its job is put in, if this is its next operation
+      pub gathering_on : (told : Bool) → (told ≡ true → get_or nexts (get_or l.jobs q 0) 0 ≡ q)
+          → (told ≡ false → get_or nexts (get_or l.jobs q 0) 0 ≡ q → ⊥) → (new : List ℕ)
+          → HasPutIf told (get_or l.jobs q 0) now new → AreGathering nexts heads from to limit rest old new
+      gathering_on told is other new put = record {
         to_come = left_to_come;
         kept = λ j h. put.kept j (so_far.kept j h);
         gathered = λ j next. elim (so_far.gathered j next) [
           | inl h ↦ inl (put.kept j h)
           | inr h ↦ elim (here_or_left j h) [
-            | inl e ↦ inl (put.gathered j (whose j next e))
+            | inl e ↦ elim (cases_Bool told) [
+              | inl t ↦ inl (put.gathered j (t, whose j next e))
+              | inr t ↦ absurd (other t (ap (λ (x : ℕ). get_or nexts x 0) (sym (whose j next e)) ∙ e))
+            ]
             | inr g ↦ inr g
           ]
         ];
         only = λ j h. elim (put.only j h) [
           | inl g ↦ so_far.only j g
-          | inr e ↦ inr (subst (IsNextBelow nexts heads (IsInBlocks from to) limit) (sym e) (next_here same))
+          | inr e ↦ inr (subst (IsNextBelow nexts heads (IsInBlocks from to) limit) (sym e.1) (next_here (is e.0)))
         ];
       }
 

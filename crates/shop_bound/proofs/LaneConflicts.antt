@@ -15,13 +15,14 @@ use Rattle.shop_bound.specs.Conflicts.{open_jobs, next_machine, next_head, next_
 use Rattle.shop_bound.specs.Conflicts.{conflict_among}
 use Rattle.shop_bound.specs.Heads.{head_of, ready_after}
 use Rattle.shop_bound.specs.inner.LaneChoices.{AreChoosable, AreNextPlaced, AreNextsAt, IsNextBelow}
+use Rattle.shop_bound.specs.inner.JobSets.{HasPutIf}
 use Rattle.shop_bound.specs.inner.Layouts.{LayoutState, place, first_of}
 use Rattle.shop_bound.specs.inner.Raises.{HasBlocks, IsOnMachine}
-use Rattle.shop_bound.specs.inner.RisingLists.{IsIn, Rises, IsRisingBelow, HasGathered, HasPut}
+use Rattle.shop_bound.specs.inner.RisingLists.{IsIn, Rises, HasGathered}
 use Rattle.shop_bound.proofs.LaidPlaces.{place_of, on_machine}
 use Rattle.shop_bound.proofs.Followed.{place_past, place_there}
 use Rattle.shop_bound.proofs.RaisedHeads.{has_blocks}
-use Rattle.shop_bound.proofs.RisingLists.{one_rising}
+use Rattle.shop_bound.proofs.RisingLists.{none_in, one_rising}
 
 -- the first of the least, going through a list
 pub first_least : (e : ℕ → ℕ) (j : ℕ) (js : List ℕ) (c : ℕ) → Rises (j ∷ js) → IsIn (j ∷ js) c
@@ -98,10 +99,6 @@ range_in (suc n) a q low high = elim (cases_eq q a) [
 pub range_rises : (n a : ℕ) → Rises (range_with_len a n)
 range_rises zero a = tt
 range_rises (suc n) a = ((λ q h. let b = (in_range (a + 1) n q h).0 in omega arith), range_rises n (a + 1))
-
-none_in : (xs : List ℕ) → ((q : ℕ) → IsIn xs q → ⊥) → xs ≡ []
-none_in [] none = refl
-none_in (x ∷ xs) none = absurd (none x (inl refl))
 
 module _ (shop : Shop) (p : Placing) where
   pub open_rises : Rises (open_jobs shop p)
@@ -229,17 +226,17 @@ module _ (shop : Shop) (p : Placing) (l : LayoutState) (nexts : List ℕ) (rows 
           }
 
       -- the jobs whose next operations conflict with that of r
-      pub are_conflicting : (n : ℕ) (one new : List ℕ) → HasPut r [] one → HasGathered Below one new
-          → IsRisingBelow n new → new ≡ filter (conflicts_with shop p r) (open_jobs shop p)
-      are_conflicting n one new put gathered list =
+      pub are_conflicting : (one new : List ℕ) → HasPutIf true r [] one → HasGathered Below one new
+          → Rises new → new ≡ filter (conflicts_with shop p r) (open_jobs shop p)
+      are_conflicting one new put gathered rises =
           let all = open_jobs shop p
-          in one_rising new (filter (conflicts_with shop p r) all) list.rises
+          in one_rising new (filter (conflicts_with shop p r) all) rises
           (filter_rises (conflicts_with shop p r) all (open_rises shop p)) (λ q h. elim (gathered.only q h) [
             | inl g ↦ elim (put.only q g) [
               | inl none ↦ absurd none
               | inr e ↦ filter_in (conflicts_with shop p r) all q
-                  (subst (IsIn all) (sym e) (is_open shop p r op))
-                  (or_left (eqb q r) _ (eq-eqb q r e))
+                  (subst (IsIn all) (sym e.1) (is_open shop p r op))
+                  (or_left (eqb q r) _ (eq-eqb q r e.1))
             ]
             | inr next ↦ (let c = in_conflict q next
                 in filter_in (conflicts_with shop p r) all q (is_open shop p q c.0) c.1)
@@ -247,7 +244,7 @@ module _ (shop : Shop) (p : Placing) (l : LayoutState) (nexts : List ℕ) (rows 
           let f = in_filter (conflicts_with shop p r) all q h
           in let o = open_is shop p q f.0
           in elim (either (eqb q r) _ f.1) [
-            | inl e ↦ gathered.kept q (put.gathered q (eqb-true q r e))
+            | inl e ↦ gathered.kept q (put.gathered q (refl, eqb-true q r e))
             | inr e ↦ (let parts = and_parts (eqb (next_machine shop p q) (next_machine shop p r))
                 (ltb (next_head shop p q) (next_end shop p r)) e
                 in gathered.gathered q (below_from q o.1
@@ -327,9 +324,9 @@ module _ (greatest : ℕ) (shop : Shop) (p : Placing) (l : LayoutState) (nexts :
           in let a = is.first i lt
           in let b = can.ends.next i o.1 in let d = can.ends.next r op in omega arith)
 
-      pub is_conflict : (m limit : ℕ) → m ≡ machine_of shop r (p.steps r) → limit ≡ next_end shop p r + 1 → (n : ℕ)
-          (one new : List ℕ) → HasPut r [] one
+      pub is_conflict : (m limit : ℕ) → m ≡ machine_of shop r (p.steps r) → limit ≡ next_end shop p r + 1
+          → (one new : List ℕ) → HasPutIf true r [] one
           → HasGathered (IsNextBelow nexts rows.heads (IsOnMachine l m) limit) one new
-          → IsRisingBelow n new → new ≡ conflict_among shop p (open_jobs shop p)
-      is_conflict m limit on end n one new put gathered list =
-          are_conflicting shop p l nexts rows can.at r op m limit on end n one new put gathered list ∙ sym chosen_is
+          → Rises new → new ≡ conflict_among shop p (open_jobs shop p)
+      is_conflict m limit on end one new put gathered rises =
+          are_conflicting shop p l nexts rows can.at r op m limit on end one new put gathered rises ∙ sym chosen_is

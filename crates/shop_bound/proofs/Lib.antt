@@ -1,4 +1,5 @@
 pub mod RisingLists
+pub mod JobSets
 pub mod LaneChoices
 pub mod LaneConflicts
 pub mod LaneEnds

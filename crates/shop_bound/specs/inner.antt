@@ -5,6 +5,7 @@ pub mod Raises
 pub mod Fills
 pub mod LaneStates
 pub mod RisingLists
+pub mod JobSets
 pub mod LaneChoices
 pub mod Waitings
 pub mod LaneEnds

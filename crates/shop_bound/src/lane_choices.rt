@@ -1,56 +1,19 @@
 // The choice among the next operations by lanes.
-ghost use Rattle.std.specs.Prelude.{◌≡◌, ◌+◌, ◌≤◌, ◌<◌, length, vec_capacity};
+ghost use Rattle.std.specs.Prelude.{◌+◌, ◌≤◌, ◌<◌, length, vec_capacity};
 ghost use Rattle.shop_lanes.specs.Rows.{AreBlocks};
 ghost use Rattle.shop_bound.specs.inner.LaneChoices.{AreInConflict, AreNextPlaced, CanChoose};
 ghost use Rattle.shop_bound.specs.inner.LaneChoices.{IsNextBelow};
 ghost use Rattle.shop_bound.specs.inner.Raises.{HasBlocks, IsInBlocks, IsOnMachine};
-ghost use Rattle.shop_bound.specs.inner.RisingLists.{HasGathered, HasPut, IsPlaceFor};
-ghost use Rattle.shop_bound.specs.inner.RisingLists.{IsRisingBelow, TellsBefore};
+ghost use Rattle.shop_bound.specs.inner.RisingLists.{HasGathered};
 
+use crate::job_sets::JobSet;
 use crate::layouts::Layout;
 use shop_lanes::Lanes;
 
-/// The place in an ascending list behind all jobs that are no higher.
-#[inline(always)]
-fn place_for(jobs: &[usize], job: usize) -> usize
-    ensures { IsPlaceFor jobs.now job result }
-{
-    let mut place = jobs.len();
-    while place > 0 && jobs[place - 1] > job {
-        place -= 1;
-    }
-    place
-}
-
-/// Whether the job stands just before this place.
-#[inline(always)]
-fn stands_before(jobs: &[usize], place: usize, job: usize) -> bool
-    requires { place ≤ length jobs.now }
-    ensures { TellsBefore jobs.now place job result }
-{
-    place > 0 && jobs[place - 1] == job
-}
-
-/// Puts a job into an ascending list, if it isn't there.
-#[inline(always)]
-fn put(jobs: &mut Vec<usize>, job: usize)
-    requires list { IsRisingBelow (vec_capacity jobs.old) jobs.old.items }
-    requires below { job < vec_capacity jobs.old }
-    ensures put { HasPut job jobs.old.items jobs.new.items }
-    ensures list { IsRisingBelow (vec_capacity jobs.old) jobs.new.items }
-    ensures room { vec_capacity jobs.old ≤ vec_capacity jobs.new }
-{
-    let place = place_for(jobs.as_slice(), job);
-    if stands_before(jobs.as_slice(), place, job) {
-        return;
-    }
-    jobs.insert(place, job).unwrap();
-}
-
-/// Puts each job into the list whose next operation waits in these blocks, at most eight, with a head below the limit.
+/// Puts each job into the set whose next operation waits in these blocks, at most eight, with a head below the limit.
 #[inline(always)]
 fn gather_in_blocks<L: Lanes>(
-    jobs: &mut Vec<usize>,
+    jobs: &mut JobSet,
     lanes: &L,
     layout: &Layout,
     next: &[usize],
@@ -62,27 +25,22 @@ fn gather_in_blocks<L: Lanes>(
     requires few { to ≤ from + 8 }
     requires fits { limit ≤ L.GREATEST }
     requires placed { AreNextPlaced layout.now (L.rows lanes.now).heads next.now }
-    requires list { IsRisingBelow (length next.now) jobs.old.items }
-    requires room { length next.now ≤ vec_capacity jobs.old }
-    ensures gathered { HasGathered
+    requires many { length next.now < 1024 }
+    ensures { HasGathered
         (IsNextBelow next.now (L.rows lanes.now).heads (IsInBlocks from to) limit)
-        jobs.old.items jobs.new.items }
-    ensures list { IsRisingBelow (length next.now) jobs.new.items }
-    ensures room { vec_capacity jobs.old ≤ vec_capacity jobs.new }
+        jobs.old jobs.new }
 {
     let mut below = lanes.below(from, to, limit);
     while let Some(position) = below.pop_first() {
         let job = layout.job(position);
-        if next[job] == position {
-            put(jobs, job);
-        }
+        jobs.put_if(job, next[job] == position);
     }
 }
 
-/// Puts each job into the list whose next operation waits on this machine with a head below the limit.
+/// Puts each job into the set whose next operation waits on this machine with a head below the limit.
 #[inline(always)]
 fn gather_on_machine<L: Lanes>(
-    jobs: &mut Vec<usize>,
+    jobs: &mut JobSet,
     lanes: &L,
     layout: &Layout,
     next: &[usize],
@@ -92,13 +50,10 @@ fn gather_on_machine<L: Lanes>(
     requires machine { HasBlocks layout.now (length (L.rows lanes.now).heads) machine }
     requires fits { limit ≤ L.GREATEST }
     requires placed { AreNextPlaced layout.now (L.rows lanes.now).heads next.now }
-    requires list { IsRisingBelow (length next.now) jobs.old.items }
-    requires room { length next.now ≤ vec_capacity jobs.old }
-    ensures gathered { HasGathered
+    requires many { length next.now < 1024 }
+    ensures { HasGathered
         (IsNextBelow next.now (L.rows lanes.now).heads
-        (IsOnMachine layout.now machine) limit) jobs.old.items jobs.new.items }
-    ensures list { IsRisingBelow (length next.now) jobs.new.items }
-    ensures room { vec_capacity jobs.old ≤ vec_capacity jobs.new }
+        (IsOnMachine layout.now machine) limit) jobs.old jobs.new }
 {
     let behind = layout.block(machine + 1);
     let mut from = layout.block(machine);
@@ -129,13 +84,15 @@ pub(crate) fn gather_conflict<L: Lanes>(
         return;
     }
     let end = lanes.head(position) + lanes.time(position);
-    put(jobs, chosen);
+    let mut candidates = JobSet::new();
+    candidates.put_if(chosen, true);
     gather_on_machine(
-        jobs,
+        &mut candidates,
         lanes,
         layout,
         next,
         layout.machines()[position] as usize,
         end,
     );
+    candidates.append_to(jobs, next.len());
 }

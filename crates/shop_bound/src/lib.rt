@@ -10,6 +10,7 @@ mod estimates;
 mod fills;
 mod head_raises;
 mod head_rows;
+mod job_sets;
 mod lane_bounds;
 mod lane_choices;
 mod lane_ends;

@@ -13,7 +13,7 @@ use lib.Lanes.{mask_l}
 use Rattle.std.proofs.Math.Pow.{pow_mono}
 use Rattle.std.proofs.lemmas.Simd.{mask_l-lt}
 use Rattle.shop_lanes.specs.Marks.{marked}
-use Rattle.shop_lanes.specs.inner.SetBits.{set_bits}
+use Rattle.shop_lanes.specs.SetBits.{set_bits}
 
 pub half_and : (a b : ℕ) → bit_and a b / 2 ≡ bit_and (a / 2) (b / 2)
 half_and a b = same_from_bits (bit_and a b / 2) (bit_and (a / 2) (b / 2)) (λ i.

@@ -8,7 +8,7 @@ use lib.Lanes.{mask_l}
 use Rattle.shop_lanes.specs.Rows.{Lane, lanes}
 use Rattle.shop_lanes.specs.Spans.{span, spans_from, spans_between, FitsSpan}
 use Rattle.shop_lanes.specs.Marks.{marked}
-use Rattle.shop_lanes.specs.inner.SetBits.{set_bits}
+use Rattle.shop_lanes.specs.SetBits.{set_bits}
 use Rattle.shop_lanes.specs.inner.Passes.{is_between, spans_at, AreSmallAt}
 use Rattle.shop_lanes.proofs.LaneLists.{length-lanes}
 use Rattle.shop_lanes.proofs.MarkLemmas.{set_bits-mask}

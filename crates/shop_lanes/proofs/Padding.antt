@@ -9,7 +9,7 @@ use Rattle.std.proofs.lemmas.List.{take-replicate, drop-replicate, drop-set-lt}
 use lib.Lanes.{mask_l}
 use Rattle.shop_lanes.specs.Rows.{Lane, blocks}
 use Rattle.shop_lanes.specs.Marks.{marked, waits_below}
-use Rattle.shop_lanes.specs.inner.SetBits.{set_bits}
+use Rattle.shop_lanes.specs.SetBits.{set_bits}
 use Rattle.shop_lanes.specs.Ends.{IsFirstLeast}
 use Rattle.shop_lanes.specs.Spans.{span, spans_from, spans_between}
 use Rattle.shop_lanes.specs.inner.Passes.{is_between, IsPadded}

@@ -1,5 +1,6 @@
 pub mod Rows
 pub mod Spans
 pub mod Marks
+pub mod SetBits
 pub mod Ends
 pub mod inner

@@ -1,3 +1,2 @@
 pub mod Passes
 pub mod Blocks
-pub mod SetBits

@@ -2,7 +2,7 @@
 ghost use Rattle.std.specs.Prelude.{◌≡◌, ℕ, ◌<◌, ◌+◌, ◌≤◌, ◌↔◌, ◌^◌, List, [], ◌∷◌, IsTrue};
 ghost use Rattle.std.specs.Prelude.{MatchOption};
 ghost use Rattle.shop_lanes.specs.Marks.{IsPopped};
-ghost use Rattle.shop_lanes.specs.inner.SetBits.{set_bits};
+ghost use Rattle.shop_lanes.specs.SetBits.{set_bits};
 
 use std::marker::Model;
 
@@ -22,8 +22,9 @@ impl Model for Marks {
 }
 
 impl Marks {
+    /// The positions whose bits are set, the lowest bit that of the first position.
     #[inline(always)]
-    pub(crate) fn new(first: usize, bits: u64) -> Self
+    pub fn new(first: usize, bits: u64) -> Self
         requires { first + 64 ≤ 2 ^ 64 }
         ensures { result ≡ set_bits 64 first bits }
     {

@@ -52,31 +52,54 @@ fn span_of<B: Block>(
     most
 }
 
-/// The same for machines of four blocks and more, in a function of its own.
-#[inline(never)]
-fn span_of_longer<B: Block>(
+/// The greatest of `most` and the ends, tails included; laid out by the number of positions.
+#[inline(always)]
+fn single_span_of<B: Block>(
+    count: usize,
     heads: &[B::Number],
     times: &[B::Number],
     tails: &[B::Number],
     least: u64,
     start: u64,
-    most: B,
-) -> B
+    most: u64,
+) -> u64
+    requires count { length heads.now ≡ count }
+    requires whole_blocks { count % 8 ≡ 0 }
+    requires times { length times.now ≡ length heads.now }
+    requires tails { length tails.now ≡ length heads.now }
+    requires least { least ≤ B.GREATEST }
+    requires most { most ≤ B.GREATEST }
+    requires fits { FitsSpan B.GREATEST start (lanes_by B.value heads.now times.now tails.now) }
+    ensures { result ≡ max most (span_by B.value heads.now times.now tails.now least start) }
+{
+    greatest_of(span_of(count, heads, times, tails, least, start, B::splat(most)))
+}
+
+/// The same for machines of four blocks and more, in a function of its own.
+#[inline(never)]
+fn single_span_of_longer<B: Block>(
+    heads: &[B::Number],
+    times: &[B::Number],
+    tails: &[B::Number],
+    least: u64,
+    start: u64,
+    most: u64,
+) -> u64
     requires whole_blocks { length heads.now % 8 ≡ 0 }
     requires times { length times.now ≡ length heads.now }
     requires tails { length tails.now ≡ length heads.now }
     requires least { least ≤ B.GREATEST }
-    requires most { length (B.numbers most) ≡ 8 }
+    requires most { most ≤ B.GREATEST }
     requires fits { FitsSpan B.GREATEST start (lanes_by B.value heads.now times.now tails.now) }
-    ensures { HasSpan B.numbers B.value heads.now times.now tails.now least start most result }
+    ensures { result ≡ max most (span_by B.value heads.now times.now tails.now least start) }
 {
     match heads.len() {
-        32 => span_of(32, heads, times, tails, least, start, most),
-        40 => span_of(40, heads, times, tails, least, start, most),
-        48 => span_of(48, heads, times, tails, least, start, most),
-        56 => span_of(56, heads, times, tails, least, start, most),
-        64 => span_of(64, heads, times, tails, least, start, most),
-        _ => span_of(heads.len(), heads, times, tails, least, start, most),
+        32 => single_span_of::<B>(32, heads, times, tails, least, start, most),
+        40 => single_span_of::<B>(40, heads, times, tails, least, start, most),
+        48 => single_span_of::<B>(48, heads, times, tails, least, start, most),
+        56 => single_span_of::<B>(56, heads, times, tails, least, start, most),
+        64 => single_span_of::<B>(64, heads, times, tails, least, start, most),
+        _ => single_span_of::<B>(heads.len(), heads, times, tails, least, start, most),
     }
 }
 
@@ -98,14 +121,12 @@ pub(crate) fn single_span<B: Block>(
     requires fits { FitsSpan B.GREATEST start (lanes_by B.value heads.now times.now tails.now) }
     ensures { result ≡ max most (span_by B.value heads.now times.now tails.now least start) }
 {
-    let most = B::splat(most);
-    let most = match heads.len() {
-        8 => span_of(8, heads, times, tails, least, start, most),
-        16 => span_of(16, heads, times, tails, least, start, most),
-        24 => span_of(24, heads, times, tails, least, start, most),
-        _ => span_of_longer(heads, times, tails, least, start, most),
-    };
-    greatest_of(most)
+    match heads.len() {
+        8 => single_span_of::<B>(8, heads, times, tails, least, start, most),
+        16 => single_span_of::<B>(16, heads, times, tails, least, start, most),
+        24 => single_span_of::<B>(24, heads, times, tails, least, start, most),
+        _ => single_span_of_longer::<B>(heads, times, tails, least, start, most),
+    }
 }
 
 /// The greatest of `most` and the spans from the heads at these positions on.
@@ -207,59 +228,79 @@ fn spans_of_many<B: Block>(
     most
 }
 
-/// The same for machines of four blocks and more, in a function of its own.
-#[inline(never)]
-fn spans_of_longer<B: Block>(
+/// The greatest of `most` and the spans from each head above `above` and up to `upto` on; laid out by the number of
+/// positions.
+#[inline(always)]
+fn greatest_span_of<B: Block>(
+    count: usize,
     heads: &[B::Number],
     times: &[B::Number],
     tails: &[B::Number],
     above: u64,
     upto: u64,
-    most: B,
-) -> B
-    requires whole_blocks { length heads.now % 8 ≡ 0 }
+    most: u64,
+) -> u64
+    requires count { length heads.now ≡ count }
+    requires whole_blocks { count % 8 ≡ 0 }
+    requires few { count ≤ 64 }
     requires times { length times.now ≡ length heads.now }
     requires tails { length tails.now ≡ length heads.now }
-    requires room { length heads.now + 64 ≤ 2 ^ 64 }
     requires above { above ≤ B.GREATEST }
-    requires most { length (B.numbers most) ≡ 8 }
+    requires most { most ≤ B.GREATEST }
     requires fits { FitsSpan B.GREATEST upto (lanes_by B.value heads.now times.now tails.now) }
-    ensures { HasAllSpans B.numbers B.value heads.now times.now tails.now above upto most result }
+    ensures { result ≡ max most (spans_by B.value heads.now times.now tails.now above upto) }
 {
-    match heads.len() {
-        32 => spans_of_few(32, heads, times, tails, above, upto, most),
-        40 => spans_of_few(40, heads, times, tails, above, upto, most),
-        48 => spans_of_few(48, heads, times, tails, above, upto, most),
-        56 => spans_of_few(56, heads, times, tails, above, upto, most),
-        64 => spans_of_few(64, heads, times, tails, above, upto, most),
-        _ => spans_of_many(heads, times, tails, above, upto, most),
-    }
+    greatest_of(spans_of_few(count, heads, times, tails, above, upto, B::splat(most)))
 }
 
-/// The same, laid out by the number of blocks.
+/// The same for machines of any number of blocks.
 #[inline(always)]
-fn spans_by_count<B: Block>(
+fn greatest_span_of_many<B: Block>(
     heads: &[B::Number],
     times: &[B::Number],
     tails: &[B::Number],
     above: u64,
     upto: u64,
-    most: B,
-) -> B
+    most: u64,
+) -> u64
     requires whole_blocks { length heads.now % 8 ≡ 0 }
     requires times { length times.now ≡ length heads.now }
     requires tails { length tails.now ≡ length heads.now }
     requires room { length heads.now + 64 ≤ 2 ^ 64 }
     requires above { above ≤ B.GREATEST }
-    requires most { length (B.numbers most) ≡ 8 }
+    requires most { most ≤ B.GREATEST }
     requires fits { FitsSpan B.GREATEST upto (lanes_by B.value heads.now times.now tails.now) }
-    ensures { HasAllSpans B.numbers B.value heads.now times.now tails.now above upto most result }
+    ensures { result ≡ max most (spans_by B.value heads.now times.now tails.now above upto) }
+{
+    greatest_of(spans_of_many(heads, times, tails, above, upto, B::splat(most)))
+}
+
+/// The same for machines of four blocks and more, in a function of its own.
+#[inline(never)]
+fn greatest_span_of_longer<B: Block>(
+    heads: &[B::Number],
+    times: &[B::Number],
+    tails: &[B::Number],
+    above: u64,
+    upto: u64,
+    most: u64,
+) -> u64
+    requires whole_blocks { length heads.now % 8 ≡ 0 }
+    requires times { length times.now ≡ length heads.now }
+    requires tails { length tails.now ≡ length heads.now }
+    requires room { length heads.now + 64 ≤ 2 ^ 64 }
+    requires above { above ≤ B.GREATEST }
+    requires most { most ≤ B.GREATEST }
+    requires fits { FitsSpan B.GREATEST upto (lanes_by B.value heads.now times.now tails.now) }
+    ensures { result ≡ max most (spans_by B.value heads.now times.now tails.now above upto) }
 {
     match heads.len() {
-        8 => spans_of_few(8, heads, times, tails, above, upto, most),
-        16 => spans_of_few(16, heads, times, tails, above, upto, most),
-        24 => spans_of_few(24, heads, times, tails, above, upto, most),
-        _ => spans_of_longer(heads, times, tails, above, upto, most),
+        32 => greatest_span_of::<B>(32, heads, times, tails, above, upto, most),
+        40 => greatest_span_of::<B>(40, heads, times, tails, above, upto, most),
+        48 => greatest_span_of::<B>(48, heads, times, tails, above, upto, most),
+        56 => greatest_span_of::<B>(56, heads, times, tails, above, upto, most),
+        64 => greatest_span_of::<B>(64, heads, times, tails, above, upto, most),
+        _ => greatest_span_of_many::<B>(heads, times, tails, above, upto, most),
     }
 }
 
@@ -282,8 +323,12 @@ pub(crate) fn greatest_span<B: Block>(
     requires fits { FitsSpan B.GREATEST upto (lanes_by B.value heads.now times.now tails.now) }
     ensures { result ≡ max most (spans_by B.value heads.now times.now tails.now above upto) }
 {
-    let most = B::splat(most);
-    greatest_of(spans_by_count(heads, times, tails, above, upto, most))
+    match heads.len() {
+        8 => greatest_span_of::<B>(8, heads, times, tails, above, upto, most),
+        16 => greatest_span_of::<B>(16, heads, times, tails, above, upto, most),
+        24 => greatest_span_of::<B>(24, heads, times, tails, above, upto, most),
+        _ => greatest_span_of_longer::<B>(heads, times, tails, above, upto, most),
+    }
 }
 
 /// A bit for each of the numbers of four blocks and more, the first the lowest, that says whether it is above 0 and at

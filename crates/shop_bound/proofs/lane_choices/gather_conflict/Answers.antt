@@ -1,9 +1,11 @@
-use Rattle.std.proofs.Common.{◌≡◌, ℕ, List, [], length, get_or, ◌∙◌, ap, sym, subst, arith}
+use Rattle.std.proofs.Common.{◌≡◌, ℕ, ◌<◌, inl, inr, List, true, length, get_or, ◌∙◌, ap, sym, subst, arith}
+use Rattle.shop_model.specs.Limits.{IsWithinLimits}
+use Rattle.shop_model.specs.Shop.{Shop}
 use Rattle.shop_bound.specs.inner.Raises.{HasBlocks}
-use Rattle.shop_bound.specs.inner.RisingLists.{HasPut}
+use Rattle.shop_bound.specs.inner.JobSets.{HasPutIf}
+use Rattle.shop_bound.specs.inner.RisingLists.{IsIn}
 use Rattle.shop_bound.proofs.LaneConflicts.{next_placed, chosen_at, chosen_job, none_open}
 use Rattle.shop_bound.proofs.LaneConflicts.{is_conflict}
-use Rattle.shop_bound.proofs.RisingLists.{put_below}
 use Rattle.shop_bound.proofs.lane_choices.gather_conflict.Goals as goal
 
 -- the machine that is read
@@ -51,19 +53,40 @@ gather_on_machine-requires-clause-placed g c =
     next_placed c.requires.kept.shop c.requires.kept.of c.args.layout.now c.args.next.now
     (g.L.Lanes.rows c.args.lanes.now) c.requires.kept.choosable.at
 
-pub gather_on_machine-requires-clause-list : goal.gather_on_machine-requires-clause-list
-gather_on_machine-requires-clause-list g c =
-    let r = c.first_least_end-chosen.result
-    in let can = c.requires.kept.choosable
+-- so few jobs
+few_jobs : (shop : Shop) (nexts : List ℕ) → IsWithinLimits shop → length nexts ≡ length shop.jobs
+    → length nexts < 1024
+few_jobs shop nexts limits many = let few = limits.jobs in omega arith
+
+pub put_if-requires : goal.put_if-requires
+put_if-requires g c =
+    let can = c.requires.kept.choosable
     in let known = chosen_job g.L.Lanes.GREATEST c.requires.kept.shop c.requires.kept.of c.args.layout.now
     c.args.next.now
     (g.L.Lanes.rows c.args.lanes.now) c.requires.kept.choosable c.first_least_end-chosen.result
     c.first_least_end-chosen.ensures
+    in let few = few_jobs c.requires.kept.shop c.args.next.now can.at.limits can.at.are.jobs
     in let many = can.at.are.jobs
-    in put_below (length c.args.next.now) _ r [] c.put.new.jobs.items
-    (record { rises = tt; below = λ q h. absurd h }) (omega arith)
-    (subst (λ (js : List ℕ). HasPut r js c.put.new.jobs.items) c.clear.ensures.items c.put.ensures.put)
-    c.put.ensures.list
+    in omega arith
+
+pub gather_on_machine-requires-clause-many : goal.gather_on_machine-requires-clause-many
+gather_on_machine-requires-clause-many g c =
+    let can = c.requires.kept.choosable
+    in few_jobs c.requires.kept.shop c.args.next.now can.at.limits can.at.are.jobs
+
+pub append_to-requires-clause-below : goal.append_to-requires-clause-below
+append_to-requires-clause-below g c = λ j h. elim (c.gather_on_machine.ensures.only j h) [
+  | inl one ↦ elim (c.put_if.ensures.only j one) [
+    | inl none ↦ absurd (subst (λ (js : List ℕ). IsIn js j) c.new-candidates.ensures none)
+    | inr e ↦ (let known = chosen_job g.L.Lanes.GREATEST c.requires.kept.shop c.requires.kept.of c.args.layout.now
+        c.args.next.now (g.L.Lanes.rows c.args.lanes.now) c.requires.kept.choosable c.first_least_end-chosen.result
+        c.first_least_end-chosen.ensures
+        in let many = c.requires.kept.choosable.at.are.jobs
+        in let chosen = e.1
+        in omega arith)
+  ]
+  | inr next ↦ next.job
+]
 
 pub returns-then-position-positions-clause-jobs : goal.returns-then-position-positions-clause-jobs
 returns-then-position-positions-clause-jobs g c = λ shop p can.
@@ -82,7 +105,8 @@ returns-clause-jobs g c = λ shop p can.
     c.if-position-positions.false
     in let read = machine_read l.machines c.machines.result.now (get_or nexts r 0) c.machines.ensures
     in let head = c.head.ensures in let time = c.time.ensures in let end = at.end
-    in is_conflict g.L.Lanes.GREATEST shop p l nexts rows can r is at.operation _ _ (read ∙ at.machine_is) (omega arith)
-    (length nexts) c.put.new.jobs.items c.gather_on_machine.new.jobs.items
-    (subst (λ (js : List ℕ). HasPut r js c.put.new.jobs.items) c.clear.ensures.items c.put.ensures.put)
-    c.gather_on_machine.ensures.gathered c.gather_on_machine.ensures.list
+    in c.append_to.ensures.jobs
+    ∙ is_conflict g.L.Lanes.GREATEST shop p l nexts rows can r is at.operation _ _ (read ∙ at.machine_is) (omega arith)
+    c.put_if.new.self c.gather_on_machine.new.jobs
+    (subst (λ (js : List ℕ). HasPutIf true r js c.put_if.new.self) c.new-candidates.ensures c.put_if.ensures)
+    c.gather_on_machine.ensures c.append_to.ensures.rises

@@ -1,15 +1,10 @@
-use Rattle.std.proofs.Common.{◌≤◌, length, vec_capacity}
-use Rattle.shop_bound.specs.inner.RisingLists.{IsRisingBelow}
+use Rattle.std.proofs.Common.{length}
 use Rattle.shop_bound.proofs.LaneChoices.{AreGathering}
 use Rattle.shop_bound.proofs.lane_choices.gather_in_blocks.Given as goal
 
 abbrev pub invariant-loop-position : goal.invariant-loop-position
-invariant-loop-position g l = record {
-  gathering : AreGathering l.next (g.L.Lanes.rows l.lanes).heads l.from l.to l.limit l.below l.fn.jobs.items
-      l.jobs.items;
-  list : IsRisingBelow (length l.next) l.jobs.items;
-  room : vec_capacity l.fn.jobs ≤ vec_capacity l.jobs;
-}
+invariant-loop-position g l =
+    AreGathering l.next (g.L.Lanes.rows l.lanes).heads l.from l.to l.limit l.below l.fn.jobs l.jobs
 
 abbrev pub decreases-loop-position : goal.decreases-loop-position
 decreases-loop-position g l = length l.below

@@ -14,39 +14,35 @@ loop-from-init g c =
     in let nexts = c.args.next.now
     in let heads = (g.L.Lanes.rows c.args.lanes.now).heads
     in let first = get_or l.blocks c.args.machine 0
-    in let jobs = c.args.jobs.now.items
+    in let jobs = c.args.jobs.now
     in record {
       ordered = (let a = c.block-from.ensures in omega arith);
       within = (let a = c.block-from.ensures in let b = c.block-behind.ensures in let d = c.requires.machine.ordered
           in omega arith);
       gathered = subst (λ (x : ℕ). HasGathered (IsNextBelow nexts heads (IsInBlocks first x) c.args.limit) jobs jobs)
           (sym c.block-from.ensures) (none_gathered nexts heads c.args.limit first jobs);
-      list = c.requires.list;
-      room = omega arith;
     }
 
 pub loop-from-preserved : goal.loop-from-preserved
 loop-from-preserved g c =
     let a = c.min.ensures in let b = c.block-behind.ensures in let d = c.loop-from-test.true
     in let now = c.loop-from.invariant
-    in let o = now.ordered in let room = now.room in let more = c.gather_in_blocks.ensures.room
+    in let o = now.ordered
     in record {
       ordered = omega arith;
       within = omega arith;
       gathered = more_gathered c.args.next.now (g.L.Lanes.rows c.args.lanes.now).heads c.args.limit
           (get_or c.args.layout.now.blocks c.args.machine 0) c.loop-from.from (c.loop-from.from + c.min.result)
-          c.args.jobs.now.items c.loop-from.jobs.items c.gather_in_blocks.new.jobs.items o (omega arith) now.gathered
-          c.gather_in_blocks.ensures.gathered;
-      list = c.gather_in_blocks.ensures.list;
-      room = omega arith;
+          c.args.jobs.now c.loop-from.jobs c.gather_in_blocks.new.jobs o (omega arith) now.gathered
+          c.gather_in_blocks.ensures;
     }
 
-pub returns-clause-gathered : goal.returns-clause-gathered
-returns-clause-gathered g c =
+pub returns : goal.returns
+returns g c =
     let l = c.args.layout.now
     in let nexts = c.args.next.now
     in let heads = (g.L.Lanes.rows c.args.lanes.now).heads
     in let first = get_or l.blocks c.args.machine 0
     in let b = c.block-behind.ensures in let d = c.loop-from-test.false in let w = c.loop-from.invariant.within
-    in subst (λ (x : ℕ). HasGathered (IsNextBelow nexts heads (IsInBlocks first x) c.args.limit) c.args.jobs.now.items
-    c.loop-from.jobs.items) (omega arith) c.loop-from.invariant.gathered
+    in subst (λ (x : ℕ). HasGathered (IsNextBelow nexts heads (IsInBlocks first x) c.args.limit) c.args.jobs.now
+    c.loop-from.jobs) (omega arith) c.loop-from.invariant.gathered

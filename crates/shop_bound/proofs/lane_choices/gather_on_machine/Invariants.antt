@@ -1,7 +1,7 @@
-use Rattle.std.proofs.Common.{◌≤◌, ◌-◌, get_or, length, vec_capacity}
+use Rattle.std.proofs.Common.{◌≤◌, ◌-◌, get_or}
 use Rattle.shop_bound.specs.inner.LaneChoices.{IsNextBelow}
 use Rattle.shop_bound.specs.inner.Raises.{IsInBlocks}
-use Rattle.shop_bound.specs.inner.RisingLists.{HasGathered, IsRisingBelow}
+use Rattle.shop_bound.specs.inner.RisingLists.{HasGathered}
 use Rattle.shop_bound.proofs.lane_choices.gather_on_machine.Given as goal
 
 abbrev pub invariant-loop-from : goal.invariant-loop-from
@@ -9,9 +9,7 @@ invariant-loop-from g l = record {
   ordered : get_or l.layout.blocks l.machine 0 ≤ l.from;
   within : l.from ≤ l.behind;
   gathered : HasGathered (IsNextBelow l.next (g.L.Lanes.rows l.lanes).heads
-      (IsInBlocks (get_or l.layout.blocks l.machine 0) l.from) l.limit) l.fn.jobs.items l.jobs.items;
-  list : IsRisingBelow (length l.next) l.jobs.items;
-  room : vec_capacity l.fn.jobs ≤ vec_capacity l.jobs;
+      (IsInBlocks (get_or l.layout.blocks l.machine 0) l.from) l.limit) l.fn.jobs l.jobs;
 }
 
 abbrev pub decreases-loop-from : goal.decreases-loop-from

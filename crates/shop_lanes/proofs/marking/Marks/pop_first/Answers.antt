@@ -1,5 +1,5 @@
 use Rattle.std.proofs.Common.{◌≡◌, [], ◌∙◌, sym, ap, arith}
-use Rattle.shop_lanes.specs.inner.SetBits.{set_bits}
+use Rattle.shop_lanes.specs.SetBits.{set_bits}
 use Rattle.shop_lanes.proofs.MarkLemmas.{set_bits-lowest, set_bits-zero}
 use Rattle.shop_lanes.proofs.marking.Marks.pop_first.Goals as goal
 

@@ -2,7 +2,7 @@ use Rattle.std.proofs.Common.{◌≤◌, ◌*◌, ◌∙◌, ap, arith, length, 
 use lib.Lanes.{mask_l}
 use Rattle.shop_lanes.specs.Rows.{blocks}
 use Rattle.shop_lanes.specs.Marks.{waits_below}
-use Rattle.shop_lanes.specs.inner.SetBits.{set_bits}
+use Rattle.shop_lanes.specs.SetBits.{set_bits}
 use Rattle.shop_lanes.proofs.LaneLists.{length-blocks}
 use Rattle.shop_lanes.proofs.MarkLemmas.{set_bits-mask}
 use Rattle.shop_lanes.proofs.plain_rows.PlainLanes.below.Goals as goal
