@@ -69,6 +69,7 @@ pub mod LaneEstimates
 pub mod ChildRaises
 pub mod EstimatedRaises
 pub mod ChildTurns
+pub mod ChildTrials
 pub mod ChildReads
 pub mod ChildSteps
 pub mod LaneStandings

@@ -1,17 +1,18 @@
 // The bound after one more operation, by heads in lanes.
-ghost use Rattle.std.specs.Prelude.{◌≡◌, ◌<◌, ◌^◌, length, slice_index};
+ghost use Rattle.std.specs.Prelude.{◌≡◌, ◌+◌, ◌≤◌, ◌<◌, ◌^◌, [], length, slice_index};
 ghost use Rattle.shop_bound.specs.inner.ChildBounds.{HasNextInPlace, IsNextOperation};
 ghost use Rattle.shop_bound.specs.inner.ChildBounds.{HasRaised, IsBoundByRaises, KeepsRaises};
 ghost use Rattle.shop_bound.specs.inner.ChildBounds.{TellsRaisedBound};
 ghost use Rattle.shop_bound.specs.inner.LaneStates.{CanGoOnInLanes, KeepsLanes, TellsBoundInLanes};
+ghost use Rattle.shop_bound.specs.inner.Raises.{HasBlocks, IsOnMachine, IsRaisable, Raises};
 
-use crate::dispatching::advance;
 use crate::fills::go_back;
 use crate::lane_bounds::bound_by_all;
 use crate::lane_heads::LaneHeads;
 use crate::layouts::Layout;
-use crate::look_aheads::foresee;
+use crate::look_aheads::{is_alone, look_ahead};
 use crate::notes::Mark;
+use crate::raises::{raise, replace};
 use shop_lanes::Lanes;
 use shop_model::{Instance, Placement};
 
@@ -63,6 +64,41 @@ impl<L: Lanes> LaneHeads<L> {
             .take_bound(&self.lanes, &self.layout, least, limit)
     }
 
+    /// Raises the heads that the end of an operation raises that is struck out, and marks what was noted since.
+    #[inline(always)]
+    fn raise_behind(&mut self, next: NextOperation, first: usize) -> Mark
+        requires machine { HasBlocks self.old.layout (length self.old.rows.heads) next.machine }
+        requires fits { next.end ≤ L.GREATEST }
+        requires raisable { IsRaisable L.GREATEST self.old.layout [] self.old.rows
+            (IsOnMachine self.old.layout next.machine) next.end }
+        ensures same { self.new ≡ record self.old {
+          rows = self.new.rows;
+          notes = self.new.notes;
+        } }
+        ensures raises { Raises L.GREATEST self.old.layout []
+            (IsOnMachine self.old.layout next.machine) next.end self.old.rows self.new.rows
+            self.old.notes self.new.notes }
+        ensures mark { result ≡ record {
+          position = next.position;
+          first = first;
+          whole = self.new.notes.whole;
+        } }
+    {
+        raise(
+            &mut self.lanes,
+            &mut self.notes,
+            &self.layout,
+            &[],
+            next.machine,
+            next.end,
+        );
+        Mark {
+            position: next.position,
+            first,
+            whole: self.notes.is_whole(),
+        }
+    }
+
     /// The bound after the next operation of a job, by the heads that it raises, or as much of it as reaches the limit.
     fn raised_bound(
         &mut self,
@@ -76,6 +112,8 @@ impl<L: Lanes> LaneHeads<L> {
         requires can { CanGoOnInLanes L.GREATEST instance.now job placement.now self.old }
         requires position { next.position ≡ slice_index self.old.nexts job }
         requires machine { next.machine ≡ slice_index self.old.layout.machines next.position }
+        requires end { next.end ≡ slice_index self.old.rows.heads next.position
+            + slice_index self.old.rows.times next.position }
         requires small { length self.old.rows.heads < 2 ^ 64 }
         ensures bound { TellsRaisedBound L.GREATEST instance.now job placement.now self.old
             next.position next.machine next.end least limit result }
@@ -84,15 +122,17 @@ impl<L: Lanes> LaneHeads<L> {
         let machines = self.raises.machines();
         self.estimates
             .take(&self.lanes, &self.layout, machines, self.top);
-        let mark = advance(
-            &mut self.lanes,
-            &mut self.notes,
-            &self.layout,
-            &[],
-            next.position,
-            next.machine,
-        );
-        let bound = self.bound_by_raises(mark, next, least, limit);
+        let head = self.lanes.head(next.position);
+        let first = self.notes.begin();
+        replace(&mut self.lanes, &mut self.notes, next.position, 0);
+        let ahead = look_ahead(&self.lanes, &self.layout, next, least);
+        if limit <= ahead {
+            self.lanes.set_head(next.position, head);
+            self.notes.truncate(first);
+            return ahead;
+        }
+        let mark = self.raise_behind(next, first);
+        let bound = self.bound_by_raises(mark, next, ahead, limit);
         let noted = &self.notes.list()[mark.first..];
         go_back(
             &mut self.lanes,
@@ -127,10 +167,9 @@ impl<L: Lanes> LaneHeads<L> {
         if limit <= least {
             return least;
         }
-        let foreseen = foresee(&mut self.lanes, &self.layout, next, least, limit);
-        if foreseen.is_final {
-            return foreseen.bound;
+        if is_alone(&self.lanes, &self.layout, next) {
+            return least;
         }
-        self.raised_bound(instance, placement, job, next, foreseen.bound, limit)
+        self.raised_bound(instance, placement, job, next, least, limit)
     }
 }

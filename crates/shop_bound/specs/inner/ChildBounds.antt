@@ -3,9 +3,10 @@
 --     IsNextAt, IsNextOperation      the next operation of a job
 --     HasRaised greatest mark s      heads were raised, and what they were is noted behind a mark
 --     IsBoundByRaises ..             what begins within these raises, as far as the limit
---     TellsRaisedBound               the bound after it, as far as the limit, where what waits on
---                                    its machine is looked at before
-use Rattle.std.specs.Prelude.{◌≡◌, ℕ, ◌+◌, ◌≤◌, ◌<◌, true, false, List, [], ◌∷◌, ◌++◌, All, drop}
+--     IsLeastBefore, IsLeastAfter    what is known of the bound after it, before and after what
+--                                    waits on its machine is looked at
+--     TellsRaisedBound               the bound after it, as far as the limit
+use Rattle.std.specs.Prelude.{◌≡◌, ℕ, ◌+◌, ◌≤◌, ◌<◌, true, false, List, [], ◌∷◌, ◌++◌, All, drop, max}
 use Rattle.std.specs.Prelude.{length, slice_index}
 use Rattle.shop_lanes.specs.Rows.{Rows, with_head}
 use Rattle.shop_lanes.specs.Spans.{span, spans_between}
@@ -96,11 +97,19 @@ pub record IsLeastAfter (shop : Shop) (w : List ℕ) (l : LayoutState) (rows : R
   pub ahead : span 1 end (lanes_on (with_head rows position 0) l machine) ≤ least + 1
   pub most : least ≤ lb shop (w ++ job ∷ [])
 
+-- `least` is the greater of the bound of the word and the end of its next operation
+pub record IsLeastBefore (shop : Shop) (w : List ℕ) (l : LayoutState)
+    (job position machine end least : ℕ) : Type 0 where
+  pub next : IsNextAt shop w l job position machine end
+  pub least_is : least
+      ≡ max (lb shop w) ((place_next shop (placing shop w) job).free
+      (machine_of shop job ((placing shop w).steps job)))
+
 -- whichever word the heads are of
 abbrev pub TellsRaisedBound : ℕ → Shop → ℕ → PlacementState → LaneState → ℕ → ℕ → ℕ → ℕ → ℕ → ℕ
     → Type 0
 TellsRaisedBound greatest shop job p s position machine end least limit b =
     (w : List ℕ) → IsKeptInLanes greatest shop w s → IsPlacement shop (placing shop w) p
     → IsWord shop (w ++ job ∷ [])
-    → IsLeastAfter shop w s.layout s.rows job position machine end least
+    → IsLeastBefore shop w s.layout job position machine end least
     → IsBoundUpTo limit (lb shop (w ++ job ∷ [])) b

@@ -1,10 +1,13 @@
-use Rattle.std.proofs.Common.{◌≡◌, ◌∙◌, ℕ, ap, sym, subst, refl, get_or}
-use Rattle.shop_bound.specs.inner.ChildBounds.{IsLeastAfter}
+use Rattle.std.proofs.Common.{◌≡◌, ◌+◌, ◌∙◌, ℕ, ap, sym, subst, refl, get_or, length, arith}
+use Rattle.shop_bound.specs.inner.ChildBounds.{HasRaised, IsBoundByRaises, IsLeastBefore}
 use Rattle.shop_bound.specs.inner.LaneBounds.{AreSpansFit}
 use Rattle.shop_bound.specs.inner.LaneHeads.{NotesState}
 use Rattle.shop_bound.specs.inner.LaneStates.{CanGoOnInLanes, IsKeptInLanes, LaneState}
-use Rattle.shop_bound.proofs.ChildSteps.{child_again, child_is, has_next, has_raised, kept_fit, noted_are}
+use Rattle.shop_bound.proofs.ChildSteps.{child_again, child_is, has_raised, kept_fit, noted_are}
 use Rattle.shop_bound.proofs.ChildSteps.{notes_again, rested_after}
+use Rattle.shop_bound.proofs.ChildTrials.{end_fits, head_fits, kept_back, look_blocks, look_fits, place_within}
+use Rattle.shop_bound.proofs.ChildTrials.{seen_before, seen_enough, some_end, struck_within, trial_advances}
+use Rattle.shop_bound.proofs.ChildTrials.{trial_blocks, trial_raisable}
 use Rattle.shop_bound.proofs.lane_heads.LaneHeads.raised_bound.Goals as goal
 
 pub take-requires-clause-fits : goal.take-requires-clause-fits
@@ -16,62 +19,288 @@ take-requires-clause-fits g c =
     (kept_fit g.L.Lanes.GREATEST c.args.instance.now can.word _ can.kept (g.L.Lanes.rows c.self.inside.lanes) refl refl
     refl)
 
-pub advance-mark-requires-clause-next : goal.advance-mark-requires-clause-next
-advance-mark-requires-clause-next g c =
+pub head-head-requires : goal.head-head-requires
+head-head-requires g c =
     let can = subst (λ (s : LaneState). CanGoOnInLanes g.L.Lanes.GREATEST c.args.instance.now c.args.job
     c.args.placement.now s) (sym c.self.view_is) c.requires.can
-    in has_next g.L.Lanes.GREATEST c.args.instance.now can.word _ can.kept c.args.job can.fits c.args.next.position
+    in place_within g.L.Lanes.GREATEST c.args.instance.now can.word _ can.kept c.args.job can.fits c.args.next.position
+    c.args.next.machine c.args.next.end
     (subst (λ (s : LaneState). c.args.next.position ≡ get_or s.nexts c.args.job 0) (sym c.self.view_is)
     c.requires.position)
+    (subst (λ (s : LaneState). c.args.next.machine ≡ get_or s.layout.machines c.args.next.position 0)
+    (sym c.self.view_is) c.requires.machine)
+    (subst (λ (s : LaneState). c.args.next.end ≡ get_or s.rows.heads c.args.next.position 0
+    + get_or s.rows.times c.args.next.position 0) (sym c.self.view_is) c.requires.end)
+
+pub replace-requires-clause-within : goal.replace-requires-clause-within
+replace-requires-clause-within g c =
+    let can = subst (λ (s : LaneState). CanGoOnInLanes g.L.Lanes.GREATEST c.args.instance.now c.args.job
+    c.args.placement.now s) (sym c.self.view_is) c.requires.can
+    in place_within g.L.Lanes.GREATEST c.args.instance.now can.word _ can.kept c.args.job can.fits c.args.next.position
+    c.args.next.machine c.args.next.end
+    (subst (λ (s : LaneState). c.args.next.position ≡ get_or s.nexts c.args.job 0) (sym c.self.view_is)
+    c.requires.position)
+    (subst (λ (s : LaneState). c.args.next.machine ≡ get_or s.layout.machines c.args.next.position 0)
+    (sym c.self.view_is) c.requires.machine)
+    (subst (λ (s : LaneState). c.args.next.end ≡ get_or s.rows.heads c.args.next.position 0
+    + get_or s.rows.times c.args.next.position 0) (sym c.self.view_is) c.requires.end)
+
+pub replace-requires-clause-fits_now : goal.replace-requires-clause-fits_now
+replace-requires-clause-fits_now g c =
+    let can = subst (λ (s : LaneState). CanGoOnInLanes g.L.Lanes.GREATEST c.args.instance.now c.args.job
+    c.args.placement.now s) (sym c.self.view_is) c.requires.can
+    in head_fits g.L.Lanes.GREATEST c.args.instance.now can.word _ can.kept c.args.job can.fits c.args.next.position
+    c.args.next.machine c.args.next.end
+    (subst (λ (s : LaneState). c.args.next.position ≡ get_or s.nexts c.args.job 0) (sym c.self.view_is)
+    c.requires.position)
+    (subst (λ (s : LaneState). c.args.next.machine ≡ get_or s.layout.machines c.args.next.position 0)
+    (sym c.self.view_is) c.requires.machine)
+    (subst (λ (s : LaneState). c.args.next.end ≡ get_or s.rows.heads c.args.next.position 0
+    + get_or s.rows.times c.args.next.position 0) (sym c.self.view_is) c.requires.end)
+
+pub look_ahead-ahead-requires-clause-blocks : goal.look_ahead-ahead-requires-clause-blocks
+look_ahead-ahead-requires-clause-blocks g c =
+    let can = subst (λ (s : LaneState). CanGoOnInLanes g.L.Lanes.GREATEST c.args.instance.now c.args.job
+    c.args.placement.now s) (sym c.self.view_is) c.requires.can
+    in look_blocks g.L.Lanes.GREATEST c.args.instance.now can.word _ can.kept c.args.job can.fits c.args.next.position
+    c.args.next.machine c.args.next.end
+    (subst (λ (s : LaneState). c.args.next.position ≡ get_or s.nexts c.args.job 0) (sym c.self.view_is)
+    c.requires.position)
+    (subst (λ (s : LaneState). c.args.next.machine ≡ get_or s.layout.machines c.args.next.position 0)
+    (sym c.self.view_is) c.requires.machine)
+    (subst (λ (s : LaneState). c.args.next.end ≡ get_or s.rows.heads c.args.next.position 0
+    + get_or s.rows.times c.args.next.position 0) (sym c.self.view_is) c.requires.end)
+    (g.L.Lanes.rows c.replace.new.lanes) c.begin-first.new.self c.replace.new.notes c.replace.ensures
+
+pub look_ahead-ahead-requires-clause-fits : goal.look_ahead-ahead-requires-clause-fits
+look_ahead-ahead-requires-clause-fits g c =
+    let can = subst (λ (s : LaneState). CanGoOnInLanes g.L.Lanes.GREATEST c.args.instance.now c.args.job
+    c.args.placement.now s) (sym c.self.view_is) c.requires.can
+    in look_fits g.L.Lanes.GREATEST c.args.instance.now can.word _ can.kept c.args.job can.fits c.args.next.position
+    c.args.next.machine c.args.next.end
+    (subst (λ (s : LaneState). c.args.next.position ≡ get_or s.nexts c.args.job 0) (sym c.self.view_is)
+    c.requires.position)
+    (subst (λ (s : LaneState). c.args.next.machine ≡ get_or s.layout.machines c.args.next.position 0)
+    (sym c.self.view_is) c.requires.machine)
+    (subst (λ (s : LaneState). c.args.next.end ≡ get_or s.rows.heads c.args.next.position 0
+    + get_or s.rows.times c.args.next.position 0) (sym c.self.view_is) c.requires.end)
+    (g.L.Lanes.rows c.replace.new.lanes) c.begin-first.new.self c.replace.new.notes c.replace.ensures
+
+pub look_ahead-ahead-requires-clause-some : goal.look_ahead-ahead-requires-clause-some
+look_ahead-ahead-requires-clause-some g c =
+    let can = subst (λ (s : LaneState). CanGoOnInLanes g.L.Lanes.GREATEST c.args.instance.now c.args.job
+    c.args.placement.now s) (sym c.self.view_is) c.requires.can
+    in some_end g.L.Lanes.GREATEST c.args.instance.now can.word _ can.kept c.args.job can.fits c.args.next.position
+    c.args.next.machine c.args.next.end
+    (subst (λ (s : LaneState). c.args.next.position ≡ get_or s.nexts c.args.job 0) (sym c.self.view_is)
+    c.requires.position)
+    (subst (λ (s : LaneState). c.args.next.machine ≡ get_or s.layout.machines c.args.next.position 0)
+    (sym c.self.view_is) c.requires.machine)
+    (subst (λ (s : LaneState). c.args.next.end ≡ get_or s.rows.heads c.args.next.position 0
+    + get_or s.rows.times c.args.next.position 0) (sym c.self.view_is) c.requires.end)
+
+pub set_head-requires-clause-in_range : goal.set_head-requires-clause-in_range
+set_head-requires-clause-in_range g c =
+    let can = subst (λ (s : LaneState). CanGoOnInLanes g.L.Lanes.GREATEST c.args.instance.now c.args.job
+    c.args.placement.now s) (sym c.self.view_is) c.requires.can
+    in struck_within g.L.Lanes.GREATEST c.args.instance.now can.word _ can.kept c.args.job can.fits c.args.next.position
+    c.args.next.machine c.args.next.end
+    (subst (λ (s : LaneState). c.args.next.position ≡ get_or s.nexts c.args.job 0) (sym c.self.view_is)
+    c.requires.position)
+    (subst (λ (s : LaneState). c.args.next.machine ≡ get_or s.layout.machines c.args.next.position 0)
+    (sym c.self.view_is) c.requires.machine)
+    (subst (λ (s : LaneState). c.args.next.end ≡ get_or s.rows.heads c.args.next.position 0
+    + get_or s.rows.times c.args.next.position 0) (sym c.self.view_is) c.requires.end)
+    (g.L.Lanes.rows c.replace.new.lanes) c.begin-first.new.self c.replace.new.notes c.replace.ensures
+
+pub set_head-requires-clause-fits : goal.set_head-requires-clause-fits
+set_head-requires-clause-fits g c =
+    let can = subst (λ (s : LaneState). CanGoOnInLanes g.L.Lanes.GREATEST c.args.instance.now c.args.job
+    c.args.placement.now s) (sym c.self.view_is) c.requires.can
+    in let fits = head_fits g.L.Lanes.GREATEST c.args.instance.now can.word _ can.kept c.args.job can.fits c.args.next.position
+    c.args.next.machine c.args.next.end
+    (subst (λ (s : LaneState). c.args.next.position ≡ get_or s.nexts c.args.job 0) (sym c.self.view_is)
+    c.requires.position)
+    (subst (λ (s : LaneState). c.args.next.machine ≡ get_or s.layout.machines c.args.next.position 0)
+    (sym c.self.view_is) c.requires.machine)
+    (subst (λ (s : LaneState). c.args.next.end ≡ get_or s.rows.heads c.args.next.position 0
+    + get_or s.rows.times c.args.next.position 0) (sym c.self.view_is) c.requires.end)
+    in let read = c.head-head.ensures in omega arith
+
+pub raise_behind-mark-requires-clause-machine : goal.raise_behind-mark-requires-clause-machine
+raise_behind-mark-requires-clause-machine g c =
+    let can = subst (λ (s : LaneState). CanGoOnInLanes g.L.Lanes.GREATEST c.args.instance.now c.args.job
+    c.args.placement.now s) (sym c.self.view_is) c.requires.can
+    in trial_blocks g.L.Lanes.GREATEST c.args.instance.now can.word _ can.kept c.args.job can.fits c.args.next.position
+    c.args.next.machine c.args.next.end
+    (subst (λ (s : LaneState). c.args.next.position ≡ get_or s.nexts c.args.job 0) (sym c.self.view_is)
+    c.requires.position)
+    (subst (λ (s : LaneState). c.args.next.machine ≡ get_or s.layout.machines c.args.next.position 0)
+    (sym c.self.view_is) c.requires.machine)
+    (subst (λ (s : LaneState). c.args.next.end ≡ get_or s.rows.heads c.args.next.position 0
+    + get_or s.rows.times c.args.next.position 0) (sym c.self.view_is) c.requires.end)
+    (g.L.Lanes.rows c.replace.new.lanes) c.begin-first.new.self c.replace.new.notes c.replace.ensures
+
+pub raise_behind-mark-requires-clause-fits : goal.raise_behind-mark-requires-clause-fits
+raise_behind-mark-requires-clause-fits g c =
+    let can = subst (λ (s : LaneState). CanGoOnInLanes g.L.Lanes.GREATEST c.args.instance.now c.args.job
+    c.args.placement.now s) (sym c.self.view_is) c.requires.can
+    in end_fits g.L.Lanes.GREATEST c.args.instance.now can.word _ can.kept c.args.job can.fits c.args.next.position
+    c.args.next.machine c.args.next.end
+    (subst (λ (s : LaneState). c.args.next.position ≡ get_or s.nexts c.args.job 0) (sym c.self.view_is)
+    c.requires.position)
+    (subst (λ (s : LaneState). c.args.next.machine ≡ get_or s.layout.machines c.args.next.position 0)
+    (sym c.self.view_is) c.requires.machine)
+    (subst (λ (s : LaneState). c.args.next.end ≡ get_or s.rows.heads c.args.next.position 0
+    + get_or s.rows.times c.args.next.position 0) (sym c.self.view_is) c.requires.end)
+
+pub raise_behind-mark-requires-clause-raisable : goal.raise_behind-mark-requires-clause-raisable
+raise_behind-mark-requires-clause-raisable g c =
+    let can = subst (λ (s : LaneState). CanGoOnInLanes g.L.Lanes.GREATEST c.args.instance.now c.args.job
+    c.args.placement.now s) (sym c.self.view_is) c.requires.can
+    in trial_raisable g.L.Lanes.GREATEST c.args.instance.now can.word _ can.kept c.args.job can.fits c.args.next.position
+    c.args.next.machine c.args.next.end
+    (subst (λ (s : LaneState). c.args.next.position ≡ get_or s.nexts c.args.job 0) (sym c.self.view_is)
+    c.requires.position)
+    (subst (λ (s : LaneState). c.args.next.machine ≡ get_or s.layout.machines c.args.next.position 0)
+    (sym c.self.view_is) c.requires.machine)
+    (subst (λ (s : LaneState). c.args.next.end ≡ get_or s.rows.heads c.args.next.position 0
+    + get_or s.rows.times c.args.next.position 0) (sym c.self.view_is) c.requires.end)
+    (g.L.Lanes.rows c.replace.new.lanes) c.begin-first.new.self c.replace.new.notes c.replace.ensures
+
+pub returns-then-limit-ahead-clause-bound : goal.returns-then-limit-ahead-clause-bound
+returns-then-limit-ahead-clause-bound g c = λ w kept placed fits before.
+    seen_enough g.L.Lanes.GREATEST c.args.instance.now w _
+    (subst (λ (s : LaneState). IsKeptInLanes g.L.Lanes.GREATEST c.args.instance.now w s) (sym c.self.view_is) kept)
+    c.args.job fits c.args.next.position c.args.next.machine c.args.next.end c.args.least c.args.limit
+    (subst (λ (s : LaneState). IsLeastBefore c.args.instance.now w s.layout c.args.job c.args.next.position
+    c.args.next.machine c.args.next.end c.args.least) (sym c.self.view_is) before)
+    (g.L.Lanes.rows c.replace.new.lanes) c.begin-first.new.self c.replace.new.notes c.replace.ensures
+    c.look_ahead-ahead.result c.look_ahead-ahead.ensures c.if-limit-ahead.true
+
+pub returns-then-limit-ahead-clause-kept : goal.returns-then-limit-ahead-clause-kept
+returns-then-limit-ahead-clause-kept g c = λ w kept placed.
+    kept_back g.L.Lanes.GREATEST c.args.instance.now w _
+    (subst (λ (s : LaneState). IsKeptInLanes g.L.Lanes.GREATEST c.args.instance.now w s) (sym c.self.view_is) kept)
+    c.args.next.position c.head-head.result c.head-head.ensures (g.L.Lanes.rows c.replace.new.lanes)
+    (g.L.Lanes.rows c.set_head.new.self) c.begin-first.new.self c.replace.new.notes c.truncate.new.self
+    c.begin-first.ensures.whole c.replace.ensures c.set_head.ensures c.begin-first.result c.begin-first.ensures.first
+    c.truncate.ensures c.take.new.self c.take.ensures
 
 pub bound_by_raises-bound-requires : goal.bound_by_raises-bound-requires
 bound_by_raises-bound-requires g c =
     let can = subst (λ (s : LaneState). CanGoOnInLanes g.L.Lanes.GREATEST c.args.instance.now c.args.job
     c.args.placement.now s) (sym c.self.view_is) c.requires.can
-    in has_raised g.L.Lanes.GREATEST c.args.instance.now can.word _ can.kept c.args.job can.fits c.args.next.position
+    in let advances = trial_advances g.L.Lanes.GREATEST c.args.instance.now can.word _ can.kept c.args.job can.fits c.args.next.position
+    c.args.next.machine c.args.next.end
     (subst (λ (s : LaneState). c.args.next.position ≡ get_or s.nexts c.args.job 0) (sym c.self.view_is)
-    c.requires.position) (g.L.Lanes.rows c.advance-mark.new.lanes)
-    c.advance-mark.new.notes c.advance-mark.result c.advance-mark.ensures c.take.new.self c.take.ensures
+    c.requires.position)
+    (subst (λ (s : LaneState). c.args.next.machine ≡ get_or s.layout.machines c.args.next.position 0)
+    (sym c.self.view_is) c.requires.machine)
+    (subst (λ (s : LaneState). c.args.next.end ≡ get_or s.rows.heads c.args.next.position 0
+    + get_or s.rows.times c.args.next.position 0) (sym c.self.view_is) c.requires.end)
+    (g.L.Lanes.rows c.replace.new.lanes) c.begin-first.new.self c.replace.new.notes c.replace.ensures
+    c.begin-first.ensures.whole c.raise_behind-mark.new.self.rows c.raise_behind-mark.new.self.notes
+    c.raise_behind-mark.ensures.raises c.raise_behind-mark.result c.begin-first.result c.begin-first.ensures.first
+    c.raise_behind-mark.ensures.mark
+    in subst (HasRaised g.L.Lanes.GREATEST c.raise_behind-mark.result) (sym c.raise_behind-mark.ensures.same)
+    (has_raised g.L.Lanes.GREATEST c.args.instance.now can.word _ can.kept c.args.job can.fits c.args.next.position
+    (subst (λ (s : LaneState). c.args.next.position ≡ get_or s.nexts c.args.job 0) (sym c.self.view_is)
+    c.requires.position)
+    c.raise_behind-mark.new.self.rows c.raise_behind-mark.new.self.notes c.raise_behind-mark.result
+    advances c.take.new.self c.take.ensures)
 
 pub go_back-requires-clause-rested : goal.go_back-requires-clause-rested
 go_back-requires-clause-rested g c =
     let can = subst (λ (s : LaneState). CanGoOnInLanes g.L.Lanes.GREATEST c.args.instance.now c.args.job
     c.args.placement.now s) (sym c.self.view_is) c.requires.can
-    in rested_after g.L.Lanes.GREATEST c.args.instance.now can.word _ can.kept c.args.job can.fits c.args.next.position
-    (subst (λ (s : LaneState). c.args.next.position ≡ get_or s.nexts c.args.job 0) (sym c.self.view_is)
-    c.requires.position) (g.L.Lanes.rows c.advance-mark.new.lanes)
-    c.advance-mark.new.notes c.advance-mark.result c.advance-mark.ensures c.take.new.self c.take.ensures
-    c.bound_by_raises-bound.new.self.raises _ (c.self-2.view_is ∙ c.bound_by_raises-bound.ensures.raises.same)
-
-pub returns-clause-bound : goal.returns-clause-bound
-returns-clause-bound g c = λ w kept placed fits after.
-    child_is g.L.Lanes.GREATEST c.args.instance.now w _
-    (subst (λ (s : LaneState). IsKeptInLanes g.L.Lanes.GREATEST c.args.instance.now w s) (sym c.self.view_is) kept)
-    c.args.job fits c.args.next.position
+    in let advances = trial_advances g.L.Lanes.GREATEST c.args.instance.now can.word _ can.kept c.args.job can.fits c.args.next.position
+    c.args.next.machine c.args.next.end
     (subst (λ (s : LaneState). c.args.next.position ≡ get_or s.nexts c.args.job 0) (sym c.self.view_is)
     c.requires.position)
-    (g.L.Lanes.rows c.advance-mark.new.lanes) c.advance-mark.new.notes c.advance-mark.result c.advance-mark.ensures
-    c.take.new.self c.take.ensures c.args.next.machine c.args.next.end c.args.least c.args.limit
-    c.bound_by_raises-bound.result c.bound_by_raises-bound.ensures.bound
-    (subst (λ (s : LaneState). IsLeastAfter c.args.instance.now w s.layout s.rows c.args.job c.args.next.position
-    c.args.next.machine c.args.next.end c.args.least) (sym c.self.view_is) after)
+    (subst (λ (s : LaneState). c.args.next.machine ≡ get_or s.layout.machines c.args.next.position 0)
+    (sym c.self.view_is) c.requires.machine)
+    (subst (λ (s : LaneState). c.args.next.end ≡ get_or s.rows.heads c.args.next.position 0
+    + get_or s.rows.times c.args.next.position 0) (sym c.self.view_is) c.requires.end)
+    (g.L.Lanes.rows c.replace.new.lanes) c.begin-first.new.self c.replace.new.notes c.replace.ensures
+    c.begin-first.ensures.whole c.raise_behind-mark.new.self.rows c.raise_behind-mark.new.self.notes
+    c.raise_behind-mark.ensures.raises c.raise_behind-mark.result c.begin-first.result c.begin-first.ensures.first
+    c.raise_behind-mark.ensures.mark
+    in rested_after g.L.Lanes.GREATEST c.args.instance.now can.word _ can.kept c.args.job can.fits c.args.next.position
+    (subst (λ (s : LaneState). c.args.next.position ≡ get_or s.nexts c.args.job 0) (sym c.self.view_is)
+    c.requires.position)
+    c.raise_behind-mark.new.self.rows c.raise_behind-mark.new.self.notes c.raise_behind-mark.result
+    advances c.take.new.self c.take.ensures c.bound_by_raises-bound.new.self.raises _
+    (c.self-2.view_is ∙ (c.bound_by_raises-bound.ensures.raises.same
+    ∙ ap (λ (s : LaneState). record s { raises = c.bound_by_raises-bound.new.self.raises })
+    c.raise_behind-mark.ensures.same))
+
+pub returns-clause-bound : goal.returns-clause-bound
+returns-clause-bound g c = λ w was placed fits before_it.
+    let kept = subst (λ (s : LaneState). IsKeptInLanes g.L.Lanes.GREATEST c.args.instance.now w s) (sym c.self.view_is)
+    was
+    in let before = subst (λ (s : LaneState). IsLeastBefore c.args.instance.now w s.layout c.args.job
+    c.args.next.position c.args.next.machine c.args.next.end c.args.least) (sym c.self.view_is) before_it
+    in let advances = trial_advances g.L.Lanes.GREATEST c.args.instance.now w _ kept c.args.job fits c.args.next.position
+    c.args.next.machine c.args.next.end
+    (subst (λ (s : LaneState). c.args.next.position ≡ get_or s.nexts c.args.job 0) (sym c.self.view_is)
+    c.requires.position)
+    (subst (λ (s : LaneState). c.args.next.machine ≡ get_or s.layout.machines c.args.next.position 0)
+    (sym c.self.view_is) c.requires.machine)
+    (subst (λ (s : LaneState). c.args.next.end ≡ get_or s.rows.heads c.args.next.position 0
+    + get_or s.rows.times c.args.next.position 0) (sym c.self.view_is) c.requires.end)
+    (g.L.Lanes.rows c.replace.new.lanes) c.begin-first.new.self c.replace.new.notes c.replace.ensures
+    c.begin-first.ensures.whole c.raise_behind-mark.new.self.rows c.raise_behind-mark.new.self.notes
+    c.raise_behind-mark.ensures.raises c.raise_behind-mark.result c.begin-first.result c.begin-first.ensures.first
+    c.raise_behind-mark.ensures.mark
+    in child_is g.L.Lanes.GREATEST c.args.instance.now w _ kept c.args.job fits c.args.next.position
+    (subst (λ (s : LaneState). c.args.next.position ≡ get_or s.nexts c.args.job 0) (sym c.self.view_is)
+    c.requires.position)
+    c.raise_behind-mark.new.self.rows c.raise_behind-mark.new.self.notes c.raise_behind-mark.result
+    advances c.take.new.self c.take.ensures c.args.next.machine c.args.next.end c.look_ahead-ahead.result c.args.limit
+    c.bound_by_raises-bound.result
+    (subst (λ (s : LaneState). IsBoundByRaises s c.raise_behind-mark.result c.args.next.machine c.args.next.end
+    c.look_ahead-ahead.result c.args.limit c.bound_by_raises-bound.result) c.raise_behind-mark.ensures.same
+    c.bound_by_raises-bound.ensures.bound)
+    (seen_before g.L.Lanes.GREATEST c.args.instance.now w _ kept c.args.job fits c.args.next.position
+    c.args.next.machine c.args.next.end c.args.least c.args.limit before
+    (g.L.Lanes.rows c.replace.new.lanes) c.begin-first.new.self c.replace.new.notes c.replace.ensures
+    c.look_ahead-ahead.result c.look_ahead-ahead.ensures)
 
 pub returns-clause-kept : goal.returns-clause-kept
 returns-clause-kept g c = λ w kept placed.
     let was = subst (λ (s : LaneState). IsKeptInLanes g.L.Lanes.GREATEST c.args.instance.now w s) (sym c.self.view_is)
     kept
-    in let rows = g.L.Lanes.rows c.advance-mark.new.lanes
+    in let can = subst (λ (s : LaneState). CanGoOnInLanes g.L.Lanes.GREATEST c.args.instance.now c.args.job
+    c.args.placement.now s) (sym c.self.view_is) c.requires.can
     in let raises = c.bound_by_raises-bound.ensures.raises
-    in let is = c.self-2.view_is ∙ raises.same
-    in let advances = c.advance-mark.ensures
+    in let is = c.self-2.view_is ∙ (raises.same
+    ∙ ap (λ (s : LaneState). record s { raises = c.bound_by_raises-bound.new.self.raises })
+    c.raise_behind-mark.ensures.same)
+    in let advances = trial_advances g.L.Lanes.GREATEST c.args.instance.now can.word _ can.kept c.args.job can.fits c.args.next.position
+    c.args.next.machine c.args.next.end
+    (subst (λ (s : LaneState). c.args.next.position ≡ get_or s.nexts c.args.job 0) (sym c.self.view_is)
+    c.requires.position)
+    (subst (λ (s : LaneState). c.args.next.machine ≡ get_or s.layout.machines c.args.next.position 0)
+    (sym c.self.view_is) c.requires.machine)
+    (subst (λ (s : LaneState). c.args.next.end ≡ get_or s.rows.heads c.args.next.position 0
+    + get_or s.rows.times c.args.next.position 0) (sym c.self.view_is) c.requires.end)
+    (g.L.Lanes.rows c.replace.new.lanes) c.begin-first.new.self c.replace.new.notes c.replace.ensures
+    c.begin-first.ensures.whole c.raise_behind-mark.new.self.rows c.raise_behind-mark.new.self.notes
+    c.raise_behind-mark.ensures.raises c.raise_behind-mark.result c.begin-first.result c.begin-first.ensures.first
+    c.raise_behind-mark.ensures.mark
     in let noted = noted_are g.L.Lanes.GREATEST c.args.instance.now w _ was c.args.placement.now placed
-    c.args.next.position rows c.advance-mark.new.notes c.advance-mark.result advances c.take.new.self c.take.ensures
+    c.args.next.position c.raise_behind-mark.new.self.rows c.raise_behind-mark.new.self.notes c.raise_behind-mark.result
+    advances c.take.new.self c.take.ensures
     c.bound_by_raises-bound.new.self.raises _ is c.list.result.now c.list.ensures _ refl
-    in child_again g.L.Lanes.GREATEST c.args.instance.now w _ was c.args.placement.now placed c.args.next.position rows
-    c.advance-mark.new.notes c.advance-mark.result advances c.take.new.self c.take.ensures
-    c.bound_by_raises-bound.new.self.raises _ is raises.as_many raises.at_rest _ noted
-    (g.L.Lanes.rows c.go_back.new.lanes) c.go_back.ensures c.truncate.new.self
-    (notes_again g.L.Lanes.GREATEST c.args.instance.now w _ was c.args.placement.now placed c.args.next.position rows
-    c.advance-mark.new.notes c.advance-mark.result advances c.take.new.self c.take.ensures
-    c.bound_by_raises-bound.new.self.raises _ is c.truncate.new.self.list
-    (ap (λ (ns : NotesState). ns.list) c.truncate.ensures))
+    in child_again g.L.Lanes.GREATEST c.args.instance.now w _ was c.args.placement.now placed c.args.next.position
+    c.raise_behind-mark.new.self.rows c.raise_behind-mark.new.self.notes c.raise_behind-mark.result
+    advances c.take.new.self c.take.ensures
+    c.bound_by_raises-bound.new.self.raises _ is
+    (raises.as_many ∙ ap (λ (s : LaneState). length s.raises) c.raise_behind-mark.ensures.same) raises.at_rest _ noted
+    (g.L.Lanes.rows c.go_back.new.lanes) c.go_back.ensures c.truncate-2.new.self
+    (notes_again g.L.Lanes.GREATEST c.args.instance.now w _ was c.args.placement.now placed c.args.next.position
+    c.raise_behind-mark.new.self.rows c.raise_behind-mark.new.self.notes c.raise_behind-mark.result
+    advances c.take.new.self c.take.ensures
+    c.bound_by_raises-bound.new.self.raises _ is c.truncate-2.new.self.list
+    (ap (λ (ns : NotesState). ns.list) c.truncate-2.ensures))
