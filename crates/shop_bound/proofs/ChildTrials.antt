@@ -1,27 +1,28 @@
 -- An operation is struck out and tried, or put back once enough is seen.
-use Rattle.std.proofs.Common.{◌≡◌, ℕ, ◌+◌, ◌-◌, ◌≤◌, ◌<◌, ◌^◌, max, true, List, [], ◌∷◌, ◌++◌, length, take}
-use Rattle.std.proofs.Common.{get_or, refl, sym, ◌∙◌, ap, subst, arith}
+use Rattle.std.proofs.Common.{◌≡◌, ℕ, ◌+◌, ◌-◌, ◌≤◌, ◌<◌, ◌^◌, max, Bool, true, List, [], ◌∷◌, ◌++◌, length, take}
+use Rattle.std.proofs.Common.{get_or, refl, sym, ◌∙◌, ap, subst, arith, length-append}
 use Rattle.std.proofs.Math.Seq.{take-append_seam}
 use Rattle.std.proofs.lemmas.List.{length-set}
 use Rattle.shop_lanes.specs.Rows.{Rows, AreBlocks, with_head}
 use Rattle.shop_lanes.specs.Spans.{span, FitsSpan}
+use Rattle.shop_model.specs.Placements.{PlacementState, IsPlacement}
 use Rattle.shop_model.specs.Shop.{Shop}
 use Rattle.shop_model.specs.Word.{IsWord, placing}
 use Rattle.shop_bound.specs.Bound.{lb}
 use Rattle.shop_bound.specs.inner.BoundsUpTo.{IsBoundUpTo}
-use Rattle.shop_bound.specs.inner.ChildBounds.{IsLeastAfter, IsLeastBefore}
+use Rattle.shop_bound.specs.inner.ChildBounds.{CanRaise, IsLeastAfter, IsLeastBefore, RaisesSo}
 use Rattle.shop_bound.specs.inner.Estimates.{AreEstimates}
+use Rattle.shop_bound.specs.inner.Fills.{CanFill}
 use Rattle.shop_bound.specs.inner.LaneBounds.{lanes_on}
-use Rattle.shop_bound.specs.inner.LaneHeads.{NotesState}
+use Rattle.shop_bound.specs.inner.LaneHeads.{AreNotesFit, NotesState}
 use Rattle.shop_bound.specs.inner.LaneStates.{Advances, IsKeptInLanes, LaneState}
 use Rattle.shop_bound.specs.inner.Layouts.{place}
-use Rattle.shop_bound.specs.inner.Raises.{HasBlocks, IsOnMachine, IsRaisable, Raises, Replaces}
-use Rattle.shop_bound.specs.declared.notes.Mark.{Mark}
+use Rattle.shop_bound.specs.inner.Raises.{IsOnMachine, IsRaisable, Raises, Replaces}
 use Rattle.shop_bound.specs.declared.notes.Note.{Note}
 use Rattle.shop_bound.proofs.AdvanceSteps.{advances, end_small, struck_blocks, struck_raisable, within}
 use Rattle.shop_bound.proofs.ChildReads.{after_look, at_ahead, end_latest, head_here, machine_here, time_here}
 use Rattle.shop_bound.proofs.ChildSteps.{has_next, kept_fit}
-use Rattle.shop_bound.proofs.ChildTurns.{head_again}
+use Rattle.shop_bound.proofs.ChildTurns.{head_again, next_small}
 use Rattle.shop_bound.proofs.LaneSteps.{kept_again, next_is}
 
 module _ (greatest : ℕ) (shop : Shop) (w : List ℕ) (s : LaneState) (kept : IsKeptInLanes greatest shop w s) (j : ℕ)
@@ -92,29 +93,76 @@ module _ (greatest : ℕ) (shop : Shop) (w : List ℕ) (s : LaneState) (kept : I
     pub struck_within : position < length lifted.heads
     struck_within = let a = positions in let b = place_within in omega arith
 
-    pub trial_blocks : HasBlocks s.layout (length lifted.heads) machine
-    trial_blocks = struck_blocks greatest s.layout [] position machine (get_or s.rows.heads position 0)
-        (get_or s.rows.times position 0) s.rows (has_next greatest shop w s kept j fits position position_is) machine_is
-        refl refl lifted begun mid wrote
+    module _ (begins : begun ≡ record s.notes { whole = true }) (first : ℕ) (first_is : first ≡ length s.notes.list) where
+      pub trial_advances : (new : Rows) (last : NotesState)
+          → Raises greatest s.layout [] (IsOnMachine s.layout machine) end lifted new mid last → (whole : Bool)
+          → whole ≡ last.whole → Advances greatest s.layout [] position s.rows new s.notes last
+          (record { position = position; first = first; whole = whole })
+      trial_advances new last raising whole whole_is =
+          advances greatest s.layout [] position machine (get_or s.rows.heads position 0)
+          (get_or s.rows.times position 0) s.rows (has_next greatest shop w s kept j fits position position_is)
+          machine_is refl refl lifted begun mid wrote s.notes begins new last
+          (subst (λ (e : ℕ). Raises greatest s.layout [] (IsOnMachine s.layout machine) e lifted new mid last) end_is
+          raising) (record { position = position; first = first; whole = whole }) refl first_is whole_is
 
-    pub trial_raisable : IsRaisable greatest s.layout [] lifted (IsOnMachine s.layout machine) end
-    trial_raisable = subst (IsRaisable greatest s.layout [] lifted (IsOnMachine s.layout machine)) (sym end_is)
-        (struck_raisable greatest s.layout [] position machine (get_or s.rows.heads position 0)
-        (get_or s.rows.times position 0) s.rows (has_next greatest shop w s kept j fits position position_is) machine_is
-        refl refl lifted begun mid wrote)
+      pub trial_can : (us : List ℕ)
+          → CanRaise greatest machine end (record s { rows = lifted; notes = mid; estimates = us })
+      trial_can us =
+          let next = has_next greatest shop w s kept j fits position position_is
+          in record {
+            blocks = struck_blocks greatest s.layout [] position machine (get_or s.rows.heads position 0)
+                (get_or s.rows.times position 0) s.rows next machine_is refl refl lifted begun mid wrote;
+            fits = end_fits;
+            raisable = subst (IsRaisable greatest s.layout [] lifted (IsOnMachine s.layout machine)) (sym end_is)
+                (struck_raisable greatest s.layout [] position machine (get_or s.rows.heads position 0)
+                (get_or s.rows.times position 0) s.rows next machine_is refl refl lifted begun mid wrote);
+            on = λ q here. kept.kept.laid.machines_at.at machine q known here.0 here.1;
+            known = λ q here. (let a = kept.kept.laid.machines_at.known q here in let b = kept.bounds.as_many
+                in omega arith);
+            at_rest = kept.bounds.at_rest;
+            raised = λ rows after raising.
+                let advances = trial_advances rows after raising after.whole refl
+                in record {
+                  fits = kept_fit greatest shop w s kept rows advances.times advances.tails advances.positions;
+                  small = next_small greatest shop s.layout j position s.rows rows s.notes after _ advances s.top
+                      kept.bounds.top_is w kept.kept fits its_place;
+                };
+          }
 
-    pub trial_advances : begun ≡ record s.notes { whole = true } → (new : Rows) (last : NotesState)
-        → Raises greatest s.layout [] (IsOnMachine s.layout machine) end lifted new mid last → (mark : Mark)
-        → (first : ℕ) → first ≡ length s.notes.list
-        → mark ≡ record { position = position; first = first; whole = last.whole }
-        → Advances greatest s.layout [] position s.rows new s.notes last mark
-    trial_advances begins new last raising mark first first_is mark_is =
-        advances greatest s.layout [] position machine (get_or s.rows.heads position 0)
-        (get_or s.rows.times position 0) s.rows (has_next greatest shop w s kept j fits position position_is) machine_is
-        refl refl lifted begun mid wrote s.notes begins new last
-        (subst (λ (e : ℕ). Raises greatest s.layout [] (IsOnMachine s.layout machine) e lifted new mid last) end_is
-        raising) mark (ap (λ (k : Mark). k.position) mark_is) (ap (λ (k : Mark). k.first) mark_is ∙ first_is)
-        (ap (λ (k : Mark). k.whole) mark_is)
+      -- in the state that was left
+      module _ (least limit b : ℕ) (us : List ℕ) (t v : LaneState)
+          (so : RaisesSo greatest machine end least limit (record s { rows = lifted; notes = mid; estimates = us }) t b)
+          (v_is : v ≡ t) (whole : Bool) (whole_is : whole ≡ v.notes.whole) where
+        pub left_is : v ≡ record s { rows = t.rows; notes = t.notes; estimates = us; raises = t.raises }
+        left_is = v_is ∙ so.same
+
+        pub left_advances : Advances greatest s.layout [] position s.rows t.rows s.notes t.notes
+            (record { position = position; first = first; whole = whole })
+        left_advances = trial_advances t.rows t.notes so.raises whole
+            (whole_is ∙ ap (λ (x : LaneState). x.notes.whole) v_is)
+
+        pub left_first : first ≤ length v.notes.list
+        left_first =
+            let a = ap (λ (x : LaneState). length x.notes.list) v_is
+            in let b = ap (λ (ns : List Note). length ns) left_advances.noted.are
+            in let c = length-append s.notes.list left_advances.noted.more in omega arith
+
+        pub left_fill : (p : PlacementState) → IsPlacement shop (placing shop w) p → CanFill greatest shop v.layout p v.rows
+        left_fill p placed = subst (λ (x : LaneState). CanFill greatest shop x.layout p x.rows) (sym left_is) (record {
+          limits = kept.kept.limits;
+          laid = kept.kept.laid;
+          fits = kept.kept.fits;
+          computable = kept.kept.computable;
+          of = record { word = w; fits = kept.kept.word; placed = placed };
+          positions = left_advances.positions ∙ kept.kept.heads.positions;
+        })
+
+        pub left_notes : (notes : List Note) → notes ≡ left_advances.noted.more
+            → AreNotesFit greatest (length v.rows.heads) notes
+        left_notes notes is = subst (AreNotesFit greatest (length v.rows.heads)) (sym is)
+            (subst (λ (n : ℕ). AreNotesFit greatest n left_advances.noted.more)
+            (sym (ap (λ (x : LaneState). length x.rows.heads) left_is ∙ left_advances.positions))
+            left_advances.noted.fit)
 
 -- what is seen then, whichever word the heads are of
 module _ (greatest : ℕ) (shop : Shop) (w : List ℕ) (s : LaneState) (kept : IsKeptInLanes greatest shop w s) (j : ℕ)

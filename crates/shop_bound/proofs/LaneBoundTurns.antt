@@ -73,16 +73,16 @@ spans-none above upto all (x ∷ xs) h =
 -- a raise that was widened, and the others
 module _ (raises : List Raise) (m a b : ℕ) (known : m < length raises) (after : List Raise)
     (is : after ≡ set raises m (widened (raise_of raises m) a b)) where
-  raise_here : (i : ℕ) → i ≡ m → raise_of after i ≡ widened (raise_of raises m) a b
+  pub raise_here : (i : ℕ) → i ≡ m → raise_of after i ≡ widened (raise_of raises m) a b
   raise_here i e = ap (λ (rs : List Raise). get_or rs i no_raise) is
       ∙ (ap (λ (n : ℕ). get_or (set raises m (widened (raise_of raises m) a b)) n no_raise) e
       ∙ get_or-set_same raises m (widened (raise_of raises m) a b) no_raise known)
 
-  raise_other : (i : ℕ) → (i ≡ m → ⊥) → raise_of after i ≡ raise_of raises i
+  pub raise_other : (i : ℕ) → (i ≡ m → ⊥) → raise_of after i ≡ raise_of raises i
   raise_other i ne = ap (λ (rs : List Raise). get_or rs i no_raise) is
       ∙ get_or-set_other raises m i (widened (raise_of raises m) a b) no_raise ne
 
-  raise_from : (i : ℕ) → (raise_of after i).from ≤ (raise_of raises i).from
+  pub raise_from : (i : ℕ) → (raise_of after i).from ≤ (raise_of raises i).from
   raise_from i = elim (cases_eq i m) [
     | inl e ↦ (let f = ap (λ (r : Raise). r.from) (raise_here i e)
         in let g : (raise_of raises i).from ≡ (raise_of raises m).from =
@@ -90,7 +90,7 @@ module _ (raises : List Raise) (m a b : ℕ) (known : m < length raises) (after 
     | inr ne ↦ (let f = ap (λ (r : Raise). r.from) (raise_other i ne) in omega arith)
   ]
 
-  raise_to : (i : ℕ) → (raise_of raises i).to ≤ (raise_of after i).to
+  pub raise_to : (i : ℕ) → (raise_of raises i).to ≤ (raise_of after i).to
   raise_to i = elim (cases_eq i m) [
     | inl e ↦ (let f = ap (λ (r : Raise). r.to) (raise_here i e)
         in let g : (raise_of raises i).to ≡ (raise_of raises m).to =

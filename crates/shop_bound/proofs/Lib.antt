@@ -70,6 +70,7 @@ pub mod ChildRaises
 pub mod EstimatedRaises
 pub mod ChildTurns
 pub mod ChildTrials
+pub mod Watching
 pub mod ChildReads
 pub mod ChildSteps
 pub mod LaneStandings

@@ -1,18 +1,17 @@
 // The bound after one more operation, by heads in lanes.
-ghost use Rattle.std.specs.Prelude.{◌≡◌, ◌+◌, ◌≤◌, ◌<◌, ◌^◌, [], length, slice_index};
+ghost use Rattle.std.specs.Prelude.{◌≡◌, ◌+◌, ◌<◌, ◌^◌, length, slice_index};
 ghost use Rattle.shop_bound.specs.inner.ChildBounds.{HasNextInPlace, IsNextOperation};
-ghost use Rattle.shop_bound.specs.inner.ChildBounds.{HasRaised, IsBoundByRaises, KeepsRaises};
+ghost use Rattle.shop_bound.specs.inner.ChildBounds.{CanRaise, RaisesSo};
 ghost use Rattle.shop_bound.specs.inner.ChildBounds.{TellsRaisedBound};
 ghost use Rattle.shop_bound.specs.inner.LaneStates.{CanGoOnInLanes, KeepsLanes, TellsBoundInLanes};
-ghost use Rattle.shop_bound.specs.inner.Raises.{HasBlocks, IsOnMachine, IsRaisable, Raises};
 
 use crate::fills::go_back;
 use crate::lane_bounds::bound_by_all;
 use crate::lane_heads::LaneHeads;
 use crate::layouts::Layout;
 use crate::look_aheads::{is_alone, look_ahead};
-use crate::notes::Mark;
 use crate::raises::{raise, replace};
+use crate::watchers::Unwatched;
 use shop_lanes::Lanes;
 use shop_model::{Instance, Placement};
 
@@ -40,49 +39,12 @@ fn next_operation<L: Lanes>(lanes: &L, machines: &[u32], position: usize) -> Nex
 }
 
 impl<L: Lanes> LaneHeads<L> {
-    /// The greater of a number and of what begins within the raises of heads that were noted behind a mark; or as much
-    /// of it as reaches the limit. If not all was noted, all may have changed.
+    /// Raises the heads that the end of an operation raises that is struck out, and tells the greater of a number and of
+    /// what begins within the raises; or as much of it as reaches the limit.
     #[inline(always)]
-    fn bound_by_raises(&mut self, mark: Mark, next: NextOperation, least: u64, limit: u64) -> u64
-        requires { HasRaised L.GREATEST mark self.old }
-        ensures raises { KeepsRaises self.old self.new }
-        ensures bound { IsBoundByRaises self.old mark next.machine next.end least limit result }
-    {
-        if !mark.whole {
-            let machines = self.raises.machines();
-            return bound_by_all(&self.lanes, &self.layout, machines, self.top, least, limit);
-        }
-        self.raises.add_notes(
-            &self.lanes,
-            self.layout.machines(),
-            &self.notes.list()[mark.first..],
-            next,
-            self.estimates.upper(),
-            least,
-        );
-        self.raises
-            .take_bound(&self.lanes, &self.layout, least, limit)
-    }
-
-    /// Raises the heads that the end of an operation raises that is struck out, and marks what was noted since.
-    #[inline(always)]
-    fn raise_behind(&mut self, next: NextOperation, first: usize) -> Mark
-        requires machine { HasBlocks self.old.layout (length self.old.rows.heads) next.machine }
-        requires fits { next.end ≤ L.GREATEST }
-        requires raisable { IsRaisable L.GREATEST self.old.layout [] self.old.rows
-            (IsOnMachine self.old.layout next.machine) next.end }
-        ensures same { self.new ≡ record self.old {
-          rows = self.new.rows;
-          notes = self.new.notes;
-        } }
-        ensures raises { Raises L.GREATEST self.old.layout []
-            (IsOnMachine self.old.layout next.machine) next.end self.old.rows self.new.rows
-            self.old.notes self.new.notes }
-        ensures mark { result ≡ record {
-          position = next.position;
-          first = first;
-          whole = self.new.notes.whole;
-        } }
+    fn bound_by_watching(&mut self, next: NextOperation, least: u64, limit: u64) -> u64
+        requires { CanRaise L.GREATEST next.machine next.end self.old }
+        ensures { RaisesSo L.GREATEST next.machine next.end least limit self.old self.new result }
     {
         raise(
             &mut self.lanes,
@@ -91,11 +53,54 @@ impl<L: Lanes> LaneHeads<L> {
             &[],
             next.machine,
             next.end,
+            &mut self.raises,
         );
-        Mark {
-            position: next.position,
-            first,
-            whole: self.notes.is_whole(),
+        self.raises
+            .take_bound(&self.lanes, &self.layout, least, limit)
+    }
+
+    /// The same with estimates, by notes of the heads that are raised: all may have changed if not all was noted.
+    #[inline(never)]
+    fn bound_by_notes(&mut self, next: NextOperation, least: u64, limit: u64) -> u64
+        requires { CanRaise L.GREATEST next.machine next.end self.old }
+        ensures { RaisesSo L.GREATEST next.machine next.end least limit self.old self.new result }
+    {
+        let first = self.notes.list().len();
+        raise(
+            &mut self.lanes,
+            &mut self.notes,
+            &self.layout,
+            &[],
+            next.machine,
+            next.end,
+            &mut Unwatched,
+        );
+        if !self.notes.is_whole() {
+            let machines = self.raises.machines();
+            return bound_by_all(&self.lanes, &self.layout, machines, self.top, least, limit);
+        }
+        self.raises.add_notes(
+            &self.lanes,
+            self.layout.machines(),
+            &self.notes.list()[first..],
+            next,
+            self.estimates.upper(),
+            least,
+        );
+        self.raises
+            .take_bound(&self.lanes, &self.layout, least, limit)
+    }
+
+    /// The same, with estimates or without.
+    #[inline(always)]
+    fn bound_by_raises(&mut self, next: NextOperation, least: u64, limit: u64) -> u64
+        requires { CanRaise L.GREATEST next.machine next.end self.old }
+        ensures { RaisesSo L.GREATEST next.machine next.end least limit self.old self.new result }
+    {
+        if self.estimates.upper().is_empty() {
+            self.bound_by_watching(next, least, limit)
+        } else {
+            self.bound_by_notes(next, least, limit)
         }
     }
 
@@ -131,18 +136,17 @@ impl<L: Lanes> LaneHeads<L> {
             self.notes.truncate(first);
             return ahead;
         }
-        let mark = self.raise_behind(next, first);
-        let bound = self.bound_by_raises(mark, next, ahead, limit);
-        let noted = &self.notes.list()[mark.first..];
+        let bound = self.bound_by_raises(next, ahead, limit);
+        let (noted, whole) = (&self.notes.list()[first..], self.notes.is_whole());
         go_back(
             &mut self.lanes,
             &self.layout,
             instance,
             placement,
             noted,
-            mark.whole,
+            whole,
         );
-        self.notes.truncate(mark.first);
+        self.notes.truncate(first);
         bound
     }
 

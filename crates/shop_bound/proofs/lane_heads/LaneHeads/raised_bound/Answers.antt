@@ -1,13 +1,15 @@
-use Rattle.std.proofs.Common.{◌≡◌, ◌+◌, ◌∙◌, ℕ, ap, sym, subst, refl, get_or, length, arith}
-use Rattle.shop_bound.specs.inner.ChildBounds.{HasRaised, IsBoundByRaises, IsLeastBefore}
+use Rattle.std.proofs.Common.{◌≡◌, ℕ, ◌+◌, List, ap, get_or, length, refl, sym, subst, arith}
+use Rattle.shop_bound.specs.inner.ChildBounds.{IsBoundByRaises, IsLeastBefore}
 use Rattle.shop_bound.specs.inner.LaneBounds.{AreSpansFit}
 use Rattle.shop_bound.specs.inner.LaneHeads.{NotesState}
 use Rattle.shop_bound.specs.inner.LaneStates.{CanGoOnInLanes, IsKeptInLanes, LaneState}
-use Rattle.shop_bound.proofs.ChildSteps.{child_again, child_is, has_raised, kept_fit, noted_are}
+use Rattle.shop_lanes.specs.Rows.{Rows}
+use Rattle.shop_bound.specs.declared.notes.Note.{Note}
+use Rattle.shop_bound.proofs.ChildSteps.{child_again, child_is, kept_fit, noted_are}
 use Rattle.shop_bound.proofs.ChildSteps.{notes_again, rested_after}
-use Rattle.shop_bound.proofs.ChildTrials.{end_fits, head_fits, kept_back, look_blocks, look_fits, place_within}
-use Rattle.shop_bound.proofs.ChildTrials.{seen_before, seen_enough, some_end, struck_within, trial_advances}
-use Rattle.shop_bound.proofs.ChildTrials.{trial_blocks, trial_raisable}
+use Rattle.shop_bound.proofs.ChildTrials.{head_fits, kept_back, left_advances, left_fill, left_first, left_is}
+use Rattle.shop_bound.proofs.ChildTrials.{left_notes, look_blocks, look_fits, place_within, seen_before, seen_enough}
+use Rattle.shop_bound.proofs.ChildTrials.{some_end, struck_within, trial_can}
 use Rattle.shop_bound.proofs.lane_heads.LaneHeads.raised_bound.Goals as goal
 
 pub take-requires-clause-fits : goal.take-requires-clause-fits
@@ -127,47 +129,6 @@ set_head-requires-clause-fits g c =
     + get_or s.rows.times c.args.next.position 0) (sym c.self.view_is) c.requires.end)
     in let read = c.head-head.ensures in omega arith
 
-pub raise_behind-mark-requires-clause-machine : goal.raise_behind-mark-requires-clause-machine
-raise_behind-mark-requires-clause-machine g c =
-    let can = subst (λ (s : LaneState). CanGoOnInLanes g.L.Lanes.GREATEST c.args.instance.now c.args.job
-    c.args.placement.now s) (sym c.self.view_is) c.requires.can
-    in trial_blocks g.L.Lanes.GREATEST c.args.instance.now can.word _ can.kept c.args.job can.fits c.args.next.position
-    c.args.next.machine c.args.next.end
-    (subst (λ (s : LaneState). c.args.next.position ≡ get_or s.nexts c.args.job 0) (sym c.self.view_is)
-    c.requires.position)
-    (subst (λ (s : LaneState). c.args.next.machine ≡ get_or s.layout.machines c.args.next.position 0)
-    (sym c.self.view_is) c.requires.machine)
-    (subst (λ (s : LaneState). c.args.next.end ≡ get_or s.rows.heads c.args.next.position 0
-    + get_or s.rows.times c.args.next.position 0) (sym c.self.view_is) c.requires.end)
-    (g.L.Lanes.rows c.replace.new.lanes) c.begin-first.new.self c.replace.new.notes c.replace.ensures
-
-pub raise_behind-mark-requires-clause-fits : goal.raise_behind-mark-requires-clause-fits
-raise_behind-mark-requires-clause-fits g c =
-    let can = subst (λ (s : LaneState). CanGoOnInLanes g.L.Lanes.GREATEST c.args.instance.now c.args.job
-    c.args.placement.now s) (sym c.self.view_is) c.requires.can
-    in end_fits g.L.Lanes.GREATEST c.args.instance.now can.word _ can.kept c.args.job can.fits c.args.next.position
-    c.args.next.machine c.args.next.end
-    (subst (λ (s : LaneState). c.args.next.position ≡ get_or s.nexts c.args.job 0) (sym c.self.view_is)
-    c.requires.position)
-    (subst (λ (s : LaneState). c.args.next.machine ≡ get_or s.layout.machines c.args.next.position 0)
-    (sym c.self.view_is) c.requires.machine)
-    (subst (λ (s : LaneState). c.args.next.end ≡ get_or s.rows.heads c.args.next.position 0
-    + get_or s.rows.times c.args.next.position 0) (sym c.self.view_is) c.requires.end)
-
-pub raise_behind-mark-requires-clause-raisable : goal.raise_behind-mark-requires-clause-raisable
-raise_behind-mark-requires-clause-raisable g c =
-    let can = subst (λ (s : LaneState). CanGoOnInLanes g.L.Lanes.GREATEST c.args.instance.now c.args.job
-    c.args.placement.now s) (sym c.self.view_is) c.requires.can
-    in trial_raisable g.L.Lanes.GREATEST c.args.instance.now can.word _ can.kept c.args.job can.fits c.args.next.position
-    c.args.next.machine c.args.next.end
-    (subst (λ (s : LaneState). c.args.next.position ≡ get_or s.nexts c.args.job 0) (sym c.self.view_is)
-    c.requires.position)
-    (subst (λ (s : LaneState). c.args.next.machine ≡ get_or s.layout.machines c.args.next.position 0)
-    (sym c.self.view_is) c.requires.machine)
-    (subst (λ (s : LaneState). c.args.next.end ≡ get_or s.rows.heads c.args.next.position 0
-    + get_or s.rows.times c.args.next.position 0) (sym c.self.view_is) c.requires.end)
-    (g.L.Lanes.rows c.replace.new.lanes) c.begin-first.new.self c.replace.new.notes c.replace.ensures
-
 pub returns-then-limit-ahead-clause-bound : goal.returns-then-limit-ahead-clause-bound
 returns-then-limit-ahead-clause-bound g c = λ w kept placed fits before.
     seen_enough g.L.Lanes.GREATEST c.args.instance.now w _
@@ -191,7 +152,7 @@ pub bound_by_raises-bound-requires : goal.bound_by_raises-bound-requires
 bound_by_raises-bound-requires g c =
     let can = subst (λ (s : LaneState). CanGoOnInLanes g.L.Lanes.GREATEST c.args.instance.now c.args.job
     c.args.placement.now s) (sym c.self.view_is) c.requires.can
-    in let advances = trial_advances g.L.Lanes.GREATEST c.args.instance.now can.word _ can.kept c.args.job can.fits c.args.next.position
+    in trial_can g.L.Lanes.GREATEST c.args.instance.now can.word _ can.kept c.args.job can.fits c.args.next.position
     c.args.next.machine c.args.next.end
     (subst (λ (s : LaneState). c.args.next.position ≡ get_or s.nexts c.args.job 0) (sym c.self.view_is)
     c.requires.position)
@@ -200,21 +161,98 @@ bound_by_raises-bound-requires g c =
     (subst (λ (s : LaneState). c.args.next.end ≡ get_or s.rows.heads c.args.next.position 0
     + get_or s.rows.times c.args.next.position 0) (sym c.self.view_is) c.requires.end)
     (g.L.Lanes.rows c.replace.new.lanes) c.begin-first.new.self c.replace.new.notes c.replace.ensures
-    c.begin-first.ensures.whole c.raise_behind-mark.new.self.rows c.raise_behind-mark.new.self.notes
-    c.raise_behind-mark.ensures.raises c.raise_behind-mark.result c.begin-first.result c.begin-first.ensures.first
-    c.raise_behind-mark.ensures.mark
-    in subst (HasRaised g.L.Lanes.GREATEST c.raise_behind-mark.result) (sym c.raise_behind-mark.ensures.same)
-    (has_raised g.L.Lanes.GREATEST c.args.instance.now can.word _ can.kept c.args.job can.fits c.args.next.position
+    c.begin-first.ensures.whole c.begin-first.result c.begin-first.ensures.first c.take.new.self
+
+pub slice_bounds-noted-count : goal.slice_bounds-noted-count
+slice_bounds-noted-count g c =
+    let can = subst (λ (s : LaneState). CanGoOnInLanes g.L.Lanes.GREATEST c.args.instance.now c.args.job
+    c.args.placement.now s) (sym c.self.view_is) c.requires.can
+    in let within = left_first g.L.Lanes.GREATEST c.args.instance.now can.word _ can.kept c.args.job can.fits c.args.next.position
+    c.args.next.machine c.args.next.end
     (subst (λ (s : LaneState). c.args.next.position ≡ get_or s.nexts c.args.job 0) (sym c.self.view_is)
     c.requires.position)
-    c.raise_behind-mark.new.self.rows c.raise_behind-mark.new.self.notes c.raise_behind-mark.result
-    advances c.take.new.self c.take.ensures)
+    (subst (λ (s : LaneState). c.args.next.machine ≡ get_or s.layout.machines c.args.next.position 0)
+    (sym c.self.view_is) c.requires.machine)
+    (subst (λ (s : LaneState). c.args.next.end ≡ get_or s.rows.heads c.args.next.position 0
+    + get_or s.rows.times c.args.next.position 0) (sym c.self.view_is) c.requires.end)
+    (g.L.Lanes.rows c.replace.new.lanes) c.begin-first.new.self c.replace.new.notes c.replace.ensures
+    c.begin-first.ensures.whole c.begin-first.result c.begin-first.ensures.first c.look_ahead-ahead.result c.args.limit c.bound_by_raises-bound.result c.take.new.self
+    c.bound_by_raises-bound.new.self _ c.bound_by_raises-bound.ensures c.self-2.view_is _ refl
+    in let read = ap (λ (ns : List Note). length ns) c.list.ensures in omega arith
+
+pub slice_bounds-noted-start : goal.slice_bounds-noted-start
+slice_bounds-noted-start g c =
+    let can = subst (λ (s : LaneState). CanGoOnInLanes g.L.Lanes.GREATEST c.args.instance.now c.args.job
+    c.args.placement.now s) (sym c.self.view_is) c.requires.can
+    in let within = left_first g.L.Lanes.GREATEST c.args.instance.now can.word _ can.kept c.args.job can.fits c.args.next.position
+    c.args.next.machine c.args.next.end
+    (subst (λ (s : LaneState). c.args.next.position ≡ get_or s.nexts c.args.job 0) (sym c.self.view_is)
+    c.requires.position)
+    (subst (λ (s : LaneState). c.args.next.machine ≡ get_or s.layout.machines c.args.next.position 0)
+    (sym c.self.view_is) c.requires.machine)
+    (subst (λ (s : LaneState). c.args.next.end ≡ get_or s.rows.heads c.args.next.position 0
+    + get_or s.rows.times c.args.next.position 0) (sym c.self.view_is) c.requires.end)
+    (g.L.Lanes.rows c.replace.new.lanes) c.begin-first.new.self c.replace.new.notes c.replace.ensures
+    c.begin-first.ensures.whole c.begin-first.result c.begin-first.ensures.first c.look_ahead-ahead.result c.args.limit c.bound_by_raises-bound.result c.take.new.self
+    c.bound_by_raises-bound.new.self _ c.bound_by_raises-bound.ensures c.self-2.view_is _ refl
+    in let read = ap (λ (ns : List Note). length ns) c.list.ensures in omega arith
+
+pub truncate-requires-2 : goal.truncate-requires-2
+truncate-requires-2 g c =
+    let can = subst (λ (s : LaneState). CanGoOnInLanes g.L.Lanes.GREATEST c.args.instance.now c.args.job
+    c.args.placement.now s) (sym c.self.view_is) c.requires.can
+    in let within = left_first g.L.Lanes.GREATEST c.args.instance.now can.word _ can.kept c.args.job can.fits c.args.next.position
+    c.args.next.machine c.args.next.end
+    (subst (λ (s : LaneState). c.args.next.position ≡ get_or s.nexts c.args.job 0) (sym c.self.view_is)
+    c.requires.position)
+    (subst (λ (s : LaneState). c.args.next.machine ≡ get_or s.layout.machines c.args.next.position 0)
+    (sym c.self.view_is) c.requires.machine)
+    (subst (λ (s : LaneState). c.args.next.end ≡ get_or s.rows.heads c.args.next.position 0
+    + get_or s.rows.times c.args.next.position 0) (sym c.self.view_is) c.requires.end)
+    (g.L.Lanes.rows c.replace.new.lanes) c.begin-first.new.self c.replace.new.notes c.replace.ensures
+    c.begin-first.ensures.whole c.begin-first.result c.begin-first.ensures.first c.look_ahead-ahead.result c.args.limit c.bound_by_raises-bound.result c.take.new.self
+    c.bound_by_raises-bound.new.self _ c.bound_by_raises-bound.ensures c.self-2.view_is _ refl
+    in let read = ap (λ (ns : List Note). length ns) c.list.ensures in omega arith
+
+pub offset_bounds-list-first : goal.offset_bounds-list-first
+offset_bounds-list-first g c =
+    let can = subst (λ (s : LaneState). CanGoOnInLanes g.L.Lanes.GREATEST c.args.instance.now c.args.job
+    c.args.placement.now s) (sym c.self.view_is) c.requires.can
+    in let within = left_first g.L.Lanes.GREATEST c.args.instance.now can.word _ can.kept c.args.job can.fits c.args.next.position
+    c.args.next.machine c.args.next.end
+    (subst (λ (s : LaneState). c.args.next.position ≡ get_or s.nexts c.args.job 0) (sym c.self.view_is)
+    c.requires.position)
+    (subst (λ (s : LaneState). c.args.next.machine ≡ get_or s.layout.machines c.args.next.position 0)
+    (sym c.self.view_is) c.requires.machine)
+    (subst (λ (s : LaneState). c.args.next.end ≡ get_or s.rows.heads c.args.next.position 0
+    + get_or s.rows.times c.args.next.position 0) (sym c.self.view_is) c.requires.end)
+    (g.L.Lanes.rows c.replace.new.lanes) c.begin-first.new.self c.replace.new.notes c.replace.ensures
+    c.begin-first.ensures.whole c.begin-first.result c.begin-first.ensures.first c.look_ahead-ahead.result c.args.limit c.bound_by_raises-bound.result c.take.new.self
+    c.bound_by_raises-bound.new.self _ c.bound_by_raises-bound.ensures c.self-2.view_is _ refl
+    in let read = ap (λ (ns : List Note). length ns) c.list.ensures in omega arith
+
+pub go_back-requires-clause-fill : goal.go_back-requires-clause-fill
+go_back-requires-clause-fill g c =
+    let can = subst (λ (s : LaneState). CanGoOnInLanes g.L.Lanes.GREATEST c.args.instance.now c.args.job
+    c.args.placement.now s) (sym c.self.view_is) c.requires.can
+    in left_fill g.L.Lanes.GREATEST c.args.instance.now can.word _ can.kept c.args.job can.fits c.args.next.position
+    c.args.next.machine c.args.next.end
+    (subst (λ (s : LaneState). c.args.next.position ≡ get_or s.nexts c.args.job 0) (sym c.self.view_is)
+    c.requires.position)
+    (subst (λ (s : LaneState). c.args.next.machine ≡ get_or s.layout.machines c.args.next.position 0)
+    (sym c.self.view_is) c.requires.machine)
+    (subst (λ (s : LaneState). c.args.next.end ≡ get_or s.rows.heads c.args.next.position 0
+    + get_or s.rows.times c.args.next.position 0) (sym c.self.view_is) c.requires.end)
+    (g.L.Lanes.rows c.replace.new.lanes) c.begin-first.new.self c.replace.new.notes c.replace.ensures
+    c.begin-first.ensures.whole c.begin-first.result c.begin-first.ensures.first c.look_ahead-ahead.result c.args.limit c.bound_by_raises-bound.result c.take.new.self
+    c.bound_by_raises-bound.new.self _ c.bound_by_raises-bound.ensures c.self-2.view_is c.is_whole-whole.result c.is_whole-whole.ensures
+    c.args.placement.now can.placed
 
 pub go_back-requires-clause-rested : goal.go_back-requires-clause-rested
 go_back-requires-clause-rested g c =
     let can = subst (λ (s : LaneState). CanGoOnInLanes g.L.Lanes.GREATEST c.args.instance.now c.args.job
     c.args.placement.now s) (sym c.self.view_is) c.requires.can
-    in let advances = trial_advances g.L.Lanes.GREATEST c.args.instance.now can.word _ can.kept c.args.job can.fits c.args.next.position
+    in let advances = left_advances g.L.Lanes.GREATEST c.args.instance.now can.word _ can.kept c.args.job can.fits c.args.next.position
     c.args.next.machine c.args.next.end
     (subst (λ (s : LaneState). c.args.next.position ≡ get_or s.nexts c.args.job 0) (sym c.self.view_is)
     c.requires.position)
@@ -223,17 +261,67 @@ go_back-requires-clause-rested g c =
     (subst (λ (s : LaneState). c.args.next.end ≡ get_or s.rows.heads c.args.next.position 0
     + get_or s.rows.times c.args.next.position 0) (sym c.self.view_is) c.requires.end)
     (g.L.Lanes.rows c.replace.new.lanes) c.begin-first.new.self c.replace.new.notes c.replace.ensures
-    c.begin-first.ensures.whole c.raise_behind-mark.new.self.rows c.raise_behind-mark.new.self.notes
-    c.raise_behind-mark.ensures.raises c.raise_behind-mark.result c.begin-first.result c.begin-first.ensures.first
-    c.raise_behind-mark.ensures.mark
+    c.begin-first.ensures.whole c.begin-first.result c.begin-first.ensures.first c.look_ahead-ahead.result c.args.limit c.bound_by_raises-bound.result c.take.new.self
+    c.bound_by_raises-bound.new.self _ c.bound_by_raises-bound.ensures c.self-2.view_is c.is_whole-whole.result c.is_whole-whole.ensures
+    in let is = left_is g.L.Lanes.GREATEST c.args.instance.now can.word _ can.kept c.args.job can.fits c.args.next.position
+    c.args.next.machine c.args.next.end
+    (subst (λ (s : LaneState). c.args.next.position ≡ get_or s.nexts c.args.job 0) (sym c.self.view_is)
+    c.requires.position)
+    (subst (λ (s : LaneState). c.args.next.machine ≡ get_or s.layout.machines c.args.next.position 0)
+    (sym c.self.view_is) c.requires.machine)
+    (subst (λ (s : LaneState). c.args.next.end ≡ get_or s.rows.heads c.args.next.position 0
+    + get_or s.rows.times c.args.next.position 0) (sym c.self.view_is) c.requires.end)
+    (g.L.Lanes.rows c.replace.new.lanes) c.begin-first.new.self c.replace.new.notes c.replace.ensures
+    c.begin-first.ensures.whole c.begin-first.result c.begin-first.ensures.first c.look_ahead-ahead.result c.args.limit c.bound_by_raises-bound.result c.take.new.self
+    c.bound_by_raises-bound.new.self _ c.bound_by_raises-bound.ensures c.self-2.view_is c.is_whole-whole.result c.is_whole-whole.ensures
     in rested_after g.L.Lanes.GREATEST c.args.instance.now can.word _ can.kept c.args.job can.fits c.args.next.position
     (subst (λ (s : LaneState). c.args.next.position ≡ get_or s.nexts c.args.job 0) (sym c.self.view_is)
     c.requires.position)
-    c.raise_behind-mark.new.self.rows c.raise_behind-mark.new.self.notes c.raise_behind-mark.result
-    advances c.take.new.self c.take.ensures c.bound_by_raises-bound.new.self.raises _
-    (c.self-2.view_is ∙ (c.bound_by_raises-bound.ensures.raises.same
-    ∙ ap (λ (s : LaneState). record s { raises = c.bound_by_raises-bound.new.self.raises })
-    c.raise_behind-mark.ensures.same))
+    c.bound_by_raises-bound.new.self.rows c.bound_by_raises-bound.new.self.notes _
+    advances c.take.new.self c.take.ensures c.bound_by_raises-bound.new.self.raises _ is
+
+pub go_back-requires-clause-notes : goal.go_back-requires-clause-notes
+go_back-requires-clause-notes g c =
+    let can = subst (λ (s : LaneState). CanGoOnInLanes g.L.Lanes.GREATEST c.args.instance.now c.args.job
+    c.args.placement.now s) (sym c.self.view_is) c.requires.can
+    in let advances = left_advances g.L.Lanes.GREATEST c.args.instance.now can.word _ can.kept c.args.job can.fits c.args.next.position
+    c.args.next.machine c.args.next.end
+    (subst (λ (s : LaneState). c.args.next.position ≡ get_or s.nexts c.args.job 0) (sym c.self.view_is)
+    c.requires.position)
+    (subst (λ (s : LaneState). c.args.next.machine ≡ get_or s.layout.machines c.args.next.position 0)
+    (sym c.self.view_is) c.requires.machine)
+    (subst (λ (s : LaneState). c.args.next.end ≡ get_or s.rows.heads c.args.next.position 0
+    + get_or s.rows.times c.args.next.position 0) (sym c.self.view_is) c.requires.end)
+    (g.L.Lanes.rows c.replace.new.lanes) c.begin-first.new.self c.replace.new.notes c.replace.ensures
+    c.begin-first.ensures.whole c.begin-first.result c.begin-first.ensures.first c.look_ahead-ahead.result c.args.limit c.bound_by_raises-bound.result c.take.new.self
+    c.bound_by_raises-bound.new.self _ c.bound_by_raises-bound.ensures c.self-2.view_is c.is_whole-whole.result c.is_whole-whole.ensures
+    in let is = left_is g.L.Lanes.GREATEST c.args.instance.now can.word _ can.kept c.args.job can.fits c.args.next.position
+    c.args.next.machine c.args.next.end
+    (subst (λ (s : LaneState). c.args.next.position ≡ get_or s.nexts c.args.job 0) (sym c.self.view_is)
+    c.requires.position)
+    (subst (λ (s : LaneState). c.args.next.machine ≡ get_or s.layout.machines c.args.next.position 0)
+    (sym c.self.view_is) c.requires.machine)
+    (subst (λ (s : LaneState). c.args.next.end ≡ get_or s.rows.heads c.args.next.position 0
+    + get_or s.rows.times c.args.next.position 0) (sym c.self.view_is) c.requires.end)
+    (g.L.Lanes.rows c.replace.new.lanes) c.begin-first.new.self c.replace.new.notes c.replace.ensures
+    c.begin-first.ensures.whole c.begin-first.result c.begin-first.ensures.first c.look_ahead-ahead.result c.args.limit c.bound_by_raises-bound.result c.take.new.self
+    c.bound_by_raises-bound.new.self _ c.bound_by_raises-bound.ensures c.self-2.view_is c.is_whole-whole.result c.is_whole-whole.ensures
+    in let noted = noted_are g.L.Lanes.GREATEST c.args.instance.now can.word _ can.kept c.args.placement.now can.placed
+    c.args.next.position c.bound_by_raises-bound.new.self.rows c.bound_by_raises-bound.new.self.notes _
+    advances c.take.new.self c.take.ensures c.bound_by_raises-bound.new.self.raises _ is c.list.result.now
+    c.list.ensures _ refl
+    in left_notes g.L.Lanes.GREATEST c.args.instance.now can.word _ can.kept c.args.job can.fits c.args.next.position
+    c.args.next.machine c.args.next.end
+    (subst (λ (s : LaneState). c.args.next.position ≡ get_or s.nexts c.args.job 0) (sym c.self.view_is)
+    c.requires.position)
+    (subst (λ (s : LaneState). c.args.next.machine ≡ get_or s.layout.machines c.args.next.position 0)
+    (sym c.self.view_is) c.requires.machine)
+    (subst (λ (s : LaneState). c.args.next.end ≡ get_or s.rows.heads c.args.next.position 0
+    + get_or s.rows.times c.args.next.position 0) (sym c.self.view_is) c.requires.end)
+    (g.L.Lanes.rows c.replace.new.lanes) c.begin-first.new.self c.replace.new.notes c.replace.ensures
+    c.begin-first.ensures.whole c.begin-first.result c.begin-first.ensures.first c.look_ahead-ahead.result c.args.limit c.bound_by_raises-bound.result c.take.new.self
+    c.bound_by_raises-bound.new.self _ c.bound_by_raises-bound.ensures c.self-2.view_is c.is_whole-whole.result c.is_whole-whole.ensures
+    _ noted
 
 pub returns-clause-bound : goal.returns-clause-bound
 returns-clause-bound g c = λ w was placed fits before_it.
@@ -241,7 +329,8 @@ returns-clause-bound g c = λ w was placed fits before_it.
     was
     in let before = subst (λ (s : LaneState). IsLeastBefore c.args.instance.now w s.layout c.args.job
     c.args.next.position c.args.next.machine c.args.next.end c.args.least) (sym c.self.view_is) before_it
-    in let advances = trial_advances g.L.Lanes.GREATEST c.args.instance.now w _ kept c.args.job fits c.args.next.position
+    in let so = c.bound_by_raises-bound.ensures
+    in let advances = left_advances g.L.Lanes.GREATEST c.args.instance.now w _ kept c.args.job fits c.args.next.position
     c.args.next.machine c.args.next.end
     (subst (λ (s : LaneState). c.args.next.position ≡ get_or s.nexts c.args.job 0) (sym c.self.view_is)
     c.requires.position)
@@ -250,18 +339,18 @@ returns-clause-bound g c = λ w was placed fits before_it.
     (subst (λ (s : LaneState). c.args.next.end ≡ get_or s.rows.heads c.args.next.position 0
     + get_or s.rows.times c.args.next.position 0) (sym c.self.view_is) c.requires.end)
     (g.L.Lanes.rows c.replace.new.lanes) c.begin-first.new.self c.replace.new.notes c.replace.ensures
-    c.begin-first.ensures.whole c.raise_behind-mark.new.self.rows c.raise_behind-mark.new.self.notes
-    c.raise_behind-mark.ensures.raises c.raise_behind-mark.result c.begin-first.result c.begin-first.ensures.first
-    c.raise_behind-mark.ensures.mark
+    c.begin-first.ensures.whole c.begin-first.result c.begin-first.ensures.first c.look_ahead-ahead.result c.args.limit c.bound_by_raises-bound.result c.take.new.self
+    c.bound_by_raises-bound.new.self _ c.bound_by_raises-bound.ensures c.self-2.view_is c.is_whole-whole.result c.is_whole-whole.ensures
     in child_is g.L.Lanes.GREATEST c.args.instance.now w _ kept c.args.job fits c.args.next.position
     (subst (λ (s : LaneState). c.args.next.position ≡ get_or s.nexts c.args.job 0) (sym c.self.view_is)
     c.requires.position)
-    c.raise_behind-mark.new.self.rows c.raise_behind-mark.new.self.notes c.raise_behind-mark.result
-    advances c.take.new.self c.take.ensures c.args.next.machine c.args.next.end c.look_ahead-ahead.result c.args.limit
-    c.bound_by_raises-bound.result
-    (subst (λ (s : LaneState). IsBoundByRaises s c.raise_behind-mark.result c.args.next.machine c.args.next.end
-    c.look_ahead-ahead.result c.args.limit c.bound_by_raises-bound.result) c.raise_behind-mark.ensures.same
-    c.bound_by_raises-bound.ensures.bound)
+    c.bound_by_raises-bound.new.self.rows c.bound_by_raises-bound.new.self.notes _
+    advances c.take.new.self c.take.ensures (g.L.Lanes.rows c.replace.new.lanes).heads
+    (ap (λ (r : Rows). r.heads) c.replace.ensures.rows) so.raises.raised.raised.rests
+    c.bound_by_raises-bound.new.self.raises so.as_many c.args.next.machine c.args.next.end c.look_ahead-ahead.result
+    c.args.limit c.bound_by_raises-bound.result
+    (subst (λ (s : LaneState). IsBoundByRaises (g.L.Lanes.rows c.replace.new.lanes).heads s c.args.next.machine
+    c.args.next.end c.look_ahead-ahead.result c.args.limit c.bound_by_raises-bound.result) so.same so.bound)
     (seen_before g.L.Lanes.GREATEST c.args.instance.now w _ kept c.args.job fits c.args.next.position
     c.args.next.machine c.args.next.end c.args.least c.args.limit before
     (g.L.Lanes.rows c.replace.new.lanes) c.begin-first.new.self c.replace.new.notes c.replace.ensures
@@ -273,11 +362,8 @@ returns-clause-kept g c = λ w kept placed.
     kept
     in let can = subst (λ (s : LaneState). CanGoOnInLanes g.L.Lanes.GREATEST c.args.instance.now c.args.job
     c.args.placement.now s) (sym c.self.view_is) c.requires.can
-    in let raises = c.bound_by_raises-bound.ensures.raises
-    in let is = c.self-2.view_is ∙ (raises.same
-    ∙ ap (λ (s : LaneState). record s { raises = c.bound_by_raises-bound.new.self.raises })
-    c.raise_behind-mark.ensures.same)
-    in let advances = trial_advances g.L.Lanes.GREATEST c.args.instance.now can.word _ can.kept c.args.job can.fits c.args.next.position
+    in let so = c.bound_by_raises-bound.ensures
+    in let advances = left_advances g.L.Lanes.GREATEST c.args.instance.now can.word _ can.kept c.args.job can.fits c.args.next.position
     c.args.next.machine c.args.next.end
     (subst (λ (s : LaneState). c.args.next.position ≡ get_or s.nexts c.args.job 0) (sym c.self.view_is)
     c.requires.position)
@@ -286,21 +372,30 @@ returns-clause-kept g c = λ w kept placed.
     (subst (λ (s : LaneState). c.args.next.end ≡ get_or s.rows.heads c.args.next.position 0
     + get_or s.rows.times c.args.next.position 0) (sym c.self.view_is) c.requires.end)
     (g.L.Lanes.rows c.replace.new.lanes) c.begin-first.new.self c.replace.new.notes c.replace.ensures
-    c.begin-first.ensures.whole c.raise_behind-mark.new.self.rows c.raise_behind-mark.new.self.notes
-    c.raise_behind-mark.ensures.raises c.raise_behind-mark.result c.begin-first.result c.begin-first.ensures.first
-    c.raise_behind-mark.ensures.mark
+    c.begin-first.ensures.whole c.begin-first.result c.begin-first.ensures.first c.look_ahead-ahead.result c.args.limit c.bound_by_raises-bound.result c.take.new.self
+    c.bound_by_raises-bound.new.self _ c.bound_by_raises-bound.ensures c.self-2.view_is c.is_whole-whole.result c.is_whole-whole.ensures
+    in let is = left_is g.L.Lanes.GREATEST c.args.instance.now can.word _ can.kept c.args.job can.fits c.args.next.position
+    c.args.next.machine c.args.next.end
+    (subst (λ (s : LaneState). c.args.next.position ≡ get_or s.nexts c.args.job 0) (sym c.self.view_is)
+    c.requires.position)
+    (subst (λ (s : LaneState). c.args.next.machine ≡ get_or s.layout.machines c.args.next.position 0)
+    (sym c.self.view_is) c.requires.machine)
+    (subst (λ (s : LaneState). c.args.next.end ≡ get_or s.rows.heads c.args.next.position 0
+    + get_or s.rows.times c.args.next.position 0) (sym c.self.view_is) c.requires.end)
+    (g.L.Lanes.rows c.replace.new.lanes) c.begin-first.new.self c.replace.new.notes c.replace.ensures
+    c.begin-first.ensures.whole c.begin-first.result c.begin-first.ensures.first c.look_ahead-ahead.result c.args.limit c.bound_by_raises-bound.result c.take.new.self
+    c.bound_by_raises-bound.new.self _ c.bound_by_raises-bound.ensures c.self-2.view_is c.is_whole-whole.result c.is_whole-whole.ensures
     in let noted = noted_are g.L.Lanes.GREATEST c.args.instance.now w _ was c.args.placement.now placed
-    c.args.next.position c.raise_behind-mark.new.self.rows c.raise_behind-mark.new.self.notes c.raise_behind-mark.result
-    advances c.take.new.self c.take.ensures
-    c.bound_by_raises-bound.new.self.raises _ is c.list.result.now c.list.ensures _ refl
+    c.args.next.position c.bound_by_raises-bound.new.self.rows c.bound_by_raises-bound.new.self.notes _
+    advances c.take.new.self c.take.ensures c.bound_by_raises-bound.new.self.raises _ is c.list.result.now
+    c.list.ensures _ refl
     in child_again g.L.Lanes.GREATEST c.args.instance.now w _ was c.args.placement.now placed c.args.next.position
-    c.raise_behind-mark.new.self.rows c.raise_behind-mark.new.self.notes c.raise_behind-mark.result
+    c.bound_by_raises-bound.new.self.rows c.bound_by_raises-bound.new.self.notes _
     advances c.take.new.self c.take.ensures
-    c.bound_by_raises-bound.new.self.raises _ is
-    (raises.as_many ∙ ap (λ (s : LaneState). length s.raises) c.raise_behind-mark.ensures.same) raises.at_rest _ noted
+    c.bound_by_raises-bound.new.self.raises _ is so.as_many so.at_rest _ noted
     (g.L.Lanes.rows c.go_back.new.lanes) c.go_back.ensures c.truncate-2.new.self
     (notes_again g.L.Lanes.GREATEST c.args.instance.now w _ was c.args.placement.now placed c.args.next.position
-    c.raise_behind-mark.new.self.rows c.raise_behind-mark.new.self.notes c.raise_behind-mark.result
+    c.bound_by_raises-bound.new.self.rows c.bound_by_raises-bound.new.self.notes _
     advances c.take.new.self c.take.ensures
     c.bound_by_raises-bound.new.self.raises _ is c.truncate-2.new.self.list
     (ap (λ (ns : NotesState). ns.list) c.truncate-2.ensures))
