@@ -93,7 +93,8 @@ module _ (greatest : ℕ) (shop : Shop) (w : List ℕ) (s : LaneState) (kept : I
     pub struck_within : position < length lifted.heads
     struck_within = let a = positions in let b = place_within in omega arith
 
-    module _ (begins : begun ≡ record s.notes { whole = true }) (first : ℕ) (first_is : first ≡ length s.notes.list) where
+    module _ (begins : begun ≡ record s.notes { whole = true }) (first : ℕ)
+        (first_is : first ≡ length s.notes.list) where
       pub trial_advances : (new : Rows) (last : NotesState)
           → Raises greatest s.layout [] (IsOnMachine s.layout machine) end lifted new mid last → (whole : Bool)
           → whole ≡ last.whole → Advances greatest s.layout [] position s.rows new s.notes last
@@ -147,7 +148,8 @@ module _ (greatest : ℕ) (shop : Shop) (w : List ℕ) (s : LaneState) (kept : I
             in let b = ap (λ (ns : List Note). length ns) left_advances.noted.are
             in let c = length-append s.notes.list left_advances.noted.more in omega arith
 
-        pub left_fill : (p : PlacementState) → IsPlacement shop (placing shop w) p → CanFill greatest shop v.layout p v.rows
+        pub left_fill : (p : PlacementState) → IsPlacement shop (placing shop w) p
+            → CanFill greatest shop v.layout p v.rows
         left_fill p placed = subst (λ (x : LaneState). CanFill greatest shop x.layout p x.rows) (sym left_is) (record {
           limits = kept.kept.limits;
           laid = kept.kept.laid;

@@ -42,8 +42,9 @@ fn raise_route<L: Lanes, W: Watcher>(
         → AreKnown layout.now.machines (length (W.raises watcher.old)) }
     ensures raises { Raises L.GREATEST layout.now [] (IsPosition position) end (L.rows lanes.old)
         (L.rows lanes.new) notes.old notes.new }
-    ensures seen { Sees W.IS_WATCHING layout.now.machines (IsPosition position) end (L.rows lanes.old).heads
-        (L.rows lanes.new).heads (W.raises watcher.old) (W.raises watcher.new) }
+    ensures seen { Sees W.IS_WATCHING layout.now.machines (IsPosition position) end
+        (L.rows lanes.old).heads (L.rows lanes.new).heads
+        (W.raises watcher.old) (W.raises watcher.new) }
 {
     replace(lanes, notes, position, end);
     let mut ready = end + lanes.time(position);
@@ -96,10 +97,11 @@ fn raise_from<L: Lanes, W: Watcher>(
         (IsPosition position) end }
     requires known { W.IS_WATCHING ≡ true
         → AreKnown layout.now.machines (length (W.raises watcher.old)) }
-    ensures raises { Raises L.GREATEST layout.now next.now (IsPosition position) end (L.rows lanes.old)
-        (L.rows lanes.new) notes.old notes.new }
-    ensures seen { Sees W.IS_WATCHING layout.now.machines (IsPosition position) end (L.rows lanes.old).heads
-        (L.rows lanes.new).heads (W.raises watcher.old) (W.raises watcher.new) }
+    ensures raises { Raises L.GREATEST layout.now next.now (IsPosition position) end
+        (L.rows lanes.old) (L.rows lanes.new) notes.old notes.new }
+    ensures seen { Sees W.IS_WATCHING layout.now.machines (IsPosition position) end
+        (L.rows lanes.old).heads (L.rows lanes.new).heads
+        (W.raises watcher.old) (W.raises watcher.new) }
 {
     set_end_at(lanes, layout, next, position, end);
     raise_route(lanes, notes, layout, position, end, watcher);
@@ -125,10 +127,11 @@ fn raise_blocks<L: Lanes, W: Watcher>(
         (IsInBlocks from to) end }
     requires known { W.IS_WATCHING ≡ true
         → AreKnown layout.now.machines (length (W.raises watcher.old)) }
-    ensures raises { Raises L.GREATEST layout.now next.now (IsInBlocks from to) end (L.rows lanes.old)
-        (L.rows lanes.new) notes.old notes.new }
-    ensures seen { Sees W.IS_WATCHING layout.now.machines (IsInBlocks from to) end (L.rows lanes.old).heads
-        (L.rows lanes.new).heads (W.raises watcher.old) (W.raises watcher.new) }
+    ensures raises { Raises L.GREATEST layout.now next.now (IsInBlocks from to) end
+        (L.rows lanes.old) (L.rows lanes.new) notes.old notes.new }
+    ensures seen { Sees W.IS_WATCHING layout.now.machines (IsInBlocks from to) end
+        (L.rows lanes.old).heads (L.rows lanes.new).heads
+        (W.raises watcher.old) (W.raises watcher.new) }
     ensures machines { W.IS_WATCHING ≡ true
         → length (W.raises watcher.new) ≡ length (W.raises watcher.old) }
 {
@@ -160,8 +163,9 @@ pub(crate) fn raise<L: Lanes, W: Watcher>(
         → AreKnown layout.now.machines (length (W.raises watcher.old)) }
     ensures raises { Raises L.GREATEST layout.now next.now (IsOnMachine layout.now machine) end
         (L.rows lanes.old) (L.rows lanes.new) notes.old notes.new }
-    ensures seen { Sees W.IS_WATCHING layout.now.machines (IsOnMachine layout.now machine) end (L.rows lanes.old).heads
-        (L.rows lanes.new).heads (W.raises watcher.old) (W.raises watcher.new) }
+    ensures seen { Sees W.IS_WATCHING layout.now.machines (IsOnMachine layout.now machine) end
+        (L.rows lanes.old).heads (L.rows lanes.new).heads
+        (W.raises watcher.old) (W.raises watcher.new) }
 {
     let behind = layout.block(machine + 1);
     let mut from = layout.block(machine);

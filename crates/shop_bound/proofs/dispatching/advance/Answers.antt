@@ -55,5 +55,6 @@ pub returns : goal.returns
 returns g c = advances g.L.Lanes.GREATEST c.args.layout.now c.args.next.now c.args.position c.args.machine
     c.head.result c.time.result (g.L.Lanes.rows c.args.lanes.now) c.requires.next c.requires.machine c.head.ensures
     c.time.ensures (g.L.Lanes.rows c.replace.new.lanes) c.begin-first.new.self c.replace.new.notes c.replace.ensures
-    c.args.notes.now c.begin-first.ensures.whole (g.L.Lanes.rows c.raise.new.lanes) c.raise.new.notes c.raise.ensures.raises _
+    c.args.notes.now c.begin-first.ensures.whole (g.L.Lanes.rows c.raise.new.lanes) c.raise.new.notes
+    c.raise.ensures.raises _
     refl c.begin-first.ensures.first c.is_whole.ensures

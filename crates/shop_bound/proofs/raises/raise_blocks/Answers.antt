@@ -1,6 +1,7 @@
 use Rattle.std.proofs.Common.{◌∙◌, refl, subst, sym, arith}
 use Rattle.shop_bound.specs.inner.Raises.{IsInBlocks, IsPosition}
-use Rattle.shop_bound.proofs.RaiseLoops.{blocks_begin, popped_here, popped_within, popped_waits, popped_raisable, blocks_on}
+use Rattle.shop_bound.proofs.RaiseLoops.{blocks_begin, popped_here, popped_within, popped_waits, popped_raisable}
+use Rattle.shop_bound.proofs.RaiseLoops.{blocks_on}
 use Rattle.shop_bound.proofs.RaiseLoops.{blocks_past, blocks_end}
 use Rattle.shop_bound.proofs.Watching.{sees_both, sees_long, sees_none}
 use Rattle.shop_bound.proofs.raises.raise_blocks.Goals as goal
@@ -47,8 +48,10 @@ loop-position-preserved-then-head-end g c =
     record {
       raised =
           blocks_on g.L.Lanes.GREATEST c.args.layout.now c.args.next.now c.args.from c.args.to c.args.end
-          (g.L.Lanes.rows c.args.lanes.now) c.requires.raisable c.loop-position.below (g.L.Lanes.rows c.loop-position.lanes)
-          c.args.notes.now c.loop-position.notes c.loop-position.invariant.raised c.in-Some.position c.pop_first.new.self
+          (g.L.Lanes.rows c.args.lanes.now) c.requires.raisable c.loop-position.below (g.L.Lanes.rows
+          c.loop-position.lanes)
+          c.args.notes.now c.loop-position.notes c.loop-position.invariant.raised c.in-Some.position
+          c.pop_first.new.self
           c.in-Some.ensures (g.L.Lanes.rows c.raise_from.new.lanes) c.raise_from.new.notes c.raise_from.ensures.raises;
       seen = sees_both g.W.Watcher.IS_WATCHING c.args.layout.now.machines (IsInBlocks c.args.from c.args.to)
           (IsPosition c.in-Some.position) (IsInBlocks c.args.from c.args.to) c.args.end
@@ -72,8 +75,10 @@ loop-position-preserved g c =
     record {
       raised =
           blocks_past g.L.Lanes.GREATEST c.args.layout.now c.args.next.now c.args.from c.args.to c.args.end
-          (g.L.Lanes.rows c.args.lanes.now) c.requires.raisable c.loop-position.below (g.L.Lanes.rows c.loop-position.lanes)
-          c.args.notes.now c.loop-position.notes c.loop-position.invariant.raised c.in-Some.position c.pop_first.new.self
+          (g.L.Lanes.rows c.args.lanes.now) c.requires.raisable c.loop-position.below (g.L.Lanes.rows
+          c.loop-position.lanes)
+          c.args.notes.now c.loop-position.notes c.loop-position.invariant.raised c.in-Some.position
+          c.pop_first.new.self
           c.in-Some.ensures (let a = c.head.ensures in let b = c.if-head-end.false in omega arith);
       seen = c.loop-position.invariant.seen;
       machines = c.loop-position.invariant.machines;

@@ -33,7 +33,8 @@ raise_route-requires g c =
     }
 
 pub returns-clause-raises : goal.returns-clause-raises
-returns-clause-raises g c = raised_with_ends g.L.Lanes.GREATEST c.args.layout.now c.args.next.now c.args.position c.args.end
+returns-clause-raises g c = raised_with_ends g.L.Lanes.GREATEST c.args.layout.now c.args.next.now c.args.position
+    c.args.end
     (g.L.Lanes.rows c.args.lanes.now) (g.L.Lanes.rows c.set_end_at.new.lanes) c.requires.raisable c.set_end_at.ensures
     c.requires.waits c.requires.below
     (g.L.Lanes.rows c.raise_route.new.lanes) c.args.notes.now c.raise_route.new.notes c.raise_route.ensures.raises

@@ -15,7 +15,8 @@ pub replace-requires-in-loop-next-clause-fits_now : goal.replace-requires-in-loo
 replace-requires-in-loop-next-clause-fits_now g c =
     let fits = (following_fits g.L.Lanes.GREATEST c.args.layout.now c.args.position c.args.end
     (g.L.Lanes.rows c.args.lanes.now) c.requires.raisable c.requires.waits c.loop-next.next c.loop-next.ready
-    (g.L.Lanes.rows c.loop-next.lanes) c.args.notes.now c.loop-next.notes c.loop-next.invariant.following c.positions.result
+    (g.L.Lanes.rows c.loop-next.lanes) c.args.notes.now c.loop-next.notes c.loop-next.invariant.following
+    c.positions.result
     c.positions.ensures c.loop-next-test.true).0
     in let head = c.head-head.ensures
     in let below = c.if-head-ready.false
@@ -26,7 +27,8 @@ overflow_add-ready-in-loop-next g c =
     let q = c.loop-next.next
     in let fits = (following_fits g.L.Lanes.GREATEST c.args.layout.now c.args.position c.args.end
     (g.L.Lanes.rows c.args.lanes.now) c.requires.raisable c.requires.waits q c.loop-next.ready
-    (g.L.Lanes.rows c.loop-next.lanes) c.args.notes.now c.loop-next.notes c.loop-next.invariant.following c.positions.result
+    (g.L.Lanes.rows c.loop-next.lanes) c.args.notes.now c.loop-next.notes c.loop-next.invariant.following
+    c.positions.result
     c.positions.ensures c.loop-next-test.true).1
     in let computable = c.requires.raisable.computable
     in let times : get_or (g.L.Lanes.rows c.replace-in-loop-next.new.lanes).times q 0

@@ -1,4 +1,5 @@
-use Rattle.std.proofs.Common.{ℕ, ◌-◌, ◌≤◌, ◌<◌, ◌∙◌, ◌++◌, List, ap, drop, inl, inr, length, refl, sym, subst, take, arith}
+use Rattle.std.proofs.Common.{ℕ, ◌-◌, ◌≤◌, ◌<◌, ◌∙◌, ◌++◌, List, ap, drop, inl, inr, length, refl, sym, subst, take}
+use Rattle.std.proofs.Common.{arith}
 use Rattle.std.specs.List.{All}
 use Rattle.shop_bound.specs.inner.ChildBounds.{CanRaise}
 use Rattle.shop_bound.specs.inner.Estimates.{IsNoteCovered}
@@ -106,7 +107,8 @@ returns g c =
       low = c.take_bound.ensures.least;
       covers = λ under m known. record {
         raise = raise_of c.add_notes.new.self m;
-        covered = notes_covered was now c.self.inside.layout.machines c.add_notes.new.self raises.noted.more back own end
+        covered = notes_covered was now c.self.inside.layout.machines c.add_notes.new.self raises.noted.more back own
+            end
             c.self.inside.estimates c.args.least covered m;
         spans = c.take_bound.ensures.covers under m;
       };

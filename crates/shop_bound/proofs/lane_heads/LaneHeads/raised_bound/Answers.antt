@@ -119,7 +119,8 @@ pub set_head-requires-clause-fits : goal.set_head-requires-clause-fits
 set_head-requires-clause-fits g c =
     let can = subst (λ (s : LaneState). CanGoOnInLanes g.L.Lanes.GREATEST c.args.instance.now c.args.job
     c.args.placement.now s) (sym c.self.view_is) c.requires.can
-    in let fits = head_fits g.L.Lanes.GREATEST c.args.instance.now can.word _ can.kept c.args.job can.fits c.args.next.position
+    in let fits = head_fits g.L.Lanes.GREATEST c.args.instance.now can.word _ can.kept c.args.job can.fits
+    c.args.next.position
     c.args.next.machine c.args.next.end
     (subst (λ (s : LaneState). c.args.next.position ≡ get_or s.nexts c.args.job 0) (sym c.self.view_is)
     c.requires.position)
@@ -167,7 +168,8 @@ pub slice_bounds-noted-count : goal.slice_bounds-noted-count
 slice_bounds-noted-count g c =
     let can = subst (λ (s : LaneState). CanGoOnInLanes g.L.Lanes.GREATEST c.args.instance.now c.args.job
     c.args.placement.now s) (sym c.self.view_is) c.requires.can
-    in let within = left_first g.L.Lanes.GREATEST c.args.instance.now can.word _ can.kept c.args.job can.fits c.args.next.position
+    in let within = left_first g.L.Lanes.GREATEST c.args.instance.now can.word _ can.kept c.args.job can.fits
+    c.args.next.position
     c.args.next.machine c.args.next.end
     (subst (λ (s : LaneState). c.args.next.position ≡ get_or s.nexts c.args.job 0) (sym c.self.view_is)
     c.requires.position)
@@ -176,7 +178,8 @@ slice_bounds-noted-count g c =
     (subst (λ (s : LaneState). c.args.next.end ≡ get_or s.rows.heads c.args.next.position 0
     + get_or s.rows.times c.args.next.position 0) (sym c.self.view_is) c.requires.end)
     (g.L.Lanes.rows c.replace.new.lanes) c.begin-first.new.self c.replace.new.notes c.replace.ensures
-    c.begin-first.ensures.whole c.begin-first.result c.begin-first.ensures.first c.look_ahead-ahead.result c.args.limit c.bound_by_raises-bound.result c.take.new.self
+    c.begin-first.ensures.whole c.begin-first.result c.begin-first.ensures.first c.look_ahead-ahead.result
+    c.args.limit c.bound_by_raises-bound.result c.take.new.self
     c.bound_by_raises-bound.new.self _ c.bound_by_raises-bound.ensures c.self-2.view_is _ refl
     in let read = ap (λ (ns : List Note). length ns) c.list.ensures in omega arith
 
@@ -184,7 +187,8 @@ pub slice_bounds-noted-start : goal.slice_bounds-noted-start
 slice_bounds-noted-start g c =
     let can = subst (λ (s : LaneState). CanGoOnInLanes g.L.Lanes.GREATEST c.args.instance.now c.args.job
     c.args.placement.now s) (sym c.self.view_is) c.requires.can
-    in let within = left_first g.L.Lanes.GREATEST c.args.instance.now can.word _ can.kept c.args.job can.fits c.args.next.position
+    in let within = left_first g.L.Lanes.GREATEST c.args.instance.now can.word _ can.kept c.args.job can.fits
+    c.args.next.position
     c.args.next.machine c.args.next.end
     (subst (λ (s : LaneState). c.args.next.position ≡ get_or s.nexts c.args.job 0) (sym c.self.view_is)
     c.requires.position)
@@ -193,7 +197,8 @@ slice_bounds-noted-start g c =
     (subst (λ (s : LaneState). c.args.next.end ≡ get_or s.rows.heads c.args.next.position 0
     + get_or s.rows.times c.args.next.position 0) (sym c.self.view_is) c.requires.end)
     (g.L.Lanes.rows c.replace.new.lanes) c.begin-first.new.self c.replace.new.notes c.replace.ensures
-    c.begin-first.ensures.whole c.begin-first.result c.begin-first.ensures.first c.look_ahead-ahead.result c.args.limit c.bound_by_raises-bound.result c.take.new.self
+    c.begin-first.ensures.whole c.begin-first.result c.begin-first.ensures.first c.look_ahead-ahead.result
+    c.args.limit c.bound_by_raises-bound.result c.take.new.self
     c.bound_by_raises-bound.new.self _ c.bound_by_raises-bound.ensures c.self-2.view_is _ refl
     in let read = ap (λ (ns : List Note). length ns) c.list.ensures in omega arith
 
@@ -201,7 +206,8 @@ pub truncate-requires-2 : goal.truncate-requires-2
 truncate-requires-2 g c =
     let can = subst (λ (s : LaneState). CanGoOnInLanes g.L.Lanes.GREATEST c.args.instance.now c.args.job
     c.args.placement.now s) (sym c.self.view_is) c.requires.can
-    in let within = left_first g.L.Lanes.GREATEST c.args.instance.now can.word _ can.kept c.args.job can.fits c.args.next.position
+    in let within = left_first g.L.Lanes.GREATEST c.args.instance.now can.word _ can.kept c.args.job can.fits
+    c.args.next.position
     c.args.next.machine c.args.next.end
     (subst (λ (s : LaneState). c.args.next.position ≡ get_or s.nexts c.args.job 0) (sym c.self.view_is)
     c.requires.position)
@@ -210,7 +216,8 @@ truncate-requires-2 g c =
     (subst (λ (s : LaneState). c.args.next.end ≡ get_or s.rows.heads c.args.next.position 0
     + get_or s.rows.times c.args.next.position 0) (sym c.self.view_is) c.requires.end)
     (g.L.Lanes.rows c.replace.new.lanes) c.begin-first.new.self c.replace.new.notes c.replace.ensures
-    c.begin-first.ensures.whole c.begin-first.result c.begin-first.ensures.first c.look_ahead-ahead.result c.args.limit c.bound_by_raises-bound.result c.take.new.self
+    c.begin-first.ensures.whole c.begin-first.result c.begin-first.ensures.first c.look_ahead-ahead.result
+    c.args.limit c.bound_by_raises-bound.result c.take.new.self
     c.bound_by_raises-bound.new.self _ c.bound_by_raises-bound.ensures c.self-2.view_is _ refl
     in let read = ap (λ (ns : List Note). length ns) c.list.ensures in omega arith
 
@@ -218,7 +225,8 @@ pub offset_bounds-list-first : goal.offset_bounds-list-first
 offset_bounds-list-first g c =
     let can = subst (λ (s : LaneState). CanGoOnInLanes g.L.Lanes.GREATEST c.args.instance.now c.args.job
     c.args.placement.now s) (sym c.self.view_is) c.requires.can
-    in let within = left_first g.L.Lanes.GREATEST c.args.instance.now can.word _ can.kept c.args.job can.fits c.args.next.position
+    in let within = left_first g.L.Lanes.GREATEST c.args.instance.now can.word _ can.kept c.args.job can.fits
+    c.args.next.position
     c.args.next.machine c.args.next.end
     (subst (λ (s : LaneState). c.args.next.position ≡ get_or s.nexts c.args.job 0) (sym c.self.view_is)
     c.requires.position)
@@ -227,7 +235,8 @@ offset_bounds-list-first g c =
     (subst (λ (s : LaneState). c.args.next.end ≡ get_or s.rows.heads c.args.next.position 0
     + get_or s.rows.times c.args.next.position 0) (sym c.self.view_is) c.requires.end)
     (g.L.Lanes.rows c.replace.new.lanes) c.begin-first.new.self c.replace.new.notes c.replace.ensures
-    c.begin-first.ensures.whole c.begin-first.result c.begin-first.ensures.first c.look_ahead-ahead.result c.args.limit c.bound_by_raises-bound.result c.take.new.self
+    c.begin-first.ensures.whole c.begin-first.result c.begin-first.ensures.first c.look_ahead-ahead.result
+    c.args.limit c.bound_by_raises-bound.result c.take.new.self
     c.bound_by_raises-bound.new.self _ c.bound_by_raises-bound.ensures c.self-2.view_is _ refl
     in let read = ap (λ (ns : List Note). length ns) c.list.ensures in omega arith
 
@@ -244,15 +253,18 @@ go_back-requires-clause-fill g c =
     (subst (λ (s : LaneState). c.args.next.end ≡ get_or s.rows.heads c.args.next.position 0
     + get_or s.rows.times c.args.next.position 0) (sym c.self.view_is) c.requires.end)
     (g.L.Lanes.rows c.replace.new.lanes) c.begin-first.new.self c.replace.new.notes c.replace.ensures
-    c.begin-first.ensures.whole c.begin-first.result c.begin-first.ensures.first c.look_ahead-ahead.result c.args.limit c.bound_by_raises-bound.result c.take.new.self
-    c.bound_by_raises-bound.new.self _ c.bound_by_raises-bound.ensures c.self-2.view_is c.is_whole-whole.result c.is_whole-whole.ensures
+    c.begin-first.ensures.whole c.begin-first.result c.begin-first.ensures.first c.look_ahead-ahead.result
+    c.args.limit c.bound_by_raises-bound.result c.take.new.self
+    c.bound_by_raises-bound.new.self _ c.bound_by_raises-bound.ensures c.self-2.view_is c.is_whole-whole.result
+    c.is_whole-whole.ensures
     c.args.placement.now can.placed
 
 pub go_back-requires-clause-rested : goal.go_back-requires-clause-rested
 go_back-requires-clause-rested g c =
     let can = subst (λ (s : LaneState). CanGoOnInLanes g.L.Lanes.GREATEST c.args.instance.now c.args.job
     c.args.placement.now s) (sym c.self.view_is) c.requires.can
-    in let advances = left_advances g.L.Lanes.GREATEST c.args.instance.now can.word _ can.kept c.args.job can.fits c.args.next.position
+    in let advances = left_advances g.L.Lanes.GREATEST c.args.instance.now can.word _ can.kept c.args.job can.fits
+    c.args.next.position
     c.args.next.machine c.args.next.end
     (subst (λ (s : LaneState). c.args.next.position ≡ get_or s.nexts c.args.job 0) (sym c.self.view_is)
     c.requires.position)
@@ -261,9 +273,12 @@ go_back-requires-clause-rested g c =
     (subst (λ (s : LaneState). c.args.next.end ≡ get_or s.rows.heads c.args.next.position 0
     + get_or s.rows.times c.args.next.position 0) (sym c.self.view_is) c.requires.end)
     (g.L.Lanes.rows c.replace.new.lanes) c.begin-first.new.self c.replace.new.notes c.replace.ensures
-    c.begin-first.ensures.whole c.begin-first.result c.begin-first.ensures.first c.look_ahead-ahead.result c.args.limit c.bound_by_raises-bound.result c.take.new.self
-    c.bound_by_raises-bound.new.self _ c.bound_by_raises-bound.ensures c.self-2.view_is c.is_whole-whole.result c.is_whole-whole.ensures
-    in let is = left_is g.L.Lanes.GREATEST c.args.instance.now can.word _ can.kept c.args.job can.fits c.args.next.position
+    c.begin-first.ensures.whole c.begin-first.result c.begin-first.ensures.first c.look_ahead-ahead.result
+    c.args.limit c.bound_by_raises-bound.result c.take.new.self
+    c.bound_by_raises-bound.new.self _ c.bound_by_raises-bound.ensures c.self-2.view_is c.is_whole-whole.result
+    c.is_whole-whole.ensures
+    in let is = left_is g.L.Lanes.GREATEST c.args.instance.now can.word _ can.kept c.args.job can.fits
+    c.args.next.position
     c.args.next.machine c.args.next.end
     (subst (λ (s : LaneState). c.args.next.position ≡ get_or s.nexts c.args.job 0) (sym c.self.view_is)
     c.requires.position)
@@ -272,8 +287,10 @@ go_back-requires-clause-rested g c =
     (subst (λ (s : LaneState). c.args.next.end ≡ get_or s.rows.heads c.args.next.position 0
     + get_or s.rows.times c.args.next.position 0) (sym c.self.view_is) c.requires.end)
     (g.L.Lanes.rows c.replace.new.lanes) c.begin-first.new.self c.replace.new.notes c.replace.ensures
-    c.begin-first.ensures.whole c.begin-first.result c.begin-first.ensures.first c.look_ahead-ahead.result c.args.limit c.bound_by_raises-bound.result c.take.new.self
-    c.bound_by_raises-bound.new.self _ c.bound_by_raises-bound.ensures c.self-2.view_is c.is_whole-whole.result c.is_whole-whole.ensures
+    c.begin-first.ensures.whole c.begin-first.result c.begin-first.ensures.first c.look_ahead-ahead.result
+    c.args.limit c.bound_by_raises-bound.result c.take.new.self
+    c.bound_by_raises-bound.new.self _ c.bound_by_raises-bound.ensures c.self-2.view_is c.is_whole-whole.result
+    c.is_whole-whole.ensures
     in rested_after g.L.Lanes.GREATEST c.args.instance.now can.word _ can.kept c.args.job can.fits c.args.next.position
     (subst (λ (s : LaneState). c.args.next.position ≡ get_or s.nexts c.args.job 0) (sym c.self.view_is)
     c.requires.position)
@@ -284,7 +301,8 @@ pub go_back-requires-clause-notes : goal.go_back-requires-clause-notes
 go_back-requires-clause-notes g c =
     let can = subst (λ (s : LaneState). CanGoOnInLanes g.L.Lanes.GREATEST c.args.instance.now c.args.job
     c.args.placement.now s) (sym c.self.view_is) c.requires.can
-    in let advances = left_advances g.L.Lanes.GREATEST c.args.instance.now can.word _ can.kept c.args.job can.fits c.args.next.position
+    in let advances = left_advances g.L.Lanes.GREATEST c.args.instance.now can.word _ can.kept c.args.job can.fits
+    c.args.next.position
     c.args.next.machine c.args.next.end
     (subst (λ (s : LaneState). c.args.next.position ≡ get_or s.nexts c.args.job 0) (sym c.self.view_is)
     c.requires.position)
@@ -293,9 +311,12 @@ go_back-requires-clause-notes g c =
     (subst (λ (s : LaneState). c.args.next.end ≡ get_or s.rows.heads c.args.next.position 0
     + get_or s.rows.times c.args.next.position 0) (sym c.self.view_is) c.requires.end)
     (g.L.Lanes.rows c.replace.new.lanes) c.begin-first.new.self c.replace.new.notes c.replace.ensures
-    c.begin-first.ensures.whole c.begin-first.result c.begin-first.ensures.first c.look_ahead-ahead.result c.args.limit c.bound_by_raises-bound.result c.take.new.self
-    c.bound_by_raises-bound.new.self _ c.bound_by_raises-bound.ensures c.self-2.view_is c.is_whole-whole.result c.is_whole-whole.ensures
-    in let is = left_is g.L.Lanes.GREATEST c.args.instance.now can.word _ can.kept c.args.job can.fits c.args.next.position
+    c.begin-first.ensures.whole c.begin-first.result c.begin-first.ensures.first c.look_ahead-ahead.result
+    c.args.limit c.bound_by_raises-bound.result c.take.new.self
+    c.bound_by_raises-bound.new.self _ c.bound_by_raises-bound.ensures c.self-2.view_is c.is_whole-whole.result
+    c.is_whole-whole.ensures
+    in let is = left_is g.L.Lanes.GREATEST c.args.instance.now can.word _ can.kept c.args.job can.fits
+    c.args.next.position
     c.args.next.machine c.args.next.end
     (subst (λ (s : LaneState). c.args.next.position ≡ get_or s.nexts c.args.job 0) (sym c.self.view_is)
     c.requires.position)
@@ -304,8 +325,10 @@ go_back-requires-clause-notes g c =
     (subst (λ (s : LaneState). c.args.next.end ≡ get_or s.rows.heads c.args.next.position 0
     + get_or s.rows.times c.args.next.position 0) (sym c.self.view_is) c.requires.end)
     (g.L.Lanes.rows c.replace.new.lanes) c.begin-first.new.self c.replace.new.notes c.replace.ensures
-    c.begin-first.ensures.whole c.begin-first.result c.begin-first.ensures.first c.look_ahead-ahead.result c.args.limit c.bound_by_raises-bound.result c.take.new.self
-    c.bound_by_raises-bound.new.self _ c.bound_by_raises-bound.ensures c.self-2.view_is c.is_whole-whole.result c.is_whole-whole.ensures
+    c.begin-first.ensures.whole c.begin-first.result c.begin-first.ensures.first c.look_ahead-ahead.result
+    c.args.limit c.bound_by_raises-bound.result c.take.new.self
+    c.bound_by_raises-bound.new.self _ c.bound_by_raises-bound.ensures c.self-2.view_is c.is_whole-whole.result
+    c.is_whole-whole.ensures
     in let noted = noted_are g.L.Lanes.GREATEST c.args.instance.now can.word _ can.kept c.args.placement.now can.placed
     c.args.next.position c.bound_by_raises-bound.new.self.rows c.bound_by_raises-bound.new.self.notes _
     advances c.take.new.self c.take.ensures c.bound_by_raises-bound.new.self.raises _ is c.list.result.now
@@ -319,8 +342,10 @@ go_back-requires-clause-notes g c =
     (subst (λ (s : LaneState). c.args.next.end ≡ get_or s.rows.heads c.args.next.position 0
     + get_or s.rows.times c.args.next.position 0) (sym c.self.view_is) c.requires.end)
     (g.L.Lanes.rows c.replace.new.lanes) c.begin-first.new.self c.replace.new.notes c.replace.ensures
-    c.begin-first.ensures.whole c.begin-first.result c.begin-first.ensures.first c.look_ahead-ahead.result c.args.limit c.bound_by_raises-bound.result c.take.new.self
-    c.bound_by_raises-bound.new.self _ c.bound_by_raises-bound.ensures c.self-2.view_is c.is_whole-whole.result c.is_whole-whole.ensures
+    c.begin-first.ensures.whole c.begin-first.result c.begin-first.ensures.first c.look_ahead-ahead.result
+    c.args.limit c.bound_by_raises-bound.result c.take.new.self
+    c.bound_by_raises-bound.new.self _ c.bound_by_raises-bound.ensures c.self-2.view_is c.is_whole-whole.result
+    c.is_whole-whole.ensures
     _ noted
 
 pub returns-clause-bound : goal.returns-clause-bound
@@ -339,8 +364,10 @@ returns-clause-bound g c = λ w was placed fits before_it.
     (subst (λ (s : LaneState). c.args.next.end ≡ get_or s.rows.heads c.args.next.position 0
     + get_or s.rows.times c.args.next.position 0) (sym c.self.view_is) c.requires.end)
     (g.L.Lanes.rows c.replace.new.lanes) c.begin-first.new.self c.replace.new.notes c.replace.ensures
-    c.begin-first.ensures.whole c.begin-first.result c.begin-first.ensures.first c.look_ahead-ahead.result c.args.limit c.bound_by_raises-bound.result c.take.new.self
-    c.bound_by_raises-bound.new.self _ c.bound_by_raises-bound.ensures c.self-2.view_is c.is_whole-whole.result c.is_whole-whole.ensures
+    c.begin-first.ensures.whole c.begin-first.result c.begin-first.ensures.first c.look_ahead-ahead.result
+    c.args.limit c.bound_by_raises-bound.result c.take.new.self
+    c.bound_by_raises-bound.new.self _ c.bound_by_raises-bound.ensures c.self-2.view_is c.is_whole-whole.result
+    c.is_whole-whole.ensures
     in child_is g.L.Lanes.GREATEST c.args.instance.now w _ kept c.args.job fits c.args.next.position
     (subst (λ (s : LaneState). c.args.next.position ≡ get_or s.nexts c.args.job 0) (sym c.self.view_is)
     c.requires.position)
@@ -363,7 +390,8 @@ returns-clause-kept g c = λ w kept placed.
     in let can = subst (λ (s : LaneState). CanGoOnInLanes g.L.Lanes.GREATEST c.args.instance.now c.args.job
     c.args.placement.now s) (sym c.self.view_is) c.requires.can
     in let so = c.bound_by_raises-bound.ensures
-    in let advances = left_advances g.L.Lanes.GREATEST c.args.instance.now can.word _ can.kept c.args.job can.fits c.args.next.position
+    in let advances = left_advances g.L.Lanes.GREATEST c.args.instance.now can.word _ can.kept c.args.job can.fits
+    c.args.next.position
     c.args.next.machine c.args.next.end
     (subst (λ (s : LaneState). c.args.next.position ≡ get_or s.nexts c.args.job 0) (sym c.self.view_is)
     c.requires.position)
@@ -372,9 +400,12 @@ returns-clause-kept g c = λ w kept placed.
     (subst (λ (s : LaneState). c.args.next.end ≡ get_or s.rows.heads c.args.next.position 0
     + get_or s.rows.times c.args.next.position 0) (sym c.self.view_is) c.requires.end)
     (g.L.Lanes.rows c.replace.new.lanes) c.begin-first.new.self c.replace.new.notes c.replace.ensures
-    c.begin-first.ensures.whole c.begin-first.result c.begin-first.ensures.first c.look_ahead-ahead.result c.args.limit c.bound_by_raises-bound.result c.take.new.self
-    c.bound_by_raises-bound.new.self _ c.bound_by_raises-bound.ensures c.self-2.view_is c.is_whole-whole.result c.is_whole-whole.ensures
-    in let is = left_is g.L.Lanes.GREATEST c.args.instance.now can.word _ can.kept c.args.job can.fits c.args.next.position
+    c.begin-first.ensures.whole c.begin-first.result c.begin-first.ensures.first c.look_ahead-ahead.result
+    c.args.limit c.bound_by_raises-bound.result c.take.new.self
+    c.bound_by_raises-bound.new.self _ c.bound_by_raises-bound.ensures c.self-2.view_is c.is_whole-whole.result
+    c.is_whole-whole.ensures
+    in let is = left_is g.L.Lanes.GREATEST c.args.instance.now can.word _ can.kept c.args.job can.fits
+    c.args.next.position
     c.args.next.machine c.args.next.end
     (subst (λ (s : LaneState). c.args.next.position ≡ get_or s.nexts c.args.job 0) (sym c.self.view_is)
     c.requires.position)
@@ -383,8 +414,10 @@ returns-clause-kept g c = λ w kept placed.
     (subst (λ (s : LaneState). c.args.next.end ≡ get_or s.rows.heads c.args.next.position 0
     + get_or s.rows.times c.args.next.position 0) (sym c.self.view_is) c.requires.end)
     (g.L.Lanes.rows c.replace.new.lanes) c.begin-first.new.self c.replace.new.notes c.replace.ensures
-    c.begin-first.ensures.whole c.begin-first.result c.begin-first.ensures.first c.look_ahead-ahead.result c.args.limit c.bound_by_raises-bound.result c.take.new.self
-    c.bound_by_raises-bound.new.self _ c.bound_by_raises-bound.ensures c.self-2.view_is c.is_whole-whole.result c.is_whole-whole.ensures
+    c.begin-first.ensures.whole c.begin-first.result c.begin-first.ensures.first c.look_ahead-ahead.result
+    c.args.limit c.bound_by_raises-bound.result c.take.new.self
+    c.bound_by_raises-bound.new.self _ c.bound_by_raises-bound.ensures c.self-2.view_is c.is_whole-whole.result
+    c.is_whole-whole.ensures
     in let noted = noted_are g.L.Lanes.GREATEST c.args.instance.now w _ was c.args.placement.now placed
     c.args.next.position c.bound_by_raises-bound.new.self.rows c.bound_by_raises-bound.new.self.notes _
     advances c.take.new.self c.take.ensures c.bound_by_raises-bound.new.self.raises _ is c.list.result.now
