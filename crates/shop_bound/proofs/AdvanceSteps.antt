@@ -1,5 +1,5 @@
 -- One more operation in the heads by position.
-use Rattle.std.proofs.Common.{◌≡◌, ℕ, ◌+◌, ◌≤◌, ◌<◌, ◌^◌, inl, inr, List, [], ◌∷◌, ◌++◌, length}
+use Rattle.std.proofs.Common.{◌≡◌, ℕ, ◌+◌, ◌≤◌, ◌<◌, ◌^◌, inl, inr, true, List, [], ◌∷◌, ◌++◌, length}
 use Rattle.std.proofs.Common.{get_or, set, refl, sym, ◌∙◌, ap, subst, arith}
 use Rattle.std.proofs.lemmas.Bool.{cases_eq, cases_lt, lt-ltb, le-ltb}
 use Rattle.std.proofs.lemmas.Grind.{get_or-set_at}
@@ -12,9 +12,10 @@ use Rattle.shop_model.proofs.Unders.{placing-snoc, next_operation, after_word}
 use Rattle.shop_bound.specs.Heads.{head_of}
 use Rattle.shop_bound.specs.inner.LaneEnds.{IsEndOf}
 use Rattle.shop_bound.specs.inner.LaneHeads.{AreHeadsAt, LeadsBack, NotesState}
-use Rattle.shop_bound.specs.inner.LaneStates.{AreHeadsInLanes}
+use Rattle.shop_bound.specs.inner.LaneStates.{Advances, AreHeadsInLanes, HasNextAt}
 use Rattle.shop_bound.specs.inner.Layouts.{LayoutState, place, first_of}
 use Rattle.shop_bound.specs.inner.Raises.{AreFirst, HasBlocks, IsLeastRaise, IsOnMachine, IsRaisable, Raises, Replaces}
+use Rattle.shop_bound.specs.declared.notes.Mark.{Mark}
 use Rattle.shop_bound.proofs.HeadTurns.{ready_first}
 use Rattle.shop_bound.proofs.LaidPlaces.{place_of}
 use Rattle.shop_bound.proofs.RaisedHeads.{left, raisable, raised, has_blocks}
@@ -197,3 +198,46 @@ module _ (greatest : ℕ) (shop : Shop) (l : LayoutState) (rows : Rows) (w : Lis
               (subst (λ (xs : List ℕ). IsLeastRaise l (IsOnMachine l m) (h + t) xs new.heads) lifted_heads
               raising.raised)));
         }
+
+-- struck out with its note, and raised then
+module _ (greatest : ℕ) (l : LayoutState) (nexts : List ℕ) (q m h t : ℕ) (rows : Rows)
+    (next : HasNextAt greatest l nexts q rows) (on : m ≡ get_or l.machines q 0) (read : h ≡ get_or rows.heads q 0)
+    (timed : t ≡ get_or rows.times q 0) (lifted : Rows) (notes mid : NotesState)
+    (wrote : Replaces greatest q 0 rows lifted notes mid) where
+  its_machine : m ≡ machine_of next.shop next.job ((placing next.shop next.word).steps next.job)
+  its_machine = machine_here greatest next.shop l rows next.word next.job next.kept next.fits q m next.at on
+
+  pub struck_blocks : HasBlocks l (length lifted.heads) m
+  struck_blocks = lifted_blocks greatest next.shop l rows next.word next.job next.kept next.fits q h t next.at read
+      timed lifted notes mid wrote m its_machine
+
+  pub struck_raisable : IsRaisable greatest l nexts lifted (IsOnMachine l m) (h + t)
+  struck_raisable = lifted_raisable greatest next.shop l rows next.word next.job next.kept next.fits q h t next.at read
+      timed lifted notes mid wrote m its_machine nexts next.firsts next.ends
+
+  pub advances : (were : NotesState) → notes ≡ record were { whole = true } → (new : Rows) (last : NotesState)
+      → Raises greatest l nexts (IsOnMachine l m) (h + t) lifted new mid last → (mark : Mark)
+      → mark.position ≡ q → mark.first ≡ length were.list → mark.whole ≡ last.whole
+      → Advances greatest l nexts q rows new were last mark
+  advances were begun new last raising mark at first whole = record {
+    times = advanced_times greatest next.shop l rows next.word next.job next.kept next.fits q h t next.at read timed
+        lifted notes mid wrote m its_machine nexts new last raising;
+    tails = advanced_tails greatest next.shop l rows next.word next.job next.kept next.fits q h t next.at read timed
+        lifted notes mid wrote m its_machine nexts new last raising;
+    positions = advanced_positions greatest next.shop l rows next.word next.job next.kept next.fits q h t next.at read
+        timed lifted notes mid wrote m its_machine nexts new last raising;
+    long = advanced_long greatest next.shop l rows next.word next.job next.kept next.fits q h t next.at read timed
+        lifted notes mid wrote m its_machine nexts new last raising;
+    none = advanced_none greatest next.shop l rows next.word next.job next.kept next.fits q h t next.at read timed
+        lifted notes mid wrote m its_machine nexts new last raising;
+    others = advanced_others greatest next.shop l rows next.word next.job next.kept next.fits q h t next.at read timed
+        lifted notes mid wrote m its_machine nexts new last raising;
+    first = first;
+    whole = whole;
+    at = at;
+    noted = subst (λ (n : NotesState). LeadsBack greatest n last rows.heads new.heads) begun
+        (advanced_noted greatest next.shop l rows next.word next.job next.kept next.fits q h t next.at read timed
+        lifted notes mid wrote m its_machine nexts new last raising);
+    heads = λ shop w j kept fits is. advanced greatest shop l rows w j kept fits q h t is read timed lifted notes mid
+        wrote m (machine_here greatest shop l rows w j kept fits q m is on) nexts new last raising;
+  }

@@ -1,5 +1,5 @@
 -- What is read of the next operation of a job, and what is foreseen of the bound after it.
-use Rattle.std.proofs.Common.{◌≡◌, ℕ, ◌+◌, ◌≤◌, ◌<◌, max, inl, inr, true, false, List, [], ◌∷◌, ◌++◌, set}
+use Rattle.std.proofs.Common.{◌≡◌, ℕ, ◌+◌, ◌≤◌, ◌<◌, max, ◌-◌, inl, inr, List, [], ◌∷◌, ◌++◌, set, length}
 use Rattle.std.proofs.Common.{get_or, refl, sym, ◌∙◌, ap, subst, arith}
 use Rattle.shop_lanes.specs.Rows.{Rows, Lane, with_head, lanes, blocks}
 use Rattle.shop_lanes.specs.Spans.{span}
@@ -13,10 +13,9 @@ use Rattle.shop_bound.specs.inner.BoundsUpTo.{IsBoundUpTo}
 use Rattle.shop_bound.specs.Heads.{head_of}
 use Rattle.shop_bound.specs.inner.ChildBounds.{IsLeastAfter}
 use Rattle.shop_bound.specs.inner.HeadLimits.{FitsLanes, latest_end}
-use Rattle.shop_bound.specs.inner.LaneBounds.{AreMachinesAt, AreSpansFit, Foresees}
+use Rattle.shop_bound.specs.inner.LaneBounds.{AreMachinesAt, AreSpansFit, NoneElseBelow, lanes_on}
 use Rattle.shop_bound.specs.inner.LaneStates.{AreHeadsInLanes}
 use Rattle.shop_bound.specs.inner.Layouts.{LayoutState, first_of, place}
-use Rattle.shop_bound.specs.declared.look_aheads.Foreseen.{Foreseen}
 use Rattle.shop_bound.proofs.ChildBounds.{child-ge-before}
 use Rattle.shop_bound.proofs.ChildExits.{none_below-is, open_span-le}
 use Rattle.shop_bound.proofs.HeadTurns.{ready_first}
@@ -25,7 +24,9 @@ use Rattle.shop_bound.proofs.LaneFits.{spans_fit}
 use Rattle.shop_bound.proofs.LatestEnds.{latest_end_is}
 use Rattle.shop_bound.proofs.MachineLanes.{AreStored}
 use Rattle.shop_bound.proofs.RaisedHeads.{left}
-use Rattle.std.proofs.lemmas.List.{length-set}
+use Rattle.std.proofs.lemmas.Bool.{cases_eq}
+use Rattle.std.proofs.lemmas.Grind.{get_or-set_at}
+use Rattle.std.proofs.lemmas.List.{get_or-set_other, length-set}
 
 module _ (greatest : ℕ) (shop : Shop) (w : List ℕ) (l : LayoutState) (rows : Rows)
     (kept : AreHeadsInLanes greatest shop w l rows) (j : ℕ) (fits : IsWord shop (w ++ j ∷ [])) where
@@ -99,58 +100,68 @@ module _ (greatest : ℕ) (shop : Shop) (w : List ℕ) (l : LayoutState) (rows :
 
     module _ (x m e : ℕ) (x_is : x ≡ place l j ((placing shop w).steps j))
         (m_is : m ≡ machine_of shop j ((placing shop w).steps j))
-        (e_is : e ≡ (place_next shop (placing shop w) j).free (machine_of shop j ((placing shop w).steps j)) + 1)
-        (f : Foreseen) (foresees : Foresees (with_head rows x 0) (get_or l.blocks m 0) (get_or l.blocks (m + 1) 0) e
-        least limit f) where
+        (e_is : e ≡ (place_next shop (placing shop w) j).free (machine_of shop j ((placing shop w).steps j)) + 1) where
       its_end : ℕ
       its_end = (place_next shop (placing shop w) j).free (machine_of shop j ((placing shop w).steps j))
+
+      its_place_within : x < length rows.heads
+      its_place_within = let a = place_within in let d = kept.heads.positions in omega arith
 
       stored : AreStored shop (place_next shop (placing shop w) j).steps (head_of shop (placing shop w)) l
           (set rows.heads x 0)
       stored = subst (λ (y : ℕ). AreStored shop (place_next shop (placing shop w) j).steps
           (head_of shop (placing shop w)) l (set rows.heads y 0)) (sym x_is) left_stored
 
-      pub foreseen_low : f.bound ≤ lb shop (w ++ j ∷ [])
-      foreseen_low =
-          let a = child-ge-before shop kept.limits kept.laid.slots kept.laid.are w j fits least least_is
-          in let b = open_span-le shop kept.limits l kept.laid w j fits (set rows.heads x 0) stored
-          ((place_next shop (placing shop w) j).free (machine_of shop j ((placing shop w).steps j))) refl
-          in let same : blocks (get_or l.blocks m 0) (get_or l.blocks (m + 1) 0)
-          (lanes (set rows.heads x 0) rows.times rows.tails)
-          ≡ blocks (get_or l.blocks (machine_of shop j ((placing shop w).steps j)) 0)
-          (get_or l.blocks (machine_of shop j ((placing shop w).steps j) + 1) 0)
-          (lanes (set rows.heads x 0) l.times l.tails) =
-          ap (λ (n : ℕ). blocks (get_or l.blocks n 0) (get_or l.blocks (n + 1) 0)
-          (lanes (set rows.heads x 0) rows.times rows.tails)) m_is
-          ∙ (ap (λ (ts : List ℕ). blocks (get_or l.blocks (machine_of shop j ((placing shop w).steps j)) 0)
-          (get_or l.blocks (machine_of shop j ((placing shop w).steps j) + 1) 0)
-          (lanes (set rows.heads x 0) ts rows.tails)) kept.times
-          ∙ ap (λ (ts : List ℕ). blocks (get_or l.blocks (machine_of shop j ((placing shop w).steps j)) 0)
-          (get_or l.blocks (machine_of shop j ((placing shop w).steps j) + 1) 0)
-          (lanes (set rows.heads x 0) l.times ts)) kept.tails)
-          in let c = ap (λ (ls : List Lane). span 1 e ls) same
-          in let d = ap (λ (n : ℕ). span 1 n (blocks (get_or l.blocks (machine_of shop j ((placing shop w).steps j)) 0)
-          (get_or l.blocks (machine_of shop j ((placing shop w).steps j) + 1) 0)
-          (lanes (set rows.heads x 0) l.times l.tails))) e_is
-          in let high = foresees.high in omega arith
+      -- where nothing else there is below the end, none rises
+      pub alone_is : NoneElseBelow rows.heads (get_or l.blocks m 0) (get_or l.blocks (m + 1) 0) x e
+          → IsBoundUpTo limit (lb shop (w ++ j ∷ [])) least
+      alone_is none =
+          let is = none_below-is shop kept.limits l kept.laid w j fits (set rows.heads x 0) stored
+          (λ q low high. elim (cases_eq q x) [
+            | inl own ↦ inl (get_or-set_at rows.heads x q 0 0 own its_place_within)
+            | inr other ↦ (let same = get_or-set_other rows.heads x q 0 0 other
+                in elim (none q (let a = ap (first_of l) m_is in omega arith)
+                (let a = ap (λ (n : ℕ). first_of l (n + 1)) m_is in omega arith) other) [
+                  | inl nil ↦ inl (omega arith)
+                  | inr above ↦ inr (omega arith)
+                ])
+          ]) least least_is
+          in record { at_most = omega arith; exact = λ under. omega arith }
 
-      pub foreseen_is : f.is_final ≡ true → IsBoundUpTo limit (lb shop (w ++ j ∷ [])) f.bound
-      foreseen_is final = elim (foresees.final final) [
-        | inl none ↦ (let is = none_below-is shop kept.limits l kept.laid w j fits (set rows.heads x 0) stored
-            (λ q low high. elim (none.0 q (let a = ap (first_of l) m_is in omega arith)
-            (let a = ap (λ (n : ℕ). first_of l (n + 1)) m_is in omega arith)) [
-              | inl nil ↦ inl nil
-              | inr above ↦ inr (omega arith)
-            ]) least least_is
-            in let same = none.1 in record { at_most = omega arith; exact = λ under. omega arith })
-        | inr reached ↦ record { at_most = foreseen_low; exact = λ under. absurd (omega arith) }
-      ]
+      module _ (b : ℕ) (b_is : b ≡ max least (span 1 e (lanes_on (with_head rows x 0) l m) - 1)) where
+        pub ahead_low : b ≤ lb shop (w ++ j ∷ [])
+        ahead_low =
+            let a = child-ge-before shop kept.limits kept.laid.slots kept.laid.are w j fits least least_is
+            in let b = open_span-le shop kept.limits l kept.laid w j fits (set rows.heads x 0) stored
+            ((place_next shop (placing shop w) j).free (machine_of shop j ((placing shop w).steps j))) refl
+            in let same : blocks (get_or l.blocks m 0) (get_or l.blocks (m + 1) 0)
+            (lanes (set rows.heads x 0) rows.times rows.tails)
+            ≡ blocks (get_or l.blocks (machine_of shop j ((placing shop w).steps j)) 0)
+            (get_or l.blocks (machine_of shop j ((placing shop w).steps j) + 1) 0)
+            (lanes (set rows.heads x 0) l.times l.tails) =
+            ap (λ (n : ℕ). blocks (get_or l.blocks n 0) (get_or l.blocks (n + 1) 0)
+            (lanes (set rows.heads x 0) rows.times rows.tails)) m_is
+            ∙ (ap (λ (ts : List ℕ). blocks (get_or l.blocks (machine_of shop j ((placing shop w).steps j)) 0)
+            (get_or l.blocks (machine_of shop j ((placing shop w).steps j) + 1) 0)
+            (lanes (set rows.heads x 0) ts rows.tails)) kept.times
+            ∙ ap (λ (ts : List ℕ). blocks (get_or l.blocks (machine_of shop j ((placing shop w).steps j)) 0)
+            (get_or l.blocks (machine_of shop j ((placing shop w).steps j) + 1) 0)
+            (lanes (set rows.heads x 0) l.times ts)) kept.tails)
+            in let c = ap (λ (ls : List Lane). span 1 e ls) same
+            in let d = ap (λ (n : ℕ). span 1 n (blocks
+            (get_or l.blocks (machine_of shop j ((placing shop w).steps j)) 0)
+            (get_or l.blocks (machine_of shop j ((placing shop w).steps j) + 1) 0)
+            (lanes (set rows.heads x 0) l.times l.tails))) e_is
+            in omega arith
 
-      pub after_foresight : f.is_final ≡ false → IsLeastAfter shop w l rows j x m e f.bound
-      after_foresight not_final = record {
-        next = record { position_is = x_is; machine_is = m_is; end_is = e_is };
-        parent = (let a = foresees.low in omega arith);
-        ends = (let a = foresees.low in omega arith);
-        ahead = foresees.covers not_final;
-        most = foreseen_low;
-      }
+        pub at_ahead : limit ≤ b → IsBoundUpTo limit (lb shop (w ++ j ∷ [])) b
+        at_ahead reached = record { at_most = ahead_low; exact = λ under. absurd (omega arith) }
+
+        pub after_look : IsLeastAfter shop w l rows j x m e b
+        after_look = record {
+          next = record { position_is = x_is; machine_is = m_is; end_is = e_is };
+          parent = omega arith;
+          ends = omega arith;
+          ahead = omega arith;
+          most = ahead_low;
+        }

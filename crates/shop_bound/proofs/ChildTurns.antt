@@ -1,8 +1,7 @@
 -- What is read and kept while the bound after one more operation is found.
-use Rattle.std.proofs.Common.{◌≡◌, ℕ, ◌+◌, ◌-◌, ◌*◌, ◌≤◌, ◌<◌, inl, inr, true, false, List, [], ◌∷◌, ◌++◌, length}
+use Rattle.std.proofs.Common.{◌≡◌, ℕ, ◌+◌, ◌-◌, ◌*◌, ◌≤◌, ◌<◌, List, [], ◌∷◌, ◌++◌, length}
 use Rattle.std.proofs.Common.{get_or, set, take, drop, refl, sym, ◌∙◌, ap, subst, arith, length-append}
 use Rattle.std.specs.List.{All}
-use Rattle.std.proofs.lemmas.Bool.{cases_Bool}
 use Rattle.std.proofs.lemmas.List.{length-set, take_all}
 use Rattle.std.proofs.lemmas.List.Elements.{All-from_recursion}
 use Rattle.shop_lanes.specs.Rows.{Rows, Lane, with_head, lanes, blocks}
@@ -14,10 +13,9 @@ use Rattle.shop_model.proofs.Unders.{next_operation, placing-snoc}
 use Rattle.shop_bound.specs.Bound.{lb}
 use Rattle.shop_bound.specs.inner.BoundsUpTo.{IsBoundUpTo}
 use Rattle.shop_bound.specs.OneMachine.{one}
-use Rattle.shop_bound.specs.inner.ChildBounds.{IsLeastAfter}
-use Rattle.shop_bound.specs.inner.Estimates.{AreEstimates, IsNoteCovered}
+use Rattle.shop_bound.specs.inner.ChildBounds.{IsCoveredAt, IsLeastAfter}
+use Rattle.shop_bound.specs.inner.Estimates.{AreEstimates}
 use Rattle.shop_bound.specs.inner.HeadLimits.{latest_end}
-use Rattle.shop_bound.specs.inner.HeadRaises.{raise_of}
 use Rattle.shop_bound.specs.inner.LaneBounds.{lanes_on, AreMachinesAt}
 use Rattle.shop_bound.specs.inner.LaneHeads.{AreHeadsAt, AreNotesFit, NotesState}
 use Rattle.shop_bound.specs.inner.LaneStates.{AreHeadsInLanes, Advances}
@@ -25,9 +23,9 @@ use Rattle.shop_bound.specs.inner.Layouts.{LayoutState, place}
 use Rattle.shop_bound.specs.declared.head_raises.Raise.{Raise}
 use Rattle.shop_bound.specs.declared.notes.Mark.{Mark}
 use Rattle.shop_bound.specs.declared.notes.Note.{Note}
-use Rattle.shop_bound.proofs.ChildRaises.{bounded_by_raise, bound_is, covered_all, heads_small, its_lanes}
+use Rattle.shop_bound.proofs.ChildRaises.{bound_is, heads_small, its_lanes}
 use Rattle.shop_bound.proofs.ChildReads.{left_stored}
-use Rattle.shop_bound.proofs.EstimatedRaises.{bounded_by_notes, span_ahead}
+use Rattle.shop_bound.proofs.EstimatedRaises.{bounded_by_covered, span_ahead}
 use Rattle.shop_bound.proofs.LaneBegins.{blocks_within}
 use Rattle.shop_bound.proofs.LaneTrails.{same_heads}
 use Rattle.shop_bound.proofs.RestoredNotes.{put_back}
@@ -81,24 +79,24 @@ module _ (greatest : ℕ) (shop : Shop) (l : LayoutState) (j position : ℕ) (ro
       let a = heads_small shop kept.limits l kept.laid (w ++ j ∷ []) fits rows'.heads
       (advances.heads shop w j kept fits at).heads q in omega arith
 
-  -- what the raises of all notes cover, or else all that waits
-  module _ (ms : List ℕ) (machines : AreMachinesAt l shop.machines ms) (noted : List Note)
-      (is : noted ≡ advances.noted.more) (us : List ℕ) (top : ℕ) (top_is : top ≡ latest_end shop + 1)
-      (estimates : AreEstimates top l rows us) (own end least limit b : ℕ) where
-    abbrev pub AreRaisesCovered : List Raise → Type 0
-    AreRaisesCovered raises = All (IsNoteCovered raises own end us least ms rows'.heads) noted
-        × ((m : ℕ) → spans_between (raise_of raises m).from (raise_of raises m).to (lanes_on rows' l m) ≤ b + 1)
+  -- what is covered on each machine
+  module _ (ms : List ℕ) (machines : AreMachinesAt l shop.machines ms) (us : List ℕ) (top : ℕ)
+      (top_is : top ≡ latest_end shop + 1) (estimates : AreEstimates top l rows us) (own end least limit b : ℕ) where
+    -- by a raise on machine m
+    pub record IsCoveredOn (m : ℕ) : Type 0 where
+      pub raise : Raise
+      pub covered : (q : ℕ) → get_or ms q 0 ≡ m → 0 < get_or rows'.heads q 0
+          → IsCoveredAt raise own end us least m (get_or rows.heads q 0) (get_or rows'.heads q 0)
+      pub spans : spans_between raise.from raise.to (lanes_on rows' l m) ≤ b + 1
 
-    pub raised_is : (b < limit → mark.whole ≡ true → (raises : List Raise) × AreRaisesCovered raises)
-        → (mark.whole ≡ false → b < limit → (m : ℕ) → m < shop.machines
-        → spans_between 0 top (lanes_on rows' l m) ≤ b + 1)
+    pub raised_is : (b < limit → (m : ℕ) → m < shop.machines → IsCoveredOn m)
         → least ≤ b
         → ((c : ℕ) → least ≤ c → ((m above upto : ℕ) → m < shop.machines
         → spans_between above upto (lanes_on rows' l m) ≤ c + 1) → b ≤ c)
         → (w : List ℕ) → AreHeadsInLanes greatest shop w l rows → IsWord shop (w ++ j ∷ [])
         → position ≡ place l j ((placing shop w).steps j) → IsLeastAfter shop w l rows j position own end least
         → IsBoundUpTo limit (lb shop (w ++ j ∷ [])) b
-    raised_is by_raises by_all low inside w kept fits at after =
+    raised_is covers low inside w kept fits at after =
         let ends = after.ends in let end_is = after.next.end_is
         in bound_is shop kept.limits l kept.laid w j fits rows.heads rows'.heads kept.heads now_heads rows' refl times
         tails least limit b after.parent (omega arith) after.most low left inside
@@ -136,19 +134,11 @@ module _ (greatest : ℕ) (shop : Shop) (l : LayoutState) (j position : ℕ) (ro
 
         left : b < limit → (m : ℕ) → m < shop.machines
             → one (left_for shop kept.laid.slots (place_next shop (placing shop w) j) m) ≤ b
-        left under m known = elim (cases_Bool mark.whole) [
-          | inl e ↦ (let r = by_raises under e
-              in let covered = subst (λ (ns : List Note). All (IsNoteCovered r.0 own end us least ms rows'.heads) ns) is
-              r.1.0
-              in bounded_by_notes shop kept.limits l kept.laid w j fits rows.heads rows'.heads kept.heads now_heads ms
-              machines r.0 advances.noted.more (advances.noted.back (sym advances.whole ∙ e)) own end us least covered m
-              known rows rows' refl kept.times kept.tails refl times tails top estimates small after.parent
-              (within m known) (ahead m known) b low (r.1.1 m))
-          | inr e ↦ bounded_by_raise shop kept.limits l kept.laid w j fits rows.heads rows'.heads kept.heads now_heads
-              rows' refl times tails least after.parent (record { from = 0; to = top }) m known
-              (covered_all shop kept.limits l kept.laid w j fits rows.heads rows'.heads kept.heads now_heads
-              (record { from = 0; to = top }) refl small m) b low (by_all e under m known)
-        ]
+        left under m known =
+            let by = covers under m known
+            in bounded_by_covered shop kept.limits l kept.laid w j fits rows.heads rows'.heads kept.heads now_heads ms
+            machines own end us least m known by.raise by.covered rows rows' refl kept.times kept.tails refl times tails
+            top estimates small after.parent (within m known) (ahead m known) b low by.spans
 
 -- estimates stand for the same heads put back
 pub estimates_again : (greatest : ℕ) (shop : Shop) (l : LayoutState) (w : List ℕ) (old new : Rows)

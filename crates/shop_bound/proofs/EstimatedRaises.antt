@@ -2,7 +2,7 @@
 use Rattle.std.proofs.Common.{◌≡◌, ℕ, ◌+◌, ◌-◌, ◌*◌, ◌≤◌, ◌<◌, inl, inr, List, [], ◌∷◌, ◌++◌, length}
 use Rattle.std.proofs.Common.{get_or, refl, sym, ◌∙◌, ap, subst, arith, drop}
 use Rattle.std.specs.List.{All}
-use Rattle.std.proofs.lemmas.Bool.{cases_eq, cases_lt}
+use Rattle.std.proofs.lemmas.Bool.{cases_eq, cases_lt, eq-eqb, ne_eqb}
 use Rattle.std.proofs.lemmas.List.{get_or-take, get_or-drop}
 use Rattle.shop_lanes.specs.Rows.{Rows, Lane, lanes, blocks}
 use Rattle.shop_lanes.specs.Spans.{span}
@@ -14,11 +14,13 @@ use Rattle.shop_model.proofs.Placings.{place_next-is}
 use Rattle.shop_model.proofs.WordLemmas.{IsWord-init}
 use Rattle.shop_bound.specs.Bound.{lb}
 use Rattle.shop_bound.specs.Heads.{head_of}
+use Rattle.shop_bound.specs.inner.ChildBounds.{IsCoveredAt}
 use Rattle.shop_bound.specs.inner.Estimates.{AreEstimates, IsEstimate, IsNoteCovered}
 use Rattle.shop_bound.specs.inner.HeadRaises.{raise_of}
 use Rattle.shop_bound.specs.inner.LaneBounds.{lanes_on, AreMachinesAt}
 use Rattle.shop_bound.specs.inner.LaneHeads.{AreHeadsAt, restored}
 use Rattle.shop_bound.specs.inner.Layouts.{LayoutState, IsLaidOut, place, first_of}
+use Rattle.shop_bound.specs.inner.Watchers.{floor_on}
 use Rattle.shop_bound.specs.declared.head_raises.Raise.{Raise}
 use Rattle.shop_bound.specs.declared.notes.Note.{Note}
 use Rattle.shop_bound.proofs.ChildBounds.{left-le-lb}
@@ -66,6 +68,41 @@ lanes_of : (l : LayoutState) (rows : Rows) (hs : List ℕ) → rows.heads ≡ hs
     → blocks (get_or l.blocks m 0) (get_or l.blocks (m + 1) 0) (lanes hs l.times l.tails) ≡ lanes_on rows l m
 lanes_of l rows hs heads times tails m = rw (heads, times, tails) refl
 
+-- what is noted is covered
+pub notes_covered : (was now ms : List ℕ) (raises : List Raise) (notes : List Note) → restored notes now ≡ was
+    → (own end : ℕ) (us : List ℕ) (least : ℕ) → All (IsNoteCovered raises own end us least ms now) notes
+    → (m q : ℕ) → get_or ms q 0 ≡ m → 0 < get_or now q 0
+    → IsCoveredAt (raise_of raises m) own end us least m (get_or was q 0) (get_or now q 0)
+notes_covered was now ms raises notes back own end us least covered m q on some =
+    let before : get_or (restored notes now) q 0 ≡ get_or was q 0 = ap (λ (hs : List ℕ). get_or hs q 0) back
+    in elim (noted_or_same notes now q) [
+      | inl same ↦ inl (inl (omega arith))
+      | inr noted ↦ (let r = noted.1
+          in let d : Note = record { position = 0; head = 0 }
+          in let head = r.head d
+          in let n = get_or notes noted.0 d
+          in let machine : get_or ms n.position 0 ≡ m = ap (λ (y : ℕ). get_or ms y 0) (r.position d) ∙ on
+          in let here : get_or now n.position 0 ≡ get_or now q 0 =
+          ap (λ (y : ℕ). get_or now y 0) (r.position d)
+          in elim (covered noted.0 d r.below) [
+            | inl within ↦ (let f : (raise_of raises (get_or ms n.position 0)).from ≡ (raise_of raises m).from =
+                ap (λ (y : ℕ). (raise_of raises y).from) machine
+                in let t : (raise_of raises (get_or ms n.position 0)).to ≡ (raise_of raises m).to =
+                ap (λ (y : ℕ). (raise_of raises y).to) machine
+                in let x = within.from (omega arith) in let y = within.to (omega arith)
+                in inl (inr (omega arith, omega arith)))
+            | inr more ↦ elim more [
+              | inl small ↦ (let e : get_or us (get_or ms n.position 0) 0 ≡ get_or us m 0 =
+                  ap (λ (y : ℕ). get_or us y 0) machine
+                  in let a = small.known in let b = small.low in let x = small.small
+                  in inr (record { known = omega arith; low = omega arith; small = omega arith }))
+              | inr ahead ↦ (let low = ahead.low
+                  in let floor : floor_on own end m ≡ end = rw (eq-eqb m own (sym machine ∙ ahead.on)) refl
+                  in inl (inl (omega arith)))
+            ]
+          ])
+    ]
+
 module _ (shop : Shop) (limits : IsWithinLimits shop) (l : LayoutState) (laid : IsLaidOut shop l) (w : List ℕ) (j : ℕ)
     (fits : IsWord shop (w ++ j ∷ [])) (was now : List ℕ) (old : AreHeadsAt shop (placing shop w) l was)
     (new : AreHeadsAt shop (place_next shop (placing shop w) j) l now) where
@@ -112,49 +149,31 @@ module _ (shop : Shop) (limits : IsWithinLimits shop) (l : LayoutState) (laid : 
           counts = λ on. r.head.some (omega arith);
         }) risen) h end up
 
-  module _ (ms : List ℕ) (machines : AreMachinesAt l shop.machines ms) (raises : List Raise) (notes : List Note)
-      (back : restored notes now ≡ was) (own end : ℕ) (us : List ℕ) (least : ℕ)
-      (covered : All (IsNoteCovered raises own end us least ms now) notes) (m : ℕ) (known : m < shop.machines) where
+  module _ (ms : List ℕ) (machines : AreMachinesAt l shop.machines ms) (own end : ℕ) (us : List ℕ) (least m : ℕ)
+      (known : m < shop.machines) (raise : Raise)
+      (covered : (q : ℕ) → get_or ms q 0 ≡ m → 0 < get_or now q 0
+      → IsCoveredAt raise own end us least m (get_or was q 0) (get_or now q 0)) where
     -- by what no span was above: an estimate that is of use, or else the bound before
     abbrev IsUsed : ℕ → Type 0
     IsUsed u = m < length us → get_or us m 0 ≤ least + 1 → get_or us m 0 ≡ u
 
-    risen : (u floor : ℕ) → u ≤ least + 1 → IsUsed u → (m ≡ own → end ≤ floor) → (q : ℕ) → first_of l m ≤ q
+    risen : (u floor : ℕ) → u ≤ least + 1 → IsUsed u → floor_on own end m ≤ floor → (q : ℕ) → first_of l m ≤ q
         → q < first_of l (m + 1)
-        → IsRisen (least + 1 - u) (raise_of raises m).from (raise_of raises m).to floor (get_or was q 0)
-        (get_or now q 0)
-    risen u floor low used foreseen q from to =
-        let before : get_or (restored notes now) q 0 ≡ get_or was q 0 = ap (λ (hs : List ℕ). get_or hs q 0) back
-        in record {
-          some = waited q;
-          risen = λ some. elim (noted_or_same notes now q) [
-            | inl same ↦ inl (omega arith)
-            | inr noted ↦ (let r = noted.1
-                in let d : Note = record { position = 0; head = 0 }
-                in let head = r.head d
-                in let n = get_or notes noted.0 d
-                in let machine : get_or ms n.position 0 ≡ m =
-                ap (λ (y : ℕ). get_or ms y 0) (r.position d) ∙ machines.at m q known from to
-                in let here : get_or now n.position 0 ≡ get_or now q 0 =
-                ap (λ (y : ℕ). get_or now y 0) (r.position d)
-                in elim (covered noted.0 d r.below) [
-                  | inl within ↦ (let f : (raise_of raises (get_or ms n.position 0)).from ≡ (raise_of raises m).from =
-                      ap (λ (y : ℕ). (raise_of raises y).from) machine
-                      in let t : (raise_of raises (get_or ms n.position 0)).to ≡ (raise_of raises m).to =
-                      ap (λ (y : ℕ). (raise_of raises y).to) machine
-                      in let x = within.from (omega arith) in let y = within.to (omega arith)
-                      in inr (inl (omega arith, omega arith)))
-                  | inr more ↦ elim more [
-                    | inl small ↦ (let e : get_or us (get_or ms n.position 0) 0 ≡ get_or us m 0 =
-                        ap (λ (y : ℕ). get_or us y 0) machine
-                        in let a = small.known in let b = small.low in let x = small.small
-                        in let is = used (omega arith) (omega arith) in inl (omega arith))
-                    | inr ahead ↦ (let low = ahead.low in let floor = foreseen (sym machine ∙ ahead.on)
-                        in inr (inr (omega arith)))
-                  ]
-                ])
-          ];
-        }
+        → IsRisen (least + 1 - u) raise.from raise.to floor (get_or was q 0) (get_or now q 0)
+    risen u floor low used foreseen q from to = record {
+      some = waited q;
+      risen = λ some. elim (covered q (machines.at m q known from to) some) [
+        | inl seen ↦ elim seen [
+          | inl still ↦ elim (cases_lt (get_or was q 0) (get_or now q 0)) [
+            | inl rose ↦ inr (inr (omega arith))
+            | inr stayed ↦ inl (omega arith)
+          ]
+          | inr inside ↦ (let f = inside.0 in let t = inside.1 in inr (inl (omega arith, omega arith)))
+        ]
+        | inr small ↦ (let a = small.known in let b = small.low in let x = small.small
+            in let is = used (omega arith) (omega arith) in inl (omega arith))
+      ];
+    }
 
     module _ (rows rows' : Rows) (heads : rows.heads ≡ was) (times : rows.times ≡ l.times)
         (tails : rows.tails ≡ l.tails) (heads' : rows'.heads ≡ now) (times' : rows'.times ≡ l.times)
@@ -162,11 +181,11 @@ module _ (shop : Shop) (limits : IsWithinLimits shop) (l : LayoutState) (laid : 
         (estimates : AreEstimates top l rows us) (small : (q : ℕ) → get_or now q 0 ≤ top)
         (parent : lb shop w ≤ least) (within : 8 * get_or l.blocks (m + 1) 0 ≤ length was)
         (ahead : m ≡ own → (h : ℕ) → 0 < h → h ≤ end → span h h (lanes_on rows' l m) ≤ least + 1) where
-      beside : (u floor : ℕ) → u ≤ least + 1 → IsUsed u → (m ≡ own → end ≤ floor)
-          → AreBeside (IsRisenLane (least + 1 - u) (raise_of raises m).from (raise_of raises m).to floor)
+      beside : (u floor : ℕ) → u ≤ least + 1 → IsUsed u → floor_on own end m ≤ floor
+          → AreBeside (IsRisenLane (least + 1 - u) raise.from raise.to floor)
           (lanes_on rows l m) (lanes_on rows' l m)
       beside u floor low used foreseen =
-          let a = blocks_risen (least + 1 - u) (raise_of raises m).from (raise_of raises m).to floor
+          let a = blocks_risen (least + 1 - u) raise.from raise.to floor
           (get_or l.blocks m 0) (get_or l.blocks (m + 1) 0) was now l.times l.tails
           (laid.positions.times ∙ sym old.positions) (laid.positions.tails ∙ sym old.positions)
           (new.positions ∙ sym old.positions) within (risen u floor low used foreseen)
@@ -176,18 +195,18 @@ module _ (shop : Shop) (limits : IsWithinLimits shop) (l : LayoutState) (laid : 
           (lanes was l.times l.tails))) (lanes_of l rows' now heads' times' tails' m) a)
         where
           IsRisenHere : Lane → Lane → Type 0
-          IsRisenHere = IsRisenLane (least + 1 - u) (raise_of raises m).from (raise_of raises m).to floor
+          IsRisenHere = IsRisenLane (least + 1 - u) raise.from raise.to floor
 
       IsHere : Type 0
       IsHere = IsBounded shop limits l laid w j fits was now old new rows' heads' times' tails' least
-          (raise_of raises m) m
+          raise m
 
       bounded_from : (u floor : ℕ) → IsEstimate top u (lanes_on rows l m) → u ≤ least + 1 → IsUsed u
-          → (m ≡ own → end ≤ floor)
+          → floor_on own end m ≤ floor
           → ((h : ℕ) → 0 < h → h ≤ floor → span h h (lanes_on rows' l m) ≤ least + 1) → IsHere
       unfolding IsHere
       bounded_from u floor estimate low used foreseen lowest b above inside =
-          let a = spans_risen top u (least + 1 - u) (raise_of raises m).from (raise_of raises m).to floor
+          let a = spans_risen top u (least + 1 - u) raise.from raise.to floor
           (lanes_on rows l m) estimate (b + 1) (omega arith) (lanes_on rows' l m)
           (beside u floor low used foreseen) (λ h some up. let c = lowest h some up in omega arith) inside
           in bounded_by_raise shop limits l laid w j fits was now old new rows' heads' times' tails' least parent
@@ -198,8 +217,10 @@ module _ (shop : Shop) (limits : IsWithinLimits shop) (l : LayoutState) (laid : 
       -- on the machine of the operation what begins up to its end is foreseen
       bounded_with : (u : ℕ) → IsEstimate top u (lanes_on rows l m) → u ≤ least + 1 → IsUsed u → IsHere
       bounded_with u estimate low used = elim (cases_eq m own) [
-        | inl on ↦ bounded_from u end estimate low used (λ here. omega arith) (ahead on)
-        | inr off ↦ bounded_from u 0 estimate low used (λ here. absurd (off here))
+        | inl on ↦ bounded_from u end estimate low used
+            (let a : floor_on own end m ≡ end = rw (eq-eqb m own on) refl in omega arith) (ahead on)
+        | inr off ↦ bounded_from u 0 estimate low used
+            (let a : floor_on own end m ≡ 0 = rw (ne_eqb m own off) refl in omega arith)
             (λ h some up. absurd (omega arith))
       ]
 
@@ -217,10 +238,10 @@ module _ (shop : Shop) (limits : IsWithinLimits shop) (l : LayoutState) (laid : 
           ap (λ (n : ℕ). span n n (lanes_on rows l m)) (omega arith)
           in omega arith
 
-      pub bounded_by_notes : IsBounded shop limits l laid w j fits was now old new rows' heads' times' tails' least
-          (raise_of raises m) m
+      pub bounded_by_covered : IsBounded shop limits l laid w j fits was now old new rows' heads' times' tails' least
+          raise m
       unfolding IsHere
-      bounded_by_notes = elim (cases_lt m (length us)) [
+      bounded_by_covered = elim (cases_lt m (length us)) [
         | inl here ↦ elim (cases_lt (least + 1) (get_or us m 0)) [
           | inl over ↦ bounded_with (lb shop w + 1) estimate_before (omega arith) (λ a b. absurd (omega arith))
           | inr low ↦ bounded_with (get_or us m 0) (estimates m here) low (λ a b. refl)

@@ -1,5 +1,5 @@
 -- One more turn of the loops that bound by lanes.
-use Rattle.std.proofs.Common.{◌≡◌, ℕ, zero, suc, ◌+◌, ◌-◌, ◌*◌, ◌≤◌, ◌<◌, ◌⊎◌, inl, inr, Bool, false, List, []}
+use Rattle.std.proofs.Common.{◌≡◌, ℕ, ◌+◌, ◌-◌, ◌*◌, ◌≤◌, ◌<◌, ◌⊎◌, inl, inr, true, false, List, []}
 use Rattle.std.proofs.Common.{◌∷◌, length, get_or, set, drop, refl, sym, ◌∙◌, ap, subst, arith}
 use Rattle.std.proofs.lemmas.Bool.{cases_Bool, cases_eq, cases_lt}
 use Rattle.std.proofs.lemmas.Bool.Decides.{nat_tests}
@@ -11,23 +11,12 @@ use Rattle.shop_lanes.specs.Marks.{marked, waits_below}
 use Rattle.shop_lanes.proofs.LaneLists.{length-blocks}
 use Rattle.shop_lanes.proofs.SpanTurns.{spans_low, spans_high}
 use Rattle.shop_bound.specs.inner.Estimates.{IsNoteCovered}
+use Rattle.shop_bound.specs.inner.RisingLists.{IsIn}
 use Rattle.shop_bound.specs.inner.HeadRaises.{no_raise, raise_of, widened}
-use Rattle.shop_bound.specs.inner.LaneBounds.{NoneBelow, AreRaisesUpTo, IsNoteWithin}
+use Rattle.shop_bound.specs.inner.LaneBounds.{HasNoOther, NoneElseBelow, AreRaisesUpTo, IsNoteWithin}
 use Rattle.shop_bound.specs.declared.head_raises.Raise.{Raise}
 use Rattle.shop_bound.specs.declared.notes.Note.{Note}
-
--- where no position is marked, no number passes the test
-none_marked : (p : ℕ → Bool) (at : ℕ) (xs : List ℕ) → marked p at xs ≡ [] → (i : ℕ) → i < length xs
-    → p (get_or xs i 0) ≡ false
-none_marked p at [] none i here = absurd (omega arith)
-none_marked p at (x ∷ xs) none zero here = elim (cases_Bool (p x)) [
-  | inl e ↦ absurd (let a = rw e at none in cc)
-  | inr e ↦ e
-]
-none_marked p at (x ∷ xs) none (suc i) here = elim (cases_Bool (p x)) [
-  | inl e ↦ absurd (let a = rw e at none in cc)
-  | inr e ↦ none_marked p (at + 1) xs (rw e at none) i (omega arith)
-]
+use Rattle.shop_bound.proofs.RaiseLoops.{marked_in}
 
 not_below : (limit x : ℕ) → waits_below limit x ≡ false → (x ≡ 0) ⊎ (limit ≤ x)
 not_below limit x e = elim (cases_lt 0 x) [
@@ -38,21 +27,38 @@ not_below limit x e = elim (cases_lt 0 x) [
   | inr nil ↦ inl (omega arith)
 ]
 
-pub none_turn : (heads : List ℕ) (from first next limit : ℕ) → NoneBelow heads from first limit
-    → marked (waits_below limit) (8 * first) (blocks first next heads) ≡ [] → first ≤ next → 8 * next ≤ length heads
-    → NoneBelow heads from next limit
-none_turn heads from first next limit before none order within q low high = elim (cases_lt q (8 * first)) [
-  | inl past ↦ before q low past
-  | inr here ↦ (let i = q - 8 * first
-      in let long = length-blocks first next heads within
-      in let a = none_marked (waits_below limit) (8 * first) (blocks first next heads) none i (omega arith)
-      in let e : get_or (blocks first next heads) i 0 ≡ get_or heads q 0 =
-      get_or-take (8 * next - 8 * first) (drop_of (8 * first)) i 0 (omega arith)
-      ∙ get_or-drop (8 * first) heads i 0 ∙ ap (λ (n : ℕ). get_or heads n 0) (omega arith)
-      in not_below limit (get_or heads q 0) (ap (waits_below limit) (sym e) ∙ a))
-] where
-  drop_of : ℕ → List ℕ
-  drop_of n = drop n heads
+-- what waits below the limit in these blocks is marked
+in_marks : (heads : List ℕ) (first next limit q : ℕ) → 8 * first ≤ q → q < 8 * next → 8 * next ≤ length heads
+    → waits_below limit (get_or heads q 0) ≡ true
+    → IsIn (marked (waits_below limit) (8 * first) (blocks first next heads)) q
+in_marks heads first next limit q low high within is =
+    let i = q - 8 * first
+    in let long = length-blocks first next heads within
+    in let e : get_or (blocks first next heads) i 0 ≡ get_or heads q 0 =
+    get_or-take (8 * next - 8 * first) (drop (8 * first) heads) i 0 (omega arith)
+    ∙ get_or-drop (8 * first) heads i 0 ∙ ap (λ (n : ℕ). get_or heads n 0) (omega arith)
+    in subst (IsIn (marked (waits_below limit) (8 * first) (blocks first next heads))) (omega arith)
+    (marked_in (waits_below limit) (8 * first) (blocks first next heads) i (omega arith)
+    (ap (waits_below limit) e ∙ is))
+
+pub none_turn : (heads : List ℕ) (from first next position limit : ℕ) → NoneElseBelow heads from first position limit
+    → HasNoOther (marked (waits_below limit) (8 * first) (blocks first next heads)) position → first ≤ next
+    → 8 * next ≤ length heads → NoneElseBelow heads from next position limit
+none_turn heads from first next position limit before none order within q low high other =
+    elim (cases_lt q (8 * first)) [
+      | inl past ↦ before q low past other
+      | inr here ↦ elim (cases_Bool (waits_below limit (get_or heads q 0))) [
+        | inl is ↦ (let marks = in_marks heads first next limit q here high within is
+            in elim none [
+              | inl nil ↦ absurd (subst (λ (xs : List ℕ). IsIn xs q) nil marks)
+              | inr one ↦ elim (subst (λ (xs : List ℕ). IsIn xs q) one marks) [
+                | inl e ↦ absurd (other e)
+                | inr never ↦ absurd never
+              ]
+            ])
+        | inr is ↦ not_below limit (get_or heads q 0) is
+      ]
+    ]
 
 -- nothing begins between where nothing is between
 pub spans-none : (above upto : ℕ) (all xs : List Lane) → upto ≤ above → spans_from above upto all xs ≡ 0
@@ -67,16 +73,16 @@ spans-none above upto all (x ∷ xs) h =
 -- a raise that was widened, and the others
 module _ (raises : List Raise) (m a b : ℕ) (known : m < length raises) (after : List Raise)
     (is : after ≡ set raises m (widened (raise_of raises m) a b)) where
-  raise_here : (i : ℕ) → i ≡ m → raise_of after i ≡ widened (raise_of raises m) a b
+  pub raise_here : (i : ℕ) → i ≡ m → raise_of after i ≡ widened (raise_of raises m) a b
   raise_here i e = ap (λ (rs : List Raise). get_or rs i no_raise) is
       ∙ (ap (λ (n : ℕ). get_or (set raises m (widened (raise_of raises m) a b)) n no_raise) e
       ∙ get_or-set_same raises m (widened (raise_of raises m) a b) no_raise known)
 
-  raise_other : (i : ℕ) → (i ≡ m → ⊥) → raise_of after i ≡ raise_of raises i
+  pub raise_other : (i : ℕ) → (i ≡ m → ⊥) → raise_of after i ≡ raise_of raises i
   raise_other i ne = ap (λ (rs : List Raise). get_or rs i no_raise) is
       ∙ get_or-set_other raises m i (widened (raise_of raises m) a b) no_raise ne
 
-  raise_from : (i : ℕ) → (raise_of after i).from ≤ (raise_of raises i).from
+  pub raise_from : (i : ℕ) → (raise_of after i).from ≤ (raise_of raises i).from
   raise_from i = elim (cases_eq i m) [
     | inl e ↦ (let f = ap (λ (r : Raise). r.from) (raise_here i e)
         in let g : (raise_of raises i).from ≡ (raise_of raises m).from =
@@ -84,7 +90,7 @@ module _ (raises : List Raise) (m a b : ℕ) (known : m < length raises) (after 
     | inr ne ↦ (let f = ap (λ (r : Raise). r.from) (raise_other i ne) in omega arith)
   ]
 
-  raise_to : (i : ℕ) → (raise_of raises i).to ≤ (raise_of after i).to
+  pub raise_to : (i : ℕ) → (raise_of raises i).to ≤ (raise_of after i).to
   raise_to i = elim (cases_eq i m) [
     | inl e ↦ (let f = ap (λ (r : Raise). r.to) (raise_here i e)
         in let g : (raise_of raises i).to ≡ (raise_of raises m).to =

@@ -97,10 +97,10 @@ no_part above upto none all (x ∷ xs) =
       | inr off ↦ (let a = spans_low above upto all x xs off in omega arith)
     ]
 
--- what waits waited before, and rose by at most s, within a raise or to a floor at most
+-- what waits waited before, and rose by at most s, within a raise from the floor on or to the floor at most
 pub record IsRisen (s from to floor : ℕ) (a b : ℕ) : Type 0 where
   pub some : 0 < b → 0 < a
-  pub risen : 0 < b → (b ≤ a + s) ⊎ (((from ≤ a) × (b ≤ to)) ⊎ (b ≤ floor))
+  pub risen : 0 < b → (b ≤ a + s) ⊎ (((from ≤ max a floor) × (b ≤ to)) ⊎ (b ≤ floor))
 
 pub record IsRisenLane (s from to floor : ℕ) (x y : Lane) : Type 0 where
   pub time : y.time ≡ x.time

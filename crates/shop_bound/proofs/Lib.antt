@@ -70,6 +70,8 @@ pub mod LaneEstimates
 pub mod ChildRaises
 pub mod EstimatedRaises
 pub mod ChildTurns
+pub mod ChildTrials
+pub mod Watching
 pub mod ChildReads
 pub mod ChildSteps
 pub mod LaneStandings

@@ -84,6 +84,7 @@ still_raisable greatest l nexts A B C e a b n m can x in_a in_b = record {
   ends = (let y = x.ends.long in let z = can.ends in omega arith);
   indexed = subst (λ (k : ℕ). IsIndexed l k) (sym x.raised.positions) can.indexed;
   followed = subst (λ (k : ℕ). IsFollowed l k) (sym x.raised.positions) can.followed;
+  machines = can.machines ∙ sym x.raised.positions;
   times = x.times ∙ can.times;
   places = λ q waits. can.places q (elim (cases_eq (get_or a.heads q 0) 0) [
     | inl z ↦ (let y = x.raised.raised.rests q z in absurd (omega arith))
@@ -223,6 +224,9 @@ module _ (greatest : ℕ) (l : LayoutState) (nexts : List ℕ) (from to e : ℕ)
       | inl h ↦ h
       | inr h ↦ (let a = get_or_past now.heads q 0 h in let b = popped_waits in absurd (omega arith))
     ]
+
+    pub popped_here : IsInBlocks from to q
+    popped_here = (so_far.to_come.waits q is_in).0
 
     popped_to_come : AreToCome from to rest old.heads
     popped_to_come = record {

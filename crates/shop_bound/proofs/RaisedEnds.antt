@@ -97,6 +97,7 @@ module _ (greatest : ℕ) (l : LayoutState) (nexts : List ℕ) (p e : ℕ) (old 
     ends = omega arith;
     indexed = can.indexed;
     followed = can.followed;
+    machines = can.machines;
     times = set.times ∙ can.times;
     places = can.places;
     order = can.order;

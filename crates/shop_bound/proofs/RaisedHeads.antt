@@ -217,6 +217,7 @@ module _ (shop : Shop) (limits : IsWithinLimits shop) (l : LayoutState) (laid : 
               ends = ends;
               indexed = indexed (length rows.heads) (ap length heads ∙ are.positions);
               followed = followed (length rows.heads) (ap length heads ∙ are.positions);
+              machines = laid.machines_at.positions ∙ sym (ap length heads ∙ are.positions);
               times = times;
               places = λ r some.
                   let w = waits_at r (let a : get_or rows.heads r 0 ≡ get_or old r 0 =

@@ -23,6 +23,7 @@ pub mod StandingBounds
 pub mod HeadLimits
 pub mod LaneBounds
 pub mod MachineRaises
+pub mod Watchers
 pub mod Estimates
 pub mod ChildBounds
 pub mod WaitingConflicts

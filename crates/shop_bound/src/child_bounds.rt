@@ -1,20 +1,20 @@
 // The bound after one more operation, by heads in lanes.
-ghost use Rattle.std.specs.Prelude.{◌≡◌, ◌<◌, ◌^◌, ◌++◌, ◌∷◌, [], length, slice_index};
+ghost use Rattle.std.specs.Prelude.{◌≡◌, ◌+◌, ◌<◌, ◌^◌, ◌++◌, ◌∷◌, [], length, slice_index};
 ghost use Rattle.shop_bound.specs.Bound.{lb};
 ghost use Rattle.shop_bound.specs.inner.BoundsUpTo.{IsBoundUpTo};
+ghost use Rattle.shop_bound.specs.inner.ChildBounds.{CanRaise, RaisesSo};
 ghost use Rattle.shop_bound.specs.inner.ChildBounds.{HasNextInPlace, IsNextOperation};
-ghost use Rattle.shop_bound.specs.inner.ChildBounds.{HasRaised, IsBoundByRaises, KeepsRaises};
-ghost use Rattle.shop_bound.specs.inner.ChildBounds.{IsLeastAfter};
+ghost use Rattle.shop_bound.specs.inner.ChildBounds.{IsLeastBefore};
 ghost use Rattle.shop_bound.specs.inner.LaneStates.{CanGoOnInLanes, IsKeptInLanes};
 
 use crate::dispatched::Dispatched;
-use crate::dispatching::advance;
 use crate::fills::go_back;
 use crate::lane_bounds::bound_by_all;
 use crate::lane_heads::LaneHeads;
 use crate::layouts::Layout;
-use crate::look_aheads::foresee;
-use crate::notes::Mark;
+use crate::look_aheads::{is_alone, look_ahead};
+use crate::raises::{raise, replace};
+use crate::watchers::Unwatched;
 use shop_lanes::Lanes;
 
 /// The next operation of a job: its position, its machine, and one more than its end.
@@ -41,28 +41,69 @@ fn next_operation<L: Lanes>(lanes: &L, machines: &[u32], position: usize) -> Nex
 }
 
 impl<L: Lanes> LaneHeads<L> {
-    /// The greater of a number and of what begins within the raises of heads that were noted behind a mark; or as much
-    /// of it as reaches the limit. If not all was noted, all may have changed.
+    /// Raises the heads that the end of an operation raises that is struck out: the greater of a number and of what begins
+    /// within the raises, or as much of it as reaches the limit.
     #[inline(always)]
-    fn bound_by_raises(&mut self, mark: Mark, next: NextOperation, least: u64, limit: u64) -> u64
-        requires { HasRaised L.GREATEST mark self.old }
-        ensures raises { KeepsRaises self.old self.new }
-        ensures bound { IsBoundByRaises self.old mark next.machine next.end least limit result }
+    fn bound_by_watching(&mut self, next: NextOperation, least: u64, limit: u64) -> u64
+        requires { CanRaise L.GREATEST next.machine next.end self.old }
+        ensures { RaisesSo L.GREATEST next.machine next.end least limit self.old self.new result }
     {
-        if !mark.whole {
+        raise(
+            &mut self.lanes,
+            &mut self.notes,
+            &self.layout,
+            &[],
+            next.machine,
+            next.end,
+            &mut self.raises,
+        );
+        self.raises
+            .take_bound(&self.lanes, &self.layout, least, limit)
+    }
+
+    /// The same with estimates, by notes of the heads that are raised: all may have changed if not all was noted.
+    #[inline(never)]
+    fn bound_by_notes(&mut self, next: NextOperation, least: u64, limit: u64) -> u64
+        requires { CanRaise L.GREATEST next.machine next.end self.old }
+        ensures { RaisesSo L.GREATEST next.machine next.end least limit self.old self.new result }
+    {
+        let first = self.notes.list().len();
+        raise(
+            &mut self.lanes,
+            &mut self.notes,
+            &self.layout,
+            &[],
+            next.machine,
+            next.end,
+            &mut Unwatched,
+        );
+        if !self.notes.is_whole() {
             let machines = self.raises.machines();
             return bound_by_all(&self.lanes, &self.layout, machines, self.top, least, limit);
         }
         self.raises.add_notes(
             &self.lanes,
             self.layout.machines(),
-            &self.notes.list()[mark.first..],
+            &self.notes.list()[first..],
             next,
             self.estimates.upper(),
             least,
         );
         self.raises
             .take_bound(&self.lanes, &self.layout, least, limit)
+    }
+
+    /// The same, with estimates or without.
+    #[inline(always)]
+    fn bound_by_raises(&mut self, next: NextOperation, least: u64, limit: u64) -> u64
+        requires { CanRaise L.GREATEST next.machine next.end self.old }
+        ensures { RaisesSo L.GREATEST next.machine next.end least limit self.old self.new result }
+    {
+        if self.estimates.upper().is_empty() {
+            self.bound_by_watching(next, least, limit)
+        } else {
+            self.bound_by_notes(next, least, limit)
+        }
     }
 
     /// The bound after the next operation of a job, by the heads that it raises, or as much of it as reaches the limit.
@@ -77,8 +118,10 @@ impl<L: Lanes> LaneHeads<L> {
         requires can { CanGoOnInLanes L.GREATEST word.old.shop word.old.word job self.old }
         requires position { next.position ≡ slice_index self.old.nexts job }
         requires machine { next.machine ≡ slice_index self.old.layout.machines next.position }
+        requires end { next.end ≡ slice_index self.old.rows.heads next.position
+            + slice_index self.old.rows.times next.position }
         requires small { length self.old.rows.heads < 2 ^ 64 }
-        requires least { IsLeastAfter word.old.shop word.old.word self.old.layout self.old.rows job
+        requires least { IsLeastBefore word.old.shop word.old.word self.old.layout job
             next.position next.machine next.end least }
         ensures bound { IsBoundUpTo limit (lb word.old.shop (word.old.word ++ job ∷ [])) result }
         ensures kept { IsKeptInLanes L.GREATEST word.old.shop word.old.word self.new }
@@ -87,18 +130,19 @@ impl<L: Lanes> LaneHeads<L> {
         let machines = self.raises.machines();
         self.estimates
             .take(&self.lanes, &self.layout, machines, self.top);
-        let mark = advance(
-            &mut self.lanes,
-            &mut self.notes,
-            &self.layout,
-            &[],
-            next.position,
-            next.machine,
-        );
-        let bound = self.bound_by_raises(mark, next, least, limit);
-        let noted = &self.notes.list()[mark.first..];
-        go_back(&mut self.lanes, &self.layout, &[], word, noted, mark.whole);
-        self.notes.truncate(mark.first);
+        let head = self.lanes.head(next.position);
+        let first = self.notes.begin();
+        replace(&mut self.lanes, &mut self.notes, next.position, 0);
+        let ahead = look_ahead(&self.lanes, &self.layout, next, least);
+        if limit <= ahead {
+            self.lanes.set_head(next.position, head);
+            self.notes.truncate(first);
+            return ahead;
+        }
+        let bound = self.bound_by_raises(next, ahead, limit);
+        let (noted, whole) = (&self.notes.list()[first..], self.notes.is_whole());
+        go_back(&mut self.lanes, &self.layout, &[], word, noted, whole);
+        self.notes.truncate(first);
         bound
     }
 
@@ -123,10 +167,9 @@ impl<L: Lanes> LaneHeads<L> {
         if limit <= least {
             return least;
         }
-        let foreseen = foresee(&mut self.lanes, &self.layout, next, least, limit);
-        if foreseen.is_final {
-            return foreseen.bound;
+        if is_alone(&self.lanes, &self.layout, next) {
+            return least;
         }
-        self.raised_bound(word, job, next, foreseen.bound, limit)
+        self.raised_bound(word, job, next, least, limit)
     }
 }

@@ -5,6 +5,7 @@ ghost use Rattle.shop_bound.specs.inner.LaneStates.{Advances, HasNextAt};
 use crate::layouts::Layout;
 use crate::notes::{Mark, Notes};
 use crate::raises::{raise, replace};
+use crate::watchers::Unwatched;
 use shop_lanes::Lanes;
 
 /// Takes the next operation of a job, which stands at this position and is on this machine, out of the heads and raises
@@ -27,7 +28,7 @@ pub(crate) fn advance<L: Lanes>(
     let end = lanes.head(position) + lanes.time(position);
     let first = notes.begin();
     replace(lanes, notes, position, 0);
-    raise(lanes, notes, layout, next, machine, end);
+    raise(lanes, notes, layout, next, machine, end, &mut Unwatched);
     Mark {
         position,
         first,

@@ -34,6 +34,7 @@ mod thresholds;
 mod triples;
 mod unplaced;
 mod waiting;
+mod watchers;
 
 pub use desks::Desk;
 pub use head_rows::Heads;

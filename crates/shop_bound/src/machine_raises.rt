@@ -13,6 +13,7 @@ use crate::head_raises::{NO_RAISE, Raise};
 use crate::lane_bounds::bound_by_raise;
 use crate::layouts::Layout;
 use crate::notes::Note;
+use crate::watchers::Watcher;
 use shop_lanes::Lanes;
 use std::alloc::{AllocError, Global};
 use std::marker::Model;
@@ -74,6 +75,19 @@ fn add(
     count + usize::from(raise.to == 0)
 }
 
+impl Watcher for MachineRaises {
+    ghost IS_WATCHING = { true };
+
+    ghost raises = { λ r. r };
+
+    #[inline(always)]
+    fn see(&mut self, machine: u32, before: u64, after: u64) {
+        let raises = self.raises.as_mut_slice();
+        let raised = self.raised.as_mut_slice();
+        self.count = add(raises, raised, self.count, machine, before, after);
+    }
+}
+
 impl MachineRaises {
     /// Of so many machines, all empty. Fails with `AllocError` if memory runs out.
     pub(crate) fn new(alloc: Global, machines: usize) -> Result<MachineRaises, AllocError>
@@ -97,8 +111,7 @@ impl MachineRaises {
 
     /// Adds what was noted and stands at these positions now, where something waits, but for what is foreseen and for
     /// what rose so little that, by the estimates, no span is more than one above `least`.
-    #[inline(always)]
-    fn widen<L: Lanes>(
+    pub(crate) fn add_notes<L: Lanes>(
         &mut self,
         lanes: &L,
         machines: &[u32],
@@ -126,47 +139,6 @@ impl MachineRaises {
             count = add(raises, raised, count, machine, note.head, head);
         }
         self.count = count;
-    }
-
-    /// The same, if some estimates are known.
-    #[inline(never)]
-    fn widen_by_estimates<L: Lanes>(
-        &mut self,
-        lanes: &L,
-        machines: &[u32],
-        notes: &[Note],
-        next: NextOperation,
-        upper: &[u64],
-        least: u64,
-    )
-        requires { CanAddNotes self.old machines.now (L.rows lanes.now).heads notes.now }
-        ensures { HasAddedNotes next.machine next.end upper.now least machines.now
-            (L.rows lanes.now).heads notes.now self.old self.new }
-    {
-        self.widen(lanes, machines, notes, next, upper, least);
-    }
-
-    /// The same, with estimates or without.
-    #[inline(always)]
-    pub(crate) fn add_notes<L: Lanes>(
-        &mut self,
-        lanes: &L,
-        machines: &[u32],
-        notes: &[Note],
-        next: NextOperation,
-        upper: &[u64],
-        least: u64,
-    )
-        requires { CanAddNotes self.old machines.now (L.rows lanes.now).heads notes.now }
-        ensures { HasAddedNotes next.machine next.end upper.now least machines.now
-            (L.rows lanes.now).heads notes.now self.old self.new }
-    {
-        if upper.is_empty() {
-            // no note is tested where there are no estimates
-            self.widen(lanes, machines, notes, next, &[], least);
-        } else {
-            self.widen_by_estimates(lanes, machines, notes, next, upper, least);
-        }
     }
 
     /// The greater of a number and of what begins within the raises; or as much of it as reaches the limit. They are

@@ -4,7 +4,7 @@ use Rattle.std.proofs.Common.{refl}
 use Rattle.shop_lanes.specs.Rows.{Rows, Lane, lanes_between}
 use Rattle.shop_lanes.specs.Spans.{span, spans_between}
 use Rattle.shop_lanes.specs.Marks.{positions_below}
-use Rattle.shop_lanes.specs.inner.SetBits.{set_bits}
+use Rattle.shop_lanes.specs.SetBits.{set_bits}
 
 -- three operations with heads of 3, 1 and 6, and a position where nothing waits
 abbrev pub three : List Lane

@@ -2,18 +2,19 @@
 --     lanes_on rows l m              the lanes of machine m
 --     AreSpansFit greatest top ..    each machine has its blocks, and a span from `top` on at the
 --                                    latest fits
---     NoneBelow heads from to limit  nothing waits in these blocks with a head below the limit
+--     HasNoOther marks position      no position but this one is marked
+--     NoneElseBelow heads ..         nothing in these blocks but at a position waits with a head
+--                                    below the limit
 --     AreMachinesAt l machines ms    the machine of each position
 --     IsNoteWithin raises ms heads   a note is within the raise of its machine
-use Rattle.std.specs.Prelude.{◌≡◌, true, false, ℕ, ◌+◌, ◌-◌, ◌*◌, ◌≤◌, ◌<◌, ◌⊎◌, max, List, length}
+use Rattle.std.specs.Prelude.{◌≡◌, ℕ, ◌+◌, ◌-◌, ◌*◌, ◌≤◌, ◌<◌, ◌⊎◌, max, List, [], ◌∷◌, length}
 use Rattle.std.specs.Prelude.{slice_index}
 use Rattle.shop_lanes.specs.Rows.{Rows, Lane, AreBlocks, lanes_between}
-use Rattle.shop_lanes.specs.Spans.{span, spans_between, FitsSpan}
+use Rattle.shop_lanes.specs.Spans.{spans_between, FitsSpan}
 use Rattle.shop_bound.specs.inner.HeadRaises.{raise_of}
 use Rattle.shop_bound.specs.inner.Layings.{AreMachinesOf}
 use Rattle.shop_bound.specs.inner.Layouts.{LayoutState}
 use Rattle.shop_bound.specs.declared.head_raises.Raise.{Raise}
-use Rattle.shop_bound.specs.declared.look_aheads.Foreseen.{Foreseen}
 use Rattle.shop_bound.specs.declared.notes.Note.{Note}
 
 abbrev pub lanes_on : Rows → LayoutState → ℕ → List Lane
@@ -25,9 +26,12 @@ pub record AreSpansFit (greatest top machines : ℕ) (l : LayoutState) (rows : R
       → AreBlocks rows (slice_index l.blocks m) (slice_index l.blocks (m + 1))
   pub fits : (m : ℕ) → m < machines → FitsSpan greatest top (lanes_on rows l m)
 
-abbrev pub NoneBelow : List ℕ → ℕ → ℕ → ℕ → Type 0
-NoneBelow heads from to limit = (q : ℕ) → 8 * from ≤ q → q < 8 * to
-    → (slice_index heads q ≡ 0) ⊎ (limit ≤ slice_index heads q)
+abbrev pub HasNoOther : List ℕ → ℕ → Type 0
+HasNoOther marks position = (marks ≡ []) ⊎ (marks ≡ position ∷ [])
+
+abbrev pub NoneElseBelow : List ℕ → ℕ → ℕ → ℕ → ℕ → Type 0
+NoneElseBelow heads from to position limit = (q : ℕ) → 8 * from ≤ q → q < 8 * to
+    → (q ≡ position → ⊥) → (slice_index heads q ≡ 0) ⊎ (limit ≤ slice_index heads q)
 
 -- of a machine, when it is free or, if that is greater, the greatest span
 abbrev pub part_by_spans : ℕ → List ℕ → Rows → LayoutState → ℕ → ℕ
@@ -48,12 +52,3 @@ pub record IsNoteWithin (raises : List Raise) (ms heads : List ℕ) (note : Note
 -- no raise goes beyond
 abbrev pub AreRaisesUpTo : ℕ → List Raise → Type 0
 AreRaisesUpTo top raises = (m : ℕ) → m < length raises → (raise_of raises m).to ≤ top
-
--- the bound is `least` if nothing waits below the end; it is else at least `least` and, unless it
--- reaches the limit, the span of all that waits from the end on, and no more than these
-pub record Foresees (rows : Rows) (from to end least limit : ℕ) (f : Foreseen) : Type 0 where
-  pub low : least ≤ f.bound
-  pub high : f.bound ≤ max least (span 1 end (lanes_between rows from to) - 1)
-  pub final : f.is_final ≡ true → (NoneBelow rows.heads from to end × (f.bound ≡ least))
-      ⊎ (limit ≤ f.bound)
-  pub covers : f.is_final ≡ false → span 1 end (lanes_between rows from to) ≤ f.bound + 1

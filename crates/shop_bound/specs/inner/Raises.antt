@@ -78,6 +78,7 @@ pub record IsRaisable (greatest : ℕ) (l : LayoutState) (nexts : List ℕ) (row
   pub ends : length nexts ≤ length rows.ends
   pub indexed : IsIndexed l (length rows.heads)
   pub followed : IsFollowed l (length rows.heads)
+  pub machines : length l.machines ≡ length rows.heads
   pub times : rows.times ≡ l.times
   pub places : (q : ℕ) → 0 < slice_index rows.heads q → IsPlace l q
   pub order : AreInRouteOrder l (at_in rows.heads)

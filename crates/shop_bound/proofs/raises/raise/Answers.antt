@@ -1,6 +1,7 @@
-use Rattle.std.proofs.Common.{ℕ, ◌+◌, get_or, subst, sym, arith}
-use Rattle.shop_bound.specs.inner.Raises.{Raises, IsInBlocks}
+use Rattle.std.proofs.Common.{ℕ, ◌+◌, ◌∙◌, get_or, refl, subst, sym, arith}
+use Rattle.shop_bound.specs.inner.Raises.{Raises, IsInBlocks, IsOnMachine}
 use Rattle.shop_bound.proofs.RaiseLoops.{blocks_raisable, more_blocks, no_blocks, all_blocks}
+use Rattle.shop_bound.proofs.Watching.{sees_both, sees_none}
 use Rattle.shop_bound.proofs.raises.raise.Goals as goal
 
 pub overflow_add-machine : goal.overflow_add-machine
@@ -17,6 +18,10 @@ loop-from-init g c = record {
       (no_blocks g.L.Lanes.GREATEST c.args.layout.now c.args.next.now (get_or c.args.layout.now.blocks c.args.machine 0)
       (get_or c.args.layout.now.blocks (c.args.machine + 1) 0) c.args.end (g.L.Lanes.rows c.args.lanes.now)
       c.args.notes.now c.requires.raisable);
+  seen = sees_none g.W.Watcher.IS_WATCHING c.args.layout.now.machines
+      (IsOnMachine c.args.layout.now c.args.machine) c.args.end (g.L.Lanes.rows c.args.lanes.now).heads
+      (g.W.Watcher.raises c.args.watcher.now);
+  machines = λ is. refl;
 }
 
 pub raise_blocks-requires-clause-raisable : goal.raise_blocks-requires-clause-raisable
@@ -28,6 +33,10 @@ raise_blocks-requires-clause-raisable g c =
     (get_or c.args.layout.now.blocks (c.args.machine + 1) 0) c.args.end
     (g.L.Lanes.rows c.args.lanes.now) (g.L.Lanes.rows c.loop-from.lanes) c.args.notes.now c.loop-from.notes
     c.loop-from.invariant.raises c.loop-from.invariant.ordered (omega arith) (omega arith) c.requires.raisable
+
+pub raise_blocks-requires-clause-known : goal.raise_blocks-requires-clause-known
+raise_blocks-requires-clause-known g c = λ is q here.
+    let long = c.loop-from.invariant.machines is in let known = c.requires.known is q here in omega arith
 
 pub loop-from-preserved : goal.loop-from-preserved
 loop-from-preserved g c =
@@ -41,11 +50,20 @@ loop-from-preserved g c =
           (get_or c.args.layout.now.blocks (c.args.machine + 1) 0) c.args.end
           (g.L.Lanes.rows c.args.lanes.now) (g.L.Lanes.rows c.loop-from.lanes) c.args.notes.now c.loop-from.notes
           c.loop-from.invariant.raises o (omega arith) (omega arith)
-          (g.L.Lanes.rows c.raise_blocks.new.lanes) c.raise_blocks.new.notes c.raise_blocks.ensures;
+          (g.L.Lanes.rows c.raise_blocks.new.lanes) c.raise_blocks.new.notes c.raise_blocks.ensures.raises;
+      seen = sees_both g.W.Watcher.IS_WATCHING c.args.layout.now.machines
+          (IsOnMachine c.args.layout.now c.args.machine) (IsInBlocks c.loop-from.from (c.loop-from.from + c.min.result))
+          (IsOnMachine c.args.layout.now c.args.machine) c.args.end (g.L.Lanes.rows c.args.lanes.now).heads
+          (g.L.Lanes.rows c.loop-from.lanes).heads (g.L.Lanes.rows c.raise_blocks.new.lanes).heads
+          (g.W.Watcher.raises c.args.watcher.now) (g.W.Watcher.raises c.loop-from.watcher)
+          (g.W.Watcher.raises c.raise_blocks.new.watcher) (λ q here. here)
+          (λ q here. (let low = here.0 in let high = here.1 in (omega arith, omega arith)))
+          c.raise_blocks.ensures.raises.raised.raised.rises c.loop-from.invariant.seen c.raise_blocks.ensures.seen;
+      machines = λ is. c.raise_blocks.ensures.machines is ∙ c.loop-from.invariant.machines is;
     }
 
-pub returns : goal.returns
-returns g c =
+pub returns-clause-raises : goal.returns-clause-raises
+returns-clause-raises g c =
     let a = c.block-behind.ensures in let b = c.loop-from-test.false in let d = c.loop-from.invariant.within
     in all_blocks g.L.Lanes.GREATEST c.args.layout.now c.args.next.now
     (get_or c.args.layout.now.blocks c.args.machine 0)

@@ -6,7 +6,7 @@ use Rattle.shop_bound.specs.inner.HeadRaises.{raise_of, widened}
 use Rattle.shop_bound.specs.inner.MachineRaises.{HasAddedNotes}
 use Rattle.shop_bound.proofs.DeskSteps.{written_vec}
 use Rattle.shop_bound.proofs.LaneBoundTurns.{up_to_turn, within_turn}
-use Rattle.shop_bound.proofs.machine_raises.MachineRaises.widen.Goals as goal
+use Rattle.shop_bound.proofs.machine_raises.MachineRaises.add_notes.Goals as goal
 
 pub loop-note-preserved : goal.loop-note-preserved
 loop-note-preserved g c =

@@ -3,7 +3,7 @@ use Rattle.shop_bound.specs.declared.notes.Note.{Note}
 use Rattle.shop_bound.specs.inner.Estimates.{IsNoteCovered}
 use Rattle.shop_bound.specs.inner.LaneBounds.{AreRaisesUpTo}
 use Rattle.shop_bound.specs.inner.MachineRaises.{AreListed}
-use Rattle.shop_bound.proofs.machine_raises.MachineRaises.widen.Given as goal
+use Rattle.shop_bound.proofs.machine_raises.MachineRaises.add_notes.Given as goal
 
 abbrev pub invariant-loop-note : goal.invariant-loop-note
 invariant-loop-note g l = record {

@@ -1,7 +1,8 @@
-use Rattle.std.proofs.Common.{◌≤◌, ◌∙◌, arith, sym}
+use Rattle.std.proofs.Common.{◌≤◌, ℕ, List, arith, subst}
+use Rattle.shop_bound.specs.inner.LaneBounds.{HasNoOther}
 use Rattle.shop_bound.proofs.LaneBoundTurns.{none_turn}
-use Rattle.shop_bound.proofs.look_aheads.is_none_below.Goals as goal
-use Rattle.shop_bound.proofs.look_aheads.is_none_below.Goals.{then-to-first-gt8, else-to-first-gt8}
+use Rattle.shop_bound.proofs.look_aheads.is_none_else_below.Goals as goal
+use Rattle.shop_bound.proofs.look_aheads.is_none_else_below.Goals.{then-to-first-gt8, else-to-first-gt8}
 
 pub loop-first-preserved : goal.loop-first-preserved
 loop-first-preserved g c =
@@ -20,6 +21,7 @@ loop-first-preserved g c =
       from = omega arith;
       to = omega arith;
       none = none_turn (g.L.Lanes.rows c.args.lanes.now).heads c.args.from c.loop-first.first c.if-to-first-gt8.next
-          c.args.limit known.none (sym c.below.ensures ∙ c.is_empty.ensures.0 c.if-not-is_empty.false) low
-          (omega arith);
+          c.args.position c.args.limit known.none
+          (subst (λ (ms : List ℕ). HasNoOther ms c.args.position) c.below.ensures
+          (c.has_no_other.ensures c.if-not-has_no_other.false)) low (omega arith);
     }
