@@ -63,8 +63,8 @@ impl<'a> Progress<'a> {
         Ok(())
     }
 
-    /// Ends a walk: gives what was found, and the nodes left, in no more room than they need. Its own room stays for the
-    /// next walk. Fails with `AllocError` if memory runs out.
+    /// Ends a walk: gives what was found, and the nodes left, in no more room than they need. Its own room for nodes is
+    /// kept. Fails with `AllocError` if memory runs out.
     pub(crate) fn end(&mut self, alloc: Global) -> Result<(Option<Word>, Vec<Node>), AllocError>
         ensures found { IfOk result (λ r. r.0 ≡ self.old.found) }
         ensures left { IfOk result (λ r. r.1.items ≡ self.old.left.items) }
