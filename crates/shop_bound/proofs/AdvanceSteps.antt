@@ -235,7 +235,7 @@ module _ (greatest : ℕ) (l : LayoutState) (nexts : List ℕ) (q m h t : ℕ) (
     first = first;
     whole = whole;
     at = at;
-    noted = subst (λ (n : NotesState). LeadsBack greatest n last rows.heads new.heads) begun
+    noted = subst (λ (n : NotesState). LeadsBack greatest rows.times n last rows.heads new.heads) begun
         (advanced_noted greatest next.shop l rows next.word next.job next.kept next.fits q h t next.at read timed
         lifted notes mid wrote m its_machine nexts new last raising);
     heads = λ shop w j kept fits is. advanced greatest shop l rows w j kept fits q h t is read timed lifted notes mid

@@ -70,7 +70,8 @@ add_notes-requires g c =
     in record {
       inside = subst (λ (ns : List Note). All (λ n. n.position < length (g.L.Lanes.rows c.raise.new.lanes).heads) ns)
           (sym more) (notes_within g.L.Lanes.GREATEST (length (g.L.Lanes.rows c.raise.new.lanes).heads)
-          (length (g.L.Lanes.rows c.self.inside.lanes).heads) raises.noted.more raises.noted.fit (sym long));
+          (length (g.L.Lanes.rows c.self.inside.lanes).heads) (g.L.Lanes.rows c.self.inside.lanes).times
+          raises.noted.more raises.noted.fit (sym long));
       positions = omega arith;
       known = subst (λ (ms : List ℕ). AreKnown ms (length c.self.inside.raises)) (sym machines) can.known;
     }

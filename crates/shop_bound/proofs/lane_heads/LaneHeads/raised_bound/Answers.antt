@@ -7,7 +7,7 @@ use Rattle.shop_lanes.specs.Rows.{Rows}
 use Rattle.shop_bound.specs.declared.notes.Note.{Note}
 use Rattle.shop_bound.proofs.ChildSteps.{child_again, child_is, kept_fit, noted_are}
 use Rattle.shop_bound.proofs.ChildSteps.{notes_again, rested_after}
-use Rattle.shop_bound.proofs.ChildTrials.{head_fits, kept_back, left_advances, left_fill, left_first, left_is}
+use Rattle.shop_bound.proofs.ChildTrials.{blocks_known, end_fits, head_fits, kept_back, left_advances, left_fill, left_first, left_is}
 use Rattle.shop_bound.proofs.ChildTrials.{left_notes, look_blocks, look_fits, place_within, seen_before, seen_enough}
 use Rattle.shop_bound.proofs.ChildTrials.{some_end, struck_within, trial_can}
 use Rattle.shop_bound.proofs.lane_heads.LaneHeads.raised_bound.Goals as goal
@@ -20,6 +20,12 @@ take-requires-clause-fits g c =
     (g.L.Lanes.rows c.self.inside.lanes)) (sym c.machines-machines.ensures)
     (kept_fit g.L.Lanes.GREATEST c.args.word.now.shop c.args.word.now.word _ can.kept (g.L.Lanes.rows c.self.inside.lanes) refl refl
     refl)
+
+pub take-requires-clause-known : goal.take-requires-clause-known
+take-requires-clause-known g c =
+    let can = subst (λ (s : LaneState). CanGoOnInLanes g.L.Lanes.GREATEST c.args.word.now.shop c.args.word.now.word
+    c.args.job s) (sym c.self.view_is) c.requires.can
+    in can.kept.estimates
 
 pub head-head-requires : goal.head-head-requires
 head-head-requires g c =
@@ -51,14 +57,43 @@ pub replace-requires-clause-fits_now : goal.replace-requires-clause-fits_now
 replace-requires-clause-fits_now g c =
     let can = subst (λ (s : LaneState). CanGoOnInLanes g.L.Lanes.GREATEST c.args.word.now.shop c.args.word.now.word
     c.args.job s) (sym c.self.view_is) c.requires.can
-    in head_fits g.L.Lanes.GREATEST c.args.word.now.shop c.args.word.now.word _ can.kept c.args.job can.fits c.args.next.position
-    c.args.next.machine c.args.next.end
+    in let fits = end_fits g.L.Lanes.GREATEST c.args.word.now.shop c.args.word.now.word _ can.kept c.args.job can.fits
+    c.args.next.position c.args.next.machine c.args.next.end
     (subst (λ (s : LaneState). c.args.next.position ≡ get_or s.nexts c.args.job 0) (sym c.self.view_is)
     c.requires.position)
     (subst (λ (s : LaneState). c.args.next.machine ≡ get_or s.layout.machines c.args.next.position 0)
     (sym c.self.view_is) c.requires.machine)
     (subst (λ (s : LaneState). c.args.next.end ≡ get_or s.rows.heads c.args.next.position 0
     + get_or s.rows.times c.args.next.position 0) (sym c.self.view_is) c.requires.end)
+    in let end = subst (λ (s : LaneState). c.args.next.end ≡ get_or s.rows.heads c.args.next.position 0
+    + get_or s.rows.times c.args.next.position 0) (sym c.self.view_is) c.requires.end
+    in omega arith
+
+pub look_ahead-ahead-requires-clause-known : goal.look_ahead-ahead-requires-clause-known
+look_ahead-ahead-requires-clause-known g c =
+    let can = subst (λ (s : LaneState). CanGoOnInLanes g.L.Lanes.GREATEST c.args.word.now.shop c.args.word.now.word
+    c.args.job s) (sym c.self.view_is) c.requires.can
+    in (blocks_known g.L.Lanes.GREATEST c.args.word.now.shop c.args.word.now.word _ can.kept c.args.job can.fits
+    c.args.next.position c.args.next.machine c.args.next.end
+    (subst (λ (s : LaneState). c.args.next.position ≡ get_or s.nexts c.args.job 0) (sym c.self.view_is)
+    c.requires.position)
+    (subst (λ (s : LaneState). c.args.next.machine ≡ get_or s.layout.machines c.args.next.position 0)
+    (sym c.self.view_is) c.requires.machine)
+    (subst (λ (s : LaneState). c.args.next.end ≡ get_or s.rows.heads c.args.next.position 0
+    + get_or s.rows.times c.args.next.position 0) (sym c.self.view_is) c.requires.end)).0
+
+pub look_ahead-ahead-requires-clause-small : goal.look_ahead-ahead-requires-clause-small
+look_ahead-ahead-requires-clause-small g c =
+    let can = subst (λ (s : LaneState). CanGoOnInLanes g.L.Lanes.GREATEST c.args.word.now.shop c.args.word.now.word
+    c.args.job s) (sym c.self.view_is) c.requires.can
+    in (blocks_known g.L.Lanes.GREATEST c.args.word.now.shop c.args.word.now.word _ can.kept c.args.job can.fits
+    c.args.next.position c.args.next.machine c.args.next.end
+    (subst (λ (s : LaneState). c.args.next.position ≡ get_or s.nexts c.args.job 0) (sym c.self.view_is)
+    c.requires.position)
+    (subst (λ (s : LaneState). c.args.next.machine ≡ get_or s.layout.machines c.args.next.position 0)
+    (sym c.self.view_is) c.requires.machine)
+    (subst (λ (s : LaneState). c.args.next.end ≡ get_or s.rows.heads c.args.next.position 0
+    + get_or s.rows.times c.args.next.position 0) (sym c.self.view_is) c.requires.end)).1
 
 pub look_ahead-ahead-requires-clause-blocks : goal.look_ahead-ahead-requires-clause-blocks
 look_ahead-ahead-requires-clause-blocks g c =
