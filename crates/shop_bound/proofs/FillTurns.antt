@@ -13,7 +13,7 @@ use Rattle.shop_model.specs.Word.{Placing, placing}
 use Rattle.shop_model.proofs.Ends.{IsOperation-job}
 use Rattle.shop_bound.specs.Heads.{ready_after, head_of}
 use Rattle.shop_model.specs.Placements.{PlacementState, IsPlacement}
-use Rattle.shop_bound.specs.inner.Fills.{IsStored, IsPositionFree, IsRested, CanFill, AreSameBeside, HasFilledJob}
+use Rattle.shop_bound.specs.inner.Fills.{IsStored, IsPositionFree, CanFill, AreSameBeside, HasFilledJob}
 use Rattle.shop_bound.specs.inner.Fills.{HasFilled, CanPutBack, HasPutBack, GoesBack}
 use Rattle.shop_bound.specs.inner.Raises.{KeepsEnds, SetsEndAt}
 use Rattle.shop_bound.specs.inner.LaneHeads.{AreHeadsAt, restored}
@@ -302,17 +302,16 @@ back_by_notes greatest shop w l nexts notes whole old new noted back = record {
   heads = λ known. subst (AreHeadsAt shop (placing shop w) l) (sym back.heads) (known noted);
 }
 
-pub back_anew : (greatest : ℕ) (shop : Shop) (w : List ℕ) (l : LayoutState) (s : PlacementState) (nexts : List ℕ)
-    (notes : List Note) (whole : Bool) (old new : Rows) → whole ≡ false → IsRested shop l old.heads
-    → HasFilled shop l s old new → IsPlacement shop (placing shop w) s
-    → GoesBack greatest shop w l nexts notes whole old new
-back_anew greatest shop w l s nexts notes whole old new lost rested filled placed = record {
-  times = filled.beside.times;
-  tails = filled.beside.tails;
-  long = ap length filled.beside.ends;
-  none = λ e. filled.beside.ends;
+pub back_anew : (greatest : ℕ) (shop : Shop) (w : List ℕ) (l : LayoutState) (nexts : List ℕ) (notes : List Note)
+    (whole : Bool) (old new : Rows) → whole ≡ false → AreSameBeside old new
+    → AreHeadsAt shop (placing shop w) l new.heads → GoesBack greatest shop w l nexts notes whole old new
+back_anew greatest shop w l nexts notes whole old new lost beside heads = record {
+  times = beside.times;
+  tails = beside.tails;
+  long = ap length beside.ends;
+  none = λ e. beside.ends;
   each = λ all. absurd (true≢false (sym all ∙ lost));
-  heads = λ known. filled.filled rested (placing shop w) placed;
+  heads = λ known. heads;
 }
 
 -- the places and the route of a job, as they are read

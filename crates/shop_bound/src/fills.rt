@@ -1,7 +1,9 @@
 // Heads by position are set anew from a placement, or put back by notes.
 ghost use Rattle.std.specs.Prelude.{◌≡◌, ◌<◌, length};
-ghost use Rattle.shop_bound.specs.inner.Fills.{CanFill, CanPutBack, GoesBack, HasFilled};
-ghost use Rattle.shop_bound.specs.inner.Fills.{HasFilledJob, HasPutBack, IsRested};
+ghost use Rattle.shop_model.specs.Word.{placing};
+ghost use Rattle.shop_bound.specs.inner.LaneHeads.{AreHeadsAt};
+ghost use Rattle.shop_bound.specs.inner.Fills.{AreSameBeside, CanFill, CanPutBack, GoesBack};
+ghost use Rattle.shop_bound.specs.inner.Fills.{HasFilled, HasFilledJob, HasPutBack, IsRested};
 ghost use Rattle.shop_bound.specs.inner.PlacedWords.{IsOfWord};
 
 use crate::dispatched::Dispatched;
@@ -74,6 +76,21 @@ pub(crate) fn fill<L: Lanes>(
     }
 }
 
+/// Sets the heads of all operations to those of a word.
+#[cold]
+#[inline(never)]
+fn fill_anew<L: Lanes>(lanes: &mut L, layout: &Layout, word: &mut Dispatched)
+    requires fill { CanFill L.GREATEST word.old.shop layout.now (L.rows lanes.old) }
+    requires rested { IsRested word.old.shop layout.now (L.rows lanes.old).heads }
+    ensures beside { AreSameBeside (L.rows lanes.old) (L.rows lanes.new) }
+    ensures heads { AreHeadsAt word.old.shop (placing word.old.shop word.old.word) layout.now
+        (L.rows lanes.new).heads }
+    ensures same { word.new ≡ word.old }
+{
+    word.placement.set_to(word.instance, word.jobs.as_slice());
+    fill(lanes, layout, word.instance, &word.placement);
+}
+
 /// Goes back to the heads of a word, by notes if all was noted that changed since: then the ends of these next
 /// operations are kept up.
 #[inline(always)]
@@ -95,7 +112,6 @@ pub(crate) fn go_back<L: Lanes>(
     if whole {
         put_back(lanes, layout, next, notes);
     } else {
-        word.placement.set_to(word.instance, word.jobs.as_slice());
-        fill(lanes, layout, word.instance, &word.placement);
+        fill_anew(lanes, layout, word);
     }
 }
