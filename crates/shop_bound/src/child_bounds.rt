@@ -41,8 +41,8 @@ fn next_operation<L: Lanes>(lanes: &L, machines: &[u32], position: usize) -> Nex
 }
 
 impl<L: Lanes> LaneHeads<L> {
-    /// Raises the heads that the end of an operation raises that is struck out: the greater of a number and of what begins
-    /// within the raises, or as much of it as reaches the limit.
+    /// Raises the heads that the end of an operation raises that is struck out, and tells the greater of a number and
+    /// of what begins within the raises; or as much of it as reaches the limit.
     #[inline(always)]
     fn bound_by_watching(&mut self, next: NextOperation, least: u64, limit: u64) -> u64
         requires { CanRaise L.GREATEST next.machine next.end self.old }

@@ -15,7 +15,7 @@ fn has_no_other(marks: Marks, position: usize) -> bool
 {
     let mut marks = marks;
     match marks.pop_first() {
-        Some(first) => first == position && marks.is_empty(),
+        Some(first) => (first == position) & marks.is_empty(),
         None => true,
     }
 }
