@@ -148,7 +148,8 @@ module _ (greatest : ℕ) (shop : Shop) (w : List ℕ) (s : LaneState) (kept : I
       ∙ take-append_seam s.notes.list advances.noted.more)))
 
   pub child_again : length raises ≡ length s.raises → AreEmpty raises → (noted : List Note)
-      → noted ≡ advances.noted.more → (rested : Rows) → GoesBack greatest shop w v.layout [] noted mark.whole v.rows rested
+      → noted ≡ advances.noted.more → (rested : Rows) → GoesBack greatest shop w v.layout [] noted mark.whole v.rows
+      rested
       → (notes : NotesState) → notes.list ≡ s.notes.list
       → IsKeptInLanes greatest shop w (record v { rows = rested; notes = notes })
   child_again many empty noted is rested back notes list =
@@ -158,7 +159,8 @@ module _ (greatest : ℕ) (shop : Shop) (w : List ℕ) (s : LaneState) (kept : I
       empty us (estimates_again greatest shop s.layout w s.rows rested kept.kept heads s.top us estimates))
     where
       back_here : GoesBack greatest shop w s.layout [] noted mark.whole rows rested
-      back_here = subst (λ (x : LaneState). GoesBack greatest shop w x.layout [] noted mark.whole x.rows rested) v_is back
+      back_here = subst (λ (x : LaneState). GoesBack greatest shop w x.layout [] noted mark.whole x.rows rested) v_is
+      back
 
       heads : AreHeadsInLanes greatest shop w s.layout rested
       heads = record {

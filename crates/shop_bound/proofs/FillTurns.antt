@@ -58,7 +58,8 @@ end_put greatest l nexts now mid new q v own within sets wrote =
           let x = get_or nexts j 0
           in let end : get_or new.ends j 0 ≡ get_or mid.ends j 0 = ap (λ (xs : List ℕ). get_or xs j 0) ends
           in let time : get_or new.times x 0 ≡ get_or now.times x 0 = ap (λ (xs : List ℕ). get_or xs x 0) times
-          in let head : get_or new.heads x 0 ≡ get_or (set now.heads q v) x 0 = ap (λ (xs : List ℕ). get_or xs x 0) heads
+          in let head : get_or new.heads x 0 ≡ get_or (set now.heads q v) x 0 = ap (λ (xs : List ℕ). get_or xs x 0)
+          heads
           in elim (cases_eq x q) [
             | inl e ↦ (
                 let mine = own j known (omega arith)
@@ -74,7 +75,8 @@ end_put greatest l nexts now mid new q v own within sets wrote =
                 let other = sets.others j known ne
                 in let left = get_or-set_other now.heads q x v 0 ne
                 in end ∙ (other ∙ (was ∙ (elim (cases_lt x (length now.heads)) [
-                  | inl lt ↦ rw (lt-ltb x (length now.heads) lt, lt-ltb x (length new.heads) (omega arith)) (omega arith)
+                  | inl lt ↦ rw (lt-ltb x (length now.heads) lt, lt-ltb x (length new.heads) (omega arith))
+                  (omega arith)
                   | inr ge ↦ rw (le-ltb x (length now.heads) ge, le-ltb x (length new.heads) (omega arith)) refl
                 ]))))
           ];

@@ -1,11 +1,13 @@
 -- Numbers as the bits of words: which are among them, that they rise, and one bit more.
 use Rattle.std.proofs.Common.{◌≡◌, ℕ, zero, suc, ◌+◌, ◌*◌, ◌/◌, ◌%◌, ◌^◌, ◌≤◌, ◌<◌, ◌⊎◌, inl, inr, Bool, true, false}
-use Rattle.std.proofs.Common.{List, [], ◌∷◌, ◌++◌, length, get_or, set, drop, replicate, max, refl, sym, ◌∙◌, ap, subst, arith}
+use Rattle.std.proofs.Common.{List, [], ◌∷◌, ◌++◌, length, get_or, set, drop, replicate, max, refl, sym, ◌∙◌, ap, subst}
+use Rattle.std.proofs.Common.{arith}
 use Rattle.std.proofs.lemmas.Bool.{cases_eq, false≢true}
 use Rattle.std.proofs.lemmas.List.{append-nil, length-append}
 use Rattle.std.specs.Int.Bits.{bit_or, or_zero_r}
 use Rattle.std.specs.Int.{bit_at}
-use Rattle.std.proofs.lemmas.Nat.Bits.{bit_at_or, bit_at-suc, bit_at_lowest, bit_at-lt, bit_at-pow_same, bit_at-pow_other}
+use Rattle.std.proofs.lemmas.Nat.Bits.{bit_at_or, bit_at-suc, bit_at_lowest, bit_at-lt, bit_at-pow_same}
+use Rattle.std.proofs.lemmas.Nat.Bits.{bit_at-pow_other}
 use Rattle.shop_lanes.specs.SetBits.{set_bits}
 use mir.Val.{bool_byte}
 use Rattle.std.proofs.Math.Pow.{pow-lt}
@@ -129,7 +131,8 @@ bit_put at word k lt =
           (bit_at-lt new b.0) b.3));
       gathered = λ q is. subst (IsIn (set_bits 64 at new)) (sym is.1) (bits_in 64 at new k lt
           (one_of_two (bit_at (2 ^ k) k) (bit_at word k) (bit_at new k)
-          (bit_at_or word (2 ^ k) k ∙ (let e : max (bit_at word k) (bit_at (2 ^ k) k) ≡ max (bit_at (2 ^ k) k) (bit_at word k) = omega arith in e))
+          (bit_at_or word (2 ^ k) k ∙ (let e : max (bit_at word k) (bit_at (2 ^ k) k) ≡ max (bit_at (2 ^ k) k)
+          (bit_at word k) = omega arith in e))
           (bit_at-lt new k) (bit_at-pow_same k)));
       only = λ q h.
           let b = in_bits 64 at new q h
@@ -145,7 +148,8 @@ bit_put at word k lt =
     }
 
 -- what is put into a part is put into the whole
-more_behind : (P : ℕ → Type 0) (old new rest : List ℕ) → HasGathered P old new → HasGathered P (old ++ rest) (new ++ rest)
+more_behind : (P : ℕ → Type 0) (old new rest : List ℕ) → HasGathered P old new → HasGathered P (old ++ rest)
+    (new ++ rest)
 more_behind P old new rest put = record {
   kept = λ q h. elim (in_append old rest q h) [
     | inl g ↦ append_left new rest q (put.kept q g)

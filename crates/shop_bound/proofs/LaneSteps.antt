@@ -52,7 +52,8 @@ pub gone_back_to : (greatest : ℕ) (shop : Shop) (w : List ℕ) (l : LayoutStat
     → GoesBack greatest shop w l xs (take (length ys - first) (drop first ys)) whole old new
     → GoesBack greatest shop w l nexts (take (length notes - first) (drop first notes)) whole old new
 gone_back_to greatest shop w l xs nexts e ys notes f first whole old new back =
-    subst (λ (ns : List Note). GoesBack greatest shop w l nexts (take (length ns - first) (drop first ns)) whole old new)
+    subst (λ (ns : List Note). GoesBack greatest shop w l nexts (take (length ns - first) (drop first ns)) whole old
+    new)
     f (subst (λ (zs : List ℕ). GoesBack greatest shop w l zs (take (length ys - first) (drop first ys)) whole old new)
     e back)
 
@@ -208,7 +209,8 @@ module _ (greatest : ℕ) (shop : Shop) (w : List ℕ) (j : ℕ) (s : LaneState)
               trail = subst (λ (hs : List ℕ). IsTrail shop s.layout (w ++ j ∷ []) marks after.list hs)
                   (sym beside.heads)
                   (subst (λ (ms : List Mark). IsTrail shop s.layout (w ++ j ∷ []) ms after.list new.heads) (sym pushed)
-                  (trail_more shop kept.kept.limits s.layout kept.kept.laid greatest w j s.marks mark s.rows.times s.notes
+                  (trail_more shop kept.kept.limits s.layout kept.kept.laid greatest w j s.marks mark s.rows.times
+                  s.notes
                   (record s.notes { whole = true }) after s.rows.heads new.heads kept.kept.heads kept.trail refl
                   advances.first advances.whole back (advances.at ∙ next_at x stands)));
               as_many = (let a = ap length pushed in let b = length_push s.marks mark in let c = length_push w j

@@ -46,7 +46,8 @@ pub trail_more : (shop : Shop) → IsWithinLimits shop → (l : LayoutState) →
     → mark.first ≡ length before.list → mark.whole ≡ after.whole → LeadsBack greatest times begun after old new
     → mark.position ≡ place l j ((placing shop w).steps j)
     → IsTrail shop l (w ++ j ∷ []) (marks ++ mark ∷ []) after.list new
-trail_more shop limits l laid greatest w j marks mark times before begun after old new heads trail same first whole back at =
+trail_more shop limits l laid greatest w j marks mark times before begun after old new heads trail same first whole back
+    at =
     let are : after.list ≡ before.list ++ back.more = back.are ∙ ap (λ (ns : List Note). ns ++ back.more) same
     in let cut : take mark.first after.list ≡ before.list =
     ap (take mark.first) are ∙ (ap (λ (n : ℕ). take n (before.list ++ back.more)) first

@@ -13,9 +13,9 @@ use shop_model::{Instance, Placement};
 use std::alloc::{AllocError, Global};
 use std::marker::Model;
 
-/// An instance and a word of it that is dispatched entry by entry, with its bound. It keeps the heads of what is left up
-/// with each entry, so the bound after one more operation looks only at the machines on which heads change. It takes
-/// memory in `new`; what it takes later it can do without, more slowly.
+/// An instance and a word of it that is dispatched entry by entry, with its bound. It keeps the heads of what is left
+/// up with each entry, so the bound after one more operation looks only at the machines on which heads change. It
+/// takes memory in `new`; what it takes later it can do without, more slowly.
 #[derive(Drop)]
 pub struct Desk<'a> {
     pub(crate) word: Dispatched<'a>,

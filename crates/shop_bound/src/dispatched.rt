@@ -3,8 +3,8 @@ use shop_model::{Instance, Placement};
 use std::alloc::{AllocError, Global};
 use std::marker::Model;
 
-/// An instance and a word of it, with room for all its operations. What the word leaves is placed anew where it is asked
-/// for.
+/// An instance and a word of it, with room for all its operations. What the word leaves is placed anew where it is
+/// asked for.
 #[derive(Drop)]
 pub(crate) struct Dispatched<'a> {
     pub(crate) instance: &'a Instance,

@@ -73,8 +73,8 @@ impl Waiting {
         }
     }
 
-    /// The bound after the next operation of a job, or as much of it as reaches the limit, with the bound of the word at
-    /// hand.
+    /// The bound after the next operation of a job, or as much of it as reaches the limit, with the bound of the word
+    /// at hand.
     #[inline(always)]
     pub(crate) fn bound_up_to(
         &mut self,

@@ -3,8 +3,8 @@
 --                                    placed
 --     CanFill greatest shop l rows   all heads of what was placed can be set
 --     HasFilledJob, HasFilled        those of a job, or of all jobs, were set
---     CanPutBack, HasPutBack         the heads of notes can be put back, and were, and with them the
---                                    ends of these next operations
+--     CanPutBack, HasPutBack         the heads of notes can be put back, and were, and with them
+--                                    the ends of these next operations
 --     GoesBack greatest shop w ..    the one or the other was done, to go back to a word
 use Rattle.std.specs.Prelude.{◌≡◌, ℕ, ◌+◌, ◌≤◌, ◌<◌, ◌^◌, Bool, true, List, [], length, slice_index}
 use Rattle.shop_lanes.specs.Rows.{Rows}

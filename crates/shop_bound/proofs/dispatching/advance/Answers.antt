@@ -30,7 +30,8 @@ replace-requires-clause-fits_now g c =
     let a = (end_small g.L.Lanes.GREATEST c.requires.next.shop c.args.layout.now (g.L.Lanes.rows c.args.lanes.now)
     c.requires.next.word c.requires.next.job c.requires.next.kept c.requires.next.fits
     c.args.position c.head.result c.time.result
-    c.requires.next.at c.head.ensures c.time.ensures).1 in let b = c.head.ensures in let d = c.time.ensures in omega arith
+    c.requires.next.at c.head.ensures c.time.ensures).1 in let b = c.head.ensures in let d = c.time.ensures in omega
+    arith
 
 pub raise-requires-clause-machine : goal.raise-requires-clause-machine
 raise-requires-clause-machine g c = struck_blocks g.L.Lanes.GREATEST c.args.layout.now c.args.next.now c.args.position

@@ -8,7 +8,8 @@ use Rattle.shop_bound.proofs.dispatched.Dispatched.push.Goals as goal
 pub overflow_cast-job : goal.overflow_cast-job
 overflow_cast-job c =
     let fits = subst (λ (d : DeskState). IsWord d.shop (d.word ++ c.args.job ∷ [])) (sym c.self.view_is) c.requires
-    in let small = small_last c.self.inside.instance.now c.self.inside.jobs.items c.args.job c.self.invariant.limits fits
+    in let small = small_last c.self.inside.instance.now c.self.inside.jobs.items c.args.job c.self.invariant.limits
+    fits
     in omega arith
 
 pub unwrap-requires : goal.unwrap-requires

@@ -39,5 +39,6 @@ returns-clause-bound g c =
     (g.L.Lanes.rows c.self.inside.lanes) k.kept
     c.set_to.new.self
     (placed_word c.word.inside.instance.now c.word.inside.jobs.items _ c.word.view_is c.as_slice.result.now
-    c.as_slice.ensures.value c.set_to.new.self c.set_to.ensures) c.machines_free-free.result.now c.machines_free-free.ensures
+    c.as_slice.ensures.value c.set_to.new.self c.set_to.ensures) c.machines_free-free.result.now
+    c.machines_free-free.ensures
     c.self.inside.top k.bounds.top_is

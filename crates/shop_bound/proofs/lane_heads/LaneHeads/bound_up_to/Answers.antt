@@ -12,7 +12,8 @@ pub index-requires : goal.index-requires
 index-requires g c =
     let can = subst (λ (s : LaneState). CanGoOnInLanes g.L.Lanes.GREATEST c.args.word.now.shop c.args.word.now.word
     c.args.job s) (sym c.self.view_is) c.requires.can
-    in let known = next_known g.L.Lanes.GREATEST c.args.word.now.shop c.args.word.now.word c.args.job _ can.kept can.fits
+    in let known = next_known g.L.Lanes.GREATEST c.args.word.now.shop c.args.word.now.word c.args.job _ can.kept
+    can.fits
     in let long = c.self.inside.next.ok.0 in omega arith
 
 pub next_operation-next-requires : goal.next_operation-next-requires
@@ -26,7 +27,8 @@ next_operation-next-requires g c =
       job = c.args.job;
       kept = can.kept.kept;
       fits = can.fits;
-      at = next_at g.L.Lanes.GREATEST c.args.word.now.shop c.args.word.now.word c.args.job _ can.kept can.fits c.index.result.now
+      at = next_at g.L.Lanes.GREATEST c.args.word.now.shop c.args.word.now.word c.args.job _ can.kept can.fits
+      c.index.result.now
           c.index.ensures;
       machines_at = rw c.machines-machines.ensures can.kept.kept.laid.machines_at;
     }
@@ -35,9 +37,11 @@ pub overflow_sub-next : goal.overflow_sub-next
 overflow_sub-next g c =
     let can = subst (λ (s : LaneState). CanGoOnInLanes g.L.Lanes.GREATEST c.args.word.now.shop c.args.word.now.word
     c.args.job s) (sym c.self.view_is) c.requires.can
-    in let next = c.next_operation-next.ensures c.self.inside.layout c.args.word.now.shop c.args.word.now.word c.args.job
+    in let next = c.next_operation-next.ensures c.self.inside.layout c.args.word.now.shop c.args.word.now.word
+    c.args.job
     can.kept.kept can.fits
-    (next_at g.L.Lanes.GREATEST c.args.word.now.shop c.args.word.now.word c.args.job _ can.kept can.fits c.index.result.now
+    (next_at g.L.Lanes.GREATEST c.args.word.now.shop c.args.word.now.word c.args.job _ can.kept can.fits
+    c.index.result.now
     c.index.ensures)
     (rw c.machines-machines.ensures can.kept.kept.laid.machines_at)
     in let end = next.end_is in omega arith
@@ -101,21 +105,26 @@ pub raised_bound-requires-clause-position : goal.raised_bound-requires-clause-po
 raised_bound-requires-clause-position g c =
     let can = subst (λ (s : LaneState). CanGoOnInLanes g.L.Lanes.GREATEST c.args.word.now.shop c.args.word.now.word
     c.args.job s) (sym c.self.view_is) c.requires.can
-    in let next = c.next_operation-next.ensures c.self.inside.layout c.args.word.now.shop c.args.word.now.word c.args.job
+    in let next = c.next_operation-next.ensures c.self.inside.layout c.args.word.now.shop c.args.word.now.word
+    c.args.job
     can.kept.kept can.fits
-    (next_at g.L.Lanes.GREATEST c.args.word.now.shop c.args.word.now.word c.args.job _ can.kept can.fits c.index.result.now
+    (next_at g.L.Lanes.GREATEST c.args.word.now.shop c.args.word.now.word c.args.job _ can.kept can.fits
+    c.index.result.now
     c.index.ensures)
     (rw c.machines-machines.ensures can.kept.kept.laid.machines_at)
     in subst (λ (s : LaneState). c.next_operation-next.result.position ≡ get_or s.nexts c.args.job 0) c.self.view_is
-    (next.position_is ∙ sym (next_is g.L.Lanes.GREATEST c.args.word.now.shop c.args.word.now.word c.args.job _ can.kept can.fits))
+    (next.position_is ∙ sym (next_is g.L.Lanes.GREATEST c.args.word.now.shop c.args.word.now.word c.args.job _ can.kept
+    can.fits))
 
 pub raised_bound-requires-clause-machine : goal.raised_bound-requires-clause-machine
 raised_bound-requires-clause-machine g c =
     let can = subst (λ (s : LaneState). CanGoOnInLanes g.L.Lanes.GREATEST c.args.word.now.shop c.args.word.now.word
     c.args.job s) (sym c.self.view_is) c.requires.can
-    in let next = c.next_operation-next.ensures c.self.inside.layout c.args.word.now.shop c.args.word.now.word c.args.job
+    in let next = c.next_operation-next.ensures c.self.inside.layout c.args.word.now.shop c.args.word.now.word
+    c.args.job
     can.kept.kept can.fits
-    (next_at g.L.Lanes.GREATEST c.args.word.now.shop c.args.word.now.word c.args.job _ can.kept can.fits c.index.result.now
+    (next_at g.L.Lanes.GREATEST c.args.word.now.shop c.args.word.now.word c.args.job _ can.kept can.fits
+    c.index.result.now
     c.index.ensures)
     (rw c.machines-machines.ensures can.kept.kept.laid.machines_at)
     in subst (λ (s : LaneState). c.next_operation-next.result.machine

@@ -7,7 +7,8 @@ use Rattle.shop_lanes.specs.Rows.{Rows}
 use Rattle.shop_bound.specs.declared.notes.Note.{Note}
 use Rattle.shop_bound.proofs.ChildSteps.{child_again, child_is, kept_fit, noted_are}
 use Rattle.shop_bound.proofs.ChildSteps.{notes_again, rested_after}
-use Rattle.shop_bound.proofs.ChildTrials.{blocks_known, end_fits, head_fits, kept_back, left_advances, left_fill, left_first, left_is}
+use Rattle.shop_bound.proofs.ChildTrials.{blocks_known, end_fits, head_fits, kept_back, left_advances, left_fill}
+use Rattle.shop_bound.proofs.ChildTrials.{left_first, left_is}
 use Rattle.shop_bound.proofs.ChildTrials.{left_notes, look_blocks, look_fits, place_within, seen_before, seen_enough}
 use Rattle.shop_bound.proofs.ChildTrials.{some_end, struck_within, trial_can}
 use Rattle.shop_bound.proofs.lane_heads.LaneHeads.raised_bound.Goals as goal
@@ -18,7 +19,8 @@ take-requires-clause-fits g c =
     c.args.job s) (sym c.self.view_is) c.requires.can
     in subst (λ (n : ℕ). AreSpansFit g.L.Lanes.GREATEST c.self.inside.top n c.self.inside.layout
     (g.L.Lanes.rows c.self.inside.lanes)) (sym c.machines-machines.ensures)
-    (kept_fit g.L.Lanes.GREATEST c.args.word.now.shop c.args.word.now.word _ can.kept (g.L.Lanes.rows c.self.inside.lanes) refl refl
+    (kept_fit g.L.Lanes.GREATEST c.args.word.now.shop c.args.word.now.word _ can.kept
+    (g.L.Lanes.rows c.self.inside.lanes) refl refl
     refl)
 
 pub take-requires-clause-known : goal.take-requires-clause-known
@@ -31,7 +33,8 @@ pub head-head-requires : goal.head-head-requires
 head-head-requires g c =
     let can = subst (λ (s : LaneState). CanGoOnInLanes g.L.Lanes.GREATEST c.args.word.now.shop c.args.word.now.word
     c.args.job s) (sym c.self.view_is) c.requires.can
-    in place_within g.L.Lanes.GREATEST c.args.word.now.shop c.args.word.now.word _ can.kept c.args.job can.fits c.args.next.position
+    in place_within g.L.Lanes.GREATEST c.args.word.now.shop c.args.word.now.word _ can.kept c.args.job can.fits
+    c.args.next.position
     c.args.next.machine c.args.next.end
     (subst (λ (s : LaneState). c.args.next.position ≡ get_or s.nexts c.args.job 0) (sym c.self.view_is)
     c.requires.position)
@@ -44,7 +47,8 @@ pub replace-requires-clause-within : goal.replace-requires-clause-within
 replace-requires-clause-within g c =
     let can = subst (λ (s : LaneState). CanGoOnInLanes g.L.Lanes.GREATEST c.args.word.now.shop c.args.word.now.word
     c.args.job s) (sym c.self.view_is) c.requires.can
-    in place_within g.L.Lanes.GREATEST c.args.word.now.shop c.args.word.now.word _ can.kept c.args.job can.fits c.args.next.position
+    in place_within g.L.Lanes.GREATEST c.args.word.now.shop c.args.word.now.word _ can.kept c.args.job can.fits
+    c.args.next.position
     c.args.next.machine c.args.next.end
     (subst (λ (s : LaneState). c.args.next.position ≡ get_or s.nexts c.args.job 0) (sym c.self.view_is)
     c.requires.position)
@@ -99,7 +103,8 @@ pub look_ahead-ahead-requires-clause-blocks : goal.look_ahead-ahead-requires-cla
 look_ahead-ahead-requires-clause-blocks g c =
     let can = subst (λ (s : LaneState). CanGoOnInLanes g.L.Lanes.GREATEST c.args.word.now.shop c.args.word.now.word
     c.args.job s) (sym c.self.view_is) c.requires.can
-    in look_blocks g.L.Lanes.GREATEST c.args.word.now.shop c.args.word.now.word _ can.kept c.args.job can.fits c.args.next.position
+    in look_blocks g.L.Lanes.GREATEST c.args.word.now.shop c.args.word.now.word _ can.kept c.args.job can.fits
+    c.args.next.position
     c.args.next.machine c.args.next.end
     (subst (λ (s : LaneState). c.args.next.position ≡ get_or s.nexts c.args.job 0) (sym c.self.view_is)
     c.requires.position)
@@ -113,7 +118,8 @@ pub look_ahead-ahead-requires-clause-fits : goal.look_ahead-ahead-requires-claus
 look_ahead-ahead-requires-clause-fits g c =
     let can = subst (λ (s : LaneState). CanGoOnInLanes g.L.Lanes.GREATEST c.args.word.now.shop c.args.word.now.word
     c.args.job s) (sym c.self.view_is) c.requires.can
-    in look_fits g.L.Lanes.GREATEST c.args.word.now.shop c.args.word.now.word _ can.kept c.args.job can.fits c.args.next.position
+    in look_fits g.L.Lanes.GREATEST c.args.word.now.shop c.args.word.now.word _ can.kept c.args.job can.fits
+    c.args.next.position
     c.args.next.machine c.args.next.end
     (subst (λ (s : LaneState). c.args.next.position ≡ get_or s.nexts c.args.job 0) (sym c.self.view_is)
     c.requires.position)
@@ -127,7 +133,8 @@ pub look_ahead-ahead-requires-clause-some : goal.look_ahead-ahead-requires-claus
 look_ahead-ahead-requires-clause-some g c =
     let can = subst (λ (s : LaneState). CanGoOnInLanes g.L.Lanes.GREATEST c.args.word.now.shop c.args.word.now.word
     c.args.job s) (sym c.self.view_is) c.requires.can
-    in some_end g.L.Lanes.GREATEST c.args.word.now.shop c.args.word.now.word _ can.kept c.args.job can.fits c.args.next.position
+    in some_end g.L.Lanes.GREATEST c.args.word.now.shop c.args.word.now.word _ can.kept c.args.job can.fits
+    c.args.next.position
     c.args.next.machine c.args.next.end
     (subst (λ (s : LaneState). c.args.next.position ≡ get_or s.nexts c.args.job 0) (sym c.self.view_is)
     c.requires.position)
@@ -140,7 +147,8 @@ pub set_head-requires-clause-in_range : goal.set_head-requires-clause-in_range
 set_head-requires-clause-in_range g c =
     let can = subst (λ (s : LaneState). CanGoOnInLanes g.L.Lanes.GREATEST c.args.word.now.shop c.args.word.now.word
     c.args.job s) (sym c.self.view_is) c.requires.can
-    in struck_within g.L.Lanes.GREATEST c.args.word.now.shop c.args.word.now.word _ can.kept c.args.job can.fits c.args.next.position
+    in struck_within g.L.Lanes.GREATEST c.args.word.now.shop c.args.word.now.word _ can.kept c.args.job can.fits
+    c.args.next.position
     c.args.next.machine c.args.next.end
     (subst (λ (s : LaneState). c.args.next.position ≡ get_or s.nexts c.args.job 0) (sym c.self.view_is)
     c.requires.position)
@@ -191,7 +199,8 @@ pub bound_by_raises-bound-requires : goal.bound_by_raises-bound-requires
 bound_by_raises-bound-requires g c =
     let can = subst (λ (s : LaneState). CanGoOnInLanes g.L.Lanes.GREATEST c.args.word.now.shop c.args.word.now.word
     c.args.job s) (sym c.self.view_is) c.requires.can
-    in trial_can g.L.Lanes.GREATEST c.args.word.now.shop c.args.word.now.word _ can.kept c.args.job can.fits c.args.next.position
+    in trial_can g.L.Lanes.GREATEST c.args.word.now.shop c.args.word.now.word _ can.kept c.args.job can.fits
+    c.args.next.position
     c.args.next.machine c.args.next.end
     (subst (λ (s : LaneState). c.args.next.position ≡ get_or s.nexts c.args.job 0) (sym c.self.view_is)
     c.requires.position)
@@ -206,7 +215,8 @@ pub slice_bounds-noted-count : goal.slice_bounds-noted-count
 slice_bounds-noted-count g c =
     let can = subst (λ (s : LaneState). CanGoOnInLanes g.L.Lanes.GREATEST c.args.word.now.shop c.args.word.now.word
     c.args.job s) (sym c.self.view_is) c.requires.can
-    in let within = left_first g.L.Lanes.GREATEST c.args.word.now.shop c.args.word.now.word _ can.kept c.args.job can.fits
+    in let within = left_first g.L.Lanes.GREATEST c.args.word.now.shop c.args.word.now.word _ can.kept c.args.job
+    can.fits
     c.args.next.position
     c.args.next.machine c.args.next.end
     (subst (λ (s : LaneState). c.args.next.position ≡ get_or s.nexts c.args.job 0) (sym c.self.view_is)
@@ -225,7 +235,8 @@ pub slice_bounds-noted-start : goal.slice_bounds-noted-start
 slice_bounds-noted-start g c =
     let can = subst (λ (s : LaneState). CanGoOnInLanes g.L.Lanes.GREATEST c.args.word.now.shop c.args.word.now.word
     c.args.job s) (sym c.self.view_is) c.requires.can
-    in let within = left_first g.L.Lanes.GREATEST c.args.word.now.shop c.args.word.now.word _ can.kept c.args.job can.fits
+    in let within = left_first g.L.Lanes.GREATEST c.args.word.now.shop c.args.word.now.word _ can.kept c.args.job
+    can.fits
     c.args.next.position
     c.args.next.machine c.args.next.end
     (subst (λ (s : LaneState). c.args.next.position ≡ get_or s.nexts c.args.job 0) (sym c.self.view_is)
@@ -244,7 +255,8 @@ pub truncate-requires-2 : goal.truncate-requires-2
 truncate-requires-2 g c =
     let can = subst (λ (s : LaneState). CanGoOnInLanes g.L.Lanes.GREATEST c.args.word.now.shop c.args.word.now.word
     c.args.job s) (sym c.self.view_is) c.requires.can
-    in let within = left_first g.L.Lanes.GREATEST c.args.word.now.shop c.args.word.now.word _ can.kept c.args.job can.fits
+    in let within = left_first g.L.Lanes.GREATEST c.args.word.now.shop c.args.word.now.word _ can.kept c.args.job
+    can.fits
     c.args.next.position
     c.args.next.machine c.args.next.end
     (subst (λ (s : LaneState). c.args.next.position ≡ get_or s.nexts c.args.job 0) (sym c.self.view_is)
@@ -263,7 +275,8 @@ pub offset_bounds-list-first : goal.offset_bounds-list-first
 offset_bounds-list-first g c =
     let can = subst (λ (s : LaneState). CanGoOnInLanes g.L.Lanes.GREATEST c.args.word.now.shop c.args.word.now.word
     c.args.job s) (sym c.self.view_is) c.requires.can
-    in let within = left_first g.L.Lanes.GREATEST c.args.word.now.shop c.args.word.now.word _ can.kept c.args.job can.fits
+    in let within = left_first g.L.Lanes.GREATEST c.args.word.now.shop c.args.word.now.word _ can.kept c.args.job
+    can.fits
     c.args.next.position
     c.args.next.machine c.args.next.end
     (subst (λ (s : LaneState). c.args.next.position ≡ get_or s.nexts c.args.job 0) (sym c.self.view_is)
@@ -282,7 +295,8 @@ pub go_back-requires-clause-fill : goal.go_back-requires-clause-fill
 go_back-requires-clause-fill g c =
     let can = subst (λ (s : LaneState). CanGoOnInLanes g.L.Lanes.GREATEST c.args.word.now.shop c.args.word.now.word
     c.args.job s) (sym c.self.view_is) c.requires.can
-    in left_fill g.L.Lanes.GREATEST c.args.word.now.shop c.args.word.now.word _ can.kept c.args.job can.fits c.args.next.position
+    in left_fill g.L.Lanes.GREATEST c.args.word.now.shop c.args.word.now.word _ can.kept c.args.job can.fits
+    c.args.next.position
     c.args.next.machine c.args.next.end
     (subst (λ (s : LaneState). c.args.next.position ≡ get_or s.nexts c.args.job 0) (sym c.self.view_is)
     c.requires.position)
@@ -300,7 +314,8 @@ pub go_back-requires-clause-rested : goal.go_back-requires-clause-rested
 go_back-requires-clause-rested g c =
     let can = subst (λ (s : LaneState). CanGoOnInLanes g.L.Lanes.GREATEST c.args.word.now.shop c.args.word.now.word
     c.args.job s) (sym c.self.view_is) c.requires.can
-    in let advances = left_advances g.L.Lanes.GREATEST c.args.word.now.shop c.args.word.now.word _ can.kept c.args.job can.fits
+    in let advances = left_advances g.L.Lanes.GREATEST c.args.word.now.shop c.args.word.now.word _ can.kept c.args.job
+    can.fits
     c.args.next.position
     c.args.next.machine c.args.next.end
     (subst (λ (s : LaneState). c.args.next.position ≡ get_or s.nexts c.args.job 0) (sym c.self.view_is)
@@ -328,7 +343,8 @@ go_back-requires-clause-rested g c =
     c.args.limit c.bound_by_raises-bound.result c.take.new.self
     c.bound_by_raises-bound.new.self _ c.bound_by_raises-bound.ensures c.self-2.view_is c.is_whole-whole.result
     c.is_whole-whole.ensures
-    in rested_after g.L.Lanes.GREATEST c.args.word.now.shop c.args.word.now.word _ can.kept c.args.job can.fits c.args.next.position
+    in rested_after g.L.Lanes.GREATEST c.args.word.now.shop c.args.word.now.word _ can.kept c.args.job can.fits
+    c.args.next.position
     (subst (λ (s : LaneState). c.args.next.position ≡ get_or s.nexts c.args.job 0) (sym c.self.view_is)
     c.requires.position)
     c.bound_by_raises-bound.new.self.rows c.bound_by_raises-bound.new.self.notes _
@@ -338,7 +354,8 @@ pub go_back-requires-clause-notes : goal.go_back-requires-clause-notes
 go_back-requires-clause-notes g c =
     let can = subst (λ (s : LaneState). CanGoOnInLanes g.L.Lanes.GREATEST c.args.word.now.shop c.args.word.now.word
     c.args.job s) (sym c.self.view_is) c.requires.can
-    in let advances = left_advances g.L.Lanes.GREATEST c.args.word.now.shop c.args.word.now.word _ can.kept c.args.job can.fits
+    in let advances = left_advances g.L.Lanes.GREATEST c.args.word.now.shop c.args.word.now.word _ can.kept c.args.job
+    can.fits
     c.args.next.position
     c.args.next.machine c.args.next.end
     (subst (λ (s : LaneState). c.args.next.position ≡ get_or s.nexts c.args.job 0) (sym c.self.view_is)
@@ -370,7 +387,8 @@ go_back-requires-clause-notes g c =
     c.args.next.position c.bound_by_raises-bound.new.self.rows c.bound_by_raises-bound.new.self.notes _
     advances c.take.new.self c.take.ensures c.bound_by_raises-bound.new.self.raises _ is c.list.result.now
     c.list.ensures _ refl
-    in left_notes g.L.Lanes.GREATEST c.args.word.now.shop c.args.word.now.word _ can.kept c.args.job can.fits c.args.next.position
+    in left_notes g.L.Lanes.GREATEST c.args.word.now.shop c.args.word.now.word _ can.kept c.args.job can.fits
+    c.args.next.position
     c.args.next.machine c.args.next.end
     (subst (λ (s : LaneState). c.args.next.position ≡ get_or s.nexts c.args.job 0) (sym c.self.view_is)
     c.requires.position)
@@ -393,7 +411,8 @@ returns-clause-bound g c =
     in let before = subst (λ (s : LaneState). IsLeastBefore c.args.word.now.shop w s.layout c.args.job
     c.args.next.position c.args.next.machine c.args.next.end c.args.least) (sym c.self.view_is) before_it
     in let so = c.bound_by_raises-bound.ensures
-    in let advances = left_advances g.L.Lanes.GREATEST c.args.word.now.shop w _ kept c.args.job fits c.args.next.position
+    in let advances = left_advances g.L.Lanes.GREATEST c.args.word.now.shop w _ kept c.args.job fits
+    c.args.next.position
     c.args.next.machine c.args.next.end
     (subst (λ (s : LaneState). c.args.next.position ≡ get_or s.nexts c.args.job 0) (sym c.self.view_is)
     c.requires.position)
@@ -427,7 +446,8 @@ returns-clause-kept g c =
     c.args.job s) (sym c.self.view_is) c.requires.can
     in let w = c.args.word.now.word in let was = can.kept
     in let so = c.bound_by_raises-bound.ensures
-    in let advances = left_advances g.L.Lanes.GREATEST c.args.word.now.shop c.args.word.now.word _ can.kept c.args.job can.fits
+    in let advances = left_advances g.L.Lanes.GREATEST c.args.word.now.shop c.args.word.now.word _ can.kept c.args.job
+    can.fits
     c.args.next.position
     c.args.next.machine c.args.next.end
     (subst (λ (s : LaneState). c.args.next.position ≡ get_or s.nexts c.args.job 0) (sym c.self.view_is)

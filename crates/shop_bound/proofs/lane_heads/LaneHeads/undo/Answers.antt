@@ -31,7 +31,8 @@ pub index_mut-requires : goal.index_mut-requires
 index_mut-requires g c =
     let kept = subst (λ (s : LaneState). IsKeptInLanes g.L.Lanes.GREATEST c.args.word.now.shop
     (c.args.word.now.word ++ c.args.job ∷ []) s) (sym c.self.view_is) c.requires
-    in let known = last_known g.L.Lanes.GREATEST c.args.word.now.shop c.args.word.now.word c.args.job _ kept _ c.unwrap-last.result
+    in let known = last_known g.L.Lanes.GREATEST c.args.word.now.shop c.args.word.now.word c.args.job _ kept _
+    c.unwrap-last.result
     (rw c.unwrap-last.ensures at c.pop.ensures.items)
     in let long = c.self.inside.next.ok.0 in omega arith
 
