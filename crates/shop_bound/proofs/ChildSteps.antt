@@ -160,7 +160,7 @@ module _ (greatest : ℕ) (shop : Shop) (w : List ℕ) (s : LaneState) (kept : I
     where
       back_here : GoesBack greatest shop w s.layout [] noted mark.whole rows rested
       back_here = subst (λ (x : LaneState). GoesBack greatest shop w x.layout [] noted mark.whole x.rows rested) v_is
-      back
+          back
 
       heads : AreHeadsInLanes greatest shop w s.layout rested
       heads = record {

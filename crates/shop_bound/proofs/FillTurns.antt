@@ -76,7 +76,7 @@ end_put greatest l nexts now mid new q v own within sets wrote =
                 in let left = get_or-set_other now.heads q x v 0 ne
                 in end ∙ (other ∙ (was ∙ (elim (cases_lt x (length now.heads)) [
                   | inl lt ↦ rw (lt-ltb x (length now.heads) lt, lt-ltb x (length new.heads) (omega arith))
-                  (omega arith)
+                      (omega arith)
                   | inr ge ↦ rw (le-ltb x (length now.heads) ge, le-ltb x (length new.heads) (omega arith)) refl
                 ]))))
           ];

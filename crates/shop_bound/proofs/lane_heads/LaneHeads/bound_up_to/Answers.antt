@@ -28,7 +28,7 @@ next_operation-next-requires g c =
       kept = can.kept.kept;
       fits = can.fits;
       at = next_at g.L.Lanes.GREATEST c.args.word.now.shop c.args.word.now.word c.args.job _ can.kept can.fits
-      c.index.result.now
+          c.index.result.now
           c.index.ensures;
       machines_at = rw c.machines-machines.ensures can.kept.kept.laid.machines_at;
     }
