@@ -13,7 +13,7 @@ use Rattle.shop_bound.specs.inner.ChildBounds.{CanRaise, IsLeastAfter, IsLeastBe
 use Rattle.shop_bound.specs.inner.Estimates.{AreEstimates}
 use Rattle.shop_bound.specs.inner.Fills.{CanFill, CanPutBack}
 use Rattle.shop_bound.specs.inner.LaneBounds.{lanes_on}
-use Rattle.shop_bound.specs.inner.LaneHeads.{AreNotesFit, NotesState}
+use Rattle.shop_bound.specs.inner.LaneHeads.{AreNotesFit, LeadsBack, NotesState}
 use Rattle.shop_bound.specs.inner.LaneStates.{Advances, IsKeptInLanes, LaneState}
 use Rattle.shop_bound.specs.inner.Layouts.{place}
 use Rattle.shop_bound.specs.inner.Raises.{IsOnMachine, IsRaisable, Raises, Replaces}
@@ -141,12 +141,6 @@ module _ (greatest : ℕ) (shop : Shop) (w : List ℕ) (s : LaneState) (kept : I
         left_advances = trial_advances t.rows t.notes so.raises whole
             (whole_is ∙ ap (λ (x : LaneState). x.notes.whole) v_is)
 
-        pub left_first : first ≤ length v.notes.list
-        left_first =
-            let a = ap (λ (x : LaneState). length x.notes.list) v_is
-            in let b = ap (λ (ns : List Note). length ns) left_advances.noted.are
-            in let c = length-append s.notes.list left_advances.noted.more in omega arith
-
         pub left_fill : CanFill greatest shop v.layout v.rows
         left_fill = subst (λ (x : LaneState). CanFill greatest shop x.layout x.rows) (sym left_is) (record {
           limits = kept.kept.limits;
@@ -170,6 +164,16 @@ module _ (greatest : ℕ) (shop : Shop) (w : List ℕ) (s : LaneState) (kept : I
               ends = omega arith;
               computable = kept.kept.computable;
             }))
+
+-- the notes from before still stand
+pub first_within : (greatest : ℕ) (old begun mid last : NotesState) (ts us a b d : List ℕ)
+    (first : ℕ) → first ≡ length old.list → begun ≡ record old { whole = true } → LeadsBack greatest ts begun mid a b
+    → LeadsBack greatest us mid last b d → (list : List Note) → list ≡ last.list → first ≤ length list
+first_within greatest old begun mid last ts us a b d first first_is begins x y list list_is =
+    let were = ap (λ (n : NotesState). length n.list) begins
+    in let one = ap (λ (ns : List Note). length ns) x.are in let two = ap (λ (ns : List Note). length ns) y.are
+    in let all = ap (λ (ns : List Note). length ns) list_is
+    in let more = length-append begun.list x.more in let again = length-append mid.list y.more in omega arith
 
 -- what is seen then, whichever word the heads are of
 module _ (greatest : ℕ) (shop : Shop) (w : List ℕ) (s : LaneState) (kept : IsKeptInLanes greatest shop w s) (j : ℕ)

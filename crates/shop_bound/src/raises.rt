@@ -10,6 +10,20 @@ use crate::notes::Notes;
 use crate::watchers::Watcher;
 use shop_lanes::Lanes;
 
+/// Replaces the head at a position, which is known, and notes it.
+#[inline(always)]
+fn replace_known<L: Lanes>(lanes: &mut L, notes: &mut Notes, position: usize, known: u64, head: u64)
+    requires within { position < length (L.rows lanes.old).heads }
+    requires known { known ≡ slice_index (L.rows lanes.old).heads position }
+    requires fits { head ≤ L.GREATEST }
+    requires fits_now { known + slice_index (L.rows lanes.old).times position ≤ L.GREATEST }
+    ensures { Replaces L.GREATEST position head (L.rows lanes.old)
+        (L.rows lanes.new) notes.old notes.new }
+{
+    notes.add(position, known);
+    lanes.set_head(position, head);
+}
+
 /// Replaces the head at a position, and notes what it was.
 #[inline(always)]
 pub(crate) fn replace<L: Lanes>(lanes: &mut L, notes: &mut Notes, position: usize, head: u64)
@@ -20,8 +34,8 @@ pub(crate) fn replace<L: Lanes>(lanes: &mut L, notes: &mut Notes, position: usiz
     ensures { Replaces L.GREATEST position head (L.rows lanes.old)
         (L.rows lanes.new) notes.old notes.new }
 {
-    notes.add(position, lanes.head(position));
-    lanes.set_head(position, head);
+    let known = lanes.head(position);
+    replace_known(lanes, notes, position, known, head);
 }
 
 /// Raises the head of what waits at a position to `end`, and those of its route behind it that are too small then, of
@@ -56,7 +70,7 @@ fn raise_route<L: Lanes, W: Watcher>(
             return;
         }
         watcher.see(layout.machines()[next], head, ready);
-        replace(lanes, notes, next, ready);
+        replace_known(lanes, notes, next, head, ready);
         ready += lanes.time(next);
         next = layout.following(next);
     }

@@ -4,15 +4,15 @@ use Rattle.shop_bound.proofs.RaiseSteps.{followed, following_fits, following_les
 use Rattle.shop_bound.proofs.Watching.{sees_long, sees_next}
 use Rattle.shop_bound.proofs.raises.raise_route.Goals as goal
 
-pub replace-requires-in-loop-next-clause-fits : goal.replace-requires-in-loop-next-clause-fits
-replace-requires-in-loop-next-clause-fits g c =
+pub replace_known-requires-clause-fits : goal.replace_known-requires-clause-fits
+replace_known-requires-clause-fits g c =
     (following_fits g.L.Lanes.GREATEST c.args.layout.now c.args.position c.args.end (g.L.Lanes.rows c.args.lanes.now)
     c.requires.raisable c.requires.waits c.loop-next.next c.loop-next.ready (g.L.Lanes.rows c.loop-next.lanes)
     c.args.notes.now c.loop-next.notes c.loop-next.invariant.following c.positions.result c.positions.ensures
     c.loop-next-test.true).0
 
-pub replace-requires-in-loop-next-clause-fits_now : goal.replace-requires-in-loop-next-clause-fits_now
-replace-requires-in-loop-next-clause-fits_now g c =
+pub replace_known-requires-clause-fits_now : goal.replace_known-requires-clause-fits_now
+replace_known-requires-clause-fits_now g c =
     let fits = (following_fits g.L.Lanes.GREATEST c.args.layout.now c.args.position c.args.end
     (g.L.Lanes.rows c.args.lanes.now) c.requires.raisable c.requires.waits c.loop-next.next c.loop-next.ready
     (g.L.Lanes.rows c.loop-next.lanes) c.args.notes.now c.loop-next.notes c.loop-next.invariant.following
@@ -31,10 +31,10 @@ overflow_add-ready-in-loop-next g c =
     c.positions.result
     c.positions.ensures c.loop-next-test.true).1
     in let computable = c.requires.raisable.computable
-    in let times : get_or (g.L.Lanes.rows c.replace-in-loop-next.new.lanes).times q 0
+    in let times : get_or (g.L.Lanes.rows c.replace_known.new.lanes).times q 0
     ≡ get_or (g.L.Lanes.rows c.loop-next.lanes).times q 0 =
-    same_times (g.L.Lanes.rows c.loop-next.lanes) (g.L.Lanes.rows c.replace-in-loop-next.new.lanes)
-    q c.loop-next.ready q c.replace-in-loop-next.ensures.rows
+    same_times (g.L.Lanes.rows c.loop-next.lanes) (g.L.Lanes.rows c.replace_known.new.lanes)
+    q c.loop-next.ready q c.replace_known.ensures.rows
     in let read_time = c.time-ready.ensures
     in omega arith
 
@@ -65,7 +65,7 @@ loop-next-preserved g c = record {
       c.requires.raisable c.requires.waits c.loop-next.next c.loop-next.ready (g.L.Lanes.rows c.loop-next.lanes)
       c.args.notes.now c.loop-next.notes c.loop-next.invariant.following c.positions.result c.positions.ensures
       c.loop-next-test.true (omega arith)
-      (g.L.Lanes.rows c.replace-in-loop-next.new.lanes) c.replace-in-loop-next.new.notes c.replace-in-loop-next.ensures
+      (g.L.Lanes.rows c.replace_known.new.lanes) c.replace_known.new.notes c.replace_known.ensures
       (c.loop-next.ready + c.time-ready.result) c.time-ready.result c.following-next-in-loop-next.result
       c.time-ready.ensures refl c.following-next-in-loop-next.ensures;
   seen =
@@ -76,9 +76,9 @@ loop-next-preserved g c = record {
       in sees_next g.W.Watcher.IS_WATCHING c.args.layout.now.machines c.args.position c.args.end
       (g.L.Lanes.rows c.args.lanes.now).heads (g.L.Lanes.rows c.loop-next.lanes).heads
       (g.W.Watcher.raises c.args.watcher.now) (g.W.Watcher.raises c.loop-next.watcher) c.loop-next.invariant.seen
-      (g.L.Lanes.rows c.replace-in-loop-next.new.lanes).heads (g.W.Watcher.raises c.see.new.self) c.loop-next.next
+      (g.L.Lanes.rows c.replace_known.new.lanes).heads (g.W.Watcher.raises c.see.new.self) c.loop-next.next
       c.loop-next.ready c.head-head.result (get_or c.machines.result.now c.loop-next.next 0)
-      (ap (λ (r : Rows). r.heads) c.replace-in-loop-next.ensures.rows) (omega arith) c.head-head.ensures
+      (ap (λ (r : Rows). r.heads) c.replace_known.ensures.rows) (omega arith) c.head-head.ensures
       c.if-head-ready.false read
       (λ is. let known = c.requires.known is c.loop-next.next (omega arith) in omega arith) c.see.ensures;
 }

@@ -1,4 +1,4 @@
-use Rattle.std.proofs.Common.{◌≡◌, ℕ, ◌+◌, List, ap, get_or, length, refl, sym, subst, arith}
+use Rattle.std.proofs.Common.{◌≡◌, ◌∙◌, ℕ, ◌+◌, List, ap, get_or, length, refl, sym, subst, arith}
 use Rattle.shop_bound.specs.inner.ChildBounds.{IsBoundByRaises, IsLeastBefore}
 use Rattle.shop_bound.specs.inner.LaneBounds.{AreSpansFit}
 use Rattle.shop_bound.specs.inner.LaneHeads.{NotesState}
@@ -8,7 +8,7 @@ use Rattle.shop_bound.specs.declared.notes.Note.{Note}
 use Rattle.shop_bound.proofs.ChildSteps.{child_again, child_is, kept_fit, noted_are}
 use Rattle.shop_bound.proofs.ChildSteps.{notes_again, rested_after}
 use Rattle.shop_bound.proofs.ChildTrials.{blocks_known, end_fits, head_fits, kept_back, left_advances, left_fill}
-use Rattle.shop_bound.proofs.ChildTrials.{left_first, left_is}
+use Rattle.shop_bound.proofs.ChildTrials.{first_within, left_is}
 use Rattle.shop_bound.proofs.ChildTrials.{left_notes, look_blocks, look_fits, place_within, seen_before, seen_enough}
 use Rattle.shop_bound.proofs.ChildTrials.{some_end, struck_within, trial_can}
 use Rattle.shop_bound.proofs.lane_heads.LaneHeads.raised_bound.Goals as goal
@@ -213,82 +213,34 @@ bound_by_raises-bound-requires g c =
 
 pub slice_bounds-noted-count : goal.slice_bounds-noted-count
 slice_bounds-noted-count g c =
-    let can = subst (λ (s : LaneState). CanGoOnInLanes g.L.Lanes.GREATEST c.args.word.now.shop c.args.word.now.word
-    c.args.job s) (sym c.self.view_is) c.requires.can
-    in let within = left_first g.L.Lanes.GREATEST c.args.word.now.shop c.args.word.now.word _ can.kept c.args.job
-    can.fits
-    c.args.next.position
-    c.args.next.machine c.args.next.end
-    (subst (λ (s : LaneState). c.args.next.position ≡ get_or s.nexts c.args.job 0) (sym c.self.view_is)
-    c.requires.position)
-    (subst (λ (s : LaneState). c.args.next.machine ≡ get_or s.layout.machines c.args.next.position 0)
-    (sym c.self.view_is) c.requires.machine)
-    (subst (λ (s : LaneState). c.args.next.end ≡ get_or s.rows.heads c.args.next.position 0
-    + get_or s.rows.times c.args.next.position 0) (sym c.self.view_is) c.requires.end)
-    (g.L.Lanes.rows c.replace.new.lanes) c.begin-first.new.self c.replace.new.notes c.replace.ensures
-    c.begin-first.ensures.whole c.begin-first.result c.begin-first.ensures.first c.look_ahead-ahead.result
-    c.args.limit c.bound_by_raises-bound.result c.take.new.self
-    c.bound_by_raises-bound.new.self _ c.bound_by_raises-bound.ensures c.self-2.view_is _ refl
+    let within = first_within g.L.Lanes.GREATEST c.self.inside.notes c.begin-first.new.self c.replace.new.notes
+    c.bound_by_raises-bound.new.self.notes _ _ _ _ _ c.begin-first.result c.begin-first.ensures.first
+    c.begin-first.ensures.whole c.replace.ensures.noted c.bound_by_raises-bound.ensures.raises.noted c.list.result.now
+    (c.list.ensures ∙ ap (λ (s : LaneState). s.notes.list) c.self-2.view_is)
     in let read = ap (λ (ns : List Note). length ns) c.list.ensures in omega arith
 
 pub slice_bounds-noted-start : goal.slice_bounds-noted-start
 slice_bounds-noted-start g c =
-    let can = subst (λ (s : LaneState). CanGoOnInLanes g.L.Lanes.GREATEST c.args.word.now.shop c.args.word.now.word
-    c.args.job s) (sym c.self.view_is) c.requires.can
-    in let within = left_first g.L.Lanes.GREATEST c.args.word.now.shop c.args.word.now.word _ can.kept c.args.job
-    can.fits
-    c.args.next.position
-    c.args.next.machine c.args.next.end
-    (subst (λ (s : LaneState). c.args.next.position ≡ get_or s.nexts c.args.job 0) (sym c.self.view_is)
-    c.requires.position)
-    (subst (λ (s : LaneState). c.args.next.machine ≡ get_or s.layout.machines c.args.next.position 0)
-    (sym c.self.view_is) c.requires.machine)
-    (subst (λ (s : LaneState). c.args.next.end ≡ get_or s.rows.heads c.args.next.position 0
-    + get_or s.rows.times c.args.next.position 0) (sym c.self.view_is) c.requires.end)
-    (g.L.Lanes.rows c.replace.new.lanes) c.begin-first.new.self c.replace.new.notes c.replace.ensures
-    c.begin-first.ensures.whole c.begin-first.result c.begin-first.ensures.first c.look_ahead-ahead.result
-    c.args.limit c.bound_by_raises-bound.result c.take.new.self
-    c.bound_by_raises-bound.new.self _ c.bound_by_raises-bound.ensures c.self-2.view_is _ refl
+    let within = first_within g.L.Lanes.GREATEST c.self.inside.notes c.begin-first.new.self c.replace.new.notes
+    c.bound_by_raises-bound.new.self.notes _ _ _ _ _ c.begin-first.result c.begin-first.ensures.first
+    c.begin-first.ensures.whole c.replace.ensures.noted c.bound_by_raises-bound.ensures.raises.noted c.list.result.now
+    (c.list.ensures ∙ ap (λ (s : LaneState). s.notes.list) c.self-2.view_is)
     in let read = ap (λ (ns : List Note). length ns) c.list.ensures in omega arith
 
 pub truncate-requires-2 : goal.truncate-requires-2
 truncate-requires-2 g c =
-    let can = subst (λ (s : LaneState). CanGoOnInLanes g.L.Lanes.GREATEST c.args.word.now.shop c.args.word.now.word
-    c.args.job s) (sym c.self.view_is) c.requires.can
-    in let within = left_first g.L.Lanes.GREATEST c.args.word.now.shop c.args.word.now.word _ can.kept c.args.job
-    can.fits
-    c.args.next.position
-    c.args.next.machine c.args.next.end
-    (subst (λ (s : LaneState). c.args.next.position ≡ get_or s.nexts c.args.job 0) (sym c.self.view_is)
-    c.requires.position)
-    (subst (λ (s : LaneState). c.args.next.machine ≡ get_or s.layout.machines c.args.next.position 0)
-    (sym c.self.view_is) c.requires.machine)
-    (subst (λ (s : LaneState). c.args.next.end ≡ get_or s.rows.heads c.args.next.position 0
-    + get_or s.rows.times c.args.next.position 0) (sym c.self.view_is) c.requires.end)
-    (g.L.Lanes.rows c.replace.new.lanes) c.begin-first.new.self c.replace.new.notes c.replace.ensures
-    c.begin-first.ensures.whole c.begin-first.result c.begin-first.ensures.first c.look_ahead-ahead.result
-    c.args.limit c.bound_by_raises-bound.result c.take.new.self
-    c.bound_by_raises-bound.new.self _ c.bound_by_raises-bound.ensures c.self-2.view_is _ refl
+    let within = first_within g.L.Lanes.GREATEST c.self.inside.notes c.begin-first.new.self c.replace.new.notes
+    c.bound_by_raises-bound.new.self.notes _ _ _ _ _ c.begin-first.result c.begin-first.ensures.first
+    c.begin-first.ensures.whole c.replace.ensures.noted c.bound_by_raises-bound.ensures.raises.noted c.list.result.now
+    (c.list.ensures ∙ ap (λ (s : LaneState). s.notes.list) c.self-2.view_is)
     in let read = ap (λ (ns : List Note). length ns) c.list.ensures in omega arith
 
 pub offset_bounds-list-first : goal.offset_bounds-list-first
 offset_bounds-list-first g c =
-    let can = subst (λ (s : LaneState). CanGoOnInLanes g.L.Lanes.GREATEST c.args.word.now.shop c.args.word.now.word
-    c.args.job s) (sym c.self.view_is) c.requires.can
-    in let within = left_first g.L.Lanes.GREATEST c.args.word.now.shop c.args.word.now.word _ can.kept c.args.job
-    can.fits
-    c.args.next.position
-    c.args.next.machine c.args.next.end
-    (subst (λ (s : LaneState). c.args.next.position ≡ get_or s.nexts c.args.job 0) (sym c.self.view_is)
-    c.requires.position)
-    (subst (λ (s : LaneState). c.args.next.machine ≡ get_or s.layout.machines c.args.next.position 0)
-    (sym c.self.view_is) c.requires.machine)
-    (subst (λ (s : LaneState). c.args.next.end ≡ get_or s.rows.heads c.args.next.position 0
-    + get_or s.rows.times c.args.next.position 0) (sym c.self.view_is) c.requires.end)
-    (g.L.Lanes.rows c.replace.new.lanes) c.begin-first.new.self c.replace.new.notes c.replace.ensures
-    c.begin-first.ensures.whole c.begin-first.result c.begin-first.ensures.first c.look_ahead-ahead.result
-    c.args.limit c.bound_by_raises-bound.result c.take.new.self
-    c.bound_by_raises-bound.new.self _ c.bound_by_raises-bound.ensures c.self-2.view_is _ refl
+    let within = first_within g.L.Lanes.GREATEST c.self.inside.notes c.begin-first.new.self c.replace.new.notes
+    c.bound_by_raises-bound.new.self.notes _ _ _ _ _ c.begin-first.result c.begin-first.ensures.first
+    c.begin-first.ensures.whole c.replace.ensures.noted c.bound_by_raises-bound.ensures.raises.noted c.list.result.now
+    (c.list.ensures ∙ ap (λ (s : LaneState). s.notes.list) c.self-2.view_is)
     in let read = ap (λ (ns : List Note). length ns) c.list.ensures in omega arith
 
 pub go_back-requires-clause-fill : goal.go_back-requires-clause-fill
