@@ -13,7 +13,7 @@ use Rattle.shop_bound.specs.Heads.{head_of}
 use Rattle.shop_bound.specs.inner.LaneEnds.{IsEndOf}
 use Rattle.shop_bound.specs.inner.LaneHeads.{AreHeadsAt, LeadsBack, NotesState}
 use Rattle.shop_bound.specs.inner.LaneStates.{Advances, AreHeadsInLanes, HasNextAt}
-use Rattle.shop_bound.specs.inner.Layouts.{LayoutState, place, first_of}
+use Rattle.shop_bound.specs.inner.Layouts.{LayoutState, place, first_position}
 use Rattle.shop_bound.specs.inner.Raises.{AreFirst, HasBlocks, IsLeastRaise, IsOnMachine, IsRaisable, Raises, Replaces}
 use Rattle.shop_bound.specs.declared.notes.Mark.{Mark}
 use Rattle.shop_bound.proofs.HeadTurns.{ready_first}
@@ -102,7 +102,7 @@ module _ (greatest : ℕ) (shop : Shop) (l : LayoutState) (rows : Rows) (w : Lis
     lifted_times : lifted.times ≡ l.times
     lifted_times = ap (λ (r : Rows). r.times) wrote.rows ∙ kept.times
 
-    lifted_long : length lifted.heads ≡ first_of l shop.machines
+    lifted_long : length lifted.heads ≡ first_position l shop.machines
     lifted_long = ap (λ (xs : List ℕ). length xs) lifted_heads
         ∙ (length-set rows.heads (place l j (before.steps j)) 0 ∙ kept.heads.positions)
 

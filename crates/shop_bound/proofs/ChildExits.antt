@@ -12,7 +12,7 @@ use Rattle.shop_bound.specs.Bound.{lb}
 use Rattle.shop_bound.specs.Heads.{head_of}
 use Rattle.shop_bound.specs.OneMachine.{one}
 use Rattle.shop_bound.specs.inner.LaneHeads.{AreHeadsAt}
-use Rattle.shop_bound.specs.inner.Layouts.{LayoutState, IsLaidOut, place, first_of}
+use Rattle.shop_bound.specs.inner.Layouts.{LayoutState, IsLaidOut, place, first_position}
 use Rattle.shop_bound.proofs.ChildBounds.{raised_left, child-le}
 use Rattle.shop_bound.proofs.ChildBounds.{child-ge-before, child-ge-left}
 use Rattle.shop_bound.proofs.HeadsStay.{head_stays}
@@ -78,8 +78,8 @@ module _ (shop : Shop) (limits : IsWithinLimits shop) (l : LayoutState) (laid : 
         in omega arith
 
     -- where no head on the machine is below the end, none rises
-    pub none_below-is : ((q : ℕ) → first_of l (machine_of shop j ((placing shop w).steps j)) ≤ q
-        → q < first_of l (machine_of shop j ((placing shop w).steps j) + 1)
+    pub none_below-is : ((q : ℕ) → first_position l (machine_of shop j ((placing shop w).steps j)) ≤ q
+        → q < first_position l (machine_of shop j ((placing shop w).steps j) + 1)
         → (get_or hs q 0 ≡ 0)
         ⊎ ((place_next shop (placing shop w) j).free (machine_of shop j ((placing shop w).steps j)) + 1
         ≤ get_or hs q 0))
@@ -93,8 +93,8 @@ module _ (shop : Shop) (limits : IsWithinLimits shop) (l : LayoutState) (laid : 
         in let clear : (i k : ℕ) → IsOperation shop i k → its_next.steps i ≤ k → machine_of shop i k ≡ its_machine
         → (its_end ≤ head_of shop p i k) ⊎ (its_end < head_of shop its_next i k) = (λ i k op opened on.
         let at = index_of shop limits l laid i k op
-        in let there : place l i k ≡ first_of l its_machine + at.0 =
-        at.1.place ∙ ap (λ (x : ℕ). first_of l x + at.0) on
+        in let there : place l i k ≡ first_position l its_machine + at.0 =
+        at.1.place ∙ ap (λ (x : ℕ). first_position l x + at.0) on
         in let long = at.1.below
         in let room = (laid.each its_machine on_machine).room
         in let same : length_of its_machine ≡ length_of (machine_of shop i k) = ap length_of (sym on)

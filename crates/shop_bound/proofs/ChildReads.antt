@@ -15,7 +15,7 @@ use Rattle.shop_bound.specs.inner.ChildBounds.{IsLeastAfter}
 use Rattle.shop_bound.specs.inner.HeadLimits.{FitsLanes, latest_end}
 use Rattle.shop_bound.specs.inner.LaneBounds.{AreMachinesAt, AreSpansFit, NoneElseBelow, lanes_on}
 use Rattle.shop_bound.specs.inner.LaneStates.{AreHeadsInLanes}
-use Rattle.shop_bound.specs.inner.Layouts.{LayoutState, first_of, place}
+use Rattle.shop_bound.specs.inner.Layouts.{LayoutState, first_position, place}
 use Rattle.shop_bound.proofs.ChildBounds.{child-ge-before}
 use Rattle.shop_bound.proofs.ChildExits.{none_below-is, open_span-le}
 use Rattle.shop_bound.proofs.HeadTurns.{ready_first}
@@ -40,7 +40,7 @@ module _ (greatest : ℕ) (shop : Shop) (w : List ℕ) (l : LayoutState) (rows :
   is_operation = let a = next_operation shop w j fits
       in let b = (after_word shop w (IsWord-init shop w j fits)).steps j in omega arith
 
-  pub place_within : place l j ((placing shop w).steps j) < first_of l shop.machines
+  pub place_within : place l j ((placing shop w).steps j) < first_position l shop.machines
   place_within = (place_of shop kept.limits l kept.laid j ((placing shop w).steps j) is_operation).within
 
   pub head_here : get_or rows.heads (place l j ((placing shop w).steps j)) 0
@@ -120,8 +120,8 @@ module _ (greatest : ℕ) (shop : Shop) (w : List ℕ) (l : LayoutState) (rows :
           (λ q low high. elim (cases_eq q x) [
             | inl own ↦ inl (get_or-set_at rows.heads x q 0 0 own its_place_within)
             | inr other ↦ (let same = get_or-set_other rows.heads x q 0 0 other
-                in elim (none q (let a = ap (first_of l) m_is in omega arith)
-                (let a = ap (λ (n : ℕ). first_of l (n + 1)) m_is in omega arith) other) [
+                in elim (none q (let a = ap (first_position l) m_is in omega arith)
+                (let a = ap (λ (n : ℕ). first_position l (n + 1)) m_is in omega arith) other) [
                   | inl nil ↦ inl (omega arith)
                   | inr above ↦ inr (omega arith)
                 ])

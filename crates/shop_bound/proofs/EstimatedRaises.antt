@@ -19,7 +19,7 @@ use Rattle.shop_bound.specs.inner.Estimates.{AreEstimates, IsEstimate, IsNoteCov
 use Rattle.shop_bound.specs.inner.HeadRaises.{raise_of}
 use Rattle.shop_bound.specs.inner.LaneBounds.{lanes_on, AreMachinesAt}
 use Rattle.shop_bound.specs.inner.LaneHeads.{AreHeadsAt, restored}
-use Rattle.shop_bound.specs.inner.Layouts.{LayoutState, IsLaidOut, place, first_of}
+use Rattle.shop_bound.specs.inner.Layouts.{LayoutState, IsLaidOut, place, first_position}
 use Rattle.shop_bound.specs.inner.Watchers.{floor_on}
 use Rattle.shop_bound.specs.declared.head_raises.Raise.{Raise}
 use Rattle.shop_bound.specs.declared.notes.Note.{Note}
@@ -157,8 +157,8 @@ module _ (shop : Shop) (limits : IsWithinLimits shop) (l : LayoutState) (laid : 
     abbrev IsUsed : ℕ → Type 0
     IsUsed u = m < length us → get_or us m 0 ≤ least + 1 → get_or us m 0 ≡ u
 
-    risen : (u floor : ℕ) → u ≤ least + 1 → IsUsed u → floor_on own end m ≤ floor → (q : ℕ) → first_of l m ≤ q
-        → q < first_of l (m + 1)
+    risen : (u floor : ℕ) → u ≤ least + 1 → IsUsed u → floor_on own end m ≤ floor → (q : ℕ) → first_position l m ≤ q
+        → q < first_position l (m + 1)
         → IsRisen (least + 1 - u) raise.from raise.to floor (get_or was q 0) (get_or now q 0)
     risen u floor low used foreseen q from to = record {
       some = waited q;

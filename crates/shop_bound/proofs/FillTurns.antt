@@ -17,7 +17,7 @@ use Rattle.shop_bound.specs.inner.Fills.{IsStored, IsPositionFree, CanFill, AreS
 use Rattle.shop_bound.specs.inner.Fills.{HasFilled, CanPutBack, HasPutBack, GoesBack}
 use Rattle.shop_bound.specs.inner.Raises.{KeepsEnds, SetsEndAt}
 use Rattle.shop_bound.specs.inner.LaneHeads.{AreHeadsAt, restored}
-use Rattle.shop_bound.specs.inner.Layouts.{LayoutState, place, first_of}
+use Rattle.shop_bound.specs.inner.Layouts.{LayoutState, place, first_position}
 use Rattle.shop_bound.specs.inner.PlacedWords.{IsOfWord}
 use Rattle.shop_bound.specs.declared.notes.Note.{Note}
 use Rattle.shop_bound.proofs.HeadTurns.{ready_first}
@@ -155,7 +155,7 @@ module _ (greatest : ℕ) (shop : Shop) (l : LayoutState) (s : PlacementState) (
     (can : CanFill greatest shop l rows) (j : ℕ) (job : j < length shop.jobs) where
   module _ (k : ℕ) (ready : ℕ) (now : Rows) (so_far : IsFilledUpTo shop l s j k ready rows now)
       (op : IsOperation shop j k) (q : ℕ) (at : q ≡ place l j k) where
-    here : place l j k < first_of l shop.machines
+    here : place l j k < first_position l shop.machines
     here = (place_of shop can.limits l can.laid j k op).within
 
     pub position_known : q < length now.heads

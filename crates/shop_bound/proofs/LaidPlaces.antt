@@ -7,7 +7,7 @@ use Rattle.shop_model.specs.Shop.{Shop, IsOperation, route_of, machine_of, time_
 use Rattle.shop_model.proofs.Ends.{IsOperation-job}
 use Rattle.shop_bound.specs.Heads.{tail_of}
 use Rattle.shop_bound.specs.Slots.{slot_at}
-use Rattle.shop_bound.specs.inner.Layouts.{LayoutState, place, first_of, IsAt, IsLaidOut, IsPadding}
+use Rattle.shop_bound.specs.inner.Layouts.{LayoutState, place, first_position, IsAt, IsLaidOut, IsPadding}
 use Rattle.shop_bound.proofs.SlotFacts.{slots_are_all, slots_are_operations}
 
 pub record IsPlaceOf (shop : Shop) (l : LayoutState) (j k : ℕ) : Type 0 where
@@ -15,9 +15,9 @@ pub record IsPlaceOf (shop : Shop) (l : LayoutState) (j k : ℕ) : Type 0 where
   pub step : get_or l.steps (place l j k) 0 ≡ k
   pub time : get_or l.times (place l j k) 0 ≡ time_of shop j k
   pub tail : get_or l.tails (place l j k) 0 ≡ tail_of shop j k
-  pub from : first_of l (machine_of shop j k) ≤ place l j k
-  pub to : place l j k < first_of l (machine_of shop j k + 1)
-  pub within : place l j k < first_of l shop.machines
+  pub from : first_position l (machine_of shop j k) ≤ place l j k
+  pub to : place l j k < first_position l (machine_of shop j k + 1)
+  pub within : place l j k < first_position l shop.machines
 
 -- an operation of the instance stands at position q, or none does
 pub record IsOperationAt (shop : Shop) (l : LayoutState) (q : ℕ) : Type 0 where
@@ -31,16 +31,17 @@ IsFree shop l q = (j k : ℕ) → IsOperation shop j k → place l j k ≡ q →
 
 module _ (shop : Shop) (limits : IsWithinLimits shop) (l : LayoutState) (laid : IsLaidOut shop l) where
   -- machines stand one after another
-  pub later_machine : (d m k : ℕ) → m + d ≡ k → k ≤ shop.machines → first_of l m ≤ first_of l k
+  pub later_machine : (d m k : ℕ) → m + d ≡ k → k ≤ shop.machines → first_position l m ≤ first_position l k
   later_machine zero m k e known =
-      let same : first_of l m ≡ first_of l k = ap (first_of l) (let f = e in omega arith) in omega arith
+      let same : first_position l m ≡ first_position l k = ap (first_position l) (let f = e in omega arith) in omega
+      arith
   later_machine (suc d) m k e known =
       let before = later_machine d m (m + d) refl (omega arith)
       in let room = (laid.each (m + d) (omega arith)).room
-      in let same : first_of l k ≡ first_of l (m + d + 1) = ap (first_of l) (omega arith)
+      in let same : first_position l k ≡ first_position l (m + d + 1) = ap (first_position l) (omega arith)
       in omega arith
 
-  pub machines_rise : (m k : ℕ) → m ≤ k → k ≤ shop.machines → first_of l m ≤ first_of l k
+  pub machines_rise : (m k : ℕ) → m ≤ k → k ≤ shop.machines → first_position l m ≤ first_position l k
   machines_rise m k le known = later_machine (k - m) m k (omega arith) known
 
   pub place_of : (j k : ℕ) → IsOperation shop j k → IsPlaceOf shop l j k
@@ -53,9 +54,9 @@ module _ (shop : Shop) (limits : IsWithinLimits shop) (l : LayoutState) (laid : 
       in let i = found.0
       in let is : get_or slots i slot ≡ slot = found.2
       in let machine = laid.each m known
-      in let here : IsAt l (first_of l m + i) slot =
-      subst (IsAt l (first_of l m + i)) is (machine.at i slot found.1)
-      in let q : first_of l m + i ≡ place l j k = sym here.place
+      in let here : IsAt l (first_position l m + i) slot =
+      subst (IsAt l (first_position l m + i)) is (machine.at i slot found.1)
+      in let q : first_position l m + i ≡ place l j k = sym here.place
       in let below = found.1
       in let room = machine.room
       in let last = machines_rise (m + 1) shop.machines (omega arith) (omega arith)
@@ -90,8 +91,8 @@ module _ (shop : Shop) (limits : IsWithinLimits shop) (l : LayoutState) (laid : 
       ]
 
   -- the operations among the positions of a machine are its operations
-  pub on_machine : (m j k : ℕ) → m < shop.machines → IsOperation shop j k → first_of l m ≤ place l j k
-      → place l j k < first_of l (m + 1) → machine_of shop j k ≡ m
+  pub on_machine : (m j k : ℕ) → m < shop.machines → IsOperation shop j k → first_position l m ≤ place l j k
+      → place l j k < first_position l (m + 1) → machine_of shop j k ≡ m
   on_machine m j k known op low high =
       let a = place_of j k op
       in let from = a.from in let to = a.to
@@ -107,28 +108,28 @@ module _ (shop : Shop) (limits : IsWithinLimits shop) (l : LayoutState) (laid : 
       ]
 
   -- the machine that a position belongs to
-  pub machine_at : (k q : ℕ) → k ≤ shop.machines → q < first_of l k
-      → (m : ℕ) × (m < shop.machines) × (first_of l m ≤ q) × (q < first_of l (m + 1))
+  pub machine_at : (k q : ℕ) → k ≤ shop.machines → q < first_position l k
+      → (m : ℕ) × (m < shop.machines) × (first_position l m ≤ q) × (q < first_position l (m + 1))
   machine_at zero q known below = absurd (let a = laid.from_0 in omega arith)
   machine_at (suc k) q known below =
-      let f : first_of l (suc k) ≡ first_of l (k + 1) = ap (first_of l) (omega arith)
-      in elim (cases_lt q (first_of l k)) [
+      let f : first_position l (suc k) ≡ first_position l (k + 1) = ap (first_position l) (omega arith)
+      in elim (cases_lt q (first_position l k)) [
         | inl low ↦ machine_at k q (omega arith) low
         | inr high ↦ (k, omega arith, high, omega arith)
       ]
 
   -- an operation, or nothing that takes time
-  pub cell_at : (q : ℕ) → q < first_of l shop.machines → IsOperationAt shop l q ⊎ IsPadding l q
+  pub cell_at : (q : ℕ) → q < first_position l shop.machines → IsOperationAt shop l q ⊎ IsPadding l q
   cell_at q below =
       let at = machine_at shop.machines q (omega arith) below
       in let m = at.0
       in let slots = get_or laid.slots m []
       in let machine = laid.each m at.1
       in let low = at.2 in let high = at.3
-      in elim (cases_lt q (first_of l m + length slots)) [
+      in elim (cases_lt q (first_position l m + length slots)) [
         | inl within ↦ (
-            let i = q - first_of l m
-            in let e : first_of l m + i ≡ q = omega arith
+            let i = q - first_position l m
+            in let e : first_position l m + i ≡ q = omega arith
             in let d = slot_at [] 0 0
             in let s = get_or slots i d
             in let op = slots_are_operations shop m slots (laid.are.slots m at.1) i d (omega arith)

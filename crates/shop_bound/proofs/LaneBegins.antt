@@ -23,7 +23,7 @@ use Rattle.shop_bound.specs.inner.LaneEnds.{AreEndsOf, CanKeepEnds, HasEnds}
 use Rattle.shop_bound.specs.inner.LaneHeads.{AreHeadsFit, NotesState}
 use Rattle.shop_bound.specs.inner.LaneStates.{AreHeadsInLanes, HasBounds, IsKeptInLanes}
 use Rattle.shop_bound.specs.inner.Layings.{place_or}
-use Rattle.shop_bound.specs.inner.Layouts.{LayoutState, place, first_of, AreFirsts, IsLaidOut}
+use Rattle.shop_bound.specs.inner.Layouts.{LayoutState, place, first_position, AreFirsts, IsLaidOut}
 use Rattle.shop_bound.specs.inner.PlacedWords.{IsOfWord}
 use Rattle.shop_bound.proofs.LaidPlaces.{place_of, cell_at, machine_at, machines_rise}
 use Rattle.shop_bound.proofs.LaneEnds.{can_keep, ends_at, with_ends}
@@ -68,15 +68,15 @@ module _ (greatest : ℕ) (shop : Shop) (limits : IsWithinLimits shop) (l : Layo
       (let a = laid.positions.tails in omega arith)
       in let m = at.0
       in let low = at.2 in let high = at.3
-      in let i = q - first_of l m
-      in let n = first_of l (m + 1) - first_of l m
-      in let part : List ℕ = take n (drop (first_of l m) l.tails)
+      in let i = q - first_position l m
+      in let n = first_position l (m + 1) - first_position l m
+      in let part : List ℕ = take n (drop (first_position l m) l.tails)
       in let last = machines_rise shop limits l laid (m + 1) shop.machines (omega (arith, at.1)) (omega arith)
-      in let long : length part ≡ n = length-take-le n (drop (first_of l m) l.tails)
-      (let a = laid.positions.tails in omega (arith, length-drop (first_of l m) l.tails))
+      in let long : length part ≡ n = length-take-le n (drop (first_position l m) l.tails)
+      (let a = laid.positions.tails in omega (arith, length-drop (first_position l m) l.tails))
       in let is : get_or part i 0 ≡ get_or l.tails q 0 =
-      get_or-take n (drop (first_of l m) l.tails) i 0 (omega arith)
-      ∙ (get_or-drop (first_of l m) l.tails i 0 ∙ ap (λ (x : ℕ). get_or l.tails x 0) (omega arith))
+      get_or-take n (drop (first_position l m) l.tails) i 0 (omega arith)
+      ∙ (get_or-drop (first_position l m) l.tails i 0 ∙ ap (λ (x : ℕ). get_or l.tails x 0) (omega arith))
       in let most = get_or-le-greatest_of (λ (t : ℕ). t) part i 0 (omega arith)
       in let load = holds m at.1
       in omega arith

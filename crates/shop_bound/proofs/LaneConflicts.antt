@@ -16,7 +16,7 @@ use Rattle.shop_bound.specs.Conflicts.{conflict_among}
 use Rattle.shop_bound.specs.Heads.{head_of, ready_after}
 use Rattle.shop_bound.specs.inner.LaneChoices.{AreChoosable, AreNextPlaced, AreNextsAt, IsNextBelow}
 use Rattle.shop_bound.specs.inner.JobSets.{HasPutIf}
-use Rattle.shop_bound.specs.inner.Layouts.{LayoutState, place, first_of}
+use Rattle.shop_bound.specs.inner.Layouts.{LayoutState, place, first_position}
 use Rattle.shop_bound.specs.inner.Raises.{HasBlocks, IsOnMachine}
 use Rattle.shop_bound.specs.inner.RisingLists.{IsIn, Rises, HasGathered}
 use Rattle.shop_bound.proofs.LaidPlaces.{place_of, on_machine}
@@ -129,13 +129,13 @@ module _ (shop : Shop) (p : Placing) (l : LayoutState) (nexts : List ℕ) (rows 
   next_there j op =
       let route = can.laid.routes j
       in can.are.are j (IsOperation-job shop j (p.steps j) op)
-      ∙ place_there l (first_of l shop.machines) j (p.steps j) (omega arith)
+      ∙ place_there l (first_position l shop.machines) j (p.steps j) (omega arith)
 
   pub next_op : (j : ℕ) → j < length shop.jobs → get_or nexts j 0 < length rows.heads → IsOperation shop j (p.steps j)
   next_op j known below = elim (cases_lt (p.steps j) (length (route_of shop j))) [
     | inl op ↦ op
     | inr past ↦ absurd (let route = can.laid.routes j in let a = can.are.are j known
-        in let b = place_past l (first_of l shop.machines) j (p.steps j) (omega arith)
+        in let b = place_past l (first_position l shop.machines) j (p.steps j) (omega arith)
         in let d = can.heads.positions in omega arith)
   ]
 
@@ -214,9 +214,10 @@ module _ (shop : Shop) (p : Placing) (l : LayoutState) (nexts : List ℕ) (rows 
           ap (λ (x : ℕ). get_or rows.heads x 0) at
           in let stands = place_of shop can.limits l can.laid i (p.steps i) o
           in let its : machine_of shop i (p.steps i) ≡ m = machine ∙ sym on
-          in let first : first_of l (machine_of shop i (p.steps i)) ≡ first_of l m = ap (first_of l) its
-          in let behind : first_of l (machine_of shop i (p.steps i) + 1) ≡ first_of l (m + 1) =
-          ap (λ (x : ℕ). first_of l (x + 1)) its
+          in let first : first_position l (machine_of shop i (p.steps i)) ≡ first_position l m = ap (first_position l)
+          its
+          in let behind : first_position l (machine_of shop i (p.steps i) + 1) ≡ first_position l (m + 1) =
+          ap (λ (x : ℕ). first_position l (x + 1)) its
           in let from = stands.from in let to = stands.to
           in record {
             job = omega arith;

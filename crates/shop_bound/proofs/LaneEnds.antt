@@ -15,7 +15,7 @@ use Rattle.shop_bound.specs.inner.LaneChoices.{AreEndsAt, AreNextPlaced, AreNext
 use Rattle.shop_bound.specs.inner.LaneEnds.{end_at, AreEndsOf, CanKeepEnds, HasEnds, IsEndOf}
 use Rattle.shop_bound.specs.inner.LaneHeads.{AreHeadsAt}
 use Rattle.shop_bound.specs.inner.LaneStates.{AreHeadsInLanes}
-use Rattle.shop_bound.specs.inner.Layouts.{LayoutState, place, first_of}
+use Rattle.shop_bound.specs.inner.Layouts.{LayoutState, place, first_position}
 use Rattle.shop_bound.specs.inner.Raises.{AreFirst}
 use Rattle.shop_bound.proofs.LaidPlaces.{place_of}
 use Rattle.shop_bound.proofs.LatestEnds.{latest_end_is}
@@ -57,7 +57,7 @@ module _ (greatest : ℕ) (shop : Shop) (w : List ℕ) (l : LayoutState) (rows :
     p = placing shop w
 
     abbrev n : ℕ
-    n = first_of l shop.machines
+    n = first_position l shop.machines
 
     -- the next operation of a job, or none
     pub next_there : (j : ℕ) → IsOperation shop j (p.steps j) → get_or nexts j 0 ≡ place l j (p.steps j)

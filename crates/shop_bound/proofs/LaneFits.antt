@@ -15,7 +15,7 @@ use Rattle.shop_bound.specs.OneMachine.{greatest_of}
 use Rattle.shop_bound.specs.Heads.{tail_in}
 use Rattle.shop_bound.specs.inner.HeadLimits.{total_before, latest_end, load_on, FitsLanes}
 use Rattle.shop_bound.specs.inner.LaneBounds.{AreSpansFit, lanes_on}
-use Rattle.shop_bound.specs.inner.Layouts.{LayoutState, IsLaidOut, first_of}
+use Rattle.shop_bound.specs.inner.Layouts.{LayoutState, IsLaidOut, first_position}
 use Rattle.shop_bound.specs.declared.slots.Slot.{Slot}
 use Rattle.shop_bound.proofs.ApartSlots.{slots_few}
 use Rattle.shop_bound.proofs.MachineLanes.{first_rises}
@@ -78,12 +78,12 @@ lanes_tails (h ∷ hs) (t ∷ ts) (q ∷ qs) a b =
 
 module _ (shop : Shop) (limits : IsWithinLimits shop) (l : LayoutState) (laid : IsLaidOut shop l) where
   module _ (m : ℕ) (known : m < shop.machines) where
-    within : first_of l (m + 1) ≤ first_of l shop.machines
+    within : first_position l (m + 1) ≤ first_position l shop.machines
     within = first_rises shop limits l laid (m + 1) (shop.machines - (m + 1)) shop.machines (omega arith) (omega arith)
 
     -- its positions are among all
-    pub machine_in : (first_of l m ≤ first_of l (m + 1)) × (first_of l (m + 1) ≤ length l.times)
-        × (first_of l (m + 1) ≤ length l.tails)
+    pub machine_in : (first_position l m ≤ first_position l (m + 1)) × (first_position l (m + 1) ≤ length l.times)
+        × (first_position l (m + 1) ≤ length l.tails)
     machine_in = (let a = within in let b = (laid.each m known).room in let c = laid.positions.times
         in let d = laid.positions.tails in (omega arith, omega arith, omega arith))
 
@@ -95,7 +95,7 @@ module _ (shop : Shop) (limits : IsWithinLimits shop) (l : LayoutState) (laid : 
     unfolding slots
     time_small i =
         let all = within in let long = laid.positions.times
-        in elim (cases_lt i (first_of l (m + 1) - first_of l m)) [
+        in elim (cases_lt i (first_position l (m + 1) - first_position l m)) [
           | inl here ↦ (let e = block_at l.times (get_or l.blocks m 0) (get_or l.blocks (m + 1) 0) i here
               in elim (cases_lt i (length slots)) [
                 | inl of ↦ (let d : Slot = record { job = 0; step = 0; time = 0; tail = 0 }
@@ -105,7 +105,7 @@ module _ (shop : Shop) (limits : IsWithinLimits shop) (l : LayoutState) (laid : 
                     in let is : (get_or slots i d).time ≡ time_of shop (get_or slots i d).job (get_or slots i d).step =
                     ap (λ (s : Slot). s.time) op.is
                     in let small = limits.times (get_or slots i d).job (get_or slots i d).step in omega arith)
-                | inr behind ↦ (let p = (laid.each m known).padding (first_of l m + i) (omega arith) (omega arith)
+                | inr behind ↦ (let p = (laid.each m known).padding (first_position l m + i) (omega arith) (omega arith)
                     in let t = p.time in omega arith)
               ])
           | inr past ↦
@@ -118,9 +118,9 @@ module _ (shop : Shop) (limits : IsWithinLimits shop) (l : LayoutState) (laid : 
     unfolding slots
     time_behind i behind =
         let all = within in let long = laid.positions.times
-        in elim (cases_lt i (first_of l (m + 1) - first_of l m)) [
+        in elim (cases_lt i (first_position l (m + 1) - first_position l m)) [
           | inl here ↦ (let e = block_at l.times (get_or l.blocks m 0) (get_or l.blocks (m + 1) 0) i here
-              in let p = (laid.each m known).padding (first_of l m + i) (omega arith) (omega arith)
+              in let p = (laid.each m known).padding (first_position l m + i) (omega arith) (omega arith)
               in let t = p.time in omega arith)
           | inr past ↦ block_past l.times (get_or l.blocks m 0) (get_or l.blocks (m + 1) 0) i (omega arith) past
         ]
@@ -129,7 +129,7 @@ module _ (shop : Shop) (limits : IsWithinLimits shop) (l : LayoutState) (laid : 
     unfolding slots
     tail_small i =
         let all = within in let long = laid.positions.tails
-        in elim (cases_lt i (first_of l (m + 1) - first_of l m)) [
+        in elim (cases_lt i (first_position l (m + 1) - first_position l m)) [
           | inl here ↦ (let e = block_at l.tails (get_or l.blocks m 0) (get_or l.blocks (m + 1) 0) i here
               in elim (cases_lt i (length slots)) [
                 | inl of ↦ (let d : Slot = record { job = 0; step = 0; time = 0; tail = 0 }
@@ -142,7 +142,7 @@ module _ (shop : Shop) (limits : IsWithinLimits shop) (l : LayoutState) (laid : 
                     in let whole = route_times shop limits (get_or slots i d).job
                     in let part = sum_by-take-drop (λ (o : Op). o.time) (route_of shop (get_or slots i d).job)
                     ((get_or slots i d).step + 1) in omega arith)
-                | inr behind ↦ (let p = (laid.each m known).padding (first_of l m + i) (omega arith) (omega arith)
+                | inr behind ↦ (let p = (laid.each m known).padding (first_position l m + i) (omega arith) (omega arith)
                     in let t = p.tail in omega arith)
               ])
           | inr past ↦
@@ -163,7 +163,7 @@ module _ (shop : Shop) (limits : IsWithinLimits shop) (l : LayoutState) (laid : 
   -- where lanes hold all loads, they hold the spans of any word
   pub spans_fit : (greatest : ℕ) → FitsLanes greatest shop l → (rows : Rows) → rows.times ≡ l.times
       → rows.tails ≡ l.tails
-      → length rows.heads ≡ first_of l shop.machines
+      → length rows.heads ≡ first_position l shop.machines
       → AreSpansFit greatest (latest_end shop + 1) shop.machines l rows
   spans_fit greatest fits rows times tails long = record {
     known = laid.machines;

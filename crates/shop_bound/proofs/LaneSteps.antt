@@ -22,7 +22,7 @@ use Rattle.shop_bound.specs.inner.LaneEnds.{AreEndsButOf, AreEndsOf, CanKeepEnds
 use Rattle.shop_bound.specs.inner.LaneHeads.{AreHeadsAt, AreNotesFit, IsTrail, NotesState, restored}
 use Rattle.shop_bound.specs.inner.LaneStates.{LaneState, IsKeptInLanes, Advances, AreHeadsInLanes}
 use Rattle.shop_bound.specs.inner.Layings.{place_or}
-use Rattle.shop_bound.specs.inner.Layouts.{LayoutState, first_of, place}
+use Rattle.shop_bound.specs.inner.Layouts.{LayoutState, first_position, place}
 use Rattle.shop_bound.specs.inner.Raises.{AreFirst}
 use Rattle.shop_bound.proofs.ChildReads.{is_operation}
 use Rattle.shop_bound.proofs.ChildTurns.{its_job}
@@ -95,7 +95,7 @@ module _ (greatest : ℕ) (shop : Shop) (w : List ℕ) (j : ℕ) (s : LaneState)
       pub next_at : x ≡ place s.layout j ((placing shop w).steps j)
       next_at = next_read ∙ next_is
 
-      pub position_known : x < first_of s.layout shop.machines
+      pub position_known : x < first_position s.layout shop.machines
       position_known =
           let a = next_within greatest shop w s.layout s.rows kept.kept s.nexts kept.nexts j operation
           in let b = next_read in let d = kept.kept.heads.positions in omega arith
@@ -108,7 +108,7 @@ module _ (greatest : ℕ) (shop : Shop) (w : List ℕ) (j : ℕ) (s : LaneState)
               let next = place_next-is shop (placing shop w) j
               in let op = operation
               in let route = kept.kept.laid.routes j
-              in let n = first_of s.layout shop.machines
+              in let n = first_position s.layout shop.machines
               in let after : placing shop (w ++ j ∷ []) ≡ place_next shop (placing shop w) j = placing-snoc shop w j
               in let follows : q ≡ place_or n s.layout.places j ((placing shop w).steps j + 1) =
               read ∙ (ap (λ (y : ℕ). get_or s.layout.following y 0) next_at
@@ -248,7 +248,7 @@ module _ (greatest : ℕ) (shop : Shop) (w : List ℕ) (j : ℕ) (s : LaneState)
         in let counted = next_operation shop w j kept.kept.word
         in let steps = (after_word shop w (IsWord-init shop w j kept.kept.word)).steps j
         in let route = kept.kept.laid.routes j
-        in let n = first_of s.layout shop.machines
+        in let n = first_position s.layout shop.machines
         in let here : get_or (set s.nexts j mark.position) j 0
         ≡ place_or n s.layout.places j ((placing shop w).steps j) =
         get_or-set_at s.nexts j j mark.position 0 refl last_known

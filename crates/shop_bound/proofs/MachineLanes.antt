@@ -14,7 +14,7 @@ use Rattle.shop_bound.specs.declared.triples.Triple.{Triple}
 use Rattle.shop_bound.specs.Heads.{head_of}
 use Rattle.shop_bound.specs.Slots.{slot_at}
 use Rattle.shop_bound.specs.inner.LaneHeads.{AreHeadsAt}
-use Rattle.shop_bound.specs.inner.Layouts.{LayoutState, IsLaidOut, place, first_of}
+use Rattle.shop_bound.specs.inner.Layouts.{LayoutState, IsLaidOut, place, first_position}
 use Rattle.shop_bound.specs.inner.OpenSlots.{is_open, triple_of, open_triples}
 use Rattle.shop_bound.proofs.LaneSpans.{AreMatched, nothing, empty, matched, IsLaneOf}
 use Rattle.shop_bound.proofs.SlotFacts.{slots_are_operations, slots_are_all}
@@ -54,7 +54,7 @@ lane_here (h ∷ hs) (t ∷ ts) (q ∷ qs) (suc i) d a b lt =
 
 -- Numbers by position: one more than f of each step that isn't counted, and 0 elsewhere.
 pub record AreStored (shop : Shop) (steps : ℕ → ℕ) (f : ℕ → ℕ → ℕ) (l : LayoutState) (hs : List ℕ) : Type 0 where
-  pub positions : length hs ≡ first_of l shop.machines
+  pub positions : length hs ≡ first_position l shop.machines
   pub waiting : (j k : ℕ) → IsOperation shop j k → steps j ≤ k → get_or hs (place l j k) 0 ≡ f j k + 1
   pub placed : (j k : ℕ) → IsOperation shop j k → k < steps j → get_or hs (place l j k) 0 ≡ 0
   pub padding : (q : ℕ) → ((j k : ℕ) → IsOperation shop j k → place l j k ≡ q → ⊥) → get_or hs q 0 ≡ 0
@@ -66,13 +66,13 @@ stored_heads shop p l hs a =
 
 module _ (shop : Shop) (limits : IsWithinLimits shop) (l : LayoutState) (laid : IsLaidOut shop l) where
   -- the machines' positions stand one behind the other
-  pub first_rises : (a d b : ℕ) → a + d ≡ b → b ≤ shop.machines → first_of l a ≤ first_of l b
+  pub first_rises : (a d b : ℕ) → a + d ≡ b → b ≤ shop.machines → first_position l a ≤ first_position l b
   first_rises a zero b e within =
-      let f : first_of l b ≡ first_of l a = ap (first_of l) (omega arith) in omega arith
+      let f : first_position l b ≡ first_position l a = ap (first_position l) (omega arith) in omega arith
   first_rises a (suc d) b e within =
       let before = first_rises a d (a + d) refl (omega arith)
       in let room = (laid.each (a + d) (omega arith)).room
-      in let f : first_of l b ≡ first_of l (a + d + 1) = ap (first_of l) (omega arith) in omega arith
+      in let f : first_position l b ≡ first_position l (a + d + 1) = ap (first_position l) (omega arith) in omega arith
 
   abbrev pub slots_of : ℕ → List Slot
   slots_of m = get_or laid.slots m []
@@ -80,7 +80,7 @@ module _ (shop : Shop) (limits : IsWithinLimits shop) (l : LayoutState) (laid : 
   -- where an operation stands among those of its machine
   pub record HasIndex (j k m i : ℕ) : Type 0 where
     pub below : i < length (slots_of m)
-    pub place : place l j k ≡ first_of l m + i
+    pub place : place l j k ≡ first_position l m + i
 
   pub index_of : (j k : ℕ) → IsOperation shop j k → (i : ℕ) × HasIndex j k (machine_of shop j k) i
   index_of j k op =
@@ -94,7 +94,8 @@ module _ (shop : Shop) (limits : IsWithinLimits shop) (l : LayoutState) (laid : 
       in (c.0, record { below = c.1; place = there ∙ at.place })
 
   -- behind a machine's operations nothing stands
-  pub none_behind : (m q : ℕ) → m < shop.machines → first_of l m + length (slots_of m) ≤ q → q < first_of l (m + 1)
+  pub none_behind : (m q : ℕ) → m < shop.machines → first_position l m + length (slots_of m) ≤ q → q < first_position l
+  (m + 1)
       → (j k : ℕ) → IsOperation shop j k → place l j k ≡ q → ⊥
   none_behind m q known behind before j k op e =
       let n = machine_of shop j k
@@ -104,7 +105,7 @@ module _ (shop : Shop) (limits : IsWithinLimits shop) (l : LayoutState) (laid : 
       in let there = i.1.place
       in let room = (laid.each n other).room
       in elim (cases_eq n m) [
-        | inl same ↦ (let a : first_of l n ≡ first_of l m = ap (first_of l) same
+        | inl same ↦ (let a : first_position l n ≡ first_position l m = ap (first_position l) same
             in let b : length (slots_of n) ≡ length (slots_of m) = ap (λ (x : ℕ). length (slots_of x)) same
             in omega arith)
         | inr ne ↦ elim (cases_lt n m) [
@@ -115,7 +116,7 @@ module _ (shop : Shop) (limits : IsWithinLimits shop) (l : LayoutState) (laid : 
 
   module _ (m : ℕ) (known : m < shop.machines) (steps : ℕ → ℕ) (f : ℕ → ℕ → ℕ) (hs : List ℕ)
       (stored : AreStored shop steps f l hs) where
-    pub machine_within : first_of l (m + 1) ≤ length hs
+    pub machine_within : first_position l (m + 1) ≤ length hs
     machine_within =
         let a = first_rises (m + 1) (shop.machines - (m + 1)) shop.machines (omega arith) (omega arith)
         in let b = stored.positions in omega arith
@@ -127,17 +128,18 @@ module _ (shop : Shop) (limits : IsWithinLimits shop) (l : LayoutState) (laid : 
     lanes_as_many = (let a = laid.positions.times in let b = laid.positions.tails in let c = stored.positions
         in (omega arith, omega arith))
 
-    lane_in : (i : ℕ) (d : Lane) → first_of l m + i < first_of l (m + 1)
-        → get_or machine_lanes i d ≡ lane_at hs l.times l.tails (first_of l m + i)
+    lane_in : (i : ℕ) (d : Lane) → first_position l m + i < first_position l (m + 1)
+        → get_or machine_lanes i d ≡ lane_at hs l.times l.tails (first_position l m + i)
     unfolding machine_lanes
     lane_in i d below =
         let within = machine_within
-        in get_or-take (first_of l (m + 1) - first_of l m) (drop (first_of l m) (lanes hs l.times l.tails)) i d
+        in get_or-take (first_position l (m + 1) - first_position l m)
+        (drop (first_position l m) (lanes hs l.times l.tails)) i d
         (omega arith)
-        ∙ get_or-drop (first_of l m) (lanes hs l.times l.tails) i d
-        ∙ lane_here hs l.times l.tails (first_of l m + i) d lanes_as_many.0 lanes_as_many.1 (omega arith)
+        ∙ get_or-drop (first_position l m) (lanes hs l.times l.tails) i d
+        ∙ lane_here hs l.times l.tails (first_position l m + i) d lanes_as_many.0 lanes_as_many.1 (omega arith)
 
-    machine_long : length machine_lanes ≡ first_of l (m + 1) - first_of l m
+    machine_long : length machine_lanes ≡ first_position l (m + 1) - first_position l m
     unfolding machine_lanes
     machine_long =
         let within = machine_within
@@ -163,9 +165,9 @@ module _ (shop : Shop) (limits : IsWithinLimits shop) (l : LayoutState) (laid : 
         in let a = leb-true (get_or counts s.job 0) s.step opened
         in let b = agree s.job op.job
         in let w = stored.waiting s.job s.step op.step (omega arith)
-        in let head : get_or hs (first_of l m + i) 0 ≡ f s.job s.step + 1 =
+        in let head : get_or hs (first_position l m + i) 0 ≡ f s.job s.step + 1 =
         ap (λ (q : ℕ). get_or hs q 0) (sym at.place) ∙ w
-        in let lane : lane_at hs l.times l.tails (first_of l m + i)
+        in let lane : lane_at hs l.times l.tails (first_position l m + i)
         ≡ record { head = f s.job s.step + 1; time = s.time; tail = s.tail } =
         (let c = at.time in let g = at.tail in cc)
         in subst (λ (x : Lane). R (triple_of rows s) x) (sym (lane_in i e (omega arith) ∙ lane))
@@ -183,8 +185,8 @@ module _ (shop : Shop) (limits : IsWithinLimits shop) (l : LayoutState) (laid : 
         ])
         (λ i e behind here.
         let h = ap (λ (x : Lane). x.head) (lane_in i e (omega arith))
-        in h ∙ stored.padding (first_of l m + i)
-        (none_behind m (first_of l m + i) known (omega arith) (omega arith)))
+        in h ∙ stored.padding (first_position l m + i)
+        (none_behind m (first_position l m + i) known (omega arith) (omega arith)))
 
   -- the lanes of what waits for a machine
   pub left_matched : (m : ℕ) → m < shop.machines → (p : Placing) (hs : List ℕ) → AreHeadsAt shop p l hs

@@ -13,7 +13,7 @@ use Rattle.shop_lanes.specs.Rows.{Rows}
 use Rattle.shop_bound.specs.Heads.{head_of, ready_after}
 use Rattle.shop_bound.specs.inner.LaneHeads.{AreHeadsAt}
 use Rattle.shop_bound.specs.inner.Layings.{place_or}
-use Rattle.shop_bound.specs.inner.Layouts.{LayoutState, place, first_of, IsLaidOut}
+use Rattle.shop_bound.specs.inner.Layouts.{LayoutState, place, first_position, IsLaidOut}
 use Rattle.shop_bound.specs.inner.Raises.{steps_of, at_in, AreFirst, IsFollowed, IsIndexed, IsPlace, AreInRouteOrder}
 use Rattle.shop_bound.specs.inner.Raises.{IsRaised}
 use Rattle.shop_bound.specs.inner.Raises.{IsLeastRaise, IsRaisable, IsOnMachine, HasBlocks}
@@ -24,7 +24,7 @@ use Rattle.shop_bound.proofs.LaidPlaces.{IsOperationAt, IsFree, machines_rise, p
 
 -- the heads before, where what was placed since has none
 pub record AreHeadsLeft (shop : Shop) (p q : Placing) (l : LayoutState) (heads : List ℕ) : Type 0 where
-  pub positions : length heads ≡ first_of l shop.machines
+  pub positions : length heads ≡ first_position l shop.machines
   pub waiting : (i k : ℕ) → IsOperation shop i k → q.steps i ≤ k
       → get_or heads (place l i k) 0 ≡ head_of shop p i k + 1
   pub placed : (i k : ℕ) → IsOperation shop i k → k < q.steps i → get_or heads (place l i k) 0 ≡ 0
@@ -34,7 +34,7 @@ module _ (shop : Shop) (limits : IsWithinLimits shop) (l : LayoutState) (laid : 
   operation_in : (j k : ℕ) → k < steps_of l j → IsOperation shop j k
   operation_in j k h = let a = laid.routes j in omega arith
 
-  pub indexed : (n : ℕ) → n ≡ first_of l shop.machines → IsIndexed l n
+  pub indexed : (n : ℕ) → n ≡ first_position l shop.machines → IsIndexed l n
   indexed n is = record {
     jobs = laid.positions.jobs ∙ sym is;
     steps = laid.positions.steps ∙ sym is;
@@ -45,17 +45,18 @@ module _ (shop : Shop) (limits : IsWithinLimits shop) (l : LayoutState) (laid : 
     });
   }
 
-  pub followed : (n : ℕ) → n ≡ first_of l shop.machines → IsFollowed l n
+  pub followed : (n : ℕ) → n ≡ first_position l shop.machines → IsFollowed l n
   followed n is = record {
     following = laid.positions.following ∙ sym is;
     follows = λ j k h. (let a = place_of shop limits l laid j k (operation_in j k h)
         in laid.follows (place l j k) a.within
-        ∙ (ap (λ (i : ℕ). place_or (first_of l shop.machines) l.places i (get_or l.steps (place l j k) 0 + 1)) a.job
-        ∙ (ap (λ (t : ℕ). place_or (first_of l shop.machines) l.places j (t + 1)) a.step
+        ∙ (ap (λ (i : ℕ). place_or (first_position l shop.machines) l.places i (get_or l.steps (place l j k) 0 + 1))
+        a.job
+        ∙ (ap (λ (t : ℕ). place_or (first_position l shop.machines) l.places j (t + 1)) a.step
         ∙ ap (λ (x : ℕ). place_or x l.places j (k + 1)) (sym is))));
   }
 
-  pub has_blocks : (n m : ℕ) → n ≡ first_of l shop.machines → m < shop.machines → HasBlocks l n m
+  pub has_blocks : (n m : ℕ) → n ≡ first_position l shop.machines → m < shop.machines → HasBlocks l n m
   has_blocks n m is known = record {
     small = (let a = limits.machines in omega arith);
     known = (let a = laid.machines in omega arith);
@@ -250,8 +251,9 @@ module _ (shop : Shop) (limits : IsWithinLimits shop) (l : LayoutState) (laid : 
               in let m = machine_of shop i k
               in elim (cases_eq m machine) [
                 | inl f ↦ (let at = place_of shop limits l laid i k op
-                    in let low : first_of l m ≡ first_of l machine = ap (first_of l) f
-                    in let high : first_of l (m + 1) ≡ first_of l (machine + 1) = ap (λ (x : ℕ). first_of l (x + 1)) f
+                    in let low : first_position l m ≡ first_position l machine = ap (first_position l) f
+                    in let high : first_position l (m + 1) ≡ first_position l (machine + 1) = ap
+                    (λ (x : ℕ). first_position l (x + 1)) f
                     in let a = at.from in let b = at.to
                     in let c = least.raised.reach (place l i k) (omega arith, omega arith) (omega arith)
                     in let same : q.free m ≡ q.free machine = ap q.free f

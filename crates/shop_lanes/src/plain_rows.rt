@@ -1,7 +1,7 @@
 // Lanes of 64 bits, read one by one.
 ghost use Rattle.std.specs.Prelude.{◌≡◌, ℕ, ◌+◌, ◌-◌, ◌*◌, ◌^◌, ◌<◌, ◌≤◌, max, length, map, IfOk};
 ghost use Rattle.shop_lanes.specs.Rows.{lanes};
-ghost use Rattle.shop_lanes.specs.inner.Passes.{rows_of};
+ghost use Rattle.shop_lanes.specs.inner.Passes.{rows_of_lists};
 ghost use Rattle.shop_lanes.specs.Spans.{span, spans_between, FitsSpan};
 ghost use Rattle.shop_lanes.specs.Marks.{waits_below};
 ghost use Rattle.shop_lanes.specs.Ends.{IsFirstLeast};
@@ -100,7 +100,7 @@ impl Lanes for Plain {
 
     const GREATEST: u64 = u64::MAX;
 
-    ghost rows = { λ r. rows_of r.heads.items r.times.items r.tails.items r.ends.items };
+    ghost rows = { λ r. rows_of_lists r.heads.items r.times.items r.tails.items r.ends.items };
 
     fn new(alloc: Global, times: &[u64], tails: &[u64], jobs: usize) -> Result<Plain, AllocError> {
         Ok(Plain {

@@ -15,7 +15,7 @@ use Rattle.shop_bound.specs.Heads.{head_of}
 use Rattle.shop_model.specs.Placements.{PlacementState, IsPlacement}
 use Rattle.shop_bound.specs.inner.LaneEnds.{IsEndOf}
 use Rattle.shop_bound.specs.inner.LaneHeads.{AreHeadsAt, AreHeadsFit, AreNotesFit, restored}
-use Rattle.shop_bound.specs.inner.Layouts.{LayoutState, place, first_of, IsLaidOut}
+use Rattle.shop_bound.specs.inner.Layouts.{LayoutState, place, first_position, IsLaidOut}
 use Rattle.shop_bound.specs.inner.Raises.{KeepsEnds}
 use Rattle.shop_bound.specs.declared.notes.Note.{Note}
 
@@ -37,7 +37,7 @@ pub record CanFill (greatest : ℕ) (shop : Shop) (l : LayoutState) (rows : Rows
   pub laid : IsLaidOut shop l
   pub fits : AreHeadsFit greatest shop
   pub computable : greatest < 2 ^ 64
-  pub positions : length rows.heads ≡ first_of l shop.machines
+  pub positions : length rows.heads ≡ first_position l shop.machines
 
 -- the heads alone differ
 pub record AreSameBeside (old new : Rows) : Type 0 where

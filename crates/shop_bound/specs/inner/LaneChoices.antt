@@ -16,13 +16,13 @@ use Rattle.shop_model.specs.Word.{Placing}
 use Rattle.shop_bound.specs.Conflicts.{next_end, open_jobs, conflict_among}
 use Rattle.shop_bound.specs.inner.LaneHeads.{AreHeadsAt}
 use Rattle.shop_bound.specs.inner.Layings.{place_or}
-use Rattle.shop_bound.specs.inner.Layouts.{LayoutState, IsLaidOut, first_of}
+use Rattle.shop_bound.specs.inner.Layouts.{LayoutState, IsLaidOut, first_position}
 
 pub record AreNextsOf (shop : Shop) (p : Placing) (l : LayoutState)
     (nexts : List ℕ) : Type 0 where
   pub jobs : length nexts ≡ length shop.jobs
   pub are : (j : ℕ) → j < length shop.jobs
-      → slice_index nexts j ≡ place_or (first_of l shop.machines) l.places j (p.steps j)
+      → slice_index nexts j ≡ place_or (first_position l shop.machines) l.places j (p.steps j)
 
 pub record IsNextBelow (nexts heads : List ℕ) (among : ℕ → Type 0) (limit j : ℕ) : Type 0 where
   pub job : j < length nexts

@@ -13,12 +13,12 @@ use Rattle.std.specs.List.{AllByRecursion}
 use Rattle.shop_model.specs.Shop.{Shop, IsOperation, time_of}
 use Rattle.shop_model.specs.Word.{Placing, IsWord, placing}
 use Rattle.shop_bound.specs.Heads.{head_of}
-use Rattle.shop_bound.specs.inner.Layouts.{LayoutState, place, first_of}
+use Rattle.shop_bound.specs.inner.Layouts.{LayoutState, place, first_position}
 use Rattle.shop_bound.specs.declared.notes.Mark.{Mark}
 use Rattle.shop_bound.specs.declared.notes.Note.{Note}
 
 pub record AreHeadsAt (shop : Shop) (p : Placing) (l : LayoutState) (heads : List ℕ) : Type 0 where
-  pub positions : length heads ≡ first_of l shop.machines
+  pub positions : length heads ≡ first_position l shop.machines
   pub waiting : (j k : ℕ) → IsOperation shop j k → p.steps j ≤ k
       → slice_index heads (place l j k) ≡ head_of shop p j k + 1
   pub placed : (j k : ℕ) → IsOperation shop j k → k < p.steps j

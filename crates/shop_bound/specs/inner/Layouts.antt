@@ -31,8 +31,8 @@ abbrev pub place : LayoutState → ℕ → ℕ → ℕ
 place l j k = slice_index (slice_index_or l.places j []) k
 
 -- the first position of machine m, and how many positions there are
-abbrev pub first_of : LayoutState → ℕ → ℕ
-first_of l m = 8 * slice_index l.blocks m
+abbrev pub first_position : LayoutState → ℕ → ℕ
+first_position l m = 8 * slice_index l.blocks m
 
 pub record IsAt (l : LayoutState) (q : ℕ) (s : Slot) : Type 0 where
   pub job : slice_index l.jobs q ≡ s.job
@@ -56,24 +56,25 @@ pub record HasPositions (l : LayoutState) (n : ℕ) : Type 0 where
 -- the operations of machine m, by nonincreasing tail, stand from its first position on, and padding
 -- behind them
 pub record IsMachineLaidOut (l : LayoutState) (m : ℕ) (slots : List Slot) : Type 0 where
-  pub room : first_of l m + length slots ≤ first_of l (m + 1)
+  pub room : first_position l m + length slots ≤ first_position l (m + 1)
   pub at : (i : ℕ) (d : Slot) → i < length slots
-      → IsAt l (first_of l m + i) (slice_index_or slots i d)
-  pub padding : (q : ℕ) → first_of l m + length slots ≤ q → q < first_of l (m + 1) → IsPadding l q
+      → IsAt l (first_position l m + i) (slice_index_or slots i d)
+  pub padding : (q : ℕ) → first_position l m + length slots ≤ q → q < first_position l (m + 1)
+  → IsPadding l q
 
 pub record IsLaidOut (shop : Shop) (l : LayoutState) : Type 0 where
   pub slots : List (List Slot)
   pub are : AreMachineSlots shop slots
   pub machines : length l.blocks ≡ shop.machines + 1
   pub from_0 : slice_index l.blocks 0 ≡ 0
-  pub positions : HasPositions l (first_of l shop.machines)
+  pub positions : HasPositions l (first_position l shop.machines)
   pub each : (m : ℕ) → m < shop.machines → IsMachineLaidOut l m (slice_index_or slots m [])
   pub jobs : length l.places ≡ length shop.jobs
   pub routes : (j : ℕ) → length (slice_index_or l.places j []) ≡ length (route_of shop j)
   pub machines_at : AreMachinesOf l.blocks shop.machines l.machines
-  pub known : (q : ℕ) → q < first_of l shop.machines → slice_index l.jobs q < length shop.jobs
-  pub follows : (q : ℕ) → q < first_of l shop.machines → slice_index l.following q
-      ≡ place_or (first_of l shop.machines) l.places (slice_index l.jobs q)
+  pub known : (q : ℕ) → q < first_position l shop.machines → slice_index l.jobs q < length shop.jobs
+  pub follows : (q : ℕ) → q < first_position l shop.machines → slice_index l.following q
+      ≡ place_or (first_position l shop.machines) l.places (slice_index l.jobs q)
       (slice_index l.steps q + 1)
 
 -- the positions of the first steps of n jobs, or the number of all positions

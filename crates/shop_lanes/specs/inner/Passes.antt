@@ -56,14 +56,14 @@ IsSplat xs = xs ≡ replicate 8 (first_of xs)
 abbrev pub lanes_by : {A : Type 0} → (A → ℕ) → List A → List A → List A → List Lane
 lanes_by value heads times tails = lanes (map value heads) (map value times) (map value tails)
 
-abbrev pub rows_of : List ℕ → List ℕ → List ℕ → List ℕ → Rows
-rows_of heads times tails ends =
+abbrev pub rows_of_lists : List ℕ → List ℕ → List ℕ → List ℕ → Rows
+rows_of_lists heads times tails ends =
     record { heads = heads; times = times; tails = tails; ends = ends }
 
 -- rows of elements that stand for these numbers, with the ends of so many jobs
 abbrev pub seen : {A : Type 0} → (A → ℕ) → List A → List A → List A → ℕ → List A → Rows
 seen value heads times tails jobs ends =
-    rows_of (map value heads) (map value times) (map value tails) (take jobs (map value ends))
+    rows_of_lists (map value heads) (map value times) (map value tails) (take jobs (map value ends))
 
 abbrev pub AreSmallBy : {A : Type 0} → (A → ℕ) → List A → List A → List A → List ℕ → ℕ → Type 0
 AreSmallBy value heads times tails marks limit =
