@@ -94,9 +94,8 @@ module _ (shop : Shop) (limits : IsWithinLimits shop) (l : LayoutState) (laid : 
       in (c.0, record { below = c.1; place = there ∙ at.place })
 
   -- behind a machine's operations nothing stands
-  pub none_behind : (m q : ℕ) → m < shop.machines → first_position l m + length (slots_of m) ≤ q → q < first_position l
-  (m + 1)
-      → (j k : ℕ) → IsOperation shop j k → place l j k ≡ q → ⊥
+  pub none_behind : (m q : ℕ) → m < shop.machines → first_position l m + length (slots_of m) ≤ q
+      → q < first_position l (m + 1) → (j k : ℕ) → IsOperation shop j k → place l j k ≡ q → ⊥
   none_behind m q known behind before j k op e =
       let n = machine_of shop j k
       in let other = limits.on_machines j k

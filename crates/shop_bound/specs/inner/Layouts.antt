@@ -60,7 +60,7 @@ pub record IsMachineLaidOut (l : LayoutState) (m : ℕ) (slots : List Slot) : Ty
   pub at : (i : ℕ) (d : Slot) → i < length slots
       → IsAt l (first_position l m + i) (slice_index_or slots i d)
   pub padding : (q : ℕ) → first_position l m + length slots ≤ q → q < first_position l (m + 1)
-  → IsPadding l q
+      → IsPadding l q
 
 pub record IsLaidOut (shop : Shop) (l : LayoutState) : Type 0 where
   pub slots : List (List Slot)
