@@ -32,7 +32,8 @@ impl Model for JobSet {
 #[inline(always)]
 fn append_word(jobs: &mut Vec<usize>, first: usize, word: u64)
     requires small { first + 64 ≤ 2 ^ 64 }
-    requires room { length jobs.old.items + length (set_bits 64 first word) ≤ vec_capacity jobs.old }
+    requires room { length jobs.old.items + length (set_bits 64 first word)
+        ≤ vec_capacity jobs.old }
     ensures appended { jobs.new.items ≡ jobs.old.items ++ set_bits 64 first word }
     ensures room { vec_capacity jobs.old ≤ vec_capacity jobs.new }
 {
