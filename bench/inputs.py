@@ -2,7 +2,16 @@
 
 from pathlib import Path
 
-from instances import long_text, random_routes, schedule_of, text_of, text_of_one_machine
+from instances import (
+    long_text,
+    random_routes,
+    schedule_of,
+    text_of,
+    text_of_long_routes,
+    text_of_one_machine,
+    text_of_spaced_jobs,
+    text_to_and_fro,
+)
 from programs import TOP
 
 LONGEST_TEXT = 16_777_216
@@ -31,6 +40,9 @@ TEXTS = {
     "random 200 x 15": lambda: random_text(200, 15, 5),
     "random 1000 x 100": lambda: random_text(1000, 100, 3),
     "one machine": lambda: text_of_one_machine(1000, 100, 6),
+    "spaced 1000 x 100": lambda: text_of_spaced_jobs(1000, 100, 3),
+    "500 to and fro": lambda: text_to_and_fro(500, 16, 8),
+    "11 long routes": lambda: text_of_long_routes(11, 9),
     "16 MB": lambda: long_text(LONGEST_TEXT),
     "1000 x 100": lambda: text_with_schedule(1000, 100, 3),
 }

@@ -29,11 +29,37 @@ def text_of(name, routes, machines):
     return "\n".join([f"instance {name}", f"{len(routes)} {machines}", *rows, ""])
 
 
+def text_of_routes(machines, jobs):
+    """As `routes`: each job is its release and its route."""
+    rows = [" ".join(map(str, [release, *(number for pair in route for number in pair)])) for release, route in jobs]
+    return "\n".join(["instance random", f"{len(jobs)} {machines}", *rows, ""])
+
+
+def text_to_and_fro(jobs, steps, seed):
+    """Steps to and fro between two machines, each for 1 to 99; all jobs begin on the same one."""
+    numbers = Numbers(seed)
+    return text_of_routes(2, [(0, [(k % 2, 1 + numbers.below(99)) for k in range(steps)]) for _ in range(jobs)])
+
+
+def text_of_long_routes(jobs, seed):
+    """Routes of some 95 steps on three machines, each for 0 to 3."""
+    numbers = Numbers(seed)
+    lengths = [90 + numbers.below(11) for _ in range(jobs)]
+    return text_of_routes(3, [(0, [(numbers.below(3), numbers.below(4)) for _ in range(n)]) for n in lengths])
+
+
+def text_of_spaced_jobs(jobs, machines, seed):
+    """Jobs of random routes, each released when the one before it has ended; but the last two are in each other's way,
+    so that a search goes through all the others before it branches."""
+    spaced = [(10_000 * j, route) for j, route in enumerate(random_routes(jobs - 2, machines, seed))]
+    latest = 10_000 * (jobs - 2)
+    return text_of_routes(machines, [*spaced, (latest, [(0, 30), (1, 20)]), (latest, [(1, 20), (0, 40)])])
+
+
 def text_of_one_machine(jobs, steps, seed):
     """All operations of all jobs on one machine, each for 1 to 99, as `routes`."""
     numbers = Numbers(seed)
-    rows = [" ".join(f"0 {1 + numbers.below(99)}" for _ in range(steps)) for _ in range(jobs)]
-    return "\n".join(["instance random", f"{jobs} 1", *[f"0 {row}" for row in rows], ""])
+    return text_of_routes(1, [(0, [(0, 1 + numbers.below(99)) for _ in range(steps)]) for _ in range(jobs)])
 
 
 def schedule_of(routes, machines):

@@ -3,10 +3,13 @@
 import os
 import subprocess
 import sys
+import tempfile
 from pathlib import Path
 from typing import NamedTuple
 
 TOP = Path(__file__).resolve().parent.parent
+# the random instances of the measurements serve the checks too
+sys.path.append(str(TOP / "bench"))
 PROGRAM = TOP / "crates" / "jobshop" / "out" / "jobshop"
 SECONDS = 60
 
@@ -38,6 +41,19 @@ def run(words, text="", program=PROGRAM, **given):
     streams = {"stdout": subprocess.PIPE, "stderr": subprocess.PIPE}
     done = subprocess.run([program, *words], timeout=SECONDS, **{**streams, **given})
     return Ended(done.returncode, done.stdout or b"", done.stderr or b"")
+
+
+def peak_of(words):
+    """How a run ended, and its peak memory in MB, or that of this process if that is more. It has no standard input."""
+    with tempfile.TemporaryFile() as out, tempfile.TemporaryFile() as err:
+        started = subprocess.Popen([PROGRAM, *words], stdin=subprocess.DEVNULL, stdout=out, stderr=err)
+        _, status, usage = os.wait4(started.pid, 0)
+        started.returncode = os.waitstatus_to_exitcode(status)
+        written = []
+        for stream in (out, err):
+            stream.seek(0)
+            written.append(stream.read())
+    return Ended(started.returncode, *written), usage.ru_maxrss / 1e3
 
 
 class Tally:

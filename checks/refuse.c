@@ -6,9 +6,11 @@
  *     REFUSE_AT=N           the allocation of number N
  *     REFUSE_FROM=N         all allocations from number N on
  *     REFUSE_RANDOM=P SEED  P of 1,000 allocations, by a hash of their number and the seed
+ *     REFUSE_SIZES=A B      of these allocations those alone that ask for A to B bytes; without the others all of them
  *     REFUSE_THREAD_AT=N    the thread of number N
  *     REFUSE_THREAD_FROM=N  all threads from number N on
- *     REFUSE_LOG=FILE       the file gets one line: the allocations, how many of them were refused, the same of threads
+ *     REFUSE_LOG=FILE       the file gets one line: the allocations, how many of them were refused, the same of threads,
+ *                           the bytes that were asked for in all, and the most started threads alive at a time
  */
 #define _GNU_SOURCE
 #include <dlfcn.h>
@@ -35,8 +37,10 @@ struct kind {
 
 static struct kind allocations, threads;
 static unsigned per_thousand, seed;
+static size_t least_size, greatest_size;
+static atomic_long bytes, alive, most_alive;
 static const char *log_name;
-static int is_ready;
+static int is_ready, refuses_all_sizes;
 
 static long number_in(const char *name) {
     const char *text = getenv(name);
@@ -50,6 +54,9 @@ __attribute__((constructor)) static void begin(void) {
     threads.from = number_in("REFUSE_THREAD_FROM");
     const char *random = getenv("REFUSE_RANDOM");
     if (random) sscanf(random, "%u %u", &per_thousand, &seed);
+    const char *sizes = getenv("REFUSE_SIZES");
+    if (sizes) sscanf(sizes, "%zu %zu", &least_size, &greatest_size);
+    refuses_all_sizes = sizes && !allocations.at && !allocations.from && !random;
     log_name = getenv("REFUSE_LOG");
     is_ready = 1;
 }
@@ -61,31 +68,31 @@ static int refuses_at_random(long number) {
     return (x ^ (x >> 16)) % 1000 < per_thousand;
 }
 
-static int refuses(struct kind *kind) {
-    if (!is_ready) return 0;
-    long number = atomic_fetch_add(&kind->count, 1) + 1;
-    int is_refused = number == kind->at || (kind->from && number >= kind->from) ||
-                     (kind == &allocations && refuses_at_random(number));
-    if (is_refused) atomic_fetch_add(&kind->refused, 1);
-    return is_refused;
+static int is_named(struct kind *kind, long number) {
+    return number == kind->at || (kind->from && number >= kind->from);
 }
 
-static int refuses_memory(void) {
-    if (!refuses(&allocations)) return 0;
+static int refuses_memory(size_t size) {
+    if (!is_ready) return 0;
+    long number = atomic_fetch_add(&allocations.count, 1) + 1;
+    atomic_fetch_add(&bytes, (long)size);
+    if (greatest_size && (size < least_size || size > greatest_size)) return 0;
+    if (!refuses_all_sizes && !is_named(&allocations, number) && !refuses_at_random(number)) return 0;
+    atomic_fetch_add(&allocations.refused, 1);
     errno = ENOMEM;
     return 1;
 }
 
-void *malloc(size_t size) { return refuses_memory() ? NULL : __libc_malloc(size); }
+void *malloc(size_t size) { return refuses_memory(size) ? NULL : __libc_malloc(size); }
 
-void *calloc(size_t count, size_t size) { return refuses_memory() ? NULL : __libc_calloc(count, size); }
+void *calloc(size_t count, size_t size) { return refuses_memory(count * size) ? NULL : __libc_calloc(count, size); }
 
-void *realloc(void *old, size_t size) { return refuses_memory() ? NULL : __libc_realloc(old, size); }
+void *realloc(void *old, size_t size) { return refuses_memory(size) ? NULL : __libc_realloc(old, size); }
 
-void *aligned_alloc(size_t align, size_t size) { return refuses_memory() ? NULL : __libc_memalign(align, size); }
+void *aligned_alloc(size_t align, size_t size) { return refuses_memory(size) ? NULL : __libc_memalign(align, size); }
 
 int posix_memalign(void **out, size_t align, size_t size) {
-    void *block = refuses_memory() ? NULL : __libc_memalign(align, size);
+    void *block = refuses_memory(size) ? NULL : __libc_memalign(align, size);
     if (!block) return ENOMEM;
     *out = block;
     return 0;
@@ -93,18 +100,48 @@ int posix_memalign(void **out, size_t align, size_t size) {
 
 typedef int create(pthread_t *, const pthread_attr_t *, void *(*)(void *), void *);
 
+/* What a started thread is to do. */
+struct started {
+    void *(*work)(void *);
+    void *given;
+};
+
+static void *live(void *started) {
+    struct started now = *(struct started *)started;
+    free(started);
+    void *result = now.work(now.given);
+    atomic_fetch_sub(&alive, 1);
+    return result;
+}
+
+static void note_start(void) {
+    long now = atomic_fetch_add(&alive, 1) + 1, most = atomic_load(&most_alive);
+    while (now > most && !atomic_compare_exchange_weak(&most_alive, &most, now)) {
+    }
+}
+
 int pthread_create(pthread_t *thread, const pthread_attr_t *how, void *(*work)(void *), void *given) {
-    if (refuses(&threads)) return EAGAIN;
+    long number = atomic_fetch_add(&threads.count, 1) + 1;
+    if (is_named(&threads, number)) {
+        atomic_fetch_add(&threads.refused, 1);
+        return EAGAIN;
+    }
     create *real = (create *)dlsym(RTLD_NEXT, "pthread_create");
-    return real(thread, how, work, given);
+    struct started *started = __libc_malloc(sizeof *started);
+    *started = (struct started){work, given};
+    note_start();
+    int result = real(thread, how, live, started);
+    if (result) atomic_fetch_sub(&alive, 1);
+    return result;
 }
 
 static void write_log(void) {
     if (!log_name) return;
     is_ready = 0;
-    char line[96];
-    int length = snprintf(line, sizeof line, "%ld %ld %ld %ld\n", (long)allocations.count, (long)allocations.refused,
-                          (long)threads.count, (long)threads.refused);
+    char line[160];
+    int length = snprintf(line, sizeof line, "%ld %ld %ld %ld %ld %ld\n", (long)allocations.count,
+                          (long)allocations.refused, (long)threads.count, (long)threads.refused, (long)bytes,
+                          (long)most_alive);
     int file = open(log_name, O_WRONLY | O_CREAT | O_TRUNC, 0644);
     if (file < 0) return;
     ssize_t written = write(file, line, (size_t)length);

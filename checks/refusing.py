@@ -16,6 +16,8 @@ class Counted(NamedTuple):
     refused_allocations: int
     threads: int
     refused_threads: int
+    bytes: int
+    most_threads_alive: int
 
 
 class Refusing:

@@ -8,12 +8,13 @@ pub const LANES: usize = 8;
 
 pub type Block<T> = Simd<T, LANES>;
 
-/// A machine that serves one operation after the other: in all lanes the moment from which it is free, and in the lanes
-/// the greatest ends so far, tails included.
+/// What stands at the positions of a machine, block by block. Operations of falling tail stand in the first lanes of
+/// all blocks, then in the second lanes, and so on. Where nothing waits the head is none.
 #[derive(Clone, Copy)]
-pub struct Serving<T: SimdElement> {
-    pub free: Block<T>,
-    pub greatest: Block<T>,
+pub struct Row<'r, T: SimdElement> {
+    pub heads: &'r [Block<T>],
+    pub times: &'r [Block<T>],
+    pub tails: &'r [Block<T>],
 }
 
 /// A number in a lane, and what is done with blocks of such. A moment is kept one greater than it is, so that 0 stands
@@ -28,23 +29,89 @@ pub trait Lane: SimdElement + Ord + Add<Output = Self> + Sub<Output = Self> + Se
     fn number(self) -> u64;
     fn saturating_add(self, other: Self) -> Self;
     fn in_all_lanes(self) -> Block<Self>;
-    fn least(block: Block<Self>) -> Self;
     fn greatest(block: Block<Self>) -> Self;
-    fn lesser(one: Block<Self>, other: Block<Self>) -> Block<Self>;
-    /// A bit for each lane: is it this number?
-    fn equal_to(block: Block<Self>, number: Self) -> u64;
-    /// A bit for each lane: is it below the limit, and some moment?
-    fn below(block: Block<Self>, limit: Self) -> u64;
-    /// A bit for each lane: is it greater than `low`, and `high` at most?
-    fn between(block: Block<Self>, low: Self, high: Self) -> u64;
-    /// Serves those of a block whose head is at least `from`, lane by lane.
-    fn serve(
-        serving: Serving<Self>,
-        from: Self,
-        heads: &[Self; LANES],
-        times: &[Self; LANES],
-        tails: &[Self; LANES],
-    ) -> Serving<Self>;
+
+    /// The first place of the least number of some blocks, and this number.
+    fn least(blocks: &[Block<Self>]) -> (usize, Self);
+
+    /// The least number above a limit, or one that isn't.
+    fn least_above(blocks: &[Block<Self>], limit: Self) -> Self;
+
+    /// A bit for each lane of up to eight blocks: is it below the limit, and some moment?
+    fn moments_below(blocks: &[Block<Self>], limit: Self) -> u64;
+
+    /// A bit for each lane of up to eight blocks: is it below the limit?
+    fn below(blocks: &[Block<Self>], limit: Self) -> u64;
+
+    /// A bit for each lane of up to eight blocks: is it this number?
+    fn equal_to(blocks: &[Block<Self>], number: Self) -> u64;
+
+    /// Of what waits with a head of at least `from`, served by falling tail: the greatest of the times up to an
+    /// operation, its own too, and its tail.
+    fn load(row: Row<Self>, from: Self) -> Self;
+
+    /// By lane: when the operation ends that waits there, and what else waits is served from then on, the greatest end,
+    /// tails included. In `sums` is left by lane, of what waits, the times up to it and its tail.
+    fn own_spans(row: Row<Self>, sums: &mut [Block<Self>], spans: &mut [Block<Self>]);
+}
+
+/// In each lane the sum of the lanes up to it.
+macro_rules! sums_up_to {
+    ($lanes:expr) => {{
+        let zero = Block::splat(0);
+        let sums = $lanes;
+        let sums = sums + simd_swizzle!(sums, zero, [8, 0, 1, 2, 3, 4, 5, 6]);
+        let sums = sums + simd_swizzle!(sums, zero, [8, 8, 0, 1, 2, 3, 4, 5]);
+        sums + simd_swizzle!(sums, zero, [8, 8, 8, 8, 0, 1, 2, 3])
+    }};
+}
+
+/// In each lane the greatest of the lanes before it, or 0.
+macro_rules! greatest_before {
+    ($lanes:expr) => {{
+        let zero = Block::splat(0);
+        let most = $lanes;
+        let most = most.simd_max(simd_swizzle!(most, zero, [8, 0, 1, 2, 3, 4, 5, 6]));
+        let most = most.simd_max(simd_swizzle!(most, zero, [8, 8, 0, 1, 2, 3, 4, 5]));
+        let most = most.simd_max(simd_swizzle!(most, zero, [8, 8, 8, 8, 0, 1, 2, 3]));
+        simd_swizzle!(most, zero, [8, 0, 1, 2, 3, 4, 5, 6])
+    }};
+}
+
+/// In each lane the greatest of the lanes behind it, or 0.
+macro_rules! greatest_behind {
+    ($lanes:expr) => {{
+        let zero = Block::splat(0);
+        let most = $lanes;
+        let most = most.simd_max(simd_swizzle!(most, zero, [1, 2, 3, 4, 5, 6, 7, 8]));
+        let most = most.simd_max(simd_swizzle!(most, zero, [2, 3, 4, 5, 6, 7, 8, 8]));
+        let most = most.simd_max(simd_swizzle!(most, zero, [4, 5, 6, 7, 8, 8, 8, 8]));
+        simd_swizzle!(most, zero, [1, 2, 3, 4, 5, 6, 7, 8])
+    }};
+}
+
+/// The bits of a test of each block; two blocks at a time, since their masks have room in one register.
+macro_rules! bits_of {
+    ($blocks:expr, $test:expr) => {{
+        let (pairs, last) = $blocks.as_chunks::<2>();
+        let mut bits = 0;
+        for (number, [low, high]) in pairs.iter().enumerate() {
+            bits |= joined!($test(*low), $test(*high)).to_bitmask() << (2 * LANES * number);
+        }
+        if let [last] = last {
+            bits |= $test(*last).to_bitmask() << (2 * LANES * pairs.len());
+        }
+        bits
+    }};
+}
+
+macro_rules! joined {
+    ($low:expr, $high:expr) => {{
+        let lanes =
+            simd_swizzle!($low.to_simd(), $high.to_simd(), [0, 1, 2, 3, 4, 5, 6, 7, 8, 9, 10, 11, 12, 13, 14, 15]);
+        // SAFETY: the lanes of two masks are those of a mask
+        unsafe { Mask::<_, { 2 * LANES }>::from_simd_unchecked(lanes) }
+    }};
 }
 
 macro_rules! lane {
@@ -75,54 +142,91 @@ macro_rules! lane {
             }
 
             #[inline(always)]
-            fn least(block: Block<Self>) -> Self {
-                block.reduce_min()
-            }
-
-            #[inline(always)]
             fn greatest(block: Block<Self>) -> Self {
                 block.reduce_max()
             }
 
             #[inline(always)]
-            fn lesser(one: Block<Self>, other: Block<Self>) -> Block<Self> {
-                one.simd_min(other)
+            fn least(blocks: &[Block<Self>]) -> (usize, Self) {
+                let least =
+                    blocks.iter().fold(Block::splat(Self::MAX), |least, block| least.simd_min(*block)).reduce_min();
+                let is_least = |block: Block<Self>| block.simd_eq(Block::splat(least));
+                if let [low, high] = blocks {
+                    let bits = joined!(is_least(*low), is_least(*high)).to_bitmask();
+                    return (bits.trailing_zeros() as usize, least);
+                }
+                let mut bits = blocks.iter().map(|block| is_least(*block).to_bitmask()).enumerate();
+                let (number, bits) = bits.find(|(_, bits)| *bits != 0).expect("the least is one of them");
+                (number * LANES + bits.trailing_zeros() as usize, least)
             }
 
             #[inline(always)]
-            fn equal_to(block: Block<Self>, number: Self) -> u64 {
-                block.simd_eq(Block::splat(number)).to_bitmask()
+            fn least_above(blocks: &[Block<Self>], limit: Self) -> Self {
+                // what isn't above the limit wraps to the greatest numbers
+                let from = Block::splat(limit + 1);
+                let least = blocks.iter().fold(Block::splat(Self::MAX), |least, block| least.simd_min(*block - from));
+                least.reduce_min().wrapping_add(limit + 1)
             }
 
             #[inline(always)]
-            fn below(block: Block<Self>, limit: Self) -> u64 {
+            fn moments_below(blocks: &[Block<Self>], limit: Self) -> u64 {
                 // 0 less 1 wraps to the greatest number
                 let one = Block::splat(1);
-                (block - one).simd_lt(Block::splat(limit) - one).to_bitmask()
+                let limit = Block::splat(limit - 1);
+                bits_of!(blocks, |block: Block<Self>| (block - one).simd_lt(limit))
             }
 
             #[inline(always)]
-            fn between(block: Block<Self>, low: Self, high: Self) -> u64 {
-                (block.simd_gt(Block::splat(low)) & block.simd_le(Block::splat(high))).to_bitmask()
+            fn below(blocks: &[Block<Self>], limit: Self) -> u64 {
+                let limit = Block::splat(limit);
+                bits_of!(blocks, |block: Block<Self>| block.simd_lt(limit))
             }
 
             #[inline(always)]
-            fn serve(
-                serving: Serving<Self>,
-                from: Self,
-                heads: &[Self; LANES],
-                times: &[Self; LANES],
-                tails: &[Self; LANES],
-            ) -> Serving<Self> {
+            fn equal_to(blocks: &[Block<Self>], number: Self) -> u64 {
+                let number = Block::splat(number);
+                bits_of!(blocks, |block: Block<Self>| block.simd_eq(number))
+            }
+
+            #[inline(always)]
+            fn load(row: Row<Self>, from: Self) -> Self {
                 let zero = Block::splat(0);
-                let is_served = Block::from_array(*heads).simd_ge(Block::splat(from));
-                let sums = is_served.select(Block::from_array(*times), zero);
-                let sums = sums + simd_swizzle!(sums, zero, [8, 0, 1, 2, 3, 4, 5, 6]);
-                let sums = sums + simd_swizzle!(sums, zero, [8, 8, 0, 1, 2, 3, 4, 5]);
-                let sums = sums + simd_swizzle!(sums, zero, [8, 8, 8, 8, 0, 1, 2, 3]);
-                let ends = serving.free + sums;
-                let ends_and_tails = is_served.select(ends + Block::from_array(*tails), zero);
-                Serving { free: simd_swizzle!(ends, [7; LANES]), greatest: serving.greatest.simd_max(ends_and_tails) }
+                let from = Block::splat(from);
+                let mut sums = zero;
+                let mut greatest = zero;
+                for ((heads, times), tails) in row.heads.iter().zip(row.times).zip(row.tails) {
+                    let is_served = heads.simd_ge(from);
+                    sums += is_served.select(*times, zero);
+                    greatest = greatest.simd_max(is_served.select(sums + *tails, zero));
+                }
+                // what stands in the lanes before is no more than an end in it
+                (greatest + (sums_up_to!(sums) - sums)).reduce_max()
+            }
+
+            #[inline(always)]
+            fn own_spans(row: Row<Self>, sums: &mut [Block<Self>], spans: &mut [Block<Self>]) {
+                let zero = Block::splat(0);
+                let mut sum = zero;
+                for (((heads, times), tails), sums) in row.heads.iter().zip(row.times).zip(row.tails).zip(&mut *sums) {
+                    sum += heads.simd_ne(zero).select(*times, zero);
+                    *sums = sum + *tails;
+                }
+                let lanes_before = sums_up_to!(sum) - sum;
+                let mut greatest = zero;
+                for (heads, sums) in row.heads.iter().zip(&mut *sums) {
+                    *sums = heads.simd_ne(zero).select(*sums + lanes_before, zero);
+                    greatest = greatest.simd_max(*sums);
+                }
+                let mut before = greatest_before!(greatest);
+                for (sums, span) in sums.iter().zip(&mut *spans) {
+                    *span = before;
+                    before = before.simd_max(*sums);
+                }
+                let mut behind = greatest_behind!(greatest);
+                for (((heads, times), sums), span) in row.heads.iter().zip(row.times).zip(&*sums).zip(spans).rev() {
+                    *span = *heads + *times + span.simd_max(behind.saturating_sub(*times));
+                    behind = behind.simd_max(*sums);
+                }
             }
         }
     };

@@ -1,29 +1,32 @@
-//! The same search as the program's, in plain, safe Rust, and the best that is known: the yardstick that `bench/run`
-//! measures against.
+//! The same search as the program's, in plain Rust without proofs, and the best that is known: the yardstick that
+//! `bench/run` measures against.
 //!
 //!     baseline solve [--format F] [--name N] [--rounds R] [--budget B] [--piece K] [--order O] [--workers W] FILE
 //!     baseline list [--format F] FILE
 //!     baseline check [--format F] [--name N] FILE
 //!
 //! Prints what the program prints, but for faults: it expects words and texts to be sound. The search goes over rows of
-//! lanes: on a machine, the operations that wait are bounded eight at a time.
+//! lanes: on a machine, the operations that wait are bounded eight at a time. Each open child of a walk has the state
+//! that its word leaves, so that nothing is ever taken back.
 
 #![feature(portable_simd)]
-#![forbid(unsafe_code)]
 
 mod bits;
+mod bounding;
 mod checking;
+mod crews;
 mod desk;
-mod estimates;
 mod instance;
-mod jackson;
 mod lanes;
 mod layout;
 mod open;
 mod report;
 mod rounds;
-mod searching;
+mod sheets;
+mod states;
 mod texts;
+mod untested;
+mod walking;
 
 use instance::Instance;
 use rounds::{Order, Plan};

@@ -16,10 +16,10 @@ pub struct Node<T> {
 }
 
 impl<T> Node<T> {
-    /// The jobs of its word.
-    pub fn word<'p>(&self, paths: &'p Paths) -> impl Iterator<Item = u16> + Clone + use<'p, T> {
+    /// The jobs of its word: those that lie on its path, and then one more, if there is one.
+    pub fn parts<'p>(&self, paths: &'p Paths) -> (&'p [u16], Option<u16>) {
         let last = (self.last != NO_JOB).then_some(self.last);
-        paths.paths[self.path as usize][..self.length as usize].iter().copied().chain(last)
+        (&paths.paths[self.path as usize][..self.length as usize], last)
     }
 }
 
@@ -33,13 +33,13 @@ pub struct Paths {
 
 impl Paths {
     /// A path on which no node lies yet.
-    pub fn add(&mut self, path: &[u16]) -> u32 {
+    pub fn add(&mut self, path: Vec<u16>) -> u32 {
         let number = self.unused.pop().unwrap_or_else(|| {
             self.paths.push(Box::default());
             self.nodes.push(0);
             self.nodes.len() as u32 - 1
         });
-        self.paths[number as usize] = path.into();
+        self.paths[number as usize] = path.into_boxed_slice();
         number
     }
 

@@ -6,7 +6,7 @@ ghost use Rattle.crew_tests.specs.inner.Served.{HasServedOf};
 
 use crate::crews::{Became, what_became};
 use crate::worked_rounds::third_round;
-use shop_board::{Board, OpenGate, Seat, work};
+use shop_board::{Board, OpenGate, Seat, has_all, work};
 use shop_round::{Round, search_piece};
 use std::alloc::{AllocError, Global};
 use std::thread;
@@ -34,6 +34,7 @@ fn two_seats_on_one_thread(rt: HostRuntime) {
     assert_eq!(rt; board.look(&mut b), 0);
     assert_eq!(rt; board.look(&mut b), 0);
     let seat = board.join(a, b);
+    has_all(&seat);
     assert_eq!(rt; board.close(seat), 0);
 }
 
@@ -197,5 +198,6 @@ fn three_seats_work_and_close(rt: HostRuntime) {
     let worked = work_by_threads(&rt, alloc, &board, seats, &round).expect(&rt, "memory");
     let all = join_worked(&board, worked).expect(&rt, "memory");
     assert_eq!(rt; all.won, board.pieces(), "each piece was won");
+    has_all(&all.seat);
     assert_eq!(rt; board.close(all.seat), 0);
 }

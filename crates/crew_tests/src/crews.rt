@@ -76,9 +76,12 @@ pub enum Became {
     Passed(usize),
 }
 
-fn what_one_became(entry: &Entry) -> Became {
+fn what_one_became(rt: &impl Abort, alloc: Global, entry: &Entry) -> Became {
     match &entry.kind {
-        Kind::Done(sheet) => Became::Searched(sheet.makespan, sheet.taken, sheet.left.len()),
+        Kind::Done(sheet) => {
+            let left = sheet.left.nodes(alloc).expect(rt, "memory");
+            Became::Searched(sheet.makespan, sheet.taken, left.len())
+        }
         Kind::Passed { number: _, by } => Became::Passed(*by),
     }
 }
@@ -86,7 +89,8 @@ fn what_one_became(entry: &Entry) -> Became {
 pub fn what_became(rt: &impl Abort, alloc: Global, entries: &[Entry]) -> Vec<Became> {
     let mut all = Vec::new(alloc);
     for entry in entries {
-        all.push(what_one_became(entry)).expect(rt, "memory");
+        all.push(what_one_became(rt, alloc, entry))
+            .expect(rt, "memory");
     }
     all
 }

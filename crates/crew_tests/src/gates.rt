@@ -146,7 +146,7 @@ impl<R: Threads + Wait + Sync> Crew<R> for MeetingCrew {
                 && sheet.makespan == 16
                 && sheet.taken == 3
             {
-                *left = Some(sheet.left.len());
+                *left = Some(sheet.left.nodes(alloc)?.len());
             }
         }
         Ok(entries)

@@ -1,3 +1,4 @@
 pub mod Commands
 pub mod Getters
 pub mod LineReads
+pub mod Refusals

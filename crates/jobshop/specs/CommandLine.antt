@@ -2,24 +2,29 @@
 --     command_line formats orders      the command: what a parse reads of it
 --     IsLineOf words args              the arguments are those that clap reads of the words by
 --                                      this command
-use Rattle.std.specs.Prelude.{◌≡◌, ◌≤◌, ℕ, true, false, Bool, List, [], ◌∷◌, Option, Some}
+--     IsUnread words                   there are none
+use Rattle.std.specs.Prelude.{◌≡◌, ◌≤◌, ◌⊎◌, ℕ, true, false, Bool, List, [], ◌∷◌, Option, Some, map}
 use Rattle.std.specs.Prelude.{codes, option_map, string_bytes}
 use Rattle.std.specs.Str.Parse.{IsNumeral, digits_value, without_leading_plus}
 use Rattle.clap.specs.Words.{App, Row, Rule, Text, app_of, first_of, one_of, new_app}
-use Rattle.clap.specs.Words.{new_rule, subcommand_of, with_rule, with_subcommand}
+use Rattle.clap.specs.Words.{new_rule, subcommand_of, takes, with_rule, with_subcommand}
 use Rattle.clap.specs.declared.builder.action.ArgAction.TheVariants.{SetTrue}
 use Rattle.clap.specs.declared.builder.command.Command.{Command}
 use Rattle.clap.specs.declared.builder.command.Command.TheViews.{out-Command}
 use Rattle.clap.specs.declared.builder.value_parser.ValueParser.{ValueParser}
-use Rattle.clap.specs.declared.builder.value_parser.ValueParser.TheVariants.{Unsigned}
+use Rattle.clap.specs.declared.builder.value_parser.ValueParser.TheVariants.{Unsigned, Names}
+use Rattle.shop_round.specs.Limits.{IsPlanWithin}
 use Rattle.shop_round.specs.declared.plans.TheConstants.{MAX_ROUNDS, MAX_BUDGET, MAX_PIECE}
 use Rattle.shop_round.specs.declared.plans.Order.{Order}
 use Rattle.shop_round.specs.declared.plans.Order.TheVariants.{Kept, Bound}
 use Rattle.shop_round.specs.declared.plans.Plan.{Plan}
 use Rattle.shop_board.specs.declared.limits.TheConstants.{MAX_WORKERS}
 use Rattle.shop_text.specs.Formats.{word_of}
+use Rattle.shop_text.specs.declared.formats.Format.TheVariants.{Orlib, Taillard, Routes}
+use Rattle.jobshop.specs.declared.line_faults.LineFault.{LineFault}
+use Rattle.jobshop.specs.declared.line_faults.LineFault.TheVariants.{NoMemory, Usage}
 use Rattle.jobshop.specs.declared.arguments.Args.{Args}
-use Rattle.jobshop.specs.declared.arguments.Args.TheVariants.{ListNames, CheckTable, SolveInstance}
+use Rattle.jobshop.specs.declared.arguments.Args.TheVariants.{List as ListNames, Check, Solve}
 
 -- ---- the command
 
@@ -99,15 +104,27 @@ command_line formats orders =
     in with_subcommand (with_subcommand listing (check_command formats).top)
     (solve_command formats orders).top
 
-abbrev pub IsCommandLine : Command → Type 0
-IsCommandLine command =
-    (formats orders : ValueParser) × IsCommandOf (command_line formats orders) command
+-- the value is one of these words
+abbrev pub IsChoice : List Text → ValueParser → Type 0
+IsChoice words (Names names) = map (λ n. n.now) names.now ≡ words
+IsChoice words parser = ⊥
 
--- ---- its values
+abbrev pub format_words : List Text
+format_words = map word_of (Orlib ∷ Taillard ∷ Routes ∷ [])
 
 abbrev pub order_word : Order → Text
 order_word Kept = codes "kept"
 order_word Bound = codes "bound"
+
+abbrev pub order_words : List Text
+order_words = map order_word (Kept ∷ Bound ∷ [])
+
+abbrev pub IsCommandLine : Command → Type 0
+IsCommandLine command =
+    (formats orders : ValueParser) × IsChoice format_words formats × IsChoice order_words orders
+    × IsCommandOf (command_line formats orders) command
+
+-- ---- its values
 
 -- the first value of an argument is this text, this number, this flag, or it may be missing
 abbrev pub HasText : List Row → Text → Text → Type 0
@@ -127,24 +144,25 @@ pub record HasFlag (rows : List Row) (id : Text) (flag : Bool) : Type 0 where
 abbrev pub MayHave : List Row → Text → Option Text → Type 0
 MayHave rows id text = first_of id rows ≡ text
 
--- the plan has these values
+-- the plan has these values, and is within the limits
 pub record HasPlan (rows : List Row) (plan : Plan) : Type 0 where
   pub rounds : HasNumber rows (codes "rounds") plan.rounds
   pub budget : HasNumber rows (codes "budget") plan.budget
   pub piece : HasNumber rows (codes "piece") plan.piece
   pub order : HasText rows (codes "order") (order_word plan.order)
+  pub within : IsPlanWithin plan.rounds plan.budget plan.piece
 
 -- the arguments are those of a command of this name with these matches
 abbrev pub IsArgs : Text → List Row → Args → Type 0
 IsArgs name rows (ListNames args file) =
     (name ≡ codes "list") × HasText rows (codes "format") (word_of args.format)
     × MayHave rows (codes "FILE") (option_map string_bytes file)
-IsArgs name rows (CheckTable args file schedule) =
+IsArgs name rows (Check args file schedule) =
     (name ≡ codes "check") × HasText rows (codes "format") (word_of args.format)
     × MayHave rows (codes "name") (option_map string_bytes args.name)
     × MayHave rows (codes "FILE") (option_map string_bytes file)
     × MayHave rows (codes "SCHEDULE") (option_map string_bytes schedule)
-IsArgs name rows (SolveInstance args workers file) =
+IsArgs name rows (Solve args workers file) =
     (name ≡ codes "solve") × HasText rows (codes "format") (word_of args.format)
     × MayHave rows (codes "name") (option_map string_bytes args.name)
     × HasPlan rows args.plan
@@ -153,10 +171,25 @@ IsArgs name rows (SolveInstance args workers file) =
     × HasFlag rows (codes "gantt") args.gantt
     × MayHave rows (codes "FILE") (option_map string_bytes file)
 
--- (The parsers of the two choices only say which words are refused, and not what is read of the
--- others.)
-abbrev pub IsLineOf : List Text → Args → Type 0
-IsLineOf words args =
-    (formats orders : ValueParser) × (matches : Text × List Row)
-    × (subcommand_of (command_line formats orders) words ≡ Some matches)
+-- the arguments are those that clap reads of the words by this command
+abbrev pub IsReadBy : App → List Text → Args → Type 0
+IsReadBy app words args = (matches : Text × List Row) × (subcommand_of app words ≡ Some matches)
     × IsArgs matches.0 matches.1 args
+
+abbrev pub IsLineOf : List Text → Args → Type 0
+IsLineOf words args = (formats orders : ValueParser) × IsChoice format_words formats
+    × IsChoice order_words orders × IsReadBy (command_line formats orders) words args
+
+-- clap doesn't take the words, or what it reads of them is of no arguments
+pub record IsUnread (words : List Text) : Type 0 where
+  pub formats : ValueParser
+  pub orders : ValueParser
+  pub of_formats : IsChoice format_words formats
+  pub of_orders : IsChoice order_words orders
+  pub unread : (takes (command_line formats orders) words ≡ false)
+      ⊎ ((args : Args) → IsReadBy (command_line formats orders) words args → ⊥)
+
+-- why a command line is refused: this, or memory ran out
+abbrev pub UnlessNoMemory : Type 0 → LineFault → Type 0
+UnlessNoMemory Refused NoMemory = Unit {0}
+UnlessNoMemory Refused (Usage error) = Refused

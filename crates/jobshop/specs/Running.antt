@@ -6,6 +6,7 @@
 --     IsCommandRun args old new result      what the command line asks for was done, or ended by a
 --                                           fault
 --     IsEnd words old new status            the program ended on these words
+--     IsStart old new status                it ended on some words
 use Rattle.std.specs.Prelude.{◌≡◌, ℕ, ◌⊎◌, Bool, true, List, Option, Some, None, is_some}
 use Rattle.std.specs.Prelude.{Result, Ok, Err}
 use Rattle.std.specs.declared.string.String.{String}
@@ -22,10 +23,10 @@ use Rattle.shop_engine.specs.Listing.{IsListing}
 use Rattle.shop_engine.specs.Checking.{IsChecking}
 use Rattle.shop_engine.specs.Headline.{IsRightOf, IsDeterminedOf, WhereKnown}
 use Rattle.shop_engine.specs.Solving.{IsSolving}
-use Rattle.jobshop.specs.CommandLine.{IsLineOf}
+use Rattle.jobshop.specs.CommandLine.{IsLineOf, IsUnread}
 use Rattle.jobshop.specs.Statuses.{status_of, status_of_verdict}
 use Rattle.jobshop.specs.declared.arguments.Args.{Args}
-use Rattle.jobshop.specs.declared.arguments.Args.TheVariants.{ListNames, CheckTable, SolveInstance}
+use Rattle.jobshop.specs.declared.arguments.Args.TheVariants.{List as ListNames, Check, Solve}
 
 -- standard input and standard output
 pub record Streams : Type 0 where
@@ -95,9 +96,9 @@ SolvesFrom args sink sink' (Err fault) source source' =
 abbrev pub IsCommandRun : Args → Streams → Streams → Result ℕ Fault → Type 0
 IsCommandRun (ListNames args file) old new result =
     IsRunOn file old new result (ListsFrom args old.sink new.sink result)
-IsCommandRun (CheckTable args file schedule) old new result =
+IsCommandRun (Check args file schedule) old new result =
     IsRunOn file old new result (ChecksFrom args schedule old.sink new.sink result)
-IsCommandRun (SolveInstance args workers file) old new result =
+IsCommandRun (Solve args workers file) old new result =
     IsRunOn file old new result (SolvesFrom args old.sink new.sink result)
 
 -- the status of a run
@@ -105,10 +106,10 @@ abbrev pub status_of_run : Result ℕ Fault → ℕ
 status_of_run (Ok status) = status
 status_of_run (Err fault) = status_of fault
 
--- The words of the command line were refused or a call for help (2), or memory ran out (5): nothing
--- was read or written.
-pub record IsLineRefused (old new : Streams) (status : ℕ) : Type 0 where
-  pub said : (status ≡ 2) ⊎ (status ≡ 5)
+-- The words of the command line ask for nothing that is done, as a call for help (2), or memory ran
+-- out (5): nothing was read or written.
+pub record IsLineRefused (words : List Text) (old new : Streams) (status : ℕ) : Type 0 where
+  pub said : ((status ≡ 2) × IsUnread words) ⊎ (status ≡ 5)
   pub same : new ≡ old
 
 -- What the words ask for was done, with this status.
@@ -120,4 +121,12 @@ pub record IsDone (words : List Text) (old new : Streams) (status : ℕ) : Type 
   pub is_status : status ≡ status_of_run result
 
 abbrev pub IsEnd : List Text → Streams → Streams → ℕ → Type 0
-IsEnd words old new status = IsLineRefused old new status ⊎ IsDone words old new status
+IsEnd words old new status = IsLineRefused words old new status ⊎ IsDone words old new status
+
+-- there were no words: they aren't text (2), or memory ran out (5)
+pub record IsWordless (old new : Streams) (status : ℕ) : Type 0 where
+  pub said : (status ≡ 2) ⊎ (status ≡ 5)
+  pub same : new ≡ old
+
+abbrev pub IsStart : Streams → Streams → ℕ → Type 0
+IsStart old new status = IsWordless old new status ⊎ ((words : List Text) × IsEnd words old new status)

@@ -29,16 +29,16 @@ impl Workers {
 /// the schedule stands in the text of the instance.
 #[derive(Drop)]
 pub enum Args {
-    ListNames {
+    List {
         args: ListArgs,
         file: Option<String>,
     },
-    CheckTable {
+    Check {
         args: CheckArgs,
         file: Option<String>,
         schedule: Option<String>,
     },
-    SolveInstance {
+    Solve {
         args: SolveArgs,
         workers: Workers,
         file: Option<String>,

@@ -8,7 +8,7 @@ ghost use Rattle.jobshop.specs.CommandLine.{flag_rule, path_rule};
 ghost use Rattle.jobshop.specs.CommandLine.{IsCommandOf, IsCommandLine};
 ghost use Rattle.jobshop.specs.inner.Arguments.{IsArgOf};
 ghost use Rattle.jobshop.specs.CommandLine.{list_command, check_command, solve_command};
-ghost use Rattle.jobshop.specs.CommandLine.{with_plan_rules};
+ghost use Rattle.jobshop.specs.CommandLine.{with_plan_rules, IsChoice, format_words, order_words};
 
 use crate::help::{CHECK, Help, LIST, PROGRAM, SOLVE};
 use clap::builder::ValueParser;
@@ -218,14 +218,28 @@ fn solve<'a>(
         .arg(file(alloc))
 }
 
+/// The words of the formats.
+fn format_choices<'a>() -> &'a [&'a str]
+    ensures { IsChoice format_words (Names result) }
+{
+    FORMAT_WORDS.as_slice()
+}
+
+/// The words of the orders.
+fn order_choices<'a>() -> &'a [&'a str]
+    ensures { IsChoice order_words (Names result) }
+{
+    ORDERS.as_slice()
+}
+
 /// The whole command line.
 pub fn command<'a>(alloc: Global) -> Result<Command<'a>, AllocError>
     ensures { IfOk result IsCommandLine }
 {
-    let formats = FORMAT_WORDS.as_slice();
+    let formats = format_choices();
     described(alloc, "jobshop", &PROGRAM)
         .subcommand_required(true)
         .subcommand(list(alloc, formats)?)?
         .subcommand(check(alloc, formats)?)?
-        .subcommand(solve(alloc, formats, ORDERS.as_slice())?)
+        .subcommand(solve(alloc, formats, order_choices())?)
 }

@@ -20,7 +20,9 @@ Exit status:
   2  the command line is faulty, or asks for help
   3  a text is refused
   4  a read or a write failed
-  5  memory ran out",
+  5  memory ran out
+
+jobshop 1.0.0",
 };
 
 pub const LIST: Help = Help {
@@ -62,6 +64,9 @@ pub const SOLVE: Help = Help {
 A search goes in rounds. A round cuts the open nodes of the search into at most 256 pieces; each piece is searched
 until it has taken as many nodes as its budget, and what it leaves stays open. Where no node is open, the status is
 optimal; else it is open, and a search of more rounds or a greater budget may end lower.
+
+The first round takes at most as many nodes as the budget, each other one 256 times as many: by the default plan some
+25 billion, which may take hours. A run that is interrupted prints nothing, so begin with few rounds.
 
 Examples:
   jobshop solve ft06.txt

@@ -1,8 +1,11 @@
 // The values that clap's matches have.
-ghost use Rattle.std.specs.Prelude.{◌≡◌, ℕ, IfOk, option_map, string_bytes};
+ghost use Rattle.std.specs.Prelude.{◌≡◌, ◌<◌, ◌^◌, ℕ, IfOk, IfErr, option_map, string_bytes};
 ghost use Rattle.clap.specs.Words.{found_of, rows_of};
 ghost use Rattle.shop_text.specs.Formats.{word_of};
 ghost use Rattle.jobshop.specs.CommandLine.{HasText, HasNumber, HasFlag, MayHave, order_word};
+ghost use Rattle.jobshop.specs.CommandLine.{UnlessNoMemory};
+ghost use Rattle.shop_text.specs.declared.formats.Format.{Format};
+ghost use Rattle.shop_round.specs.declared.plans.Order.{Order};
 ghost use Rattle.std.specs.Prelude.{codes};
 
 use crate::line_faults::{LineFault, misread};
@@ -13,8 +16,10 @@ use std::alloc::{AllocError, Global};
 
 /// The format.
 pub fn format_in(alloc: Global, found: &ArgMatches) -> Result<Format, LineFault>
-    ensures { IfOk result (λ format.
+    ensures ok { IfOk result (λ format.
         HasText (rows_of (found_of found.now)) (codes "format") (word_of format)) }
+    ensures err { IfErr result (UnlessNoMemory ((format : Format)
+        → HasText (rows_of (found_of found.now)) (codes "format") (word_of format) → ⊥)) }
 {
     let Some(word) = found.get_str("format") else {
         return Err(misread(alloc));
@@ -27,19 +32,26 @@ pub fn format_in(alloc: Global, found: &ArgMatches) -> Result<Format, LineFault>
 
 /// The order.
 pub fn order_in(alloc: Global, found: &ArgMatches) -> Result<Order, LineFault>
-    ensures { IfOk result (λ order.
+    ensures ok { IfOk result (λ order.
         HasText (rows_of (found_of found.now)) (codes "order") (order_word order)) }
+    ensures err { IfErr result (UnlessNoMemory ((order : Order)
+        → HasText (rows_of (found_of found.now)) (codes "order") (order_word order) → ⊥)) }
 {
-    match found.get_str("order") {
-        Some("kept") => Ok(Order::Kept),
-        Some("bound") => Ok(Order::Bound),
+    let Some(word) = found.get_str("order") else {
+        return Err(misread(alloc));
+    };
+    match word {
+        "kept" => Ok(Order::Kept),
+        "bound" => Ok(Order::Bound),
         _ => Err(misread(alloc)),
     }
 }
 
 /// A number.
 pub fn number_in(alloc: Global, found: &ArgMatches, id: &str) -> Result<u64, LineFault>
-    ensures { IfOk result (HasNumber (rows_of (found_of found.now)) id.now) }
+    ensures ok { IfOk result (HasNumber (rows_of (found_of found.now)) id.now) }
+    ensures err { IfErr result (UnlessNoMemory ((n : ℕ) → n < 2 ^ 64
+        → HasNumber (rows_of (found_of found.now)) id.now n → ⊥)) }
 {
     match found.get_one::<u64>(id) {
         Some(number) => Ok(number),

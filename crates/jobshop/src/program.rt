@@ -1,8 +1,7 @@
 // The program over its words and its streams.
-ghost use Rattle.std.specs.Prelude.{List, map, string_bytes};
+ghost use Rattle.std.specs.Prelude.{map, string_bytes};
 ghost use Rattle.std.specs.Thread.{IsSync};
-ghost use Rattle.clap.specs.Words.{Text};
-ghost use Rattle.jobshop.specs.Running.{Streams, IsEnd};
+ghost use Rattle.jobshop.specs.Running.{Streams, IsEnd, IsStart};
 
 use crate::reading_args::args_of;
 use crate::running::run_args;
@@ -46,7 +45,7 @@ pub fn start<R: Env + Files + Threads + Sync + AllocGlobal, S: Source, K: Sink, 
     err: &mut E,
 ) -> u8
     requires { IsSync R.row }
-    ensures { (words : List Text) × IsEnd words
+    ensures { IsStart
         (record { source = S.device source.old; sink = K.device out.old })
         (record { source = S.device source.new; sink = K.device out.new }) result }
 {

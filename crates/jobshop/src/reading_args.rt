@@ -1,7 +1,10 @@
 // From the words of a command line to its arguments.
-ghost use Rattle.std.specs.Prelude.{IfOk, map, codes, string_bytes};
+ghost use Rattle.std.specs.Prelude.{IfOk, IfErr, map, codes, string_bytes};
 ghost use Rattle.clap.specs.Words.{found_of, rows_of};
-ghost use Rattle.jobshop.specs.CommandLine.{IsArgs, IsLineOf, HasPlan};
+ghost use Rattle.jobshop.specs.CommandLine.{IsArgs, IsLineOf, IsUnread, HasPlan};
+ghost use Rattle.jobshop.specs.CommandLine.{UnlessNoMemory};
+ghost use Rattle.jobshop.specs.declared.arguments.Args.{Args};
+ghost use Rattle.shop_round.specs.declared.plans.Plan.{Plan};
 
 use crate::arguments::{Args, Workers};
 use crate::command_line::command;
@@ -14,18 +17,22 @@ use std::alloc::Global;
 
 /// The arguments of `list`.
 fn list_args(alloc: Global, found: &ArgMatches) -> Result<Args, LineFault>
-    ensures { IfOk result (IsArgs (codes "list") (rows_of (found_of found.now))) }
+    ensures ok { IfOk result (IsArgs (codes "list") (rows_of (found_of found.now))) }
+    ensures err { IfErr result (UnlessNoMemory ((args : Args)
+        → IsArgs (codes "list") (rows_of (found_of found.now)) args → ⊥)) }
 {
     let args = ListArgs {
         format: format_in(alloc, found)?,
     };
     let file = text_in(alloc, found, "FILE")?;
-    Ok(Args::ListNames { args, file })
+    Ok(Args::List { args, file })
 }
 
 /// The arguments of `check`.
 fn check_args(alloc: Global, found: &ArgMatches) -> Result<Args, LineFault>
-    ensures { IfOk result (IsArgs (codes "check") (rows_of (found_of found.now))) }
+    ensures ok { IfOk result (IsArgs (codes "check") (rows_of (found_of found.now))) }
+    ensures err { IfErr result (UnlessNoMemory ((args : Args)
+        → IsArgs (codes "check") (rows_of (found_of found.now)) args → ⊥)) }
 {
     let args = CheckArgs {
         format: format_in(alloc, found)?,
@@ -33,7 +40,7 @@ fn check_args(alloc: Global, found: &ArgMatches) -> Result<Args, LineFault>
     };
     let file = text_in(alloc, found, "FILE")?;
     let schedule = text_in(alloc, found, "SCHEDULE")?;
-    Ok(Args::CheckTable {
+    Ok(Args::Check {
         args,
         file,
         schedule,
@@ -42,7 +49,9 @@ fn check_args(alloc: Global, found: &ArgMatches) -> Result<Args, LineFault>
 
 /// The plan of `solve`.
 fn plan_in(alloc: Global, found: &ArgMatches) -> Result<Plan, LineFault>
-    ensures { IfOk result (HasPlan (rows_of (found_of found.now))) }
+    ensures ok { IfOk result (HasPlan (rows_of (found_of found.now))) }
+    ensures err { IfErr result (UnlessNoMemory ((plan : Plan)
+        → HasPlan (rows_of (found_of found.now)) plan → ⊥)) }
 {
     let rounds = number_in(alloc, found, "rounds")?;
     let budget = number_in(alloc, found, "budget")?;
@@ -56,7 +65,9 @@ fn plan_in(alloc: Global, found: &ArgMatches) -> Result<Plan, LineFault>
 
 /// The arguments of `solve`.
 fn solve_args(alloc: Global, found: &ArgMatches) -> Result<Args, LineFault>
-    ensures { IfOk result (IsArgs (codes "solve") (rows_of (found_of found.now))) }
+    ensures ok { IfOk result (IsArgs (codes "solve") (rows_of (found_of found.now))) }
+    ensures err { IfErr result (UnlessNoMemory ((args : Args)
+        → IsArgs (codes "solve") (rows_of (found_of found.now)) args → ⊥)) }
 {
     let format = format_in(alloc, found)?;
     let plan = plan_in(alloc, found)?;
@@ -73,7 +84,7 @@ fn solve_args(alloc: Global, found: &ArgMatches) -> Result<Args, LineFault>
         plan,
         gantt,
     };
-    Ok(Args::SolveInstance {
+    Ok(Args::Solve {
         args,
         workers,
         file,
@@ -84,13 +95,17 @@ fn solve_args(alloc: Global, found: &ArgMatches) -> Result<Args, LineFault>
 /// limits.
 /// A call for help, too, is a fault of the command line.
 pub fn args_of(alloc: Global, words: &[String]) -> Result<Args, LineFault>
-    ensures { IfOk result (IsLineOf (map string_bytes words.now)) }
+    ensures ok { IfOk result (IsLineOf (map string_bytes words.now)) }
+    ensures err { IfErr result (UnlessNoMemory (IsUnread (map string_bytes words.now))) }
 {
     let matches = command(alloc)?.try_get_matches_from(words)?;
-    match matches.subcommand() {
-        Some(("list", found)) => list_args(alloc, found),
-        Some(("check", found)) => check_args(alloc, found),
-        Some(("solve", found)) => solve_args(alloc, found),
+    let Some((name, found)) = matches.subcommand() else {
+        return Err(misread(alloc));
+    };
+    match name {
+        "list" => list_args(alloc, found),
+        "check" => check_args(alloc, found),
+        "solve" => solve_args(alloc, found),
         _ => Err(misread(alloc)),
     }
 }

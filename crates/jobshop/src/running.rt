@@ -101,6 +101,13 @@ fn run_check<R: Files + AllocGlobal, S: Source, K: Sink>(
     }
 }
 
+/// The crew of so many threads.
+fn crew_of(workers: Workers) -> BoardCrew<OpenGate>
+    ensures { result.workers.count ≡ workers.count }
+{
+    BoardCrew::new(workers.count, OpenGate).unwrap()
+}
+
 /// Solves with one worker, the calling thread, or with a crew of threads: the report is the same for every number of
 /// workers.
 fn solve_by<R: Threads + Sync + AllocGlobal, S: Source, K: Sink>(
@@ -117,7 +124,7 @@ fn solve_by<R: Threads + Sync + AllocGlobal, S: Source, K: Sink>(
     if workers.count == 1 {
         return solve_text(rt, rt.alloc(), source, out, args, &mut Alone);
     }
-    let mut crew = BoardCrew::new(workers.count, OpenGate).unwrap();
+    let mut crew = crew_of(workers);
     solve_text(rt, rt.alloc(), source, out, args, &mut crew)
 }
 
@@ -171,13 +178,13 @@ pub fn run_args<R: Files + Threads + Sync + AllocGlobal, S: Source, K: Sink>(
         (record { source = S.device source.new; sink = K.device out.new }) result }
 {
     match args {
-        Args::ListNames { args, file } => run_list(rt, args, file, source, out),
-        Args::CheckTable {
+        Args::List { args, file } => run_list(rt, args, file, source, out),
+        Args::Check {
             args,
             file,
             schedule,
         } => run_check(rt, args, file, schedule, source, out),
-        Args::SolveInstance {
+        Args::Solve {
             args,
             workers,
             file,

@@ -1,6 +1,7 @@
 // Heads, tails, bounds and desks of worked instances.
-ghost use Rattle.std.specs.Prelude.{◌≡◌, ◌++◌, ◌∷◌, [], IsTrue};
+ghost use Rattle.std.specs.Prelude.{◌≡◌, ◌++◌, ◌∷◌, [], sum_by, IsTrue, IfSome};
 ghost use Rattle.shop_model.specs.Word.{IsWord};
+ghost use Rattle.one_machine.specs.OneMachine.{greatest_of, IsSmall};
 
 use shop_bound::{Desk, Heads, Jackson, Triple, lower_bound, one_machine, tails};
 use shop_model::{Instance, Job, Op, Placement, Word, fits, start_word};
@@ -157,6 +158,70 @@ fn ft06_before_and_after_its_start_word(rt: HostRuntime) {
     assert_eq!(rt; bound(&rt, alloc, &instance, &[]), Some(52));
     let start = start_word(alloc, &instance).expect(&rt, "memory");
     assert_eq!(rt; bound(&rt, alloc, &instance, start.jobs()), Some(152));
+}
+
+/// The greatest head, the sum of the times and the greatest tail, if the sum is no greater than a number may be.
+fn parts_of_extent(triples: &[Triple]) -> Option<(u64, u64, u64)>
+    ensures { IfSome result (λ p. (p.0 ≡ greatest_of (λ t. t.head) triples.now)
+        × (p.1 ≡ sum_by (λ t. t.time) triples.now)
+        × (p.2 ≡ greatest_of (λ t. t.tail) triples.now)) }
+{
+    let Some((first, others)) = triples.split_first() else {
+        return Some((0, 0, 0));
+    };
+    let (head, times, tail) = parts_of_extent(others)?;
+    Some((
+        first.head.max(head),
+        first.time.checked_add(times)?,
+        first.tail.max(tail),
+    ))
+}
+
+/// Whether bounds of these can be computed.
+fn is_small(triples: &[Triple]) -> bool
+    ensures { IsTrue result → IsSmall triples.now }
+{
+    match parts_of_extent(triples) {
+        Some((head, times, tail)) => { head < 1 << 48 && times < 1 << 48 && tail < 1 << 48 }
+        None => false,
+    }
+}
+
+/// The heads, times and tails of a machine's operations, before any is placed.
+fn triples_of(rt: &impl Abort, alloc: Global, instance: &Instance, machine: usize) -> Vec<Triple> {
+    let nothing = Word::of_jobs(Vec::new(alloc));
+    assert!(rt; fits(instance, &nothing));
+    let heads = Heads::of(alloc, instance, &nothing).expect(rt, "memory");
+    let tails = tails(alloc, instance).expect(rt, "memory");
+    let mut triples = Vec::new(alloc);
+    for j in 0..instance.jobs() {
+        assert!(rt; j < tails.len());
+        let row = &tails[j];
+        for (k, op) in instance.route(j).iter().enumerate() {
+            if op.machine == machine {
+                let head = heads.head(j, k).expect(rt, "a head");
+                let tail = *row.get(k).expect(rt, "a tail");
+                triples
+                    .push(triple(head, op.time, tail))
+                    .expect(rt, "memory");
+            }
+        }
+    }
+    triples
+}
+
+#[test]
+fn machine_bounds_of_ft06(rt: HostRuntime) {
+    let alloc = rt.alloc();
+    let rows = ft06_rows(alloc).expect(&rt, "memory");
+    let instance = of_rows(6, rows).expect(&rt, "an instance");
+    for (machine, bound) in [48, 47, 47, 47, 52, 49].iter().enumerate() {
+        let triples = triples_of(&rt, alloc, &instance, machine);
+        assert!(rt; is_small(&triples));
+        assert_eq!(rt; one_machine(&triples), *bound);
+        let mut jackson = Jackson::with_room(alloc, triples.len()).expect(&rt, "memory");
+        assert_eq!(rt; jackson.bound(&triples), *bound);
+    }
 }
 
 /// Rows of one operation each, all of one machine and of the greatest time.

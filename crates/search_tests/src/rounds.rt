@@ -3,6 +3,7 @@ ghost use Rattle.shop_round.specs.Runs.{IsStandingOf};
 
 use shop_model::Instance;
 use shop_round::{Alone, Answer, Crew, Order, Plan, Round, Standing, gather, run_alone};
+use shop_tree::Node;
 use std::alloc::Global;
 use std::process::Abort;
 use worked_instances::{crossing, of_rows, op, released, with_a_gap, with_two_orders, with_zeros};
@@ -189,6 +190,35 @@ fn rounds_cut_and_gathered_one_by_one(rt: HostRuntime) {
     assert_standing(&rt, &second, 16, 3, (2, 9));
     let third = after_round(&rt, alloc, &instance, &plan, second);
     assert_standing(&rt, &third, 10, 0, (3, 10));
+}
+
+fn assert_node(rt: &impl Abort, node: &Node, jobs: &[usize], bound: u64) {
+    assert_eq!(rt; node.bound, bound);
+    assert_eq!(rt; node.word.len(), jobs.len());
+    for (index, job) in jobs.iter().enumerate() {
+        assert!(rt; index < node.word.len());
+        assert_eq!(rt; node.word.job(index), *job);
+    }
+}
+
+#[test]
+fn open_nodes_as_they_are_kept_and_by_bound(rt: HostRuntime) {
+    let alloc = rt.alloc();
+    let instance = with_two_orders(alloc).expect(&rt, "an instance");
+    for (order, bounds) in [(Order::Kept, [10, 9]), (Order::Bound, [9, 10])] {
+        let plan = Plan::ordered(2, 2, 1, order).expect(&rt, "plan");
+        let start = Standing::start(alloc, &instance).expect(&rt, "memory");
+        let first = after_round(&rt, alloc, &instance, &plan, start);
+        assert!(rt; first.open.len() == 2 && first.rounds < plan.rounds);
+        assert_node(&rt, &first.open[0], &[2, 1], 10);
+        assert_node(&rt, &first.open[1], &[3], 9);
+        let round = Round::cut(alloc, &instance, &plan, first).expect(&rt, "memory");
+        assert_eq!(rt; round.pieces.len(), 2);
+        for (piece, bound) in round.pieces.iter().zip(bounds) {
+            assert_eq!(rt; piece.nodes.len(), 1);
+            assert_eq!(rt; piece.nodes[0].bound, bound);
+        }
+    }
 }
 
 #[test]

@@ -35,16 +35,18 @@ fn assert_sheet(rt: &impl Abort, sheet: &Sheet, found: Option<&[u16]>, makespan:
     assert_eq!(rt; sheet.taken, taken);
 }
 
-fn assert_bounds(rt: &impl Abort, sheet: &Sheet, bounds: &[u64]) {
-    assert_eq!(rt; sheet.left.len(), bounds.len());
-    for (node, bound) in sheet.left.iter().zip(bounds) {
+fn assert_bounds(rt: &impl Abort, alloc: Global, sheet: &Sheet, bounds: &[u64]) {
+    let left = sheet.left.nodes(alloc).expect(rt, "memory");
+    assert_eq!(rt; left.len(), bounds.len());
+    for (node, bound) in left.iter().zip(bounds) {
         assert_eq!(rt; node.bound, *bound);
     }
 }
 
-fn assert_left(rt: &impl Abort, sheet: &Sheet, words: &[&[u16]]) {
-    assert_eq!(rt; sheet.left.len(), words.len());
-    for (node, word) in sheet.left.iter().zip(words) {
+fn assert_left(rt: &impl Abort, alloc: Global, sheet: &Sheet, words: &[&[u16]]) {
+    let left = sheet.left.nodes(alloc).expect(rt, "memory");
+    assert_eq!(rt; left.len(), words.len());
+    for (node, word) in left.iter().zip(words) {
         assert_jobs(rt, node, word);
     }
 }
@@ -113,14 +115,14 @@ fn sheets_of_the_empty_word(rt: HostRuntime) {
     let found = [1, 0, 0, 1];
     let all = search(alloc, &instance, &piece, 11, 100).expect(&rt, "memory");
     assert_sheet(&rt, &all, Some(&found), 7, 6);
-    assert_left(&rt, &all, &[]);
+    assert_left(&rt, alloc, &all, &[]);
     let five = search(alloc, &instance, &piece, 11, 5).expect(&rt, "memory");
     assert_sheet(&rt, &five, Some(&found), 7, 5);
-    // [1, 1] isn't taken, but has a bound of 11.
-    assert_left(&rt, &five, &[]);
+    // [1, 1] isn't taken; its bound is 11.
+    assert_left(&rt, alloc, &five, &[&[1, 1]]);
     let one = search(alloc, &instance, &piece, 11, 1).expect(&rt, "memory");
     assert_sheet(&rt, &one, None, 11, 1);
-    assert_left(&rt, &one, &[&[1]]);
+    assert_left(&rt, alloc, &one, &[&[1]]);
 }
 
 #[test]
@@ -131,7 +133,7 @@ fn optimum_above_the_first_bound(rt: HostRuntime) {
     let piece = one_node(&rt, alloc, &instance, &[]);
     let sheet = search(alloc, &instance, &piece, 16, 100).expect(&rt, "memory");
     assert_sheet(&rt, &sheet, Some(&[1, 1, 0, 1, 0, 0]), 10, 8);
-    assert_left(&rt, &sheet, &[]);
+    assert_left(&rt, alloc, &sheet, &[]);
 }
 
 #[test]
@@ -142,7 +144,7 @@ fn operations_that_take_no_time(rt: HostRuntime) {
     let sheet = search(alloc, &instance, &piece, 10, 100).expect(&rt, "memory");
     assert_eq!(&rt; sheet.makespan, 5);
     assert_eq!(&rt; sheet.taken, 8);
-    assert_left(&rt, &sheet, &[]);
+    assert_left(&rt, alloc, &sheet, &[]);
 }
 
 #[test]
@@ -152,8 +154,8 @@ fn first_round_leaves_two_nodes(rt: HostRuntime) {
     let piece = one_node(&rt, alloc, &instance, &[]);
     let sheet = search(alloc, &instance, &piece, 16, 3).expect(&rt, "memory");
     assert_sheet(&rt, &sheet, None, 16, 3);
-    assert_left(&rt, &sheet, &[&[1, 1, 0], &[1, 0]]);
-    assert_bounds(&rt, &sheet, &[10, 12]);
+    assert_left(&rt, alloc, &sheet, &[&[1, 1, 0], &[1, 0]]);
+    assert_bounds(&rt, alloc, &sheet, &[10, 12]);
 }
 
 #[test]
@@ -163,11 +165,11 @@ fn sheets_of_later_rounds(rt: HostRuntime) {
     let second = one_node(&rt, alloc, &instance, &[1, 1, 0]);
     let sheet = search(alloc, &instance, &second, 16, 3).expect(&rt, "memory");
     assert_sheet(&rt, &sheet, None, 16, 3);
-    assert_left(&rt, &sheet, &[&[1, 1, 0, 1, 0, 0]]);
+    assert_left(&rt, alloc, &sheet, &[&[1, 1, 0, 1, 0, 0]]);
     let second = one_node(&rt, alloc, &instance, &[1, 0]);
     let sheet = search(alloc, &instance, &second, 16, 3).expect(&rt, "memory");
     assert_sheet(&rt, &sheet, None, 16, 3);
-    assert_left(&rt, &sheet, &[&[1, 0, 1, 0, 1], &[1, 0, 1, 0, 0]]);
+    assert_left(&rt, alloc, &sheet, &[&[1, 0, 1, 0, 1], &[1, 0, 1, 0, 0]]);
     let third = [
         ([1, 1, 0, 1, 0, 0].as_slice(), 10, 1),
         ([1, 0, 1, 0, 1].as_slice(), 12, 2),
@@ -178,7 +180,7 @@ fn sheets_of_later_rounds(rt: HostRuntime) {
         let sheet = search(alloc, &instance, &piece, 16, 3).expect(&rt, "memory");
         assert_eq!(&rt; sheet.makespan, makespan);
         assert_eq!(&rt; sheet.taken, taken);
-        assert_left(&rt, &sheet, &[]);
+        assert_left(&rt, alloc, &sheet, &[]);
     }
 }
 
@@ -204,11 +206,11 @@ fn nodes_of_a_piece_in_order(rt: HostRuntime) {
     let piece = two_nodes(&rt, alloc, &instance, &[1, 1, 0], &[1, 0]);
     let sheet = search(alloc, &instance, &piece, 16, 100).expect(&rt, "memory");
     assert_sheet(&rt, &sheet, Some(&[1, 1, 0, 1, 0, 0]), 10, 5);
-    assert_left(&rt, &sheet, &[]);
+    assert_left(&rt, alloc, &sheet, &[]);
     let piece = two_nodes(&rt, alloc, &instance, &[1, 0], &[1, 1, 0]);
     let sheet = search(alloc, &instance, &piece, 16, 100).expect(&rt, "memory");
     assert_sheet(&rt, &sheet, Some(&[1, 1, 0, 1, 0, 0]), 10, 10);
-    assert_left(&rt, &sheet, &[]);
+    assert_left(&rt, alloc, &sheet, &[]);
 }
 
 #[test]
@@ -220,12 +222,13 @@ fn budget_that_ends_among_the_nodes_of_a_piece(rt: HostRuntime) {
     assert_sheet(&rt, &three, None, 16, 3);
     assert_left(
         &rt,
+        alloc,
         &three,
         &[&[1, 0, 1, 0, 1], &[1, 0, 1, 0, 0], &[1, 1, 0]],
     );
     let seven = search(alloc, &instance, &piece, 16, 7).expect(&rt, "memory");
     assert_sheet(&rt, &seven, Some(&[1, 0, 1, 0, 1, 0]), 12, 7);
-    assert_left(&rt, &seven, &[&[1, 1, 0, 1]]);
+    assert_left(&rt, alloc, &seven, &[&[1, 1, 0, 1]]);
 }
 
 #[test]
@@ -234,16 +237,20 @@ fn budget_that_ends_among_children_that_only_count(rt: HostRuntime) {
     let instance = with_a_gap(alloc).expect(&rt, "an instance");
     let piece = one_node(&rt, alloc, &instance, &[]);
     // The children of [1] have bounds 10 and 12, so none is below the best.
-    for budget in [2, 3, 4] {
-        let sheet = search(alloc, &instance, &piece, 10, budget).expect(&rt, "memory");
-        assert_sheet(&rt, &sheet, None, 10, budget);
-        assert_left(&rt, &sheet, &[]);
-    }
+    let two = search(alloc, &instance, &piece, 10, 2).expect(&rt, "memory");
+    assert_sheet(&rt, &two, None, 10, 2);
+    assert_left(&rt, alloc, &two, &[&[1, 1], &[1, 0]]);
+    let three = search(alloc, &instance, &piece, 10, 3).expect(&rt, "memory");
+    assert_sheet(&rt, &three, None, 10, 3);
+    assert_left(&rt, alloc, &three, &[&[1, 0]]);
+    let four = search(alloc, &instance, &piece, 10, 4).expect(&rt, "memory");
+    assert_sheet(&rt, &four, None, 10, 4);
+    assert_left(&rt, alloc, &four, &[]);
     // The bound of [1, 0] reaches the makespan found, whether or not it is below the opening best.
     for best in [12, 13] {
         let seven = search(alloc, &instance, &piece, best, 7).expect(&rt, "memory");
         assert_sheet(&rt, &seven, Some(&[1, 1, 0, 1, 0, 0]), 10, 7);
-        assert_left(&rt, &seven, &[]);
+        assert_left(&rt, alloc, &seven, &[&[1, 0]]);
     }
 }
 

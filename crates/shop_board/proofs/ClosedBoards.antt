@@ -8,7 +8,7 @@ use Rattle.std.proofs.lemmas.Map.Steps.{length-le_from_distinct_below}
 use mathlib.Core.Option.{some}
 use lib.ListN.{get_elem?}
 use Rattle.shop_board.specs.declared.views.View.{View}
-use Rattle.shop_board.specs.Views.{has, once, is_hit_in, IsLeastHit, HasServed, HasAll}
+use Rattle.shop_board.specs.Views.{has, once, is_hit_in, IsLeastHit, HasServed, ArePieces, HasAll, HasAsMany}
 use Rattle.shop_board.specs.Moments.{hit_word, IsLive, IsLawful}
 use Rattle.shop_board.proofs.Numbers.{has_cons, has_tail, is_false, once_first, once_others, once_cons, not_has}
 use Rattle.shop_board.proofs.Words.{word_read}
@@ -46,8 +46,7 @@ ends hits s id v law at all served = record {
   hit = law.hit;
   least = λ m below h.
       let k = law.knows id v at in
-      let mine : has v.mine m ≡ true =
-      all_stand v.mine (length hits) m k.single (λ q w. (k.mine q w).0) (all ∙ ap length k.same) below in
+      let mine : has v.mine m ≡ true = all m (subst (λ l. m < length l) (sym k.same) below) in
       let hit : is_hit_in v.hits m ≡ true = subst (λ l. is_hit_in l m ≡ true) (sym k.same) h in
       let b = k.below in
       ⊎_elim (λ d. (k.done m d).2) (λ (l : v.low < m). omega arith) (served m mine hit);
@@ -62,3 +61,7 @@ closes hits s id v words last found law at live all served same last_is read =
     ap (λ l. slice_index l (length hits)) same ∙ ap (slice_index words) (sym last_is)
     ∙ word_read words last found read in
     subst (IsLeastHit hits) word (ends hits s id v law (at, live) all served)
+
+-- as many pieces as there are, none of them twice, are all of them
+pub as_many_is_all : (v : View) → once v.mine ≡ true → ArePieces v.hits v.mine → HasAsMany v → HasAll v
+as_many_is_all v o pieces full n inside = all_stand v.mine (length v.hits) n o pieces full inside

@@ -8,7 +8,9 @@
 --                         pieces there are
 --     HasServed v         each piece that ends at the opening bound and that the seat won was
 --                         marked by it, or has a number above the least that it read or marked
---     HasAll v            the seat won as many pieces as there are
+--     ArePieces hits xs   the numbers in xs are those of pieces
+--     HasAll v            the seat won each piece
+--     HasAsMany v         the seat won as many pieces as there are
 use Rattle.std.specs.Prelude.{◌≡◌, ℕ, ◌<◌, ◌≤◌, List, [], ◌∷◌, length, Bool, true, false, ◌&&◌, not}
 use Rattle.std.specs.Prelude.{◌==◌, ◌⊎◌, slice_index_or}
 use Rattle.std.specs.List.{list_any}
@@ -35,5 +37,11 @@ abbrev pub HasServed : View → Type 0
 HasServed v = (n : ℕ) → has v.mine n ≡ true → is_hit_in v.hits n ≡ true → (has v.done n ≡ true)
     ⊎ (v.low < n)
 
+abbrev pub ArePieces : List Bool → List ℕ → Type 0
+ArePieces hits xs = (n : ℕ) → has xs n ≡ true → n < length hits
+
 abbrev pub HasAll : View → Type 0
-HasAll v = length v.mine ≡ length v.hits
+HasAll v = (n : ℕ) → n < length v.hits → has v.mine n ≡ true
+
+abbrev pub HasAsMany : View → Type 0
+HasAsMany v = length v.mine ≡ length v.hits

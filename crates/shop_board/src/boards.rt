@@ -1,5 +1,6 @@
 // A board on which threads claim the pieces of a round, and the seats by which they do so.
 ghost use Rattle.std.specs.Prelude.{◌≡◌, ◌+◌, ◌≤◌, [], ◌∷◌, ◌++◌, replicate, length, true, IfOk};
+ghost use Rattle.shop_board.specs.Views.{once, ArePieces};
 
 use crate::round_hits::RoundHits;
 use crate::rules::{Claim, Law, Look, Mark, Recall, Share};
@@ -17,12 +18,15 @@ pub struct Board<'r> {
     pub ghost no_slots: { table.shared.table_id.slots ≡ 0 },
 }
 
-/// What one thread does on a board, it does by a seat of its own. A seat takes no bytes.
+/// What one thread does on a board, it does by a seat of its own. A seat takes no bytes. What it has won are numbers of
+/// pieces, none of them twice.
 #[derive(Drop)]
 pub struct Seat {
     pub(crate) seat: atomic_table::Seat<(), View>,
     pub ghost holds_no_slot: { seat.me.1 ≡ [] },
     pub ghost live: { seat.me.0.live ≡ true },
+    pub ghost once: { once seat.me.0.mine ≡ true },
+    pub ghost pieces: { ArePieces seat.me.0.hits seat.me.0.mine },
 }
 
 // No flag is set, and no hit is marked.

@@ -9,14 +9,14 @@ use Rattle.shop_model.specs.Shop.{Shop, IsOperation, machine_of, time_of}
 use Rattle.shop_model.specs.Word.{Placing, IsWord, placing, place_next}
 use Rattle.shop_model.proofs.Placings.{IsNext, place_next-is}
 use Rattle.shop_model.proofs.Unders.{placing-snoc, next_operation, after_word}
-use Rattle.shop_bound.specs.Heads.{head_of}
+use Rattle.shop_heads.specs.Heads.{head_of}
 use Rattle.shop_bound.specs.inner.LaneEnds.{IsEndOf}
 use Rattle.shop_bound.specs.inner.LaneHeads.{AreHeadsAt, LeadsBack, NotesState}
 use Rattle.shop_bound.specs.inner.LaneStates.{Advances, AreHeadsInLanes, HasNextAt}
 use Rattle.shop_bound.specs.inner.Layouts.{LayoutState, place, first_position}
 use Rattle.shop_bound.specs.inner.Raises.{AreFirst, HasBlocks, IsLeastRaise, IsOnMachine, IsRaisable, Raises, Replaces}
 use Rattle.shop_bound.specs.declared.notes.Mark.{Mark}
-use Rattle.shop_bound.proofs.HeadTurns.{ready_first}
+use Rattle.shop_heads.proofs.HeadTurns.{ready_first}
 use Rattle.shop_bound.proofs.LaidPlaces.{place_of}
 use Rattle.shop_bound.proofs.RaisedHeads.{left, raisable, raised, has_blocks}
 use Rattle.shop_bound.proofs.RestoredNotes.{back_both}

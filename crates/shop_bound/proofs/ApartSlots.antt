@@ -13,7 +13,7 @@ use Rattle.shop_model.proofs.SwappedPairs.{AllPairs-permutation}
 use Rattle.shop_bound.specs.declared.slots.Slot.{Slot}
 use Rattle.shop_bound.specs.Slots.{AreSlotsOf, operations_in, operations_on, slot_at}
 use Rattle.shop_bound.specs.inner.Layings.{AreApart}
-use Rattle.shop_bound.proofs.Lists.{Pairwise, all_map, pairwise_append, pairwise_filter}
+use Rattle.one_machine.proofs.Lists.{Pairwise, all_map, pairwise_append, pairwise_filter}
 use Rattle.shop_bound.proofs.OpenSlots.{all_flat, range_within}
 
 -- not the same step of a job

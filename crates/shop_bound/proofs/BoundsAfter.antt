@@ -12,14 +12,14 @@ use Rattle.shop_model.proofs.Placings.{place_next-is}
 use Rattle.shop_model.proofs.Unders.{next_operation, placing-snoc}
 use Rattle.shop_model.specs.Limits.{IsWithinLimits}
 use Rattle.shop_model.specs.Word.{IsWord}
-use Rattle.shop_bound.proofs.PlacedEnds.{placed_end-free}
-use Rattle.shop_bound.specs.Bound.{lb}
+use Rattle.shop_heads.proofs.PlacedEnds.{placed_end-free}
+use Rattle.shop_heads.specs.Bound.{lb}
 use Rattle.shop_bound.specs.inner.HeadRaises.{raise_of, IsWithin, RowsWithin}
 use Rattle.shop_model.specs.Placements.{PlacementState, IsPlacement}
 use Rattle.shop_bound.specs.inner.StandingBounds.{IsKeptUp}
 use Rattle.shop_bound.specs.declared.head_raises.Raise.{Raise}
 use Rattle.shop_bound.specs.declared.slots.Slot.{Slot}
-use Rattle.shop_bound.proofs.BoundsRise.{bounds_rise}
+use Rattle.shop_heads.proofs.BoundsRise.{bounds_rise}
 use Rattle.shop_bound.proofs.Raising.{IsSlotRaised}
 use Rattle.shop_bound.proofs.SlotFacts.{slots_are_operations}
 

@@ -11,11 +11,11 @@ use Rattle.shop_model.proofs.Greatest.{le-greatest_below, greatest_below-le}
 use Rattle.shop_model.proofs.Placings.{place_next-is}
 use Rattle.shop_model.proofs.Unders.{placing-snoc}
 use Rattle.shop_model.proofs.WordLemmas.{IsWord-init}
-use Rattle.shop_bound.specs.Bound.{lb}
-use Rattle.shop_bound.specs.Heads.{head_of}
-use Rattle.shop_bound.specs.OneMachine.{one}
+use Rattle.shop_heads.specs.Bound.{lb}
+use Rattle.shop_heads.specs.Heads.{head_of}
+use Rattle.one_machine.specs.OneMachine.{one}
 use Rattle.shop_bound.specs.Slots.{AreMachineSlots}
-use Rattle.shop_bound.specs.inner.NonincreasingTails.{one_between}
+use Rattle.one_machine.specs.inner.NonincreasingTails.{one_between}
 use Rattle.shop_bound.specs.declared.slots.Slot.{Slot}
 use Rattle.shop_bound.proofs.BoundsAfter.{least_at_most}
 use Rattle.shop_bound.proofs.OpenBounds.{part_of, lb_by_parts}

@@ -8,14 +8,14 @@ use Rattle.shop_model.specs.Limits.{IsWithinLimits}
 use Rattle.shop_model.specs.Shop.{Shop, machine_of, IsOperation}
 use Rattle.shop_model.specs.Word.{Placing, IsWord, placing, place_next}
 use Rattle.shop_model.proofs.Placings.{place_next-is}
-use Rattle.shop_bound.specs.Bound.{lb}
-use Rattle.shop_bound.specs.Heads.{head_of}
-use Rattle.shop_bound.specs.OneMachine.{one}
+use Rattle.shop_heads.specs.Bound.{lb}
+use Rattle.shop_heads.specs.Heads.{head_of}
+use Rattle.one_machine.specs.OneMachine.{one}
 use Rattle.shop_bound.specs.inner.LaneHeads.{AreHeadsAt}
 use Rattle.shop_bound.specs.inner.Layouts.{LayoutState, IsLaidOut, place, first_position}
 use Rattle.shop_bound.proofs.ChildBounds.{raised_left, child-le}
 use Rattle.shop_bound.proofs.ChildBounds.{child-ge-before, child-ge-left}
-use Rattle.shop_bound.proofs.HeadsStay.{head_stays}
+use Rattle.shop_heads.proofs.HeadsStay.{head_stays}
 use Rattle.shop_bound.proofs.LaneSpans.{IsServedAs, from_none, span_within, spans_cover, spans_within}
 use Rattle.shop_bound.proofs.MachineLanes.{AreStored, index_of, lanes_matched, left_matched}
 use Rattle.shop_bound.proofs.OpenSlots.{open_falls}

@@ -8,10 +8,10 @@ use Rattle.shop_lanes.specs.Spans.{spans_between}
 use Rattle.shop_model.specs.Limits.{IsWithinLimits}
 use Rattle.shop_model.specs.Shop.{Shop, machine_of, IsOperation}
 use Rattle.shop_model.specs.Word.{Placing, IsWord, placing, place_next}
-use Rattle.shop_bound.specs.Bound.{lb}
+use Rattle.shop_heads.specs.Bound.{lb}
 use Rattle.shop_bound.specs.inner.BoundsUpTo.{IsBoundUpTo}
-use Rattle.shop_bound.specs.Heads.{head_of}
-use Rattle.shop_bound.specs.OneMachine.{one}
+use Rattle.shop_heads.specs.Heads.{head_of}
+use Rattle.one_machine.specs.OneMachine.{one}
 use Rattle.shop_bound.specs.inner.HeadLimits.{latest_end}
 use Rattle.shop_bound.specs.inner.LaneBounds.{lanes_on}
 use Rattle.shop_bound.specs.inner.LaneHeads.{AreHeadsAt, restored}

@@ -8,9 +8,9 @@ use Rattle.shop_model.specs.Word.{Placing, IsWord, placing, place_next}
 use Rattle.shop_model.proofs.Placings.{place_next-is}
 use Rattle.shop_model.proofs.Unders.{after_word, next_operation}
 use Rattle.shop_model.proofs.WordLemmas.{IsWord-init}
-use Rattle.shop_bound.specs.Bound.{lb}
+use Rattle.shop_heads.specs.Bound.{lb}
 use Rattle.shop_bound.specs.inner.BoundsUpTo.{IsBoundUpTo}
-use Rattle.shop_bound.specs.Heads.{head_of}
+use Rattle.shop_heads.specs.Heads.{head_of}
 use Rattle.shop_bound.specs.inner.ChildBounds.{IsLeastAfter}
 use Rattle.shop_bound.specs.inner.HeadLimits.{FitsLanes, latest_end}
 use Rattle.shop_bound.specs.inner.LaneBounds.{AreMachinesAt, AreSpansFit, NoneElseBelow, lanes_on}
@@ -18,7 +18,7 @@ use Rattle.shop_bound.specs.inner.LaneStates.{AreHeadsInLanes}
 use Rattle.shop_bound.specs.inner.Layouts.{LayoutState, first_position, place}
 use Rattle.shop_bound.proofs.ChildBounds.{child-ge-before}
 use Rattle.shop_bound.proofs.ChildExits.{none_below-is, open_span-le}
-use Rattle.shop_bound.proofs.HeadTurns.{ready_first}
+use Rattle.shop_heads.proofs.HeadTurns.{ready_first}
 use Rattle.shop_bound.proofs.LaidPlaces.{place_of}
 use Rattle.shop_bound.proofs.LaneFits.{spans_fit}
 use Rattle.shop_bound.proofs.LatestEnds.{latest_end_is}

@@ -7,7 +7,7 @@ use Rattle.shop_lanes.specs.Rows.{Rows, AreBlocks, with_head}
 use Rattle.shop_lanes.specs.Spans.{span, FitsSpan}
 use Rattle.shop_model.specs.Shop.{Shop}
 use Rattle.shop_model.specs.Word.{IsWord, placing}
-use Rattle.shop_bound.specs.Bound.{lb}
+use Rattle.shop_heads.specs.Bound.{lb}
 use Rattle.shop_bound.specs.inner.BoundsUpTo.{IsBoundUpTo}
 use Rattle.shop_bound.specs.inner.ChildBounds.{CanRaise, IsLeastAfter, IsLeastBefore, RaisesSo}
 use Rattle.shop_bound.specs.inner.Estimates.{AreEstimates}

@@ -9,7 +9,7 @@ use Rattle.shop_model.specs.Shop.{Shop, operation_count}
 use Rattle.shop_model.specs.Word.{IsWord, placing}
 use Rattle.shop_model.specs.Placements.{PlacementState, IsPlacement}
 use Rattle.shop_bound.specs.Desks.{DeskState, IsUndone}
-use Rattle.shop_bound.proofs.WordLengths.{word_within}
+use Rattle.shop_heads.proofs.WordLengths.{word_within}
 
 -- a vector after a slice of all of it was written
 written : {A : Type 0} (n : ℕ) (new old : List A) → length new ≡ n → length old ≡ n

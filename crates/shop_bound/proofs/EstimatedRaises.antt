@@ -12,8 +12,8 @@ use Rattle.shop_model.specs.Shop.{Shop}
 use Rattle.shop_model.specs.Word.{IsWord, placing, place_next}
 use Rattle.shop_model.proofs.Placings.{place_next-is}
 use Rattle.shop_model.proofs.WordLemmas.{IsWord-init}
-use Rattle.shop_bound.specs.Bound.{lb}
-use Rattle.shop_bound.specs.Heads.{head_of}
+use Rattle.shop_heads.specs.Bound.{lb}
+use Rattle.shop_heads.specs.Heads.{head_of}
 use Rattle.shop_bound.specs.inner.ChildBounds.{IsCoveredAt}
 use Rattle.shop_bound.specs.inner.Estimates.{AreEstimates, IsEstimate, IsNoteCovered}
 use Rattle.shop_bound.specs.inner.HeadRaises.{raise_of}
@@ -25,7 +25,7 @@ use Rattle.shop_bound.specs.declared.head_raises.Raise.{Raise}
 use Rattle.shop_bound.specs.declared.notes.Note.{Note}
 use Rattle.shop_bound.proofs.ChildBounds.{left-le-lb}
 use Rattle.shop_bound.proofs.ChildRaises.{IsBounded, bounded_by_raise, covered_all, noted_or_same}
-use Rattle.shop_bound.proofs.HeadsStay.{steps_rise}
+use Rattle.shop_heads.proofs.HeadsStay.{steps_rise}
 use Rattle.shop_bound.proofs.LaidPlaces.{each_position}
 use Rattle.shop_bound.proofs.LaneEstimates.{AreBeside, IsRisen, IsRisenLane, IsServedBefore, beside_as, lanes_risen}
 use Rattle.shop_bound.proofs.LaneEstimates.{span_beside, spans_risen}

@@ -11,16 +11,16 @@ use Rattle.shop_model.specs.declared.ops.Op.{Op}
 use Rattle.shop_model.specs.Shop.{Shop, no_op, IsOperation, route_of, time_of}
 use Rattle.shop_model.specs.Word.{Placing, placing}
 use Rattle.shop_model.proofs.Ends.{IsOperation-job}
-use Rattle.shop_bound.specs.Heads.{ready_after, head_of}
+use Rattle.shop_heads.specs.Heads.{ready_after, head_of}
 use Rattle.shop_model.specs.Placements.{PlacementState, IsPlacement}
 use Rattle.shop_bound.specs.inner.Fills.{IsStored, IsPositionFree, CanFill, AreSameBeside, HasFilledJob}
 use Rattle.shop_bound.specs.inner.Fills.{HasFilled, CanPutBack, HasPutBack, GoesBack}
 use Rattle.shop_bound.specs.inner.Raises.{KeepsEnds, SetsEndAt}
 use Rattle.shop_bound.specs.inner.LaneHeads.{AreHeadsAt, restored}
 use Rattle.shop_bound.specs.inner.Layouts.{LayoutState, place, first_position}
-use Rattle.shop_bound.specs.inner.PlacedWords.{IsOfWord}
+use Rattle.shop_heads.specs.inner.PlacedWords.{IsOfWord}
 use Rattle.shop_bound.specs.declared.notes.Note.{Note}
-use Rattle.shop_bound.proofs.HeadTurns.{ready_first}
+use Rattle.shop_heads.proofs.HeadTurns.{ready_first}
 use Rattle.shop_bound.proofs.LaidPlaces.{place_of}
 use Rattle.shop_bound.proofs.RestoredNotes.{restored-append}
 use Rattle.shop_bound.proofs.RowTurns.{open_turn}

@@ -5,7 +5,7 @@ use Rattle.std.proofs.lemmas.Bool.{cases_eq, cases_lt}
 use Rattle.shop_model.specs.Limits.{IsWithinLimits}
 use Rattle.shop_model.specs.Shop.{Shop, IsOperation, route_of, machine_of, time_of}
 use Rattle.shop_model.proofs.Ends.{IsOperation-job}
-use Rattle.shop_bound.specs.Heads.{tail_of}
+use Rattle.shop_heads.specs.Heads.{tail_of}
 use Rattle.shop_bound.specs.Slots.{slot_at}
 use Rattle.shop_bound.specs.inner.Layouts.{LayoutState, place, first_position, IsAt, IsLaidOut, IsPadding}
 use Rattle.shop_bound.proofs.SlotFacts.{slots_are_all, slots_are_operations}

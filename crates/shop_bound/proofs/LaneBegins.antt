@@ -13,7 +13,7 @@ use Rattle.shop_model.specs.Word.{IsWord, none_placed, placing}
 use Rattle.shop_bound.specs.inner.HeadLimits.{FitsLanes}
 use Rattle.shop_bound.proofs.LaneEstimates.{no_estimates}
 use Rattle.shop_bound.proofs.LatestEnds.{latest_end_is}
-use Rattle.shop_bound.proofs.Lists.{get_or-le-greatest_of}
+use Rattle.one_machine.proofs.Lists.{get_or-le-greatest_of}
 use Rattle.shop_model.specs.Placements.{PlacementState, IsPlacement}
 use Rattle.shop_bound.specs.declared.head_raises.Raise.{Raise}
 use Rattle.shop_bound.specs.declared.notes.Mark.{Mark}
@@ -24,7 +24,7 @@ use Rattle.shop_bound.specs.inner.LaneHeads.{AreHeadsFit, NotesState}
 use Rattle.shop_bound.specs.inner.LaneStates.{AreHeadsInLanes, HasBounds, IsKeptInLanes}
 use Rattle.shop_bound.specs.inner.Layings.{place_or}
 use Rattle.shop_bound.specs.inner.Layouts.{LayoutState, place, first_position, AreFirsts, IsLaidOut}
-use Rattle.shop_bound.specs.inner.PlacedWords.{IsOfWord}
+use Rattle.shop_heads.specs.inner.PlacedWords.{IsOfWord}
 use Rattle.shop_bound.proofs.LaidPlaces.{place_of, cell_at, machine_at, machines_rise}
 use Rattle.shop_bound.proofs.LaneEnds.{can_keep, ends_at, with_ends}
 

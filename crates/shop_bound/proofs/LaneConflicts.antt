@@ -11,9 +11,9 @@ use Rattle.shop_lanes.specs.Rows.{Rows}
 use Rattle.shop_model.specs.Shop.{Shop, IsOperation, route_of, machine_of, time_of}
 use Rattle.shop_model.specs.Word.{Placing}
 use Rattle.shop_model.proofs.Ends.{IsOperation-job}
-use Rattle.shop_bound.specs.Conflicts.{open_jobs, next_machine, next_head, next_end, conflicts_with}
-use Rattle.shop_bound.specs.Conflicts.{conflict_among}
-use Rattle.shop_bound.specs.Heads.{head_of, ready_after}
+use Rattle.shop_heads.specs.Conflicts.{open_jobs, next_machine, next_head, next_end, conflicts_with}
+use Rattle.shop_heads.specs.Conflicts.{conflict_among}
+use Rattle.shop_heads.specs.Heads.{head_of, ready_after}
 use Rattle.shop_bound.specs.inner.LaneChoices.{AreChoosable, AreNextPlaced, AreNextsAt, IsNextBelow}
 use Rattle.shop_bound.specs.inner.JobSets.{HasPutIf}
 use Rattle.shop_bound.specs.inner.Layouts.{LayoutState, place, first_position}

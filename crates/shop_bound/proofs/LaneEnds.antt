@@ -8,8 +8,8 @@ use Rattle.shop_lanes.specs.Rows.{Rows, with_end}
 use Rattle.shop_model.specs.Shop.{Shop, IsOperation, machine_of, route_of}
 use Rattle.shop_model.specs.Word.{Placing, placing}
 use Rattle.shop_model.proofs.Ends.{IsOperation-job}
-use Rattle.shop_bound.specs.Conflicts.{next_end, next_head}
-use Rattle.shop_bound.specs.Heads.{head_of, ready_after}
+use Rattle.shop_heads.specs.Conflicts.{next_end, next_head}
+use Rattle.shop_heads.specs.Heads.{head_of, ready_after}
 use Rattle.shop_bound.specs.inner.HeadLimits.{FitsLanes}
 use Rattle.shop_bound.specs.inner.LaneChoices.{AreEndsAt, AreNextPlaced, AreNextsOf}
 use Rattle.shop_bound.specs.inner.LaneEnds.{end_at, AreEndsOf, CanKeepEnds, HasEnds, IsEndOf}

@@ -11,8 +11,8 @@ use Rattle.shop_lanes.proofs.LaneLists.{lanes-blocks, length-blocks}
 use Rattle.shop_model.specs.declared.ops.Op.{Op}
 use Rattle.shop_model.specs.Limits.{IsWithinLimits}
 use Rattle.shop_model.specs.Shop.{Shop, route_of, time_of}
-use Rattle.shop_bound.specs.OneMachine.{greatest_of}
-use Rattle.shop_bound.specs.Heads.{tail_in}
+use Rattle.one_machine.specs.OneMachine.{greatest_of}
+use Rattle.shop_heads.specs.Heads.{tail_in}
 use Rattle.shop_bound.specs.inner.HeadLimits.{total_before, latest_end, load_on, FitsLanes}
 use Rattle.shop_bound.specs.inner.LaneBounds.{AreSpansFit, lanes_on}
 use Rattle.shop_bound.specs.inner.Layouts.{LayoutState, IsLaidOut, first_position}
@@ -20,7 +20,7 @@ use Rattle.shop_bound.specs.declared.slots.Slot.{Slot}
 use Rattle.shop_bound.proofs.ApartSlots.{slots_few}
 use Rattle.shop_bound.proofs.MachineLanes.{first_rises}
 use Rattle.shop_bound.proofs.SlotFacts.{slots_are_operations}
-use Rattle.shop_bound.proofs.TimeSums.{route_times}
+use Rattle.shop_heads.proofs.TimeSums.{route_times}
 
 pub total_small : (shop : Shop) → IsWithinLimits shop → (n : ℕ) → total_before shop n ≤ n * 100000000000
 total_small shop limits zero = omega arith

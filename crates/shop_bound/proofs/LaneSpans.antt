@@ -8,13 +8,13 @@ use Rattle.std.proofs.lemmas.List.Sums.{sum_by-cons}
 use Rattle.shop_lanes.specs.Rows.{Lane}
 use Rattle.shop_lanes.specs.Spans.{span, spans_from, spans_between}
 use Rattle.shop_lanes.proofs.SpanTurns.{span_served, span_left, spans_counted, spans_low, spans_high}
-use Rattle.shop_bound.specs.declared.triples.Triple.{Triple}
-use Rattle.shop_bound.specs.OneMachine.{one}
-use Rattle.shop_bound.specs.inner.NonincreasingTails.{one_between}
-use Rattle.shop_bound.specs.Slots.{IsNonincreasing}
-use Rattle.shop_bound.specs.inner.Thresholds.{is_above, span_above, head_at}
-use Rattle.shop_bound.proofs.ThresholdLemmas.{span_above-some}
-use Rattle.shop_bound.proofs.NonincreasingTails.{times_from, times_from-more, times_from-less, within_in, tried_all}
+use Rattle.one_machine.specs.declared.triples.Triple.{Triple}
+use Rattle.one_machine.specs.OneMachine.{one}
+use Rattle.one_machine.specs.inner.NonincreasingTails.{one_between}
+use Rattle.one_machine.specs.inner.NonincreasingTails.{IsNonincreasing}
+use Rattle.one_machine.specs.inner.Thresholds.{is_above, span_above, head_at}
+use Rattle.one_machine.proofs.ThresholdLemmas.{span_above-some}
+use Rattle.one_machine.proofs.NonincreasingTails.{times_from, times_from-more, times_from-less, within_in, tried_all}
 
 -- what stands in the second list is, but for what doesn't wait, related one by one to what stands in the first
 pub data AreMatched (R : Triple → Lane → Type 0) : List Triple → List Lane → Type 0 where

@@ -8,8 +8,8 @@ use Rattle.shop_lanes.specs.Rows.{Rows, Lane, lanes, blocks}
 use Rattle.shop_lanes.specs.Spans.{spans_between}
 use Rattle.shop_model.specs.Shop.{Shop, greatest_below}
 use Rattle.shop_model.specs.Word.{placing}
-use Rattle.shop_bound.specs.Bound.{lb}
-use Rattle.shop_bound.specs.OneMachine.{one, greatest_of}
+use Rattle.shop_heads.specs.Bound.{lb}
+use Rattle.one_machine.specs.OneMachine.{one, greatest_of}
 use Rattle.shop_model.specs.Placements.{PlacementState, IsPlacement}
 use Rattle.shop_bound.specs.inner.HeadLimits.{latest_end}
 use Rattle.shop_bound.specs.inner.LaneBounds.{lanes_on, part_by_spans}
@@ -19,9 +19,9 @@ use Rattle.shop_bound.specs.inner.OpenSlots.{is_open, open_triples, triple_of}
 use Rattle.shop_bound.specs.declared.slots.Slot.{Slot}
 use Rattle.shop_bound.proofs.LaneSpans.{spans_cover, spans_within}
 use Rattle.shop_bound.proofs.LatestEnds.{latest_end_is}
-use Rattle.shop_bound.proofs.LowerBounds.{greatest_below-equal}
+use Rattle.shop_heads.proofs.LowerBounds.{greatest_below-equal}
 use Rattle.shop_bound.proofs.MachineLanes.{left_matched}
-use Rattle.shop_bound.proofs.NonincreasingTails.{one_between-all}
+use Rattle.one_machine.proofs.NonincreasingTails.{one_between-all}
 use Rattle.shop_bound.proofs.OpenBounds.{part_of, lb_by_parts}
 use Rattle.shop_bound.proofs.OpenSlots.{open_falls}
 use Rattle.shop_bound.proofs.SlotFacts.{slots_are_operations}

@@ -32,9 +32,9 @@ use Rattle.shop_bound.proofs.LaneEnds.{next_first, next_there, next_within}
 use Rattle.shop_bound.proofs.LaneEnds.{with_ends}
 use Rattle.shop_bound.proofs.LaneEstimates.{no_estimates}
 use Rattle.shop_bound.proofs.LaneTrails.{same_heads, trail_more, LeadsToLast, trail_less}
-use Rattle.shop_bound.proofs.Lists.{all_append}
+use Rattle.one_machine.proofs.Lists.{all_append}
 use Rattle.shop_bound.proofs.RaisedHeads.{followed}
-use Rattle.shop_bound.proofs.WordLengths.{word_within}
+use Rattle.shop_heads.proofs.WordLengths.{word_within}
 
 all_drop : {A : Type 0} (P : A → Type 0) (n : ℕ) (xs : List A) → AllByRecursion P xs → AllByRecursion P (drop n xs)
 all_drop P zero xs h = h

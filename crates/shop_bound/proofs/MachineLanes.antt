@@ -10,8 +10,8 @@ use Rattle.shop_model.specs.Shop.{Shop, route_of, machine_of, IsOperation}
 use Rattle.shop_model.specs.Word.{Placing}
 use Rattle.shop_model.proofs.Ends.{IsOperation-job}
 use Rattle.shop_bound.specs.declared.slots.Slot.{Slot}
-use Rattle.shop_bound.specs.declared.triples.Triple.{Triple}
-use Rattle.shop_bound.specs.Heads.{head_of}
+use Rattle.one_machine.specs.declared.triples.Triple.{Triple}
+use Rattle.shop_heads.specs.Heads.{head_of}
 use Rattle.shop_bound.specs.Slots.{slot_at}
 use Rattle.shop_bound.specs.inner.LaneHeads.{AreHeadsAt}
 use Rattle.shop_bound.specs.inner.Layouts.{LayoutState, IsLaidOut, place, first_position}

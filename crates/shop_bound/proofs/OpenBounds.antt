@@ -4,16 +4,16 @@ use Rattle.std.proofs.Common.{arith}
 use Rattle.std.specs.List.{All}
 use Rattle.shop_model.specs.Shop.{Shop, greatest_below}
 use Rattle.shop_model.specs.Word.{placing}
-use Rattle.shop_bound.specs.Bound.{waiting, triples_on, lb}
-use Rattle.shop_bound.specs.OneMachine.{one, IsSmall}
+use Rattle.shop_heads.specs.Bound.{waiting, triples_on, lb}
+use Rattle.one_machine.specs.OneMachine.{one, IsSmall}
 use Rattle.shop_model.specs.Placements.{PlacementState}
-use Rattle.shop_bound.specs.Slots.{IsNonincreasing}
+use Rattle.one_machine.specs.inner.NonincreasingTails.{IsNonincreasing}
 use Rattle.shop_bound.specs.inner.OpenSlots.{HasPlace, open_triples}
 use Rattle.shop_bound.specs.inner.StandingBounds.{IsKeptUp, open_on}
 use Rattle.shop_bound.specs.declared.slots.Slot.{Slot}
-use Rattle.shop_bound.proofs.LowerBounds.{greatest_below-equal, greatest_below-both}
+use Rattle.shop_heads.proofs.LowerBounds.{greatest_below-equal, greatest_below-both}
 use Rattle.shop_bound.proofs.OpenSlots.{open_one}
-use Rattle.shop_bound.proofs.PlacedEnds.{placed_end-free}
+use Rattle.shop_heads.proofs.PlacedEnds.{placed_end-free}
 
 -- what is asked of the slots of a machine to bound it
 pub record IsOpen (n : ℕ) (rows : List (List ℕ)) (steps : List ℕ) (xs : List Slot) : Type 0 where

@@ -9,16 +9,17 @@ use Rattle.std.proofs.lemmas.Simd.{map-map}
 use Rattle.shop_model.specs.Shop.{Shop, route_of, machine_of}
 use Rattle.shop_model.specs.Word.{Placing}
 use Rattle.shop_bound.specs.declared.slots.Slot.{Slot}
-use Rattle.shop_bound.specs.Bound.{Waiting, waiting, triples_on}
-use Rattle.shop_bound.specs.Heads.{waiting_at, steps_left}
-use Rattle.shop_bound.specs.OneMachine.{one}
+use Rattle.shop_heads.specs.Bound.{Waiting, waiting, triples_on}
+use Rattle.shop_heads.specs.Heads.{waiting_at, steps_left}
+use Rattle.one_machine.specs.OneMachine.{one}
 use Rattle.shop_model.specs.Placements.{PlacementState, IsPlacement}
-use Rattle.shop_bound.specs.Slots.{slot_at, operations_in, operations_on, IsNonincreasing, AreSlotsOf}
+use Rattle.shop_bound.specs.Slots.{slot_at, operations_in, operations_on, AreSlotsOf}
+use Rattle.one_machine.specs.inner.NonincreasingTails.{IsNonincreasing}
 use Rattle.shop_bound.specs.inner.HeadsInRows.{AreHeadsKept}
 use Rattle.shop_bound.specs.inner.OpenSlots.{is_open, triple_of, open_triples}
-use Rattle.shop_bound.proofs.HeadWalks.{waiting_is}
-use Rattle.shop_bound.proofs.Lists.{all_map, all_append, all_filter}
-use Rattle.shop_bound.proofs.SameSums.{HaveSameSums, permuted_sums, filtered_sums, mapped_sums, same_one}
+use Rattle.shop_heads.proofs.HeadWalks.{waiting_is}
+use Rattle.one_machine.proofs.Lists.{all_map, all_append, all_filter}
+use Rattle.one_machine.proofs.SameSums.{HaveSameSums, permuted_sums, filtered_sums, mapped_sums, same_one}
 
 module _ {A B : Type 0} where
   filter_mapped : (test : B → Bool) (g : A → B) (xs : List A)

@@ -10,16 +10,16 @@ use Rattle.shop_model.specs.Word.{Placing}
 use Rattle.shop_model.proofs.Ends.{IsOperation-job}
 use Rattle.shop_model.proofs.Placings.{IsNext}
 use Rattle.shop_lanes.specs.Rows.{Rows}
-use Rattle.shop_bound.specs.Heads.{head_of, ready_after}
+use Rattle.shop_heads.specs.Heads.{head_of, ready_after}
 use Rattle.shop_bound.specs.inner.LaneHeads.{AreHeadsAt}
 use Rattle.shop_bound.specs.inner.Layings.{place_or}
 use Rattle.shop_bound.specs.inner.Layouts.{LayoutState, place, first_position, IsLaidOut}
 use Rattle.shop_bound.specs.inner.Raises.{steps_of, at_in, AreFirst, IsFollowed, IsIndexed, IsPlace, AreInRouteOrder}
 use Rattle.shop_bound.specs.inner.Raises.{IsRaised}
 use Rattle.shop_bound.specs.inner.Raises.{IsLeastRaise, IsRaisable, IsOnMachine, HasBlocks}
-use Rattle.shop_bound.proofs.HeadsRise.{heads_up}
-use Rattle.shop_bound.proofs.HeadsStay.{ready_first_same, steps_rise}
-use Rattle.shop_bound.proofs.HeadTurns.{ready_first, ready_more}
+use Rattle.shop_heads.proofs.HeadsRise.{heads_up}
+use Rattle.shop_heads.proofs.HeadsStay.{ready_first_same, steps_rise}
+use Rattle.shop_heads.proofs.HeadTurns.{ready_first, ready_more}
 use Rattle.shop_bound.proofs.LaidPlaces.{IsOperationAt, IsFree, machines_rise, place_of, each_position, on_machine}
 
 -- the heads before, where what was placed since has none

@@ -5,12 +5,12 @@ use Rattle.std.specs.List.{AllByRecursion, filter, sum_by}
 use Rattle.std.proofs.lemmas.Bool.{cases_Bool, cases_lt, and_from, leb-true, le-leb, true≢false}
 use Rattle.std.proofs.lemmas.List.Sums.{sum_by-cons}
 use Rattle.shop_bound.specs.declared.slots.Slot.{Slot}
-use Rattle.shop_bound.specs.declared.triples.Triple.{Triple}
-use Rattle.shop_bound.specs.OneMachine.{sublists, greatest_of, least_of, span_of, one}
+use Rattle.one_machine.specs.declared.triples.Triple.{Triple}
+use Rattle.one_machine.specs.OneMachine.{sublists, greatest_of, least_of, span_of, one}
 use Rattle.shop_bound.specs.inner.OpenSlots.{is_open, triple_of, open_triples}
-use Rattle.shop_bound.specs.inner.NonincreasingTails.{begins_between, one_between}
-use Rattle.shop_bound.proofs.Lists.{IsSublist, none, skip, keep, all_map, all_both, least_of-le, greatest_of-le}
-use Rattle.shop_bound.proofs.ThresholdLemmas.{le-greatest_sublist, le-least_of, sublists-are}
+use Rattle.one_machine.specs.inner.NonincreasingTails.{begins_between, one_between}
+use Rattle.one_machine.proofs.Lists.{IsSublist, none, skip, keep, all_map, all_both, least_of-le, greatest_of-le}
+use Rattle.one_machine.proofs.ThresholdLemmas.{le-greatest_sublist, le-least_of, sublists-are}
 
 -- y is x with the same head, or with one that is at most `to` where x has one that is at least `from` less 1
 pub record IsRaisedTo (from to : ℕ) (x y : Triple) : Type 0 where

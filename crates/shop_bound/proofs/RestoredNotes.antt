@@ -3,7 +3,7 @@ use Rattle.std.proofs.Common.{◌≡◌, ℕ, zero, suc, ◌+◌, ◌<◌, ◌�
 use Rattle.std.proofs.Common.{get_or, set, refl, sym, ◌∙◌, ap, subst, append_assoc, append-nil}
 use Rattle.std.proofs.lemmas.List.{length-set, set-get_or}
 use Rattle.shop_bound.specs.declared.notes.Note.{Note}
-use Rattle.shop_bound.proofs.Lists.{all_append}
+use Rattle.one_machine.proofs.Lists.{all_append}
 use Rattle.shop_bound.specs.inner.LaneHeads.{AreNotesFit, NotesState, IsNoted, LeadsBack, restored}
 
 pub restored-append : (a b : List Note) (heads : List ℕ) → restored (a ++ b) heads ≡ restored a (restored b heads)

@@ -5,9 +5,9 @@ use Rattle.shop_model.specs.declared.ops.Op.{Op}
 use Rattle.shop_model.specs.Limits.{IsWithinLimits}
 use Rattle.shop_model.specs.Shop.{Shop, no_op, route_of, machine_of, time_of}
 use Rattle.shop_model.specs.Word.{Placing}
-use Rattle.shop_bound.specs.Heads.{ready_after, head_of}
+use Rattle.shop_heads.specs.Heads.{ready_after, head_of}
 use Rattle.shop_model.specs.Placements.{PlacementState, IsPlacement}
-use Rattle.shop_bound.proofs.HeadTurns.{ready_more}
+use Rattle.shop_heads.proofs.HeadTurns.{ready_more}
 
 -- what one step of the walk along what is left of a route finds
 pub open_turn : (shop : Shop) → IsWithinLimits shop → (s : PlacementState) (j : ℕ) → j < length shop.jobs

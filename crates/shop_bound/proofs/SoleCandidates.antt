@@ -9,22 +9,22 @@ use Rattle.shop_model.specs.Word.{Placing, IsWord, placing, place_next}
 use Rattle.shop_model.proofs.Greatest.{le-greatest_below}
 use Rattle.shop_model.proofs.Placings.{IsNext, place_next-is}
 use Rattle.shop_model.proofs.Unders.{after_word}
-use Rattle.shop_bound.specs.Bound.{waiting, triples_on, lb}
-use Rattle.shop_bound.specs.Conflicts.{open_jobs, next_machine, next_head, next_end, chosen_of, conflicts_with}
-use Rattle.shop_bound.specs.Conflicts.{conflict_among, SoleCandidateKeepsBound}
-use Rattle.shop_bound.specs.Heads.{ready_after, head_of}
-use Rattle.shop_bound.specs.OneMachine.{one}
+use Rattle.shop_heads.specs.Bound.{waiting, triples_on, lb}
+use Rattle.shop_heads.specs.Conflicts.{open_jobs, next_machine, next_head, next_end, chosen_of, conflicts_with}
+use Rattle.shop_heads.specs.Conflicts.{conflict_among, SoleCandidateKeepsBound}
+use Rattle.shop_heads.specs.Heads.{ready_after, head_of}
+use Rattle.one_machine.specs.OneMachine.{one}
 use Rattle.shop_bound.specs.Slots.{AreMachineSlots}
 use Rattle.shop_bound.specs.inner.RisingLists.{IsIn}
 use Rattle.shop_bound.specs.inner.Waitings.{IsWaiting}
 use Rattle.shop_bound.specs.declared.slots.Slot.{Slot}
 use Rattle.shop_bound.specs.declared.waiting.Waiting.{Waiting}
 use Rattle.shop_bound.specs.declared.waiting.Waiting.TheVariants.{InNarrow, InWide, InPlain}
-use Rattle.shop_bound.proofs.BoundsRise.{bounds_rise, end-le-left}
+use Rattle.shop_heads.proofs.BoundsRise.{bounds_rise, end-le-left}
 use Rattle.shop_bound.proofs.ChildBounds.{child-le, raised_left}
-use Rattle.shop_bound.proofs.Entries.{IsWord-snoc}
-use Rattle.shop_bound.proofs.HeadsStay.{head_stays}
-use Rattle.shop_bound.proofs.HeadTurns.{ready_more}
+use Rattle.shop_heads.proofs.Entries.{IsWord-snoc}
+use Rattle.shop_heads.proofs.HeadsStay.{head_stays}
+use Rattle.shop_heads.proofs.HeadTurns.{ready_more}
 use Rattle.shop_bound.proofs.LaneConflicts.{filter_in, is_open, open_is}
 use Rattle.shop_bound.proofs.Raising.{one_between-none}
 use Rattle.shop_bound.proofs.TabledHeads.{left_for}

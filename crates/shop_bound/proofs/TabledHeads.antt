@@ -7,13 +7,13 @@ use Rattle.shop_model.specs.Shop.{Shop}
 use Rattle.shop_model.specs.Word.{Placing, IsWord, placing, rows_of}
 use Rattle.shop_model.specs.Limits.{IsWithinLimits}
 use Rattle.shop_model.proofs.PlacedTables.{rows_of-shape, rows_of-starts}
-use Rattle.shop_bound.specs.Heads.{head_of}
+use Rattle.shop_heads.specs.Heads.{head_of}
 use Rattle.shop_model.specs.Placements.{PlacementState, IsPlacement}
 use Rattle.shop_bound.specs.Slots.{AreMachineSlots}
 use Rattle.shop_bound.specs.inner.HeadsInRows.{AreHeadsKept}
 use Rattle.shop_bound.specs.inner.StandingBounds.{IsKeptUp, open_on}
 use Rattle.shop_bound.specs.declared.slots.Slot.{Slot}
-use Rattle.shop_bound.specs.declared.triples.Triple.{Triple}
+use Rattle.one_machine.specs.declared.triples.Triple.{Triple}
 
 abbrev pub tabled : Shop → Placing → PlacementState
 tabled shop p = record {

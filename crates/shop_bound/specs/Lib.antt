@@ -1,9 +1,3 @@
-pub mod OneMachine
-pub mod Bound
-pub mod Heads
-pub mod Conflicts
-pub mod Schedules
-pub mod Laws
 pub mod Desks
 pub mod Slots
 pub mod inner

@@ -1,12 +1,13 @@
 -- The operations of a machine as a program keeps them.
 --     operations_on shop m           the operations of machine m, job by job, step by step
 --     AreSlotsOf shop m slots        these, in an order in which the tails fall
-use Rattle.std.specs.Prelude.{◌≡◌, ℕ, ◌≤◌, ◌<◌, ◌==◌, List, [], ◌∷◌, length, map, filter, flat_map}
+use Rattle.std.specs.Prelude.{◌≡◌, ℕ, ◌<◌, ◌==◌, List, [], length, map, filter, flat_map}
 use Rattle.std.specs.Prelude.{slice_index_or, IsPermutation}
-use Rattle.std.specs.List.{range_with_len, AllByRecursion}
+use Rattle.std.specs.List.{range_with_len}
 use Rattle.shop_model.specs.declared.ops.Op.{Op}
 use Rattle.shop_model.specs.Shop.{Shop, no_op, route_of}
-use Rattle.shop_bound.specs.Heads.{tail_in}
+use Rattle.one_machine.specs.inner.NonincreasingTails.{IsNonincreasing}
+use Rattle.shop_heads.specs.Heads.{tail_in}
 use Rattle.shop_bound.specs.declared.slots.Slot.{Slot}
 
 -- step k of job j, which has this route, as its machine sees it
@@ -22,11 +23,6 @@ operations_in route m j = map (slot_at route j)
 abbrev pub operations_on : Shop → ℕ → List Slot
 operations_on shop m =
     flat_map (λ j. operations_in (route_of shop j) m j) (range_with_len 0 (length shop.jobs))
-
--- no value of f is above an earlier one
-abbrev pub IsNonincreasing : {A : Type 0} → (A → ℕ) → List A → Type 0
-IsNonincreasing f [] = Unit {0}
-IsNonincreasing f (x ∷ xs) = AllByRecursion (λ y. f y ≤ f x) xs × IsNonincreasing f xs
 
 pub record AreSlotsOf (shop : Shop) (m : ℕ) (slots : List Slot) : Type 0 where
   pub same : IsPermutation (operations_on shop m) slots

@@ -9,15 +9,8 @@ pub mod JobSets
 pub mod LaneChoices
 pub mod Waitings
 pub mod LaneEnds
-pub mod Profiles
-pub mod NonincreasingTails
-pub mod Thresholds
-pub mod Unplaced
 pub mod HeadRaises
 pub mod OpenSlots
-pub mod Serving
-pub mod HeadRows
-pub mod PlacedWords
 pub mod Vectors
 pub mod StandingBounds
 pub mod HeadLimits

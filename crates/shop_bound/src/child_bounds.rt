@@ -1,6 +1,6 @@
 // The bound after one more operation, by heads in lanes.
 ghost use Rattle.std.specs.Prelude.{◌≡◌, ◌+◌, ◌<◌, ◌^◌, ◌++◌, ◌∷◌, [], length, slice_index};
-ghost use Rattle.shop_bound.specs.Bound.{lb};
+ghost use Rattle.shop_heads.specs.Bound.{lb};
 ghost use Rattle.shop_bound.specs.inner.BoundsUpTo.{IsBoundUpTo};
 ghost use Rattle.shop_bound.specs.inner.ChildBounds.{CanRaise, RaisesSo};
 ghost use Rattle.shop_bound.specs.inner.ChildBounds.{HasNextInPlace, IsNextOperation};

@@ -1,6 +1,6 @@
 // The conflict set of what is dispatched (Giffler and Thompson 1960).
 ghost use Rattle.std.specs.Prelude.{◌≡◌, ◌≤◌, length, vec_capacity};
-ghost use Rattle.shop_bound.specs.Conflicts.{conflict, SoleCandidateKeepsBound};
+ghost use Rattle.shop_heads.specs.Conflicts.{conflict, SoleCandidateKeepsBound};
 
 use crate::desks::Desk;
 

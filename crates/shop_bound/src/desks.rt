@@ -1,7 +1,7 @@
 // A desk: what is dispatched, operation by operation, with the bound of it.
 ghost use Rattle.std.specs.Prelude.{◌≡◌, ◌++◌, ◌∷◌, [], ◌<◌, ◌^◌, IfOk, length};
 ghost use Rattle.shop_model.specs.Word.{IsWord};
-ghost use Rattle.shop_bound.specs.Bound.{lb};
+ghost use Rattle.shop_heads.specs.Bound.{lb};
 ghost use Rattle.shop_bound.specs.Desks.{IsUndone, IsWordOfShop, goes_on};
 ghost use Rattle.shop_bound.specs.Desks.{nothing_dispatched};
 ghost use Rattle.shop_bound.specs.Desks.{TellsBoundBelow};
@@ -15,7 +15,7 @@ use std::marker::Model;
 
 /// An instance and a word of it that is dispatched entry by entry, with its bound. It keeps the heads of what is left
 /// up with each entry, so the bound after one more operation looks only at the machines on which heads change. It
-/// takes memory in `new`; what it takes later it can do without, more slowly.
+/// takes memory in `new` alone; one made by `growing` takes more for its notes, and can do without.
 #[derive(Drop)]
 pub struct Desk<'a> {
     pub(crate) word: Dispatched<'a>,
@@ -34,12 +34,32 @@ impl<'a> Model for Desk<'a> {
 }
 
 impl<'a> Desk<'a> {
-    /// With nothing dispatched. Fails only where memory was refused.
+    /// With nothing dispatched, and with all the memory that it will ever take. Fails with `AllocError` if memory runs
+    /// out.
     pub fn new(alloc: Global, instance: &'a Instance) -> Result<Desk<'a>, AllocError>
         ensures { IfOk result (λ d. d ≡ nothing_dispatched instance.now) }
     {
+        Desk::with_notes(alloc, instance, false)
+    }
+
+    /// The same, but it takes more memory for its notes as it needs it, so that going back is fast however many heads
+    /// were raised.
+    pub fn growing(alloc: Global, instance: &'a Instance) -> Result<Desk<'a>, AllocError>
+        ensures { IfOk result (λ d. d ≡ nothing_dispatched instance.now) }
+    {
+        Desk::with_notes(alloc, instance, true)
+    }
+
+    /// With nothing dispatched; its notes may take more memory later on, or not.
+    fn with_notes(
+        alloc: Global,
+        instance: &'a Instance,
+        may_grow: bool,
+    ) -> Result<Desk<'a>, AllocError>
+        ensures { IfOk result (λ d. d ≡ nothing_dispatched instance.now) }
+    {
         let placement = Placement::none(alloc, instance)?;
-        let waiting = Box::new(alloc, Waiting::new(alloc, instance, &placement)?)?;
+        let waiting = Box::new(alloc, Waiting::new(alloc, instance, &placement, may_grow)?)?;
         let word = Dispatched::none(alloc, instance, placement)?;
         Ok(Desk { word, waiting })
     }

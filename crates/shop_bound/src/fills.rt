@@ -4,7 +4,7 @@ ghost use Rattle.shop_model.specs.Word.{placing};
 ghost use Rattle.shop_bound.specs.inner.LaneHeads.{AreHeadsAt};
 ghost use Rattle.shop_bound.specs.inner.Fills.{AreSameBeside, CanFill, CanPutBack, GoesBack};
 ghost use Rattle.shop_bound.specs.inner.Fills.{HasFilled, HasFilledJob, HasPutBack, IsRested};
-ghost use Rattle.shop_bound.specs.inner.PlacedWords.{IsOfWord};
+ghost use Rattle.shop_heads.specs.inner.PlacedWords.{IsOfWord};
 
 use crate::dispatched::Dispatched;
 use crate::layouts::Layout;

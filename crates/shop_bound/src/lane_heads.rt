@@ -58,13 +58,14 @@ impl<L: Lanes> Model for LaneHeads<L> {
 }
 
 impl<L: Lanes> LaneHeads<L> {
-    /// With nothing dispatched: the placement is that of no operation. Where memory for notes is refused later, going
-    /// back sets all heads anew. Fails with `AllocError` if memory runs out.
+    /// With nothing dispatched: the placement is that of no operation. Notes may take more memory later on, or not;
+    /// where there is no room for them, going back sets all heads anew. Fails with `AllocError` if memory runs out.
     pub(crate) fn new(
         alloc: Global,
         instance: &Instance,
         placement: &Placement,
         layout: Layout,
+        may_grow: bool,
     ) -> Result<LaneHeads<L>, AllocError>
         requires laid { IsLaidOut instance.now layout }
         requires fits { FitsLanes L.GREATEST instance.now layout }
@@ -78,7 +79,7 @@ impl<L: Lanes> LaneHeads<L> {
         let next = layout.first_positions(alloc, instance.jobs())?;
         set_ends(&mut lanes, &layout, next.as_slice());
         let room = instance.operations();
-        let notes = Notes::with_room(alloc, 4 * room)?;
+        let notes = Notes::with_room(alloc, 4 * room, may_grow)?;
         let marks = Vec::with_capacity(alloc, room)?;
         let machines = instance.machines();
         let blocks = layout.block(machines) / machines.max(1);

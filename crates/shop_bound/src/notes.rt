@@ -21,11 +21,13 @@ pub(crate) struct Mark {
     pub whole: bool,
 }
 
-/// Notes, and whether all was noted since they were last begun.
+/// Notes, and whether all was noted since they were last begun. They may take more memory as they need it, or do with
+/// the room that they were made with.
 #[derive(Drop)]
 pub(crate) struct Notes {
     list: Vec<Note>,
     whole: bool,
+    may_grow: bool,
 }
 
 impl Model for Notes {
@@ -37,13 +39,14 @@ impl Model for Notes {
 }
 
 impl Notes {
-    /// With room for so many notes at first. Fails with `AllocError` if memory runs out.
-    pub(crate) fn with_room(alloc: Global, room: usize) -> Result<Notes, AllocError>
+    /// With room for so many notes at first, and whether they may grow. Fails with `AllocError` if memory runs out.
+    pub(crate) fn with_room(alloc: Global, room: usize, may_grow: bool) -> Result<Notes, AllocError>
         ensures { IfOk result (λ n. n ≡ record { list = []; whole = true }) }
     {
         Ok(Notes {
             list: Vec::with_capacity(alloc, room)?,
             whole: true,
+            may_grow,
         })
     }
 
@@ -57,11 +60,15 @@ impl Notes {
         self.list.len()
     }
 
-    /// Notes the head at a position; or that not all was noted, where memory for it is refused.
+    /// Notes the head at a position; or that not all was noted, where there is no room for it.
     #[inline(always)]
     pub(crate) fn add(&mut self, position: usize, head: u64)
         ensures { IsNoted (record { position = position; head = head }) self.old self.new }
     {
+        if !self.may_grow && self.list.len() == self.list.capacity() {
+            self.whole = false;
+            return;
+        }
         if self.list.push(Note { position, head }).is_err() {
             self.whole = false;
         }

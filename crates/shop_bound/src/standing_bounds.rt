@@ -1,6 +1,6 @@
 // The bound of what is dispatched, by lanes.
 ghost use Rattle.std.specs.Prelude.{◌≡◌};
-ghost use Rattle.shop_bound.specs.Bound.{lb};
+ghost use Rattle.shop_heads.specs.Bound.{lb};
 ghost use Rattle.shop_bound.specs.inner.LaneStates.{IsKeptInLanes};
 ghost use Rattle.shop_bound.specs.inner.Waitings.{IsWaiting};
 

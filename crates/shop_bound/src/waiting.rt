@@ -2,7 +2,7 @@
 ghost use Rattle.std.specs.Prelude.{◌≡◌, ◌∷◌, ◌++◌, [], IfOk};
 ghost use Rattle.shop_model.specs.Word.{IsWord, none_placed};
 ghost use Rattle.shop_model.specs.Placements.{IsPlacement};
-ghost use Rattle.shop_bound.specs.Bound.{lb};
+ghost use Rattle.shop_heads.specs.Bound.{lb};
 ghost use Rattle.shop_bound.specs.inner.BoundsUpTo.{IsBoundUpTo};
 ghost use Rattle.shop_bound.specs.inner.Waitings.{HasNextWaiting, IsWaiting, WaitsOn};
 
@@ -28,6 +28,7 @@ impl Waiting {
         alloc: Global,
         instance: &Instance,
         placement: &Placement,
+        may_grow: bool,
     ) -> Result<Waiting, AllocError>
         requires { IsPlacement instance.now (none_placed instance.now) placement.now }
         ensures { IfOk result (λ h. IsWaiting instance.now [] h) }
@@ -35,14 +36,14 @@ impl Waiting {
         let layout = Layout::of(alloc, instance)?;
         let most = latest_end(instance) + 1 + greatest_load(&layout, instance);
         if most < <Narrow as Lanes>::GREATEST {
-            let heads = LaneHeads::new(alloc, instance, placement, layout)?;
+            let heads = LaneHeads::new(alloc, instance, placement, layout, may_grow)?;
             return Ok(Waiting::InNarrow(heads));
         }
         if most < <Wide as Lanes>::GREATEST {
-            let heads = LaneHeads::new(alloc, instance, placement, layout)?;
+            let heads = LaneHeads::new(alloc, instance, placement, layout, may_grow)?;
             return Ok(Waiting::InWide(heads));
         }
-        let heads = LaneHeads::new(alloc, instance, placement, layout)?;
+        let heads = LaneHeads::new(alloc, instance, placement, layout, may_grow)?;
         Ok(Waiting::InPlain(heads))
     }
 

@@ -5,4 +5,5 @@ pub mod Reported
 pub mod Headline
 pub mod RefusedTexts
 pub mod SolvedSchedules
-pub mod Rows
+pub mod OneReport
+pub mod WholeRun

@@ -1,5 +1,5 @@
 -- What is printed of an answer that can be trusted is right, and is the report of the plan's answer.
-use Rattle.std.proofs.Common.{◌≡◌, ℕ, List, [], length, Bool, false, true, refl, ◌∙◌, ap}
+use Rattle.std.proofs.Common.{◌≡◌, ℕ, List, [], length, Bool, refl, ◌∙◌, ap}
 use Rattle.std.specs.Prelude.{if◌then◌else◌}
 use Rattle.shop_model.specs.Shop.{Shop}
 use Rattle.shop_model.specs.Checking.{starts_of}
@@ -10,26 +10,19 @@ use Rattle.shop_round.specs.Runs.{Says, IsTrusted}
 use Rattle.shop_round.specs.declared.runs.Answer.{Answer}
 use Rattle.shop_engine.specs.inner.Told.{told_by}
 use Rattle.shop_engine.specs.Answers.{answer_of, text_with_gantt}
-use Rattle.shop_engine.specs.Headline.{IsRight, IsDetermined}
+use Rattle.shop_engine.specs.Headline.{IsPrintable, IsRight, IsDetermined}
 
 unfoldable pub chart_of : Reported → Bool → List ℕ
 chart_of r gantt = if gantt then gantt_text r.shop (starts_of r.table) else []
 
-no_chart : (r : Reported) (gantt : Bool) → gantt ≡ false → chart_of r gantt ≡ []
-unfolding chart_of
-no_chart r false e = refl
-no_chart r true e = absurd cc
-
 pub right : (asked : NamedShop) (a : Answer) (gantt : Bool) (written : List ℕ) → IsTrusted asked.shop a
-    → written ≡ text_with_gantt (told_by asked a) gantt → IsRight asked gantt written
-unfolding chart_of
-right asked a gantt written t e = record {
+    → IsPrintable (told_by asked a) → written ≡ text_with_gantt (told_by asked a) gantt → IsRight asked gantt written
+right asked a gantt written t printable e = record {
   report = told_by asked a;
   named = refl;
   on = refl;
-  chart = chart_of (told_by asked a) gantt;
-  no_chart = no_chart (told_by asked a) gantt;
   text = e;
+  printable = printable;
   shape = t.shape;
   feasible = t.feasible;
   ends = t.ends;

@@ -104,7 +104,7 @@ some_one : (a b : NamedShop) (o : Option NamedShop) → o ≡ Some a → o ≡ S
 some_one a b o e f = cc
 
 -- a text has one instance of the name
-one_asked : (format : Format) (name : Option (List ℕ)) (text : List ℕ) (a b : NamedShop) → IsAsked format name text a
+pub one_asked : (format : Format) (name : Option (List ℕ)) (text : List ℕ) (a b : NamedShop) → IsAsked format name text a
     → IsAsked format name text b → a ≡ b
 one_asked format name text a b had other =
     let same = (one_reading format).one_list text had.shops other.shops had.is_text other.is_text

@@ -20,12 +20,13 @@
 --     HasShape, starts_of               a table in rows has a start for each operation; the
 --                                       schedule that it gives
 --     report_text                       the lines of a report
-use Rattle.std.specs.Prelude.{◌≡◌, ℕ, ◌≤◌, Bool, false, List, [], ◌++◌, Option}
+use Rattle.std.specs.Prelude.{◌≡◌, ℕ, ◌≤◌, ◌<◌, ◌^◌, Bool, List, ◌++◌, Option}
 use Rattle.std.specs.Prelude.{Some, Result, IsOk}
 use Rattle.shop_model.specs.Shop.{Starts, IsFeasible, end_of, IsLeast}
+use Rattle.shop_model.specs.Limits.{AreStarts}
 use Rattle.shop_model.specs.Checking.{HasShape, starts_of}
 use Rattle.shop_text.specs.Texts.{NamedShop}
-use Rattle.shop_text.specs.Writing.{Reported, report_text}
+use Rattle.shop_text.specs.Writing.{Reported}
 use Rattle.shop_round.specs.Round.{Planned}
 use Rattle.shop_round.specs.Runs.{planned}
 use Rattle.shop_text.specs.declared.formats.Format.{Format}
@@ -35,14 +36,23 @@ use Rattle.shop_engine.specs.Asking.{name_in, OfAsked}
 use Rattle.shop_engine.specs.Devices.{Device}
 use Rattle.shop_engine.specs.Answers.{answer_of, text_with_gantt}
 
--- (a) It is a report, with a Gantt text behind it where that is asked for, and what it says is so.
+-- Its numbers are those that are printed: `decimal` prints each number below this limit in full.
+pub record IsPrintable (r : Reported) : Type 0 where
+  pub starts : AreStarts r.table
+  pub makespan : r.makespan < 2 ^ 64
+  pub bound : r.bound < 2 ^ 64
+  pub open_nodes : r.open_nodes < 2 ^ 64
+  pub rounds : r.rounds < 2 ^ 64
+  pub nodes : r.nodes < 2 ^ 64
+
+-- (a) It is a report, with the Gantt text of its table behind it where that is asked for and else
+-- nothing, and what it says is so.
 pub record IsRight (asked : NamedShop) (gantt : Bool) (written : List ℕ) : Type 0 where
   pub report : Reported
   pub named : report.name ≡ asked.name
   pub on : report.shop ≡ asked.shop
-  pub chart : List ℕ
-  pub no_chart : gantt ≡ false → chart ≡ []
-  pub text : written ≡ report_text report ++ chart
+  pub text : written ≡ text_with_gantt report gantt
+  pub printable : IsPrintable report
   -- the schedule has a start for each operation, is feasible, and ends at the makespan
   pub shape : HasShape asked.shop report.table
   pub feasible : IsFeasible asked.shop (starts_of report.table)

@@ -4,7 +4,9 @@ pub mod Listing
 pub mod Checking
 pub mod Answers
 pub mod Headline
+pub mod OneReport
 pub mod Solving
 pub mod SolvedSchedules
 pub mod Refusing
+pub mod WholeRun
 pub mod inner

@@ -1,5 +1,7 @@
-// A law of the engines, over what their contracts say.
+// Laws of the engines, over what their contracts say.
+ghost use Rattle.shop_engine.specs.OneReport.{OneReport};
 ghost use Rattle.shop_engine.specs.Refusing.{ListingRefuses, CheckingRefuses, SolvingRefuses};
+ghost use Rattle.shop_engine.specs.WholeRun.{OneWholeRun};
 
 /// Where the bytes of a source are known and their text is refused, the engines answer that refusal: the one fault of
 /// the text, or that it has no instance of the name. In its place may stand want of memory, or a failed read.
@@ -7,4 +9,15 @@ pub fn refused_texts_are_answered()
     ensures list { ListingRefuses }
     ensures check { CheckingRefuses }
     ensures solve { SolvingRefuses }
+{}
+
+/// A text is right by one report alone: what is written can't be read as another answer.
+pub fn one_report()
+    ensures { OneReport }
+{}
+
+/// The report of two jobs that cross, from the bytes of their text to its own: the definitions give these bytes and no
+/// others.
+pub fn one_whole_run()
+    ensures { OneWholeRun }
 {}

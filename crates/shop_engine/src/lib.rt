@@ -17,7 +17,7 @@ pub use arguments::{CheckArgs, ListArgs, SolveArgs};
 pub use checking::{check_bytes, check_text};
 pub use devices::{DeviceFailed, Sink, Source};
 pub use faults::Fault;
-pub use laws::refused_texts_are_answered;
+pub use laws::{one_report, one_whole_run, refused_texts_are_answered};
 pub use listing::{list_bytes, list_text};
 pub use memory::Memory;
 pub use shop_text::Format;

@@ -1,5 +1,5 @@
 // The report of the best schedule that a plan finds.
-ghost use Rattle.std.specs.Prelude.{◌≡◌, IfOk, IfErr};
+ghost use Rattle.std.specs.Prelude.{◌≡◌, ◌<◌, ◌^◌, IfOk, IfErr};
 ghost use Rattle.shop_model.specs.Shop.{IsFeasible};
 ghost use Rattle.shop_model.specs.Checking.{HasShape, starts_of};
 ghost use Rattle.shop_text.specs.Writing.{report_text};
@@ -11,7 +11,7 @@ ghost use Rattle.shop_engine.specs.Headline.{IsRight, IsDetermined, IsRightOf, I
 ghost use Rattle.shop_engine.specs.Headline.{WhereKnown};
 ghost use Rattle.shop_engine.specs.Solving.{IsSolving};
 ghost use Rattle.shop_engine.specs.SolvedSchedules.{GivesSchedule, PassesCheck};
-ghost use Rattle.shop_engine.specs.inner.Told.{told_by};
+ghost use Rattle.shop_engine.specs.inner.Told.{told_by, HasWords};
 
 use crate::arguments::SolveArgs;
 use crate::asking::ask;
@@ -22,11 +22,17 @@ use shop_round::{Answer, Crew, Plan, run};
 use shop_text::{Named, ReadFault, Report, gantt, read, report};
 use std::alloc::{AllocError, Global};
 
+/// Each number of this type is printed in full.
+fn is_word(number: u64)
+    ensures { number < 2 ^ 64 }
+{}
+
 /// The report of an answer.
 fn report_of(alloc: Global, asked: &Named, answer: &Answer) -> Result<Vec<u8>, AllocError>
     requires { HasShape asked.now.instance answer.now.table }
-    ensures { IfOk result (λ v.
+    ensures written { IfOk result (λ v.
         v.items ≡ report_text (told_by (shop_of_named asked.now) answer.now)) }
+    ensures words { HasWords answer.now }
 {
     let told = Report {
         name: asked.name.as_str(),
@@ -38,6 +44,11 @@ fn report_of(alloc: Global, asked: &Named, answer: &Answer) -> Result<Vec<u8>, A
         rounds: answer.rounds,
         nodes: answer.nodes,
     };
+    is_word(told.makespan);
+    is_word(told.bound);
+    is_word(told.open_nodes as u64);
+    is_word(told.rounds);
+    is_word(told.nodes);
     report(alloc, &told)
 }
 
@@ -50,8 +61,9 @@ fn text_of(
 ) -> Result<Vec<u8>, AllocError>
     requires shape { HasShape asked.now.instance answer.now.table }
     requires feasible { IsFeasible asked.now.instance (starts_of answer.now.table) }
-    ensures { IfOk result (λ v.
+    ensures written { IfOk result (λ v.
         v.items ≡ text_with_gantt (told_by (shop_of_named asked.now) answer.now) with_gantt) }
+    ensures words { HasWords answer.now }
 {
     let mut text = report_of(alloc, asked, answer)?;
     if with_gantt {

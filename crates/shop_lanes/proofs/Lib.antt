@@ -1,4 +1,9 @@
 pub mod LaneLists
+pub mod Loads
+pub mod LeapTurns
+pub mod LaterTurns
+pub mod OwnTurns
+pub mod OwnRows
 pub mod SpanTurns
 pub mod MarkLemmas
 pub mod EndTurns

@@ -1,6 +1,8 @@
 -- Rows of numbers of some width, seen as numbers.
-use Rattle.std.proofs.Common.{◌≡◌, ℕ, ◌-◌, ◌*◌, List, length, map, take, drop, ap, sym, ◌∙◌}
-use Rattle.std.proofs.lemmas.List.{length-map, take-map, drop-map}
+use Rattle.std.proofs.Common.{◌≡◌, ℕ, ◌-◌, ◌*◌, ◌++◌, min, List, length, map, take, drop, replicate, ap, sym, ◌∙◌}
+use Rattle.std.proofs.lemmas.List.{length-map, length-take, length-replicate, take-map, drop-map}
+use Rattle.std.proofs.Math.Seq.{take-append_seam}
+use Rattle.std.proofs.Common.{length-drop}
 use Rattle.shop_lanes.specs.Rows.{lanes, blocks}
 use Rattle.shop_lanes.proofs.LaneLists.{lanes-blocks}
 
@@ -30,3 +32,32 @@ module _ {A : Type 0} (f : A → ℕ) where
       in let q = values_of_blocks qs tails from to eq
       in rw (h, t, q) (lanes-blocks (map f heads) (map f times) (map f tails) from to (as_long times heads a)
       (as_long tails heads b))
+
+  pub as_short : (xs ys : List A) → length (map f xs) ≡ length (map f ys) → length xs ≡ length ys
+  as_short xs ys e = sym (length-map xs f) ∙ e ∙ length-map ys f
+
+  -- the same where the values of the rows are as many
+  pub lanes_of_rows : {heads times tails : List A} (hs ts qs : List A) (from to : ℕ) → hs ≡ heads → ts ≡ times
+      → qs ≡ tails → length (map f times) ≡ length (map f heads) → length (map f tails) ≡ length (map f heads)
+      → lanes (map f (take (8 * to - 8 * from) (drop (8 * from) hs)))
+      (map f (take (8 * to - 8 * from) (drop (8 * from) ts)))
+      (map f (take (8 * to - 8 * from) (drop (8 * from) qs)))
+      ≡ blocks from to (lanes (map f heads) (map f times) (map f tails))
+  lanes_of_rows {heads} {times} {tails} hs ts qs from to eh et eq a b =
+      lanes_of_values hs ts qs from to eh et eq (as_short times heads a) (as_short tails heads b)
+
+  -- blocks of rows that are as long are as many
+  pub blocks_as_long : {row heads : List A} (xs hs : List A) (from to : ℕ) → xs ≡ row → hs ≡ heads
+      → length (map f row) ≡ length (map f heads)
+      → length (take (8 * to - 8 * from) (drop (8 * from) xs)) ≡ length (take (8 * to - 8 * from) (drop (8 * from) hs))
+  blocks_as_long {row} {heads} xs hs from to e eh a =
+      let long = as_short row heads a
+      in rw (e, eh) (simp (length-take, length-drop) (ap (λ n. min (8 * to - 8 * from) (n - 8 * from)) long))
+
+  -- a row in which one number was written everywhere
+  pub row_written : (n m number : ℕ) (new rest : List A) → map f new ≡ replicate m number → m ≡ n
+      → map f (take n (new ++ rest)) ≡ replicate m number
+  row_written n m number new rest e h =
+      let long : n ≡ length new =
+      sym h ∙ sym (length-replicate m number) ∙ sym (ap length e) ∙ length-map new f
+      in ap (λ k. map f (take k (new ++ rest))) long ∙ ap (map f) (take-append_seam new rest) ∙ e

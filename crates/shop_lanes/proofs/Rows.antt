@@ -2,7 +2,7 @@
 use Rattle.std.specs.Prelude.{◌≡◌, List, [], ◌∷◌}
 use Rattle.std.proofs.Common.{refl}
 use Rattle.shop_lanes.specs.Rows.{Rows, Lane, lanes_between}
-use Rattle.shop_lanes.specs.Spans.{span, spans_between}
+use Rattle.shop_lanes.specs.Spans.{span, spans_between, own_span}
 use Rattle.shop_lanes.specs.Marks.{positions_below}
 use Rattle.shop_lanes.specs.SetBits.{set_bits}
 
@@ -79,3 +79,18 @@ both_blocks = refl
 pub bits_of_10 : set_bits 4 16 10 ≡ 17 ∷ 19 ∷ []
 unfolding set_bits
 bits_of_10 = refl
+
+-- the first operation of three ends at 7; behind it the second ends at 9 and the third at 12, with their tails at 14
+-- and 13, where the second block isn't looked at
+pub own_span_of_first : own_span two_blocks.heads two_blocks.times two_blocks.tails 0 1 0 ≡ 14
+own_span_of_first = refl
+
+-- the third ends at 9, and then the others at 13 and 15, with their tails at 22 and 20
+pub own_span_of_third : own_span two_blocks.heads two_blocks.times two_blocks.tails 0 1 2 ≡ 22
+own_span_of_third = refl
+
+-- nothing waits beside it: its end alone
+pub own_span_alone : own_span (5 ∷ 0 ∷ 0 ∷ 0 ∷ 0 ∷ 0 ∷ 0 ∷ 0 ∷ []) (7 ∷ 0 ∷ 0 ∷ 0 ∷ 0 ∷ 0 ∷ 0 ∷ 0 ∷ [])
+    (9 ∷ 0 ∷ 0 ∷ 0 ∷ 0 ∷ 0 ∷ 0 ∷ 0 ∷ []) 0 1 0
+    ≡ 12
+own_span_alone = refl

@@ -17,6 +17,9 @@ abbrev pub positions_below : Rows → ℕ → ℕ → ℕ → List ℕ
 positions_below rows from to limit =
     marked (waits_below limit) (8 * from) (blocks from to rows.heads)
 
+abbrev pub positions_among : List ℕ → ℕ → ℕ → ℕ → List ℕ
+positions_among heads from to limit = marked (waits_below limit) (8 * from) (blocks from to heads)
+
 -- the first position taken out, if there is one
 abbrev pub IsPopped : List ℕ → Option ℕ → List ℕ → Type 0
 IsPopped old found new = MatchOption found ((old ≡ []) × (new ≡ [])) (λ p. old ≡ p ∷ new)

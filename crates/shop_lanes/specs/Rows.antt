@@ -2,9 +2,10 @@
 --     Rows                           heads, times and tails by position, and ends by job
 --     Lane                           what stands at one position
 --     lanes_between rows from to     the lanes of the blocks from `from` on and before `to`
+--     lanes_of heads times tails     the same of rows that are told one by one
 --     at_rest times tails jobs none  rows where nothing waits
 --     with_head, with_end            the same rows with one number replaced
-use Rattle.std.specs.Prelude.{ℕ, ◌*◌, ◌-◌, ◌≤◌, List, [], ◌∷◌, length, take, drop, replicate}
+use Rattle.std.specs.Prelude.{◌≡◌, ℕ, ◌*◌, ◌-◌, ◌≤◌, List, [], ◌∷◌, length, take, drop, replicate}
 use Rattle.std.specs.Prelude.{slice_set}
 
 -- heads, times and tails stand by position, ends by job
@@ -32,6 +33,16 @@ blocks from to xs = take (8 * to - 8 * from) (drop (8 * from) xs)
 
 abbrev pub lanes_between : Rows → ℕ → ℕ → List Lane
 lanes_between rows from to = blocks from to (lanes rows.heads rows.times rows.tails)
+
+abbrev pub lanes_of : List ℕ → List ℕ → List ℕ → ℕ → ℕ → List Lane
+lanes_of heads times tails from to = blocks from to (lanes heads times tails)
+
+-- there are such blocks, and a time and a tail for each head
+pub record AreBlocksOf (heads times tails : List ℕ) (from to : ℕ) : Type 0 where
+  pub ordered : from ≤ to
+  pub within : 8 * to ≤ length heads
+  pub times_are_as_many : length times ≡ length heads
+  pub tails_are_as_many : length tails ≡ length heads
 
 -- there are such blocks
 pub record AreBlocks (rows : Rows) (from to : ℕ) : Type 0 where

@@ -3,10 +3,14 @@
 --                                    from `start` on
 --     spans_between above upto xs    the greatest span of those whose head is at least that of one
 --                                    of them
---     FitsSpan                       no sum that a span may add up is above what a lane holds
-use Rattle.std.specs.Prelude.{ℕ, ◌+◌, ◌≤◌, max, List, [], ◌∷◌, if◌then◌else◌, nat_le, nat_lt, ◌&&◌}
-use Rattle.std.specs.Prelude.{sum_by}
-use Rattle.shop_lanes.specs.Rows.{Lane}
+--     IsRaisedBelow limit most r     r is `most`, or both reach the limit and r is no greater
+--     own_span .. q                  the end of the operation at position q, or when the last of
+--                                    what else waits ends if it is served from there on
+--     FitsSpan, FitOwnSpans          no sum that a span, or an own span, may add up is above what a
+--                                    lane holds
+use Rattle.std.specs.Prelude.{◌≡◌, ℕ, ◌+◌, ◌-◌, ◌*◌, ◌<◌, ◌≤◌, max, List, [], ◌∷◌, All, sum_by}
+use Rattle.std.specs.Prelude.{if◌then◌else◌, nat_le, nat_lt, ◌&&◌, slice_index, slice_set}
+use Rattle.shop_lanes.specs.Rows.{Lane, lanes_of}
 
 -- 0 if there are none
 abbrev pub span : ℕ → ℕ → List Lane → ℕ
@@ -30,7 +34,26 @@ spans_from above upto all xs =
 abbrev pub spans_between : ℕ → ℕ → List Lane → ℕ
 spans_between above upto xs = spans_from above upto xs xs
 
+pub record IsRaisedBelow (limit most r : ℕ) : Type 0 where
+  pub no_greater : r ≤ most
+  pub exact : r < limit → r ≡ most
+
 -- the start, all times and the greatest tail together are at most `greatest`
 abbrev pub FitsSpan : ℕ → ℕ → List Lane → Type 0
 FitsSpan greatest start xs =
     start + sum_by (λ x. x.time) xs + greatest_by (λ x. x.tail) xs ≤ greatest
+
+pub record FitOwnSpans (greatest : ℕ) (xs : List Lane) : Type 0 where
+  pub whole : FitsSpan greatest 0 xs
+  pub each : All (λ x. FitsSpan greatest x.head xs) xs
+
+abbrev pub own_span : List ℕ → List ℕ → List ℕ → ℕ → ℕ → ℕ → ℕ
+own_span heads times tails from to q =
+    let end = slice_index heads q + slice_index times q
+    in max end (span 1 end (lanes_of (slice_set heads q 0) times tails from to))
+
+-- at each position of these blocks where something waits
+abbrev pub AreOwnSpans : List ℕ → List ℕ → List ℕ → ℕ → ℕ → List ℕ → Type 0
+AreOwnSpans heads times tails from to owns =
+    (q : ℕ) → 8 * from ≤ q → q < 8 * to → 0 < slice_index heads q
+    → slice_index owns (q - 8 * from) ≡ own_span heads times tails from to q

@@ -1,2 +1,4 @@
 pub mod Passes
 pub mod Blocks
+pub mod LaterHeads
+pub mod OwnSpans

@@ -5,6 +5,7 @@ ghost use Rattle.std.specs.Simd.Lanes.{mask_l, zip2};
 ghost use Rattle.shop_lanes.specs.inner.Passes.{first_of, is_between, IsSplat};
 ghost use Rattle.shop_lanes.specs.inner.Blocks.{up_one, up_two, up_four, halves, quarters};
 ghost use Rattle.shop_lanes.specs.inner.Blocks.{neighbours, added, waiting, AddsFit};
+ghost use Rattle.shop_lanes.specs.inner.LaterHeads.{later_head};
 
 /// Eight numbers of a row at once.
 pub trait Block: Copy + Drop {
@@ -81,6 +82,14 @@ pub trait Block: Copy + Drop {
         requires least { IsSplat (numbers least) }
         ensures { numbers result
             ≡ waiting (first_of (numbers least)) (numbers heads) (numbers block) };
+
+    /// The numbers that are at least `least`, and `rest` for the others.
+    fn later(block: Self, least: Self, rest: Self) -> Self
+        requires eight { length (numbers block) ≡ 8 }
+        requires least { IsSplat (numbers least) }
+        requires rest { IsSplat (numbers rest) }
+        ensures { numbers result ≡ map (later_head (first_of (numbers rest))
+            (first_of (numbers least))) (numbers block) };
 
     /// A bit for each lane, the first the lowest, that says whether it is above `above` and at most `upto`.
     fn bits_between(block: Self, above: u64, upto: u64) -> u64

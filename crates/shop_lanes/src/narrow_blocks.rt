@@ -101,6 +101,11 @@ impl Block for NarrowBlock {
     }
 
     #[inline(always)]
+    fn later(block: Self, least: Self, rest: Self) -> Self {
+        NarrowBlock(block.0.simd_ge(least.0).select(block.0, rest.0))
+    }
+
+    #[inline(always)]
     fn bits_between(block: Self, above: u64, upto: u64) -> u64 {
         let later = block.0.simd_gt(u16x8::splat(above as u16));
         let early = block.0.simd_le(u16x8::splat(upto as u16));

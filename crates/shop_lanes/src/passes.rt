@@ -54,7 +54,7 @@ fn span_of<B: Block>(
 
 /// The greatest of `most` and the ends, tails included; laid out by the number of positions.
 #[inline(always)]
-fn single_span_of<B: Block>(
+pub(crate) fn single_span_of<B: Block>(
     count: usize,
     heads: &[B::Number],
     times: &[B::Number],
@@ -277,7 +277,7 @@ fn greatest_span_of_many<B: Block>(
 
 /// The same for machines of four blocks and more, in a function of its own.
 #[inline(never)]
-fn greatest_span_of_longer<B: Block>(
+pub(crate) fn greatest_span_of_longer<B: Block>(
     heads: &[B::Number],
     times: &[B::Number],
     tails: &[B::Number],

@@ -6,6 +6,7 @@ use Rattle.std.specs.declared.alloc.Global.{Global}
 use Rattle.std.proofs.lemmas.Bool.{cases_lt, cases_eq}
 use Rattle.std.proofs.lemmas.List.{get_or_past, get_or_default}
 use Rattle.shop_model.specs.Limits.{AreStarts}
+use Rattle.shop_model.specs.declared.limits.TheConstants.{MAX_START}
 
 pub rows_at : (rows : List (Vec ℕ Global)) (j : ℕ) (d : Vec ℕ Global) → j < length rows
     → slice_index_or (map (λ r. r.items) rows) j [] ≡ (slice_index_or rows j d).items
@@ -14,11 +15,11 @@ rows_at (r ∷ rs) zero d h = refl
 rows_at (r ∷ rs) (suc j) d h = rows_at rs j d (omega arith)
 
 abbrev pub StartsBelow : List (List ℕ) → ℕ → Type 0
-StartsBelow rows n = (j k : ℕ) → j < n → slice_index_or (slice_index_or rows j []) k 0 ≤ 1000000000000000
+StartsBelow rows n = (j k : ℕ) → j < n → slice_index_or (slice_index_or rows j []) k 0 ≤ MAX_START
 
 pub starts_next : (rows : List (Vec ℕ Global)) (n : ℕ) (row : Vec ℕ Global) → n < length rows
     → row ≡ slice_index_or rows n row → StartsBelow (map (λ r. r.items) rows) n
-    → All (λ s. s ≤ 1000000000000000) row.items
+    → All (λ s. s ≤ MAX_START) row.items
     → StartsBelow (map (λ r. r.items) rows) (n + 1)
 starts_next rows n row h is before within j k below = elim (cases_eq j n) [
   | inl e ↦ (let at : slice_index_or (map (λ r. r.items) rows) n [] ≡ row.items = rows_at rows n row h
@@ -32,7 +33,7 @@ starts_next rows n row h is before within j k below = elim (cases_eq j n) [
 ]
 
 pub starts_at : (rows : List (Vec ℕ Global)) (n : ℕ) (row : Vec ℕ Global) → n < length rows
-    → row ≡ slice_index_or rows n row → AreStarts (map (λ r. r.items) rows) → All (λ s. s ≤ 1000000000000000) row.items
+    → row ≡ slice_index_or rows n row → AreStarts (map (λ r. r.items) rows) → All (λ s. s ≤ MAX_START) row.items
 starts_at rows n row h is starts k d below =
     let at : slice_index_or (map (λ r. r.items) rows) n [] ≡ row.items = rows_at rows n row h
     ∙ ap (λ (v : Vec ℕ Global). v.items) (sym is)

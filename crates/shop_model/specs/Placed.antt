@@ -1,5 +1,5 @@
 -- What holds of the table that a full word places.
-use Rattle.std.specs.Prelude.{◌≡◌, ℕ, ◌≤◌, ◌<◌, List, ◌∷◌, ◌++◌}
+use Rattle.std.specs.Prelude.{◌≡◌, ℕ, ◌^◌, ◌≤◌, ◌<◌, List, ◌∷◌, ◌++◌}
 use Rattle.shop_model.specs.Shop.{Shop, Starts, machine_of, finish_of, IsFeasible, end_of}
 use Rattle.shop_model.specs.Word.{placed, count_of, IsUnder}
 use Rattle.shop_model.specs.Checking.{HasShape, starts_of, earliest_of}
@@ -11,6 +11,10 @@ pub record IsPlacedBy (shop : Shop) (w : List ℕ) (rows : List (List ℕ)) : Ty
   pub feasible : IsFeasible shop (starts_of rows)
   pub under : (v later : List ℕ) → w ≡ v ++ later → IsUnder shop v (starts_of rows)
   pub ends : end_of shop (starts_of rows) ≡ end_of shop (placed shop w)
+
+-- each step ends before 2^50
+abbrev pub AllEndSoon : Shop → List (List ℕ) → Type 0
+AllEndSoon shop rows = (j k : ℕ) → finish_of shop (starts_of rows) j k < 2 ^ 50
 
 -- Step k of job j, placed next behind v, begins as soon as it can: not before its job is released
 -- or the step before it ends, nor before what v has on its machine ends, and at the first such

@@ -2,7 +2,7 @@
 ghost use Rattle.std.specs.Prelude.{◌≡◌, IfOk, map};
 ghost use Rattle.shop_model.specs.Word.{IsFull, placed, rows_of};
 ghost use Rattle.shop_model.specs.inner.NonePlaced.{no_starts};
-ghost use Rattle.shop_model.specs.Placed.{IsPlacedBy};
+ghost use Rattle.shop_model.specs.Placed.{IsPlacedBy, AllEndSoon};
 
 use crate::instances::Instance;
 use crate::placements::Placement;
@@ -30,6 +30,7 @@ pub fn place(alloc: Global, instance: &Instance, word: &Word) -> Result<Table, A
 
     // It is feasible, lies under the word and each of its beginnings, and ends at the greatest placed end.
     ensures law { IfOk result (λ t. IsPlacedBy instance.now word.now t) }
+    ensures ends { IfOk result (λ t. AllEndSoon instance.now t) }
 {
     let mut placement = Placement::none(alloc, instance)?;
     let mut rows = empty_rows(alloc, instance)?;

@@ -6,8 +6,8 @@ use Rattle.std.specs.List.{AllByRecursion, flat_map}
 use Rattle.std.proofs.lemmas.List.{append-nil}
 use Rattle.shop_model.specs.Shop.{Shop, Starts, IsFeasible, end_of}
 use Rattle.shop_model.specs.Word.{placed, IsWord, start_jobs}
-use Rattle.shop_bound.specs.Bound.{lb}
-use Rattle.shop_bound.proofs.BoundLaw.{lb-le-end, full_word}
+use Rattle.shop_heads.specs.Bound.{lb}
+use Rattle.shop_heads.proofs.BoundLaw.{lb-le-end, full_word}
 use Rattle.shop_tree.specs.Walking.{Walk}
 use Rattle.shop_tree.specs.Laws.{AreWords, HasBetter}
 use Rattle.shop_tree.proofs.Members.{In, in_contains, contains_in, all_contains, contains_all, in_all, in_map}
@@ -170,7 +170,7 @@ unless_covers : (shop : Shop) (s : Stand) (go : Stand → Stand) (ws : List (Lis
 unless_covers shop s go [] k h = k
 unless_covers shop s go (w ∷ ws) k h = h
 
-rounds_cover : (shop : Shop) (plan : Planned) (n : ℕ) (s : Stand) → StandsCovering shop s
+pub rounds_cover : (shop : Shop) (plan : Planned) (n : ℕ) (s : Stand) → StandsCovering shop s
     → StandsCovering shop (rounds_from shop plan n s)
 rounds_cover shop plan zero s k = k
 rounds_cover shop plan (suc n) s k =

@@ -4,7 +4,7 @@ use Rattle.std.proofs.Common.{◌++◌, length, map, refl, sym, ◌∙◌, ap, s
 use Rattle.std.specs.List.{filter, flat_map}
 use Rattle.std.proofs.lemmas.Bool.{cases_Bool}
 use Rattle.shop_model.specs.Shop.{Shop}
-use Rattle.shop_bound.specs.Bound.{lb}
+use Rattle.shop_heads.specs.Bound.{lb}
 use Rattle.shop_tree.specs.Branching.{insert_by, sort_by}
 use Rattle.shop_tree.specs.Walking.{Walk}
 use Rattle.shop_tree.proofs.Members.{in_all}
@@ -212,7 +212,7 @@ module _ (shop : Shop) (plan : Planned) where
   after n = same_rounds n n (opening shop)
 
   -- with more rounds it goes on from where fewer ended
-  goes_on_from : (n m : ℕ) → n ≤ m
+  pub goes_on_from : (n m : ℕ) → n ≤ m
       → answer shop (with_rounds plan m) ≡ rounds_from shop plan (m - n) (answer shop (with_rounds plan n))
   goes_on_from n m h =
       let e : m ≡ n + (m - n) = omega arith

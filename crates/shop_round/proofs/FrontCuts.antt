@@ -1,7 +1,7 @@
 -- The front that is cut off a run's open nodes.
 use Rattle.std.proofs.Common.{◌≡◌, ℕ, ◌*◌, ◌≤◌, ◌<◌, List, [], length, take, drop, sym, ◌∙◌, ap, subst, arith}
 use Rattle.shop_model.specs.Shop.{Shop}
-use Rattle.shop_bound.specs.Bound.{lb}
+use Rattle.shop_heads.specs.Bound.{lb}
 use Rattle.shop_tree.specs.declared.nodes.Node.{Node}
 use Rattle.shop_tree.specs.declared.pieces.Piece.{Piece}
 use Rattle.shop_tree.specs.Nodes.{words_of}

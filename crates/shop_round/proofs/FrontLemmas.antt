@@ -8,8 +8,8 @@ use Rattle.std.proofs.lemmas.Bool.{cases_Bool, le-leb, le-ltb}
 use Rattle.std.proofs.lemmas.List.Elements.{filter-append, recursion_from_All, All-from_recursion, All-filter}
 use Rattle.shop_model.specs.Shop.{Shop}
 use Rattle.shop_model.specs.Word.{IsWord}
-use Rattle.shop_bound.specs.Bound.{lb}
-use Rattle.shop_bound.proofs.Lists.{all_append, all_filter}
+use Rattle.shop_heads.specs.Bound.{lb}
+use Rattle.one_machine.proofs.Lists.{all_append, all_filter}
 use Rattle.shop_tree.specs.Branching.{insert_by, sort_by}
 use Rattle.shop_tree.specs.Walking.{Walk}
 use Rattle.shop_tree.specs.declared.nodes.Node.{Node}

@@ -12,11 +12,15 @@ use Rattle.shop_tree.specs.declared.nodes.Node.{Node}
 use Rattle.shop_tree.specs.declared.sheets.Sheet.{Sheet}
 use Rattle.shop_tree.specs.Nodes.{words_of, IsNode, AreNodes}
 use Rattle.shop_model.specs.Shop.{Shop}
-use Rattle.shop_tree.specs.Pieces.{words_below, still_open}
+use Rattle.shop_tree.specs.Pieces.{words_below}
 use Rattle.shop_tree.specs.Walking.{Walk, sheet}
+use Rattle.shop_tree.specs.Laws.{AreWords}
+use Rattle.shop_tree.specs.Left.{open_nodes}
 use Rattle.shop_tree.specs.Sheets.{walk_of}
 use Rattle.shop_round.specs.Round.{Told, taken_of, sheet_in, sheets_of}
 use Rattle.shop_round.specs.Entries.{is_hit, IsOf}
+use Rattle.shop_round.specs.inner.Outcomes.{open_of}
+use Rattle.shop_round.proofs.OpenWords.{words_open, nodes_open}
 use Rattle.shop_round.proofs.SheetLemmas.{better_of, first_of}
 
 -- the first of least makespan among the opening best and these sheets
@@ -64,22 +68,23 @@ pub record IsSheetAt (r : Told) (i : ℕ) (s : Sheet) : Type 0 where
   pub of_round : IsOf r s
   pub number : s.number ≡ i
 
--- the walk that a sheet tells of, with all words left
+-- the walk that a sheet tells of
 abbrev pub whole_of : Told → ℕ → Sheet → Walk
-whole_of r i s = record (walk_of s) { left = (sheet_in r (slice_index_or r.pieces i [])).left }
+whole_of r i s = walk_of s
 
 module _ (r : Told) (i : ℕ) (s : Sheet) (at : IsSheetAt r i s) where
-  told_is : walk_of s ≡ still_open r.shop (sheet_in r (slice_index_or r.pieces i []))
-  told_is =
-      let o = at.of_round
-      in s.is_sheet ∙ ((λ j. still_open (o.0 j) (sheet (o.0 j) (o.4 j) (o.1 j) (o.2 j)))
-      ∙ ap (λ k. still_open r.shop (sheet_in r (slice_index_or r.pieces k []))) at.number)
-
   sheet_is : whole_of r i s ≡ sheet_in r (slice_index_or r.pieces i [])
-  sheet_is = ap (λ (t : Walk). record t { left = (sheet_in r (slice_index_or r.pieces i [])).left }) told_is
+  sheet_is =
+      let o = at.of_round
+      in s.is_sheet ∙ ((λ j. sheet (o.0 j) (o.4 j) (o.1 j) (o.2 j))
+      ∙ ap (λ k. sheet_in r (slice_index_or r.pieces k [])) at.number)
 
-  left_below : words_of s.left.items ≡ below_best r.shop (whole_of r i s)
-  left_below = ap (λ (t : Walk). t.left) told_is ∙ sym (ap (below_best r.shop) sheet_is)
+  of_shop : s.left.shop ≡ r.shop
+  of_shop = s.left_of ∙ (at.of_round).0
+
+  left_below : words_of (open_of s) ≡ below_best r.shop (whole_of r i s)
+  left_below = words_open s.left.shop s.left.makespan s.left.words
+      ∙ (λ j. words_below (of_shop j) (s.left_below j) s.left.words)
 
   pub inside : i < length (sheets_of r)
   inside = let o = at.of_round in let below = o.3 in let n = at.number
@@ -121,16 +126,18 @@ module _ (r : Told) (i : ℕ) (s : Sheet) (at : IsSheetAt r i s) where
       | inr m ↦ (let same : i ≡ k = omega arith in subst (λ j. is_hit r j ≡ false) same (hits_here ∙ e))
     ]
 
-    left_here : words_of (left ++ s.left.items) ≡ flat_map (below_best r.shop) (first_sheets r (i + 1))
+    left_here : words_of (left ++ open_of s) ≡ flat_map (below_best r.shop) (first_sheets r (i + 1))
     left_here =
-        map-append (λ (n : Node). n.word) left s.left.items
+        map-append (λ (n : Node). n.word) left (open_of s)
         ∙ ((λ j. was.left_is j ++ left_below j)
         ∙ (flat_map_more (below_best r.shop) [] (first_sheets r i) (whole_of r i s)
         ∙ sym (ap (flat_map (below_best r.shop)) next_sheets)))
 
-    nodes_left_here : AreNodes r.shop (left ++ s.left.items)
-    nodes_left_here = All-append (IsNode r.shop) left s.left.items was.nodes_left
-        (subst (λ shop. AreNodes shop s.left.items) (at.of_round).0 s.nodes_left)
+    nodes_left_here : AreNodes r.shop (left ++ open_of s)
+    nodes_left_here = All-append (IsNode r.shop) left (open_of s) was.nodes_left
+        (subst (λ (shop : Shop). AreNodes r.shop (open_nodes shop s.left.makespan s.left.words)) (sym of_shop)
+        (nodes_open r.shop s.left.makespan s.left.words
+        (subst (λ (shop : Shop). AreWords shop s.left.words) (at.of_round).0 s.words_left)))
 
     best_here : best_among r (first_sheets r (i + 1)) ≡ better_of (best_among r (first_sheets r i)) (whole_of r i s)
     best_here = ap (best_among r) next_sheets
@@ -140,7 +147,7 @@ module _ (r : Told) (i : ℕ) (s : Sheet) (at : IsSheetAt r i s) where
         → eqb s.makespan r.bound ≡ false
         → m ≡ (cond b (whole_of r i s) (best_among r (first_sheets r i))).best
         → unwrap_or f r.word ≡ unwrap_or (cond b (whole_of r i s) (best_among r (first_sheets r i))).found r.word
-        → GatheredSoFar r (i + 1) f m (left ++ s.left.items) (nodes + s.taken)
+        → GatheredSoFar r (i + 1) f m (left ++ open_of s) (nodes + s.taken)
     turn b f m t e is word =
         let best : best_among r (first_sheets r (i + 1)) ≡ cond b (whole_of r i s) (best_among r (first_sheets r i)) =
         best_here ∙ ap (λ c. cond c (whole_of r i s) (best_among r (first_sheets r i))) t
@@ -156,7 +163,7 @@ module _ (r : Told) (i : ℕ) (s : Sheet) (at : IsSheetAt r i s) where
 
     -- the sheet of this turn ends before those so far
     pub gathered_better : eqb s.makespan r.bound ≡ false → s.makespan < makespan
-        → GatheredSoFar r (i + 1) s.found s.makespan (left ++ s.left.items) (nodes + s.taken)
+        → GatheredSoFar r (i + 1) s.found s.makespan (left ++ open_of s) (nodes + s.taken)
     gathered_better e h =
         let m = was.makespan_is
         in turn true s.found s.makespan
@@ -164,7 +171,7 @@ module _ (r : Told) (i : ℕ) (s : Sheet) (at : IsSheetAt r i s) where
 
     -- or it doesn't
     pub gathered_worse : eqb s.makespan r.bound ≡ false → makespan ≤ s.makespan
-        → GatheredSoFar r (i + 1) found makespan (left ++ s.left.items) (nodes + s.taken)
+        → GatheredSoFar r (i + 1) found makespan (left ++ open_of s) (nodes + s.taken)
     gathered_worse e h =
         let m = was.makespan_is
         in turn false found makespan (le-ltb s.makespan (best_among r (first_sheets r i)).best

@@ -23,3 +23,4 @@ pub mod StackLemmas
 pub mod StoreLemmas
 pub mod FrontLemmas
 pub mod FrontCuts
+mod OpenWords

@@ -4,9 +4,9 @@ use Rattle.std.specs.List.{AllByRecursion}
 use Rattle.std.proofs.lemmas.Bool.{cases_Bool, ltb-true, ltb-false}
 use Rattle.shop_model.specs.Shop.{Shop, Starts, IsFeasible, end_of}
 use Rattle.shop_model.specs.Word.{IsWord, IsFull, IsUnder}
-use Rattle.shop_bound.specs.Bound.{lb}
-use Rattle.shop_bound.proofs.BoundLaw.{lb-le-end}
-use Rattle.shop_bound.proofs.Lists.{all_filter}
+use Rattle.shop_heads.specs.Bound.{lb}
+use Rattle.shop_heads.proofs.BoundLaw.{lb-le-end}
+use Rattle.one_machine.proofs.Lists.{all_filter}
 use Rattle.shop_tree.specs.Laws.{HasBetter}
 use Rattle.shop_tree.proofs.Members.{In, in_contains, contains_in, contains_all, in_all, all_sort, in_sort, in_filter}
 use Rattle.shop_round.specs.declared.plans.Order.{Order}

@@ -7,8 +7,8 @@ use Rattle.std.proofs.lemmas.Bool.{cases_Bool, ltb-true, ltb-false}
 use Rattle.std.proofs.lemmas.List.{take_all, length-map}
 use Rattle.std.proofs.lemmas.List.Elements.{All-filter, filter-append}
 use Rattle.shop_model.specs.Shop.{Shop}
-use Rattle.shop_bound.specs.Bound.{lb}
-use Rattle.shop_tree.proofs.AlikeWalks.{below-below}
+use Rattle.shop_heads.specs.Bound.{lb}
+use Rattle.shop_tree.proofs.HighWalks.{below-below}
 use Rattle.shop_tree.specs.declared.nodes.Node.{Node}
 use Rattle.shop_tree.specs.declared.sheets.Sheet.{Sheet}
 use Rattle.shop_tree.specs.Nodes.{words_of, IsNode, AreNodes}
@@ -17,7 +17,7 @@ use Rattle.shop_tree.proofs.Members.{in_all, all_in}
 use Rattle.shop_round.specs.Round.{Stand, Told, taken_of, hit_or, up_to_hit, best_word, sheet_in, sheets_of}
 use Rattle.shop_round.specs.Round.{after_round, gathered, words_below}
 use Rattle.shop_round.specs.Laws.{IsRound}
-use Rattle.shop_round.specs.inner.Outcomes.{IsOutcome, TakesIn}
+use Rattle.shop_round.specs.inner.Outcomes.{IsOutcome, TakesIn, open_of}
 use Rattle.shop_round.specs.declared.outcomes.Outcome.{Outcome}
 use Rattle.shop_round.specs.Entries.{is_hit}
 use Rattle.shop_round.specs.inner.OpenNodes.{nodes_below}
@@ -170,12 +170,12 @@ pub gathered_turn : (r : Told) (i : ℕ) (s : Sheet) (o t : Outcome) → IsSheet
     → GatheredSoFar r i o.found o.makespan o.left.items o.nodes
     → GatheredSoFar r (i + 1) t.found t.makespan t.left.items t.nodes
 gathered_turn r i s o t at small e takes g = elim (cases_Bool (ltb s.makespan o.makespan)) [
-  | inl b ↦ gathered_same r (i + 1) s.found t.found s.makespan t.makespan (o.left.items ++ s.left.items) t.left.items
+  | inl b ↦ gathered_same r (i + 1) s.found t.found s.makespan t.makespan (o.left.items ++ open_of s) t.left.items
       (o.nodes + s.taken) t.nodes
       (takes.found ∙ ap (λ c. cond c s.found o.found) b)
       (takes.makespan ∙ ap (λ c. cond c s.makespan o.makespan) b) takes.left takes.nodes
       (gathered_better r i s at o.found o.makespan o.left.items o.nodes g small e (ltb-true s.makespan o.makespan b))
-  | inr b ↦ gathered_same r (i + 1) o.found t.found o.makespan t.makespan (o.left.items ++ s.left.items) t.left.items
+  | inr b ↦ gathered_same r (i + 1) o.found t.found o.makespan t.makespan (o.left.items ++ open_of s) t.left.items
       (o.nodes + s.taken) t.nodes
       (takes.found ∙ ap (λ c. cond c s.found o.found) b)
       (takes.makespan ∙ ap (λ c. cond c s.makespan o.makespan) b) takes.left takes.nodes

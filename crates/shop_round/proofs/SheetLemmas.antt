@@ -6,8 +6,8 @@ use Rattle.std.specs.List.{AllByRecursion, flat_map, fold}
 use Rattle.std.proofs.lemmas.Bool.{cases_Bool, ltb-true, ltb-false, eqb-true}
 use Rattle.shop_model.specs.Shop.{Shop}
 use Rattle.shop_model.specs.Word.{IsWord, IsFull}
-use Rattle.shop_bound.specs.Bound.{lb}
-use Rattle.shop_bound.proofs.Lists.{all_append}
+use Rattle.shop_heads.specs.Bound.{lb}
+use Rattle.one_machine.proofs.Lists.{all_append}
 use Rattle.shop_tree.specs.Walking.{Walk}
 use Rattle.shop_tree.specs.Laws.{IsBestOf}
 use Rattle.shop_tree.proofs.Members.{In, all_contains, contains_all}

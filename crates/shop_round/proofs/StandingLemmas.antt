@@ -2,7 +2,7 @@
 use Rattle.std.proofs.Common.{◌≡◌, Option, Some, None, List, ◌++◌, refl, arith}
 use Rattle.std.specs.List.{AllByRecursion, flat_map}
 use Rattle.shop_model.specs.Word.{IsWord}
-use Rattle.shop_bound.proofs.Lists.{all_append}
+use Rattle.one_machine.proofs.Lists.{all_append}
 use Rattle.shop_tree.specs.Walking.{Walk}
 use Rattle.shop_tree.proofs.Members.{all_contains, in_all}
 use Rattle.shop_round.specs.Round.{Told, gathered, words_of_round, sheets_of, up_to_hit, best_word, after_round}

@@ -5,7 +5,7 @@ use Rattle.std.specs.Prelude.{Some, None, List, [], ◌∷◌, ◌++◌, take, d
 use Rattle.std.specs.Prelude.{fold, flat_map, nat_lt, ◌==◌, if◌then◌else◌, unwrap_or}
 use Rattle.shop_model.specs.Shop.{Shop, Starts, end_of, IsFeasible}
 use Rattle.shop_model.specs.Word.{start_jobs}
-use Rattle.shop_bound.specs.Bound.{lb}
+use Rattle.shop_heads.specs.Bound.{lb}
 use Rattle.shop_tree.specs.Branching.{sort_by}
 pub use Rattle.shop_tree.specs.Pieces.{words_below}
 use Rattle.shop_tree.specs.Walking.{Walk, sheet}

@@ -1,5 +1,5 @@
 // The open nodes of a run, in the order in which the next cut takes them.
-ghost use Rattle.std.specs.Prelude.{◌≡◌, ◌==◌, ◌++◌, ◌∷◌, [], length, IfOk, OnOk};
+ghost use Rattle.std.specs.Prelude.{◌≡◌, ◌==◌, ◌^◌, ◌≤◌, ◌++◌, ◌∷◌, [], length, IfOk, OnOk, OnErr};
 ghost use Rattle.shop_round.specs.inner.OpenNodes.{least_of_bounds, AreBelow};
 
 use crate::plans::Order;
@@ -121,7 +121,8 @@ impl OpenNodes {
 
     /// How many are open. Fails with `AllocError` if they are more than memory could hold.
     pub(crate) fn count(self) -> Result<usize, AllocError>
-        ensures { IfOk result (λ n. n ≡ length (open_list self)) }
+        ensures count { IfOk result (λ n. n ≡ length (open_list self)) }
+        ensures too_many { OnErr result (2 ^ 64 ≤ length (open_list self)) }
     {
         match self {
             OpenNodes::AsKept(nodes) => Ok(nodes.len()),

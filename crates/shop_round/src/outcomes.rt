@@ -67,7 +67,7 @@ impl Outcome {
         }
     }
 
-    /// Counts the nodes of one more sheet, keeps what it left, and takes its word if it is better.
+    /// Counts the nodes of one more sheet, keeps what it left open, and takes its word if it is better.
     pub fn take_in(&mut self, sheet: Sheet) -> Result<(), AllocError>
         requires { self.old.nodes + sheet.taken < 2 ^ 64 }
         ensures { OnOk result (TakesIn self.old sheet.entry self.new) }
@@ -75,7 +75,7 @@ impl Outcome {
         let Sheet {
             found,
             makespan,
-            mut left,
+            left,
             taken,
             ..
         } = sheet;
@@ -84,7 +84,7 @@ impl Outcome {
             self.makespan = makespan;
             self.found = found;
         }
-        self.left.append(&mut left)
+        left.add_open(&mut self.left)
     }
 
     /// What stands after a round of which this is the outcome, with its opening best, its rest and

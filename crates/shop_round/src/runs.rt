@@ -1,5 +1,5 @@
 // Runs: where one stands between two rounds, and the answer of a plan.
-ghost use Rattle.std.specs.Prelude.{IfOk};
+ghost use Rattle.std.specs.Prelude.{◌^◌, ◌<◌, IfOk};
 ghost use Rattle.shop_round.specs.Limits.{IsCountWithin};
 ghost use Rattle.shop_round.specs.Runs.{SaysAnswer, IsTrusted};
 
@@ -25,7 +25,7 @@ pub(crate) struct Search {
 }
 
 impl Search {
-    ghost use Rattle.std.specs.Prelude.{◌<◌, length};
+    ghost use Rattle.std.specs.Prelude.{length};
     ghost use Rattle.shop_round.specs.Round.{opening};
     ghost use Rattle.shop_round.specs.inner.OpenNodes.{AreBelow};
     ghost use Rattle.shop_round.specs.inner.Stores.{open_list};
@@ -162,6 +162,7 @@ pub fn run<R, C: Crew<R>>(
     requires { C.ready }
     ensures says { IfOk result (λ a. SaysAnswer instance.now plan.now a) }
     ensures trust { IfOk result (λ a. IsTrusted instance.now a) }
+    ensures nodes { IfOk result (λ a. a.nodes < 2 ^ 50) }
 {
     let Search {
         word,
@@ -189,6 +190,7 @@ pub fn run<R, C: Crew<R>>(
 pub fn run_alone(alloc: Global, instance: &Instance, plan: &Plan) -> Result<Answer, AllocError>
     ensures says { IfOk result (λ a. SaysAnswer instance.now plan.now a) }
     ensures trust { IfOk result (λ a. IsTrusted instance.now a) }
+    ensures nodes { IfOk result (λ a. a.nodes < 2 ^ 50) }
 {
     run(&(), alloc, instance, plan, &mut Alone)
 }

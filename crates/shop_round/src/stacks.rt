@@ -1,5 +1,5 @@
 // Open nodes by bound: for each bound a stack of their words.
-ghost use Rattle.std.specs.Prelude.{◌≡◌, ◌∷◌, [], length, IfOk, OnOk};
+ghost use Rattle.std.specs.Prelude.{◌≡◌, ◌^◌, ◌≤◌, ◌∷◌, [], length, IfOk, OnOk, OnErr};
 ghost use Rattle.shop_round.specs.inner.OpenNodes.{least_of_bounds};
 ghost use Rattle.shop_round.specs.inner.Stacks.{words_in, words_in_rest, words_on, words_left};
 ghost use Rattle.shop_round.specs.inner.Stacks.{nodes_in_stacks, IsPutByBound, IsNextByBound};
@@ -93,7 +93,8 @@ impl Stack {
 
     /// How many words there are. Fails with `AllocError` if they are more than memory could hold.
     pub(crate) fn count(self) -> Result<usize, AllocError>
-        ensures { IfOk result (λ n. n ≡ length (words_on self)) }
+        ensures count { IfOk result (λ n. n ≡ length (words_on self)) }
+        ensures too_many { OnErr result (2 ^ 64 ≤ length (words_on self)) }
     {
         let Stack {
             topmost,
@@ -183,7 +184,8 @@ pub(crate) fn least_by_bound(stacks: &BTreeMap<u64, Stack>, makespan: u64) -> u6
 
 /// How many nodes there are. Fails with `AllocError` if they are more than memory could hold.
 pub(crate) fn count_by_bound(mut stacks: BTreeMap<u64, Stack>) -> Result<usize, AllocError>
-    ensures { IfOk result (λ n. n ≡ length (nodes_in_stacks stacks)) }
+    ensures count { IfOk result (λ n. n ≡ length (nodes_in_stacks stacks)) }
+    ensures too_many { OnErr result (2 ^ 64 ≤ length (nodes_in_stacks stacks)) }
 {
     let mut count = 0_usize;
     while let Some((_, stack)) = stacks.pop_first() {

@@ -49,7 +49,7 @@ ended_more : (piece : List ℕ) (pieces : List (List ℕ)) → 0 < length pieces
 ended_more piece [] some = absurd (omega arith)
 ended_more piece (next ∷ pieces) some = refl
 
-line_cut : (line rest : List ℕ) → IsFree is_line_feed line
+pub line_cut : (line rest : List ℕ) → IsFree is_line_feed line
     → lines_of ((line ++ 10 ∷ []) ++ rest) ≡ line ∷ lines_of rest
 line_cut line rest free =
     ap lines_of (append_assoc line (10 ∷ []) rest) ∙ ap ended (cut_at is_line_feed line 10 rest free refl)

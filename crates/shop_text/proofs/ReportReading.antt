@@ -51,7 +51,7 @@ number_free : (word : List ℕ) (n : ℕ) → IsFree is_line_feed word
 number_free word n free =
     joined_free is_line_feed refl (number_line word n) (free, (decimal_free is_line_feed no_line_feed n, tt))
 
-answer_is_lines : (r : Reported) → list_all is_visible r.name ≡ true → AreLines (answer_lines r)
+pub answer_is_lines : (r : Reported) → list_all is_visible r.name ≡ true → AreLines (answer_lines r)
 answer_is_lines r visible = (
   joined_free is_line_feed refl (codes "instance" ∷ r.name ∷ []) (refl, (visible_free r.name visible, tt)),
   (

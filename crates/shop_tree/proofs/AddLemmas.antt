@@ -1,29 +1,29 @@
 -- Children put on a stack: open ones, and before them, if there are others, their number.
-use Rattle.std.proofs.Common.{◌≡◌, ℕ, zero, suc, ◌+◌, ◌-◌, ◌^◌, ◌≤◌, List, [], ◌∷◌, ◌++◌, length, map, reverse}
-use Rattle.std.proofs.Common.{refl, sym, ◌∙◌, ap, subst, arith, append_assoc}
-use Rattle.std.specs.List.{AllByRecursion, fold}
-use Rattle.std.proofs.lemmas.List.{length-map, length-reverse, length-append}
-use Rattle.std.proofs.lemmas.List.Sums.{fold-append}
+use Rattle.std.proofs.Common.{◌≡◌, ℕ, zero, suc, ◌+◌, ◌-◌, ◌^◌, ◌≤◌, ◌<◌, List, [], ◌∷◌, ◌++◌, length, map, take}
+use Rattle.std.proofs.Common.{drop, reverse, refl, sym, ◌∙◌, ap, subst, arith, append_assoc, append-nil}
+use Rattle.std.specs.List.{AllByRecursion}
+use Rattle.std.proofs.Math.Seq.{take-length}
+use Rattle.std.proofs.lemmas.List.{length-map, length-reverse, length-append, drop_at}
 use Rattle.shop_model.specs.Limits.{IsWithinLimits}
-use Rattle.shop_model.specs.Shop.{Shop}
+use Rattle.shop_model.specs.Shop.{Shop, operation_count}
 use Rattle.shop_model.specs.Word.{IsWord}
-use Rattle.shop_bound.specs.Bound.{lb}
-use Rattle.shop_bound.proofs.SmallSums.{sums_small}
+use Rattle.shop_heads.specs.Bound.{lb}
+use Rattle.shop_heads.proofs.SmallSums.{sums_small}
 use Rattle.shop_tree.specs.Branching.{branch}
-use Rattle.shop_tree.specs.Pieces.{still_open}
-use Rattle.shop_tree.specs.Walking.{Walk, walk, operations_left}
-use Rattle.shop_tree.specs.inner.Opens.{word_at, open_words, IsWaiting, IsAt, AreChildren}
+use Rattle.shop_tree.specs.inner.Opens.{word_at, open_words, last_of, IsClosed, IsWaiting, IsAt, AreChildren}
 use Rattle.shop_tree.specs.inner.Pushing.{with_opens, with_rest}
-use Rattle.shop_tree.specs.inner.Searching.{AreAlike, walk_stack, Adds}
+use Rattle.shop_tree.specs.inner.Searching.{Adds}
 use Rattle.shop_tree.specs.declared.opens.Open.{Open}
 use Rattle.shop_tree.specs.declared.opens.Waiting.{Waiting}
 use Rattle.shop_tree.specs.declared.opens.Waiting.TheVariants.{Child, Rest}
-use Rattle.shop_tree.proofs.AlikeWalks.{high-counted}
 use Rattle.shop_tree.proofs.Found.{IsLonger, children_longer}
-use Rattle.shop_tree.proofs.ListLemmas.{all_back, all_weaker}
-use Rattle.shop_tree.proofs.OpenLemmas.{stack-opens, all-opens}
-use Rattle.shop_tree.proofs.SearchLaw.{fold_goes_on, walk_goes_on}
+use Rattle.shop_tree.proofs.ListLemmas.{all_back}
+use Rattle.shop_tree.proofs.OpenLemmas.{opens-words, all-opens}
 use Rattle.shop_tree.proofs.WalkSteps.{branch_few}
+
+-- the last elements are the second part
+last_part : {A : Type 0} (xs ys : List A) → last_of (length ys) (xs ++ ys) ≡ ys
+last_part xs ys = drop_at xs ys (length (xs ++ ys) - length ys) (let a = length-append xs ys in omega arith)
 
 module _ (shop : Shop) (limit : ℕ) (word : List ℕ) (opens : List Open) (n : ℕ)
     (kids : AreChildren shop limit word opens n) where
@@ -34,59 +34,70 @@ module _ (shop : Shop) (limit : ℕ) (word : List ℕ) (opens : List Open) (n : 
       in let c = length-reverse (open_words word opens) in let d = length-map opens (word_at word) in let e = kids.count
       in omega arith
 
-  few_open : length opens + n ≤ length shop.jobs
+  pub few_open : length opens + n ≤ length shop.jobs
   few_open = let a = counts in let b = branch_few shop word in omega arith
 
-  -- the open ones are walked, and the others counted
-  walks-children : (t : Walk) → t.best ≤ limit → AreAlike shop
-      (record (walk_stack shop word t (map (λ o. Child o) opens)) {
-        budget = (walk_stack shop word t (map (λ o. Child o) opens)).budget - n;
-      })
-      (fold (walk shop) t (branch shop word))
-  walks-children t le =
-      let u = fold (walk shop) t (reverse (open_words word opens))
-      in let on = fold_goes_on (walk shop) (λ s w. walk_goes_on shop (operations_left shop w) s w) t
-      (reverse (open_words word opens))
-      in let high = all_weaker (λ v. limit ≤ lb shop v) (λ v. u.best ≤ lb shop v)
-      (λ v h. let a = on.best in omega arith) kids.others kids.high
-      in ap (λ (s : Walk). still_open shop (record s { budget = s.budget - n })) (stack-opens shop word t opens)
-      ∙ (ap (λ k. still_open shop (record u { budget = u.budget - k })) kids.count
-      ∙ (sym (high-counted shop u kids.others high)
-      ∙ ap (still_open shop) (sym (ap (fold (walk shop) t) kids.words
-      ∙ fold-append (walk shop) t (reverse (open_words word opens)) kids.others))))
+  last_are : last_of n (branch shop word) ≡ kids.others
+  last_are = ap (λ (ws : List (List ℕ)). last_of n ws) kids.words
+      ∙ (ap (λ k. last_of k (reverse (open_words word opens) ++ kids.others)) kids.count
+      ∙ last_part (reverse (open_words word opens)) kids.others)
+
+  closed_last : IsWord shop word → length word < operation_count shop → IsClosed shop limit word (length word) n
+  closed_last is short =
+      let whole : take (length word) word ≡ word = take-length word
+      in record {
+        depth = omega arith;
+        short = short;
+        is_word = subst (IsWord shop) (sym whole) is;
+        few = subst (λ (u : List ℕ). n ≤ length (branch shop u)) (sym whole) (let a = counts in omega arith);
+        high = subst (λ (u : List ℕ). AllByRecursion (λ v. limit ≤ lb shop v) (last_of n (branch shop u))) (sym whole)
+            (subst (λ (ws : List (List ℕ)). AllByRecursion (λ v. limit ≤ lb shop v) ws) (sym last_are) kids.high);
+      }
+
+  -- the words of both
+  all_words : reverse (open_words word opens) ++ last_of n (branch shop (take (length word) word)) ≡ branch shop word
+  all_words = ap (λ (u : List ℕ). reverse (open_words word opens) ++ last_of n (branch shop u)) (take-length word)
+      ∙ (ap (λ ws. reverse (open_words word opens) ++ ws) last_are ∙ sym kids.words)
+
+-- where there are no others
+none_others : {A : Type 0} (ws : List A) → 0 ≡ length ws → ws ≡ []
+none_others [] e = refl
+none_others (w ∷ ws) e = absurd (omega arith)
 
 -- what lies on top then
 pub adds-children : (shop : Shop) (best : ℕ) (word : List ℕ) (opens : List Open) (n : ℕ) (old : List Waiting)
-    → AreChildren shop best word opens n
-    → Adds shop best word old (with_opens (with_rest old n) opens)
-adds-children shop best word opens zero old kids = record {
+    → IsWord shop word → length word < operation_count shop → AreChildren shop best word opens n
+    → Adds shop best word old (with_opens (with_rest old (length word) n) opens)
+adds-children shop best word opens zero old is short kids = record {
   added = map (λ o. Child o) opens;
   stack = refl;
-  walks = λ t le. ap (λ k. still_open shop (record (walk_stack shop word t (map (λ o. Child o) opens)) { budget = k }))
-      (let u = walk_stack shop word t (map (λ o. Child o) opens) in let e : u.budget ≡ u.budget - 0 = omega arith in e)
-      ∙ walks-children shop best word opens 0 kids t le;
-  each = all-opens (IsWaiting shop word) opens kids.each;
+  words = opens-words shop word opens
+      ∙ (sym (append-nil (reverse (open_words word opens)))
+      ∙ (ap (λ ws. reverse (open_words word opens) ++ ws) (sym (none_others kids.others kids.count))
+      ∙ sym kids.words));
+  each = all-opens (IsWaiting shop best word) opens kids.each;
   depth = all-opens (IsAt (length word)) opens kids.depth;
 }
-adds-children shop best word opens (suc n) old kids = record {
-  added = Rest (suc n) ∷ map (λ o. Child o) opens;
-  stack = append_assoc old (Rest (suc n) ∷ []) (map (λ o. Child o) opens);
-  walks = walks-children shop best word opens (suc n) kids;
-  each = (tt, all-opens (IsWaiting shop word) opens kids.each);
-  depth = (tt, all-opens (IsAt (length word)) opens kids.depth);
+adds-children shop best word opens (suc n) old is short kids = record {
+  added = Rest (length word) (suc n) ∷ map (λ o. Child o) opens;
+  stack = append_assoc old (Rest (length word) (suc n) ∷ []) (map (λ o. Child o) opens);
+  words = ap (λ ws. ws ++ last_of (suc n) (branch shop (take (length word) word))) (opens-words shop word opens)
+      ∙ all_words shop best word opens (suc n) kids;
+  each = (closed_last shop best word opens (suc n) kids is short, all-opens (IsWaiting shop best word) opens kids.each);
+  depth = (refl, all-opens (IsAt (length word)) opens kids.depth);
 }
 
 length-with : (old : List Waiting) (opens : List Open) → length (with_opens old opens) ≡ length old + length opens
 length-with old opens = let a = length-append old (map (λ o. Child o) opens)
     in let b = length-map opens (λ (o : Open). Child o) in omega arith
 
-pub few-children : (shop : Shop) (limit : ℕ) (word : List ℕ) (opens : List Open) (n : ℕ) (old : List Waiting)
+pub few-children : (shop : Shop) (limit : ℕ) (word : List ℕ) (opens : List Open) (n depth : ℕ) (old : List Waiting)
     → AreChildren shop limit word opens n
-    → length (with_opens (with_rest old n) opens) ≤ length old + length shop.jobs + 1
-few-children shop limit word opens zero old kids =
+    → length (with_opens (with_rest old depth n) opens) ≤ length old + length shop.jobs + 1
+few-children shop limit word opens zero depth old kids =
     let a = length-with old opens in let b = few_open shop limit word opens 0 kids in omega arith
-few-children shop limit word opens (suc n) old kids =
-    let a = length-with (old ++ Rest (suc n) ∷ []) opens in let b = length-append old (Rest (suc n) ∷ [])
+few-children shop limit word opens (suc n) depth old kids =
+    let a = length-with (old ++ Rest depth (suc n) ∷ []) opens in let b = length-append old (Rest depth (suc n) ∷ [])
     in let c = few_open shop limit word opens (suc n) kids in omega arith
 
 -- no bound is so large

@@ -1,4 +1,4 @@
--- Where a walk goes on from the desk's word, told of a walker before and after.
+-- Where a walk goes on from the word that it came to.
 use Rattle.std.proofs.Common.{◌≡◌, ℕ, suc, ◌+◌, ◌-◌, ◌*◌, ◌≤◌, ◌<◌, Some, List, [], ◌∷◌, ◌++◌, length}
 use Rattle.std.proofs.Common.{map, refl, sym, ◌∙◌, ap, subst, arith}
 use Rattle.std.specs.Prelude.{take}
@@ -6,214 +6,135 @@ use Rattle.std.specs.List.{fold}
 use Rattle.std.proofs.lemmas.List.{length_push}
 use Rattle.std.proofs.Math.Seq.{take-append_seam, take-length}
 use Rattle.shop_model.specs.Shop.{Shop, operation_count}
-use Rattle.shop_bound.specs.Bound.{lb}
-use Rattle.shop_bound.specs.Conflicts.{SoleCandidateKeepsBound}
-use Rattle.shop_bound.specs.Desks.{DeskState, goes_on}
+use Rattle.shop_heads.specs.Bound.{lb}
+use Rattle.shop_heads.specs.Conflicts.{SoleCandidateKeepsBound}
 use Rattle.shop_tree.specs.Branching.{branch, conflict, sort_by}
-use Rattle.shop_tree.specs.Nodes.{words_of}
-use Rattle.shop_tree.specs.Pieces.{walk_told, still_open}
 use Rattle.shop_tree.specs.Walking.{Walk, walk}
-use Rattle.shop_tree.specs.inner.Opens.{IsUpTo, IsWaiting, AreWaiting}
-use Rattle.shop_tree.specs.inner.Walkers.{HasFollowed, HasBranched, HasExpanded, IsInOrder}
+use Rattle.shop_tree.specs.inner.Opens.{IsUpTo, IsWaiting}
+use Rattle.shop_tree.specs.inner.Walkers.{Stage, HasFollowed, HasBranched, HasExpanded, IsInOrder}
 use Rattle.shop_tree.specs.inner.Walkers.{stack_walk, turns_left, walk_on}
-use Rattle.shop_tree.specs.inner.Searching.{AreAlike, walk_stack, walked, entered}
+use Rattle.shop_tree.specs.inner.Searching.{walk_stack, entered}
 use Rattle.shop_tree.specs.declared.opens.Waiting.{Waiting}
-use Rattle.shop_tree.specs.declared.progress.Progress.{Progress}
-use Rattle.shop_tree.specs.declared.walkers.Walker.{Walker}
 use Rattle.shop_tree.proofs.ListLemmas.{all_weaker}
-use Rattle.shop_tree.proofs.OpenLemmas.{adds-waits, all-same, deep, stack-same}
+use Rattle.shop_tree.proofs.OpenLemmas.{adds-waits, all-same, all-lower, deep, words-same}
 use Rattle.shop_tree.proofs.TurnLemmas.{children_walk}
 use Rattle.shop_tree.proofs.WalkSteps.{entered-children, entered-full, walk-cut, walk-entered}
 
 -- one of the budget is spent
-abbrev pub spent_one : Progress → Walk
-spent_one p = walk_told p.found p.best p.left.items (p.budget - 1)
+abbrev pub spent_one : Walk → Walk
+spent_one t = record t { budget = t.budget - 1 }
 
-some_budget : (shop : Shop) (p : Progress) (w : List ℕ) → 0 < p.budget
-    → walk shop (walked p) w ≡ walk shop (walk_told p.found p.best p.left.items (suc (p.budget - 1))) w
-some_budget shop p w some = ap (λ b. walk shop (walk_told p.found p.best p.left.items b) w)
-    (let e : p.budget ≡ suc (p.budget - 1) = omega arith in e)
+some_budget : (shop : Shop) (t : Walk) (w : List ℕ) → 0 < t.budget
+    → walk shop t w ≡ walk shop (record t { budget = suc (t.budget - 1) }) w
+some_budget shop t w some = ap (λ b. walk shop (record t { budget = b }) w)
+    (let e : t.budget ≡ suc (t.budget - 1) = omega arith in e)
 
-pub enters : (shop : Shop) (p : Progress) (w : List ℕ) → 0 < p.budget → lb shop w < p.best
-    → walk shop (walked p) w ≡ entered shop (spent_one p) w
-enters shop p w some below = some_budget shop p w some
-    ∙ walk-entered shop p.found p.best (words_of p.left.items) w (p.budget - 1) below
+pub enters : (shop : Shop) (t : Walk) (w : List ℕ) → 0 < t.budget → lb shop w < t.best
+    → walk shop t w ≡ entered shop (spent_one t) w
+enters shop t w some below = some_budget shop t w some
+    ∙ walk-entered shop t.found t.best t.left w (t.budget - 1) below
 
-pub cuts : (shop : Shop) (p : Progress) (w : List ℕ) → 0 < p.budget → p.best ≤ lb shop w
-    → walk shop (walked p) w ≡ spent_one p
-cuts shop p w some high = some_budget shop p w some
-    ∙ walk-cut shop p.found p.best (words_of p.left.items) w (p.budget - 1) high
+pub cuts : (shop : Shop) (t : Walk) (w : List ℕ) → 0 < t.budget → t.best ≤ lb shop w
+    → walk shop t w ≡ spent_one t
+cuts shop t w some high = some_budget shop t w some ∙ walk-cut shop t.found t.best t.left w (t.budget - 1) high
 
 -- turns over plain numbers
-as_many : (b b' jobs jobs' new old : ℕ) → b' ≡ b → jobs' ≡ jobs → new ≤ old + jobs + 1
-    → b' * (jobs' + 2) + new ≤ b * (jobs + 2) + old + jobs + 1
-as_many b b' jobs jobs' new old e same few = rw (e, same) (omega arith)
+same_budget : (b jobs new old : ℕ) → new ≤ old + jobs + 1 → b * (jobs + 2) + new ≤ b * (jobs + 2) + old + jobs + 1
+same_budget b jobs new old few = omega arith
 
-pub one_spent : (b c jobs jobs' new rest rest' one : ℕ) → b ≡ c + 1 → jobs' ≡ jobs → rest' ≡ rest → one ≡ rest + 1
-    → new ≤ c * (jobs' + 2) + rest' + jobs' + 1 → new < b * (jobs + 2) + one
-one_spent b c jobs jobs' new rest rest' one e same rests top few =
-    let few' : new ≤ c * (jobs + 2) + rest + jobs + 1 = rw (← same, ← rests) few in rw (e, top) (omega arith)
+less_spent : (b b' jobs jobs' new rest : ℕ) → b' ≤ b → jobs' ≡ jobs
+    → new ≤ b' * (jobs' + 2) + rest + jobs' + 1 → new ≤ b * (jobs + 2) + rest + jobs + 1
+less_spent b b' jobs jobs' new rest le same few =
+    let d = b - b'
+    in let e : b ≡ b' + d = omega arith
+    in let few' : new ≤ b' * (jobs + 2) + rest + jobs + 1 = rw (← same) few in rw e (omega arith)
 
-pub one_less : (b b' jobs jobs' new rest one : ℕ) → b' ≤ b → jobs' ≡ jobs → new ≡ rest → one ≡ rest + 1
-    → b' * (jobs' + 2) + new < b * (jobs + 2) + one
-one_less b b' jobs jobs' new rest one le same news top =
-    let d = b - b' in let e : b ≡ b' + d = omega arith in rw (e, same, news, top) (omega arith)
+-- the walk goes on with one job more
+abbrev pub gone_on : Stage → ℕ → Stage
+gone_on s j = record s { word = s.word ++ j ∷ []; walk = spent_one s.walk }
 
--- the desk's word has one child alone, and the desk goes on to it
-pub follows_one : (now after : Walker) (j : ℕ) → length now.desk.word < operation_count now.desk.shop
-    → conflict now.desk.shop now.desk.word ≡ j ∷ [] → SoleCandidateKeepsBound now.desk.shop now.desk.word
-    → 0 < now.progress.budget → lb now.desk.shop now.desk.word < now.progress.best → IsInOrder now
-    → after.desk ≡ goes_on now.desk j → after.stack.items ≡ now.stack.items
-    → walked after.progress ≡ spent_one now.progress → after.progress.left.items ≡ now.progress.left.items
-    → after.progress.instance.now ≡ now.progress.instance.now → HasFollowed now after
-follows_one now after j short alone keeps some below ordered went stack is left instance =
-    let shop = now.desk.shop
-    in let w = now.desk.word
+-- the word has one child alone, and the walk goes on to it
+pub follows_one : (s : Stage) (j : ℕ) → length s.word < operation_count s.shop
+    → conflict s.shop s.word ≡ j ∷ [] → SoleCandidateKeepsBound s.shop s.word
+    → 0 < s.walk.budget → lb s.shop s.word < s.walk.best → IsInOrder s → HasFollowed s (gone_on s j)
+follows_one s j short alone keeps some below ordered =
+    let shop = s.shop
+    in let w = s.word
     in let child = w ++ j ∷ []
-    in let rest = now.stack.items
     in let n = length w
     in let bound : lb shop child ≡ lb shop w = keeps j alone
     in let longer = length_push w j
     in let alike : take n child ≡ take n w = take-append_seam w (j ∷ []) ∙ sym (take-length w)
-    in let low = all_weaker (IsWaiting shop w) (IsUpTo n) (deep shop w) rest ordered.each
+    in let low = all_weaker (IsWaiting shop s.walk.best w) (IsUpTo n) (deep shop s.walk.best w) s.stack ordered.each
     in let children : branch shop w ≡ child ∷ [] =
     ap (λ (js : List ℕ). sort_by (lb shop) (map (λ i. w ++ i ∷ []) js)) alone
-    in let budget : after.progress.budget ≡ now.progress.budget - 1 = ap (λ (s : Walk). s.budget) is
     in record {
-      walk = ap (λ (d : DeskState). walk_stack d.shop d.word (entered d.shop (walked after.progress) d.word)
-          after.stack.items) went
-          ∙ (ap (λ (xs : List Waiting). walk_stack shop child (entered shop (walked after.progress) child) xs) stack
-          ∙ (ap (λ s. walk_stack shop child (entered shop s child) rest) is
-          ∙ (stack-same shop child w n alike (entered shop (spent_one now.progress) child) rest low
-          ∙ ap (λ s. walk_stack shop w s rest)
-          (sym (enters shop now.progress child some (omega arith))
-          ∙ (ap (fold (walk shop) (walked now.progress)) (sym children)
-          ∙ sym (entered-children shop (walked now.progress) w short))))));
-      in_order = subst (λ (d : DeskState). AreWaiting d.shop d.word after.stack.items) (sym went)
-          (subst (λ (xs : List Waiting). AreWaiting shop child xs) (sym stack) (record {
-            each = all-same shop child w n alike (omega arith) rest low ordered.each;
-            rising = ordered.rising;
-          }));
-      bound = ap (λ (d : DeskState). lb d.shop d.word) went ∙ bound;
-      shop = ap (λ (d : DeskState). d.shop) went;
+      walk = ap (fold (walk shop) (entered shop (spent_one s.walk) child)) (words-same shop child w n alike s.stack low)
+          ∙ ap (λ t. walk_stack shop w t s.stack)
+          (sym (enters shop s.walk child some (omega arith))
+          ∙ (ap (fold (walk shop) s.walk) (sym children) ∙ sym (entered-children shop s.walk w short)));
+      in_order = record {
+        each = all-same shop child w n alike s.walk.best (omega arith) s.stack low ordered.each;
+        rising = ordered.rising;
+      };
+      bound = bound;
+      shop = refl;
       spent = omega arith;
-      best = ap (λ (s : Walk). s.best) is;
-      left = left;
-      instance = instance;
-      stack = stack;
+      best = refl;
+      stack = refl;
     }
 
-pub followed_then : (before now after : Walker) → HasFollowed before now → HasFollowed now after
-    → HasFollowed before after
-followed_then before now after f g = record {
+pub followed_then : (s m t : Stage) → HasFollowed s m → HasFollowed m t → HasFollowed s t
+followed_then s m t f g = record {
   walk = g.walk ∙ f.walk;
   in_order = g.in_order;
   bound = g.bound ∙ f.bound;
   shop = g.shop ∙ f.shop;
   spent = (let a = f.spent in let b = g.spent in omega arith);
   best = g.best ∙ f.best;
-  left = g.left ∙ f.left;
-  instance = g.instance ∙ f.instance;
   stack = g.stack ∙ f.stack;
 }
 
-pub followed_none : (w : Walker) → IsInOrder w → HasFollowed w w
-followed_none w ordered = record {
-  walk = refl;
-  in_order = ordered;
-  bound = refl;
+-- the children of the word are put on the stack
+pub expands_branched : (s t : Stage) → length s.word < operation_count s.shop → IsInOrder s → HasBranched s t
+    → HasExpanded s t
+expands_branched s t short ordered b = subst (HasExpanded s) (sym b.same) (record {
+  walk = children_walk s.shop s.word s.stack t.stack s.walk s.walk.best short b.stack;
+  in_order = adds-waits s.shop s.walk.best s.word s.stack t.stack ordered b.stack;
+  fewer = same_budget s.walk.budget (length s.shop.jobs) (length t.stack) (length s.stack) b.few;
   shop = refl;
   spent = omega arith;
-  best = refl;
-  left = refl;
-  instance = refl;
-  stack = refl;
+})
+
+-- the word is found
+abbrev pub found_at : Stage → Stage
+found_at s = record s { walk = record s.walk { found = Some s.word; best = lb s.shop s.word } }
+
+-- it is full
+pub expands_found : (s : Stage) → operation_count s.shop ≤ length s.word → lb s.shop s.word < s.walk.best → IsInOrder s
+    → HasExpanded s (found_at s)
+expands_found s long below ordered = record {
+  walk = ap (λ t. walk_stack s.shop s.word t s.stack) (sym (entered-full s.shop s.walk s.word long));
+  in_order = all-lower s.shop s.walk.best (lb s.shop s.word) s.word s.stack (omega arith) ordered;
+  fewer = same_budget s.walk.budget (length s.shop.jobs) (length s.stack) (length s.stack) (omega arith);
+  shop = refl;
+  spent = omega arith;
 }
 
-less_spent : (b b' jobs jobs' new rest rest' : ℕ) → b' ≤ b → jobs' ≡ jobs → rest' ≡ rest
-    → new ≤ b' * (jobs' + 2) + rest' + jobs' + 1 → new ≤ b * (jobs + 2) + rest + jobs + 1
-less_spent b b' jobs jobs' new rest rest' le same rests few =
-    let d = b - b'
-    in let e : b ≡ b' + d = omega arith
-    in let few' : new ≤ b' * (jobs + 2) + rest + jobs + 1 = rw (← same, ← rests) few in rw e (omega arith)
+-- where the walk went on before
+pub expands_followed : (s m t : Stage) → HasFollowed s m → HasExpanded m t → HasExpanded s t
+expands_followed s m t f e = record {
+  walk = e.walk ∙ f.walk;
+  in_order = e.in_order;
+  fewer = less_spent s.walk.budget m.walk.budget (length s.shop.jobs) (length m.shop.jobs) (turns_left t)
+      (length s.stack) f.spent (ap (λ (x : Shop). length x.jobs) f.shop)
+      (subst (λ (xs : List Waiting). turns_left t ≤ m.walk.budget * (length m.shop.jobs + 2) + length xs
+      + length m.shop.jobs + 1) f.stack e.fewer);
+  shop = e.shop ∙ f.shop;
+  spent = (let a = e.spent in let b = f.spent in omega arith);
+}
 
--- the children of the desk's word are put on the stack
-pub expands_branched : (before after : Walker) → length before.desk.word < operation_count before.desk.shop
-    → IsInOrder before → HasBranched before after → HasExpanded before after
-expands_branched before after short ordered b =
-    let shop = before.desk.shop
-    in let w = before.desk.word
-    in let new = after.stack.items
-    in let budget : after.progress.budget ≡ before.progress.budget = ap (λ (p : Progress). p.budget) b.progress
-    in record {
-      walk = ap (λ (p : Progress). still_open shop (walk_stack after.desk.shop after.desk.word (walked p) new))
-          b.progress
-          ∙ (ap (λ (d : DeskState). still_open shop (walk_stack d.shop d.word (walked before.progress) new)) b.desk
-          ∙ children_walk shop w before.stack.items new (walked before.progress) before.progress.best (omega arith)
-          short b.stack);
-      in_order = subst (λ (d : DeskState). AreWaiting d.shop d.word new) (sym b.desk)
-          (adds-waits shop before.progress.best w before.stack.items new ordered b.stack);
-      fewer = as_many before.progress.budget after.progress.budget (length shop.jobs) (length after.desk.shop.jobs)
-          (length new) (length before.stack.items) budget (ap (λ (d : DeskState). length d.shop.jobs) b.desk) b.few;
-      shop = ap (λ (d : DeskState). d.shop) b.desk;
-      spent = omega arith;
-      instance = ap (λ (p : Progress). p.instance.now) b.progress;
-    }
-
--- the desk's word is full, and is found
-pub expands_found : (before after : Walker) → operation_count before.desk.shop ≤ length before.desk.word
-    → IsInOrder before → after.desk ≡ before.desk → after.stack.items ≡ before.stack.items
-    → walked after.progress ≡ record (walked before.progress) {
-      found = Some before.desk.word;
-      best = lb before.desk.shop before.desk.word;
-    }
-    → after.progress.instance.now ≡ before.progress.instance.now → HasExpanded before after
-expands_found before after long ordered desk stack found instance =
-    let shop = before.desk.shop
-    in let w = before.desk.word
-    in let rest = before.stack.items
-    in let budget : after.progress.budget ≡ before.progress.budget = ap (λ (s : Walk). s.budget) found
-    in record {
-      walk = ap (still_open shop)
-          (ap (λ s. walk_stack after.desk.shop after.desk.word s after.stack.items)
-          (found ∙ sym (entered-full shop (walked before.progress) w long))
-          ∙ (ap
-          (λ (d : DeskState). walk_stack d.shop d.word (entered shop (walked before.progress) w) after.stack.items) desk
-          ∙ ap (λ (xs : List Waiting). walk_stack shop w (entered shop (walked before.progress) w) xs) stack));
-      in_order = subst (λ (d : DeskState). AreWaiting d.shop d.word after.stack.items) (sym desk)
-          (subst (λ (xs : List Waiting). AreWaiting shop w xs) (sym stack) ordered);
-      fewer = as_many before.progress.budget after.progress.budget (length shop.jobs) (length after.desk.shop.jobs)
-          (length after.stack.items) (length rest) budget (ap (λ (d : DeskState). length d.shop.jobs) desk)
-          (let a = ap (λ (xs : List Waiting). length xs) stack in omega arith);
-      shop = ap (λ (d : DeskState). d.shop) desk;
-      spent = omega arith;
-      instance = instance;
-    }
-
--- where the desk went on before
-pub expands_followed : (before mid after : Walker) → HasFollowed before mid → HasExpanded mid after
-    → HasExpanded before after
-expands_followed before mid after f e =
-    record {
-      walk = subst (λ x. AreAlike x (stack_walk after) (walk_on mid)) f.shop e.walk
-          ∙ ap (still_open before.desk.shop) f.walk;
-      in_order = e.in_order;
-      fewer = less_spent before.progress.budget mid.progress.budget (length before.desk.shop.jobs)
-          (length mid.desk.shop.jobs) (turns_left after after.stack.items) (length before.stack.items)
-          (length mid.stack.items) f.spent (ap (λ (x : Shop). length x.jobs) f.shop)
-          (ap (λ (xs : List Waiting). length xs) f.stack) e.fewer;
-      shop = e.shop ∙ f.shop;
-      spent = (let a = e.spent in let b = f.spent in omega arith);
-      instance = e.instance ∙ f.instance;
-    }
-
-pub found_followed : (before mid after : Walker) → HasFollowed before mid
-    → operation_count mid.desk.shop ≤ length mid.desk.word → after.desk ≡ mid.desk
-    → after.stack.items ≡ mid.stack.items
-    → walked after.progress ≡ record (walked mid.progress) {
-      found = Some mid.desk.word;
-      best = lb mid.desk.shop mid.desk.word;
-    }
-    → after.progress.instance.now ≡ mid.progress.instance.now → HasExpanded before after
-found_followed before mid after f long desk stack found instance =
-    expands_followed before mid after f (expands_found mid after long f.in_order desk stack found instance)
+pub found_followed : (s m t : Stage) → HasFollowed s m → operation_count m.shop ≤ length m.word
+    → lb m.shop m.word < m.walk.best → t ≡ found_at m → HasExpanded s t
+found_followed s m t f long below e =
+    expands_followed s m t f (subst (HasExpanded m) (sym e) (expands_found m long below f.in_order))

@@ -5,7 +5,7 @@ pub mod BetterChildren
 pub mod WalkSteps
 pub mod SearchLaw
 pub mod Found
-pub mod AlikeWalks
+pub mod HighWalks
 mod Counting
 mod ChildrenLemmas
 mod FirstOn
@@ -18,3 +18,4 @@ mod PushLemmas
 mod PutLemmas
 mod ExpandLemmas
 mod WalkerLemmas
+mod LeftLemmas

@@ -1,215 +1,265 @@
--- The turns of a walk, told of a walker before and after.
-use Rattle.std.proofs.Common.{◌≡◌, ℕ, ◌+◌, ◌-◌, ◌≤◌, ◌<◌, Option, List, [], ◌∷◌, ◌++◌, length}
+-- The turns of a walk, told of where it stands before and after.
+use Rattle.std.proofs.Common.{◌≡◌, ℕ, zero, suc, ◌+◌, ◌-◌, ◌*◌, ◌≤◌, ◌<◌, ◌⊎◌, inl, inr, Option, List, [], ◌∷◌, ◌++◌}
+use Rattle.std.proofs.Common.{length}
 use Rattle.std.proofs.Common.{refl, sym, ◌∙◌, ap, subst, arith}
-use Rattle.std.specs.Prelude.{slice_index_or, take}
-use Rattle.std.specs.List.{fold}
-use Rattle.std.proofs.lemmas.List.{length_push, take_more, map-append}
+use Rattle.std.specs.Prelude.{slice_index_or, take, drop}
+use Rattle.std.specs.List.{AllByRecursion, fold}
+use Rattle.std.proofs.lemmas.Bool.{cases_lt}
+use Rattle.std.proofs.lemmas.List.{length_push, length-drop, drop_more, drop_all, drop-drop}
 use Rattle.std.proofs.lemmas.List.Sums.{fold-append}
 use Rattle.shop_model.specs.Shop.{Shop}
-use Rattle.shop_bound.specs.Bound.{lb}
-use Rattle.shop_bound.specs.Desks.{DeskState}
-use Rattle.shop_tree.specs.Nodes.{words_of, IsNode}
-use Rattle.shop_tree.specs.Pieces.{walk_told, still_open}
+use Rattle.shop_heads.specs.Bound.{lb}
+use Rattle.shop_tree.specs.Branching.{branch}
+use Rattle.shop_tree.specs.Nodes.{words_of}
+use Rattle.shop_tree.specs.Pieces.{walk_told}
 use Rattle.shop_tree.specs.Walking.{Walk, walk, sheet}
-use Rattle.shop_tree.specs.inner.Moving.{at_word}
-use Rattle.shop_tree.specs.inner.Opens.{word_at, AreWaiting}
-use Rattle.shop_tree.specs.inner.Walkers.{HasExpanded, HasWalked, IsNextOn, IsTurn}
-use Rattle.shop_tree.specs.inner.Walkers.{node_walk, nodes_walk, stack_walk, turns_left}
-use Rattle.shop_tree.specs.inner.Searching.{AreAlike, walk_entry, walk_stack, walked, entered, with_left, opening_walk}
+use Rattle.shop_tree.specs.inner.Opens.{word_at, last_of, waiting_words, stack_words, IsClosed}
+use Rattle.shop_tree.specs.inner.Walkers.{Stage, HasExpanded, HasWalked, HasWalkedUpTo, IsInOrder, IsTurn}
+use Rattle.shop_tree.specs.inner.Walkers.{on_top, node_walk, nodes_walk, stack_walk, turns_left}
+use Rattle.shop_tree.specs.inner.Searching.{walk_stack, opening_walk, entered}
 use Rattle.shop_tree.specs.declared.nodes.Node.{Node}
 use Rattle.shop_tree.specs.declared.opens.Open.{Open}
 use Rattle.shop_tree.specs.declared.opens.Waiting.{Waiting}
 use Rattle.shop_tree.specs.declared.opens.Waiting.TheVariants.{Child, Rest}
-use Rattle.shop_tree.specs.declared.progress.Progress.{Progress}
-use Rattle.shop_tree.specs.declared.walkers.Walker.{Walker}
-use Rattle.shop_tree.proofs.AlikeWalks.{walk-alike, high-alike}
-use Rattle.shop_tree.proofs.NodeLemmas.{all_open}
-use Rattle.shop_tree.proofs.OpenLemmas.{popped, stack-alike, walk-top}
-use Rattle.shop_tree.proofs.TurnLemmas.{child_walks}
-use Rattle.shop_tree.proofs.WalkSteps.{walk-left}
-use Rattle.shop_tree.proofs.ExpandLemmas.{spent_one, enters, cuts, one_spent, one_less}
+use Rattle.shop_tree.proofs.HighWalks.{high-taken, none-walked}
+use Rattle.shop_tree.proofs.ListLemmas.{all_back}
+use Rattle.shop_tree.proofs.OpenLemmas.{popped, replaced, walk-top}
+use Rattle.shop_tree.proofs.TurnLemmas.{below_waits, child_walks}
+use Rattle.shop_tree.proofs.ExpandLemmas.{spent_one, enters, cuts}
 
--- what was on top of the stack: nothing more is done of it
-pub turn_over : (before after : Walker) (x : Waiting) → IsNextOn before x
-    → AreAlike before.desk.shop (walked after.progress)
-    (walk_entry before.desk.shop before.desk.word (walked before.progress) x)
-    → after.progress.budget ≤ before.progress.budget → after.desk ≡ before.desk
-    → after.stack.items ≡ before.stack.items → after.progress.instance.now ≡ before.progress.instance.now
-    → IsTurn before x after
-turn_over before after x on walks budget desk stack instance =
-    let shop = before.desk.shop
-    in let w = before.desk.word
-    in let rest = before.stack.items
+-- turns over plain numbers
+one_spent : (b jobs jobs' new rest one : ℕ) → 0 < b → jobs' ≡ jobs → one ≡ rest + 1
+    → new ≤ (b - 1) * (jobs + 2) + rest + jobs + 1 → new < b * (jobs + 2) + one
+one_spent b jobs jobs' new rest one some same top few =
+    let c = b - 1 in let e : b ≡ c + 1 = omega arith
+    in let few' : new ≤ c * (jobs + 2) + rest + jobs + 1 = few in rw (e, top) (omega arith)
+
+one_less : (b b' jobs rest one : ℕ) → b' ≤ b → one ≡ rest + 1
+    → b' * (jobs + 2) + rest < b * (jobs + 2) + one
+one_less b b' jobs rest one le top =
+    let d = b - b' in let e : b ≡ b' + d = omega arith in rw (e, top) (omega arith)
+
+none_spent : (b jobs new one : ℕ) → 0 < b → new ≡ one → 0 * (jobs + 2) + new < b * (jobs + 2) + one
+none_spent b jobs new one some same =
+    let c = b - 1 in let e : b ≡ c + 1 = omega arith in rw (e, same) (omega arith)
+
+-- a child is cut off
+pub turn_cut : (s : Stage) (o : Open) → IsInOrder (on_top s (Child o)) → 0 < s.walk.budget → s.walk.best ≤ o.bound
+    → IsTurn s (Child o) (record s { walk = spent_one s.walk })
+turn_cut s o on some high =
+    let p = popped s.shop s.walk.best s.word s.stack (Child o) on
+    in let own = p.own.bound
     in record {
-      walk = ap
-          (λ (d : DeskState). still_open shop (walk_stack d.shop d.word (walked after.progress) after.stack.items)) desk
-          ∙ (ap (λ (xs : List Waiting). still_open shop (walk_stack shop w (walked after.progress) xs)) stack
-          ∙ (stack-alike shop w (walked after.progress) (walk_entry shop w (walked before.progress) x) rest walks
-          ∙ ap (still_open shop) (sym (walk-top shop (walked before.progress) w rest x))));
-      in_order = subst (λ (d : DeskState). AreWaiting d.shop d.word after.stack.items) (sym desk)
-          (subst (λ (xs : List Waiting). AreWaiting shop w xs) (sym stack) (popped shop w rest x on).rest_waits);
-      fewer = one_less before.progress.budget after.progress.budget (length shop.jobs) (length after.desk.shop.jobs)
-          (length after.stack.items) (length rest) (length (rest ++ x ∷ [])) budget
-          (ap (λ (d : DeskState). length d.shop.jobs) desk) (ap (λ (xs : List Waiting). length xs) stack)
-          (length_push rest x);
-      shop = ap (λ (d : DeskState). d.shop) desk;
-      spent = budget;
-      instance = instance;
-    }
-
--- closed children, where no budget is left to count them by
-pub rest_passed : (shop : Shop) (word : List ℕ) (p : Progress) (rest : List Waiting) (count : ℕ) → p.budget ≡ 0
-    → walk_stack shop word (walked p) rest ≡ walk_stack shop word (walked p) (rest ++ Rest count ∷ [])
-rest_passed shop word p rest count none =
-    ap (λ b. walk_stack shop word (walk_told p.found p.best p.left.items b) rest)
-    (let e : p.budget ≡ p.budget - count = omega arith in e)
-    ∙ sym (walk-top shop (walked p) word rest (Rest count))
-
--- it is cut off
-pub turn_cut : (before after : Walker) (o : Open) → IsNextOn before (Child o) → 0 < before.progress.budget
-    → before.progress.best ≤ o.bound → after.desk ≡ before.desk → after.stack.items ≡ before.stack.items
-    → walked after.progress ≡ spent_one before.progress
-    → after.progress.instance.now ≡ before.progress.instance.now → IsTurn before (Child o) after
-turn_cut before after o on some high desk stack is instance =
-    let shop = before.desk.shop
-    in let own = (popped shop before.desk.word before.stack.items (Child o) on).own.bound
-    in let budget : after.progress.budget ≡ before.progress.budget - 1 = ap (λ (s : Walk). s.budget) is
-    in turn_over before after (Child o) on
-    (ap (still_open shop) (is ∙ sym (cuts shop before.progress (word_at before.desk.word o) some (omega arith))))
-    (omega arith) desk stack instance
-
--- it is left
-pub turn_left : (before after : Walker) (o : Open) → IsNextOn before (Child o) → before.progress.budget ≡ 0
-    → after.desk ≡ before.desk → after.stack.items ≡ before.stack.items
-    → walked after.progress ≡ with_left (walked before.progress) (word_at before.desk.word o)
-    → after.progress.instance.now ≡ before.progress.instance.now → IsTurn before (Child o) after
-turn_left before after o on none desk stack is instance =
-    let p = before.progress
-    in let budget : after.progress.budget ≡ p.budget = ap (λ (s : Walk). s.budget) is
-    in turn_over before after (Child o) on
-    (ap (still_open before.desk.shop)
-    (is ∙ sym (walk-left before.desk.shop p.found p.best (words_of p.left.items) (word_at before.desk.word o) p.budget
-    none))) (omega arith) desk stack instance
-
--- its bound reaches the best, so that it isn't left
-pub dropped : (shop : Shop) (p : Progress) (w : List ℕ) → p.budget ≡ 0 → p.best ≤ lb shop w
-    → AreAlike shop (walked p) (walk shop (walked p) w)
-dropped shop p w none high =
-    ap (λ b. still_open shop (walk_told p.found p.best p.left.items b))
-    (let e : p.budget ≡ p.budget - 1 = omega arith in e)
-    ∙ sym (high-alike shop (walked p) w high)
-
-pub turn_dropped : (before after : Walker) (o : Open) → IsNextOn before (Child o) → before.progress.budget ≡ 0
-    → before.progress.best ≤ o.bound → after.desk ≡ before.desk → after.stack.items ≡ before.stack.items
-    → after.progress ≡ before.progress → IsTurn before (Child o) after
-turn_dropped before after o on none high desk stack same =
-    let shop = before.desk.shop
-    in let own = (popped shop before.desk.word before.stack.items (Child o) on).own.bound
-    in let budget : after.progress.budget ≡ before.progress.budget = ap (λ (p : Progress). p.budget) same
-    in turn_over before after (Child o) on
-    (ap (λ (p : Progress). still_open shop (walked p)) same
-    ∙ dropped shop before.progress (word_at before.desk.word o) none (omega arith))
-    (omega arith) desk stack (ap (λ (p : Progress). p.instance.now) same)
-
--- the walk goes on from it
-pub turn_expanded : (before mid after : Walker) (o : Open) → IsNextOn before (Child o) → 0 < before.progress.budget
-    → o.bound < before.progress.best → mid.desk ≡ at_word before.desk (word_at before.desk.word o)
-    → mid.stack.items ≡ before.stack.items → walked mid.progress ≡ spent_one before.progress
-    → mid.progress.instance.now ≡ before.progress.instance.now → HasExpanded mid after → IsTurn before (Child o) after
-turn_expanded before mid after o on some below went stack is instance e =
-    let shop = before.desk.shop
-    in let rest = before.stack.items
-    in let own = (popped shop before.desk.word rest (Child o) on).own.bound
-    in let shops : mid.desk.shop ≡ shop = ap (λ (d : DeskState). d.shop) went
-    in let budget : mid.progress.budget ≡ before.progress.budget - 1 = ap (λ (s : Walk). s.budget) is
-    in record {
-      walk = subst (λ x. AreAlike x (stack_walk after) (walk_stack mid.desk.shop mid.desk.word
-          (entered mid.desk.shop (walked mid.progress) mid.desk.word) mid.stack.items)) shops e.walk
-          ∙ ap (still_open shop)
-          (ap (λ (xs : List Waiting). walk_stack mid.desk.shop mid.desk.word
-          (entered mid.desk.shop (walked mid.progress) mid.desk.word) xs) stack
-          ∙ (ap (λ s. walk_stack mid.desk.shop mid.desk.word (entered mid.desk.shop s mid.desk.word) rest) is
-          ∙ child_walks before.desk mid.desk rest o (walked before.progress) (spent_one before.progress) went on
-          (enters shop before.progress (word_at before.desk.word o) some (omega arith))));
-      in_order = e.in_order;
-      fewer = one_spent before.progress.budget mid.progress.budget (length shop.jobs) (length mid.desk.shop.jobs)
-          (turns_left after after.stack.items) (length rest) (length mid.stack.items) (length (rest ++ Child o ∷ []))
-          (omega arith) (ap (λ (d : DeskState). length d.shop.jobs) went)
-          (ap (λ (xs : List Waiting). length xs) stack) (length_push rest (Child o)) e.fewer;
-      shop = e.shop ∙ shops;
-      spent = (let a = e.spent in omega arith);
-      instance = e.instance ∙ instance;
-    }
-
--- a node: the walk goes on from it
-pub node_expanded : (before mid to after : Walker) (node : Node) → before.stack.items ≡ []
-    → 0 < before.progress.budget → lb before.desk.shop node.word < before.progress.best
-    → mid.desk ≡ at_word before.desk node.word → mid.stack.items ≡ before.stack.items
-    → walked mid.progress ≡ spent_one before.progress
-    → mid.progress.instance.now ≡ before.progress.instance.now → HasExpanded mid to
-    → HasWalked to after (stack_walk to) → HasWalked before after (node_walk before node)
-node_expanded before mid to after node empty some below went stack is instance e h =
-    let shop = before.desk.shop
-    in let shops : mid.desk.shop ≡ shop = ap (λ (d : DeskState). d.shop) went
-    in let budget : mid.progress.budget ≡ before.progress.budget - 1 = ap (λ (s : Walk). s.budget) is
-    in record {
-      walk = subst (λ x. AreAlike x (walked after.progress) (stack_walk to)) (e.shop ∙ shops) h.walk
-          ∙ (subst (λ x. AreAlike x (stack_walk to) (walk_stack mid.desk.shop mid.desk.word
-          (entered mid.desk.shop (walked mid.progress) mid.desk.word) mid.stack.items)) shops e.walk
-          ∙ ap (still_open shop)
-          (ap (λ (xs : List Waiting). walk_stack mid.desk.shop mid.desk.word
-          (entered mid.desk.shop (walked mid.progress) mid.desk.word) xs) (stack ∙ empty)
-          ∙ (ap (λ s. entered mid.desk.shop s mid.desk.word) is
-          ∙ (ap (λ (d : DeskState). entered d.shop (spent_one before.progress) d.word) went
-          ∙ sym (enters shop before.progress node.word some below)))));
-      spent = (let a = h.spent in let b = e.spent in omega arith);
-      instance = h.instance ∙ (e.instance ∙ instance);
-      stack = h.stack;
-    }
-
--- it is left
-pub node_dropped : (w : Walker) (node : Node) → w.stack.items ≡ [] → w.progress.budget ≡ 0
-    → IsNode w.progress.instance.now node → w.progress.best ≤ node.bound → HasWalked w w (node_walk w node)
-node_dropped w node empty none is high =
-    let bound : node.bound ≡ lb w.desk.shop node.word = is.1 ∙ ap (λ x. lb x node.word) (sym w.same_shop)
-    in record {
-      walk = dropped w.desk.shop w.progress node.word none (omega arith);
+      walk = ap (λ t. walk_stack s.shop s.word t s.stack) (sym (cuts s.shop s.walk (word_at s.word o) some (omega arith)))
+          ∙ sym (walk-top s.shop s.walk s.word s.stack (Child o));
+      in_order = p.rest_waits;
+      fewer = one_less s.walk.budget (s.walk.budget - 1) (length s.shop.jobs) (length s.stack)
+          (length (s.stack ++ Child o ∷ [])) (omega arith) (length_push s.stack (Child o));
+      shop = refl;
       spent = omega arith;
-      instance = refl;
-      stack = empty;
     }
 
--- what a walk of nodes, from nothing left on, comes to
-pub told_sheet : (shop : Shop) (nodes : List Node) (best budget : ℕ) (from p : Progress) (found : Option (List ℕ))
-    (left : List Node) → p.instance.now ≡ shop → walked from ≡ opening_walk best budget → p.budget ≤ from.budget
-    → AreAlike shop (walked p) (fold (walk shop) (walked from) (words_of nodes)) → found ≡ p.found
-    → left ≡ p.left.items
-    → walk_told found p.best left (budget - (budget - p.budget))
-    ≡ still_open shop (sheet shop (words_of nodes) best budget)
-told_sheet shop nodes best budget from p found left same begun spent walks found_is left_is =
-    let whole : from.budget ≡ budget = ap (λ (s : Walk). s.budget) begun
-    in let rest : budget - (budget - p.budget) ≡ p.budget = omega arith
-    in ap (walk_told found p.best left) rest
-    ∙ (ap (λ (ns : List Node). walk_told found p.best ns p.budget) left_is
-    ∙ (ap (λ (f : Option (List ℕ)). walk_told f p.best p.left.items p.budget) found_is
-    ∙ (all_open shop p same
-    ∙ (walks ∙ ap (λ (s : Walk). still_open shop (fold (walk shop) s (words_of nodes))) begun))))
+-- the walk goes on to it
+abbrev pub went_to : Stage → Open → Stage
+went_to s o = record s { word = word_at s.word o; walk = spent_one s.walk }
+
+pub went_in_order : (s : Stage) (o : Open) → IsInOrder (on_top s (Child o)) → IsInOrder (went_to s o)
+went_in_order s o on = below_waits s.shop s.walk.best s.word s.stack o on
+
+pub turn_expanded : (s t : Stage) (o : Open) → IsInOrder (on_top s (Child o)) → 0 < s.walk.budget
+    → o.bound < s.walk.best → HasExpanded (went_to s o) t → IsTurn s (Child o) t
+turn_expanded s t o on some below e =
+    let own = (popped s.shop s.walk.best s.word s.stack (Child o) on).own.bound
+    in record {
+      walk = e.walk ∙ child_walks s.shop s.walk.best s.word s.stack o on s.walk (spent_one s.walk)
+          (enters s.shop s.walk (word_at s.word o) some (omega arith));
+      in_order = e.in_order;
+      fewer = one_spent s.walk.budget (length s.shop.jobs) (length t.shop.jobs) (turns_left t) (length s.stack)
+          (length (s.stack ++ Child o ∷ [])) some (ap (λ (x : Shop). length x.jobs) e.shop)
+          (length_push s.stack (Child o)) e.fewer;
+      shop = e.shop;
+      spent = (let a = e.spent in omega arith);
+    }
+
+-- the last of the last ones
+last_last : {A : Type 0} (xs : List A) (n m : ℕ) → n ≤ m → m ≤ length xs → drop n (last_of m xs) ≡ last_of (m - n) xs
+last_last xs n m le few = drop-drop n (length xs - m) xs
+    ∙ ap (λ k. drop k xs) (let e : length xs - m + n ≡ length xs - (m - n) = omega arith in e)
+
+length-last : {A : Type 0} (xs : List A) (n : ℕ) → n ≤ length xs → length (last_of n xs) ≡ n
+length-last xs n few = let a = length-drop (length xs - n) xs in omega arith
+
+-- closed children are counted, as far as the budget goes
+module _ (s : Stage) (depth count n : ℕ) (on : IsInOrder (on_top s (Rest depth count))) (some : n ≤ s.walk.budget)
+    (within : n ≤ count) where
+  abbrev kids : List (List ℕ)
+  kids = branch s.shop (take depth s.word)
+
+  counted : fold (walk s.shop) s.walk (last_of count kids)
+      ≡ fold (walk s.shop) (record s.walk { budget = s.walk.budget - n }) (last_of (count - n) kids)
+  counted =
+      let own = (popped s.shop s.walk.best s.word s.stack (Rest depth count) on).own
+      in let long = length-last kids count own.few
+      in high-taken s.shop s.walk n (last_of count kids) some own.high (omega arith)
+      ∙ ap (fold (walk s.shop) (record s.walk { budget = s.walk.budget - n })) (last_last kids n count within own.few)
+
+-- all of them
+pub turn_counted : (s : Stage) (depth count : ℕ) → IsInOrder (on_top s (Rest depth count)) → count ≤ s.walk.budget
+    → IsTurn s (Rest depth count) (record s { walk = record s.walk { budget = s.walk.budget - count } })
+turn_counted s depth count on some =
+    let p = popped s.shop s.walk.best s.word s.stack (Rest depth count) on
+    in let kids = branch s.shop (take depth s.word)
+    in let left : last_of (count - count) kids ≡ [] = drop_all (length kids - (count - count)) kids (omega arith)
+    in record {
+      walk = ap (λ t. walk_stack s.shop s.word t s.stack)
+          (sym (counted s depth count count on some (omega arith)
+          ∙ ap (fold (walk s.shop) (record s.walk { budget = s.walk.budget - count })) left))
+          ∙ sym (walk-top s.shop s.walk s.word s.stack (Rest depth count));
+      in_order = p.rest_waits;
+      fewer = one_less s.walk.budget (s.walk.budget - count) (length s.shop.jobs) (length s.stack)
+          (length (s.stack ++ Rest depth count ∷ [])) (omega arith) (length_push s.stack (Rest depth count));
+      shop = refl;
+      spent = omega arith;
+    }
+
+-- the others wait on
+abbrev pub halted_at : Stage → ℕ → ℕ → Stage
+halted_at s depth count = record s {
+  walk = record s.walk { budget = 0 };
+  stack = s.stack ++ Rest depth (count - s.walk.budget) ∷ [];
+}
+
+fewer_closed : (shop : Shop) (best : ℕ) (word : List ℕ) (depth count n : ℕ) → n ≤ count
+    → IsClosed shop best word depth count → IsClosed shop best word depth (count - n)
+fewer_closed shop best word depth count n le own =
+    let kids = branch shop (take depth word)
+    in let few = own.few
+    in record {
+      depth = own.depth;
+      short = own.short;
+      is_word = own.is_word;
+      few = omega arith;
+      high = subst (λ (ws : List (List ℕ)). AllByRecursion (λ v. best ≤ lb shop v) ws)
+          (last_last kids n count le own.few) (all_dropped n (last_of count kids) own.high);
+    }
+  where
+    all_dropped : (k : ℕ) (ws : List (List ℕ)) → AllByRecursion (λ v. best ≤ lb shop v) ws
+        → AllByRecursion (λ v. best ≤ lb shop v) (drop k ws)
+    all_dropped zero ws h = h
+    all_dropped (suc k) [] h = h
+    all_dropped (suc k) (w ∷ ws) h = all_dropped k ws h.1
+
+pub turn_halted : (s : Stage) (depth count : ℕ) → IsInOrder (on_top s (Rest depth count)) → 0 < s.walk.budget
+    → s.walk.budget ≤ count → IsTurn s (Rest depth count) (halted_at s depth count)
+turn_halted s depth count on some few =
+    let b = s.walk.budget
+    in let p = popped s.shop s.walk.best s.word s.stack (Rest depth count) on
+    in let rest = Rest depth (count - b)
+    in record {
+      walk = walk-top s.shop (record s.walk { budget = 0 }) s.word s.stack rest
+          ∙ (ap (λ t. walk_stack s.shop s.word t s.stack)
+          (ap (λ k. fold (walk s.shop) (record s.walk { budget = k }) (waiting_words s.shop s.word rest))
+          (let e : 0 ≡ b - b = omega arith in e)
+          ∙ sym (counted s depth count b on (omega arith) few))
+          ∙ sym (walk-top s.shop s.walk s.word s.stack (Rest depth count)));
+      in_order = replaced s.shop s.walk.best s.word s.stack (Rest depth count) rest on refl
+          (fewer_closed s.shop s.walk.best s.word depth count b few p.own);
+      fewer = none_spent b (length s.shop.jobs) (length (s.stack ++ rest ∷ [])) (length (s.stack ++ Rest depth count ∷ []))
+          some (length_push s.stack rest ∙ sym (length_push s.stack (Rest depth count)));
+      shop = refl;
+      spent = omega arith;
+    }
+
+-- a node that is cut off
+pub node_cut : (s : Stage) (node : Node) → s.stack ≡ [] → IsInOrder s → 0 < s.walk.budget
+    → s.walk.best ≤ lb s.shop node.word → HasWalked s (record s { walk = spent_one s.walk }) (node_walk s node)
+node_cut s node empty ordered some high = record {
+  walk = ap (λ (xs : List Waiting). walk_stack s.shop s.word (spent_one s.walk) xs) empty
+      ∙ sym (cuts s.shop s.walk node.word some high);
+  in_order = ordered;
+  shop = refl;
+  spent = omega arith;
+  done = λ _. empty;
+}
+
+-- a node that the walk goes on from
+abbrev pub at_node : Stage → Node → Stage
+at_node s node = record s { word = node.word; walk = spent_one s.walk }
+
+pub empty_in_order : (s : Stage) → s.stack ≡ [] → IsInOrder s
+empty_in_order s empty = subst (λ (xs : List Waiting). IsInOrder (record s { stack = xs })) (sym empty)
+    (record { each = tt; rising = tt })
+
+pub node_expanded : (s m t : Stage) (node : Node) → s.stack ≡ [] → 0 < s.walk.budget
+    → lb s.shop node.word < s.walk.best → HasExpanded (at_node s node) m → HasWalked m t (stack_walk m)
+    → HasWalked s t (node_walk s node)
+node_expanded s m t node empty some below e h = record {
+  walk = h.walk ∙ (e.walk
+      ∙ (ap (λ (xs : List Waiting). fold (walk s.shop) (entered s.shop (spent_one s.walk) node.word) (stack_words s.shop node.word xs)) empty
+      ∙ sym (enters s.shop s.walk node.word some below)));
+  in_order = h.in_order;
+  shop = h.shop ∙ e.shop;
+  spent = (let a = h.spent in let b = e.spent in omega arith);
+  done = h.done;
+}
 
 -- one node more
-pub one_node_more : (w mid after : Walker) (nodes : List Node) (k : ℕ) (node : Node) → k < length nodes
-    → node ≡ slice_index_or nodes k node → mid.desk.shop ≡ w.desk.shop
-    → AreAlike w.desk.shop (walked mid.progress) (nodes_walk w (take k nodes))
-    → HasWalked mid after (node_walk mid node)
-    → AreAlike w.desk.shop (walked after.progress) (nodes_walk w (take (k + 1) nodes))
-one_node_more w mid after nodes k node inside at same so_far h =
-    let shop = w.desk.shop
-    in let whole : nodes_walk w (take (k + 1) nodes) ≡ walk shop (nodes_walk w (take k nodes)) node.word =
-    ap (nodes_walk w) (take_more nodes k node inside)
-    ∙ (ap (fold (walk shop) (walked w.progress)) (map-append (λ (n : Node). n.word) (take k nodes)
-    (slice_index_or nodes k node ∷ []))
-    ∙ (fold-append (walk shop) (walked w.progress) (words_of (take k nodes))
-    ((slice_index_or nodes k node).word ∷ [])
-    ∙ ap (λ (n : Node). walk shop (nodes_walk w (take k nodes)) n.word) (sym at)))
-    in subst (λ x. AreAlike x (walked after.progress) (walk x (walked mid.progress) node.word)) same h.walk
-    ∙ (walk-alike shop (walked mid.progress) (nodes_walk w (take k nodes)) node.word so_far
-    ∙ ap (still_open shop) (sym whole))
+pub one_node_more : (s m t : Stage) (nodes : List Node) (k : ℕ) (node : Node) → k < length nodes
+    → node ≡ slice_index_or nodes k node → 0 < m.walk.budget → HasWalkedUpTo s m nodes k
+    → HasWalked m t (node_walk m node) → HasWalkedUpTo s t nodes (k + 1)
+one_node_more s m t nodes k node inside at some so_far h =
+    let split : drop k nodes ≡ node ∷ drop (k + 1) nodes = drop_more nodes k node inside
+    ∙ ap (λ (n : Node). n ∷ drop (k + 1) nodes) (sym at)
+    in record {
+      within = omega arith;
+      walk = ap (λ (x : Shop). fold (walk x) (stack_walk t) (words_of (drop (k + 1) nodes))) h.shop
+          ∙ (ap (λ u. fold (walk m.shop) u (words_of (drop (k + 1) nodes))) h.walk
+          ∙ (ap (λ (xs : List Waiting). fold (walk m.shop) (walk_stack m.shop m.word m.walk xs)
+          (node.word ∷ words_of (drop (k + 1) nodes))) (sym (so_far.done some))
+          ∙ (ap (λ (ns : List Node). fold (walk m.shop) (stack_walk m) (words_of ns)) (sym split) ∙ so_far.walk)));
+      in_order = h.in_order;
+      shop = h.shop ∙ so_far.shop;
+      spent = (let a = h.spent in let b = so_far.spent in omega arith);
+      done = h.done;
+    }
+
+-- what a walk of nodes comes to, from nothing on
+pub told_sheet : (s t : Stage) (nodes : List Node) (k : ℕ) (shop : Shop) (best budget : ℕ) → s.shop ≡ shop
+    → s.walk ≡ opening_walk best budget → t.walk.left ≡ [] → HasWalkedUpTo s t nodes k
+    → (0 < t.walk.budget → length nodes ≤ k)
+    → walk_told t.walk.found t.walk.best (stack_words t.shop t.word t.stack ++ words_of (drop k nodes))
+    (budget - (budget - t.walk.budget))
+    ≡ sheet shop (words_of nodes) best budget
+told_sheet s t nodes k shop best budget same begun none h over =
+    let ws = stack_words t.shop t.word t.stack ++ words_of (drop k nodes)
+    in let whole : s.walk.budget ≡ budget = ap (λ (x : Walk). x.budget) begun
+    in let spent = h.spent
+    in let rest : budget - (budget - t.walk.budget) ≡ t.walk.budget = omega arith
+    in let ended : (t.walk.budget ≡ 0) ⊎ (ws ≡ []) = elim (cases_lt 0 t.walk.budget) [
+      | inl some ↦ inr (ap (λ (xs : List Waiting). stack_words t.shop t.word xs ++ words_of (drop k nodes)) (h.done some)
+          ∙ ap words_of (drop_all k nodes (over some)))
+      | inr no_more ↦ inl (omega arith)
+    ]
+    in ap (walk_told t.walk.found t.walk.best ws) rest
+    ∙ (ap (λ (l : List (List ℕ)). record t.walk { left = l ++ ws }) (sym none)
+    ∙ (sym (none-walked t.shop t.walk ws ended)
+    ∙ (fold-append (walk t.shop) t.walk (stack_words t.shop t.word t.stack) (words_of (drop k nodes))
+    ∙ (h.walk
+    ∙ (ap (λ (x : Shop). fold (walk x) s.walk (words_of nodes)) same
+    ∙ ap (λ (x : Walk). fold (walk shop) x (words_of nodes)) begun)))))
+
+-- and the sheet that tells of it
+pub sheet_told : (s t : Stage) (nodes all untaken : List Node) (k : ℕ) (shop : Shop) (best budget : ℕ)
+    (found : Option (List ℕ)) (halted words : List (List ℕ)) → s.shop ≡ shop
+    → s.walk ≡ opening_walk best budget → t.walk.left ≡ [] → HasWalkedUpTo s t nodes k
+    → (0 < t.walk.budget → length nodes ≤ k) → nodes ≡ all → untaken ≡ drop k nodes → found ≡ t.walk.found
+    → halted ≡ stack_words t.shop t.word t.stack → words ≡ halted ++ words_of untaken
+    → walk_told found t.walk.best words (budget - (budget - t.walk.budget)) ≡ sheet shop (words_of all) best budget
+sheet_told s t nodes all untaken k shop best budget found halted words same begun none h over alike left is halts are =
+    let n = budget - (budget - t.walk.budget)
+    in ap (λ (f : Option (List ℕ)). walk_told f t.walk.best words n) is
+    ∙ (ap (λ (ws : List (List ℕ)). walk_told t.walk.found t.walk.best ws n)
+    (are ∙ (ap (λ (ws : List (List ℕ)). ws ++ words_of untaken) halts
+    ∙ ap (λ (ns : List Node). stack_words t.shop t.word t.stack ++ words_of ns) left))
+    ∙ (told_sheet s t nodes k shop best budget same begun none h over
+    ∙ ap (λ (ns : List Node). sheet shop (words_of ns) best budget) alike))

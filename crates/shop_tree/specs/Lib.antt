@@ -3,6 +3,7 @@ pub mod Walking
 pub mod Nodes
 pub mod Laws
 pub mod Pieces
+pub mod Left
 pub mod Sheets
 pub mod SharedWords
 pub mod inner

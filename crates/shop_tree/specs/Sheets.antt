@@ -20,7 +20,7 @@ abbrev pub walk_of : Sheet → Walk
 walk_of s = record {
   found = s.found;
   best = s.makespan;
-  left = words_of s.left.items;
+  left = s.left.words;
   budget = s.budget - s.taken;
 }
 

@@ -2,5 +2,6 @@
 pub mod Searching
 pub mod Opens
 pub mod Pushing
+pub mod Leaving
 pub mod Moving
 pub mod Walkers

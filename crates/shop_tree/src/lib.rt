@@ -4,6 +4,7 @@
 mod branching;
 mod child_nodes;
 mod laws;
+mod left;
 mod moving;
 mod nodes;
 mod opens;
@@ -19,6 +20,7 @@ mod walkers;
 pub use branching::conflict;
 pub use child_nodes::children;
 pub use laws::{branching_loses_no_table, searches_lose_no_table};
+pub use left::Left;
 pub use nodes::Node;
 pub use pieces::Piece;
 pub use searchers::Searcher;

@@ -1,7 +1,7 @@
 // A word with its lower bound.
 ghost use Rattle.std.specs.Prelude.{◌≡◌, IfOk};
 ghost use Rattle.shop_model.specs.Word.{IsWord};
-ghost use Rattle.shop_bound.specs.Bound.{lb};
+ghost use Rattle.shop_heads.specs.Bound.{lb};
 
 use crate::shared_words::SharedWord;
 use shop_bound::lower_bound;

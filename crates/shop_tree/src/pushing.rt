@@ -1,6 +1,6 @@
 // The children of a desk's word, in order.
-ghost use Rattle.std.specs.Prelude.{◌≡◌, ◌≤◌, vec_capacity, OnOk, IfOk};
-ghost use Rattle.shop_bound.specs.Bound.{lb};
+ghost use Rattle.std.specs.Prelude.{◌≡◌, ◌≤◌, ◌<◌, ◌^◌, vec_capacity, OnOk, IfOk};
+ghost use Rattle.shop_heads.specs.Bound.{lb};
 ghost use Rattle.shop_tree.specs.Branching.{conflict};
 ghost use Rattle.shop_tree.specs.inner.Opens.{AreChildrenOf, HasPut};
 ghost use Rattle.shop_tree.specs.inner.Pushing.{with_opens, with_rest};
@@ -72,12 +72,19 @@ pub(crate) fn push_open(stack: &mut Vec<Waiting>, children: &[Open]) -> Result<(
     Ok(())
 }
 
-/// Puts so many closed children on the stack, if there are any.
-pub(crate) fn push_rest(stack: &mut Vec<Waiting>, count: usize) -> Result<(), AllocError>
-    ensures { OnOk result (stack.new.items ≡ with_rest stack.old.items count) }
+/// Puts so many closed children of what these entries make on the stack, if there are any.
+pub(crate) fn push_rest(
+    stack: &mut Vec<Waiting>,
+    depth: usize,
+    count: usize,
+) -> Result<(), AllocError>
+    requires depth { depth < 2 ^ 32 }
+    requires count { count < 2 ^ 32 }
+    ensures { OnOk result (stack.new.items ≡ with_rest stack.old.items depth count) }
 {
     if count > 0 {
-        stack.push(Waiting::Rest(count))?;
+        let (depth, count) = (depth as u32, count as u32);
+        stack.push(Waiting::Rest { depth, count })?;
     }
     Ok(())
 }

@@ -1,18 +1,17 @@
 // The walk of the nodes of pieces, over a desk that is kept from one to the next.
-ghost use Rattle.std.specs.Prelude.{◌≡◌, ◌≤◌, ◌<◌, ◌^◌, length, vec_capacity, [], OnOk, IfOk};
-ghost use Rattle.std.specs.Arc.{arc_slice_items};
+ghost use Rattle.std.specs.Prelude.{◌≡◌, ◌≤◌, ◌<◌, ◌^◌, length, vec_capacity, drop, [], OnOk, IfOk};
 ghost use Rattle.shop_tree.specs.Nodes.{IsNode, AreNodes};
 ghost use Rattle.shop_tree.specs.Sheets.{IsSheetOf, KeepsTables};
-ghost use Rattle.shop_bound.specs.Bound.{lb};
+ghost use Rattle.shop_heads.specs.Bound.{lb};
 ghost use Rattle.shop_tree.specs.Branching.{conflict};
 
+use crate::left::{Halt, Left};
 use crate::moving::{go_to, undo_to};
 use crate::nodes::Node;
 use crate::opens::{Open, Waiting};
 use crate::pieces::Piece;
 use crate::progress::Progress;
 use crate::pushing::{gather_children, push_open, push_rest};
-use crate::shared_words::SharedWord;
 use crate::sheets::Sheet;
 use shop_bound::Desk;
 use shop_model::{Instance, Word};
@@ -34,18 +33,19 @@ pub(crate) struct Walker<'a> {
 
 impl<'a> Walker<'a> {
     ghost use Rattle.shop_tree.specs.declared.opens.Waiting.TheVariants.{Child, Rest};
-    ghost use Rattle.shop_tree.specs.inner.Walkers.{HasBranched, HasExpanded, HasWalked, IsInOrder};
-    ghost use Rattle.shop_tree.specs.inner.Walkers.{IsNextOn, IsTurn};
-    ghost use Rattle.shop_tree.specs.inner.Walkers.{node_walk, nodes_walk, stack_walk};
-    ghost use Rattle.shop_tree.specs.inner.Walkers.{BeginsWithWord, HasFollowed, HasConflict};
+    ghost use Rattle.shop_tree.specs.inner.Leaving.{halted_words, IsHalt};
+    ghost use Rattle.shop_tree.specs.inner.Opens.{stack_words};
+    ghost use Rattle.shop_tree.specs.inner.Walkers.{stage_of, on_top, stack_walk, node_walk};
+    ghost use Rattle.shop_tree.specs.inner.Walkers.{IsInOrder, HasBranched, HasExpanded, HasWalked};
+    ghost use Rattle.shop_tree.specs.inner.Walkers.{HasFollowed, HasConflict, HasWalkedUpTo, IsTurn};
 
     /// For pieces of this instance. Fails with `AllocError` if memory runs out.
     pub(crate) fn new(alloc: Global, instance: &'a Instance) -> Result<Walker<'a>, AllocError>
         ensures { IfOk result (λ s. s.desk.shop ≡ instance.now) }
     {
         Ok(Walker {
-            progress: Progress::new(alloc, instance),
-            desk: Desk::new(alloc, instance)?,
+            progress: Progress::new(instance),
+            desk: Desk::growing(alloc, instance)?,
             stack: Vec::new(alloc),
             children: Vec::with_capacity(alloc, instance.jobs())?,
             jobs: Vec::with_capacity(alloc, instance.jobs())?,
@@ -58,8 +58,8 @@ impl<'a> Walker<'a> {
     fn follow_sole(&mut self, bound: u64)
         requires bound { bound ≡ lb self.old.desk.shop self.old.desk.word }
         requires below { bound < self.old.progress.best }
-        requires in_order { IsInOrder self.old }
-        ensures followed { HasFollowed self.old self.new }
+        requires in_order { IsInOrder (stage_of self.old) }
+        ensures followed { HasFollowed (stage_of self.old) (stage_of self.new) }
         ensures jobs { HasConflict self.new }
     {
         while self.desk.jobs().len() < self.progress.operations {
@@ -78,17 +78,19 @@ impl<'a> Walker<'a> {
     /// are at hand.
     fn push_children(&mut self, bound: u64) -> Result<(), AllocError>
         requires bound { bound ≡ lb self.old.desk.shop self.old.desk.word }
+        requires short { length self.old.desk.word < self.old.progress.operations }
         requires jobs { self.old.jobs.items ≡ conflict self.old.desk.shop self.old.desk.word }
-        ensures { OnOk result (HasBranched self.old self.new) }
+        ensures { OnOk result (HasBranched (stage_of self.old) (stage_of self.new)) }
     {
-        let others = gather_children(
+        self.desk.keeps_word();
+        let closed = gather_children(
             &mut self.children,
             &mut self.desk,
             bound,
             self.progress.best,
             &mut self.jobs,
         )?;
-        push_rest(&mut self.stack, others)?;
+        push_rest(&mut self.stack, self.desk.jobs().len(), closed)?;
         push_open(&mut self.stack, self.children.as_slice())
     }
 
@@ -97,9 +99,8 @@ impl<'a> Walker<'a> {
     fn expand(&mut self, alloc: Global, bound: u64) -> Result<(), AllocError>
         requires bound { bound ≡ lb self.old.desk.shop self.old.desk.word }
         requires below { bound < self.old.progress.best }
-        requires none_left { self.old.progress.left.items ≡ [] }
-        requires in_order { IsInOrder self.old }
-        ensures { OnOk result (HasExpanded self.old self.new) }
+        requires in_order { IsInOrder (stage_of self.old) }
+        ensures { OnOk result (HasExpanded (stage_of self.old) (stage_of self.new)) }
     {
         self.follow_sole(bound);
         if self.desk.jobs().len() < self.progress.operations {
@@ -114,8 +115,8 @@ impl<'a> Walker<'a> {
     /// Walks an open child, which lay on top of the stack, up to its own children: these are put on the stack.
     fn walk_open(&mut self, alloc: Global, child: Open) -> Result<(), AllocError>
         requires some { 0 < self.old.progress.budget }
-        requires on { IsNextOn self.old (Child child) }
-        ensures { OnOk result (IsTurn self.old (Child child) self.new) }
+        requires on { IsInOrder (on_top (stage_of self.old) (Child child)) }
+        ensures { OnOk result (IsTurn (stage_of self.old) (Child child) (stage_of self.new)) }
     {
         self.progress.budget -= 1;
         if child.bound >= self.progress.best {
@@ -126,54 +127,27 @@ impl<'a> Walker<'a> {
         self.expand(alloc, child.bound)
     }
 
-    /// Counts closed children, which lay on top of the stack, as far as the budget goes.
-    fn count_closed(&mut self, count: usize)
-        requires { IsNextOn self.old (Rest count) }
-        ensures { IsTurn self.old (Rest count) self.new }
+    /// Counts closed children, which lay on top of the stack, as far as the budget goes; the others wait on.
+    fn count_closed(&mut self, depth: u32, count: u32) -> Result<(), AllocError>
+        requires some { 0 < self.old.progress.budget }
+        requires on { IsInOrder (on_top (stage_of self.old) (Rest depth count)) }
+        ensures { OnOk result (IsTurn (stage_of self.old) (Rest depth count) (stage_of self.new)) }
     {
-        self.progress.budget = self.progress.budget.saturating_sub(count as u64);
-    }
-
-    /// Leaves an open child, which lay on top of the stack, if its bound is below the best; the path begins with the
-    /// desk's word.
-    fn leave_open(&mut self, path: &ArcSlice<u16, Global>, child: Open) -> Result<(), AllocError>
-        requires spent { self.old.progress.budget ≡ 0 }
-        requires on { IsNextOn self.old (Child child) }
-        requires path { BeginsWithWord self.old (arc_slice_items path.now) }
-        ensures turn { OnOk result (IsTurn self.old (Child child) self.new) }
-        ensures desk { OnOk result (self.new.desk ≡ self.old.desk) }
-        ensures budget { OnOk result (self.new.progress.budget ≡ self.old.progress.budget) }
-    {
-        if child.bound >= self.progress.best {
+        if self.progress.budget >= count as u64 {
+            self.progress.budget -= count as u64;
             return Ok(());
         }
-        let word = SharedWord::along(path, child.depth, child.job)?;
-        let bound = child.bound;
-        self.progress.leave(Node { word, bound })
-    }
-
-    /// Leaves what waits on the stack, from its top on, over one copy of the desk's word.
-    fn leave_stack(&mut self, alloc: Global) -> Result<(), AllocError>
-        requires spent { self.old.progress.budget ≡ 0 }
-        requires in_order { IsInOrder self.old }
-        ensures { OnOk result (HasWalked self.old self.new (stack_walk self.old)) }
-    {
-        if self.stack.is_empty() {
-            return Ok(());
-        }
-        let path = ArcSlice::from_slice(alloc, self.desk.jobs())?;
-        while let Some(waiting) = self.stack.pop() {
-            if let Waiting::Child(child) = waiting {
-                self.leave_open(&path, child)?;
-            }
-        }
+        let count = count - self.progress.budget as u32;
+        self.progress.budget = 0;
+        self.stack.push(Waiting::Rest { depth, count })?;
         Ok(())
     }
 
-    /// Walks what waits on the stack from its top on, depth first.
+    /// Walks what waits on the stack from its top on, depth first, as far as the budget goes.
     fn walk_stack(&mut self, alloc: Global) -> Result<(), AllocError>
-        requires { IsInOrder self.old }
-        ensures { OnOk result (HasWalked self.old self.new (stack_walk self.old)) }
+        requires { IsInOrder (stage_of self.old) }
+        ensures { OnOk result
+            (HasWalked (stage_of self.old) (stage_of self.new) (stack_walk (stage_of self.old))) }
     {
         while self.progress.budget > 0 {
             let Some(waiting) = self.stack.pop() else {
@@ -181,34 +155,20 @@ impl<'a> Walker<'a> {
             };
             match waiting {
                 Waiting::Child(child) => self.walk_open(alloc, child)?,
-                Waiting::Rest(count) => self.count_closed(count),
+                Waiting::Rest { depth, count } => self.count_closed(depth, count)?,
             }
         }
-        self.leave_stack(alloc)
+        Ok(())
     }
 
-    /// Leaves a node, if its bound is below the best.
-    fn leave_node(&mut self, node: &Node) -> Result<(), AllocError>
-        requires spent { self.old.progress.budget ≡ 0 }
-        requires node { IsNode self.old.progress.instance.now node.now }
-        requires empty { self.old.stack.items ≡ [] }
-        ensures { OnOk result (HasWalked self.old self.new (node_walk self.old node.now)) }
-    {
-        if node.bound >= self.progress.best {
-            return Ok(());
-        }
-        self.progress.leave(node.shared()?)
-    }
-
-    /// Walks a node.
+    /// Takes a node, and walks on from it as far as the budget goes.
     fn walk_node(&mut self, alloc: Global, node: &Node) -> Result<(), AllocError>
+        requires some { 0 < self.old.progress.budget }
         requires node { IsNode self.old.progress.instance.now node.now }
         requires empty { self.old.stack.items ≡ [] }
-        ensures { OnOk result (HasWalked self.old self.new (node_walk self.old node.now)) }
+        ensures { OnOk result (HasWalked (stage_of self.old) (stage_of self.new)
+            (node_walk (stage_of self.old) node.now)) }
     {
-        if self.progress.budget == 0 {
-            return self.leave_node(node);
-        }
         self.progress.budget -= 1;
         if node.bound >= self.progress.best {
             return Ok(());
@@ -218,16 +178,35 @@ impl<'a> Walker<'a> {
         self.walk_stack(alloc)
     }
 
-    /// Walks nodes in order, each depth first.
-    fn walk_nodes(&mut self, alloc: Global, nodes: &[Node]) -> Result<(), AllocError>
+    /// Walks nodes in order, each depth first, as far as the budget goes, and tells how many were taken.
+    fn walk_nodes(&mut self, alloc: Global, nodes: &[Node]) -> Result<usize, AllocError>
         requires nodes { AreNodes self.old.progress.instance.now nodes.now }
         requires empty { self.old.stack.items ≡ [] }
-        ensures { OnOk result (HasWalked self.old self.new (nodes_walk self.old nodes.now)) }
+        ensures walked { IfOk result
+            (λ k. HasWalkedUpTo (stage_of self.old) (stage_of self.new) nodes.now k) }
+        ensures ended { IfOk result (λ k. 0 < self.new.progress.budget → length nodes.now ≤ k) }
     {
-        for node in nodes {
-            self.walk_node(alloc, node)?;
+        let mut taken = 0;
+        while taken < nodes.len() && self.progress.budget > 0 {
+            self.walk_node(alloc, &nodes[taken])?;
+            taken += 1;
         }
-        Ok(())
+        Ok(taken)
+    }
+
+    /// Where the walk halted, if anything waits.
+    fn halt(&self, alloc: Global) -> Result<Option<Halt>, AllocError>
+        requires { IsInOrder (stage_of self.now) }
+        ensures words { IfOk result (λ h. halted_words self.now.desk.shop h
+            ≡ stack_words self.now.desk.shop self.now.desk.word self.now.stack.items) }
+        ensures halt { IfOk result (λ h. IsHalt self.now.desk.shop self.now.progress.best h) }
+    {
+        if self.stack.is_empty() {
+            return Ok(None);
+        }
+        let path = ArcSlice::from_slice(alloc, self.desk.jobs())?;
+        let waiting = self.stack.to_vec(alloc)?;
+        Ok(Some(Halt { path, waiting }))
     }
 
     /// The search of a piece: its nodes in order.
@@ -246,16 +225,18 @@ impl<'a> Walker<'a> {
     {
         self.stack.clear();
         self.progress.begin(best, budget);
-        self.walk_nodes(alloc, piece.nodes.as_slice())?;
+        let nodes = piece.nodes.as_slice();
+        let index = self.walk_nodes(alloc, nodes)?;
+        let halt = self.halt(alloc)?;
         let instance = self.progress.instance;
         let makespan = self.progress.best;
         let taken = budget - self.progress.budget;
-        let (found, left) = self.progress.end(alloc)?;
+        let found = self.progress.take_found();
         Ok(Sheet {
             number: piece.number,
             found,
             makespan,
-            left,
+            left: Left::new(instance, makespan, halt, &nodes[index..]),
             taken,
             instance,
             piece,

@@ -1,6 +1,7 @@
 // Verdicts on schedules.
 use crate::engines::runs::assert_checked;
-use shop_engine::Format;
+use shop_engine::{Fault, Format};
+use shop_text::ReadFault;
 
 #[test]
 fn schedules_are_judged(rt: HostRuntime) {
@@ -57,11 +58,40 @@ fn releases_are_kept(rt: HostRuntime) {
     );
 }
 
+/// The whole report of two jobs that cross, with another makespan.
+const CHANGED: &str =
+    "instance 1\nsize 2 2\nmakespan 3\nbound 7\nstatus optimal\nopen 0\nrounds 1\nnodes 6\n\
+    job 0: 0 3\njob 1: 0 3\nunit 1\nmachine 0 |0001111|\nmachine 1 |11.00..|\n";
+
 #[test]
 fn a_changed_report_is_judged_by_its_starts(rt: HostRuntime) {
     let text = b"2 2\n0 3 1 2\n1 2 0 4\n".as_slice();
-    let report =
-        b"instance 1\nsize 2 2\nmakespan 3\nbound 7\nstatus optimal\njob 0: 0 3\njob 1: 0 3\n".as_slice();
+    let schedule = Some(CHANGED.as_bytes());
     let expected = (Ok(true), b"feasible 7\n".as_slice());
-    assert_checked(&rt, rt.alloc(), Format::Orlib, text, Some(report), expected);
+    assert_checked(&rt, rt.alloc(), Format::Orlib, text, schedule, expected);
+}
+
+#[test]
+fn a_report_behind_its_instance_brings_a_header(rt: HostRuntime) {
+    let alloc = rt.alloc();
+    let mut text = b"2 2\n0 3 1 2\n1 2 0 4\n"
+        .to_vec(alloc)
+        .expect(&rt, "memory");
+    text.extend_from_slice(CHANGED.as_bytes())
+        .expect(&rt, "memory");
+    let expected = (Err(Fault::Text(ReadFault::NoInstance)), b"".as_slice());
+    assert_checked(&rt, alloc, Format::Orlib, text.as_slice(), None, expected);
+    let heading = b"a heading in words\n2 2 11 22 6 6\nTimes\n3 2\n2 4\nMachines\n1 2\n2 1\n";
+    let mut text = heading.to_vec(alloc).expect(&rt, "memory");
+    text.extend_from_slice(CHANGED.as_bytes())
+        .expect(&rt, "memory");
+    let expected = (Ok(true), b"feasible 7\n".as_slice());
+    assert_checked(
+        &rt,
+        alloc,
+        Format::Taillard,
+        text.as_slice(),
+        None,
+        expected,
+    );
 }

@@ -104,7 +104,7 @@ fn sink_of_a_verdict_holds_a_beginning(rt: HostRuntime) {
 
 #[test]
 fn instance_without_end_is_left(rt: HostRuntime) {
-    let mut source = Endless { given: 0 };
+    let mut source = Endless::new();
     let mut sink = room(&rt, rt.alloc(), 64);
     let answer = check_one(rt.alloc(), &mut source, &mut sink);
     assert_eq!(rt; answer, Err(Fault::Text(ReadFault::TooLong)));
@@ -114,7 +114,7 @@ fn instance_without_end_is_left(rt: HostRuntime) {
 
 #[test]
 fn schedule_without_end_is_left(rt: HostRuntime) {
-    let mut second = Some(Endless { given: 0 });
+    let mut second = Some(Endless::new());
     let mut sink = room(&rt, rt.alloc(), 64);
     let answer = check_text(
         rt.alloc(),

@@ -45,7 +45,7 @@ fn sink_of_a_report_holds_a_beginning(rt: HostRuntime) {
 #[test]
 fn instance_without_end_is_not_solved(rt: HostRuntime) {
     let args = with_plan(plan(&rt, 1, 100), false);
-    let mut source = Endless { given: 0 };
+    let mut source = Endless::new();
     let mut sink = room(&rt, rt.alloc(), 1024);
     let answer = solve_text(&(), rt.alloc(), &mut source, &mut sink, &args, &mut Alone);
     assert_eq!(rt; answer, Err(Fault::Text(ReadFault::TooLong)));

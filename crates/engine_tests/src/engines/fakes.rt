@@ -1,7 +1,10 @@
-// Devices that move one byte a call and fail at one of the calls, and a source that never ends.
+// Devices that move one byte a call and fail at one of the calls, a source that never ends, and a sink and a crew that
+// count their calls.
 ghost use Rattle.shop_engine.specs.Devices.{Device};
 
 use shop_engine::{DeviceFailed, Memory, Sink, Source};
+use shop_round::{Alone, Crew, Entry, Round};
+use std::alloc::{AllocError, Global};
 
 /// Gives one byte a call, and fails at the call of this number, counted from 1 on.
 #[derive(Drop)]
@@ -87,10 +90,17 @@ impl Sink for Trickling {
     }
 }
 
-/// Gives zeros without end, and counts them.
+/// Gives zeros without end, and counts them and the calls.
 #[derive(Drop)]
 pub(super) struct Endless {
     pub(super) given: u64,
+    pub(super) calls: u64,
+}
+
+impl Endless {
+    pub(super) fn new() -> Endless {
+        Endless { given: 0, calls: 0 }
+    }
 }
 
 impl Source for Endless {
@@ -99,7 +109,46 @@ impl Source for Endless {
     ghost device = { λ s. record { bytes = None; failures = 0; ends = 0 } };
 
     fn read(&mut self, buffer: &mut [u8]) -> Result<usize, DeviceFailed> {
+        self.calls = self.calls.saturating_add(1);
         self.given = self.given.saturating_add(buffer.len() as u64);
         Ok(buffer.len())
+    }
+}
+
+/// Takes what there is room for, and counts the calls.
+#[derive(Drop)]
+pub(super) struct Counted {
+    pub(super) memory: Memory,
+    pub(super) calls: u64,
+}
+
+impl Sink for Counted {
+    ghost use Rattle.shop_engine.specs.Devices.{device_of};
+
+    ghost device = { λ s. device_of s.memory };
+
+    fn write(&mut self, buffer: &[u8]) -> Result<usize, DeviceFailed> {
+        self.calls = self.calls.saturating_add(1);
+        self.memory.write(buffer)
+    }
+}
+
+/// Searches on the calling thread, and counts the rounds that it searched.
+#[derive(Drop)]
+pub(super) struct CountedAlone {
+    pub(super) rounds: u64,
+}
+
+impl<R> Crew<R> for CountedAlone {
+    ghost ready = { Unit {0} };
+
+    fn search<'r>(
+        &mut self,
+        _rt: &R,
+        alloc: Global,
+        round: &'r Round<'r>,
+    ) -> Result<Vec<Entry<'r>>, AllocError> {
+        self.rounds = self.rounds.saturating_add(1);
+        Alone.search_round(alloc, round)
     }
 }

@@ -1,5 +1,7 @@
 // The classical instance of six jobs, and instances of many jobs.
-use super::{report_begins, reports};
+use super::{report_begins, reports, run};
+use std::alloc::Global;
+use std::fmt::Write;
 use std::test::Fail;
 
 /// Fisher and Thompson's instance of six jobs and six machines; its least makespan is 55.
@@ -18,23 +20,57 @@ fn six_jobs_of_fisher_and_thompson(rt: HostRuntime) -> Result<(), Fail> {
     report_begins(&rt, &["solve"], FT06, optimal)
 }
 
-#[test]
-fn many_jobs_on_one_machine(rt: HostRuntime) -> Result<(), Fail> {
-    for (jobs, time, makespan) in [
-        ("200", "1000000", "200000000"),
-        ("1000", "1000000000", "1000000000000"),
-    ] {
-        let mut text = format!(in rt.alloc(); "{jobs} 1\n")?;
-        for _ in 0..jobs.parse::<u32>().unwrap_or(0) {
-            text.push_str("0 ")?;
-            text.push_str(time)?;
-            text.push_str("\n")?;
-        }
-        let wanted = format!(in rt.alloc();
-            "instance 1\nsize {jobs} 1\nmakespan {makespan}\nbound {makespan}\n\
-            status optimal\nopen 0\nrounds 0\nnodes 0\n"
-        )?;
-        report_begins(&rt, &["solve"], text.as_str(), wanted.as_str())?;
+/// Jobs of one operation each, all of this time on machine 0.
+fn one_machine(alloc: Global, jobs: u64, time: u64) -> Result<String, Fail> {
+    let mut text = format!(in alloc; "{jobs} 1\n")?;
+    for _ in 0..jobs {
+        write!(text, "0 {time}\n")?;
     }
+    Ok(text)
+}
+
+/// The report on them up to its chart: they stand one behind the other.
+fn one_behind_the_other(
+    alloc: Global,
+    jobs: u64,
+    time: u64,
+    makespan: u64,
+) -> Result<String, Fail> {
+    let mut report = format!(in alloc;
+        "instance 1\nsize {jobs} 1\nmakespan {makespan}\nbound {makespan}\n\
+        status optimal\nopen 0\nrounds 0\nnodes 0\n"
+    )?;
+    let mut start = 0_u64;
+    for job in 0..jobs {
+        write!(report, "job {job}: {start}\n")?;
+        start = start.saturating_add(time);
+    }
+    Ok(report)
+}
+
+#[test]
+fn two_hundred_jobs_on_one_machine(rt: HostRuntime) -> Result<(), Fail> {
+    let text = one_machine(rt.alloc(), 200, 1_000_000)?;
+    let mut report = one_behind_the_other(rt.alloc(), 200, 1_000_000, 200_000_000)?;
+    report.push_str("unit 2777778\nmachine 0 |0258BDGJMPRUXacfiloqtwz")?;
+    for _ in 0..49 {
+        report.push_str("#")?;
+    }
+    report.push_str("|\n")?;
+    assert!(&rt; report.contains("job 199: 199000000\nunit "));
+    reports(&rt, &["solve", "--gantt"], text.as_str(), report.as_str())
+}
+
+#[test]
+fn a_thousand_jobs_on_one_machine(rt: HostRuntime) -> Result<(), Fail> {
+    let text = one_machine(rt.alloc(), 1_000, 1_000_000_000)?;
+    let mut report = one_behind_the_other(rt.alloc(), 1_000, 1_000_000_000, 1_000_000_000_000)?;
+    assert!(&rt; report.ends_with("job 999: 999000000000\n"));
+    report.push_str("unit 13888888889\nmachine 0 |")?;
+    let words = ["solve", "--gantt"];
+    report_begins(&rt, words.as_slice(), text.as_str(), report.as_str())?;
+    let ended = run(&rt, words.as_slice(), text.as_str())?;
+    assert_eq!(&rt; ended.out.bytes().len(), report.len() + 72 + 2);
+    assert!(&rt; ended.out.bytes().ends_with(b"|\n".as_slice()));
     Ok(())
 }

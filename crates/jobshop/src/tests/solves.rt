@@ -224,20 +224,24 @@ fn both_orders_of_the_open_nodes(rt: HostRuntime) -> Result<(), Fail> {
                 ];
                 report_begins(&rt, words.as_slice(), SHORT_JOBS, open.as_str())?;
             }
-            let words = [
-                "solve",
-                "--format",
-                "routes",
-                "--piece",
-                "1",
-                "--budget",
-                "2",
-                "--order",
-                order,
-                "--workers",
-                workers,
-            ];
-            reports(&rt, words.as_slice(), SHORT_JOBS, optimal.as_str())?;
+            for rounds in ["4", "1000"] {
+                let words = [
+                    "solve",
+                    "--format",
+                    "routes",
+                    "--piece",
+                    "1",
+                    "--budget",
+                    "2",
+                    "--rounds",
+                    rounds,
+                    "--order",
+                    order,
+                    "--workers",
+                    workers,
+                ];
+                reports(&rt, words.as_slice(), SHORT_JOBS, optimal.as_str())?;
+            }
         }
     }
     Ok(())

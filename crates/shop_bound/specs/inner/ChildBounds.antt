@@ -11,7 +11,7 @@ use Rattle.shop_lanes.specs.Rows.{Rows, with_head}
 use Rattle.shop_lanes.specs.Spans.{span, spans_between}
 use Rattle.shop_model.specs.Shop.{Shop, machine_of}
 use Rattle.shop_model.specs.Word.{IsWord, place_next, placing}
-use Rattle.shop_bound.specs.Bound.{lb}
+use Rattle.shop_heads.specs.Bound.{lb}
 use Rattle.shop_bound.specs.inner.LaneBounds.{AreMachinesAt, AreSpansFit, lanes_on}
 use Rattle.shop_bound.specs.inner.Estimates.{IsSmallOn}
 use Rattle.shop_bound.specs.inner.LaneHeads.{NotesState}

@@ -5,7 +5,7 @@ use Rattle.std.specs.Prelude.{slice_index, slice_index_or}
 use Rattle.shop_model.specs.declared.ops.Op.{Op}
 use Rattle.shop_model.specs.Shop.{Shop}
 use Rattle.shop_bound.specs.declared.slots.Slot.{Slot}
-use Rattle.shop_bound.specs.declared.triples.Triple.{Triple}
+use Rattle.one_machine.specs.declared.triples.Triple.{Triple}
 use Rattle.shop_bound.specs.Slots.{operations_in, operations_on}
 
 -- each list has the operations of the job on its machine added at its end

@@ -11,7 +11,7 @@ use Rattle.shop_bound.specs.Slots.{AreMachineSlots}
 use Rattle.shop_bound.specs.inner.HeadsInRows.{AreHeadsKept}
 use Rattle.shop_bound.specs.inner.OpenSlots.{open_triples}
 use Rattle.shop_bound.specs.declared.slots.Slot.{Slot}
-use Rattle.shop_bound.specs.declared.triples.Triple.{Triple}
+use Rattle.one_machine.specs.declared.triples.Triple.{Triple}
 
 pub record IsKeptUp (shop : Shop) (w : List ℕ) (s : PlacementState) (slots : List (List Slot))
     (rows : List (List ℕ)) : Type 0 where

@@ -1,7 +1,7 @@
 -- The conflict set of what is dispatched, by lanes.
 use Rattle.std.specs.Prelude.{◌≡◌, ℕ, ◌≤◌, List, length}
 use Rattle.shop_model.specs.Shop.{Shop}
-use Rattle.shop_bound.specs.Conflicts.{conflict}
+use Rattle.shop_heads.specs.Conflicts.{conflict}
 use Rattle.shop_bound.specs.inner.LaneStates.{IsKeptInLanes, LaneState}
 use Rattle.shop_bound.specs.inner.Waitings.{IsWaiting}
 use Rattle.shop_bound.specs.declared.waiting.Waiting.{Waiting}

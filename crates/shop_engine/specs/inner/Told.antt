@@ -1,4 +1,5 @@
 -- What is reported of an answer that a run gave.
+use Rattle.std.specs.Prelude.{◌<◌, ◌^◌}
 use Rattle.shop_text.specs.Texts.{NamedShop}
 use Rattle.shop_text.specs.Writing.{Reported}
 use Rattle.shop_round.specs.declared.runs.Answer.{Answer}
@@ -14,3 +15,11 @@ told_by asked a = record {
   rounds = a.rounds;
   nodes = a.nodes;
 }
+
+-- the numbers of an answer are below 2 ^ 64
+pub record HasWords (a : Answer) : Type 0 where
+  pub makespan : a.makespan < 2 ^ 64
+  pub bound : a.bound < 2 ^ 64
+  pub open_nodes : a.open_nodes < 2 ^ 64
+  pub rounds : a.rounds < 2 ^ 64
+  pub nodes : a.nodes < 2 ^ 64

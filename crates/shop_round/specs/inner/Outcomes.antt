@@ -1,7 +1,8 @@
 -- What the sheets of a round come to.
 use Rattle.std.specs.Prelude.{◌≡◌, ℕ, ◌+◌, ◌*◌, ◌≤◌, List, [], ◌++◌, true, nat_lt}
 use Rattle.std.specs.Prelude.{if◌then◌else◌, unwrap_or}
-use Rattle.shop_bound.specs.Bound.{lb}
+use Rattle.shop_heads.specs.Bound.{lb}
+use Rattle.shop_tree.specs.Left.{open_nodes}
 use Rattle.shop_tree.specs.Nodes.{words_of, AreNodes}
 use Rattle.shop_tree.specs.declared.nodes.Node.{Node}
 use Rattle.shop_tree.specs.declared.sheets.Sheet.{Sheet}
@@ -30,11 +31,15 @@ pub record IsOutcome (r : Told) (o : Outcome) : Type 0 where
   -- each piece takes at most its budget
   pub counted : o.nodes ≤ r.nodes + MAX_PIECES * MAX_BUDGET
 
+-- what a sheet left open
+abbrev pub open_of : Sheet → List Node
+open_of s = open_nodes s.left.shop s.left.makespan s.left.words
+
 -- one more sheet is taken in: its word is better if it ends before the best so far
 pub record TakesIn (o : Outcome) (s : Sheet) (t : Outcome) : Type 0 where
   pub found : t.found ≡ (if nat_lt s.makespan o.makespan then s.found else o.found)
   pub makespan : t.makespan ≡ (if nat_lt s.makespan o.makespan then s.makespan else o.makespan)
-  pub left : t.left.items ≡ o.left.items ++ s.left.items
+  pub left : t.left.items ≡ o.left.items ++ open_of s
   pub nodes : t.nodes ≡ o.nodes + s.taken
   pub closed : t.is_closed ≡ o.is_closed
 

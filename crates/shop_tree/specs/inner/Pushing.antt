@@ -1,6 +1,7 @@
 -- Children on a stack.
---     with_opens stack opens     the stack with these open children on top, in order
---     with_rest stack n          the stack with n closed children on top, if there are any
+--     with_opens stack opens       the stack with these open children on top, in order
+--     with_rest stack depth n      the stack with n closed children of what so many entries make on
+--                                  top, if there are any
 use Rattle.std.specs.Prelude.{ℕ, zero, suc, List, [], ◌∷◌, ◌++◌, map}
 use Rattle.shop_tree.specs.declared.opens.Open.{Open}
 use Rattle.shop_tree.specs.declared.opens.Waiting.{Waiting}
@@ -9,6 +10,6 @@ use Rattle.shop_tree.specs.declared.opens.Waiting.TheVariants.{Child, Rest}
 abbrev pub with_opens : List Waiting → List Open → List Waiting
 with_opens stack opens = stack ++ map (λ o. Child o) opens
 
-abbrev pub with_rest : List Waiting → ℕ → List Waiting
-with_rest stack zero = stack
-with_rest stack (suc n) = stack ++ Rest (suc n) ∷ []
+abbrev pub with_rest : List Waiting → ℕ → ℕ → List Waiting
+with_rest stack depth zero = stack
+with_rest stack depth (suc n) = stack ++ Rest depth (suc n) ∷ []

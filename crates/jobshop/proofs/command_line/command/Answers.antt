@@ -10,8 +10,14 @@ returns c =
     let start = needs_subcommand _ _ _ c.described.ensures c.subcommand_required.ensures in
     let first = added_subcommand _ _ _ _ _ start c.in_ok-list.ensures c.in_ok-subcommand.ensures in
     let second = added_subcommand _ _ _ _ _ first c.in_ok-check.ensures c.in_ok-subcommand-2.ensures in
-    let formats : ValueParser = Names c.as_slice-formats.result in
-    let orders : ValueParser = Names c.as_slice.result in
+    let formats : ValueParser = Names c.format_choices-formats.result in
+    let orders : ValueParser = Names c.order_choices.result in
     IfOk-weaker c.subcommand-3.result _ IsCommandLine
-    (λ command added. (formats, orders, added_subcommand _ _ _ _ _ second c.in_ok-solve.ensures added))
+    (λ command added. (
+      formats,
+      orders,
+      c.format_choices-formats.ensures,
+      c.order_choices.ensures,
+      added_subcommand _ _ _ _ _ second c.in_ok-solve.ensures added,
+    ))
     c.subcommand-3.ensures

@@ -3,7 +3,7 @@ use Rattle.std.specs.Prelude.{IsPermutation}
 use Rattle.std.proofs.lemmas.Fn.{always_returns_same}
 use Rattle.std.proofs.lemmas.List.{length-map}
 use Rattle.shop_bound.specs.declared.slots.Slot.{Slot}
-use Rattle.shop_bound.proofs.SlotLemmas.{falls_from_sort}
+use Rattle.one_machine.proofs.SortedTails.{falls_from_sort}
 use Rattle.shop_bound.proofs.SlotLists.{IsSortedUpTo, sorted_more, items_written, items_read}
 use Rattle.shop_bound.proofs.slots.machine_slots.Goals as goal
 

@@ -16,9 +16,18 @@ returns-clause-right g c =
     let asked = shop_of_named c.args.asked.now
     in let a = c.in_ok-answer
     in let gantt = c.args.with_gantt
+    in let words = c.text_of.ensures.words
+    in let small = subst (λ (rows : List (List ℕ)). AreStarts rows) c.drop-2.view_is c.drop-2.invariant
     in if_ok (λ out. out.items ≡ text_with_gantt (told_by asked a.answer) gantt)
     (λ out. IsRight asked gantt out.items) c.text_of.result
-    (λ out e. right asked a.answer gantt out.items a.ensures.trust e) c.text_of.ensures
+    (λ out e. right asked a.answer gantt out.items a.ensures.trust (record {
+      starts = small;
+      makespan = words.makespan;
+      bound = words.bound;
+      open_nodes = words.open_nodes;
+      rounds = words.rounds;
+      nodes = words.nodes;
+    }) e) c.text_of.ensures.written
 
 pub returns-clause-determined : goal.returns-clause-determined
 returns-clause-determined g c =
@@ -28,7 +37,7 @@ returns-clause-determined g c =
     in let gantt = c.args.with_gantt
     in if_ok (λ out. out.items ≡ text_with_gantt (told_by asked a.answer) gantt)
     (λ out. IsDetermined asked plan gantt out.items) c.text_of.result
-    (λ out e. determined asked plan a.answer gantt out.items a.ensures.says e) c.text_of.ensures
+    (λ out e. determined asked plan a.answer gantt out.items a.ensures.says e) c.text_of.ensures.written
 
 pub returns-clause-schedule : goal.returns-clause-schedule
 returns-clause-schedule g c =
@@ -38,4 +47,4 @@ returns-clause-schedule g c =
     in let small = subst (λ (rows : List (List ℕ)). AreStarts rows) c.drop-2.view_is c.drop-2.invariant
     in if_ok (λ out. out.items ≡ text_with_gantt (told_by asked a.answer) gantt)
     (λ out. GivesSchedule asked out.items) c.text_of.result
-    (λ out e. gives_schedule asked a.answer gantt out.items a.ensures.trust small e) c.text_of.ensures
+    (λ out e. gives_schedule asked a.answer gantt out.items a.ensures.trust small e) c.text_of.ensures.written

@@ -1,4 +1,5 @@
 use Rattle.std.proofs.Common.{◌∙◌, arith, sym, subst, take}
+use Rattle.shop_model.specs.Limits.{AreStarts}
 use Rattle.std.proofs.lemmas.List.{length-map, take_all}
 use Rattle.shop_model.specs.Word.{IsWord, Placing, placing}
 use Rattle.shop_model.specs.Placements.{IsPlacement}
@@ -63,3 +64,14 @@ returns-clause-law c =
     in let stands = rw (take_all c.loop-j.j-index w (omega arith), c.jobs-j-items.ensures) at c.loop-j.invariant.1
     in let table = c.of_checked.ensures ∙ rows_are c.args.instance.now c.args.word.now _ c.requires stands
     in rw table (placed_by c.args.instance.now c.args.word.now c.requires)
+
+pub returns-clause-ends : goal.returns-clause-ends
+returns-clause-ends c j k =
+    let shop = c.args.instance.now
+    in let w = c.jobs-j-items.result.now
+    in let rows = rw (take_all c.loop-j.j-index w (omega arith)) at c.loop-j.invariant.1
+    in let starts = rows_starts shop w _ c.keeps_limits.ensures
+    (rw c.jobs-j-items.ensures (full_is_word shop c.args.word.now c.requires)) rows
+    in let start = subst AreStarts (sym c.of_checked.ensures) starts j k
+    in let time = c.keeps_limits.ensures.times j k
+    in omega arith

@@ -19,7 +19,7 @@ returns-clause-says g c =
     let shop = c.args.instance.now
     in let plan = planned c.args.plan.now
     in says_search shop plan.order (answer shop plan) c.in_ok-word.field-0 c.in_ok-word.ensures _ refl
-    c.in_ok-table.ensures.table refl c.least_bound-bound.ensures c.in_ok-open_nodes.ensures refl refl
+    c.in_ok-table.ensures.table refl c.least_bound-bound.ensures c.in_ok-open_nodes.ensures.count refl refl
 
 pub returns-clause-trust : goal.returns-clause-trust
 returns-clause-trust g c =

@@ -1,9 +1,9 @@
 use Rattle.std.proofs.Common.{◌≡◌, ℕ, List, ◌≤◌, ◌++◌, ◌∷◌, ◌∙◌, [], length, refl, sym, ap, subst, arith, append-nil}
 use Rattle.std.proofs.Common.{append_assoc}
 use Rattle.shop_model.specs.Word.{IsWord}
-use Rattle.shop_bound.specs.Bound.{lb}
+use Rattle.shop_heads.specs.Bound.{lb}
 use Rattle.shop_bound.specs.Desks.{DeskState}
-use Rattle.shop_bound.proofs.SmallJobs.{small_last}
+use Rattle.shop_heads.proofs.SmallJobs.{small_last}
 use Rattle.shop_model.proofs.WordLengths.{word_length}
 use Rattle.shop_tree.specs.Branching.{conflict}
 use Rattle.shop_tree.specs.declared.opens.Open.{Open}

@@ -1,7 +1,7 @@
 use Rattle.std.proofs.Common.{◌++◌, ◌∷◌, [], subst, sym, arith}
 use Rattle.shop_model.specs.Word.{IsWord}
 use Rattle.shop_bound.specs.Desks.{DeskState}
-use Rattle.shop_bound.proofs.SmallSums.{sums_small}
+use Rattle.shop_heads.proofs.SmallSums.{sums_small}
 use Rattle.shop_bound.proofs.desks.Desk.bound_up_to.Goals as goal
 
 pub returns-clause-small : goal.returns-clause-small

@@ -1,5 +1,5 @@
 use Rattle.std.proofs.Common.{◌≤◌, ◌∙◌, length, vec_capacity, ap, subst, sym}
-use Rattle.shop_bound.specs.Conflicts.{conflict}
+use Rattle.shop_heads.specs.Conflicts.{conflict}
 use Rattle.shop_bound.specs.Desks.{DeskState}
 use Rattle.shop_bound.specs.inner.Waitings.{IsWaiting}
 use Rattle.shop_bound.proofs.desks.Desk.gather_conflict.Goals as goal

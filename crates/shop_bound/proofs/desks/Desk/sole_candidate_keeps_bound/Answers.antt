@@ -1,5 +1,5 @@
 use Rattle.std.proofs.Common.{subst}
-use Rattle.shop_bound.specs.Conflicts.{SoleCandidateKeepsBound}
+use Rattle.shop_heads.specs.Conflicts.{SoleCandidateKeepsBound}
 use Rattle.shop_bound.specs.Desks.{DeskState}
 use Rattle.shop_bound.proofs.SoleCandidates.{waiting_keeps_bound}
 use Rattle.shop_bound.proofs.desks.Desk.sole_candidate_keeps_bound.Goals as goal

@@ -2,7 +2,7 @@ use Rattle.std.proofs.Common.{◌++◌, ◌∷◌, [], arith, sym, subst}
 use Rattle.shop_model.specs.Word.{IsWord}
 use Rattle.shop_bound.specs.Desks.{DeskState}
 use Rattle.shop_bound.proofs.DeskSteps.{room_left}
-use Rattle.shop_bound.proofs.SmallJobs.{small_last}
+use Rattle.shop_heads.proofs.SmallJobs.{small_last}
 use Rattle.shop_bound.proofs.dispatched.Dispatched.push.Goals as goal
 
 pub overflow_cast-job : goal.overflow_cast-job

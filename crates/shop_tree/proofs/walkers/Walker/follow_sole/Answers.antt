@@ -1,10 +1,13 @@
-use Rattle.std.proofs.Common.{◌≡◌, ◌∷◌, ◌∙◌, ◌<◌, [], ℕ, List, length, refl, sym, ap, arith}
+use Rattle.std.proofs.Common.{◌≡◌, ◌∷◌, ◌∙◌, ◌<◌, [], ℕ, List, length, sym, ap, subst, arith}
 use Rattle.shop_model.specs.Shop.{operation_count}
-use Rattle.shop_bound.specs.Bound.{lb}
+use Rattle.shop_heads.specs.Bound.{lb}
+use Rattle.shop_bound.specs.Desks.{DeskState}
 use Rattle.shop_tree.specs.Branching.{conflict}
+use Rattle.shop_tree.specs.inner.Searching.{walked}
+use Rattle.shop_tree.specs.inner.Walkers.{HasFollowed, stage_of}
 use Rattle.shop_tree.proofs.ChildrenLemmas.{child-word}
 use Rattle.shop_tree.proofs.PushLemmas.{one_alone}
-use Rattle.shop_tree.proofs.ExpandLemmas.{follows_one, followed_then}
+use Rattle.shop_tree.proofs.ExpandLemmas.{follows_one, followed_then, spent_one}
 use Rattle.shop_tree.proofs.walkers.Walker.follow_sole.Goals as goal
 
 pub dispatch-requires : goal.dispatch-requires
@@ -30,6 +33,9 @@ loop-self-preserved c =
     (let a = c.loop-self-test.true in let b = ap (λ (w : List ℕ). length w) c.jobs.ensures in omega arith)
     in let below : lb self.desk.shop self.desk.word < self.progress.best =
     (let a = now.bound in let b = now.best in let d = c.requires.bound in let e = c.requires.below in omega arith)
-    in followed_then c.args.self.now self _ now
-    (follows_one self _ job short alone c.sole_candidate_keeps_bound.ensures
-    (let a = c.if-self-eq0.false in omega arith) below now.in_order c.dispatch.ensures refl refl refl refl)
+    in followed_then (stage_of c.args.self.now) (stage_of self) _ now
+    (subst (λ (d : DeskState). HasFollowed (stage_of self)
+    (record { shop = d.shop; word = d.word; walk = spent_one (walked self.progress); stack = self.stack.items }))
+    (sym c.dispatch.ensures)
+    (follows_one (stage_of self) job short alone c.sole_candidate_keeps_bound.ensures
+    (let a = c.if-self-eq0.false in omega arith) below now.in_order))

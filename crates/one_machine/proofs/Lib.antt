@@ -1,0 +1,12 @@
+pub mod Lists
+pub mod Spans
+pub mod ThresholdLemmas
+pub mod SameSums
+pub mod NonincreasingTails
+pub mod MergedProfiles
+pub mod ProfileLemmas
+pub mod SortedTails
+pub mod WorkSums
+pub mod TurnCounts
+pub mod Turns
+pub mod Rows

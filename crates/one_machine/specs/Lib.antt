@@ -1,0 +1,3 @@
+pub mod OneMachine
+pub mod Schedules
+pub mod inner

@@ -1,0 +1,4 @@
+pub mod NonincreasingTails
+pub mod Profiles
+pub mod Serving
+pub mod Thresholds

@@ -1,0 +1,194 @@
+-- The candidates of a word, and what is foreseen of the bound after one.
+use Rattle.std.proofs.Common.{◌≡◌, ℕ, zero, suc, ◌+◌, ◌-◌, ◌≤◌, ◌<◌, ◌^◌, max, min, inl, inr, List, [], ◌∷◌, ◌++◌, length}
+use Rattle.std.proofs.Common.{get_or, refl, sym, ◌∙◌, ap, subst, arith}
+use Rattle.std.specs.List.{All}
+use Rattle.std.specs.Prelude.{map}
+use Rattle.std.proofs.lemmas.List.{length-map, get_or-map, get_or_default}
+use Rattle.shop_lanes.specs.Rows.{Rows}
+use Rattle.shop_model.specs.Limits.{IsWithinLimits}
+use Rattle.shop_model.specs.Shop.{Shop, IsOperation, machine_of}
+use Rattle.shop_model.specs.Word.{Placing, IsWord, place_next, placing}
+use Rattle.shop_model.proofs.Unders.{after_word}
+use Rattle.shop_heads.specs.Bound.{lb}
+use Rattle.std.specs.Prelude.{Option, Some, None}
+use Rattle.shop_desk.specs.Desks.{TellsBoundBelow}
+use Rattle.shop_heads.proofs.SmallSums.{sums_small}
+use Rattle.shop_heads.specs.Conflicts.{chosen_of, conflict, conflict_among, conflicts_with, open_jobs}
+use Rattle.shop_heads.proofs.Entries.{IsWord-snoc}
+use Rattle.shop_desk.specs.inner.Advances.{CanForesee, IsAdvancing, IsLeastAt, foreseen}
+use Rattle.shop_desk.specs.inner.LaneChoices.{AreChoosable, AreInConflict, CanChoose}
+use Rattle.shop_desk.specs.inner.LaneStates.{IsKeptInLanes, rows_of}
+use Rattle.shop_desk.specs.inner.Layouts.{LayoutState, place}
+use Rattle.shop_desk.specs.inner.RisingLists.{IsIn, Rises}
+use Rattle.shop_desk.specs.declared.dispatching.Candidate.{Candidate}
+use Rattle.shop_desk.proofs.ChildReads.{after_look, end_here, end_latest, end_small, head_here, left_fits}
+use Rattle.shop_desk.proofs.ChildReads.{machine_here, time_here}
+use Rattle.shop_desk.proofs.LaneConflicts.{filter_rises, in_filter, open_is, open_rises}
+use Rattle.shop_desk.proofs.RisingLists.{rising_short}
+use Rattle.shop_desk.proofs.StateSteps.{next_at, next_known, within}
+
+is_in_at : (xs : List ℕ) (i d : ℕ) → i < length xs → IsIn xs (get_or xs i d)
+is_in_at [] i d here = absurd (omega arith)
+is_in_at (x ∷ xs) zero d here = inl refl
+is_in_at (x ∷ xs) (suc i) d here = inr (is_in_at xs i d (omega arith))
+
+-- a conflict set is a part of the open jobs
+conflict_in : (shop : Shop) (p : Placing) (js : List ℕ) (q : ℕ) → IsIn (conflict_among shop p js) q → IsIn js q
+conflict_in shop p [] q h = h
+conflict_in shop p (j ∷ js) q h = (in_filter (conflicts_with shop p (chosen_of shop p j js)) (j ∷ js) q h).0
+
+conflict_rises : (shop : Shop) (p : Placing) (js : List ℕ) → Rises js → Rises (conflict_among shop p js)
+conflict_rises shop p [] r = r
+conflict_rises shop p (j ∷ js) r = filter_rises (conflicts_with shop p (chosen_of shop p j js)) (j ∷ js) r
+
+module _ (shop : Shop) (w : List ℕ) (word : IsWord shop w) where
+  known : (q : ℕ) → IsIn (conflict shop w) q → (q < length shop.jobs) × IsOperation shop q ((placing shop w).steps q)
+  known q h = open_is shop (placing shop w) q (conflict_in shop (placing shop w) (open_jobs shop (placing shop w)) q h)
+
+  pub few : length (conflict shop w) ≤ length shop.jobs
+  few =
+      let short = rising_short (conflict shop w) 0 (length shop.jobs) (omega arith)
+      (conflict_rises shop (placing shop w) (open_jobs shop (placing shop w)) (open_rises shop (placing shop w)))
+      (λ q h. (omega arith, (known q h).0))
+      in omega arith
+
+  pub small : IsWithinLimits shop → (jobs : List ℕ) → jobs ≡ conflict shop w → All (λ j. j < 2 ^ 16) jobs
+  small limits jobs are i d here =
+      let is = (known (get_or jobs i d) (subst (λ (xs : List ℕ). IsIn xs (get_or jobs i d)) are
+      (is_in_at jobs i d here))).0
+      in let many = limits.jobs in omega arith
+
+  -- the word goes on with each
+  pub candidates_fit : (cs : List Candidate) → map (λ c. c.job) cs ≡ conflict shop w
+      → All (λ c. IsWord shop (w ++ c.job ∷ [])) cs
+  candidates_fit cs are i d here =
+      let job : ℕ = (get_or cs i d).job
+      in let at : get_or (map (λ c. c.job) cs) i job ≡ job = get_or-map (λ (c : Candidate). c.job) cs i d job here
+      in let long = length-map cs (λ (c : Candidate). c.job)
+      in let in_all : IsIn (conflict shop w) job =
+      subst (λ (xs : List ℕ). IsIn xs job) are
+      (subst (IsIn (map (λ c. c.job) cs)) at (is_in_at (map (λ c. c.job) cs) i job (omega arith)))
+      in let op = (known job in_all).1
+      in let count = (after_word shop w word).steps job
+      in IsWord-snoc shop w job word (omega arith)
+
+module _ (greatest : ℕ) (shop : Shop) (w : List ℕ) (l : LayoutState) (heads ends nexts : List ℕ) (j : ℕ)
+    (kept : IsKeptInLanes greatest shop w l (rows_of l heads ends) nexts) (fits : IsWord shop (w ++ j ∷ [])) where
+  abbrev rows : Rows
+  rows = rows_of l heads ends
+
+  module _ (x : ℕ) (x_is : x ≡ get_or nexts j 0) where
+    its_place : x ≡ place l j ((placing shop w).steps j)
+    its_place = next_at greatest shop w j l rows nexts kept fits x x_is
+
+    its_machine : get_or l.machines x 0 ≡ machine_of shop j ((placing shop w).steps j)
+    its_machine = ap (λ (q : ℕ). get_or l.machines q 0) its_place
+        ∙ machine_here greatest shop w l rows kept.kept j fits l.machines kept.kept.laid.machines_at
+
+    machine_known : get_or l.machines x 0 < shop.machines
+    machine_known = let a = its_machine in let b = kept.kept.limits.on_machines j ((placing shop w).steps j)
+        in omega arith
+
+    head_is : get_or heads x 0 + get_or l.times x 0
+        ≡ (place_next shop (placing shop w) j).free (machine_of shop j ((placing shop w).steps j)) + 1
+    head_is =
+        let a = ap (λ (q : ℕ). get_or heads q 0) its_place
+        in let b = head_here greatest shop w l rows kept.kept j fits
+        in let c = ap (λ (q : ℕ). get_or l.times q 0) its_place
+        in let d = time_here greatest shop w l rows kept.kept j fits
+        in let e = end_here greatest shop w l rows kept.kept j fits in omega arith
+
+    pub can_foresee : CanForesee greatest l heads ends x
+    can_foresee =
+        let known = machine_known
+        in let all = left_fits greatest shop w l rows kept.kept j fits kept.holds x
+        in let fit = all.fits (get_or l.machines x 0) known
+        in let here = within greatest shop w j l rows nexts kept fits x x_is
+        in let latest = end_latest greatest shop w l rows kept.kept j fits
+        in let small = end_small greatest shop w l rows kept.kept j fits
+        in let same = end_here greatest shop w l rows kept.kept j fits
+        in let end = head_is
+        in let a = kept.kept.computable in let b = kept.kept.laid.machines
+        in let long = kept.kept.heads.positions
+        in let timed = kept.kept.laid.positions.times in let tailed = kept.kept.laid.positions.tails
+        in let machined = kept.kept.laid.machines_at.positions
+        in record {
+          within = here;
+          times = omega arith;
+          tails = omega arith;
+          machines = omega arith;
+          known = omega arith;
+          head = omega arith;
+          end = omega arith;
+          some = omega arith;
+          blocks = all.blocks (get_or l.machines x 0) known;
+          fits = omega arith;
+        }
+
+    pub foreseen_least : (bound : ℕ) → bound ≡ lb shop w → (least : ℕ) → least ≡ foreseen l heads ends x bound
+        → IsLeastAt shop w l rows j x least
+    foreseen_least bound is least least_is =
+        let end = head_is
+        in let b : max bound (get_or heads x 0 + get_or l.times x 0 - 1) ≡ max (lb shop w)
+        ((place_next shop (placing shop w) j).free (machine_of shop j ((placing shop w).steps j))) = omega arith
+        in after_look greatest shop w l rows kept.kept j fits
+        (max bound (get_or heads x 0 + get_or l.times x 0 - 1)) 0 b x (get_or l.machines x 0)
+        (get_or heads x 0 + get_or l.times x 0) its_place its_machine head_is least least_is
+
+  -- where heads, ends and next operations are as they were
+  pub advancing : (heads' ends' nexts' : List ℕ) → heads' ≡ heads → ends' ≡ ends → nexts' ≡ nexts
+      → (x : ℕ) → x ≡ get_or nexts j 0 → (bound : ℕ) → bound ≡ lb shop w → (least : ℕ)
+      → least ≡ foreseen l heads ends x bound
+      → IsAdvancing greatest shop w l (rows_of l heads' ends') nexts' j least
+  advancing heads' ends' nexts' same_heads same_ends same_nexts x x_is bound is least least_is =
+      rw (same_heads, same_ends, same_nexts) (record {
+        kept = kept;
+        fits = fits;
+        foreseen = subst (λ (q : ℕ). IsLeastAt shop w l (rows_of l heads ends) j q least) x_is
+            (foreseen_least x x_is bound is least least_is);
+      })
+
+  pub job_known : j < length nexts
+  job_known = next_known greatest shop w j l rows nexts kept fits
+
+  -- where it stands, as it is read
+  pub index_is : (x : ℕ) → x ≡ get_or nexts j x → x ≡ get_or nexts j 0
+  index_is x is = is ∙ get_or_default nexts j x 0 job_known
+
+-- the choice by lanes is that of the word
+module _ (greatest : ℕ) (shop : Shop) (w : List ℕ) (l : LayoutState) (heads ends nexts : List ℕ)
+    (kept : IsKeptInLanes greatest shop w l (rows_of l heads ends) nexts) where
+  choosable : AreChoosable greatest shop (placing shop w) l nexts (rows_of l heads ends)
+  choosable = record {
+    at = record {
+      laid = kept.kept.laid;
+      limits = kept.kept.limits;
+      are = kept.are_next;
+      heads = kept.kept.heads;
+      times = refl;
+    };
+    ends = kept.ends;
+    computable = kept.kept.computable;
+  }
+
+  pub can_choose : (given : List ℕ) → given ≡ nexts → CanChoose greatest l given (rows_of l heads ends)
+  can_choose given is = subst (λ (ns : List ℕ). CanChoose greatest l ns (rows_of l heads ends)) (sym is)
+      (record { shop = shop; of = placing shop w; choosable = choosable })
+
+  pub times_long : length l.times ≡ length heads
+  times_long = kept.kept.laid.positions.times ∙ sym kept.kept.heads.positions
+
+  pub are_conflict : (given jobs : List ℕ) → given ≡ nexts → AreInConflict greatest l given (rows_of l heads ends) jobs
+      → jobs ≡ conflict shop w
+  are_conflict given jobs is are =
+      let same = subst (λ (ns : List ℕ). AreInConflict greatest l ns (rows_of l heads ends) jobs) is are
+      in same shop (placing shop w) choosable
+
+-- the limit is beyond all bounds, or is not
+pub tells_below : (shop : Shop) → IsWithinLimits shop → (w : List ℕ) → IsWord shop w → (limit least : ℕ)
+    → least ≡ min limit (2 ^ 50) → (told : Option ℕ) → TellsBoundBelow least (lb shop w) told
+    → TellsBoundBelow limit (lb shop w) told
+tells_below shop limits w word limit least is None reached =
+    let small = (sums_small shop limits w word).bound in omega arith
+tells_below shop limits w word limit least is (Some b) tells =
+    (tells.0, let below = tells.1 in omega arith)

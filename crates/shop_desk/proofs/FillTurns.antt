@@ -1,0 +1,195 @@
+-- Heads by position are set one by one.
+use Rattle.std.proofs.Common.{◌≡◌, ℕ, ◌+◌, ◌-◌, ◌≤◌, ◌<◌, max, inl, inr, List, [], length}
+use Rattle.std.proofs.Common.{get_or, set, refl, sym, ◌∙◌, ap, subst, arith}
+use Rattle.std.proofs.lemmas.Bool.{cases_eq}
+use Rattle.std.proofs.lemmas.Grind.{get_or-set_at}
+use Rattle.std.proofs.lemmas.List.{get_or-set_other, length-set}
+use Rattle.shop_lanes.specs.Rows.{Rows, with_head}
+use Rattle.shop_model.specs.declared.ops.Op.{Op}
+use Rattle.shop_model.specs.Shop.{Shop, no_op, IsOperation, route_of, time_of}
+use Rattle.shop_model.specs.Word.{Placing, placing}
+use Rattle.shop_model.proofs.Ends.{IsOperation-job}
+use Rattle.shop_heads.specs.Heads.{ready_after, head_of}
+use Rattle.shop_model.specs.Placements.{PlacementState, IsPlacement}
+use Rattle.shop_desk.specs.inner.Fills.{IsStored, IsPositionFree, CanFill, AreSameBeside, HasFilledJob}
+use Rattle.shop_desk.specs.inner.Fills.{HasFilled}
+use Rattle.shop_desk.specs.inner.Layouts.{LayoutState, place, first_position}
+use Rattle.shop_heads.specs.inner.PlacedWords.{IsOfWord}
+use Rattle.shop_heads.proofs.HeadTurns.{ready_first}
+use Rattle.shop_desk.proofs.LaidPlaces.{place_of}
+use Rattle.shop_desk.proofs.RowTurns.{open_turn}
+
+pub beside_both : (a b c : Rows) → AreSameBeside a b → AreSameBeside b c → AreSameBeside a c
+beside_both a b c x y = record {
+  times = y.times ∙ x.times;
+  tails = y.tails ∙ x.tails;
+  ends = y.ends ∙ x.ends;
+  positions = y.positions ∙ x.positions;
+}
+
+pub beside_one : (a b : Rows) (q v : ℕ) → b ≡ with_head a q v → AreSameBeside a b
+beside_one a b q v e = record {
+  times = ap (λ (r : Rows). r.times) e;
+  tails = ap (λ (r : Rows). r.tails) e;
+  ends = ap (λ (r : Rows). r.ends) e;
+  positions = ap (λ (r : Rows). length r.heads) e ∙ length-set a.heads q v;
+}
+
+-- the heads of job j below step k
+pub record IsFilledUpTo (shop : Shop) (l : LayoutState) (s : PlacementState) (j k ready : ℕ) (old now : Rows)
+    : Type 0 where
+  pub beside : AreSameBeside old now
+  pub filled : (p : Placing) → IsPlacement shop p s → (t : ℕ) → IsOperation shop j t → t < k
+      → IsStored shop p l now.heads j t
+  pub others : (q : ℕ) → ((t : ℕ) → IsOperation shop j t → place l j t ≡ q → ⊥)
+      → get_or now.heads q 0 ≡ get_or old.heads q 0
+  pub ready_is : (p : Placing) → IsPlacement shop p s → ready ≡ ready_after shop p j (k - p.steps j)
+
+module _ (greatest : ℕ) (shop : Shop) (l : LayoutState) (s : PlacementState) (rows : Rows)
+    (can : CanFill greatest shop l rows) (j : ℕ) (job : j < length shop.jobs) where
+  module _ (k : ℕ) (ready : ℕ) (now : Rows) (so_far : IsFilledUpTo shop l s j k ready rows now)
+      (op : IsOperation shop j k) (q : ℕ) (at : q ≡ place l j k) where
+    here : place l j k < first_position l shop.machines
+    here = (place_of shop can.limits l can.laid j k op).within
+
+    pub position_known : q < length now.heads
+    position_known = let a = here in let b = can.positions in let c = so_far.beside.positions in omega arith
+
+    -- the head of one step is written
+    pub filled_more : (new : Rows) (v h : ℕ) → new ≡ with_head now q v
+        → ((p : Placing) → IsPlacement shop p s → (p.steps j ≤ k → v ≡ head_of shop p j k + 1)
+        × (k < p.steps j → v ≡ 0) × (h ≡ ready_after shop p j (k + 1 - p.steps j)))
+        → IsFilledUpTo shop l s j (k + 1) h rows new
+    filled_more new v h wrote value =
+        let heads : new.heads ≡ set now.heads q v = ap (λ (r : Rows). r.heads) wrote
+        in let mine : get_or new.heads (place l j k) 0 ≡ v =
+        ap (λ (xs : List ℕ). get_or xs (place l j k) 0) heads
+        ∙ get_or-set_at now.heads q (place l j k) v 0 (sym at) position_known
+        in let other : (r : ℕ) → (r ≡ q → ⊥) → get_or new.heads r 0 ≡ get_or now.heads r 0 =
+        (λ r ne. ap (λ (xs : List ℕ). get_or xs r 0) heads ∙ get_or-set_other now.heads q r v 0 ne)
+        in record {
+          beside = beside_both rows now new so_far.beside (beside_one now new q v wrote);
+          filled = λ p is t op_t below. elim (cases_eq t k) [
+            | inl f ↦ (let same : get_or new.heads (place l j t) 0 ≡ v =
+                ap (λ (x : ℕ). get_or new.heads (place l j x) 0) f ∙ mine
+                in let w = value p is
+                in let head : head_of shop p j t ≡ head_of shop p j k = ap (head_of shop p j) f
+                in record {
+                  waiting = λ opened. (let a = w.0 (omega arith) in omega arith);
+                  placed = λ before. (let a = w.1 (omega arith) in omega arith);
+                })
+            | inr ne ↦ (
+                let apart : place l j t ≡ q → ⊥ = (λ f. ne (
+                let a = place_of shop can.limits l can.laid j t op_t
+                in let b = place_of shop can.limits l can.laid j k op
+                in sym a.step ∙ (ap (λ (x : ℕ). get_or l.steps x 0) (f ∙ at) ∙ b.step)))
+                in let same = other (place l j t) apart
+                in let before = so_far.filled p is t op_t (omega arith)
+                in record {
+                  waiting = λ opened. same ∙ before.waiting opened;
+                  placed = λ done. same ∙ before.placed done;
+                })
+          ];
+          others = λ r free. other r (λ f. free k op (sym at ∙ sym f)) ∙ so_far.others r free;
+          ready_is = λ p is. (value p is).2;
+        }
+
+    -- the step is placed
+    pub filled_placed : (placed : ℕ) → placed ≡ get_or s.steps j 0 → k < placed → (new : Rows)
+        → new ≡ with_head now q 0 → IsFilledUpTo shop l s j (k + 1) ready rows new
+    filled_placed placed read below new wrote = filled_more new 0 ready wrote (λ p is.
+        let steps = is.steps j job
+        in let a = so_far.ready_is p is
+        in let b = ready_first shop p j k (omega arith)
+        in let c = ready_first shop p j (k + 1) (omega arith)
+        in ((λ opened. absurd (omega arith)), (λ done. refl), omega arith))
+
+    module _ (placed : ℕ) (read : placed ≡ get_or s.steps j 0) (opened : placed ≤ k) (route : List Op)
+        (is_route : route ≡ route_of shop j) (head : ℕ)
+        (greater : head ≡ max ready (get_or s.free (get_or route k no_op).machine 0)) where
+      turn : (p : Placing) → IsPlacement shop p s → (head ≡ head_of shop p j k)
+          × (head + (get_or route k no_op).time ≡ ready_after shop p j (k + 1 - p.steps j))
+      turn p is = open_turn shop can.limits s j job route is_route k ready head so_far.ready_is (omega arith)
+          greater p is
+
+      -- it waits, and its head and its end fit
+      pub open_fits : IsOfWord shop s → (head + 1 ≤ greatest) × (head + (get_or route k no_op).time < greatest)
+      open_fits of =
+          let p = placing shop of.word
+          in let is = of.placed
+          in let t = turn p is
+          in let steps = is.steps j job
+          in let f = can.fits of.word of.fits j k op (omega arith)
+          in let time : (get_or route k no_op).time ≡ time_of shop j k =
+          ap (λ (xs : List Op). (get_or xs k no_op).time) is_route
+          in let h = t.0
+          in (omega arith, omega arith)
+
+      pub filled_open : (new : Rows) → new ≡ with_head now q (head + 1) → (h : ℕ)
+          → h ≡ head + (get_or route k no_op).time → IsFilledUpTo shop l s j (k + 1) h rows new
+      filled_open new wrote h sum = filled_more new (head + 1) h wrote (λ p is.
+          let t = turn p is
+          in let steps = is.steps j job
+          in ((λ o. (let a = t.0 in omega arith)), (λ done. absurd (omega arith)), sum ∙ t.1))
+
+-- the heads of the jobs below n
+pub record AreFilledUpTo (shop : Shop) (l : LayoutState) (s : PlacementState) (n : ℕ) (old now : Rows) : Type 0 where
+  pub beside : AreSameBeside old now
+  pub filled : (p : Placing) → IsPlacement shop p s → (j k : ℕ) → IsOperation shop j k → j < n
+      → IsStored shop p l now.heads j k
+  pub free : (q : ℕ) → IsPositionFree shop l q → get_or now.heads q 0 ≡ get_or old.heads q 0
+
+module _ (greatest : ℕ) (shop : Shop) (l : LayoutState) (s : PlacementState) (rows : Rows)
+    (can : CanFill greatest shop l rows) where
+  pub jobs_can : (n : ℕ) (now : Rows) → AreFilledUpTo shop l s n rows now → CanFill greatest shop l now
+  jobs_can n now so_far = record {
+    limits = can.limits;
+    laid = can.laid;
+    fits = can.fits;
+    computable = can.computable;
+    positions = so_far.beside.positions ∙ can.positions;
+  }
+
+  pub jobs_more : (n : ℕ) (now new : Rows) → AreFilledUpTo shop l s n rows now → HasFilledJob shop l s n now new
+      → AreFilledUpTo shop l s (n + 1) rows new
+  jobs_more n now new so_far job = record {
+    beside = beside_both rows now new so_far.beside job.beside;
+    filled = λ p is j k op below. elim (cases_eq j n) [
+      | inl f ↦ subst (λ (x : ℕ). IsStored shop p l new.heads x k) (sym f)
+          (job.filled p is k (subst (λ (x : ℕ). IsOperation shop x k) f op))
+      | inr ne ↦ (
+          let same = job.others (place l j k) (λ t op_t f. ne (
+          let a = place_of shop can.limits l can.laid j k op
+          in let b = place_of shop can.limits l can.laid n t op_t
+          in sym a.job ∙ (ap (λ (x : ℕ). get_or l.jobs x 0) (sym f) ∙ b.job)))
+          in let before = so_far.filled p is j k op (omega arith)
+          in record {
+            waiting = λ opened. same ∙ before.waiting opened;
+            placed = λ done. same ∙ before.placed done;
+          })
+    ];
+    free = λ q none. job.others q (λ t op f. none n t op f) ∙ so_far.free q none;
+  }
+
+  pub jobs_all : (n : ℕ) (now : Rows) → length shop.jobs ≤ n → AreFilledUpTo shop l s n rows now
+      → HasFilled shop l s rows now
+  jobs_all n now all so_far = record {
+    beside = so_far.beside;
+    filled = λ rested p is. record {
+      positions = so_far.beside.positions ∙ can.positions;
+      waiting = λ j k op opened. (let a = IsOperation-job shop j k op
+          in (so_far.filled p is j k op (omega arith)).waiting opened);
+      placed = λ j k op before. (let a = IsOperation-job shop j k op
+          in (so_far.filled p is j k op (omega arith)).placed before);
+      padding = λ q none. so_far.free q none ∙ rested q none;
+    };
+  }
+
+-- the places and the route of a job, as they are read
+pub places_read : (l : LayoutState) (j : ℕ) (places : List ℕ) → places ≡ get_or l.places j [] → (k : ℕ)
+    → get_or places k 0 ≡ place l j k
+places_read l j places is k = ap (λ (xs : List ℕ). get_or xs k 0) is
+
+pub step_read : (shop : Shop) (j : ℕ) (route : List Op) → route ≡ route_of shop j → (k : ℕ) → k < length route
+    → IsOperation shop j k
+step_read shop j route is k below = let a : length route ≡ length (route_of shop j) = ap length is in omega arith

@@ -1,0 +1,82 @@
+-- A state that was set by a placement.
+use Rattle.std.proofs.Common.{◌≡◌, ℕ, inl, inr, List, length, replicate}
+use Rattle.std.proofs.Common.{get_or, ◌∙◌, ap, arith}
+use Rattle.std.proofs.lemmas.Bool.{cases_lt}
+use Rattle.std.proofs.lemmas.List.{get_or_past, get_or-replicate, length-replicate}
+use Rattle.shop_lanes.specs.Rows.{Rows}
+use Rattle.shop_model.specs.Placements.{IsPlacement, PlacementState}
+use Rattle.shop_model.specs.Shop.{Shop}
+use Rattle.shop_model.specs.Word.{IsWord, placing}
+use Rattle.shop_desk.specs.inner.Dispatchers.{IsReady}
+use Rattle.shop_desk.specs.inner.Fills.{AreNextsPlaced, CanFill, HasFilled, IsRested}
+use Rattle.shop_desk.specs.inner.LaneChoices.{AreNextsOf}
+use Rattle.shop_desk.specs.inner.LaneEnds.{AreEndsOf, CanKeepEnds, HasEnds}
+use Rattle.shop_desk.specs.inner.LaneStates.{AreHeadsInLanes, HasRoom, IsKeptInLanes, rows_of}
+use Rattle.shop_desk.specs.inner.Layings.{place_or}
+use Rattle.shop_desk.specs.inner.Layouts.{LayoutState, first_position}
+use Rattle.shop_desk.proofs.LaneBegins.{heads_fit}
+use Rattle.shop_desk.proofs.LaneEnds.{can_keep, ends_at, with_ends}
+
+module _ (greatest : ℕ) (shop : Shop) (l : LayoutState) (ready : IsReady greatest shop l) (hs es nexts : List ℕ)
+    (room : HasRoom shop l hs es nexts) (s : PlacementState) (hs' es' : List ℕ)
+    (heads : hs' ≡ replicate (length hs) 0) (ends : es' ≡ replicate (length es) greatest) where
+  pub can_fill : CanFill greatest shop l (rows_of l hs' es')
+  can_fill = record {
+    limits = ready.limits;
+    laid = ready.laid;
+    fits = heads_fit greatest shop l ready.limits ready.holds;
+    computable = ready.computable;
+    positions = ap length heads ∙ (length-replicate (length hs) 0 ∙ room.positions);
+  }
+
+  rested : IsRested shop l hs'
+  rested q free = ap (λ (xs : List ℕ). get_or xs q 0) heads ∙ elim (cases_lt q (length hs)) [
+    | inl below ↦ get_or-replicate (length hs) q 0 0 below
+    | inr past ↦ get_or_past (replicate (length hs) 0) q 0
+        (omega (arith, length-replicate {A = ℕ} (length hs) 0))
+  ]
+
+  module _ (filled : Rows) (has : HasFilled shop l s (rows_of l hs' es') filled) where
+    pub times_long : length l.times ≡ length filled.heads
+    times_long = let a = has.beside.positions in let b = can_fill.positions in let c = ready.laid.positions.times
+        in omega arith
+
+    as_many : length filled.ends ≡ length shop.jobs
+    as_many = ap length has.beside.ends ∙ (ap length ends ∙ (length-replicate (length es) greatest
+        ∙ room.jobs_with_ends))
+
+    module _ (after : List ℕ) (long : length after ≡ length nexts) (are : AreNextsPlaced l s (length nexts) after)
+        (w : List ℕ) (word : IsWord shop w) (placed : IsPlacement shop (placing shop w) s) where
+      now : AreHeadsInLanes greatest shop w l filled
+      now = record {
+        limits = ready.limits;
+        word = word;
+        laid = ready.laid;
+        times = has.beside.times;
+        tails = has.beside.tails;
+        fits = heads_fit greatest shop l ready.limits ready.holds;
+        computable = ready.computable;
+        heads = has.filled rested (placing shop w) placed;
+      }
+
+      next_are : AreNextsOf shop (placing shop w) l after
+      next_are = record {
+        jobs = long ∙ room.jobs_with_nexts;
+        are = λ j known. are j (let a = room.jobs_with_nexts in omega arith)
+            ∙ (ap (λ (n : ℕ). place_or n l.places j (get_or s.steps j 0)) ready.laid.positions.following
+            ∙ ap (place_or (first_position l shop.machines) l.places j) (placed.steps j known));
+      }
+
+      pub filled_keep : CanKeepEnds greatest l after filled
+      filled_keep = can_keep greatest shop w l filled now after next_are as_many
+
+      pub filled_kept : (ended : Rows) → HasEnds filled ended → AreEndsOf greatest after ended
+          → IsKeptInLanes greatest shop w l ended after
+      filled_kept ended beside ends_are =
+          let heads = with_ends greatest shop w l filled ended beside now
+          in record {
+            kept = heads;
+            are_next = next_are;
+            ends = ends_at greatest shop w l ended heads after next_are (beside.ends ∙ as_many) ready.holds ends_are;
+            holds = ready.holds;
+          }

@@ -1,0 +1,16 @@
+-- A vector after a slice of all of it was written.
+use Rattle.std.proofs.Common.{◌≡◌, ℕ, List, [], ◌++◌, length, take, drop, ap, ◌∙◌, arith}
+use Rattle.std.specs.Prelude.{Vec}
+use Rattle.std.specs.declared.alloc.Global.{Global}
+use Rattle.std.proofs.lemmas.List.{append-nil, drop_all, take_all}
+
+written : {A : Type 0} (n : ℕ) (new old : List A) → length new ≡ n → length old ≡ n
+    → take n (new ++ drop (length new) old) ≡ new
+written n new old e f =
+    let d : drop (length new) old ≡ [] = drop_all (length new) old (omega arith)
+    in ap (λ xs. take n (new ++ xs)) d ∙ (ap (λ xs. take n xs) (append-nil new) ∙ take_all n new (omega arith))
+
+pub written_vec : {A : Type 0} (v : Vec A Global) (given new : List A) → given ≡ v.items → length new ≡ length given
+    → take v.len (new ++ drop (length new) v.items) ≡ new
+written_vec v given new e long =
+    let full = v.ok.0 in let f = ap (λ xs. length xs) e in written v.len new v.items (omega arith) (omega arith)

@@ -1,0 +1,14 @@
+use Rattle.shop_desk.proofs.LaneBegins.{heads_fit, tails_fit, times_fit}
+use Rattle.shop_desk.proofs.dispatchers.Dispatcher.of.Goals as goal
+
+pub of-requires-clause-times : goal.of-requires-clause-times
+of-requires-clause-times g c =
+    let ready = c.requires
+    in times_fit g.L.StateLanes.GREATEST c.args.instance.now ready.limits c.args.positions ready.laid
+    (heads_fit g.L.StateLanes.GREATEST c.args.instance.now c.args.positions ready.limits ready.holds)
+
+pub of-requires-clause-tails : goal.of-requires-clause-tails
+of-requires-clause-tails g c =
+    let ready = c.requires
+    in tails_fit g.L.StateLanes.GREATEST c.args.instance.now ready.limits c.args.positions ready.laid
+    (heads_fit g.L.StateLanes.GREATEST c.args.instance.now c.args.positions ready.limits ready.holds) ready.holds

@@ -1,0 +1,7 @@
+use Rattle.shop_desk.specs.inner.LaneStates.{rows_of}
+use Rattle.shop_desk.proofs.FillTurns.{AreFilledUpTo}
+use Rattle.shop_desk.proofs.fills.fill_heads.Given as goal
+
+abbrev pub invariant-loop-job : goal.invariant-loop-job
+invariant-loop-job g l = AreFilledUpTo l.instance l.grid l.placement l.job
+    (rows_of l.grid (g.L.StateLanes.heads l.fn.lanes) (g.L.StateLanes.ends l.fn.lanes)) (rows_of l.grid (g.L.StateLanes.heads l.lanes) (g.L.StateLanes.ends l.lanes))

@@ -1,0 +1,7 @@
+use Rattle.shop_desk.specs.inner.LaneStates.{rows_of}
+use Rattle.shop_desk.proofs.FillTurns.{IsFilledUpTo}
+use Rattle.shop_desk.proofs.fills.fill_job.Given as goal
+
+abbrev pub invariant-loop-step : goal.invariant-loop-step
+invariant-loop-step g l = IsFilledUpTo l.instance l.grid l.placement l.job l.step l.ready
+    (rows_of l.grid (g.L.StateLanes.heads l.fn.lanes) (g.L.StateLanes.ends l.fn.lanes)) (rows_of l.grid (g.L.StateLanes.heads l.lanes) (g.L.StateLanes.ends l.lanes))

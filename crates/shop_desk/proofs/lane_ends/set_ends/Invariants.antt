@@ -1,0 +1,12 @@
+use Rattle.std.proofs.Common.{ℕ, ◌<◌}
+use Rattle.shop_desk.specs.inner.LaneEnds.{HasEnds, IsEndOf}
+use Rattle.shop_desk.specs.inner.LaneStates.{rows_of}
+use Rattle.shop_desk.proofs.lane_ends.set_ends.Given as goal
+
+abbrev pub invariant-loop-job : goal.invariant-loop-job
+invariant-loop-job g l = record {
+  beside : HasEnds (rows_of l.grid (g.L.StateLanes.heads l.initial.lanes) (g.L.StateLanes.ends l.initial.lanes))
+      (rows_of l.grid (g.L.StateLanes.heads l.lanes) (g.L.StateLanes.ends l.lanes));
+  ends : (j : ℕ) → j < l.job → IsEndOf g.L.StateLanes.GREATEST l.next
+      (rows_of l.grid (g.L.StateLanes.heads l.lanes) (g.L.StateLanes.ends l.lanes)) j;
+}

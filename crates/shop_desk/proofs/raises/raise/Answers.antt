@@ -1,0 +1,72 @@
+use Rattle.std.proofs.Common.{ℕ, ◌+◌, ◌∙◌, get_or, refl, subst, sym, arith}
+use Rattle.shop_desk.specs.inner.LaneStates.{rows_of}
+use Rattle.shop_desk.specs.inner.Raises.{Raises, IsInBlocks, IsOnMachine}
+use Rattle.shop_desk.proofs.RaiseLoops.{blocks_raisable, more_blocks, no_blocks, all_blocks}
+use Rattle.shop_desk.proofs.Watching.{sees_both, sees_none}
+use Rattle.shop_desk.proofs.raises.raise.Goals as goal
+
+pub overflow_add-machine : goal.overflow_add-machine
+overflow_add-machine g c = let a = c.requires.machine.small in omega arith
+
+pub loop-from-init : goal.loop-from-init
+loop-from-init g c = record {
+  ordered = (let a = c.block-from.ensures in omega arith);
+  within = (let a = c.block-from.ensures in let b = c.block-behind.ensures in let d = c.requires.machine.ordered
+      in omega arith);
+  raises = subst (λ (x : ℕ). Raises g.L.StateLanes.GREATEST c.args.grid.now c.args.next.now
+      (IsInBlocks (get_or c.args.grid.now.blocks c.args.machine 0) x) c.args.end (rows_of c.args.grid.now (g.L.StateLanes.heads c.args.lanes.now) (g.L.StateLanes.ends c.args.lanes.now))
+      (rows_of c.args.grid.now (g.L.StateLanes.heads c.args.lanes.now) (g.L.StateLanes.ends c.args.lanes.now))) (sym c.block-from.ensures)
+      (no_blocks g.L.StateLanes.GREATEST c.args.grid.now c.args.next.now (get_or c.args.grid.now.blocks c.args.machine 0)
+      (get_or c.args.grid.now.blocks (c.args.machine + 1) 0) c.args.end (rows_of c.args.grid.now (g.L.StateLanes.heads c.args.lanes.now) (g.L.StateLanes.ends c.args.lanes.now)) c.requires.raisable);
+  seen = sees_none c.args.grid.now.machines
+      (IsOnMachine c.args.grid.now c.args.machine) c.args.end (g.L.StateLanes.heads c.args.lanes.now)
+      c.args.raises.now;
+  machines = refl;
+}
+
+pub raise_blocks-requires-clause-raisable : goal.raise_blocks-requires-clause-raisable
+raise_blocks-requires-clause-raisable g c =
+    let a = c.min.ensures in let b = c.block-behind.ensures in let d = c.loop-from-test.true
+    in blocks_raisable g.L.StateLanes.GREATEST c.args.grid.now c.args.next.now
+    (get_or c.args.grid.now.blocks c.args.machine 0)
+    c.loop-from.from (c.loop-from.from + c.min.result)
+    (get_or c.args.grid.now.blocks (c.args.machine + 1) 0) c.args.end
+    (rows_of c.args.grid.now (g.L.StateLanes.heads c.args.lanes.now) (g.L.StateLanes.ends c.args.lanes.now)) (rows_of c.args.grid.now (g.L.StateLanes.heads c.loop-from.lanes) (g.L.StateLanes.ends c.loop-from.lanes))
+    c.loop-from.invariant.raises c.loop-from.invariant.ordered (omega arith) (omega arith) c.requires.raisable
+
+pub raise_blocks-requires-clause-known : goal.raise_blocks-requires-clause-known
+raise_blocks-requires-clause-known g c = λ q here.
+    let long = c.loop-from.invariant.machines in let known = c.requires.known q here in omega arith
+
+pub loop-from-preserved : goal.loop-from-preserved
+loop-from-preserved g c =
+    let a = c.min.ensures in let b = c.block-behind.ensures in let d = c.loop-from-test.true
+    in let o = c.loop-from.invariant.ordered in record {
+      ordered = omega arith;
+      within = omega arith;
+      raises = more_blocks g.L.StateLanes.GREATEST c.args.grid.now c.args.next.now
+          (get_or c.args.grid.now.blocks c.args.machine 0)
+          c.loop-from.from (c.loop-from.from + c.min.result)
+          (get_or c.args.grid.now.blocks (c.args.machine + 1) 0) c.args.end
+          (rows_of c.args.grid.now (g.L.StateLanes.heads c.args.lanes.now) (g.L.StateLanes.ends c.args.lanes.now)) (rows_of c.args.grid.now (g.L.StateLanes.heads c.loop-from.lanes) (g.L.StateLanes.ends c.loop-from.lanes))
+          c.loop-from.invariant.raises o (omega arith) (omega arith)
+          (rows_of c.args.grid.now (g.L.StateLanes.heads c.raise_blocks.new.lanes) (g.L.StateLanes.ends c.raise_blocks.new.lanes)) c.raise_blocks.ensures.raises;
+      seen = sees_both c.args.grid.now.machines
+          (IsOnMachine c.args.grid.now c.args.machine) (IsInBlocks c.loop-from.from (c.loop-from.from + c.min.result))
+          (IsOnMachine c.args.grid.now c.args.machine) c.args.end (g.L.StateLanes.heads c.args.lanes.now)
+          (g.L.StateLanes.heads c.loop-from.lanes) (g.L.StateLanes.heads c.raise_blocks.new.lanes)
+          c.args.raises.now c.loop-from.raises
+          c.raise_blocks.new.raises (λ q here. here)
+          (λ q here. (let low = here.0 in let high = here.1 in (omega arith, omega arith)))
+          c.raise_blocks.ensures.raises.raised.raised.rises c.loop-from.invariant.seen c.raise_blocks.ensures.seen;
+      machines = c.raise_blocks.ensures.machines ∙ c.loop-from.invariant.machines;
+    }
+
+pub returns-clause-raises : goal.returns-clause-raises
+returns-clause-raises g c =
+    let a = c.block-behind.ensures in let b = c.loop-from-test.false in let d = c.loop-from.invariant.within
+    in all_blocks g.L.StateLanes.GREATEST c.args.grid.now c.args.next.now
+    (get_or c.args.grid.now.blocks c.args.machine 0)
+    c.loop-from.from (get_or c.args.grid.now.blocks (c.args.machine + 1) 0) c.args.end
+    (rows_of c.args.grid.now (g.L.StateLanes.heads c.args.lanes.now) (g.L.StateLanes.ends c.args.lanes.now)) (rows_of c.args.grid.now (g.L.StateLanes.heads c.loop-from.lanes) (g.L.StateLanes.ends c.loop-from.lanes))
+    (omega arith) c.loop-from.invariant.raises

@@ -1,0 +1,20 @@
+use Rattle.std.proofs.Common.{◌≡◌, ◌≤◌, ◌-◌, get_or, length}
+use Rattle.shop_desk.specs.inner.LaneStates.{rows_of}
+use Rattle.shop_desk.specs.inner.Raises.{Raises, IsInBlocks, IsOnMachine}
+use Rattle.shop_desk.specs.inner.Watchers.{Sees}
+use Rattle.shop_desk.proofs.raises.raise.Given as goal
+
+abbrev pub invariant-loop-from : goal.invariant-loop-from
+invariant-loop-from g l = record {
+  ordered : get_or l.grid.blocks l.machine 0 ≤ l.from;
+  within : l.from ≤ l.behind;
+  raises : Raises g.L.StateLanes.GREATEST l.grid l.next (IsInBlocks (get_or l.grid.blocks l.machine 0) l.from) l.end
+      (rows_of l.grid (g.L.StateLanes.heads l.fn.lanes) (g.L.StateLanes.ends l.fn.lanes)) (rows_of l.grid (g.L.StateLanes.heads l.lanes) (g.L.StateLanes.ends l.lanes));
+  seen : Sees l.grid.machines (IsOnMachine l.grid l.machine) l.end
+      (g.L.StateLanes.heads l.fn.lanes) (g.L.StateLanes.heads l.lanes) l.fn.raises
+      l.raises;
+  machines : length l.raises ≡ length l.fn.raises;
+}
+
+abbrev pub decreases-loop-from : goal.decreases-loop-from
+decreases-loop-from g l = l.behind - l.from

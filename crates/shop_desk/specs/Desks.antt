@@ -1,0 +1,33 @@
+-- What a desk has dispatched.
+--     DeskState                      the instance, and the word of what is dispatched
+--     goes_on s job                  the same with one more operation of the job
+--     IsUndone s t                   t is s without its last entry
+--     IsWordOfShop s                 the word is one of the instance, which is within its limits
+use Rattle.std.specs.Prelude.{◌≡◌, ◌≤◌, ◌<◌, ℕ, Option, Some, None, List, [], ◌∷◌, ◌++◌}
+use Rattle.shop_model.specs.Limits.{IsWithinLimits}
+use Rattle.shop_model.specs.Shop.{Shop}
+use Rattle.shop_model.specs.Word.{IsWord}
+
+-- what is dispatched, of which instance
+pub record DeskState : Type 0 where
+  pub shop : Shop
+  pub word : List ℕ
+
+abbrev pub nothing_dispatched : Shop → DeskState
+nothing_dispatched shop = record { shop = shop; word = [] }
+
+abbrev pub goes_on : DeskState → ℕ → DeskState
+goes_on s job = record { shop = s.shop; word = s.word ++ job ∷ [] }
+
+abbrev pub IsUndone : DeskState → DeskState → Type 0
+IsUndone s t = (word : List ℕ) (job : ℕ) → s.word ≡ word ++ job ∷ []
+    → t ≡ record { shop = s.shop; word = word }
+
+pub record IsWordOfShop (s : DeskState) : Type 0 where
+  pub word : IsWord s.shop s.word
+  pub limits : IsWithinLimits s.shop
+
+-- the bound if it is below the limit
+abbrev pub TellsBoundBelow : ℕ → ℕ → Option ℕ → Type 0
+TellsBoundBelow limit bound (Some b) = (b ≡ bound) × (b < limit)
+TellsBoundBelow limit bound None = limit ≤ bound

@@ -1,0 +1,5 @@
+pub mod Desks
+pub mod States
+pub mod Slots
+pub mod Layouts
+pub mod inner

@@ -1,0 +1,61 @@
+-- Heads by position that are set anew.
+--     IsStored shop p l heads j k    the head of step k of job j, and one more, or 0 where it is
+--                                    placed
+--     CanFill greatest shop l rows   all heads of what was placed can be set
+--     HasFilledJob, HasFilled        those of a job, or of all jobs, were set
+use Rattle.std.specs.Prelude.{◌≡◌, ℕ, ◌+◌, ◌≤◌, ◌<◌, ◌^◌, List, length, slice_index}
+use Rattle.shop_lanes.specs.Rows.{Rows}
+use Rattle.shop_model.specs.Limits.{IsWithinLimits}
+use Rattle.shop_model.specs.Shop.{Shop, IsOperation}
+use Rattle.shop_model.specs.Word.{Placing}
+use Rattle.shop_heads.specs.Heads.{head_of}
+use Rattle.shop_model.specs.Placements.{PlacementState, IsPlacement}
+use Rattle.shop_desk.specs.inner.LaneHeads.{AreHeadsAt, AreHeadsFit}
+use Rattle.shop_desk.specs.inner.Layings.{place_or}
+use Rattle.shop_desk.specs.inner.Layouts.{LayoutState, place, first_position, IsLaidOut}
+
+pub record IsStored (shop : Shop) (p : Placing) (l : LayoutState) (heads : List ℕ)
+    (j k : ℕ) : Type 0 where
+  pub waiting : p.steps j ≤ k → slice_index heads (place l j k) ≡ head_of shop p j k + 1
+  pub placed : k < p.steps j → slice_index heads (place l j k) ≡ 0
+
+-- no operation stands there
+abbrev pub IsPositionFree : Shop → LayoutState → ℕ → Type 0
+IsPositionFree shop l q = (j k : ℕ) → IsOperation shop j k → place l j k ≡ q → ⊥
+
+-- where no operation stands nothing waits
+abbrev pub IsRested : Shop → LayoutState → List ℕ → Type 0
+IsRested shop l heads = (q : ℕ) → IsPositionFree shop l q → slice_index heads q ≡ 0
+
+pub record CanFill (greatest : ℕ) (shop : Shop) (l : LayoutState) (rows : Rows) : Type 0 where
+  pub limits : IsWithinLimits shop
+  pub laid : IsLaidOut shop l
+  pub fits : AreHeadsFit greatest shop
+  pub computable : greatest < 2 ^ 64
+  pub positions : length rows.heads ≡ first_position l shop.machines
+
+-- the heads alone differ
+pub record AreSameBeside (old new : Rows) : Type 0 where
+  pub times : new.times ≡ old.times
+  pub tails : new.tails ≡ old.tails
+  pub ends : new.ends ≡ old.ends
+  pub positions : length new.heads ≡ length old.heads
+
+pub record HasFilledJob (shop : Shop) (l : LayoutState) (s : PlacementState) (j : ℕ)
+    (old new : Rows) : Type 0 where
+  pub beside : AreSameBeside old new
+  pub filled : (p : Placing) → IsPlacement shop p s → (k : ℕ) → IsOperation shop j k
+      → IsStored shop p l new.heads j k
+  pub others : (q : ℕ) → ((k : ℕ) → IsOperation shop j k → place l j k ≡ q → ⊥)
+      → slice_index new.heads q ≡ slice_index old.heads q
+
+pub record HasFilled (shop : Shop) (l : LayoutState) (s : PlacementState)
+    (old new : Rows) : Type 0 where
+  pub beside : AreSameBeside old new
+  pub filled : IsRested shop l old.heads → (p : Placing) → IsPlacement shop p s
+      → AreHeadsAt shop p l new.heads
+
+-- the next operations of the first n jobs
+abbrev pub AreNextsPlaced : LayoutState → PlacementState → ℕ → List ℕ → Type 0
+AreNextsPlaced l s n nexts = (j : ℕ) → j < n
+    → slice_index nexts j ≡ place_or (length l.following) l.places j (slice_index s.steps j)

@@ -1,0 +1,43 @@
+-- The raises of machines, and a list of the machines that have one.
+--     AreEmpty raises                no head changed on any machine
+--     AreListed raises raised count  the machines with a raise are among the first of a list
+--     AreRaisesFit greatest ..       each machine has its blocks, and a span from its raise fits
+--     IsBoundByRaise ..              the greater of a bound and of what begins within a raise
+use Rattle.std.specs.Prelude.{◌≡◌, ℕ, ◌+◌, ◌≤◌, ◌<◌, List, length, sum_by, if◌then◌else◌, nat_lt}
+use Rattle.std.specs.Prelude.{slice_index}
+use Rattle.shop_lanes.specs.Rows.{Rows, Lane, AreBlocks}
+use Rattle.shop_lanes.specs.Spans.{spans_between, FitsSpan}
+use Rattle.shop_desk.specs.inner.HeadRaises.{raise_of}
+use Rattle.shop_desk.specs.inner.LaneBounds.{lanes_on}
+use Rattle.shop_desk.specs.inner.Layouts.{LayoutState}
+use Rattle.shop_desk.specs.declared.head_raises.Raise.{Raise}
+
+abbrev pub AreEmpty : List Raise → Type 0
+AreEmpty raises = (m : ℕ) → (raise_of raises m).to ≡ 0
+
+-- how many machines have a raise
+abbrev pub raised_count : List Raise → ℕ
+raised_count raises = sum_by (λ r. if nat_lt 0 r.to then 1 else 0) raises
+
+pub record AreListed (raises : List Raise) (raised : List ℕ) (count : ℕ) : Type 0 where
+  pub room : length raised ≡ length raises + 1
+  pub few : count ≤ raised_count raises
+  pub known : (i : ℕ) → i < count → slice_index raised i < length raises
+  pub listed : (m : ℕ) → 0 < (raise_of raises m).to
+      → (i : ℕ) × (i < count) × (slice_index raised i ≡ m)
+
+pub record AreRaisesFit (greatest : ℕ) (raises : List Raise) (l : LayoutState)
+    (rows : Rows) : Type 0 where
+  pub known : length l.blocks ≡ length raises + 1
+  pub blocks : (m : ℕ) → m < length raises
+      → AreBlocks rows (slice_index l.blocks m) (slice_index l.blocks (m + 1))
+  pub fits : (m : ℕ) → m < length raises
+      → FitsSpan greatest (raise_of raises m).to (lanes_on rows l m)
+
+-- b is at least `least`, and no more than that and the spans of these lanes bound; if it is below
+-- the limit, it bounds what begins within the raise
+pub record IsBoundByRaise (raise : Raise) (xs : List Lane) (limit least b : ℕ) : Type 0 where
+  pub low : least ≤ b
+  pub covers : b < limit → spans_between raise.from raise.to xs ≤ b + 1
+  pub within : (c : ℕ) → least ≤ c → ((above upto : ℕ) → spans_between above upto xs ≤ c + 1)
+      → b ≤ c

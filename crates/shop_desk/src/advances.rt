@@ -1,0 +1,104 @@
+// One more operation in the state of a word.
+ghost use Rattle.std.specs.Prelude.{◌≡◌, ◌<◌, ◌^◌, ◌++◌, ◌∷◌, [], List, ℕ, OnSome, length, slice_index};
+ghost use Rattle.std.specs.Prelude.{slice_set};
+ghost use Rattle.shop_model.specs.Shop.{Shop};
+ghost use Rattle.shop_model.specs.Word.{IsWord};
+ghost use Rattle.shop_heads.specs.Bound.{lb};
+ghost use Rattle.shop_heads.specs.Conflicts.{conflict};
+ghost use Rattle.shop_desk.specs.Desks.{TellsBoundBelow};
+ghost use Rattle.shop_desk.specs.inner.Advances.{CanAdvance, CanStrike, HasSameRoom};
+ghost use Rattle.shop_desk.specs.inner.Advances.{IsAdvancing};
+ghost use Rattle.shop_desk.specs.inner.LaneEnds.{CanKeepEnds};
+ghost use Rattle.shop_desk.specs.inner.LaneStates.{GoesOn, IsKeptInLanes, rows_of};
+ghost use Rattle.shop_desk.specs.inner.MachineRaises.{AreEmpty};
+
+use crate::grid::Grid;
+use crate::lane_ends::set_end_of;
+use crate::machine_raises::MachineRaises;
+use crate::raises::raise;
+use shop_lanes::StateLanes;
+
+/// The job's operation at this position was dispatched: the one that follows is its next one, with its end.
+#[inline(always)]
+pub(crate) fn go_on<L: StateLanes>(
+    lanes: &mut L,
+    next: &mut [u32],
+    grid: &Grid<L>,
+    job: usize,
+    position: usize,
+)
+    requires job { job < length next.old }
+    requires position { position < length grid.now.following }
+    requires times { length grid.now.times ≡ length (L.heads lanes.old) }
+    requires keep { CanKeepEnds L.GREATEST grid.now
+        (slice_set next.old job (slice_index grid.now.following position))
+        (rows_of grid.now (L.heads lanes.old) (L.ends lanes.old)) }
+    ensures { GoesOn L.GREATEST grid.now position job
+        (rows_of grid.now (L.heads lanes.old) (L.ends lanes.old))
+        (rows_of grid.now (L.heads lanes.new) (L.ends lanes.new)) next.old next.new }
+{
+    next[job] = grid.next_behind(position);
+    set_end_of(lanes, grid, next, job);
+}
+
+/// Dispatches the next operation of a job, and tells the bound then if it is below the limit; `least` is no more than
+/// that, and no less than the bound before, the end of the operation and what else waits on its machine come to.
+#[inline(always)]
+pub(crate) fn advance_below<L: StateLanes>(
+    lanes: &mut L,
+    next: &mut [u32],
+    raises: &mut MachineRaises,
+    grid: &Grid<L>,
+    job: usize,
+    least: u64,
+    limit: u64,
+) -> Option<u64>
+    requires can { CanAdvance L.GREATEST grid.now
+        (rows_of grid.now (L.heads lanes.old) (L.ends lanes.old)) next.old job least
+        (length raises.old) }
+    requires at_rest { AreEmpty raises.old }
+    requires limit { limit < 2 ^ 63 }
+    ensures told { (shop : Shop) (w : List ℕ) → IsAdvancing L.GREATEST shop w grid.now
+        (rows_of grid.now (L.heads lanes.old) (L.ends lanes.old)) next.old job least
+        → TellsBoundBelow limit (lb shop (w ++ job ∷ [])) result }
+    ensures state { (shop : Shop) (w : List ℕ) → IsKeptInLanes L.GREATEST shop w grid.now
+        (rows_of grid.now (L.heads lanes.old) (L.ends lanes.old)) next.old
+        → IsWord shop (w ++ job ∷ [])
+        → OnSome result (IsKeptInLanes L.GREATEST shop (w ++ job ∷ []) grid.now
+        (rows_of grid.now (L.heads lanes.new) (L.ends lanes.new)) next.new) }
+    ensures room { HasSameRoom (rows_of grid.now (L.heads lanes.old) (L.ends lanes.old))
+        (rows_of grid.now (L.heads lanes.new) (L.ends lanes.new)) next.old next.new }
+    ensures machines { length raises.new ≡ length raises.old }
+    ensures rest { AreEmpty raises.new }
+{
+    if limit <= least {
+        return None;
+    }
+    let position = next[job] as usize;
+    let machine = grid.machines()[position] as usize;
+    let end = lanes.head(position) + grid.time(position);
+    lanes.set_head(position, 0);
+    raise(lanes, raises, grid, next, machine, end);
+    let bound = raises.take_bound(lanes, grid, least, limit);
+    if limit <= bound {
+        return None;
+    }
+    go_on(lanes, next, grid, job, position);
+    Some(bound)
+}
+
+/// Dispatches the one job of a conflict set: no head rises.
+#[inline(always)]
+pub(crate) fn strike<L: StateLanes>(lanes: &mut L, next: &mut [u32], grid: &Grid<L>, job: usize)
+    requires { CanStrike L.GREATEST grid.now
+        (rows_of grid.now (L.heads lanes.old) (L.ends lanes.old)) next.old job }
+    ensures { (shop : Shop) (w : List ℕ) → IsKeptInLanes L.GREATEST shop w grid.now
+        (rows_of grid.now (L.heads lanes.old) (L.ends lanes.old)) next.old
+        → conflict shop w ≡ job ∷ []
+        → IsKeptInLanes L.GREATEST shop (w ++ job ∷ []) grid.now
+        (rows_of grid.now (L.heads lanes.new) (L.ends lanes.new)) next.new }
+{
+    let position = next[job] as usize;
+    lanes.set_head(position, 0);
+    go_on(lanes, next, grid, job, position);
+}

@@ -1,0 +1,188 @@
+// Operations are dispatched in lanes of one width.
+ghost use Rattle.std.specs.Prelude.{◌≡◌, ◌≤◌, ◌<◌, ◌^◌, All, IfOk, length, map, vec_capacity};
+ghost use Rattle.shop_desk.specs.inner.Dispatchers.{IsReady};
+
+use crate::advances::{advance_below, strike};
+use crate::dispatching::{Candidate, Dispatching};
+use crate::fills::{fill_state, place_word};
+use crate::grid::Grid;
+use crate::lane_choices::gather_conflict;
+use crate::look_aheads::foresee;
+use crate::machine_raises::MachineRaises;
+use crate::positions::Positions;
+use crate::states::{Scratch, State};
+use shop_lanes::StateLanes;
+use shop_model::{Instance, Placement};
+use std::alloc::{AllocError, Global};
+use std::marker::Model;
+
+/// No bound of a word within the limits reaches this.
+const BOUNDS: u64 = 1 << 50;
+
+/// Dispatches operations of an instance in lanes of one width.
+#[derive(Drop)]
+pub struct Dispatcher<'a, L: StateLanes> {
+    instance: &'a Instance,
+    grid: Grid<L>,
+}
+
+impl<'a, L: StateLanes> Model for Dispatcher<'a, L> {
+    ghost use Rattle.shop_desk.specs.inner.Dispatchers.{DispatcherState, IsReady};
+
+    ghost Value = { DispatcherState };
+
+    ghost view = { λ d. record { shop = d.instance.now; layout = d.grid } };
+
+    ghost invariant = { λ d. IsReady L.GREATEST d.instance.now d.grid };
+}
+
+/// Replaces the list with candidates for these jobs.
+#[inline(always)]
+fn list_candidates(candidates: &mut Vec<Candidate>, jobs: &[usize])
+    requires small { All (λ j. j < 2 ^ 16) jobs.now }
+    requires room { length jobs.now ≤ vec_capacity candidates.old }
+    ensures jobs { map (λ c. c.job) candidates.new.items ≡ jobs.now }
+    ensures own { All (λ c. c.own ≡ 0) candidates.new.items }
+    ensures room { vec_capacity candidates.old ≤ vec_capacity candidates.new }
+{
+    candidates.clear();
+    for job in jobs {
+        candidates
+            .push(Candidate {
+                job: *job as u16,
+                own: 0,
+            })
+            .unwrap();
+    }
+}
+
+impl<'a, L: StateLanes> Dispatcher<'a, L> {
+    /// Of an instance and its layout. Fails with `AllocError` if memory runs out.
+    pub(crate) fn of(
+        alloc: Global,
+        instance: &'a Instance,
+        positions: Positions,
+    ) -> Result<Dispatcher<'a, L>, AllocError>
+        requires { IsReady L.GREATEST instance.now positions }
+        ensures { IfOk result (λ d. d.shop ≡ instance.now) }
+    {
+        let grid = Grid::of(alloc, positions)?;
+        Ok(Dispatcher { instance, grid })
+    }
+}
+
+impl<'a, L: StateLanes> Dispatching for Dispatcher<'a, L> {
+    ghost use Rattle.std.specs.Prelude.{◌∷◌, ◌++◌, [], vec_capacity};
+    ghost use Rattle.shop_model.specs.Word.{IsWord};
+    ghost use Rattle.shop_desk.specs.inner.Dispatchers.{IsScratchOf};
+    ghost use Rattle.shop_desk.specs.inner.LaneStates.{HasRoom, IsKeptInLanes, rows_of};
+
+    type State = State<L>;
+
+    type Scratch = Scratch;
+
+    ghost shop = { λ d. d.shop };
+
+    ghost IsSlot = { λ d s. HasRoom d.shop d.layout (L.heads s.lanes) (L.ends s.lanes)
+        s.next.items };
+
+    ghost IsStateOf = { λ d w s. IsKeptInLanes L.GREATEST d.shop w d.layout
+        (rows_of d.layout (L.heads s.lanes) (L.ends s.lanes)) s.next.items };
+
+    ghost IsScratch = { λ d s. IsScratchOf d.shop s.placement s.raises (vec_capacity s.jobs) };
+
+    ghost IsCandidate = { λ d w c. IsWord d.shop (w ++ c.job ∷ []) };
+
+    fn scratch(&self, alloc: Global) -> Result<Scratch, AllocError> {
+        self.instance.keeps_limits();
+        let placement = Placement::none(alloc, self.instance)?;
+        let raises = MachineRaises::new(alloc, self.instance.machines())?;
+        let jobs = Vec::with_capacity(alloc, self.instance.jobs())?;
+        Ok(Scratch {
+            placement,
+            raises,
+            jobs,
+        })
+    }
+
+    fn slot(&self, alloc: Global) -> Result<State<L>, AllocError> {
+        let jobs = self.instance.jobs();
+        let lanes = L::new(alloc, self.grid.positions(), jobs)?;
+        let next = vec![in alloc; 0; jobs]?;
+        Ok(State { lanes, next })
+    }
+
+    fn fill(&self, scratch: &mut Scratch, path: &[u16], last: Option<u16>, state: &mut State<L>) {
+        place_word(&mut scratch.placement, self.instance, path, last);
+        fill_state(
+            &mut state.lanes,
+            state.next.as_mut_slice(),
+            &self.grid,
+            self.instance,
+            &scratch.placement,
+        );
+    }
+
+    fn copy(&self, from: &State<L>, to: &mut State<L>) {
+        to.lanes.copy_from(&from.lanes);
+        to.next.as_mut_slice().copy_from_slice(from.next.as_slice());
+    }
+
+    fn gather_candidates(
+        &self,
+        scratch: &mut Scratch,
+        state: &State<L>,
+        candidates: &mut Vec<Candidate>,
+    ) {
+        gather_conflict(
+            &mut scratch.jobs,
+            &state.lanes,
+            &self.grid,
+            state.next.as_slice(),
+        );
+        list_candidates(candidates, scratch.jobs.as_slice());
+    }
+
+    #[inline(always)]
+    fn strike(&self, state: &mut State<L>, job: u16) {
+        strike(
+            &mut state.lanes,
+            state.next.as_mut_slice(),
+            &self.grid,
+            job as usize,
+        );
+    }
+
+    #[inline(always)]
+    fn dispatch_below(
+        &self,
+        scratch: &mut Scratch,
+        state: &mut State<L>,
+        candidate: Candidate,
+        bound: u64,
+        limit: u64,
+    ) -> Option<u64> {
+        let job = candidate.job as usize;
+        let position = state.next[job] as usize;
+        let least = foresee(&mut state.lanes, &self.grid, position, bound);
+        advance_below(
+            &mut state.lanes,
+            state.next.as_mut_slice(),
+            &mut scratch.raises,
+            &self.grid,
+            job,
+            least,
+            limit.min(BOUNDS),
+        )
+    }
+
+    ghost state_is_slot = { λ d w s is. record {
+      positions = is.kept.heads.positions;
+      jobs_with_ends = is.ends.jobs;
+      jobs_with_nexts = is.are_next.jobs;
+    } };
+
+    ghost state_is_of_word = { λ d w s is. is.kept.word };
+
+    ghost state_is_within_limits = { λ d w s is. is.kept.limits };
+}

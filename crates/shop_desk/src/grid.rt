@@ -1,0 +1,164 @@
+// The operations of an instance by position, with their times and tails in lanes.
+ghost use Rattle.std.specs.Prelude.{◌≡◌, ◌<◌, All, IfOk, length, slice_index, slice_index_or, []};
+ghost use Rattle.std.specs.Prelude.{◌≤◌, max};
+ghost use Rattle.shop_lanes.specs.Rows.{AreBlocks, lanes_between};
+ghost use Rattle.shop_lanes.specs.Spans.{FitsSpan, IsRaisedBelow, span, spans_between};
+ghost use Rattle.shop_desk.specs.inner.LaneStates.{rows_of};
+
+use crate::head_raises::Raise;
+use crate::positions::Positions;
+use shop_lanes::StateLanes;
+use std::alloc::{AllocError, Global};
+use std::marker::Model;
+
+/// The same as positions, with times and tails in lanes.
+#[derive(Drop)]
+pub(crate) struct Grid<L: StateLanes> {
+    positions: Positions,
+    fixed: L::Fixed,
+}
+
+impl<L: StateLanes> Model for Grid<L> {
+    ghost use Rattle.std.specs.Prelude.{◌≡◌};
+    ghost use Rattle.shop_desk.specs.inner.Layouts.{LayoutState};
+
+    ghost Value = { LayoutState };
+
+    ghost view = { λ g. g.positions };
+
+    ghost invariant = { λ g. (L.times g.fixed ≡ g.positions.times)
+        × (L.tails g.fixed ≡ g.positions.tails) };
+}
+
+impl<L: StateLanes> Grid<L> {
+    /// Of these positions. Fails with `AllocError` if memory runs out.
+    pub(crate) fn of(alloc: Global, positions: Positions) -> Result<Grid<L>, AllocError>
+        requires times { All (λ t. t ≤ L.GREATEST) positions.times }
+        requires tails { All (λ t. t ≤ L.GREATEST) positions.tails }
+        ensures { IfOk result (λ g. g ≡ positions) }
+    {
+        let fixed = L::fixed(alloc, positions.times(), positions.tails())?;
+        Ok(Grid { positions, fixed })
+    }
+
+    /// The job of the operation at a position.
+    #[inline(always)]
+    pub(crate) fn job(&self, position: usize) -> usize
+        requires { position < length self.now.jobs }
+        ensures { result ≡ slice_index self.now.jobs position }
+    {
+        self.positions.job(position)
+    }
+
+    /// The time of the operation at a position.
+    #[inline(always)]
+    pub(crate) fn time(&self, position: usize) -> u64
+        requires { position < length self.now.times }
+        ensures { result ≡ slice_index self.now.times position }
+    {
+        L::time(&self.fixed, position)
+    }
+
+    /// The positions of the steps of a job.
+    #[inline(always)]
+    pub(crate) fn places(&self, job: usize) -> &[u32]
+        requires { job < length self.now.places }
+        ensures { result.now ≡ slice_index_or self.now.places job [] }
+    {
+        self.positions.places(job)
+    }
+
+    /// The first block of a machine, or the number of all blocks behind the last one's.
+    #[inline(always)]
+    pub(crate) fn block(&self, machine: usize) -> usize
+        requires { machine < length self.now.blocks }
+        ensures { result ≡ slice_index self.now.blocks machine }
+    {
+        self.positions.block(machine)
+    }
+
+    /// The machine of the operation at each position.
+    #[inline(always)]
+    pub(crate) fn machines(&self) -> &[u32]
+        ensures { result.now ≡ self.now.machines }
+    {
+        self.positions.machines()
+    }
+
+    /// The position of the step that follows on the route of the operation at a position, or the number of all
+    /// positions.
+    #[inline(always)]
+    pub(crate) fn following(&self, position: usize) -> usize
+        requires { position < length self.now.following }
+        ensures { result ≡ slice_index self.now.following position }
+    {
+        self.positions.following(position)
+    }
+
+    /// The same as a number of 32 bits.
+    #[inline(always)]
+    pub(crate) fn next_behind(&self, position: usize) -> u32
+        requires { position < length self.now.following }
+        ensures { result ≡ slice_index self.now.following position }
+    {
+        self.positions.next_behind(position)
+    }
+
+    /// How many positions there are, as a number of 32 bits.
+    #[inline(always)]
+    pub(crate) fn end(&self) -> u32
+        ensures { result ≡ length self.now.following }
+    {
+        self.positions.end()
+    }
+
+    /// How many positions there are.
+    #[inline(always)]
+    pub(crate) fn positions(&self) -> usize
+        ensures { result ≡ length self.now.following }
+    {
+        self.positions.positions()
+    }
+
+    /// The greater of a number and of the spans that begin within the raise, in these blocks; or as much of it as
+    /// reaches the limit.
+    #[inline(always)]
+    pub(crate) fn bound_raised(
+        &self,
+        lanes: &L,
+        from: usize,
+        to: usize,
+        raise: Raise,
+        most: u64,
+        limit: u64,
+    ) -> u64
+        requires blocks { AreBlocks (rows_of self.now (L.heads lanes.now) (L.ends lanes.now))
+            from to }
+        requires times { length self.now.times ≡ length (L.heads lanes.now) }
+        requires tails { length self.now.tails ≡ length self.now.times }
+        requires most { most ≤ L.GREATEST }
+        requires fits { FitsSpan L.GREATEST raise.to (lanes_between
+            (rows_of self.now (L.heads lanes.now) (L.ends lanes.now)) from to) }
+        ensures { IsRaisedBelow limit (max most (spans_between raise.from raise.to (lanes_between
+            (rows_of self.now (L.heads lanes.now) (L.ends lanes.now)) from to))) result }
+    {
+        lanes.bound_raised(&self.fixed, from, to, raise.from, raise.to, most, limit)
+    }
+
+    /// When the last of what waits in these blocks ends, its tail included, if it is served by position, from `start`
+    /// on.
+    #[inline(always)]
+    pub(crate) fn span(&self, lanes: &L, from: usize, to: usize, start: u64) -> u64
+        requires blocks { AreBlocks (rows_of self.now (L.heads lanes.now) (L.ends lanes.now))
+            from to }
+        requires times { length self.now.times ≡ length (L.heads lanes.now) }
+        requires tails { length self.now.tails ≡ length self.now.times }
+        requires greatest { 1 ≤ L.GREATEST }
+        requires fits { FitsSpan L.GREATEST start (lanes_between
+            (rows_of self.now (L.heads lanes.now) (L.ends lanes.now)) from to) }
+        ensures { result ≡ span 1 start (lanes_between
+            (rows_of self.now (L.heads lanes.now) (L.ends lanes.now)) from to) }
+    {
+        lanes.span(&self.fixed, from, to, 1, start, 0)
+    }
+}

@@ -1,0 +1,23 @@
+// A state of a word, and what a dispatch needs beside it.
+use crate::machine_raises::MachineRaises;
+use shop_lanes::StateLanes;
+use shop_model::Placement;
+
+/// What a word leaves: the heads of its operations by position, and by job its next operation and the end of that.
+#[derive(Drop)]
+pub struct State<L: StateLanes> {
+    pub(crate) lanes: L,
+    /// next[job]: the position of its next operation, or the number of all positions
+    pub(crate) next: Vec<u32>,
+}
+
+/// What fills and dispatches need beside states.
+#[derive(Drop)]
+pub struct Scratch {
+    /// of some word
+    pub(crate) placement: Placement,
+    /// at rest
+    pub(crate) raises: MachineRaises,
+    /// with room for all jobs
+    pub(crate) jobs: Vec<usize>,
+}

@@ -1,0 +1,108 @@
+-- A written text is read as the one report that it is.
+use Rattle.std.proofs.Common.{◌≡◌, ℕ, suc, ◌+◌, ◌^◌, ◌<◌, Bool, true, List, [], ◌∷◌, ◌++◌, length, get_or, drop, map}
+use Rattle.std.proofs.Common.{refl, sym, ◌∙◌, ap, arith, append_assoc}
+use Rattle.std.specs.Prelude.{if◌then◌else◌}
+use Rattle.std.specs.List.{list_all, join_with_byte}
+use Rattle.shop_text.specs.Formats.{is_visible}
+use Rattle.std.specs.Fmt.{decimal}
+use Rattle.shop_model.specs.Shop.{Shop}
+use Rattle.shop_model.specs.Checking.{starts_of}
+use Rattle.shop_text.specs.Lines.{lines_of, tokens_of, value_of}
+use Rattle.shop_text.specs.Schedules.{Tokens}
+use Rattle.shop_text.specs.Writing.{Reported, printed_line, text_of, answer_lines, job_line, job_lines}
+use Rattle.shop_text.specs.Writing.{report_lines, gantt_text}
+use Rattle.shop_text.proofs.PrintedLines.{AreLines, line_cut, are_lines_append, decimal_value}
+use Rattle.shop_text.proofs.PrintedJobLines.{AreSmallStarts, jobs_from, job_lines_are_lines, line_is_tokens}
+use Rattle.shop_text.proofs.PrintedJobLines.{values_read}
+use Rattle.shop_text.proofs.ReportReading.{answer_is_lines}
+use Rattle.shop_engine.specs.OneReport.{OneReport}
+
+-- the lines of a text that begins with these
+front : (lines : List Tokens) (rest : List ℕ) → AreLines lines
+    → lines_of (text_of lines ++ rest) ≡ map (join_with_byte 32) lines ++ lines_of rest
+front [] rest are = refl
+front (line ∷ lines) rest are =
+    ap lines_of (append_assoc (printed_line line) (text_of lines) rest)
+    ∙ line_cut (join_with_byte 32 line) (text_of lines ++ rest) are.0
+    ∙ ap (λ (ls : List (List ℕ)). join_with_byte 32 line ∷ ls) (front lines rest are.1)
+
+same_number : (n m : ℕ) → n < 2 ^ 64 → m < 2 ^ 64 → decimal n ≡ decimal m → n ≡ m
+same_number n m small low e = sym (decimal_value n small) ∙ ap value_of e ∙ decimal_value m low
+
+same_row : (j : ℕ) (row other : List ℕ) → AreSmallStarts row → AreSmallStarts other
+    → join_with_byte 32 (job_line j row) ≡ join_with_byte 32 (job_line j other) → row ≡ other
+same_row j row other small low e =
+    let tokens : job_line j row ≡ job_line j other =
+    sym (line_is_tokens j row small) ∙ ap tokens_of e ∙ line_is_tokens j other low
+    in let starts : map decimal row ≡ map decimal other = ap (drop 2) tokens
+    in sym (values_read row small) ∙ ap (map value_of) starts ∙ values_read other low
+
+same_rows : (j : ℕ) (rows others : List (List ℕ)) (x y : List (List ℕ)) → length rows ≡ length others
+    → ((i : ℕ) → AreSmallStarts (get_or rows i [])) → ((i : ℕ) → AreSmallStarts (get_or others i []))
+    → map (join_with_byte 32) (jobs_from j rows) ++ x ≡ map (join_with_byte 32) (jobs_from j others) ++ y
+    → rows ≡ others
+same_rows j [] [] x y long small low e = refl
+same_rows j [] (other ∷ others) x y long small low e = absurd (omega arith)
+same_rows j (row ∷ rows) [] x y long small low e = absurd (omega arith)
+same_rows j (row ∷ rows) (other ∷ others) x y long small low e =
+    let first = same_row j row other (small 0) (low 0) (ap (λ (ls : List (List ℕ)). get_or ls 0 []) e)
+    in let later = same_rows (j + 1) rows others x y (omega arith) (λ i. small (suc i)) (λ i. low (suc i))
+    (ap (λ (ls : List (List ℕ)). drop 1 ls) e)
+    in ap (λ (r : List ℕ). r ∷ rows) first ∙ ap (λ (rs : List (List ℕ)). other ∷ rs) later
+
+told : List ℕ → Shop → List (List ℕ) → ℕ → ℕ → ℕ → ℕ → ℕ → Reported
+told name shop table makespan bound open_nodes rounds nodes = record {
+  name = name;
+  shop = shop;
+  table = table;
+  makespan = makespan;
+  bound = bound;
+  open_nodes = open_nodes;
+  rounds = rounds;
+  nodes = nodes;
+}
+
+same_report : (r s : Reported) → r.name ≡ s.name → r.shop ≡ s.shop → r.table ≡ s.table → r.makespan ≡ s.makespan
+    → r.bound ≡ s.bound → r.open_nodes ≡ s.open_nodes → r.rounds ≡ s.rounds → r.nodes ≡ s.nodes → r ≡ s
+unfolding told
+same_report r s a b c d e f g h =
+    ap (λ (x : List ℕ). told x r.shop r.table r.makespan r.bound r.open_nodes r.rounds r.nodes) a
+    ∙ ap (λ (x : Shop). told s.name x r.table r.makespan r.bound r.open_nodes r.rounds r.nodes) b
+    ∙ ap (λ (x : List (List ℕ)). told s.name s.shop x r.makespan r.bound r.open_nodes r.rounds r.nodes) c
+    ∙ ap (λ (x : ℕ). told s.name s.shop s.table x r.bound r.open_nodes r.rounds r.nodes) d
+    ∙ ap (λ (x : ℕ). told s.name s.shop s.table s.makespan x r.open_nodes r.rounds r.nodes) e
+    ∙ ap (λ (x : ℕ). told s.name s.shop s.table s.makespan s.bound x r.rounds r.nodes) f
+    ∙ ap (λ (x : ℕ). told s.name s.shop s.table s.makespan s.bound s.open_nodes x r.nodes) g
+    ∙ ap (λ (x : ℕ). told s.name s.shop s.table s.makespan s.bound s.open_nodes s.rounds x) h
+
+chart_of : Reported → Bool → List ℕ
+chart_of r gantt = if gantt then gantt_text r.shop (starts_of r.table) else []
+
+-- the lines of a report and of what is drawn behind it
+lines_are : (r : Reported) (chart written : List ℕ) → list_all is_visible r.name ≡ true
+    → written ≡ text_of (report_lines r) ++ chart
+    → lines_of written ≡ map (join_with_byte 32) (report_lines r) ++ lines_of chart
+lines_are r chart written visible e = ap lines_of e ∙ front (report_lines r) chart
+    (are_lines_append (answer_lines r) (job_lines r.table) (answer_is_lines r visible) (job_lines_are_lines 0 r.table))
+
+pub one_report : OneReport
+unfolding chart_of
+one_report asked gantt written visible x y =
+    let r = x.report
+    in let s = y.report
+    in let named = x.named ∙ sym y.named
+    in let e : map (join_with_byte 32) (report_lines r) ++ lines_of (chart_of r gantt)
+    ≡ map (join_with_byte 32) (report_lines s) ++ lines_of (chart_of s gantt) =
+    sym (lines_are r (chart_of r gantt) written (ap (list_all is_visible) x.named ∙ visible) x.text)
+    ∙ lines_are s (chart_of s gantt) written (ap (list_all is_visible) y.named ∙ visible) y.text
+    in let p = x.printable
+    in let q = y.printable
+    in same_report r s named (x.on ∙ sym y.on)
+    (same_rows 0 r.table s.table (lines_of (chart_of r gantt)) (lines_of (chart_of s gantt))
+    (x.shape.jobs ∙ sym y.shape.jobs) p.starts q.starts (ap (λ (ls : List (List ℕ)). drop 8 ls) e))
+    (same_number r.makespan s.makespan p.makespan q.makespan (ap (λ (ls : List (List ℕ)). drop 9 (get_or ls 2 [])) e))
+    (same_number r.bound s.bound p.bound q.bound (ap (λ (ls : List (List ℕ)). drop 6 (get_or ls 3 [])) e))
+    (same_number r.open_nodes s.open_nodes p.open_nodes q.open_nodes
+    (ap (λ (ls : List (List ℕ)). drop 5 (get_or ls 5 [])) e))
+    (same_number r.rounds s.rounds p.rounds q.rounds (ap (λ (ls : List (List ℕ)). drop 7 (get_or ls 6 [])) e))
+    (same_number r.nodes s.nodes p.nodes q.nodes (ap (λ (ls : List (List ℕ)). drop 6 (get_or ls 7 [])) e))

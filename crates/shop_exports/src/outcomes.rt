@@ -1,0 +1,102 @@
+// How a call ends, and what it puts in the caller's room.
+ghost use Rattle.std.specs.Prelude.{◌≡◌};
+ghost use Rattle.shop_exports.specs.Outcomes.{status_of, line_of, IsGiven, is_refused, is_faulty};
+
+use shop_text::ReadFault;
+
+/// The text is in the room.
+pub const DONE: u32 = 0;
+
+/// The text is longer than the room, which is as it was.
+pub const TOO_SMALL: u32 = 100;
+
+/// An argument has a value that it may not have.
+pub const BAD_ARGUMENT: u32 = 101;
+
+/// How a call ended: `DONE`, `TOO_SMALL`, `BAD_ARGUMENT` or the number of the refusal; whether the schedule is
+/// feasible; the line of the refusal, or 0 where it has none; the length of the text, whether it fits or not.
+#[repr(C)]
+#[derive(Clone, Copy)]
+pub struct Outcome {
+    pub status: u32,
+    pub feasible: bool,
+    pub line: usize,
+    pub length: usize,
+}
+
+/// The number of a refusal.
+fn status_of(fault: ReadFault) -> u32
+    ensures { result ≡ status_of fault }
+{
+    match fault {
+        ReadFault::NoMemory => 1,
+        ReadFault::TooLong => 3,
+        ReadFault::NoInstance => 4,
+        ReadFault::BadShape { line: _ } => 5,
+        ReadFault::BadSize { line: _ } => 6,
+        ReadFault::BadRow { line: _ } => 7,
+        ReadFault::Truncated { line: _ } => 8,
+        ReadFault::BadMachine { line: _ } => 9,
+        ReadFault::BadTime { line: _ } => 10,
+        ReadFault::NoSuchName => 11,
+        ReadFault::BadTable { line: _ } => 12,
+    }
+}
+
+/// The line of a refusal, or 0 where it has none.
+fn line_of(fault: ReadFault) -> usize
+    ensures { result ≡ line_of fault }
+{
+    match fault {
+        ReadFault::NoMemory | ReadFault::TooLong | ReadFault::NoInstance | ReadFault::NoSuchName =>
+            0,
+        ReadFault::BadShape { line } => line,
+        ReadFault::BadSize { line } => line,
+        ReadFault::BadRow { line } => line,
+        ReadFault::Truncated { line } => line,
+        ReadFault::BadMachine { line } => line,
+        ReadFault::BadTime { line } => line,
+        ReadFault::BadTable { line } => line,
+    }
+}
+
+/// The outcome of a refusal.
+pub(crate) fn refused(fault: ReadFault) -> Outcome
+    ensures { result ≡ is_refused fault }
+{
+    Outcome {
+        status: status_of(fault),
+        feasible: false,
+        line: line_of(fault),
+        length: 0,
+    }
+}
+
+/// The outcome where an argument is faulty.
+pub(crate) fn faulty() -> Outcome
+    ensures { result ≡ is_faulty }
+{
+    Outcome {
+        status: BAD_ARGUMENT,
+        feasible: false,
+        line: 0,
+        length: 0,
+    }
+}
+
+/// Puts a text at the front of the room, if it fits.
+pub(crate) fn give(room: &mut [u8], text: &[u8], feasible: bool) -> Outcome
+    ensures { IsGiven feasible text.now room.old room.new result }
+{
+    let fits = text.len() <= room.len();
+    if fits {
+        let (front, _) = room.split_at_mut(text.len());
+        front.copy_from_slice(text);
+    }
+    Outcome {
+        status: if fits { DONE } else { TOO_SMALL },
+        feasible,
+        line: 0,
+        length: text.len(),
+    }
+}

@@ -1,0 +1,5 @@
+pub mod Bound
+pub mod Heads
+pub mod Conflicts
+pub mod Laws
+pub mod inner

@@ -1,0 +1,3 @@
+pub mod HeadRows
+pub mod PlacedWords
+pub mod Unplaced

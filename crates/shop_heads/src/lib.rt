@@ -1,0 +1,16 @@
+// Heads and tails of the operations that a word leaves, the lower bound of a word, and the laws of bounds.
+#![tactic(auto)]
+
+mod head_rows;
+mod laws;
+mod lower;
+mod tail_rows;
+mod unplaced;
+
+pub use head_rows::Heads;
+pub use laws::{
+    bounds_are_lower, bounds_never_fall, full_words_end_at_their_bound, sums_stay_small,
+    what_waits_is_left,
+};
+pub use lower::lower_bound;
+pub use tail_rows::{tails, total_time};

@@ -1,0 +1,136 @@
+-- The load of some lanes is their span from 0 on, and their work the clock afterwards: how both are put together.
+use Rattle.std.proofs.Common.{◌≡◌, ℕ, ◌+◌, ◌≤◌, max, Bool, true, false, cond, leb, List, [], ◌∷◌, ◌++◌, refl, ap}
+use Rattle.std.proofs.Common.{◌∙◌, arith, sum_by}
+use Rattle.std.proofs.lemmas.List.Sums.{sum_by-cons}
+use Rattle.shop_lanes.specs.Rows.{Lane}
+use Rattle.shop_lanes.specs.Spans.{span, greatest_by}
+use Rattle.shop_lanes.specs.inner.Passes.{clock_after}
+use Rattle.shop_lanes.proofs.BlockTurns.{span-append}
+
+-- all ends are later by the start; with no lane there is but the start
+pub span-later : (least s k : ℕ) (xs : List Lane) → max s (span least (s + k) xs) ≡ s + span least k xs
+span-later least s k [] = omega arith
+span-later least s k (x ∷ xs) =
+    by_test (leb least x.head)
+    (let e : s + k + x.time ≡ s + (k + x.time) = omega arith
+    in ap (λ n. max s (span least n xs)) e ∙ span-later least s (k + x.time) xs)
+    (span-later least s k xs)
+  where
+    by_test : (on : Bool)
+        → max s (span least (s + k + x.time) xs) ≡ s + span least (k + x.time) xs
+        → max s (span least (s + k) xs) ≡ s + span least k xs
+        → max s (cond on (max (s + k + x.time + x.tail) (span least (s + k + x.time) xs)) (span least (s + k) xs))
+        ≡ s + cond on (max (k + x.time + x.tail) (span least (k + x.time) xs)) (span least k xs)
+    by_test true served left = omega (arith, served)
+    by_test false served left = left
+
+pub span_from_start : (least s : ℕ) (xs : List Lane) → max s (span least s xs) ≡ s + span least 0 xs
+span_from_start least s xs =
+    let e : s ≡ s + 0 = omega arith
+    in ap (λ n. max s (span least n xs)) e ∙ span-later least s 0 xs
+
+pub clock-later : (least s : ℕ) (xs : List Lane) → clock_after least s xs ≡ s + clock_after least 0 xs
+clock-later least s [] = omega arith
+clock-later least s (x ∷ xs) =
+    by_test (leb least x.head) (clock-later least (s + x.time) xs) (clock-later least (0 + x.time) xs)
+    (clock-later least s xs)
+  where
+    by_test : (on : Bool)
+        → clock_after least (s + x.time) xs ≡ s + x.time + clock_after least 0 xs
+        → clock_after least (0 + x.time) xs ≡ 0 + x.time + clock_after least 0 xs
+        → clock_after least s xs ≡ s + clock_after least 0 xs
+        → cond on (clock_after least (s + x.time) xs) (clock_after least s xs)
+        ≡ s + cond on (clock_after least (0 + x.time) xs) (clock_after least 0 xs)
+    by_test true served begun left = omega (arith, served, begun)
+    by_test false served begun left = left
+
+pub clock_after-append : (least s : ℕ) (xs ys : List Lane)
+    → clock_after least s (xs ++ ys) ≡ clock_after least (clock_after least s xs) ys
+clock_after-append least s [] ys = refl
+clock_after-append least s (x ∷ xs) ys =
+    by_test (leb least x.head) (clock_after-append least (s + x.time) xs ys) (clock_after-append least s xs ys)
+  where
+    by_test : (on : Bool)
+        → clock_after least (s + x.time) (xs ++ ys) ≡ clock_after least (clock_after least (s + x.time) xs) ys
+        → clock_after least s (xs ++ ys) ≡ clock_after least (clock_after least s xs) ys
+        → cond on (clock_after least (s + x.time) (xs ++ ys)) (clock_after least s (xs ++ ys))
+        ≡ clock_after least (cond on (clock_after least (s + x.time) xs) (clock_after least s xs)) ys
+    by_test true served left = served
+    by_test false served left = left
+
+pub work-append : (least : ℕ) (xs ys : List Lane)
+    → clock_after least 0 (xs ++ ys) ≡ clock_after least 0 xs + clock_after least 0 ys
+work-append least xs ys = clock_after-append least 0 xs ys ∙ clock-later least (clock_after least 0 xs) ys
+
+-- the last of them ends no earlier than the clock stands
+pub clock_le_span : (least s : ℕ) (xs : List Lane) → clock_after least s xs ≤ max s (span least s xs)
+clock_le_span least s [] = omega arith
+clock_le_span least s (x ∷ xs) =
+    by_test (leb least x.head) (clock_le_span least (s + x.time) xs) (clock_le_span least s xs)
+  where
+    by_test : (on : Bool)
+        → clock_after least (s + x.time) xs ≤ max (s + x.time) (span least (s + x.time) xs)
+        → clock_after least s xs ≤ max s (span least s xs)
+        → cond on (clock_after least (s + x.time) xs) (clock_after least s xs)
+        ≤ max s (cond on (max (s + x.time + x.tail) (span least (s + x.time) xs)) (span least s xs))
+    by_test true served left = omega (arith, served)
+    by_test false served left = left
+
+pub work_le_load : (least : ℕ) (xs : List Lane) → clock_after least 0 xs ≤ span least 0 xs
+work_le_load least xs = let a = clock_le_span least 0 xs in omega (arith, a)
+
+pub load-append : (least : ℕ) (xs ys : List Lane)
+    → span least 0 (xs ++ ys) ≡ max (span least 0 xs) (clock_after least 0 xs + span least 0 ys)
+load-append least xs ys =
+    let split = span-append least 0 xs ys
+    in let later = span_from_start least (clock_after least 0 xs) ys
+    in let within = work_le_load least xs
+    in omega (arith, split, later, within)
+
+-- one lane more
+pub work-one : (least : ℕ) (x : Lane) → clock_after least 0 (x ∷ []) ≡ cond (leb least x.head) x.time 0
+work-one least x = by_test (leb least x.head)
+  where
+    by_test : (on : Bool) → cond on (0 + x.time) 0 ≡ cond on x.time 0
+    by_test true = omega arith
+    by_test false = refl
+
+pub load-one : (least : ℕ) (x : Lane) → span least 0 (x ∷ []) ≡ cond (leb least x.head) (x.time + x.tail) 0
+load-one least x = by_test (leb least x.head)
+  where
+    by_test : (on : Bool) → cond on (max (0 + x.time + x.tail) 0) 0 ≡ cond on (x.time + x.tail) 0
+    by_test true = omega arith
+    by_test false = refl
+
+-- neither is above what all lanes together come to
+pub work_le : (least : ℕ) (xs : List Lane) → clock_after least 0 xs ≤ sum_by (λ x. x.time) xs
+work_le least [] = omega arith
+work_le least (x ∷ xs) =
+    let sum = sum_by-cons (λ y. y.time) x xs
+    in let later = clock-later least (0 + x.time) xs
+    in let rest = work_le least xs
+    in by_test (leb least x.head) (omega (arith, sum, later, rest)) (omega (arith, sum, rest))
+  where
+    by_test : (on : Bool)
+        → clock_after least (0 + x.time) xs ≤ sum_by (λ y. y.time) (x ∷ xs)
+        → clock_after least 0 xs ≤ sum_by (λ y. y.time) (x ∷ xs)
+        → cond on (clock_after least (0 + x.time) xs) (clock_after least 0 xs) ≤ sum_by (λ y. y.time) (x ∷ xs)
+    by_test true served left = served
+    by_test false served left = left
+
+pub load_le : (least : ℕ) (xs : List Lane)
+    → span least 0 xs ≤ clock_after least 0 xs + greatest_by (λ x. x.tail) xs
+load_le least [] = omega arith
+load_le least (x ∷ xs) =
+    by_test (leb least x.head) (clock-later least (0 + x.time) xs) (span_from_start least (0 + x.time) xs)
+    (load_le least xs)
+  where
+    by_test : (on : Bool)
+        → clock_after least (0 + x.time) xs ≡ 0 + x.time + clock_after least 0 xs
+        → max (0 + x.time) (span least (0 + x.time) xs) ≡ 0 + x.time + span least 0 xs
+        → span least 0 xs ≤ clock_after least 0 xs + greatest_by (λ y. y.tail) xs
+        → cond on (max (0 + x.time + x.tail) (span least (0 + x.time) xs)) (span least 0 xs)
+        ≤ cond on (clock_after least (0 + x.time) xs) (clock_after least 0 xs)
+        + max x.tail (greatest_by (λ y. y.tail) xs)
+    by_test true clock later rest = omega (arith, clock, later, rest)
+    by_test false clock later rest = omega (arith, rest)

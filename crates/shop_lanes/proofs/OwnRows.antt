@@ -1,0 +1,73 @@
+-- Own spans in blocks that were sliced out of rows are those of the rows.
+use Rattle.std.proofs.Common.{◌≡◌, ℕ, zero, suc, ◌+◌, ◌-◌, ◌*◌, ◌<◌, ◌≤◌, max, List, [], ◌∷◌, length, map, take, drop}
+use Rattle.std.proofs.Common.{set}
+use Rattle.std.proofs.Common.{get_or, refl, ap, sym, ◌∙◌, arith, length-set}
+use Rattle.std.proofs.lemmas.List.{length-map}
+use Rattle.std.proofs.lemmas.Simd.{get_or-chunk}
+use Rattle.shop_lanes.specs.Rows.{lanes, blocks}
+use Rattle.shop_lanes.specs.Spans.{span, own_span, AreOwnSpans}
+use Rattle.shop_lanes.specs.inner.OwnSpans.{own_span_at, AreOwnSpansOf}
+use Rattle.shop_lanes.proofs.LaneLists.{lanes-blocks, length-blocks}
+use Rattle.shop_lanes.proofs.Padding.{take-set}
+use Rattle.shop_lanes.proofs.RowValues.{values_of_blocks}
+
+drop-set : (k i x : ℕ) (xs : List ℕ) → drop k (set xs (k + i) x) ≡ set (drop k xs) i x
+drop-set zero i x xs =
+    let z : 0 + i ≡ i = omega arith
+    in ap (λ j. set xs j x) z
+drop-set (suc k) i x [] = refl
+drop-set (suc k) i x (y ∷ xs) =
+    let on : suc k + i ≡ suc (k + i) = omega arith
+    in ap (λ j. drop (suc k) (set (y ∷ xs) j x)) on ∙ drop-set k i x xs
+
+own_in_blocks : (hs ts qs : List ℕ) (from to q : ℕ) → length ts ≡ length hs → length qs ≡ length hs → 8 * from ≤ q
+    → q < 8 * to
+    → own_span_at (blocks from to hs) (blocks from to ts) (blocks from to qs) (q - 8 * from)
+    ≡ own_span hs ts qs from to q
+own_in_blocks hs ts qs from to q a b le lt =
+    let i = q - 8 * from
+    in let at : 8 * from + i ≡ q = omega arith
+    in let inside : i < 8 * to - 8 * from = omega arith
+    in let head : get_or (blocks from to hs) i 0 ≡ get_or hs q 0 =
+    get_or-chunk (8 * from) (8 * to - 8 * from) hs i 0 inside ∙ ap (λ k. get_or hs k 0) at
+    in let time : get_or (blocks from to ts) i 0 ≡ get_or ts q 0 =
+    get_or-chunk (8 * from) (8 * to - 8 * from) ts i 0 inside ∙ ap (λ k. get_or ts k 0) at
+    in let out : set (blocks from to hs) i 0 ≡ blocks from to (set hs q 0) =
+    sym (take-set (8 * to - 8 * from) (drop (8 * from) hs) i 0)
+    ∙ ap (take (8 * to - 8 * from)) (sym (drop-set (8 * from) i 0 hs))
+    ∙ ap (λ k. blocks from to (set hs k 0)) at
+    in let many : length (set hs q 0) ≡ length hs = length-set hs q 0
+    in let whole : lanes (set (blocks from to hs) i 0) (blocks from to ts) (blocks from to qs)
+    ≡ blocks from to (lanes (set hs q 0) ts qs) =
+    ap (λ l. lanes l (blocks from to ts) (blocks from to qs)) out
+    ∙ lanes-blocks (set hs q 0) ts qs from to (a ∙ sym many) (b ∙ sym many)
+    in let end : get_or (blocks from to hs) i 0 + get_or (blocks from to ts) i 0 ≡ get_or hs q 0 + get_or ts q 0 =
+    omega (arith, head, time)
+    in ap (λ e. max e (span 1 e (lanes (set (blocks from to hs) i 0) (blocks from to ts) (blocks from to qs)))) end
+    ∙ ap (λ l. max (get_or hs q 0 + get_or ts q 0) (span 1 (get_or hs q 0 + get_or ts q 0) l)) whole
+
+module _ {A : Type 0} (f : A → ℕ) {heads times tails : List A} (hs ts qs : List A) (from to : ℕ) (eh : hs ≡ heads)
+    (et : ts ≡ times) (eq : qs ≡ tails) where
+  abbrev slice : List A → List A
+  slice xs = take (8 * to - 8 * from) (drop (8 * from) xs)
+
+  pub owns_of_rows : length (map f times) ≡ length (map f heads) → length (map f tails) ≡ length (map f heads)
+      → 8 * to ≤ length (map f heads) → (owns : List A) → AreOwnSpansOf f (slice hs) (slice ts) (slice qs) owns
+      → AreOwnSpans (map f heads) (map f times) (map f tails) from to (map f owns)
+  owns_of_rows a b room owns h q low high waits =
+      let i = q - 8 * from
+      in let h_is = values_of_blocks f hs heads from to eh
+      in let t_is = values_of_blocks f ts times from to et
+      in let q_is = values_of_blocks f qs tails from to eq
+      in let whole : 8 * from + i ≡ q = omega arith
+      in let many : length (slice hs) ≡ 8 * to - 8 * from =
+      sym (length-map (slice hs) f) ∙ ap length h_is ∙ length-blocks from to (map f heads) room
+      in let head : get_or (map f (slice hs)) i 0 ≡ get_or (map f heads) q 0 =
+      ap (λ l. get_or l i 0) h_is
+      ∙ get_or-chunk (8 * from) (8 * to - 8 * from) (map f heads) i 0 (omega arith)
+      ∙ ap (λ k. get_or (map f heads) k 0) whole
+      in h i (omega (arith, many)) (omega (arith, head, waits))
+      ∙ ap (λ l. own_span_at l (map f (slice ts)) (map f (slice qs)) i) h_is
+      ∙ ap (λ l. own_span_at (blocks from to (map f heads)) l (map f (slice qs)) i) t_is
+      ∙ ap (λ l. own_span_at (blocks from to (map f heads)) (blocks from to (map f times)) l i) q_is
+      ∙ own_in_blocks (map f heads) (map f times) (map f tails) from to q a b low high

@@ -1,0 +1,230 @@
+// Rows of numbers of one width, eight of them read at once.
+ghost use Rattle.std.specs.Prelude.{◌≡◌, ℕ, ◌+◌, ◌-◌, ◌*◌, ◌/◌, ◌^◌, ◌<◌, ◌≤◌, length, map, take};
+ghost use Rattle.std.specs.Prelude.{replicate, All, IfOk};
+ghost use Rattle.shop_lanes.specs.inner.Passes.{IsPadded};
+
+use crate::blocks::Block;
+use crate::leaps::leap_over;
+use crate::marking::Marks;
+use crate::owning::own_spans;
+use crate::passes::{bits_up_to, first_least, greatest_span_of_longer, single_span};
+use crate::state_lanes::StateLanes;
+use std::alloc::{AllocError, Global};
+
+/// Times and tails that blocks of eight are read from.
+#[derive(Drop)]
+pub struct FixedBlocks<B: Block> {
+    times: Vec<B::Number>,
+    tails: Vec<B::Number>,
+}
+
+/// Heads and ends that blocks of eight are read from.
+#[derive(Drop)]
+pub struct BlockLanes<B: Block> {
+    heads: Vec<B::Number>,
+    ends: Vec<B::Number>,
+    jobs: usize,
+    ghost room_for_heads: { length heads.items + 64 ≤ 2 ^ 64 },
+    ghost room_for_ends: { length ends.items + 64 ≤ 2 ^ 64 },
+    ghost whole_blocks: { length ends.items ≡ 8 * (jobs / 8 + 1) },
+    ghost ends_are_padded: { IsPadded B.GREATEST jobs (map B.value ends.items) },
+}
+
+fn copied<B: Block>(alloc: Global, numbers: &[u64]) -> Result<Vec<B::Number>, AllocError>
+    requires { All (λ n. n ≤ B.GREATEST) numbers.now }
+    ensures { IfOk result (λ v. map B.value v.items ≡ numbers.now) }
+{
+    let mut copy = Vec::with_capacity(alloc, numbers.len())?;
+    for number in numbers {
+        copy.push(B::narrowed(*number))?;
+    }
+    Ok(copy)
+}
+
+/// So many times the same number.
+fn filled<B: Block>(alloc: Global, number: u64, count: usize) -> Result<Vec<B::Number>, AllocError>
+    requires { number ≤ B.GREATEST }
+    ensures { IfOk result (λ v. map B.value v.items ≡ replicate count number) }
+{
+    let mut row = Vec::with_capacity(alloc, count)?;
+    for _ in 0..count {
+        row.push(B::narrowed(number))?;
+    }
+    Ok(row)
+}
+
+/// Writes the same number everywhere.
+fn set_all<B: Block>(row: &mut [B::Number], number: u64)
+    requires { number ≤ B.GREATEST }
+    ensures { map B.value row.new ≡ replicate (length row.old) number }
+{
+    for i in 0..row.len() {
+        row[i] = B::narrowed(number);
+    }
+}
+
+/// A head of 0 at each position.
+fn no_heads<B: Block>(alloc: Global, positions: usize) -> Result<Vec<B::Number>, AllocError>
+    ensures room { IfOk result (λ v. length v.items + 64 ≤ 2 ^ 64) }
+    ensures none { IfOk result (λ v. map B.value v.items ≡ replicate positions 0) }
+{
+    if positions > usize::MAX - 128 {
+        return Err(AllocError);
+    }
+    Ok(filled::<B>(alloc, 0, positions)?)
+}
+
+/// The greatest number for each job, and for as many more as fill whole blocks.
+fn no_ends<B: Block>(alloc: Global, jobs: usize) -> Result<Vec<B::Number>, AllocError>
+    ensures room { IfOk result (λ v. length v.items + 64 ≤ 2 ^ 64) }
+    ensures whole { IfOk result (λ v. length v.items ≡ 8 * (jobs / 8 + 1)) }
+    ensures padded { IfOk result (λ v. IsPadded B.GREATEST jobs (map B.value v.items)) }
+    ensures none { IfOk result (λ v. take jobs (map B.value v.items) ≡ replicate jobs B.GREATEST) }
+{
+    if jobs > usize::MAX - 128 {
+        return Err(AllocError);
+    }
+    Ok(filled::<B>(alloc, B::GREATEST, 8 * (jobs / 8 + 1))?)
+}
+
+impl<B: Block> StateLanes for BlockLanes<B> {
+    type Fixed = FixedBlocks<B>;
+
+    type Number = B::Number;
+
+    ghost GREATEST = { B.GREATEST };
+
+    const GREATEST: u64 = B::GREATEST;
+
+    ghost value = { B.value };
+
+    ghost times = { λ fixed. map B.value fixed.times.items };
+
+    ghost tails = { λ fixed. map B.value fixed.tails.items };
+
+    ghost heads = { λ s. map B.value s.heads.items };
+
+    ghost ends = { λ s. take s.jobs (map B.value s.ends.items) };
+
+    fn fixed(
+        alloc: Global,
+        all_times: &[u64],
+        all_tails: &[u64],
+    ) -> Result<FixedBlocks<B>, AllocError> {
+        Ok(FixedBlocks {
+            times: copied::<B>(alloc, all_times)?,
+            tails: copied::<B>(alloc, all_tails)?,
+        })
+    }
+
+    fn new(alloc: Global, positions: usize, jobs: usize) -> Result<Self, AllocError> {
+        Ok(BlockLanes {
+            heads: no_heads::<B>(alloc, positions)?,
+            ends: no_ends::<B>(alloc, jobs)?,
+            jobs,
+        })
+    }
+
+    fn clear(&mut self) {
+        set_all::<B>(&mut self.heads, 0);
+        set_all::<B>(&mut self.ends, B::GREATEST);
+    }
+
+    #[inline(always)]
+    fn copy_from(&mut self, other: &Self) {
+        self.heads.copy_from_slice(&other.heads);
+        self.ends.copy_from_slice(&other.ends);
+    }
+
+    #[inline(always)]
+    fn time(fixed: &FixedBlocks<B>, position: usize) -> u64 {
+        B::widened(fixed.times[position])
+    }
+
+    #[inline(always)]
+    fn head(&self, position: usize) -> u64 {
+        B::widened(self.heads[position])
+    }
+
+    #[inline(always)]
+    fn set_head(&mut self, position: usize, head: u64) {
+        self.heads[position] = B::narrowed(head);
+    }
+
+    #[inline(always)]
+    fn set_end(&mut self, job: usize, end: u64) {
+        self.ends[job] = B::narrowed(end);
+    }
+
+    #[inline(always)]
+    fn first_least_end(&self) -> usize {
+        first_least::<B>(&self.ends)
+    }
+
+    #[inline(always)]
+    fn below(&self, from: usize, to: usize, limit: u64) -> Marks {
+        let (first, end) = (8 * from, 8 * to);
+        Marks::new(
+            first,
+            bits_up_to::<B>(&self.heads[first..end], limit.saturating_sub(1)),
+        )
+    }
+
+    #[inline(always)]
+    fn span(
+        &self,
+        fixed: &FixedBlocks<B>,
+        from: usize,
+        to: usize,
+        least: u64,
+        start: u64,
+        most: u64,
+    ) -> u64 {
+        let (first, end) = (8 * from, 8 * to);
+        let heads = &self.heads[first..end];
+        let times = &fixed.times[first..end];
+        let tails = &fixed.tails[first..end];
+        single_span::<B>(heads, times, tails, least, start, most)
+    }
+
+    #[inline(always)]
+    fn bound_raised(
+        &self,
+        fixed: &FixedBlocks<B>,
+        from: usize,
+        to: usize,
+        above: u64,
+        upto: u64,
+        most: u64,
+        limit: u64,
+    ) -> u64 {
+        let (first, end) = (8 * from, 8 * to);
+        let heads = &self.heads[first..end];
+        let times = &fixed.times[first..end];
+        let tails = &fixed.tails[first..end];
+        if upto == B::GREATEST {
+            let above = above.min(upto);
+            return greatest_span_of_longer::<B>(heads, times, tails, above, upto, most);
+        }
+        leap_over::<B>(heads, times, tails, above, upto, most, limit)
+    }
+
+    #[inline(always)]
+    fn narrowed(number: u64) -> B::Number {
+        B::narrowed(number)
+    }
+
+    #[inline(always)]
+    fn widened(number: B::Number) -> u64 {
+        B::widened(number)
+    }
+
+    #[inline(always)]
+    fn own_spans(&self, fixed: &FixedBlocks<B>, from: usize, to: usize, owns: &mut [B::Number]) {
+        let (first, end) = (8 * from, 8 * to);
+        let heads = &self.heads[first..end];
+        let times = &fixed.times[first..end];
+        let tails = &fixed.tails[first..end];
+        own_spans::<B>(heads, times, tails, owns)
+    }
+}

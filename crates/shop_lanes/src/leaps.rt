@@ -1,0 +1,130 @@
+// The greatest of the spans from many heads on, found by leaps: each load settles all spans up to some head.
+ghost use Rattle.std.specs.Prelude.{◌≡◌, ℕ, ◌%◌, ◌<◌, ◌≤◌, max, length, map};
+ghost use Rattle.shop_lanes.specs.Spans.{spans_between, FitsSpan, IsRaisedBelow};
+ghost use Rattle.shop_lanes.specs.inner.Passes.{lanes_by};
+ghost use Rattle.shop_lanes.specs.inner.LaterHeads.{least_later};
+
+use crate::blocks::Block;
+use crate::passes::single_span_of;
+use crate::served_blocks::least_of;
+
+/// The least head of at least `from`; the greatest number if there is none.
+#[inline(always)]
+fn least_head_of<B: Block>(count: usize, heads: &[B::Number], from: u64, greatest: u64) -> u64
+    requires count { length heads.now ≡ count }
+    requires whole_blocks { count % 8 ≡ 0 }
+    requires from { from ≤ B.GREATEST }
+    requires greatest { greatest ≡ B.GREATEST }
+    ensures { result ≡ least_later B.GREATEST from (map B.value heads.now) }
+{
+    let top = B::splat(greatest);
+    let from = B::splat(from);
+    let mut least = top;
+    for block in 0..count / 8 {
+        least = B::lesser(least, B::later(B::load(heads, block), from, top));
+    }
+    least_of(least)
+}
+
+/// The greater of `most` and the spans from each head above `above` and up to `upto` on; where that reaches the limit,
+/// one that does. Where a call says the count by a number, the blocks are read without a loop.
+#[inline(always)]
+fn leap<B: Block>(
+    count: usize,
+    heads: &[B::Number],
+    times: &[B::Number],
+    tails: &[B::Number],
+    above: u64,
+    upto: u64,
+    most: u64,
+    limit: u64,
+) -> u64
+    requires count { length heads.now ≡ count }
+    requires whole_blocks { count % 8 ≡ 0 }
+    requires times { length times.now ≡ length heads.now }
+    requires tails { length tails.now ≡ length heads.now }
+    requires below { upto < B.GREATEST }
+    requires fits { FitsSpan B.GREATEST upto
+        (lanes_by B.value heads.now times.now tails.now) }
+    ensures { IsRaisedBelow limit (max most (spans_between above upto
+        (lanes_by B.value heads.now times.now tails.now))) result }
+{
+    let greatest = B::GREATEST;
+    let mut bound = most;
+    let mut settled = above;
+    while settled < upto {
+        let load = single_span_of::<B>(count, heads, times, tails, settled + 1, 0, 0);
+        if upto + load <= bound {
+            return bound;
+        }
+        let head = least_head_of::<B>(count, heads, settled + 1, greatest);
+        if head > upto {
+            return bound;
+        }
+        bound = bound.max(head + load);
+        if bound >= limit {
+            return bound;
+        }
+        settled = bound - load;
+    }
+    bound
+}
+
+/// The same for machines of four blocks and more, in a function of its own.
+#[inline(never)]
+fn leap_over_longer<B: Block>(
+    heads: &[B::Number],
+    times: &[B::Number],
+    tails: &[B::Number],
+    above: u64,
+    upto: u64,
+    most: u64,
+    limit: u64,
+) -> u64
+    requires whole_blocks { length heads.now % 8 ≡ 0 }
+    requires times { length times.now ≡ length heads.now }
+    requires tails { length tails.now ≡ length heads.now }
+    requires below { upto < B.GREATEST }
+    requires fits { FitsSpan B.GREATEST upto
+        (lanes_by B.value heads.now times.now tails.now) }
+    ensures { IsRaisedBelow limit (max most (spans_between above upto
+        (lanes_by B.value heads.now times.now tails.now))) result }
+{
+    match heads.len() {
+        32 => leap::<B>(32, heads, times, tails, above, upto, most, limit),
+        40 => leap::<B>(40, heads, times, tails, above, upto, most, limit),
+        48 => leap::<B>(48, heads, times, tails, above, upto, most, limit),
+        56 => leap::<B>(56, heads, times, tails, above, upto, most, limit),
+        64 => leap::<B>(64, heads, times, tails, above, upto, most, limit),
+        _ => leap::<B>(heads.len(), heads, times, tails, above, upto, most, limit),
+    }
+}
+
+/// The greater of `most` and the spans from each head above `above` and up to `upto` on; where that reaches the limit,
+/// one that does.
+#[inline(always)]
+pub(crate) fn leap_over<B: Block>(
+    heads: &[B::Number],
+    times: &[B::Number],
+    tails: &[B::Number],
+    above: u64,
+    upto: u64,
+    most: u64,
+    limit: u64,
+) -> u64
+    requires whole_blocks { length heads.now % 8 ≡ 0 }
+    requires times { length times.now ≡ length heads.now }
+    requires tails { length tails.now ≡ length heads.now }
+    requires below { upto < B.GREATEST }
+    requires fits { FitsSpan B.GREATEST upto
+        (lanes_by B.value heads.now times.now tails.now) }
+    ensures { IsRaisedBelow limit (max most (spans_between above upto
+        (lanes_by B.value heads.now times.now tails.now))) result }
+{
+    match heads.len() {
+        8 => leap::<B>(8, heads, times, tails, above, upto, most, limit),
+        16 => leap::<B>(16, heads, times, tails, above, upto, most, limit),
+        24 => leap::<B>(24, heads, times, tails, above, upto, most, limit),
+        _ => leap_over_longer::<B>(heads, times, tails, above, upto, most, limit),
+    }
+}
