@@ -307,10 +307,6 @@ fn a_thousand_jobs_one_after_another(rt: HostRuntime) {
         bound_after(&rt, alloc, &instance, &mut desk, 0),
         Some(2500)
     );
-    assert_eq!(rt;
-        bound_below(&rt, alloc, &instance, &mut desk, 0, 2500),
-        None
-    );
     assert!(rt; dispatch(&rt, alloc, &instance, &mut desk, 0));
     assert_eq!(rt; desk.bound(), 2500);
     undo(&mut desk);
@@ -338,7 +334,16 @@ fn dispatch(rt: &impl Abort, alloc: Global, instance: &Instance, desk: &mut Desk
     true
 }
 
-/// The bound after the next operation of a job, if it has one left.
+/// Takes back what was dispatched last, if anything was.
+fn undo(desk: &mut Desk)
+    ensures { desk.new.shop ≡ desk.old.shop }
+{
+    if desk.jobs().len() > 0 {
+        desk.undo();
+    }
+}
+
+/// The bound after the next operation of a job, if it has one left. What is dispatched stays.
 fn bound_after(
     rt: &impl Abort,
     alloc: Global,
@@ -347,41 +352,14 @@ fn bound_after(
     job: u16,
 ) -> Option<u64>
     requires { desk.old.shop ≡ instance.now }
-    ensures { desk.new ≡ desk.old }
-{
-    if !has_next(rt, alloc, instance, desk, job) {
-        return None;
-    }
-    let bound = desk.bound();
-    Some(desk.bound_after(job as usize, bound))
-}
-
-/// The same, if it is below the limit.
-fn bound_below(
-    rt: &impl Abort,
-    alloc: Global,
-    instance: &Instance,
-    desk: &mut Desk,
-    job: u16,
-    limit: u64,
-) -> Option<u64>
-    requires { desk.old.shop ≡ instance.now }
-    ensures { desk.new ≡ desk.old }
-{
-    if !has_next(rt, alloc, instance, desk, job) {
-        return None;
-    }
-    let bound = desk.bound();
-    desk.bound_below(job as usize, bound, limit)
-}
-
-/// Takes back what was dispatched last, if anything was.
-fn undo(desk: &mut Desk)
     ensures { desk.new.shop ≡ desk.old.shop }
 {
-    if desk.jobs().len() > 0 {
-        desk.undo();
+    if !dispatch(rt, alloc, instance, desk, job) {
+        return None;
     }
+    let bound = desk.bound();
+    undo(desk);
+    Some(bound)
 }
 
 #[test]
@@ -394,11 +372,6 @@ fn a_desk_of_two_jobs_that_cross(rt: HostRuntime) {
     assert!(rt; dispatch(&rt, alloc, &instance, &mut desk, 1));
     assert_eq!(rt; desk.bound(), 7);
     assert_eq!(rt; bound_after(&rt, alloc, &instance, &mut desk, 1), Some(11));
-    assert_eq!(rt;
-        bound_below(&rt, alloc, &instance, &mut desk, 1, 12),
-        Some(11)
-    );
-    assert_eq!(rt; bound_below(&rt, alloc, &instance, &mut desk, 1, 11), None);
     assert_eq!(rt; bound_after(&rt, alloc, &instance, &mut desk, 0), Some(7));
     assert!(rt; dispatch(&rt, alloc, &instance, &mut desk, 1));
     assert_eq!(rt; desk.bound(), 11);

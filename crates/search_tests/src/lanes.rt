@@ -1,8 +1,8 @@
-// Rows of each width on numbers worked by hand.
+// Lanes of each width on numbers worked by hand.
 ghost use Rattle.std.specs.Prelude.{◌≡◌, ℕ, ◌≤◌, IfOk};
 ghost use Rattle.shop_lanes.proofs.Rows.{two_blocks};
 
-use shop_lanes::{Lanes, Narrow, Plain, Wide};
+use shop_lanes::{NarrowLanes, PlainLanes, StateLanes, WideLanes};
 use std::alloc::{AllocError, Global};
 use std::process::Abort;
 
@@ -10,43 +10,55 @@ const TIMES: [u64; 16] = [4, 2, 3, 0, 0, 0, 0, 0, 0, 7, 0, 0, 0, 0, 0, 1];
 
 const TAILS: [u64; 16] = [9, 5, 1, 0, 0, 0, 0, 0, 8, 8, 0, 0, 0, 0, 0, 2];
 
-/// Something waits at positions 0, 1, 2, 9 and 15; the least of the four ends is the second one's and the third one's.
-fn two_blocks<L: Lanes>(alloc: Global) -> Result<L, AllocError>
+fn fixed<L: StateLanes>(alloc: Global) -> Result<L::Fixed, AllocError>
     requires { 1000 ≤ L.GREATEST }
-    ensures { IfOk result (λ made. L.rows made ≡ two_blocks) }
+    ensures times { IfOk result (λ made. L.times made ≡ two_blocks.times) }
+    ensures tails { IfOk result (λ made. L.tails made ≡ two_blocks.tails) }
 {
-    let mut rows = L::new(alloc, &TIMES, &TAILS, 4)?;
-    rows.set_head(0, 3);
-    rows.set_head(1, 1);
-    rows.set_head(2, 6);
-    rows.set_head(9, 5);
-    rows.set_head(15, 2);
-    rows.set_end(0, 7);
-    rows.set_end(1, 3);
-    rows.set_end(2, 3);
-    rows.set_end(3, 9);
-    Ok(rows)
+    L::fixed(alloc, &TIMES, &TAILS)
 }
 
-fn assert_two_blocks<L: Lanes>(rt: &impl Abort, rows: &L)
-    requires fits { 1000 ≤ L.GREATEST }
-    requires rows { L.rows rows.now ≡ two_blocks }
+/// Something waits at positions 0, 1, 2, 9 and 15; the least of the four ends is the second one's and the third one's.
+fn two_blocks<L: StateLanes>(alloc: Global) -> Result<L, AllocError>
+    requires { 1000 ≤ L.GREATEST }
+    ensures heads { IfOk result (λ made. L.heads made ≡ two_blocks.heads) }
+    ensures ends { IfOk result (λ made. L.ends made ≡ two_blocks.ends) }
 {
-    assert_eq!(rt; rows.head(9), 5);
-    assert_eq!(rt; rows.time(2), 3);
-    assert_eq!(rt; rows.first_least_end(), 1);
+    let mut lanes = L::new(alloc, 16, 4)?;
+    lanes.set_head(0, 3);
+    lanes.set_head(1, 1);
+    lanes.set_head(2, 6);
+    lanes.set_head(9, 5);
+    lanes.set_head(15, 2);
+    lanes.set_end(0, 7);
+    lanes.set_end(1, 3);
+    lanes.set_end(2, 3);
+    lanes.set_end(3, 9);
+    Ok(lanes)
+}
+
+fn assert_two_blocks<L: StateLanes>(rt: &impl Abort, fixed: &L::Fixed, lanes: &L)
+    requires fits { 1000 ≤ L.GREATEST }
+    requires times { L.times fixed.now ≡ two_blocks.times }
+    requires tails { L.tails fixed.now ≡ two_blocks.tails }
+    requires heads { L.heads lanes.now ≡ two_blocks.heads }
+    requires ends { L.ends lanes.now ≡ two_blocks.ends }
+{
+    assert_eq!(rt; lanes.head(9), 5);
+    assert_eq!(rt; L::time(fixed, 2), 3);
+    assert_eq!(rt; lanes.first_least_end(), 1);
     // all three of the first block from 10 on; the first and the third; none
-    assert_eq!(rt; rows.span(0, 1, 1, 10, 0), 23);
-    assert_eq!(rt; rows.span(0, 1, 3, 0, 0), 13);
-    assert_eq!(rt; rows.span(0, 1, 7, 5, 4), 4);
+    assert_eq!(rt; lanes.span(fixed, 0, 1, 1, 10, 0), 23);
+    assert_eq!(rt; lanes.span(fixed, 0, 1, 3, 0, 0), 13);
+    assert_eq!(rt; lanes.span(fixed, 0, 1, 7, 5, 4), 4);
     // the second block, and both
-    assert_eq!(rt; rows.span(1, 2, 1, 20, 0), 35);
-    assert_eq!(rt; rows.span(0, 2, 1, 0, 0), 24);
+    assert_eq!(rt; lanes.span(fixed, 1, 2, 1, 20, 0), 35);
+    assert_eq!(rt; lanes.span(fixed, 0, 2, 1, 0, 0), 24);
     // from 3 on the first, the third and position 9; from 5 on these two; from 6 on the third
-    assert_eq!(rt; rows.spans_between(0, 1, 1, 6, 0), 16);
-    assert_eq!(rt; rows.spans_between(0, 1, 3, 6, 0), 10);
-    assert_eq!(rt; rows.spans_between(0, 1, 6, 9, 1), 1);
-    let mut marks = rows.below(0, 2, 4);
+    assert_eq!(rt; lanes.bound_raised(fixed, 0, 1, 1, 6, 0, 1000), 16);
+    assert_eq!(rt; lanes.bound_raised(fixed, 0, 1, 3, 6, 0, 1000), 10);
+    assert_eq!(rt; lanes.bound_raised(fixed, 0, 1, 6, 9, 1, 1000), 1);
+    let mut marks = lanes.below(0, 2, 4);
     assert!(rt; !marks.is_empty());
     assert_eq!(rt; marks.pop_first(), Some(0));
     assert_eq!(rt; marks.pop_first(), Some(1));
@@ -54,13 +66,18 @@ fn assert_two_blocks<L: Lanes>(rt: &impl Abort, rows: &L)
     assert!(rt; marks.is_empty());
 }
 
+fn assert_width<L: StateLanes>(rt: &impl Abort, alloc: Global)
+    requires { 1000 ≤ L.GREATEST }
+{
+    let fixed = fixed::<L>(alloc).expect(rt, "memory");
+    let lanes = two_blocks::<L>(alloc).expect(rt, "memory");
+    assert_two_blocks::<L>(rt, &fixed, &lanes);
+}
+
 #[test]
 fn two_blocks_by_each_width(rt: HostRuntime) {
     let alloc = rt.alloc();
-    let narrow: Narrow = two_blocks(alloc).expect(&rt, "memory");
-    assert_two_blocks(&rt, &narrow);
-    let wide: Wide = two_blocks(alloc).expect(&rt, "memory");
-    assert_two_blocks(&rt, &wide);
-    let plain: Plain = two_blocks(alloc).expect(&rt, "memory");
-    assert_two_blocks(&rt, &plain);
+    assert_width::<NarrowLanes>(&rt, alloc);
+    assert_width::<WideLanes>(&rt, alloc);
+    assert_width::<PlainLanes>(&rt, alloc);
 }

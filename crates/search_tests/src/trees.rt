@@ -1,12 +1,12 @@
 // Worked conflict sets, children and sheets, and each public call of branching and search once.
-ghost use Rattle.std.specs.Prelude.{◌≡◌};
+ghost use Rattle.std.specs.Prelude.{◌≡◌, ◌<◌, ◌^◌};
 ghost use Rattle.shop_tree.specs.Nodes.{IsNode, AreNodes};
 
 use shop_model::{Instance, Word, fits, is_full};
-use shop_tree::{Node, Piece, Sheet, children, conflict, search};
+use shop_tree::{Layout, Node, Piece, Searcher, Sheet, children, conflict, search};
 use std::alloc::Global;
 use std::process::Abort;
-use worked_instances::{crossing, with_a_gap, with_zeros};
+use worked_instances::{crossing, with_a_gap, with_two_orders, with_zeros};
 
 fn word(rt: &impl Abort, alloc: Global, jobs: &[u16]) -> Word
     ensures { result ≡ jobs.now }
@@ -272,4 +272,59 @@ fn a_node_shared(rt: HostRuntime) {
             .jobs(),
         [1, 1, 0].as_slice()
     );
+}
+
+/// The search of a piece with at most so many states for children that wait.
+fn search_with_states<'r>(
+    rt: &impl Abort,
+    alloc: Global,
+    instance: &'r Instance,
+    piece: &'r Piece,
+    most: usize,
+    budget: u64,
+) -> Sheet<'r>
+    requires nodes { AreNodes instance.now piece.now.nodes.items }
+    requires small { budget < 2 ^ 50 }
+{
+    let layout = Layout::of(alloc, instance).expect(rt, "memory");
+    let mut searcher = Searcher::with_states(alloc, instance, &layout, most).expect(rt, "memory");
+    searcher
+        .search(alloc, piece, 100, budget)
+        .expect(rt, "memory")
+}
+
+fn assert_same_sheet(rt: &impl Abort, alloc: Global, sheet: &Sheet, other: &Sheet) {
+    let found = other.found.as_ref().map(|word| word.jobs());
+    assert_sheet(rt, sheet, found, other.makespan, other.taken);
+    let (left, others) = (
+        sheet.left.nodes(alloc).expect(rt, "memory"),
+        other.left.nodes(alloc).expect(rt, "memory"),
+    );
+    assert_eq!(rt; left.len(), others.len());
+    for (node, other) in left.iter().zip(others.iter()) {
+        assert_eq!(rt; node.bound, other.bound);
+        let word = other.word.to_word(alloc).expect(rt, "memory");
+        assert_jobs(rt, node, word.jobs());
+    }
+}
+
+#[test]
+fn sheets_by_few_states(rt: HostRuntime) {
+    let alloc = rt.alloc();
+    for instance in [
+        crossing(alloc),
+        with_a_gap(alloc),
+        with_zeros(alloc),
+        with_two_orders(alloc),
+    ] {
+        let instance = instance.expect(&rt, "an instance");
+        let piece = one_node(&rt, alloc, &instance, &[]);
+        for budget in [2, 5, 100] {
+            let many = search(alloc, &instance, &piece, 100, budget).expect(&rt, "memory");
+            for most in [0, 1] {
+                let few = search_with_states(&rt, alloc, &instance, &piece, most, budget);
+                assert_same_sheet(&rt, alloc, &few, &many);
+            }
+        }
+    }
 }

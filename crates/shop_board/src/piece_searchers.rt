@@ -1,4 +1,4 @@
-// The search of a worker's pieces, over a desk that is kept from one to the next.
+// The search of a worker's pieces, over the layout of the round.
 ghost use Rattle.std.specs.Prelude.{◌≡◌, ◌<◌, length, IfOk};
 ghost use Rattle.shop_round.specs.Entries.{told, IsOf, TellsHit};
 
@@ -7,12 +7,12 @@ use shop_tree::{Searcher, Sheet};
 use std::alloc::{AllocError, Global};
 use std::marker::Model;
 
-/// Searches pieces of a round, one after the other. Its desk is made for the first of them, and kept. To contracts it
-/// is the round.
+/// Searches pieces of a round, one after the other, over the round's layout. What a search needs beside it is made for
+/// the first piece, and kept. To contracts it is the round.
 #[derive(Drop)]
 pub struct PieceSearcher<'r> {
     round: &'r Round<'r>,
-    searcher: Option<Searcher<'r>>,
+    searcher: Option<Searcher<'r, 'r>>,
 }
 
 impl<'r> Model for PieceSearcher<'r> {
@@ -53,7 +53,7 @@ impl<'r> PieceSearcher<'r> {
     {
         let mut searcher = match self.searcher.take() {
             Some(kept) => kept,
-            None => Searcher::new(alloc, self.round.instance)?,
+            None => Searcher::over(alloc, self.round.instance, self.round.layout())?,
         };
         let sheet = search_piece_with(alloc, &mut searcher, self.round, number)?;
         self.searcher = Some(searcher);

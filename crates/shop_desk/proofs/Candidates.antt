@@ -1,9 +1,8 @@
 -- The candidates of a word, and what is foreseen of the bound after one.
 use Rattle.std.proofs.Common.{◌≡◌, ℕ, zero, suc, ◌+◌, ◌-◌, ◌≤◌, ◌<◌, ◌^◌, max, min, inl, inr, List, [], ◌∷◌, ◌++◌, length}
-use Rattle.std.proofs.Common.{get_or, refl, sym, ◌∙◌, ap, subst, arith}
+use Rattle.std.proofs.Common.{get_or, refl, ◌∙◌, ap, subst, arith}
 use Rattle.std.specs.List.{All}
-use Rattle.std.specs.Prelude.{map}
-use Rattle.std.proofs.lemmas.List.{length-map, get_or-map, get_or_default}
+use Rattle.std.proofs.lemmas.List.{get_or_default}
 use Rattle.shop_lanes.specs.Rows.{Rows}
 use Rattle.shop_model.specs.Limits.{IsWithinLimits}
 use Rattle.shop_model.specs.Shop.{Shop, IsOperation, machine_of}
@@ -16,18 +15,17 @@ use Rattle.shop_heads.proofs.SmallSums.{sums_small}
 use Rattle.shop_heads.specs.Conflicts.{chosen_of, conflict, conflict_among, conflicts_with, open_jobs}
 use Rattle.shop_heads.proofs.Entries.{IsWord-snoc}
 use Rattle.shop_desk.specs.inner.Advances.{CanForesee, IsAdvancing, IsLeastAt, foreseen}
-use Rattle.shop_desk.specs.inner.LaneChoices.{AreChoosable, AreInConflict, CanChoose}
+use Rattle.shop_desk.specs.inner.LaneChoices.{AreChoosable, AreInConflict}
 use Rattle.shop_desk.specs.inner.LaneStates.{IsKeptInLanes, rows_of}
 use Rattle.shop_desk.specs.inner.Layouts.{LayoutState, place}
 use Rattle.shop_desk.specs.inner.RisingLists.{IsIn, Rises}
-use Rattle.shop_desk.specs.declared.dispatching.Candidate.{Candidate}
 use Rattle.shop_desk.proofs.ChildReads.{after_look, end_here, end_latest, end_small, head_here, left_fits}
 use Rattle.shop_desk.proofs.ChildReads.{machine_here, time_here}
 use Rattle.shop_desk.proofs.LaneConflicts.{filter_rises, in_filter, open_is, open_rises}
 use Rattle.shop_desk.proofs.RisingLists.{rising_short}
 use Rattle.shop_desk.proofs.StateSteps.{next_at, next_known, within}
 
-is_in_at : (xs : List ℕ) (i d : ℕ) → i < length xs → IsIn xs (get_or xs i d)
+pub is_in_at : (xs : List ℕ) (i d : ℕ) → i < length xs → IsIn xs (get_or xs i d)
 is_in_at [] i d here = absurd (omega arith)
 is_in_at (x ∷ xs) zero d here = inl refl
 is_in_at (x ∷ xs) (suc i) d here = inr (is_in_at xs i d (omega arith))
@@ -59,18 +57,9 @@ module _ (shop : Shop) (w : List ℕ) (word : IsWord shop w) where
       in let many = limits.jobs in omega arith
 
   -- the word goes on with each
-  pub candidates_fit : (cs : List Candidate) → map (λ c. c.job) cs ≡ conflict shop w
-      → All (λ c. IsWord shop (w ++ c.job ∷ [])) cs
-  candidates_fit cs are i d here =
-      let job : ℕ = (get_or cs i d).job
-      in let at : get_or (map (λ c. c.job) cs) i job ≡ job = get_or-map (λ (c : Candidate). c.job) cs i d job here
-      in let long = length-map cs (λ (c : Candidate). c.job)
-      in let in_all : IsIn (conflict shop w) job =
-      subst (λ (xs : List ℕ). IsIn xs job) are
-      (subst (IsIn (map (λ c. c.job) cs)) at (is_in_at (map (λ c. c.job) cs) i job (omega arith)))
-      in let op = (known job in_all).1
-      in let count = (after_word shop w word).steps job
-      in IsWord-snoc shop w job word (omega arith)
+  pub candidate_fits : (q : ℕ) → IsIn (conflict shop w) q → IsWord shop (w ++ q ∷ [])
+  candidate_fits q h = let op = (known q h).1 in let count = (after_word shop w word).steps q
+      in IsWord-snoc shop w q word (omega arith)
 
 module _ (greatest : ℕ) (shop : Shop) (w : List ℕ) (l : LayoutState) (heads ends nexts : List ℕ) (j : ℕ)
     (kept : IsKeptInLanes greatest shop w l (rows_of l heads ends) nexts) (fits : IsWord shop (w ++ j ∷ [])) where
@@ -170,13 +159,6 @@ module _ (greatest : ℕ) (shop : Shop) (w : List ℕ) (l : LayoutState) (heads 
     ends = kept.ends;
     computable = kept.kept.computable;
   }
-
-  pub can_choose : (given : List ℕ) → given ≡ nexts → CanChoose greatest l given (rows_of l heads ends)
-  can_choose given is = subst (λ (ns : List ℕ). CanChoose greatest l ns (rows_of l heads ends)) (sym is)
-      (record { shop = shop; of = placing shop w; choosable = choosable })
-
-  pub times_long : length l.times ≡ length heads
-  times_long = kept.kept.laid.positions.times ∙ sym kept.kept.heads.positions
 
   pub are_conflict : (given jobs : List ℕ) → given ≡ nexts → AreInConflict greatest l given (rows_of l heads ends) jobs
       → jobs ≡ conflict shop w

@@ -16,6 +16,7 @@ use Rattle.shop_desk.specs.inner.Layings.{place_or}
 use Rattle.shop_desk.specs.inner.Layouts.{LayoutState, first_position}
 use Rattle.shop_desk.proofs.LaneBegins.{heads_fit}
 use Rattle.shop_desk.proofs.LaneEnds.{can_keep, ends_at, with_ends}
+use Rattle.shop_desk.proofs.SoleCandidates.{sole_keeps_bound}
 
 module _ (greatest : ℕ) (shop : Shop) (l : LayoutState) (ready : IsReady greatest shop l) (hs es nexts : List ℕ)
     (room : HasRoom shop l hs es nexts) (s : PlacementState) (hs' es' : List ℕ)
@@ -79,4 +80,5 @@ module _ (greatest : ℕ) (shop : Shop) (l : LayoutState) (ready : IsReady great
             are_next = next_are;
             ends = ends_at greatest shop w l ended heads after next_are (beside.ends ∙ as_many) ready.holds ends_are;
             holds = ready.holds;
+            sole = sole_keeps_bound shop now.limits now.laid.slots now.laid.are w now.word;
           }

@@ -1,4 +1,5 @@
 pub mod AdvanceSteps
+pub mod AnySteps
 pub mod ApartSlots
 pub mod BoundsAfter
 pub mod Candidates
@@ -26,6 +27,7 @@ pub mod MachineLanes
 pub mod NotedPlaces
 pub mod OpenBounds
 pub mod OpenSlots
+pub mod OwnSpans
 pub mod RaiseLoops
 pub mod RaiseSteps
 pub mod RaiseWalks
@@ -33,6 +35,8 @@ pub mod RaisedEnds
 pub mod RaisedHeads
 pub mod RaisedMachines
 pub mod Raising
+pub mod RingSteps
+pub mod DeskSteps
 pub mod RisenLanes
 pub mod RisingLists
 pub mod RowTurns

@@ -20,6 +20,7 @@ use Rattle.shop_desk.proofs.ChildTurns.{its_job}
 use Rattle.shop_desk.proofs.LaneEnds.{beside_more, can_keep, end_here, end_other, ends_at, ends_of}
 use Rattle.shop_desk.proofs.LaneEnds.{next_first, next_there, next_within, with_ends}
 use Rattle.shop_desk.proofs.RaisedHeads.{followed}
+use Rattle.shop_desk.proofs.SoleCandidates.{sole_keeps_bound}
 
 module _ (greatest : ℕ) (shop : Shop) (w : List ℕ) (j : ℕ) (l : LayoutState) (rows : Rows) (nexts : List ℕ)
     (kept : IsKeptInLanes greatest shop w l rows nexts) (fits : IsWord shop (w ++ j ∷ [])) where
@@ -134,4 +135,5 @@ module _ (greatest : ℕ) (shop : Shop) (w : List ℕ) (j : ℕ) (l : LayoutStat
                 ends = ends_at greatest shop (w ++ j ∷ []) l ended heads after nexts_more
                     (beside.ends ∙ as_many_ends) kept.holds ends_set;
                 holds = kept.holds;
+                sole = sole_keeps_bound shop now.limits now.laid.slots now.laid.are (w ++ j ∷ []) now.word;
               }

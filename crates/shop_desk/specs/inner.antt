@@ -1,5 +1,6 @@
 pub mod Advances
 pub mod BoundsUpTo
+pub mod Candidates
 pub mod ChildBounds
 pub mod HeadLimits
 pub mod HeadRaises
@@ -9,14 +10,17 @@ pub mod LaneBounds
 pub mod LaneChoices
 pub mod LaneEnds
 pub mod LaneHeads
+pub mod LaneRings
 pub mod LaneStates
 pub mod Layings
 pub mod Layouts
 pub mod MachineRaises
 pub mod OpenSlots
 pub mod Raises
+pub mod Rings
 pub mod RisingLists
 pub mod StandingBounds
+pub mod Steps
 pub mod Vectors
 pub mod Watchers
 pub mod Dispatchers

@@ -5,19 +5,16 @@ ghost use Rattle.shop_desk.specs.inner.Dispatchers.{IsReady};
 use crate::advances::{advance_below, strike};
 use crate::dispatching::{Candidate, Dispatching};
 use crate::fills::{fill_state, place_word};
+use crate::gathering::gather;
 use crate::grid::Grid;
-use crate::lane_choices::gather_conflict;
-use crate::look_aheads::foresee;
 use crate::machine_raises::MachineRaises;
 use crate::positions::Positions;
 use crate::states::{Scratch, State};
+use crate::steps::{BOUNDS, step};
 use shop_lanes::StateLanes;
 use shop_model::{Instance, Placement};
 use std::alloc::{AllocError, Global};
 use std::marker::Model;
-
-/// No bound of a word within the limits reaches this.
-const BOUNDS: u64 = 1 << 50;
 
 /// Dispatches operations of an instance in lanes of one width.
 #[derive(Drop)]
@@ -34,26 +31,6 @@ impl<'a, L: StateLanes> Model for Dispatcher<'a, L> {
     ghost view = { λ d. record { shop = d.instance.now; layout = d.grid } };
 
     ghost invariant = { λ d. IsReady L.GREATEST d.instance.now d.grid };
-}
-
-/// Replaces the list with candidates for these jobs.
-#[inline(always)]
-fn list_candidates(candidates: &mut Vec<Candidate>, jobs: &[usize])
-    requires small { All (λ j. j < 2 ^ 16) jobs.now }
-    requires room { length jobs.now ≤ vec_capacity candidates.old }
-    ensures jobs { map (λ c. c.job) candidates.new.items ≡ jobs.now }
-    ensures own { All (λ c. c.own ≡ 0) candidates.new.items }
-    ensures room { vec_capacity candidates.old ≤ vec_capacity candidates.new }
-{
-    candidates.clear();
-    for job in jobs {
-        candidates
-            .push(Candidate {
-                job: *job as u16,
-                own: 0,
-            })
-            .unwrap();
-    }
 }
 
 impl<'a, L: StateLanes> Dispatcher<'a, L> {
@@ -73,13 +50,13 @@ impl<'a, L: StateLanes> Dispatcher<'a, L> {
 
 impl<'a, L: StateLanes> Dispatching for Dispatcher<'a, L> {
     ghost use Rattle.std.specs.Prelude.{◌∷◌, ◌++◌, [], vec_capacity};
-    ghost use Rattle.shop_model.specs.Word.{IsWord};
+    ghost use Rattle.shop_desk.specs.inner.Candidates.{IsCandidateOf};
     ghost use Rattle.shop_desk.specs.inner.Dispatchers.{IsScratchOf};
     ghost use Rattle.shop_desk.specs.inner.LaneStates.{HasRoom, IsKeptInLanes, rows_of};
 
     type State = State<L>;
 
-    type Scratch = Scratch;
+    type Scratch = Scratch<L>;
 
     ghost shop = { λ d. d.shop };
 
@@ -89,18 +66,21 @@ impl<'a, L: StateLanes> Dispatching for Dispatcher<'a, L> {
     ghost IsStateOf = { λ d w s. IsKeptInLanes L.GREATEST d.shop w d.layout
         (rows_of d.layout (L.heads s.lanes) (L.ends s.lanes)) s.next.items };
 
-    ghost IsScratch = { λ d s. IsScratchOf d.shop s.placement s.raises (vec_capacity s.jobs) };
+    ghost IsScratch = { λ d s. IsScratchOf d.shop d.layout s.placement s.raises (length s.owns.items)
+        (vec_capacity s.jobs) };
 
-    ghost IsCandidate = { λ d w c. IsWord d.shop (w ++ c.job ∷ []) };
+    ghost IsCandidate = { λ d w c. IsCandidateOf d.shop w d.layout c.job c.own };
 
-    fn scratch(&self, alloc: Global) -> Result<Scratch, AllocError> {
+    fn scratch(&self, alloc: Global) -> Result<Scratch<L>, AllocError> {
         self.instance.keeps_limits();
         let placement = Placement::none(alloc, self.instance)?;
         let raises = MachineRaises::new(alloc, self.instance.machines())?;
+        let owns = vec![in alloc; L::narrowed(0); self.grid.positions()]?;
         let jobs = Vec::with_capacity(alloc, self.instance.jobs())?;
         Ok(Scratch {
             placement,
             raises,
+            owns,
             jobs,
         })
     }
@@ -112,7 +92,13 @@ impl<'a, L: StateLanes> Dispatching for Dispatcher<'a, L> {
         Ok(State { lanes, next })
     }
 
-    fn fill(&self, scratch: &mut Scratch, path: &[u16], last: Option<u16>, state: &mut State<L>) {
+    fn fill(
+        &self,
+        scratch: &mut Scratch<L>,
+        path: &[u16],
+        last: Option<u16>,
+        state: &mut State<L>,
+    ) {
         place_word(&mut scratch.placement, self.instance, path, last);
         fill_state(
             &mut state.lanes,
@@ -130,17 +116,18 @@ impl<'a, L: StateLanes> Dispatching for Dispatcher<'a, L> {
 
     fn gather_candidates(
         &self,
-        scratch: &mut Scratch,
+        scratch: &mut Scratch<L>,
         state: &State<L>,
         candidates: &mut Vec<Candidate>,
     ) {
-        gather_conflict(
+        gather(
+            candidates,
             &mut scratch.jobs,
+            scratch.owns.as_mut_slice(),
             &state.lanes,
             &self.grid,
             state.next.as_slice(),
         );
-        list_candidates(candidates, scratch.jobs.as_slice());
     }
 
     #[inline(always)]
@@ -156,23 +143,37 @@ impl<'a, L: StateLanes> Dispatching for Dispatcher<'a, L> {
     #[inline(always)]
     fn dispatch_below(
         &self,
-        scratch: &mut Scratch,
+        scratch: &mut Scratch<L>,
         state: &mut State<L>,
         candidate: Candidate,
         bound: u64,
         limit: u64,
     ) -> Option<u64> {
-        let job = candidate.job as usize;
-        let position = state.next[job] as usize;
-        let least = foresee(&mut state.lanes, &self.grid, position, bound);
         advance_below(
             &mut state.lanes,
             state.next.as_mut_slice(),
             &mut scratch.raises,
             &self.grid,
-            job,
-            least,
+            candidate.job as usize,
+            bound.max(candidate.own),
             limit.min(BOUNDS),
+        )
+    }
+
+    fn dispatch(
+        &self,
+        scratch: &mut Scratch<L>,
+        state: &mut State<L>,
+        job: u16,
+        bound: u64,
+    ) -> u64 {
+        step(
+            &mut state.lanes,
+            state.next.as_mut_slice(),
+            &mut scratch.raises,
+            &self.grid,
+            job as usize,
+            bound,
         )
     }
 
@@ -185,4 +186,6 @@ impl<'a, L: StateLanes> Dispatching for Dispatcher<'a, L> {
     ghost state_is_of_word = { λ d w s is. is.kept.word };
 
     ghost state_is_within_limits = { λ d w s is. is.kept.limits };
+
+    ghost sole_keeps_bound = { λ d w s is. is.sole };
 }

@@ -5,7 +5,7 @@ ghost use Rattle.shop_model.specs.Limits.{IsWithinLimits};
 ghost use Rattle.shop_model.specs.Shop.{Shop};
 ghost use Rattle.shop_model.specs.Word.{IsWord};
 ghost use Rattle.shop_heads.specs.Bound.{lb};
-ghost use Rattle.shop_heads.specs.Conflicts.{conflict};
+ghost use Rattle.shop_heads.specs.Conflicts.{conflict, SoleCandidateKeepsBound};
 ghost use Rattle.shop_desk.specs.Desks.{TellsBoundBelow};
 ghost use Rattle.shop_desk.specs.declared.dispatching.Candidate.{Candidate};
 ghost use Rattle.shop_desk.specs.States.{CanDispatch, HasSoleCandidate, IsOfSomeWord, with_last};
@@ -120,6 +120,25 @@ pub trait Dispatching {
         ensures slot { IsSlot self.now state.new }
         ensures scratch { IsScratch self.now scratch.new };
 
+    /// Dispatches the next operation of any job, which has one left, and tells the bound of the word then. The bound of
+    /// the word before is at hand.
+    fn dispatch(
+        &self,
+        scratch: &mut Self::Scratch,
+        state: &mut Self::State,
+        job: u16,
+        bound: u64,
+    ) -> u64
+        requires scratch { IsScratch self.now scratch.old }
+        requires can { CanDispatch (shop self.now) (λ w. IsStateOf self.now w state.old) job bound }
+        ensures bound { (w : List ℕ) → IsStateOf self.now w state.old
+            → IsWord (shop self.now) (w ++ job ∷ []) → bound ≡ lb (shop self.now) w
+            → result ≡ lb (shop self.now) (w ++ job ∷ []) }
+        ensures state { (w : List ℕ) → IsStateOf self.now w state.old
+            → IsWord (shop self.now) (w ++ job ∷ [])
+            → IsStateOf self.now (w ++ job ∷ []) state.new }
+        ensures scratch { IsScratch self.now scratch.new };
+
     /// The state of a word is room for one.
     ghost state_is_slot: { (d : Self) (w : List ℕ) (s : Self.State) → IsStateOf d w s
         → IsSlot d s };
@@ -131,4 +150,8 @@ pub trait Dispatching {
     /// The instance of a state is within its limits.
     ghost state_is_within_limits: { (d : Self) (w : List ℕ) (s : Self.State) → IsStateOf d w s
         → IsWithinLimits (shop d) };
+
+    /// The one job of a conflict set leaves the bound as it is.
+    ghost sole_keeps_bound: { (d : Self) (w : List ℕ) (s : Self.State) → IsStateOf d w s
+        → SoleCandidateKeepsBound (shop d) w };
 }

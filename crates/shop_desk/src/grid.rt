@@ -1,8 +1,9 @@
 // The operations of an instance by position, with their times and tails in lanes.
 ghost use Rattle.std.specs.Prelude.{◌≡◌, ◌<◌, All, IfOk, length, slice_index, slice_index_or, []};
-ghost use Rattle.std.specs.Prelude.{◌≤◌, max};
+ghost use Rattle.std.specs.Prelude.{◌≤◌, ◌-◌, ◌*◌, map, max};
 ghost use Rattle.shop_lanes.specs.Rows.{AreBlocks, lanes_between};
-ghost use Rattle.shop_lanes.specs.Spans.{FitsSpan, IsRaisedBelow, span, spans_between};
+ghost use Rattle.shop_lanes.specs.Spans.{AreOwnSpans, FitOwnSpans, FitsSpan, IsRaisedBelow, span};
+ghost use Rattle.shop_lanes.specs.Spans.{spans_between};
 ghost use Rattle.shop_desk.specs.inner.LaneStates.{rows_of};
 
 use crate::head_raises::Raise;
@@ -143,6 +144,24 @@ impl<L: StateLanes> Grid<L> {
             (rows_of self.now (L.heads lanes.now) (L.ends lanes.now)) from to))) result }
     {
         lanes.bound_raised(&self.fixed, from, to, raise.from, raise.to, most, limit)
+    }
+
+    /// The own spans of what waits in these blocks, from the first of the room on.
+    #[inline(always)]
+    pub(crate) fn own_spans(&self, lanes: &L, from: usize, to: usize, owns: &mut [L::Number])
+        requires blocks { AreBlocks (rows_of self.now (L.heads lanes.now) (L.ends lanes.now))
+            from to }
+        requires times { length self.now.times ≡ length (L.heads lanes.now) }
+        requires tails { length self.now.tails ≡ length self.now.times }
+        requires room { 8 * to - 8 * from ≤ length owns.old }
+        requires fits { FitOwnSpans L.GREATEST (lanes_between
+            (rows_of self.now (L.heads lanes.now) (L.ends lanes.now)) from to) }
+        ensures long { length owns.new ≡ length owns.old }
+        ensures owns { AreOwnSpans (L.heads lanes.now) self.now.times self.now.tails from to
+            (map L.value owns.new) }
+    {
+        let owns = &mut owns[..8 * (to - from)];
+        lanes.own_spans(&self.fixed, from, to, owns);
     }
 
     /// When the last of what waits in these blocks ends, its tail included, if it is served by position, from `start`

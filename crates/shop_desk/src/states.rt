@@ -13,11 +13,13 @@ pub struct State<L: StateLanes> {
 
 /// What fills and dispatches need beside states.
 #[derive(Drop)]
-pub struct Scratch {
+pub struct Scratch<L: StateLanes> {
     /// of some word
     pub(crate) placement: Placement,
     /// at rest
     pub(crate) raises: MachineRaises,
+    /// owns[i]: the own span at the position that is i behind the first one of some machine
+    pub(crate) owns: Vec<L::Number>,
     /// with room for all jobs
     pub(crate) jobs: Vec<usize>,
 }

@@ -58,13 +58,6 @@ lanes-blocks hs ts qs from to a b =
     ∙ lanes-take (8 * to - 8 * from) (drop (8 * from) hs) (drop (8 * from) ts) (drop (8 * from) qs) la lb
     )
 
--- the same where the rows are read by slices
-pub lanes_of_blocks : {heads times tails : List ℕ} (hs ts qs : List ℕ) (from to : ℕ) → hs ≡ heads → ts ≡ times
-    → qs ≡ tails → length times ≡ length heads → length tails ≡ length heads
-    → lanes (blocks from to hs) (blocks from to ts) (blocks from to qs) ≡ blocks from to (lanes heads times tails)
-lanes_of_blocks {heads} {times} {tails} hs ts qs from to eh et eq a b =
-    rw (eh, et, eq) (lanes-blocks heads times tails from to a b)
-
 pub length-blocks : {A : Type 0} (from to : ℕ) (xs : List A) → 8 * to ≤ length xs
     → length (blocks from to xs) ≡ 8 * to - 8 * from
 length-blocks from to xs le = simp (length-take, length-drop) (omega arith)

@@ -6,7 +6,6 @@ pub mod OwnTurns
 pub mod OwnRows
 pub mod SpanTurns
 pub mod MarkLemmas
-pub mod EndTurns
 pub mod Eights
 pub mod Serving
 pub mod BlockTurns

@@ -6,7 +6,7 @@ use Rattle.std.proofs.lemmas.Bool.Decides.{nat_tests}
 use Rattle.std.proofs.lemmas.Simd.{get_or-chunk}
 use lib.Lanes.{mask_l}
 use Rattle.shop_lanes.specs.Rows.{Lane, lanes}
-use Rattle.shop_lanes.specs.Spans.{span, spans_from, spans_between, FitsSpan}
+use Rattle.shop_lanes.specs.Spans.{span, spans_from, FitsSpan}
 use Rattle.shop_lanes.specs.Marks.{marked}
 use Rattle.shop_lanes.specs.SetBits.{set_bits}
 use Rattle.shop_lanes.specs.inner.Passes.{is_between, spans_at, AreSmallAt}
@@ -135,29 +135,3 @@ module _ (above upto : ℕ) (hs ts qs : List ℕ) (a : length ts ≡ length hs) 
       subst (λ l. max most (spans_from above upto (lanes hs ts qs) l) ≡ whole)
       (drop_all (8 * b) (lanes hs ts qs) past) h
       in omega arith
-
--- the same for a whole row, marked at once
-row_stands : (hs : List ℕ) → StandsAt hs 0 hs
-row_stands hs = record {
-  within = omega arith;
-  same = λ i lt. let place : 0 + i ≡ i = omega arith in ap (λ n. get_or hs n 0) place;
-}
-
-marks_of_row : (above upto : ℕ) (hs : List ℕ) → length hs ≤ 64 → (bits : ℕ) (marks : List ℕ)
-    → marks ≡ set_bits 64 0 bits → bits ≡ mask_l (map (is_between above upto) hs)
-    → marks ≡ marked (is_between above upto) 0 hs
-marks_of_row above upto hs le bits marks e f =
-    e ∙ ap (set_bits 64 0) f ∙ set_bits-mask (is_between above upto) 64 0 hs le
-
-module _ (above upto : ℕ) (hs ts qs : List ℕ) (bits : ℕ) (marks : List ℕ) (few : length hs ≤ 64)
-    (marks_are : marks ≡ set_bits 64 0 bits) (bits_are : bits ≡ mask_l (map (is_between above upto) hs)) where
-  pub row_small : (limit : ℕ) → FitsSpan limit upto (lanes hs ts qs) → AreSmallAt limit hs (lanes hs ts qs) marks
-  row_small limit fits =
-      subst (AreSmallAt limit hs (lanes hs ts qs)) (sym (marks_of_row above upto hs few bits marks marks_are bits_are))
-      (small_at limit above upto hs (lanes hs ts qs) fits 0 hs (row_stands hs))
-
-  pub row_spans : length ts ≡ length hs → length qs ≡ length hs
-      → spans_at hs (lanes hs ts qs) marks ≡ spans_between above upto (lanes hs ts qs)
-  row_spans a c =
-      ap (spans_at hs (lanes hs ts qs)) (marks_of_row above upto hs few bits marks marks_are bits_are)
-      ∙ spans_at-marked above upto hs (lanes hs ts qs) 0 hs ts qs (row_stands hs) a c

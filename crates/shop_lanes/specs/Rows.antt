@@ -3,9 +3,8 @@
 --     Lane                           what stands at one position
 --     lanes_between rows from to     the lanes of the blocks from `from` on and before `to`
 --     lanes_of heads times tails     the same of rows that are told one by one
---     at_rest times tails jobs none  rows where nothing waits
 --     with_head, with_end            the same rows with one number replaced
-use Rattle.std.specs.Prelude.{◌≡◌, ℕ, ◌*◌, ◌-◌, ◌≤◌, List, [], ◌∷◌, length, take, drop, replicate}
+use Rattle.std.specs.Prelude.{◌≡◌, ℕ, ◌*◌, ◌-◌, ◌≤◌, List, [], ◌∷◌, length, take, drop}
 use Rattle.std.specs.Prelude.{slice_set}
 
 -- heads, times and tails stand by position, ends by job
@@ -48,14 +47,6 @@ pub record AreBlocksOf (heads times tails : List ℕ) (from to : ℕ) : Type 0 w
 pub record AreBlocks (rows : Rows) (from to : ℕ) : Type 0 where
   pub ordered : from ≤ to
   pub within : 8 * to ≤ length rows.heads
-
-abbrev pub at_rest : List ℕ → List ℕ → ℕ → ℕ → Rows
-at_rest times tails jobs none = record {
-  heads = replicate (length times) 0;
-  times = times;
-  tails = tails;
-  ends = replicate jobs none;
-}
 
 abbrev pub with_head : Rows → ℕ → ℕ → Rows
 with_head rows position head = record rows { heads = slice_set rows.heads position head }

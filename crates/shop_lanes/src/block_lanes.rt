@@ -7,7 +7,7 @@ use crate::blocks::Block;
 use crate::leaps::leap_over;
 use crate::marking::Marks;
 use crate::owning::own_spans;
-use crate::passes::{bits_up_to, first_least, greatest_span_of_longer, single_span};
+use crate::passes::{bits_up_to, first_least, greatest_span, single_span};
 use crate::state_lanes::StateLanes;
 use std::alloc::{AllocError, Global};
 
@@ -204,7 +204,7 @@ impl<B: Block> StateLanes for BlockLanes<B> {
         let tails = &fixed.tails[first..end];
         if upto == B::GREATEST {
             let above = above.min(upto);
-            return greatest_span_of_longer::<B>(heads, times, tails, above, upto, most);
+            return greatest_span::<B>(heads, times, tails, above, upto, most);
         }
         leap_over::<B>(heads, times, tails, above, upto, most, limit)
     }

@@ -175,34 +175,9 @@ fn bits_between<B: Block>(count: usize, heads: &[B::Number], above: u64, upto: u
     bits
 }
 
-/// The greatest of `most` and the spans from each head above `above` and up to `upto` on, all marked at once.
+/// The greatest of `most` and the spans from each head above `above` and up to `upto` on, marked a block at a time.
 #[inline(always)]
-fn spans_of_few<B: Block>(
-    count: usize,
-    heads: &[B::Number],
-    times: &[B::Number],
-    tails: &[B::Number],
-    above: u64,
-    upto: u64,
-    most: B,
-) -> B
-    requires count { length heads.now ≡ count }
-    requires whole_blocks { count % 8 ≡ 0 }
-    requires few { count ≤ 64 }
-    requires times { length times.now ≡ length heads.now }
-    requires tails { length tails.now ≡ length heads.now }
-    requires above { above ≤ B.GREATEST }
-    requires most { length (B.numbers most) ≡ 8 }
-    requires fits { FitsSpan B.GREATEST upto (lanes_by B.value heads.now times.now tails.now) }
-    ensures { HasAllSpans B.numbers B.value heads.now times.now tails.now above upto most result }
-{
-    let bits = bits_between::<B>(count, heads, above, upto);
-    spans_of(count, heads, times, tails, Marks::new(0, bits), most)
-}
-
-/// The same, marked a block at a time.
-#[inline(always)]
-fn spans_of_many<B: Block>(
+fn spans_by_block<B: Block>(
     heads: &[B::Number],
     times: &[B::Number],
     tails: &[B::Number],
@@ -228,84 +203,8 @@ fn spans_of_many<B: Block>(
     most
 }
 
-/// The greatest of `most` and the spans from each head above `above` and up to `upto` on; laid out by the number of
-/// positions.
-#[inline(always)]
-fn greatest_span_of<B: Block>(
-    count: usize,
-    heads: &[B::Number],
-    times: &[B::Number],
-    tails: &[B::Number],
-    above: u64,
-    upto: u64,
-    most: u64,
-) -> u64
-    requires count { length heads.now ≡ count }
-    requires whole_blocks { count % 8 ≡ 0 }
-    requires few { count ≤ 64 }
-    requires times { length times.now ≡ length heads.now }
-    requires tails { length tails.now ≡ length heads.now }
-    requires above { above ≤ B.GREATEST }
-    requires most { most ≤ B.GREATEST }
-    requires fits { FitsSpan B.GREATEST upto (lanes_by B.value heads.now times.now tails.now) }
-    ensures { result ≡ max most (spans_by B.value heads.now times.now tails.now above upto) }
-{
-    greatest_of(spans_of_few(count, heads, times, tails, above, upto, B::splat(most)))
-}
-
-/// The same for machines of any number of blocks.
-#[inline(always)]
-fn greatest_span_of_many<B: Block>(
-    heads: &[B::Number],
-    times: &[B::Number],
-    tails: &[B::Number],
-    above: u64,
-    upto: u64,
-    most: u64,
-) -> u64
-    requires whole_blocks { length heads.now % 8 ≡ 0 }
-    requires times { length times.now ≡ length heads.now }
-    requires tails { length tails.now ≡ length heads.now }
-    requires room { length heads.now + 64 ≤ 2 ^ 64 }
-    requires above { above ≤ B.GREATEST }
-    requires most { most ≤ B.GREATEST }
-    requires fits { FitsSpan B.GREATEST upto (lanes_by B.value heads.now times.now tails.now) }
-    ensures { result ≡ max most (spans_by B.value heads.now times.now tails.now above upto) }
-{
-    greatest_of(spans_of_many(heads, times, tails, above, upto, B::splat(most)))
-}
-
-/// The same for machines of four blocks and more, in a function of its own.
+/// The greatest of `most` and the spans from each head above `above` and up to `upto` on; in a function of its own.
 #[inline(never)]
-pub(crate) fn greatest_span_of_longer<B: Block>(
-    heads: &[B::Number],
-    times: &[B::Number],
-    tails: &[B::Number],
-    above: u64,
-    upto: u64,
-    most: u64,
-) -> u64
-    requires whole_blocks { length heads.now % 8 ≡ 0 }
-    requires times { length times.now ≡ length heads.now }
-    requires tails { length tails.now ≡ length heads.now }
-    requires room { length heads.now + 64 ≤ 2 ^ 64 }
-    requires above { above ≤ B.GREATEST }
-    requires most { most ≤ B.GREATEST }
-    requires fits { FitsSpan B.GREATEST upto (lanes_by B.value heads.now times.now tails.now) }
-    ensures { result ≡ max most (spans_by B.value heads.now times.now tails.now above upto) }
-{
-    match heads.len() {
-        32 => greatest_span_of::<B>(32, heads, times, tails, above, upto, most),
-        40 => greatest_span_of::<B>(40, heads, times, tails, above, upto, most),
-        48 => greatest_span_of::<B>(48, heads, times, tails, above, upto, most),
-        56 => greatest_span_of::<B>(56, heads, times, tails, above, upto, most),
-        64 => greatest_span_of::<B>(64, heads, times, tails, above, upto, most),
-        _ => greatest_span_of_many::<B>(heads, times, tails, above, upto, most),
-    }
-}
-
-/// The greatest of `most` and the spans from each head above `above` and up to `upto` on.
-#[inline(always)]
 pub(crate) fn greatest_span<B: Block>(
     heads: &[B::Number],
     times: &[B::Number],
@@ -323,12 +222,7 @@ pub(crate) fn greatest_span<B: Block>(
     requires fits { FitsSpan B.GREATEST upto (lanes_by B.value heads.now times.now tails.now) }
     ensures { result ≡ max most (spans_by B.value heads.now times.now tails.now above upto) }
 {
-    match heads.len() {
-        8 => greatest_span_of::<B>(8, heads, times, tails, above, upto, most),
-        16 => greatest_span_of::<B>(16, heads, times, tails, above, upto, most),
-        24 => greatest_span_of::<B>(24, heads, times, tails, above, upto, most),
-        _ => greatest_span_of_longer::<B>(heads, times, tails, above, upto, most),
-    }
+    greatest_of(spans_by_block(heads, times, tails, above, upto, B::splat(most)))
 }
 
 /// A bit for each of the numbers of four blocks and more, the first the lowest, that says whether it is above 0 and at

@@ -27,7 +27,7 @@ pub trait Crew<R> {
 /// The sheet of a piece of the round, by a searcher for its instance. Fails with `AllocError` if memory runs out.
 pub fn search_piece_with<'r>(
     alloc: Global,
-    searcher: &mut Searcher<'r>,
+    searcher: &mut Searcher<'_, 'r>,
     round: &'r Round<'r>,
     number: usize,
 ) -> Result<Sheet<'r>, AllocError>
@@ -50,7 +50,7 @@ pub fn search_piece<'r>(
     ensures of { IfOk result (λ s. IsOf (told round.now) s × (s.number ≡ number)) }
     ensures hit { IfOk result (λ s. TellsHit (told round.now) number s) }
 {
-    let mut searcher = Searcher::new(alloc, round.instance)?;
+    let mut searcher = Searcher::over(alloc, round.instance, round.layout())?;
     search_piece_with(alloc, &mut searcher, round, number)
 }
 
@@ -72,7 +72,7 @@ impl Alone {
         ensures stops { IfOk result (λ v. StopsAtHit (told round.now) v.items) }
     {
         let mut entries = Vec::with_capacity(alloc, round.pieces.len())?;
-        let mut searcher = Searcher::new(alloc, round.instance)?;
+        let mut searcher = Searcher::over(alloc, round.instance, round.layout())?;
         let mut hit = None;
         for number in 0..round.pieces.len() {
             if let Some(by) = hit {

@@ -1,6 +1,7 @@
 // Rounds: cut from a standing, in an order and into pieces, and closed to the next standing.
 ghost use Rattle.std.specs.Prelude.{◌≡◌, ◌≤◌, ◌<◌, length, take, drop, true, IfOk, OnOk};
 ghost use Rattle.std.specs.Vec.Iter.{into_iter_items};
+ghost use Rattle.shop_desk.specs.Layouts.{IsLayoutOf};
 ghost use Rattle.shop_tree.specs.Nodes.{AreNodes};
 ghost use Rattle.shop_round.specs.Limits.{IsCountWithin};
 ghost use Rattle.shop_round.specs.Round.{cut_into};
@@ -13,12 +14,12 @@ use crate::outcomes::Outcome;
 use crate::plans::{MAX_PIECES, Order, Plan};
 use crate::standings::Standing;
 use shop_model::{Instance, Word};
-use shop_tree::{Node, Piece};
+use shop_tree::{Layout, Node, Piece};
 use std::alloc::{AllocError, Global};
 use std::vec::IntoIter;
 
 /// A round: the opening best with its makespan, the opening bound, the budget, the pieces and the
-/// rest, and the rounds done and nodes counted before it.
+/// rest, and the rounds done and nodes counted before it. All who search its pieces share its layout.
 #[derive(Drop)]
 pub struct Round<'r> {
     pub instance: &'r Instance,
@@ -30,6 +31,8 @@ pub struct Round<'r> {
     pub rest: Vec<Node>,
     pub rounds: u64,
     pub nodes: u64,
+    pub(crate) layout: Layout<'r>,
+    pub ghost layout_of: { IsLayoutOf instance.now layout },
     pub ghost numbered: { numbered 0 pieces.items ≡ true },
     pub ghost nodes_of_pieces: { ArePieces instance.now pieces.items },
     pub ghost nodes_of_rest: { AreNodes instance.now rest.items },
@@ -72,6 +75,7 @@ impl<'r> Round<'r> {
         let bound = least_bound(makespan, open.as_slice());
         let rest = open.split_off(open.len().min(MAX_PIECES * plan.piece))?;
         let pieces = cut_pieces(alloc, open, plan.piece)?;
+        let layout = Layout::of(alloc, instance)?;
         Ok(Round {
             instance,
             word,
@@ -82,24 +86,35 @@ impl<'r> Round<'r> {
             rest,
             rounds,
             nodes,
+            layout,
         })
     }
 
-    /// What stands after the round, of what its sheets come to: as `gather`, but the rest moves, so
-    /// no word is copied.
-    pub(crate) fn closed(self, outcome: Outcome) -> Result<Standing, AllocError>
+    /// The instance's layout, which all who search its pieces share.
+    pub fn layout(&self) -> &Layout<'r>
+        ensures { IsLayoutOf self.now.instance.now result.now }
+    {
+        &self.layout
+    }
+
+    /// What stands after the round, of what its sheets come to, and the layout for the next round: as
+    /// `gather`, but the rest moves, so no word is copied.
+    pub(crate) fn closed(self, outcome: Outcome) -> Result<(Standing, Layout<'r>), AllocError>
         requires { IsOutcome (told self) outcome }
-        ensures gathered { IfOk result (λ s. IsGatheredOf self.entry s) }
-        ensures standing { IfOk result (λ s. IsStandingOf self.entry.instance.now s) }
-        ensures covers { IfOk result (λ s. GatheredCovers self.entry s) }
+        ensures gathered { IfOk result (λ p. IsGatheredOf self.entry p.0) }
+        ensures standing { IfOk result (λ p. IsStandingOf self.entry.instance.now p.0) }
+        ensures covers { IfOk result (λ p. GatheredCovers self.entry p.0) }
+        ensures layout { IfOk result (λ p. IsLayoutOf self.entry.instance.now p.1) }
     {
         let Round {
             word,
             rest,
             rounds,
+            layout,
             ..
         } = self;
-        outcome.standing_after(word, rest, rounds)
+        let standing = outcome.standing_after(word, rest, rounds)?;
+        Ok((standing, layout))
     }
 }
 

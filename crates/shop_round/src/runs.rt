@@ -10,6 +10,7 @@ use crate::plans::{MAX_PIECES, Order, Plan};
 use crate::rounds::{Round, cut_pieces};
 use crate::standings::Standing;
 use shop_model::{Instance, Table, Word, place};
+use shop_tree::Layout;
 use std::alloc::{AllocError, Global};
 
 /// Where a run stands: the best word and its makespan, the open nodes in the order of the next cut, the rounds done and
@@ -31,6 +32,7 @@ impl Search {
     ghost use Rattle.shop_round.specs.inner.Stores.{open_list};
     ghost use Rattle.shop_round.specs.inner.Searches.{IsSearchAt, IsSearchOf, IsJoined, IsFront};
     ghost use Rattle.shop_round.specs.inner.Closing.{IsAtAnswer};
+    ghost use Rattle.shop_desk.specs.Layouts.{IsLayoutOf};
 
     /// Where a run begins. Fails with `AllocError` if memory runs out.
     pub(crate) fn start(
@@ -73,14 +75,16 @@ impl Search {
         })
     }
 
-    /// Cuts the first open nodes into at most 256 pieces, a round without a rest, and sets the others apart.
-    /// Fails with `AllocError` if memory runs out.
+    /// Cuts the first open nodes into at most 256 pieces, a round without a rest, and sets the others apart. The round
+    /// has this layout. Fails with `AllocError` if memory runs out.
     pub(crate) fn cut<'r>(
         self,
         alloc: Global,
         instance: &'r Instance,
+        layout: Layout<'r>,
         plan: &Plan,
     ) -> Result<(Round<'r>, OpenNodes), AllocError>
+        requires layout { IsLayoutOf instance.now layout }
         requires rounds { self.rounds < plan.now.rounds }
         requires search { IsSearchOf instance.now plan.now.order self }
         ensures { IfOk result (λ p. IsFront instance.now plan.now self p.0 p.1) }
@@ -105,11 +109,13 @@ impl Search {
             rest: Vec::new(alloc),
             rounds,
             nodes,
+            layout,
         };
         Ok((round, open))
     }
 
-    /// Where a run stands after the rounds of a plan, or as soon as nothing is open.
+    /// Where a run stands after the rounds of a plan, or as soon as nothing is open. One layout goes from round to
+    /// round.
     fn at_end<R, C: Crew<R>>(
         rt: &R,
         alloc: Global,
@@ -120,16 +126,19 @@ impl Search {
         requires { C.ready }
         ensures { IfOk result (λ t. IsAtAnswer instance.now plan.now t) }
     {
+        let mut layout = Layout::of(alloc, instance)?;
         let mut search = Search::start(alloc, instance, plan.order)?;
         for done in 0..plan.rounds {
             if search.open.is_empty() {
                 return Ok(search);
             }
             let opening = search.makespan;
-            let (round, others) = search.cut(alloc, instance, plan)?;
+            let (round, others) = search.cut(alloc, instance, layout, plan)?;
             let entries = crew.search(rt, alloc, &round)?;
             let outcome = outcome_of(alloc, &round, entries)?;
-            search = Search::joined(alloc, round.closed(outcome)?, others, opening)?;
+            let (standing, kept) = round.closed(outcome)?;
+            layout = kept;
+            search = Search::joined(alloc, standing, others, opening)?;
         }
         Ok(search)
     }

@@ -1,7 +1,7 @@
 // What stands between two rounds, and where a search begins.
 ghost use Rattle.shop_round.specs.Limits.{IsCountWithin};
 
-use shop_bound::lower_bound;
+use shop_heads::lower_bound;
 use shop_model::{Instance, Word, start_word};
 use shop_tree::Node;
 use std::alloc::{AllocError, Global};

@@ -9,13 +9,17 @@ pub mod HighWalks
 mod Counting
 mod ChildrenLemmas
 mod FirstOn
-mod DeskLemmas
 mod ListLemmas
 mod OpenLemmas
 mod AddLemmas
 mod TurnLemmas
 mod PushLemmas
 mod PutLemmas
+mod HeldLemmas
+mod TrialLemmas
 mod ExpandLemmas
 mod WalkerLemmas
 mod LeftLemmas
+pub mod KeptChildren
+mod StateLemmas
+mod StateSteps

@@ -17,14 +17,14 @@ use Rattle.shop_tree.specs.declared.opens.Waiting.{Waiting}
 use Rattle.shop_tree.specs.declared.opens.Waiting.TheVariants.{Child, Rest}
 use Rattle.shop_tree.proofs.ListLemmas.{reverse-cons, all_append, all_front, all_back, all_weaker}
 
+pub begins_alike : (v w : List ℕ) (n : ℕ) → take n v ≡ take n w → (k : ℕ) → k ≤ n → take k v ≡ take k w
+begins_alike v w n alike k h = sym (take-take k n v h) ∙ (ap (take k) alike ∙ take-take k n w h)
+
 -- Words that begin alike up to n: what begins with n entries at most stands for the same words.
 module _ (shop : Shop) (v w : List ℕ) (n : ℕ) (alike : take n v ≡ take n w) where
-  begins_alike : (k : ℕ) → k ≤ n → take k v ≡ take k w
-  begins_alike k h = sym (take-take k n v h) ∙ (ap (take k) alike ∙ take-take k n w h)
-
   entry-same : (x : Waiting) → IsUpTo n x → waiting_words shop v x ≡ waiting_words shop w x
-  entry-same (Child o) h = ap (λ (u : List ℕ). (u ++ o.job ∷ []) ∷ []) (begins_alike o.depth h)
-  entry-same (Rest depth count) h = ap (λ (u : List ℕ). last_of count (branch shop u)) (begins_alike depth h)
+  entry-same (Child o) h = ap (λ (u : List ℕ). (u ++ o.job ∷ []) ∷ []) (begins_alike v w n alike o.depth h)
+  entry-same (Rest depth count) h = ap (λ (u : List ℕ). last_of count (branch shop u)) (begins_alike v w n alike depth h)
 
   pub words-same : (stack : List Waiting) → AllByRecursion (IsUpTo n) stack
       → stack_words shop v stack ≡ stack_words shop w stack
@@ -36,14 +36,14 @@ module _ (shop : Shop) (v w : List ℕ) (n : ℕ) (alike : take n v ≡ take n w
   waits-same : (best : ℕ) (x : Waiting) → n ≤ length v → IsUpTo n x → IsWaiting shop best w x
       → IsWaiting shop best v x
   waits-same best (Child o) long h own =
-      let same : word_at w o ≡ word_at v o = ap (λ (u : List ℕ). u ++ o.job ∷ []) (sym (begins_alike o.depth h))
+      let same : word_at w o ≡ word_at v o = ap (λ (u : List ℕ). u ++ o.job ∷ []) (sym (begins_alike v w n alike o.depth h))
       in record {
         depth = omega arith;
         is_word = subst (IsWord shop) same own.is_word;
         bound = own.bound ∙ ap (lb shop) same;
       }
   waits-same best (Rest depth count) long h own =
-      let same : take depth w ≡ take depth v = sym (begins_alike depth h)
+      let same : take depth w ≡ take depth v = sym (begins_alike v w n alike depth h)
       in record {
         depth = omega arith;
         short = own.short;

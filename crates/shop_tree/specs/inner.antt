@@ -3,5 +3,9 @@ pub mod Searching
 pub mod Opens
 pub mod Pushing
 pub mod Leaving
-pub mod Moving
 pub mod Walkers
+pub mod Held
+pub mod Tried
+pub mod Slots
+pub mod StateWalkers
+pub mod Widths

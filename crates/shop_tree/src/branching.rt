@@ -1,9 +1,10 @@
 // The conflict set (Giffler and Thompson 1960).
-ghost use Rattle.std.specs.Prelude.{◌≡◌, IfOk};
+ghost use Rattle.std.specs.Prelude.{◌≡◌, IfOk, map};
 ghost use Rattle.shop_model.specs.Word.{IsWord, IsFull};
 ghost use Rattle.shop_tree.specs.Branching.{conflict as conflict_set};
 
-use shop_bound::Desk;
+use crate::walk_states::WalkStates;
+use shop_desk::{Candidate, Dispatching, Layout};
 use shop_model::{Instance, Word};
 use std::alloc::{AllocError, Global};
 
@@ -15,11 +16,39 @@ pub fn conflict(alloc: Global, instance: &Instance, word: &Word) -> Result<Vec<u
     requires open { IsFull instance.now word.now → ⊥ }
     ensures { IfOk result (λ v. v.items ≡ conflict_set instance.now word.now) }
 {
-    let mut desk = Desk::new(alloc, instance)?;
-    for &job in word.jobs() {
-        desk.dispatch(job as usize);
+    let layout = Layout::of(alloc, instance)?;
+    match &layout {
+        Layout::Narrow(dispatcher) => conflict_by(alloc, instance, dispatcher, word),
+        Layout::Wide(dispatcher) => conflict_by(alloc, instance, dispatcher, word),
+        Layout::Plain(dispatcher) => conflict_by(alloc, instance, dispatcher, word),
     }
-    let mut jobs = Vec::with_capacity(alloc, instance.jobs())?;
-    desk.gather_conflict(&mut jobs);
+}
+
+/// The conflict set of a word in lanes of one width.
+fn conflict_by<D: Dispatching>(
+    alloc: Global,
+    instance: &Instance,
+    dispatcher: &D,
+    word: &Word,
+) -> Result<Vec<usize>, AllocError>
+    requires shop { D.shop dispatcher.now ≡ instance.now }
+    requires word { IsWord instance.now word.now }
+    ensures { IfOk result (λ v. v.items ≡ conflict_set instance.now word.now) }
+{
+    let mut states = WalkStates::new(alloc, dispatcher, 0)?;
+    states.fill(word.jobs(), None);
+    let mut candidates = Vec::with_capacity(alloc, instance.jobs())?;
+    states.gather(&mut candidates);
+    jobs_of(alloc, candidates.as_slice())
+}
+
+/// The jobs of candidates, in order.
+fn jobs_of(alloc: Global, candidates: &[Candidate]) -> Result<Vec<usize>, AllocError>
+    ensures { IfOk result (λ v. v.items ≡ map (λ c. c.job) candidates.now) }
+{
+    let mut jobs = Vec::with_capacity(alloc, candidates.len())?;
+    for candidate in candidates {
+        jobs.push(candidate.job as usize)?;
+    }
     Ok(jobs)
 }

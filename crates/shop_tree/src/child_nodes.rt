@@ -1,14 +1,17 @@
 // The children of a node.
-ghost use Rattle.std.specs.Prelude.{◌≡◌, IfOk};
-ghost use Rattle.shop_model.specs.Word.{IsFull};
+ghost use Rattle.std.specs.Prelude.{◌≡◌, ◌≤◌, ◌^◌, IfOk};
+ghost use Rattle.std.specs.Arc.{arc_slice_items};
+ghost use Rattle.shop_model.specs.Word.{IsWord, IsFull};
 ghost use Rattle.shop_tree.specs.Branching.{branch};
 ghost use Rattle.shop_tree.specs.Nodes.{IsNode, AreNodes, words_of, AreBetterChildren};
+ghost use Rattle.shop_tree.specs.inner.Held.{opens_in};
+ghost use Rattle.shop_tree.specs.inner.Opens.{IsChildList};
 
-use crate::moving::go_to;
+use crate::held::Kept;
 use crate::nodes::Node;
-use crate::pushing::gather_children;
 use crate::shared_words::SharedWord;
-use shop_bound::Desk;
+use crate::walk_states::WalkStates;
+use shop_desk::{Dispatching, Layout};
 use shop_model::Instance;
 use std::alloc::{AllocError, Global};
 use std::sync::ArcSlice;
@@ -22,20 +25,68 @@ pub fn children(alloc: Global, instance: &Instance, node: &Node) -> Result<Vec<N
     ensures nodes { IfOk result (λ v. AreNodes instance.now v.items) }
     ensures better { IfOk result (λ v. AreBetterChildren instance.now node.now v.items) }
 {
-    let mut desk = Desk::new(alloc, instance)?;
-    go_to(&mut desk, &node.word);
-    desk.keeps_word();
-    let path = ArcSlice::from_slice(alloc, desk.jobs())?;
+    let layout = Layout::of(alloc, instance)?;
+    match &layout {
+        Layout::Narrow(dispatcher) => children_by(alloc, instance, dispatcher, node),
+        Layout::Wide(dispatcher) => children_by(alloc, instance, dispatcher, node),
+        Layout::Plain(dispatcher) => children_by(alloc, instance, dispatcher, node),
+    }
+}
+
+/// The children of a node in lanes of one width.
+fn children_by<D: Dispatching>(
+    alloc: Global,
+    instance: &Instance,
+    dispatcher: &D,
+    node: &Node,
+) -> Result<Vec<Node>, AllocError>
+    requires shop { D.shop dispatcher.now ≡ instance.now }
+    requires node { IsNode instance.now node.now }
+    requires open { IsFull instance.now node.now.word → ⊥ }
+    ensures branch { IfOk result (λ v. words_of v.items ≡ branch instance.now node.now.word) }
+    ensures nodes { IfOk result (λ v. AreNodes instance.now v.items) }
+    ensures better { IfOk result (λ v. AreBetterChildren instance.now node.now v.items) }
+{
+    instance.keeps_limits();
+    let word = node.word.to_word(alloc)?;
+    let jobs = word.jobs();
+    let mut states = WalkStates::new(alloc, dispatcher, 0)?;
+    states.fill(jobs, None);
+    let mut candidates = Vec::with_capacity(alloc, instance.jobs())?;
+    states.gather(&mut candidates);
+    let mut kept = Vec::with_capacity(alloc, instance.jobs())?;
+    states.try_candidates(
+        alloc,
+        &mut kept,
+        &mut candidates,
+        jobs,
+        node.bound,
+        u64::MAX,
+    )?;
+    let path = ArcSlice::from_slice(alloc, jobs)?;
+    nodes_along(alloc, instance, &path, kept)
+}
+
+/// The nodes of all children of the word that a path makes, the first of which stands last.
+fn nodes_along<S: Drop>(
+    alloc: Global,
+    instance: &Instance,
+    path: &ArcSlice<u16, Global>,
+    kept: Vec<Kept<S>>,
+) -> Result<Vec<Node>, AllocError>
+    requires word { IsWord instance.now (arc_slice_items path.now) }
+    requires all { IsChildList instance.now (arc_slice_items path.now) (opens_in kept.items) }
+    ensures branch { IfOk result (λ v. words_of v.items ≡ branch instance.now (arc_slice_items path.now)) }
+    ensures nodes { IfOk result (λ v. AreNodes instance.now v.items) }
+{
+    instance.keeps_limits();
     let depth = path.len() as u32;
-    let mut jobs = Vec::with_capacity(alloc, instance.jobs())?;
-    let mut opens = Vec::with_capacity(alloc, instance.jobs())?;
-    desk.gather_conflict(&mut jobs);
-    gather_children(&mut opens, &mut desk, node.bound, u64::MAX, &mut jobs)?;
-    let mut children = Vec::with_capacity(alloc, opens.len())?;
-    while let Some(child) = opens.pop() {
-        let word = SharedWord::along(&path, depth, child.job)?;
-        let bound = child.bound;
-        children.push(Node { word, bound }).unwrap();
+    let mut kept = kept;
+    let mut children = Vec::with_capacity(alloc, kept.len())?;
+    while let Some(child) = kept.pop() {
+        let word = SharedWord::along(path, depth, child.open.job)?;
+        let bound = child.open.bound;
+        children.push(Node { word, bound })?;
     }
     Ok(children)
 }

@@ -3,19 +3,22 @@
 
 mod branching;
 mod child_nodes;
+mod held;
 mod laws;
 mod left;
-mod moving;
 mod nodes;
 mod opens;
 mod pieces;
 mod progress;
 mod pushing;
+mod putting;
 mod searchers;
 mod searching;
 mod shared_words;
 mod sheets;
+mod walk_states;
 mod walkers;
+mod width_searchers;
 
 pub use branching::conflict;
 pub use child_nodes::children;
@@ -27,3 +30,4 @@ pub use searchers::Searcher;
 pub use searching::search;
 pub use shared_words::SharedWord;
 pub use sheets::Sheet;
+pub use shop_desk::Layout;

@@ -4,7 +4,7 @@ ghost use Rattle.shop_model.specs.Word.{IsWord};
 ghost use Rattle.shop_heads.specs.Bound.{lb};
 
 use crate::shared_words::SharedWord;
-use shop_bound::lower_bound;
+use shop_heads::lower_bound;
 use shop_model::{Instance, Word};
 use std::alloc::{AllocError, Global};
 

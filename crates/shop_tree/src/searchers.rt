@@ -1,44 +1,98 @@
-// The search of pieces, over a desk that is kept from one to the next.
-ghost use Rattle.std.specs.Prelude.{◌≡◌, ◌<◌, ◌^◌, OnOk, IfOk};
+// The search of pieces, over what is kept from one to the next.
+ghost use Rattle.std.specs.Prelude.{◌≡◌, ◌≤◌, ◌<◌, ◌^◌, OnOk, IfOk};
+ghost use Rattle.shop_desk.specs.Layouts.{IsLayoutOf};
 ghost use Rattle.shop_tree.specs.Nodes.{AreNodes};
 ghost use Rattle.shop_tree.specs.Sheets.{IsSheetOf, KeepsTables};
 
 use crate::pieces::Piece;
 use crate::sheets::Sheet;
-use crate::walkers::Walker;
+use crate::width_searchers::{WidthSearcher, Widths};
+use shop_desk::Layout;
 use shop_model::Instance;
 use std::alloc::{AllocError, Global};
 use std::marker::Model;
 
-/// Searches pieces of an instance, one after the other. Its desk and its lists are kept from one to the next, so that
-/// only what a search finds or leaves takes memory. To contracts it is the instance.
-#[derive(Drop)]
-pub struct Searcher<'a> {
-    walker: Walker<'a>,
+/// How many bytes the states of all children that wait may hold together.
+const ROOM: usize = 3 << 19;
+
+/// How many bytes a number of a state takes.
+fn bytes_of_number(layout: &Layout) -> usize
+    ensures few { result ≤ 8 }
+    ensures some { 0 < result }
+{
+    match layout {
+        Layout::Narrow(_) => 2,
+        Layout::Wide(_) => 4,
+        Layout::Plain(_) => 8,
+    }
 }
 
-impl<'a> Model for Searcher<'a> {
+/// Searches pieces of an instance, one after the other, over a layout that others may search over too. What a search
+/// needs is kept from one to the next, so that only what it finds or leaves takes memory. To contracts it is the
+/// instance.
+#[derive(Drop)]
+pub struct Searcher<'l, 'a> {
+    widths: Widths<'l, 'a>,
+}
+
+impl<'l, 'a> Model for Searcher<'l, 'a> {
     ghost use Rattle.shop_model.specs.Shop.{Shop};
+    ghost use Rattle.shop_tree.specs.inner.Widths.{shop_searched};
 
     ghost Value = { Shop };
 
-    ghost view = { λ s. s.walker.desk.shop };
+    ghost view = { λ s. shop_searched s.widths };
 }
 
-impl<'a> Searcher<'a> {
-    /// For pieces of this instance. Fails with `AllocError` if memory runs out.
-    pub fn new(alloc: Global, instance: &'a Instance) -> Result<Searcher<'a>, AllocError>
+impl<'l, 'a> Searcher<'l, 'a> {
+    /// For pieces of this instance, over its layout. Fails with `AllocError` if memory runs out.
+    pub fn over(
+        alloc: Global,
+        instance: &'a Instance,
+        layout: &'l Layout<'a>,
+    ) -> Result<Searcher<'l, 'a>, AllocError>
+        requires { IsLayoutOf instance.now layout.now }
         ensures { IfOk result (λ s. s ≡ instance.now) }
     {
-        let walker = Walker::new(alloc, instance)?;
-        Ok(Searcher { walker })
+        instance.keeps_limits();
+        let numbers = instance.operations() + instance.jobs() + 1;
+        Searcher::with_states(
+            alloc,
+            instance,
+            layout,
+            ROOM / bytes_of_number(layout) / numbers,
+        )
+    }
+
+    /// The same with at most so many states for children that wait: the state of any other child is made anew from its
+    /// word when its turn comes. What a search gives doesn't depend on that. Fails with `AllocError` if memory runs out.
+    pub fn with_states(
+        alloc: Global,
+        instance: &'a Instance,
+        layout: &'l Layout<'a>,
+        most: usize,
+    ) -> Result<Searcher<'l, 'a>, AllocError>
+        requires { IsLayoutOf instance.now layout.now }
+        ensures { IfOk result (λ s. s ≡ instance.now) }
+    {
+        let widths = match layout {
+            Layout::Narrow(dispatcher) => {
+                Widths::Narrow(WidthSearcher::new(alloc, instance, dispatcher, most)?)
+            }
+            Layout::Wide(dispatcher) => {
+                Widths::Wide(WidthSearcher::new(alloc, instance, dispatcher, most)?)
+            }
+            Layout::Plain(dispatcher) => {
+                Widths::Plain(WidthSearcher::new(alloc, instance, dispatcher, most)?)
+            }
+        };
+        Ok(Searcher { widths })
     }
 
     /// The search of a piece by branch and bound: its nodes in order, depth first, the children of each by bound.
-    /// `best` is the makespan to beat, `budget` how many nodes may be taken; what isn't taken is left, in order, where
-    /// its bound is below the sheet's makespan. No table under a node of the piece is lost: it ends at the sheet's
-    /// makespan or later, or no earlier than one under a node left. Fails with `AllocError` if memory runs out; the
-    /// searcher is of no use then.
+    /// `best` is the makespan to beat, `budget` how many nodes may be taken; what isn't taken is left, in order. No
+    /// table under a node of the piece is lost: it ends at the sheet's makespan or later, or no earlier than one under a
+    /// node left. Fails with `AllocError` if memory runs out; the searcher is of no use then.
     pub fn search(
         &mut self,
         alloc: Global,
@@ -52,7 +106,10 @@ impl<'a> Searcher<'a> {
         ensures keeps { IfOk result (λ s. KeepsTables self.old piece.now best s) }
         ensures instance { OnOk result (self.new ≡ self.old) }
     {
-        let walker = &mut self.walker;
-        walker.search(alloc, piece, best, budget)
+        match &mut self.widths {
+            Widths::Narrow(searcher) => searcher.search(alloc, piece, best, budget),
+            Widths::Wide(searcher) => searcher.search(alloc, piece, best, budget),
+            Widths::Plain(searcher) => searcher.search(alloc, piece, best, budget),
+        }
     }
 }

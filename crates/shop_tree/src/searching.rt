@@ -6,10 +6,11 @@ ghost use Rattle.shop_tree.specs.Sheets.{IsSheetOf, KeepsTables};
 use crate::pieces::Piece;
 use crate::searchers::Searcher;
 use crate::sheets::Sheet;
+use shop_desk::Layout;
 use shop_model::Instance;
 use std::alloc::{AllocError, Global};
 
-/// The search of one piece, as `Searcher::search`, over a desk of its own. Fails with `AllocError` if memory runs out.
+/// The search of one piece, as `Searcher::search`, over a layout of its own. Fails with `AllocError` if memory runs out.
 pub fn search<'r>(
     alloc: Global,
     instance: &'r Instance,
@@ -22,6 +23,7 @@ pub fn search<'r>(
     ensures of { IfOk result (λ s. IsSheetOf s instance.now piece.now best budget) }
     ensures keeps { IfOk result (λ s. KeepsTables instance.now piece.now best s) }
 {
-    let mut searcher = Searcher::new(alloc, instance)?;
+    let layout = Layout::of(alloc, instance)?;
+    let mut searcher = Searcher::over(alloc, instance, &layout)?;
     searcher.search(alloc, piece, best, budget)
 }

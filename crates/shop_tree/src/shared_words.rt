@@ -1,8 +1,9 @@
 // Words that share their jobs with others.
 ghost use Rattle.std.specs.Prelude.{◌≡◌, ◌*◌, ◌≤◌, ◌<◌, ◌++◌, ◌∷◌, [], length, take, slice_index};
-ghost use Rattle.std.specs.Prelude.{IfOk};
+ghost use Rattle.std.specs.Prelude.{vec_capacity, IfOk, OnOk};
 ghost use Rattle.std.specs.Arc.{arc_slice_items};
 ghost use Rattle.shop_model.specs.declared.limits.TheConstants.{MAX_JOBS, MAX_STEPS};
+ghost use Rattle.shop_desk.specs.States.{with_last};
 ghost use Rattle.shop_tree.specs.SharedWords.{shared_word};
 
 use shop_model::Word;
@@ -116,4 +117,21 @@ impl SharedWord {
         }
         Ok(Word::of_jobs(jobs))
     }
+}
+
+/// Sets a list of jobs to a path, and one job more, if any. Fails with `AllocError` if memory runs out.
+pub(crate) fn set_word(
+    word: &mut Vec<u16>,
+    path: &[u16],
+    last: Option<u16>,
+) -> Result<(), AllocError>
+    ensures word { OnOk result (word.new.items ≡ with_last path.now last) }
+    ensures room { vec_capacity word.old ≤ vec_capacity word.new }
+{
+    word.clear();
+    word.extend_from_slice(path)?;
+    if let Some(job) = last {
+        word.push(job)?;
+    }
+    Ok(())
 }

@@ -1,129 +1,206 @@
-// The walk of the nodes of pieces, over a desk that is kept from one to the next.
-ghost use Rattle.std.specs.Prelude.{◌≡◌, ◌≤◌, ◌<◌, ◌^◌, length, vec_capacity, drop, [], OnOk, IfOk};
+// The walk of the nodes of pieces, over states that are kept from one to the next.
+ghost use Rattle.std.specs.Prelude.{◌≡◌, ◌≤◌, ◌<◌, ◌+◌, ◌^◌, length, vec_capacity, [], OnOk, IfOk, IsTrue};
+ghost use Rattle.shop_model.specs.Shop.{operation_count};
 ghost use Rattle.shop_tree.specs.Nodes.{IsNode, AreNodes};
 ghost use Rattle.shop_tree.specs.Sheets.{IsSheetOf, KeepsTables};
 ghost use Rattle.shop_heads.specs.Bound.{lb};
-ghost use Rattle.shop_tree.specs.Branching.{conflict};
 
+use crate::held::{Held, Kept, copy_waiting};
 use crate::left::{Halt, Left};
-use crate::moving::{go_to, undo_to};
 use crate::nodes::Node;
 use crate::opens::{Open, Waiting};
 use crate::pieces::Piece;
 use crate::progress::Progress;
-use crate::pushing::{gather_children, push_open, push_rest};
+use crate::pushing::{push_kept, push_rest};
+use crate::shared_words::set_word;
 use crate::sheets::Sheet;
-use shop_bound::Desk;
+use crate::walk_states::WalkStates;
+use shop_desk::{Candidate, Dispatching};
 use shop_model::{Instance, Word};
 use std::alloc::{AllocError, Global};
 use std::sync::ArcSlice;
 
-/// A walk with the desk and the lists that it takes: what waits, and room for the children and the jobs of a conflict
-/// set.
+/// A walk with its states and the lists that it takes: the word that it came to, what waits, and room for the children
+/// and the candidates of a word.
 #[derive(Drop)]
-pub(crate) struct Walker<'a> {
+pub(crate) struct Walker<'l, 'a, D: Dispatching> {
     pub(crate) progress: Progress<'a>,
-    pub(crate) desk: Desk<'a>,
-    pub(crate) stack: Vec<Waiting>,
-    pub(crate) children: Vec<Open>,
-    pub(crate) jobs: Vec<usize>,
-    pub ghost same_shop: { desk.shop ≡ progress.instance.now },
-    pub ghost room: { length progress.instance.now.jobs ≤ vec_capacity jobs },
+    pub(crate) states: WalkStates<'l, D>,
+    pub(crate) path: Vec<u16>,
+    pub(crate) stack: Vec<Held<D::State>>,
+    pub(crate) children: Vec<Kept<D::State>>,
+    pub(crate) candidates: Vec<Candidate>,
+    /// what waits below this place of the stack has no state
+    stripped: usize,
+    pub ghost same_shop: { D.shop states.dispatcher.now ≡ progress.instance.now },
+    pub ghost room: { length progress.instance.now.jobs ≤ vec_capacity candidates },
+    pub ghost path_room: { operation_count progress.instance.now ≤ vec_capacity path },
 }
 
-impl<'a> Walker<'a> {
+impl<'l, 'a, D: Dispatching> Walker<'l, 'a, D> {
     ghost use Rattle.shop_tree.specs.declared.opens.Waiting.TheVariants.{Child, Rest};
+    ghost use Rattle.shop_tree.specs.inner.Held.{IsHeldOf};
     ghost use Rattle.shop_tree.specs.inner.Leaving.{halted_words, IsHalt};
-    ghost use Rattle.shop_tree.specs.inner.Opens.{stack_words};
-    ghost use Rattle.shop_tree.specs.inner.Walkers.{stage_of, on_top, stack_walk, node_walk};
-    ghost use Rattle.shop_tree.specs.inner.Walkers.{IsInOrder, HasBranched, HasExpanded, HasWalked};
-    ghost use Rattle.shop_tree.specs.inner.Walkers.{HasFollowed, HasConflict, HasWalkedUpTo, IsTurn};
+    ghost use Rattle.shop_tree.specs.inner.Opens.{stack_words, word_at};
+    ghost use Rattle.shop_tree.specs.inner.StateWalkers.{stage_of, HasCandidates, HasStates};
+    ghost use Rattle.shop_tree.specs.inner.StateWalkers.{IsAtState, StandsAs};
+    ghost use Rattle.shop_tree.specs.inner.Walkers.{on_top, stack_walk, node_walk, IsInOrder};
+    ghost use Rattle.shop_tree.specs.inner.Walkers.{HasBranched, HasExpanded, HasWalked};
+    ghost use Rattle.shop_tree.specs.inner.Walkers.{HasFollowed, HasWalkedUpTo, IsTurn};
 
-    /// For pieces of this instance. Fails with `AllocError` if memory runs out.
-    pub(crate) fn new(alloc: Global, instance: &'a Instance) -> Result<Walker<'a>, AllocError>
-        ensures { IfOk result (λ s. s.desk.shop ≡ instance.now) }
+    /// For pieces of this instance, the dispatcher's, with at most so many states for children that wait. Fails with
+    /// `AllocError` if memory runs out.
+    pub(crate) fn new(
+        alloc: Global,
+        instance: &'a Instance,
+        dispatcher: &'l D,
+        most: usize,
+    ) -> Result<Walker<'l, 'a, D>, AllocError>
+        requires shop { D.shop dispatcher.now ≡ instance.now }
+        ensures instance { IfOk result (λ w. w.progress.instance.now ≡ instance.now) }
+        ensures states { IfOk result HasStates }
     {
         Ok(Walker {
             progress: Progress::new(instance),
-            desk: Desk::growing(alloc, instance)?,
+            states: WalkStates::new(alloc, dispatcher, most)?,
+            path: Vec::with_capacity(alloc, instance.operations())?,
             stack: Vec::new(alloc),
-            children: Vec::with_capacity(alloc, instance.jobs())?,
-            jobs: Vec::with_capacity(alloc, instance.jobs())?,
+            children: Vec::new(alloc),
+            candidates: Vec::with_capacity(alloc, instance.jobs())?,
+            stripped: 0,
         })
     }
 
-    /// Goes on from the desk's word, which was taken and has this bound, to its child and on, as long as the budget
-    /// lasts and there is one child alone: this has the same bound. Where the word that it comes to isn't full, its
-    /// conflict set is in the list of jobs.
+    /// Whether there is one child alone, and the budget lasts for it. The candidates are at hand.
+    fn goes_on(&self) -> bool
+        ensures { IsTrue result
+            → (length self.now.candidates.items ≡ 1) × (0 < self.now.progress.budget) }
+    {
+        self.candidates.len() == 1 && self.progress.budget > 0
+    }
+
+    /// Goes on from the word, which was taken and has this bound, to its child and on, as long as the budget lasts and
+    /// there is one child alone: this has the same bound. Where the word that it comes to isn't full, the candidates
+    /// are at hand.
     fn follow_sole(&mut self, bound: u64)
-        requires bound { bound ≡ lb self.old.desk.shop self.old.desk.word }
+        requires bound { bound ≡ lb self.old.progress.instance.now self.old.path.items }
         requires below { bound < self.old.progress.best }
         requires in_order { IsInOrder (stage_of self.old) }
+        requires states { HasStates self.old }
+        requires state { IsAtState self.old }
         ensures followed { HasFollowed (stage_of self.old) (stage_of self.new) }
-        ensures jobs { HasConflict self.new }
+        ensures candidates { HasCandidates self.new }
+        ensures states { HasStates self.new }
+        ensures state { IsAtState self.new }
     {
-        while self.desk.jobs().len() < self.progress.operations {
-            self.desk.gather_conflict(&mut self.jobs);
-            if self.jobs.len() != 1 || self.progress.budget == 0 {
+        while self.path.len() < self.progress.operations {
+            self.states.gather(&mut self.candidates);
+            if !self.goes_on() {
                 return;
             }
-            self.desk.keeps_word();
-            self.desk.sole_candidate_keeps_bound();
             self.progress.budget -= 1;
-            self.desk.dispatch(self.jobs[0]);
+            let job = self.candidates[0].job;
+            self.states.strike(job);
+            self.path.push(job).unwrap();
         }
     }
 
-    /// Puts the children of the desk's word on the stack, the first one on top; the word's bound and its conflict set
-    /// are at hand.
-    fn push_children(&mut self, bound: u64) -> Result<(), AllocError>
-        requires bound { bound ≡ lb self.old.desk.shop self.old.desk.word }
-        requires short { length self.old.desk.word < self.old.progress.operations }
-        requires jobs { self.old.jobs.items ≡ conflict self.old.desk.shop self.old.desk.word }
-        ensures { OnOk result (HasBranched (stage_of self.old) (stage_of self.new)) }
+    /// Takes back the state of what waits longest of all that may have one.
+    fn strip_next(&mut self) -> Result<(), AllocError>
+        requires within { self.old.stripped < length self.old.stack.items }
+        requires candidates { HasCandidates self.old }
+        requires states { HasStates self.old }
+        requires state { IsAtState self.old }
+        ensures stands { OnOk result (StandsAs self.old self.new) }
+        ensures later { self.new.stripped ≡ self.old.stripped + 1 }
+        ensures length { length self.new.stack.items ≡ length self.old.stack.items }
     {
-        self.desk.keeps_word();
-        let closed = gather_children(
+        let state = self.stack[self.stripped].state.take();
+        self.stripped += 1;
+        self.states.give_back(state)
+    }
+
+    /// Takes states back from what waits longest until there is one for each candidate, whose turns come first.
+    fn reclaim(&mut self) -> Result<(), AllocError>
+        requires candidates { HasCandidates self.old }
+        requires states { HasStates self.old }
+        requires state { IsAtState self.old }
+        ensures stands { OnOk result (StandsAs self.old self.new) }
+    {
+        self.stripped = self.stripped.min(self.stack.len());
+        while self.stripped < self.stack.len() && self.states.free() < self.candidates.len() {
+            self.strip_next()?;
+        }
+        Ok(())
+    }
+
+    /// Puts the children of the word on the stack, the first one on top; the word's bound and its candidates are at
+    /// hand.
+    fn push_children(&mut self, alloc: Global, bound: u64) -> Result<(), AllocError>
+        requires bound { bound ≡ lb self.old.progress.instance.now self.old.path.items }
+        requires short { length self.old.path.items < self.old.progress.operations }
+        requires candidates { HasCandidates self.old }
+        requires states { HasStates self.old }
+        requires state { IsAtState self.old }
+        ensures branched { OnOk result (HasBranched (stage_of self.old) (stage_of self.new)) }
+        ensures states { OnOk result (HasStates self.new) }
+    {
+        let closed = self.states.try_candidates(
+            alloc,
             &mut self.children,
-            &mut self.desk,
+            &mut self.candidates,
+            self.path.as_slice(),
             bound,
             self.progress.best,
-            &mut self.jobs,
         )?;
-        push_rest(&mut self.stack, self.desk.jobs().len(), closed)?;
-        push_open(&mut self.stack, self.children.as_slice())
+        push_rest(&mut self.stack, self.path.len(), closed)?;
+        push_kept(&mut self.stack, &mut self.children)
     }
 
-    /// Goes on from the desk's word, which was taken and whose bound is below the best: as far as there is one way
-    /// alone, then a full word is found, and the children of another one are put on the stack.
+    /// Goes on from the word, which was taken and whose bound is below the best: as far as there is one way alone, then
+    /// a full word is found, and the children of another one are put on the stack.
     fn expand(&mut self, alloc: Global, bound: u64) -> Result<(), AllocError>
-        requires bound { bound ≡ lb self.old.desk.shop self.old.desk.word }
+        requires bound { bound ≡ lb self.old.progress.instance.now self.old.path.items }
         requires below { bound < self.old.progress.best }
         requires in_order { IsInOrder (stage_of self.old) }
-        ensures { OnOk result (HasExpanded (stage_of self.old) (stage_of self.new)) }
+        requires states { HasStates self.old }
+        requires state { IsAtState self.old }
+        ensures expanded { OnOk result (HasExpanded (stage_of self.old) (stage_of self.new)) }
+        ensures states { OnOk result (HasStates self.new) }
     {
         self.follow_sole(bound);
-        if self.desk.jobs().len() < self.progress.operations {
-            return self.push_children(bound);
+        if self.path.len() < self.progress.operations {
+            self.reclaim()?;
+            return self.push_children(alloc, bound);
         }
-        let jobs = self.desk.jobs().to_vec(alloc)?;
+        let jobs = self.path.as_slice().to_vec(alloc)?;
         self.progress.found = Some(Word::of_jobs(jobs));
         self.progress.best = bound;
         Ok(())
     }
 
     /// Walks an open child, which lay on top of the stack, up to its own children: these are put on the stack.
-    fn walk_open(&mut self, alloc: Global, child: Open) -> Result<(), AllocError>
+    fn walk_open(
+        &mut self,
+        alloc: Global,
+        child: Open,
+        state: Option<Box<D::State>>,
+    ) -> Result<(), AllocError>
         requires some { 0 < self.old.progress.budget }
         requires on { IsInOrder (on_top (stage_of self.old) (Child child)) }
-        ensures { OnOk result (IsTurn (stage_of self.old) (Child child) (stage_of self.new)) }
+        requires state { IsHeldOf (D.IsStateOf self.old.states.dispatcher.now)
+            (word_at self.old.path.items child) state }
+        requires states { HasStates self.old }
+        ensures turn { OnOk result (IsTurn (stage_of self.old) (Child child) (stage_of self.new)) }
+        ensures states { OnOk result (HasStates self.new) }
     {
         self.progress.budget -= 1;
         if child.bound >= self.progress.best {
-            return Ok(());
+            return self.states.give_back(state);
         }
-        undo_to(&mut self.desk, child.depth as usize);
-        self.desk.dispatch(child.job as usize);
+        self.path.truncate(child.depth as usize);
+        self.path.push(child.job).unwrap();
+        self.states.go_on_in(state, self.path.as_slice())?;
         self.expand(alloc, child.bound)
     }
 
@@ -131,7 +208,10 @@ impl<'a> Walker<'a> {
     fn count_closed(&mut self, depth: u32, count: u32) -> Result<(), AllocError>
         requires some { 0 < self.old.progress.budget }
         requires on { IsInOrder (on_top (stage_of self.old) (Rest depth count)) }
-        ensures { OnOk result (IsTurn (stage_of self.old) (Rest depth count) (stage_of self.new)) }
+        requires states { HasStates self.old }
+        ensures turn { OnOk result
+            (IsTurn (stage_of self.old) (Rest depth count) (stage_of self.new)) }
+        ensures states { OnOk result (HasStates self.new) }
     {
         if self.progress.budget >= count as u64 {
             self.progress.budget -= count as u64;
@@ -139,22 +219,27 @@ impl<'a> Walker<'a> {
         }
         let count = count - self.progress.budget as u32;
         self.progress.budget = 0;
-        self.stack.push(Waiting::Rest { depth, count })?;
+        self.stack.push(Held {
+            waiting: Waiting::Rest { depth, count },
+            state: None,
+        })?;
         Ok(())
     }
 
     /// Walks what waits on the stack from its top on, depth first, as far as the budget goes.
     fn walk_stack(&mut self, alloc: Global) -> Result<(), AllocError>
-        requires { IsInOrder (stage_of self.old) }
-        ensures { OnOk result
+        requires in_order { IsInOrder (stage_of self.old) }
+        requires states { HasStates self.old }
+        ensures walked { OnOk result
             (HasWalked (stage_of self.old) (stage_of self.new) (stack_walk (stage_of self.old))) }
+        ensures states { OnOk result (HasStates self.new) }
     {
         while self.progress.budget > 0 {
-            let Some(waiting) = self.stack.pop() else {
+            let Some(held) = self.stack.pop() else {
                 return Ok(());
             };
-            match waiting {
-                Waiting::Child(child) => self.walk_open(alloc, child)?,
+            match held.waiting {
+                Waiting::Child(child) => self.walk_open(alloc, child, held.state)?,
                 Waiting::Rest { depth, count } => self.count_closed(depth, count)?,
             }
         }
@@ -166,14 +251,18 @@ impl<'a> Walker<'a> {
         requires some { 0 < self.old.progress.budget }
         requires node { IsNode self.old.progress.instance.now node.now }
         requires empty { self.old.stack.items ≡ [] }
-        ensures { OnOk result (HasWalked (stage_of self.old) (stage_of self.new)
+        requires states { HasStates self.old }
+        ensures walked { OnOk result (HasWalked (stage_of self.old) (stage_of self.new)
             (node_walk (stage_of self.old) node.now)) }
+        ensures states { OnOk result (HasStates self.new) }
     {
         self.progress.budget -= 1;
         if node.bound >= self.progress.best {
             return Ok(());
         }
-        go_to(&mut self.desk, &node.word);
+        let (path, last) = node.word.parts();
+        set_word(&mut self.path, path, last)?;
+        self.states.fill(path, last);
         self.expand(alloc, node.bound)?;
         self.walk_stack(alloc)
     }
@@ -182,9 +271,11 @@ impl<'a> Walker<'a> {
     fn walk_nodes(&mut self, alloc: Global, nodes: &[Node]) -> Result<usize, AllocError>
         requires nodes { AreNodes self.old.progress.instance.now nodes.now }
         requires empty { self.old.stack.items ≡ [] }
+        requires states { HasStates self.old }
         ensures walked { IfOk result
             (λ k. HasWalkedUpTo (stage_of self.old) (stage_of self.new) nodes.now k) }
         ensures ended { IfOk result (λ k. 0 < self.new.progress.budget → length nodes.now ≤ k) }
+        ensures states { OnOk result (HasStates self.new) }
     {
         let mut taken = 0;
         while taken < nodes.len() && self.progress.budget > 0 {
@@ -194,18 +285,34 @@ impl<'a> Walker<'a> {
         Ok(taken)
     }
 
+    /// Takes all that waits off the stack, and keeps its states for later.
+    fn clear(&mut self) -> Result<(), AllocError>
+        requires states { HasStates self.old }
+        ensures empty { OnOk result (self.new.stack.items ≡ []) }
+        ensures instance { OnOk result
+            (self.new.progress.instance.now ≡ self.old.progress.instance.now) }
+        ensures states { OnOk result (HasStates self.new) }
+    {
+        while let Some(held) = self.stack.pop() {
+            self.states.give_back(held.state)?;
+        }
+        Ok(())
+    }
+
     /// Where the walk halted, if anything waits.
     fn halt(&self, alloc: Global) -> Result<Option<Halt>, AllocError>
-        requires { IsInOrder (stage_of self.now) }
-        ensures words { IfOk result (λ h. halted_words self.now.desk.shop h
-            ≡ stack_words self.now.desk.shop self.now.desk.word self.now.stack.items) }
-        ensures halt { IfOk result (λ h. IsHalt self.now.desk.shop self.now.progress.best h) }
+        requires in_order { IsInOrder (stage_of self.now) }
+        ensures words { IfOk result (λ h. halted_words self.now.progress.instance.now h
+            ≡ stack_words self.now.progress.instance.now self.now.path.items
+            (stage_of self.now).stack) }
+        ensures halt { IfOk result
+            (λ h. IsHalt self.now.progress.instance.now self.now.progress.best h) }
     {
         if self.stack.is_empty() {
             return Ok(None);
         }
-        let path = ArcSlice::from_slice(alloc, self.desk.jobs())?;
-        let waiting = self.stack.to_vec(alloc)?;
+        let path = ArcSlice::from_slice(alloc, self.path.as_slice())?;
+        let waiting = copy_waiting(alloc, self.stack.as_slice())?;
         Ok(Some(Halt { path, waiting }))
     }
 
@@ -217,13 +324,18 @@ impl<'a> Walker<'a> {
         best: u64,
         budget: u64,
     ) -> Result<Sheet<'a>, AllocError>
-        requires nodes { AreNodes self.old.desk.shop piece.now.nodes.items }
+        requires nodes { AreNodes self.old.progress.instance.now piece.now.nodes.items }
         requires small { budget < 2 ^ 50 }
-        ensures of { IfOk result (λ s. IsSheetOf s self.old.desk.shop piece.now best budget) }
-        ensures keeps { IfOk result (λ s. KeepsTables self.old.desk.shop piece.now best s) }
-        ensures shop { OnOk result (self.new.desk.shop ≡ self.old.desk.shop) }
+        requires states { HasStates self.old }
+        ensures of { IfOk result
+            (λ s. IsSheetOf s self.old.progress.instance.now piece.now best budget) }
+        ensures keeps { IfOk result
+            (λ s. KeepsTables self.old.progress.instance.now piece.now best s) }
+        ensures instance { OnOk result
+            (self.new.progress.instance.now ≡ self.old.progress.instance.now) }
+        ensures states { OnOk result (HasStates self.new) }
     {
-        self.stack.clear();
+        self.clear()?;
         self.progress.begin(best, budget);
         let nodes = piece.nodes.as_slice();
         let index = self.walk_nodes(alloc, nodes)?;

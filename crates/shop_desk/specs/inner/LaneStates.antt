@@ -1,7 +1,8 @@
 -- What is kept of a word in lanes.
 --     rows_of l heads ends           heads and ends of a state, with the times and tails of the layout
 --     AreHeadsInLanes greatest shop w ..   the heads of what the word leaves, one number a position
---     IsKeptInLanes greatest shop w ..     these, its next operations and their ends
+--     IsKeptInLanes greatest shop w ..     these, its next operations and their ends, and that a sole
+--                                          candidate keeps its bound
 --     HasRoom shop l heads ends nexts      there is room for these
 use Rattle.std.specs.Prelude.{◌≡◌, ℕ, ◌≤◌, ◌<◌, ◌^◌, List, [], ◌∷◌, ◌++◌, length, slice_index}
 use Rattle.std.specs.Prelude.{slice_set}
@@ -9,6 +10,7 @@ use Rattle.shop_lanes.specs.Rows.{Rows, with_end}
 use Rattle.shop_model.specs.Limits.{IsWithinLimits}
 use Rattle.shop_model.specs.Shop.{Shop}
 use Rattle.shop_model.specs.Word.{IsWord, placing}
+use Rattle.shop_heads.specs.Conflicts.{SoleCandidateKeepsBound}
 use Rattle.shop_desk.specs.inner.HeadLimits.{FitsLanes}
 use Rattle.shop_desk.specs.inner.LaneChoices.{AreEndsAt, AreNextsOf}
 use Rattle.shop_desk.specs.inner.LaneEnds.{IsEndOf, end_at}
@@ -36,6 +38,7 @@ pub record IsKeptInLanes (greatest : ℕ) (shop : Shop) (w : List ℕ) (l : Layo
   pub are_next : AreNextsOf shop (placing shop w) l nexts
   pub ends : AreEndsAt greatest shop (placing shop w) rows.ends
   pub holds : FitsLanes greatest shop l
+  pub sole : SoleCandidateKeepsBound shop w
 
 pub record HasRoom (shop : Shop) (l : LayoutState) (heads ends nexts : List ℕ) : Type 0 where
   pub positions : length heads ≡ first_position l shop.machines

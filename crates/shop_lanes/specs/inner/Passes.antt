@@ -4,10 +4,10 @@
 --     greatest xs                    the greatest number, 0 if there is none
 --     least_up_to top xs             the least of the numbers and `top`
 --     is_between above upto x        x is above the one and at most the other
-use Rattle.std.specs.Prelude.{take, ◌≡◌, ◌≢◌, ℕ, ◌+◌, ◌-◌, ◌%◌, drop, replicate, ◌<◌, ◌≤◌, length}
+use Rattle.std.specs.Prelude.{◌≡◌, ◌≢◌, ℕ, ◌+◌, ◌-◌, ◌%◌, drop, replicate, ◌<◌, ◌≤◌, length}
 use Rattle.std.specs.Prelude.{min, max, Bool, ◌&&◌, List, [], ◌∷◌, if◌then◌else◌, nat_le, nat_lt}
 use Rattle.std.specs.Prelude.{get_or, map, slice_index}
-use Rattle.shop_lanes.specs.Rows.{Rows, Lane, lanes}
+use Rattle.shop_lanes.specs.Rows.{Lane, lanes}
 use Rattle.shop_lanes.specs.Spans.{span, spans_between, FitsSpan}
 
 abbrev pub clock_after : ℕ → ℕ → List Lane → ℕ
@@ -55,15 +55,6 @@ IsSplat xs = xs ≡ replicate 8 (first_of xs)
 -- the lanes of three rows, whose elements stand for these numbers
 abbrev pub lanes_by : {A : Type 0} → (A → ℕ) → List A → List A → List A → List Lane
 lanes_by value heads times tails = lanes (map value heads) (map value times) (map value tails)
-
-abbrev pub rows_of_lists : List ℕ → List ℕ → List ℕ → List ℕ → Rows
-rows_of_lists heads times tails ends =
-    record { heads = heads; times = times; tails = tails; ends = ends }
-
--- rows of elements that stand for these numbers, with the ends of so many jobs
-abbrev pub seen : {A : Type 0} → (A → ℕ) → List A → List A → List A → ℕ → List A → Rows
-seen value heads times tails jobs ends =
-    rows_of_lists (map value heads) (map value times) (map value tails) (take jobs (map value ends))
 
 abbrev pub AreSmallBy : {A : Type 0} → (A → ℕ) → List A → List A → List A → List ℕ → ℕ → Type 0
 AreSmallBy value heads times tails marks limit =

@@ -23,14 +23,13 @@
 --                                            these entries were moved up by one
 --     AreChildren shop limit word opens n    the children of word with bounds below the limit, the
 --                                            first one last, and how many others there are
---     AreChildrenOf desk limit opens n       the same of the desk's word
+--     IsChildList shop word opens            all children of word, the first one last
 use Rattle.std.specs.Prelude.{◌≡◌, ℕ, ◌+◌, ◌-◌, ◌≤◌, ◌<◌, List, [], ◌∷◌, ◌++◌, length, map, reverse}
 use Rattle.std.specs.Prelude.{take, drop, slice_index_or}
 use Rattle.std.specs.List.{AllByRecursion, insert}
 use Rattle.shop_model.specs.Shop.{Shop, operation_count}
 use Rattle.shop_model.specs.Word.{IsWord}
 use Rattle.shop_heads.specs.Bound.{lb}
-use Rattle.shop_bound.specs.Desks.{DeskState}
 use Rattle.shop_tree.specs.Branching.{branch}
 use Rattle.shop_tree.specs.declared.opens.Open.{Open}
 use Rattle.shop_tree.specs.declared.opens.Waiting.{Waiting}
@@ -118,5 +117,7 @@ pub record AreChildren (shop : Shop) (limit : ℕ) (word : List ℕ) (opens : Li
   pub each : AllByRecursion (IsOpen shop word) opens
   pub depth : AllByRecursion (λ o. o.depth ≡ length word) opens
 
-abbrev pub AreChildrenOf : DeskState → ℕ → List Open → ℕ → Type 0
-AreChildrenOf desk limit opens n = AreChildren desk.shop limit desk.word opens n
+pub record IsChildList (shop : Shop) (word : List ℕ) (opens : List Open) : Type 0 where
+  pub words : reverse (open_words word opens) ≡ branch shop word
+  pub each : AllByRecursion (IsOpen shop word) opens
+  pub depth : AllByRecursion (λ o. o.depth ≡ length word) opens

@@ -1,7 +1,6 @@
 -- Where a walk stands, and what its turns come to.
 --     Stage                        the instance, the word that the walk came to, what it carries,
 --                                  and what waits on its stack
---     stage_of w                   where a walker stands
 --     stack_walk s                 the walk of all that waits
 --     walk_on s                    the walk that goes on from the word, and then from what waits
 --     IsInOrder s                  all that waits is told rightly
@@ -26,21 +25,12 @@ use Rattle.shop_tree.specs.Walking.{Walk, walk}
 use Rattle.shop_tree.specs.Nodes.{words_of}
 use Rattle.shop_tree.specs.declared.nodes.Node.{Node}
 use Rattle.shop_tree.specs.declared.opens.Waiting.{Waiting}
-use Rattle.shop_tree.specs.declared.walkers.Walker.{Walker}
 
 pub record Stage : Type 0 where
   pub shop : Shop
   pub word : List ℕ
   pub walk : Walk
   pub stack : List Waiting
-
-abbrev pub stage_of : Walker → Stage
-stage_of w = record {
-  shop = w.desk.shop;
-  word = w.desk.word;
-  walk = walked w.progress;
-  stack = w.stack.items;
-}
 
 abbrev pub stack_walk : Stage → Walk
 stack_walk s = walk_stack s.shop s.word s.walk s.stack
@@ -71,10 +61,6 @@ pub record HasFollowed (s t : Stage) : Type 0 where
   pub spent : t.walk.budget ≤ s.walk.budget
   pub best : t.walk.best ≡ s.walk.best
   pub stack : t.stack ≡ s.stack
-
-abbrev pub HasConflict : Walker → Type 0
-HasConflict w = length w.desk.word < operation_count w.desk.shop
-    → w.jobs.items ≡ conflict w.desk.shop w.desk.word
 
 pub record HasBranched (s t : Stage) : Type 0 where
   pub stack : Adds s.shop s.walk.best s.word s.stack t.stack

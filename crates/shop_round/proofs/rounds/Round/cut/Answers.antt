@@ -7,7 +7,7 @@ use Rattle.shop_round.proofs.Covering.{cut_covers}
 use Rattle.shop_round.proofs.CutLemmas.{IsCut, cut_told, cut_pieces_are, cut_few, cut_round, cut_rest}
 use Rattle.shop_round.proofs.rounds.Round.cut.Goals as goal
 
-is_cut : (c : goal.In_ok-pieces)
+is_cut : (c : goal.In_ok-layout)
     → IsCut (planned c.args.plan.now) c.args.standing c.put_in_order.new.nodes.items c.min.result
     c.least_bound-bound.result c.in_ok-pieces.pieces.items c.in_ok-rest.rest.items
 is_cut c =
@@ -35,6 +35,7 @@ invariant_of-result c =
     in let rest = c.in_ok-rest.rest.items
     in let left = c.requires.rounds
     in record {
+      layout_of = c.in_ok-layout.ensures;
       numbered = c.in_ok-pieces.ensures.numbers;
       nodes_of_pieces = cut_pieces_are shop plan c.args.standing nodes c.min.result c.least_bound-bound.result ps rest
           c.requires.standing (is_cut c);

@@ -25,6 +25,7 @@ invariant_of-round c =
       pieces = c.in_ok-pieces.ensures.nodes;
     }
     in record {
+      layout_of = c.requires.layout;
       numbered = c.in_ok-pieces.ensures.numbers;
       nodes_of_pieces = front_pieces shop plan c.args.self bound front ps c.requires.search cut;
       nodes_of_rest = subst (AreNodes shop) (sym c.new.ensures.items) (λ k d h. absurd (omega arith));

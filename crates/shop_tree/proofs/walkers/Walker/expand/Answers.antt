@@ -1,53 +1,49 @@
-use Rattle.std.proofs.Common.{◌≡◌, ◌∙◌, ◌≤◌, ◌<◌, ℕ, List, length, sym, ap, arith, rules}
+use Rattle.std.proofs.Common.{◌≡◌, ◌≤◌, ◌<◌, ◌∙◌, length, sym, ap, subst, arith, rules}
 use Rattle.shop_model.specs.Shop.{operation_count}
 use Rattle.shop_heads.specs.Bound.{lb}
-use Rattle.shop_tree.specs.inner.Walkers.{HasExpanded, stage_of}
+use Rattle.shop_tree.specs.inner.StateWalkers.{stage_of}
+use Rattle.shop_tree.specs.inner.Walkers.{Stage, HasBranched, HasExpanded}
 use Rattle.shop_tree.proofs.ListLemmas.{on_ok}
 use Rattle.shop_tree.proofs.ExpandLemmas.{expands_branched, expands_followed, found_followed}
 use Rattle.shop_tree.proofs.walkers.Walker.expand.Goals as goal
 
 pub push_children-requires-clause-bound : goal.push_children-requires-clause-bound
-push_children-requires-clause-bound c = c.requires.bound ∙ sym c.follow_sole.ensures.followed.bound
+push_children-requires-clause-bound g c = c.requires.bound ∙ (sym c.follow_sole.ensures.followed.bound
+    ∙ sym (ap (λ (t : Stage). lb t.shop t.word) c.in_ok-reclaim.ensures.stands.stage))
 
 pub push_children-requires-clause-short : goal.push_children-requires-clause-short
-push_children-requires-clause-short c =
-    let jobs : length c.jobs.result.now ≡ length c.follow_sole.new.self.desk.word = ap (λ (w : List ℕ). length w)
-    c.jobs.ensures
-    in let a = c.if-jobs-self.true in omega arith
-
-pub push_children-requires-clause-jobs : goal.push_children-requires-clause-jobs
-push_children-requires-clause-jobs c =
+push_children-requires-clause-short g c =
     let mid = c.follow_sole.new.self
-    in let jobs : length c.jobs.result.now ≡ length mid.desk.word = ap (λ (w : List ℕ). length w) c.jobs.ensures
-    in let count : operation_count mid.desk.shop ≡ operation_count mid.progress.instance.now = ap operation_count
-    mid.same_shop
-    in c.follow_sole.ensures.jobs (let a = c.if-jobs-self.true in let b = mid.progress.counted in omega arith)
+    in let at = c.reclaim.new.self
+    in let same = c.in_ok-reclaim.ensures.stands.stage
+    in let word : length at.path.items ≡ length mid.path.items = ap (λ (t : Stage). length t.word) same
+    in let operations : operation_count at.progress.instance.now ≡ operation_count mid.progress.instance.now =
+    ap (λ (t : Stage). operation_count t.shop) same
+    in let a = c.if-len-self.true in let b = c.len.ensures in let d = mid.path.ok.0
+    in let e = mid.progress.counted in let f = at.progress.counted in omega arith
 
-pub returns-then-jobs-self : goal.returns-then-jobs-self
-returns-then-jobs-self c =
+pub returns-then-len-self-clause-expanded : goal.returns-then-len-self-clause-expanded
+returns-then-len-self-clause-expanded g c =
     let s = stage_of c.args.self.now
     in let mid = c.follow_sole.new.self
     in let followed = c.follow_sole.ensures.followed
-    in let jobs : length c.jobs.result.now ≡ length mid.desk.word = ap (λ (w : List ℕ). length w) c.jobs.ensures
-    in let count : operation_count mid.desk.shop ≡ operation_count mid.progress.instance.now = ap operation_count
-    mid.same_shop
-    in let short : length mid.desk.word < operation_count mid.desk.shop = (let a = c.if-jobs-self.true
-    in let b = mid.progress.counted in omega arith)
-    in on_ok _ (HasExpanded s (stage_of c.push_children.new.self))
-    (λ b. expands_followed s (stage_of mid) (stage_of c.push_children.new.self) followed
-    (expands_branched (stage_of mid) (stage_of c.push_children.new.self) short followed.in_order b))
-    c.push_children.result c.push_children.ensures
+    in let new = stage_of c.push_children.new.self
+    in let short : length mid.path.items < operation_count mid.progress.instance.now = (let a = c.if-len-self.true
+    in let b = c.len.ensures in let d = mid.path.ok.0 in let e = mid.progress.counted in omega arith)
+    in on_ok _ (HasExpanded s new)
+    (λ b. expands_followed s (stage_of mid) new followed
+    (expands_branched (stage_of mid) new short followed.in_order
+    (subst (λ (t : Stage). HasBranched t new) c.in_ok-reclaim.ensures.stands.stage b)))
+    c.push_children.result c.push_children.ensures.branched
 
-pub returns : goal.returns
-returns c =
+pub returns-clause-expanded : goal.returns-clause-expanded
+returns-clause-expanded g c =
     let mid = c.follow_sole.new.self
     in let followed = c.follow_sole.ensures.followed
-    in let jobs : length c.jobs.result.now ≡ length mid.desk.word = ap (λ (w : List ℕ). length w) c.jobs.ensures
-    in let count : operation_count mid.desk.shop ≡ operation_count mid.progress.instance.now = ap operation_count
-    mid.same_shop
-    in let long : operation_count mid.desk.shop ≤ length mid.desk.word = (let a = c.if-jobs-self.false
-    in let b = mid.progress.counted in omega arith)
-    in let bound : c.args.bound ≡ lb mid.desk.shop mid.desk.word = c.requires.bound ∙ sym followed.bound
-    in let below : lb mid.desk.shop mid.desk.word < mid.progress.best = (let a = c.requires.below
+    in let long : operation_count mid.progress.instance.now ≤ length mid.path.items = (let a = c.if-len-self.false
+    in let b = c.len.ensures in let d = mid.path.ok.0 in let e = mid.progress.counted in omega arith)
+    in let bound : c.args.bound ≡ lb mid.progress.instance.now mid.path.items = (let a = c.requires.bound
+    in let b = followed.bound in omega arith)
+    in let below : lb mid.progress.instance.now mid.path.items < mid.progress.best = (let a = c.requires.below
     in let b = followed.best in omega arith)
     in found_followed (stage_of c.args.self.now) (stage_of mid) _ followed long below (search rules)

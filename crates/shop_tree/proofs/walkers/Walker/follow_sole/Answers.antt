@@ -1,41 +1,81 @@
-use Rattle.std.proofs.Common.{◌≡◌, ◌∷◌, ◌∙◌, ◌<◌, [], ℕ, List, length, sym, ap, subst, arith}
-use Rattle.shop_model.specs.Shop.{operation_count}
+use Rattle.std.proofs.Common.{◌≡◌, ◌++◌, ◌∷◌, ◌∙◌, ◌<◌, [], ℕ, List, length, refl, sym, ap, subst, arith}
+use Rattle.shop_model.specs.Shop.{Shop, operation_count}
 use Rattle.shop_heads.specs.Bound.{lb}
-use Rattle.shop_bound.specs.Desks.{DeskState}
+use Rattle.shop_heads.specs.Conflicts.{SoleCandidateKeepsBound}
 use Rattle.shop_tree.specs.Branching.{conflict}
+use Rattle.shop_tree.specs.inner.Held.{waiting_in}
 use Rattle.shop_tree.specs.inner.Searching.{walked}
-use Rattle.shop_tree.specs.inner.Walkers.{HasFollowed, stage_of}
-use Rattle.shop_tree.proofs.ChildrenLemmas.{child-word}
-use Rattle.shop_tree.proofs.PushLemmas.{one_alone}
+use Rattle.shop_tree.specs.inner.StateWalkers.{stage_of, AreHeld}
+use Rattle.shop_tree.specs.inner.Walkers.{HasFollowed, Stage}
 use Rattle.shop_tree.proofs.ExpandLemmas.{follows_one, followed_then, spent_one}
+use Rattle.shop_tree.proofs.StateLemmas.{alone_in, gathered, held_on, same_alone, same_state, sole_candidate}
 use Rattle.shop_tree.proofs.walkers.Walker.follow_sole.Goals as goal
 
-pub dispatch-requires : goal.dispatch-requires
-dispatch-requires c =
+pub returns-then-not-goes_on-clause-candidates : goal.returns-then-not-goes_on-clause-candidates
+returns-then-not-goes_on-clause-candidates g c =
     let self = c.loop-self.self
-    in let job = c.index.result.now
-    in let long : length c.gather_conflict.new.jobs.items ≡ 1 = omega arith
-    in let alone : conflict self.desk.shop self.desk.word ≡ job ∷ [] = sym c.gather_conflict.ensures.jobs
-    ∙ (one_alone c.gather_conflict.new.jobs.items _ long ∙ ap (λ (j : ℕ). j ∷ []) (sym c.index.ensures))
-    in child-word self.desk.shop self.desk.word c.keeps_word.ensures.word [] [] job (sym alone)
+    in let d = self.states.dispatcher.now
+    in let word = self.path.items
+    in let state = c.loop-self.invariant.state
+    in λ short. gathered g.D.Dispatching d c.gather.new.self.dispatcher.now word c.gather.new.candidates.items
+    c.gather.ensures.dispatcher (c.gather.ensures.jobs word state) (c.gather.ensures.are word state)
+    (c.gather.ensures.lower word state)
+
+pub strike-requires-clause-sole : goal.strike-requires-clause-sole
+strike-requires-clause-sole g c =
+    let self = c.loop-self.self
+    in let d = self.states.dispatcher.now
+    in let word = self.path.items
+    in let state = c.loop-self.invariant.state
+    in let alone = alone_in (g.D.Dispatching.shop d) word c.gather.new.candidates.items c.index.result.now _
+    (c.gather.ensures.jobs word state) (c.if-not-goes_on.ensures refl).0 c.index.ensures
+    in sole_candidate g.D.Dispatching d c.gather.new.self.dispatcher.now word self.states.current.value
+    c.gather.new.self.current.value c.gather.ensures.dispatcher c.gather.ensures.current state c.index.result.now.job
+    alone
 
 pub loop-self-preserved : goal.loop-self-preserved
-loop-self-preserved c =
+loop-self-preserved g c =
     let self = c.loop-self.self
     in let now = c.loop-self.invariant
-    in let job = c.index.result.now
-    in let long : length c.gather_conflict.new.jobs.items ≡ 1 = omega arith
-    in let alone : conflict self.desk.shop self.desk.word ≡ job ∷ [] = sym c.gather_conflict.ensures.jobs
-    ∙ (one_alone c.gather_conflict.new.jobs.items _ long ∙ ap (λ (j : ℕ). j ∷ []) (sym c.index.ensures))
-    in let count : operation_count self.desk.shop ≡ self.progress.operations = ap operation_count self.same_shop
-    ∙ sym self.progress.counted
-    in let short : length self.desk.word < operation_count self.desk.shop =
-    (let a = c.loop-self-test.true in let b = ap (λ (w : List ℕ). length w) c.jobs.ensures in omega arith)
-    in let below : lb self.desk.shop self.desk.word < self.progress.best =
-    (let a = now.bound in let b = now.best in let d = c.requires.bound in let e = c.requires.below in omega arith)
-    in followed_then (stage_of c.args.self.now) (stage_of self) _ now
-    (subst (λ (d : DeskState). HasFollowed (stage_of self)
-    (record { shop = d.shop; word = d.word; walk = spent_one (walked self.progress); stack = self.stack.items }))
-    (sym c.dispatch.ensures)
-    (follows_one (stage_of self) job short alone c.sole_candidate_keeps_bound.ensures
-    (let a = c.if-self-eq0.false in omega arith) below now.in_order))
+    in let d = self.states.dispatcher.now
+    in let e = c.strike.new.self.dispatcher.now
+    in let shop = self.progress.instance.now
+    in let word = self.path.items
+    in let job = c.index.result.now.job
+    in let alone = alone_in (g.D.Dispatching.shop d) word c.gather.new.candidates.items c.index.result.now _
+    (c.gather.ensures.jobs word now.state) (c.if-not-goes_on.ensures refl).0 c.index.ensures
+    in let went : c.push.new.self.items ≡ word ++ job ∷ [] = rw c.unwrap.ensures at c.push.ensures.items
+    in let short : length word < operation_count shop = (let a = c.loop-self-test.true in let b = c.len.ensures
+    in let f = self.path.ok.0 in let h = self.progress.counted in omega arith)
+    in let below : lb shop word < self.progress.best = (let a = now.followed.bound in let b = now.followed.best
+    in let f = c.requires.bound in let h = c.requires.below in omega arith)
+    in let keeps : SoleCandidateKeepsBound shop word = subst (λ (x : Shop). SoleCandidateKeepsBound x word)
+    self.same_shop (g.met.D.Dispatching.sole_keeps_bound d word self.states.current.value now.state)
+    in let hs = self.stack.items
+    in let at : List ℕ → Stage = λ w. record {
+      shop = shop;
+      word = w;
+      walk = spent_one (walked self.progress);
+      stack = waiting_in hs;
+    }
+    in record {
+      followed = followed_then (stage_of c.args.self.now) (stage_of self) (at c.push.new.self.items) now.followed
+          (subst (λ (w : List ℕ). HasFollowed (stage_of self) (at w)) (sym went)
+          (follows_one (stage_of self) job short (ap (λ (x : Shop). conflict x word) (sym self.same_shop) ∙ alone) keeps
+          (c.if-not-goes_on.ensures refl).1 below now.followed.in_order));
+      states = record {
+        held = subst (λ (w : List ℕ). AreHeld (g.D.Dispatching.IsStateOf e) w hs) (sym went)
+            (held_on (g.D.Dispatching.IsStateOf e) shop self.progress.best word job hs now.followed.in_order
+            (subst (λ x. AreHeld (g.D.Dispatching.IsStateOf x) word hs)
+            (sym (c.strike.ensures.dispatcher ∙ c.gather.ensures.dispatcher)) now.states.held));
+        states = c.strike.ensures.sound;
+      };
+      state = subst (λ (w : List ℕ). g.D.Dispatching.IsStateOf e w c.strike.new.self.current.value) (sym went)
+          (subst (λ x. g.D.Dispatching.IsStateOf x (word ++ job ∷ []) c.strike.new.self.current.value)
+          (sym c.strike.ensures.dispatcher)
+          (c.strike.ensures.state word
+          (same_state g.D.Dispatching d c.gather.new.self.dispatcher.now word self.states.current.value
+          c.gather.new.self.current.value c.gather.ensures.dispatcher c.gather.ensures.current now.state)
+          (same_alone g.D.Dispatching d c.gather.new.self.dispatcher.now word self.states.current.value
+          c.gather.new.self.current.value c.gather.ensures.dispatcher c.gather.ensures.current now.state job alone)));
+    }

@@ -1,8 +1,13 @@
-use Rattle.shop_tree.specs.inner.Walkers.{HasFollowed, stage_of}
+use Rattle.shop_tree.specs.inner.StateWalkers.{stage_of, HasStates, IsAtState}
+use Rattle.shop_tree.specs.inner.Walkers.{HasFollowed}
 use Rattle.shop_tree.proofs.walkers.Walker.follow_sole.Given as goal
 
 abbrev pub invariant-loop-self : goal.invariant-loop-self
-invariant-loop-self l = HasFollowed (stage_of l.fn.self) (stage_of l.self)
+invariant-loop-self g l = record {
+  followed : HasFollowed (stage_of l.fn.self) (stage_of l.self);
+  states : HasStates l.self;
+  state : IsAtState l.self;
+}
 
 abbrev pub decreases-loop-self : goal.decreases-loop-self
-decreases-loop-self l = l.self.progress.budget
+decreases-loop-self g l = l.self.progress.budget

@@ -1,5 +1,0 @@
-use Rattle.shop_bound.proofs.JobSets.{no_members}
-use Rattle.shop_bound.proofs.job_sets.JobSet.new.Goals as goal
-
-pub returns : goal.returns
-returns c = no_members 16 0

@@ -1,0 +1,322 @@
+-- Own spans tell the bound after each candidate of a word.
+use Rattle.std.proofs.Common.{◌≡◌, ℕ, zero, suc, ◌+◌, ◌-◌, ◌*◌, ◌≤◌, ◌<◌, max, inl, inr, true, List, [], ◌∷◌, ◌++◌}
+use Rattle.std.proofs.Common.{length, get_or, drop, refl, sym, ◌∙◌, ap, subst, arith, eqb}
+use Rattle.std.specs.List.{All}
+use Rattle.std.specs.Prelude.{map}
+use Rattle.std.proofs.lemmas.Bool.{and_parts, cases_Bool, cases_lt, eqb-true}
+use Rattle.std.proofs.lemmas.Grind.{same_number_lists}
+use Rattle.std.proofs.lemmas.List.{length-map, get_or-map}
+use Rattle.std.proofs.lemmas.List.Elements.{All-drop, All-take}
+use Rattle.shop_lanes.specs.Rows.{AreBlocks, Lane, Rows, lanes, lanes_between, blocks}
+use Rattle.shop_lanes.specs.Spans.{AreOwnSpans, FitOwnSpans, own_span}
+use Rattle.shop_model.specs.Limits.{IsWithinLimits}
+use Rattle.shop_model.specs.Shop.{Shop, machine_of}
+use Rattle.shop_model.specs.Word.{Placing, IsWord, placing}
+use Rattle.shop_heads.specs.Bound.{lb}
+use Rattle.shop_heads.specs.Conflicts.{chosen_of, conflict, conflict_among, conflicts_with, next_machine, open_jobs}
+use Rattle.shop_desk.specs.inner.Advances.{IsAdvancing, foreseen}
+use Rattle.shop_desk.specs.inner.Candidates.{AreCandidatesOf, IsCandidateOf, IsTold, own_at, told_at}
+use Rattle.shop_desk.specs.inner.Dispatchers.{DispatcherState}
+use Rattle.shop_desk.specs.inner.HeadLimits.{latest_end}
+use Rattle.shop_desk.specs.inner.LaneBounds.{AreSpansFit, lanes_on}
+use Rattle.shop_desk.specs.inner.LaneHeads.{AreHeadsAt}
+use Rattle.shop_desk.specs.inner.LaneStates.{IsKeptInLanes, rows_of}
+use Rattle.shop_desk.specs.inner.Layouts.{IsLaidOut, LayoutState, first_position, place}
+use Rattle.shop_desk.specs.inner.RisingLists.{IsIn}
+use Rattle.shop_desk.specs.declared.dispatching.Candidate.{Candidate}
+use Rattle.shop_desk.proofs.Candidates.{advancing, candidate_fits, foreseen_least, is_in_at}
+use Rattle.shop_desk.proofs.ChildRaises.{heads_small}
+use Rattle.shop_desk.proofs.ChildReads.{head_here, is_operation, machine_here}
+use Rattle.shop_desk.proofs.LaidPlaces.{each_position, place_of}
+use Rattle.shop_desk.proofs.LaneConflicts.{in_filter}
+use Rattle.shop_desk.proofs.LaneFits.{spans_fit}
+use Rattle.shop_desk.proofs.StateSteps.{next_at, next_known, within}
+
+-- heads of one placing are one list
+module _ (shop : Shop) (limits : IsWithinLimits shop) (l : LayoutState) (laid : IsLaidOut shop l) (p : Placing)
+    (hs ks : List ℕ) (a : AreHeadsAt shop p l hs) (b : AreHeadsAt shop p l ks) where
+  head_same : (q : ℕ) → get_or hs q 0 ≡ get_or ks q 0
+  head_same q = elim (each_position shop limits l laid q) [
+    | inl o ↦ (let c = ap (λ (x : ℕ). get_or hs x 0) o.at in let d = ap (λ (x : ℕ). get_or ks x 0) o.at
+        in elim (cases_lt o.step (p.steps o.job)) [
+          | inl before ↦ (let e = a.placed o.job o.step o.is before in let f = b.placed o.job o.step o.is before
+              in omega arith)
+          | inr opened ↦ (let e = a.waiting o.job o.step o.is opened in let f = b.waiting o.job o.step o.is opened
+              in omega arith)
+        ])
+    | inr free ↦ (let e = a.padding q free in let f = b.padding q free in omega arith)
+  ]
+
+  pub same_heads : hs ≡ ks
+  same_heads = same_number_lists hs ks (a.positions ∙ sym b.positions) (λ q known. head_same q)
+
+-- a conflict set is on one machine
+on_its : (shop : Shop) (p : Placing) (c i : ℕ) → conflicts_with shop p c i ≡ true
+    → next_machine shop p i ≡ next_machine shop p c
+on_its shop p c i t = elim (cases_Bool (eqb i c)) [
+  | inl e ↦ ap (next_machine shop p) (eqb-true i c e)
+  | inr e ↦ eqb-true (next_machine shop p i) (next_machine shop p c) (and_parts _ _ (rw e at t)).0
+]
+
+on_one : (shop : Shop) (p : Placing) (js : List ℕ) (i k : ℕ) → IsIn (conflict_among shop p js) i
+    → IsIn (conflict_among shop p js) k → next_machine shop p i ≡ next_machine shop p k
+on_one shop p [] i k h g = absurd h
+on_one shop p (j ∷ js) i k h g =
+    let c = chosen_of shop p j js
+    in on_its shop p c i (in_filter (conflicts_with shop p c) (j ∷ js) i h).1
+    ∙ sym (on_its shop p c k (in_filter (conflicts_with shop p c) (j ∷ js) k g).1)
+
+one_of : (xs : List ℕ) (i d : ℕ) → length xs < 2 → i < length xs → xs ≡ get_or xs i d ∷ []
+one_of [] i d few here = absurd (omega arith)
+one_of (x ∷ []) zero d few here = refl
+one_of (x ∷ []) (suc i) d few here = absurd (omega arith)
+one_of (x ∷ y ∷ xs) i d few here = absurd (omega arith)
+
+-- the heads of lanes
+head_in : (hs ts qs : List ℕ) (top : ℕ) → ((q : ℕ) → get_or hs q 0 ≤ top)
+    → All (λ (x : Lane). x.head ≤ top) (lanes hs ts qs)
+head_in [] ts qs top small i d here = absurd (omega arith)
+head_in (h ∷ hs) [] qs top small i d here = absurd (omega arith)
+head_in (h ∷ hs) (t ∷ ts) [] top small i d here = absurd (omega arith)
+head_in (h ∷ hs) (t ∷ ts) (q ∷ qs) top small zero d here = small 0
+head_in (h ∷ hs) (t ∷ ts) (q ∷ qs) top small (suc i) d here =
+    head_in hs ts qs top (λ x. small (suc x)) i d (omega arith)
+
+heads_in : (hs ts qs : List ℕ) (top from to : ℕ) → ((q : ℕ) → get_or hs q 0 ≤ top)
+    → All (λ (x : Lane). x.head ≤ top) (blocks from to (lanes hs ts qs))
+heads_in hs ts qs top from to small =
+    All-take (λ (x : Lane). x.head ≤ top) (8 * to - 8 * from) (drop (8 * from) (lanes hs ts qs))
+    (All-drop (λ (x : Lane). x.head ≤ top) (8 * from) (lanes hs ts qs) (head_in hs ts qs top small))
+
+-- the own spans of what waits where the next operation of the first job does can be told
+pub record CanTell (greatest : ℕ) (l : LayoutState) (rows : Rows) (nexts jobs ms : List ℕ) (from to : ℕ) : Type 0 where
+  pub job : get_or jobs 0 0 < length nexts
+  pub position : get_or nexts (get_or jobs 0 0) 0 < length ms
+  pub machine : get_or ms (get_or nexts (get_or jobs 0 0) 0) 0 + 1 < length l.blocks
+  pub blocks : AreBlocks rows from to
+  pub room : 8 * to - 8 * from ≤ length rows.heads
+  pub fits : FitOwnSpans greatest (lanes_between rows from to)
+  pub low : 8 * from ≤ get_or nexts (get_or jobs 0 0) 0
+
+module _ (greatest : ℕ) (shop : Shop) (w : List ℕ) (l : LayoutState) (heads ends nexts : List ℕ)
+    (kept : IsKeptInLanes greatest shop w l (rows_of l heads ends) nexts) where
+  -- the own spans of a machine can be told
+  module _ (m : ℕ) (known : m < shop.machines) where
+    fit : AreSpansFit greatest (latest_end shop + 1) shop.machines l (rows_of l heads ends)
+    fit = spans_fit shop kept.kept.limits l kept.kept.laid greatest kept.holds (rows_of l heads ends) refl refl
+        kept.kept.heads.positions
+
+    pub its_blocks : AreBlocks (rows_of l heads ends) (get_or l.blocks m 0) (get_or l.blocks (m + 1) 0)
+    its_blocks = fit.blocks m known
+
+    pub owns_fit : FitOwnSpans greatest (lanes_on (rows_of l heads ends) l m)
+    owns_fit =
+        let all = fit.fits m known
+        in let small = heads_in heads l.times l.tails (latest_end shop + 1) (get_or l.blocks m 0)
+        (get_or l.blocks (m + 1) 0)
+        (heads_small shop kept.kept.limits l kept.kept.laid w kept.kept.word heads kept.kept.heads)
+        in record {
+          whole = omega arith;
+          each = λ i d here. let a = small i d here in omega arith;
+        }
+
+  -- one next operation
+  module _ (j : ℕ) (fits : IsWord shop (w ++ j ∷ [])) where
+    abbrev x : ℕ
+    x = get_or nexts j 0
+
+    its_place : x ≡ place l j ((placing shop w).steps j)
+    its_place = next_at greatest shop w j l (rows_of l heads ends) nexts kept fits x refl
+
+    pub its_machine : get_or l.machines (get_or nexts j 0) 0 ≡ next_machine shop (placing shop w) j
+    its_machine = ap (λ (q : ℕ). get_or l.machines q 0) its_place
+        ∙ machine_here greatest shop w l (rows_of l heads ends) kept.kept j fits l.machines
+        kept.kept.laid.machines_at
+
+    -- the bound after it is no less
+    own_low : max (lb shop w) (own_at l heads x - 1) ≤ lb shop (w ++ j ∷ [])
+    own_low =
+        let b = foreseen l heads ends x (lb shop w)
+        in let a = foreseen_least greatest shop w l heads ends nexts j kept fits x refl (lb shop w) refl b refl
+        in let most = a.most in omega arith
+
+    own_of : (own : ℕ) → max (lb shop w) own ≡ max (lb shop w) (own_at l heads x - 1) → IsCandidateOf shop w l j own
+    own_of own adds = record {
+      fits = fits;
+      adds = λ hs at.
+          let same = same_heads shop kept.kept.limits l kept.kept.laid (placing shop w) heads hs kept.kept.heads at
+          in adds ∙ (ap (λ (q : ℕ). max (lb shop w) (own_at l heads q - 1)) its_place
+          ∙ ap (λ (ks : List ℕ). max (lb shop w) (own_at l ks (place l j ((placing shop w).steps j)) - 1)) same);
+    }
+
+    -- what a candidate is known by is what is foreseen
+    pub candidate_advancing : (own : ℕ) → IsCandidateOf shop w l j own → (given : List ℕ) → given ≡ nexts
+        → (bound : ℕ) → bound ≡ lb shop w → (least : ℕ) → least ≡ max bound own
+        → IsAdvancing greatest shop w l (rows_of l heads ends) given j least
+    candidate_advancing own is given same bound bound_is least least_is =
+        let a = is.adds heads kept.kept.heads
+        in let b = ap (λ (q : ℕ). own_at l heads q) its_place
+        in advancing greatest shop w l heads ends nexts j kept fits heads ends given refl refl same x refl bound
+        bound_is least (omega arith)
+
+    its_head : 0 < get_or heads x 0
+    its_head =
+        let a = head_here greatest shop w l (rows_of l heads ends) kept.kept j fits
+        in let b = ap (λ (q : ℕ). get_or heads q 0) its_place in omega arith
+
+    -- among the positions of its machine
+    module _ (m : ℕ) (m_is : get_or l.machines (get_or nexts j 0) 0 ≡ m) where
+      its_from : 8 * get_or l.blocks m 0 ≤ x
+      its_from =
+          let at = place_of shop kept.kept.limits l kept.kept.laid j ((placing shop w).steps j)
+          (is_operation greatest shop w l (rows_of l heads ends) kept.kept j fits)
+          in let a = at.from in let b = its_place
+          in let e : first_position l (machine_of shop j ((placing shop w).steps j)) ≡ first_position l m =
+          ap (first_position l) (sym its_machine ∙ m_is) in omega arith
+
+      its_to : x < 8 * get_or l.blocks (m + 1) 0
+      its_to =
+          let at = place_of shop kept.kept.limits l kept.kept.laid j ((placing shop w).steps j)
+          (is_operation greatest shop w l (rows_of l heads ends) kept.kept j fits)
+          in let a = at.to in let b = its_place
+          in let e : first_position l (machine_of shop j ((placing shop w).steps j) + 1) ≡ first_position l (m + 1) =
+          ap (λ (n : ℕ). first_position l (n + 1)) (sym its_machine ∙ m_is) in omega arith
+
+      pub is_told : (count : ℕ) → count ≡ length heads → IsTold nexts (8 * get_or l.blocks m 0) count j
+      is_told count many = record {
+        job = next_known greatest shop w j l (rows_of l heads ends) nexts kept fits;
+        from = its_from;
+        to = (let a = within greatest shop w j l (rows_of l heads ends) nexts kept fits x refl in omega arith);
+      }
+
+      told_is : (owns : List ℕ)
+          → AreOwnSpans heads l.times l.tails (get_or l.blocks m 0) (get_or l.blocks (m + 1) 0) owns
+          → told_at nexts (8 * get_or l.blocks m 0) owns j ≡ own_at l heads x - 1
+      told_is owns are =
+          ap (λ (n : ℕ). n - 1) (are x its_from its_to its_head
+          ∙ ap (λ (n : ℕ). own_span heads l.times l.tails (get_or l.blocks n 0) (get_or l.blocks (n + 1) 0) x) (sym m_is))
+
+  -- the conflict set, the first of which is on machine m
+  module _ (jobs : List ℕ) (set_is : jobs ≡ conflict shop w) where
+    in_set : (i d : ℕ) → i < length jobs → IsIn (conflict shop w) (get_or jobs i d)
+    in_set i d here = subst (λ (xs : List ℕ). IsIn xs (get_or jobs i d)) set_is (is_in_at jobs i d here)
+
+    set_fits : (j : ℕ) → IsIn (conflict shop w) j → IsWord shop (w ++ j ∷ [])
+    set_fits j h = candidate_fits shop w kept.kept.word j h
+
+    job_in : (cs : List Candidate) → map (λ c. c.job) cs ≡ jobs → (i : ℕ) (d : Candidate) → i < length cs
+        → IsIn (conflict shop w) (get_or cs i d).job
+    job_in cs are i d here =
+        let j : ℕ = (get_or cs i d).job
+        in let at : get_or (map (λ c. c.job) cs) i j ≡ j = get_or-map (λ (c : Candidate). c.job) cs i d j here
+        in let long = length-map cs (λ (c : Candidate). c.job)
+        in let many = ap length are
+        in subst (IsIn (conflict shop w)) (ap (λ (xs : List ℕ). get_or xs i j) (sym are) ∙ at)
+        (in_set i j (omega arith))
+
+    candidates : (cs : List Candidate) → map (λ c. c.job) cs ≡ jobs
+        → ((i : ℕ) (d : Candidate) → i < length cs → max (lb shop w) (get_or cs i d).own
+        ≡ max (lb shop w) (own_at l heads (get_or nexts (get_or cs i d).job 0) - 1))
+        → AreCandidatesOf shop w l cs
+    candidates cs are adds = record {
+      jobs = are ∙ set_is;
+      are = λ i d here. own_of (get_or cs i d).job (set_fits (get_or cs i d).job (job_in cs are i d here))
+          (get_or cs i d).own (adds i d here);
+      lower = λ i d here.
+          let low = own_low (get_or cs i d).job (set_fits (get_or cs i d).job (job_in cs are i d here))
+          in let same = adds i d here in omega arith;
+    }
+
+    -- a sole one adds nothing
+    pub alone : length jobs < 2 → (cs : List Candidate) → map (λ c. c.job) cs ≡ jobs → All (λ c. c.own ≡ 0) cs
+        → AreCandidatesOf shop w l cs
+    alone few cs are none = candidates cs are (λ i d here.
+        let j : ℕ = (get_or cs i d).job
+        in let at : get_or (map (λ c. c.job) cs) i j ≡ j = get_or-map (λ (c : Candidate). c.job) cs i d j here
+        in let long = length-map cs (λ (c : Candidate). c.job)
+        in let many = ap length are
+        in let sole : conflict shop w ≡ j ∷ [] = sym set_is ∙ (one_of jobs i j few (omega arith)
+        ∙ ap (λ (k : ℕ). k ∷ []) (ap (λ (xs : List ℕ). get_or xs i j) (sym are) ∙ at))
+        in let keeps = kept.sole j sole
+        in let low = own_low j (set_fits j (job_in cs are i d here))
+        in let own = none i d here in omega arith)
+
+    -- the machine of the first is read, and its blocks
+    module _ (some : 0 < length jobs) (ms : List ℕ) (ms_are : ms ≡ l.machines) (from to : ℕ)
+        (from_is : from ≡ get_or l.blocks (get_or ms (get_or nexts (get_or jobs 0 0) 0) 0) 0)
+        (to_is : to ≡ get_or l.blocks (get_or ms (get_or nexts (get_or jobs 0 0) 0) 0 + 1) 0) where
+      abbrev m : ℕ
+      m = get_or ms (get_or nexts (get_or jobs 0 0) 0) 0
+
+      abbrev first_fits : IsWord shop (w ++ get_or jobs 0 0 ∷ [])
+      first_fits = set_fits (get_or jobs 0 0) (in_set 0 0 some)
+
+      m_is : m ≡ get_or l.machines (get_or nexts (get_or jobs 0 0) 0) 0
+      m_is = ap (λ (xs : List ℕ). get_or xs (get_or nexts (get_or jobs 0 0) 0) 0) ms_are
+
+      on_its_machine : (j : ℕ) → IsIn (conflict shop w) j → get_or l.machines (get_or nexts j 0) 0 ≡ m
+      on_its_machine j h =
+          its_machine j (set_fits j h)
+          ∙ (on_one shop (placing shop w) (open_jobs shop (placing shop w)) j (get_or jobs 0 0) h (in_set 0 0 some)
+          ∙ (sym (its_machine (get_or jobs 0 0) first_fits) ∙ sym m_is))
+
+      m_known : m < shop.machines
+      m_known =
+          let a = its_machine (get_or jobs 0 0) first_fits in let e = m_is
+          in let b = kept.kept.limits.on_machines (get_or jobs 0 0) ((placing shop w).steps (get_or jobs 0 0))
+          in omega arith
+
+      blocks_are : AreBlocks (rows_of l heads ends) from to
+      blocks_are = rw (from_is, to_is) (its_blocks m m_known)
+
+      pub can_tell : CanTell greatest l (rows_of l heads ends) nexts jobs ms from to
+      can_tell =
+          let j = get_or jobs 0 0
+          in let x = get_or nexts j 0
+          in let here = within greatest shop w j l (rows_of l heads ends) nexts kept first_fits x refl
+          in let known = m_known
+          in let b = blocks_are in let b1 = b.ordered in let b2 = b.within
+          in let c = its_from j first_fits m (sym m_is)
+          in let long = ap length ms_are
+          in let machined = kept.kept.laid.machines_at.positions
+          in let many = kept.kept.heads.positions
+          in let blocked = kept.kept.laid.machines
+          in record {
+            job = next_known greatest shop w j l (rows_of l heads ends) nexts kept first_fits;
+            position = omega arith;
+            machine = omega arith;
+            blocks = b;
+            room = omega arith;
+            fits = rw (from_is, to_is) (owns_fit m m_known);
+            low = omega arith;
+          }
+
+      pub told_all : (count : ℕ) → count ≡ length heads → All (λ j. IsTold nexts (8 * from) count j) jobs
+      told_all count many i d here =
+          let j = get_or jobs i d
+          in subst (λ (n : ℕ). IsTold nexts (8 * n) count j) (sym from_is)
+          (is_told j (set_fits j (in_set i d here)) m (on_its_machine j (in_set i d here)) count many)
+
+      pub told : (owns : List ℕ) → AreOwnSpans heads l.times l.tails from to owns
+          → (cs : List Candidate) → map (λ c. c.job) cs ≡ jobs
+          → All (λ c. c.own ≡ told_at nexts (8 * from) owns c.job) cs → AreCandidatesOf shop w l cs
+      told owns spans cs are own = candidates cs are (λ i d here.
+          let j : ℕ = (get_or cs i d).job
+          in let h = job_in cs are i d here
+          in let a = told_is j (set_fits j h) m (on_its_machine j h) owns (rw (from_is, to_is) at spans)
+          in let b = own i d here
+          in let e = ap (λ (n : ℕ). told_at nexts (8 * n) owns j) from_is in omega arith)
+
+-- what is gathered in lanes is of the dispatcher's instance
+pub gathered : (greatest : ℕ) (own d : DispatcherState) → own ≡ d → (heads ends nexts given : List ℕ) → given ≡ nexts
+    → (cs : List Candidate) → ((shop : Shop) (w : List ℕ)
+    → IsKeptInLanes greatest shop w own.layout (rows_of own.layout heads ends) given
+    → AreCandidatesOf shop w own.layout cs) → (w : List ℕ)
+    → IsKeptInLanes greatest d.shop w d.layout (rows_of d.layout heads ends) nexts
+    → AreCandidatesOf d.shop w d.layout cs
+gathered greatest own d same heads ends nexts given read cs are w kept =
+    subst (λ (e : DispatcherState). AreCandidatesOf e.shop w e.layout cs) same
+    (are own.shop w (subst (λ (ns : List ℕ). IsKeptInLanes greatest own.shop w own.layout
+    (rows_of own.layout heads ends) ns) (sym read)
+    (subst (λ (e : DispatcherState). IsKeptInLanes greatest e.shop w e.layout (rows_of e.layout heads ends) nexts)
+    (sym same) kept)))

@@ -1,0 +1,95 @@
+// Rings of states in lanes as narrow as an instance allows.
+ghost use Rattle.std.specs.Prelude.{◌≡◌, ◌++◌, ◌∷◌, [], ◌<◌, IfOk, length};
+ghost use Rattle.shop_model.specs.Word.{IsWord};
+ghost use Rattle.shop_heads.specs.Bound.{lb};
+ghost use Rattle.shop_desk.specs.Desks.{IsUndone, IsWordOfShop, goes_on, nothing_dispatched};
+ghost use Rattle.shop_desk.specs.inner.LaneRings.{kept_in};
+
+use crate::dispatchers::Dispatcher;
+use crate::layouts::Layout;
+use crate::rings::Ring;
+use shop_lanes::{NarrowLanes, PlainLanes, WideLanes};
+use shop_model::Instance;
+use std::alloc::{AllocError, Global};
+
+/// A ring in lanes of 16, 32 or 64 bits.
+#[derive(Drop)]
+pub(crate) enum LaneRing<'a> {
+    Narrow(Ring<Dispatcher<'a, NarrowLanes>>),
+    Wide(Ring<Dispatcher<'a, WideLanes>>),
+    Plain(Ring<Dispatcher<'a, PlainLanes>>),
+}
+
+impl<'a> LaneRing<'a> {
+    /// Of no entry, in the narrowest lanes that hold the instance. Fails with `AllocError` if memory runs out.
+    pub(crate) fn new(alloc: Global, instance: &'a Instance) -> Result<LaneRing<'a>, AllocError>
+        ensures { IfOk result (λ r. kept_in r ≡ nothing_dispatched instance.now) }
+    {
+        Ok(match Layout::of(alloc, instance)? {
+            Layout::Narrow(dispatcher) => {
+                LaneRing::Narrow(Ring::new(alloc, instance, dispatcher)?)
+            }
+            Layout::Wide(dispatcher) => { LaneRing::Wide(Ring::new(alloc, instance, dispatcher)?) }
+            Layout::Plain(dispatcher) => {
+                LaneRing::Plain(Ring::new(alloc, instance, dispatcher)?)
+            }
+        })
+    }
+
+    /// Adds the next operation of a job, which has one left.
+    pub(crate) fn dispatch(&mut self, job: u16)
+        requires { IsWord (kept_in self.old).shop ((kept_in self.old).word ++ job ∷ []) }
+        ensures { kept_in self.new ≡ goes_on (kept_in self.old) job }
+    {
+        match self {
+            LaneRing::Narrow(ring) => ring.dispatch(job),
+            LaneRing::Wide(ring) => ring.dispatch(job),
+            LaneRing::Plain(ring) => ring.dispatch(job),
+        }
+    }
+
+    /// Takes the last entry away, which there is.
+    pub(crate) fn undo(&mut self)
+        requires { 0 < length (kept_in self.old).word }
+        ensures { IsUndone (kept_in self.old) (kept_in self.new) }
+    {
+        match self {
+            LaneRing::Narrow(ring) => ring.undo(),
+            LaneRing::Wide(ring) => ring.undo(),
+            LaneRing::Plain(ring) => ring.undo(),
+        }
+    }
+
+    /// The lower bound of the word.
+    pub(crate) fn bound(&self) -> u64
+        ensures { result ≡ lb (kept_in self.now).shop (kept_in self.now).word }
+    {
+        match self {
+            LaneRing::Narrow(ring) => ring.bound(),
+            LaneRing::Wide(ring) => ring.bound(),
+            LaneRing::Plain(ring) => ring.bound(),
+        }
+    }
+
+    /// The jobs of the word, in order.
+    pub(crate) fn jobs(&self) -> &[u16]
+        ensures { result.now ≡ (kept_in self.now).word }
+    {
+        match self {
+            LaneRing::Narrow(ring) => ring.jobs(),
+            LaneRing::Wide(ring) => ring.jobs(),
+            LaneRing::Plain(ring) => ring.jobs(),
+        }
+    }
+
+    /// It is a word of the instance, which is within its limits. (A fact for proofs; the call does nothing.)
+    pub(crate) fn keeps_word(&self)
+        ensures { IsWordOfShop (kept_in self.now) }
+    {
+        match self {
+            LaneRing::Narrow(ring) => ring.keeps_word(),
+            LaneRing::Wide(ring) => ring.keeps_word(),
+            LaneRing::Plain(ring) => ring.keeps_word(),
+        }
+    }
+}

@@ -1,0 +1,289 @@
+// The states of a walk.
+ghost use Rattle.std.specs.Prelude.{◌≡◌, ℕ, ◌≤◌, ◌<◌, ◌^◌, false, List, [], ◌∷◌, ◌++◌, All, IfOk, OnOk};
+ghost use Rattle.std.specs.Prelude.{length, map, vec_capacity};
+ghost use Rattle.shop_model.specs.Word.{IsWord};
+ghost use Rattle.shop_heads.specs.Bound.{lb};
+ghost use Rattle.shop_desk.specs.States.{HasSoleCandidate, IsOfSomeWord, with_last};
+ghost use Rattle.shop_tree.specs.Branching.{conflict};
+ghost use Rattle.shop_tree.specs.inner.Held.{IsHeldOf, IsKept, opens_in};
+ghost use Rattle.shop_tree.specs.inner.Opens.{AreChildren};
+ghost use Rattle.shop_tree.specs.inner.Slots.{HoldSlots};
+ghost use Rattle.shop_tree.specs.inner.Tried.{IsTried};
+
+use crate::held::Kept;
+use crate::opens::Open;
+use crate::putting::{all_reach, put};
+use shop_desk::{Candidate, Dispatching};
+use std::alloc::{AllocError, Global};
+use std::mem;
+
+/// The states of a walk: that of the word that it came to, one in which a child is tried, and spare ones for children
+/// that wait.
+#[derive(Drop)]
+pub(crate) struct WalkStates<'l, D: Dispatching> {
+    pub(crate) dispatcher: &'l D,
+    scratch: D::Scratch,
+    pub(crate) current: Box<D::State>,
+    trial: Box<D::State>,
+    spare: Vec<Box<D::State>>,
+    /// how many more may be made
+    unmade: usize,
+}
+
+impl<'l, D: Dispatching> WalkStates<'l, D> {
+    /// With at most so many states for children that wait. Fails with `AllocError` if memory runs out.
+    pub(crate) fn new(
+        alloc: Global,
+        dispatcher: &'l D,
+        most: usize,
+    ) -> Result<WalkStates<'l, D>, AllocError>
+        ensures sound { IfOk result (HoldSlots D.IsSlot D.IsScratch) }
+        ensures dispatcher { IfOk result (λ s. s.dispatcher.now ≡ dispatcher.now) }
+    {
+        Ok(WalkStates {
+            dispatcher,
+            scratch: dispatcher.scratch(alloc)?,
+            current: Box::new(alloc, dispatcher.slot(alloc)?)?,
+            trial: Box::new(alloc, dispatcher.slot(alloc)?)?,
+            spare: Vec::new(alloc),
+            unmade: most,
+        })
+    }
+
+    /// Makes the state of a word the current one: of a path, and one job more, if any.
+    pub(crate) fn fill(&mut self, path: &[u16], last: Option<u16>)
+        requires sound { HoldSlots D.IsSlot D.IsScratch self.old }
+        requires word { IsWord (D.shop self.old.dispatcher.now) (with_last path.now last) }
+        ensures sound { HoldSlots D.IsSlot D.IsScratch self.new }
+        ensures state { D.IsStateOf self.old.dispatcher.now (with_last path.now last)
+            self.new.current.value }
+        ensures dispatcher { self.new.dispatcher.now ≡ self.old.dispatcher.now }
+    {
+        self.dispatcher
+            .fill(&mut self.scratch, path, last, &mut self.current);
+    }
+
+    /// Replaces the list with the conflict set of the current state's word, in ascending order. It has room for all
+    /// jobs.
+    pub(crate) fn gather(&mut self, candidates: &mut Vec<Candidate>)
+        requires sound { HoldSlots D.IsSlot D.IsScratch self.old }
+        requires state { IsOfSomeWord
+            (λ w. D.IsStateOf self.old.dispatcher.now w self.old.current.value) }
+        requires room { length (D.shop self.old.dispatcher.now).jobs ≤ vec_capacity candidates.old }
+        ensures sound { HoldSlots D.IsSlot D.IsScratch self.new }
+        ensures jobs { (w : List ℕ) → D.IsStateOf self.old.dispatcher.now w self.old.current.value
+            → map (λ c. c.job) candidates.new.items ≡ conflict (D.shop self.old.dispatcher.now) w }
+        ensures are { (w : List ℕ) → D.IsStateOf self.old.dispatcher.now w self.old.current.value
+            → All (λ c. D.IsCandidate self.old.dispatcher.now w c) candidates.new.items }
+        ensures lower { (w : List ℕ) → D.IsStateOf self.old.dispatcher.now w self.old.current.value
+            → All (λ c. c.own ≤ lb (D.shop self.old.dispatcher.now) (w ++ c.job ∷ []))
+            candidates.new.items }
+        ensures room { vec_capacity candidates.old ≤ vec_capacity candidates.new }
+        ensures current { self.new.current.value ≡ self.old.current.value }
+        ensures dispatcher { self.new.dispatcher.now ≡ self.old.dispatcher.now }
+    {
+        self.dispatcher
+            .gather_candidates(&mut self.scratch, &self.current, candidates);
+    }
+
+    /// Dispatches the one job of the conflict set in the current state.
+    pub(crate) fn strike(&mut self, job: u16)
+        requires sound { HoldSlots D.IsSlot D.IsScratch self.old }
+        requires sole { HasSoleCandidate (D.shop self.old.dispatcher.now)
+            (λ w. D.IsStateOf self.old.dispatcher.now w self.old.current.value) job }
+        ensures sound { HoldSlots D.IsSlot D.IsScratch self.new }
+        ensures state { (w : List ℕ) → D.IsStateOf self.old.dispatcher.now w self.old.current.value
+            → conflict (D.shop self.old.dispatcher.now) w ≡ job ∷ []
+            → D.IsStateOf self.old.dispatcher.now (w ++ job ∷ []) self.new.current.value }
+        ensures dispatcher { self.new.dispatcher.now ≡ self.old.dispatcher.now }
+    {
+        self.dispatcher.strike(&mut self.current, job);
+    }
+
+    /// How many states are at hand for children.
+    pub(crate) fn free(&self) -> usize {
+        self.spare.len().saturating_add(self.unmade)
+    }
+
+    /// Takes a state back that is wanted no more.
+    pub(crate) fn give_back(&mut self, state: Option<Box<D::State>>) -> Result<(), AllocError>
+        requires sound { HoldSlots D.IsSlot D.IsScratch self.old }
+        requires slot { IsHeldOf (λ _ s. D.IsSlot self.old.dispatcher.now s) [] state }
+        ensures sound { OnOk result (HoldSlots D.IsSlot D.IsScratch self.new) }
+        ensures current { OnOk result (self.new.current.value ≡ self.old.current.value) }
+        ensures dispatcher { self.new.dispatcher.now ≡ self.old.dispatcher.now }
+    {
+        let Some(state) = state else {
+            return Ok(());
+        };
+        self.spare.push(state)?;
+        Ok(())
+    }
+
+    /// Makes the state of a word the current one: this one, where there is one, else it is filled from the word.
+    pub(crate) fn go_on_in(
+        &mut self,
+        state: Option<Box<D::State>>,
+        word: &[u16],
+    ) -> Result<(), AllocError>
+        requires sound { HoldSlots D.IsSlot D.IsScratch self.old }
+        requires word { IsWord (D.shop self.old.dispatcher.now) word.now }
+        requires state { IsHeldOf (D.IsStateOf self.old.dispatcher.now) word.now state }
+        ensures sound { OnOk result (HoldSlots D.IsSlot D.IsScratch self.new) }
+        ensures state { OnOk result
+            (D.IsStateOf self.old.dispatcher.now word.now self.new.current.value) }
+        ensures dispatcher { self.new.dispatcher.now ≡ self.old.dispatcher.now }
+    {
+        let Some(state) = state else {
+            self.fill(word, None);
+            return Ok(());
+        };
+        let before = mem::replace(&mut self.current, state);
+        self.spare.push(before)?;
+        Ok(())
+    }
+
+    /// A spare state, or a new one where one more may be made.
+    fn spare_state(&mut self, alloc: Global) -> Result<Option<Box<D::State>>, AllocError>
+        requires sound { HoldSlots D.IsSlot D.IsScratch self.old }
+        ensures sound { OnOk result (HoldSlots D.IsSlot D.IsScratch self.new) }
+        ensures slot { IfOk result (IsHeldOf (λ _ s. D.IsSlot self.old.dispatcher.now s) []) }
+        ensures current { self.new.current.value ≡ self.old.current.value }
+        ensures trial { self.new.trial.value ≡ self.old.trial.value }
+        ensures dispatcher { self.new.dispatcher.now ≡ self.old.dispatcher.now }
+    {
+        if let Some(state) = self.spare.pop() {
+            return Ok(Some(state));
+        }
+        if self.unmade == 0 {
+            return Ok(None);
+        }
+        self.unmade -= 1;
+        Ok(Some(Box::new(alloc, self.dispatcher.slot(alloc)?)?))
+    }
+
+    /// The state of the trial, where there is a spare one to take its place.
+    fn take_trial(&mut self, alloc: Global) -> Result<Option<Box<D::State>>, AllocError>
+        requires sound { HoldSlots D.IsSlot D.IsScratch self.old }
+        ensures sound { OnOk result (HoldSlots D.IsSlot D.IsScratch self.new) }
+        ensures taken { IfOk result (IsHeldOf (λ _ s. s ≡ self.old.trial.value) []) }
+        ensures current { self.new.current.value ≡ self.old.current.value }
+        ensures dispatcher { self.new.dispatcher.now ≡ self.old.dispatcher.now }
+    {
+        let Some(spare) = self.spare_state(alloc)? else {
+            return Ok(None);
+        };
+        Ok(Some(mem::replace(&mut self.trial, spare)))
+    }
+
+    /// Makes the trial's state that of the current word. The last trial takes the current state, which nobody wants
+    /// afterwards.
+    fn begin_trial(&mut self, is_last: bool)
+        requires sound { HoldSlots D.IsSlot D.IsScratch self.old }
+        ensures sound { HoldSlots D.IsSlot D.IsScratch self.new }
+        ensures trial { (w : List ℕ) → D.IsStateOf self.old.dispatcher.now w self.old.current.value
+            → D.IsStateOf self.old.dispatcher.now w self.new.trial.value }
+        ensures current { is_last ≡ false → self.new.current.value ≡ self.old.current.value }
+        ensures dispatcher { self.new.dispatcher.now ≡ self.old.dispatcher.now }
+    {
+        if is_last {
+            mem::swap(&mut self.current, &mut self.trial);
+            return;
+        }
+        self.dispatcher.copy(&self.current, &mut self.trial);
+    }
+
+    /// Tries a candidate of a word, and tells its child if its bound is below the limit, with its state where there is
+    /// room for it. After the last trial the current state is that of no word.
+    fn try_candidate(
+        &mut self,
+        alloc: Global,
+        word: &[u16],
+        candidate: Candidate,
+        is_last: bool,
+        bound: u64,
+        limit: u64,
+    ) -> Result<Option<Kept<D::State>>, AllocError>
+        requires sound { HoldSlots D.IsSlot D.IsScratch self.old }
+        requires state { D.IsStateOf self.old.dispatcher.now word.now self.old.current.value }
+        requires long { length word.now < 2 ^ 32 }
+        requires fits { IsWord (D.shop self.old.dispatcher.now) (word.now ++ candidate.job ∷ []) }
+        requires is { D.IsCandidate self.old.dispatcher.now word.now candidate }
+        requires bound { bound ≡ lb (D.shop self.old.dispatcher.now) word.now }
+        ensures sound { OnOk result (HoldSlots D.IsSlot D.IsScratch self.new) }
+        ensures tried { IfOk result (IsTried (D.IsStateOf self.old.dispatcher.now)
+            (D.shop self.old.dispatcher.now) word.now limit candidate.job) }
+        ensures current { is_last ≡ false
+            → OnOk result (self.new.current.value ≡ self.old.current.value) }
+        ensures dispatcher { self.new.dispatcher.now ≡ self.old.dispatcher.now }
+    {
+        self.begin_trial(is_last);
+        let told = self.dispatcher.dispatch_below(
+            &mut self.scratch,
+            &mut self.trial,
+            candidate,
+            bound,
+            limit,
+        );
+        let Some(bound) = told else {
+            return Ok(None);
+        };
+        let open = Open {
+            depth: word.len() as u32,
+            job: candidate.job,
+            bound,
+        };
+        Ok(Some(Kept {
+            open,
+            state: self.take_trial(alloc)?,
+        }))
+    }
+
+    /// Replaces the list with the children of the current state's word with bounds below the limit, by bound, then by
+    /// job, the first one last, each with its state where there is room for one; and tells how many others there are.
+    /// The word's bound and its candidates are at hand. Fails with `AllocError` if memory runs out.
+    pub(crate) fn try_candidates(
+        &mut self,
+        alloc: Global,
+        children: &mut Vec<Kept<D::State>>,
+        candidates: &mut Vec<Candidate>,
+        word: &[u16],
+        bound: u64,
+        limit: u64,
+    ) -> Result<usize, AllocError>
+        requires sound { HoldSlots D.IsSlot D.IsScratch self.old }
+        requires state { D.IsStateOf self.old.dispatcher.now word.now self.old.current.value }
+        requires bound { bound ≡ lb (D.shop self.old.dispatcher.now) word.now }
+        requires jobs { map (λ c. c.job) candidates.old.items
+            ≡ conflict (D.shop self.old.dispatcher.now) word.now }
+        requires are { All (λ c. D.IsCandidate self.old.dispatcher.now word.now c)
+            candidates.old.items }
+        requires lower { All (λ c. c.own
+            ≤ lb (D.shop self.old.dispatcher.now) (word.now ++ c.job ∷ [])) candidates.old.items }
+        ensures sound { OnOk result (HoldSlots D.IsSlot D.IsScratch self.new) }
+        ensures children { IfOk result (λ n. AreChildren (D.shop self.old.dispatcher.now) limit
+            word.now (opens_in children.new.items) n) }
+        ensures states { OnOk result (All (IsKept (D.IsStateOf self.old.dispatcher.now) word.now)
+            children.new.items) }
+        ensures dispatcher { self.new.dispatcher.now ≡ self.old.dispatcher.now }
+        ensures room { vec_capacity candidates.old ≤ vec_capacity candidates.new }
+    {
+        children.clear();
+        let mut others = 0;
+        // The last job first: of equal bounds the lower job then comes to lie above.
+        while let Some(candidate) = candidates.pop() {
+            if candidate.own >= limit {
+                others += 1;
+                continue;
+            }
+            let is_last = all_reach(candidates, limit);
+            let Some(child) = self.try_candidate(alloc, word, candidate, is_last, bound, limit)?
+            else {
+                others += 1;
+                continue;
+            };
+            put(children, child)?;
+        }
+        Ok(others)
+    }
+}
