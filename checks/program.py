@@ -56,6 +56,11 @@ def peak_of(words):
     return Ended(started.returncode, *written), usage.ru_maxrss / 1e3
 
 
+def number_in(report, word):
+    """The number behind a word that begins a line of a report."""
+    return int(report.split(f"\n{word} ".encode(), 1)[1].split()[0])
+
+
 class Tally:
     """Counts what was looked at, and prints what isn't as it must be."""
 
@@ -77,10 +82,10 @@ def example(name):
     return os.fspath(TOP / "examples" / name)
 
 
-def judge(check):
-    """Runs a check, and ends with status 1 where something isn't as it must be."""
-    if not PROGRAM.exists():
-        sys.exit(f"{PROGRAM} isn't built yet: run ./build first")
+def judge(check, program=PROGRAM, maker="./build"):
+    """Runs a check of a program, and ends with status 1 where something isn't as it must be."""
+    if not program.exists():
+        sys.exit(f"{program} isn't built yet: run {maker} first")
     tally = Tally()
     check(tally)
     print(f"  {tally.looked_at} looked at, {tally.wrong} wrong", flush=True)

@@ -1,4 +1,5 @@
-/* Refuses allocations and the start of threads in a process: a shim for LD_PRELOAD, used by the checks.
+/* Refuses allocations and the start of threads in a process, and counts these and what it reads and writes: a shim for
+ * LD_PRELOAD, used by the checks.
  *
  * Allocations (malloc, calloc, realloc, aligned_alloc, posix_memalign) and started threads are counted from 1, once
  * the program's own libraries are loaded. What is refused, by variables of the environment; none of them: nothing.
@@ -9,8 +10,11 @@
  *     REFUSE_SIZES=A B      of these allocations those alone that ask for A to B bytes; without the others all of them
  *     REFUSE_THREAD_AT=N    the thread of number N
  *     REFUSE_THREAD_FROM=N  all threads from number N on
+ *     REFUSE_HOLD=N         nothing, but a thread that is about to end waits until the first N threads have begun, or
+ *                           the next N where it is one of these, and so on; none once one waited two seconds in vain
  *     REFUSE_LOG=FILE       the file gets one line: the allocations, how many of them were refused, the same of threads,
- *                           the bytes that were asked for in all, and the most started threads alive at a time
+ *                           which the system may refuse too, the bytes that were asked for in all, the most started
+ *                           threads alive at a time, and the calls of read and of write
  */
 #define _GNU_SOURCE
 #include <dlfcn.h>
@@ -38,7 +42,10 @@ struct kind {
 static struct kind allocations, threads;
 static unsigned per_thousand, seed;
 static size_t least_size, greatest_size;
-static atomic_long bytes, alive, most_alive;
+static atomic_long bytes, alive, most_alive, begun;
+static long held;
+static atomic_int is_in_vain;
+static atomic_long reads, writes;
 static const char *log_name;
 static int is_ready, refuses_all_sizes;
 
@@ -52,6 +59,7 @@ __attribute__((constructor)) static void begin(void) {
     allocations.from = number_in("REFUSE_FROM");
     threads.at = number_in("REFUSE_THREAD_AT");
     threads.from = number_in("REFUSE_THREAD_FROM");
+    held = number_in("REFUSE_HOLD");
     const char *random = getenv("REFUSE_RANDOM");
     if (random) sscanf(random, "%u %u", &per_thousand, &seed);
     const char *sizes = getenv("REFUSE_SIZES");
@@ -100,24 +108,38 @@ int posix_memalign(void **out, size_t align, size_t size) {
 
 typedef int create(pthread_t *, const pthread_attr_t *, void *(*)(void *), void *);
 
-/* What a started thread is to do. */
+/* What a started thread is to do, and which one it is. */
 struct started {
     void *(*work)(void *);
     void *given;
+    long number;
 };
+
+static void wait_for_others(long number) {
+    if (!held) return;
+    long last = (number + held - 1) / held * held;
+    for (int turn = 0; turn < 2000 && atomic_load(&begun) < last; turn++) {
+        if (is_in_vain) return;
+        usleep(1000);
+    }
+    if (atomic_load(&begun) < last) is_in_vain = 1;
+}
+
+static void note_begin(void) {
+    long now = atomic_fetch_add(&alive, 1) + 1, most = atomic_load(&most_alive);
+    while (now > most && !atomic_compare_exchange_weak(&most_alive, &most, now)) {
+    }
+    atomic_fetch_add(&begun, 1);
+}
 
 static void *live(void *started) {
     struct started now = *(struct started *)started;
     free(started);
+    note_begin();
     void *result = now.work(now.given);
+    wait_for_others(now.number);
     atomic_fetch_sub(&alive, 1);
     return result;
-}
-
-static void note_start(void) {
-    long now = atomic_fetch_add(&alive, 1) + 1, most = atomic_load(&most_alive);
-    while (now > most && !atomic_compare_exchange_weak(&most_alive, &most, now)) {
-    }
 }
 
 int pthread_create(pthread_t *thread, const pthread_attr_t *how, void *(*work)(void *), void *given) {
@@ -128,20 +150,29 @@ int pthread_create(pthread_t *thread, const pthread_attr_t *how, void *(*work)(v
     }
     create *real = (create *)dlsym(RTLD_NEXT, "pthread_create");
     struct started *started = __libc_malloc(sizeof *started);
-    *started = (struct started){work, given};
-    note_start();
+    *started = (struct started){work, given, number};
     int result = real(thread, how, live, started);
-    if (result) atomic_fetch_sub(&alive, 1);
+    if (result) atomic_fetch_add(&threads.refused, 1);
     return result;
+}
+
+ssize_t read(int file, void *buffer, size_t size) {
+    atomic_fetch_add(&reads, 1);
+    return syscall(SYS_read, file, buffer, size);
+}
+
+ssize_t write(int file, const void *buffer, size_t size) {
+    atomic_fetch_add(&writes, 1);
+    return syscall(SYS_write, file, buffer, size);
 }
 
 static void write_log(void) {
     if (!log_name) return;
     is_ready = 0;
-    char line[160];
-    int length = snprintf(line, sizeof line, "%ld %ld %ld %ld %ld %ld\n", (long)allocations.count,
+    char line[200];
+    int length = snprintf(line, sizeof line, "%ld %ld %ld %ld %ld %ld %ld %ld\n", (long)allocations.count,
                           (long)allocations.refused, (long)threads.count, (long)threads.refused, (long)bytes,
-                          (long)most_alive);
+                          (long)most_alive, (long)reads, (long)writes);
     int file = open(log_name, O_WRONLY | O_CREAT | O_TRUNC, 0644);
     if (file < 0) return;
     ssize_t written = write(file, line, (size_t)length);

@@ -6,7 +6,7 @@ import threading
 from pathlib import Path
 from typing import NamedTuple
 
-from program import TOP, run
+from program import PROGRAM, TOP, run
 
 
 class Counted(NamedTuple):
@@ -18,22 +18,26 @@ class Counted(NamedTuple):
     refused_threads: int
     bytes: int
     most_threads_alive: int
+    reads: int
+    writes: int
 
 
 class Refusing:
-    """The shim, built into a folder that also takes its logs."""
+    """The shim, built into a folder that also takes its logs, before a program."""
 
-    def __init__(self, folder):
+    def __init__(self, folder, program=PROGRAM):
         self.folder = Path(folder)
+        self.program = program
         self.shim = self.folder / "refuse.so"
         source = TOP / "checks" / "refuse.c"
         subprocess.run(["cc", "-O1", "-shared", "-fPIC", "-o", self.shim, source, "-ldl"], check=True)
 
-    def run(self, words, text, **refused):
-        """How a run ended, and what it asked for. The keywords are the shim's variables, as at=3."""
+    def run(self, words, text, given=None, **refused):
+        """How a run ended, and what it asked for. What is given is passed to the run; the other keywords are the
+        shim's variables, as at=3."""
         log = self.folder / f"log-{threading.get_ident()}"
         log.unlink(missing_ok=True)
         variables = {f"REFUSE_{name.upper()}": str(value) for name, value in refused.items()}
         env = {**os.environ, "LD_PRELOAD": os.fspath(self.shim), "REFUSE_LOG": os.fspath(log), **variables}
-        ended = run(words, text, env=env)
+        ended = run(words, text, **{"program": self.program, "env": env, **(given or {})})
         return ended, Counted(*map(int, log.read_text().split()))

@@ -1,36 +1,41 @@
 // Sources and sinks over std's readers and writers: a call that fails is a failure at once, and a long write goes out.
-use shop_engine::{Fault, Format, ListArgs, Memory, Reading, Writing, list_text, write_all};
+use shop_engine::{
+    CheckArgs, Fault, Format, ListArgs, Memory, Reading, Writing, check_text, list_text, write_all,
+};
+use std::alloc::Global;
 use std::io;
 use std::io::{ErrorKind, Read, Write};
+use std::process::Abort;
 
 const TEXT: &[u8] = b"2 2\n0 3 1 2\n1 2 0 4\n";
 
 const LISTED: &[u8] = b"1 2 2\n";
 
+const SCHEDULE: &[u8] = b"job 0: 0 3\njob 1: 0 3\n";
+
 const ORLIB: ListArgs = ListArgs {
     format: Format::Orlib,
 };
 
-/// A reader of one byte a call, which fails once, at the call of this number.
+/// A reader of so many bytes a call, which fails once, at the call of this number.
 #[derive(Drop)]
-struct FailingReader {
-    left: &'static [u8],
+struct FailingReader<'t> {
+    left: &'t [u8],
+    most: usize,
     calls: u64,
     fails_at: u64,
 }
 
-impl Read for FailingReader {
+impl<'t> Read for FailingReader<'t> {
     fn read(&mut self, buffer: &mut [u8]) -> io::Result<usize> {
         self.calls = self.calls.saturating_add(1);
         if self.calls == self.fails_at {
             return Err(ErrorKind::Interrupted.into());
         }
-        if self.left.is_empty() || buffer.is_empty() {
-            return Ok(0);
-        }
-        buffer[0] = self.left[0];
-        self.left = &self.left[1..];
-        Ok(1)
+        let count = self.left.len().min(buffer.len()).min(self.most);
+        buffer[..count].copy_from_slice(&self.left[..count]);
+        self.left = &self.left[count..];
+        Ok(count)
     }
 }
 
@@ -66,6 +71,7 @@ fn failed_reads_are_not_tried_again(rt: HostRuntime) {
     for k in 1..23 {
         let mut reader = FailingReader {
             left: TEXT,
+            most: 1,
             calls: 0,
             fails_at: k,
         };
@@ -106,6 +112,74 @@ fn failed_writes_are_not_tried_again(rt: HostRuntime) {
         assert_eq!(rt; answer, expected, "at call {k}");
         assert_eq!(rt; writer.held.as_slice(), &LISTED[..taken], "at call {k}");
         assert_eq!(rt; writer.calls, k.min(6));
+    }
+}
+
+/// A reader of these bytes that gives what the buffer takes, and never fails.
+fn whole<'t>(left: &'t [u8]) -> FailingReader<'t> {
+    FailingReader {
+        left,
+        most: usize::MAX,
+        calls: 0,
+        fails_at: 0,
+    }
+}
+
+/// A text with so many blanks behind it.
+fn padded(rt: &impl Abort, alloc: Global, text: &[u8], blanks: usize) -> Vec<u8> {
+    let mut padded = text.to_vec(alloc).expect(rt, "memory");
+    for _ in 0..blanks {
+        padded.push(b' ').expect(rt, "memory");
+    }
+    padded
+}
+
+/// The lengths of the texts are around those of whole buffers.
+const BLANKS: [usize; 7] = [0, 4_074, 4_075, 4_076, 4_077, 8_170, 100_000];
+
+#[test]
+fn instances_are_read_by_whole_buffers(rt: HostRuntime) {
+    for blanks in BLANKS {
+        let text = padded(&rt, rt.alloc(), TEXT, blanks);
+        let mut reader = whole(text.as_slice());
+        let mut sink = Memory::with_room(rt.alloc(), 64).expect(&rt, "memory");
+        let answer = list_text(
+            rt.alloc(),
+            &mut Reading::new(&mut reader),
+            &mut sink,
+            &ORLIB,
+        );
+        assert_eq!(rt; answer, Ok(()), "{blanks} blanks");
+        assert_eq!(rt; sink.bytes(), LISTED, "{blanks} blanks");
+        assert!(rt;
+            reader.calls <= text.len() as u64 / 4_096 + 2,
+            "{blanks} blanks"
+        );
+    }
+}
+
+#[test]
+fn schedules_are_read_by_whole_buffers(rt: HostRuntime) {
+    let args = CheckArgs {
+        format: Format::Orlib,
+        name: None,
+    };
+    for blanks in BLANKS {
+        let schedule = padded(&rt, rt.alloc(), SCHEDULE, blanks);
+        let mut reader = whole(schedule.as_slice());
+        let mut sink = Memory::with_room(rt.alloc(), 64).expect(&rt, "memory");
+        let answer = check_text(
+            rt.alloc(),
+            &mut Reading::new(TEXT),
+            &mut Some(Reading::new(&mut reader)),
+            &mut sink,
+            &args,
+        );
+        assert_eq!(rt; answer, Ok(true), "{blanks} blanks");
+        assert!(rt;
+            reader.calls <= schedule.len() as u64 / 4_096 + 2,
+            "{blanks} blanks"
+        );
     }
 }
 

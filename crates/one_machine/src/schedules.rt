@@ -153,7 +153,7 @@ fn fill(works: &mut [Work], triples: &[Triple])
 
 /// Jackson's preemptive schedule of one machine (Carlier 1982): at each moment it serves the released operation of
 /// greatest tail, the first of these in the list, until it ends or until the next release. It has room for a number of
-/// operations, and takes no memory once it is made.
+/// operations, and takes no memory once it is made. For library callers: the program doesn't use it.
 #[derive(Drop)]
 pub struct Jackson {
     works: Vec<Work>,
@@ -170,7 +170,7 @@ impl Model for Jackson {
 }
 
 impl Jackson {
-    /// With room for n operations. Fails only where memory was refused.
+    /// With room for n operations. Fails with `AllocError` if memory runs out.
     pub fn with_room(alloc: Global, n: usize) -> Result<Jackson, AllocError>
         ensures { IfOk result (λ j. j ≡ record { room = n; turns = 0 }) }
     {

@@ -40,6 +40,7 @@ fn greatest_span(triples: &[Triple]) -> u64
 /// The one-machine bound (Carlier 1982): the greatest of least head + sum of times + least tail over all sublists of
 /// the operations, 0 for none. The greatest head, the times and the greatest tail together are below 2^50. Tries each
 /// pair of a head and a tail that occur, so it takes cubic time: for small lists, and to test `Jackson` against.
+/// For library callers: the program doesn't use it.
 pub fn one_machine(triples: &[Triple]) -> u64
     requires { IsSmall triples.now }
     ensures { result ≡ one triples.now }

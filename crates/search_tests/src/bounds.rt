@@ -38,12 +38,21 @@ fn ft06_rows(alloc: Global) -> Result<Vec<Vec<Op>>, AllocError> {
 }
 
 /// The bound of the word of these jobs, if they are a word.
-fn bound(rt: &impl Abort, alloc: Global, instance: &Instance, jobs: &[u16]) -> Option<u64> {
-    let word = Word::of_jobs(jobs.to_vec(alloc).expect(rt, "memory"));
-    if !fits(instance, &word) {
+fn bound(rt: &impl Abort, alloc: Global, instance: &Instance, jobs: &[usize]) -> Option<u64> {
+    bound_of(
+        rt,
+        alloc,
+        instance,
+        &Word::of_jobs(jobs.to_vec(alloc).expect(rt, "memory")),
+    )
+}
+
+/// The bound of a word, if it fits the instance.
+fn bound_of(rt: &impl Abort, alloc: Global, instance: &Instance, word: &Word) -> Option<u64> {
+    if !fits(instance, word) {
         return None;
     }
-    Some(lower_bound(alloc, instance, &word).expect(rt, "memory"))
+    Some(lower_bound(alloc, instance, word).expect(rt, "memory"))
 }
 
 #[test]
@@ -157,7 +166,7 @@ fn ft06_before_and_after_its_start_word(rt: HostRuntime) {
     let instance = of_rows(6, rows).expect(&rt, "an instance");
     assert_eq!(rt; bound(&rt, alloc, &instance, &[]), Some(52));
     let start = start_word(alloc, &instance).expect(&rt, "memory");
-    assert_eq!(rt; bound(&rt, alloc, &instance, start.jobs()), Some(152));
+    assert_eq!(rt; bound_of(&rt, alloc, &instance, &start), Some(152));
 }
 
 /// The greatest head, the sum of the times and the greatest tail, if the sum is no greater than a number may be.
@@ -317,8 +326,11 @@ fn a_thousand_jobs_one_after_another(rt: HostRuntime) {
 fn has_next(rt: &impl Abort, alloc: Global, instance: &Instance, desk: &Desk, job: u16) -> bool
     ensures { IsTrue result → IsWord instance.now (desk.now.word ++ job ∷ []) }
 {
-    let mut jobs = desk.jobs().to_vec(alloc).expect(rt, "memory");
-    jobs.push(job).expect(rt, "memory");
+    let mut jobs = Vec::new(alloc);
+    for &dispatched in desk.jobs() {
+        jobs.push(dispatched as usize).expect(rt, "memory");
+    }
+    jobs.push(job as usize).expect(rt, "memory");
     fits(instance, &Word::of_jobs(jobs))
 }
 

@@ -189,14 +189,16 @@ fn the_start_word_and_its_table(rt: HostRuntime) {
     let alloc = rt.alloc();
     let instance = crossing(alloc).expect(&rt, "an instance");
     let word = start_word(alloc, &instance).expect(&rt, "memory");
-    assert_eq!(rt; word.jobs(), [0, 0, 1, 1].as_slice());
-    assert_eq!(rt;
-        word.copied(alloc).expect(&rt, "memory").jobs(),
-        [0, 0, 1, 1].as_slice()
+    assert_jobs(&rt, &word, &[0, 0, 1, 1]);
+    assert_jobs(
+        &rt,
+        &word.copied(alloc).expect(&rt, "memory"),
+        &[0, 0, 1, 1],
     );
     assert!(rt; fits(&instance, &word));
     assert!(rt; is_full(&instance, &word));
     let table = place(alloc, &instance, &word).expect(&rt, "memory");
+    assert_eq!(rt; table.len(), 2);
     assert_eq!(rt; table.row(0), [0, 3].as_slice());
     assert_eq!(rt; table.row(1), [5, 7].as_slice());
     assert_eq!(rt;
@@ -205,18 +207,46 @@ fn the_start_word_and_its_table(rt: HostRuntime) {
     );
 }
 
+fn word(rt: &impl Abort, alloc: Global, jobs: &[usize]) -> Word {
+    Word::of_jobs(jobs.to_vec(alloc).expect(rt, "memory"))
+}
+
+fn assert_jobs(rt: &impl Abort, word: &Word, jobs: &[usize]) {
+    assert_eq!(rt; word.len(), jobs.len());
+    for (job, expected) in word.jobs().zip(jobs) {
+        assert_eq!(rt; job, *expected);
+    }
+}
+
 #[test]
-fn words_that_grow(rt: HostRuntime) {
+fn words_that_no_instance_has(rt: HostRuntime) {
     let alloc = rt.alloc();
     let instance = crossing(alloc).expect(&rt, "an instance");
-    let word = Word::of_jobs(vec![in alloc; 1, 0, 0].expect(&rt, "memory"));
-    assert!(rt; fits(&instance, &word));
-    assert!(rt; !is_full(&instance, &word));
-    assert!(rt; !fits(&instance, &word.followed_by(alloc, 0).expect(&rt, "memory")));
-    assert!(rt; !fits(&instance, &word.followed_by(alloc, 2).expect(&rt, "memory")));
-    let word = word.followed_by(alloc, 1).expect(&rt, "memory");
+    // In 16 bits the first would be 0, and the last 1.
+    let far = word(&rt, alloc, &[65_536, 0, 1, 65_537]);
+    assert!(rt; !fits(&instance, &far));
+    assert!(rt; !is_full(&instance, &far));
+    assert_jobs(&rt, &far, &[65_536, 0, 1, 65_537]);
+    assert_jobs(
+        &rt,
+        &far.copied(alloc).expect(&rt, "memory"),
+        &[65_536, 0, 1, 65_537],
+    );
+}
+
+#[test]
+fn words_that_fit(rt: HostRuntime) {
+    let alloc = rt.alloc();
+    let instance = crossing(alloc).expect(&rt, "an instance");
+    let begun = word(&rt, alloc, &[1, 0, 0]);
+    assert!(rt; fits(&instance, &begun));
+    assert!(rt; !is_full(&instance, &begun));
+    assert!(rt; !fits(&instance, &word(&rt, alloc, &[1, 0, 0, 0])));
+    assert!(rt; !fits(&instance, &word(&rt, alloc, &[1, 0, 0, 2])));
+    let word = word(&rt, alloc, &[1, 0, 0, 1]);
     assert!(rt; is_full(&instance, &word));
     let table = place(alloc, &instance, &word).expect(&rt, "memory");
+    assert_eq!(rt; table.len(), 2);
     assert_eq!(rt; table.row(0), [0, 3].as_slice());
     assert_eq!(rt; table.row(1), [0, 3].as_slice());
 }

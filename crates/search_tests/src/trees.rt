@@ -2,19 +2,20 @@
 ghost use Rattle.std.specs.Prelude.{◌≡◌, ◌<◌, ◌^◌};
 ghost use Rattle.shop_tree.specs.Nodes.{IsNode, AreNodes};
 
-use shop_model::{Instance, Word, fits, is_full};
+use shop_bound::lower_bound;
+use shop_model::{Instance, SharedWord, Word, fits, is_full, place};
 use shop_tree::{Layout, Node, Piece, Searcher, Sheet, children, conflict, search};
 use std::alloc::Global;
 use std::process::Abort;
 use worked_instances::{crossing, with_a_gap, with_two_orders, with_zeros};
 
-fn word(rt: &impl Abort, alloc: Global, jobs: &[u16]) -> Word
+fn word(rt: &impl Abort, alloc: Global, jobs: &[usize]) -> Word
     ensures { result ≡ jobs.now }
 {
     Word::of_jobs(jobs.to_vec(alloc).expect(rt, "memory"))
 }
 
-fn node(rt: &impl Abort, alloc: Global, instance: &Instance, jobs: &[u16]) -> Node
+fn node(rt: &impl Abort, alloc: Global, instance: &Instance, jobs: &[usize]) -> Node
     ensures { IsNode instance.now result }
 {
     let word = word(rt, alloc, jobs);
@@ -22,15 +23,24 @@ fn node(rt: &impl Abort, alloc: Global, instance: &Instance, jobs: &[u16]) -> No
     Node::new(alloc, instance, word).expect(rt, "memory")
 }
 
-fn one_node(rt: &impl Abort, alloc: Global, instance: &Instance, jobs: &[u16]) -> Piece
+fn one_node(rt: &impl Abort, alloc: Global, instance: &Instance, jobs: &[usize]) -> Piece
     ensures { AreNodes instance.now result.nodes.items }
 {
     let node = node(rt, alloc, instance, jobs);
     Piece::new(0, vec![in alloc; node].expect(rt, "memory"))
 }
 
-fn assert_sheet(rt: &impl Abort, sheet: &Sheet, found: Option<&[u16]>, makespan: u64, taken: u64) {
-    assert_eq!(rt; sheet.found.as_ref().map(|word| word.jobs()), found);
+fn assert_sheet(
+    rt: &impl Abort,
+    sheet: &Sheet,
+    found: Option<&[usize]>,
+    makespan: u64,
+    taken: u64,
+) {
+    assert_eq!(rt; sheet.found.is_some(), found.is_some());
+    if let (Some(word), Some(jobs)) = (&sheet.found, found) {
+        assert_word(rt, word, jobs);
+    }
     assert_eq!(rt; sheet.makespan, makespan);
     assert_eq!(rt; sheet.taken, taken);
 }
@@ -43,19 +53,22 @@ fn assert_bounds(rt: &impl Abort, alloc: Global, sheet: &Sheet, bounds: &[u64]) 
     }
 }
 
-fn assert_left(rt: &impl Abort, alloc: Global, sheet: &Sheet, words: &[&[u16]]) {
+fn assert_left(rt: &impl Abort, alloc: Global, sheet: &Sheet, words: &[&[usize]]) {
     let left = sheet.left.nodes(alloc).expect(rt, "memory");
     assert_eq!(rt; left.len(), words.len());
     for (node, word) in left.iter().zip(words) {
-        assert_jobs(rt, node, word);
+        assert_word(rt, &node.word, word);
     }
 }
 
-fn assert_jobs(rt: &impl Abort, node: &Node, jobs: &[u16]) {
-    assert_eq!(rt; node.word.len(), jobs.len());
+fn assert_word(rt: &impl Abort, word: &Word, jobs: &[usize]) {
+    assert_eq!(rt; word.len(), jobs.len());
     for (index, job) in jobs.iter().enumerate() {
-        assert!(rt; index < node.word.len());
-        assert_eq!(rt; node.word.job(index), *job as usize);
+        assert!(rt; index < word.len());
+        assert_eq!(rt; word.job(index), *job);
+    }
+    for (job, expected) in word.jobs().zip(jobs) {
+        assert_eq!(rt; job, *expected);
     }
 }
 
@@ -97,13 +110,12 @@ fn children_by_bound(rt: HostRuntime) {
     let alloc = rt.alloc();
     let instance = with_a_gap(alloc).expect(&rt, "an instance");
     let node = node(&rt, alloc, &instance, &[1]);
-    let word = node.word.to_word(alloc).expect(&rt, "memory");
-    assert!(&rt; !is_full(&instance, &word));
+    assert!(&rt; !is_full(&instance, &node.word));
     let children = children(alloc, &instance, &node).expect(&rt, "memory");
     assert_eq!(&rt; children.len(), 2);
-    assert_jobs(&rt, &children[0], &[1, 1]);
+    assert_word(&rt, &children[0].word, &[1, 1]);
     assert_eq!(&rt; children[0].bound, 10);
-    assert_jobs(&rt, &children[1], &[1, 0]);
+    assert_word(&rt, &children[1].word, &[1, 0]);
     assert_eq!(&rt; children[1].bound, 12);
 }
 
@@ -189,8 +201,8 @@ fn two_nodes(
     rt: &impl Abort,
     alloc: Global,
     instance: &Instance,
-    first: &[u16],
-    second: &[u16],
+    first: &[usize],
+    second: &[usize],
 ) -> Piece
     ensures { AreNodes instance.now result.nodes.items }
 {
@@ -255,23 +267,63 @@ fn budget_that_ends_among_children_that_only_count(rt: HostRuntime) {
 }
 
 #[test]
-fn a_node_shared(rt: HostRuntime) {
+fn copies_of_nodes(rt: HostRuntime) {
     let alloc = rt.alloc();
     let instance = with_a_gap(alloc).expect(&rt, "an instance");
-    let node = node(&rt, alloc, &instance, &[1, 1, 0])
-        .shared()
-        .expect(&rt, "memory");
-    assert_eq!(&rt; node.bound, 10);
-    assert_jobs(&rt, &node, &[1, 1, 0]);
+    let node = node(&rt, alloc, &instance, &[1, 1, 0]);
+    let copy = node.copied(alloc).expect(&rt, "memory");
+    assert_eq!(&rt; copy.bound, 10);
+    assert_word(&rt, &copy.word, &[1, 1, 0]);
+}
+
+#[test]
+fn words_that_share_their_jobs(rt: HostRuntime) {
+    let alloc = rt.alloc();
+    let word = SharedWord::of_path(alloc, &[1, 1, 0]).expect(&rt, "memory");
+    let mut list = vec![in alloc; 7_u16].expect(&rt, "memory");
+    word.write_to(&mut list).expect(&rt, "memory");
+    assert_eq!(&rt; list.as_slice(), [1, 1, 0].as_slice());
+    let again = Word::of_shared(word.shared().expect(&rt, "memory"));
+    assert_word(&rt, &again, &[1, 1, 0]);
+    assert_word(&rt, &again.copied(alloc).expect(&rt, "memory"), &[1, 1, 0]);
+    assert_word(&rt, &Word::of_shared(word), &[1, 1, 0]);
+}
+
+#[test]
+fn words_of_nodes_go_into_every_call(rt: HostRuntime) {
+    let alloc = rt.alloc();
+    let instance = crossing(alloc).expect(&rt, "an instance");
+    let root = node(&rt, alloc, &instance, &[]);
+    assert!(&rt; !is_full(&instance, &root.word));
+    let nodes = children(alloc, &instance, &root).expect(&rt, "memory");
+    assert_eq!(&rt; nodes.len(), 1);
+    let word = &nodes[0].word;
+    assert_word(&rt, word, &[1]);
+    assert!(&rt; fits(&instance, word) && !is_full(&instance, word));
     assert_eq!(&rt;
-        node.word
-            .shared()
+        conflict(alloc, &instance, word)
             .expect(&rt, "memory")
-            .to_word(alloc)
-            .expect(&rt, "memory")
-            .jobs(),
-        [1, 1, 0].as_slice()
+            .as_slice(),
+        [0, 1].as_slice()
     );
+    assert_eq!(&rt;
+        lower_bound(alloc, &instance, word).expect(&rt, "memory"),
+        7
+    );
+}
+
+#[test]
+fn a_found_word_is_placed(rt: HostRuntime) {
+    let alloc = rt.alloc();
+    let instance = crossing(alloc).expect(&rt, "an instance");
+    let piece = one_node(&rt, alloc, &instance, &[]);
+    let sheet = search(alloc, &instance, &piece, 11, 100).expect(&rt, "memory");
+    let found = sheet.found.as_ref().expect(&rt, "a word");
+    assert!(&rt; is_full(&instance, found));
+    let table = place(alloc, &instance, found).expect(&rt, "memory");
+    assert_eq!(&rt; table.len(), 2);
+    assert_eq!(&rt; table.row(0), [0, 3].as_slice());
+    assert_eq!(&rt; table.row(1), [0, 3].as_slice());
 }
 
 /// The search of a piece with at most so many states for children that wait.
@@ -294,8 +346,12 @@ fn search_with_states<'r>(
 }
 
 fn assert_same_sheet(rt: &impl Abort, alloc: Global, sheet: &Sheet, other: &Sheet) {
-    let found = other.found.as_ref().map(|word| word.jobs());
-    assert_sheet(rt, sheet, found, other.makespan, other.taken);
+    assert_eq!(rt; sheet.found.is_some(), other.found.is_some());
+    if let (Some(word), Some(expected)) = (&sheet.found, &other.found) {
+        assert_same_word(rt, word, expected);
+    }
+    assert_eq!(rt; sheet.makespan, other.makespan);
+    assert_eq!(rt; sheet.taken, other.taken);
     let (left, others) = (
         sheet.left.nodes(alloc).expect(rt, "memory"),
         other.left.nodes(alloc).expect(rt, "memory"),
@@ -303,8 +359,14 @@ fn assert_same_sheet(rt: &impl Abort, alloc: Global, sheet: &Sheet, other: &Shee
     assert_eq!(rt; left.len(), others.len());
     for (node, other) in left.iter().zip(others.iter()) {
         assert_eq!(rt; node.bound, other.bound);
-        let word = other.word.to_word(alloc).expect(rt, "memory");
-        assert_jobs(rt, node, word.jobs());
+        assert_same_word(rt, &node.word, &other.word);
+    }
+}
+
+fn assert_same_word(rt: &impl Abort, word: &Word, expected: &Word) {
+    assert_eq!(rt; word.len(), expected.len());
+    for (job, expected) in word.jobs().zip(expected.jobs()) {
+        assert_eq!(rt; job, expected);
     }
 }
 

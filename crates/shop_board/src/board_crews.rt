@@ -31,7 +31,7 @@ impl<G: Drop> BoardCrew<G> {
 }
 
 impl<G> BoardCrew<G> {
-    /// Gives the gate, with what it may have noted.
+    /// Gives the gate, with what it may have noted. For library callers: the program doesn't use it.
     pub fn gate(&self) -> &G
         ensures { result.now ≡ self.now.workers.gate }
     {

@@ -125,7 +125,7 @@ fn claim_rest(board: &Board, seat: &mut Seat, places: &[Option<Entry>])
 
 /// Gives the entries of a round by this many workers at most, who claim its pieces on a board. No more are started than
 /// there are pieces; what a thread that can't be started would have done, the others do. A piece that nobody brought is
-/// claimed and searched by the calling thread.
+/// claimed and searched by the calling thread. Fails with `AllocError` if memory runs out.
 pub fn search_claimed<'r, R: Threads + Sync, G: SeatGate + Sync>(
     rt: &R,
     alloc: Global,

@@ -143,7 +143,7 @@ impl<'r> Board<'r> {
 
     /// Tells the least number of a piece that ends at the opening bound, or how many pieces there are. The seat has won
     /// all pieces, and of those that end at the opening bound it marked each that isn't above one that it marked or
-    /// read.
+    /// read. For library callers: the program doesn't use it.
     pub fn close(self, seat: Seat) -> usize
         requires seat { IsSeatOf self seat }
         requires all { HasAll (knows seat) }

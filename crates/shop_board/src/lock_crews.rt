@@ -22,7 +22,8 @@ use std::thread;
 use std::thread::Threads;
 
 /// Workers that take numbers of pieces from one locked pool. Worker 0 is the calling thread. A search
-/// may wait for its workers, and has joined all of them when it returns.
+/// may wait for its workers, and has joined all of them when it returns. For library callers: the
+/// program doesn't use it.
 #[derive(Drop)]
 pub struct LockCrew<G> {
     workers: Workers<G>,

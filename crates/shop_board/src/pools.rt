@@ -2,6 +2,7 @@
 ghost use Rattle.std.specs.Prelude.{◌≡◌, ◌+◌, ◌<◌, ◌≤◌, IfSome, IfNone};
 
 /// The numbers of the pieces that nobody has taken yet: those from the next one on, below the number of pieces.
+/// For library callers: the program doesn't use it.
 #[derive(Drop)]
 pub struct Pool {
     pieces: usize,

@@ -101,7 +101,7 @@ fn work_through<'r, G: SeatGate>(
 /// Claims each piece of the board in order, and searches or passes those that the seat wins. A piece is passed where
 /// the seat has read a lower number that was marked; one that was searched and ends at the opening bound is marked.
 /// The seat comes back with all that it knew and had won before, and with the entries of the pieces that it won in this
-/// call, in number order; or with `AllocError` where a growth was refused. It waits for nobody but the gate.
+/// call, in number order; or with `AllocError` if memory runs out. It waits for nobody but the gate.
 pub fn work<'r, G: SeatGate>(
     alloc: Global,
     board: &Board,

@@ -1,18 +1,13 @@
 -- What a state of a word is known by.
---     with_last path last            a path, and one job more, if any
 --     IsOfSomeWord P                 P holds of some word
 --     HasSoleCandidate shop P job    P holds of some word whose conflict set is one job
 --     CanDispatch shop P job bound   P holds of some word, which can go on with the job and has this
 --                                    bound
-use Rattle.std.specs.Prelude.{◌≡◌, ℕ, List, [], ◌∷◌, ◌++◌, Option, Some, None}
+use Rattle.std.specs.Prelude.{◌≡◌, ℕ, List, [], ◌∷◌, ◌++◌}
 use Rattle.shop_model.specs.Shop.{Shop}
 use Rattle.shop_model.specs.Word.{IsWord}
 use Rattle.shop_heads.specs.Bound.{lb}
 use Rattle.shop_heads.specs.Conflicts.{conflict}
-
-abbrev pub with_last : List ℕ → Option ℕ → List ℕ
-with_last path None = path
-with_last path (Some job) = path ++ job ∷ []
 
 pub record IsOfSomeWord (P : List ℕ → Type 0) : Type 0 where
   pub word : List ℕ

@@ -10,7 +10,8 @@ use std::alloc::{AllocError, Global};
 use std::marker::Model;
 
 /// An instance and a word of it that is dispatched entry by entry, with its bound, in units of time. It takes all its
-/// memory in `new`; the calls after it take none, and none of them fails.
+/// memory in `new`; the calls after it take none, and none of them fails. For library callers: the program doesn't
+/// use it.
 #[derive(Drop)]
 pub struct Desk<'a> {
     ring: Box<LaneRing<'a>>,

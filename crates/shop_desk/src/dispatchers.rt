@@ -4,7 +4,7 @@ ghost use Rattle.shop_desk.specs.inner.Dispatchers.{IsReady};
 
 use crate::advances::{advance_below, strike};
 use crate::dispatching::{Candidate, Dispatching};
-use crate::fills::{fill_state, place_word};
+use crate::fills::fill_state;
 use crate::gathering::gather;
 use crate::grid::Grid;
 use crate::machine_raises::MachineRaises;
@@ -92,14 +92,8 @@ impl<'a, L: StateLanes> Dispatching for Dispatcher<'a, L> {
         Ok(State { lanes, next })
     }
 
-    fn fill(
-        &self,
-        scratch: &mut Scratch<L>,
-        path: &[u16],
-        last: Option<u16>,
-        state: &mut State<L>,
-    ) {
-        place_word(&mut scratch.placement, self.instance, path, last);
+    fn fill(&self, scratch: &mut Scratch<L>, path: &[u16], state: &mut State<L>) {
+        scratch.placement.set_to(self.instance, path);
         fill_state(
             &mut state.lanes,
             state.next.as_mut_slice(),

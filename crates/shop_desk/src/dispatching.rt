@@ -8,7 +8,7 @@ ghost use Rattle.shop_heads.specs.Bound.{lb};
 ghost use Rattle.shop_heads.specs.Conflicts.{conflict, SoleCandidateKeepsBound};
 ghost use Rattle.shop_desk.specs.Desks.{TellsBoundBelow};
 ghost use Rattle.shop_desk.specs.declared.dispatching.Candidate.{Candidate};
-ghost use Rattle.shop_desk.specs.States.{CanDispatch, HasSoleCandidate, IsOfSomeWord, with_last};
+ghost use Rattle.shop_desk.specs.States.{CanDispatch, HasSoleCandidate, IsOfSomeWord};
 
 use std::alloc::{AllocError, Global};
 
@@ -49,18 +49,12 @@ pub trait Dispatching {
     fn slot(&self, alloc: Global) -> Result<Self::State, AllocError>
         ensures { IfOk result (λ s. IsSlot self.now s) };
 
-    /// Sets a state to that of a word: a path, and one job more, if any.
-    fn fill(
-        &self,
-        scratch: &mut Self::Scratch,
-        path: &[u16],
-        last: Option<u16>,
-        state: &mut Self::State,
-    )
+    /// Sets a state to that of the word of a path.
+    fn fill(&self, scratch: &mut Self::Scratch, path: &[u16], state: &mut Self::State)
         requires scratch { IsScratch self.now scratch.old }
         requires slot { IsSlot self.now state.old }
-        requires word { IsWord (shop self.now) (with_last path.now last) }
-        ensures state { IsStateOf self.now (with_last path.now last) state.new }
+        requires word { IsWord (shop self.now) path.now }
+        ensures state { IsStateOf self.now path.now state.new }
         ensures scratch { IsScratch self.now scratch.new };
 
     /// Sets a state to another.

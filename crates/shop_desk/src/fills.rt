@@ -1,9 +1,8 @@
 // A state is set to that of a word, by its placement.
 ghost use Rattle.std.specs.Prelude.{◌≡◌, ℕ, ◌<◌, List, length};
-ghost use Rattle.shop_model.specs.Placements.{HasPlaces, IsPlacement};
+ghost use Rattle.shop_model.specs.Placements.{IsPlacement};
 ghost use Rattle.shop_model.specs.Word.{IsWord, placing};
 ghost use Rattle.shop_heads.specs.inner.PlacedWords.{IsOfWord};
-ghost use Rattle.shop_desk.specs.States.{with_last};
 ghost use Rattle.shop_desk.specs.inner.Dispatchers.{IsReady};
 ghost use Rattle.shop_desk.specs.inner.Fills.{AreNextsPlaced, CanFill, HasFilled, HasFilledJob};
 ghost use Rattle.shop_desk.specs.inner.LaneStates.{HasRoom, IsKeptInLanes, rows_of};
@@ -110,23 +109,4 @@ pub(crate) fn fill_state<L: StateLanes>(
     fill_heads(lanes, grid, instance, placement);
     fill_nexts(next, grid, instance, placement);
     set_ends(lanes, grid, next);
-}
-
-/// Places a path, and one job more, if any, in place of what was placed.
-pub(crate) fn place_word(
-    placement: &mut Placement,
-    instance: &Instance,
-    path: &[u16],
-    last: Option<u16>,
-)
-    requires places { HasPlaces instance.now placement.old }
-    requires word { IsWord instance.now (with_last path.now last) }
-    ensures { IsPlacement instance.now (placing instance.now (with_last path.now last))
-        placement.new }
-{
-    placement.set_to(instance, path);
-    let Some(job) = last else {
-        return;
-    };
-    let _start = placement.place_next(instance, job as usize);
 }

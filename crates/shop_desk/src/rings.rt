@@ -116,7 +116,7 @@ impl<D: Dispatching + Drop> Ring<D> {
         let earlier = slots(alloc, &dispatcher, kept_states(operations))?;
         let mut scratch = dispatcher.scratch(alloc)?;
         let mut state = dispatcher.slot(alloc)?;
-        dispatcher.fill(&mut scratch, word.as_slice(), None, &mut state);
+        dispatcher.fill(&mut scratch, word.as_slice(), &mut state);
         Ok(Ring {
             dispatcher,
             scratch,
@@ -151,12 +151,8 @@ impl<D: Dispatching + Drop> Ring<D> {
         let _job = self.word.pop();
         let _bound = self.bounds.pop();
         if self.kept == 0 {
-            self.dispatcher.fill(
-                &mut self.scratch,
-                self.word.as_slice(),
-                None,
-                &mut self.state,
-            );
+            self.dispatcher
+                .fill(&mut self.scratch, self.word.as_slice(), &mut self.state);
             return;
         }
         step_back(&mut self.state, &mut self.earlier);

@@ -67,7 +67,7 @@ fn operations_by_machine(alloc: Global, instance: &Instance) -> Result<Vec<Vec<S
     Ok(lists)
 }
 
-/// The operations of each machine, by nonincreasing tails. Fails only where memory was refused.
+/// The operations of each machine, by nonincreasing tails. Fails with `AllocError` if memory runs out.
 pub(crate) fn machine_slots(
     alloc: Global,
     instance: &Instance,

@@ -42,8 +42,8 @@ fn schedule_or<'t>(schedule: Option<&'t [u8]>, text: &'t [u8]) -> &'t [u8]
 }
 
 /// Whether a schedule text is feasible for the instance that is asked for in an instance text, and the line of the
-/// verdict; without a schedule text it stands in the instance text itself. For those who embed the library: it reads
-/// and writes no device.
+/// verdict; without a schedule text it stands in the instance text itself. For library callers: the program
+/// doesn't use it. It reads and writes no device.
 ///
 /// Refused by the instance text's one fault, as `NoSuchName`, by the schedule text's one fault, or as `NoMemory` if
 /// memory runs out.

@@ -5,7 +5,7 @@ use crate::devices::{DeviceFailed, Sink};
 use std::alloc::{AllocError, Global};
 
 /// A sink that holds its bytes in memory, in room made beforehand. Writing takes no memory, and fails where the room is
-/// full.
+/// full. For library callers: the program doesn't use it.
 #[derive(Drop)]
 pub struct Memory {
     held: Vec<u8>,
@@ -15,7 +15,7 @@ pub struct Memory {
 }
 
 impl Memory {
-    /// An empty sink with room for so many bytes.
+    /// An empty sink with room for so many bytes. Fails with `AllocError` if memory runs out.
     pub fn with_room(alloc: Global, room: usize) -> Result<Memory, AllocError>
         ensures empty { IfOk result (λ m. m.held.items ≡ []) }
         ensures fresh { IfOk result (λ m. m.failures ≡ 0) }

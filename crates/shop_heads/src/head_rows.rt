@@ -56,7 +56,8 @@ fn heads_of_jobs(
     Ok(rows)
 }
 
-/// The heads of the operations that a word leaves: the longest paths to them in the disjunctive model.
+/// The heads of the operations that a word leaves: the longest paths to them in the disjunctive model. For library
+/// callers: the program doesn't use it.
 #[derive(Drop)]
 pub struct Heads {
     rows: Vec<Vec<Option<u64>>>,
@@ -71,7 +72,7 @@ impl Model for Heads {
 }
 
 impl Heads {
-    /// The heads once the word, which fits the instance, is placed. Fails only where memory was refused.
+    /// The heads once the word, which fits the instance, is placed. Fails with `AllocError` if memory runs out.
     pub fn of(alloc: Global, instance: &Instance, word: &Word) -> Result<Heads, AllocError>
         requires { IsWord instance.now word.now }
         ensures { IfOk result (λ h. TellsHeads instance.now word.now h) }

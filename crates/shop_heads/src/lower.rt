@@ -28,7 +28,7 @@ fn greatest_bound(alloc: Global, free: &[u64], unplaced: &[Unplaced]) -> Result<
 
 /// The lower bound of a word that fits the instance: the greatest of the placed ends and of the one-machine bounds of
 /// what is left. No feasible table under the word ends before it, the table that a full word places is feasible and
-/// ends at it, and it is below 2^50. Fails only where memory was refused.
+/// ends at it, and it is below 2^50. Fails with `AllocError` if memory runs out.
 pub fn lower_bound(alloc: Global, instance: &Instance, word: &Word) -> Result<u64, AllocError>
     requires { IsWord instance.now word.now }
     ensures bound { IfOk result (λ b. b ≡ lb instance.now word.now) }

@@ -33,8 +33,8 @@ fn tails_of_route(alloc: Global, route: &[Op]) -> Result<Vec<u64>, AllocError>
     Ok(tails)
 }
 
-/// The tail of each operation, one row a job: the sum of the times of the later steps of its route. Fails only where
-/// memory was refused.
+/// The tail of each operation, one row a job: the sum of the times of the later steps of its route. Fails with
+/// `AllocError` if memory runs out. For library callers: the program doesn't use it.
 pub fn tails(alloc: Global, instance: &Instance) -> Result<Vec<Vec<u64>>, AllocError>
     ensures { IfOk result (λ v. AreTails instance.now (map (λ row. row.items) v.items)) }
 {

@@ -83,6 +83,15 @@ next_of_word shop w word i below s is = record {
   placed = is;
 }
 
+-- the same of a job that was read
+pub placing-job : (shop : Shop) (w : List ℕ) (i n j : ℕ) → i < n → n ≡ length w → j ≡ get_or w i 0
+    → placing shop (take (i + 1) w) ≡ place_next shop (placing shop (take i w)) j
+placing-job shop w i n j below e read = rw read (placing-take shop w i (omega arith))
+
+pub next_of_job : (shop : Shop) (w : List ℕ) → IsWord shop w → (i n j : ℕ) → i < n → n ≡ length w → j ≡ get_or w i 0
+    → (s : PlacementState) → IsPlacement shop (placing shop (take i w)) s → HasNext shop j s
+next_of_job shop w word i n j below e read s is = rw read (next_of_word shop w word i (omega arith) s is)
+
 -- what was read, for one more step to be placed: its number, the operation, and when its job and its machine are ready
 pub record AreReads (shop : Shop) (j : ℕ) (s : PlacementState) (k : ℕ) (o : Op) (r f : ℕ) : Type 0 where
   pub step : k ≡ get_or s.steps j 0

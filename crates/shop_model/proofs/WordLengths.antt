@@ -4,10 +4,12 @@ use Rattle.std.proofs.Common.{sym, arith}
 use Rattle.std.specs.List.{AllByRecursion}
 use Rattle.std.proofs.lemmas.Bool.{cases_eq}
 use Rattle.std.proofs.lemmas.List.{length_push}
+use Rattle.std.proofs.lemmas.List.Elements.{All-weaker}
 use Rattle.shop_model.specs.Shop.{Shop, machine_of}
 use Rattle.shop_model.specs.Limits.{IsWithinLimits}
 use Rattle.shop_model.specs.Word.{Placing, place_next, placing, count_of, IsWord}
-use Rattle.shop_model.proofs.WordLemmas.{snoc_induct, jobs_below, count_of-head, count_of-head_other}
+use Rattle.shop_model.specs.SharedWords.{CanBeShared}
+use Rattle.shop_model.proofs.WordLemmas.{snoc_induct, jobs_below, word_jobs, count_of-head, count_of-head_other}
 use Rattle.shop_model.proofs.Placings.{IsNext, place_next-is}
 use Rattle.shop_model.proofs.Unders.{placing-snoc}
 
@@ -53,6 +55,15 @@ word_length shop w limits word =
     in let b = sum_below-le (λ i. count_of i w) (length shop.jobs)
     (λ i. let x = word i in let y = limits.routes i in omega arith)
     in let c = limits.jobs in omega arith
+
+-- a word of an instance can share its jobs
+pub word_shared : (shop : Shop) (w : List ℕ) → IsWithinLimits shop → IsWord shop w → CanBeShared w
+word_shared shop w limits word =
+    let most = limits.jobs
+    in record {
+      jobs = All-weaker (λ j. j < length shop.jobs) (λ j. j < 1000) (λ j below. omega arith) w (word_jobs shop w word);
+      length = word_length shop w limits word;
+    }
 
 -- no job and no machine is ready later than b
 pub record IsReadyBy (p : Placing) (b : ℕ) : Type 0 where

@@ -1,5 +1,6 @@
 pub mod Shop
 pub mod Word
+pub mod SharedWords
 pub mod Limits
 pub mod Given
 pub mod Checking

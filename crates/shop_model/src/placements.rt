@@ -49,7 +49,7 @@ impl Placement {
         ensures { IfOk result (λ s. IsPlacement instance.now (placing instance.now word.now) s) }
     {
         let mut placement = Placement::none(alloc, instance)?;
-        placement.place_all(instance, word.jobs());
+        placement.place_word(instance, word);
         Ok(placement)
     }
 
@@ -93,6 +93,17 @@ impl Placement {
     {
         for &j in jobs {
             let _start = self.place_next(instance, j as usize);
+        }
+    }
+
+    /// Places the operations of a word that fits the instance, where nothing is placed.
+    fn place_word(&mut self, instance: &Instance, word: &Word)
+        requires none { IsPlacement instance.now (none_placed instance.now) self.old }
+        requires word { IsWord instance.now word.now }
+        ensures { IsPlacement instance.now (placing instance.now word.now) self.new }
+    {
+        for index in 0..word.len() {
+            let _start = self.place_next(instance, word.job(index));
         }
     }
 

@@ -34,9 +34,10 @@ pub fn place(alloc: Global, instance: &Instance, word: &Word) -> Result<Table, A
 {
     let mut placement = Placement::none(alloc, instance)?;
     let mut rows = empty_rows(alloc, instance)?;
-    for &j in word.jobs() {
-        let start = placement.place_next(instance, j as usize);
-        rows[j as usize].push(start)?;
+    for index in 0..word.len() {
+        let j = word.job(index);
+        let start = placement.place_next(instance, j);
+        rows[j].push(start)?;
     }
     instance.keeps_limits();
     Ok(Table::of_checked(rows))

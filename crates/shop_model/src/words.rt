@@ -1,73 +1,152 @@
 // Job sequences: the order in which operations are dispatched.
-ghost use Rattle.std.specs.Prelude.{◌≡◌, ◌↔◌, ◌++◌, ◌∷◌, [], ◌<◌, All, IfOk, IsTrue};
+ghost use Rattle.std.specs.Prelude.{◌≡◌, ◌↔◌, ◌<◌, ◌≤◌, All, IfOk, OnOk, IsTrue, length, slice_index};
+ghost use Rattle.std.specs.Prelude.{vec_capacity};
+ghost use Rattle.shop_model.specs.SharedWords.{CanBeShared};
 ghost use Rattle.shop_model.specs.Word.{count_of, IsWord, IsFull, start_jobs};
 
 use crate::instances::Instance;
+use crate::shared_words::SharedWord;
+use crate::word_jobs::Jobs;
 use std::alloc::{AllocError, Global};
 use std::marker::Model;
+
+/// The jobs of a word: a list of its own, or what it shares with other words.
+#[derive(Drop)]
+enum Entries {
+    Listed(Vec<usize>),
+    Shared(SharedWord),
+}
 
 /// A job sequence, the order in which operations are dispatched (permutation with repetition, Bierwirth 1995): each
 /// entry is a job, and stands for the job's next step.
 #[derive(Drop)]
 pub struct Word {
-    entries: Vec<u16>,
+    entries: Entries,
 }
 
 impl Model for Word {
     ghost use Rattle.std.specs.Prelude.{List, ℕ};
+    ghost use Rattle.shop_model.specs.inner.Entries.{entries_jobs};
 
     ghost Value = { List ℕ };
 
-    ghost view = { λ w. w.entries.items };
+    ghost view = { λ w. entries_jobs w.entries };
 }
 
 impl Word {
-    /// The word of just these jobs.
-    pub fn of_jobs(jobs: Vec<u16>) -> Word
+    /// The word of just these jobs. Takes no memory.
+    pub fn of_jobs(jobs: Vec<usize>) -> Word
         ensures { result ≡ jobs.items }
     {
-        Word { entries: jobs }
+        Word {
+            entries: Entries::Listed(jobs),
+        }
+    }
+
+    /// The same word as one that shares its jobs. Takes no memory.
+    pub fn of_shared(word: SharedWord) -> Word
+        ensures { result ≡ word }
+    {
+        Word {
+            entries: Entries::Shared(word),
+        }
+    }
+
+    /// How many jobs the word has.
+    pub fn len(&self) -> usize
+        ensures { result ≡ length self.now }
+    {
+        match &self.entries {
+            Entries::Listed(jobs) => jobs.len(),
+            Entries::Shared(word) => word.len(),
+        }
+    }
+
+    /// The job at an index.
+    pub fn job(&self, index: usize) -> usize
+        requires { index < length self.now }
+        ensures { result ≡ slice_index self.now index }
+    {
+        match &self.entries {
+            Entries::Listed(jobs) => jobs[index],
+            Entries::Shared(word) => word.job(index),
+        }
     }
 
     /// The jobs of the word, in order.
-    pub fn jobs(&self) -> &[u16]
-        ensures { result.now ≡ self.now }
+    pub fn jobs(&self) -> Jobs<'_>
+        ensures { result ≡ self.now }
     {
-        self.entries.as_slice()
+        Jobs::of(self)
     }
 
-    /// The same word once more. Fails with `AllocError` if memory runs out.
+    /// The word as one that shares its jobs; takes memory where it has a list of its own, and fails with `AllocError`
+    /// if there is none left.
+    pub fn into_shared(self, alloc: Global) -> Result<SharedWord, AllocError>
+        requires { CanBeShared self }
+        ensures { IfOk result (λ w. w ≡ self) }
+    {
+        match self.entries {
+            Entries::Listed(jobs) => SharedWord::of_jobs(alloc, jobs.as_slice()),
+            Entries::Shared(word) => Ok(word),
+        }
+    }
+
+    /// Sets a list to the jobs of the word. Fails with `AllocError` if memory runs out.
+    pub fn write_to(&self, list: &mut Vec<u16>) -> Result<(), AllocError>
+        requires { CanBeShared self.now }
+        ensures list { OnOk result (list.new.items ≡ self.now) }
+        ensures room { vec_capacity list.old ≤ vec_capacity list.new }
+    {
+        match &self.entries {
+            Entries::Listed(jobs) => set_jobs(list, jobs.as_slice()),
+            Entries::Shared(word) => word.write_to(list),
+        }
+    }
+
+    /// The same word once more, with the same jobs where they are shared. Fails with `AllocError` if memory runs out.
     pub fn copied(&self, alloc: Global) -> Result<Word, AllocError>
         ensures { IfOk result (λ w. w ≡ self.now) }
     {
-        Ok(Word {
-            entries: self.jobs().to_vec(alloc)?,
-        })
-    }
-
-    /// The word with one more job at its end, in one copy. Fails with `AllocError` if memory runs out.
-    pub fn followed_by(&self, alloc: Global, job: u16) -> Result<Word, AllocError>
-        ensures { IfOk result (λ w. w ≡ self.now ++ job ∷ []) }
-    {
-        let mut entries = Vec::with_capacity(alloc, self.entries.len() + 1)?;
-        entries.extend_from_slice(self.jobs())?;
-        entries.push(job)?;
-        Ok(Word { entries })
+        match &self.entries {
+            Entries::Listed(jobs) => Ok(Word::of_jobs(jobs.to_vec(alloc)?)),
+            Entries::Shared(word) => Ok(Word::of_shared(word.shared()?)),
+        }
     }
 }
 
-/// How often the job stands among the entries.
-fn count(entries: &[u16], job: usize) -> usize
-    ensures { result ≡ count_of job entries.now }
+/// Sets a list of jobs in 16 bits to these.
+pub(crate) fn set_jobs(list: &mut Vec<u16>, jobs: &[usize]) -> Result<(), AllocError>
+    requires { CanBeShared jobs.now }
+    ensures list { OnOk result (list.new.items ≡ jobs.now) }
+    ensures room { vec_capacity list.old ≤ vec_capacity list.new }
 {
-    entries.iter().filter(|&&i| i as usize == job).count()
+    list.clear();
+    list.reserve(jobs.len())?;
+    for &job in jobs {
+        list.push(job as u16)?;
+    }
+    Ok(())
+}
+
+/// How often the job stands in the word.
+fn count(word: &Word, job: usize) -> usize
+    ensures { result ≡ count_of job word.now }
+{
+    let mut count = 0;
+    for index in 0..word.len() {
+        if word.job(index) == job {
+            count += 1;
+        }
+    }
+    count
 }
 
 /// Whether each entry is one of the jobs.
-fn are_below(jobs: usize, entries: &[u16]) -> bool
-    ensures { IsTrue result ↔ All (λ j. j < jobs) entries.now }
+fn are_below(jobs: usize, word: &Word) -> bool
+    ensures { IsTrue result ↔ All (λ j. j < jobs) word.now }
 {
-    entries.iter().all(|&j| (j as usize) < jobs)
+    word.jobs().all(|j| j < jobs)
 }
 
 /// Whether the word fits the instance: each entry is one of its jobs, and none stands in it more often than its route
@@ -75,11 +154,11 @@ fn are_below(jobs: usize, entries: &[u16]) -> bool
 pub fn fits(instance: &Instance, word: &Word) -> bool
     ensures { IsTrue result ↔ IsWord instance.now word.now }
 {
-    if !are_below(instance.jobs(), word.jobs()) {
+    if !are_below(instance.jobs(), word) {
         return false;
     }
     for j in 0..instance.jobs() {
-        if count(word.jobs(), j) > instance.route(j).len() {
+        if count(word, j) > instance.route(j).len() {
             return false;
         }
     }
@@ -91,11 +170,11 @@ pub fn fits(instance: &Instance, word: &Word) -> bool
 pub fn is_full(instance: &Instance, word: &Word) -> bool
     ensures { IsTrue result ↔ IsFull instance.now word.now }
 {
-    if !are_below(instance.jobs(), word.jobs()) {
+    if !are_below(instance.jobs(), word) {
         return false;
     }
     for j in 0..instance.jobs() {
-        if count(word.jobs(), j) != instance.route(j).len() {
+        if count(word, j) != instance.route(j).len() {
             return false;
         }
     }
@@ -109,7 +188,7 @@ pub fn start_word(alloc: Global, instance: &Instance) -> Result<Word, AllocError
     instance.keeps_limits();
     let mut entries = Vec::with_capacity(alloc, instance.operations())?;
     for j in 0..instance.jobs() {
-        entries.resize(entries.len() + instance.route(j).len(), j as u16)?;
+        entries.resize(entries.len() + instance.route(j).len(), j)?;
     }
-    Ok(Word { entries })
+    Ok(Word::of_jobs(entries))
 }

@@ -2,8 +2,11 @@
 use Rattle.std.proofs.Common.{◌≡◌, ℕ, ◌≤◌, ◌<◌, min, inl, inr, true, List, [], ◌∷◌, refl, ◌∙◌, ap, arith, leb, ltb}
 use Rattle.std.specs.List.{AllByRecursion, Contains}
 use Rattle.std.proofs.lemmas.Bool.{cases_Bool, lt-ltb}
-use Rattle.std.proofs.lemmas.List.Elements.{recursion_from_All, All-from_recursion}
+use Rattle.std.proofs.lemmas.List.Elements.{recursion_from_All, All-from_recursion, All-weaker}
 use Rattle.shop_model.specs.Shop.{Shop}
+use Rattle.shop_model.specs.Limits.{IsWithinLimits}
+use Rattle.shop_model.specs.SharedWords.{CanBeShared}
+use Rattle.shop_model.proofs.WordLengths.{word_shared}
 use Rattle.shop_heads.specs.Bound.{lb}
 use Rattle.shop_tree.specs.declared.nodes.Node.{Node}
 use Rattle.shop_tree.specs.Branching.{insert_by, sort_by}
@@ -12,7 +15,7 @@ use Rattle.shop_tree.proofs.Members.{all_sort, all_contains}
 use Rattle.shop_round.specs.declared.plans.Order.{Order}
 use Rattle.shop_round.specs.declared.plans.Order.TheVariants.{Kept, Bound}
 use Rattle.shop_round.specs.Round.{in_order, words_below, least_bound}
-use Rattle.shop_round.specs.inner.OpenNodes.{least_of_bounds, nodes_in_order, nodes_below, AreBelow}
+use Rattle.shop_round.specs.inner.OpenNodes.{least_of_bounds, nodes_in_order, nodes_below, AreBelow, AreSharable}
 
 -- where all are below a makespan, those below a greater one are all
 same_below : (c d : ℕ) (ns : List Node) → c ≤ d → AllByRecursion (λ n. n.bound < c) ns → nodes_below d ns ≡ ns
@@ -48,6 +51,11 @@ module _ (shop : Shop) where
   pub below_is : (c : ℕ) (ns : List Node) → AreNodes shop ns
       → words_of (nodes_below c ns) ≡ words_below shop c (words_of ns)
   below_is c ns a = below_by_recursion c ns (recursion_from_All (IsNode shop) ns a)
+
+  -- the words of nodes can share their jobs
+  pub all_sharable : IsWithinLimits shop → (ns : List Node) → AreNodes shop ns → AreSharable ns
+  all_sharable limits ns a = All-weaker (IsNode shop) (λ n. CanBeShared n.word)
+      (λ n is. word_shared shop n.word limits is.0) ns a
 
   below_words : (c : ℕ) (ns : List Node) → AllByRecursion (IsNode shop) ns
       → AllByRecursion (λ w. lb shop w < c) (words_of ns) → AllByRecursion (λ n. n.bound < c) ns

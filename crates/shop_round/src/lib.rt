@@ -3,6 +3,7 @@
 
 mod crews;
 mod entries;
+mod kept_nodes;
 mod laws;
 mod open_nodes;
 mod outcomes;

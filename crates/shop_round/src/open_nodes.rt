@@ -1,9 +1,12 @@
 // The open nodes of a run, in the order in which the next cut takes them.
 ghost use Rattle.std.specs.Prelude.{◌≡◌, ◌==◌, ◌^◌, ◌≤◌, ◌++◌, ◌∷◌, [], length, IfOk, OnOk, OnErr};
-ghost use Rattle.shop_round.specs.inner.OpenNodes.{least_of_bounds, AreBelow};
+ghost use Rattle.std.specs.Prelude.{reverse};
+ghost use Rattle.shop_round.specs.inner.Stacks.{IsNextOf};
+ghost use Rattle.shop_model.specs.SharedWords.{CanBeShared};
+ghost use Rattle.shop_round.specs.inner.OpenNodes.{least_of_bounds, AreBelow, AreSharable};
 
+use crate::kept_nodes::{KeptNode, least_kept};
 use crate::plans::Order;
-use crate::rounds::least_bound;
 use crate::stacks::{
     Stack, count_by_bound, keep_by_bound, least_by_bound, pop_by_bound, put_by_bound,
 };
@@ -15,13 +18,13 @@ use std::collections::BTreeMap;
 /// each bound with the stack of its words. To put nodes and to take them costs no more where many are open.
 #[derive(Drop)]
 pub(crate) enum OpenNodes {
-    AsKept(Vec<Node>),
+    AsKept(Vec<KeptNode>),
     ByBound(BTreeMap<u64, Stack>),
 }
 
 /// Puts a node at the end of a list, which takes room for a quarter more where it is full, since it is what takes most
 /// memory. Fails with `AllocError` if memory runs out.
-fn push_sparingly(nodes: &mut Vec<Node>, node: Node) -> Result<(), AllocError>
+fn push_sparingly(nodes: &mut Vec<KeptNode>, node: KeptNode) -> Result<(), AllocError>
     ensures { OnOk result (nodes.new.items ≡ nodes.old.items ++ node ∷ []) }
 {
     if nodes.len() == nodes.capacity() {
@@ -29,6 +32,16 @@ fn push_sparingly(nodes: &mut Vec<Node>, node: Node) -> Result<(), AllocError>
     }
     nodes.push(node)?;
     Ok(())
+}
+
+/// Takes the last node of a list, if there is one.
+fn pop_kept(nodes: &mut Vec<KeptNode>) -> Option<Node>
+    ensures { IsNextOf result (reverse nodes.old.items) (reverse nodes.new.items) }
+{
+    match nodes.pop() {
+        Some(node) => Some(node.into_node()),
+        None => None,
+    }
 }
 
 impl OpenNodes {
@@ -48,10 +61,11 @@ impl OpenNodes {
 
     /// Puts a node before those that the order has behind it. Fails with `AllocError` if memory runs out.
     pub(crate) fn put(&mut self, alloc: Global, node: Node) -> Result<(), AllocError>
+        requires { CanBeShared node.word }
         ensures { OnOk result (IsPut node self.old self.new) }
     {
         match self {
-            OpenNodes::AsKept(nodes) => push_sparingly(nodes, node),
+            OpenNodes::AsKept(nodes) => push_sparingly(nodes, KeptNode::of(alloc, node)?),
             OpenNodes::ByBound(stacks) => put_by_bound(alloc, stacks, node),
         }
     }
@@ -59,6 +73,7 @@ impl OpenNodes {
     /// Puts nodes before those that the order has behind them, the last one first.
     /// Fails with `AllocError` if memory runs out.
     pub(crate) fn put_all(&mut self, alloc: Global, mut nodes: Vec<Node>) -> Result<(), AllocError>
+        requires { AreSharable nodes.items }
         ensures { OnOk result (ArePut nodes.items self.old self.new) }
     {
         while let Some(node) = nodes.pop() {
@@ -72,7 +87,7 @@ impl OpenNodes {
         ensures { IfOk result (λ n. HasPopped n self.old self.new) }
     {
         match self {
-            OpenNodes::AsKept(nodes) => Ok(nodes.pop()),
+            OpenNodes::AsKept(nodes) => Ok(pop_kept(nodes)),
             OpenNodes::ByBound(stacks) => pop_by_bound(stacks),
         }
     }
@@ -102,7 +117,7 @@ impl OpenNodes {
         }
         match self {
             OpenNodes::AsKept(nodes) => {
-                nodes.retain(|node| node.bound < makespan);
+                nodes.retain(|node| node.bound() < makespan);
                 Ok(())
             }
             OpenNodes::ByBound(stacks) => keep_by_bound(stacks, makespan),
@@ -114,7 +129,7 @@ impl OpenNodes {
         ensures { result ≡ least_of_bounds makespan (open_list self.now) }
     {
         match self {
-            OpenNodes::AsKept(nodes) => least_bound(makespan, nodes.as_slice()),
+            OpenNodes::AsKept(nodes) => least_kept(makespan, nodes.as_slice()),
             OpenNodes::ByBound(stacks) => least_by_bound(stacks, makespan),
         }
     }

@@ -68,7 +68,7 @@ impl Outcome {
     }
 
     /// Counts the nodes of one more sheet, keeps what it left open, and takes its word if it is better.
-    pub fn take_in(&mut self, sheet: Sheet) -> Result<(), AllocError>
+    pub fn take_in(&mut self, alloc: Global, sheet: Sheet) -> Result<(), AllocError>
         requires { self.old.nodes + sheet.taken < 2 ^ 64 }
         ensures { OnOk result (TakesIn self.old sheet.entry self.new) }
     {
@@ -84,7 +84,7 @@ impl Outcome {
             self.makespan = makespan;
             self.found = found;
         }
-        left.add_open(&mut self.left)
+        left.add_open(alloc, &mut self.left)
     }
 
     /// What stands after a round of which this is the outcome, with its opening best, its rest and
@@ -139,7 +139,7 @@ pub fn outcome_of<'r>(
         if sheet.makespan == round.bound {
             return Ok(Outcome::closed_by(alloc, outcome.nodes, sheet));
         }
-        outcome.take_in(sheet)?;
+        outcome.take_in(alloc, sheet)?;
     }
     let makespan = outcome.makespan;
     outcome.left.retain(|node| node.bound < makespan);

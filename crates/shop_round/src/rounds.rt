@@ -131,13 +131,13 @@ pub fn least_bound(makespan: u64, nodes: &[Node]) -> u64
     bound
 }
 
-/// The same nodes once more, in order; their words share their jobs.
+/// The same nodes once more, in order. Fails with `AllocError` if memory runs out.
 pub fn copies_of(alloc: Global, nodes: &[Node]) -> Result<Vec<Node>, AllocError>
     ensures { IfOk result (λ v. v.items ≡ nodes.now) }
 {
     let mut copies = Vec::with_capacity(alloc, nodes.len())?;
     for node in nodes {
-        copies.push(node.shared()?)?;
+        copies.push(node.copied(alloc)?)?;
     }
     Ok(copies)
 }

@@ -28,7 +28,7 @@ pub(crate) struct Search {
 impl Search {
     ghost use Rattle.std.specs.Prelude.{length};
     ghost use Rattle.shop_round.specs.Round.{opening};
-    ghost use Rattle.shop_round.specs.inner.OpenNodes.{AreBelow};
+    ghost use Rattle.shop_round.specs.inner.OpenNodes.{AreBelow, AreSharable};
     ghost use Rattle.shop_round.specs.inner.Stores.{open_list};
     ghost use Rattle.shop_round.specs.inner.Searches.{IsSearchAt, IsSearchOf, IsJoined, IsFront};
     ghost use Rattle.shop_round.specs.inner.Closing.{IsAtAnswer};
@@ -42,6 +42,7 @@ impl Search {
     ) -> Result<Search, AllocError>
         ensures { IfOk result (λ t. IsSearchAt instance.now order (opening instance.now) t) }
     {
+        instance.keeps_limits();
         let open = OpenNodes::new(alloc, order);
         Search::joined(alloc, Standing::start(alloc, instance)?, open, 0)
     }
@@ -54,7 +55,8 @@ impl Search {
         mut others: OpenNodes,
         opening: u64,
     ) -> Result<Search, AllocError>
-        requires { AreBelow opening (open_list others) }
+        requires below { AreBelow opening (open_list others) }
+        requires left { AreSharable standing.open.items }
         ensures { IfOk result (λ t. IsJoined standing others t) }
     {
         let Standing {
@@ -126,6 +128,7 @@ impl Search {
         requires { C.ready }
         ensures { IfOk result (λ t. IsAtAnswer instance.now plan.now t) }
     {
+        instance.keeps_limits();
         let mut layout = Layout::of(alloc, instance)?;
         let mut search = Search::start(alloc, instance, plan.order)?;
         for done in 0..plan.rounds {

@@ -1,11 +1,13 @@
 // Open nodes by bound: for each bound a stack of their words.
 ghost use Rattle.std.specs.Prelude.{◌≡◌, ◌^◌, ◌≤◌, ◌∷◌, [], length, IfOk, OnOk, OnErr};
+ghost use Rattle.shop_model.specs.SharedWords.{CanBeShared};
 ghost use Rattle.shop_round.specs.inner.OpenNodes.{least_of_bounds};
 ghost use Rattle.shop_round.specs.inner.Stacks.{words_in, words_in_rest, words_on, words_left};
 ghost use Rattle.shop_round.specs.inner.Stacks.{nodes_in_stacks, IsPutByBound, IsNextByBound};
 ghost use Rattle.shop_round.specs.inner.Stacks.{KeepsBelow};
 
-use shop_tree::{Node, SharedWord};
+use shop_model::{SharedWord, Word};
+use shop_tree::Node;
 use std::alloc::{AllocError, Global};
 use std::collections::BTreeMap;
 use std::collections::btree_map::Entry;
@@ -135,9 +137,11 @@ pub(crate) fn put_by_bound(
     stacks: &mut BTreeMap<u64, Stack>,
     node: Node,
 ) -> Result<(), AllocError>
+    requires { CanBeShared node.word }
     ensures { OnOk result (IsPutByBound node stacks.old stacks.new) }
 {
     let Node { word, bound } = node;
+    let word = word.into_shared(alloc)?;
     match stacks.entry(bound)? {
         Entry::Occupied(stack) => stack.into_mut().push(alloc, word)?,
         Entry::Vacant(place) => {
@@ -158,6 +162,7 @@ pub(crate) fn pop_by_bound(stacks: &mut BTreeMap<u64, Stack>) -> Result<Option<N
     if let Some(others) = left {
         stacks.insert(bound, others)?;
     }
+    let word = Word::of_shared(word);
     Ok(Some(Node { word, bound }))
 }
 

@@ -19,6 +19,7 @@ pub fn read(alloc: Global, format: Format, text: &[u8]) -> Result<Vec<Named>, Re
 ///
 /// The text has at most 16,777,216 bytes, else the answer is `TooLong`. Of all other faults the first faulty line
 /// decides. The name of an instance is that of the last line `instance NAME` before it, else its number, from 1.
+/// `NoMemory` if memory runs out. For library callers: the program doesn't use it.
 pub fn read_orlib(alloc: Global, text: &[u8]) -> Result<Vec<Named>, ReadFault>
     ensures { IsRead orlib text.now result }
 {
@@ -28,7 +29,8 @@ pub fn read_orlib(alloc: Global, text: &[u8]) -> Result<Vec<Named>, ReadFault>
 /// The instances of a text in the form that goes by Taillard's name: a size line, a row of times for each job and a row
 /// of machines for each job, machines counted from 1; at least one instance. Their names are their numbers, from 1.
 ///
-/// Faults are as for `read_orlib`. What stands behind jobs and machines in a size line is read past.
+/// Faults are as for `read_orlib`. What stands behind jobs and machines in a size line is read past. For library
+/// callers: the program doesn't use it.
 pub fn read_taillard(alloc: Global, text: &[u8]) -> Result<Vec<Named>, ReadFault>
     ensures { IsRead taillard text.now result }
 {
@@ -38,7 +40,7 @@ pub fn read_taillard(alloc: Global, text: &[u8]) -> Result<Vec<Named>, ReadFault
 /// The instances of a text in the format `routes`, with their names; at least one.
 ///
 /// As `read_orlib`, but that the row of a job is its release, 0 to 1,000,000,000, and then 0 to 100 pairs of machine
-/// and time.
+/// and time. For library callers: the program doesn't use it.
 pub fn read_routes(alloc: Global, text: &[u8]) -> Result<Vec<Named>, ReadFault>
     ensures { IsRead routes text.now result }
 {

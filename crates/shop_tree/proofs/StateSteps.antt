@@ -1,11 +1,8 @@
 -- Steps of a walk over states: where it stands before and after, and what waits.
-use Rattle.std.proofs.Common.{◌≡◌, ℕ, ◌+◌, ◌≤◌, ◌<◌, Option, Some, None, List, [], ◌∷◌, ◌++◌, All, length, map}
+use Rattle.std.proofs.Common.{◌≡◌, ℕ, ◌+◌, ◌≤◌, ◌<◌, List, ◌++◌, All, length, map}
 use Rattle.std.proofs.Common.{◌∙◌, refl, sym, ap, subst, Result, Ok, Err}
-use Rattle.std.proofs.Math.Seq.{take-length}
 use Rattle.shop_model.specs.Shop.{operation_count}
 use Rattle.shop_model.specs.Word.{IsWord}
-use Rattle.shop_desk.specs.States.{with_last}
-use Rattle.shop_tree.specs.SharedWords.{shared_word}
 use Rattle.shop_tree.specs.declared.held.Held.{Held}
 use Rattle.shop_tree.specs.declared.held.Kept.{Kept}
 use Rattle.shop_tree.specs.declared.opens.Open.{Open}
@@ -46,15 +43,6 @@ pub held_branched : {S : Type 0} (is : List ℕ → S → Type 0) (word : List �
 held_branched is word old rest new kids depth n below above put moved =
     states_moved rest kids is word new moved
     (subst (AreHeld is word) (sym put) (states_rest old is word depth n below)) above
-
--- the word of a node
-whole_word : (path : List ℕ) (last : Option ℕ) → shared_word path (length path) last ≡ with_last path last
-whole_word path None = take-length path
-whole_word path (Some job) = ap (λ (w : List ℕ). w ++ job ∷ []) (take-length path)
-
-pub word_set : (path : List ℕ) (last : Option ℕ) (word set : List ℕ) → word ≡ shared_word path (length path) last
-    → set ≡ with_last path last → set ≡ word
-word_set path last word set told is = is ∙ sym (told ∙ whole_word path last)
 
 -- the walk stands where it stood, whoever gave a state back
 pub stands_still : {D S C T E : Type 0} {g : Ghosts D S C} (v w : Walker D S C g) (r : Result T E)

@@ -5,5 +5,4 @@ pub mod Laws
 pub mod Pieces
 pub mod Left
 pub mod Sheets
-pub mod SharedWords
 pub mod inner

@@ -10,7 +10,7 @@ use std::alloc::{AllocError, Global};
 
 /// The conflict set of a word that isn't full, in ascending order: the job whose next operation can end first (the
 /// lowest on ties), and each job whose next operation is on the same machine and can begin before that end (Giffler and
-/// Thompson 1960). An error where memory is refused.
+/// Thompson 1960). Fails with `AllocError` if memory runs out.
 pub fn conflict(alloc: Global, instance: &Instance, word: &Word) -> Result<Vec<usize>, AllocError>
     requires word { IsWord instance.now word.now }
     requires open { IsFull instance.now word.now → ⊥ }
@@ -35,11 +35,27 @@ fn conflict_by<D: Dispatching>(
     requires word { IsWord instance.now word.now }
     ensures { IfOk result (λ v. v.items ≡ conflict_set instance.now word.now) }
 {
+    let path = path_of(alloc, instance, word)?;
     let mut states = WalkStates::new(alloc, dispatcher, 0)?;
-    states.fill(word.jobs(), None);
+    states.fill(path.as_slice());
     let mut candidates = Vec::with_capacity(alloc, instance.jobs())?;
     states.gather(&mut candidates);
     jobs_of(alloc, candidates.as_slice())
+}
+
+/// The jobs of a word that fits the instance, as a path. Fails with `AllocError` if memory runs out.
+pub(crate) fn path_of(
+    alloc: Global,
+    instance: &Instance,
+    word: &Word,
+) -> Result<Vec<u16>, AllocError>
+    requires { IsWord instance.now word.now }
+    ensures { IfOk result (λ v. v.items ≡ word.now) }
+{
+    instance.keeps_limits();
+    let mut path = Vec::new(alloc);
+    word.write_to(&mut path)?;
+    Ok(path)
 }
 
 /// The jobs of candidates, in order.

@@ -7,17 +7,18 @@ ghost use Rattle.shop_tree.specs.Nodes.{IsNode, AreNodes, words_of, AreBetterChi
 ghost use Rattle.shop_tree.specs.inner.Held.{opens_in};
 ghost use Rattle.shop_tree.specs.inner.Opens.{IsChildList};
 
+use crate::branching::path_of;
 use crate::held::Kept;
 use crate::nodes::Node;
-use crate::shared_words::SharedWord;
 use crate::walk_states::WalkStates;
 use shop_desk::{Dispatching, Layout};
-use shop_model::Instance;
+use shop_model::{Instance, SharedWord, Word};
 use std::alloc::{AllocError, Global};
 use std::sync::ArcSlice;
 
 /// The children of a node whose word isn't full, by bound, then by job: its word followed by each job of the conflict
-/// set. For each table under the word some child has one under it that ends no later. An error where memory is refused.
+/// set. For each table under the word some child has one under it that ends no later. Fails with `AllocError` if memory
+/// runs out.
 pub fn children(alloc: Global, instance: &Instance, node: &Node) -> Result<Vec<Node>, AllocError>
     requires node { IsNode instance.now node.now }
     requires open { IsFull instance.now node.now.word → ⊥ }
@@ -48,10 +49,10 @@ fn children_by<D: Dispatching>(
     ensures better { IfOk result (λ v. AreBetterChildren instance.now node.now v.items) }
 {
     instance.keeps_limits();
-    let word = node.word.to_word(alloc)?;
-    let jobs = word.jobs();
+    let word = path_of(alloc, instance, &node.word)?;
+    let jobs = word.as_slice();
     let mut states = WalkStates::new(alloc, dispatcher, 0)?;
-    states.fill(jobs, None);
+    states.fill(jobs);
     let mut candidates = Vec::with_capacity(alloc, instance.jobs())?;
     states.gather(&mut candidates);
     let mut kept = Vec::with_capacity(alloc, instance.jobs())?;
@@ -84,7 +85,7 @@ fn nodes_along<S: Drop>(
     let mut kept = kept;
     let mut children = Vec::with_capacity(alloc, kept.len())?;
     while let Some(child) = kept.pop() {
-        let word = SharedWord::along(path, depth, child.open.job)?;
+        let word = Word::of_shared(SharedWord::along(path, depth, child.open.job)?);
         let bound = child.open.bound;
         children.push(Node { word, bound })?;
     }

@@ -11,8 +11,7 @@ ghost use Rattle.shop_tree.specs.inner.Opens.{stack_words, waiting_words};
 use crate::child_nodes::children;
 use crate::nodes::Node;
 use crate::opens::Waiting;
-use crate::shared_words::SharedWord;
-use shop_model::{Instance, Word};
+use shop_model::{Instance, SharedWord, Word};
 use std::alloc::{AllocError, Global};
 use std::marker::Model;
 use std::sync::ArcSlice;
@@ -74,14 +73,14 @@ impl<'r> Left<'r> {
 
     /// Adds the nodes left that are still open, those of bounds below the makespan, to a list, in order. Fails with
     /// `AllocError` if memory runs out.
-    pub fn add_open(&self, nodes: &mut Vec<Node>) -> Result<(), AllocError>
+    pub fn add_open(&self, alloc: Global, nodes: &mut Vec<Node>) -> Result<(), AllocError>
         ensures { OnOk result (nodes.new.items ≡ nodes.old.items
             ++ open_nodes self.now.shop self.now.makespan self.now.words) }
     {
         if let Some(halt) = &self.halt {
             add_open_waiting(self.instance, self.makespan, halt, nodes)?;
         }
-        add_open_nodes(self.instance, self.makespan, self.untaken, nodes)
+        add_open_nodes(alloc, self.instance, self.makespan, self.untaken, nodes)
     }
 
     /// All nodes left, in order. Fails with `AllocError` if memory runs out.
@@ -93,7 +92,7 @@ impl<'r> Left<'r> {
             Some(halt) => waiting_nodes(alloc, self.instance, self.makespan, halt)?,
             None => Vec::new(alloc),
         };
-        add_shared(self.untaken, &mut nodes)?;
+        add_copies(alloc, self.untaken, &mut nodes)?;
         Ok(nodes)
     }
 }
@@ -116,7 +115,7 @@ fn add_if_open(
     if child.bound >= makespan {
         return Ok(());
     }
-    let word = SharedWord::along(path, child.depth, child.job)?;
+    let word = Word::of_shared(SharedWord::along(path, child.depth, child.job)?);
     let bound = child.bound;
     nodes.push(Node { word, bound })?;
     Ok(())
@@ -144,6 +143,7 @@ fn add_open_waiting(
 
 /// Adds the nodes of bounds below the makespan, in order.
 fn add_open_nodes(
+    alloc: Global,
     instance: &Instance,
     makespan: u64,
     left: &[Node],
@@ -155,7 +155,7 @@ fn add_open_nodes(
 {
     for node in left {
         if node.bound < makespan {
-            nodes.push(node.shared()?)?;
+            nodes.push(node.copied(alloc)?)?;
         }
     }
     Ok(())
@@ -175,8 +175,9 @@ fn last_children(
         ≡ last_of count (branch instance.now (take depth path.now))) }
     ensures nodes { IfOk result (λ v. AreNodes instance.now v.items) }
 {
-    let jobs = path[..depth as usize].to_vec(alloc)?;
-    let parent = Node::new(alloc, instance, Word::of_jobs(jobs))?;
+    instance.keeps_limits();
+    let word = SharedWord::of_path(alloc, &path[..depth as usize])?;
+    let parent = Node::new(alloc, instance, Word::of_shared(word))?;
     let mut all = children(alloc, instance, &parent)?;
     all.split_off(all.len() - count as usize)
 }
@@ -196,7 +197,7 @@ fn nodes_of(
 {
     match waiting {
         Waiting::Child(child) => {
-            let word = SharedWord::along(path, child.depth, child.job)?;
+            let word = Word::of_shared(SharedWord::along(path, child.depth, child.job)?);
             let bound = child.bound;
             let mut nodes = Vec::with_capacity(alloc, 1)?;
             nodes.push(Node { word, bound })?;
@@ -231,12 +232,12 @@ fn waiting_nodes(
     Ok(nodes)
 }
 
-/// Adds the same nodes once more, in order; their words share their jobs.
-fn add_shared(left: &[Node], nodes: &mut Vec<Node>) -> Result<(), AllocError>
+/// Adds the same nodes once more, in order. Fails with `AllocError` if memory runs out.
+fn add_copies(alloc: Global, left: &[Node], nodes: &mut Vec<Node>) -> Result<(), AllocError>
     ensures { OnOk result (nodes.new.items ≡ nodes.old.items ++ left.now) }
 {
     for node in left {
-        nodes.push(node.shared()?)?;
+        nodes.push(node.copied(alloc)?)?;
     }
     Ok(())
 }

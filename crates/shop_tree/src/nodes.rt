@@ -3,7 +3,6 @@ ghost use Rattle.std.specs.Prelude.{◌≡◌, IfOk};
 ghost use Rattle.shop_model.specs.Word.{IsWord};
 ghost use Rattle.shop_heads.specs.Bound.{lb};
 
-use crate::shared_words::SharedWord;
 use shop_heads::lower_bound;
 use shop_model::{Instance, Word};
 use std::alloc::{AllocError, Global};
@@ -11,7 +10,7 @@ use std::alloc::{AllocError, Global};
 /// A word and its lower bound, in units of time.
 #[derive(Drop)]
 pub struct Node {
-    pub word: SharedWord,
+    pub word: Word,
     pub bound: u64,
 }
 
@@ -23,17 +22,15 @@ impl Node {
         ensures { IfOk result (λ n. (n.word ≡ word) × (n.bound ≡ lb instance.now word)) }
     {
         let bound = lower_bound(alloc, instance, &word)?;
-        instance.keeps_limits();
-        let word = SharedWord::of_jobs(alloc, word.jobs())?;
         Ok(Node { word, bound })
     }
 
-    /// The same node once more, whose word shares its jobs with this one. Takes no memory.
-    pub fn shared(&self) -> Result<Node, AllocError>
+    /// The same node once more, with the same jobs where they are shared. Fails with `AllocError` if memory runs out.
+    pub fn copied(&self, alloc: Global) -> Result<Node, AllocError>
         ensures { IfOk result (λ n. n ≡ self.now) }
     {
         Ok(Node {
-            word: self.word.shared()?,
+            word: self.word.copied(alloc)?,
             bound: self.bound,
         })
     }

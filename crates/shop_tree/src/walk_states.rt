@@ -3,7 +3,7 @@ ghost use Rattle.std.specs.Prelude.{◌≡◌, ℕ, ◌≤◌, ◌<◌, ◌^◌,
 ghost use Rattle.std.specs.Prelude.{length, map, vec_capacity};
 ghost use Rattle.shop_model.specs.Word.{IsWord};
 ghost use Rattle.shop_heads.specs.Bound.{lb};
-ghost use Rattle.shop_desk.specs.States.{HasSoleCandidate, IsOfSomeWord, with_last};
+ghost use Rattle.shop_desk.specs.States.{HasSoleCandidate, IsOfSomeWord};
 ghost use Rattle.shop_tree.specs.Branching.{conflict};
 ghost use Rattle.shop_tree.specs.inner.Held.{IsHeldOf, IsKept, opens_in};
 ghost use Rattle.shop_tree.specs.inner.Opens.{AreChildren};
@@ -50,17 +50,16 @@ impl<'l, D: Dispatching> WalkStates<'l, D> {
         })
     }
 
-    /// Makes the state of a word the current one: of a path, and one job more, if any.
-    pub(crate) fn fill(&mut self, path: &[u16], last: Option<u16>)
+    /// Makes the state of a word the current one.
+    pub(crate) fn fill(&mut self, path: &[u16])
         requires sound { HoldSlots D.IsSlot D.IsScratch self.old }
-        requires word { IsWord (D.shop self.old.dispatcher.now) (with_last path.now last) }
+        requires word { IsWord (D.shop self.old.dispatcher.now) path.now }
         ensures sound { HoldSlots D.IsSlot D.IsScratch self.new }
-        ensures state { D.IsStateOf self.old.dispatcher.now (with_last path.now last)
-            self.new.current.value }
+        ensures state { D.IsStateOf self.old.dispatcher.now path.now self.new.current.value }
         ensures dispatcher { self.new.dispatcher.now ≡ self.old.dispatcher.now }
     {
         self.dispatcher
-            .fill(&mut self.scratch, path, last, &mut self.current);
+            .fill(&mut self.scratch, path, &mut self.current);
     }
 
     /// Replaces the list with the conflict set of the current state's word, in ascending order. It has room for all
@@ -135,7 +134,7 @@ impl<'l, D: Dispatching> WalkStates<'l, D> {
         ensures dispatcher { self.new.dispatcher.now ≡ self.old.dispatcher.now }
     {
         let Some(state) = state else {
-            self.fill(word, None);
+            self.fill(word);
             return Ok(());
         };
         let before = mem::replace(&mut self.current, state);

@@ -12,11 +12,10 @@ use crate::opens::{Open, Waiting};
 use crate::pieces::Piece;
 use crate::progress::Progress;
 use crate::pushing::{push_kept, push_rest};
-use crate::shared_words::set_word;
 use crate::sheets::Sheet;
 use crate::walk_states::WalkStates;
 use shop_desk::{Candidate, Dispatching};
-use shop_model::{Instance, Word};
+use shop_model::{Instance, SharedWord, Word};
 use std::alloc::{AllocError, Global};
 use std::sync::ArcSlice;
 
@@ -173,8 +172,8 @@ impl<'l, 'a, D: Dispatching> Walker<'l, 'a, D> {
             self.reclaim()?;
             return self.push_children(alloc, bound);
         }
-        let jobs = self.path.as_slice().to_vec(alloc)?;
-        self.progress.found = Some(Word::of_jobs(jobs));
+        let word = SharedWord::of_path(alloc, self.path.as_slice())?;
+        self.progress.found = Some(Word::of_shared(word));
         self.progress.best = bound;
         Ok(())
     }
@@ -260,9 +259,9 @@ impl<'l, 'a, D: Dispatching> Walker<'l, 'a, D> {
         if node.bound >= self.progress.best {
             return Ok(());
         }
-        let (path, last) = node.word.parts();
-        set_word(&mut self.path, path, last)?;
-        self.states.fill(path, last);
+        self.progress.instance.keeps_limits();
+        node.word.write_to(&mut self.path)?;
+        self.states.fill(self.path.as_slice());
         self.expand(alloc, node.bound)?;
         self.walk_stack(alloc)
     }

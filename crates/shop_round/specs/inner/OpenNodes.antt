@@ -1,5 +1,6 @@
 -- Open nodes: their least bound, their order, and those of pieces.
 use Rattle.std.specs.Prelude.{ℕ, ◌<◌, min, List, map, filter, fold, nat_lt, All}
+use Rattle.shop_model.specs.SharedWords.{CanBeShared}
 use Rattle.shop_tree.specs.Branching.{sort_by}
 use Rattle.shop_tree.specs.declared.nodes.Node.{Node}
 use Rattle.shop_tree.specs.declared.pieces.Piece.{Piece}
@@ -22,6 +23,10 @@ nodes_below c nodes = filter (λ n. nat_lt n.bound c) nodes
 -- all hold bounds below c
 abbrev pub AreBelow : ℕ → List Node → Type 0
 AreBelow c nodes = All (λ n. n.bound < c) nodes
+
+-- their words can share their jobs
+abbrev pub AreSharable : List Node → Type 0
+AreSharable nodes = All (λ n. CanBeShared n.word) nodes
 
 -- the nodes of each piece
 abbrev pub nodes_in : List Piece → List (List Node)

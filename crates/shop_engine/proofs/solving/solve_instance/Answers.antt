@@ -17,7 +17,7 @@ returns-clause-right g c =
     in let a = c.in_ok-answer
     in let gantt = c.args.with_gantt
     in let words = c.text_of.ensures.words
-    in let small = subst (λ (rows : List (List ℕ)). AreStarts rows) c.drop-2.view_is c.drop-2.invariant
+    in let small = subst (λ (rows : List (List ℕ)). AreStarts rows) c.drop-3.view_is c.drop-3.invariant
     in if_ok (λ out. out.items ≡ text_with_gantt (told_by asked a.answer) gantt)
     (λ out. IsRight asked gantt out.items) c.text_of.result
     (λ out e. right asked a.answer gantt out.items a.ensures.trust (record {
@@ -44,7 +44,7 @@ returns-clause-schedule g c =
     let asked = shop_of_named c.args.asked.now
     in let a = c.in_ok-answer
     in let gantt = c.args.with_gantt
-    in let small = subst (λ (rows : List (List ℕ)). AreStarts rows) c.drop-2.view_is c.drop-2.invariant
+    in let small = subst (λ (rows : List (List ℕ)). AreStarts rows) c.drop-3.view_is c.drop-3.invariant
     in if_ok (λ out. out.items ≡ text_with_gantt (told_by asked a.answer) gantt)
     (λ out. GivesSchedule asked out.items) c.text_of.result
     (λ out e. gives_schedule asked a.answer gantt out.items a.ensures.trust small e) c.text_of.ensures.written

@@ -5,7 +5,7 @@ use Rattle.shop_model.proofs.words.is_full.Goals as goal
 pub returns-then-not-are_below : goal.returns-then-not-are_below
 returns-then-not-are_below c = (
   λ yes. absurd (true≢false (sym yes)),
-  λ full. absurd (true≢false (sym (c.are_below.ensures.1 (rw (c.jobs.ensures, c.jobs-2.ensures)
+  λ full. absurd (true≢false (sym (c.are_below.ensures.1 (rw c.jobs.ensures
       (word_jobs c.args.instance.now c.args.word.now (full_is_word c.args.instance.now c.args.word.now full))))
       ∙ c.if-not-are_below.true)),
 )
@@ -13,7 +13,7 @@ returns-then-not-are_below c = (
 pub returns : goal.returns
 returns c = (
   λ _. full_from c.args.instance.now c.args.word.now
-      (rw (c.jobs.ensures, c.jobs-2.ensures) at (c.are_below.ensures.0 c.if-not-are_below.false))
+      (rw c.jobs.ensures at (c.are_below.ensures.0 c.if-not-are_below.false))
       (λ i below. c.loop-j.invariant i (omega arith)),
   λ _. refl,
 )

@@ -10,8 +10,8 @@ returns c =
     let k = c.in-Some.bound
     in let rest = c.pop_first.new.self.entries
     in let after = c.match-left.stacks
-    in next_is c.args.stacks.now.entries after.entries rest k c.in-Some.stack c.pop-word.result.0 c.pop-word.result.1
-    (search rules) (search rules) c.pop-word.ensures
+    in rw c.of_shared-word.ensures (next_is c.args.stacks.now.entries after.entries rest k c.in-Some.stack
+    c.pop-word.result.0 c.pop-word.result.1 (search rules) (search rules) c.pop-word.ensures
     (elim c.match-left.branch [
       | in-Some-left+in_ok-insert+in-Some-1 w ↦ subst (λ o. IsPutBack k rest o after.entries) (sym w.in-Some-left.is)
           (ap (λ (m : BTreeMap ℕ Stack). m.entries) w.stacks-is ∙ w.in_ok-insert.ensures.entries)
@@ -19,4 +19,4 @@ returns c =
           (ap (λ (m : BTreeMap ℕ Stack). m.entries) w.stacks-is ∙ w.in_ok-insert.ensures.entries)
       | in_default-left w ↦ subst (λ o. IsPutBack k rest o after.entries) (sym w.in_default-left.is)
           (ap (λ (m : BTreeMap ℕ Stack). m.entries) w.stacks-is)
-    ])
+    ]))

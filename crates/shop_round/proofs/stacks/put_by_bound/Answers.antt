@@ -12,11 +12,11 @@ returns-in_ok-push-in-Occupied c =
     in let found : lookup (is_at (nat_cmp c.args.node.bound)) es ≡ Some c.into_mut.result.now = search rules
     in ap nodes_by_bound (search rules) ∙ put_is es c.args.node.word c.args.node.bound c.push.new.self
     c.entry.ensures.ordered
-    (c.in_ok-push-in-Occupied.ensures ∙ ap (λ o. c.args.node.word ∷ words_left o) (sym found))
+    (c.in_ok-push-in-Occupied.ensures ∙ (λ i. c.in_ok-word.ensures i ∷ words_left (sym found i)))
 
 pub returns-in-Vacant : goal.returns-in-Vacant
 returns-in-Vacant c =
     let es = c.args.stacks.now.entries
     in let none : lookup (is_at (nat_cmp c.args.node.bound)) es ≡ None = search rules
     in ap nodes_by_bound (search rules) ∙ put_is es c.args.node.word c.args.node.bound c.of.result
-    c.entry.ensures.ordered (c.of.ensures ∙ ap (λ o. c.args.node.word ∷ words_left o) (sym none))
+    c.entry.ensures.ordered (c.of.ensures ∙ (λ i. c.in_ok-word.ensures i ∷ words_left (sym none i)))

@@ -21,9 +21,11 @@ nodes_along-requires-clause-all g c =
     in let n = c.in_ok-try_candidates.field-0
     in let same = c.gather.ensures.dispatcher ∙ (c.fill.ensures.dispatcher ∙ c.in_ok-states.ensures.dispatcher)
     in let shops = ap g.D.Dispatching.shop same ∙ c.requires.shop
-    in let jobs : c.jobs-jobs.result.now ≡ c.args.node.now.word = c.jobs-jobs.ensures ∙ c.in_ok-word.ensures
-    in let kids : AreChildren shop limit c.jobs-jobs.result.now opens n =
-    subst (λ (x : Shop). AreChildren x limit c.jobs-jobs.result.now opens n) shops c.in_ok-try_candidates.ensures.children
+    in let jobs : c.as_slice-jobs.result.now ≡ c.args.node.now.word = c.as_slice-jobs.ensures.value
+    ∙ c.in_ok-word.ensures
+    in let kids : AreChildren shop limit c.as_slice-jobs.result.now opens n =
+    subst (λ (x : Shop). AreChildren x limit c.as_slice-jobs.result.now opens n) shops
+    c.in_ok-try_candidates.ensures.children
     in let kids' : AreChildren shop limit c.args.node.now.word opens n =
     subst (λ (w : List ℕ). AreChildren shop limit w opens n) jobs kids
     in subst (λ (w : List ℕ). IsChildList shop w opens) (sym (c.in_ok-path.ensures.ok ∙ jobs))
@@ -34,7 +36,7 @@ returns-clause-better g c =
     let shop = c.args.instance.now
     in let w = c.args.node.now.word
     in let path : arc_slice_items c.in_ok-path.path ≡ w = c.in_ok-path.ensures.ok
-    ∙ (c.jobs-jobs.ensures ∙ c.in_ok-word.ensures)
+    ∙ (c.as_slice-jobs.ensures.value ∙ c.in_ok-word.ensures)
     in IfOk-weaker c.nodes_along.result
     (λ v. words_of v.items ≡ branch shop (arc_slice_items c.in_ok-path.path))
     (λ v. AreBetterChildren shop c.args.node.now v.items)

@@ -1,13 +1,18 @@
-use Rattle.std.proofs.Common.{◌≡◌, ◌∙◌, ◌-◌, ◌+◌, ℕ, suc, List, length, take, drop, sym, ap, subst, arith, rules, Vec, Global}
+use Rattle.std.proofs.Common.{◌≡◌, ◌∙◌, ◌-◌, ℕ, suc, List, length, take, drop, sym, ap, subst, arith, rules, Vec, Global}
 use Rattle.std.proofs.lemmas.List.{length-take-le}
 use Rattle.std.proofs.lemmas.Result.{IfOk-weaker}
 use Rattle.shop_model.specs.Word.{IsFull}
+use Rattle.shop_model.proofs.WordLengths.{word_length}
 use Rattle.shop_tree.specs.Walking.{operations_left}
 use Rattle.shop_tree.specs.Branching.{branch}
 use Rattle.shop_tree.specs.declared.nodes.Node.{Node}
 use Rattle.shop_tree.proofs.Counting.{open_from}
 use Rattle.shop_tree.proofs.LeftLemmas.{last_words, nodes_dropped}
 use Rattle.shop_tree.proofs.left.last_children.Goals as goal
+
+pub of_path-requires : goal.of_path-requires
+of_path-requires c =
+    word_length c.args.instance.now (take c.args.depth c.args.path.now) c.keeps_limits.ensures c.requires.is_word
 
 pub children-requires-clause-open : goal.children-requires-clause-open
 children-requires-clause-open c =

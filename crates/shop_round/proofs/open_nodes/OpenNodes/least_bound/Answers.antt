@@ -5,6 +5,6 @@ use Rattle.shop_round.proofs.StoreLemmas.{least_reverse}
 use Rattle.shop_round.proofs.open_nodes.OpenNodes.least_bound.Goals as goal
 
 pub returns-in-AsKept : goal.returns-in-AsKept
-returns-in-AsKept c = c.least_bound.ensures ∙ (ap (least_of_bounds c.args.makespan) c.as_slice.ensures.value
+returns-in-AsKept c = c.least_kept.ensures ∙ (ap (least_of_bounds c.args.makespan) c.as_slice.ensures.value
     ∙ (least_reverse c.args.makespan c.in-AsKept.nodes.items
     ∙ ap (λ s. least_of_bounds c.args.makespan (open_list s)) (sym c.in-AsKept.is)))

@@ -4,6 +4,8 @@ use Rattle.shop_round.specs.Round.{Told}
 use Rattle.shop_round.specs.Runs.{planned}
 use Rattle.shop_round.specs.inner.Stores.{open_list}
 use Rattle.shop_round.proofs.Answering.{way_first, way_search, way_next, way_closed, way_last, some_open}
+use Rattle.shop_tree.specs.Nodes.{AreNodes}
+use Rattle.shop_round.proofs.NodeLemmas.{all_sharable}
 use Rattle.shop_round.proofs.runs.Search.at_end.Goals as goal
 
 pub loop-done-init : goal.loop-done-init
@@ -20,6 +22,13 @@ returns-then-is_empty g c = way_closed c.args.instance.now
 pub cut-requires-clause-search : goal.cut-requires-clause-search
 cut-requires-clause-search g c = way_search c.args.instance.now
     (planned c.args.plan.now) c.loop-done.done c.loop-done.search c.loop-done.invariant.way
+
+pub joined-requires-clause-left : goal.joined-requires-clause-left
+joined-requires-clause-left g c =
+    let t = c.in_ok-standing.standing
+    in let same = ap (λ (t : Told). t.shop) c.in_ok-round.ensures.round
+    in all_sharable c.args.instance.now c.keeps_limits.ensures t.open.items
+    (subst (λ shop. AreNodes shop t.open.items) same c.in_ok-standing.ensures.standing.0.bounds)
 
 pub loop-done-preserved : goal.loop-done-preserved
 loop-done-preserved g c =

@@ -4,7 +4,13 @@ use Rattle.shop_tree.specs.Nodes.{words_of, AreNodes}
 use Rattle.shop_round.specs.Round.{Stand, opening, words_below}
 use Rattle.shop_round.specs.inner.Stores.{open_list}
 use Rattle.shop_round.proofs.FrontLemmas.{IsInOrder, joined_at, none_in_order}
+use Rattle.shop_round.proofs.NodeLemmas.{all_sharable}
 use Rattle.shop_round.proofs.runs.Search.start.Goals as goal
+
+pub joined-requires-clause-left : goal.joined-requires-clause-left
+joined-requires-clause-left c =
+    all_sharable c.args.instance.now c.keeps_limits.ensures c.in_ok-start.field-0.open.items
+    c.in_ok-start.ensures.at.bounds
 
 pub returns : goal.returns
 returns c =

@@ -1,5 +1,6 @@
 use Rattle.std.proofs.Common.{◌≡◌, ◌≤◌, ◌<◌, ◌∙◌, length, sym, ap, subst, arith, rules}
 use Rattle.shop_model.specs.Shop.{operation_count}
+use Rattle.shop_model.proofs.WordLengths.{word_length}
 use Rattle.shop_heads.specs.Bound.{lb}
 use Rattle.shop_tree.specs.inner.StateWalkers.{stage_of}
 use Rattle.shop_tree.specs.inner.Walkers.{Stage, HasBranched, HasExpanded}
@@ -35,6 +36,16 @@ returns-then-len-self-clause-expanded g c =
     (expands_branched (stage_of mid) new short followed.in_order
     (subst (λ (t : Stage). HasBranched t new) c.in_ok-reclaim.ensures.stands.stage b)))
     c.push_children.result c.push_children.ensures.branched
+
+pub of_path-requires : goal.of_path-requires
+of_path-requires g c =
+    let self = c.follow_sole.new.self
+    in let d = self.states.dispatcher.now
+    in let path = self.path.items
+    in let few = word_length (g.D.Dispatching.shop d) path
+    (g.met.D.Dispatching.state_is_within_limits d path self.states.current.value c.follow_sole.ensures.state)
+    (g.met.D.Dispatching.state_is_of_word d path self.states.current.value c.follow_sole.ensures.state)
+    in let same = c.as_slice.ensures in omega arith
 
 pub returns-clause-expanded : goal.returns-clause-expanded
 returns-clause-expanded g c =

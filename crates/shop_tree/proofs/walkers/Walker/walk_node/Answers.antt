@@ -1,4 +1,5 @@
 use Rattle.std.proofs.Common.{◌≡◌, ◌<◌, ℕ, List, [], ap, subst, arith}
+use Rattle.shop_model.proofs.WordLengths.{word_shared}
 use Rattle.shop_heads.specs.Bound.{lb}
 use Rattle.shop_tree.specs.inner.Held.{waiting_in}
 use Rattle.shop_tree.specs.inner.Searching.{walked}
@@ -6,9 +7,12 @@ use Rattle.shop_tree.specs.inner.StateWalkers.{stage_of}
 use Rattle.shop_tree.specs.inner.Walkers.{HasExpanded, HasWalked, node_walk}
 use Rattle.shop_tree.proofs.ListLemmas.{on_ok}
 use Rattle.shop_tree.proofs.ExpandLemmas.{spent_one}
-use Rattle.shop_tree.proofs.StateSteps.{word_set}
 use Rattle.shop_tree.proofs.WalkerLemmas.{node_expanded}
 use Rattle.shop_tree.proofs.walkers.Walker.walk_node.Goals as goal
+
+pub write_to-requires : goal.write_to-requires
+write_to-requires g c =
+    word_shared c.args.self.now.progress.instance.now c.args.node.now.word c.keeps_limits.ensures c.requires.node.0
 
 pub returns-clause-walked : goal.returns-clause-walked
 returns-clause-walked g c =
@@ -20,8 +24,7 @@ returns-clause-walked g c =
     in let empty : s.stack ≡ [] = ap waiting_in c.requires.empty
     in let below : lb self.progress.instance.now node.word < self.progress.best = (let a = c.if-node-self.false
     in let b = c.requires.node.1 in omega arith)
-    in let went : c.set_word.new.word.items ≡ node.word = word_set c.parts-last.result.0.now c.parts-last.result.1
-    node.word c.set_word.new.word.items c.parts-last.ensures c.in_ok-set_word.ensures.word
+    in let went : c.write_to.new.list.items ≡ node.word = c.in_ok-write_to.ensures.list
     in let expanded = subst (λ (w : List ℕ). HasExpanded (record {
       shop = self.progress.instance.now;
       word = w;

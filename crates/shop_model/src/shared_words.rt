@@ -3,10 +3,9 @@ ghost use Rattle.std.specs.Prelude.{◌≡◌, ◌*◌, ◌≤◌, ◌<◌, ◌+
 ghost use Rattle.std.specs.Prelude.{vec_capacity, IfOk, OnOk};
 ghost use Rattle.std.specs.Arc.{arc_slice_items};
 ghost use Rattle.shop_model.specs.declared.limits.TheConstants.{MAX_JOBS, MAX_STEPS};
-ghost use Rattle.shop_desk.specs.States.{with_last};
-ghost use Rattle.shop_tree.specs.SharedWords.{shared_word};
+ghost use Rattle.shop_model.specs.SharedWords.{CanBeShared};
 
-use shop_model::Word;
+use crate::words::set_jobs;
 use std::alloc::{AllocError, Global};
 use std::marker::Model;
 use std::sync::ArcSlice;
@@ -22,7 +21,7 @@ pub struct SharedWord {
 impl Model for SharedWord {
     ghost use Rattle.std.specs.Prelude.{List, ℕ, ◌≤◌, length};
     ghost use Rattle.std.specs.Arc.{arc_slice_items};
-    ghost use Rattle.shop_tree.specs.SharedWords.{shared_word};
+    ghost use Rattle.shop_model.specs.SharedWords.{shared_word};
 
     ghost Value = { List ℕ };
 
@@ -32,13 +31,13 @@ impl Model for SharedWord {
 }
 
 impl SharedWord {
-    /// The word of these jobs. Fails with `AllocError` if memory runs out.
-    pub(crate) fn of_jobs(alloc: Global, jobs: &[u16]) -> Result<SharedWord, AllocError>
-        requires { length jobs.now ≤ MAX_JOBS * MAX_STEPS }
-        ensures { IfOk result (λ w. w ≡ jobs.now) }
+    /// The word of this path. Fails with `AllocError` if memory runs out.
+    pub fn of_path(alloc: Global, path: &[u16]) -> Result<SharedWord, AllocError>
+        requires { length path.now ≤ MAX_JOBS * MAX_STEPS }
+        ensures { IfOk result (λ w. w ≡ path.now) }
     {
-        let path = ArcSlice::from_slice(alloc, jobs)?;
-        let depth = jobs.len() as u32;
+        let depth = path.len() as u32;
+        let path = ArcSlice::from_slice(alloc, path)?;
         Ok(SharedWord {
             path,
             depth,
@@ -46,8 +45,18 @@ impl SharedWord {
         })
     }
 
+    /// The word of these jobs. Fails with `AllocError` if memory runs out.
+    pub(crate) fn of_jobs(alloc: Global, jobs: &[usize]) -> Result<SharedWord, AllocError>
+        requires { CanBeShared jobs.now }
+        ensures { IfOk result (λ w. w ≡ jobs.now) }
+    {
+        let mut path = Vec::new(alloc);
+        set_jobs(&mut path, jobs)?;
+        SharedWord::of_path(alloc, path.as_slice())
+    }
+
     /// The first jobs of a path, so many, and this one. Takes no memory.
-    pub(crate) fn along(
+    pub fn along(
         path: &ArcSlice<u16, Global>,
         depth: u32,
         last: u16,
@@ -71,13 +80,6 @@ impl SharedWord {
             depth: self.depth,
             last: self.last,
         })
-    }
-
-    /// The jobs that it shares, and the one more, if any.
-    pub(crate) fn parts(&self) -> (&[u16], Option<u16>)
-        ensures { self.now ≡ shared_word result.0.now (length result.0.now) result.1 }
-    {
-        (&self.path.as_slice()[..self.depth as usize], self.last)
     }
 
     /// How many jobs the word has.
@@ -105,33 +107,16 @@ impl SharedWord {
         last as usize
     }
 
-    /// The word with jobs of its own. Fails with `AllocError` if memory runs out.
-    pub fn to_word(&self, alloc: Global) -> Result<Word, AllocError>
-        ensures { IfOk result (λ w. w ≡ self.now) }
+    /// Sets a list to the jobs of the word. Fails with `AllocError` if memory runs out.
+    pub fn write_to(&self, list: &mut Vec<u16>) -> Result<(), AllocError>
+        ensures list { OnOk result (list.new.items ≡ self.now) }
+        ensures room { vec_capacity list.old ≤ vec_capacity list.new }
     {
-        let mut jobs = Vec::with_capacity(alloc, self.len())?;
-        let (path, last) = self.parts();
-        jobs.extend_from_slice(path)?;
-        if let Some(job) = last {
-            jobs.push(job)?;
+        list.clear();
+        list.extend_from_slice(&self.path.as_slice()[..self.depth as usize])?;
+        if let Some(job) = self.last {
+            list.push(job)?;
         }
-        Ok(Word::of_jobs(jobs))
+        Ok(())
     }
-}
-
-/// Sets a list of jobs to a path, and one job more, if any. Fails with `AllocError` if memory runs out.
-pub(crate) fn set_word(
-    word: &mut Vec<u16>,
-    path: &[u16],
-    last: Option<u16>,
-) -> Result<(), AllocError>
-    ensures word { OnOk result (word.new.items ≡ with_last path.now last) }
-    ensures room { vec_capacity word.old ≤ vec_capacity word.new }
-{
-    word.clear();
-    word.extend_from_slice(path)?;
-    if let Some(job) = last {
-        word.push(job)?;
-    }
-    Ok(())
 }

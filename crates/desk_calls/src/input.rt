@@ -1,0 +1,9 @@
+// What standard input holds.
+
+/// What stands before the first byte of 0, and what stands behind it.
+pub(crate) fn parts(input: &[u8]) -> (&[u8], &[u8]) {
+    match input.iter().position(|&byte| byte == 0) {
+        Some(at) => (&input[..at], &input[at + 1..]),
+        None => (input, &[]),
+    }
+}

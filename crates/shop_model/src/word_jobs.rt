@@ -1,0 +1,49 @@
+// The jobs of a word, one after the other.
+ghost use Rattle.std.specs.Prelude.{◌≡◌};
+ghost use Rattle.std.specs.Iterator.{YieldsFirst, item_count};
+
+use crate::words::Word;
+use std::marker::Model;
+
+/// The jobs of a word in order, seen as the list of those that are still to come.
+#[derive(Drop)]
+pub struct Jobs<'w> {
+    word: &'w Word,
+    next: usize,
+}
+
+impl<'w> Model for Jobs<'w> {
+    ghost use Rattle.std.specs.Prelude.{List, ℕ, ◌≤◌, drop, length};
+
+    ghost Value = { List ℕ };
+
+    ghost view = { λ s. drop s.next s.word.now };
+
+    ghost invariant = { λ s. s.next ≤ length s.word.now };
+}
+
+impl<'w> Jobs<'w> {
+    /// All jobs of a word.
+    pub(crate) fn of(word: &'w Word) -> Jobs<'w>
+        ensures { result ≡ word.now }
+    {
+        Jobs { word, next: 0 }
+    }
+}
+
+impl<'w> Iterator for Jobs<'w> {
+    type Item = usize;
+
+    ghost remaining = { item_count (λ s. s) };
+
+    ghost next_gives = { YieldsFirst (λ s. s) };
+
+    fn next(&mut self) -> Option<usize> {
+        let index = self.next;
+        if index == self.word.len() {
+            return None;
+        }
+        self.next = index + 1;
+        Some(self.word.job(index))
+    }
+}
