@@ -7,7 +7,7 @@ use Rattle.shop_model.specs.Shop.{Shop}
 use Rattle.shop_model.specs.Word.{IsWord}
 use Rattle.shop_heads.specs.Bound.{lb}
 use Rattle.shop_heads.proofs.SmallSums.{sums_small}
-use Rattle.shop_desk.specs.Desks.{TellsBoundBelow}
+use Rattle.shop_desk.specs.States.{TellsBoundBelow}
 use Rattle.shop_desk.specs.inner.LaneStates.{IsKeptInLanes, rows_of}
 use Rattle.shop_desk.specs.inner.Layouts.{LayoutState}
 

@@ -10,7 +10,7 @@ use Rattle.shop_model.specs.Word.{Placing, IsWord, place_next, placing}
 use Rattle.shop_model.proofs.Unders.{after_word}
 use Rattle.shop_heads.specs.Bound.{lb}
 use Rattle.std.specs.Prelude.{Option, Some, None}
-use Rattle.shop_desk.specs.Desks.{TellsBoundBelow}
+use Rattle.shop_desk.specs.States.{TellsBoundBelow}
 use Rattle.shop_heads.proofs.SmallSums.{sums_small}
 use Rattle.shop_heads.specs.Conflicts.{chosen_of, conflict, conflict_among, conflicts_with, open_jobs}
 use Rattle.shop_heads.proofs.Entries.{IsWord-snoc}

@@ -35,8 +35,6 @@ pub mod RaisedEnds
 pub mod RaisedHeads
 pub mod RaisedMachines
 pub mod Raising
-pub mod RingSteps
-pub mod DeskSteps
 pub mod RisenLanes
 pub mod RisingLists
 pub mod RowTurns

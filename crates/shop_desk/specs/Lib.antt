@@ -1,4 +1,3 @@
-pub mod Desks
 pub mod States
 pub mod Slots
 pub mod Layouts

@@ -10,14 +10,12 @@ pub mod LaneBounds
 pub mod LaneChoices
 pub mod LaneEnds
 pub mod LaneHeads
-pub mod LaneRings
 pub mod LaneStates
 pub mod Layings
 pub mod Layouts
 pub mod MachineRaises
 pub mod OpenSlots
 pub mod Raises
-pub mod Rings
 pub mod RisingLists
 pub mod StandingBounds
 pub mod Steps

@@ -6,7 +6,7 @@ ghost use Rattle.shop_model.specs.Shop.{Shop};
 ghost use Rattle.shop_model.specs.Word.{IsWord};
 ghost use Rattle.shop_heads.specs.Bound.{lb};
 ghost use Rattle.shop_heads.specs.Conflicts.{conflict, SoleCandidateKeepsBound};
-ghost use Rattle.shop_desk.specs.Desks.{TellsBoundBelow};
+ghost use Rattle.shop_desk.specs.States.{TellsBoundBelow};
 ghost use Rattle.shop_desk.specs.declared.dispatching.Candidate.{Candidate};
 ghost use Rattle.shop_desk.specs.States.{CanDispatch, HasSoleCandidate, IsOfSomeWord};
 

@@ -2,7 +2,6 @@
 #![tactic(auto)]
 
 mod advances;
-mod desks;
 mod dispatchers;
 mod dispatching;
 mod fills;
@@ -13,7 +12,6 @@ mod job_sets;
 mod lane_bounds;
 mod lane_choices;
 mod lane_ends;
-mod lane_rings;
 mod latest_ends;
 mod layings;
 mod layouts;
@@ -21,12 +19,10 @@ mod look_aheads;
 mod machine_raises;
 mod positions;
 mod raises;
-mod rings;
 mod slots;
 mod states;
 mod steps;
 
-pub use desks::Desk;
 pub use dispatchers::Dispatcher;
 pub use dispatching::{Candidate, Dispatching};
 pub use layouts::Layout;

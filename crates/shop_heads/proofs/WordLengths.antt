@@ -1,7 +1,8 @@
 -- A word has no more entries than the instance has operations.
-use Rattle.std.proofs.Common.{◌≡◌, ℕ, zero, suc, ◌+◌, ◌≤◌, ◌<◌, List, [], ◌∷◌, length, refl}
+use Rattle.std.proofs.Common.{◌≡◌, ℕ, zero, suc, ◌+◌, ◌≤◌, ◌<◌, List, [], ◌∷◌, ◌++◌, length, refl}
 use Rattle.std.proofs.Common.{arith, eqb, ltb, cond, add-one}
 use Rattle.std.proofs.lemmas.Bool.Decides.{nat_tests}
+use Rattle.std.proofs.lemmas.List.{length_push}
 use Rattle.std.proofs.lemmas.List.Sums.{sum_by-cons}
 use Rattle.shop_model.specs.Shop.{Shop, operation_count}
 use Rattle.shop_model.specs.Word.{count_of, IsWord}
@@ -57,3 +58,7 @@ word_within shop w word =
     let all = below-all (length shop.jobs) w (λ x some. IsOperation-job shop x 0 (let a = word x in omega arith))
     in let le = below-before shop w word (length shop.jobs) (omega arith)
     in let a = before_at_most shop (length shop.jobs) in omega arith
+
+-- there is room for one more entry
+pub room_left : (shop : Shop) (w : List ℕ) (j : ℕ) → IsWord shop (w ++ j ∷ []) → length w < operation_count shop
+room_left shop w j fits = let a = word_within shop (w ++ j ∷ []) fits in let b = length_push w j in omega arith

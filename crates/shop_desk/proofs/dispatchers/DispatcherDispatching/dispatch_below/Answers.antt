@@ -1,7 +1,7 @@
 use Rattle.std.proofs.Common.{◌≡◌, [], ◌∷◌, ◌++◌, length, sym, subst}
 use Rattle.shop_model.specs.Word.{IsWord}
 use Rattle.shop_heads.specs.Bound.{lb}
-use Rattle.shop_desk.specs.Desks.{TellsBoundBelow}
+use Rattle.shop_desk.specs.States.{TellsBoundBelow}
 use Rattle.shop_desk.specs.inner.Candidates.{IsCandidateOf}
 use Rattle.shop_desk.specs.inner.Dispatchers.{DispatcherState}
 use Rattle.shop_desk.specs.inner.LaneStates.{IsKeptInLanes, rows_of}

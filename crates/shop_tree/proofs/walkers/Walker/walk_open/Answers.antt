@@ -4,7 +4,7 @@ use Rattle.std.specs.Prelude.{take}
 use Rattle.shop_model.specs.Shop.{Shop}
 use Rattle.shop_model.specs.Word.{IsWord}
 use Rattle.shop_heads.specs.Bound.{lb}
-use Rattle.shop_desk.proofs.RingSteps.{room_left}
+use Rattle.shop_heads.proofs.WordLengths.{room_left}
 use Rattle.shop_tree.specs.inner.Held.{waiting_in}
 use Rattle.shop_tree.specs.inner.Opens.{word_at}
 use Rattle.shop_tree.specs.inner.Searching.{walked}

@@ -3,7 +3,7 @@
 --     goes_on s job                  the same with one more operation of the job
 --     IsUndone s t                   t is s without its last entry
 --     IsWordOfShop s                 the word is one of the instance, which is within its limits
-use Rattle.std.specs.Prelude.{◌≡◌, ◌≤◌, ◌<◌, ℕ, Option, Some, None, List, [], ◌∷◌, ◌++◌}
+use Rattle.std.specs.Prelude.{◌≡◌, ℕ, List, [], ◌∷◌, ◌++◌}
 use Rattle.shop_model.specs.Limits.{IsWithinLimits}
 use Rattle.shop_model.specs.Shop.{Shop}
 use Rattle.shop_model.specs.Word.{IsWord}
@@ -26,8 +26,3 @@ IsUndone s t = (word : List ℕ) (job : ℕ) → s.word ≡ word ++ job ∷ []
 pub record IsWordOfShop (s : DeskState) : Type 0 where
   pub word : IsWord s.shop s.word
   pub limits : IsWithinLimits s.shop
-
--- the bound if it is below the limit
-abbrev pub TellsBoundBelow : ℕ → ℕ → Option ℕ → Type 0
-TellsBoundBelow limit bound (Some b) = (b ≡ bound) × (b < limit)
-TellsBoundBelow limit bound None = limit ≤ bound

@@ -2,7 +2,7 @@
 ghost use Rattle.std.specs.Prelude.{◌≡◌, ◌++◌, ◌∷◌, [], ◌<◌, IfOk, length};
 ghost use Rattle.shop_model.specs.Word.{IsWord};
 ghost use Rattle.shop_heads.specs.Bound.{lb};
-ghost use Rattle.shop_desk.specs.Desks.{IsUndone, IsWordOfShop, goes_on, nothing_dispatched};
+ghost use Rattle.shop_bound.specs.Desks.{IsUndone, IsWordOfShop, goes_on, nothing_dispatched};
 
 use crate::lane_rings::LaneRing;
 use shop_model::Instance;
@@ -18,8 +18,8 @@ pub struct Desk<'a> {
 }
 
 impl<'a> Model for Desk<'a> {
-    ghost use Rattle.shop_desk.specs.Desks.{DeskState};
-    ghost use Rattle.shop_desk.specs.inner.LaneRings.{kept_in};
+    ghost use Rattle.shop_bound.specs.Desks.{DeskState};
+    ghost use Rattle.shop_bound.specs.inner.LaneRings.{kept_in};
 
     ghost Value = { DeskState };
 

@@ -1,8 +1,9 @@
 use Rattle.std.proofs.Common.{[], ◌∷◌, ◌++◌, sym, subst, arith}
 use Rattle.shop_model.specs.Word.{IsWord}
-use Rattle.shop_desk.specs.Desks.{DeskState}
-use Rattle.shop_desk.proofs.RingSteps.{bound_read, ring_on, room_left}
-use Rattle.shop_desk.proofs.rings.Ring.dispatch.Goals as goal
+use Rattle.shop_bound.specs.Desks.{DeskState}
+use Rattle.shop_heads.proofs.WordLengths.{room_left}
+use Rattle.shop_bound.proofs.RingSteps.{bound_read, ring_on}
+use Rattle.shop_bound.proofs.rings.Ring.dispatch.Goals as goal
 
 pub dispatch-bound-requires-clause-can : goal.dispatch-bound-requires-clause-can
 dispatch-bound-requires-clause-can g c = record {

@@ -1,6 +1,6 @@
 use Rattle.std.proofs.Common.{arith}
 use Rattle.shop_heads.proofs.SmallJobs.{small_last}
-use Rattle.shop_desk.proofs.desks.Desk.dispatch.Goals as goal
+use Rattle.shop_bound.proofs.desks.Desk.dispatch.Goals as goal
 
 pub overflow_cast-job : goal.overflow_cast-job
 overflow_cast-job c =

@@ -1,8 +1,8 @@
 // A word that grows and shrinks at its end, with its state and those of its last beginnings.
 ghost use Rattle.std.specs.Prelude.{◌≡◌, ◌<◌, ◌++◌, ◌∷◌, [], All, IfOk, drop, length, slice_index_or};
-ghost use Rattle.shop_desk.specs.inner.Rings.{HasKept};
+ghost use Rattle.shop_bound.specs.inner.Rings.{HasKept};
 
-use crate::dispatching::Dispatching;
+use shop_desk::Dispatching;
 use shop_heads::lower_bound;
 use shop_model::{Instance, Word};
 use std::alloc::{AllocError, Global};
@@ -32,8 +32,8 @@ pub(crate) struct Ring<D: Dispatching + Drop> {
 impl<D: Dispatching + Drop> Model for Ring<D> {
     ghost use Rattle.std.specs.Prelude.{vec_capacity, ◌≤◌, ◌+◌};
     ghost use Rattle.shop_model.specs.Shop.{operation_count};
-    ghost use Rattle.shop_desk.specs.Desks.{DeskState};
-    ghost use Rattle.shop_desk.specs.inner.Rings.{IsRing};
+    ghost use Rattle.shop_bound.specs.Desks.{DeskState};
+    ghost use Rattle.shop_bound.specs.inner.Rings.{IsRing};
 
     ghost Value = { DeskState };
 
@@ -97,7 +97,7 @@ fn step_back<S>(state: &mut S, states: &mut VecDeque<S>)
 impl<D: Dispatching + Drop> Ring<D> {
     ghost use Rattle.shop_model.specs.Word.{IsWord};
     ghost use Rattle.shop_heads.specs.Bound.{lb};
-    ghost use Rattle.shop_desk.specs.Desks.{IsUndone, IsWordOfShop, goes_on, nothing_dispatched};
+    ghost use Rattle.shop_bound.specs.Desks.{IsUndone, IsWordOfShop, goes_on, nothing_dispatched};
 
     /// Of no entry. Fails with `AllocError` if memory runs out.
     pub(crate) fn new(

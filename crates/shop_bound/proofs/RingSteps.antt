@@ -7,15 +7,9 @@ use Rattle.std.proofs.lemmas.Grind.{get_or_after_one}
 use Rattle.std.proofs.lemmas.List.{get_or_default, get_or-take, get_or_append_left, get_or_push, length-drop, length-take, length_push}
 use Rattle.std.proofs.lemmas.List.{take-append-le, take-take, take_all}
 use Rattle.std.proofs.lemmas.List.Elements.{All-push, All-drop}
-use Rattle.shop_model.specs.Shop.{Shop, operation_count}
-use Rattle.shop_model.specs.Word.{IsWord}
+use Rattle.shop_model.specs.Shop.{Shop}
 use Rattle.shop_heads.specs.Bound.{lb}
-use Rattle.shop_heads.proofs.WordLengths.{word_within}
-use Rattle.shop_desk.specs.inner.Rings.{AreBounds, AreEarlier, HasKept, IsRing}
-
--- there is room for one more entry
-pub room_left : (shop : Shop) (w : List ℕ) (j : ℕ) → IsWord shop (w ++ j ∷ []) → length w < operation_count shop
-room_left shop w j fits = let a = word_within shop (w ++ j ∷ []) fits in let b = length_push w j in omega arith
+use Rattle.shop_bound.specs.inner.Rings.{AreBounds, AreEarlier, HasKept, IsRing}
 
 module _ (shop : Shop) (w bounds : List ℕ) (are : AreBounds shop w bounds) where
   -- the bound of the whole word is the last

@@ -2,12 +2,11 @@
 ghost use Rattle.std.specs.Prelude.{◌≡◌, ◌++◌, ◌∷◌, [], ◌<◌, IfOk, length};
 ghost use Rattle.shop_model.specs.Word.{IsWord};
 ghost use Rattle.shop_heads.specs.Bound.{lb};
-ghost use Rattle.shop_desk.specs.Desks.{IsUndone, IsWordOfShop, goes_on, nothing_dispatched};
-ghost use Rattle.shop_desk.specs.inner.LaneRings.{kept_in};
+ghost use Rattle.shop_bound.specs.Desks.{IsUndone, IsWordOfShop, goes_on, nothing_dispatched};
+ghost use Rattle.shop_bound.specs.inner.LaneRings.{kept_in};
 
-use crate::dispatchers::Dispatcher;
-use crate::layouts::Layout;
 use crate::rings::Ring;
+use shop_desk::{Dispatcher, Layout};
 use shop_lanes::{NarrowLanes, PlainLanes, WideLanes};
 use shop_model::Instance;
 use std::alloc::{AllocError, Global};

@@ -1,7 +1,7 @@
 -- What a desk keeps when its last entry is taken back.
 use Rattle.std.proofs.Common.{◌≡◌, ℕ, ◌+◌, ◌-◌, ◌<◌, [], ◌∷◌, ◌++◌, length, take, get_or, ap, sym, ◌∙◌, arith}
 use Rattle.std.proofs.lemmas.List.{take_all, take_more}
-use Rattle.shop_desk.specs.Desks.{DeskState, IsUndone}
+use Rattle.shop_bound.specs.Desks.{DeskState, IsUndone}
 
 -- the instance stays the same
 pub undone_shop : (s t : DeskState) → IsUndone s t → 0 < length s.word → t.shop ≡ s.shop

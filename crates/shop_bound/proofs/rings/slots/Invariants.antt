@@ -1,7 +1,7 @@
 use Rattle.std.proofs.Common.{◌≡◌, ◌≤◌, length}
 use Rattle.std.specs.List.{All}
 use Rattle.std.specs.VecDeque.{deque_capacity}
-use Rattle.shop_desk.proofs.rings.slots.Given as goal
+use Rattle.shop_bound.proofs.rings.slots.Given as goal
 
 abbrev pub invariant-loop : goal.invariant-loop
 invariant-loop g l = record {

@@ -1,7 +1,7 @@
 use Rattle.std.proofs.Common.{◌-◌, ◌<◌, length, sym, subst, arith}
-use Rattle.shop_desk.specs.Desks.{DeskState}
-use Rattle.shop_desk.proofs.RingSteps.{ring_back}
-use Rattle.shop_desk.proofs.rings.Ring.undo.Goals as goal
+use Rattle.shop_bound.specs.Desks.{DeskState}
+use Rattle.shop_bound.proofs.RingSteps.{ring_back}
+use Rattle.shop_bound.proofs.rings.Ring.undo.Goals as goal
 
 pub invariant_of-self-2 : goal.invariant_of-self-2
 invariant_of-self-2 g c =

@@ -1,0 +1,2 @@
+pub mod RingSteps
+pub mod DeskSteps
