@@ -6,11 +6,8 @@ pub mod OwnTurns
 pub mod OwnRows
 pub mod SpanTurns
 pub mod MarkLemmas
-pub mod Eights
 pub mod Serving
 pub mod BlockTurns
-pub mod Extremes
-pub mod VectorBits
 pub mod BlockMasks
 pub mod MarkedSpans
 pub mod Padding

@@ -9,7 +9,8 @@ use Rattle.shop_lanes.specs.Rows.{Lane, lanes}
 use Rattle.shop_lanes.specs.Spans.{span, spans_from, FitsSpan}
 use Rattle.shop_lanes.specs.Marks.{marked}
 use Rattle.shop_lanes.specs.SetBits.{set_bits}
-use Rattle.shop_lanes.specs.inner.Passes.{is_between, spans_at, AreSmallAt}
+use Rattle.shop_blocks.specs.Eights.{is_between}
+use Rattle.shop_lanes.specs.inner.Passes.{spans_at, AreSmallAt}
 use Rattle.shop_lanes.proofs.LaneLists.{length-lanes}
 use Rattle.shop_lanes.proofs.MarkLemmas.{set_bits-mask}
 use Rattle.shop_lanes.proofs.BlockTurns.{block_split, greatest_by-append}

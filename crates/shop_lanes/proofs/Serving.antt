@@ -1,35 +1,16 @@
 -- Lanes served side by side, over lists alone: which wait, their running sums, and the greatest of their ends.
-use Rattle.std.proofs.Common.{◌≡◌, ℕ, suc, ◌+◌, ◌-◌, ◌≤◌, ◌^◌, max, Bool, true, false, cond, List, [], ◌∷◌, length, map}
-use Rattle.std.proofs.Common.{replicate, get_or, refl, ap, sym, ◌∙◌, arith, subst, leb, ltb, sum_by}
+use Rattle.std.proofs.Common.{◌≡◌, ℕ, suc, ◌+◌, ◌≤◌, max, Bool, true, false, cond, List, [], ◌∷◌, length, map}
+use Rattle.std.proofs.Common.{replicate, get_or, refl, ap, sym, ◌∙◌, arith, subst, leb, sum_by}
 use Rattle.std.proofs.lemmas.List.Sums.{sum_by-cons}
-use Rattle.std.proofs.lemmas.Bool.Decides.{nat_tests}
-use Rattle.std.proofs.lemmas.Simd.{tops_compared, zip2_splat_left, length-zip2}
-use lib.Lanes.{zip2, sel_l, sum_l, top}
-use mir.Syntax.{Width}
-use mir.Val.{bits, hbits}
+use Rattle.std.proofs.lemmas.Simd.{length-zip2}
+use lib.Lanes.{zip2, sel_l, sum_l}
 use Rattle.shop_lanes.specs.Rows.{Lane, lanes}
 use Rattle.shop_lanes.specs.Spans.{span, greatest_by}
-use Rattle.shop_lanes.specs.inner.Passes.{running, clock_after, greatest, AreRaised}
-use Rattle.shop_lanes.proofs.Extremes.{greatest-greater}
-use Rattle.shop_lanes.proofs.Eights.{on_eight}
-use Rattle.shop_lanes.specs.inner.Blocks.{added, waiting, AddsFit}
-
--- which heads are at least `least`, as a comparison of two vectors tells it
-abbrev pub waits_told : Width → List ℕ → List ℕ → List Bool
-waits_told w least heads = map (top (hbits w)) (zip2 (λ a b. cond (leb a b) (2 ^ bits w - 1) 0) least heads)
-
-pub waits_told_is : (w : Width) (n least : ℕ) (heads : List ℕ) → length heads ≡ n
-    → waits_told w (replicate n least) heads ≡ map (leb least) heads
-waits_told_is w n least heads e =
-    tops_compared w leb (replicate n least) heads ∙ zip2_splat_left leb least n heads e
-
-pub waiting_told_is : (w : Width) (xs heads least : List ℕ) → length heads ≡ 8 → least ≡ replicate 8 (get_or least 0 0)
-    → sel_l (waits_told w least heads) xs (replicate 8 0) ≡ waiting (get_or least 0 0) heads xs
-waiting_told_is w xs heads least eight splat =
-    let from = get_or least 0 0
-    in ap (λ l. sel_l (waits_told w l heads) xs (replicate 8 0)) splat
-    ∙ ap (λ ms. sel_l ms xs (replicate 8 0)) (waits_told_is w 8 from heads eight)
-    ∙ ap (λ n. sel_l (map (leb from) heads) xs (replicate n 0)) (sym eight)
+use Rattle.shop_blocks.specs.Folds.{running, greatest}
+use Rattle.shop_lanes.specs.inner.Passes.{clock_after, AreRaised}
+use Rattle.shop_blocks.proofs.Extremes.{greatest-greater}
+use Rattle.shop_blocks.proofs.Eights.{on_eight}
+use Rattle.shop_blocks.specs.Eights.{added, waiting, AddsFit}
 
 pub length-waiting : (least : ℕ) (hs ts : List ℕ) → length ts ≡ length hs
     → length (waiting least hs ts) ≡ length hs
@@ -130,18 +111,6 @@ greatest-late least start (h ∷ hs) (t ∷ ts) (q ∷ qs) a b =
     by_test false served left =
         let e : start + 0 ≡ start = omega arith
         in rw e (let l = left in omega arith)
-
--- the greater of two vectors, as a comparison tells it
-pub greater_told_is : (w : Width) (xs ys : List ℕ) → length xs ≡ length ys
-    → sel_l (map (top (hbits w)) (zip2 (λ a b. cond (ltb a b) (2 ^ bits w - 1) 0) xs ys)) ys xs ≡ zip2 max xs ys
-greater_told_is w xs ys e = ap (λ ms. sel_l ms ys xs) (tops_compared w ltb xs ys) ∙ chosen xs ys e
-  where
-    chosen : (us vs : List ℕ) → length us ≡ length vs → sel_l (zip2 ltb us vs) vs us ≡ zip2 max us vs
-    chosen [] vs h = refl
-    chosen (x ∷ us) [] h = absurd (omega arith)
-    chosen (x ∷ us) (y ∷ vs) h =
-        let one : cond (ltb x y) y x ≡ max x y = grind (arith, nat_tests)
-        in ap (λ n. n ∷ sel_l (zip2 ltb us vs) vs us) one ∙ ap (λ l. max x y ∷ l) (chosen us vs (omega arith))
 
 -- a block of eight lanes, as a pass serves it
 module _ (limit : ℕ) (hs ts qs clock : List ℕ) (from start : ℕ)

@@ -1,4 +1,3 @@
 pub mod Passes
-pub mod Blocks
 pub mod LaterHeads
 pub mod OwnSpans

@@ -3,12 +3,12 @@ ghost use Rattle.std.specs.Prelude.{◌≡◌, ℕ, ◌+◌, ◌-◌, ◌*◌, �
 ghost use Rattle.std.specs.Prelude.{replicate, All, IfOk};
 ghost use Rattle.shop_lanes.specs.inner.Passes.{IsPadded};
 
-use crate::blocks::Block;
 use crate::leaps::leap_over;
 use crate::marking::Marks;
 use crate::owning::own_spans;
 use crate::passes::{bits_up_to, first_least, greatest_span, single_span};
 use crate::state_lanes::StateLanes;
+use shop_blocks::Block;
 use std::alloc::{AllocError, Global};
 
 /// Times and tails that blocks of eight are read from.

@@ -4,9 +4,8 @@ ghost use Rattle.shop_lanes.specs.Spans.{spans_between, FitsSpan, IsRaisedBelow}
 ghost use Rattle.shop_lanes.specs.inner.Passes.{lanes_by};
 ghost use Rattle.shop_lanes.specs.inner.LaterHeads.{least_later};
 
-use crate::blocks::Block;
 use crate::passes::single_span_of;
-use crate::served_blocks::least_of;
+use shop_blocks::{Block, least_of};
 
 /// The least head of at least `from`; the greatest number if there is none.
 #[inline(always)]

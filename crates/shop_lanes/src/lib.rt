@@ -2,23 +2,17 @@
 #![tactic(auto)]
 
 mod block_lanes;
-mod blocks;
 mod leaps;
 mod marking;
-mod narrow_blocks;
 mod owning;
 mod passes;
-mod plain_blocks;
 mod served_blocks;
 mod state_lanes;
-mod wide_blocks;
 
 use block_lanes::BlockLanes;
 pub use marking::Marks;
-use narrow_blocks::NarrowBlock;
-use plain_blocks::PlainBlock;
+use shop_blocks::{NarrowBlock, PlainBlock, WideBlock};
 pub use state_lanes::StateLanes;
-use wide_blocks::WideBlock;
 
 /// Lanes of 16 bits.
 pub type NarrowLanes = BlockLanes<NarrowBlock>;

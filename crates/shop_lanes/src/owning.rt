@@ -6,7 +6,7 @@ ghost use Rattle.shop_lanes.specs.Spans.{FitsSpan, FitOwnSpans};
 ghost use Rattle.shop_lanes.specs.inner.Passes.{lanes_by};
 ghost use Rattle.shop_lanes.specs.inner.OwnSpans.{AreNoted, AreOwnSpansOf, work_of};
 
-use crate::blocks::Block;
+use shop_blocks::Block;
 
 #[inline(always)]
 fn at<B: Block>(row: &[B::Number], i: usize) -> u64

@@ -4,14 +4,14 @@ ghost use Rattle.std.specs.Prelude.{slice_index};
 ghost use Rattle.std.specs.Simd.Lanes.{mask_l};
 ghost use Rattle.shop_lanes.specs.Spans.{FitsSpan};
 ghost use Rattle.shop_lanes.specs.Ends.{IsFirstLeast};
-ghost use Rattle.shop_lanes.specs.inner.Passes.{is_between, least_up_to, lanes_by, span_by};
-ghost use Rattle.shop_lanes.specs.inner.Passes.{spans_by};
-ghost use Rattle.shop_lanes.specs.inner.Passes.{HasSpan, HasSpans, HasAllSpans, AreSmallBy};
-ghost use Rattle.shop_lanes.specs.inner.Passes.{IsFirstOf};
+ghost use Rattle.shop_blocks.specs.Eights.{is_between};
+ghost use Rattle.shop_blocks.specs.Folds.{least_up_to};
+ghost use Rattle.shop_lanes.specs.inner.Passes.{lanes_by, span_by, spans_by, HasSpan, HasSpans};
+ghost use Rattle.shop_lanes.specs.inner.Passes.{HasAllSpans, AreSmallBy, IsFirstOf};
 
-use crate::blocks::Block;
 use crate::marking::Marks;
-use crate::served_blocks::{greatest_of, least_of, serve};
+use crate::served_blocks::serve;
+use shop_blocks::{Block, greatest_of, least_of};
 
 /// The pass over all blocks: in the lanes the greatest of `most` and the ends, tails included. Where a call says the
 /// count by a number, the blocks are served without a loop.

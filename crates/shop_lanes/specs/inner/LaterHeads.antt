@@ -1,11 +1,8 @@
 -- Heads from some number on.
-use Rattle.std.specs.Prelude.{ℕ, List, map, if◌then◌else◌, nat_le}
-use Rattle.shop_lanes.specs.inner.Passes.{least_up_to}
+use Rattle.std.specs.Prelude.{ℕ, List, map}
+use Rattle.shop_blocks.specs.Eights.{later_head}
+use Rattle.shop_blocks.specs.Folds.{least_up_to}
 
--- a head that is at least `from`, and the greatest number in place of any other
-abbrev pub later_head : ℕ → ℕ → ℕ → ℕ
-later_head top from head = if nat_le from head then head else top
-
--- the least of them
+-- the least head of at least `from`; `top` if there is none
 abbrev pub least_later : ℕ → ℕ → List ℕ → ℕ
 least_later top from heads = least_up_to top (map (later_head top from) heads)

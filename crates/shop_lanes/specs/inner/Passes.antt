@@ -1,12 +1,10 @@
 -- What a pass over lanes keeps.
 --     clock_after least start xs     when the last of those with a head of at least `least` ends
---     running start xs               the start and the sum of the numbers up to each one
---     greatest xs                    the greatest number, 0 if there is none
---     least_up_to top xs             the least of the numbers and `top`
---     is_between above upto x        x is above the one and at most the other
 use Rattle.std.specs.Prelude.{◌≡◌, ◌≢◌, ℕ, ◌+◌, ◌-◌, ◌%◌, drop, replicate, ◌<◌, ◌≤◌, length}
-use Rattle.std.specs.Prelude.{min, max, Bool, ◌&&◌, List, [], ◌∷◌, if◌then◌else◌, nat_le, nat_lt}
-use Rattle.std.specs.Prelude.{get_or, map, slice_index}
+use Rattle.std.specs.Prelude.{max, List, [], ◌∷◌, if◌then◌else◌, nat_le}
+use Rattle.std.specs.Prelude.{get_or, map}
+use Rattle.shop_blocks.specs.Eights.{first_of}
+use Rattle.shop_blocks.specs.Folds.{greatest}
 use Rattle.shop_lanes.specs.Rows.{Lane, lanes}
 use Rattle.shop_lanes.specs.Spans.{span, spans_between, FitsSpan}
 
@@ -16,21 +14,6 @@ clock_after least start (x ∷ xs) =
     if nat_le least x.head
     then clock_after least (start + x.time) xs
     else clock_after least start xs
-
-abbrev pub running : ℕ → List ℕ → List ℕ
-running start [] = []
-running start (x ∷ xs) = (start + x) ∷ running (start + x) xs
-
-abbrev pub greatest : List ℕ → ℕ
-greatest [] = 0
-greatest (x ∷ xs) = max x (greatest xs)
-
-abbrev pub least_up_to : ℕ → List ℕ → ℕ
-least_up_to top [] = top
-least_up_to top (x ∷ xs) = min x (least_up_to top xs)
-
-abbrev pub is_between : ℕ → ℕ → ℕ → Bool
-is_between above upto x = nat_lt above x && nat_le x upto
 
 -- the greatest span from the head at a position on, of those that begin no earlier, over some
 -- positions
@@ -44,13 +27,6 @@ abbrev pub AreSmallAt : ℕ → List ℕ → List Lane → List ℕ → Type 0
 AreSmallAt limit heads all [] = Unit {0}
 AreSmallAt limit heads all (p ∷ ps) =
     (p < length heads) × FitsSpan limit (get_or heads p 0) all × AreSmallAt limit heads all ps
-
-abbrev pub first_of : List ℕ → ℕ
-first_of xs = slice_index xs 0
-
--- the same number in each of eight lanes
-abbrev pub IsSplat : List ℕ → Type 0
-IsSplat xs = xs ≡ replicate 8 (first_of xs)
 
 -- the lanes of three rows, whose elements stand for these numbers
 abbrev pub lanes_by : {A : Type 0} → (A → ℕ) → List A → List A → List A → List Lane

@@ -1,7 +1,7 @@
 use Rattle.std.proofs.Common.{arith, map}
 use Rattle.std.proofs.lemmas.List.{length-map}
 use Rattle.shop_lanes.proofs.BlockMasks.{first_of_least}
-use Rattle.shop_lanes.proofs.Extremes.{least_le_top}
+use Rattle.shop_blocks.proofs.Extremes.{least_le_top}
 use Rattle.shop_lanes.proofs.passes.first_least.Goals as goal
 
 pub position_of-requires-clause-fits : goal.position_of-requires-clause-fits

@@ -1,6 +1,6 @@
 use Rattle.std.proofs.Common.{◌∙◌, ◌%◌, ap, map, arith}
 use Rattle.std.proofs.lemmas.List.{length-map}
-use Rattle.shop_lanes.specs.inner.Passes.{greatest}
+use Rattle.shop_blocks.specs.Folds.{greatest}
 use Rattle.shop_lanes.proofs.BlockTurns.{block_fits, block_passed, pass_ends}
 use Rattle.shop_lanes.proofs.RowValues.{as_long}
 use Rattle.shop_lanes.proofs.passes.span_of.Goals as goal

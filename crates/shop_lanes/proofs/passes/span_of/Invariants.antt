@@ -1,6 +1,6 @@
 use Rattle.std.proofs.Common.{◌≡◌, length, map}
 use Rattle.shop_lanes.specs.Rows.{lanes}
-use Rattle.shop_lanes.specs.inner.Passes.{greatest}
+use Rattle.shop_blocks.specs.Folds.{greatest}
 use Rattle.shop_lanes.proofs.BlockTurns.{IsBlockPass}
 use Rattle.shop_lanes.proofs.passes.span_of.Given as goal
 

@@ -1,7 +1,8 @@
 use Rattle.std.proofs.Common.{◌∙◌, ap, arith, map}
 use Rattle.std.proofs.lemmas.List.{length-map}
 use lib.Lanes.{mask_l}
-use Rattle.shop_lanes.specs.inner.Passes.{greatest, is_between}
+use Rattle.shop_blocks.specs.Folds.{greatest}
+use Rattle.shop_blocks.specs.Eights.{is_between}
 use Rattle.shop_lanes.proofs.MarkedSpans.{marks_small, marks_spans, marks_end}
 use Rattle.shop_lanes.proofs.RowValues.{as_long}
 use Rattle.shop_lanes.proofs.passes.spans_by_block.Goals as goal

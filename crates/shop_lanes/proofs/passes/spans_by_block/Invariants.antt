@@ -1,7 +1,7 @@
 use Rattle.std.proofs.Common.{◌≡◌, ◌*◌, max, drop, length, map}
 use Rattle.shop_lanes.specs.Rows.{lanes}
 use Rattle.shop_lanes.specs.Spans.{spans_from, spans_between}
-use Rattle.shop_lanes.specs.inner.Passes.{greatest}
+use Rattle.shop_blocks.specs.Folds.{greatest}
 use Rattle.shop_lanes.proofs.passes.spans_by_block.Given as goal
 
 abbrev pub invariant-loop-block : goal.invariant-loop-block

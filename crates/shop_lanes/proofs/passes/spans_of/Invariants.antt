@@ -1,6 +1,7 @@
 use Rattle.std.proofs.Common.{◌≡◌, max, length, map}
 use Rattle.shop_lanes.specs.Rows.{lanes}
-use Rattle.shop_lanes.specs.inner.Passes.{greatest, spans_at, AreSmallAt}
+use Rattle.shop_blocks.specs.Folds.{greatest}
+use Rattle.shop_lanes.specs.inner.Passes.{spans_at, AreSmallAt}
 use Rattle.shop_lanes.proofs.passes.spans_of.Given as goal
 
 abbrev pub invariant-loop-position : goal.invariant-loop-position

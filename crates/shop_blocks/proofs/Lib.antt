@@ -1,0 +1,5 @@
+pub mod Eights
+pub mod Extremes
+pub mod Comparisons
+pub mod VectorBits
+pub mod Maxima

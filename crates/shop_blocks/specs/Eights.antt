@@ -1,0 +1,66 @@
+-- Eight numbers moved among their lanes, added, subtracted, and chosen from.
+--     up_one, up_two, up_four          moved up by so many lanes, with zeros from below
+--     down_one, down_two, down_four    moved down by so many lanes, with zeros from above
+--     halves, quarters, neighbours     with their halves, quarters or neighbours exchanged
+--     waiting least heads xs           those with a head of at least `least`, and 0 for the others
+--     later_head rest least head       a head that is at least `least`, and `rest` for any other
+--     is_between above upto x          x is above the one and at most the other
+use Rattle.std.specs.Prelude.{◌≡◌, ℕ, ◌+◌, ◌-◌, ◌≤◌, Bool, ◌&&◌, List, [], ◌∷◌, ◌++◌, length}
+use Rattle.std.specs.Prelude.{replicate, map, nat_le, nat_lt, if◌then◌else◌, slice_index}
+use Rattle.std.specs.Simd.Lanes.{pick_l, sel_l, zip2, Each2}
+
+abbrev pub eight_zeros : List ℕ
+eight_zeros = 0 ∷ 0 ∷ 0 ∷ 0 ∷ 0 ∷ 0 ∷ 0 ∷ 0 ∷ []
+
+abbrev pub up_one : List ℕ → List ℕ
+up_one v = pick_l 0 (v ++ eight_zeros) (8 ∷ 0 ∷ 1 ∷ 2 ∷ 3 ∷ 4 ∷ 5 ∷ 6 ∷ [])
+
+abbrev pub up_two : List ℕ → List ℕ
+up_two v = pick_l 0 (v ++ eight_zeros) (8 ∷ 8 ∷ 0 ∷ 1 ∷ 2 ∷ 3 ∷ 4 ∷ 5 ∷ [])
+
+abbrev pub up_four : List ℕ → List ℕ
+up_four v = pick_l 0 (v ++ eight_zeros) (8 ∷ 8 ∷ 8 ∷ 8 ∷ 0 ∷ 1 ∷ 2 ∷ 3 ∷ [])
+
+abbrev pub down_one : List ℕ → List ℕ
+down_one v = pick_l 0 (v ++ eight_zeros) (1 ∷ 2 ∷ 3 ∷ 4 ∷ 5 ∷ 6 ∷ 7 ∷ 8 ∷ [])
+
+abbrev pub down_two : List ℕ → List ℕ
+down_two v = pick_l 0 (v ++ eight_zeros) (2 ∷ 3 ∷ 4 ∷ 5 ∷ 6 ∷ 7 ∷ 8 ∷ 8 ∷ [])
+
+abbrev pub down_four : List ℕ → List ℕ
+down_four v = pick_l 0 (v ++ eight_zeros) (4 ∷ 5 ∷ 6 ∷ 7 ∷ 8 ∷ 8 ∷ 8 ∷ 8 ∷ [])
+
+abbrev pub halves : List ℕ → List ℕ
+halves v = pick_l 0 (v ++ v) (4 ∷ 5 ∷ 6 ∷ 7 ∷ 0 ∷ 1 ∷ 2 ∷ 3 ∷ [])
+
+abbrev pub quarters : List ℕ → List ℕ
+quarters v = pick_l 0 (v ++ v) (2 ∷ 3 ∷ 0 ∷ 1 ∷ 4 ∷ 5 ∷ 6 ∷ 7 ∷ [])
+
+abbrev pub neighbours : List ℕ → List ℕ
+neighbours v = pick_l 0 (v ++ v) (1 ∷ 0 ∷ 2 ∷ 3 ∷ 4 ∷ 5 ∷ 6 ∷ 7 ∷ [])
+
+abbrev pub added : List ℕ → List ℕ → List ℕ
+added = zip2 (λ a b. a + b)
+
+abbrev pub AddsFit : ℕ → List ℕ → List ℕ → Type 0
+AddsFit limit = Each2 (λ a b. a + b ≤ limit)
+
+-- 0 where more is taken away than there is
+abbrev pub lessened : List ℕ → List ℕ → List ℕ
+lessened = zip2 (λ a b. a - b)
+
+abbrev pub first_of : List ℕ → ℕ
+first_of xs = slice_index xs 0
+
+-- the same number in each of eight lanes
+abbrev pub IsSplat : List ℕ → Type 0
+IsSplat xs = xs ≡ replicate 8 (first_of xs)
+
+abbrev pub waiting : ℕ → List ℕ → List ℕ → List ℕ
+waiting least heads xs = sel_l (map (nat_le least) heads) xs (replicate (length heads) 0)
+
+abbrev pub later_head : ℕ → ℕ → ℕ → ℕ
+later_head rest least head = if nat_le least head then head else rest
+
+abbrev pub is_between : ℕ → ℕ → ℕ → Bool
+is_between above upto x = nat_lt above x && nat_le x upto
