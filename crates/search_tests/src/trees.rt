@@ -1,6 +1,6 @@
 // Worked conflict sets, children and sheets, and each public call of branching and search once.
 ghost use Rattle.std.specs.Prelude.{◌≡◌, ◌<◌, ◌^◌};
-ghost use Rattle.shop_tree.specs.Nodes.{IsNode, AreNodes};
+ghost use Rattle.shop_nodes.specs.Nodes.{IsNode, AreNodes};
 
 use shop_bound::lower_bound;
 use shop_model::{Instance, SharedWord, Word, fits, is_full, place};

@@ -9,8 +9,8 @@ use Rattle.shop_model.specs.Word.{placed}
 use Rattle.shop_heads.specs.Bound.{lb}
 use Rattle.shop_heads.proofs.BoundLaw.{full_word}
 use Rattle.one_machine.proofs.Lists.{all_append, all_filter}
-use Rattle.shop_tree.specs.Walking.{Walk}
-use Rattle.shop_tree.proofs.Members.{all_contains}
+use Rattle.shop_nodes.specs.Walking.{Walk}
+use Rattle.shop_nodes.proofs.Members.{all_contains}
 use Rattle.shop_round.specs.Round.{Planned, Stand, Told, least_bound, sheet_in, sheets_of, up_to_hit, best_word}
 use Rattle.shop_round.specs.Round.{words_of_round, after_round, cut_of, round, opening, unless_closed}
 use Rattle.shop_round.specs.Round.{rounds_from, answer, makespan_of, bound_of}

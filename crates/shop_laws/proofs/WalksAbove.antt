@@ -7,10 +7,10 @@ use Rattle.shop_model.specs.Word.{IsWord}
 use Rattle.shop_heads.specs.Bound.{lb}
 use Rattle.shop_heads.proofs.BoundsRise.{bounds_rise}
 use Rattle.one_machine.proofs.Lists.{all_append}
-use Rattle.shop_tree.specs.Branching.{conflict, branch}
-use Rattle.shop_tree.specs.Walking.{Walk, walk, walk_within, operations_left, taking, unless_cut, sheet}
-use Rattle.shop_tree.proofs.Found.{conflict_words}
-use Rattle.shop_tree.proofs.Members.{all_sort}
+use Rattle.shop_nodes.specs.Branching.{conflict, branch}
+use Rattle.shop_nodes.specs.Walking.{Walk, walk, walk_within, operations_left, taking, unless_cut, sheet}
+use Rattle.shop_nodes.proofs.Found.{conflict_words}
+use Rattle.shop_nodes.proofs.Members.{all_sort}
 
 module _ (shop : Shop) (limits : IsWithinLimits shop) (b : ℕ) where
   -- a word of a bound of b or more

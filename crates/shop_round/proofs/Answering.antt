@@ -6,9 +6,9 @@ use Rattle.std.proofs.lemmas.List.{length-map}
 use Rattle.shop_round.specs.Round.{Planned, Stand, Told, cut_of, gathered, round, rounds_from, unless_closed, answer}
 use Rattle.shop_round.specs.Round.{opening, least_bound, makespan_of, bound_of}
 use Rattle.shop_round.specs.Laws.{StandsCovering, IsTrustworthy}
-use Rattle.shop_tree.specs.Nodes.{words_of}
+use Rattle.shop_nodes.specs.Nodes.{words_of}
 use Rattle.shop_heads.specs.Bound.{lb}
-use Rattle.shop_tree.specs.Nodes.{AreNodes}
+use Rattle.shop_nodes.specs.Nodes.{AreNodes}
 use Rattle.shop_round.specs.Entries.{told}
 use Rattle.shop_round.specs.Round.{in_order, words_below, pieces_of, rest_of}
 use Rattle.shop_round.specs.Runs.{stands, StandsAt, Says}

@@ -4,7 +4,7 @@ use Rattle.std.proofs.Common.{length, refl, ap, arith, eqb}
 use Rattle.std.specs.List.{sum_by}
 use Rattle.std.proofs.lemmas.List.{length-map}
 use Rattle.std.proofs.lemmas.List.Sums.{sum_by-cons}
-use Rattle.shop_tree.specs.Walking.{Walk}
+use Rattle.shop_nodes.specs.Walking.{Walk}
 use Rattle.shop_round.specs.Round.{Told, taken_of, hit_or, up_to_hit, after_round, sheet_in, sheets_of}
 use Rattle.shop_round.specs.Laws.{CountsStaySmall}
 

@@ -8,11 +8,11 @@ use Rattle.shop_model.specs.Shop.{Shop, Starts, IsFeasible, end_of}
 use Rattle.shop_model.specs.Word.{placed, IsWord, start_jobs}
 use Rattle.shop_heads.specs.Bound.{lb}
 use Rattle.shop_heads.proofs.BoundLaw.{lb-le-end, full_word}
-use Rattle.shop_tree.specs.Walking.{Walk}
-use Rattle.shop_tree.specs.Laws.{AreWords, HasBetter}
-use Rattle.shop_tree.proofs.Members.{In, in_contains, contains_in, all_contains, contains_all, in_all, in_map}
-use Rattle.shop_tree.proofs.Members.{in_flat_map, in_left, in_right}
-use Rattle.shop_tree.proofs.Found.{searches_keep}
+use Rattle.shop_nodes.specs.Walking.{Walk}
+use Rattle.shop_nodes.specs.Laws.{AreWords, HasBetter}
+use Rattle.shop_nodes.proofs.Members.{In, in_contains, contains_in, all_contains, contains_all, in_all, in_map}
+use Rattle.shop_nodes.proofs.Members.{in_flat_map, in_left, in_right}
+use Rattle.shop_nodes.proofs.Found.{searches_keep}
 use Rattle.shop_round.specs.Round.{Planned, Stand, Told, words_of_round, sheet_in, sheets_of, cut_of, in_order}
 use Rattle.shop_round.specs.Round.{least_bound, up_to_hit, best_word, after_round, round, opening, unless_closed}
 use Rattle.shop_round.specs.Round.{rounds_from, answer, makespan_of, bound_of, Covers}

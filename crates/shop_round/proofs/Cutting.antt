@@ -2,7 +2,7 @@
 use Rattle.std.proofs.Common.{◌≡◌, ℕ, zero, suc, ◌+◌, ◌*◌, ◌⊎◌, inl, inr, List, [], ◌∷◌, ◌++◌, take, drop, refl, sym}
 use Rattle.std.proofs.Common.{◌∙◌, ap, arith, append_assoc}
 use Rattle.std.specs.List.{AllByRecursion, flat_map}
-use Rattle.shop_tree.proofs.Members.{In}
+use Rattle.shop_nodes.proofs.Members.{In}
 use Rattle.shop_round.specs.Round.{cut_into}
 use Rattle.shop_round.specs.Laws.{PiecesAreAll}
 

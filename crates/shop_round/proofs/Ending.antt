@@ -5,9 +5,9 @@ use Rattle.std.specs.List.{filter, flat_map}
 use Rattle.std.proofs.lemmas.Bool.{cases_Bool}
 use Rattle.shop_model.specs.Shop.{Shop}
 use Rattle.shop_heads.specs.Bound.{lb}
-use Rattle.shop_tree.specs.Branching.{insert_by, sort_by}
-use Rattle.shop_tree.specs.Walking.{Walk}
-use Rattle.shop_tree.proofs.Members.{in_all}
+use Rattle.shop_nodes.specs.Branching.{insert_by, sort_by}
+use Rattle.shop_nodes.specs.Walking.{Walk}
+use Rattle.shop_nodes.proofs.Members.{in_all}
 use Rattle.shop_round.specs.declared.plans.Order.{Order}
 use Rattle.shop_round.specs.declared.plans.Order.TheVariants.{Kept, Bound}
 use Rattle.shop_round.specs.Round.{Planned, Stand, Told, cut_into, in_order, up_to_hit, after_round}

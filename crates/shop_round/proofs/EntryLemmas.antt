@@ -13,10 +13,10 @@ use Rattle.std.proofs.Math.ListN.{get_or-append}
 use Rattle.std.proofs.Math.Seq.{get_or-append_seam}
 use Rattle.std.proofs.lemmas.Bool.{cases_eq}
 use Rattle.std.proofs.lemmas.List.{length-map, length_push}
-use Rattle.shop_tree.specs.Nodes.{words_of}
-use Rattle.shop_tree.specs.Sheets.{IsSheetOf}
-use Rattle.shop_tree.specs.declared.pieces.Piece.{Piece}
-use Rattle.shop_tree.specs.declared.sheets.Sheet.{Sheet}
+use Rattle.shop_nodes.specs.Nodes.{words_of}
+use Rattle.shop_nodes.specs.Sheets.{IsSheetOf}
+use Rattle.shop_nodes.specs.declared.pieces.Piece.{Piece}
+use Rattle.shop_nodes.specs.declared.sheets.Sheet.{Sheet}
 use Rattle.shop_round.specs.declared.entries.Entry.{Entry}
 use Rattle.shop_round.specs.declared.entries.Kind.TheVariants.{Done, Passed}
 use Rattle.shop_round.specs.declared.rounds.Round.{Round}

@@ -2,9 +2,9 @@
 use Rattle.std.proofs.Common.{◌≡◌, ℕ, ◌*◌, ◌≤◌, ◌<◌, List, [], length, take, drop, sym, ◌∙◌, ap, subst, arith}
 use Rattle.shop_model.specs.Shop.{Shop}
 use Rattle.shop_heads.specs.Bound.{lb}
-use Rattle.shop_tree.specs.declared.nodes.Node.{Node}
-use Rattle.shop_tree.specs.declared.pieces.Piece.{Piece}
-use Rattle.shop_tree.specs.Nodes.{words_of}
+use Rattle.shop_nodes.specs.declared.nodes.Node.{Node}
+use Rattle.shop_nodes.specs.declared.pieces.Piece.{Piece}
+use Rattle.shop_nodes.specs.Nodes.{words_of}
 use Rattle.shop_round.specs.declared.runs.Search.{Search}
 use Rattle.shop_round.specs.Round.{Planned, cut_into, in_order, least_bound, cut_of}
 use Rattle.shop_round.specs.Nodes.{ArePieces, told_of}

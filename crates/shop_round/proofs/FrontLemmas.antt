@@ -10,11 +10,11 @@ use Rattle.shop_model.specs.Shop.{Shop}
 use Rattle.shop_model.specs.Word.{IsWord}
 use Rattle.shop_heads.specs.Bound.{lb}
 use Rattle.one_machine.proofs.Lists.{all_append, all_filter}
-use Rattle.shop_tree.specs.Branching.{insert_by, sort_by}
-use Rattle.shop_tree.specs.Walking.{Walk}
-use Rattle.shop_tree.specs.declared.nodes.Node.{Node}
-use Rattle.shop_tree.specs.Nodes.{words_of, IsNode, AreNodes}
-use Rattle.shop_tree.proofs.Members.{all_contains, contains_all, all_insert, in_all}
+use Rattle.shop_nodes.specs.Branching.{insert_by, sort_by}
+use Rattle.shop_nodes.specs.Walking.{Walk}
+use Rattle.shop_nodes.specs.declared.nodes.Node.{Node}
+use Rattle.shop_nodes.specs.Nodes.{words_of, IsNode, AreNodes}
+use Rattle.shop_nodes.proofs.Members.{all_contains, contains_all, all_insert, in_all}
 use Rattle.shop_round.specs.declared.plans.Order.{Order}
 use Rattle.shop_round.specs.declared.plans.Order.TheVariants.{Kept, Bound}
 use Rattle.shop_round.specs.declared.standings.Standing.{Standing}

@@ -8,15 +8,15 @@ use Rattle.std.proofs.lemmas.Bool.{lt-ltb, le-ltb, cases_lt}
 use Rattle.std.proofs.lemmas.List.{take_more, length-map, flat_map_more, map-append}
 use Rattle.std.proofs.lemmas.List.Sums.{sum_by-append, fold-append}
 use Rattle.std.proofs.lemmas.List.Elements.{All-append}
-use Rattle.shop_tree.specs.declared.nodes.Node.{Node}
-use Rattle.shop_tree.specs.declared.sheets.Sheet.{Sheet}
-use Rattle.shop_tree.specs.Nodes.{words_of, IsNode, AreNodes}
+use Rattle.shop_nodes.specs.declared.nodes.Node.{Node}
+use Rattle.shop_nodes.specs.declared.sheets.Sheet.{Sheet}
+use Rattle.shop_nodes.specs.Nodes.{words_of, IsNode, AreNodes}
 use Rattle.shop_model.specs.Shop.{Shop}
-use Rattle.shop_tree.specs.Pieces.{words_below}
-use Rattle.shop_tree.specs.Walking.{Walk, sheet}
-use Rattle.shop_tree.specs.Laws.{AreWords}
-use Rattle.shop_tree.specs.Left.{open_nodes}
-use Rattle.shop_tree.specs.Sheets.{walk_of}
+use Rattle.shop_nodes.specs.Pieces.{words_below}
+use Rattle.shop_nodes.specs.Walking.{Walk, sheet}
+use Rattle.shop_nodes.specs.Laws.{AreWords}
+use Rattle.shop_nodes.specs.Left.{open_nodes}
+use Rattle.shop_nodes.specs.Sheets.{walk_of}
 use Rattle.shop_round.specs.Round.{Told, taken_of, sheet_in, sheets_of}
 use Rattle.shop_round.specs.Entries.{is_hit, IsOf}
 use Rattle.shop_round.specs.inner.Outcomes.{open_of}

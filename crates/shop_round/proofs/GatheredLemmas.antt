@@ -4,8 +4,8 @@ use Rattle.std.proofs.lemmas.List.{map-append}
 use Rattle.std.proofs.lemmas.List.Elements.{All-append, All-filter}
 use Rattle.std.proofs.Common.{ltb}
 use Rattle.shop_heads.specs.Bound.{lb}
-use Rattle.shop_tree.specs.declared.nodes.Node.{Node}
-use Rattle.shop_tree.specs.Nodes.{words_of, IsNode, AreNodes}
+use Rattle.shop_nodes.specs.declared.nodes.Node.{Node}
+use Rattle.shop_nodes.specs.Nodes.{words_of, IsNode, AreNodes}
 use Rattle.shop_round.specs.declared.outcomes.Outcome.{Outcome}
 use Rattle.shop_round.specs.declared.rounds.Round.{Round}
 use Rattle.shop_round.specs.declared.standings.Standing.{Standing}

@@ -8,10 +8,10 @@ use Rattle.shop_model.specs.Limits.{IsWithinLimits}
 use Rattle.shop_model.specs.SharedWords.{CanBeShared}
 use Rattle.shop_model.proofs.WordLengths.{word_shared}
 use Rattle.shop_heads.specs.Bound.{lb}
-use Rattle.shop_tree.specs.declared.nodes.Node.{Node}
-use Rattle.shop_tree.specs.Branching.{insert_by, sort_by}
-use Rattle.shop_tree.specs.Nodes.{words_of, IsNode, AreNodes}
-use Rattle.shop_tree.proofs.Members.{all_sort, all_contains}
+use Rattle.shop_nodes.specs.declared.nodes.Node.{Node}
+use Rattle.shop_nodes.specs.Branching.{insert_by, sort_by}
+use Rattle.shop_nodes.specs.Nodes.{words_of, IsNode, AreNodes}
+use Rattle.shop_nodes.proofs.Members.{all_sort, all_contains}
 use Rattle.shop_round.specs.declared.plans.Order.{Order}
 use Rattle.shop_round.specs.declared.plans.Order.TheVariants.{Kept, Bound}
 use Rattle.shop_round.specs.Round.{in_order, words_below, least_bound}

@@ -7,8 +7,8 @@ use Rattle.shop_model.specs.Word.{IsWord, IsFull, IsUnder}
 use Rattle.shop_heads.specs.Bound.{lb}
 use Rattle.shop_heads.proofs.BoundLaw.{lb-le-end}
 use Rattle.one_machine.proofs.Lists.{all_filter}
-use Rattle.shop_tree.specs.Laws.{HasBetter}
-use Rattle.shop_tree.proofs.Members.{In, in_contains, contains_in, contains_all, in_all, all_sort, in_sort, in_filter}
+use Rattle.shop_nodes.specs.Laws.{HasBetter}
+use Rattle.shop_nodes.proofs.Members.{In, in_contains, contains_in, contains_all, in_all, all_sort, in_sort, in_filter}
 use Rattle.shop_round.specs.declared.plans.Order.{Order}
 use Rattle.shop_round.specs.declared.plans.Order.TheVariants.{Kept, Bound}
 use Rattle.shop_round.specs.Round.{in_order, words_below, least_bound}

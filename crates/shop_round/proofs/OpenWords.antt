@@ -6,11 +6,11 @@ use Rattle.std.proofs.lemmas.List.Elements.{All-from_recursion}
 use Rattle.shop_model.specs.Shop.{Shop}
 use Rattle.shop_model.specs.Word.{IsWord}
 use Rattle.shop_heads.specs.Bound.{lb}
-use Rattle.shop_tree.specs.Laws.{AreWords}
-use Rattle.shop_tree.specs.Left.{open_nodes}
-use Rattle.shop_tree.specs.Nodes.{words_of, IsNode, AreNodes}
-use Rattle.shop_tree.specs.Pieces.{words_below}
-use Rattle.shop_tree.proofs.Members.{all_contains}
+use Rattle.shop_nodes.specs.Laws.{AreWords}
+use Rattle.shop_nodes.specs.Left.{open_nodes}
+use Rattle.shop_nodes.specs.Nodes.{words_of, IsNode, AreNodes}
+use Rattle.shop_nodes.specs.Pieces.{words_below}
+use Rattle.shop_nodes.proofs.Members.{all_contains}
 
 pub words_open : (shop : Shop) (c : ℕ) (ws : List (List ℕ)) → words_of (open_nodes shop c ws) ≡ words_below shop c ws
 words_open shop c [] = refl

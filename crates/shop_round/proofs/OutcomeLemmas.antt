@@ -8,12 +8,12 @@ use Rattle.std.proofs.lemmas.List.{take_all, length-map}
 use Rattle.std.proofs.lemmas.List.Elements.{All-filter, filter-append}
 use Rattle.shop_model.specs.Shop.{Shop}
 use Rattle.shop_heads.specs.Bound.{lb}
-use Rattle.shop_tree.proofs.HighWalks.{below-below}
-use Rattle.shop_tree.specs.declared.nodes.Node.{Node}
-use Rattle.shop_tree.specs.declared.sheets.Sheet.{Sheet}
-use Rattle.shop_tree.specs.Nodes.{words_of, IsNode, AreNodes}
-use Rattle.shop_tree.specs.Walking.{Walk}
-use Rattle.shop_tree.proofs.Members.{in_all, all_in}
+use Rattle.shop_nodes.proofs.HighWalks.{below-below}
+use Rattle.shop_nodes.specs.declared.nodes.Node.{Node}
+use Rattle.shop_nodes.specs.declared.sheets.Sheet.{Sheet}
+use Rattle.shop_nodes.specs.Nodes.{words_of, IsNode, AreNodes}
+use Rattle.shop_nodes.specs.Walking.{Walk}
+use Rattle.shop_nodes.proofs.Members.{in_all, all_in}
 use Rattle.shop_round.specs.Round.{Stand, Told, taken_of, hit_or, up_to_hit, best_word, sheet_in, sheets_of}
 use Rattle.shop_round.specs.Round.{after_round, gathered, words_below}
 use Rattle.shop_round.specs.Laws.{IsRound}

@@ -7,9 +7,9 @@ use Rattle.std.proofs.lemmas.Bool.{eqb-true, eq-eqb, cases_lt}
 use Rattle.std.proofs.lemmas.List.{map-append, take-take, drop-take, drop_all, take_all, append-nil}
 use Rattle.std.proofs.lemmas.List.Elements.{recursion_from_All, All-from_recursion}
 use Rattle.shop_model.specs.Shop.{Shop}
-use Rattle.shop_tree.specs.declared.nodes.Node.{Node}
-use Rattle.shop_tree.specs.declared.pieces.Piece.{Piece}
-use Rattle.shop_tree.specs.Nodes.{words_of, IsNode, AreNodes}
+use Rattle.shop_nodes.specs.declared.nodes.Node.{Node}
+use Rattle.shop_nodes.specs.declared.pieces.Piece.{Piece}
+use Rattle.shop_nodes.specs.Nodes.{words_of, IsNode, AreNodes}
 use Rattle.shop_round.specs.Round.{cut_into}
 use Rattle.shop_round.specs.Nodes.{pieces_in, ArePieces, numbered}
 use Rattle.shop_round.specs.inner.OpenNodes.{nodes_in}

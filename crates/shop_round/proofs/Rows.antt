@@ -1,7 +1,7 @@
 -- Worked answers, computed from the definitions.
 use Rattle.std.proofs.Common.{◌≡◌, ℕ, List, [], ◌∷◌, refl, map, length}
 use Rattle.shop_model.proofs.Rows.{op, job, shop_a, shop_g}
-use Rattle.shop_tree.proofs.Rows.{shop_z}
+use Rattle.shop_nodes.proofs.Rows.{shop_z}
 use Rattle.shop_model.specs.Shop.{Shop, ShopJob}
 use Rattle.shop_model.specs.Word.{placed, rows_of}
 use Rattle.shop_model.specs.declared.ops.Op.{Op}

@@ -8,10 +8,10 @@ use Rattle.shop_model.specs.Shop.{Shop}
 use Rattle.shop_model.specs.Word.{IsWord, IsFull}
 use Rattle.shop_heads.specs.Bound.{lb}
 use Rattle.one_machine.proofs.Lists.{all_append}
-use Rattle.shop_tree.specs.Walking.{Walk}
-use Rattle.shop_tree.specs.Laws.{IsBestOf}
-use Rattle.shop_tree.proofs.Members.{In, all_contains, contains_all}
-use Rattle.shop_tree.proofs.Found.{searches_keep}
+use Rattle.shop_nodes.specs.Walking.{Walk}
+use Rattle.shop_nodes.specs.Laws.{IsBestOf}
+use Rattle.shop_nodes.proofs.Members.{In, all_contains, contains_all}
+use Rattle.shop_nodes.proofs.Found.{searches_keep}
 use Rattle.shop_round.specs.Round.{Told, sheet_in, hit_or, up_to_hit, best_word}
 
 -- what is known of a sheet from the opening best

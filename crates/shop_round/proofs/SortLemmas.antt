@@ -15,7 +15,7 @@ use Rattle.std.proofs.lemmas.List.Sorted.{IsNonDecreasingBy-from_sort}
 use Rattle.std.proofs.lemmas.List.Elements.{recursion_from_All}
 use Rattle.std.proofs.lemmas.Bool.{cases_Bool, cases_lt, cases_eq, leb-true, leb-false, eq-eqb, ne_eqb, lt-ltb, le-ltb}
 use Rattle.one_machine.proofs.Lists.{all_map}
-use Rattle.shop_tree.specs.Branching.{insert_by, sort_by}
+use Rattle.shop_nodes.specs.Branching.{insert_by, sort_by}
 
 lt_of_cmp : (a b : ℕ) → is_lt (nat_cmp a b) ≡ ltb a b
 lt_of_cmp a b = elim (cases_Bool (ltb a b)) [

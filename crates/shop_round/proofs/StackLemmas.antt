@@ -12,8 +12,8 @@ use Rattle.std.specs.declared.cmp.Ordering.TheVariants.{Less, Equal, Greater}
 use Rattle.std.proofs.lemmas.Bool.{cases_Bool, cases_lt, cases_eq, eq-eqb, ne_eqb}
 use Rattle.std.proofs.lemmas.Bool.{lt-ltb, le-ltb, le-leb, lt-leb, ltb-false}
 use Rattle.std.proofs.lemmas.List.Elements.{recursion_from_All, filter-append}
-use Rattle.shop_tree.specs.declared.nodes.Node.{Node}
-use Rattle.shop_tree.specs.Branching.{insert_by}
+use Rattle.shop_nodes.specs.declared.nodes.Node.{Node}
+use Rattle.shop_nodes.specs.Branching.{insert_by}
 use Rattle.shop_round.specs.declared.stacks.Stack.{Stack}
 use Rattle.shop_round.specs.inner.OpenNodes.{nodes_below, least_of_bounds}
 use Rattle.shop_round.specs.inner.Stacks.{words_in, words_on, words_left, nodes_of_bound, nodes_by_bound}

@@ -3,8 +3,8 @@ use Rattle.std.proofs.Common.{◌≡◌, Option, Some, None, List, ◌++◌, ref
 use Rattle.std.specs.List.{AllByRecursion, flat_map}
 use Rattle.shop_model.specs.Word.{IsWord}
 use Rattle.one_machine.proofs.Lists.{all_append}
-use Rattle.shop_tree.specs.Walking.{Walk}
-use Rattle.shop_tree.proofs.Members.{all_contains, in_all}
+use Rattle.shop_nodes.specs.Walking.{Walk}
+use Rattle.shop_nodes.proofs.Members.{all_contains, in_all}
 use Rattle.shop_round.specs.Round.{Told, gathered, words_of_round, sheets_of, up_to_hit, best_word, after_round}
 use Rattle.shop_round.specs.Laws.{IsStanding, IsRound}
 use Rattle.shop_round.proofs.Cutting.{all_front, all_back, all_pieces}

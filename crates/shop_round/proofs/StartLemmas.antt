@@ -5,8 +5,8 @@ use Rattle.std.proofs.lemmas.List.Elements.{All-cons}
 use Rattle.shop_model.specs.Shop.{Shop, route_of}
 use Rattle.shop_model.specs.Word.{start_jobs, count_of}
 use Rattle.shop_heads.specs.Bound.{lb}
-use Rattle.shop_tree.specs.declared.nodes.Node.{Node}
-use Rattle.shop_tree.specs.Nodes.{words_of, IsNode, AreNodes}
+use Rattle.shop_nodes.specs.declared.nodes.Node.{Node}
+use Rattle.shop_nodes.specs.Nodes.{words_of, IsNode, AreNodes}
 use Rattle.shop_round.specs.Round.{Stand, words_below}
 use Rattle.shop_round.specs.Laws.{StandsCovering}
 use Rattle.shop_round.proofs.Covering.{opens_covering}

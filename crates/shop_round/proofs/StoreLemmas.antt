@@ -6,7 +6,7 @@ use Rattle.std.proofs.lemmas.Bool.{cases_Bool, ne_eqb}
 use Rattle.std.proofs.lemmas.List.Elements.{filter-append}
 use Rattle.std.proofs.lemmas.List.Sums.{fold-append}
 use Rattle.std.proofs.lemmas.List.{length-append, length-map, reverse-append}
-use Rattle.shop_tree.specs.declared.nodes.Node.{Node}
+use Rattle.shop_nodes.specs.declared.nodes.Node.{Node}
 use Rattle.shop_round.specs.declared.stacks.Stack.{Stack}
 use Rattle.shop_round.specs.declared.plans.Order.{Order}
 use Rattle.shop_round.specs.inner.OpenNodes.{least_of_bounds, nodes_below}

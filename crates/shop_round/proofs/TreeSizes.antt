@@ -6,9 +6,9 @@ use Rattle.std.proofs.lemmas.List.{length-append}
 use Rattle.std.proofs.lemmas.List.Sums.{sum_by-append, sum_by-cons}
 use Rattle.shop_model.specs.Shop.{Shop}
 use Rattle.shop_heads.specs.Bound.{lb}
-use Rattle.shop_tree.specs.Branching.{conflict, branch}
-use Rattle.shop_tree.specs.Walking.{Walk, walk, walk_within, operations_left, taking, unless_cut, sheet}
-use Rattle.shop_tree.proofs.Members.{all_sort}
+use Rattle.shop_nodes.specs.Branching.{conflict, branch}
+use Rattle.shop_nodes.specs.Walking.{Walk, walk, walk_within, operations_left, taking, unless_cut, sheet}
+use Rattle.shop_nodes.proofs.Members.{all_sort}
 
 -- how many words stand below a word that lacks this many operations, with the word itself
 abbrev size_within : Shop → ℕ → List ℕ → ℕ

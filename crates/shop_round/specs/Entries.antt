@@ -2,9 +2,9 @@
 use Rattle.std.specs.Prelude.{◌≡◌, ℕ, ◌<◌, Bool, true, [], length, slice_index_or, ◌==◌}
 use Rattle.std.proofs.Props.{props}
 use Rattle.shop_round.specs.Round.{Told, sheet_in}
-use Rattle.shop_tree.specs.Nodes.{words_of}
+use Rattle.shop_nodes.specs.Nodes.{words_of}
 use Rattle.shop_round.specs.Nodes.{told_of}
-use Rattle.shop_tree.specs.declared.sheets.Sheet.{Sheet}
+use Rattle.shop_nodes.specs.declared.sheets.Sheet.{Sheet}
 use Rattle.shop_round.specs.declared.entries.Kind.{Kind}
 use Rattle.shop_round.specs.declared.entries.Kind.TheVariants.{Done, Passed}
 use Rattle.shop_round.specs.declared.rounds.Round.{Round}

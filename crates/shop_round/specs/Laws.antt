@@ -10,7 +10,7 @@ use Rattle.std.specs.Prelude.{◌≡◌, ℕ, ◌+◌, ◌*◌, ◌<◌, ◌≤�
 use Rattle.shop_model.specs.Shop.{Shop, Starts, IsFeasible, end_of, IsLeast}
 use Rattle.shop_model.specs.Word.{placed, IsFull}
 use Rattle.shop_heads.specs.Bound.{lb}
-use Rattle.shop_tree.specs.Laws.{AreWords}
+use Rattle.shop_nodes.specs.Laws.{AreWords}
 use Rattle.shop_round.specs.Round.{Planned, Stand, Told, pieces_of, rest_of, words_of_round, cut_of}
 use Rattle.shop_round.specs.Round.{gathered, round, opening, answer, makespan_of, bound_of, Covers}
 

@@ -1,9 +1,9 @@
 -- What contracts know of a round, of its fields.
 use Rattle.std.specs.Prelude.{ℕ, ◌+◌, ◌&&◌, Bool, true, List, [], ◌∷◌, map, All, ◌==◌}
 use Rattle.shop_model.specs.Shop.{Shop}
-use Rattle.shop_tree.specs.Nodes.{words_of, AreNodes}
-use Rattle.shop_tree.specs.declared.nodes.Node.{Node}
-use Rattle.shop_tree.specs.declared.pieces.Piece.{Piece}
+use Rattle.shop_nodes.specs.Nodes.{words_of, AreNodes}
+use Rattle.shop_nodes.specs.declared.nodes.Node.{Node}
+use Rattle.shop_nodes.specs.declared.pieces.Piece.{Piece}
 use Rattle.shop_round.specs.Round.{Told}
 
 -- the words of each piece

@@ -6,10 +6,10 @@ use Rattle.std.specs.Prelude.{fold, flat_map, nat_lt, ◌==◌, if◌then◌else
 use Rattle.shop_model.specs.Shop.{Shop, Starts, end_of, IsFeasible}
 use Rattle.shop_model.specs.Word.{start_jobs}
 use Rattle.shop_heads.specs.Bound.{lb}
-use Rattle.shop_tree.specs.Branching.{sort_by}
-pub use Rattle.shop_tree.specs.Pieces.{words_below}
-use Rattle.shop_tree.specs.Walking.{Walk, sheet}
-use Rattle.shop_tree.specs.Laws.{HasBetter}
+use Rattle.shop_nodes.specs.Branching.{sort_by}
+pub use Rattle.shop_nodes.specs.Pieces.{words_below}
+use Rattle.shop_nodes.specs.Walking.{Walk, sheet}
+use Rattle.shop_nodes.specs.Laws.{HasBetter}
 use Rattle.shop_round.specs.declared.plans.TheConstants.{MAX_PIECES}
 use Rattle.shop_round.specs.declared.plans.Order.{Order}
 use Rattle.shop_round.specs.declared.plans.Order.TheVariants.{Kept, Bound}

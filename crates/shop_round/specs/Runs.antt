@@ -3,7 +3,7 @@ use Rattle.std.specs.Prelude.{◌≡◌, ℕ, length}
 use Rattle.shop_model.specs.Shop.{Shop, IsFeasible, end_of}
 use Rattle.shop_model.specs.Checking.{HasShape, starts_of}
 use Rattle.shop_round.specs.Round.{Planned, Stand, cut_of, gathered, answer, makespan_of, bound_of}
-use Rattle.shop_tree.specs.Nodes.{words_of, AreNodes}
+use Rattle.shop_nodes.specs.Nodes.{words_of, AreNodes}
 use Rattle.shop_model.specs.Word.{placed, rows_of}
 use Rattle.shop_round.specs.Laws.{IsStanding, StandsCovering, CoversInRound, IsTrustworthy}
 use Rattle.shop_round.specs.Entries.{told}

@@ -16,7 +16,7 @@ pub(crate) struct KeptNode {
 }
 
 impl Model for KeptNode {
-    ghost use Rattle.shop_tree.specs.declared.nodes.Node.{Node};
+    ghost use Rattle.shop_nodes.specs.declared.nodes.Node.{Node};
 
     ghost Value = { Node };
 

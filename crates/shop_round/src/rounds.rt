@@ -2,7 +2,7 @@
 ghost use Rattle.std.specs.Prelude.{◌≡◌, ◌≤◌, ◌<◌, length, take, drop, true, IfOk, OnOk};
 ghost use Rattle.std.specs.Vec.Iter.{into_iter_items};
 ghost use Rattle.shop_desk.specs.Layouts.{IsLayoutOf};
-ghost use Rattle.shop_tree.specs.Nodes.{AreNodes};
+ghost use Rattle.shop_nodes.specs.Nodes.{AreNodes};
 ghost use Rattle.shop_round.specs.Limits.{IsCountWithin};
 ghost use Rattle.shop_round.specs.Round.{cut_into};
 ghost use Rattle.shop_round.specs.Nodes.{numbered, told_of, ArePieces};

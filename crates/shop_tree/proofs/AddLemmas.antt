@@ -1,25 +1,22 @@
 -- Children put on a stack: open ones, and before them, if there are others, their number.
-use Rattle.std.proofs.Common.{◌≡◌, ℕ, zero, suc, ◌+◌, ◌-◌, ◌^◌, ◌≤◌, ◌<◌, List, [], ◌∷◌, ◌++◌, length, map, take}
-use Rattle.std.proofs.Common.{drop, reverse, refl, sym, ◌∙◌, ap, subst, arith, append_assoc, append-nil}
+use Rattle.std.proofs.Common.{◌≡◌, ℕ, zero, suc, ◌+◌, ◌-◌, ◌≤◌, ◌<◌, List, [], ◌∷◌, ◌++◌, length, map, take}
+use Rattle.std.proofs.Common.{reverse, refl, sym, ◌∙◌, ap, subst, arith, append_assoc, append-nil}
 use Rattle.std.specs.List.{AllByRecursion}
 use Rattle.std.proofs.Math.Seq.{take-length}
 use Rattle.std.proofs.lemmas.List.{length-map, length-reverse, length-append, drop_at}
-use Rattle.shop_model.specs.Limits.{IsWithinLimits}
 use Rattle.shop_model.specs.Shop.{Shop, operation_count}
 use Rattle.shop_model.specs.Word.{IsWord}
 use Rattle.shop_heads.specs.Bound.{lb}
-use Rattle.shop_heads.proofs.SmallSums.{sums_small}
-use Rattle.shop_tree.specs.Branching.{branch}
-use Rattle.shop_tree.specs.inner.Opens.{word_at, open_words, last_of, IsClosed, IsWaiting, IsAt, AreChildren}
+use Rattle.shop_nodes.specs.Branching.{branch}
+use Rattle.shop_nodes.specs.Halts.{word_at, last_of, IsClosed, IsWaiting}
+use Rattle.shop_tree.specs.inner.Opens.{open_words, IsAt, AreChildren}
 use Rattle.shop_tree.specs.inner.Pushing.{with_opens, with_rest}
 use Rattle.shop_tree.specs.inner.Searching.{Adds}
-use Rattle.shop_tree.specs.declared.opens.Open.{Open}
-use Rattle.shop_tree.specs.declared.opens.Waiting.{Waiting}
-use Rattle.shop_tree.specs.declared.opens.Waiting.TheVariants.{Child, Rest}
-use Rattle.shop_tree.proofs.Found.{IsLonger, children_longer}
-use Rattle.shop_tree.proofs.ListLemmas.{all_back}
+use Rattle.shop_nodes.specs.declared.halts.Open.{Open}
+use Rattle.shop_nodes.specs.declared.halts.Waiting.{Waiting}
+use Rattle.shop_nodes.specs.declared.halts.Waiting.TheVariants.{Child, Rest}
 use Rattle.shop_tree.proofs.OpenLemmas.{opens-words, all-opens}
-use Rattle.shop_tree.proofs.WalkSteps.{branch_few}
+use Rattle.shop_nodes.proofs.WalkSteps.{branch_few}
 
 -- the last elements are the second part
 last_part : {A : Type 0} (xs ys : List A) → last_of (length ys) (xs ++ ys) ≡ ys
@@ -99,16 +96,3 @@ few-children shop limit word opens zero depth old kids =
 few-children shop limit word opens (suc n) depth old kids =
     let a = length-with (old ++ Rest depth (suc n) ∷ []) opens in let b = length-append old (Rest depth (suc n) ∷ [])
     in let c = few_open shop limit word opens (suc n) kids in omega arith
-
--- no bound is so large
-pub no_others : (shop : Shop) (limit : ℕ) (word : List ℕ) (opens : List Open) (n : ℕ) → IsWithinLimits shop
-    → IsWord shop word → 2 ^ 50 ≤ limit → (kids : AreChildren shop limit word opens n) → kids.others ≡ []
-no_others shop limit word opens n limits is large kids =
-    empty kids.others kids.high (all_back (IsLonger shop word) (reverse (open_words word opens)) kids.others
-    (subst (λ (ws : List (List ℕ)). AllByRecursion (IsLonger shop word) ws) kids.words
-    (children_longer shop word is)))
-  where
-    empty : (ws : List (List ℕ)) → AllByRecursion (λ v. limit ≤ lb shop v) ws
-        → AllByRecursion (IsLonger shop word) ws → ws ≡ []
-    empty [] h long = refl
-    empty (w ∷ ws) h long = absurd (let a = (sums_small shop limits w long.0.0).bound in let b = h.0 in omega arith)

@@ -8,17 +8,19 @@ use Rattle.std.proofs.Math.Seq.{take-append_seam, take-length}
 use Rattle.shop_model.specs.Shop.{Shop, operation_count}
 use Rattle.shop_heads.specs.Bound.{lb}
 use Rattle.shop_heads.specs.Conflicts.{SoleCandidateKeepsBound}
-use Rattle.shop_tree.specs.Branching.{branch, conflict, sort_by}
-use Rattle.shop_tree.specs.Walking.{Walk, walk}
-use Rattle.shop_tree.specs.inner.Opens.{IsUpTo, IsWaiting}
+use Rattle.shop_nodes.specs.Branching.{branch, conflict, sort_by}
+use Rattle.shop_nodes.specs.Walking.{Walk, walk}
+use Rattle.shop_nodes.specs.Halts.{IsWaiting}
+use Rattle.shop_tree.specs.inner.Opens.{IsUpTo}
 use Rattle.shop_tree.specs.inner.Walkers.{Stage, HasFollowed, HasBranched, HasExpanded, IsInOrder}
-use Rattle.shop_tree.specs.inner.Walkers.{stack_walk, turns_left, walk_on}
+use Rattle.shop_tree.specs.inner.Walkers.{turns_left}
 use Rattle.shop_tree.specs.inner.Searching.{walk_stack, entered}
-use Rattle.shop_tree.specs.declared.opens.Waiting.{Waiting}
+use Rattle.shop_nodes.specs.declared.halts.Waiting.{Waiting}
 use Rattle.shop_tree.proofs.ListLemmas.{all_weaker}
 use Rattle.shop_tree.proofs.OpenLemmas.{adds-waits, all-same, all-lower, deep, words-same}
 use Rattle.shop_tree.proofs.TurnLemmas.{children_walk}
-use Rattle.shop_tree.proofs.WalkSteps.{entered-children, entered-full, walk-cut, walk-entered}
+use Rattle.shop_nodes.proofs.WalkSteps.{walk-cut}
+use Rattle.shop_tree.proofs.Entering.{entered-children, entered-full, walk-entered}
 
 -- one of the budget is spent
 abbrev pub spent_one : Walk → Walk

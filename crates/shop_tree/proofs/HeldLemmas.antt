@@ -5,11 +5,11 @@ use Rattle.std.specs.Global.{Box}
 use Rattle.std.proofs.Math.Seq.{take-length}
 use Rattle.std.proofs.lemmas.List.{length-set, get_or-set_other, take_more, map-append}
 use Rattle.std.proofs.lemmas.List.Elements.{All-append, All-map, All-from_recursion}
-use Rattle.shop_tree.specs.declared.opens.Waiting.TheVariants.{Child, Rest}
+use Rattle.shop_nodes.specs.declared.halts.Waiting.TheVariants.{Child, Rest}
 use Rattle.shop_tree.specs.declared.held.Held.{Held}
 use Rattle.shop_tree.specs.declared.held.Kept.{Kept}
 use Rattle.shop_tree.specs.inner.Held.{IsHeld, IsKept, held, opens_in, waiting_in, with_held_rest}
-use Rattle.shop_tree.specs.inner.Pushing.{with_opens, with_rest}
+use Rattle.shop_tree.specs.inner.Pushing.{with_opens}
 
 -- so many children are on the stack by now, and the others are as they were
 pub record IsMoving {S : Type 0} (old : List (Held S)) (kids : List (Kept S)) (stack : List (Held S))
@@ -62,11 +62,6 @@ module _ {S : Type 0} (old : List (Held S)) (kids : List (Kept S)) where
 
 -- so for closed ones
 module _ {S : Type 0} (old : List (Held S)) where
-  pub waiting_rest : (depth n : ℕ) → waiting_in (with_held_rest old depth n) ≡ with_rest (waiting_in old) depth n
-  waiting_rest depth zero = refl
-  waiting_rest depth (suc n) = map-append (λ h. h.waiting) old
-      (record { waiting = Rest depth (suc n); state = None } ∷ [])
-
   pub states_rest : (is : List ℕ → S → Type 0) (word : List ℕ) (depth n : ℕ) → All (IsHeld is word) old
       → All (IsHeld is word) (with_held_rest old depth n)
   states_rest is word depth zero below = below

@@ -1,5 +1,5 @@
 -- What waits on a stack that is kept short, as the walk goes on to another word.
-use Rattle.std.proofs.Common.{◌≡◌, ℕ, ◌-◌, ◌≤◌, List, [], ◌∷◌, ◌++◌, length, map, take, reverse, refl, sym, ◌∙◌}
+use Rattle.std.proofs.Common.{◌≡◌, ℕ, ◌≤◌, List, [], ◌∷◌, ◌++◌, length, map, take, reverse, refl, sym, ◌∙◌}
 use Rattle.std.proofs.Common.{ap, subst, arith, append_assoc, append-nil}
 use Rattle.std.specs.List.{AllByRecursion, fold}
 use Rattle.std.proofs.lemmas.List.{take-append-le, length-take-le, take-take, length-append}
@@ -7,14 +7,16 @@ use Rattle.std.proofs.lemmas.List.Sums.{fold-append}
 use Rattle.shop_model.specs.Shop.{Shop}
 use Rattle.shop_model.specs.Word.{IsWord}
 use Rattle.shop_heads.specs.Bound.{lb}
-use Rattle.shop_tree.specs.Branching.{branch}
-use Rattle.shop_tree.specs.inner.Opens.{word_at, open_words, last_of, waiting_words, stack_words, depth_of}
-use Rattle.shop_tree.specs.inner.Opens.{IsWaiting, IsUpTo, IsFrom, IsAt, IsRising, AreWaiting}
+use Rattle.shop_nodes.specs.Branching.{branch}
+use Rattle.shop_nodes.specs.Halts.{word_at, last_of, waiting_words, stack_words}
+use Rattle.shop_tree.specs.inner.Opens.{open_words, depth_of}
+use Rattle.shop_nodes.specs.Halts.{IsWaiting}
+use Rattle.shop_tree.specs.inner.Opens.{IsUpTo, IsFrom, IsAt, IsRising, AreWaiting}
 use Rattle.shop_tree.specs.inner.Searching.{walk_stack, Adds}
-use Rattle.shop_tree.specs.Walking.{Walk, walk}
-use Rattle.shop_tree.specs.declared.opens.Open.{Open}
-use Rattle.shop_tree.specs.declared.opens.Waiting.{Waiting}
-use Rattle.shop_tree.specs.declared.opens.Waiting.TheVariants.{Child, Rest}
+use Rattle.shop_nodes.specs.Walking.{Walk, walk}
+use Rattle.shop_nodes.specs.declared.halts.Open.{Open}
+use Rattle.shop_nodes.specs.declared.halts.Waiting.{Waiting}
+use Rattle.shop_nodes.specs.declared.halts.Waiting.TheVariants.{Child, Rest}
 use Rattle.shop_tree.proofs.ListLemmas.{reverse-cons, all_append, all_front, all_back, all_weaker}
 
 pub begins_alike : (v w : List ℕ) (n : ℕ) → take n v ≡ take n w → (k : ℕ) → k ≤ n → take k v ≡ take k w

@@ -1,5 +1,5 @@
 -- States that wait, as a walk goes on to another word.
-use Rattle.std.proofs.Common.{◌≡◌, ℕ, ◌≤◌, Option, Some, None, List, [], ◌∷◌, ◌++◌, All, length, map, take}
+use Rattle.std.proofs.Common.{◌≡◌, ℕ, ◌≤◌, Option, None, List, [], ◌∷◌, ◌++◌, All, length, map, take}
 use Rattle.std.proofs.Common.{get_or, set, refl, sym, ◌∙◌, ap, subst, arith}
 use Rattle.std.specs.Global.{Box}
 use Rattle.std.specs.List.{AllByRecursion}
@@ -11,15 +11,16 @@ use Rattle.shop_heads.specs.Bound.{lb}
 use Rattle.shop_desk.specs.declared.dispatching.Candidate.{Candidate}
 use Rattle.shop_desk.specs.declared.dispatching.Dispatching.{Ghosts}
 use Rattle.shop_desk.specs.States.{HasSoleCandidate}
-use Rattle.shop_tree.specs.Branching.{conflict}
+use Rattle.shop_nodes.specs.Branching.{conflict}
 use Rattle.shop_tree.specs.declared.held.Held.{Held}
-use Rattle.shop_tree.specs.declared.opens.Open.{Open}
-use Rattle.shop_tree.specs.declared.opens.Waiting.{Waiting}
-use Rattle.shop_tree.specs.declared.opens.Waiting.TheVariants.{Child, Rest}
+use Rattle.shop_nodes.specs.declared.halts.Open.{Open}
+use Rattle.shop_nodes.specs.declared.halts.Waiting.{Waiting}
+use Rattle.shop_nodes.specs.declared.halts.Waiting.TheVariants.{Child, Rest}
 use Rattle.shop_tree.specs.inner.Held.{IsHeld, IsHeldAs, IsHeldOf, waiting_in}
-use Rattle.shop_tree.specs.inner.Opens.{word_at, AreWaiting, IsUpTo, IsWaiting}
+use Rattle.shop_nodes.specs.Halts.{word_at, IsWaiting}
+use Rattle.shop_tree.specs.inner.Opens.{AreWaiting, IsUpTo}
 use Rattle.shop_tree.specs.inner.StateWalkers.{AreCandidates, AreHeld}
-use Rattle.shop_tree.proofs.ListLemmas.{all_back, all_front, all_weaker}
+use Rattle.shop_tree.proofs.ListLemmas.{all_weaker}
 use Rattle.shop_tree.proofs.OpenLemmas.{begins_alike, begins-child, deep, popped, rising-below}
 
 module _ {S : Type 0} (is : List ℕ → S → Type 0) where
@@ -62,16 +63,6 @@ module _ {S : Type 0} (is : List ℕ → S → Type 0) where
   held_pushed word hs new h put own all = subst (AreHeld is word) (sym put)
       (All-append (IsHeld is word) hs (h ∷ []) all (All-from_recursion (IsHeld is word) (h ∷ []) (own, tt)))
 
-  pub held_rest : (word : List ℕ) (hs all : List (Held S)) (h : Held S) → all ≡ hs ++ h ∷ [] → AreHeld is word all
-      → AreHeld is word hs
-  held_rest word hs all h put each = All-from_recursion (IsHeld is word) hs (all_front (IsHeld is word) hs (h ∷ [])
-      (recursion_from_All (IsHeld is word) (hs ++ h ∷ []) (subst (AreHeld is word) put each)))
-
-  pub held_top : (word : List ℕ) (hs all : List (Held S)) (h : Held S) → all ≡ hs ++ h ∷ [] → AreHeld is word all
-      → IsHeld is word h
-  held_top word hs all h put each = (all_back (IsHeld is word) hs (h ∷ [])
-      (recursion_from_All (IsHeld is word) (hs ++ h ∷ []) (subst (AreHeld is word) put each))).0
-
   -- an entry that lost its state
   entry_none : (word : List ℕ) (x : Waiting) → IsHeldAs is word x None
   entry_none word (Child o) = tt
@@ -82,17 +73,6 @@ module _ {S : Type 0} (is : List ℕ → S → Type 0) where
   held_stripped word hs i x state none all =
       All-set (IsHeld is word) hs i (record { waiting = x; state = state })
       (subst (λ (o : Option (Box S)). IsHeldAs is word x o) (sym none) (entry_none word x)) all
-
-  -- a state is room for one
-  pub held_slot : (slot : S → Type 0) → ((w : List ℕ) (s : S) → is w s → slot s) → (w : List ℕ)
-      (state : Option (Box S)) → IsHeldOf is w state → IsHeldOf (λ _ s. slot s) [] state
-  held_slot slot law w None h = tt
-  held_slot slot law w (Some b) h = law w b.value h
-
-  pub entry_slot : (slot : S → Type 0) → ((w : List ℕ) (s : S) → is w s → slot s) → (word : List ℕ) (x : Waiting)
-      (state : Option (Box S)) → IsHeldAs is word x state → IsHeldOf (λ _ s. slot s) [] state
-  entry_slot slot law word (Child o) state h = held_slot slot law (word_at word o) state h
-  entry_slot slot law word (Rest depth count) state h = subst (IsHeldOf (λ _ s. slot s) []) (sym h) tt
 
 -- what waits, without states, once there is one more
 pub waiting_pushed : {S : Type 0} (hs new : List (Held S)) (h : Held S) → new ≡ hs ++ h ∷ []

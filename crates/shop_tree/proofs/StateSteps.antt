@@ -5,8 +5,8 @@ use Rattle.shop_model.specs.Shop.{operation_count}
 use Rattle.shop_model.specs.Word.{IsWord}
 use Rattle.shop_tree.specs.declared.held.Held.{Held}
 use Rattle.shop_tree.specs.declared.held.Kept.{Kept}
-use Rattle.shop_tree.specs.declared.opens.Open.{Open}
-use Rattle.shop_tree.specs.declared.opens.Waiting.{Waiting}
+use Rattle.shop_nodes.specs.declared.halts.Open.{Open}
+use Rattle.shop_nodes.specs.declared.halts.Waiting.{Waiting}
 use Rattle.shop_tree.specs.inner.Held.{IsKept, held, with_held_rest}
 use Rattle.shop_tree.specs.inner.Opens.{AreChildren}
 use Rattle.shop_tree.specs.inner.Pushing.{with_opens, with_rest}

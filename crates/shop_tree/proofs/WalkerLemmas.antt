@@ -2,27 +2,26 @@
 use Rattle.std.proofs.Common.{◌≡◌, ℕ, zero, suc, ◌+◌, ◌-◌, ◌*◌, ◌≤◌, ◌<◌, ◌⊎◌, inl, inr, Option, List, [], ◌∷◌, ◌++◌}
 use Rattle.std.proofs.Common.{length}
 use Rattle.std.proofs.Common.{refl, sym, ◌∙◌, ap, subst, arith}
-use Rattle.std.specs.Prelude.{slice_index_or, take, drop}
+use Rattle.std.specs.Prelude.{take, drop}
 use Rattle.std.specs.List.{AllByRecursion, fold}
 use Rattle.std.proofs.lemmas.Bool.{cases_lt}
-use Rattle.std.proofs.lemmas.List.{length_push, length-drop, drop_more, drop_all, drop-drop}
+use Rattle.std.proofs.lemmas.List.{length_push, length-drop, drop_all, drop-drop}
 use Rattle.std.proofs.lemmas.List.Sums.{fold-append}
 use Rattle.shop_model.specs.Shop.{Shop}
 use Rattle.shop_heads.specs.Bound.{lb}
-use Rattle.shop_tree.specs.Branching.{branch}
-use Rattle.shop_tree.specs.Nodes.{words_of}
-use Rattle.shop_tree.specs.Pieces.{walk_told}
-use Rattle.shop_tree.specs.Walking.{Walk, walk, sheet}
-use Rattle.shop_tree.specs.inner.Opens.{word_at, last_of, waiting_words, stack_words, IsClosed}
+use Rattle.shop_nodes.specs.Branching.{branch}
+use Rattle.shop_nodes.specs.Nodes.{words_of}
+use Rattle.shop_nodes.specs.Pieces.{walk_told}
+use Rattle.shop_nodes.specs.Walking.{Walk, walk, sheet}
+use Rattle.shop_nodes.specs.Halts.{word_at, last_of, waiting_words, stack_words, IsClosed}
 use Rattle.shop_tree.specs.inner.Walkers.{Stage, HasExpanded, HasWalked, HasWalkedUpTo, IsInOrder, IsTurn}
-use Rattle.shop_tree.specs.inner.Walkers.{on_top, node_walk, nodes_walk, stack_walk, turns_left}
+use Rattle.shop_tree.specs.inner.Walkers.{on_top, node_walk, stack_walk, turns_left}
 use Rattle.shop_tree.specs.inner.Searching.{walk_stack, opening_walk, entered}
-use Rattle.shop_tree.specs.declared.nodes.Node.{Node}
-use Rattle.shop_tree.specs.declared.opens.Open.{Open}
-use Rattle.shop_tree.specs.declared.opens.Waiting.{Waiting}
-use Rattle.shop_tree.specs.declared.opens.Waiting.TheVariants.{Child, Rest}
-use Rattle.shop_tree.proofs.HighWalks.{high-taken, none-walked}
-use Rattle.shop_tree.proofs.ListLemmas.{all_back}
+use Rattle.shop_nodes.specs.declared.nodes.Node.{Node}
+use Rattle.shop_nodes.specs.declared.halts.Open.{Open}
+use Rattle.shop_nodes.specs.declared.halts.Waiting.{Waiting}
+use Rattle.shop_nodes.specs.declared.halts.Waiting.TheVariants.{Child, Rest}
+use Rattle.shop_nodes.proofs.HighWalks.{high-taken, none-walked}
 use Rattle.shop_tree.proofs.OpenLemmas.{popped, replaced, walk-top}
 use Rattle.shop_tree.proofs.TurnLemmas.{below_waits, child_walks}
 use Rattle.shop_tree.proofs.ExpandLemmas.{spent_one, enters, cuts}
@@ -170,25 +169,9 @@ turn_halted s depth count on some few =
       spent = omega arith;
     }
 
--- a node that is cut off
-pub node_cut : (s : Stage) (node : Node) → s.stack ≡ [] → IsInOrder s → 0 < s.walk.budget
-    → s.walk.best ≤ lb s.shop node.word → HasWalked s (record s { walk = spent_one s.walk }) (node_walk s node)
-node_cut s node empty ordered some high = record {
-  walk = ap (λ (xs : List Waiting). walk_stack s.shop s.word (spent_one s.walk) xs) empty
-      ∙ sym (cuts s.shop s.walk node.word some high);
-  in_order = ordered;
-  shop = refl;
-  spent = omega arith;
-  done = λ _. empty;
-}
-
 -- a node that the walk goes on from
 abbrev pub at_node : Stage → Node → Stage
 at_node s node = record s { word = node.word; walk = spent_one s.walk }
-
-pub empty_in_order : (s : Stage) → s.stack ≡ [] → IsInOrder s
-empty_in_order s empty = subst (λ (xs : List Waiting). IsInOrder (record s { stack = xs })) (sym empty)
-    (record { each = tt; rising = tt })
 
 pub node_expanded : (s m t : Stage) (node : Node) → s.stack ≡ [] → 0 < s.walk.budget
     → lb s.shop node.word < s.walk.best → HasExpanded (at_node s node) m → HasWalked m t (stack_walk m)
@@ -202,26 +185,6 @@ node_expanded s m t node empty some below e h = record {
   spent = (let a = h.spent in let b = e.spent in omega arith);
   done = h.done;
 }
-
--- one node more
-pub one_node_more : (s m t : Stage) (nodes : List Node) (k : ℕ) (node : Node) → k < length nodes
-    → node ≡ slice_index_or nodes k node → 0 < m.walk.budget → HasWalkedUpTo s m nodes k
-    → HasWalked m t (node_walk m node) → HasWalkedUpTo s t nodes (k + 1)
-one_node_more s m t nodes k node inside at some so_far h =
-    let split : drop k nodes ≡ node ∷ drop (k + 1) nodes = drop_more nodes k node inside
-    ∙ ap (λ (n : Node). n ∷ drop (k + 1) nodes) (sym at)
-    in record {
-      within = omega arith;
-      walk = ap (λ (x : Shop). fold (walk x) (stack_walk t) (words_of (drop (k + 1) nodes))) h.shop
-          ∙ (ap (λ u. fold (walk m.shop) u (words_of (drop (k + 1) nodes))) h.walk
-          ∙ (ap (λ (xs : List Waiting). fold (walk m.shop) (walk_stack m.shop m.word m.walk xs)
-          (node.word ∷ words_of (drop (k + 1) nodes))) (sym (so_far.done some))
-          ∙ (ap (λ (ns : List Node). fold (walk m.shop) (stack_walk m) (words_of ns)) (sym split) ∙ so_far.walk)));
-      in_order = h.in_order;
-      shop = h.shop ∙ so_far.shop;
-      spent = (let a = h.spent in let b = so_far.spent in omega arith);
-      done = h.done;
-    }
 
 -- what a walk of nodes comes to, from nothing on
 pub told_sheet : (s t : Stage) (nodes : List Node) (k : ℕ) (shop : Shop) (best budget : ℕ) → s.shop ≡ shop

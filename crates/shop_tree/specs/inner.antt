@@ -2,7 +2,6 @@
 pub mod Searching
 pub mod Opens
 pub mod Pushing
-pub mod Leaving
 pub mod Walkers
 pub mod Held
 pub mod Tried

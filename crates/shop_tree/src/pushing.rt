@@ -4,7 +4,7 @@ ghost use Rattle.shop_tree.specs.inner.Held.{held, opens_in, waiting_in, with_he
 ghost use Rattle.shop_tree.specs.inner.Pushing.{with_opens, with_rest};
 
 use crate::held::{Held, Kept};
-use crate::opens::Waiting;
+use shop_nodes::Waiting;
 use std::alloc::AllocError;
 
 /// Moves the children onto the stack, the last one on top.

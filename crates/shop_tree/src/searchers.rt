@@ -1,14 +1,13 @@
 // The search of pieces, over what is kept from one to the next.
 ghost use Rattle.std.specs.Prelude.{◌≡◌, ◌≤◌, ◌<◌, ◌^◌, OnOk, IfOk};
 ghost use Rattle.shop_desk.specs.Layouts.{IsLayoutOf};
-ghost use Rattle.shop_tree.specs.Nodes.{AreNodes};
-ghost use Rattle.shop_tree.specs.Sheets.{IsSheetOf, KeepsTables};
+ghost use Rattle.shop_nodes.specs.Nodes.{AreNodes};
+ghost use Rattle.shop_nodes.specs.Sheets.{IsSheetOf, KeepsTables};
 
-use crate::pieces::Piece;
-use crate::sheets::Sheet;
 use crate::width_searchers::{WidthSearcher, Widths};
 use shop_desk::Layout;
 use shop_model::Instance;
+use shop_nodes::{Piece, Sheet};
 use std::alloc::{AllocError, Global};
 use std::marker::Model;
 

@@ -1,13 +1,12 @@
 // The search of one piece.
 ghost use Rattle.std.specs.Prelude.{◌<◌, ◌^◌, IfOk};
-ghost use Rattle.shop_tree.specs.Nodes.{AreNodes};
-ghost use Rattle.shop_tree.specs.Sheets.{IsSheetOf, KeepsTables};
+ghost use Rattle.shop_nodes.specs.Nodes.{AreNodes};
+ghost use Rattle.shop_nodes.specs.Sheets.{IsSheetOf, KeepsTables};
 
-use crate::pieces::Piece;
 use crate::searchers::Searcher;
-use crate::sheets::Sheet;
 use shop_desk::Layout;
 use shop_model::Instance;
+use shop_nodes::{Piece, Sheet};
 use std::alloc::{AllocError, Global};
 
 /// The search of one piece, as `Searcher::search`, over a layout of its own. Fails with `AllocError` if memory runs out.

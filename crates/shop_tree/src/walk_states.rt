@@ -4,16 +4,16 @@ ghost use Rattle.std.specs.Prelude.{length, map, vec_capacity};
 ghost use Rattle.shop_model.specs.Word.{IsWord};
 ghost use Rattle.shop_heads.specs.Bound.{lb};
 ghost use Rattle.shop_desk.specs.States.{HasSoleCandidate, IsOfSomeWord};
-ghost use Rattle.shop_tree.specs.Branching.{conflict};
+ghost use Rattle.shop_nodes.specs.Branching.{conflict};
 ghost use Rattle.shop_tree.specs.inner.Held.{IsHeldOf, IsKept, opens_in};
 ghost use Rattle.shop_tree.specs.inner.Opens.{AreChildren};
 ghost use Rattle.shop_tree.specs.inner.Slots.{HoldSlots};
 ghost use Rattle.shop_tree.specs.inner.Tried.{IsTried};
 
 use crate::held::Kept;
-use crate::opens::Open;
 use crate::putting::{all_reach, put};
 use shop_desk::{Candidate, Dispatching};
+use shop_nodes::Open;
 use std::alloc::{AllocError, Global};
 use std::mem;
 

@@ -1,21 +1,17 @@
 // The walk of the nodes of pieces, over states that are kept from one to the next.
 ghost use Rattle.std.specs.Prelude.{◌≡◌, ◌≤◌, ◌<◌, ◌+◌, ◌^◌, length, vec_capacity, [], OnOk, IfOk, IsTrue};
 ghost use Rattle.shop_model.specs.Shop.{operation_count};
-ghost use Rattle.shop_tree.specs.Nodes.{IsNode, AreNodes};
-ghost use Rattle.shop_tree.specs.Sheets.{IsSheetOf, KeepsTables};
+ghost use Rattle.shop_nodes.specs.Nodes.{IsNode, AreNodes};
+ghost use Rattle.shop_nodes.specs.Sheets.{IsSheetOf, KeepsTables};
 ghost use Rattle.shop_heads.specs.Bound.{lb};
 
 use crate::held::{Held, Kept, copy_waiting};
-use crate::left::{Halt, Left};
-use crate::nodes::Node;
-use crate::opens::{Open, Waiting};
-use crate::pieces::Piece;
 use crate::progress::Progress;
 use crate::pushing::{push_kept, push_rest};
-use crate::sheets::Sheet;
 use crate::walk_states::WalkStates;
 use shop_desk::{Candidate, Dispatching};
 use shop_model::{Instance, SharedWord, Word};
+use shop_nodes::{Halt, Left, Node, Open, Piece, Sheet, Waiting};
 use std::alloc::{AllocError, Global};
 use std::sync::ArcSlice;
 
@@ -37,10 +33,10 @@ pub(crate) struct Walker<'l, 'a, D: Dispatching> {
 }
 
 impl<'l, 'a, D: Dispatching> Walker<'l, 'a, D> {
-    ghost use Rattle.shop_tree.specs.declared.opens.Waiting.TheVariants.{Child, Rest};
+    ghost use Rattle.shop_nodes.specs.declared.halts.Waiting.TheVariants.{Child, Rest};
     ghost use Rattle.shop_tree.specs.inner.Held.{IsHeldOf};
-    ghost use Rattle.shop_tree.specs.inner.Leaving.{halted_words, IsHalt};
-    ghost use Rattle.shop_tree.specs.inner.Opens.{stack_words, word_at};
+    ghost use Rattle.shop_nodes.specs.Halts.{halted_words, AreHalted};
+    ghost use Rattle.shop_nodes.specs.Halts.{stack_words, word_at};
     ghost use Rattle.shop_tree.specs.inner.StateWalkers.{stage_of, HasCandidates, HasStates};
     ghost use Rattle.shop_tree.specs.inner.StateWalkers.{IsAtState, StandsAs};
     ghost use Rattle.shop_tree.specs.inner.Walkers.{on_top, stack_walk, node_walk, IsInOrder};
@@ -305,7 +301,7 @@ impl<'l, 'a, D: Dispatching> Walker<'l, 'a, D> {
             ≡ stack_words self.now.progress.instance.now self.now.path.items
             (stage_of self.now).stack) }
         ensures halt { IfOk result
-            (λ h. IsHalt self.now.progress.instance.now self.now.progress.best h) }
+            (λ h. AreHalted self.now.progress.instance.now self.now.progress.best h) }
     {
         if self.stack.is_empty() {
             return Ok(None);

@@ -1,14 +1,13 @@
 // The search of pieces in lanes of one width.
 ghost use Rattle.std.specs.Prelude.{◌≡◌, ◌<◌, ◌^◌, OnOk, IfOk};
-ghost use Rattle.shop_tree.specs.Nodes.{AreNodes};
-ghost use Rattle.shop_tree.specs.Sheets.{IsSheetOf, KeepsTables};
+ghost use Rattle.shop_nodes.specs.Nodes.{AreNodes};
+ghost use Rattle.shop_nodes.specs.Sheets.{IsSheetOf, KeepsTables};
 
-use crate::pieces::Piece;
-use crate::sheets::Sheet;
 use crate::walkers::Walker;
 use shop_desk::{Dispatcher, Dispatching};
 use shop_lanes::{NarrowLanes, PlainLanes, WideLanes};
 use shop_model::Instance;
+use shop_nodes::{Piece, Sheet};
 use std::alloc::{AllocError, Global};
 use std::marker::Model;
 

@@ -1,9 +1,9 @@
 -- Open nodes: their least bound, their order, and those of pieces.
 use Rattle.std.specs.Prelude.{ℕ, ◌<◌, min, List, map, filter, fold, nat_lt, All}
 use Rattle.shop_model.specs.SharedWords.{CanBeShared}
-use Rattle.shop_tree.specs.Branching.{sort_by}
-use Rattle.shop_tree.specs.declared.nodes.Node.{Node}
-use Rattle.shop_tree.specs.declared.pieces.Piece.{Piece}
+use Rattle.shop_nodes.specs.Branching.{sort_by}
+use Rattle.shop_nodes.specs.declared.nodes.Node.{Node}
+use Rattle.shop_nodes.specs.declared.pieces.Piece.{Piece}
 use Rattle.shop_round.specs.declared.plans.Order.{Order}
 use Rattle.shop_round.specs.declared.plans.Order.TheVariants.{Kept, Bound}
 

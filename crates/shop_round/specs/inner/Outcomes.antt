@@ -2,10 +2,10 @@
 use Rattle.std.specs.Prelude.{◌≡◌, ℕ, ◌+◌, ◌*◌, ◌≤◌, List, [], ◌++◌, true, nat_lt}
 use Rattle.std.specs.Prelude.{if◌then◌else◌, unwrap_or}
 use Rattle.shop_heads.specs.Bound.{lb}
-use Rattle.shop_tree.specs.Left.{open_nodes}
-use Rattle.shop_tree.specs.Nodes.{words_of, AreNodes}
-use Rattle.shop_tree.specs.declared.nodes.Node.{Node}
-use Rattle.shop_tree.specs.declared.sheets.Sheet.{Sheet}
+use Rattle.shop_nodes.specs.Left.{open_nodes}
+use Rattle.shop_nodes.specs.Nodes.{words_of, AreNodes}
+use Rattle.shop_nodes.specs.declared.nodes.Node.{Node}
+use Rattle.shop_nodes.specs.declared.sheets.Sheet.{Sheet}
 use Rattle.shop_round.specs.Round.{Told, Stand, gathered, words_below}
 use Rattle.shop_round.specs.inner.OpenNodes.{nodes_below}
 use Rattle.shop_round.specs.declared.plans.TheConstants.{MAX_BUDGET, MAX_PIECES}

@@ -9,7 +9,7 @@
 --     IsFront shop plan t r others      r is the front of what is cut, the others its rest
 use Rattle.std.specs.Prelude.{◌≡◌, []}
 use Rattle.shop_model.specs.Shop.{Shop}
-use Rattle.shop_tree.specs.Nodes.{words_of, AreNodes}
+use Rattle.shop_nodes.specs.Nodes.{words_of, AreNodes}
 use Rattle.shop_round.specs.Round.{Stand, Told, in_order, makespan_of, cut_of}
 use Rattle.shop_round.specs.Laws.{IsStanding}
 use Rattle.shop_round.specs.Entries.{told}

@@ -11,8 +11,8 @@
 use Rattle.std.specs.Prelude.{◌≡◌, ℕ, Option, Some, None, List, [], ◌∷◌, ◌++◌}
 use Rattle.std.specs.Prelude.{map, flat_map, reverse}
 use Rattle.std.specs.BTreeMap.{BTreeMap}
-use Rattle.shop_tree.specs.Branching.{insert_by}
-use Rattle.shop_tree.specs.declared.nodes.Node.{Node}
+use Rattle.shop_nodes.specs.Branching.{insert_by}
+use Rattle.shop_nodes.specs.declared.nodes.Node.{Node}
 use Rattle.shop_round.specs.declared.stacks.Block.{Block}
 use Rattle.shop_round.specs.declared.stacks.Stack.{Stack}
 use Rattle.shop_round.specs.inner.OpenNodes.{nodes_below}

@@ -7,7 +7,7 @@
 --     IsTaken n nodes before after    the first n were taken
 --     IsKeptBelow c before after      those of bounds below c were kept
 use Rattle.std.specs.Prelude.{◌≡◌, ℕ, Option, List, take, drop, reverse}
-use Rattle.shop_tree.specs.declared.nodes.Node.{Node}
+use Rattle.shop_nodes.specs.declared.nodes.Node.{Node}
 use Rattle.shop_round.specs.declared.open_nodes.OpenNodes.{OpenNodes}
 use Rattle.shop_round.specs.declared.open_nodes.OpenNodes.TheVariants.{AsKept, ByBound}
 use Rattle.shop_round.specs.declared.plans.Order.{Order}

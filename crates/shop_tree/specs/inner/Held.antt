@@ -10,12 +10,12 @@
 --                                    dispatch needs
 use Rattle.std.specs.Prelude.{◌≡◌, ℕ, zero, suc, [], ◌∷◌, ◌++◌, Option, Some, None, List, map, All}
 use Rattle.std.specs.Global.{Box}
-use Rattle.shop_tree.specs.declared.opens.Open.{Open}
-use Rattle.shop_tree.specs.declared.opens.Waiting.{Waiting}
-use Rattle.shop_tree.specs.declared.opens.Waiting.TheVariants.{Child, Rest}
+use Rattle.shop_nodes.specs.declared.halts.Open.{Open}
+use Rattle.shop_nodes.specs.declared.halts.Waiting.{Waiting}
+use Rattle.shop_nodes.specs.declared.halts.Waiting.TheVariants.{Child, Rest}
 use Rattle.shop_tree.specs.declared.held.Held.{Held}
 use Rattle.shop_tree.specs.declared.held.Kept.{Kept}
-use Rattle.shop_tree.specs.inner.Opens.{word_at}
+use Rattle.shop_nodes.specs.Halts.{word_at}
 
 module _ {S : Type 0} where
   abbrev pub opens_in : List (Kept S) → List Open

@@ -3,9 +3,9 @@
 --     with_rest stack depth n      the stack with n closed children of what so many entries make on
 --                                  top, if there are any
 use Rattle.std.specs.Prelude.{ℕ, zero, suc, List, [], ◌∷◌, ◌++◌, map}
-use Rattle.shop_tree.specs.declared.opens.Open.{Open}
-use Rattle.shop_tree.specs.declared.opens.Waiting.{Waiting}
-use Rattle.shop_tree.specs.declared.opens.Waiting.TheVariants.{Child, Rest}
+use Rattle.shop_nodes.specs.declared.halts.Open.{Open}
+use Rattle.shop_nodes.specs.declared.halts.Waiting.{Waiting}
+use Rattle.shop_nodes.specs.declared.halts.Waiting.TheVariants.{Child, Rest}
 
 abbrev pub with_opens : List Waiting → List Open → List Waiting
 with_opens stack opens = stack ++ map (λ o. Child o) opens

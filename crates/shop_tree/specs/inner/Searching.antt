@@ -11,10 +11,11 @@ use Rattle.std.specs.Prelude.{◌≡◌, ℕ, zero, suc, Some, None, List, [], �
 use Rattle.std.specs.List.{AllByRecursion}
 use Rattle.shop_model.specs.Shop.{Shop}
 use Rattle.shop_heads.specs.Bound.{lb}
-use Rattle.shop_tree.specs.Branching.{branch}
-use Rattle.shop_tree.specs.inner.Opens.{stack_words, IsWaiting, IsAt}
-use Rattle.shop_tree.specs.Walking.{Walk, walk, walk_within, operations_left}
-use Rattle.shop_tree.specs.declared.opens.Waiting.{Waiting}
+use Rattle.shop_nodes.specs.Branching.{branch}
+use Rattle.shop_nodes.specs.Halts.{stack_words, IsWaiting}
+use Rattle.shop_tree.specs.inner.Opens.{IsAt}
+use Rattle.shop_nodes.specs.Walking.{Walk, walk, walk_within, operations_left}
+use Rattle.shop_nodes.specs.declared.halts.Waiting.{Waiting}
 use Rattle.shop_tree.specs.declared.progress.Progress.{Progress}
 
 abbrev pub walk_stack : Shop → List ℕ → Walk → List Waiting → Walk

@@ -16,7 +16,7 @@ use Rattle.shop_model.specs.Shop.{Shop}
 use Rattle.shop_heads.specs.Bound.{lb}
 use Rattle.shop_desk.specs.declared.dispatching.Candidate.{Candidate}
 use Rattle.shop_desk.specs.declared.dispatching.Dispatching.{Ghosts}
-use Rattle.shop_tree.specs.Branching.{conflict}
+use Rattle.shop_nodes.specs.Branching.{conflict}
 use Rattle.shop_tree.specs.declared.held.Held.{Held}
 use Rattle.shop_tree.specs.declared.walk_states.WalkStates.{WalkStates}
 use Rattle.shop_tree.specs.declared.walkers.Walker.{Walker}

@@ -14,17 +14,16 @@
 --                                  waited before, and there is less to do
 --     HasWalked s t whole          all that is left of this walk waits: nothing, unless the budget
 --                                  has ended
-use Rattle.std.specs.Prelude.{◌≡◌, ℕ, ◌+◌, ◌*◌, ◌≤◌, ◌<◌, List, [], ◌∷◌, ◌++◌, length, take, drop}
+use Rattle.std.specs.Prelude.{◌≡◌, ℕ, ◌+◌, ◌*◌, ◌≤◌, ◌<◌, List, [], ◌∷◌, ◌++◌, length, drop}
 use Rattle.std.specs.Prelude.{fold}
-use Rattle.shop_model.specs.Shop.{Shop, operation_count}
+use Rattle.shop_model.specs.Shop.{Shop}
 use Rattle.shop_heads.specs.Bound.{lb}
-use Rattle.shop_tree.specs.Branching.{conflict}
 use Rattle.shop_tree.specs.inner.Opens.{AreWaiting}
-use Rattle.shop_tree.specs.inner.Searching.{walk_stack, Adds, walked, entered}
-use Rattle.shop_tree.specs.Walking.{Walk, walk}
-use Rattle.shop_tree.specs.Nodes.{words_of}
-use Rattle.shop_tree.specs.declared.nodes.Node.{Node}
-use Rattle.shop_tree.specs.declared.opens.Waiting.{Waiting}
+use Rattle.shop_tree.specs.inner.Searching.{walk_stack, Adds, entered}
+use Rattle.shop_nodes.specs.Walking.{Walk, walk}
+use Rattle.shop_nodes.specs.Nodes.{words_of}
+use Rattle.shop_nodes.specs.declared.nodes.Node.{Node}
+use Rattle.shop_nodes.specs.declared.halts.Waiting.{Waiting}
 
 pub record Stage : Type 0 where
   pub shop : Shop

@@ -2,8 +2,8 @@ use Rattle.std.proofs.Common.{rules, sym, subst}
 use Rattle.std.specs.Prelude.{IfOk}
 use Rattle.std.proofs.lemmas.Result.{IfOk-weaker}
 use Rattle.shop_model.specs.Shop.{Shop}
-use Rattle.shop_tree.specs.Nodes.{AreNodes}
-use Rattle.shop_tree.specs.Sheets.{IsSheetOf}
+use Rattle.shop_nodes.specs.Nodes.{AreNodes}
+use Rattle.shop_nodes.specs.Sheets.{IsSheetOf}
 use Rattle.shop_round.specs.Entries.{told}
 use Rattle.shop_round.proofs.EntryLemmas.{searched}
 use Rattle.shop_round.proofs.GatherLemmas.{hits_here}

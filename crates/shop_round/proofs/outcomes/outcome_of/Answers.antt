@@ -2,7 +2,7 @@ use Rattle.std.proofs.Common.{rules, ◌≤◌, length, refl, sym, ◌∙◌, su
 use Rattle.std.proofs.lemmas.Bool.{eq-eqb, ne_eqb}
 use Rattle.std.proofs.lemmas.Fn.{filter_same}
 use Rattle.std.proofs.lemmas.List.{length_push, length-map}
-use Rattle.shop_tree.specs.Nodes.{words_of}
+use Rattle.shop_nodes.specs.Nodes.{words_of}
 use Rattle.shop_round.specs.Entries.{told}
 use Rattle.shop_round.specs.declared.rounds.Round.{Round}
 use Rattle.shop_round.proofs.EntryLemmas.{IsEntryAt, entry_turn, entries_end, entry_done, entry_not_passed}

@@ -1,7 +1,7 @@
 use Rattle.std.proofs.Common.{◌≡◌, ◌+◌, ◌-◌, ◌<◌, ◌++◌, [], ◌∷◌, length, subst, sym, ◌∙◌, ap, arith, eqb-true}
 use Rattle.std.proofs.lemmas.List.{length_push}
 use Rattle.std.specs.Vec.Iter.{into_iter_items}
-use Rattle.shop_tree.specs.declared.pieces.Piece.{Piece}
+use Rattle.shop_nodes.specs.declared.pieces.Piece.{Piece}
 use Rattle.shop_round.specs.Round.{cut_into}
 use Rattle.shop_round.specs.Nodes.{numbered}
 use Rattle.shop_round.specs.inner.OpenNodes.{nodes_in}

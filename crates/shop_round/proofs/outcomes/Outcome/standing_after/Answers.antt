@@ -1,6 +1,6 @@
 use Rattle.std.proofs.Common.{rules, ◌≡◌, ◌++◌, cond, [], Global, Vec, refl, sym, ◌∙◌, ap}
 use Rattle.std.proofs.lemmas.Fn.{filter_same}
-use Rattle.shop_tree.specs.declared.nodes.Node.{Node}
+use Rattle.shop_nodes.specs.declared.nodes.Node.{Node}
 use Rattle.shop_round.specs.inner.OpenNodes.{nodes_below}
 use Rattle.shop_round.specs.inner.Outcomes.{open_after}
 use Rattle.shop_round.proofs.outcomes.Outcome.standing_after.Goals as goal

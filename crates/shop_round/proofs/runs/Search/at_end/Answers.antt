@@ -4,7 +4,7 @@ use Rattle.shop_round.specs.Round.{Told}
 use Rattle.shop_round.specs.Runs.{planned}
 use Rattle.shop_round.specs.inner.Stores.{open_list}
 use Rattle.shop_round.proofs.Answering.{way_first, way_search, way_next, way_closed, way_last, some_open}
-use Rattle.shop_tree.specs.Nodes.{AreNodes}
+use Rattle.shop_nodes.specs.Nodes.{AreNodes}
 use Rattle.shop_round.proofs.NodeLemmas.{all_sharable}
 use Rattle.shop_round.proofs.runs.Search.at_end.Goals as goal
 

@@ -1,6 +1,6 @@
 use Rattle.std.proofs.Common.{◌*◌, ◌<◌, sym, subst, arith}
 use Rattle.std.proofs.lemmas.List.Elements.{All-drop}
-use Rattle.shop_tree.specs.Nodes.{IsNode, AreNodes}
+use Rattle.shop_nodes.specs.Nodes.{IsNode, AreNodes}
 use Rattle.shop_round.specs.Runs.{planned}
 use Rattle.shop_round.specs.inner.OpenNodes.{AreBelow}
 use Rattle.shop_round.specs.inner.Stores.{open_list}

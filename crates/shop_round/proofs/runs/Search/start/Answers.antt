@@ -1,6 +1,6 @@
 use Rattle.std.proofs.Common.{◌≡◌, ◌++◌, sym, ◌∙◌, ap, subst, arith, append-nil}
 use Rattle.std.proofs.lemmas.Result.{IfOk-weaker}
-use Rattle.shop_tree.specs.Nodes.{words_of, AreNodes}
+use Rattle.shop_nodes.specs.Nodes.{words_of, AreNodes}
 use Rattle.shop_round.specs.Round.{Stand, opening, words_below}
 use Rattle.shop_round.specs.inner.Stores.{open_list}
 use Rattle.shop_round.proofs.FrontLemmas.{IsInOrder, joined_at, none_in_order}

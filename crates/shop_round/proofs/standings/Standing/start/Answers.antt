@@ -2,8 +2,8 @@ use Rattle.std.proofs.Common.{◌≡◌, ℕ, ◌≤◌, Global, Vec, [], ◌∷
 use Rattle.shop_model.specs.Shop.{route_of}
 use Rattle.shop_model.specs.Word.{start_jobs, count_of}
 use Rattle.shop_heads.specs.Bound.{lb}
-use Rattle.shop_tree.specs.declared.nodes.Node.{Node}
-use Rattle.shop_tree.specs.Nodes.{words_of, AreNodes}
+use Rattle.shop_nodes.specs.declared.nodes.Node.{Node}
+use Rattle.shop_nodes.specs.Nodes.{words_of, AreNodes}
 use Rattle.shop_round.specs.Round.{words_below}
 use Rattle.shop_round.proofs.Opening.{start_full}
 use Rattle.shop_round.proofs.StartLemmas.{open_root, closed_root, start_covers, root_node, no_nodes}

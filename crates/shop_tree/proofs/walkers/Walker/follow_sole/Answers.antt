@@ -2,7 +2,7 @@ use Rattle.std.proofs.Common.{◌≡◌, ◌++◌, ◌∷◌, ◌∙◌, ◌<◌
 use Rattle.shop_model.specs.Shop.{Shop, operation_count}
 use Rattle.shop_heads.specs.Bound.{lb}
 use Rattle.shop_heads.specs.Conflicts.{SoleCandidateKeepsBound}
-use Rattle.shop_tree.specs.Branching.{conflict}
+use Rattle.shop_nodes.specs.Branching.{conflict}
 use Rattle.shop_tree.specs.inner.Held.{waiting_in}
 use Rattle.shop_tree.specs.inner.Searching.{walked}
 use Rattle.shop_tree.specs.inner.StateWalkers.{stage_of, AreHeld}

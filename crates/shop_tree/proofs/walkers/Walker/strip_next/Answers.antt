@@ -1,5 +1,5 @@
 use Rattle.std.proofs.Common.{List, ap}
-use Rattle.shop_tree.specs.declared.opens.Waiting.{Waiting}
+use Rattle.shop_nodes.specs.declared.halts.Waiting.{Waiting}
 use Rattle.shop_tree.specs.inner.StateWalkers.{stage_of}
 use Rattle.shop_tree.specs.inner.Walkers.{Stage}
 use Rattle.shop_tree.proofs.StateLemmas.{held_stripped, waiting_stripped}

@@ -6,11 +6,11 @@ use Rattle.shop_model.specs.Word.{IsWord}
 use Rattle.shop_heads.specs.Bound.{lb}
 use Rattle.shop_heads.proofs.WordLengths.{room_left}
 use Rattle.shop_tree.specs.inner.Held.{waiting_in}
-use Rattle.shop_tree.specs.inner.Opens.{word_at}
+use Rattle.shop_nodes.specs.Halts.{word_at}
 use Rattle.shop_tree.specs.inner.Searching.{walked}
 use Rattle.shop_tree.specs.inner.StateWalkers.{stage_of, AreHeld}
 use Rattle.shop_tree.specs.inner.Walkers.{HasExpanded, IsInOrder, IsTurn}
-use Rattle.shop_tree.specs.declared.opens.Waiting.TheVariants.{Child}
+use Rattle.shop_nodes.specs.declared.halts.Waiting.TheVariants.{Child}
 use Rattle.shop_tree.proofs.OpenLemmas.{popped}
 use Rattle.shop_tree.proofs.ListLemmas.{on_ok}
 use Rattle.shop_tree.proofs.ExpandLemmas.{spent_one}

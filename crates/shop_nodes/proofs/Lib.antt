@@ -1,0 +1,14 @@
+pub mod Members
+mod Counting
+mod FirstOn
+pub mod BetterChildren
+pub mod WalkSteps
+pub mod HighWalks
+pub mod SearchLaw
+pub mod Found
+pub mod NodeLemmas
+pub mod ChildrenLemmas
+mod PlacedLemmas
+mod ChoosingLemmas
+mod LeftLemmas
+pub mod Rows

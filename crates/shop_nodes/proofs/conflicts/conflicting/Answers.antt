@@ -1,0 +1,38 @@
+use Rattle.std.proofs.Common.{◌≡◌, ◌++◌, ◌∷◌, ◌∙◌, [], true, false, sym, ap, append-nil}
+use Rattle.std.specs.List.{filter}
+use Rattle.shop_nodes.specs.Branching.{conflicts_with}
+use Rattle.shop_nodes.specs.inner.Choosing.{placing_of}
+use Rattle.shop_nodes.proofs.ChoosingLemmas.{open-skip, conflicts-is, conflict-step}
+use Rattle.shop_nodes.proofs.conflicts.conflicting.Goals as goal
+
+pub loop-job-preserved-in_default : goal.loop-job-preserved-in_default
+loop-job-preserved-in_default c =
+    let shop = c.args.placed.now.instance.now
+    in let p = placing_of c.args.placed.now
+    in let now = c.loop-job
+    in now.invariant
+    ∙ ap (filter (conflicts_with shop p c.args.chosen.job)) (sym (open-skip shop p now.job c.in_default.ensures))
+
+pub loop-job-preserved-then-not-conflicts_with : goal.loop-job-preserved-then-not-conflicts_with
+loop-job-preserved-then-not-conflicts_with c =
+    let shop = c.args.placed.now.instance.now
+    in let p = placing_of c.args.placed.now
+    in let now = c.loop-job
+    in let chosen = c.args.chosen
+    in let test : conflicts_with shop p chosen.job now.job ≡ false =
+    sym (conflicts-is shop p chosen.job now.job chosen c.in-Some.next c.requires c.in-Some.ensures)
+    ∙ sym c.if-not-conflicts_with.ensures
+    in now.invariant ∙ sym (conflict-step shop p chosen.job now.job false c.in-Some.ensures.operation test ∙ append-nil _)
+
+pub loop-job-preserved : goal.loop-job-preserved
+loop-job-preserved c =
+    let shop = c.args.placed.now.instance.now
+    in let p = placing_of c.args.placed.now
+    in let now = c.loop-job
+    in let chosen = c.args.chosen
+    in let test : conflicts_with shop p chosen.job now.job ≡ true =
+    sym (conflicts-is shop p chosen.job now.job chosen c.in-Some.next c.requires c.in-Some.ensures)
+    ∙ sym c.if-not-conflicts_with.ensures
+    in c.in_ok-push.ensures.items
+    ∙ (ap (λ js. js ++ now.job ∷ []) now.invariant
+    ∙ sym (conflict-step shop p chosen.job now.job true c.in-Some.ensures.operation test))

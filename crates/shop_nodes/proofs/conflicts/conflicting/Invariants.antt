@@ -1,0 +1,11 @@
+use Rattle.std.proofs.Common.{◌≡◌}
+use Rattle.std.specs.List.{filter}
+use Rattle.shop_nodes.specs.Branching.{conflicts_with}
+use Rattle.shop_nodes.specs.inner.Choosing.{placing_of, open_below}
+use Rattle.shop_nodes.proofs.conflicts.conflicting.Given as goal
+
+abbrev pub invariant-loop-job : goal.invariant-loop-job
+invariant-loop-job l =
+    let shop = l.placed.instance.now
+    in let p = placing_of l.placed
+    in l.jobs.items ≡ filter (conflicts_with shop p l.chosen.job) (open_below shop p l.job)

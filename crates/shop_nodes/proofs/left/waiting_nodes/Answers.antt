@@ -1,0 +1,28 @@
+use Rattle.std.proofs.Common.{◌≡◌, ◌+◌, ◌-◌, ◌∙◌, ℕ, drop, sym, ap, subst, arith}
+use Rattle.std.specs.Arc.{arc_slice_items}
+use Rattle.std.proofs.lemmas.List.Elements.{All-append}
+use Rattle.shop_nodes.specs.Nodes.{words_of, IsNode, AreNodes}
+use Rattle.shop_nodes.specs.Halts.{stack_words}
+use Rattle.shop_nodes.proofs.LeftLemmas.{all_more}
+use Rattle.shop_nodes.proofs.left.waiting_nodes.Goals as goal
+
+pub loop-left-preserved : goal.loop-left-preserved
+loop-left-preserved c =
+    let shop = c.args.instance.now
+    in let path = arc_slice_items c.args.halt.now.path
+    in let now = c.loop-left.invariant
+    in let waiting = c.as_slice-waiting.result.now
+    in let k = c.loop-left.left - 1
+    in let some = c.loop-left-test.true
+    in let within = now.within
+    in let nodes = c.loop-left.nodes.items
+    in let one : c.loop-left.left ≡ k + 1 = omega arith
+    in let words : words_of nodes ≡ stack_words shop path (drop (k + 1) waiting) =
+    now.words ∙ ap (λ i. stack_words shop path (drop i waiting)) one
+    in record {
+      within = omega arith;
+      words = all_more shop path waiting k _ nodes c.append.new.self.items c.in_ok-next.next.items (omega arith)
+          words c.in_ok-next.ensures.words c.in_ok-append.ensures.items;
+      made = subst (AreNodes shop) (sym c.in_ok-append.ensures.items)
+          (All-append (IsNode shop) nodes c.in_ok-next.next.items now.made c.in_ok-next.ensures.nodes);
+    }

@@ -1,0 +1,69 @@
+-- Where a walk halted. What waited there is kept short: how many entries of the path its words begin
+-- with, and the job that follows; closed children are only counted.
+--     word_at word o                         the word that an open child stands for
+--     last_of n xs                           the last n elements
+--     waiting_words shop word x              the words that an entry stands for: closed ones are
+--                                            the last children of what they begin with
+--     stack_words shop word stack            all that waits, the last entry first
+--     IsOpen shop word o                     the word of o is one of the instance, no longer than
+--                                            word and a job, with its bound
+--     IsClosed shop best word n count        so many children of the first n entries of word have
+--                                            bounds that reach the best
+--     IsWaiting shop best word x             the entry is such an open child, or such closed ones
+--     halted_words shop h                    the words of what waited where a walk halted, if
+--                                            anything did
+--     IsHalt shop best h                     all that waited is told rightly
+--     AreHalted shop best h                  so is what waited, if anything did
+use Rattle.std.specs.Prelude.{◌≡◌, ℕ, ◌-◌, ◌≤◌, ◌<◌, Option, Some, None, List, [], ◌∷◌, ◌++◌, length}
+use Rattle.std.specs.Prelude.{take, drop}
+use Rattle.std.specs.Arc.{arc_slice_items}
+use Rattle.std.specs.List.{AllByRecursion}
+use Rattle.shop_model.specs.Shop.{Shop, operation_count}
+use Rattle.shop_model.specs.Word.{IsWord}
+use Rattle.shop_heads.specs.Bound.{lb}
+use Rattle.shop_nodes.specs.Branching.{branch}
+use Rattle.shop_nodes.specs.declared.halts.Halt.{Halt}
+use Rattle.shop_nodes.specs.declared.halts.Open.{Open}
+use Rattle.shop_nodes.specs.declared.halts.Waiting.{Waiting}
+use Rattle.shop_nodes.specs.declared.halts.Waiting.TheVariants.{Child, Rest}
+
+abbrev pub word_at : List ℕ → Open → List ℕ
+word_at word o = take o.depth word ++ o.job ∷ []
+
+abbrev pub last_of : {A : Type 0} → ℕ → List A → List A
+last_of n xs = drop (length xs - n) xs
+
+abbrev pub waiting_words : Shop → List ℕ → Waiting → List (List ℕ)
+waiting_words shop word (Child o) = word_at word o ∷ []
+waiting_words shop word (Rest depth count) = last_of count (branch shop (take depth word))
+
+abbrev pub stack_words : Shop → List ℕ → List Waiting → List (List ℕ)
+stack_words shop word [] = []
+stack_words shop word (x ∷ stack) = stack_words shop word stack ++ waiting_words shop word x
+
+pub record IsOpen (shop : Shop) (word : List ℕ) (o : Open) : Type 0 where
+  pub depth : o.depth ≤ length word
+  pub is_word : IsWord shop (word_at word o)
+  pub bound : o.bound ≡ lb shop (word_at word o)
+
+pub record IsClosed (shop : Shop) (best : ℕ) (word : List ℕ) (n count : ℕ) : Type 0 where
+  pub depth : n ≤ length word
+  pub short : n < operation_count shop
+  pub is_word : IsWord shop (take n word)
+  pub few : count ≤ length (branch shop (take n word))
+  pub high : AllByRecursion (λ v. best ≤ lb shop v) (last_of count (branch shop (take n word)))
+
+abbrev pub IsWaiting : Shop → ℕ → List ℕ → Waiting → Type 0
+IsWaiting shop best word (Child o) = IsOpen shop word o
+IsWaiting shop best word (Rest depth count) = IsClosed shop best word depth count
+
+abbrev pub halted_words : Shop → Option Halt → List (List ℕ)
+halted_words shop None = []
+halted_words shop (Some h) = stack_words shop (arc_slice_items h.path) h.waiting.items
+
+abbrev pub IsHalt : Shop → ℕ → Halt → Type 0
+IsHalt shop best h = AllByRecursion (IsWaiting shop best (arc_slice_items h.path)) h.waiting.items
+
+abbrev pub AreHalted : Shop → ℕ → Option Halt → Type 0
+AreHalted shop best None = Unit {0}
+AreHalted shop best (Some h) = IsHalt shop best h

@@ -1,0 +1,9 @@
+pub mod Branching
+pub mod Walking
+pub mod Nodes
+pub mod Laws
+pub mod Pieces
+pub mod Halts
+pub mod Left
+pub mod Sheets
+pub mod inner

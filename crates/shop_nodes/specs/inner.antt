@@ -1,0 +1,3 @@
+-- What only the inside of the crate is told by.
+pub mod Choosing
+pub mod Places

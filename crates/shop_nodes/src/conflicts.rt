@@ -1,0 +1,70 @@
+// The conflict set (Giffler and Thompson 1960).
+ghost use Rattle.std.specs.Prelude.{◌≡◌, IfOk};
+ghost use Rattle.shop_model.specs.Word.{IsWord, IsFull};
+ghost use Rattle.shop_nodes.specs.Branching.{conflict as conflict_set};
+ghost use Rattle.shop_nodes.specs.inner.Choosing.{IsChosen, IsNextOf, conflicting_with};
+
+use crate::next_operations::{NextOperation, Placed};
+use shop_model::{Instance, Placement, Word};
+use std::alloc::{AllocError, Global};
+
+/// The next operation that can end first, of the lowest job on ties; none where no job has a step left.
+fn choose(placed: &Placed) -> Option<NextOperation>
+    ensures { IsChosen placed.now result }
+{
+    let mut chosen: Option<NextOperation> = None;
+    for job in 0..placed.instance.jobs() {
+        let Some(next) = placed.next(job) else {
+            continue;
+        };
+        if let Some(best) = chosen {
+            if best.end <= next.end {
+                continue;
+            }
+        }
+        chosen = Some(next);
+    }
+    chosen
+}
+
+/// The jobs whose next operations are in conflict with the chosen one, that one included.
+fn conflicting(
+    alloc: Global,
+    placed: &Placed,
+    chosen: NextOperation,
+) -> Result<Vec<usize>, AllocError>
+    requires { IsNextOf placed.now chosen.job chosen }
+    ensures { IfOk result (λ v. v.items ≡ conflicting_with placed.now chosen.job) }
+{
+    let mut jobs = Vec::new(alloc);
+    for job in 0..placed.instance.jobs() {
+        let Some(next) = placed.next(job) else {
+            continue;
+        };
+        if !next.conflicts_with(&chosen) {
+            continue;
+        }
+        jobs.push(job)?;
+    }
+    Ok(jobs)
+}
+
+/// The conflict set of a word that isn't full, in ascending order: the job whose next operation can end first (the
+/// lowest on ties), and each job whose next operation is on the same machine and can begin before that end (Giffler and
+/// Thompson 1960). Fails with `AllocError` if memory runs out.
+pub fn conflict(alloc: Global, instance: &Instance, word: &Word) -> Result<Vec<usize>, AllocError>
+    requires word { IsWord instance.now word.now }
+    requires open { IsFull instance.now word.now → ⊥ }
+    ensures { IfOk result (λ v. v.items ≡ conflict_set instance.now word.now) }
+{
+    let placement = Placement::of(alloc, instance, word)?;
+    let placed = Placed {
+        instance,
+        word,
+        placement: &placement,
+    };
+    match choose(&placed) {
+        Some(chosen) => conflicting(alloc, &placed, chosen),
+        None => Ok(Vec::new(alloc)),
+    }
+}

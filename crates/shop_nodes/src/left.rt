@@ -1,0 +1,235 @@
+// What the search of a piece left.
+ghost use Rattle.std.specs.Prelude.{◌≡◌, ◌++◌, take, OnOk, IfOk};
+ghost use Rattle.std.specs.Arc.{arc_slice_items};
+ghost use Rattle.shop_nodes.specs.Branching.{branch};
+ghost use Rattle.shop_nodes.specs.Nodes.{AreNodes, words_of};
+ghost use Rattle.shop_nodes.specs.Halts.{IsClosed, IsHalt, IsWaiting, last_of};
+ghost use Rattle.shop_nodes.specs.Halts.{stack_words, waiting_words};
+ghost use Rattle.shop_nodes.specs.Left.{left_words, open_nodes, AreLeft};
+
+use crate::child_nodes::children;
+use crate::halts::{Halt, Waiting};
+use crate::nodes::Node;
+use shop_model::{Instance, SharedWord, Word};
+use std::alloc::{AllocError, Global};
+use std::marker::Model;
+use std::sync::ArcSlice;
+
+/// What the search of a piece left, in order: what waited where its budget ended, if anything did, and the nodes of the
+/// piece that weren't taken. To contracts it is the list of all these words.
+#[derive(Drop)]
+pub struct Left<'r> {
+    instance: &'r Instance,
+    makespan: u64,
+    halt: Option<Halt>,
+    untaken: &'r [Node],
+}
+
+impl<'r> Model for Left<'r> {
+    ghost use Rattle.shop_nodes.specs.Left.{Leaving, left_words, AreLeft};
+
+    ghost Value = { Leaving };
+
+    ghost view = { λ l. record {
+      shop = l.instance.now;
+      makespan = l.makespan;
+      words = left_words l.instance.now l.halt l.untaken.now;
+    } };
+
+    ghost invariant = { λ l. AreLeft l.instance.now l.makespan l.halt l.untaken.now };
+}
+
+impl<'r> Left<'r> {
+    /// What is left of a search that ended with this makespan: what waited where its walk halted, if anything did, and
+    /// then these nodes, which weren't taken.
+    pub fn new(
+        instance: &'r Instance,
+        makespan: u64,
+        halt: Option<Halt>,
+        untaken: &'r [Node],
+    ) -> Left<'r>
+        requires { AreLeft instance.now makespan halt untaken.now }
+        ensures { result ≡ record {
+          shop = instance.now;
+          makespan = makespan;
+          words = left_words instance.now halt untaken.now;
+        } }
+    {
+        Left {
+            instance,
+            makespan,
+            halt,
+            untaken,
+        }
+    }
+
+    /// Adds the nodes left that are still open, those of bounds below the makespan, to a list, in order. Fails with
+    /// `AllocError` if memory runs out.
+    pub fn add_open(&self, alloc: Global, nodes: &mut Vec<Node>) -> Result<(), AllocError>
+        ensures { OnOk result (nodes.new.items ≡ nodes.old.items
+            ++ open_nodes self.now.shop self.now.makespan self.now.words) }
+    {
+        if let Some(halt) = &self.halt {
+            add_open_waiting(self.instance, self.makespan, halt, nodes)?;
+        }
+        add_open_nodes(alloc, self.instance, self.makespan, self.untaken, nodes)
+    }
+
+    /// All nodes left, in order. Fails with `AllocError` if memory runs out.
+    pub fn nodes(&self, alloc: Global) -> Result<Vec<Node>, AllocError>
+        ensures words { IfOk result (λ v. words_of v.items ≡ self.now.words) }
+        ensures nodes { IfOk result (λ v. AreNodes self.now.shop v.items) }
+    {
+        let mut nodes = match &self.halt {
+            Some(halt) => waiting_nodes(alloc, self.instance, self.makespan, halt)?,
+            None => Vec::new(alloc),
+        };
+        add_copies(alloc, self.untaken, &mut nodes)?;
+        Ok(nodes)
+    }
+}
+
+/// Adds the node of what waits along a path, if it is a child with a bound below the makespan.
+fn add_if_open(
+    instance: &Instance,
+    makespan: u64,
+    path: &ArcSlice<u16, Global>,
+    waiting: Waiting,
+    nodes: &mut Vec<Node>,
+) -> Result<(), AllocError>
+    requires { IsWaiting instance.now makespan (arc_slice_items path.now) waiting }
+    ensures { OnOk result (nodes.new.items ≡ nodes.old.items ++ open_nodes instance.now makespan
+        (waiting_words instance.now (arc_slice_items path.now) waiting)) }
+{
+    let Waiting::Child(child) = waiting else {
+        return Ok(());
+    };
+    if child.bound >= makespan {
+        return Ok(());
+    }
+    let word = Word::of_shared(SharedWord::along(path, child.depth, child.job)?);
+    let bound = child.bound;
+    nodes.push(Node { word, bound })?;
+    Ok(())
+}
+
+/// Adds the nodes of bounds below the makespan among what waits where a walk halted, from the next entry on.
+fn add_open_waiting(
+    instance: &Instance,
+    makespan: u64,
+    halt: &Halt,
+    nodes: &mut Vec<Node>,
+) -> Result<(), AllocError>
+    requires { IsHalt instance.now makespan halt.now }
+    ensures { OnOk result (nodes.new.items ≡ nodes.old.items ++ open_nodes instance.now makespan
+        (stack_words instance.now (arc_slice_items halt.now.path) halt.now.waiting.items)) }
+{
+    let waiting = halt.waiting.as_slice();
+    let mut left = waiting.len();
+    while left > 0 {
+        left -= 1;
+        add_if_open(instance, makespan, &halt.path, waiting[left], nodes)?;
+    }
+    Ok(())
+}
+
+/// Adds the nodes of bounds below the makespan, in order.
+fn add_open_nodes(
+    alloc: Global,
+    instance: &Instance,
+    makespan: u64,
+    left: &[Node],
+    nodes: &mut Vec<Node>,
+) -> Result<(), AllocError>
+    requires { AreNodes instance.now left.now }
+    ensures { OnOk result (nodes.new.items ≡ nodes.old.items
+        ++ open_nodes instance.now makespan (words_of left.now)) }
+{
+    for node in left {
+        if node.bound < makespan {
+            nodes.push(node.copied(alloc)?)?;
+        }
+    }
+    Ok(())
+}
+
+/// The last children, so many, of the word of the first entries of a path.
+fn last_children(
+    alloc: Global,
+    instance: &Instance,
+    _makespan: u64,
+    path: &[u16],
+    depth: u32,
+    count: u32,
+) -> Result<Vec<Node>, AllocError>
+    requires { IsClosed instance.now _makespan path.now depth count }
+    ensures words { IfOk result (λ v. words_of v.items
+        ≡ last_of count (branch instance.now (take depth path.now))) }
+    ensures nodes { IfOk result (λ v. AreNodes instance.now v.items) }
+{
+    instance.keeps_limits();
+    let word = SharedWord::of_path(alloc, &path[..depth as usize])?;
+    let parent = Node::new(alloc, instance, Word::of_shared(word))?;
+    let mut all = children(alloc, instance, &parent)?;
+    all.split_off(all.len() - count as usize)
+}
+
+/// The nodes of what waits along a path.
+fn nodes_of(
+    alloc: Global,
+    instance: &Instance,
+    makespan: u64,
+    path: &ArcSlice<u16, Global>,
+    waiting: Waiting,
+) -> Result<Vec<Node>, AllocError>
+    requires { IsWaiting instance.now makespan (arc_slice_items path.now) waiting }
+    ensures words { IfOk result (λ v. words_of v.items
+        ≡ waiting_words instance.now (arc_slice_items path.now) waiting) }
+    ensures nodes { IfOk result (λ v. AreNodes instance.now v.items) }
+{
+    match waiting {
+        Waiting::Child(child) => {
+            let word = Word::of_shared(SharedWord::along(path, child.depth, child.job)?);
+            let bound = child.bound;
+            let mut nodes = Vec::with_capacity(alloc, 1)?;
+            nodes.push(Node { word, bound })?;
+            Ok(nodes)
+        }
+        Waiting::Rest { depth, count } => {
+            last_children(alloc, instance, makespan, path.as_slice(), depth, count)
+        }
+    }
+}
+
+/// The nodes of all that waits where a walk halted, from the next entry on.
+fn waiting_nodes(
+    alloc: Global,
+    instance: &Instance,
+    makespan: u64,
+    halt: &Halt,
+) -> Result<Vec<Node>, AllocError>
+    requires { IsHalt instance.now makespan halt.now }
+    ensures words { IfOk result (λ v. words_of v.items
+        ≡ stack_words instance.now (arc_slice_items halt.now.path) halt.now.waiting.items) }
+    ensures nodes { IfOk result (λ v. AreNodes instance.now v.items) }
+{
+    let waiting = halt.waiting.as_slice();
+    let mut nodes = Vec::new(alloc);
+    let mut left = waiting.len();
+    while left > 0 {
+        left -= 1;
+        let mut next = nodes_of(alloc, instance, makespan, &halt.path, waiting[left])?;
+        nodes.append(&mut next)?;
+    }
+    Ok(nodes)
+}
+
+/// Adds the same nodes once more, in order. Fails with `AllocError` if memory runs out.
+fn add_copies(alloc: Global, left: &[Node], nodes: &mut Vec<Node>) -> Result<(), AllocError>
+    ensures { OnOk result (nodes.new.items ≡ nodes.old.items ++ left.now) }
+{
+    for node in left {
+        nodes.push(node.copied(alloc)?)?;
+    }
+    Ok(())
+}

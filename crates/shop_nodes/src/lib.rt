@@ -1,0 +1,22 @@
+// Nodes and their children, and what the search of a piece gives and leaves, with the laws of both. How a piece is
+// searched is of no matter here.
+#![tactic(auto)]
+
+mod child_nodes;
+mod conflicts;
+mod halts;
+mod laws;
+mod left;
+mod next_operations;
+mod nodes;
+mod pieces;
+mod sheets;
+
+pub use child_nodes::children;
+pub use conflicts::conflict;
+pub use halts::{Halt, Open, Waiting};
+pub use laws::{branching_loses_no_table, searches_lose_no_table};
+pub use left::Left;
+pub use nodes::Node;
+pub use pieces::Piece;
+pub use sheets::Sheet;

@@ -1,5 +1,0 @@
-use Rattle.shop_model.proofs.WordLengths.{word_shared}
-use Rattle.shop_tree.proofs.branching.path_of.Goals as goal
-
-pub write_to-requires : goal.write_to-requires
-write_to-requires c = word_shared c.args.instance.now c.args.word.now c.keeps_limits.ensures c.requires

@@ -1,5 +1,0 @@
-use Rattle.shop_tree.proofs.Found.{searches_keep}
-use Rattle.shop_tree.proofs.laws.searches_lose_no_table.Goals as goal
-
-pub returns : goal.returns
-returns c = searches_keep

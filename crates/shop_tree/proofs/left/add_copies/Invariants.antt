@@ -1,5 +1,0 @@
-use Rattle.std.proofs.Common.{◌≡◌, ◌++◌, take}
-use Rattle.shop_tree.proofs.left.add_copies.Given as goal
-
-abbrev pub invariant-loop-node : goal.invariant-loop-node
-invariant-loop-node l = l.nodes.items ≡ l.fn.nodes.items ++ take l.node-index l.left
