@@ -1,24 +1,19 @@
 -- The columns of a Gantt text.
 use Rattle.std.proofs.Common.{◌≡◌, ℕ, zero, suc, ◌+◌, ◌*◌, ◌<◌, ◌≤◌, Bool, true, false, ◌&&◌, ◌||◌}
-use Rattle.std.proofs.Common.{cond, eqb, leb, ltb, List, [], ◌∷◌, ◌++◌, length, get_or, set, refl, sym, ap, ◌∙◌, arith}
+use Rattle.std.proofs.Common.{cond, eqb, leb, ltb, List, [], ◌∷◌, ◌++◌, length, get_or, refl, sym, ap, ◌∙◌, arith}
 use Rattle.std.proofs.Common.{inl, inr, add-one}
 use Rattle.std.specs.List.{range_with_len, list_any}
 use Rattle.std.specs.Int.{div_ceil}
+use Rattle.std.specs.Cmp.{both_ways}
+use Rattle.std.proofs.Math.Bool.{or-false}
 use Rattle.std.proofs.Math.Nat.{mul-le-mul_right}
-use Rattle.std.proofs.lemmas.Bool.{cases_eq, cases_lt, eq-eqb, leb-true, le-leb, ltb-true, lt-ltb}
+use Rattle.std.proofs.lemmas.Bool.{cases_lt, eq-eqb, leb-true, le-leb, ltb-true, lt-ltb}
 use Rattle.std.proofs.lemmas.Bool.Decides.{eqb_tells}
 use Rattle.std.proofs.lemmas.Grind.{div_ceil_times}
 use Rattle.std.proofs.lemmas.List.Folds.{list_any-append}
-use Rattle.std.proofs.lemmas.List.{get_or-set_same, get_or-set_other}
 use Rattle.shop_model.specs.declared.ops.Op.{Op}
 use Rattle.shop_model.specs.inner.Steps.{machine_at, finish_at}
 use Rattle.shop_text.specs.inner.Cells.{is_on, serves_below, ShowsWhere}
-
--- two tests are the same where each follows from the other
-same_test : (a b : Bool) → (a ≡ true → b ≡ true) → (b ≡ true → a ≡ true) → a ≡ b
-same_test true b f g = sym (f refl)
-same_test false true f g = g refl
-same_test false false f g = refl
 
 -- ---- the columns of an interval
 
@@ -36,11 +31,11 @@ le_ceil a u c some h =
 
 -- a column is not before an instant just where its own instant is not
 pub from_column : (a u c : ℕ) → 0 < u → leb (div_ceil a u) c ≡ leb a (c * u)
-from_column a u c some = same_test _ _ (λ e. le-leb a (c * u) (ceil_le a u c some (leb-true _ _ e)))
+from_column a u c some = both_ways _ _ (λ e. le-leb a (c * u) (ceil_le a u c some (leb-true _ _ e)))
     (λ e. le-leb _ _ (le_ceil a u c some (leb-true _ _ e)))
 
 pub to_column : (a u c : ℕ) → 0 < u → ltb c (div_ceil a u) ≡ ltb (c * u) a
-to_column a u c some = same_test _ _ (λ e. lt-ltb (c * u) a (before (ltb-true _ _ e)))
+to_column a u c some = both_ways _ _ (λ e. lt-ltb (c * u) a (before (ltb-true _ _ e)))
     (λ e. lt-ltb c (div_ceil a u) (after (ltb-true _ _ e)))
   where
     before : c < div_ceil a u → c * u < a
@@ -58,25 +53,6 @@ pub ceil_mono : (a b u : ℕ) → 0 < u → a ≤ b → div_ceil a u ≤ div_cei
 ceil_mono a b u some h = le_ceil a u (div_ceil b u) some (omega (arith, (div_ceil_times b u some).0))
 
 -- ---- what is shown
-
-pub set_column : (old cells : List ℕ) (from column character : ℕ)
-    → ShowsWhere old cells character (λ c. leb from c && ltb c column) → length cells ≡ length old → from ≤ column
-    → column < length cells
-    → ShowsWhere old (set cells column character) character (λ c. leb from c && ltb c (column + 1))
-set_column old cells from column character so_far same low high c h = elim (cases_eq c column) [
-  | inl e ↦ rw (
-    e,
-    get_or-set_same cells column character 0 high,
-    le-leb from column low,
-    lt-ltb column (column + 1) (omega arith),
-  ) refl
-  | inr ne ↦ get_or-set_other cells column c character 0 ne ∙ so_far c h
-      ∙ ap (λ (b : Bool). cond (leb from c && b) character (get_or old c 0)) (earlier c column ne)
-]
-  where
-    earlier : (c column : ℕ) → (c ≡ column → ⊥) → ltb c column ≡ ltb c (column + 1)
-    earlier c column ne = same_test _ _ (λ e. lt-ltb c (column + 1) (omega (arith, ltb-true _ _ e)))
-        (λ e. lt-ltb c column (omega (arith, ltb-true _ _ e)))
 
 either_shown : (a b : Bool) (character x : ℕ) → cond b character (cond a character x) ≡ cond (a || b) character x
 either_shown true true character x = refl
@@ -100,14 +76,10 @@ range_push a (suc n) =
     ∙ ap (λ (is : List ℕ). a ∷ is) (ap (range_with_len (a + 1)) (sym (add-one n)) ∙ range_push (a + 1) n
     ∙ ap (λ (i : ℕ). range_with_len (a + 1) n ++ i ∷ []) (omega arith))
 
-or_false : (b : Bool) → (b || false) ≡ b
-or_false true = refl
-or_false false = refl
-
 any_more : (p : ℕ → Bool) (a n : ℕ) → list_any p (range_with_len a (n + 1))
     ≡ (list_any p (range_with_len a n) || p (a + n))
 any_more p a n = ap (list_any p) (range_push a n) ∙ list_any-append p (range_with_len a n) ((a + n) ∷ [])
-    ∙ ap (λ (b : Bool). list_any p (range_with_len a n) || b) (or_false (p (a + n)))
+    ∙ ap (λ (b : Bool). list_any p (range_with_len a n) || b) (or-false (p (a + n)))
 
 pub step_more : (route : List Op) (starts : List ℕ) (machine instant k : ℕ)
     → serves_below route starts machine instant (k + 1)
@@ -139,7 +111,7 @@ skipped_step route starts machine instant k other =
     (elim (eqb_tells (machine_at route k) machine) [ inl same ↦ absurd (other same.1) | inr ne ↦ ne.0 ])
   where
     skipped : (so_far a b d : Bool) → a ≡ false → (so_far || (a && b && d)) ≡ so_far
-    skipped so_far false b d e = or_false so_far
+    skipped so_far false b d e = or-false so_far
     skipped so_far true b d e = absurd cc
 
 pub step_shown : (old cells newer : List ℕ) (route : List Op) (starts : List ℕ) (machine unit character k from to : ℕ)

@@ -16,9 +16,6 @@ use Rattle.shop_text.specs.inner.Cells.{last_shown, serves_below, ShowsWhere, Sh
 
 -- ---- tests over a range
 
-abbrev InRange : ℕ → ℕ → (ℕ → Type 0) → Type 0
-InRange a n P = (k : ℕ) × (k < a + n) × P k
-
 pub some_in_range : (p : ℕ → Bool) (a n : ℕ) → list_any p (range_with_len a n) ≡ true
     → (k : ℕ) × (k < a + n) × (p k ≡ true)
 some_in_range p a zero e = absurd cc

@@ -9,7 +9,7 @@ ghost use Rattle.shop_text.specs.inner.Cells.{EndsWithin, AllEndWithin};
 
 use shop_model::{Instance, Op, Table};
 
-/// The characters of the first jobs; all others have `#`.
+/// The characters of jobs 0 to 61; all later jobs have `#`.
 const CHARACTERS: &[u8; 62] = b"0123456789ABCDEFGHIJKLMNOPQRSTUVWXYZabcdefghijklmnopqrstuvwxyz";
 
 /// The character of job j.
@@ -23,7 +23,7 @@ fn character(j: usize) -> u8
     }
 }
 
-/// Shows a character in the columns from one to before another.
+/// Shows a character in the columns from `from` to before `to`.
 fn show(cells: &mut [u8], from: usize, to: usize, character: u8)
     requires order { from ≤ to }
     requires within { to ≤ length cells.old }
@@ -57,7 +57,7 @@ fn show_job(
     }
 }
 
-/// Shows in each column the job that the machine serves at its instant, and a dot where it serves none.
+/// Shows in each column the job that the machine serves at the column's instant, and a dot where it serves none.
 pub(crate) fn show_machine(
     cells: &mut [u8],
     unit: u64,

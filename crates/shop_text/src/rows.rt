@@ -36,7 +36,7 @@ pub(crate) fn size_of(format: Format, line: usize, row: &[u64]) -> Result<(usize
     Ok((jobs as usize, machines as usize))
 }
 
-/// The operations of a row of machine, time, machine, time, or its first fault from the left.
+/// The operations of a row of pairs of machine and time. Fails with the first fault from the left.
 fn route_of(
     alloc: Global,
     line: usize,
