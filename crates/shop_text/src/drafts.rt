@@ -56,8 +56,7 @@ impl Draft {
             → result ≡ (grammar_of format).skips rows }
     {
         match format {
-            Format::Orlib => self.jobs_wanted == 0,
-            Format::Routes => self.jobs_wanted == 0,
+            Format::Orlib | Format::Routes => self.jobs_wanted == 0,
             Format::Taillard => {
                 self.times.is_empty()
                     || self.jobs.is_empty() && self.times.len() == self.jobs_wanted
@@ -70,8 +69,7 @@ impl Draft {
         ensures { result ≡ wants_times format self.now.jobs_wanted (vec_len self.now.times) }
     {
         match format {
-            Format::Orlib => false,
-            Format::Routes => false,
+            Format::Orlib | Format::Routes => false,
             Format::Taillard => self.times.len() < self.jobs_wanted,
         }
     }

@@ -57,9 +57,8 @@ pub(crate) fn header_in(format: Format, line: &[u8]) -> Option<&[u8]>
         (λ n. (grammar_of format).header (Words (tokens_of line.now)) ≡ Some n.now) }
 {
     match format {
+        Format::Orlib | Format::Routes => name_in(line),
         Format::Taillard => None,
-        Format::Orlib => name_in(line),
-        Format::Routes => name_in(line),
     }
 }
 
