@@ -4,20 +4,11 @@ use Rattle.std.proofs.Common.{IsTrue, nat_lt, refl, sym, subst, arith}
 use Rattle.std.proofs.lemmas.Bool.{lt-ltb, ltb-true}
 use Rattle.std.proofs.lemmas.Bool.Decides.{eqb_tells}
 use Rattle.shop_model.proofs.Ends.{IsOperation-job}
-use Rattle.shop_model.proofs.WordLemmas.{count_of-snoc_same, count_of-snoc_other}
+use Rattle.shop_model.proofs.WordLemmas.{count_of-snoc_same, IsWord-snoc}
 use Rattle.shop_model.specs.Shop.{Shop, route_of}
 use Rattle.shop_model.specs.Word.{count_of, IsWord}
 
--- where the job has a step left
-pub goes_on : (shop : Shop) (w : List ℕ) (j : ℕ) → IsWord shop w → count_of j w < length (route_of shop j)
-    → IsWord shop (w ++ j ∷ [])
-goes_on shop w j h left i = elim (eqb_tells i j) [
-  | inl same ↦ subst (λ x. count_of x (w ++ j ∷ []) ≤ length (route_of shop x)) (sym same.1)
-      (omega (arith, left, count_of-snoc_same w j j refl))
-  | inr other ↦ omega (arith, h i, count_of-snoc_other w i j other.1)
-]
-
--- and only there
+-- a word goes on with a job only where the job has a step left
 pub has_left : (shop : Shop) (w : List ℕ) (j : ℕ) → IsWord shop (w ++ j ∷ []) → count_of j w < length (route_of shop j)
 has_left shop w j h = omega (arith, h j, count_of-snoc_same w j j refl)
 
@@ -30,6 +21,6 @@ no_step shop w j past h =
 pub test_tells : (shop : Shop) (w : List ℕ) (j : ℕ) (entries steps : ℕ) → IsWord shop w → entries ≡ count_of j w
     → steps ≡ length (route_of shop j) → IsTrue (nat_lt entries steps) ↔ IsWord shop (w ++ j ∷ [])
 test_tells shop w j entries steps is_word counted all = (
-  λ yes. goes_on shop w j is_word (let less = ltb-true entries steps yes in omega arith),
+  λ yes. IsWord-snoc shop w j is_word (let less = ltb-true entries steps yes in omega arith),
   λ word. lt-ltb entries steps (let left = has_left shop w j word in omega arith),
 )

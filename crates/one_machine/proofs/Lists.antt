@@ -54,6 +54,11 @@ module _ {A : Type 0} where
     skip : {ys xs : List A} (x : A) → IsSublist ys xs → IsSublist ys (x ∷ xs)
     keep : {ys xs : List A} (x : A) → IsSublist ys xs → IsSublist (x ∷ ys) (x ∷ xs)
 
+  -- the empty list is a sublist of each
+  pub sublist_none : (xs : List A) → IsSublist [] xs
+  sublist_none [] = none
+  sublist_none (x ∷ xs) = skip x (sublist_none xs)
+
   pub all_sublist : (P : A → Type 0) {ys xs : List A} → IsSublist ys xs → AllByRecursion P xs → AllByRecursion P ys
   all_sublist P none h = tt
   all_sublist P (skip x s) h = all_sublist P s h.1

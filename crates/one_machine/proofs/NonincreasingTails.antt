@@ -1,22 +1,22 @@
 -- One-machine bounds of operations by nonincreasing tails.
-use Rattle.std.proofs.Common.{◌≡◌, ℕ, suc, ◌+◌, ◌^◌, ◌≤◌, ◌<◌, max, inl, inr, Bool, true, false, ◌&&◌, List, [], ◌∷◌}
+use Rattle.std.proofs.Common.{◌≡◌, ℕ, suc, ◌+◌, ◌^◌, ◌≤◌, ◌<◌, max, inl, inr, Bool, true, List, [], ◌∷◌}
 use Rattle.std.proofs.Common.{◌++◌, length, length-append, if◌then◌else◌, ◌==◌, take, drop, get_or}
 use Rattle.std.proofs.Common.{refl, sym, ◌∙◌, ap, subst, arith, leb}
 use Rattle.std.specs.List.{AllByRecursion, filter, sum_by}
-use Rattle.std.proofs.lemmas.Bool.{cases_Bool, leb-true, le-leb, and_from}
+use Rattle.std.proofs.lemmas.Bool.{cases_Bool, leb-true, le-leb, and_parts}
 use Rattle.std.proofs.lemmas.List.{append-nil, take-append-drop, take_more}
 use Rattle.std.proofs.lemmas.List.Elements.{filter-append}
 use Rattle.std.proofs.lemmas.List.Sums.{sum_by-cons, sum_by_push, sum_by-append}
 use Rattle.std.proofs.Math.Seq.{drop-cons}
 use Rattle.one_machine.specs.declared.triples.Triple.{Triple}
-use Rattle.one_machine.specs.OneMachine.{sublists, greatest_of, least_of, span_of, one, IsSmall}
+use Rattle.one_machine.specs.OneMachine.{sublists, least_of, span_of, one}
 use Rattle.one_machine.specs.inner.Thresholds.{is_above, span_above, head_at, no_triple}
 use Rattle.one_machine.specs.inner.NonincreasingTails.{IsNonincreasing}
 use Rattle.one_machine.specs.inner.NonincreasingTails.{begins_between, one_between}
 use Rattle.one_machine.proofs.Lists.{IsSublist, all_map, all_both, all_filter, greatest_of-le, least_of-is}
-use Rattle.one_machine.proofs.Lists.{least_of-le, get_or-le-greatest_of}
-use Rattle.one_machine.proofs.ThresholdLemmas.{sublists-are, sublist_greatest, sublist_of_filter, sublist_length}
-use Rattle.one_machine.proofs.ThresholdLemmas.{sublist_at, sublist_sum, least-le-greatest}
+use Rattle.one_machine.proofs.Lists.{least_of-le}
+use Rattle.one_machine.proofs.ThresholdLemmas.{sublists-are, sublist_of_filter, sublist_length}
+use Rattle.one_machine.proofs.ThresholdLemmas.{sublist_at, sublist_sum}
 use Rattle.one_machine.proofs.ThresholdLemmas.{span_above-some, span_above-le, is_above-from, is_above-true}
 
 -- the head is at least this
@@ -97,7 +97,7 @@ covers_out us x head less tail = elim (cases_Bool (is_above head tail x)) [
 ]
 
 module _ {A : Type 0} (f : A → ℕ) where
-  -- in a list that nonincreasing all before an element have at least its value
+  -- in a nonincreasing list all before an element have at least its value
   pub falls_before : (us : List A) (x : A) (vs : List A) → IsNonincreasing f (us ++ x ∷ vs)
       → AllByRecursion (λ y. f x ≤ f y) us
   falls_before [] x vs h = tt
@@ -216,21 +216,12 @@ head-le-one ts n nonincreasing here =
     in let same : one (take n ts ++ x ∷ drop (suc n) ts) ≡ one ts = ap one (sym (split_at ts n no_triple here))
     in omega arith
 
-both_true : (a b : Bool) → (a && b) ≡ true → (a ≡ true) × (b ≡ true)
-both_true true b e = (refl, e)
-both_true false b e = absurd (cc)
-
 -- what the walk over the thresholds knows after the first n: that `best` covers those between, and the last one tried
 pub record IsTried (ts : List Triple) (from to n best last : ℕ) : Type 0 where
   pub covers : (i : ℕ) → i < n → from ≤ head_at ts i → head_at ts i ≤ to
       → (tail : ℕ) → span_above ts (head_at ts i) tail ≤ best
   pub within : best ≤ one ts
   pub again : last < 2 ^ 50 → (tail : ℕ) → span_above ts last tail ≤ best
-
-pub heads_small : (ts : List Triple) (n : ℕ) → IsSmall ts → n < length ts
-    → head_at ts n + sum_by (λ t. t.time) ts + greatest_of (λ t. t.tail) ts < 2 ^ 50
-heads_small ts n small here =
-    let a = get_or-le-greatest_of (λ (t : Triple). t.head) ts n no_triple here in omega arith
 
 -- all thresholds that occur cover all sublists that begin between
 pub tried_all : (ts : List Triple) (from to n best last : ℕ) → IsTried ts from to n best last → length ts ≤ n
@@ -247,7 +238,7 @@ tried_all ts from to n best last r all =
         in let i = sublist_at s h.0 h.1
         in let head : head_at ts i.0 ≡ least_of (λ (t : Triple). t.head) (y ∷ ys) =
         ap (λ (t : Triple). t.head) (i.2 no_triple) ∙ h.2 no_triple
-        in let both = both_true (leb from (least_of (λ (t : Triple). t.head) (y ∷ ys)))
+        in let both = and_parts (leb from (least_of (λ (t : Triple). t.head) (y ∷ ys)))
         (leb (least_of (λ (t : Triple). t.head) (y ∷ ys)) to) e
         in let low = leb-true from (least_of (λ (t : Triple). t.head) (y ∷ ys)) both.0
         in let high = leb-true (least_of (λ (t : Triple). t.head) (y ∷ ys)) to both.1
@@ -255,19 +246,3 @@ tried_all ts from to n best last r all =
         (least_of (λ (t : Triple). t.tail) (y ∷ ys))
         in let same = ap (λ (k : ℕ). span_above ts k (least_of (λ (t : Triple). t.tail) (y ∷ ys))) head
         in let le = span_of-le-above ts y ys s in omega arith
-
--- all sublists begin between 0 and a number that no head exceeds
-filter_all : {A : Type 0} (test : A → Bool) (xs : List A) → AllByRecursion (λ x. test x ≡ true) xs
-    → filter test xs ≡ xs
-filter_all test [] h = refl
-filter_all test (x ∷ xs) h = rw h.0 (ap (λ ys. x ∷ ys) (filter_all test xs h.1))
-
-pub one_between-all : (to : ℕ) (ts : List Triple) → greatest_of (λ t. t.head) ts ≤ to → one_between 0 to ts ≡ one ts
-one_between-all to ts h = ap (greatest_of span_of) (filter_all (begins_between 0 to) (sublists ts)
-    (all_map (λ ys. IsSublist ys ts) (λ ys. begins_between 0 to ys ≡ true)
-    (λ ys s. (let a = sublist_greatest (λ (t : Triple). t.head) s
-    in let b = least-le-greatest (λ (t : Triple). t.head) ys
-    in and_from (leb 0 (least_of (λ (t : Triple). t.head) ys)) (leb (least_of (λ (t : Triple). t.head) ys) to)
-    (le-leb 0 (least_of (λ (t : Triple). t.head) ys) (omega arith))
-    (le-leb (least_of (λ (t : Triple). t.head) ys) to (omega arith))))
-    (sublists ts) (sublists-are ts)))

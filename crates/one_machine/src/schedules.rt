@@ -1,5 +1,4 @@
 // Jackson's preemptive schedule of one machine.
-
 ghost use Rattle.std.specs.Prelude.{◌≡◌, ℕ, ◌+◌, ◌*◌, ◌^◌, ◌<◌, ◌≤◌, length, map, vec_len, IfOk};
 ghost use Rattle.one_machine.specs.OneMachine.{one, IsSmall};
 ghost use Rattle.one_machine.specs.Schedules.{JacksonState};
@@ -12,7 +11,7 @@ use std::alloc::{AllocError, Global};
 use std::marker::Model;
 
 /// An operation, how long it was served, and whether it has ended.
-#[derive(Clone, Copy, Debug)]
+#[derive(Clone, Copy)]
 pub(crate) struct Work {
     triple: Triple,
     spent: u64,
@@ -53,7 +52,7 @@ fn stop_of_turn(works: &[Work], clock: u64, end: u64) -> u64
     stop
 }
 
-/// The clock, or where nothing waits then the next release of an operation that is not done.
+/// The clock, or, where no operation waits then, the next release of one that is not done.
 fn ready_at(works: &[Work], clock: u64) -> u64
     ensures { IsReady works.now clock result }
 {
@@ -79,7 +78,7 @@ fn ready_at(works: &[Work], clock: u64) -> u64
     }
 }
 
-/// One turn: serves an operation from the clock until it ends or until the next release. The clock then.
+/// One turn: serves an operation from the clock until it ends or until the next release. Returns the clock then.
 fn serve(works: &mut [Work], clock: u64, chosen: usize, best: &mut u64) -> u64
     requires chosen { IsServed (length works.old) works.old clock chosen }
     requires run { IsRun works.old clock best.old }
@@ -117,7 +116,7 @@ struct Outcome {
     turns: u64,
 }
 
-/// Does all the works, turn by turn.
+/// The whole schedule, turn by turn.
 fn schedule(works: &mut [Work]) -> Outcome
     requires fresh { IsFresh works.old }
     requires small { IsSmall (triples_of works.old) }
@@ -170,7 +169,7 @@ impl Model for Jackson {
 }
 
 impl Jackson {
-    /// With room for n operations. Fails with `AllocError` if memory runs out.
+    /// A schedule with room for n operations. Fails with `AllocError` if memory runs out.
     pub fn with_room(alloc: Global, n: usize) -> Result<Jackson, AllocError>
         ensures { IfOk result (λ j. j ≡ record { room = n; turns = 0 }) }
     {

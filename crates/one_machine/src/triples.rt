@@ -7,7 +7,7 @@ pub struct Triple {
     pub tail: u64,
 }
 
-/// What stands where no operation was written yet.
+/// Padding: stands in room that no operation was written to.
 pub(crate) const NO_TRIPLE: Triple = Triple {
     head: 0,
     time: 0,

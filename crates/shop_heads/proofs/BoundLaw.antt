@@ -1,6 +1,6 @@
 -- No table under a word ends before the word's lower bound.
-use Rattle.std.proofs.Common.{◌≡◌, ℕ, zero, suc, ◌+◌, ◌-◌, ◌≤◌, ◌<◌, max, ◌⊎◌, inl, inr, List, [], ◌∷◌, ◌++◌, length}
-use Rattle.std.proofs.Common.{map, drop, get_or, refl, sym, ◌∙◌, ap, arith, eqb, append_assoc}
+use Rattle.std.proofs.Common.{◌≡◌, ℕ, zero, suc, ◌+◌, ◌-◌, ◌≤◌, ◌<◌, max, ◌⊎◌, inl, inr, List, [], ◌∷◌, length}
+use Rattle.std.proofs.Common.{map, drop, get_or, refl, sym, ◌∙◌, ap, arith, eqb}
 use Rattle.std.specs.List.{AllByRecursion, filter, flat_map, sum_by, range_with_len}
 use Rattle.std.proofs.lemmas.Bool.{cases_lt, eqb-true}
 use Rattle.std.proofs.lemmas.List.{drop_more, drop_all}
@@ -8,15 +8,17 @@ use Rattle.std.proofs.lemmas.List.Sums.{sum_by-cons}
 use Rattle.shop_model.specs.declared.ops.Op.{Op}
 use Rattle.shop_model.specs.Shop.{Shop, Starts, no_op, route_of, machine_of, time_of, IsOperation, IsFeasible}
 use Rattle.shop_model.specs.Shop.{finish_of, AreDifferent, end_of, greatest_below}
-use Rattle.shop_model.specs.Word.{Placing, placing, placed, IsWord, IsFull, IsUnder}
-use Rattle.shop_model.proofs.Greatest.{greatest_below-le}
-use Rattle.shop_model.proofs.Ends.{le-end_of, feasible_from}
+use Rattle.shop_model.specs.Word.{Placing, placing, IsWord, IsFull, IsUnder}
+use Rattle.shop_model.proofs.Greatest.{greatest_below-le, greatest_below-equal}
+use Rattle.shop_model.proofs.PlacedTables.{full_under, under_beginning}
+use Rattle.shop_model.proofs.WordLemmas.{full_is_word}
+use Rattle.shop_model.proofs.Ends.{le-end_of}
 use Rattle.shop_model.proofs.Placings.{Follows}
 use Rattle.shop_model.proofs.Unders.{follows_word, after_word}
 use Rattle.one_machine.specs.declared.triples.Triple.{Triple}
 use Rattle.one_machine.specs.OneMachine.{one, span_of, least_of}
 use Rattle.shop_heads.specs.Bound.{Waiting, waiting_from, waiting_of, waiting, triples_on, lb}
-use Rattle.shop_heads.specs.Laws.{FullWordsEndAtTheirBound}
+use Rattle.shop_heads.specs.Laws.{EndsAtItsBound}
 use Rattle.one_machine.proofs.Lists.{Pairwise, all_map, all_both, all_append, all_filter, pairwise_filter}
 use Rattle.one_machine.proofs.Lists.{pairwise_append, all_sublist, pairwise_sublist, least_of-le, packed}
 use Rattle.one_machine.proofs.Spans.{greatest_sublist-le}
@@ -231,44 +233,19 @@ lb-le-end shop w starts word u =
     in omega arith
 
 -- the table that a full word places lies under each of its beginnings, and ends at the word's lower bound
-pub record IsPlacedUnder (shop : Shop) (w : List ℕ) : Type 0 where
-  pub under : (v rest : List ℕ) → w ≡ v ++ rest → IsUnder shop v (placed shop w)
-  pub ends : end_of shop (placed shop w) ≡ lb shop w
-
-greatest_below-same : (f g : ℕ → ℕ) (n : ℕ) → ((i : ℕ) → f i ≡ g i) → greatest_below n f ≡ greatest_below n g
-greatest_below-same f g zero h = refl
-greatest_below-same f g (suc n) h = let a = greatest_below-same f g n h in let b = h n in omega arith
-
-pub full_word : (shop : Shop) (w : List ℕ) → IsFull shop w → IsPlacedUnder shop w
+pub full_word : (shop : Shop) (w : List ℕ) → IsFull shop w → EndsAtItsBound shop w
 full_word shop w full =
-    let word : IsWord shop w = (λ j. let a = full j in omega arith)
+    let word = full_is_word shop w full
     in let p = placing shop w
     in let a = after_word shop w word
-    in let steps : (j k : ℕ) → IsOperation shop j k → k < p.steps j =
-    (λ j k op. let b = full j in let c = a.steps j in omega arith)
-    in let feasible = feasible_from shop p.begins (λ j k op. a.sound.in_time j k (steps j k op))
-    (λ j k i l o r e d. a.sound.apart j k (steps j k o) i l (steps i l r) e d)
-    in let whole : IsUnder shop w p.begins = record {
-      feasible = feasible;
-      first = λ v j later e i l op few m. a.ordered v j later e i l few (steps i l op) m;
-    }
+    in let whole = full_under shop w full
     in let bound = lb-le-end shop w p.begins word whole
-    in let same = greatest_below-same (λ j. greatest_below (length (route_of shop j))
+    in let same = greatest_below-equal (λ j. greatest_below (length (route_of shop j))
     (λ k. finish_of shop p.begins j k)) (λ j. greatest_below (p.steps j) (λ k. finish_of shop p.begins j k))
     (length shop.jobs)
-    (λ j. ap (λ n. greatest_below n (λ k. finish_of shop p.begins j k)) (sym (full j) ∙ sym (a.steps j)))
+    (λ j _. ap (λ n. greatest_below n (λ k. finish_of shop p.begins j k)) (sym (full j) ∙ sym (a.steps j)))
     in record {
-      under = λ v rest e. record {
-        feasible = feasible;
-        first = λ u j later g. whole.first u j (later ++ rest) (e
-            ∙ (ap (λ (x : List ℕ). x ++ rest) g ∙ append_assoc u (j ∷ later) rest));
-      };
+      feasible = whole.feasible;
+      under = λ v later e. under_beginning shop w v later p.begins e whole;
       ends = omega arith;
     }
-
-pub full_word_ends : FullWordsEndAtTheirBound
-full_word_ends shop w full = let placed_under = full_word shop w full in record {
-  feasible = (placed_under.under [] w refl).feasible;
-  under = placed_under.under;
-  ends = placed_under.ends;
-}

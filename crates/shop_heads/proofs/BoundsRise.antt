@@ -15,7 +15,7 @@ use Rattle.shop_model.specs.Shop.{Shop, no_op, route_of, machine_of, IsOperation
 use Rattle.shop_model.specs.Word.{Placing, IsWord, placing, place_next}
 use Rattle.shop_model.proofs.Ends.{IsOperation-job}
 use Rattle.shop_model.proofs.Greatest.{le-greatest_below, greatest_below-le}
-use Rattle.shop_model.proofs.Placings.{IsNext, place_next-is}
+use Rattle.shop_model.proofs.Placings.{IsNext, place_next-is, free_grows}
 use Rattle.shop_model.proofs.Unders.{after_word, next_operation, placing-snoc}
 use Rattle.shop_model.proofs.WordLemmas.{IsWord-init}
 use Rattle.one_machine.specs.declared.triples.Triple.{Triple}
@@ -23,7 +23,7 @@ use Rattle.shop_heads.specs.Bound.{Waiting, waiting_from, waiting_of, waiting, t
 use Rattle.one_machine.specs.OneMachine.{one, span_of}
 use Rattle.shop_heads.proofs.BoundLaw.{front_of}
 use Rattle.shop_heads.proofs.Entries.{IsWord-front}
-use Rattle.one_machine.proofs.Lists.{IsSublist, none, skip, keep, all_append, all_filter}
+use Rattle.one_machine.proofs.Lists.{IsSublist, skip, keep, sublist_none, all_append, all_filter}
 use Rattle.shop_heads.proofs.PlacedEnds.{le-placed_end, placed_end-grows}
 use Rattle.shop_heads.proofs.Raised.{AreRaised, WaitRaised, wait_append, raised_on, one_raised, one_taken}
 use Rattle.one_machine.proofs.ThresholdLemmas.{le-greatest_sublist}
@@ -84,13 +84,9 @@ triples_other m x xs ne = elim (eqb_tells x.machine m) [
   | inr t ↦ rw t.0 refl
 ]
 
--- an empty list is a sublist of each, and one operation of each list that has it
-nothing : {A : Type 0} (xs : List A) → IsSublist [] xs
-nothing [] = none
-nothing (x ∷ xs) = skip x (nothing xs)
-
+-- one operation is a sublist of each list that has it
 single : {A : Type 0} (xs : List A) (y : A) (ys : List A) → IsSublist (y ∷ []) (xs ++ y ∷ ys)
-single [] y ys = keep y (nothing ys)
+single [] y ys = keep y (sublist_none ys)
 single (x ∷ xs) y ys = skip x (single xs y ys)
 
 alone-le : (xs : List Triple) (y : Triple) (ys : List Triple) → y.head + y.time + y.tail ≤ one (xs ++ y ∷ ys)
@@ -98,13 +94,6 @@ alone-le xs y ys = let a = le-greatest_sublist span_of (single xs y ys) in omega
 
 module _ (shop : Shop) (limits : IsWithinLimits shop) (p : Placing) (j : ℕ) (q : Placing) (n : IsNext shop p j q)
     (op : IsOperation shop j (p.steps j)) where
-  free_grows : (m : ℕ) → p.free m ≤ q.free m
-  free_grows m = elim (cases_eq m (machine_of shop j (p.steps j))) [
-    | inl e ↦ (let a = n.free_here m e in let b = n.begins_here
-        in let c : p.free m ≡ p.free (machine_of shop j (p.steps j)) = ap p.free e in omega arith)
-    | inr ne ↦ (let a = n.free_other m ne in omega arith)
-  ]
-
   -- the other jobs
   others_raised : (a k : ℕ) → ((i : ℕ) → a ≤ i → i < a + k → i ≡ j → ⊥)
       → WaitRaised (flat_map (λ i. waiting_of shop p i) (range_with_len a k))
@@ -114,7 +103,7 @@ module _ (shop : Shop) (limits : IsWithinLimits shop) (p : Placing) (j : ℕ) (q
       let ne = h a (omega arith) (omega arith)
       in wait_append (waiting_of shop p a) (waiting_of shop q a) _ _
       (rw (n.steps_other a ne, n.ready_other a ne)
-      (walk_raised p.free q.free free_grows a (p.steps a) (p.ready a) (p.ready a) (omega arith)
+      (walk_raised p.free q.free (free_grows shop p j q n) a (p.steps a) (p.ready a) (p.ready a) (omega arith)
       (drop (p.steps a) (route_of shop a))))
       (others_raised (a + 1) k (λ i l u. h i (omega arith) (omega arith)))
 
@@ -164,7 +153,7 @@ module _ (shop : Shop) (limits : IsWithinLimits shop) (p : Placing) (j : ℕ) (q
 
   rest_raised : WaitRaised rest_before rest_after
   unfolding rest_before rest_after
-  rest_raised = walk_raised p.free q.free free_grows j (p.steps j + 1) (was.triple.head + was.triple.time) (q.ready j)
+  rest_raised = walk_raised p.free q.free (free_grows shop p j q n) j (p.steps j + 1) (was.triple.head + was.triple.time) (q.ready j)
       (let a = ends_at in omega arith) later_ops
 
   -- the jobs before it and after it

@@ -1,10 +1,9 @@
 -- Heads, as a walk along a route finds them.
 use Rattle.std.proofs.Common.{◌≡◌, ℕ, suc, ◌+◌, ◌*◌, ◌-◌, ◌≤◌, ◌<◌, max, inl, inr, List, [], length, map, get_or}
-use Rattle.std.proofs.Common.{Option, Some, None, Bool, false, cond, refl, sym, ◌∙◌, ap, arith, leb}
+use Rattle.std.proofs.Common.{Option, Some, None, Bool, cond, refl, sym, ◌∙◌, ap, arith, leb}
 use Rattle.std.proofs.Common.{ltb}
 use Rattle.std.specs.List.{range_with_len}
-use Rattle.std.proofs.lemmas.Bool.{cases_lt, lt-ltb, le-ltb, le-leb, and_from, and_left, and_right}
-use Rattle.std.proofs.lemmas.Bool.Decides.{nat_tests}
+use Rattle.std.proofs.lemmas.Bool.{cases_lt, lt-leb, lt-ltb, le-ltb, le-leb, and_from, and_left, and_right}
 use Rattle.std.proofs.lemmas.List.{get_or_past}
 use Rattle.std.proofs.lemmas.List.FromFn.{get_or-map-range_with_len, length-map-range_with_len}
 use Rattle.shop_model.specs.declared.ops.Op.{Op}
@@ -15,8 +14,7 @@ use Rattle.shop_heads.specs.Heads.{ready_after, head_of, head_if_left, heads_at}
 use Rattle.shop_heads.specs.inner.HeadRows.{heads_of}
 use Rattle.shop_model.specs.Placements.{PlacementState, IsPlacement}
 use Rattle.shop_heads.specs.inner.PlacedWords.{IsOfWord}
-use Rattle.shop_heads.proofs.Entries.{placed_ends_small}
-use Rattle.shop_model.proofs.WordLengths.{word_length}
+use Rattle.shop_model.proofs.WordLengths.{word_length, ready_word}
 
 -- the ends of what a word places are small
 pub record AreEndsSmall (shop : Shop) (s : PlacementState) : Type 0 where
@@ -26,7 +24,7 @@ pub record AreEndsSmall (shop : Shop) (s : PlacementState) : Type 0 where
 pub ends_of_word : (shop : Shop) → IsWithinLimits shop → (s : PlacementState) → IsOfWord shop s → AreEndsSmall shop s
 ends_of_word shop limits s of =
     let few = word_length shop of.word limits of.fits
-    in let small = placed_ends_small shop limits of.word
+    in let small = ready_word shop limits of.word
     in record {
       ready = λ j h. (let a = small.ready j in let b = of.placed.ready j h in omega arith);
       free = λ m h. (let a = small.free m in let b = of.placed.free m h in omega arith);
@@ -46,9 +44,6 @@ ready_more shop p j k h =
     in ap (ready_after shop p j) e
     ∙ ap (λ (x : ℕ). max (ready_after shop p j n) (p.free (machine_of shop j x)) + time_of shop j x) f
 
-not_le : (a b : ℕ) → b < a → leb a b ≡ false
-not_le a b h = grind (arith, nat_tests)
-
 -- a head is there just where the operation is one that isn't placed
 tested : Shop → Placing → ℕ → ℕ → Bool → Option ℕ
 tested shop p j k b = cond b (Some (head_of shop p j k)) None
@@ -56,7 +51,7 @@ tested shop p j k b = cond b (Some (head_of shop p j k)) None
 pub head_none : (shop : Shop) (p : Placing) (j k : ℕ) → k < p.steps j → head_if_left shop p j k ≡ None
 unfolding tested
 head_none shop p j k h =
-    ap (tested shop p j k) (and_left (leb (p.steps j) k) (ltb k (length (route_of shop j))) (not_le (p.steps j) k h))
+    ap (tested shop p j k) (and_left (leb (p.steps j) k) (ltb k (length (route_of shop j))) (lt-leb (p.steps j) k h))
 
 pub head_some : (shop : Shop) (p : Placing) (j k : ℕ) → p.steps j ≤ k → k < length (route_of shop j)
     → head_if_left shop p j k ≡ Some (head_of shop p j k)

@@ -1,22 +1,13 @@
 -- No head falls once one more operation is placed.
-use Rattle.std.proofs.Common.{◌≡◌, ℕ, zero, suc, ◌+◌, ◌-◌, ◌≤◌, inl, inr, refl, ap, arith}
-use Rattle.std.proofs.lemmas.Bool.{cases_eq}
+use Rattle.std.proofs.Common.{◌≡◌, ℕ, zero, suc, ◌+◌, ◌-◌, ◌≤◌, refl, ap, arith}
 use Rattle.shop_model.specs.Shop.{Shop, machine_of}
 use Rattle.shop_model.specs.Word.{Placing}
-use Rattle.shop_model.proofs.Placings.{IsNext}
+use Rattle.shop_model.proofs.Placings.{IsNext, steps_grow, free_grows}
 use Rattle.shop_heads.specs.Heads.{ready_after, head_of}
 use Rattle.shop_heads.proofs.HeadTurns.{ready_first, ready_more}
-use Rattle.shop_heads.proofs.HeadsStay.{its_machine, steps_rise, free_rises, ready_first_same}
+use Rattle.shop_heads.proofs.HeadsStay.{ready_first_same}
 
 module _ (shop : Shop) (p : Placing) (j : ℕ) (q : Placing) (n : IsNext shop p j q) where
-  free_up : (m : ℕ) → p.free m ≤ q.free m
-  free_up m = elim (cases_eq m (its_machine shop p j q n)) [
-    | inl e ↦ (let was : p.free m ≡ p.free (its_machine shop p j q n) = ap p.free e
-        in let now : q.free m ≡ q.free (its_machine shop p j q n) = ap q.free e
-        in let rises = free_rises shop p j q n in omega arith)
-    | inr ne ↦ (let a = n.free_other m ne in omega arith)
-  ]
-
   module _ (i : ℕ) where
     ready_up : (d l : ℕ) → q.steps i + d ≡ l
         → ready_after shop p i (l - p.steps i) ≤ ready_after shop q i (l - q.steps i)
@@ -27,10 +18,10 @@ module _ (shop : Shop) (p : Placing) (j : ℕ) (q : Placing) (n : IsNext shop p 
         in let a = ready_first_same shop p j q n i in omega arith
     ready_up (suc d) l e =
         let k = q.steps i + d
-        in let rises = steps_rise shop p j q n i
+        in let rises = steps_grow shop p j q n i
         in let f : l ≡ k + 1 = omega arith
         in let before = ready_up d k refl
-        in let free = free_up (machine_of shop i k)
+        in let free = free_grows shop p j q n (machine_of shop i k)
         in let now = ready_more shop q i k (omega arith)
         in let was = ready_more shop p i k (omega arith)
         in let a = ap (λ (x : ℕ). ready_after shop q i (x - q.steps i)) f
@@ -38,5 +29,5 @@ module _ (shop : Shop) (p : Placing) (j : ℕ) (q : Placing) (n : IsNext shop p 
         in omega arith
 
     pub heads_up : (l : ℕ) → q.steps i ≤ l → head_of shop p i l ≤ head_of shop q i l
-    heads_up l opened = let a = ready_up (l - q.steps i) l (omega arith) in let b = free_up (machine_of shop i l)
+    heads_up l opened = let a = ready_up (l - q.steps i) l (omega arith) in let b = free_grows shop p j q n (machine_of shop i l)
         in omega arith

@@ -3,7 +3,7 @@ use Rattle.std.proofs.Common.{◌≡◌, ℕ, zero, suc, ◌+◌, ◌-◌, ◌�
 use Rattle.std.proofs.lemmas.Bool.{cases_eq}
 use Rattle.shop_model.specs.Shop.{Shop, machine_of}
 use Rattle.shop_model.specs.Word.{Placing}
-use Rattle.shop_model.proofs.Placings.{IsNext}
+use Rattle.shop_model.proofs.Placings.{IsNext, steps_grow}
 use Rattle.shop_heads.specs.Heads.{ready_after, head_of}
 use Rattle.shop_heads.proofs.HeadTurns.{ready_first, ready_more}
 
@@ -18,10 +18,7 @@ module _ (shop : Shop) (p : Placing) (j : ℕ) (q : Placing) (n : IsNext shop p 
       → (q.free its_machine ≤ head_of shop p i l) ⊎ (q.free its_machine < head_of shop q i l)
 
   pub steps_rise : (i : ℕ) → p.steps i ≤ q.steps i
-  steps_rise i = elim (cases_eq i j) [
-    | inl e ↦ rw e (let a = n.steps_here in omega arith)
-    | inr ne ↦ (let a = n.steps_other i ne in omega arith)
-  ]
+  steps_rise = steps_grow shop p j q n
 
   pub free_rises : p.free its_machine ≤ q.free its_machine
   free_rises = let a = n.free_here its_machine refl in let b = n.begins_here in omega arith
@@ -62,7 +59,7 @@ module _ (shop : Shop) (p : Placing) (j : ℕ) (q : Placing) (n : IsNext shop p 
         in let a = ready_first_same i in omega arith
     ready_same (suc d) l e clear =
         let k = q.steps i + d
-        in let rises = steps_rise i
+        in let rises = steps_grow shop p j q n i
         in let f : l ≡ k + 1 = omega arith
         in let before = ready_same d k refl (λ x below opened. clear x (omega arith) opened)
         in let head = head_same i k (ready_after shop q i (k - q.steps i)) (ready_after shop p i (k - p.steps i))

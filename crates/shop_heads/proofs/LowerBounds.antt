@@ -1,6 +1,6 @@
 -- The lower bound of a word, machine by machine.
-use Rattle.std.proofs.Common.{◌≡◌, ℕ, zero, suc, ◌<◌, max, inl, inr, List, [], ◌∷◌, length, map, eqb}
-use Rattle.std.proofs.Common.{refl, sym, ◌∙◌, ap, arith, Result, Ok, Err, IfOk, get_or}
+use Rattle.std.proofs.Common.{◌≡◌, ℕ, ◌<◌, max, inl, inr, List, [], ◌∷◌, length, map, eqb}
+use Rattle.std.proofs.Common.{refl, sym, ◌∙◌, ap, arith, get_or}
 use Rattle.std.proofs.lemmas.Bool.{cases_Bool}
 use Rattle.shop_model.specs.Limits.{IsWithinLimits}
 use Rattle.shop_model.specs.Shop.{Shop, greatest_below}
@@ -11,12 +11,8 @@ use Rattle.shop_heads.specs.Bound.{Waiting, waiting, triples_on, lb}
 use Rattle.one_machine.specs.OneMachine.{one}
 use Rattle.shop_model.specs.Placements.{PlacementState, IsPlacement}
 use Rattle.shop_heads.specs.inner.Unplaced.{unplaced_of, triples_among, bound_among}
+pub use Rattle.shop_model.proofs.Greatest.{greatest_below-both, greatest_below-equal}
 use Rattle.shop_heads.proofs.PlacedEnds.{placed_end-free}
-
--- what holds of each answer holds of what was answered
-pub if_ok : {T E : Type 0} (P Q : T → Type 0) → ((x : T) → P x → Q x) → (r : Result T E) → IfOk r P → IfOk r Q
-if_ok P Q f (Ok x) h = f x h
-if_ok P Q f (Err e) h = tt
 
 -- the triples that are listed for a machine are those that wait for it
 pub triples_among-is : (xs : List Unplaced) (ws : List Waiting) (m : ℕ) → xs ≡ map unplaced_of ws
@@ -28,17 +24,6 @@ triples_among-is xs ws m e = ap (λ (ys : List Unplaced). triples_among ys m) e 
     | inl e ↦ rw e (ap (λ (ts : List Triple). x.triple ∷ ts) (of_waiting ws))
     | inr e ↦ rw e (of_waiting ws)
   ]
-
-pub greatest_below-both : (f g : ℕ → ℕ) (n : ℕ)
-    → greatest_below n (λ i. max (f i) (g i)) ≡ max (greatest_below n f) (greatest_below n g)
-greatest_below-both f g zero = omega arith
-greatest_below-both f g (suc n) = let a = greatest_below-both f g n in omega arith
-
-pub greatest_below-equal : (f g : ℕ → ℕ) (n : ℕ) → ((i : ℕ) → i < n → f i ≡ g i)
-    → greatest_below n f ≡ greatest_below n g
-greatest_below-equal f g zero h = refl
-greatest_below-equal f g (suc n) h =
-    let a = greatest_below-equal f g n (λ i below. h i (omega arith)) in let b = h n (omega arith) in omega arith
 
 pub lower_bound_is : (shop : Shop) (w : List ℕ) → IsWithinLimits shop → IsWord shop w
     → (s : PlacementState) → IsPlacement shop (placing shop w) s → (free : List ℕ) → free ≡ s.free

@@ -54,7 +54,7 @@ raised_times (x ∷ xs) (y ∷ ys) r =
     in let c =
     sum_by-cons (λ (t : Triple). t.time) x xs in let d = sum_by-cons (λ (t : Triple). t.time) y ys in omega arith
 
--- so no span nonincreasing
+-- so no span falls
 span_raised : (xs ys : List Triple) → AreRaised xs ys → span_of xs ≤ span_of ys
 span_raised xs ys r =
     let a = raised_heads xs ys r in let b = raised_tails xs ys r in let c = raised_times xs ys r in omega arith

@@ -1,6 +1,6 @@
 -- Within the limits no sum of what a word leaves is large.
 use Rattle.std.proofs.Common.{◌≡◌, ℕ, zero, suc, ◌+◌, ◌*◌, ◌^◌, ◌≤◌, ◌<◌, max, List, [], ◌∷◌, length}
-use Rattle.std.proofs.Common.{length-append, map, drop, get_or, eqb, refl, ap, arith}
+use Rattle.std.proofs.Common.{length-append, map, drop, get_or, eqb, arith}
 use Rattle.std.specs.List.{AllByRecursion, filter, flat_map, range_with_len, sum_by}
 use Rattle.std.proofs.lemmas.List.{get_or-drop, length-drop, length-map}
 use Rattle.std.proofs.lemmas.List.Sums.{sum_by-cons, sum_by-take-drop, length-filter, count_by-le-length}
@@ -14,12 +14,12 @@ use Rattle.one_machine.specs.declared.triples.Triple.{Triple}
 use Rattle.shop_heads.specs.Bound.{Waiting, waiting_from, waiting_of, waiting, triples_on, placed_end}
 use Rattle.shop_heads.specs.Laws.{AreSumsSmall}
 use Rattle.one_machine.specs.OneMachine.{one, extent}
-use Rattle.shop_heads.proofs.Entries.{placed_ends_small}
 use Rattle.one_machine.proofs.Lists.{all_map, all_append, all_filter, greatest_of-le}
 use Rattle.shop_heads.proofs.PlacedEnds.{placed_end-le}
 use Rattle.one_machine.proofs.ThresholdLemmas.{one-le-extent}
 use Rattle.shop_heads.proofs.TimeSums.{route_times}
-use Rattle.shop_model.proofs.WordLengths.{word_length}
+use Rattle.shop_heads.proofs.UnplacedTurns.{length-waiting_from}
+use Rattle.shop_model.proofs.WordLengths.{word_length, ready_word}
 
 -- a head, a time and a tail of at most these
 record IsSmallTriple (h t : ℕ) (x : Triple) : Type 0 where
@@ -47,18 +47,12 @@ waiting_from-small free h t j k ready (o ∷ os) times r f s =
           (λ m. let c = f m in omega arith) (omega arith),
     )
 
-waiting_from-length : (free : ℕ → ℕ) (j k ready : ℕ) (os : List Op)
-    → length (waiting_from free j k ready os) ≡ length os
-waiting_from-length free j k ready [] = refl
-waiting_from-length free j k ready (o ∷ os) =
-    ap suc (waiting_from-length free j (k + 1) (max ready (free o.machine) + o.time) os)
-
 module _ (shop : Shop) (limits : IsWithinLimits shop) (w : List ℕ) (word : IsWord shop w) where
   -- the greatest head is at most 10 ^ 14 + 10 ^ 11 + 10 ^ 9, and the greatest tail 10 ^ 11
   job_small : (j : ℕ) → AreSmall 100101000000000 100000000000 (waiting_of shop (placing shop w) j)
   job_small j =
       let p = placing shop w
-      in let ends = placed_ends_small shop limits w
+      in let ends = ready_word shop limits w
       in let few = word_length shop w limits word
       in let whole = route_times shop limits j
       in let part = sum_by-take-drop (λ (o : Op). o.time) (route_of shop j) (p.steps j)
@@ -81,7 +75,7 @@ module _ (shop : Shop) (limits : IsWithinLimits shop) (w : List ℕ) (word : IsW
   jobs_few a (suc n) =
       let p = placing shop w
       in let rest = jobs_few (a + 1) n
-      in let here = waiting_from-length p.free a (p.steps a) (p.ready a) (drop (p.steps a) (route_of shop a))
+      in let here = length-waiting_from p.free a (p.steps a) (p.ready a) (drop (p.steps a) (route_of shop a))
       in let dropped = length-drop (p.steps a) (route_of shop a)
       in let short = limits.routes a
       in let both =
@@ -133,7 +127,7 @@ module _ (shop : Shop) (limits : IsWithinLimits shop) (w : List ℕ) (word : IsW
   pub placed_end_small : placed_end shop (placing shop w) < 2 ^ 48
   placed_end_small =
       let p = placing shop w
-      in let ends = placed_ends_small shop limits w
+      in let ends = ready_word shop limits w
       in let few = word_length shop w limits word
       in let a = placed_end-le shop p 100001000000000
       (λ j k job step. let b =

@@ -161,7 +161,7 @@ waiting_more shop p j =
     in ap (flat_map fs) (range_more j) ∙ (flat_map-append fs (range_with_len 0 j) (j ∷ [])
     ∙ ap (λ (zs : List Waiting). flat_map fs (range_with_len 0 j) ++ zs) (append-nil (waiting_of shop p j)))
 
-length-waiting_from : (free : ℕ → ℕ) (j k ready : ℕ) (os : List Op)
+pub length-waiting_from : (free : ℕ → ℕ) (j k ready : ℕ) (os : List Op)
     → length (waiting_from free j k ready os) ≡ length os
 length-waiting_from free j k ready [] = refl
 length-waiting_from free j k ready (o ∷ os) =

@@ -1,13 +1,12 @@
 -- What a bound says of all tables.
 --     IsLower shop w b                   no table under the word ends before b
 --     BoundsAreLower                     the bound of a word is such
---     SumsStaySmall                      within the limits no sum of what a word leaves reaches 2 ^
---                                        49
+--     SumsStaySmall                      within the limits no sum of what a word leaves reaches
+--                                        2 ^ 49
 --     BoundsNeverFall                    a word's bound is at most the bound of each word that it
 --                                        begins
 --     FullWordsEndAtTheirBound           a full word places a table under it and each of its
---                                        beginnings, which ends at
--- its bound
+--                                        beginnings, which ends at its bound
 --     EndsThereIfFull shop w b           b is the end of the table that the word places, if the
 --                                        word is full
 use Rattle.std.specs.Prelude.{◌≡◌, ℕ, ◌≤◌, ◌<◌, ◌^◌, List, ◌++◌}

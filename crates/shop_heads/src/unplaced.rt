@@ -10,7 +10,7 @@ use shop_model::{Instance, Op, Placement};
 use std::alloc::{AllocError, Global};
 
 /// An operation that isn't placed: its machine, and its head, time and tail.
-#[derive(Clone, Copy, Debug)]
+#[derive(Clone, Copy)]
 pub(crate) struct Unplaced {
     machine: usize,
     triple: Triple,

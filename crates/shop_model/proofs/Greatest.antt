@@ -1,5 +1,5 @@
 -- The greatest of the first values of a function.
-use Rattle.std.proofs.Common.{◌≡◌, ℕ, zero, suc, ◌+◌, ◌≤◌, ◌<◌, max, arith, add-one, inl, inr}
+use Rattle.std.proofs.Common.{◌≡◌, ℕ, zero, suc, ◌+◌, ◌≤◌, ◌<◌, max, arith, add-one, inl, inr, refl}
 use Rattle.std.proofs.lemmas.Bool.{cases_eq}
 use Rattle.shop_model.specs.Shop.{greatest_below}
 
@@ -18,3 +18,16 @@ le-greatest_below f (suc n) i h =
 pub greatest_below-le : (f : ℕ → ℕ) (n b : ℕ) → ((i : ℕ) → i < n → f i ≤ b) → greatest_below n f ≤ b
 greatest_below-le f zero b h = omega arith
 greatest_below-le f (suc n) b h = omega (arith, h n (omega arith), greatest_below-le f n b (λ i k. h i (omega arith)))
+
+-- functions that agree on them have one greatest
+pub greatest_below-equal : (f g : ℕ → ℕ) (n : ℕ) → ((i : ℕ) → i < n → f i ≡ g i)
+    → greatest_below n f ≡ greatest_below n g
+greatest_below-equal f g zero h = refl
+greatest_below-equal f g (suc n) h =
+    let a = greatest_below-equal f g n (λ i below. h i (omega arith)) in let b = h n (omega arith) in omega arith
+
+-- the greatest of the greater values is the greater of the greatest
+pub greatest_below-both : (f g : ℕ → ℕ) (n : ℕ)
+    → greatest_below n (λ i. max (f i) (g i)) ≡ max (greatest_below n f) (greatest_below n g)
+greatest_below-both f g zero = omega arith
+greatest_below-both f g (suc n) = let a = greatest_below-both f g n in omega arith

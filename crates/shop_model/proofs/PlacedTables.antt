@@ -1,6 +1,6 @@
 -- The table that a full word places, and tables that agree on the operations.
-use Rattle.std.proofs.Common.{◌≡◌, ℕ, zero, suc, ◌+◌, ◌<◌, inl, inr, List, [], ◌∷◌, ◌++◌, length, map}
-use Rattle.std.proofs.Common.{refl, sym, ◌∙◌, ap, arith, append_assoc}
+use Rattle.std.proofs.Common.{◌≡◌, ℕ, ◌+◌, ◌<◌, inl, inr, List, [], ◌∷◌, ◌++◌, length, map}
+use Rattle.std.proofs.Common.{sym, ◌∙◌, ap, arith, append_assoc}
 use Rattle.std.specs.List.{range_with_len}
 use Rattle.std.proofs.lemmas.Bool.{cases_lt}
 use Rattle.std.proofs.lemmas.List.{get_or_past}
@@ -11,6 +11,7 @@ use Rattle.shop_model.specs.Word.{placing, placed, count_of, IsWord, IsFull, IsU
 use Rattle.shop_model.specs.Checking.{HasShape, starts_of}
 use Rattle.shop_model.specs.Placed.{IsPlacedBy}
 use Rattle.shop_model.proofs.Ends.{feasible_from, IsOperation-job}
+use Rattle.shop_model.proofs.Greatest.{greatest_below-equal}
 use Rattle.shop_model.proofs.Unders.{after_word, count_of-cut}
 use Rattle.shop_model.proofs.WordLemmas.{full_is_word}
 
@@ -26,16 +27,11 @@ agree_feasible shop s t same f = record {
   apart = λ j k i l o r m d. let a = same j k o in let b = same i l r in rw (← a, ← b) (f.apart j k i l o r m d);
 }
 
-greatest_below-same : (f g : ℕ → ℕ) (n : ℕ) → ((i : ℕ) → i < n → f i ≡ g i) → greatest_below n f ≡ greatest_below n g
-greatest_below-same f g zero h = refl
-greatest_below-same f g (suc n) h =
-    let a = greatest_below-same f g n (λ i below. h i (omega arith)) in let b = h n (omega arith) in omega arith
-
 pub agree_end : (shop : Shop) (s t : Starts) → Agree shop s t → end_of shop s ≡ end_of shop t
 agree_end shop s t same =
-    greatest_below-same (λ j. greatest_below (length (route_of shop j)) (λ k. finish_of shop s j k))
+    greatest_below-equal (λ j. greatest_below (length (route_of shop j)) (λ k. finish_of shop s j k))
     (λ j. greatest_below (length (route_of shop j)) (λ k. finish_of shop t j k)) (length shop.jobs)
-    (λ j _. greatest_below-same (λ k. finish_of shop s j k) (λ k. finish_of shop t j k) (length (route_of shop j))
+    (λ j _. greatest_below-equal (λ k. finish_of shop s j k) (λ k. finish_of shop t j k) (length (route_of shop j))
     (λ k op. ap (λ n. n + time_of shop j k) (same j k op)))
 
 -- an entry of a word stands for an operation
@@ -74,7 +70,7 @@ rows_of-starts shop s i l op =
     (sym (get_or-map-range_with_len (s i) 0 (length (route_of shop i)) l l 0 op (omega arith)))
 
 -- all operations are placed, so the placing is a feasible table under the word
-full_under : (shop : Shop) (w : List ℕ) → IsFull shop w → IsUnder shop w (placed shop w)
+pub full_under : (shop : Shop) (w : List ℕ) → IsFull shop w → IsUnder shop w (placed shop w)
 full_under shop w full =
     let a = after_word shop w (full_is_word shop w full)
     in let p = placing shop w
@@ -87,7 +83,7 @@ full_under shop w full =
     }
 
 -- what lies under a word lies under its beginnings
-under_beginning : (shop : Shop) (w v later : List ℕ) (s : Starts) → w ≡ v ++ later → IsUnder shop w s → IsUnder shop v s
+pub under_beginning : (shop : Shop) (w v later : List ℕ) (s : Starts) → w ≡ v ++ later → IsUnder shop w s → IsUnder shop v s
 under_beginning shop w v later s e u = record {
   feasible = u.feasible;
   first = λ x j rest g. u.first x j (rest ++ later)

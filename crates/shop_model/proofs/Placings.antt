@@ -79,12 +79,19 @@ module _ (shop : Shop) (p : Placing) (j : ℕ) (q : Placing) (n : IsNext shop p 
     | inr ne ↦ old i l (let a = n.steps_other i ne in omega arith)
   ]
 
-  -- nothing was taken back
+  -- nothing is taken back, and no machine is free earlier
   pub steps_grow : (i : ℕ) → p.steps i ≤ q.steps i
   steps_grow i = elim (cases_eq i j) [
     | inl e ↦ (let a : p.steps i ≡ p.steps j = ap p.steps e in let b : q.steps i ≡ q.steps j = ap q.steps e
         in let c = n.steps_here in omega arith)
     | inr ne ↦ (let a = n.steps_other i ne in omega arith)
+  ]
+
+  pub free_grows : (m : ℕ) → p.free m ≤ q.free m
+  free_grows m = elim (cases_eq m (machine_of shop j (p.steps j))) [
+    | inl e ↦ (let a = n.free_here m e in let b = n.begins_here
+        in let c : p.free m ≡ p.free (machine_of shop j (p.steps j)) = ap p.free e in omega arith)
+    | inr ne ↦ (let a = n.free_other m ne in omega arith)
   ]
 
   pub earliest_old : (i l : ℕ) → l ≤ p.steps i → earliest_of shop q.begins i l ≡ earliest_of shop p.begins i l

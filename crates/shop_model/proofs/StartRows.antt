@@ -1,17 +1,17 @@
 -- The rows of starts that `place` keeps, against the placing that they stand for.
 use Rattle.std.proofs.Common.{◌≡◌, ℕ, ◌+◌, ◌<◌, inl, inr, List, [], ◌∷◌, ◌++◌, length, map}
-use Rattle.std.proofs.Common.{set, replicate, slice_index_or, sym, ◌∙◌, ap, arith}
+use Rattle.std.proofs.Common.{set, slice_index_or, sym, ◌∙◌, ap, arith}
 use Rattle.std.specs.List.{range_with_len}
 use Rattle.std.proofs.lemmas.Bool.{cases_eq, cases_lt}
 use Rattle.std.specs.Prelude.{Vec}
 use Rattle.std.specs.declared.alloc.Global.{Global}
-use Rattle.std.proofs.lemmas.List.{length-map, map-set, length-set, length-replicate, get_or-replicate, get_or-set_same}
+use Rattle.std.proofs.lemmas.List.{length-map, map-set, length-set, get_or-set_same}
 use Rattle.std.proofs.lemmas.List.{get_or-set_other, get_or_past}
 use Rattle.std.proofs.lemmas.List.FromFn.{fill_by_all, length-map-range_with_len, get_or-map-range_with_len}
 use Rattle.std.proofs.lemmas.List.FromFn.{map-range_with_len_more}
 use Rattle.shop_model.specs.Shop.{Shop, route_of, machine_of}
 use Rattle.shop_model.specs.Limits.{IsWithinLimits, AreStarts}
-use Rattle.shop_model.specs.Word.{Placing, none_placed, place_next, placing, placed, IsWord, IsFull, rows_of}
+use Rattle.shop_model.specs.Word.{Placing, place_next, placing, placed, IsWord, IsFull, rows_of}
 use Rattle.shop_model.proofs.Placings.{place_next-is}
 use Rattle.shop_model.proofs.TableLemmas.{rows_at}
 use Rattle.shop_model.proofs.Unders.{after_word}
@@ -23,14 +23,6 @@ pub record HasRows (shop : Shop) (p : Placing) (rows : List (List ℕ)) : Type 0
   pub rows_length : length rows ≡ length shop.jobs
   pub begins : (i : ℕ) → i < length shop.jobs
       → slice_index_or rows i [] ≡ map (p.begins i) (range_with_len 0 (p.steps i))
-
--- nothing is placed
-pub rows_none : (shop : Shop) (rows : List (List ℕ)) → rows ≡ replicate (length shop.jobs) []
-    → HasRows shop (none_placed shop) rows
-rows_none shop rows e = record {
-  rows_length = rw e (length-replicate (length shop.jobs) []);
-  begins = λ i h. rw e (get_or-replicate (length shop.jobs) i [] [] h);
-}
 
 -- rows that agree below n
 pub map-range_with_len_same : (f g : ℕ → ℕ) (n : ℕ) → ((l : ℕ) → l < n → f l ≡ g l)

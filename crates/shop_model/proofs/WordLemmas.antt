@@ -60,6 +60,15 @@ IsWord-init shop w j h i = elim (eqb_tells i j) [
   | inr ne ↦ omega (arith, h i, count_of-snoc_other w i j ne.1)
 ]
 
+-- a word with one more entry of a job that has a step left
+pub IsWord-snoc : (shop : Shop) (w : List ℕ) (j : ℕ) → IsWord shop w → count_of j w < length (route_of shop j)
+    → IsWord shop (w ++ j ∷ [])
+IsWord-snoc shop w j word left i = elim (eqb_tells i j) [
+  | inl same ↦ subst (λ x. count_of x (w ++ j ∷ []) ≤ length (route_of shop x)) (sym same.1)
+      (omega (arith, left, count_of-snoc_same w j j refl))
+  | inr other ↦ omega (arith, word i, count_of-snoc_other w i j other.1)
+]
+
 -- an entry before the others counts no less
 pub count_of-cons : (i x : ℕ) (w : List ℕ) → count_of i w ≤ count_of i (x ∷ w)
 count_of-cons i x w = let e = sum_by-cons (λ y. cond (eqb y i) 1 0) x w in omega arith

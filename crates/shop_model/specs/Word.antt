@@ -4,7 +4,7 @@
 --     IsWord shop w, IsFull shop w
 --         no job stands in w more often than it has steps; each just that often
 --     Placing, placing shop w
---         what stands once the operations of w are placed, in the order of w
+--         the state once the operations of w are placed, in the order of w
 --     placed shop w                  the table that w places
 --     rows_of shop starts            a table as rows: for each job the starts of its steps
 --     start_jobs shop                the start word: job 0 for all its steps, then job 1, and so on
@@ -31,9 +31,9 @@ IsFull shop w = (j : ℕ) → count_of j w ≡ length (route_of shop j)
 abbrev pub with_value : {A : Type 0} → (ℕ → A) → ℕ → A → ℕ → A
 with_value f i v j = if j == i then v else f j
 
--- What stands once some operations are placed: how many steps of each job are; when each job's last
+-- The state once some operations are placed: how many steps of each job are; when each job's last
 -- one ends, or the job's release if there is none; when each machine's last one ends, 0 if there is
--- none; and where each begins.
+-- none; and when each begins.
 pub record Placing : Type 0 where
   pub steps : ℕ → ℕ
   pub ready : ℕ → ℕ

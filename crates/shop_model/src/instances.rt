@@ -101,7 +101,8 @@ impl Model for Instance {
 }
 
 impl Instance {
-    /// The instance of these rows, one a job, each released at 0. The caller knows that they are within the limits.
+    /// The instance of these rows, one a job, each released at 0. The caller knows that they are within the limits. For
+    /// library callers: the program doesn't use it.
     pub fn of_checked(machines: usize, rows: Vec<Vec<Op>>) -> Instance
         requires { AreRowsWithin machines rows.items }
         ensures { result ≡ shop_of_rows machines rows.items }
@@ -114,7 +115,8 @@ impl Instance {
 
     /// The instance of these rows, one a job, each released at 0: 1 to 100 machines, 1 to 1,000 rows, each with just as
     /// many operations as there are machines, on machines that there are and with times of 0 to 1,000,000,000. A job
-    /// may visit a machine twice and miss another. Outside these limits the rows come back.
+    /// may visit a machine twice and miss another. Outside these limits the rows come back. For library callers: the
+    /// program doesn't use it.
     pub fn new(machines: usize, rows: Vec<Vec<Op>>) -> Result<Instance, SizeFault>
         ensures refused { IsErr result ↔ (AreRowsWithin machines rows.items → ⊥) }
         ensures ok { IfOk result (λ i. i ≡ shop_of_rows machines rows.items) }

@@ -1,4 +1,4 @@
-// What stands once the operations of a word are placed.
+// Placements: how far each job is placed, and when jobs and machines are free for more.
 ghost use Rattle.std.specs.Prelude.{◌≡◌, ◌<◌, IfOk, length, slice_index};
 ghost use Rattle.shop_model.specs.Placements.{HasNext, HasPlaces, IsPlacement, PlacesNext};
 ghost use Rattle.shop_model.specs.Placements.{TellsNextStart};
@@ -10,8 +10,8 @@ use crate::words::Word;
 use std::alloc::{AllocError, Global};
 use std::marker::Model;
 
-/// What a word that was placed leaves: for each job how many of its steps are placed and when it is ready for the next
-/// one, and for each machine when it is free.
+/// The state once the operations of a word are placed: for each job how many of its steps are placed and when it is
+/// ready for the next one, and for each machine when it is free.
 #[derive(Drop)]
 pub struct Placement {
     steps: Vec<usize>,
@@ -32,7 +32,7 @@ impl Model for Placement {
 }
 
 impl Placement {
-    /// Nothing is placed. Fails with `AllocError` if memory runs out.
+    /// The placement of no operation. Fails with `AllocError` if memory runs out.
     pub fn none(alloc: Global, instance: &Instance) -> Result<Placement, AllocError>
         ensures { IfOk result (λ s. IsPlacement instance.now (none_placed instance.now) s) }
     {
@@ -42,8 +42,8 @@ impl Placement {
         Ok(Placement { steps, ready, free })
     }
 
-    /// Places the operations of a word that fits the instance, in its order, each as soon as its job and its machine
-    /// can. Fails with `AllocError` if memory runs out.
+    /// The placement of a word that fits the instance: its operations in its order, each as soon as its job and its
+    /// machine can. Fails with `AllocError` if memory runs out.
     pub fn of(alloc: Global, instance: &Instance, word: &Word) -> Result<Placement, AllocError>
         requires { IsWord instance.now word.now }
         ensures { IfOk result (λ s. IsPlacement instance.now (placing instance.now word.now) s) }
@@ -53,7 +53,7 @@ impl Placement {
         Ok(placement)
     }
 
-    /// Places the operations of a list of jobs that fits the instance in place of what was placed; takes no memory.
+    /// Becomes the placement of a list of jobs that fits the instance, whatever was placed before. Takes no memory.
     pub fn set_to(&mut self, instance: &Instance, jobs: &[u16])
         requires places { HasPlaces instance.now self.old }
         requires word { IsWord instance.now jobs.now }
@@ -64,7 +64,7 @@ impl Placement {
         self.place_all(instance, jobs);
     }
 
-    /// No step of any job is placed.
+    /// Takes back the steps of all jobs.
     fn clear_jobs(&mut self, instance: &Instance)
         requires { HasPlaces instance.now self.old }
         ensures { IsClearUpTo instance.now (length instance.now.jobs) 0 self.new }
@@ -75,7 +75,7 @@ impl Placement {
         }
     }
 
-    /// Nothing is placed, where no step of any job is.
+    /// Frees all machines, once the steps of all jobs are taken back.
     fn clear_machines(&mut self, instance: &Instance)
         requires { IsClearUpTo instance.now (length instance.now.jobs) 0 self.old }
         ensures { IsPlacement instance.now (none_placed instance.now) self.new }
@@ -107,7 +107,7 @@ impl Placement {
         }
     }
 
-    /// Places the next step of job j as soon as the job and its machine can; tells when it begins.
+    /// Places the next step of job j as soon as the job and its machine can, and returns when it begins.
     pub fn place_next(&mut self, instance: &Instance, j: usize) -> u64
         requires { HasNext instance.now j self.old }
         ensures placed { PlacesNext instance.now j self.old self.new }

@@ -55,7 +55,7 @@ impl SharedWord {
         SharedWord::of_path(alloc, path.as_slice())
     }
 
-    /// The first jobs of a path, so many, and this one. Takes no memory.
+    /// The word of the first `depth` jobs of a path and of `last`. Takes no memory.
     pub fn along(
         path: &ArcSlice<u16, Global>,
         depth: u32,

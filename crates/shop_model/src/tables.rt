@@ -66,7 +66,8 @@ impl Table {
         self.rows.len()
     }
 
-    /// When step k of job j begins, or `None` where the table has no such start.
+    /// When step k of job j begins, or `None` where the table has no such start. For library callers: the program
+    /// doesn't use it.
     pub fn start(&self, j: usize, k: usize) -> Option<u64>
         ensures { result ≡ slice_get (slice_index_or self.now j []) k }
     {

@@ -80,8 +80,8 @@ impl Word {
         Jobs::of(self)
     }
 
-    /// The word as one that shares its jobs; takes memory where it has a list of its own, and fails with `AllocError`
-    /// if there is none left.
+    /// The word as one that shares its jobs. Takes memory only where it has a list of its own. Fails with `AllocError`
+    /// if memory runs out.
     pub fn into_shared(self, alloc: Global) -> Result<SharedWord, AllocError>
         requires { CanBeShared self }
         ensures { IfOk result (λ w. w ≡ self) }
@@ -150,7 +150,7 @@ fn are_below(jobs: usize, word: &Word) -> bool
 }
 
 /// Whether the word fits the instance: each entry is one of its jobs, and none stands in it more often than its route
-/// is long. Takes no memory.
+/// is long. Takes no memory. For library callers: the program doesn't use it.
 pub fn fits(instance: &Instance, word: &Word) -> bool
     ensures { IsTrue result ↔ IsWord instance.now word.now }
 {
@@ -166,7 +166,7 @@ pub fn fits(instance: &Instance, word: &Word) -> bool
 }
 
 /// Whether the word is full: each job of the instance stands in it just as often as its route is long, and no other.
-/// Takes no memory.
+/// Takes no memory. For library callers: the program doesn't use it.
 pub fn is_full(instance: &Instance, word: &Word) -> bool
     ensures { IsTrue result ↔ IsFull instance.now word.now }
 {

@@ -6,7 +6,7 @@ use Rattle.std.specs.List.{list_all}
 use Rattle.std.proofs.lemmas.Bool.{cases_lt, ltb-true, leb-true, le-ltb, le-leb, lt-leb, and_parts}
 use Rattle.std.proofs.lemmas.List.{length-map}
 use Rattle.shop_text.specs.inner.LineReading.{capped}
-use Rattle.shop_text.specs.Grammar.{LineFault, WrongShape, WrongSize, WrongRow, WrongMachine, WrongTime}
+use Rattle.shop_text.specs.Grammar.{LineFault, WrongRow, WrongMachine, WrongTime}
 use Rattle.shop_text.specs.Formats.{is_between, jobs_in, machines_in, size_fault, pairs_fault, pairs_of}
 use Rattle.shop_text.specs.Formats.{orlib_fault, orlib_job, routes_fault, routes_job, times_fault, machines_fault}
 use Rattle.shop_text.specs.inner.LineReading.{size_line_fault, times_row_fault, machines_row_fault}
@@ -177,23 +177,3 @@ pub size_line_capped : (p : Format) (row : List ℕ) → size_line_fault p (map 
 size_line_capped Orlib row = rw (length-map row capped, size_capped row) refl
 size_line_capped Routes row = rw (length-map row capped, size_capped row) refl
 size_line_capped Taillard row = rw (length-map row capped, size_capped row) refl
-
-size_same : (row : List ℕ) → size_fault row ≡ None
-    → (jobs_in (map capped row) ≡ jobs_in row) × (machines_in (map capped row) ≡ machines_in row)
-size_same row e =
-    let both = and_parts (is_between 1 1000 (jobs_in row)) (is_between 1 100 (machines_in row))
-    (no_fault_if (is_between 1 1000 (jobs_in row) && is_between 1 100 (machines_in row)) WrongSize e)
-    in let jobs = leb-true (jobs_in row) 1000 (and_parts (leb 1 (jobs_in row)) (leb (jobs_in row) 1000) both.0).1
-    in let machines =
-    leb-true (machines_in row) 100 (and_parts (leb 1 (machines_in row)) (leb (machines_in row) 100) both.1).1
-    in (
-      jobs_capped row ∙ capped_same (jobs_in row) (omega arith),
-      machines_in_capped row ∙ capped_same (machines_in row) (omega arith),
-    )
-
-pub size_line_same : (p : Format) (row : List ℕ) → size_line_fault p row ≡ None
-    → (jobs_in (map capped row) ≡ jobs_in row) × (machines_in (map capped row) ≡ machines_in row)
-size_line_same Orlib row e = size_same row (no_fault_in (eqb (length row) 2) WrongShape (size_fault row) e).1
-size_line_same Routes row e = size_same row (no_fault_in (eqb (length row) 2) WrongShape (size_fault row) e).1
-size_line_same Taillard row e =
-    size_same row (no_fault_in (is_between 2 6 (length row)) WrongShape (size_fault row) e).1

@@ -1,24 +1,20 @@
 -- The columns of a Gantt text.
 use Rattle.std.proofs.Common.{◌≡◌, ℕ, zero, suc, ◌+◌, ◌*◌, ◌<◌, ◌≤◌, Bool, true, false, ◌&&◌, ◌||◌}
-use Rattle.std.proofs.Common.{cond, eqb, leb, ltb, List, [], ◌∷◌, ◌++◌, length, get_or, set, refl, sym, ap, ◌∙◌, arith}
+use Rattle.std.proofs.Common.{cond, eqb, leb, ltb, List, [], ◌∷◌, ◌++◌, length, get_or, refl, sym, ap, ◌∙◌, arith}
 use Rattle.std.proofs.Common.{inl, inr, add-one}
 use Rattle.std.specs.List.{range_with_len, list_any}
 use Rattle.std.specs.Int.{div_ceil}
+use Rattle.std.specs.Cmp.{both_ways}
+use Rattle.std.proofs.Math.Bool.{or-false}
 use Rattle.std.proofs.Math.Nat.{mul-le-mul_right}
-use Rattle.std.proofs.lemmas.Bool.{cases_eq, cases_lt, eq-eqb, leb-true, le-leb, ltb-true, lt-ltb}
-use Rattle.std.proofs.lemmas.Bool.Decides.{eqb_tells}
+use Rattle.std.proofs.lemmas.Bool.{cases_lt, eq-eqb, ne_eqb, leb-true, le-leb, ltb-true, lt-ltb}
 use Rattle.std.proofs.lemmas.Grind.{div_ceil_times}
 use Rattle.std.proofs.lemmas.List.Folds.{list_any-append}
-use Rattle.std.proofs.lemmas.List.{get_or-set_same, get_or-set_other}
 use Rattle.shop_model.specs.declared.ops.Op.{Op}
-use Rattle.shop_model.specs.inner.Steps.{machine_at, finish_at}
-use Rattle.shop_text.specs.inner.Cells.{is_on, serves_below, ShowsWhere}
-
--- two tests are the same where each follows from the other
-same_test : (a b : Bool) → (a ≡ true → b ≡ true) → (b ≡ true → a ≡ true) → a ≡ b
-same_test true b f g = sym (f refl)
-same_test false true f g = g refl
-same_test false false f g = refl
+use Rattle.shop_model.specs.Shop.{Shop, Starts, no_op, route_of, machine_of, finish_of}
+use Rattle.shop_model.specs.Checking.{starts_of}
+use Rattle.shop_text.specs.Writing.{is_served}
+use Rattle.shop_text.specs.inner.Cells.{serves_below, ShowsWhere}
 
 -- ---- the columns of an interval
 
@@ -36,11 +32,11 @@ le_ceil a u c some h =
 
 -- a column is not before an instant just where its own instant is not
 pub from_column : (a u c : ℕ) → 0 < u → leb (div_ceil a u) c ≡ leb a (c * u)
-from_column a u c some = same_test _ _ (λ e. le-leb a (c * u) (ceil_le a u c some (leb-true _ _ e)))
+from_column a u c some = both_ways _ _ (λ e. le-leb a (c * u) (ceil_le a u c some (leb-true _ _ e)))
     (λ e. le-leb _ _ (le_ceil a u c some (leb-true _ _ e)))
 
 pub to_column : (a u c : ℕ) → 0 < u → ltb c (div_ceil a u) ≡ ltb (c * u) a
-to_column a u c some = same_test _ _ (λ e. lt-ltb (c * u) a (before (ltb-true _ _ e)))
+to_column a u c some = both_ways _ _ (λ e. lt-ltb (c * u) a (before (ltb-true _ _ e)))
     (λ e. lt-ltb c (div_ceil a u) (after (ltb-true _ _ e)))
   where
     before : c < div_ceil a u → c * u < a
@@ -58,25 +54,6 @@ pub ceil_mono : (a b u : ℕ) → 0 < u → a ≤ b → div_ceil a u ≤ div_cei
 ceil_mono a b u some h = le_ceil a u (div_ceil b u) some (omega (arith, (div_ceil_times b u some).0))
 
 -- ---- what is shown
-
-pub set_column : (old cells : List ℕ) (from column character : ℕ)
-    → ShowsWhere old cells character (λ c. leb from c && ltb c column) → length cells ≡ length old → from ≤ column
-    → column < length cells
-    → ShowsWhere old (set cells column character) character (λ c. leb from c && ltb c (column + 1))
-set_column old cells from column character so_far same low high c h = elim (cases_eq c column) [
-  | inl e ↦ rw (
-    e,
-    get_or-set_same cells column character 0 high,
-    le-leb from column low,
-    lt-ltb column (column + 1) (omega arith),
-  ) refl
-  | inr ne ↦ get_or-set_other cells column c character 0 ne ∙ so_far c h
-      ∙ ap (λ (b : Bool). cond (leb from c && b) character (get_or old c 0)) (earlier c column ne)
-]
-  where
-    earlier : (c column : ℕ) → (c ≡ column → ⊥) → ltb c column ≡ ltb c (column + 1)
-    earlier c column ne = same_test _ _ (λ e. lt-ltb c (column + 1) (omega (arith, ltb-true _ _ e)))
-        (λ e. lt-ltb c column (omega (arith, ltb-true _ _ e)))
 
 either_shown : (a b : Bool) (character x : ℕ) → cond b character (cond a character x) ≡ cond (a || b) character x
 either_shown true true character x = refl
@@ -100,68 +77,80 @@ range_push a (suc n) =
     ∙ ap (λ (is : List ℕ). a ∷ is) (ap (range_with_len (a + 1)) (sym (add-one n)) ∙ range_push (a + 1) n
     ∙ ap (λ (i : ℕ). range_with_len (a + 1) n ++ i ∷ []) (omega arith))
 
-or_false : (b : Bool) → (b || false) ≡ b
-or_false true = refl
-or_false false = refl
-
 any_more : (p : ℕ → Bool) (a n : ℕ) → list_any p (range_with_len a (n + 1))
     ≡ (list_any p (range_with_len a n) || p (a + n))
 any_more p a n = ap (list_any p) (range_push a n) ∙ list_any-append p (range_with_len a n) ((a + n) ∷ [])
-    ∙ ap (λ (b : Bool). list_any p (range_with_len a n) || b) (or_false (p (a + n)))
+    ∙ ap (λ (b : Bool). list_any p (range_with_len a n) || b) (or-false (p (a + n)))
 
-pub step_more : (route : List Op) (starts : List ℕ) (machine instant k : ℕ)
-    → serves_below route starts machine instant (k + 1)
-    ≡ (serves_below route starts machine instant k || is_on route starts machine instant k)
-step_more route starts machine instant k =
-    any_more (is_on route starts machine instant) 0 k
-    ∙ ap (λ (i : ℕ). serves_below route starts machine instant k || is_on route starts machine instant i)
+step_more : (shop : Shop) (starts : Starts) (machine instant j k : ℕ)
+    → serves_below shop starts machine instant j (k + 1)
+    ≡ (serves_below shop starts machine instant j k || is_served shop starts machine instant j k)
+step_more shop starts machine instant j k =
+    any_more (is_served shop starts machine instant j) 0 k
+    ∙ ap (λ (i : ℕ). serves_below shop starts machine instant j k || is_served shop starts machine instant j i)
     (omega arith)
 
 -- a step on the machine is shown in its columns
-pub shown_step : (route : List Op) (starts : List ℕ) (machine unit c k : ℕ) → 0 < unit → machine_at route k ≡ machine
-    → is_on route starts machine (c * unit) k ≡ (leb (div_ceil (get_or starts k 0) unit) c
-    && ltb c (div_ceil (finish_at route starts k) unit))
-shown_step route starts machine unit c k some same =
-    ap (λ (b : Bool). b && leb (get_or starts k 0) (c * unit) && ltb (c * unit) (finish_at route starts k))
-    (eq-eqb (machine_at route k) machine same)
-    ∙ ap (λ (b : Bool). b && ltb (c * unit) (finish_at route starts k))
-    (sym (from_column (get_or starts k 0) unit c some))
-    ∙ ap (λ (b : Bool). leb (div_ceil (get_or starts k 0) unit) c && b)
-    (sym (to_column (finish_at route starts k) unit c some))
+shown_step : (shop : Shop) (starts : Starts) (machine unit c j k : ℕ) → 0 < unit → machine_of shop j k ≡ machine
+    → is_served shop starts machine (c * unit) j k ≡ (leb (div_ceil (starts j k) unit) c
+    && ltb c (div_ceil (finish_of shop starts j k) unit))
+shown_step shop starts machine unit c j k some same =
+    ap (λ (b : Bool). b && leb (starts j k) (c * unit) && ltb (c * unit) (finish_of shop starts j k))
+    (eq-eqb (machine_of shop j k) machine same)
+    ∙ ap (λ (b : Bool). b && ltb (c * unit) (finish_of shop starts j k)) (sym (from_column (starts j k) unit c some))
+    ∙ ap (λ (b : Bool). leb (div_ceil (starts j k) unit) c && b) (sym (to_column (finish_of shop starts j k) unit c some))
 
 -- and one of another machine nowhere
-pub skipped_step : (route : List Op) (starts : List ℕ) (machine instant k : ℕ) → (machine_at route k ≡ machine → ⊥)
-    → (serves_below route starts machine instant k || is_on route starts machine instant k)
-    ≡ serves_below route starts machine instant k
-skipped_step route starts machine instant k other =
-    skipped (serves_below route starts machine instant k) (eqb (machine_at route k) machine)
-    (leb (get_or starts k 0) instant) (ltb instant (finish_at route starts k))
-    (elim (eqb_tells (machine_at route k) machine) [ inl same ↦ absurd (other same.1) | inr ne ↦ ne.0 ])
+skipped_step : (shop : Shop) (starts : Starts) (machine instant j k : ℕ) → (machine_of shop j k ≡ machine → ⊥)
+    → (serves_below shop starts machine instant j k || is_served shop starts machine instant j k)
+    ≡ serves_below shop starts machine instant j k
+skipped_step shop starts machine instant j k other =
+    skipped (serves_below shop starts machine instant j k) (eqb (machine_of shop j k) machine)
+    (leb (starts j k) instant) (ltb instant (finish_of shop starts j k)) (ne_eqb (machine_of shop j k) machine other)
   where
     skipped : (so_far a b d : Bool) → a ≡ false → (so_far || (a && b && d)) ≡ so_far
-    skipped so_far false b d e = or_false so_far
+    skipped so_far false b d e = or-false so_far
     skipped so_far true b d e = absurd cc
 
-pub step_shown : (old cells newer : List ℕ) (route : List Op) (starts : List ℕ) (machine unit character k from to : ℕ)
-    → 0 < unit → length cells ≡ length old
-    → ShowsWhere old cells character (λ c. serves_below route starts machine (c * unit) k)
-    → machine_at route k ≡ machine
-    → from ≡ div_ceil (get_or starts k 0) unit → to ≡ div_ceil (finish_at route starts k) unit
-    → ShowsWhere cells newer character (λ c. leb from c && ltb c to)
-    → ShowsWhere old newer character (λ c. serves_below route starts machine (c * unit) (k + 1))
-step_shown old cells newer route starts machine unit character k from to some same so_far on begins ends here =
-    shown_both old cells newer character (λ c. serves_below route starts machine (c * unit) k)
-    (λ c. leb from c && ltb c to) (λ c. serves_below route starts machine (c * unit) (k + 1)) so_far here same
-    (λ c. step_more route starts machine (c * unit) k
-    ∙ ap (λ (b : Bool). serves_below route starts machine (c * unit) k || b)
-    (shown_step route starts machine unit c k some on
-    ∙ ap (λ (i : ℕ). leb i c && ltb c (div_ceil (finish_at route starts k) unit)) (sym begins)
-    ∙ ap (λ (i : ℕ). leb from c && ltb c i) (sym ends)))
+-- a route and a row of starts are those of job j
+pub record AreOfJob (shop : Shop) (rows : List (List ℕ)) (j : ℕ) (route : List Op) (row : List ℕ) : Type 0 where
+  pub route_is : route ≡ route_of shop j
+  pub row_is : row ≡ get_or rows j []
 
-pub step_skipped : (old cells : List ℕ) (route : List Op) (starts : List ℕ) (machine unit character k : ℕ)
-    → ShowsWhere old cells character (λ c. serves_below route starts machine (c * unit) k)
-    → (machine_at route k ≡ machine → ⊥)
-    → ShowsWhere old cells character (λ c. serves_below route starts machine (c * unit) (k + 1))
-step_skipped old cells route starts machine unit character k so_far other c h =
-    so_far c h ∙ ap (λ (b : Bool). cond b character (get_or old c 0))
-    (sym (step_more route starts machine (c * unit) k ∙ skipped_step route starts machine (c * unit) k other))
+module _ (shop : Shop) (rows : List (List ℕ)) (j : ℕ) (route : List Op) (row : List ℕ)
+    (own : AreOfJob shop rows j route row) where
+  machine_is : (k : ℕ) → (get_or route k no_op).machine ≡ machine_of shop j k
+  machine_is k = ap (λ (os : List Op). (get_or os k no_op).machine) own.route_is
+
+  begins_at : (k : ℕ) → get_or row k 0 ≡ starts_of rows j k
+  begins_at k = ap (λ (ss : List ℕ). get_or ss k 0) own.row_is
+
+  ends_at : (k : ℕ) → get_or row k 0 + (get_or route k no_op).time ≡ finish_of shop (starts_of rows) j k
+  ends_at k = let a = begins_at k in let b = ap (λ (os : List Op). (get_or os k no_op).time) own.route_is in omega arith
+
+  pub step_shown : (old cells newer : List ℕ) (machine unit character k from to : ℕ)
+      → 0 < unit → length cells ≡ length old
+      → ShowsWhere old cells character (λ c. serves_below shop (starts_of rows) machine (c * unit) j k)
+      → (get_or route k no_op).machine ≡ machine
+      → from ≡ div_ceil (get_or row k 0) unit → to ≡ div_ceil (get_or row k 0 + (get_or route k no_op).time) unit
+      → ShowsWhere cells newer character (λ c. leb from c && ltb c to)
+      → ShowsWhere old newer character (λ c. serves_below shop (starts_of rows) machine (c * unit) j (k + 1))
+  step_shown old cells newer machine unit character k from to some same so_far on begins ends here =
+      let starts = starts_of rows
+      in shown_both old cells newer character (λ c. serves_below shop starts machine (c * unit) j k)
+      (λ c. leb from c && ltb c to) (λ c. serves_below shop starts machine (c * unit) j (k + 1)) so_far here same
+      (λ c. step_more shop starts machine (c * unit) j k
+      ∙ ap (λ (b : Bool). serves_below shop starts machine (c * unit) j k || b)
+      (shown_step shop starts machine unit c j k some (sym (machine_is k) ∙ on)
+      ∙ ap (λ (i : ℕ). leb i c && ltb c (div_ceil (finish_of shop starts j k) unit))
+      (sym (begins ∙ ap (λ (i : ℕ). div_ceil i unit) (begins_at k)))
+      ∙ ap (λ (i : ℕ). leb from c && ltb c i) (sym (ends ∙ ap (λ (i : ℕ). div_ceil i unit) (ends_at k)))))
+
+  pub step_skipped : (old cells : List ℕ) (machine unit character k : ℕ)
+      → ShowsWhere old cells character (λ c. serves_below shop (starts_of rows) machine (c * unit) j k)
+      → ((get_or route k no_op).machine ≡ machine → ⊥)
+      → ShowsWhere old cells character (λ c. serves_below shop (starts_of rows) machine (c * unit) j (k + 1))
+  step_skipped old cells machine unit character k so_far other c h =
+      so_far c h ∙ ap (λ (b : Bool). cond b character (get_or old c 0))
+      (sym (step_more shop (starts_of rows) machine (c * unit) j k
+      ∙ skipped_step shop (starts_of rows) machine (c * unit) j k (λ e. other (machine_is k ∙ e))))

@@ -171,10 +171,6 @@ pub held_at : (times : List (Vec ℕ Global)) (k : ℕ) (row : Vec ℕ Global) �
     → row.items ≡ get_or (map items_of times) k []
 held_at times k row h e = ap items_of e ∙ sym (get_or-map items_of times k row [] h)
 
--- a draft that wants jobs has a size line
-abbrev HasSome : Draft → Type 0
-HasSome draft = 0 < draft.jobs_wanted
-
 -- the job of a row, for a draft as it stands
 abbrev IsNextJob : Format → Draft → ℕ → Row → Result Job ReadFault → Type 0
 IsNextJob p draft n row r =

@@ -1,14 +1,13 @@
 -- The names that lines give.
-use Rattle.std.proofs.Common.{◌≡◌, ℕ, zero, suc, inl, inr, Bool, true, false, cond, ◌&&◌, leb, List}
+use Rattle.std.proofs.Common.{◌≡◌, ℕ, zero, suc, Bool, true, false, cond, ◌&&◌, leb, List}
 use Rattle.std.proofs.Common.{[], ◌∷◌}
 use Rattle.std.proofs.Common.{Some, None, refl, sym, ap, ◌∙◌, arith}
 use Rattle.std.specs.Prelude.{codes}
 use Rattle.std.specs.List.{list_all}
-use Rattle.std.specs.Char.{is_ascii_digit}
 use Rattle.std.specs.Str.{IsAscii, IsUtf8, bytes_eq}
-use Rattle.std.proofs.lemmas.Bool.{cases_Bool, and_parts, leb-true, ne_eqb}
+use Rattle.std.proofs.lemmas.Bool.{and_parts, leb-true}
 use Rattle.std.proofs.lemmas.Str.{IsUtf8-from_ascii}
-use Rattle.shop_text.specs.Lines.{Blank, Numbers, Words, tokens_of, is_number, line_of, line_of_tokens}
+use Rattle.shop_text.specs.Lines.{Blank, Numbers, Words}
 use Rattle.shop_text.specs.Formats.{grammar_of, is_visible, header_of}
 use Rattle.shop_text.specs.declared.formats.Format.{Format}
 use Rattle.shop_text.specs.declared.formats.Format.TheVariants.{Orlib, Taillard, Routes}
@@ -41,36 +40,6 @@ pub header_utf8 : (p : Format) (words : List (List ℕ)) (bytes : List ℕ)
 header_utf8 Orlib words bytes e = IsUtf8-from_ascii bytes (visible_ascii bytes (header_visible words bytes e))
 header_utf8 Routes words bytes e = IsUtf8-from_ascii bytes (visible_ascii bytes (header_visible words bytes e))
 header_utf8 Taillard words bytes e = absurd cc
-
--- a number is no keyword
-not_keyword : (token : List ℕ) → is_number token ≡ true → bytes_eq token (codes "instance") ≡ false
-not_keyword [] e = refl
-not_keyword (b ∷ bytes) e =
-    let digit = (and_parts (is_ascii_digit b) (list_all is_ascii_digit bytes) e).0
-    in let high = leb-true b 57 (and_parts (leb 48 b) (leb b 57) digit).1
-    in rw (ne_eqb b 105 (λ is. omega arith)) refl
-
--- numbers name nothing
-number_header : (token : List ℕ) (tokens : List (List ℕ)) → list_all is_number (token ∷ tokens) ≡ true
-    → header_of (Words (token ∷ tokens)) ≡ None
-number_header token [] e = refl
-number_header token (name ∷ []) e =
-    rw (not_keyword token (and_parts (is_number token) (list_all is_number (name ∷ [])) e).0) refl
-number_header token (name ∷ next ∷ tokens) e = refl
-
-tokens_header : (tokens : List (List ℕ)) → header_of (Words tokens) ≡ header_of (line_of_tokens tokens)
-tokens_header [] = refl
-tokens_header (token ∷ tokens) = elim (cases_Bool (list_all is_number (token ∷ tokens))) [
-  | inl is ↦ number_header token tokens is ∙ rw is refl
-  | inr isnt ↦ rw isnt refl
-]
-
--- the name that the tokens of a line give is the line's
-pub line_header : (p : Format) (bytes : List ℕ)
-    → (grammar_of p).header (Words (tokens_of bytes)) ≡ (grammar_of p).header (line_of bytes)
-line_header Orlib bytes = tokens_header (tokens_of bytes)
-line_header Routes bytes = tokens_header (tokens_of bytes)
-line_header Taillard bytes = refl
 
 -- only text lines give one
 pub blank_header : (p : Format) → (grammar_of p).header Blank ≡ None

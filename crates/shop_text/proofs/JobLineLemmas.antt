@@ -7,14 +7,14 @@ use Rattle.std.specs.List.{enumerate_from}
 use Rattle.std.specs.Str.{bytes_eq}
 use Rattle.std.proofs.lemmas.Bool.{cases_eq, eq-eqb, eqb-true, ltb-true}
 use Rattle.std.proofs.lemmas.List.{take_more, take_all, get_or_at, length-take-le, map-append, length-map}
-use Rattle.std.proofs.lemmas.List.{append_assoc, append-nil, length_push}
+use Rattle.std.proofs.lemmas.List.{append_assoc, length_push}
 use Rattle.std.proofs.lemmas.List.FromFn.{length-enumerate_from}
 use Rattle.std.proofs.lemmas.Slice.Eq.{bytes_eq-Decides}
 use Rattle.shop_model.specs.Shop.{Shop, route_of}
 use Rattle.shop_text.specs.Lines.{lines_of, tokens_of, is_empty, is_number, value_of}
 use Rattle.shop_text.specs.inner.LineReading.{capped}
 use Rattle.shop_text.specs.Schedules.{Tokens, begins_with_job, is_counted, is_label, starts_in, row_in, AreJobLines}
-use Rattle.shop_text.specs.Schedules.{GoesWrong, IsBadAt, IsTable}
+use Rattle.shop_text.specs.Schedules.{GoesWrong, IsBadAt}
 use Rattle.shop_text.specs.inner.ScheduleReading.{counted_after, IsReadSoFar, rows_held}
 
 -- ---- labels
@@ -181,18 +181,6 @@ one_more shop text passed rest line after behind rows row so_far cut shorter is 
   lines = (let lines = so_far.lines in let e = ap length cut in omega arith);
   bytes = (let bytes = so_far.bytes in omega arith);
 }
-
--- the end, with a line for each job
-pub all_read : (shop : Shop) (text : List ℕ) (passed : ℕ) (rest : List ℕ) (rows : List (List ℕ))
-    → IsReadSoFar shop text passed rest rows
-    → length text ≤ 16777216 → length rest ≡ 0 → length rows ≡ length shop.jobs → IsTable shop text rows
-all_read shop text passed [] rows so_far short none all = record {
-  short = short;
-  lines = subst (λ (lines : List (ℕ × Tokens)). AreJobLines shop lines rows)
-      (sym (so_far.cut ∙ append-nil so_far.before)) so_far.good;
-  jobs = all;
-}
-all_read shop text passed (b ∷ rest) rows so_far short none all = absurd (omega arith)
 
 pub rows_push : (before after : Vec (Vec ℕ Global) Global) (row : Vec ℕ Global)
     → after.items ≡ before.items ++ row ∷ [] → rows_held after ≡ rows_held before ++ row.items ∷ []

@@ -4,16 +4,12 @@ use Rattle.std.proofs.Common.{length, get_or, take, drop, Option, Some, None, re
 use Rattle.std.proofs.Common.{true≢false, subst}
 use Rattle.std.specs.Prelude.{position, filter}
 use Rattle.std.specs.List.{slice_split, onto_first, position_or_len}
-use Rattle.std.proofs.lemmas.Bool.{cases_lt, lt-ltb}
-use Rattle.std.proofs.lemmas.List.{take_all, drop_all, length-drop, get_or-drop}
+use Rattle.std.proofs.lemmas.Bool.{cases_lt, lt-ltb, not-false, not-true}
+use Rattle.std.proofs.lemmas.List.{take_rest, drop_all, length-drop, get_or-drop}
 use Rattle.std.proofs.lemmas.List.Sums.{fails_before_first}
 use Rattle.std.proofs.lemmas.List.Quantifiers.{position-Some}
 use Rattle.std.proofs.lemmas.List.Splits.{length-slice_split, slice_split-cons_yes, slice_split-cons_no}
 use Rattle.shop_text.specs.Lines.{is_line_feed, is_separator, is_empty, ended, lines_of, tokens_of}
-
--- what a range of a slice to its end is
-pub rest_is : (k : ℕ) (xs : List ℕ) → take (length xs - k) (drop k xs) ≡ drop k xs
-rest_is k xs = take_all _ _ (omega (arith, length-drop k xs))
 
 -- where no position is found, no element passes
 pub position_none : (p : ℕ → Bool) (xs : List ℕ) → position p xs ≡ None → (k : ℕ) → k < length xs
@@ -38,7 +34,7 @@ split_none p (x ∷ xs) none =
     slice_split-cons_no p x xs (none 0 (omega arith))
     ∙ ap (onto_first x) (split_none p xs (λ k h. none (suc k) (omega arith)))
 
-ended_more : (piece : List ℕ) (pieces : List (List ℕ)) → 0 < length pieces
+pub ended_more : (piece : List ℕ) (pieces : List (List ℕ)) → 0 < length pieces
     → ended (piece ∷ pieces) ≡ piece ∷ ended pieces
 ended_more piece [] some = absurd (omega arith)
 ended_more piece (next ∷ pieces) some = refl
@@ -50,13 +46,13 @@ lines_at text i e =
     let at = position-Some is_line_feed text i 0 e
     in let cut = split_here is_line_feed text i at.0 at.1 at.2
     in ap ended cut ∙ ended_more (take i text) _ (omega (arith, length-slice_split is_line_feed (drop (suc i) text)))
-    ∙ rw (rest_is (i + 1) text, add-one i) refl
+    ∙ rw (take_rest text (i + 1), add-one i) refl
 
 -- without LF there is one line
 pub lines_alone : (text : List ℕ) → 0 < length text → position is_line_feed text ≡ None
     → lines_of text ≡ text ∷ lines_of (take (length text - length text) (drop (length text) text))
 lines_alone text some e =
-    rw (rest_is (length text) text, drop_all (length text) text (omega arith))
+    rw (take_rest text (length text), drop_all (length text) text (omega arith))
     (ap ended (split_none is_line_feed text (position_none is_line_feed text e)) ∙ one text some)
   where
     one : (piece : List ℕ) → 0 < length piece → ended (piece ∷ []) ≡ piece ∷ []
@@ -64,14 +60,6 @@ lines_alone text some e =
     one (b ∷ bs) h = refl
 
 -- ---- tokens
-
-not_false : (b : Bool) → not b ≡ false → b ≡ true
-not_false true h = refl
-not_false false h = absurd cc
-
-not_true : (b : Bool) → not b ≡ true → b ≡ false
-not_true true h = absurd cc
-not_true false h = refl
 
 -- separators before the first token don't matter
 tokens_skip : (xs : List ℕ) (i : ℕ) → i ≤ length xs → ((k : ℕ) → k < i → is_separator (get_or xs k 0) ≡ true)
@@ -102,7 +90,7 @@ is_in_token b = not (is_separator b)
 pub no_tokens : (line : List ℕ) → position (λ b. not (is_separator b)) line ≡ None → tokens_of line ≡ []
 no_tokens line e =
     let none = position_none is_in_token line e
-    in tokens_skip line (length line) (omega arith) (λ k lt. not_false (is_separator (get_or line k 0)) (none k lt))
+    in tokens_skip line (length line) (omega arith) (λ k lt. not-false (is_separator (get_or line k 0)) (none k lt))
     ∙ ap tokens_of (drop_all (length line) line (omega arith))
 
 -- the first token begins here, and ends at a separator
@@ -115,19 +103,19 @@ pub tokens_at : (line : List ℕ) (start end : ℕ) → position (λ b. not (is_
 tokens_at line start end e f =
     let begins = position-Some is_in_token line start 0 e
     in let rest = take (length line - start) (drop start line)
-    in let rest_at : rest ≡ drop start line = rest_is start line
+    in let rest_at : rest ≡ drop start line = take_rest line start
     in let ends = position-Some is_separator rest end 0 f
     in let skipped : tokens_of line
     ≡ tokens_of rest = tokens_skip line start (omega arith)
-    (λ k lt. not_false (is_separator (get_or line k 0)) (begins.2 k lt)) ∙ sym (ap tokens_of rest_at)
+    (λ k lt. not-false (is_separator (get_or line k 0)) (begins.2 k lt)) ∙ sym (ap tokens_of rest_at)
     in let first : is_separator (get_or rest 0 0) ≡ false = ap (λ (xs : List ℕ). is_separator (get_or xs 0 0)) rest_at
     ∙ ap is_separator (get_or-drop start line 0 0 ∙ ap (λ (i : ℕ). get_or line i 0) (omega arith))
-    ∙ not_true (is_separator (get_or line start 0)) begins.1
+    ∙ not-true (is_separator (get_or line start 0)) begins.1
     in let some : 0 < end = positive end (λ zero_is. true≢false (sym (subst (λ (i : ℕ). is_separator (get_or rest i 0)
     ≡ true) zero_is ends.1) ∙ first))
     in skipped ∙ token_at rest end some ends.0 ends.1 ends.2
     ∙ ap (λ (xs : List ℕ). take end rest ∷ tokens_of xs) (ap (λ (i : ℕ). drop i rest) (sym (add-one end))
-    ∙ sym (rest_is (end + 1) rest))
+    ∙ sym (take_rest rest (end + 1)))
   where
     positive : (n : ℕ) → (n ≡ 0 → ⊥) → 0 < n
     positive n h = omega arith
@@ -143,13 +131,13 @@ pub tokens_to_end : (line : List ℕ) (start : ℕ) → position (λ b. not (is_
 tokens_to_end line start e f =
     let begins = position-Some is_in_token line start 0 e
     in let rest = take (length line - start) (drop start line)
-    in let rest_at : rest ≡ drop start line = rest_is start line
+    in let rest_at : rest ≡ drop start line = take_rest line start
     in let some : 0 < length rest = rw rest_at (omega (arith, length-drop start line))
     in let skipped : tokens_of line
     ≡ tokens_of rest = tokens_skip line start (omega arith)
-    (λ k lt. not_false (is_separator (get_or line k 0)) (begins.2 k lt)) ∙ sym (ap tokens_of rest_at)
+    (λ k lt. not-false (is_separator (get_or line k 0)) (begins.2 k lt)) ∙ sym (ap tokens_of rest_at)
     in skipped ∙ token_alone rest some (position_none is_separator rest f)
-    ∙ ap (λ (xs : List ℕ). rest ∷ tokens_of xs) (sym (rest_is (length rest) rest
+    ∙ ap (λ (xs : List ℕ). rest ∷ tokens_of xs) (sym (take_rest rest (length rest)
     ∙ drop_all (length rest) rest (omega arith)))
 
 pub none_left : (o : Option ℕ) → ((n : ℕ) → o ≡ Some n → ⊥) → o ≡ None

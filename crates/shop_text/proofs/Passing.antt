@@ -1,12 +1,12 @@
 -- One line on in a text.
-use Rattle.std.proofs.Common.{◌≡◌, ℕ, ◌+◌, ◌<◌, ◌≤◌, ◌⊎◌, inl, inr, true, false, List, [], ◌∷◌, ◌++◌}
-use Rattle.std.proofs.Common.{length, map, filter, Option, Some, None, Result, Ok, Err, Vec, refl, sym, ap, ◌∙◌, subst}
+use Rattle.std.proofs.Common.{◌≡◌, ℕ, ◌+◌, ◌<◌, ◌≤◌, ◌⊎◌, inl, inr, List, [], ◌∷◌, ◌++◌}
+use Rattle.std.proofs.Common.{length, map, filter, Result, Ok, Err, Vec, refl, sym, ap, ◌∙◌, subst}
 use Rattle.std.proofs.Common.{append_assoc, arith}
 use Rattle.std.specs.List.{list_any, enumerate_from}
 use Rattle.std.specs.declared.alloc.Global.{Global}
 use Rattle.std.proofs.lemmas.List.{append-nil}
 use Rattle.shop_text.specs.Formats.{grammar_of}
-use Rattle.shop_text.specs.Lines.{Line, Blank, Numbers, Words, Numbered, is_left, line_of, lines_of, tokens_of}
+use Rattle.shop_text.specs.Lines.{Line, Blank, Numbers, Words, Numbered, is_left, line_of, lines_of}
 use Rattle.shop_text.specs.Lines.{numbered_lines}
 use Rattle.shop_text.specs.Grammar.{Grammar, LineFault, WrongShape, WrongSize, WrongRow, WrongMachine, WrongTime}
 use Rattle.shop_text.specs.Grammar.{fault_at}
@@ -22,7 +22,6 @@ use Rattle.shop_text.specs.declared.faults.ReadFault.TheVariants.{NoSuchName, Ba
 use Rattle.shop_text.specs.declared.names.Named.{Named}
 use Rattle.shop_text.specs.declared.formats.Format.{Format}
 use Rattle.shop_text.specs.declared.texts.Reader.{Reader}
-use Rattle.shop_text.proofs.Headers.{line_header, blank_header, numbers_header}
 
 pub further_here : (p : ℕ) (text0 : List ℕ) (n : ℕ) (text bytes rest : List ℕ) → IsFurther p text0 n text
     → lines_of text ≡ bytes ∷ lines_of rest → length rest < length text → IsFurther p text0 (n + 1) rest
@@ -49,55 +48,6 @@ after_cut n text bytes rest cut = ap (numbered (n + 1)) cut ∙ chosen (line_of 
 pub record IsBeforeHeader (f : Grammar) (text : List ℕ) (n : ℕ) (rest : List ℕ) : Type 0 where
   pub any : list_any (is_header f) (lines_after n rest) ≡ list_any (is_header f) (numbered_lines text)
   pub first : from_first_header f (lines_after n rest) ≡ from_first_header f (numbered_lines text)
-
-no_name : (f : Grammar) (n : ℕ) (line : Line) (lines : List Numbered) → f.header line ≡ None
-    → (list_any (is_header f) (left_of n line ++ lines) ≡ list_any (is_header f) lines)
-    × (from_first_header f (left_of n line ++ lines) ≡ from_first_header f lines)
-no_name f n Blank lines e = (refl, refl)
-no_name f n (Numbers row) lines e = (rw e refl, rw e refl)
-no_name f n (Words words) lines e = (rw e refl, rw e refl)
-
-pub header_passed : (f : Grammar) (text : List ℕ) (n : ℕ) (rest bytes after : List ℕ) → IsBeforeHeader f text n rest
-    → lines_of rest ≡ bytes ∷ lines_of after → f.header (line_of bytes) ≡ None → IsBeforeHeader f text (n + 1) after
-header_passed f text n rest bytes after b cut e =
-    let cut_lines = after_cut n rest bytes after cut
-    in let skipped = no_name f (n + 1) (line_of bytes) (lines_after (n + 1) after) e
-    in record {
-      any = sym skipped.0 ∙ sym (ap (list_any (is_header f)) cut_lines) ∙ b.any;
-      first = sym skipped.1 ∙ sym (ap (from_first_header f) cut_lines) ∙ b.first;
-    }
-
-one_name : (p : Format) (n : ℕ) (line : Line) (lines : List Numbered) (name : List ℕ)
-    → (grammar_of p).header line ≡ Some name
-    → (list_any (is_header (grammar_of p)) (left_of n line ++ lines) ≡ true)
-    × (from_first_header (grammar_of p) (left_of n line ++ lines) ≡ left_of n line ++ lines)
-one_name p n Blank lines name e = absurd (let b = blank_header p in cc)
-one_name p n (Numbers row) lines name e = absurd (let b = numbers_header p row in cc)
-one_name p n (Words words) lines name e = (rw e refl, rw e refl)
-
-pub header_here : (p : Format) (text : List ℕ) (n : ℕ) (rest bytes after : List ℕ) (name : List ℕ)
-    → IsBeforeHeader (grammar_of p) text n rest → lines_of rest ≡ bytes ∷ lines_of after
-    → (grammar_of p).header (line_of bytes) ≡ Some name → lines_left (grammar_of p) text ≡ lines_after n rest
-header_here p text n rest bytes after name b cut e =
-    let cut_lines = after_cut n rest bytes after cut
-    in let found = one_name p (n + 1) (line_of bytes) (lines_after (n + 1) after) name e
-    in let any : list_any (is_header (grammar_of p)) (numbered_lines text) ≡ true =
-    sym b.any ∙ ap (list_any (is_header (grammar_of p))) cut_lines ∙ found.0
-    in rw any (sym b.first ∙ ap (from_first_header (grammar_of p)) cut_lines ∙ found.1 ∙ sym cut_lines)
-
-pub no_header_left : (f : Grammar) (text : List ℕ) (n : ℕ) (rest : List ℕ) → IsBeforeHeader f text n rest
-    → length rest ≡ 0 → lines_left f text ≡ lines_after 0 text
-no_header_left f text n [] b none =
-    let any : list_any (is_header f) (numbered_lines text) ≡ false = sym b.any
-    in rw any refl
-no_header_left f text n (x ∷ rest) b none = absurd (omega arith)
-
-pub whole_text : (text : List ℕ) → IsFurther 0 text 0 text
-whole_text text = record { lines = refl; bytes = omega arith }
-
-pub header_in_line : (p : Format) (bytes : List ℕ) (o : Option (List ℕ))
-    → (grammar_of p).header (Words (tokens_of bytes)) ≡ o → (grammar_of p).header (line_of bytes) ≡ o
-header_in_line p bytes o e = sym (line_header p bytes) ∙ e
 
 -- ---- line by line
 

@@ -6,7 +6,7 @@ use Rattle.std.specs.Prelude.{filter, codes}
 use Rattle.std.specs.List.{enumerate_from, list_all, join_with_byte}
 use Rattle.std.specs.Str.{bytes_eq}
 use Rattle.std.specs.Fmt.{decimal}
-use Rattle.std.proofs.lemmas.Bool.{eq-eqb, le-leb, lt-ltb}
+use Rattle.std.proofs.lemmas.Bool.{and_from, eq-eqb, le-leb, lt-ltb}
 use Rattle.std.proofs.lemmas.List.{length-append, length-map, take_at}
 use Rattle.std.proofs.lemmas.Slice.Eq.{bytes_eq-Decides}
 use Rattle.shop_model.specs.Shop.{Shop, route_of}
@@ -24,11 +24,6 @@ use Rattle.shop_text.proofs.PrintedLines.{no_line_feed, no_separator, decimal_so
 pub small_number : (s : ℕ) → s ≤ 1000000000000000 → s < 2 ^ 64
 small_number s h = omega arith
 
-pub both : (a b : Bool) → a ≡ true → b ≡ true → (a && b) ≡ true
-both true true e f = refl
-both false b e f = absurd cc
-both true false e f = absurd cc
-
 abbrev pub AreSmallStarts : List ℕ → Type 0
 AreSmallStarts row = (k : ℕ) → get_or row k 0 ≤ 1000000000000000
 
@@ -37,9 +32,9 @@ starts_read [] small = refl
 starts_read (s ∷ row) small =
     let fits = small_number s (small 0)
     in let start : is_start (decimal s) ≡ true =
-    both (is_number (decimal s)) (leb (value_of (decimal s)) 1000000000000000) (decimal_is_number s fits)
+    and_from (is_number (decimal s)) (leb (value_of (decimal s)) 1000000000000000) (decimal_is_number s fits)
     (ap (λ (v : ℕ). leb v 1000000000000000) (decimal_value s fits) ∙ le-leb s 1000000000000000 (small 0))
-    in both (is_start (decimal s)) (list_all is_start (map decimal row)) start (starts_read row (λ k. small (suc k)))
+    in and_from (is_start (decimal s)) (list_all is_start (map decimal row)) start (starts_read row (λ k. small (suc k)))
 
 pub values_read : (row : List ℕ) → AreSmallStarts row → map value_of (map decimal row) ≡ row
 values_read [] small = refl
@@ -75,7 +70,7 @@ row_read shop j row job fits steps small =
     ∙ ap (λ (b : Bool). cond b (starts_of_tokens (length (route_of shop j)) (map decimal row)) None)
     (label_read j fits)
     ∙ ap (λ (b : Bool). cond b (Some (map value_of (map decimal row))) None)
-    (both (eqb (length (map decimal row)) (length (route_of shop j))) (list_all is_start (map decimal row))
+    (and_from (eqb (length (map decimal row)) (length (route_of shop j))) (list_all is_start (map decimal row))
     (eq-eqb _ _ (length-map row decimal ∙ steps)) (starts_read row small))
     ∙ ap Some (values_read row small)
 

@@ -5,7 +5,7 @@ use Rattle.std.proofs.Common.{arith, rules}
 use Rattle.std.specs.Prelude.{filter, fold}
 use Rattle.std.specs.List.{slice_split, onto_first, list_any, join_with_byte}
 use Rattle.std.specs.Fmt.{decimal, digits, digits_onto}
-use Rattle.std.proofs.lemmas.Bool.{eqb-true}
+use Rattle.std.proofs.lemmas.Bool.{eqb-true, or_parts}
 use Rattle.std.proofs.lemmas.Fmt.{decimal_nonempty, digits_decimal, digits_value-decimal}
 use Rattle.std.proofs.lemmas.Str.Parse.{IsNumeralModel, numerals_by_fold}
 use Rattle.std.proofs.lemmas.List.{append_assoc}
@@ -15,15 +15,11 @@ use Rattle.shop_text.specs.Lines.{is_line_feed, is_separator, is_empty, ended, l
 use Rattle.shop_text.specs.Lines.{value_of}
 use Rattle.shop_text.specs.Schedules.{Tokens}
 use Rattle.shop_text.specs.Writing.{text_of}
+use Rattle.shop_text.proofs.LineLemmas.{ended_more}
 
 -- no byte passes the test
 abbrev pub IsFree : (ℕ → Bool) → List ℕ → Type 0
 IsFree p bytes = list_any p bytes ≡ false
-
-neither : (a b : Bool) → (a || b) ≡ false → (a ≡ false) × (b ≡ false)
-neither false false e = (refl, refl)
-neither false true e = absurd cc
-neither true b e = absurd cc
 
 pub free_append : (p : ℕ → Bool) (xs ys : List ℕ) → IsFree p xs → IsFree p ys → IsFree p (xs ++ ys)
 free_append p xs ys e f = list_any-append p xs ys ∙ ap (λ (b : Bool). b || list_any p ys) e ∙ f
@@ -35,19 +31,14 @@ cut_at : (p : ℕ → Bool) (xs : List ℕ) (y : ℕ) (ys : List ℕ) → IsFree
     → slice_split p (xs ++ y ∷ ys) ≡ xs ∷ slice_split p ys
 cut_at p [] y ys free here = slice_split-cons_yes p y ys here
 cut_at p (x ∷ xs) y ys free here =
-    let f = neither (p x) (list_any p xs) free
+    let f = or_parts (p x) (list_any p xs) free
     in slice_split-cons_no p x (xs ++ y ∷ ys) f.0 ∙ ap (onto_first x) (cut_at p xs y ys f.1 here)
 
 cut_none : (p : ℕ → Bool) (xs : List ℕ) → IsFree p xs → slice_split p xs ≡ xs ∷ []
 cut_none p [] free = refl
 cut_none p (x ∷ xs) free =
-    let f = neither (p x) (list_any p xs) free
+    let f = or_parts (p x) (list_any p xs) free
     in slice_split-cons_no p x xs f.0 ∙ ap (onto_first x) (cut_none p xs f.1)
-
-ended_more : (piece : List ℕ) (pieces : List (List ℕ)) → 0 < length pieces
-    → ended (piece ∷ pieces) ≡ piece ∷ ended pieces
-ended_more piece [] some = absurd (omega arith)
-ended_more piece (next ∷ pieces) some = refl
 
 pub line_cut : (line rest : List ℕ) → IsFree is_line_feed line
     → lines_of ((line ++ 10 ∷ []) ++ rest) ≡ line ∷ lines_of rest

@@ -33,10 +33,6 @@ some_word ns (t ∷ ts) e = elim (cases_Bool (is_number t)) [
 pub at_word : (ns : List ℕ) (t : List ℕ) (ts : List (List ℕ)) → is_number t ≡ false → with_tokens ns (t ∷ ts) ≡ None
 at_word ns t ts isnt = rw isnt refl
 
-pub at_number : (ns : List ℕ) (t : List ℕ) (ts : List (List ℕ)) → is_number t ≡ true
-    → with_tokens ns (t ∷ ts) ≡ with_tokens (ns ++ capped (value_of t) ∷ []) ts
-at_number ns t ts is = rw is refl
-
 pub is_words : (ts : List (List ℕ)) → with_tokens [] ts ≡ None → line_of_tokens ts ≡ Words ts
 is_words [] e = absurd cc
 is_words (t ∷ ts) e = rw (some_word [] (t ∷ ts) e) refl

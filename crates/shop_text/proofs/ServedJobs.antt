@@ -1,23 +1,18 @@
 -- In a feasible table a machine serves one job at most at each instant.
 use Rattle.std.proofs.Common.{◌≡◌, ℕ, zero, suc, ◌+◌, ◌*◌, ◌<◌, ◌≤◌, Bool, true, false, ◌&&◌, ◌||◌, cond, eqb, leb}
-use Rattle.std.proofs.Common.{ltb, List, [], length, get_or, map, Some, None, refl, sym, ap, ◌∙◌, arith}
+use Rattle.std.proofs.Common.{ltb, List, length, map, Some, None, refl, sym, ap, ◌∙◌, arith}
 use Rattle.std.proofs.Common.{inl, inr, ◌⊎◌, add-one}
 use Rattle.std.specs.Prelude.{find}
 use Rattle.std.specs.List.{range_with_len, list_any}
 use Rattle.std.specs.Option.{option_map_or}
 use Rattle.std.proofs.lemmas.Bool.{cases_eq, eq-eqb, eqb-true, leb-true, le-leb, ltb-true, lt-ltb}
 use Rattle.std.proofs.lemmas.List.FromFn.{fill_by_all}
-use Rattle.shop_model.specs.declared.ops.Op.{Op}
-use Rattle.shop_model.specs.Checking.{starts_of}
 use Rattle.shop_model.specs.Shop.{Shop, Starts, route_of, machine_of, IsOperation, IsFeasible, finish_of}
 use Rattle.shop_model.proofs.Ends.{IsOperation-job}
 use Rattle.shop_text.specs.Writing.{character_of, is_served, serves, shown_at, ShowsTheJob}
-use Rattle.shop_text.specs.inner.Cells.{last_shown, serves_below, ShowsWhere, ShowsJobs}
+use Rattle.shop_text.specs.inner.Cells.{last_shown, ShowsJob, ShowsJobs}
 
 -- ---- tests over a range
-
-abbrev InRange : ℕ → ℕ → (ℕ → Type 0) → Type 0
-InRange a n P = (k : ℕ) × (k < a + n) × P k
 
 pub some_in_range : (p : ℕ → Bool) (a n : ℕ) → list_any p (range_with_len a n) ≡ true
     → (k : ℕ) × (k < a + n) × (p k ≡ true)
@@ -199,21 +194,14 @@ last_is_shown shop starts feasible machine instant =
         ∙ sym (shown_none shop starts machine instant all)
 
 -- one more job is shown
-pub job_shown : (shop : Shop) (rows : List (List ℕ)) (machine unit j character : ℕ) (cells newer : List ℕ)
-    (route : List Op) (starts : List ℕ) → route ≡ route_of shop j → starts ≡ get_or rows j []
-    → character ≡ character_of j
-    → length newer ≡ length cells → ShowsJobs shop (starts_of rows) machine unit cells j
-    → ShowsWhere cells newer character (λ c. serves_below route starts machine (c * unit) (length route))
-    → ShowsJobs shop (starts_of rows) machine unit newer (j + 1)
-job_shown shop rows machine unit j character cells newer route starts e f g same so_far here c h =
+pub job_shown : (shop : Shop) (starts : Starts) (machine unit j : ℕ) (cells newer : List ℕ)
+    → length newer ≡ length cells → ShowsJobs shop starts machine unit cells j
+    → ShowsJob shop starts machine unit j cells newer
+    → ShowsJobs shop starts machine unit newer (j + 1)
+job_shown shop starts machine unit j cells newer same so_far here c h =
     here c (omega arith)
-    ∙ ap (λ (r : List Op). cond (serves_below r starts machine (c * unit) (length r)) character (get_or cells c 0)) e
-    ∙ ap (λ (s : List ℕ). cond (serves_below (route_of shop j) s machine (c * unit) (length (route_of shop j)))
-    character (get_or cells c 0)) f
-    ∙ ap (λ (x : ℕ). cond (serves shop (starts_of rows) machine (c * unit) j) x (get_or cells c 0)) g
-    ∙ ap (λ (x : ℕ). cond (serves shop (starts_of rows) machine (c * unit) j) (character_of j) x)
-    (so_far c (omega arith))
-    ∙ ap (last_shown shop (starts_of rows) machine (c * unit)) (sym (add-one j))
+    ∙ ap (λ (x : ℕ). cond (serves shop starts machine (c * unit) j) (character_of j) x) (so_far c (omega arith))
+    ∙ ap (last_shown shop starts machine (c * unit)) (sym (add-one j))
 
 -- the cells of a machine, all jobs being shown
 pub all_shown : (shop : Shop) (starts : Starts) → IsFeasible shop starts → (machine unit : ℕ) (cells : List ℕ) (n : ℕ)

@@ -1,18 +1,13 @@
 -- The starts of a table that is read are within their limit.
-use Rattle.std.proofs.Common.{◌≡◌, ℕ, zero, suc, ◌+◌, ◌≤◌, Bool, true, false, ◌&&◌, eqb, ltb, List, [], ◌∷◌, length}
-use Rattle.std.proofs.Common.{get_or, map, Some, refl, arith, subst}
+use Rattle.std.proofs.Common.{◌≡◌, ℕ, zero, suc, ◌+◌, ◌≤◌, true, ◌&&◌, eqb, ltb, List, [], ◌∷◌, length}
+use Rattle.std.proofs.Common.{get_or, map, Some, arith, subst}
 use Rattle.std.specs.List.{enumerate_from, list_all}
-use Rattle.std.proofs.lemmas.Bool.{leb-true}
+use Rattle.std.proofs.lemmas.Bool.{and_parts, leb-true}
 use Rattle.shop_model.specs.Shop.{Shop, route_of}
 use Rattle.shop_model.specs.Limits.{AreStarts}
 use Rattle.shop_text.specs.Lines.{is_number, value_of}
 use Rattle.shop_text.specs.Schedules.{Tokens, is_label, is_start, starts_of_tokens, starts_in, row_in, IsTable}
 use Rattle.shop_text.proofs.JobLineLemmas.{chosen, row_at}
-
-both : (a b : Bool) → (a && b) ≡ true → (a ≡ true) × (b ≡ true)
-both true true e = (refl, refl)
-both true false e = absurd cc
-both false b e = absurd cc
 
 abbrev AreWithin : List ℕ → Type 0
 AreWithin starts = (k : ℕ) → get_or starts k 0 ≤ 1000000000000000
@@ -24,9 +19,9 @@ one_within start starts h all (suc k) = all k
 starts_within : (tokens : Tokens) → list_all is_start tokens ≡ true → AreWithin (map value_of tokens)
 starts_within [] e = λ k. omega arith
 starts_within (token ∷ tokens) e =
-    let h = both (is_start token) (list_all is_start tokens) e
+    let h = and_parts (is_start token) (list_all is_start tokens) e
     in one_within (value_of token) (map value_of tokens) (leb-true (value_of token) 1000000000000000
-    (both (is_number token) _ h.0).1) (starts_within tokens h.1)
+    (and_parts (is_number token) _ h.0).1) (starts_within tokens h.1)
 
 line_within : (j steps : ℕ) (tokens : Tokens) (row : List ℕ) → starts_in j steps tokens ≡ Some row → AreWithin row
 line_within j steps [] row e = absurd cc
@@ -36,7 +31,7 @@ line_within j steps (word ∷ label ∷ starts) row e =
     in let read =
     chosen (eqb (length starts) steps && list_all is_start starts) (Some (map value_of starts)) row labelled.1
     in let values : map value_of starts ≡ row = cc
-    in subst AreWithin values (starts_within starts (both (eqb (length starts) steps) _ read.0).1)
+    in subst AreWithin values (starts_within starts (and_parts (eqb (length starts) steps) _ read.0).1)
 
 one_row : (row : List ℕ) (rows : List (List ℕ)) → AreWithin row → AreStarts rows → AreStarts (row ∷ rows)
 one_row row rows h all zero = h

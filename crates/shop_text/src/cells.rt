@@ -1,15 +1,13 @@
 // The characters that a machine's line of a Gantt text shows.
 ghost use Rattle.std.specs.Prelude.{◌≡◌, ◌<◌, ◌≤◌, length};
 ghost use Rattle.shop_model.specs.Shop.{IsFeasible};
-ghost use Rattle.shop_model.specs.inner.Steps.{AreSmall};
 ghost use Rattle.shop_model.specs.Checking.{HasShape, starts_of};
 ghost use Rattle.shop_text.specs.Writing.{character_of, shown_cells};
-ghost use Rattle.shop_text.specs.inner.Cells.{is_column, ShowsWhere, ShowsRoute};
-ghost use Rattle.shop_text.specs.inner.Cells.{EndsWithin, AllEndWithin};
+ghost use Rattle.shop_text.specs.inner.Cells.{is_column, AllEndWithin, ShowsJob, ShowsWhere};
 
-use shop_model::{Instance, Op, Table};
+use shop_model::{Instance, Table};
 
-/// The characters of the first jobs; all others have `#`.
+/// The characters of jobs 0 to 61; all later jobs have `#`.
 const CHARACTERS: &[u8; 62] = b"0123456789ABCDEFGHIJKLMNOPQRSTUVWXYZabcdefghijklmnopqrstuvwxyz";
 
 /// The character of job j.
@@ -23,7 +21,7 @@ fn character(j: usize) -> u8
     }
 }
 
-/// Shows a character in the columns from one to before another.
+/// Shows a character in the columns from `from` to before `to`.
 fn show(cells: &mut [u8], from: usize, to: usize, character: u8)
     requires order { from ≤ to }
     requires within { to ≤ length cells.old }
@@ -34,20 +32,24 @@ fn show(cells: &mut [u8], from: usize, to: usize, character: u8)
     }
 }
 
-/// Shows a job in the columns at whose instants the machine serves it.
+/// Shows job j in the columns at whose instants the machine serves it.
 fn show_job(
     cells: &mut [u8],
     unit: u64,
     machine: usize,
-    character: u8,
-    route: &[Op],
-    starts: &[u64],
+    j: usize,
+    instance: &Instance,
+    table: &Table,
 )
     requires unit { 0 < unit }
-    requires small { AreSmall route.now starts.now }
-    requires within { EndsWithin route.now starts.now unit (length cells.old) }
-    ensures { ShowsRoute route.now starts.now machine unit cells.old cells.new character }
+    requires shape { HasShape instance.now table.now }
+    requires job { j < length instance.now.jobs }
+    requires within { AllEndWithin instance.now (starts_of table.now) unit (length cells.old) }
+    ensures { ShowsJob instance.now (starts_of table.now) machine unit j cells.old cells.new }
 {
+    let route = instance.route(j);
+    let starts = table.row(j);
+    let character = character(j);
     for k in 0..route.len() {
         if route[k].machine == machine {
             let from = starts[k].div_ceil(unit) as usize;
@@ -57,7 +59,7 @@ fn show_job(
     }
 }
 
-/// Shows in each column the job that the machine serves at its instant, and a dot where it serves none.
+/// Shows in each column the job that the machine serves at the column's instant, and a dot where it serves none.
 pub(crate) fn show_machine(
     cells: &mut [u8],
     unit: u64,
@@ -75,13 +77,6 @@ pub(crate) fn show_machine(
     let columns = cells.len();
     show(cells, 0, columns, b'.');
     for j in 0..instance.jobs() {
-        show_job(
-            cells,
-            unit,
-            machine,
-            character(j),
-            instance.route(j),
-            table.row(j),
-        );
+        show_job(cells, unit, machine, j, instance, table);
     }
 }

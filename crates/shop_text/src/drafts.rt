@@ -1,4 +1,4 @@
-// The part of a text that is being read.
+// The instance that is being read, row by row.
 ghost use Rattle.std.specs.Prelude.{◌≡◌, ℕ, ◌<◌, ◌∷◌, ◌++◌, [], List, map, true, false, ◌==◌};
 ghost use Rattle.shop_text.specs.Formats.{grammar_of};
 ghost use Rattle.shop_text.specs.inner.DraftLimits.{IsDraftWithin};
@@ -31,7 +31,7 @@ impl Draft {
     ghost use Rattle.shop_text.specs.inner.Drafts.{PushesJob, TakesRow};
     ghost use Rattle.std.specs.Prelude.{vec_len, IfOk};
 
-    /// Nothing yet.
+    /// The draft of an instance of which no line is read.
     pub(crate) fn new(alloc: Global) -> Draft
         ensures { result.jobs_wanted ≡ 0 }
     {
@@ -50,14 +50,13 @@ impl Draft {
         self.jobs_wanted == 0
     }
 
-    /// Whether text lines are skipped here.
+    /// Whether a text line is skipped at this place of the instance.
     pub(crate) fn skips_text(&self, format: Format) -> bool
         ensures { (rows : List Row) → IsDraft format self.now rows
             → result ≡ (grammar_of format).skips rows }
     {
         match format {
-            Format::Orlib => self.jobs_wanted == 0,
-            Format::Routes => self.jobs_wanted == 0,
+            Format::Orlib | Format::Routes => self.jobs_wanted == 0,
             Format::Taillard => {
                 self.times.is_empty()
                     || self.jobs.is_empty() && self.times.len() == self.jobs_wanted
@@ -70,8 +69,7 @@ impl Draft {
         ensures { result ≡ wants_times format self.now.jobs_wanted (vec_len self.now.times) }
     {
         match format {
-            Format::Orlib => false,
-            Format::Routes => false,
+            Format::Orlib | Format::Routes => false,
             Format::Taillard => self.times.len() < self.jobs_wanted,
         }
     }
@@ -103,7 +101,7 @@ impl Draft {
         }
     }
 
-    /// Adds a job; with the last one the instance is there, and the draft is empty again.
+    /// Adds a job. With the last one it returns the instance, and the draft is empty again.
     fn push_job(&mut self, alloc: Global, job: Job) -> Result<Option<Instance>, ReadFault>
         requires some { 0 < self.old.jobs_wanted }
         requires within { IsJobWithin self.old.machines job }
@@ -119,7 +117,7 @@ impl Draft {
         Ok(Some(Instance::of_jobs(self.machines, jobs).unwrap()))
     }
 
-    /// Takes a number line: the instance where it is whole with it, or the fault of the line.
+    /// Reads a number line. Returns the instance if this was its last row; fails with the fault of the line.
     pub(crate) fn take_row(
         &mut self,
         alloc: Global,

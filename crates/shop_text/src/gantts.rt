@@ -12,7 +12,7 @@ use std::alloc::{AllocError, Global};
 /// The most columns of a Gantt text.
 const MAX_COLUMNS: u64 = 72;
 
-/// How much time a column stands for.
+/// How many units of time a column stands for.
 fn unit(makespan: u64) -> u64
     ensures unit { result ≡ unit_of makespan }
     ensures some { 0 < result }

@@ -16,7 +16,7 @@ fn is_job(token: &[u8]) -> bool
     token == b"job".as_slice()
 }
 
-/// What follows the token `job`, if the line begins with it.
+/// The rest of a line behind its first token, if that is `job`.
 pub(crate) fn after_job(line: &[u8]) -> Option<&[u8]>
     ensures { FollowsJob (tokens_of line.now) result }
 {
@@ -44,7 +44,7 @@ fn names_job(j: usize, token: &[u8]) -> bool
     }
 }
 
-/// The start that a token is.
+/// The start that a token gives, if it is a number of at most `MAX_START`.
 fn start_of(token: &[u8]) -> Option<u64>
     ensures { IsStartOf token.now result }
 {
@@ -54,7 +54,7 @@ fn start_of(token: &[u8]) -> Option<u64>
     }
 }
 
-/// The starts of a line behind its label, if there is one for each step.
+/// The starts that follow the label of a line, if they are just as many as the job has steps.
 fn starts_behind(alloc: Global, steps: usize, behind: &[u8]) -> Result<Option<Vec<u64>>, AllocError>
     ensures { IsRowRead result (starts_of_tokens steps (tokens_of behind.now)) }
 {
@@ -76,7 +76,7 @@ fn starts_behind(alloc: Global, steps: usize, behind: &[u8]) -> Result<Option<Ve
     Ok(Some(starts))
 }
 
-/// The starts of job j, if this is what follows `job` on a line of it.
+/// The starts of job j, if this is the rest of a line of job j behind the token `job`.
 pub(crate) fn row_behind(
     alloc: Global,
     instance: &Instance,

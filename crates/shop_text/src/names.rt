@@ -13,7 +13,8 @@ pub struct Named {
     pub instance: Instance,
 }
 
-/// The first instance of this name, or the first one where no name is given; `NoSuchName` where none has the name.
+/// The first instance of this name, or the first one where no name is given. Fails with `NoSuchName` if no instance has
+/// the name.
 pub fn pick<'t>(named: &'t [Named], name: Option<&str>) -> Result<&'t Named, ReadFault>
     requires { 0 < length named.now }
     ensures { IsPick named.now (option_copied name.entry) result }

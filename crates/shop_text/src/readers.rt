@@ -8,7 +8,7 @@ use crate::names::Named;
 use crate::texts::read_text;
 use std::alloc::Global;
 
-/// The instances of a text in this format, as `read_orlib`, `read_taillard` and `read_routes` say.
+/// The instances of a text in this format: see `read_orlib`, `read_taillard` and `read_routes`.
 pub fn read(alloc: Global, format: Format, text: &[u8]) -> Result<Vec<Named>, ReadFault>
     ensures { IsRead (grammar_of format) text.now result }
 {
@@ -17,9 +17,9 @@ pub fn read(alloc: Global, format: Format, text: &[u8]) -> Result<Vec<Named>, Re
 
 /// The instances of a text in the form of the OR-Library file `jobshop1`, with their names; at least one.
 ///
-/// The text has at most 16,777,216 bytes, else the answer is `TooLong`. Of all other faults the first faulty line
-/// decides. The name of an instance is that of the last line `instance NAME` before it, else its number, from 1.
-/// `NoMemory` if memory runs out. For library callers: the program doesn't use it.
+/// Fails with `TooLong` above 16,777,216 bytes, and else with the fault of the first faulty line. The name of an
+/// instance is that of the last line `instance NAME` before it, else its number, from 1. Fails with `NoMemory` if memory
+/// runs out. For library callers: the program doesn't use it.
 pub fn read_orlib(alloc: Global, text: &[u8]) -> Result<Vec<Named>, ReadFault>
     ensures { IsRead orlib text.now result }
 {
@@ -29,8 +29,8 @@ pub fn read_orlib(alloc: Global, text: &[u8]) -> Result<Vec<Named>, ReadFault>
 /// The instances of a text in the form that goes by Taillard's name: a size line, a row of times for each job and a row
 /// of machines for each job, machines counted from 1; at least one instance. Their names are their numbers, from 1.
 ///
-/// Faults are as for `read_orlib`. What stands behind jobs and machines in a size line is read past. For library
-/// callers: the program doesn't use it.
+/// Faults are as for `read_orlib`. Numbers behind jobs and machines in a size line are skipped. For library callers: the
+/// program doesn't use it.
 pub fn read_taillard(alloc: Global, text: &[u8]) -> Result<Vec<Named>, ReadFault>
     ensures { IsRead taillard text.now result }
 {
@@ -39,7 +39,7 @@ pub fn read_taillard(alloc: Global, text: &[u8]) -> Result<Vec<Named>, ReadFault
 
 /// The instances of a text in the format `routes`, with their names; at least one.
 ///
-/// As `read_orlib`, but that the row of a job is its release, 0 to 1,000,000,000, and then 0 to 100 pairs of machine
+/// As `read_orlib`, except that the row of a job is its release, 0 to 1,000,000,000, and then 0 to 100 pairs of machine
 /// and time. For library callers: the program doesn't use it.
 pub fn read_routes(alloc: Global, text: &[u8]) -> Result<Vec<Named>, ReadFault>
     ensures { IsRead routes text.now result }

@@ -32,7 +32,7 @@ fn write_size(out: &mut String, jobs: usize, machines: usize) -> Result<(), Allo
     writeln!(out, "size {jobs} {machines}")
 }
 
-/// The word for what the search left.
+/// The status of a report, by the number of open nodes.
 fn status(open_nodes: usize) -> &'static str
     ensures { result.now ≡ status_word open_nodes }
 {

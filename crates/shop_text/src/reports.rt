@@ -1,8 +1,9 @@
-// What a report is made of.
+// Reports.
 use shop_model::{Instance, Table};
 
-/// What a report tells of an answer: its table, which has the instance's shape, and when it ends; a lower bound on all
-/// ends; how many nodes are open; the rounds done and the nodes counted in them.
+/// What a report tells of a search: the name of the instance, and the instance; its best table, which has the
+/// instance's shape, and the table's makespan; a lower bound on the makespan of all tables; how many nodes are open; and
+/// the rounds done and the nodes counted in them.
 #[derive(Drop)]
 pub struct Report<'t> {
     pub name: &'t str,

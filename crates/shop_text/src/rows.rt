@@ -21,9 +21,8 @@ pub(crate) fn size_of(format: Format, line: usize, row: &[u64]) -> Result<(usize
     ensures within { IfOk result (λ size. IsSize size.0 size.1) }
 {
     let most = match format {
+        Format::Orlib | Format::Routes => 2,
         Format::Taillard => 6,
-        Format::Orlib => 2,
-        Format::Routes => 2,
     };
     if row.len() < 2 || most < row.len() {
         return Err(ReadFault::BadShape { line });
@@ -36,7 +35,7 @@ pub(crate) fn size_of(format: Format, line: usize, row: &[u64]) -> Result<(usize
     Ok((jobs as usize, machines as usize))
 }
 
-/// The operations of a row of machine, time, machine, time, or its first fault from the left.
+/// The operations of a row of pairs of machine and time. Fails with the first fault from the left.
 fn route_of(
     alloc: Global,
     line: usize,

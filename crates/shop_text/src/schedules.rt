@@ -38,9 +38,9 @@ fn rows_in(alloc: Global, instance: &Instance, text: &[u8]) -> Result<Vec<Vec<u6
 }
 
 /// The table of a schedule text: the lines whose first token is `job`, one for each job of the instance, in order.
-/// Lines that begin otherwise are skipped, so a report is a schedule text. Refused as `TooLong` above 16,777,216
-/// bytes, and as `BadTable` at the first line of a job that is not as said or one too many; where a job's line is
-/// missing, at the number of the text's lines plus one. `NoMemory` if memory runs out.
+/// Other lines are skipped, so a report is a schedule text. Fails with `TooLong` above 16,777,216 bytes, and with
+/// `BadTable` at the first line of a job that is faulty or one too many; where a job's line is missing, the line of the
+/// fault is one more than the text has. Fails with `NoMemory` if memory runs out.
 pub fn read_table(alloc: Global, instance: &Instance, text: &[u8]) -> Result<Table, ReadFault>
     ensures { IsTableRead instance.now text.now result }
 {

@@ -1,4 +1,4 @@
-// One line of a text.
+// What one line of an instance text is.
 ghost use Rattle.std.specs.Prelude.{◌≡◌, ◌∷◌, [], Some, None, MatchOption, IfOk, codes};
 ghost use Rattle.std.specs.List.{list_all};
 ghost use Rattle.std.specs.Str.{bytes_eq};
@@ -57,13 +57,12 @@ pub(crate) fn header_in(format: Format, line: &[u8]) -> Option<&[u8]>
         (λ n. (grammar_of format).header (Words (tokens_of line.now)) ≡ Some n.now) }
 {
     match format {
+        Format::Orlib | Format::Routes => name_in(line),
         Format::Taillard => None,
-        Format::Orlib => name_in(line),
-        Format::Routes => name_in(line),
     }
 }
 
-/// What a line is. Its numbers, each at most the greatest of `u64`, take the place of what `numbers` held.
+/// What a line is. Sets `numbers` to its numbers; those above the greatest `u64` count as that.
 pub(crate) fn see<'t>(
     format: Format,
     line: &'t [u8],

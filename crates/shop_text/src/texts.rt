@@ -20,7 +20,7 @@ use crate::names::Named;
 use crate::seen_lines::{Seen, header_in, see};
 use std::alloc::{AllocError, Global};
 
-/// The instances that are read so far, the name of the last header since, and what is begun of the next instance.
+/// The instances read so far, the name of the last header behind them, and the draft of the next instance.
 #[derive(Drop)]
 struct Reader {
     format: Format,
@@ -29,7 +29,7 @@ struct Reader {
     draft: Draft,
 }
 
-/// The name, or where there is none the number.
+/// The name of an instance, or its number where it has none.
 fn name_or_number(alloc: Global, name: Option<String>, number: usize) -> Result<String, AllocError>
     ensures { IfOk result (λ s. string_bytes s ≡ name_or (decimal number) name) }
 {
@@ -40,7 +40,7 @@ fn name_or_number(alloc: Global, name: Option<String>, number: usize) -> Result<
 }
 
 impl Reader {
-    /// Nothing is read yet.
+    /// A reader that has read no line.
     fn new(alloc: Global, format: Format) -> Reader
         ensures same { result.format ≡ format }
         ensures nothing { IsReadUpTo result [] }
@@ -53,7 +53,7 @@ impl Reader {
         }
     }
 
-    /// Takes a text line, which gives this name, if any.
+    /// Reads a text line, and keeps the name that it gives, if any.
     fn take_words(
         &mut self,
         alloc: Global,
@@ -74,7 +74,7 @@ impl Reader {
         Ok(())
     }
 
-    /// Takes a number line.
+    /// Reads a number line.
     fn take_numbers(&mut self, alloc: Global, line: usize, row: &[u64]) -> Result<(), ReadFault>
         ensures { (front : List Numbered) (written : List ℕ) → IsReadUpTo self.old front
             → row.now ≡ map capped written
@@ -87,7 +87,7 @@ impl Reader {
         Ok(())
     }
 
-    /// Takes a line; `numbers` is room for its numbers.
+    /// Reads a line; `numbers` is room for its numbers.
     fn take_line(
         &mut self,
         alloc: Global,
@@ -105,7 +105,7 @@ impl Reader {
         }
     }
 
-    /// The instances, at the end of so many lines.
+    /// The instances at the end of the text, whose last line has this number.
     fn finish(self, last: usize) -> Result<Vec<Named>, ReadFault>
         requires { last ≤ MAX_TEXT }
         ensures { (lines : List Numbered) → IsReadUpTo self lines
@@ -122,8 +122,7 @@ impl Reader {
     }
 }
 
-/// Where the lines that count begin: at the first header, if there is one. How many lines stand before it, and the text
-/// from there.
+/// The text from its first header on, with the number of lines before that; the whole text if it has no header.
 fn from_first_header(format: Format, text: &[u8]) -> (usize, &[u8])
     requires { length text.now ≤ MAX_TEXT }
     ensures left { lines_left (grammar_of format) text.now ≡ lines_after result.0 result.1.now }

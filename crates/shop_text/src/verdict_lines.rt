@@ -1,4 +1,4 @@
-// The lines that tell instances and verdicts.
+// The lines of lists and of verdicts.
 ghost use Rattle.std.specs.Prelude.{◌≡◌, IfOk, string_bytes};
 ghost use Rattle.shop_text.specs.Writing.{instance_line, list_text, verdict_text};
 ghost use Rattle.shop_text.specs.inner.Printing.{AddsLine};

@@ -1,4 +1,4 @@
--- The placement of some word.
+-- Placements that some word has.
 use Rattle.std.specs.Prelude.{ℕ, List}
 use Rattle.shop_model.specs.Shop.{Shop}
 use Rattle.shop_model.specs.Word.{IsWord, placing}

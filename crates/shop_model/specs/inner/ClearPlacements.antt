@@ -1,4 +1,4 @@
--- A placement from which what was placed is taken away.
+-- A placement that is cleared, job by job and then machine by machine.
 use Rattle.std.specs.Prelude.{◌≡◌, ℕ, ◌<◌, slice_index}
 use Rattle.shop_model.specs.Placements.{PlacementState, HasPlaces}
 use Rattle.shop_model.specs.Shop.{Shop, release_of}

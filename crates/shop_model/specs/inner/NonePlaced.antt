@@ -1,4 +1,4 @@
--- What stands before anything is placed, as lists.
+-- The rows of starts before anything is placed.
 use Rattle.std.specs.Prelude.{ℕ, List, [], length, replicate}
 use Rattle.shop_model.specs.Shop.{Shop}
 

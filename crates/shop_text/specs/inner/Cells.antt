@@ -1,23 +1,15 @@
 -- What the parts of the writer of Gantt texts tell.
-use Rattle.std.specs.Prelude.{◌≡◌, ℕ, zero, suc, ◌*◌, ◌<◌, ◌≤◌, Bool, ◌&&◌, ◌==◌, nat_le, nat_lt}
+use Rattle.std.specs.Prelude.{◌≡◌, ℕ, zero, suc, ◌*◌, ◌<◌, ◌≤◌, Bool, ◌&&◌, nat_le, nat_lt}
 use Rattle.std.specs.Prelude.{if◌then◌else◌, List, length, slice_index}
 use Rattle.std.specs.List.{range_with_len, list_any}
 use Rattle.std.specs.Int.{div_ceil}
-use Rattle.shop_model.specs.declared.ops.Op.{Op}
 use Rattle.shop_model.specs.Shop.{Shop, Starts, IsOperation, finish_of}
-use Rattle.shop_model.specs.inner.Steps.{machine_at, finish_at}
-use Rattle.shop_text.specs.Writing.{character_of, serves}
+use Rattle.shop_text.specs.Writing.{character_of, is_served, serves}
 
--- step k of a route is on the machine at the instant
-abbrev pub is_on : List Op → List ℕ → ℕ → ℕ → ℕ → Bool
-is_on route starts machine instant k =
-    (machine_at route k == machine) && nat_le (slice_index starts k) instant
-    && nat_lt instant (finish_at route starts k)
-
--- whether the machine serves one of the first steps at the instant
-abbrev pub serves_below : List Op → List ℕ → ℕ → ℕ → ℕ → Bool
-serves_below route starts machine instant steps =
-    list_any (is_on route starts machine instant) (range_with_len 0 steps)
+-- whether the machine serves one of the first steps of job j at the instant
+abbrev pub serves_below : Shop → Starts → ℕ → ℕ → ℕ → ℕ → Bool
+serves_below shop starts machine instant j steps =
+    list_any (is_served shop starts machine instant j) (range_with_len 0 steps)
 
 -- a column from one to before another
 abbrev pub is_column : ℕ → ℕ → ℕ → Bool
@@ -29,16 +21,10 @@ ShowsWhere old new character test =
     (column : ℕ) → column < length old → slice_index new column
     ≡ (if test column then character else slice_index old column)
 
--- a job is shown in the columns at whose instants the machine serves it
-abbrev pub ShowsRoute : List Op → List ℕ → ℕ → ℕ → List ℕ → List ℕ → ℕ → Type 0
-ShowsRoute route starts machine unit old new character =
-    ShowsWhere old new character (λ column. serves_below route starts machine (column * unit)
-    (length route))
-
--- each step of a route ends by the last of the columns
-abbrev pub EndsWithin : List Op → List ℕ → ℕ → ℕ → Type 0
-EndsWithin route starts unit columns = (k : ℕ) → k < length route
-    → div_ceil (finish_at route starts k) unit ≤ columns
+-- job j is shown in the columns at whose instants the machine serves it
+abbrev pub ShowsJob : Shop → Starts → ℕ → ℕ → ℕ → List ℕ → List ℕ → Type 0
+ShowsJob shop starts machine unit j old new =
+    ShowsWhere old new (character_of j) (λ column. serves shop starts machine (column * unit) j)
 
 -- each operation ends by the last of the columns
 abbrev pub AllEndWithin : Shop → Starts → ℕ → ℕ → Type 0

@@ -1,5 +1,5 @@
-use Rattle.shop_heads.proofs.BoundLaw.{full_word_ends}
+use Rattle.shop_heads.proofs.BoundLaw.{full_word}
 use Rattle.shop_heads.proofs.laws.full_words_end_at_their_bound.Goals as goal
 
 pub returns : goal.returns
-returns c = full_word_ends
+returns c = full_word

@@ -4,8 +4,9 @@ use Rattle.one_machine.specs.declared.triples.Triple.{Triple}
 use Rattle.shop_heads.specs.Bound.{waiting, lb}
 use Rattle.shop_heads.specs.Laws.{IsLower, EndsThereIfFull}
 use Rattle.one_machine.specs.OneMachine.{IsSmall}
-use Rattle.shop_heads.proofs.BoundLaw.{lb-le-end, full_word_ends}
-use Rattle.shop_heads.proofs.LowerBounds.{if_ok, lower_bound_is, triples_among-is}
+use Rattle.shop_heads.proofs.BoundLaw.{lb-le-end, full_word}
+use Rattle.std.proofs.lemmas.Result.{IfOk-weaker}
+use Rattle.shop_heads.proofs.LowerBounds.{lower_bound_is, triples_among-is}
 use Rattle.shop_heads.proofs.SmallSums.{triples_small, sums_small}
 use Rattle.shop_heads.proofs.lower.lower_bound.Goals as goal
 
@@ -24,26 +25,26 @@ returns-clause-bound c =
     c.in_ok-placement.ensures
     c.machines_free.result.now c.machines_free.ensures c.as_slice.result.now
     (c.as_slice.ensures.value ∙ c.in_ok-unplaced.ensures (placing shop w) c.in_ok-placement.ensures)
-    in if_ok _ (λ b. b ≡ lb shop w) (λ b e. e ∙ is) c.greatest_bound.result c.greatest_bound.ensures
+    in IfOk-weaker c.greatest_bound.result _ (λ b. b ≡ lb shop w) (λ b e. e ∙ is) c.greatest_bound.ensures
 
 pub returns-clause-lower : goal.returns-clause-lower
 returns-clause-lower c =
     let shop = c.args.instance.now in let w = c.args.word.now
-    in if_ok (λ b. b ≡ lb shop w) (λ b. IsLower shop w b)
+    in IfOk-weaker c.greatest_bound.result (λ b. b ≡ lb shop w) (λ b. IsLower shop w b)
     (λ b e. subst (λ (x : ℕ). IsLower shop w x) (sym e) (λ starts under. lb-le-end shop w starts c.requires under))
-    c.greatest_bound.result (returns-clause-bound c)
+    (returns-clause-bound c)
 
 pub returns-clause-full : goal.returns-clause-full
 returns-clause-full c =
     let shop = c.args.instance.now in let w = c.args.word.now
-    in if_ok (λ b. b ≡ lb shop w) (λ b. EndsThereIfFull shop w b)
-    (λ b e full. let ends = full_word_ends shop w full in (ends, e ∙ sym ends.ends))
-    c.greatest_bound.result (returns-clause-bound c)
+    in IfOk-weaker c.greatest_bound.result (λ b. b ≡ lb shop w) (λ b. EndsThereIfFull shop w b)
+    (λ b e full. let ends = full_word shop w full in (ends, e ∙ sym ends.ends))
+    (returns-clause-bound c)
 
 pub returns-clause-small : goal.returns-clause-small
 returns-clause-small c =
     let shop = c.args.instance.now in let w = c.args.word.now
-    in if_ok (λ b. b ≡ lb shop w) (λ b. b < 2 ^ 50)
+    in IfOk-weaker c.greatest_bound.result (λ b. b ≡ lb shop w) (λ b. b < 2 ^ 50)
     (λ b e. subst (λ (x : ℕ). x < 2 ^ 50) (sym e)
     (let a = (sums_small shop c.keeps_limits.ensures w c.requires).bound in omega arith))
-    c.greatest_bound.result (returns-clause-bound c)
+    (returns-clause-bound c)

@@ -7,10 +7,8 @@ use Rattle.shop_text.proofs.cells.show_machine.Goals as goal
 pub loop-j-preserved : goal.loop-j-preserved
 loop-j-preserved c =
     let a = c.args
-    in job_shown a.instance.now a.table.now a.machine a.unit c.loop-j.j c.character.result c.loop-j.cells
-    c.show_job.new.cells c.route.result.now c.row.result.now
-    c.route.ensures.route c.row.ensures.row c.character.ensures c.show_job.auto.cells c.loop-j.invariant
-    c.show_job.ensures
+    in job_shown a.instance.now (starts_of a.table.now) a.machine a.unit c.loop-j.j c.loop-j.cells
+    c.show_job.new.cells c.show_job.auto.cells c.loop-j.invariant c.show_job.ensures
 
 pub returns : goal.returns
 returns c =
