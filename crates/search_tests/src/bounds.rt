@@ -243,6 +243,19 @@ fn long_rows(alloc: Global, count: usize) -> Result<Vec<Vec<Op>>, AllocError> {
 }
 
 #[test]
+fn two_hundred_operations_by_thresholds_and_by_jackson(rt: HostRuntime) {
+    let alloc = rt.alloc();
+    let rows = long_rows(alloc, 200).expect(&rt, "memory");
+    let instance = of_rows(1, rows).expect(&rt, "an instance");
+    let triples = triples_of(&rt, alloc, &instance, 0);
+    assert_eq!(rt; triples.len(), 200);
+    assert!(rt; is_small(&triples));
+    assert_eq!(rt; one_machine(&triples), 200_000_000_000);
+    let mut jackson = Jackson::with_room(alloc, triples.len()).expect(&rt, "memory");
+    assert_eq!(rt; jackson.bound(&triples), 200_000_000_000);
+}
+
+#[test]
 fn a_thousand_operations_on_one_machine(rt: HostRuntime) {
     let alloc = rt.alloc();
     let rows = long_rows(alloc, 1000).expect(&rt, "memory");
