@@ -2,6 +2,8 @@ pub mod LaneLists
 pub mod Loads
 pub mod LeapTurns
 pub mod LaterTurns
+pub mod TailedEnds
+pub mod OwnPositions
 pub mod OwnTurns
 pub mod OwnRows
 pub mod SpanTurns

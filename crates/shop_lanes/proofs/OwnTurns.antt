@@ -1,355 +1,470 @@
--- A position more of the passes for own spans, over lists alone.
-use Rattle.std.proofs.Common.{◌≡◌, ℕ, zero, suc, ◌+◌, ◌-◌, ◌<◌, ◌≤◌, max, Bool, true, false, cond, leb, List, [], ◌∷◌}
-use Rattle.std.proofs.Common.{◌++◌, length, take, drop, set, get_or, refl, ap, sym, ◌∙◌, arith, subst, inl, inr}
-use Rattle.std.proofs.Common.{take-append-drop, length-set}
+-- A block more of the passes for own spans, over lists alone.
+use Rattle.std.proofs.Common.{◌≡◌, ℕ, zero, suc, ◌+◌, ◌-◌, ◌*◌, ◌<◌, ◌≤◌, max, Bool, true, false, cond, leb, List, []}
+use Rattle.std.proofs.Common.{◌∷◌, ◌++◌, length, replicate, take, drop, get_or, refl, ap, sym, ◌∙◌, arith}
+use Rattle.std.proofs.Common.{subst, inl, inr, take-append-drop, take_all, length-drop, sum_by}
 use Rattle.std.specs.Prelude.{All}
-use Rattle.std.proofs.lemmas.List.{take_all, drop_all}
+use Rattle.std.proofs.lemmas.List.{drop_all, take-take, drop-drop, drop-append-le, get_or-replicate}
 use Rattle.std.proofs.lemmas.List.Sums.{sum_by-cons, sum_by-append}
 use Rattle.std.proofs.lemmas.Bool.{cases_lt}
 use Rattle.std.proofs.lemmas.Bool.Decides.{nat_tests}
+use Rattle.std.proofs.lemmas.Simd.{get_or-chunk, get_or-zip2, length-zip2, length-put_chunk, get_or-put_chunk_below}
+use Rattle.std.proofs.lemmas.Simd.{get_or-put_chunk_at, get_or-put_chunk_above}
+use Rattle.std.proofs.Math.Seq.{take-add}
+use lib.Lanes.{zip2, put_chunk, sum_l}
+use Rattle.shop_blocks.specs.Eights.{added, lessened, waiting, AddsFit}
+use Rattle.shop_blocks.specs.Folds.{greatest, maxima_before, maxima_behind}
+use Rattle.shop_blocks.proofs.Extremes.{greatest-append}
+use Rattle.shop_blocks.proofs.Maxima.{maxima_before-get, maxima_behind-get, length-maxima_before, length-maxima_behind}
+use Rattle.shop_blocks.proofs.Maxima.{before-greater, behind-greater, last-before, first-behind}
 use Rattle.shop_lanes.specs.Rows.{Lane, lanes}
-use Rattle.shop_lanes.specs.Spans.{span, FitsSpan, FitOwnSpans}
+use Rattle.shop_lanes.specs.Spans.{span, greatest_by, FitsSpan, FitOwnSpans}
 use Rattle.shop_lanes.specs.inner.OwnSpans.{own_span_at}
-use Rattle.shop_lanes.specs.inner.Passes.{clock_after}
+use Rattle.shop_lanes.specs.inner.Passes.{clock_after, tailed_ends}
+use Rattle.shop_lanes.proofs.BlockMasks.{drop_split, length-block}
 use Rattle.shop_lanes.proofs.BlockTurns.{greatest_by-append}
 use Rattle.shop_lanes.proofs.LaneLists.{lane_at, lanes_more, lanes-take, lanes-drop, length-lanes}
-use Rattle.shop_lanes.proofs.Loads.{work-append, load-append, work-one, load-one, work_le_load, work_le, load_le}
-use Rattle.shop_lanes.proofs.Loads.{span_from_start}
+use Rattle.shop_lanes.proofs.Loads.{work-append, load-append, work-one, work_le_load, work_le, load_le}
+use Rattle.shop_lanes.proofs.Loads.{span_from_start, clock_after-append}
+use Rattle.shop_lanes.proofs.Serving.{clock_after-sum, waiting_le}
+use Rattle.shop_lanes.proofs.TailedEnds.{take-tailed, drop-tailed, greatest-tailed, length-tailed}
+use Rattle.shop_lanes.proofs.OwnPositions.{ends_before, own_fits, own_at}
 
--- where all lanes are those before one, that one and those behind, none of their sums is above the limit
-pub record ArePartsWithin (limit start : ℕ) (before : List Lane) (x : Lane) (behind : List Lane) : Type 0 where
-  pub fit : start + clock_after 1 0 before + x.time + x.tail ≤ limit
-  pub load_before : start + span 1 0 before + x.time ≤ limit
-  pub load_behind : start + clock_after 1 0 before + x.time + span 1 0 behind ≤ limit
-
-pub parts_within : (limit start : ℕ) (all before : List Lane) (x : Lane) (behind : List Lane)
-    → all ≡ before ++ (x ∷ behind) → FitsSpan limit start all → ArePartsWithin limit start before x behind
-parts_within limit start all before x behind e fits =
-    let whole = subst (FitsSpan limit start) e fits
-    in let sum = sum_by-append (λ y. y.time) before (x ∷ behind)
-    in let sum_here = sum_by-cons (λ y. y.time) x behind
-    in let tails = greatest_by-append (λ y. y.tail) before (x ∷ behind)
-    in let work_before = work_le 1 before
-    in let work_behind = work_le 1 behind
-    in let before_le = load_le 1 before
-    in let behind_le = load_le 1 behind
-    in record {
-      fit = omega (arith, whole, sum, sum_here, tails, work_before);
-      load_before = omega (arith, whole, sum, sum_here, tails, work_before, before_le);
-      load_behind = omega (arith, whole, sum, sum_here, tails, work_before, work_behind, behind_le);
-    }
-
-pub all_at : (P : Lane → Type 0) (xs : List Lane) (x : Lane) (ys : List Lane) → All P (xs ++ (x ∷ ys)) → P x
-all_at P [] x ys h = h 0 x (omega arith)
-all_at P (y ∷ xs) x ys h = all_at P xs x ys (λ k d lt. h (suc k) d (omega arith))
-
-take_set : (xs : List ℕ) (i x : ℕ) → take i (set xs i x) ≡ take i xs
-take_set [] i x = refl
-take_set (y ∷ xs) zero x = refl
-take_set (y ∷ xs) (suc i) x = ap (λ l. y ∷ l) (take_set xs i x)
-
-drop_set : (xs : List ℕ) (i x : ℕ) → drop (suc i) (set xs i x) ≡ drop (suc i) xs
-drop_set [] i x = refl
-drop_set (y ∷ xs) zero x = refl
-drop_set (y ∷ xs) (suc i) x = drop_set xs i x
-
-set_to_none : (xs : List ℕ) (i : ℕ) → get_or (set xs i 0) i 0 ≡ 0
-set_to_none [] i = refl
-set_to_none (y ∷ xs) zero = refl
-set_to_none (y ∷ xs) (suc i) = set_to_none xs i
-
-set_same : (xs : List ℕ) (i x : ℕ) → i < length xs → get_or (set xs i x) i 0 ≡ x
-set_same [] i x lt = absurd (omega arith)
-set_same (y ∷ xs) zero x lt = refl
-set_same (y ∷ xs) (suc i) x lt = set_same xs i x (omega arith)
-
-set_other : (xs : List ℕ) (i k x : ℕ) → k < i → get_or (set xs i x) k 0 ≡ get_or xs k 0
-set_other [] i k x lt = refl
-set_other (y ∷ xs) zero k x lt = absurd (omega arith)
-set_other (y ∷ xs) (suc i) zero x lt = refl
-set_other (y ∷ xs) (suc i) (suc k) x lt = set_other xs i k x (omega arith)
-
-set_later : (xs : List ℕ) (i k x : ℕ) → i < k → get_or (set xs i x) k 0 ≡ get_or xs k 0
-set_later [] i k x lt = refl
-set_later (y ∷ xs) i zero x lt = absurd (omega arith)
-set_later (y ∷ xs) zero (suc k) x lt = refl
-set_later (y ∷ xs) (suc i) (suc k) x lt = set_later xs i k x (omega arith)
-
-taken_more : (hs ts qs : List ℕ) (i : ℕ) → length ts ≡ length hs → length qs ≡ length hs → i < length hs
-    → take (suc i) (lanes hs ts qs) ≡ take i (lanes hs ts qs) ++ (lane_at hs ts qs i ∷ [])
-taken_more [] ts qs i a b lt = absurd (omega arith)
-taken_more (h ∷ hs) [] qs i a b lt = absurd (omega arith)
-taken_more (h ∷ hs) (t ∷ ts) [] i a b lt = absurd (omega arith)
-taken_more (h ∷ hs) (t ∷ ts) (q ∷ qs) zero a b lt = refl
-taken_more (h ∷ hs) (t ∷ ts) (q ∷ qs) (suc i) a b lt =
-    ap (λ l. record { head = h; time = t; tail = q } ∷ l)
-    (taken_more hs ts qs i (omega arith) (omega arith) (omega arith))
-
--- one operation in numbers: what is written fits
-fit_numbers : (limit h t q C A R K Z : ℕ) (on : Bool) → K ≡ C + cond on t 0 → max K Z ≡ K + R → C ≤ A
-    → h + C + t + q ≤ limit → h + A + t ≤ limit → h + C + t + R ≤ limit
-    → (K + q ≤ limit) × (h + cond on t 0 + max A (Z - cond on t 0) ≤ limit)
-fit_numbers limit h t q C A R K Z true ek ez le f1 f2 f3 = (omega arith, omega arith)
-fit_numbers limit h t q C A R K Z false ek ez le f1 f2 f3 = (omega arith, omega arith)
-
-behind_numbers : (t q C R X K Z : ℕ) (on : Bool) → K ≡ C + cond on t 0 → max K Z ≡ K + R
-    → X ≡ max (cond on (t + q) 0) (cond on t 0 + R)
-    → max C (max Z (cond on (K + q) 0)) ≡ C + X
-behind_numbers t q C R X K Z true ek ez ex = omega arith
-behind_numbers t q C R X K Z false ek ez ex = omega arith
-
-own_numbers : (t C A R K Z : ℕ) → K ≡ C + t → max K Z ≡ K + R → C ≤ A → max A (Z - t) ≡ max A (C + R)
-own_numbers t C A R K Z ek ez le = omega arith
-
--- the way down as far as position i
-pub record IsNotedTo (hs ts qs : List ℕ) (clock most : ℕ) (owns : List ℕ) (i : ℕ) : Type 0 where
+-- the way down as far as block n
+pub record IsNotedTo (hs ts qs clock most owns : List ℕ) (n : ℕ) : Type 0 where
   pub long : length owns ≡ length hs
-  pub clock_is : clock ≡ clock_after 1 0 (take i (lanes hs ts qs))
-  pub most_is : most ≡ span 1 0 (take i (lanes hs ts qs))
-  pub noted : (k : ℕ) → k < i → get_or owns k 0 ≡ span 1 0 (take k (lanes hs ts qs))
+  pub clock_is : clock ≡ replicate 8 (clock_after 1 0 (take (8 * n) (lanes hs ts qs)))
+  pub most_is : most ≡ replicate 8 (greatest (take (8 * n) (tailed_ends 1 0 (lanes hs ts qs))))
+  pub noted : (k : ℕ) → k < 8 * n → get_or owns k 0 ≡ span 1 0 (take k (lanes hs ts qs))
 
--- the way back as far as position i
-pub record IsBackTo (hs ts qs : List ℕ) (clock behind : ℕ) (owns : List ℕ) (i : ℕ) : Type 0 where
-  pub within : i ≤ length hs
+-- the way back as far as block n
+pub record IsBackTo (hs ts qs clock behind owns : List ℕ) (n : ℕ) : Type 0 where
+  pub within : 8 * n ≤ length hs
   pub long : length owns ≡ length hs
-  pub clock_is : clock ≡ clock_after 1 0 (take i (lanes hs ts qs))
-  pub behind_is : max clock behind ≡ clock + span 1 0 (drop i (lanes hs ts qs))
-  pub noted : (k : ℕ) → k < i → get_or owns k 0 ≡ span 1 0 (take k (lanes hs ts qs))
-  pub done : (k : ℕ) → i ≤ k → k < length hs → 0 < get_or hs k 0 → get_or owns k 0 ≡ own_span_at hs ts qs k
+  pub clock_is : clock ≡ replicate 8 (clock_after 1 0 (take (8 * n) (lanes hs ts qs)))
+  pub behind_is : behind ≡ replicate 8 (greatest (drop (8 * n) (tailed_ends 1 0 (lanes hs ts qs))))
+  pub noted : (k : ℕ) → k < 8 * n → get_or owns k 0 ≡ span 1 0 (take k (lanes hs ts qs))
+  pub done : (k : ℕ) → 8 * n ≤ k → k < length hs → 0 < get_or hs k 0 → get_or owns k 0 ≡ own_span_at hs ts qs k
+
+-- what is read of block n, with the clock before it
+pub record IsLoaded (hs ts qs : List ℕ) (n : ℕ) (heads times tails one clock : List ℕ) : Type 0 where
+  pub heads_are : heads ≡ take 8 (drop (8 * n) hs)
+  pub times_are : times ≡ take 8 (drop (8 * n) ts)
+  pub tails_are : tails ≡ take 8 (drop (8 * n) qs)
+  pub one_is : one ≡ replicate 8 1
+  pub clock_is : clock ≡ replicate 8 (clock_after 1 0 (take (8 * n) (lanes hs ts qs)))
+
+pub splat_of : (v : List ℕ) (x : ℕ) → v ≡ replicate 8 x → v ≡ replicate 8 (get_or v 0 0)
+splat_of v x e = rw e refl
+
+pub splat_long : (v : List ℕ) (x : ℕ) → v ≡ replicate 8 x → length v ≡ 8
+splat_long v x e = rw e refl
+
+take_more : {A : Type 0} (n : ℕ) (xs : List A)
+    → take (8 * (n + 1)) xs ≡ take (8 * n) xs ++ take 8 (drop (8 * n) xs)
+take_more n xs =
+    let next : 8 * (n + 1) ≡ 8 * n + 8 = omega arith
+    in ap (λ k. take k xs) next ∙ take-add (8 * n) 8 xs
+
+before_in_block : (n j : ℕ) (xs : List ℕ) → j ≤ 8
+    → max (greatest (take (8 * n) xs)) (greatest (take j (take 8 (drop (8 * n) xs))))
+    ≡ greatest (take (8 * n + j) xs)
+before_in_block n j xs le =
+    sym (
+    ap greatest (take-add (8 * n) j xs)
+    ∙ greatest-append (take (8 * n) xs) (take j (drop (8 * n) xs))
+    ∙ ap (λ l. max (greatest (take (8 * n) xs)) (greatest l)) (sym (take-take j 8 (drop (8 * n) xs) le))
+    )
+
+behind_in_block : (n j : ℕ) (xs : List ℕ) → 8 * (n + 1) ≤ length xs → j < 8
+    → max (greatest (drop (8 * (n + 1)) xs)) (greatest (drop (suc j) (take 8 (drop (8 * n) xs))))
+    ≡ greatest (drop (suc (8 * n + j)) xs)
+behind_in_block n j xs room lt =
+    let block = take 8 (drop (8 * n) xs)
+    in let rest = drop (8 * (n + 1)) xs
+    in let on : 8 * n + suc j ≡ suc (8 * n + j) = omega arith
+    in let inside : suc j ≤ length block = omega (arith, length-block n xs room)
+    in let parts : drop (suc (8 * n + j)) xs ≡ drop (suc j) block ++ rest =
+    ap (λ k. drop k xs) (sym on)
+    ∙ sym (drop-drop (suc j) (8 * n) xs)
+    ∙ ap (drop (suc j)) (drop_split n xs)
+    ∙ drop-append-le (suc j) block rest inside
+    in swap (greatest rest) (greatest (drop (suc j) block))
+    ∙ sym (greatest-append (drop (suc j) block) rest)
+    ∙ ap greatest (sym parts)
+  where
+    swap : (p q : ℕ) → max p q ≡ max q p
+    swap p q = omega arith
+
+adds_fit : (limit : ℕ) (xs ys : List ℕ) → length ys ≡ length xs
+    → ((k : ℕ) → k < length xs → get_or xs k 0 + get_or ys k 0 ≤ limit) → AddsFit limit xs ys
+adds_fit limit [] ys e each = tt
+adds_fit limit (x ∷ xs) [] e each = tt
+adds_fit limit (x ∷ xs) (y ∷ ys) e each =
+    (each 0 (omega arith), adds_fit limit xs ys (omega arith) (λ k lt. each (suc k) (omega arith)))
+
+-- a position of a row is one of the block that is written, or of what stands before or behind it
+module _ (n : ℕ) (owns v new : List ℕ) (eight : length v ≡ 8) (room : 8 * (n + 1) ≤ length owns)
+    (new_is : new ≡ put_chunk (8 * n) owns v) where
+  pub stored_long : length new ≡ length owns
+  stored_long = ap length new_is ∙ length-put_chunk (8 * n) owns v
+
+  pub stored_before : (k : ℕ) → k < 8 * n → get_or new k 0 ≡ get_or owns k 0
+  stored_before k lt = ap (λ l. get_or l k 0) new_is ∙ get_or-put_chunk_below (8 * n) owns v k 0 lt
+
+  pub stored_at : (j : ℕ) → j < 8 → get_or new (8 * n + j) 0 ≡ get_or v j 0
+  stored_at j lt =
+      ap (λ l. get_or l (8 * n + j) 0) new_is
+      ∙ get_or-put_chunk_at (8 * n) owns v j 0 (omega (arith, eight)) (omega (arith, eight))
+
+  pub stored_behind : (k : ℕ) → 8 * (n + 1) ≤ k → get_or new k 0 ≡ get_or owns k 0
+  stored_behind k le =
+      ap (λ l. get_or l k 0) new_is ∙ get_or-put_chunk_above (8 * n) owns v k 0 (omega (arith, eight))
 
 module _ (hs ts qs : List ℕ) (a : length ts ≡ length hs) (b : length qs ≡ length hs) where
   abbrev all : List Lane
   all = lanes hs ts qs
 
-  pub parted : (i : ℕ) → i < length hs → all ≡ take i all ++ (lane_at hs ts qs i ∷ drop (i + 1) all)
-  parted i lt =
-      sym (take-append-drop i all) ∙ ap (λ l. take i all ++ l) (lanes_more hs ts qs i a b lt)
+  abbrev ends : List ℕ
+  ends = tailed_ends 1 0 all
 
-  pub work_more : (i : ℕ) → i < length hs
-      → clock_after 1 0 (take (suc i) all)
-      ≡ clock_after 1 0 (take i all) + cond (leb 1 (get_or hs i 0)) (get_or ts i 0) 0
-  work_more i lt =
-      ap (clock_after 1 0) (taken_more hs ts qs i a b lt)
-      ∙ work-append 1 (take i all) (lane_at hs ts qs i ∷ [])
-      ∙ ap (λ m. clock_after 1 0 (take i all) + m) (work-one 1 (lane_at hs ts qs i))
+  ends_long : length ends ≡ length hs
+  ends_long = length-tailed 1 0 all ∙ length-lanes hs ts qs a b
 
-  pub load_more : (i : ℕ) → i < length hs
-      → span 1 0 (take (suc i) all)
-      ≡ max (span 1 0 (take i all))
-      (cond (leb 1 (get_or hs i 0)) (clock_after 1 0 (take i all) + get_or ts i 0 + get_or qs i 0) 0)
-  load_more i lt =
-      let x = lane_at hs ts qs i
-      in let whole = ap (span 1 0) (taken_more hs ts qs i a b lt) ∙ load-append 1 (take i all) (x ∷ [])
-      in by_test x (leb 1 x.head) whole (load-one 1 x) (work_le_load 1 (take i all))
-    where
-      by_test : (x : Lane) (on : Bool)
-          → span 1 0 (take (suc i) all)
-          ≡ max (span 1 0 (take i all)) (clock_after 1 0 (take i all) + span 1 0 (x ∷ []))
-          → span 1 0 (x ∷ []) ≡ cond on (x.time + x.tail) 0
-          → clock_after 1 0 (take i all) ≤ span 1 0 (take i all)
-          → span 1 0 (take (suc i) all)
-          ≡ max (span 1 0 (take i all)) (cond on (clock_after 1 0 (take i all) + x.time + x.tail) 0)
-      by_test x true whole one le = omega (arith, whole, one, le)
-      by_test x false whole one le = omega (arith, whole, one, le)
-
-  pub noted_none : (owns : List ℕ) → length owns ≡ length hs → IsNotedTo hs ts qs 0 0 owns 0
+  pub noted_none : (owns : List ℕ) → length owns ≡ length hs
+      → IsNotedTo hs ts qs (replicate 8 0) (replicate 8 0) owns 0
   noted_none owns e = record { long = e; clock_is = refl; most_is = refl; noted = λ k lt. absurd (omega arith) }
 
-  module _ (limit : ℕ) (fits : FitsSpan limit 0 all) (clock most : ℕ) (owns : List ℕ) (i : ℕ) (lt : i < length hs)
-      (h : IsNotedTo hs ts qs clock most owns i) where
-    pub note_fits : clock + get_or ts i 0 + get_or qs i 0 ≤ limit
-    note_fits =
-        let within = parts_within limit 0 all (take i all) (lane_at hs ts qs i) (drop (i + 1) all) (parted i lt) fits
-        in let fit = within.fit
-        in let clock_is = h.clock_is
-        in omega (arith, fit, clock_is)
+  pub noted_all : (clock most owns : List ℕ) (n : ℕ) → 8 * n ≡ length hs → IsNotedTo hs ts qs clock most owns n
+      → (clock ≡ replicate 8 (clock_after 1 0 all))
+      × ((k : ℕ) → k < length hs → get_or owns k 0 ≡ span 1 0 (take k all))
+  noted_all clock most owns n e h =
+      let whole : take (8 * n) all ≡ all = take_all (8 * n) all (omega (arith, length-lanes hs ts qs a b))
+      in (h.clock_is ∙ ap (λ l. replicate 8 (clock_after 1 0 l)) whole, λ k lt. h.noted k (omega arith))
 
-    pub most_fits : most ≤ limit
-    most_fits =
-        let within = parts_within limit 0 all (take i all) (lane_at hs ts qs i) (drop (i + 1) all) (parted i lt) fits
-        in let fit = within.load_before
-        in let most_is = h.most_is
-        in omega (arith, fit, most_is)
-
-    pub note_more : (next later : ℕ) (owns' : List ℕ) → owns' ≡ set owns i most
-        → later ≡ max most (cond (leb 1 (get_or hs i 0)) (clock + get_or ts i 0 + get_or qs i 0) 0)
-        → next ≡ clock + cond (leb 1 (get_or hs i 0)) (get_or ts i 0) 0
-        → IsNotedTo hs ts qs next later owns' (i + 1)
-    note_more next later owns' eo el en =
-        let on : suc i ≡ i + 1 = omega arith
-        in let clock_is = h.clock_is
-        in let most_is = h.most_is
-        in subst (IsNotedTo hs ts qs next later owns') on (record {
-          long = ap length eo ∙ length-set owns i most ∙ h.long;
-          clock_is = en ∙ ap (λ m. m + cond (leb 1 (get_or hs i 0)) (get_or ts i 0) 0) clock_is ∙ sym (work_more i lt);
-          most_is = el
-              ∙ ap (λ m. max m (cond (leb 1 (get_or hs i 0)) (clock + get_or ts i 0 + get_or qs i 0) 0)) most_is
-              ∙ ap (λ m. max (span 1 0 (take i all))
-              (cond (leb 1 (get_or hs i 0)) (m + get_or ts i 0 + get_or qs i 0) 0)) clock_is
-              ∙ sym (load_more i lt);
-          noted = λ k less. elim (cases_lt k i) [
-            | inl early ↦ ap (λ l. get_or l k 0) eo ∙ set_other owns i k most early ∙ h.noted k early
-            | inr late ↦
-                let is : k ≡ i = omega arith
-                in let long = h.long
-                in rw is (ap (λ l. get_or l i 0) eo ∙ set_same owns i most (omega (arith, long)) ∙ most_is)
-          ];
-        })
-
-  pub noted_all : (clock most : ℕ) (owns : List ℕ) (i : ℕ) → i ≡ length hs → IsNotedTo hs ts qs clock most owns i
-      → (clock ≡ clock_after 1 0 all) × ((k : ℕ) → k < length hs → get_or owns k 0 ≡ span 1 0 (take k all))
-  noted_all clock most owns i e h =
-      let whole : take i all ≡ all = take_all i all (omega (arith, length-lanes hs ts qs a b))
-      in (h.clock_is ∙ ap (clock_after 1 0) whole, λ k lt. h.noted k (omega arith))
-
-  pub back_begins : (clock : ℕ) (owns : List ℕ) → length owns ≡ length hs → clock ≡ clock_after 1 0 all
-      → ((k : ℕ) → k < length hs → get_or owns k 0 ≡ span 1 0 (take k all)) → IsBackTo hs ts qs clock 0 owns (length hs)
-  back_begins clock owns long e noted =
-      let past : length all ≤ length hs = omega (arith, length-lanes hs ts qs a b)
-      in let none : drop (length hs) all ≡ [] = drop_all (length hs) all past
+  pub back_begins : (clock owns : List ℕ) (n : ℕ) → 8 * n ≡ length hs → length owns ≡ length hs
+      → clock ≡ replicate 8 (clock_after 1 0 all)
+      → ((k : ℕ) → k < length hs → get_or owns k 0 ≡ span 1 0 (take k all))
+      → IsBackTo hs ts qs clock (replicate 8 0) owns n
+  back_begins clock owns n e long clock_is noted =
+      let whole : take (8 * n) all ≡ all = take_all (8 * n) all (omega (arith, length-lanes hs ts qs a b))
+      in let none : drop (8 * n) ends ≡ [] = drop_all (8 * n) ends (omega (arith, ends_long))
       in record {
         within = omega arith;
         long = long;
-        clock_is = e ∙ ap (clock_after 1 0) (sym (take_all (length hs) all past));
-        behind_is = rw none (omega arith);
-        noted = noted;
+        clock_is = clock_is ∙ ap (λ l. replicate 8 (clock_after 1 0 l)) (sym whole);
+        behind_is = ap (λ l. replicate 8 (greatest l)) (sym none);
+        noted = λ k lt. noted k (omega arith);
         done = λ k le lt waits. absurd (omega arith);
       }
 
-  -- what else waits, where position p is taken out
-  others : (p : ℕ) → p < length hs
-      → lanes (set hs p 0) ts qs ≡ take p all ++ (lane_at (set hs p 0) ts qs p ∷ drop (p + 1) all)
-  others p lt =
-      let taken = set hs p 0
-      in let many : length taken ≡ length hs = length-set hs p 0
-      in let on : suc p ≡ p + 1 = omega arith
-      in let la : length ts ≡ length taken = a ∙ sym many
-      in let lb : length qs ≡ length taken = b ∙ sym many
-      in let front : take p (lanes taken ts qs) ≡ take p all =
-      lanes-take p taken ts qs la lb ∙ ap (λ l. lanes l (take p ts) (take p qs)) (take_set hs p 0)
-      ∙ sym (lanes-take p hs ts qs a b)
-      in let back : drop (p + 1) (lanes taken ts qs) ≡ drop (p + 1) all =
-      lanes-drop (p + 1) taken ts qs la lb
-      ∙ ap (λ l. lanes l (drop (p + 1) ts) (drop (p + 1) qs))
-      (ap (λ k. drop k taken) (sym on) ∙ drop_set hs p 0 ∙ ap (λ k. drop k hs) on)
-      ∙ sym (lanes-drop (p + 1) hs ts qs a b)
-      in sym (take-append-drop p (lanes taken ts qs))
-      ∙ ap (λ l. take p (lanes taken ts qs) ++ l) (lanes_more taken ts qs p la lb (omega (arith, many)))
-      ∙ ap (λ l. l ++ (lane_at taken ts qs p ∷ drop (p + 1) (lanes taken ts qs))) front
-      ∙ ap (λ l. take p all ++ (lane_at taken ts qs p ∷ l)) back
+  module _ (n : ℕ) (room : 8 * (n + 1) ≤ length hs) (heads times tails one clock : List ℕ)
+      (read : IsLoaded hs ts qs n heads times tails one clock) where
+    room_of : (xs : List ℕ) → length xs ≡ length hs → 8 * (n + 1) ≤ length xs
+    room_of xs e = omega arith
 
-  own_is : (p r : ℕ) → p < length hs
-      → r ≡ max (span 1 0 (take p all)) (clock_after 1 0 (take p all) + span 1 0 (drop (p + 1) all))
-      → get_or hs p 0 + get_or ts p 0 + r ≡ own_span_at hs ts qs p
-  own_is p r lt e =
-      let taken = set hs p 0
-      in let none : get_or taken p 0 ≡ 0 = set_to_none hs p
-      in let load : span 1 0 (lanes taken ts qs)
-      ≡ max (span 1 0 (take p all)) (clock_after 1 0 (take p all) + span 1 0 (drop (p + 1) all)) =
-      ap (span 1 0) (others p lt)
-      ∙ load-append 1 (take p all) (lane_at taken ts qs p ∷ drop (p + 1) all)
-      ∙ ap (λ m. max (span 1 0 (take p all)) (clock_after 1 0 (take p all) + m)) (rw none refl)
-      in ap (λ m. get_or hs p 0 + get_or ts p 0 + m) (e ∙ sym load)
-      ∙ sym (span_from_start 1 (get_or hs p 0 + get_or ts p 0) (lanes taken ts qs))
+    pub heads_long : length heads ≡ 8
+    heads_long = ap length read.heads_are ∙ length-block n hs room
 
-  module _ (limit : ℕ) (fits : FitOwnSpans limit all) (clock behind : ℕ) (owns : List ℕ) (i p : ℕ) (some : suc p ≡ i)
-      (h : IsBackTo hs ts qs clock behind owns i) where
-    lt : p < length hs
-    lt = let w = h.within in omega arith
+    pub times_long : length times ≡ 8
+    times_long = ap length read.times_are ∙ length-block n ts (room_of ts a)
 
-    this : Lane
-    this = lane_at hs ts qs p
+    pub tails_long : length tails ≡ 8
+    tails_long = ap length read.tails_are ∙ length-block n qs (room_of qs b)
 
-    head : ℕ
-    head = get_or hs p 0
+    one_at : get_or one 0 0 ≡ 1
+    one_at = ap (λ l. get_or l 0 0) read.one_is
 
-    abbrev served : ℕ
-    served = cond (leb 1 (get_or hs p 0)) (get_or ts p 0) 0
+    clock_at : get_or clock 0 0 ≡ clock_after 1 0 (take (8 * n) all)
+    clock_at = ap (λ l. get_or l 0 0) read.clock_is
 
-    clock_here : clock ≡ clock_after 1 0 (take p all) + served
-    clock_here = h.clock_is ∙ ap (λ k. clock_after 1 0 (take k all)) (sym some) ∙ work_more p lt
+    block_lanes : lanes heads times tails ≡ take 8 (drop (8 * n) all)
+    block_lanes =
+        let la : length (drop (8 * n) ts) ≡ length (drop (8 * n) hs) = simp length-drop (ap (λ k. k - 8 * n) a)
+        in let lb : length (drop (8 * n) qs) ≡ length (drop (8 * n) hs) = simp length-drop (ap (λ k. k - 8 * n) b)
+        in ap (λ l. lanes l times tails) read.heads_are
+        ∙ ap (λ l. lanes (take 8 (drop (8 * n) hs)) l tails) read.times_are
+        ∙ ap (lanes (take 8 (drop (8 * n) hs)) (take 8 (drop (8 * n) ts))) read.tails_are
+        ∙ sym (lanes-take 8 (drop (8 * n) hs) (drop (8 * n) ts) (drop (8 * n) qs) la lb)
+        ∙ ap (take 8) (sym (lanes-drop (8 * n) hs ts qs a b))
 
-    behind_here : max clock behind ≡ clock + span 1 0 (drop (p + 1) all)
-    behind_here =
-        let on : i ≡ p + 1 = omega arith
-        in h.behind_is ∙ ap (λ k. clock + span 1 0 (drop k all)) on
+    parts : all ≡ take (8 * n) all ++ (lanes heads times tails ++ drop 8 (drop (8 * n) all))
+    parts =
+        sym (take-append-drop (8 * n) all)
+        ∙ ap (λ l. take (8 * n) all ++ l)
+        (sym (take-append-drop 8 (drop (8 * n) all)) ∙ ap (λ l. l ++ drop 8 (drop (8 * n) all)) (sym block_lanes))
 
-    noted_here : get_or owns p 0 ≡ span 1 0 (take p all)
-    noted_here = h.noted p (omega arith)
+    pub block_fits : (limit : ℕ) → FitsSpan limit 0 all → FitsSpan limit (get_or clock 0 0) (lanes heads times tails)
+    block_fits limit fits =
+        let whole = subst (FitsSpan limit 0) parts fits
+        in let before = take (8 * n) all
+        in let here = lanes heads times tails
+        in let behind = drop 8 (drop (8 * n) all)
+        in omega (
+          arith,
+          whole,
+          clock_at,
+          work_le 1 before,
+          sum_by-append (λ x. x.time) before (here ++ behind),
+          sum_by-append (λ x. x.time) here behind,
+          greatest_by-append (λ x. x.tail) before (here ++ behind),
+          greatest_by-append (λ x. x.tail) here behind,
+        )
 
-    numbers : (clock + get_or qs p 0 ≤ limit)
-        × (get_or hs p 0 + served + max (span 1 0 (take p all)) (behind - served) ≤ limit)
-    numbers =
-        let each = subst (All (λ x. FitsSpan limit x.head all)) (parted p lt) fits.each
-        in let fitting : FitsSpan limit (get_or hs p 0) all =
-        all_at (λ x. FitsSpan limit x.head all) (take p all) (lane_at hs ts qs p) (drop (p + 1) all) each
-        in let within = parts_within limit (get_or hs p 0) all (take p all) (lane_at hs ts qs p) (drop (p + 1) all)
-        (parted p lt) fitting
-        in fit_numbers limit (get_or hs p 0) (get_or ts p 0) (get_or qs p 0) (clock_after 1 0 (take p all))
-        (span 1 0 (take p all)) (span 1 0 (drop (p + 1) all)) clock behind (leb 1 (get_or hs p 0)) clock_here
-        behind_here (work_le_load 1 (take p all)) within.fit within.load_before within.load_behind
+    pub waiting_fits : (limit : ℕ) → FitsSpan limit 0 all → sum_l (waiting (get_or one 0 0) heads times) ≤ limit
+    waiting_fits limit fits =
+        let room' = block_fits limit fits
+        in omega (
+          arith,
+          room',
+          waiting_le (get_or one 0 0) heads times tails (times_long ∙ sym heads_long) (tails_long ∙ sym heads_long),
+        )
 
-    pub late_fits : clock + get_or qs p 0 ≤ limit
-    late_fits = numbers.0
+    pub clock_passed : (after : List ℕ)
+        → after ≡ replicate 8 (clock_after (get_or one 0 0) (get_or clock 0 0) (lanes heads times tails))
+        → after ≡ replicate 8 (clock_after 1 0 (take (8 * (n + 1)) all))
+    clock_passed after e =
+        e
+        ∙ ap (λ k. replicate 8 (clock_after k (get_or clock 0 0) (lanes heads times tails))) one_at
+        ∙ ap (λ k. replicate 8 (clock_after 1 k (lanes heads times tails))) clock_at
+        ∙ ap (λ l. replicate 8 (clock_after 1 (clock_after 1 0 (take (8 * n) all)) l)) block_lanes
+        ∙ ap (replicate 8) (
+        sym (clock_after-append 1 0 (take (8 * n) all) (take 8 (drop (8 * n) all)))
+        ∙ ap (clock_after 1 0) (sym (take_more n all))
+        )
 
-    pub own_fits : get_or hs p 0 + served + max (get_or owns p 0) (behind - served) ≤ limit
-    own_fits = let n = numbers.1 in let e = noted_here in rw e n
+    -- the clock before the block, from the clock after it
+    pub clock_back : (passed back : List ℕ) → passed ≡ replicate 8 (clock_after 1 0 (take (8 * (n + 1)) all))
+        → back ≡ replicate 8 (get_or passed 0 0 - sum_l (waiting (get_or one 0 0) heads times))
+        → back ≡ replicate 8 (clock_after 1 0 (take (8 * n) all))
+    clock_back passed back e told =
+        let before = clock_after 1 0 (take (8 * n) all)
+        in let work = sum_l (waiting 1 heads times)
+        in let whole : clock_after 1 0 (take (8 * (n + 1)) all) ≡ before + (0 + work) =
+        ap (clock_after 1 0) (take_more n all)
+        ∙ work-append 1 (take (8 * n) all) (take 8 (drop (8 * n) all))
+        ∙ ap (λ l. before + clock_after 1 0 l) (sym block_lanes)
+        ∙ ap (λ k. before + k)
+        (clock_after-sum 1 0 heads times tails (times_long ∙ sym heads_long) (tails_long ∙ sym heads_long))
+        in let first : get_or passed 0 0 ≡ before + (0 + work) = ap (λ l. get_or l 0 0) e ∙ whole
+        in let served : sum_l (waiting (get_or one 0 0) heads times) ≡ work =
+        ap (λ k. sum_l (waiting k heads times)) one_at
+        in let left : get_or passed 0 0 - sum_l (waiting (get_or one 0 0) heads times) ≡ before =
+        omega (arith, first, served)
+        in told ∙ ap (replicate 8) left
 
-    pub served_before : served ≤ clock
-    served_before = let e = clock_here in omega (arith, e)
+    module _ (late : List ℕ)
+        (late_told : late ≡ tailed_ends (get_or one 0 0) (get_or clock 0 0) (lanes heads times tails)) where
+      late_are : late ≡ take 8 (drop (8 * n) ends)
+      late_are =
+          late_told
+          ∙ ap (λ k. tailed_ends k (get_or clock 0 0) (lanes heads times tails)) one_at
+          ∙ ap (λ k. tailed_ends 1 k (lanes heads times tails)) clock_at
+          ∙ ap (tailed_ends 1 (clock_after 1 0 (take (8 * n) all))) block_lanes
+          ∙ sym (take-tailed 8 1 (clock_after 1 0 (take (8 * n) all)) (drop (8 * n) all))
+          ∙ ap (take 8) (sym (drop-tailed (8 * n) 1 0 all))
 
-    pub back_more : (own : ℕ) (owns' : List ℕ) (behind' clock' : ℕ)
-        → own ≡ get_or hs p 0 + served + max (get_or owns p 0) (behind - served) → owns' ≡ set owns p own
-        → behind' ≡ max behind (cond (leb 1 (get_or hs p 0)) (clock + get_or qs p 0) 0) → clock' ≡ clock - served
-        → IsBackTo hs ts qs clock' behind' owns' p
-    back_more own owns' behind' clock' e eo eb ec =
-        let less = lt
-        in let room = h.long
-        in let here = clock_here
-        in let clock_is : clock' ≡ clock_after 1 0 (take p all) = omega (arith, ec, here)
-        in let x = lane_at hs ts qs p
-        in let split : span 1 0 (drop p all) ≡ max (cond (leb 1 x.head) (x.time + x.tail) 0)
-        (cond (leb 1 x.head) x.time 0 + span 1 0 (drop (p + 1) all)) =
-        ap (span 1 0) (lanes_more hs ts qs p a b lt)
-        ∙ load-append 1 (x ∷ []) (drop (p + 1) all)
-        ∙ ap (λ m. max m (clock_after 1 0 (x ∷ []) + span 1 0 (drop (p + 1) all))) (load-one 1 x)
-        ∙ ap (λ m. max (cond (leb 1 x.head) (x.time + x.tail) 0) (m + span 1 0 (drop (p + 1) all))) (work-one 1 x)
-        in record {
-          within = omega (arith, less);
-          long = ap length eo ∙ length-set owns p own ∙ h.long;
-          clock_is = clock_is;
-          behind_is = ap (λ m. max m behind') clock_is
-              ∙ ap (max (clock_after 1 0 (take p all))) eb
-              ∙ behind_numbers x.time x.tail (clock_after 1 0 (take p all)) (span 1 0 (drop (p + 1) all))
-              (span 1 0 (drop p all)) clock behind (leb 1 x.head) here behind_here split
-              ∙ ap (λ m. m + span 1 0 (drop p all)) (sym clock_is);
-          noted = λ k before. ap (λ l. get_or l k 0) eo ∙ set_other owns p k own before ∙ h.noted k (omega arith);
-          done = λ k from_p under waits. elim (cases_lt p k) [
-            | inl later ↦
-                ap (λ l. get_or l k 0) eo ∙ set_later owns p k own later ∙ h.done k (omega arith) under waits
-            | inr le ↦
-                let is : k ≡ p = omega arith
-                in let waits' : 0 < get_or hs p 0 = subst (λ m. 0 < get_or hs m 0) is waits
-                in rw is (ap (λ l. get_or l p 0) eo ∙ set_same owns p own (omega (arith, less, room))
-                ∙ own_here own e waits')
-          ];
-        }
-      where
-        is_on : (k : ℕ) → 0 < k → leb 1 k ≡ true
-        is_on k waits = grind (arith, nat_tests)
+      pub late_long : length late ≡ 8
+      late_long = ap length late_are ∙ length-block n ends (room_of ends ends_long)
 
-        own_here : (own : ℕ) → own ≡ get_or hs p 0 + served + max (get_or owns p 0) (behind - served)
-            → 0 < get_or hs p 0 → own ≡ own_span_at hs ts qs p
-        own_here own e waits =
-            let on : leb 1 (get_or hs p 0) ≡ true = is_on (get_or hs p 0) waits
-            in let is_served : served ≡ get_or ts p 0 = rw on refl
-            in let clock_on : clock ≡ clock_after 1 0 (take p all) + get_or ts p 0 =
-            clock_here ∙ ap (λ m. clock_after 1 0 (take p all) + m) is_served
-            in let rest : max (get_or owns p 0) (behind - get_or ts p 0)
-            ≡ max (span 1 0 (take p all)) (clock_after 1 0 (take p all) + span 1 0 (drop (p + 1) all)) =
-            ap (λ m. max m (behind - get_or ts p 0)) noted_here
-            ∙ own_numbers (get_or ts p 0) (clock_after 1 0 (take p all)) (span 1 0 (take p all))
-            (span 1 0 (drop (p + 1) all)) clock behind clock_on behind_here (work_le_load 1 (take p all))
-            in e
-            ∙ ap (λ m. get_or hs p 0 + m + max (get_or owns p 0) (behind - m)) is_served
-            ∙ own_is p (max (get_or owns p 0) (behind - get_or ts p 0)) lt rest
+      module _ (most owns befores noted : List ℕ) (h : IsNotedTo hs ts qs clock most owns n)
+          (befores_are : befores ≡ maxima_before 0 late) (noted_told : noted ≡ zip2 max most befores) where
+        abbrev highest : ℕ
+        highest = greatest (take (8 * n) ends)
+
+        pub befores_long : length befores ≡ 8
+        befores_long = ap length befores_are ∙ length-maxima_before 0 late ∙ late_long
+
+        noted_are : noted ≡ maxima_before highest late
+        noted_are =
+            noted_told ∙ ap (λ l. zip2 max l befores) h.most_is ∙ ap (zip2 max (replicate 8 highest)) befores_are
+            ∙ before-greater highest late late_long
+
+        pub noted_long : length noted ≡ 8
+        noted_long = ap length noted_are ∙ length-maxima_before highest late ∙ late_long
+
+        noted_at : (j : ℕ) → j < 8 → get_or noted j 0 ≡ span 1 0 (take (8 * n + j) all)
+        noted_at j lt =
+            ap (λ l. get_or l j 0) noted_are
+            ∙ maxima_before-get highest late j (omega (arith, late_long))
+            ∙ ap (λ l. max highest (greatest (take j l))) late_are
+            ∙ before_in_block n j ends (omega arith)
+            ∙ ends_before hs ts qs a b (8 * n + j)
+
+        pub note_more : (full most' owns' after : List ℕ) → full ≡ zip2 max noted late
+            → most' ≡ replicate 8 (get_or full 7 0) → owns' ≡ put_chunk (8 * n) owns noted
+            → after ≡ replicate 8 (clock_after (get_or one 0 0) (get_or clock 0 0) (lanes heads times tails))
+            → IsNotedTo hs ts qs after most' owns' (n + 1)
+        note_more full most' owns' after ef em eo ea =
+            let room_owns : 8 * (n + 1) ≤ length owns = let long = h.long in omega arith
+            in let last : get_or full 7 0 ≡ greatest (take (8 * (n + 1)) ends) =
+            ap (λ l. get_or l 7 0) ef
+            ∙ ap (λ l. get_or (zip2 max l late) 7 0) noted_are
+            ∙ last-before highest late late_long
+            ∙ ap (λ l. max highest (greatest l)) late_are
+            ∙ sym (greatest-append (take (8 * n) ends) (take 8 (drop (8 * n) ends)))
+            ∙ ap greatest (sym (take_more n ends))
+            in record {
+              long = stored_long n owns noted owns' noted_long room_owns eo ∙ h.long;
+              clock_is = clock_passed after ea;
+              most_is = em ∙ ap (replicate 8) last;
+              noted = λ k lt. elim (cases_lt k (8 * n)) [
+                | inl early ↦ stored_before n owns noted owns' noted_long room_owns eo k early ∙ h.noted k early
+                | inr late_k ↦
+                    let j = k - 8 * n
+                    in let at : 8 * n + j ≡ k = omega arith
+                    in let inside : j < 8 = omega arith
+                    in ap (λ i. get_or owns' i 0) (sym at)
+                    ∙ stored_at n owns noted owns' noted_long room_owns eo j inside
+                    ∙ noted_at j inside
+                    ∙ ap (λ i. span 1 0 (take i all)) at
+              ];
+            }
+
+      module _ (m : ℕ) (some : n + 1 ≡ m) (passed behind owns behinds after before : List ℕ)
+          (h : IsBackTo hs ts qs passed behind owns m) (behinds_are : behinds ≡ maxima_behind 0 late)
+          (after_told : after ≡ zip2 max behind behinds) (before_are : before ≡ take 8 (drop (8 * n) owns)) where
+        abbrev highest_behind : ℕ
+        highest_behind = greatest (drop (8 * (n + 1)) ends)
+
+        here : IsBackTo hs ts qs passed behind owns (n + 1)
+        here = subst (IsBackTo hs ts qs passed behind owns) (sym some) h
+
+        pub behinds_long : length behinds ≡ 8
+        behinds_long = ap length behinds_are ∙ length-maxima_behind 0 late ∙ late_long
+
+        after_are : after ≡ maxima_behind highest_behind late
+        after_are =
+            after_told ∙ ap (λ l. zip2 max l behinds) here.behind_is
+            ∙ ap (zip2 max (replicate 8 highest_behind)) behinds_are
+            ∙ behind-greater highest_behind late late_long
+
+        pub after_long : length after ≡ 8
+        after_long = ap length after_are ∙ length-maxima_behind highest_behind late ∙ late_long
+
+        pub before_long : length before ≡ 8
+        before_long = let long = here.long in ap length before_are ∙ length-block n owns (room_of owns long)
+
+        after_at : (j : ℕ) → j < 8 → get_or after j 0 ≡ greatest (drop (suc (8 * n + j)) ends)
+        after_at j lt =
+            ap (λ l. get_or l j 0) after_are
+            ∙ maxima_behind-get highest_behind late j (omega (arith, late_long))
+            ∙ ap (λ l. max highest_behind (greatest (drop (suc j) l))) late_are
+            ∙ behind_in_block n j ends (room_of ends ends_long) lt
+
+        before_at : (j : ℕ) → j < 8 → get_or before j 0 ≡ span 1 0 (take (8 * n + j) all)
+        before_at j lt =
+            ap (λ l. get_or l j 0) before_are
+            ∙ get_or-chunk (8 * n) 8 owns j 0 lt
+            ∙ here.noted (8 * n + j) (omega arith)
+
+        head_at : (j : ℕ) → j < 8 → get_or heads j 0 ≡ get_or hs (8 * n + j) 0
+        head_at j lt = ap (λ l. get_or l j 0) read.heads_are ∙ get_or-chunk (8 * n) 8 hs j 0 lt
+
+        time_at : (j : ℕ) → j < 8 → get_or times j 0 ≡ get_or ts (8 * n + j) 0
+        time_at j lt = ap (λ l. get_or l j 0) read.times_are ∙ get_or-chunk (8 * n) 8 ts j 0 lt
+
+        abbrev rest : List ℕ
+        rest = zip2 max before (lessened after times)
+
+        lessened_long : length (lessened after times) ≡ 8
+        lessened_long = length-zip2 (λ x y. x - y) after times (after_long ∙ sym times_long) ∙ after_long
+
+        rest_long : length rest ≡ 8
+        rest_long = length-zip2 max before (lessened after times) (before_long ∙ sym lessened_long) ∙ before_long
+
+        begins_long : length (added heads times) ≡ 8
+        begins_long = length-zip2 (λ x y. x + y) heads times (heads_long ∙ sym times_long) ∙ heads_long
+
+        begin_at : (j : ℕ) → j < 8 → get_or (added heads times) j 0 ≡ get_or heads j 0 + get_or times j 0
+        begin_at j lt =
+            get_or-zip2 (λ x y. x + y) heads times j 0 0 0 (omega (arith, heads_long)) (omega (arith, times_long))
+
+        rest_at : (j : ℕ) → j < 8
+            → get_or rest j 0 ≡ max (get_or before j 0) (get_or after j 0 - get_or times j 0)
+        rest_at j lt =
+            get_or-zip2 max before (lessened after times) j 0 0 0 (omega (arith, before_long))
+            (omega (arith, lessened_long))
+            ∙ ap (max (get_or before j 0))
+            (get_or-zip2 (λ x y. x - y) after times j 0 0 0 (omega (arith, after_long)) (omega (arith, times_long)))
+
+        numbers : (limit : ℕ) → FitOwnSpans limit all → (j : ℕ) → j < 8
+            → (get_or heads j 0 + get_or times j 0 ≤ limit)
+            × (get_or heads j 0 + get_or times j 0 + max (get_or before j 0) (get_or after j 0 - get_or times j 0)
+            ≤ limit)
+        numbers limit fits j lt =
+            let fit = own_fits hs ts qs a b (8 * n + j) (omega arith) (get_or before j 0) (get_or after j 0)
+            (before_at j lt) (after_at j lt) limit fits
+            in let begin = fit.0
+            in let end = fit.1
+            in let head = head_at j lt
+            in let time = time_at j lt
+            in (omega (arith, begin, head, time), omega (arith, end, head, time))
+
+        pub begins_fit : (limit : ℕ) → FitOwnSpans limit all → AddsFit limit heads times
+        begins_fit limit fits =
+            adds_fit limit heads times (times_long ∙ sym heads_long)
+            (λ k lt. (numbers limit fits k (omega (arith, lt, heads_long))).0)
+
+        pub own_ends_fit : (limit : ℕ) → FitOwnSpans limit all → AddsFit limit (added heads times) rest
+        own_ends_fit limit fits =
+            adds_fit limit (added heads times) rest (rest_long ∙ sym begins_long) (λ k lt.
+            let inside : k < 8 = omega (arith, lt, begins_long)
+            in let fit = (numbers limit fits k inside).1
+            in omega (arith, fit, begin_at k inside, rest_at k inside))
+
+        pub own_ends_long : (own : List ℕ) → own ≡ added (added heads times) rest → length own ≡ 8
+        own_ends_long own e =
+            ap length e ∙ length-zip2 (λ x y. x + y) (added heads times) rest (begins_long ∙ sym rest_long)
+            ∙ begins_long
+
+        own_here : (own : List ℕ) → own ≡ added (added heads times) rest → (j : ℕ) → j < 8
+            → 0 < get_or hs (8 * n + j) 0 → get_or own j 0 ≡ own_span_at hs ts qs (8 * n + j)
+        own_here own e j lt waits =
+            let i = 8 * n + j
+            in let parted : get_or own j 0 ≡ get_or (added heads times) j 0 + get_or rest j 0 =
+            ap (λ l. get_or l j 0) e
+            ∙ get_or-zip2 (λ x y. x + y) (added heads times) rest j 0 0 0 (omega (arith, begins_long))
+            (omega (arith, rest_long))
+            in let in_row : get_or own j 0
+            ≡ get_or hs i 0 + get_or ts i 0 + max (get_or before j 0) (get_or after j 0 - get_or ts i 0) =
+            omega (arith, parted, begin_at j lt, rest_at j lt, head_at j lt, time_at j lt)
+            in in_row
+            ∙ own_at hs ts qs a b i (omega arith) (get_or before j 0) (get_or after j 0) (before_at j lt)
+            (after_at j lt) waits
+
+        pub back_more : (own owns' full behind' : List ℕ) → own ≡ added (added heads times) rest
+            → owns' ≡ put_chunk (8 * n) owns own → full ≡ zip2 max after late
+            → behind' ≡ replicate 8 (get_or full 0 0) → IsBackTo hs ts qs clock behind' owns' n
+        back_more own owns' full behind' ow eo ef eb =
+            let room_owns : 8 * (n + 1) ≤ length owns = let long = here.long in omega arith
+            in let own_long = own_ends_long own ow
+            in let split : greatest (drop (8 * n) ends) ≡ max (greatest late) highest_behind =
+            ap greatest (drop_split n ends)
+            ∙ greatest-append (take 8 (drop (8 * n) ends)) (drop (8 * (n + 1)) ends)
+            ∙ ap (λ l. max (greatest l) highest_behind) (sym late_are)
+            in let first : get_or full 0 0 ≡ max highest_behind (greatest late) =
+            ap (λ l. get_or l 0 0) ef
+            ∙ ap (λ l. get_or (zip2 max l late) 0 0) after_are
+            ∙ first-behind highest_behind late late_long
+            in let is_behind : get_or full 0 0 ≡ greatest (drop (8 * n) ends) = omega (arith, split, first)
+            in record {
+              within = omega arith;
+              long = stored_long n owns own owns' own_long room_owns eo ∙ here.long;
+              clock_is = read.clock_is;
+              behind_is = eb ∙ ap (replicate 8) is_behind;
+              noted = λ k lt.
+                  stored_before n owns own owns' own_long room_owns eo k lt ∙ here.noted k (omega arith);
+              done = λ k from under waits. elim (cases_lt k (8 * (n + 1))) [
+                | inl inside_k ↦
+                    let j = k - 8 * n
+                    in let at : 8 * n + j ≡ k = omega arith
+                    in let inside : j < 8 = omega arith
+                    in let waits' : 0 < get_or hs (8 * n + j) 0 = subst (λ i. 0 < get_or hs i 0) (sym at) waits
+                    in ap (λ i. get_or owns' i 0) (sym at)
+                    ∙ stored_at n owns own owns' own_long room_owns eo j inside
+                    ∙ own_here own ow j inside waits'
+                    ∙ ap (own_span_at hs ts qs) at
+                | inr later ↦
+                    stored_behind n owns own owns' own_long room_owns eo k later ∙ here.done k later under waits
+              ];
+            }

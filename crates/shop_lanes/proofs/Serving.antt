@@ -1,5 +1,5 @@
 -- Lanes served side by side, over lists alone: which wait, their running sums, and the greatest of their ends.
-use Rattle.std.proofs.Common.{◌≡◌, ℕ, suc, ◌+◌, ◌≤◌, max, Bool, true, false, cond, List, [], ◌∷◌, length, map}
+use Rattle.std.proofs.Common.{◌≡◌, ℕ, suc, ◌+◌, ◌-◌, ◌≤◌, max, Bool, true, false, cond, List, [], ◌∷◌, length, map}
 use Rattle.std.proofs.Common.{replicate, get_or, refl, ap, sym, ◌∙◌, arith, subst, leb, sum_by}
 use Rattle.std.proofs.lemmas.List.Sums.{sum_by-cons}
 use Rattle.std.proofs.lemmas.Simd.{length-zip2}
@@ -7,10 +7,12 @@ use lib.Lanes.{zip2, sel_l, sum_l}
 use Rattle.shop_lanes.specs.Rows.{Lane, lanes}
 use Rattle.shop_lanes.specs.Spans.{span, greatest_by}
 use Rattle.shop_blocks.specs.Folds.{running, greatest}
-use Rattle.shop_lanes.specs.inner.Passes.{clock_after, AreRaised}
+use Rattle.shop_lanes.specs.inner.Passes.{clock_after, tailed_ends, AreRaised}
 use Rattle.shop_blocks.proofs.Extremes.{greatest-greater}
 use Rattle.shop_blocks.proofs.Eights.{on_eight}
-use Rattle.shop_blocks.specs.Eights.{added, waiting, AddsFit}
+use Rattle.shop_blocks.specs.Eights.{added, lessened, waiting, AddsFit}
+use Rattle.shop_lanes.proofs.LaneLists.{length-lanes}
+use Rattle.shop_lanes.proofs.TailedEnds.{length-tailed, greatest-tailed}
 
 pub length-waiting : (least : ℕ) (hs ts : List ℕ) → length ts ≡ length hs
     → length (waiting least hs ts) ≡ length hs
@@ -92,25 +94,26 @@ abbrev pub late : ℕ → ℕ → List ℕ → List ℕ → List ℕ → List �
 late least start hs ts qs =
     sel_l (map (leb least) hs) (added (running start (waiting least hs ts)) qs) (replicate (length hs) 0)
 
-pub greatest-late : (least start : ℕ) (hs ts qs : List ℕ) → length ts ≡ length hs → length qs ≡ length hs
-    → greatest (late least start hs ts qs) ≡ span least start (lanes hs ts qs)
-greatest-late least start [] ts qs a b = refl
-greatest-late least start (h ∷ hs) [] qs a b = absurd (omega arith)
-greatest-late least start (h ∷ hs) (t ∷ ts) [] a b = absurd (omega arith)
-greatest-late least start (h ∷ hs) (t ∷ ts) (q ∷ qs) a b =
+pub late-tailed : (least start : ℕ) (hs ts qs : List ℕ) → length ts ≡ length hs → length qs ≡ length hs
+    → late least start hs ts qs ≡ tailed_ends least start (lanes hs ts qs)
+late-tailed least start [] ts qs a b = refl
+late-tailed least start (h ∷ hs) [] qs a b = absurd (omega arith)
+late-tailed least start (h ∷ hs) (t ∷ ts) [] a b = absurd (omega arith)
+late-tailed least start (h ∷ hs) (t ∷ ts) (q ∷ qs) a b =
     by_test (leb least h)
-    (greatest-late least (start + t) hs ts qs (omega arith) (omega arith))
-    (greatest-late least start hs ts qs (omega arith) (omega arith))
+    (late-tailed least (start + t) hs ts qs (omega arith) (omega arith))
+    (late-tailed least start hs ts qs (omega arith) (omega arith))
   where
     by_test : (on : Bool)
-        → greatest (late least (start + t) hs ts qs) ≡ span least (start + t) (lanes hs ts qs)
-        → greatest (late least start hs ts qs) ≡ span least start (lanes hs ts qs)
-        → max (cond on (start + cond on t 0 + q) 0) (greatest (late least (start + cond on t 0) hs ts qs))
-        ≡ cond on (max (start + t + q) (span least (start + t) (lanes hs ts qs))) (span least start (lanes hs ts qs))
-    by_test true served left = ap (max (start + t + q)) served
+        → late least (start + t) hs ts qs ≡ tailed_ends least (start + t) (lanes hs ts qs)
+        → late least start hs ts qs ≡ tailed_ends least start (lanes hs ts qs)
+        → cond on (start + cond on t 0 + q) 0 ∷ late least (start + cond on t 0) hs ts qs
+        ≡ cond on ((start + t + q) ∷ tailed_ends least (start + t) (lanes hs ts qs))
+        (0 ∷ tailed_ends least start (lanes hs ts qs))
+    by_test true served left = ap (λ l. (start + t + q) ∷ l) served
     by_test false served left =
         let e : start + 0 ≡ start = omega arith
-        in rw e (let l = left in omega arith)
+        in rw e (ap (λ l. 0 ∷ l) left)
 
 -- a block of eight lanes, as a pass serves it
 module _ (limit : ℕ) (hs ts qs clock : List ℕ) (from start : ℕ)
@@ -180,21 +183,38 @@ module _ (limit : ℕ) (hs ts qs clock : List ℕ) (from start : ℕ)
           latest_is : latest ≡ late from start hs ts qs
           latest_is = latest_told ∙ ap (waiting from hs) (full_is ∙ ap (λ l. added l qs) ends_are)
 
-          full_long : length full ≡ length hs
-          full_long =
-              ap length full_is ∙ length-zip2 (λ x y. x + y) ends qs (ends_long ∙ sym b) ∙ ends_long ∙ sym eight
+          pub late_is : latest ≡ tailed_ends from start (lanes hs ts qs)
+          late_is = latest_is ∙ late-tailed from start hs ts qs ts_long qs_long
 
-          pub latest_long : length latest ≡ 8
-          latest_long = ap length latest_told ∙ length-waiting from hs full full_long ∙ eight
+-- the greatest ends so far, with those of eight lanes
+pub tailed_long : (least start : ℕ) (hs ts qs latest : List ℕ) → length hs ≡ 8 → length ts ≡ 8 → length qs ≡ 8
+    → latest ≡ tailed_ends least start (lanes hs ts qs) → length latest ≡ 8
+tailed_long least start hs ts qs latest eight a b is =
+    ap length is ∙ length-tailed least start (lanes hs ts qs)
+    ∙ length-lanes hs ts qs (a ∙ sym eight) (b ∙ sym eight) ∙ eight
 
-          pub block_most : (most later : List ℕ) → length most ≡ 8 → later ≡ zip2 max most latest
-              → AreRaised (λ v. v) most (span from start (lanes hs ts qs)) later
-          block_most most later m later_is =
-              let as_long : length most ≡ length latest = m ∙ sym latest_long
-              in record {
-                eight = ap length later_is ∙ length-zip2 max most latest as_long ∙ m;
-                most = ap greatest later_is
-                    ∙ greatest-greater most latest as_long
-                    ∙ ap (λ l. max (greatest most) (greatest l)) latest_is
-                    ∙ ap (max (greatest most)) (greatest-late from start hs ts qs ts_long qs_long);
-              }
+pub block_most : (least start : ℕ) (hs ts qs latest most later : List ℕ) → length latest ≡ 8
+    → latest ≡ tailed_ends least start (lanes hs ts qs) → length most ≡ 8 → later ≡ zip2 max most latest
+    → AreRaised (λ v. v) most (span least start (lanes hs ts qs)) later
+block_most least start hs ts qs latest most later long is m later_is =
+    let as_long : length most ≡ length latest = m ∙ sym long
+    in record {
+      eight = ap length later_is ∙ length-zip2 max most latest as_long ∙ m;
+      most = ap greatest later_is
+          ∙ greatest-greater most latest as_long
+          ∙ ap (λ l. max (greatest most) (greatest l)) is
+          ∙ ap (max (greatest most)) (greatest-tailed least start (lanes hs ts qs));
+    }
+
+-- the clock before, from the clock afterwards and the sums
+pub clock_less : (sums last clock before served : List ℕ) (work : ℕ) → length served ≡ 8
+    → sums ≡ running 0 served → last ≡ replicate 8 (get_or sums 7 0) → clock ≡ replicate 8 (get_or clock 0 0)
+    → sum_l served ≡ work → before ≡ lessened clock last → before ≡ replicate 8 (get_or clock 0 0 - work)
+clock_less sums last clock before served work eight es el ec ew eb =
+    let work_is : get_or sums 7 0 ≡ work =
+    ap (λ l. get_or l 7 0) es ∙ last_running served eight ∙ ew
+    in eb ∙ ap (λ l. lessened l last) ec ∙ ap (lessened (replicate 8 (get_or clock 0 0))) el
+    ∙ ap (λ n. replicate 8 (get_or clock 0 0 - n)) work_is
+  where
+    last_running : (xs : List ℕ) → length xs ≡ 8 → get_or (running 0 xs) 7 0 ≡ sum_l xs
+    last_running = on_eight (λ xs. get_or (running 0 xs) 7 0 ≡ sum_l xs) (λ c d e f g h i j. omega arith)

@@ -1,105 +1,150 @@
 // When what else waits on a machine ends, if one operation is served before: of all operations in one pass down the
-// positions and one back.
-ghost use Rattle.std.specs.Prelude.{◌≡◌, ℕ, ◌<◌, ◌≤◌, length, map, max, slice_index};
-ghost use Rattle.std.specs.Prelude.{if◌then◌else◌, nat_le};
+// blocks and one back.
+ghost use Rattle.std.specs.Prelude.{◌≡◌, ◌%◌, length, replicate, max};
+ghost use Rattle.std.specs.Simd.Lanes.{zip2};
+ghost use Rattle.shop_blocks.specs.Eights.{added, lessened, AddsFit};
 ghost use Rattle.shop_lanes.specs.Spans.{FitsSpan, FitOwnSpans};
 ghost use Rattle.shop_lanes.specs.inner.Passes.{lanes_by};
 ghost use Rattle.shop_lanes.specs.inner.OwnSpans.{AreNoted, AreOwnSpansOf, work_of};
 
-use shop_blocks::Block;
-
-#[inline(always)]
-fn at<B: Block>(row: &[B::Number], i: usize) -> u64
-    requires { i < length row.now }
-    ensures { result ≡ slice_index (map B.value row.now) i }
-{
-    B::widened(row[i])
-}
-
-/// The number, and 0 where nothing waits.
-#[inline(always)]
-fn where_waiting(head: u64, number: u64) -> u64
-    ensures { result ≡ (if nat_le 1 head then number else 0) }
-{
-    if head >= 1 { number } else { 0 }
-}
+use crate::served_blocks::{clock_before, tailed_ends};
+use shop_blocks::{Block, greatest_before, greatest_behind};
 
 /// Notes for each position when the last of what waits before it ends, its tail included, if it is served by position
-/// from 0 on; the clock after all.
+/// from 0 on; the clock after all, in every lane.
 #[inline(always)]
 fn note<B: Block>(
+    count: usize,
     heads: &[B::Number],
     times: &[B::Number],
     tails: &[B::Number],
     owns: &mut [B::Number],
-) -> u64
+) -> B
+    requires count { length heads.now ≡ count }
+    requires whole_blocks { count % 8 ≡ 0 }
     requires times { length times.now ≡ length heads.now }
     requires tails { length tails.now ≡ length heads.now }
     requires owns { length owns.old ≡ length heads.now }
     requires fits { FitsSpan B.GREATEST 0 (lanes_by B.value heads.now times.now tails.now) }
     ensures long { length owns.new ≡ length owns.old }
     ensures noted { AreNoted B.value heads.now times.now tails.now owns.new }
-    ensures clock { result ≡ work_of B.value heads.now times.now tails.now }
+    ensures clock { B.numbers result
+        ≡ replicate 8 (work_of B.value heads.now times.now tails.now) }
 {
-    let _greatest = B::GREATEST;
-    let mut clock: u64 = 0;
-    let mut most: u64 = 0;
-    for i in 0..heads.len() {
-        let head = at::<B>(heads, i);
-        let time = at::<B>(times, i);
-        let tail = at::<B>(tails, i);
-        let noted = B::narrowed(most);
-        owns[i] = noted;
-        let begin = clock + time;
-        let end = begin + tail;
-        let late = where_waiting(head, end);
-        let served = where_waiting(head, time);
-        most = most.max(late);
-        clock += served;
+    let one = B::splat(1);
+    let mut clock = B::splat(0);
+    let mut most = B::splat(0);
+    for block in 0..count / 8 {
+        let head = B::load(heads, block);
+        let time = B::load(times, block);
+        let tail = B::load(tails, block);
+        let (after, late) = tailed_ends(head, time, tail, one, clock);
+        let noted = B::greater(most, greatest_before(late));
+        B::store(noted, owns, block);
+        most = B::last(B::greater(noted, late));
+        clock = after;
     }
     clock
 }
 
-/// Writes the own spans over what was noted, from the last position back.
+/// Eight own spans: from the greatest ends of what waits before and of what waits behind, where these count the
+/// operation itself.
+#[inline(always)]
+fn own_ends<B: Block>(heads: B, times: B, before: B, behind: B) -> B
+    requires heads { length (B.numbers heads) ≡ 8 }
+    requires times { length (B.numbers times) ≡ 8 }
+    requires before { length (B.numbers before) ≡ 8 }
+    requires behind { length (B.numbers behind) ≡ 8 }
+    requires begins { AddsFit B.GREATEST (B.numbers heads) (B.numbers times) }
+    requires ends { AddsFit B.GREATEST (added (B.numbers heads) (B.numbers times))
+        (zip2 max (B.numbers before) (lessened (B.numbers behind) (B.numbers times))) }
+    ensures { B.numbers result ≡ added (added (B.numbers heads) (B.numbers times))
+        (zip2 max (B.numbers before) (lessened (B.numbers behind) (B.numbers times))) }
+{
+    let rest = B::greater(before, B::less(behind, times));
+    B::sum(B::sum(heads, times), rest)
+}
+
+/// Writes the own spans over what was noted, from the last block back.
 #[inline(always)]
 fn write_back<B: Block>(
+    count: usize,
     heads: &[B::Number],
     times: &[B::Number],
     tails: &[B::Number],
-    clock: u64,
+    clock: B,
     owns: &mut [B::Number],
 )
+    requires count { length heads.now ≡ count }
+    requires whole_blocks { count % 8 ≡ 0 }
     requires times { length times.now ≡ length heads.now }
     requires tails { length tails.now ≡ length heads.now }
     requires owns { length owns.old ≡ length heads.now }
     requires fits { FitOwnSpans B.GREATEST (lanes_by B.value heads.now times.now tails.now) }
     requires noted { AreNoted B.value heads.now times.now tails.now owns.old }
-    requires clock { clock ≡ work_of B.value heads.now times.now tails.now }
+    requires clock { B.numbers clock
+        ≡ replicate 8 (work_of B.value heads.now times.now tails.now) }
     ensures long { length owns.new ≡ length owns.old }
     ensures owns { AreOwnSpansOf B.value heads.now times.now tails.now owns.new }
 {
-    let _greatest = B::GREATEST;
+    let one = B::splat(1);
     let mut clock = clock;
-    let mut behind: u64 = 0;
-    let mut i = heads.len();
-    while i > 0 {
-        i -= 1;
-        let head = at::<B>(heads, i);
-        let time = at::<B>(times, i);
-        let tail = at::<B>(tails, i);
-        let served = where_waiting(head, time);
-        let before = at::<B>(owns, i);
-        let after = behind.saturating_sub(served);
-        let rest = before.max(after);
-        let begin = head + served;
-        let own = begin + rest;
-        let written = B::narrowed(own);
-        owns[i] = written;
-        let end = clock + tail;
-        let late = where_waiting(head, end);
-        behind = behind.max(late);
-        clock -= served;
+    let mut behind = B::splat(0);
+    let mut block = count / 8;
+    while block > 0 {
+        block -= 1;
+        let head = B::load(heads, block);
+        let time = B::load(times, block);
+        let tail = B::load(tails, block);
+        let before = B::load(owns, block);
+        clock = clock_before(head, time, one, clock);
+        let (_, late) = tailed_ends(head, time, tail, one, clock);
+        let after = B::greater(behind, greatest_behind(late));
+        let own = own_ends(head, time, before, after);
+        B::store(own, owns, block);
+        behind = B::splat(B::first(B::greater(after, late)));
     }
+}
+
+/// Both passes. Where a call says the count by a number, the blocks are read without a loop.
+#[inline(always)]
+fn own_spans_of<B: Block>(
+    count: usize,
+    heads: &[B::Number],
+    times: &[B::Number],
+    tails: &[B::Number],
+    owns: &mut [B::Number],
+)
+    requires count { length heads.now ≡ count }
+    requires whole_blocks { count % 8 ≡ 0 }
+    requires times { length times.now ≡ length heads.now }
+    requires tails { length tails.now ≡ length heads.now }
+    requires owns { length owns.old ≡ length heads.now }
+    requires fits { FitOwnSpans B.GREATEST (lanes_by B.value heads.now times.now tails.now) }
+    ensures long { length owns.new ≡ length owns.old }
+    ensures owns { AreOwnSpansOf B.value heads.now times.now tails.now owns.new }
+{
+    let clock: B = note::<B>(count, heads, times, tails, owns);
+    write_back::<B>(count, heads, times, tails, clock, owns);
+}
+
+/// The same for machines of four blocks and more, in a function of its own.
+#[inline(never)]
+fn own_spans_of_longer<B: Block>(
+    heads: &[B::Number],
+    times: &[B::Number],
+    tails: &[B::Number],
+    owns: &mut [B::Number],
+)
+    requires whole_blocks { length heads.now % 8 ≡ 0 }
+    requires times { length times.now ≡ length heads.now }
+    requires tails { length tails.now ≡ length heads.now }
+    requires owns { length owns.old ≡ length heads.now }
+    requires fits { FitOwnSpans B.GREATEST (lanes_by B.value heads.now times.now tails.now) }
+    ensures long { length owns.new ≡ length owns.old }
+    ensures owns { AreOwnSpansOf B.value heads.now times.now tails.now owns.new }
+{
+    own_spans_of::<B>(heads.len(), heads, times, tails, owns);
 }
 
 /// Of each operation that waits, the greater of its end and of when the last of what else waits ends, if that is served
@@ -111,6 +156,7 @@ pub(crate) fn own_spans<B: Block>(
     tails: &[B::Number],
     owns: &mut [B::Number],
 )
+    requires whole_blocks { length heads.now % 8 ≡ 0 }
     requires times { length times.now ≡ length heads.now }
     requires tails { length tails.now ≡ length heads.now }
     requires owns { length owns.old ≡ length heads.now }
@@ -118,6 +164,10 @@ pub(crate) fn own_spans<B: Block>(
     ensures long { length owns.new ≡ length owns.old }
     ensures owns { AreOwnSpansOf B.value heads.now times.now tails.now owns.new }
 {
-    let clock = note::<B>(heads, times, tails, owns);
-    write_back::<B>(heads, times, tails, clock, owns);
+    match heads.len() {
+        8 => own_spans_of::<B>(8, heads, times, tails, owns),
+        16 => own_spans_of::<B>(16, heads, times, tails, owns),
+        24 => own_spans_of::<B>(24, heads, times, tails, owns),
+        _ => own_spans_of_longer::<B>(heads, times, tails, owns),
+    }
 }

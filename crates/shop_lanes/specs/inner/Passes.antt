@@ -1,9 +1,11 @@
 -- What a pass over lanes keeps.
 --     clock_after least start xs     when the last of those with a head of at least `least` ends
+--     tailed_ends least start xs     when each of those ends, its tail included, and 0 for the others
 use Rattle.std.specs.Prelude.{◌≡◌, ◌≢◌, ℕ, ◌+◌, ◌-◌, ◌%◌, drop, replicate, ◌<◌, ◌≤◌, length}
 use Rattle.std.specs.Prelude.{max, List, [], ◌∷◌, if◌then◌else◌, nat_le}
 use Rattle.std.specs.Prelude.{get_or, map}
-use Rattle.shop_blocks.specs.Eights.{first_of}
+use Rattle.std.specs.Simd.Lanes.{sum_l}
+use Rattle.shop_blocks.specs.Eights.{first_of, waiting}
 use Rattle.shop_blocks.specs.Folds.{greatest}
 use Rattle.shop_lanes.specs.Rows.{Lane, lanes}
 use Rattle.shop_lanes.specs.Spans.{span, spans_between, FitsSpan}
@@ -14,6 +16,13 @@ clock_after least start (x ∷ xs) =
     if nat_le least x.head
     then clock_after least (start + x.time) xs
     else clock_after least start xs
+
+abbrev pub tailed_ends : ℕ → ℕ → List Lane → List ℕ
+tailed_ends least start [] = []
+tailed_ends least start (x ∷ xs) =
+    if nat_le least x.head
+    then (start + x.time + x.tail) ∷ tailed_ends least (start + x.time) xs
+    else 0 ∷ tailed_ends least start xs
 
 -- the greatest span from the head at a position on, of those that begin no earlier, over some
 -- positions
@@ -84,7 +93,21 @@ next_clock numbers xs least clock =
 abbrev pub span_from : {B : Type 0} → (B → List ℕ) → List Lane → B → B → ℕ
 span_from numbers xs least clock = span (first_of (numbers least)) (first_of (numbers clock)) xs
 
--- eight lanes served: the clock in each lane of `after`, and the ends so far in `later`
+-- eight lanes served: the clock afterwards in each lane, and when each lane ends with its tail
+pub record AreTailed {B : Type 0} (numbers : B → List ℕ) (heads times tails least clock : B)
+    (served : B × B) : Type 0 where
+  pub clock_is : numbers served.0
+      ≡ replicate 8 (next_clock numbers (lanes_in numbers heads times tails) least clock)
+  pub ends_are : numbers served.1
+      ≡ tailed_ends (first_of (numbers least)) (first_of (numbers clock))
+      (lanes_in numbers heads times tails)
+
+-- the times of those lanes of a block that have a head of at least `least`
+abbrev pub work_in : {B : Type 0} → (B → List ℕ) → B → B → B → ℕ
+work_in numbers heads times least =
+    sum_l (waiting (first_of (numbers least)) (numbers heads) (numbers times))
+
+-- the same with the greatest end so far in each lane
 pub record AreServed {B : Type 0} (numbers : B → List ℕ) (heads times tails least clock most : B)
     (served : B × B) : Type 0 where
   pub clock_is : numbers served.0

@@ -1,166 +1,223 @@
-use Rattle.std.proofs.Common.{ℕ, Bool, true, false, ◌≡◌, ◌∙◌, ◌+◌, ◌<◌, ◌≤◌, max, cond, leb, ap, map}
-use Rattle.std.proofs.Common.{set, length, get_or, arith, rules}
-use Rattle.std.proofs.lemmas.List.{length-map, map-set}
-use Rattle.shop_lanes.proofs.OwnTurns.{noted_none, note_fits, most_fits, note_more, noted_all}
+use Rattle.std.proofs.Common.{◌≡◌, ◌∙◌, ◌+◌, ◌*◌, ◌%◌, ◌≤◌, max, length, map, refl, ap, sym, arith}
+use Rattle.std.proofs.lemmas.List.{length-map}
+use Rattle.std.proofs.lemmas.Simd.{length-zip2}
+use lib.Lanes.{zip2}
+use Rattle.shop_lanes.proofs.OwnTurns.{IsLoaded, splat_long, block_fits, late_long, befores_long, noted_long, note_more}
+use Rattle.shop_lanes.proofs.OwnTurns.{noted_all}
 use Rattle.shop_lanes.proofs.RowValues.{as_long}
 use Rattle.shop_lanes.proofs.owning.note.Goals as goal
 
-cond_le : (b : Bool) (n : ℕ) → cond b n 0 ≤ n
-cond_le true n = omega arith
-cond_le false n = omega arith
-
-pub loop-i-init : goal.loop-i-init
-loop-i-init g c =
-    let row = map g.B.Block.value
+pub tailed_ends-after-requires-clause-fits : goal.tailed_ends-after-requires-clause-fits
+tailed_ends-after-requires-clause-fits g c =
+    let n = g.B.Block.numbers
+    in let row = map g.B.Block.value
     in let hs = row c.args.heads.now
     in let ts = row c.args.times.now
     in let qs = row c.args.tails.now
     in let a = as_long g.B.Block.value c.args.times.now c.args.heads.now c.requires.times
     in let b = as_long g.B.Block.value c.args.tails.now c.args.heads.now c.requires.tails
     in let many = length-map c.args.heads.now g.B.Block.value
-    in noted_none hs ts qs a b (row c.args.owns.now) (as_long g.B.Block.value c.args.owns.now c.args.heads.now
-    c.requires.owns)
+    in let p = c.loop-block.block
+    in let test = c.loop-block-test.true
+    in let count = c.requires.count
+    in let room : 8 * (p + 1) ≤ length hs = omega (arith, many, test, count)
+    in let read : IsLoaded hs ts qs p (n c.load-head.result) (n c.load-time.result) (n c.load-tail.result)
+    (n c.splat-one.result) (n c.loop-block.clock) = record {
+      heads_are = c.load-head.ensures;
+      times_are = c.load-time.ensures;
+      tails_are = c.load-tail.ensures;
+      one_is = c.splat-one.ensures;
+      clock_is = c.loop-block.invariant.clock_is;
+    }
+    in block_fits hs ts qs a b p room (n c.load-head.result) (n c.load-time.result) (n c.load-tail.result) (n c.splat-one.result)
+    (n c.loop-block.clock) read
+    g.B.Block.GREATEST c.requires.fits
 
-pub narrowed-noted-requires : goal.narrowed-noted-requires
-narrowed-noted-requires g c =
-    let row = map g.B.Block.value
+pub greatest_before-requires : goal.greatest_before-requires
+greatest_before-requires g c =
+    let n = g.B.Block.numbers
+    in let row = map g.B.Block.value
     in let hs = row c.args.heads.now
     in let ts = row c.args.times.now
     in let qs = row c.args.tails.now
     in let a = as_long g.B.Block.value c.args.times.now c.args.heads.now c.requires.times
     in let b = as_long g.B.Block.value c.args.tails.now c.args.heads.now c.requires.tails
     in let many = length-map c.args.heads.now g.B.Block.value
-    in let test = c.loop-i-test.true
-    in let lt : c.loop-i.i < length hs = omega (arith, test, many)
-    in most_fits hs ts qs a b g.B.Block.GREATEST c.requires.fits c.loop-i.clock c.loop-i.most (row c.loop-i.owns)
-    c.loop-i.i lt
-    c.loop-i.invariant
+    in let p = c.loop-block.block
+    in let test = c.loop-block-test.true
+    in let count = c.requires.count
+    in let room : 8 * (p + 1) ≤ length hs = omega (arith, many, test, count)
+    in let read : IsLoaded hs ts qs p (n c.load-head.result) (n c.load-time.result) (n c.load-tail.result)
+    (n c.splat-one.result) (n c.loop-block.clock) = record {
+      heads_are = c.load-head.ensures;
+      times_are = c.load-time.ensures;
+      tails_are = c.load-tail.ensures;
+      one_is = c.splat-one.ensures;
+      clock_is = c.loop-block.invariant.clock_is;
+    }
+    in late_long hs ts qs a b p room (n c.load-head.result) (n c.load-time.result) (n c.load-tail.result) (n c.splat-one.result)
+    (n c.loop-block.clock) read (n c.tailed_ends-after.result.1) c.tailed_ends-after.ensures.ends_are
 
-pub overflow_add-begin : goal.overflow_add-begin
-overflow_add-begin g c =
-    let row = map g.B.Block.value
+pub greater-noted-requires : goal.greater-noted-requires
+greater-noted-requires g c =
+    let n = g.B.Block.numbers
+    in let row = map g.B.Block.value
     in let hs = row c.args.heads.now
     in let ts = row c.args.times.now
     in let qs = row c.args.tails.now
     in let a = as_long g.B.Block.value c.args.times.now c.args.heads.now c.requires.times
     in let b = as_long g.B.Block.value c.args.tails.now c.args.heads.now c.requires.tails
     in let many = length-map c.args.heads.now g.B.Block.value
-    in let test = c.loop-i-test.true
-    in let lt : c.loop-i.i < length hs = omega (arith, test, many)
-    in let greatest = c.GREATEST-greatest.ensures
-    in let range = c.GREATEST-greatest.type_inv
-    in let fits = note_fits hs ts qs a b g.B.Block.GREATEST c.requires.fits c.loop-i.clock c.loop-i.most (row
-    c.loop-i.owns) c.loop-i.i lt
-    c.loop-i.invariant
-    in let time = c.at-time.ensures
-    in omega (arith, fits, time, greatest, range)
+    in let p = c.loop-block.block
+    in let test = c.loop-block-test.true
+    in let count = c.requires.count
+    in let room : 8 * (p + 1) ≤ length hs = omega (arith, many, test, count)
+    in let read : IsLoaded hs ts qs p (n c.load-head.result) (n c.load-time.result) (n c.load-tail.result)
+    (n c.splat-one.result) (n c.loop-block.clock) = record {
+      heads_are = c.load-head.ensures;
+      times_are = c.load-time.ensures;
+      tails_are = c.load-tail.ensures;
+      one_is = c.splat-one.ensures;
+      clock_is = c.loop-block.invariant.clock_is;
+    }
+    in splat_long (n c.loop-block.most) _ c.loop-block.invariant.most_is
+    ∙ sym (befores_long hs ts qs a b p room (n c.load-head.result) (n c.load-time.result) (n c.load-tail.result) (n c.splat-one.result)
+    (n c.loop-block.clock) read (n c.tailed_ends-after.result.1) c.tailed_ends-after.ensures.ends_are
+    (n c.loop-block.most) (row c.loop-block.owns) (n c.greatest_before.result)
+    (zip2 max (n c.loop-block.most) (n c.greatest_before.result)) c.loop-block.invariant c.greatest_before.ensures refl)
 
-pub overflow_add-end : goal.overflow_add-end
-overflow_add-end g c =
-    let row = map g.B.Block.value
+pub store-requires-clause-eight : goal.store-requires-clause-eight
+store-requires-clause-eight g c =
+    let n = g.B.Block.numbers
+    in let row = map g.B.Block.value
     in let hs = row c.args.heads.now
     in let ts = row c.args.times.now
     in let qs = row c.args.tails.now
     in let a = as_long g.B.Block.value c.args.times.now c.args.heads.now c.requires.times
     in let b = as_long g.B.Block.value c.args.tails.now c.args.heads.now c.requires.tails
     in let many = length-map c.args.heads.now g.B.Block.value
-    in let test = c.loop-i-test.true
-    in let lt : c.loop-i.i < length hs = omega (arith, test, many)
-    in let greatest = c.GREATEST-greatest.ensures
-    in let range = c.GREATEST-greatest.type_inv
-    in let fits = note_fits hs ts qs a b g.B.Block.GREATEST c.requires.fits c.loop-i.clock c.loop-i.most (row
-    c.loop-i.owns) c.loop-i.i lt
-    c.loop-i.invariant
-    in let time = c.at-time.ensures
-    in let tail = c.at-tail.ensures
-    in omega (arith, fits, time, tail, greatest, range)
+    in let p = c.loop-block.block
+    in let test = c.loop-block-test.true
+    in let count = c.requires.count
+    in let room : 8 * (p + 1) ≤ length hs = omega (arith, many, test, count)
+    in let read : IsLoaded hs ts qs p (n c.load-head.result) (n c.load-time.result) (n c.load-tail.result)
+    (n c.splat-one.result) (n c.loop-block.clock) = record {
+      heads_are = c.load-head.ensures;
+      times_are = c.load-time.ensures;
+      tails_are = c.load-tail.ensures;
+      one_is = c.splat-one.ensures;
+      clock_is = c.loop-block.invariant.clock_is;
+    }
+    in noted_long hs ts qs a b p room (n c.load-head.result) (n c.load-time.result) (n c.load-tail.result) (n c.splat-one.result)
+    (n c.loop-block.clock) read (n c.tailed_ends-after.result.1) c.tailed_ends-after.ensures.ends_are
+    (n c.loop-block.most) (row c.loop-block.owns) (n c.greatest_before.result) (n c.greater-noted.result)
+    c.loop-block.invariant c.greatest_before.ensures c.greater-noted.ensures
 
-pub overflow_add-clock : goal.overflow_add-clock
-overflow_add-clock g c =
-    let row = map g.B.Block.value
+pub greater-requires : goal.greater-requires
+greater-requires g c =
+    let n = g.B.Block.numbers
+    in let row = map g.B.Block.value
     in let hs = row c.args.heads.now
     in let ts = row c.args.times.now
     in let qs = row c.args.tails.now
     in let a = as_long g.B.Block.value c.args.times.now c.args.heads.now c.requires.times
     in let b = as_long g.B.Block.value c.args.tails.now c.args.heads.now c.requires.tails
     in let many = length-map c.args.heads.now g.B.Block.value
-    in let test = c.loop-i-test.true
-    in let lt : c.loop-i.i < length hs = omega (arith, test, many)
-    in let greatest = c.GREATEST-greatest.ensures
-    in let range = c.GREATEST-greatest.type_inv
-    in let fits = note_fits hs ts qs a b g.B.Block.GREATEST c.requires.fits c.loop-i.clock c.loop-i.most (row
-    c.loop-i.owns) c.loop-i.i lt
-    c.loop-i.invariant
-    in let time = c.at-time.ensures
-    in let served = c.where_waiting-served.ensures
-    in let le = cond_le (leb 1 c.at-head.result) c.at-time.result
-    in omega (arith, fits, time, served, le, greatest, range)
+    in let p = c.loop-block.block
+    in let test = c.loop-block-test.true
+    in let count = c.requires.count
+    in let room : 8 * (p + 1) ≤ length hs = omega (arith, many, test, count)
+    in let read : IsLoaded hs ts qs p (n c.load-head.result) (n c.load-time.result) (n c.load-tail.result)
+    (n c.splat-one.result) (n c.loop-block.clock) = record {
+      heads_are = c.load-head.ensures;
+      times_are = c.load-time.ensures;
+      tails_are = c.load-tail.ensures;
+      one_is = c.splat-one.ensures;
+      clock_is = c.loop-block.invariant.clock_is;
+    }
+    in noted_long hs ts qs a b p room (n c.load-head.result) (n c.load-time.result) (n c.load-tail.result) (n c.splat-one.result)
+    (n c.loop-block.clock) read (n c.tailed_ends-after.result.1) c.tailed_ends-after.ensures.ends_are
+    (n c.loop-block.most) (row c.loop-block.owns) (n c.greatest_before.result) (n c.greater-noted.result)
+    c.loop-block.invariant c.greatest_before.ensures c.greater-noted.ensures
+    ∙ sym (late_long hs ts qs a b p room (n c.load-head.result) (n c.load-time.result) (n c.load-tail.result) (n c.splat-one.result)
+    (n c.loop-block.clock) read (n c.tailed_ends-after.result.1) c.tailed_ends-after.ensures.ends_are)
 
-pub loop-i-preserved : goal.loop-i-preserved
-loop-i-preserved g c =
-    let row = map g.B.Block.value
+pub last-most-requires : goal.last-most-requires
+last-most-requires g c =
+    let n = g.B.Block.numbers
+    in let row = map g.B.Block.value
     in let hs = row c.args.heads.now
     in let ts = row c.args.times.now
     in let qs = row c.args.tails.now
     in let a = as_long g.B.Block.value c.args.times.now c.args.heads.now c.requires.times
     in let b = as_long g.B.Block.value c.args.tails.now c.args.heads.now c.requires.tails
     in let many = length-map c.args.heads.now g.B.Block.value
-    in let test = c.loop-i-test.true
-    in let lt : c.loop-i.i < length hs = omega (arith, test, many)
-    in let owns : row (set c.loop-i.owns c.loop-i.i c.narrowed-noted.result)
-    ≡ set (row c.loop-i.owns) c.loop-i.i c.loop-i.most =
-    map-set g.B.Block.value c.loop-i.owns c.loop-i.i c.narrowed-noted.result
-    ∙ ap (set (row c.loop-i.owns) c.loop-i.i) c.narrowed-noted.ensures
-    in let i = c.loop-i.i
-    in let head = c.at-head.ensures
-    in let time = c.at-time.ensures
-    in let tail = c.at-tail.ensures
-    in let most : c.max-most.result ≡ max c.loop-i.most c.where_waiting-late.result = search rules
-    in let late : c.where_waiting-late.result
-    ≡ cond (leb 1 (get_or hs i 0)) (c.loop-i.clock + get_or ts i 0 + get_or qs i 0) 0 =
-    c.where_waiting-late.ensures
-    ∙ ap (λ h. cond (leb 1 h) (c.loop-i.clock + c.at-time.result + c.at-tail.result) 0) head
-    ∙ ap (λ t. cond (leb 1 (get_or hs i 0)) (c.loop-i.clock + t + c.at-tail.result) 0) time
-    ∙ ap (λ q. cond (leb 1 (get_or hs i 0)) (c.loop-i.clock + get_or ts i 0 + q) 0) tail
-    in let served : c.where_waiting-served.result ≡ cond (leb 1 (get_or hs i 0)) (get_or ts i 0) 0 =
-    c.where_waiting-served.ensures
-    ∙ ap (λ h. cond (leb 1 h) c.at-time.result 0) head
-    ∙ ap (λ t. cond (leb 1 (get_or hs i 0)) t 0) time
-    in note_more hs ts qs a b g.B.Block.GREATEST c.requires.fits c.loop-i.clock c.loop-i.most (row c.loop-i.owns)
-    c.loop-i.i lt
-    c.loop-i.invariant
-    (c.loop-i.clock + c.where_waiting-served.result) c.max-most.result
-    (row (set c.loop-i.owns c.loop-i.i c.narrowed-noted.result)) owns
-    (most ∙ ap (max c.loop-i.most) late) (ap (λ m. c.loop-i.clock + m) served)
+    in let p = c.loop-block.block
+    in let test = c.loop-block-test.true
+    in let count = c.requires.count
+    in let room : 8 * (p + 1) ≤ length hs = omega (arith, many, test, count)
+    in let read : IsLoaded hs ts qs p (n c.load-head.result) (n c.load-time.result) (n c.load-tail.result)
+    (n c.splat-one.result) (n c.loop-block.clock) = record {
+      heads_are = c.load-head.ensures;
+      times_are = c.load-time.ensures;
+      tails_are = c.load-tail.ensures;
+      one_is = c.splat-one.ensures;
+      clock_is = c.loop-block.invariant.clock_is;
+    }
+    in let long = noted_long hs ts qs a b p room (n c.load-head.result) (n c.load-time.result) (n c.load-tail.result) (n c.splat-one.result)
+    (n c.loop-block.clock) read (n c.tailed_ends-after.result.1) c.tailed_ends-after.ensures.ends_are
+    (n c.loop-block.most) (row c.loop-block.owns) (n c.greatest_before.result) (n c.greater-noted.result)
+    c.loop-block.invariant c.greatest_before.ensures c.greater-noted.ensures
+    in let as_long' = late_long hs ts qs a b p room (n c.load-head.result) (n c.load-time.result) (n c.load-tail.result) (n c.splat-one.result)
+    (n c.loop-block.clock) read (n c.tailed_ends-after.result.1) c.tailed_ends-after.ensures.ends_are
+    in ap length c.greater.ensures
+    ∙ length-zip2 max (n c.greater-noted.result) (n c.tailed_ends-after.result.1) (long ∙ sym as_long')
+    ∙ long
 
-pub returns-clause-noted : goal.returns-clause-noted
-returns-clause-noted g c =
-    let row = map g.B.Block.value
+pub loop-block-preserved : goal.loop-block-preserved
+loop-block-preserved g c =
+    let n = g.B.Block.numbers
+    in let row = map g.B.Block.value
     in let hs = row c.args.heads.now
     in let ts = row c.args.times.now
     in let qs = row c.args.tails.now
     in let a = as_long g.B.Block.value c.args.times.now c.args.heads.now c.requires.times
     in let b = as_long g.B.Block.value c.args.tails.now c.args.heads.now c.requires.tails
     in let many = length-map c.args.heads.now g.B.Block.value
-    in let test = c.loop-i-test.false
-    in let upto = c.loop-i.auto.i-end
-    in let all : c.loop-i.i ≡ length hs = omega (arith, test, upto, many)
-    in let noted = noted_all hs ts qs a b c.loop-i.clock c.loop-i.most (row c.loop-i.owns) c.loop-i.i all
-    c.loop-i.invariant
-    in λ k lt. noted.1 k (omega (arith, many, lt))
+    in let p = c.loop-block.block
+    in let test = c.loop-block-test.true
+    in let count = c.requires.count
+    in let room : 8 * (p + 1) ≤ length hs = omega (arith, many, test, count)
+    in let read : IsLoaded hs ts qs p (n c.load-head.result) (n c.load-time.result) (n c.load-tail.result)
+    (n c.splat-one.result) (n c.loop-block.clock) = record {
+      heads_are = c.load-head.ensures;
+      times_are = c.load-time.ensures;
+      tails_are = c.load-tail.ensures;
+      one_is = c.splat-one.ensures;
+      clock_is = c.loop-block.invariant.clock_is;
+    }
+    in note_more hs ts qs a b p room (n c.load-head.result) (n c.load-time.result) (n c.load-tail.result) (n c.splat-one.result)
+    (n c.loop-block.clock) read (n c.tailed_ends-after.result.1) c.tailed_ends-after.ensures.ends_are
+    (n c.loop-block.most) (row c.loop-block.owns) (n c.greatest_before.result) (n c.greater-noted.result)
+    c.loop-block.invariant c.greatest_before.ensures c.greater-noted.ensures
+    (n c.greater.result) (n c.last-most.result) (row c.store.new.row) (n c.tailed_ends-after.result.0)
+    c.greater.ensures c.last-most.ensures c.store.ensures c.tailed_ends-after.ensures.clock_is
 
 pub returns-clause-clock : goal.returns-clause-clock
 returns-clause-clock g c =
-    let row = map g.B.Block.value
+    let n = g.B.Block.numbers
+    in let row = map g.B.Block.value
     in let hs = row c.args.heads.now
     in let ts = row c.args.times.now
     in let qs = row c.args.tails.now
     in let a = as_long g.B.Block.value c.args.times.now c.args.heads.now c.requires.times
     in let b = as_long g.B.Block.value c.args.tails.now c.args.heads.now c.requires.tails
     in let many = length-map c.args.heads.now g.B.Block.value
-    in let test = c.loop-i-test.false
-    in let upto = c.loop-i.auto.i-end
-    in let all : c.loop-i.i ≡ length hs = omega (arith, test, upto, many)
-    in let noted = noted_all hs ts qs a b c.loop-i.clock c.loop-i.most (row c.loop-i.owns) c.loop-i.i all
-    c.loop-i.invariant
+    in let test = c.loop-block-test.false
+    in let upto = c.loop-block.auto.block-end
+    in let count = c.requires.count
+    in let whole = c.requires.whole_blocks
+    in let all : 8 * c.loop-block.block ≡ length hs = omega (arith, many, test, upto, count, whole)
+    in let noted = noted_all hs ts qs a b (n c.loop-block.clock) (n c.loop-block.most) (row c.loop-block.owns)
+    c.loop-block.block all c.loop-block.invariant
     in noted.0

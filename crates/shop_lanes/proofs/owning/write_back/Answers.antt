@@ -1,206 +1,456 @@
-use Rattle.std.proofs.Common.{◌≡◌, ◌∙◌, ◌+◌, ◌-◌, max, cond, leb, ap, map}
-use Rattle.std.proofs.Common.{suc, set, get_or, arith, rules, sym}
-use Rattle.std.proofs.lemmas.List.{length-map, map-set}
-use Rattle.shop_lanes.proofs.OwnTurns.{back_begins, late_fits, own_fits, served_before, back_more}
+use Rattle.std.proofs.Common.{◌≡◌, ◌∙◌, ◌+◌, ◌-◌, ◌*◌, ◌/◌, ◌%◌, ◌≤◌, max, length, map, take, replicate, refl, ap, sym}
+use Rattle.std.proofs.Common.{subst, arith}
+use Rattle.std.proofs.lemmas.List.{length-map}
+use lib.Lanes.{zip2}
+use Rattle.shop_lanes.specs.Rows.{lanes}
+use Rattle.shop_lanes.specs.inner.Passes.{clock_after}
+use Rattle.shop_lanes.proofs.OwnTurns.{IsLoaded, IsBackTo, splat_long, block_fits, waiting_fits, clock_back, late_long}
+use Rattle.shop_lanes.proofs.OwnTurns.{behinds_long, after_long, begins_fit, own_ends_fit, own_ends_long, back_begins}
+use Rattle.shop_lanes.proofs.OwnTurns.{back_more}
 use Rattle.shop_lanes.proofs.RowValues.{as_long}
 use Rattle.shop_lanes.proofs.owning.write_back.Goals as goal
 
-pub loop-i-init : goal.loop-i-init
-loop-i-init g c =
-    let row = map g.B.Block.value
+pub loop-block-init : goal.loop-block-init
+loop-block-init g c =
+    let n = g.B.Block.numbers
+    in let row = map g.B.Block.value
     in let hs = row c.args.heads.now
     in let ts = row c.args.times.now
     in let qs = row c.args.tails.now
     in let a = as_long g.B.Block.value c.args.times.now c.args.heads.now c.requires.times
     in let b = as_long g.B.Block.value c.args.tails.now c.args.heads.now c.requires.tails
     in let many = length-map c.args.heads.now g.B.Block.value
-    in let whole = many
-    in rw (sym many) (back_begins hs ts qs a b c.args.clock (row c.args.owns.now)
+    in let count = c.requires.count
+    in let whole = c.requires.whole_blocks
+    in let all : 8 * (c.args.count / 8) ≡ length hs = omega (arith, many, count, whole)
+    in subst (λ l. IsBackTo hs ts qs (n c.args.clock) l (row c.args.owns.now) (c.args.count / 8))
+    (sym c.splat-behind.ensures)
+    (back_begins hs ts qs a b (n c.args.clock) (row c.args.owns.now) (c.args.count / 8) all
     (as_long g.B.Block.value c.args.owns.now c.args.heads.now c.requires.owns) c.requires.clock
     (λ k lt. c.requires.noted k (omega (arith, many, lt))))
 
-pub overflow_add-begin : goal.overflow_add-begin
-overflow_add-begin g c =
-    let row = map g.B.Block.value
+pub clock_before-clock-requires-clause-fits : goal.clock_before-clock-requires-clause-fits
+clock_before-clock-requires-clause-fits g c =
+    let n = g.B.Block.numbers
+    in let row = map g.B.Block.value
     in let hs = row c.args.heads.now
     in let ts = row c.args.times.now
     in let qs = row c.args.tails.now
     in let a = as_long g.B.Block.value c.args.times.now c.args.heads.now c.requires.times
     in let b = as_long g.B.Block.value c.args.tails.now c.args.heads.now c.requires.tails
     in let many = length-map c.args.heads.now g.B.Block.value
-    in let i = c.loop-i.i
-    in let p = c.loop-i.i - 1
-    in let test = c.loop-i-test.true
-    in let some : suc (c.loop-i.i - 1) ≡ c.loop-i.i = omega (arith, test)
-    in let greatest = c.GREATEST-greatest.ensures
-    in let range = c.GREATEST-greatest.type_inv
-    in let served : c.where_waiting-served.result ≡ cond (leb 1 (get_or hs p 0)) (get_or ts p 0) 0 =
-    c.where_waiting-served.ensures
-    ∙ ap (λ h. cond (leb 1 h) c.at-time.result 0) c.at-head.ensures
-    ∙ ap (λ t. cond (leb 1 (get_or hs p 0)) t 0) c.at-time.ensures
-    in let head = c.at-head.ensures
-    in let fits = own_fits hs ts qs a b g.B.Block.GREATEST c.requires.fits c.loop-i.clock c.loop-i.behind (row
-    c.loop-i.owns) c.loop-i.i
-    (c.loop-i.i - 1) some c.loop-i.invariant
-    in omega (arith, fits, served, head, greatest, range)
+    in let p = c.loop-block.block - 1
+    in let test = c.loop-block-test.true
+    in let some : p + 1 ≡ c.loop-block.block = omega (arith, test)
+    in let within = c.loop-block.invariant.within
+    in let room : 8 * (p + 1) ≤ length hs = omega (arith, some, within)
+    in let begun = replicate 8 (clock_after 1 0 (take (8 * p) (lanes hs ts qs)))
+    in let first : IsLoaded hs ts qs p (n c.load-head.result) (n c.load-time.result) (n c.load-tail.result)
+    (n c.splat-one.result) begun = record {
+      heads_are = c.load-head.ensures;
+      times_are = c.load-time.ensures;
+      tails_are = c.load-tail.ensures;
+      one_is = c.splat-one.ensures;
+      clock_is = refl;
+    }
+    in waiting_fits hs ts qs a b p room (n c.load-head.result) (n c.load-time.result) (n c.load-tail.result) (n c.splat-one.result)
+    begun first
+    g.B.Block.GREATEST c.requires.fits.whole
 
-pub overflow_add-own : goal.overflow_add-own
-overflow_add-own g c =
-    let row = map g.B.Block.value
+pub tailed_ends-late-requires-clause-fits : goal.tailed_ends-late-requires-clause-fits
+tailed_ends-late-requires-clause-fits g c =
+    let n = g.B.Block.numbers
+    in let row = map g.B.Block.value
     in let hs = row c.args.heads.now
     in let ts = row c.args.times.now
     in let qs = row c.args.tails.now
     in let a = as_long g.B.Block.value c.args.times.now c.args.heads.now c.requires.times
     in let b = as_long g.B.Block.value c.args.tails.now c.args.heads.now c.requires.tails
     in let many = length-map c.args.heads.now g.B.Block.value
-    in let i = c.loop-i.i
-    in let p = c.loop-i.i - 1
-    in let test = c.loop-i-test.true
-    in let some : suc (c.loop-i.i - 1) ≡ c.loop-i.i = omega (arith, test)
-    in let greatest = c.GREATEST-greatest.ensures
-    in let range = c.GREATEST-greatest.type_inv
-    in let served : c.where_waiting-served.result ≡ cond (leb 1 (get_or hs p 0)) (get_or ts p 0) 0 =
-    c.where_waiting-served.ensures
-    ∙ ap (λ h. cond (leb 1 h) c.at-time.result 0) c.at-head.ensures
-    ∙ ap (λ t. cond (leb 1 (get_or hs p 0)) t 0) c.at-time.ensures
-    in let rest : c.max-rest.result ≡ max c.at-before.result c.saturating_sub-after.result = search rules
-    in let rest_is : c.max-rest.result
-    ≡ max (get_or (row c.loop-i.owns) p 0) (c.loop-i.behind - cond (leb 1 (get_or hs p 0)) (get_or ts p 0) 0) =
-    rest ∙ ap (λ m. max m c.saturating_sub-after.result) c.at-before.ensures
-    ∙ ap (max (get_or (row c.loop-i.owns) p 0))
-    (c.saturating_sub-after.ensures ∙ ap (λ m. c.loop-i.behind - m) served)
-    in let head = c.at-head.ensures
-    in let fits = own_fits hs ts qs a b g.B.Block.GREATEST c.requires.fits c.loop-i.clock c.loop-i.behind (row
-    c.loop-i.owns) c.loop-i.i
-    (c.loop-i.i - 1) some c.loop-i.invariant
-    in omega (arith, fits, served, head, rest_is, greatest, range)
+    in let p = c.loop-block.block - 1
+    in let test = c.loop-block-test.true
+    in let some : p + 1 ≡ c.loop-block.block = omega (arith, test)
+    in let within = c.loop-block.invariant.within
+    in let room : 8 * (p + 1) ≤ length hs = omega (arith, some, within)
+    in let begun = replicate 8 (clock_after 1 0 (take (8 * p) (lanes hs ts qs)))
+    in let first : IsLoaded hs ts qs p (n c.load-head.result) (n c.load-time.result) (n c.load-tail.result)
+    (n c.splat-one.result) begun = record {
+      heads_are = c.load-head.ensures;
+      times_are = c.load-time.ensures;
+      tails_are = c.load-tail.ensures;
+      one_is = c.splat-one.ensures;
+      clock_is = refl;
+    }
+    in let clock_is : n c.loop-block.clock ≡ replicate 8 (clock_after 1 0 (take (8 * (p + 1)) (lanes hs ts qs))) =
+    c.loop-block.invariant.clock_is ∙ ap (λ k. replicate 8 (clock_after 1 0 (take (8 * k) (lanes hs ts qs)))) (sym some)
+    in let read : IsLoaded hs ts qs p (n c.load-head.result) (n c.load-time.result) (n c.load-tail.result)
+    (n c.splat-one.result) (n c.clock_before-clock.result) = record {
+      heads_are = c.load-head.ensures;
+      times_are = c.load-time.ensures;
+      tails_are = c.load-tail.ensures;
+      one_is = c.splat-one.ensures;
+      clock_is = clock_back hs ts qs a b p room (n c.load-head.result) (n c.load-time.result) (n c.load-tail.result) (n c.splat-one.result)
+          begun first
+          (n c.loop-block.clock) (n c.clock_before-clock.result) clock_is c.clock_before-clock.ensures;
+    }
+    in block_fits hs ts qs a b p room (n c.load-head.result) (n c.load-time.result) (n c.load-tail.result) (n c.splat-one.result)
+    (n c.clock_before-clock.result) read
+    g.B.Block.GREATEST c.requires.fits.whole
 
-pub narrowed-written-requires : goal.narrowed-written-requires
-narrowed-written-requires g c =
-    let row = map g.B.Block.value
+pub greatest_behind-requires : goal.greatest_behind-requires
+greatest_behind-requires g c =
+    let n = g.B.Block.numbers
+    in let row = map g.B.Block.value
     in let hs = row c.args.heads.now
     in let ts = row c.args.times.now
     in let qs = row c.args.tails.now
     in let a = as_long g.B.Block.value c.args.times.now c.args.heads.now c.requires.times
     in let b = as_long g.B.Block.value c.args.tails.now c.args.heads.now c.requires.tails
     in let many = length-map c.args.heads.now g.B.Block.value
-    in let i = c.loop-i.i
-    in let p = c.loop-i.i - 1
-    in let test = c.loop-i-test.true
-    in let some : suc (c.loop-i.i - 1) ≡ c.loop-i.i = omega (arith, test)
-    in let served : c.where_waiting-served.result ≡ cond (leb 1 (get_or hs p 0)) (get_or ts p 0) 0 =
-    c.where_waiting-served.ensures
-    ∙ ap (λ h. cond (leb 1 h) c.at-time.result 0) c.at-head.ensures
-    ∙ ap (λ t. cond (leb 1 (get_or hs p 0)) t 0) c.at-time.ensures
-    in let rest : c.max-rest.result ≡ max c.at-before.result c.saturating_sub-after.result = search rules
-    in let rest_is : c.max-rest.result
-    ≡ max (get_or (row c.loop-i.owns) p 0) (c.loop-i.behind - cond (leb 1 (get_or hs p 0)) (get_or ts p 0) 0) =
-    rest ∙ ap (λ m. max m c.saturating_sub-after.result) c.at-before.ensures
-    ∙ ap (max (get_or (row c.loop-i.owns) p 0))
-    (c.saturating_sub-after.ensures ∙ ap (λ m. c.loop-i.behind - m) served)
-    in let head = c.at-head.ensures
-    in let fits = own_fits hs ts qs a b g.B.Block.GREATEST c.requires.fits c.loop-i.clock c.loop-i.behind (row
-    c.loop-i.owns) c.loop-i.i
-    (c.loop-i.i - 1) some c.loop-i.invariant
-    in omega (arith, fits, served, head, rest_is)
+    in let p = c.loop-block.block - 1
+    in let test = c.loop-block-test.true
+    in let some : p + 1 ≡ c.loop-block.block = omega (arith, test)
+    in let within = c.loop-block.invariant.within
+    in let room : 8 * (p + 1) ≤ length hs = omega (arith, some, within)
+    in let begun = replicate 8 (clock_after 1 0 (take (8 * p) (lanes hs ts qs)))
+    in let first : IsLoaded hs ts qs p (n c.load-head.result) (n c.load-time.result) (n c.load-tail.result)
+    (n c.splat-one.result) begun = record {
+      heads_are = c.load-head.ensures;
+      times_are = c.load-time.ensures;
+      tails_are = c.load-tail.ensures;
+      one_is = c.splat-one.ensures;
+      clock_is = refl;
+    }
+    in let clock_is : n c.loop-block.clock ≡ replicate 8 (clock_after 1 0 (take (8 * (p + 1)) (lanes hs ts qs))) =
+    c.loop-block.invariant.clock_is ∙ ap (λ k. replicate 8 (clock_after 1 0 (take (8 * k) (lanes hs ts qs)))) (sym some)
+    in let read : IsLoaded hs ts qs p (n c.load-head.result) (n c.load-time.result) (n c.load-tail.result)
+    (n c.splat-one.result) (n c.clock_before-clock.result) = record {
+      heads_are = c.load-head.ensures;
+      times_are = c.load-time.ensures;
+      tails_are = c.load-tail.ensures;
+      one_is = c.splat-one.ensures;
+      clock_is = clock_back hs ts qs a b p room (n c.load-head.result) (n c.load-time.result) (n c.load-tail.result) (n c.splat-one.result)
+          begun first
+          (n c.loop-block.clock) (n c.clock_before-clock.result) clock_is c.clock_before-clock.ensures;
+    }
+    in late_long hs ts qs a b p room (n c.load-head.result) (n c.load-time.result) (n c.load-tail.result) (n c.splat-one.result)
+    (n c.clock_before-clock.result) read (n c.tailed_ends-late.result.1)
+    c.tailed_ends-late.ensures.ends_are
 
-pub overflow_add-end : goal.overflow_add-end
-overflow_add-end g c =
-    let row = map g.B.Block.value
+pub greater-after-requires : goal.greater-after-requires
+greater-after-requires g c =
+    let n = g.B.Block.numbers
+    in let row = map g.B.Block.value
     in let hs = row c.args.heads.now
     in let ts = row c.args.times.now
     in let qs = row c.args.tails.now
     in let a = as_long g.B.Block.value c.args.times.now c.args.heads.now c.requires.times
     in let b = as_long g.B.Block.value c.args.tails.now c.args.heads.now c.requires.tails
     in let many = length-map c.args.heads.now g.B.Block.value
-    in let i = c.loop-i.i
-    in let p = c.loop-i.i - 1
-    in let test = c.loop-i-test.true
-    in let some : suc (c.loop-i.i - 1) ≡ c.loop-i.i = omega (arith, test)
-    in let greatest = c.GREATEST-greatest.ensures
-    in let range = c.GREATEST-greatest.type_inv
-    in let fits = late_fits hs ts qs a b g.B.Block.GREATEST c.requires.fits c.loop-i.clock c.loop-i.behind (row
-    c.loop-i.owns) c.loop-i.i
-    (c.loop-i.i - 1) some c.loop-i.invariant
-    in let tail = c.at-tail.ensures
-    in omega (arith, fits, tail, greatest, range)
+    in let p = c.loop-block.block - 1
+    in let test = c.loop-block-test.true
+    in let some : p + 1 ≡ c.loop-block.block = omega (arith, test)
+    in let within = c.loop-block.invariant.within
+    in let room : 8 * (p + 1) ≤ length hs = omega (arith, some, within)
+    in let begun = replicate 8 (clock_after 1 0 (take (8 * p) (lanes hs ts qs)))
+    in let first : IsLoaded hs ts qs p (n c.load-head.result) (n c.load-time.result) (n c.load-tail.result)
+    (n c.splat-one.result) begun = record {
+      heads_are = c.load-head.ensures;
+      times_are = c.load-time.ensures;
+      tails_are = c.load-tail.ensures;
+      one_is = c.splat-one.ensures;
+      clock_is = refl;
+    }
+    in let clock_is : n c.loop-block.clock ≡ replicate 8 (clock_after 1 0 (take (8 * (p + 1)) (lanes hs ts qs))) =
+    c.loop-block.invariant.clock_is ∙ ap (λ k. replicate 8 (clock_after 1 0 (take (8 * k) (lanes hs ts qs)))) (sym some)
+    in let read : IsLoaded hs ts qs p (n c.load-head.result) (n c.load-time.result) (n c.load-tail.result)
+    (n c.splat-one.result) (n c.clock_before-clock.result) = record {
+      heads_are = c.load-head.ensures;
+      times_are = c.load-time.ensures;
+      tails_are = c.load-tail.ensures;
+      one_is = c.splat-one.ensures;
+      clock_is = clock_back hs ts qs a b p room (n c.load-head.result) (n c.load-time.result) (n c.load-tail.result) (n c.splat-one.result)
+          begun first
+          (n c.loop-block.clock) (n c.clock_before-clock.result) clock_is c.clock_before-clock.ensures;
+    }
+    in splat_long (n c.loop-block.behind) _ c.loop-block.invariant.behind_is
+    ∙ sym (behinds_long hs ts qs a b p room (n c.load-head.result) (n c.load-time.result) (n c.load-tail.result) (n c.splat-one.result)
+    (n c.clock_before-clock.result) read (n c.tailed_ends-late.result.1)
+    c.tailed_ends-late.ensures.ends_are c.loop-block.block some (n c.loop-block.clock)
+    (n c.loop-block.behind) (row c.loop-block.owns) (n c.greatest_behind.result) (zip2 max (n c.loop-block.behind) (n c.greatest_behind.result))
+    (n c.load-before.result) c.loop-block.invariant c.greatest_behind.ensures refl c.load-before.ensures)
 
-pub overflow_sub-clock : goal.overflow_sub-clock
-overflow_sub-clock g c =
-    let row = map g.B.Block.value
+pub own_ends-own-requires-clause-behind : goal.own_ends-own-requires-clause-behind
+own_ends-own-requires-clause-behind g c =
+    let n = g.B.Block.numbers
+    in let row = map g.B.Block.value
     in let hs = row c.args.heads.now
     in let ts = row c.args.times.now
     in let qs = row c.args.tails.now
     in let a = as_long g.B.Block.value c.args.times.now c.args.heads.now c.requires.times
     in let b = as_long g.B.Block.value c.args.tails.now c.args.heads.now c.requires.tails
     in let many = length-map c.args.heads.now g.B.Block.value
-    in let i = c.loop-i.i
-    in let p = c.loop-i.i - 1
-    in let test = c.loop-i-test.true
-    in let some : suc (c.loop-i.i - 1) ≡ c.loop-i.i = omega (arith, test)
-    in let served : c.where_waiting-served.result ≡ cond (leb 1 (get_or hs p 0)) (get_or ts p 0) 0 =
-    c.where_waiting-served.ensures
-    ∙ ap (λ h. cond (leb 1 h) c.at-time.result 0) c.at-head.ensures
-    ∙ ap (λ t. cond (leb 1 (get_or hs p 0)) t 0) c.at-time.ensures
-    in let le = served_before hs ts qs a b g.B.Block.GREATEST c.requires.fits c.loop-i.clock c.loop-i.behind (row
-    c.loop-i.owns) c.loop-i.i
-    (c.loop-i.i - 1) some c.loop-i.invariant
-    in omega (arith, served, le)
+    in let p = c.loop-block.block - 1
+    in let test = c.loop-block-test.true
+    in let some : p + 1 ≡ c.loop-block.block = omega (arith, test)
+    in let within = c.loop-block.invariant.within
+    in let room : 8 * (p + 1) ≤ length hs = omega (arith, some, within)
+    in let begun = replicate 8 (clock_after 1 0 (take (8 * p) (lanes hs ts qs)))
+    in let first : IsLoaded hs ts qs p (n c.load-head.result) (n c.load-time.result) (n c.load-tail.result)
+    (n c.splat-one.result) begun = record {
+      heads_are = c.load-head.ensures;
+      times_are = c.load-time.ensures;
+      tails_are = c.load-tail.ensures;
+      one_is = c.splat-one.ensures;
+      clock_is = refl;
+    }
+    in let clock_is : n c.loop-block.clock ≡ replicate 8 (clock_after 1 0 (take (8 * (p + 1)) (lanes hs ts qs))) =
+    c.loop-block.invariant.clock_is ∙ ap (λ k. replicate 8 (clock_after 1 0 (take (8 * k) (lanes hs ts qs)))) (sym some)
+    in let read : IsLoaded hs ts qs p (n c.load-head.result) (n c.load-time.result) (n c.load-tail.result)
+    (n c.splat-one.result) (n c.clock_before-clock.result) = record {
+      heads_are = c.load-head.ensures;
+      times_are = c.load-time.ensures;
+      tails_are = c.load-tail.ensures;
+      one_is = c.splat-one.ensures;
+      clock_is = clock_back hs ts qs a b p room (n c.load-head.result) (n c.load-time.result) (n c.load-tail.result) (n c.splat-one.result)
+          begun first
+          (n c.loop-block.clock) (n c.clock_before-clock.result) clock_is c.clock_before-clock.ensures;
+    }
+    in after_long hs ts qs a b p room (n c.load-head.result) (n c.load-time.result) (n c.load-tail.result) (n c.splat-one.result)
+    (n c.clock_before-clock.result) read (n c.tailed_ends-late.result.1)
+    c.tailed_ends-late.ensures.ends_are c.loop-block.block some (n c.loop-block.clock)
+    (n c.loop-block.behind) (row c.loop-block.owns) (n c.greatest_behind.result) (n c.greater-after.result)
+    (n c.load-before.result) c.loop-block.invariant c.greatest_behind.ensures c.greater-after.ensures c.load-before.ensures
 
-pub loop-i-preserved : goal.loop-i-preserved
-loop-i-preserved g c =
-    let row = map g.B.Block.value
+pub own_ends-own-requires-clause-begins : goal.own_ends-own-requires-clause-begins
+own_ends-own-requires-clause-begins g c =
+    let n = g.B.Block.numbers
+    in let row = map g.B.Block.value
     in let hs = row c.args.heads.now
     in let ts = row c.args.times.now
     in let qs = row c.args.tails.now
     in let a = as_long g.B.Block.value c.args.times.now c.args.heads.now c.requires.times
     in let b = as_long g.B.Block.value c.args.tails.now c.args.heads.now c.requires.tails
     in let many = length-map c.args.heads.now g.B.Block.value
-    in let i = c.loop-i.i
-    in let p = c.loop-i.i - 1
-    in let test = c.loop-i-test.true
-    in let some : suc (c.loop-i.i - 1) ≡ c.loop-i.i = omega (arith, test)
-    in let served : c.where_waiting-served.result ≡ cond (leb 1 (get_or hs p 0)) (get_or ts p 0) 0 =
-    c.where_waiting-served.ensures
-    ∙ ap (λ h. cond (leb 1 h) c.at-time.result 0) c.at-head.ensures
-    ∙ ap (λ t. cond (leb 1 (get_or hs p 0)) t 0) c.at-time.ensures
-    in let rest : c.max-rest.result ≡ max c.at-before.result c.saturating_sub-after.result = search rules
-    in let rest_is : c.max-rest.result
-    ≡ max (get_or (row c.loop-i.owns) p 0) (c.loop-i.behind - cond (leb 1 (get_or hs p 0)) (get_or ts p 0) 0) =
-    rest ∙ ap (λ m. max m c.saturating_sub-after.result) c.at-before.ensures
-    ∙ ap (max (get_or (row c.loop-i.owns) p 0))
-    (c.saturating_sub-after.ensures ∙ ap (λ m. c.loop-i.behind - m) served)
-    in let head = c.at-head.ensures
-    in let own : c.at-head.result + c.where_waiting-served.result + c.max-rest.result
-    ≡ get_or hs p 0 + cond (leb 1 (get_or hs p 0)) (get_or ts p 0) 0
-    + max (get_or (row c.loop-i.owns) p 0) (c.loop-i.behind - cond (leb 1 (get_or hs p 0)) (get_or ts p 0) 0) =
-    omega (arith, head, served, rest_is)
-    in let owns : row (set c.loop-i.owns p c.narrowed-written.result)
-    ≡ set (row c.loop-i.owns) p (c.at-head.result + c.where_waiting-served.result + c.max-rest.result) =
-    map-set g.B.Block.value c.loop-i.owns p c.narrowed-written.result
-    ∙ ap (set (row c.loop-i.owns) p) c.narrowed-written.ensures
-    in let later : c.max-behind.result ≡ max c.loop-i.behind c.where_waiting-late.result = search rules
-    in let late : c.where_waiting-late.result ≡ cond (leb 1 (get_or hs p 0)) (c.loop-i.clock + get_or qs p 0) 0 =
-    c.where_waiting-late.ensures
-    ∙ ap (λ h. cond (leb 1 h) (c.loop-i.clock + c.at-tail.result) 0) head
-    ∙ ap (λ q. cond (leb 1 (get_or hs p 0)) (c.loop-i.clock + q) 0) c.at-tail.ensures
-    in back_more hs ts qs a b g.B.Block.GREATEST c.requires.fits c.loop-i.clock c.loop-i.behind (row c.loop-i.owns)
-    c.loop-i.i
-    (c.loop-i.i - 1) some c.loop-i.invariant
-    (c.at-head.result + c.where_waiting-served.result + c.max-rest.result)
-    (row (set c.loop-i.owns p c.narrowed-written.result)) c.max-behind.result
-    (c.loop-i.clock - c.where_waiting-served.result) own owns (later ∙ ap (max c.loop-i.behind) late)
-    (ap (λ m. c.loop-i.clock - m) served)
+    in let p = c.loop-block.block - 1
+    in let test = c.loop-block-test.true
+    in let some : p + 1 ≡ c.loop-block.block = omega (arith, test)
+    in let within = c.loop-block.invariant.within
+    in let room : 8 * (p + 1) ≤ length hs = omega (arith, some, within)
+    in let begun = replicate 8 (clock_after 1 0 (take (8 * p) (lanes hs ts qs)))
+    in let first : IsLoaded hs ts qs p (n c.load-head.result) (n c.load-time.result) (n c.load-tail.result)
+    (n c.splat-one.result) begun = record {
+      heads_are = c.load-head.ensures;
+      times_are = c.load-time.ensures;
+      tails_are = c.load-tail.ensures;
+      one_is = c.splat-one.ensures;
+      clock_is = refl;
+    }
+    in let clock_is : n c.loop-block.clock ≡ replicate 8 (clock_after 1 0 (take (8 * (p + 1)) (lanes hs ts qs))) =
+    c.loop-block.invariant.clock_is ∙ ap (λ k. replicate 8 (clock_after 1 0 (take (8 * k) (lanes hs ts qs)))) (sym some)
+    in let read : IsLoaded hs ts qs p (n c.load-head.result) (n c.load-time.result) (n c.load-tail.result)
+    (n c.splat-one.result) (n c.clock_before-clock.result) = record {
+      heads_are = c.load-head.ensures;
+      times_are = c.load-time.ensures;
+      tails_are = c.load-tail.ensures;
+      one_is = c.splat-one.ensures;
+      clock_is = clock_back hs ts qs a b p room (n c.load-head.result) (n c.load-time.result) (n c.load-tail.result) (n c.splat-one.result)
+          begun first
+          (n c.loop-block.clock) (n c.clock_before-clock.result) clock_is c.clock_before-clock.ensures;
+    }
+    in begins_fit hs ts qs a b p room (n c.load-head.result) (n c.load-time.result) (n c.load-tail.result) (n c.splat-one.result)
+    (n c.clock_before-clock.result) read (n c.tailed_ends-late.result.1)
+    c.tailed_ends-late.ensures.ends_are c.loop-block.block some (n c.loop-block.clock)
+    (n c.loop-block.behind) (row c.loop-block.owns) (n c.greatest_behind.result) (n c.greater-after.result)
+    (n c.load-before.result) c.loop-block.invariant c.greatest_behind.ensures c.greater-after.ensures c.load-before.ensures
+    g.B.Block.GREATEST c.requires.fits
+
+pub own_ends-own-requires-clause-ends : goal.own_ends-own-requires-clause-ends
+own_ends-own-requires-clause-ends g c =
+    let n = g.B.Block.numbers
+    in let row = map g.B.Block.value
+    in let hs = row c.args.heads.now
+    in let ts = row c.args.times.now
+    in let qs = row c.args.tails.now
+    in let a = as_long g.B.Block.value c.args.times.now c.args.heads.now c.requires.times
+    in let b = as_long g.B.Block.value c.args.tails.now c.args.heads.now c.requires.tails
+    in let many = length-map c.args.heads.now g.B.Block.value
+    in let p = c.loop-block.block - 1
+    in let test = c.loop-block-test.true
+    in let some : p + 1 ≡ c.loop-block.block = omega (arith, test)
+    in let within = c.loop-block.invariant.within
+    in let room : 8 * (p + 1) ≤ length hs = omega (arith, some, within)
+    in let begun = replicate 8 (clock_after 1 0 (take (8 * p) (lanes hs ts qs)))
+    in let first : IsLoaded hs ts qs p (n c.load-head.result) (n c.load-time.result) (n c.load-tail.result)
+    (n c.splat-one.result) begun = record {
+      heads_are = c.load-head.ensures;
+      times_are = c.load-time.ensures;
+      tails_are = c.load-tail.ensures;
+      one_is = c.splat-one.ensures;
+      clock_is = refl;
+    }
+    in let clock_is : n c.loop-block.clock ≡ replicate 8 (clock_after 1 0 (take (8 * (p + 1)) (lanes hs ts qs))) =
+    c.loop-block.invariant.clock_is ∙ ap (λ k. replicate 8 (clock_after 1 0 (take (8 * k) (lanes hs ts qs)))) (sym some)
+    in let read : IsLoaded hs ts qs p (n c.load-head.result) (n c.load-time.result) (n c.load-tail.result)
+    (n c.splat-one.result) (n c.clock_before-clock.result) = record {
+      heads_are = c.load-head.ensures;
+      times_are = c.load-time.ensures;
+      tails_are = c.load-tail.ensures;
+      one_is = c.splat-one.ensures;
+      clock_is = clock_back hs ts qs a b p room (n c.load-head.result) (n c.load-time.result) (n c.load-tail.result) (n c.splat-one.result)
+          begun first
+          (n c.loop-block.clock) (n c.clock_before-clock.result) clock_is c.clock_before-clock.ensures;
+    }
+    in own_ends_fit hs ts qs a b p room (n c.load-head.result) (n c.load-time.result) (n c.load-tail.result) (n c.splat-one.result)
+    (n c.clock_before-clock.result) read (n c.tailed_ends-late.result.1)
+    c.tailed_ends-late.ensures.ends_are c.loop-block.block some (n c.loop-block.clock)
+    (n c.loop-block.behind) (row c.loop-block.owns) (n c.greatest_behind.result) (n c.greater-after.result)
+    (n c.load-before.result) c.loop-block.invariant c.greatest_behind.ensures c.greater-after.ensures c.load-before.ensures
+    g.B.Block.GREATEST c.requires.fits
+
+pub store-requires-clause-eight : goal.store-requires-clause-eight
+store-requires-clause-eight g c =
+    let n = g.B.Block.numbers
+    in let row = map g.B.Block.value
+    in let hs = row c.args.heads.now
+    in let ts = row c.args.times.now
+    in let qs = row c.args.tails.now
+    in let a = as_long g.B.Block.value c.args.times.now c.args.heads.now c.requires.times
+    in let b = as_long g.B.Block.value c.args.tails.now c.args.heads.now c.requires.tails
+    in let many = length-map c.args.heads.now g.B.Block.value
+    in let p = c.loop-block.block - 1
+    in let test = c.loop-block-test.true
+    in let some : p + 1 ≡ c.loop-block.block = omega (arith, test)
+    in let within = c.loop-block.invariant.within
+    in let room : 8 * (p + 1) ≤ length hs = omega (arith, some, within)
+    in let begun = replicate 8 (clock_after 1 0 (take (8 * p) (lanes hs ts qs)))
+    in let first : IsLoaded hs ts qs p (n c.load-head.result) (n c.load-time.result) (n c.load-tail.result)
+    (n c.splat-one.result) begun = record {
+      heads_are = c.load-head.ensures;
+      times_are = c.load-time.ensures;
+      tails_are = c.load-tail.ensures;
+      one_is = c.splat-one.ensures;
+      clock_is = refl;
+    }
+    in let clock_is : n c.loop-block.clock ≡ replicate 8 (clock_after 1 0 (take (8 * (p + 1)) (lanes hs ts qs))) =
+    c.loop-block.invariant.clock_is ∙ ap (λ k. replicate 8 (clock_after 1 0 (take (8 * k) (lanes hs ts qs)))) (sym some)
+    in let read : IsLoaded hs ts qs p (n c.load-head.result) (n c.load-time.result) (n c.load-tail.result)
+    (n c.splat-one.result) (n c.clock_before-clock.result) = record {
+      heads_are = c.load-head.ensures;
+      times_are = c.load-time.ensures;
+      tails_are = c.load-tail.ensures;
+      one_is = c.splat-one.ensures;
+      clock_is = clock_back hs ts qs a b p room (n c.load-head.result) (n c.load-time.result) (n c.load-tail.result) (n c.splat-one.result)
+          begun first
+          (n c.loop-block.clock) (n c.clock_before-clock.result) clock_is c.clock_before-clock.ensures;
+    }
+    in own_ends_long hs ts qs a b p room (n c.load-head.result) (n c.load-time.result) (n c.load-tail.result) (n c.splat-one.result)
+    (n c.clock_before-clock.result) read (n c.tailed_ends-late.result.1)
+    c.tailed_ends-late.ensures.ends_are c.loop-block.block some (n c.loop-block.clock)
+    (n c.loop-block.behind) (row c.loop-block.owns) (n c.greatest_behind.result) (n c.greater-after.result)
+    (n c.load-before.result) c.loop-block.invariant c.greatest_behind.ensures c.greater-after.ensures c.load-before.ensures
+    (n c.own_ends-own.result) c.own_ends-own.ensures
+
+pub greater-requires : goal.greater-requires
+greater-requires g c =
+    let n = g.B.Block.numbers
+    in let row = map g.B.Block.value
+    in let hs = row c.args.heads.now
+    in let ts = row c.args.times.now
+    in let qs = row c.args.tails.now
+    in let a = as_long g.B.Block.value c.args.times.now c.args.heads.now c.requires.times
+    in let b = as_long g.B.Block.value c.args.tails.now c.args.heads.now c.requires.tails
+    in let many = length-map c.args.heads.now g.B.Block.value
+    in let p = c.loop-block.block - 1
+    in let test = c.loop-block-test.true
+    in let some : p + 1 ≡ c.loop-block.block = omega (arith, test)
+    in let within = c.loop-block.invariant.within
+    in let room : 8 * (p + 1) ≤ length hs = omega (arith, some, within)
+    in let begun = replicate 8 (clock_after 1 0 (take (8 * p) (lanes hs ts qs)))
+    in let first : IsLoaded hs ts qs p (n c.load-head.result) (n c.load-time.result) (n c.load-tail.result)
+    (n c.splat-one.result) begun = record {
+      heads_are = c.load-head.ensures;
+      times_are = c.load-time.ensures;
+      tails_are = c.load-tail.ensures;
+      one_is = c.splat-one.ensures;
+      clock_is = refl;
+    }
+    in let clock_is : n c.loop-block.clock ≡ replicate 8 (clock_after 1 0 (take (8 * (p + 1)) (lanes hs ts qs))) =
+    c.loop-block.invariant.clock_is ∙ ap (λ k. replicate 8 (clock_after 1 0 (take (8 * k) (lanes hs ts qs)))) (sym some)
+    in let read : IsLoaded hs ts qs p (n c.load-head.result) (n c.load-time.result) (n c.load-tail.result)
+    (n c.splat-one.result) (n c.clock_before-clock.result) = record {
+      heads_are = c.load-head.ensures;
+      times_are = c.load-time.ensures;
+      tails_are = c.load-tail.ensures;
+      one_is = c.splat-one.ensures;
+      clock_is = clock_back hs ts qs a b p room (n c.load-head.result) (n c.load-time.result) (n c.load-tail.result) (n c.splat-one.result)
+          begun first
+          (n c.loop-block.clock) (n c.clock_before-clock.result) clock_is c.clock_before-clock.ensures;
+    }
+    in after_long hs ts qs a b p room (n c.load-head.result) (n c.load-time.result) (n c.load-tail.result) (n c.splat-one.result)
+    (n c.clock_before-clock.result) read (n c.tailed_ends-late.result.1)
+    c.tailed_ends-late.ensures.ends_are c.loop-block.block some (n c.loop-block.clock)
+    (n c.loop-block.behind) (row c.loop-block.owns) (n c.greatest_behind.result) (n c.greater-after.result)
+    (n c.load-before.result) c.loop-block.invariant c.greatest_behind.ensures c.greater-after.ensures c.load-before.ensures
+    ∙ sym (late_long hs ts qs a b p room (n c.load-head.result) (n c.load-time.result) (n c.load-tail.result) (n c.splat-one.result)
+    (n c.clock_before-clock.result) read (n c.tailed_ends-late.result.1)
+    c.tailed_ends-late.ensures.ends_are)
+
+pub loop-block-preserved : goal.loop-block-preserved
+loop-block-preserved g c =
+    let n = g.B.Block.numbers
+    in let row = map g.B.Block.value
+    in let hs = row c.args.heads.now
+    in let ts = row c.args.times.now
+    in let qs = row c.args.tails.now
+    in let a = as_long g.B.Block.value c.args.times.now c.args.heads.now c.requires.times
+    in let b = as_long g.B.Block.value c.args.tails.now c.args.heads.now c.requires.tails
+    in let many = length-map c.args.heads.now g.B.Block.value
+    in let p = c.loop-block.block - 1
+    in let test = c.loop-block-test.true
+    in let some : p + 1 ≡ c.loop-block.block = omega (arith, test)
+    in let within = c.loop-block.invariant.within
+    in let room : 8 * (p + 1) ≤ length hs = omega (arith, some, within)
+    in let begun = replicate 8 (clock_after 1 0 (take (8 * p) (lanes hs ts qs)))
+    in let first : IsLoaded hs ts qs p (n c.load-head.result) (n c.load-time.result) (n c.load-tail.result)
+    (n c.splat-one.result) begun = record {
+      heads_are = c.load-head.ensures;
+      times_are = c.load-time.ensures;
+      tails_are = c.load-tail.ensures;
+      one_is = c.splat-one.ensures;
+      clock_is = refl;
+    }
+    in let clock_is : n c.loop-block.clock ≡ replicate 8 (clock_after 1 0 (take (8 * (p + 1)) (lanes hs ts qs))) =
+    c.loop-block.invariant.clock_is ∙ ap (λ k. replicate 8 (clock_after 1 0 (take (8 * k) (lanes hs ts qs)))) (sym some)
+    in let read : IsLoaded hs ts qs p (n c.load-head.result) (n c.load-time.result) (n c.load-tail.result)
+    (n c.splat-one.result) (n c.clock_before-clock.result) = record {
+      heads_are = c.load-head.ensures;
+      times_are = c.load-time.ensures;
+      tails_are = c.load-tail.ensures;
+      one_is = c.splat-one.ensures;
+      clock_is = clock_back hs ts qs a b p room (n c.load-head.result) (n c.load-time.result) (n c.load-tail.result) (n c.splat-one.result)
+          begun first
+          (n c.loop-block.clock) (n c.clock_before-clock.result) clock_is c.clock_before-clock.ensures;
+    }
+    in back_more hs ts qs a b p room (n c.load-head.result) (n c.load-time.result) (n c.load-tail.result) (n c.splat-one.result)
+    (n c.clock_before-clock.result) read (n c.tailed_ends-late.result.1)
+    c.tailed_ends-late.ensures.ends_are c.loop-block.block some (n c.loop-block.clock)
+    (n c.loop-block.behind) (row c.loop-block.owns) (n c.greatest_behind.result) (n c.greater-after.result)
+    (n c.load-before.result) c.loop-block.invariant c.greatest_behind.ensures c.greater-after.ensures c.load-before.ensures
+    (n c.own_ends-own.result) (row c.store.new.row) (n c.greater.result) (n c.splat-behind-in-loop-block.result)
+    c.own_ends-own.ensures c.store.ensures c.greater.ensures
+    (c.splat-behind-in-loop-block.ensures ∙ ap (replicate 8) c.first.ensures.first)
 
 pub returns-clause-owns : goal.returns-clause-owns
 returns-clause-owns g c =
-    let row = map g.B.Block.value
+    let n = g.B.Block.numbers
+    in let row = map g.B.Block.value
     in let hs = row c.args.heads.now
     in let ts = row c.args.times.now
     in let qs = row c.args.tails.now
     in let a = as_long g.B.Block.value c.args.times.now c.args.heads.now c.requires.times
     in let b = as_long g.B.Block.value c.args.tails.now c.args.heads.now c.requires.tails
     in let many = length-map c.args.heads.now g.B.Block.value
-    in let test = c.loop-i-test.false
-    in let done = c.loop-i.invariant.done
+    in let test = c.loop-block-test.false
+    in let done = c.loop-block.invariant.done
     in λ k lt waits. done k (omega (arith, test)) (omega (arith, many, lt)) waits

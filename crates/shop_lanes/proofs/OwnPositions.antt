@@ -1,0 +1,186 @@
+-- The own span of one position, from the ends of what stands before it and behind it.
+use Rattle.std.proofs.Common.{◌≡◌, ℕ, zero, suc, ◌+◌, ◌-◌, ◌<◌, ◌≤◌, max, Bool, true, false, cond, leb, List, [], ◌∷◌}
+use Rattle.std.proofs.Common.{◌++◌, length, take, drop, set, get_or, refl, ap, sym, ◌∙◌, arith, subst}
+use Rattle.std.proofs.Common.{take-append-drop, length-set}
+use Rattle.std.specs.Prelude.{All}
+use Rattle.std.proofs.lemmas.List.Sums.{sum_by-cons, sum_by-append}
+use Rattle.std.proofs.lemmas.Bool.Decides.{nat_tests}
+use Rattle.shop_blocks.specs.Folds.{greatest}
+use Rattle.shop_lanes.specs.Rows.{Lane, lanes}
+use Rattle.shop_lanes.specs.Spans.{span, FitsSpan, FitOwnSpans}
+use Rattle.shop_lanes.specs.inner.OwnSpans.{own_span_at}
+use Rattle.shop_lanes.specs.inner.Passes.{clock_after, tailed_ends}
+use Rattle.shop_lanes.proofs.BlockTurns.{greatest_by-append}
+use Rattle.shop_lanes.proofs.LaneLists.{lane_at, lanes_more, lanes-take, lanes-drop}
+use Rattle.shop_lanes.proofs.Loads.{work-append, load-append, work-one, work_le_load, work_le, load_le, span_from_start}
+use Rattle.shop_lanes.proofs.TailedEnds.{take-tailed, drop-tailed, greatest-tailed}
+
+-- where all lanes are those before one, that one and those behind, none of their sums is above the limit
+pub record ArePartsWithin (limit start : ℕ) (before : List Lane) (x : Lane) (behind : List Lane) : Type 0 where
+  pub fit : start + clock_after 1 0 before + x.time + x.tail ≤ limit
+  pub load_before : start + span 1 0 before + x.time ≤ limit
+  pub load_behind : start + clock_after 1 0 before + x.time + span 1 0 behind ≤ limit
+
+pub parts_within : (limit start : ℕ) (all before : List Lane) (x : Lane) (behind : List Lane)
+    → all ≡ before ++ (x ∷ behind) → FitsSpan limit start all → ArePartsWithin limit start before x behind
+parts_within limit start all before x behind e fits =
+    let whole = subst (FitsSpan limit start) e fits
+    in let sum = sum_by-append (λ y. y.time) before (x ∷ behind)
+    in let sum_here = sum_by-cons (λ y. y.time) x behind
+    in let tails = greatest_by-append (λ y. y.tail) before (x ∷ behind)
+    in let work_before = work_le 1 before
+    in let work_behind = work_le 1 behind
+    in let before_le = load_le 1 before
+    in let behind_le = load_le 1 behind
+    in record {
+      fit = omega (arith, whole, sum, sum_here, tails, work_before);
+      load_before = omega (arith, whole, sum, sum_here, tails, work_before, before_le);
+      load_behind = omega (arith, whole, sum, sum_here, tails, work_before, work_behind, behind_le);
+    }
+
+pub all_at : (P : Lane → Type 0) (xs : List Lane) (x : Lane) (ys : List Lane) → All P (xs ++ (x ∷ ys)) → P x
+all_at P [] x ys h = h 0 x (omega arith)
+all_at P (y ∷ xs) x ys h = all_at P xs x ys (λ k d lt. h (suc k) d (omega arith))
+
+take_set : (xs : List ℕ) (i x : ℕ) → take i (set xs i x) ≡ take i xs
+take_set [] i x = refl
+take_set (y ∷ xs) zero x = refl
+take_set (y ∷ xs) (suc i) x = ap (λ l. y ∷ l) (take_set xs i x)
+
+drop_set : (xs : List ℕ) (i x : ℕ) → drop (suc i) (set xs i x) ≡ drop (suc i) xs
+drop_set [] i x = refl
+drop_set (y ∷ xs) zero x = refl
+drop_set (y ∷ xs) (suc i) x = drop_set xs i x
+
+set_to_none : (xs : List ℕ) (i : ℕ) → get_or (set xs i 0) i 0 ≡ 0
+set_to_none [] i = refl
+set_to_none (y ∷ xs) zero = refl
+set_to_none (y ∷ xs) (suc i) = set_to_none xs i
+
+taken_more : (hs ts qs : List ℕ) (i : ℕ) → length ts ≡ length hs → length qs ≡ length hs → i < length hs
+    → take (suc i) (lanes hs ts qs) ≡ take i (lanes hs ts qs) ++ (lane_at hs ts qs i ∷ [])
+taken_more [] ts qs i a b lt = absurd (omega arith)
+taken_more (h ∷ hs) [] qs i a b lt = absurd (omega arith)
+taken_more (h ∷ hs) (t ∷ ts) [] i a b lt = absurd (omega arith)
+taken_more (h ∷ hs) (t ∷ ts) (q ∷ qs) zero a b lt = refl
+taken_more (h ∷ hs) (t ∷ ts) (q ∷ qs) (suc i) a b lt =
+    ap (λ l. record { head = h; time = t; tail = q } ∷ l)
+    (taken_more hs ts qs i (omega arith) (omega arith) (omega arith))
+
+-- one operation in numbers: what is written fits
+fit_numbers : (limit h t q C A R K Z : ℕ) (on : Bool) → K ≡ C + cond on t 0 → max K Z ≡ K + R
+    → h + C + t + q ≤ limit → h + A + t ≤ limit → h + C + t + R ≤ limit
+    → (h + t ≤ limit) × (h + t + max A (Z - t) ≤ limit)
+fit_numbers limit h t q C A R K Z true ek ez f1 f2 f3 = (omega arith, omega arith)
+fit_numbers limit h t q C A R K Z false ek ez f1 f2 f3 = (omega arith, omega arith)
+
+own_numbers : (t C A R K Z : ℕ) → K ≡ C + t → max K Z ≡ K + R → C ≤ A → max A (Z - t) ≡ max A (C + R)
+own_numbers t C A R K Z ek ez le = omega arith
+
+module _ (hs ts qs : List ℕ) (a : length ts ≡ length hs) (b : length qs ≡ length hs) where
+  abbrev all : List Lane
+  all = lanes hs ts qs
+
+  pub parted : (i : ℕ) → i < length hs → all ≡ take i all ++ (lane_at hs ts qs i ∷ drop (i + 1) all)
+  parted i lt =
+      sym (take-append-drop i all) ∙ ap (λ l. take i all ++ l) (lanes_more hs ts qs i a b lt)
+
+  pub work_more : (i : ℕ) → i < length hs
+      → clock_after 1 0 (take (suc i) all)
+      ≡ clock_after 1 0 (take i all) + cond (leb 1 (get_or hs i 0)) (get_or ts i 0) 0
+  work_more i lt =
+      ap (clock_after 1 0) (taken_more hs ts qs i a b lt)
+      ∙ work-append 1 (take i all) (lane_at hs ts qs i ∷ [])
+      ∙ ap (λ m. clock_after 1 0 (take i all) + m) (work-one 1 (lane_at hs ts qs i))
+
+  -- what else waits, where position p is taken out
+  others : (p : ℕ) → p < length hs
+      → lanes (set hs p 0) ts qs ≡ take p all ++ (lane_at (set hs p 0) ts qs p ∷ drop (p + 1) all)
+  others p lt =
+      let taken = set hs p 0
+      in let many : length taken ≡ length hs = length-set hs p 0
+      in let on : suc p ≡ p + 1 = omega arith
+      in let la : length ts ≡ length taken = a ∙ sym many
+      in let lb : length qs ≡ length taken = b ∙ sym many
+      in let front : take p (lanes taken ts qs) ≡ take p all =
+      lanes-take p taken ts qs la lb ∙ ap (λ l. lanes l (take p ts) (take p qs)) (take_set hs p 0)
+      ∙ sym (lanes-take p hs ts qs a b)
+      in let back : drop (p + 1) (lanes taken ts qs) ≡ drop (p + 1) all =
+      lanes-drop (p + 1) taken ts qs la lb
+      ∙ ap (λ l. lanes l (drop (p + 1) ts) (drop (p + 1) qs))
+      (ap (λ k. drop k taken) (sym on) ∙ drop_set hs p 0 ∙ ap (λ k. drop k hs) on)
+      ∙ sym (lanes-drop (p + 1) hs ts qs a b)
+      in sym (take-append-drop p (lanes taken ts qs))
+      ∙ ap (λ l. take p (lanes taken ts qs) ++ l) (lanes_more taken ts qs p la lb (omega (arith, many)))
+      ∙ ap (λ l. l ++ (lane_at taken ts qs p ∷ drop (p + 1) (lanes taken ts qs))) front
+      ∙ ap (λ l. take p all ++ (lane_at taken ts qs p ∷ l)) back
+
+  own_is : (p r : ℕ) → p < length hs
+      → r ≡ max (span 1 0 (take p all)) (clock_after 1 0 (take p all) + span 1 0 (drop (p + 1) all))
+      → get_or hs p 0 + get_or ts p 0 + r ≡ own_span_at hs ts qs p
+  own_is p r lt e =
+      let taken = set hs p 0
+      in let none : get_or taken p 0 ≡ 0 = set_to_none hs p
+      in let load : span 1 0 (lanes taken ts qs)
+      ≡ max (span 1 0 (take p all)) (clock_after 1 0 (take p all) + span 1 0 (drop (p + 1) all)) =
+      ap (span 1 0) (others p lt)
+      ∙ load-append 1 (take p all) (lane_at taken ts qs p ∷ drop (p + 1) all)
+      ∙ ap (λ m. max (span 1 0 (take p all)) (clock_after 1 0 (take p all) + m)) (rw none refl)
+      in ap (λ m. get_or hs p 0 + get_or ts p 0 + m) (e ∙ sym load)
+      ∙ sym (span_from_start 1 (get_or hs p 0 + get_or ts p 0) (lanes taken ts qs))
+
+  -- the greatest ends before a position, and from one on
+  pub ends_before : (i : ℕ) → greatest (take i (tailed_ends 1 0 all)) ≡ span 1 0 (take i all)
+  ends_before i = ap greatest (take-tailed i 1 0 all) ∙ greatest-tailed 1 0 (take i all)
+
+  ends_from : (i : ℕ)
+      → max (clock_after 1 0 (take i all)) (greatest (drop i (tailed_ends 1 0 all)))
+      ≡ clock_after 1 0 (take i all) + span 1 0 (drop i all)
+  ends_from i =
+      let clock = clock_after 1 0 (take i all)
+      in ap (λ l. max clock (greatest l)) (drop-tailed i 1 0 all)
+      ∙ ap (max clock) (greatest-tailed 1 clock (drop i all))
+      ∙ span_from_start 1 clock (drop i all)
+
+  module _ (i : ℕ) (lt : i < length hs) (before behind : ℕ) (before_is : before ≡ span 1 0 (take i all))
+      (behind_is : behind ≡ greatest (drop (suc i) (tailed_ends 1 0 all))) where
+    behind_here : max (clock_after 1 0 (take (suc i) all)) behind
+        ≡ clock_after 1 0 (take (suc i) all) + span 1 0 (drop (i + 1) all)
+    behind_here =
+        let on : suc i ≡ i + 1 = omega arith
+        in ap (max (clock_after 1 0 (take (suc i) all))) behind_is
+        ∙ ends_from (suc i)
+        ∙ ap (λ k. clock_after 1 0 (take (suc i) all) + span 1 0 (drop k all)) on
+
+    pub own_fits : (limit : ℕ) → FitOwnSpans limit all
+        → (get_or hs i 0 + get_or ts i 0 ≤ limit)
+        × (get_or hs i 0 + get_or ts i 0 + max before (behind - get_or ts i 0) ≤ limit)
+    own_fits limit fits =
+        let each = subst (All (λ x. FitsSpan limit x.head all)) (parted i lt) fits.each
+        in let fitting : FitsSpan limit (get_or hs i 0) all =
+        all_at (λ x. FitsSpan limit x.head all) (take i all) (lane_at hs ts qs i) (drop (i + 1) all) each
+        in let within = parts_within limit (get_or hs i 0) all (take i all) (lane_at hs ts qs i) (drop (i + 1) all)
+        (parted i lt) fitting
+        in let load_before : get_or hs i 0 + before + get_or ts i 0 ≤ limit =
+        let w = within.load_before in omega (arith, w, before_is)
+        in fit_numbers limit (get_or hs i 0) (get_or ts i 0) (get_or qs i 0) (clock_after 1 0 (take i all)) before
+        (span 1 0 (drop (i + 1) all)) (clock_after 1 0 (take (suc i) all)) behind (leb 1 (get_or hs i 0))
+        (work_more i lt) behind_here within.fit load_before within.load_behind
+
+    pub own_at : 0 < get_or hs i 0
+        → get_or hs i 0 + get_or ts i 0 + max before (behind - get_or ts i 0) ≡ own_span_at hs ts qs i
+    own_at waits =
+        let on : leb 1 (get_or hs i 0) ≡ true = is_on (get_or hs i 0) waits
+        in let served : cond (leb 1 (get_or hs i 0)) (get_or ts i 0) 0 ≡ get_or ts i 0 = rw on refl
+        in let clock : clock_after 1 0 (take (suc i) all) ≡ clock_after 1 0 (take i all) + get_or ts i 0 =
+        work_more i lt ∙ ap (λ m. clock_after 1 0 (take i all) + m) served
+        in let rest : max before (behind - get_or ts i 0)
+        ≡ max (span 1 0 (take i all)) (clock_after 1 0 (take i all) + span 1 0 (drop (i + 1) all)) =
+        ap (λ m. max m (behind - get_or ts i 0)) before_is
+        ∙ own_numbers (get_or ts i 0) (clock_after 1 0 (take i all)) (span 1 0 (take i all))
+        (span 1 0 (drop (i + 1) all)) (clock_after 1 0 (take (suc i) all)) behind clock behind_here
+        (work_le_load 1 (take i all))
+        in own_is i (max before (behind - get_or ts i 0)) lt rest
+      where
+        is_on : (k : ℕ) → 0 < k → leb 1 k ≡ true
+        is_on k waits = grind (arith, nat_tests)
