@@ -6,7 +6,7 @@ ghost use Rattle.shop_bound.specs.Desks.{IsUndone, IsWordOfShop, goes_on, nothin
 ghost use Rattle.shop_bound.specs.inner.LaneRings.{kept_in};
 
 use crate::rings::Ring;
-use shop_desk::{Dispatcher, Layout};
+use shop_desk::{LaidOut, Layout};
 use shop_lanes::{NarrowLanes, PlainLanes, WideLanes};
 use shop_model::Instance;
 use std::alloc::{AllocError, Global};
@@ -14,9 +14,9 @@ use std::alloc::{AllocError, Global};
 /// A ring in lanes of 16, 32 or 64 bits.
 #[derive(Drop)]
 pub(crate) enum LaneRing<'a> {
-    Narrow(Ring<Dispatcher<'a, NarrowLanes>>),
-    Wide(Ring<Dispatcher<'a, WideLanes>>),
-    Plain(Ring<Dispatcher<'a, PlainLanes>>),
+    Narrow(Ring<LaidOut<'a, NarrowLanes>>),
+    Wide(Ring<LaidOut<'a, WideLanes>>),
+    Plain(Ring<LaidOut<'a, PlainLanes>>),
 }
 
 impl<'a> LaneRing<'a> {

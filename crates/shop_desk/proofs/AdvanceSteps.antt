@@ -13,10 +13,11 @@ use Rattle.shop_heads.specs.Heads.{head_of}
 use Rattle.shop_desk.specs.inner.LaneEnds.{IsEndOf}
 use Rattle.shop_desk.specs.inner.LaneHeads.{AreHeadsAt}
 use Rattle.shop_desk.specs.inner.LaneStates.{Advances, AreHeadsInLanes, HasNextAt}
-use Rattle.shop_desk.specs.inner.Layouts.{LayoutState, place, first_position}
-use Rattle.shop_desk.specs.inner.Raises.{AreFirst, HasBlocks, IsLeastRaise, IsOnMachine, IsRaisable, Raises}
+use Rattle.shop_layout.specs.Positions.{LayoutState, place, first_position}
+use Rattle.shop_desk.specs.inner.Raises.{AreFirst, HasBlocks, IsLeastRaise, IsOnMachine, IsRaisable}
+use Rattle.shop_desk.specs.inner.Raises.{Raises}
 use Rattle.shop_heads.proofs.HeadTurns.{ready_first}
-use Rattle.shop_desk.proofs.LaidPlaces.{place_of}
+use Rattle.shop_layout.proofs.LaidPlaces.{place_of}
 use Rattle.shop_desk.proofs.RaisedHeads.{left, raisable, raised, has_blocks}
 
 module _ (greatest : ℕ) (shop : Shop) (l : LayoutState) (rows : Rows) (w : List ℕ) (j : ℕ)

@@ -8,8 +8,9 @@ use Rattle.shop_model.specs.Word.{IsWord}
 use Rattle.shop_heads.specs.Bound.{lb}
 use Rattle.shop_heads.proofs.SmallSums.{sums_small}
 use Rattle.shop_desk.specs.States.{TellsBoundBelow}
-use Rattle.shop_desk.specs.inner.LaneStates.{IsKeptInLanes, rows_of}
-use Rattle.shop_desk.specs.inner.Layouts.{LayoutState}
+use Rattle.shop_desk.specs.inner.LaneStates.{IsKeptInLanes}
+use Rattle.shop_layout.specs.Lanes.{rows_of}
+use Rattle.shop_layout.specs.Positions.{LayoutState}
 
 -- each bound is told
 pub some_told : (shop : Shop) → IsWithinLimits shop → (w : List ℕ) → IsWord shop w → (told : Option ℕ)

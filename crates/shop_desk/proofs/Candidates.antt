@@ -1,8 +1,7 @@
 -- The candidates of a word, and what is foreseen of the bound after one.
-use Rattle.std.proofs.Common.{◌≡◌, ℕ, zero, suc, ◌+◌, ◌-◌, ◌≤◌, ◌<◌, ◌^◌, max, min, inl, inr, List, [], ◌∷◌, ◌++◌, length}
-use Rattle.std.proofs.Common.{get_or, refl, ◌∙◌, ap, subst, arith}
+use Rattle.std.proofs.Common.{◌≡◌, ℕ, zero, suc, ◌+◌, ◌-◌, ◌≤◌, ◌<◌, ◌^◌, max, min, inl, inr, List}
+use Rattle.std.proofs.Common.{[], ◌∷◌, ◌++◌, length, get_or, refl, ◌∙◌, ap, subst, arith}
 use Rattle.std.specs.List.{All}
-use Rattle.std.proofs.lemmas.List.{get_or_default}
 use Rattle.shop_lanes.specs.Rows.{Rows}
 use Rattle.shop_model.specs.Limits.{IsWithinLimits}
 use Rattle.shop_model.specs.Shop.{Shop, IsOperation, machine_of}
@@ -12,15 +11,17 @@ use Rattle.shop_heads.specs.Bound.{lb}
 use Rattle.std.specs.Prelude.{Option, Some, None}
 use Rattle.shop_desk.specs.States.{TellsBoundBelow}
 use Rattle.shop_heads.proofs.SmallSums.{sums_small}
-use Rattle.shop_heads.specs.Conflicts.{chosen_of, conflict, conflict_among, conflicts_with, open_jobs}
+use Rattle.shop_heads.specs.Conflicts.{chosen_of, conflict, conflict_among, conflicts_with}
+use Rattle.shop_heads.specs.Conflicts.{open_jobs}
 use Rattle.shop_heads.proofs.Entries.{IsWord-snoc}
 use Rattle.shop_desk.specs.inner.Advances.{CanForesee, IsAdvancing, IsLeastAt, foreseen}
 use Rattle.shop_desk.specs.inner.LaneChoices.{AreChoosable, AreInConflict}
-use Rattle.shop_desk.specs.inner.LaneStates.{IsKeptInLanes, rows_of}
-use Rattle.shop_desk.specs.inner.Layouts.{LayoutState, place}
+use Rattle.shop_desk.specs.inner.LaneStates.{IsKeptInLanes}
+use Rattle.shop_layout.specs.Lanes.{rows_of}
+use Rattle.shop_layout.specs.Positions.{LayoutState, place}
 use Rattle.shop_desk.specs.inner.RisingLists.{IsIn, Rises}
-use Rattle.shop_desk.proofs.ChildReads.{after_look, end_here, end_latest, end_small, head_here, left_fits}
-use Rattle.shop_desk.proofs.ChildReads.{machine_here, time_here}
+use Rattle.shop_desk.proofs.ChildReads.{after_look, end_here, end_latest, end_small, head_here}
+use Rattle.shop_desk.proofs.ChildReads.{left_fits, machine_here, time_here}
 use Rattle.shop_desk.proofs.LaneConflicts.{filter_rises, in_filter, open_is, open_rises}
 use Rattle.shop_desk.proofs.RisingLists.{rising_short}
 use Rattle.shop_desk.proofs.StateSteps.{next_at, next_known, within}
@@ -121,7 +122,7 @@ module _ (greatest : ℕ) (shop : Shop) (w : List ℕ) (l : LayoutState) (heads 
         in let b : max bound (get_or heads x 0 + get_or l.times x 0 - 1) ≡ max (lb shop w)
         ((place_next shop (placing shop w) j).free (machine_of shop j ((placing shop w).steps j))) = omega arith
         in after_look greatest shop w l rows kept.kept j fits
-        (max bound (get_or heads x 0 + get_or l.times x 0 - 1)) 0 b x (get_or l.machines x 0)
+        (max bound (get_or heads x 0 + get_or l.times x 0 - 1)) b x (get_or l.machines x 0)
         (get_or heads x 0 + get_or l.times x 0) its_place its_machine head_is least least_is
 
   -- where heads, ends and next operations are as they were
@@ -139,10 +140,6 @@ module _ (greatest : ℕ) (shop : Shop) (w : List ℕ) (l : LayoutState) (heads 
 
   pub job_known : j < length nexts
   job_known = next_known greatest shop w j l rows nexts kept fits
-
-  -- where it stands, as it is read
-  pub index_is : (x : ℕ) → x ≡ get_or nexts j x → x ≡ get_or nexts j 0
-  index_is x is = is ∙ get_or_default nexts j x 0 job_known
 
 -- the choice by lanes is that of the word
 module _ (greatest : ℕ) (shop : Shop) (w : List ℕ) (l : LayoutState) (heads ends nexts : List ℕ)

@@ -1,6 +1,6 @@
 -- The bound after one more operation, by the bound before, the end of the operation and the heads that it raises.
-use Rattle.std.proofs.Common.{◌≡◌, ℕ, ◌+◌, ◌≤◌, ◌<◌, max, ◌⊎◌, inl, inr, List, [], ◌∷◌, ◌++◌, get_or}
-use Rattle.std.proofs.Common.{ap, subst, refl, sym, arith}
+use Rattle.std.proofs.Common.{◌≡◌, ℕ, ◌+◌, ◌≤◌, ◌<◌, max, ◌⊎◌, inl, inr, List, [], ◌∷◌, ◌++◌}
+use Rattle.std.proofs.Common.{get_or, ap, subst, refl, sym, arith}
 use Rattle.std.specs.List.{AllByRecursion}
 use Rattle.std.proofs.lemmas.Bool.{cases_eq, leb-true, le-leb}
 use Rattle.std.proofs.lemmas.List.Elements.{recursion_from_All}
@@ -13,25 +13,23 @@ use Rattle.shop_model.proofs.Unders.{placing-snoc}
 use Rattle.shop_model.proofs.WordLemmas.{IsWord-init}
 use Rattle.shop_heads.specs.Bound.{lb}
 use Rattle.shop_heads.specs.Heads.{head_of}
+use Rattle.shop_heads.proofs.HeadsStay.{steps_rise}
 use Rattle.one_machine.specs.OneMachine.{one}
-use Rattle.shop_desk.specs.Slots.{AreMachineSlots}
+use Rattle.shop_layout.specs.Slots.{AreMachineSlots}
 use Rattle.one_machine.specs.inner.NonincreasingTails.{one_between}
-use Rattle.shop_desk.specs.declared.slots.Slot.{Slot}
+use Rattle.shop_layout.specs.declared.slots.Slot.{Slot}
 use Rattle.shop_desk.proofs.BoundsAfter.{least_at_most}
-use Rattle.shop_desk.proofs.OpenBounds.{part_of, lb_by_parts}
-use Rattle.shop_desk.proofs.Raising.{IsSlotRaised, open_raised, one-raised_part}
-use Rattle.shop_desk.proofs.SlotFacts.{slots_are_operations}
-use Rattle.shop_desk.proofs.TabledHeads.{tabled, tabled_heads, tabled_heads_are, tabled_is, tabled_up, left_for}
+use Rattle.shop_desk.proofs.LeftSlots.{left_for, part_of, lb_by_parts}
+use Rattle.shop_desk.proofs.Raising.{IsSlotRaised, left_raised, one-raised_part}
+use Rattle.shop_layout.proofs.SlotFacts.{slots_are_operations}
 
 -- what is left for a machine bounds no more than the word
 pub left-le-lb : (shop : Shop) → IsWithinLimits shop → (slots : List (List Slot)) → AreMachineSlots shop slots
     → (w : List ℕ) → IsWord shop w → (m : ℕ) → m < shop.machines
     → one (left_for shop slots (placing shop w) m) ≤ lb shop w
 left-le-lb shop limits slots are w word m known =
-    let p = placing shop w
-    in let a = le-greatest_below (part_of (tabled shop p) slots (tabled_heads shop p)) shop.machines m known
-    in let b = lb_by_parts shop w (tabled shop p) slots (tabled_heads shop p) (tabled_up shop limits slots are w word)
-    in omega arith
+    let a = le-greatest_below (part_of shop slots (placing shop w)) shop.machines m known
+    in let b = lb_by_parts shop limits slots are w word in omega arith
 
 module _ (shop : Shop) (limits : IsWithinLimits shop) (slots : List (List Slot)) (are : AreMachineSlots shop slots)
     (w : List ℕ) (j : ℕ) (fits : IsWord shop (w ++ j ∷ [])) where
@@ -57,43 +55,23 @@ module _ (shop : Shop) (limits : IsWithinLimits shop) (slots : List (List Slot))
   after_is : placing shop (w ++ j ∷ []) ≡ next
   after_is = placing-snoc shop w j
 
-  steps_rise : (i : ℕ) → (placing shop w).steps i ≤ next.steps i
-  steps_rise i =
-      let n = place_next-is shop (placing shop w) j
-      in elim (cases_eq i j) [
-        | inl e ↦ (let d = n.steps_here
-            in let x : next.steps i ≡ next.steps j = ap next.steps e
-            in let y : (placing shop w).steps i ≡ (placing shop w).steps j = ap (placing shop w).steps e in omega arith)
-        | inr ne ↦ (let d = n.steps_other i ne in omega arith)
-      ]
-
   module _ (m from to : ℕ) (known : m < shop.machines) (within : RaisesWithin m from to) where
-    slots_raised : AllByRecursion (IsSlotRaised from to (tabled_heads shop (placing shop w))
-        (tabled shop (placing shop w)).steps (tabled_heads shop next) (tabled shop next).steps) (get_or slots m [])
+    slots_raised : AllByRecursion (IsSlotRaised from to shop (placing shop w) next) (get_or slots m [])
     slots_raised = recursion_from_All _ (get_or slots m []) (λ n d here.
         let s = get_or (get_or slots m []) n d
         in let op = slots_are_operations shop m (get_or slots m []) (are.slots m known) n d here
-        in let old = (tabled_is shop (placing shop w)).steps s.job op.job
-        in let new = (tabled_is shop next).steps s.job op.job
-        in let rise = steps_rise s.job
+        in let rise = steps_rise shop (placing shop w) j next (place_next-is shop (placing shop w) j) s.job
         in record {
-          opened = λ e. (let a = leb-true (get_or (tabled shop next).steps s.job 0) s.step e
-              in le-leb (get_or (tabled shop (placing shop w)).steps s.job 0) s.step (omega arith));
-          head = λ e. (let a = leb-true (get_or (tabled shop next).steps s.job 0) s.step e
-              in let f = (tabled_heads_are shop (placing shop w)).heads s.job s.step op.step (omega arith)
-              in let g = (tabled_heads_are shop next).heads s.job s.step op.step (omega arith)
-              in elim (within s.job s.step op.step op.machine (omega arith)) [
-                | inl same ↦ inl (omega arith)
-                | inr between ↦ inr (omega arith, omega arith)
-              ]);
+          was_left = λ e. (let a = leb-true (next.steps s.job) s.step e
+              in le-leb ((placing shop w).steps s.job) s.step (omega arith));
+          head = λ e. within s.job s.step op.step op.machine (leb-true (next.steps s.job) s.step e);
         })
 
     pub raised_left : one (left_for shop slots next m)
         ≤ max (lb shop w) (one_between from to (left_for shop slots next m))
     raised_left =
         let a = one-raised_part from to (left_for shop slots (placing shop w) m) (left_for shop slots next m)
-        (open_raised from to (tabled_heads shop (placing shop w)) (tabled shop (placing shop w)).steps
-        (tabled_heads shop next) (tabled shop next).steps (get_or slots m []) slots_raised)
+        (left_raised from to shop (placing shop w) next (get_or slots m []) slots_raised)
         in let b = left-le-lb shop limits slots are w (IsWord-init shop w j fits) m known in omega arith
 
   -- the bound after is at least the bound before, the end of the operation, and what is left for each machine
@@ -109,21 +87,17 @@ module _ (shop : Shop) (limits : IsWithinLimits shop) (slots : List (List Slot))
       → ((m : ℕ) → m < shop.machines → one (left_for shop slots next m) ≤ b)
       → lb shop (w ++ j ∷ []) ≤ b
   child-le b before ends left =
-      let old = lb_by_parts shop w (tabled shop (placing shop w)) slots (tabled_heads shop (placing shop w))
-      (tabled_up shop limits slots are w (IsWord-init shop w j fits))
-      in let new = lb_by_parts shop (w ++ j ∷ []) (tabled shop (placing shop (w ++ j ∷ []))) slots
-      (tabled_heads shop (placing shop (w ++ j ∷ []))) (tabled_up shop limits slots are (w ++ j ∷ []) fits)
+      let old = lb_by_parts shop limits slots are w (IsWord-init shop w j fits)
+      in let new = lb_by_parts shop limits slots are (w ++ j ∷ []) fits
       in let n = place_next-is shop (placing shop w) j
-      in let each = λ (q : Placing). (i : ℕ) → i < shop.machines
-      → part_of (tabled shop q) slots (tabled_heads shop q) i ≤ b
+      in let each = λ (q : Placing). (i : ℕ) → i < shop.machines → part_of shop slots q i ≤ b
       in let here : each next = λ i below.
-      (let a = left i below in let d = (tabled_is shop next).free i below
+      (let a = left i below
       in elim (cases_eq i next_machine) [
         | inl e ↦ (let x : next.free i ≡ next_end = ap next.free e in omega arith)
-        | inr ne ↦ (let x = n.free_other i ne in let y = (tabled_is shop (placing shop w)).free i below
-            in let z = le-greatest_below (part_of (tabled shop (placing shop w)) slots
-            (tabled_heads shop (placing shop w))) shop.machines i below in omega arith)
+        | inr ne ↦ (let x = n.free_other i ne
+            in let z = le-greatest_below (part_of shop slots (placing shop w)) shop.machines i below in omega arith)
       ])
-      in let all = greatest_below-le (part_of (tabled shop (placing shop (w ++ j ∷ []))) slots
-      (tabled_heads shop (placing shop (w ++ j ∷ [])))) shop.machines b (subst each (sym after_is) here)
+      in let all = greatest_below-le (part_of shop slots (placing shop (w ++ j ∷ []))) shop.machines b
+      (subst each (sym after_is) here)
       in omega arith

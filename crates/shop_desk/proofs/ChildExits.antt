@@ -1,26 +1,23 @@
 -- What is known of the bound after one more operation before any head is raised, and after the heads were raised.
-use Rattle.std.proofs.Common.{◌≡◌, ℕ, ◌+◌, ◌-◌, ◌≤◌, ◌<◌, max, ◌⊎◌, inl, inr, List, [], ◌∷◌, ◌++◌, get_or}
-use Rattle.std.proofs.Common.{length, refl, sym, ◌∙◌, ap, arith}
+use Rattle.std.proofs.Common.{◌≡◌, ℕ, ◌+◌, ◌-◌, ◌≤◌, ◌<◌, ◌⊎◌, inl, inr, List, [], ◌∷◌, ◌++◌}
+use Rattle.std.proofs.Common.{get_or, refl, ap, arith}
 use Rattle.std.proofs.lemmas.Bool.{cases_lt}
 use Rattle.shop_lanes.specs.Rows.{Lane, lanes, blocks}
 use Rattle.shop_lanes.specs.Spans.{span, spans_between}
 use Rattle.shop_model.specs.Limits.{IsWithinLimits}
 use Rattle.shop_model.specs.Shop.{Shop, machine_of, IsOperation}
 use Rattle.shop_model.specs.Word.{Placing, IsWord, placing, place_next}
-use Rattle.shop_model.proofs.Placings.{place_next-is}
 use Rattle.shop_heads.specs.Bound.{lb}
 use Rattle.shop_heads.specs.Heads.{head_of}
 use Rattle.one_machine.specs.OneMachine.{one}
-use Rattle.shop_desk.specs.inner.LaneHeads.{AreHeadsAt}
-use Rattle.shop_desk.specs.inner.Layouts.{LayoutState, IsLaidOut, place, first_position}
-use Rattle.shop_desk.proofs.ChildBounds.{raised_left, child-le}
-use Rattle.shop_desk.proofs.ChildBounds.{child-ge-before, child-ge-left}
-use Rattle.shop_heads.proofs.HeadsStay.{head_stays}
-use Rattle.shop_desk.proofs.LaneSpans.{IsServedAs, from_none, span_within, spans_cover, spans_within}
-use Rattle.shop_desk.proofs.MachineLanes.{AreStored, index_of, lanes_matched, left_matched}
-use Rattle.shop_desk.proofs.OpenSlots.{open_falls}
+use Rattle.shop_desk.specs.inner.LaneHeads.{AreHeadsAt, AreStored}
+use Rattle.shop_layout.specs.Positions.{LayoutState, IsLaidOut}
+use Rattle.shop_desk.proofs.ChildBounds.{raised_left, child-ge-left}
+use Rattle.shop_desk.proofs.LaneSpans.{IsServedAs, from_none, span_within, spans_cover}
+use Rattle.shop_desk.proofs.LaneSpans.{spans_within}
+use Rattle.shop_desk.proofs.MachineLanes.{lanes_matched, left_matched}
+use Rattle.shop_desk.proofs.LeftSlots.{left_falls, left_for}
 use Rattle.shop_desk.proofs.Raising.{one_between-none}
-use Rattle.shop_desk.proofs.TabledHeads.{tabled, tabled_is, tabled_heads, tabled_heads_are, left_for}
 
 module _ (shop : Shop) (limits : IsWithinLimits shop) (l : LayoutState) (laid : IsLaidOut shop l) (w : List ℕ) (j : ℕ)
     (fits : IsWord shop (w ++ j ∷ [])) where
@@ -59,63 +56,18 @@ module _ (shop : Shop) (limits : IsWithinLimits shop) (l : LayoutState) (laid : 
     open_span-le e is =
         let m = its_machine
         in let ts = left_for shop laid.slots its_next m
-        in let served = lanes_matched shop limits l laid m on_machine its_next.steps (head_of shop (placing shop w)) hs
-        stored (IsServedAs 1 e) (tabled_heads shop its_next) (tabled shop its_next).steps
-        (tabled_is shop its_next).steps
+        in let served = lanes_matched shop limits l laid m on_machine its_next (head_of shop (placing shop w)) hs
+        stored (IsServedAs 1 e)
         (λ s op on opened. record {
           time = refl;
           tail = refl;
-          same = inl (
-            omega arith,
-            (let a = (tabled_heads_are shop its_next).heads s.job s.step op opened
-                in let b = end-le-head s.job s.step on in omega arith),
-          );
+          same = inl (omega arith, (let b = end-le-head s.job s.step on in omega arith));
         })
-        in let nonincreasing = open_falls (tabled_heads shop its_next) (tabled shop its_next).steps
+        in let nonincreasing = left_falls shop its_next
         (get_or laid.slots m []) (laid.are.slots m on_machine).nonincreasing
         in let a = span_within 1 e (omega arith) [] served nonincreasing (e + 1) (from_none e)
         in let b = child-ge-left shop limits laid.slots laid.are w j fits m on_machine
         in omega arith
-
-    -- where no head on the machine is below the end, none rises
-    pub none_below-is : ((q : ℕ) → first_position l (machine_of shop j ((placing shop w).steps j)) ≤ q
-        → q < first_position l (machine_of shop j ((placing shop w).steps j) + 1)
-        → (get_or hs q 0 ≡ 0)
-        ⊎ ((place_next shop (placing shop w) j).free (machine_of shop j ((placing shop w).steps j)) + 1
-        ≤ get_or hs q 0))
-        → (b : ℕ) → b ≡ max (lb shop w)
-        ((place_next shop (placing shop w) j).free (machine_of shop j ((placing shop w).steps j)))
-        → lb shop (w ++ j ∷ []) ≡ b
-    unfolding its_machine its_end its_next
-    none_below-is none b is =
-        let p = placing shop w
-        in let n = place_next-is shop p j
-        in let clear : (i k : ℕ) → IsOperation shop i k → its_next.steps i ≤ k → machine_of shop i k ≡ its_machine
-        → (its_end ≤ head_of shop p i k) ⊎ (its_end < head_of shop its_next i k) = (λ i k op opened on.
-        let at = index_of shop limits l laid i k op
-        in let there : place l i k ≡ first_position l its_machine + at.0 =
-        at.1.place ∙ ap (λ (x : ℕ). first_position l x + at.0) on
-        in let long = at.1.below
-        in let room = (laid.each its_machine on_machine).room
-        in let same : length_of its_machine ≡ length_of (machine_of shop i k) = ap length_of (sym on)
-        in let head = stored.waiting i k op opened
-        in elim (none (place l i k) (omega arith) (omega arith)) [
-          | inl nil ↦ absurd (omega arith)
-          | inr high ↦ inl (omega arith)
-        ])
-        in let stays : (i k : ℕ) → IsOperation shop i k → its_next.steps i ≤ k
-        → head_of shop its_next i k ≡ head_of shop p i k = (λ i k op opened.
-        head_stays shop p j its_next n i k opened (λ x below left on. clear i x (omega arith) left on))
-        in let left : (m : ℕ) → m < shop.machines → one (left_for shop laid.slots its_next m) ≤ b = (λ m known.
-        let a = raised_left shop limits laid.slots laid.are w j fits m 1 0 known
-        (λ i k op on opened. inl (sym (stays i k op opened)))
-        in let c = one_between-none 1 0 (left_for shop laid.slots its_next m) (omega arith) in omega arith)
-        in let most = child-le shop limits laid.slots laid.are w j fits b (omega arith) (omega arith) left
-        in let least = child-ge-before shop limits laid.slots laid.are w j fits b is
-        in omega arith
-      where
-        length_of : ℕ → ℕ
-        length_of m = length (get_or laid.slots m [])
 
   -- with the heads afterwards
   module _ (hs : List ℕ) (heads : AreHeadsAt shop (place_next shop (placing shop w) j) l hs) (m : ℕ)
@@ -124,7 +76,7 @@ module _ (shop : Shop) (limits : IsWithinLimits shop) (l : LayoutState) (laid : 
     unfolding its_next
     after_spans-le above upto =
         let ts = left_for shop laid.slots its_next m
-        in let nonincreasing = open_falls (tabled_heads shop its_next) (tabled shop its_next).steps
+        in let nonincreasing = left_falls shop its_next
         (get_or laid.slots m []) (laid.are.slots m known).nonincreasing
         in let a = spans_within (left_matched shop limits l laid m known its_next hs heads) above upto nonincreasing
         (lanes_on hs m)
@@ -142,7 +94,7 @@ module _ (shop : Shop) (limits : IsWithinLimits shop) (l : LayoutState) (laid : 
     unfolding its_next
     after_spans-cover above upto b within covered before =
         let ts = left_for shop laid.slots its_next m
-        in let nonincreasing = open_falls (tabled_heads shop its_next) (tabled shop its_next).steps
+        in let nonincreasing = left_falls shop its_next
         (get_or laid.slots m []) (laid.are.slots m known).nonincreasing
         in elim (cases_lt 0 upto) [
           | inl some ↦ (let c = spans_cover above (upto - 1) (left_matched shop limits l laid m known its_next hs heads)

@@ -1,6 +1,6 @@
 -- Raises cover what the heads after one more operation bound.
-use Rattle.std.proofs.Common.{◌≡◌, ℕ, ◌+◌, ◌≤◌, ◌<◌, ◌⊎◌, inl, inr, List, [], ◌∷◌, ◌++◌}
-use Rattle.std.proofs.Common.{get_or, refl, sym, ap, arith}
+use Rattle.std.proofs.Common.{◌≡◌, ℕ, ◌+◌, ◌≤◌, ◌<◌, ◌⊎◌, inl, inr, List, [], ◌∷◌, ◌++◌, get_or}
+use Rattle.std.proofs.Common.{refl, sym, ap, arith}
 use Rattle.std.proofs.lemmas.Bool.{cases_lt}
 use Rattle.shop_lanes.specs.Rows.{Rows, lanes, blocks}
 use Rattle.shop_lanes.specs.Spans.{spans_between}
@@ -11,16 +11,16 @@ use Rattle.shop_heads.specs.Bound.{lb}
 use Rattle.shop_desk.specs.inner.BoundsUpTo.{IsBoundUpTo}
 use Rattle.shop_heads.specs.Heads.{head_of}
 use Rattle.one_machine.specs.OneMachine.{one}
-use Rattle.shop_desk.specs.inner.HeadLimits.{latest_end}
-use Rattle.shop_desk.specs.inner.LaneBounds.{lanes_on}
+use Rattle.shop_layout.specs.HeadLimits.{latest_end}
+use Rattle.shop_layout.specs.Lanes.{lanes_on}
 use Rattle.shop_desk.specs.inner.LaneHeads.{AreHeadsAt}
-use Rattle.shop_desk.specs.inner.Layouts.{LayoutState, IsLaidOut, place}
+use Rattle.shop_layout.specs.Positions.{LayoutState, IsLaidOut, place}
 use Rattle.shop_desk.specs.declared.head_raises.Raise.{Raise}
 use Rattle.shop_desk.proofs.ChildBounds.{child-le}
 use Rattle.shop_desk.proofs.ChildExits.{after_spans-cover, after_spans-le}
-use Rattle.shop_desk.proofs.LaidPlaces.{each_position}
-use Rattle.shop_desk.proofs.LatestEnds.{latest_end_is}
-use Rattle.shop_desk.proofs.TabledHeads.{left_for}
+use Rattle.shop_layout.proofs.LaidPlaces.{each_position}
+use Rattle.shop_layout.proofs.LatestEnds.{latest_end_is}
+use Rattle.shop_desk.proofs.LeftSlots.{left_for}
 
 -- no head is later than the latest end
 pub heads_small : (shop : Shop) → IsWithinLimits shop → (l : LayoutState) → IsLaidOut shop l → (w : List ℕ)

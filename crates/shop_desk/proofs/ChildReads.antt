@@ -1,5 +1,5 @@
 -- What is read of the next operation of a job, and what is foreseen of the bound after it.
-use Rattle.std.proofs.Common.{◌≡◌, ℕ, ◌+◌, ◌≤◌, ◌<◌, max, ◌-◌, List, [], ◌∷◌, ◌++◌, set, length}
+use Rattle.std.proofs.Common.{◌≡◌, ℕ, ◌+◌, ◌≤◌, ◌<◌, max, ◌-◌, List, [], ◌∷◌, ◌++◌, set}
 use Rattle.std.proofs.Common.{get_or, refl, sym, ◌∙◌, ap, subst, arith}
 use Rattle.shop_lanes.specs.Rows.{Rows, Lane, with_head, lanes, blocks}
 use Rattle.shop_lanes.specs.Spans.{span}
@@ -9,28 +9,25 @@ use Rattle.shop_model.proofs.Placings.{place_next-is}
 use Rattle.shop_model.proofs.Unders.{after_word, next_operation}
 use Rattle.shop_model.proofs.WordLemmas.{IsWord-init}
 use Rattle.shop_heads.specs.Bound.{lb}
-use Rattle.shop_desk.specs.inner.BoundsUpTo.{IsBoundUpTo}
 use Rattle.shop_heads.specs.Heads.{head_of}
 use Rattle.shop_desk.specs.inner.ChildBounds.{IsLeastAfter}
-use Rattle.shop_desk.specs.inner.HeadLimits.{FitsLanes, latest_end}
-use Rattle.shop_desk.specs.inner.LaneBounds.{AreMachinesAt, AreSpansFit, lanes_on}
+use Rattle.shop_layout.specs.HeadLimits.{FitsLanes, latest_end}
+use Rattle.shop_desk.specs.inner.LaneBounds.{AreSpansFit}
+use Rattle.shop_layout.specs.Lanes.{lanes_on}
+use Rattle.shop_desk.specs.inner.LaneHeads.{AreStored}
 use Rattle.shop_desk.specs.inner.LaneStates.{AreHeadsInLanes}
-use Rattle.shop_desk.specs.inner.Layouts.{LayoutState, first_position, place}
+use Rattle.shop_layout.specs.Positions.{AreMachinesOf, LayoutState, first_position, place}
 use Rattle.shop_desk.proofs.ChildBounds.{child-ge-before}
 use Rattle.shop_desk.proofs.ChildExits.{open_span-le}
 use Rattle.shop_heads.proofs.HeadTurns.{ready_first}
-use Rattle.shop_desk.proofs.LaidPlaces.{place_of}
+use Rattle.shop_layout.proofs.LaidPlaces.{place_of}
 use Rattle.shop_desk.proofs.LaneFits.{spans_fit}
-use Rattle.shop_desk.proofs.LatestEnds.{latest_end_is}
-use Rattle.shop_desk.proofs.MachineLanes.{AreStored}
+use Rattle.shop_layout.proofs.LatestEnds.{latest_end_is}
 use Rattle.shop_desk.proofs.RaisedHeads.{left}
 use Rattle.std.proofs.lemmas.List.{length-set}
 
 module _ (greatest : ℕ) (shop : Shop) (w : List ℕ) (l : LayoutState) (rows : Rows)
     (kept : AreHeadsInLanes greatest shop w l rows) (j : ℕ) (fits : IsWord shop (w ++ j ∷ [])) where
-  its_step : ℕ
-  its_step = (placing shop w).steps j
-
   its_next : Placing
   its_next = place_next shop (placing shop w) j
 
@@ -67,7 +64,7 @@ module _ (greatest : ℕ) (shop : Shop) (w : List ℕ) (l : LayoutState) (rows :
       + time_of shop j ((placing shop w).steps j) ≤ latest_end shop
   end_latest = latest_end_is shop w kept.word j ((placing shop w).steps j) is_operation (omega arith)
 
-  pub machine_here : (ms : List ℕ) → AreMachinesAt l shop.machines ms
+  pub machine_here : (ms : List ℕ) → AreMachinesOf l.blocks shop.machines ms
       → get_or ms (place l j ((placing shop w).steps j)) 0 ≡ machine_of shop j ((placing shop w).steps j)
   machine_here ms machines =
       let at = place_of shop kept.limits l kept.laid j ((placing shop w).steps j) is_operation
@@ -78,32 +75,21 @@ module _ (greatest : ℕ) (shop : Shop) (w : List ℕ) (l : LayoutState) (rows :
   -- heads without the operation's are those that stood, and spans of them fit
   pub left_stored : AreStored shop (place_next shop (placing shop w) j).steps (head_of shop (placing shop w)) l
       (set rows.heads (place l j ((placing shop w).steps j)) 0)
-  left_stored =
-      let a = left shop kept.limits l kept.laid (placing shop w) j (place_next shop (placing shop w) j)
+  left_stored = left shop kept.limits l kept.laid (placing shop w) j (place_next shop (placing shop w) j)
       (place_next-is shop (placing shop w) j) is_operation rows.heads kept.heads
-      in record { positions = a.positions; waiting = a.waiting; placed = a.placed; padding = a.padding }
 
   pub left_fits : FitsLanes greatest shop l → (x : ℕ)
       → AreSpansFit greatest (latest_end shop + 1) shop.machines l (with_head rows x 0)
   left_fits holds x = spans_fit shop kept.limits l kept.laid greatest holds (with_head rows x 0) kept.times kept.tails
       (length-set rows.heads x 0 ∙ kept.heads.positions)
 
-  module _ (least limit : ℕ) (least_is : least ≡ max (lb shop w)
+  module _ (least : ℕ) (least_is : least ≡ max (lb shop w)
       ((place_next shop (placing shop w) j).free (machine_of shop j ((placing shop w).steps j)))) where
-    pub at_limit : limit ≤ least → IsBoundUpTo limit (lb shop (w ++ j ∷ [])) least
-    at_limit reached = record {
-      at_most = child-ge-before shop kept.limits kept.laid.slots kept.laid.are w j fits least least_is;
-      exact = λ under. absurd (omega arith);
-    }
-
     module _ (x m e : ℕ) (x_is : x ≡ place l j ((placing shop w).steps j))
         (m_is : m ≡ machine_of shop j ((placing shop w).steps j))
         (e_is : e ≡ (place_next shop (placing shop w) j).free (machine_of shop j ((placing shop w).steps j)) + 1) where
       its_end : ℕ
       its_end = (place_next shop (placing shop w) j).free (machine_of shop j ((placing shop w).steps j))
-
-      its_place_within : x < length rows.heads
-      its_place_within = let a = place_within in let d = kept.heads.positions in omega arith
 
       stored : AreStored shop (place_next shop (placing shop w) j).steps (head_of shop (placing shop w)) l
           (set rows.heads x 0)
@@ -135,9 +121,6 @@ module _ (greatest : ℕ) (shop : Shop) (w : List ℕ) (l : LayoutState) (rows :
             (get_or l.blocks (machine_of shop j ((placing shop w).steps j) + 1) 0)
             (lanes (set rows.heads x 0) l.times l.tails))) e_is
             in omega arith
-
-        pub at_ahead : limit ≤ b → IsBoundUpTo limit (lb shop (w ++ j ∷ [])) b
-        at_ahead reached = record { at_most = ahead_low; exact = λ under. absurd (omega arith) }
 
         pub after_look : IsLeastAfter shop w l rows j x m e b
         after_look = record {

@@ -1,6 +1,6 @@
 -- What is kept while the bound after one more operation is found.
-use Rattle.std.proofs.Common.{◌≡◌, ℕ, ◌+◌, ◌*◌, ◌≤◌, ◌<◌, List, [], ◌∷◌, ◌++◌, length}
-use Rattle.std.proofs.Common.{get_or, set, refl, ◌∙◌, ap, subst, arith}
+use Rattle.std.proofs.Common.{◌≡◌, ℕ, ◌+◌, ◌*◌, ◌≤◌, ◌<◌, List, [], ◌∷◌, ◌++◌, length, get_or, set}
+use Rattle.std.proofs.Common.{refl, ◌∙◌, ap, subst, arith}
 use Rattle.std.proofs.lemmas.List.{length-set}
 use Rattle.shop_lanes.specs.Rows.{Rows, with_head, lanes, blocks}
 use Rattle.shop_lanes.specs.Spans.{span, spans_between}
@@ -12,18 +12,18 @@ use Rattle.shop_heads.specs.Bound.{lb}
 use Rattle.shop_desk.specs.inner.BoundsUpTo.{IsBoundUpTo}
 use Rattle.one_machine.specs.OneMachine.{one}
 use Rattle.shop_desk.specs.inner.ChildBounds.{IsLeastAfter}
-use Rattle.shop_desk.specs.inner.HeadLimits.{latest_end}
-use Rattle.shop_desk.specs.inner.LaneBounds.{lanes_on, AreMachinesAt}
+use Rattle.shop_layout.specs.HeadLimits.{latest_end}
+use Rattle.shop_layout.specs.Lanes.{lanes_on}
 use Rattle.shop_desk.specs.inner.LaneHeads.{AreHeadsAt}
 use Rattle.shop_desk.specs.inner.LaneStates.{AreHeadsInLanes, Advances}
-use Rattle.shop_desk.specs.inner.Layouts.{LayoutState, place}
+use Rattle.shop_layout.specs.Positions.{AreMachinesOf, LayoutState, place}
 use Rattle.shop_desk.specs.inner.Watchers.{IsSeenAt, floor_on}
 use Rattle.shop_desk.specs.declared.head_raises.Raise.{Raise}
 use Rattle.shop_desk.proofs.ChildRaises.{bound_is, heads_small, its_lanes}
 use Rattle.shop_desk.proofs.ChildReads.{left_stored}
-use Rattle.shop_desk.proofs.LaneBegins.{blocks_within}
+use Rattle.shop_layout.proofs.LaneLimits.{blocks_within}
 use Rattle.shop_desk.proofs.SeenRaises.{bounded_by_seen, span_ahead}
-use Rattle.shop_desk.proofs.TabledHeads.{left_for}
+use Rattle.shop_desk.proofs.LeftSlots.{left_for}
 
 -- where the next step of a job stands
 abbrev its_place : (shop : Shop) → LayoutState → ℕ → Placing → ℕ
@@ -49,7 +49,7 @@ module _ (greatest : ℕ) (shop : Shop) (l : LayoutState) (j position : ℕ) (ro
       (advances.heads shop w j kept fits at).heads q in omega arith
 
   -- what is covered on each machine
-  module _ (ms : List ℕ) (machines : AreMachinesAt l shop.machines ms) (top : ℕ)
+  module _ (ms : List ℕ) (machines : AreMachinesOf l.blocks shop.machines ms) (top : ℕ)
       (top_is : top ≡ latest_end shop + 1) (own end least limit b : ℕ) where
     -- by a raise on machine m
     pub record IsCoveredOn (m : ℕ) : Type 0 where

@@ -1,6 +1,6 @@
 -- Heads by position are set one by one.
-use Rattle.std.proofs.Common.{◌≡◌, ℕ, ◌+◌, ◌-◌, ◌≤◌, ◌<◌, max, inl, inr, List, [], length}
-use Rattle.std.proofs.Common.{get_or, set, refl, sym, ◌∙◌, ap, subst, arith}
+use Rattle.std.proofs.Common.{◌≡◌, ℕ, ◌+◌, ◌-◌, ◌≤◌, ◌<◌, max, inl, inr, List, [], length, get_or}
+use Rattle.std.proofs.Common.{set, refl, sym, ◌∙◌, ap, subst, arith}
 use Rattle.std.proofs.lemmas.Bool.{cases_eq}
 use Rattle.std.proofs.lemmas.Grind.{get_or-set_at}
 use Rattle.std.proofs.lemmas.List.{get_or-set_other, length-set}
@@ -11,12 +11,12 @@ use Rattle.shop_model.specs.Word.{Placing, placing}
 use Rattle.shop_model.proofs.Ends.{IsOperation-job}
 use Rattle.shop_heads.specs.Heads.{ready_after, head_of}
 use Rattle.shop_model.specs.Placements.{PlacementState, IsPlacement}
-use Rattle.shop_desk.specs.inner.Fills.{IsStored, IsPositionFree, CanFill, AreSameBeside, HasFilledJob}
-use Rattle.shop_desk.specs.inner.Fills.{HasFilled}
-use Rattle.shop_desk.specs.inner.Layouts.{LayoutState, place, first_position}
+use Rattle.shop_desk.specs.inner.Fills.{IsStored, CanFill, AreSameBeside}
+use Rattle.shop_desk.specs.inner.Fills.{HasFilledJob, HasFilled}
+use Rattle.shop_layout.specs.Positions.{IsFree, LayoutState, place, first_position}
 use Rattle.shop_heads.specs.inner.PlacedWords.{IsOfWord}
 use Rattle.shop_heads.proofs.HeadTurns.{ready_first}
-use Rattle.shop_desk.proofs.LaidPlaces.{place_of}
+use Rattle.shop_layout.proofs.LaidPlaces.{place_of}
 use Rattle.shop_desk.proofs.RowTurns.{open_turn}
 
 pub beside_both : (a b c : Rows) → AreSameBeside a b → AreSameBeside b c → AreSameBeside a c
@@ -137,7 +137,7 @@ pub record AreFilledUpTo (shop : Shop) (l : LayoutState) (s : PlacementState) (n
   pub beside : AreSameBeside old now
   pub filled : (p : Placing) → IsPlacement shop p s → (j k : ℕ) → IsOperation shop j k → j < n
       → IsStored shop p l now.heads j k
-  pub free : (q : ℕ) → IsPositionFree shop l q → get_or now.heads q 0 ≡ get_or old.heads q 0
+  pub free : (q : ℕ) → IsFree shop l q → get_or now.heads q 0 ≡ get_or old.heads q 0
 
 module _ (greatest : ℕ) (shop : Shop) (l : LayoutState) (s : PlacementState) (rows : Rows)
     (can : CanFill greatest shop l rows) where

@@ -1,20 +1,19 @@
 -- A state that was set by a placement.
-use Rattle.std.proofs.Common.{◌≡◌, ℕ, inl, inr, List, length, replicate}
-use Rattle.std.proofs.Common.{get_or, ◌∙◌, ap, arith}
+use Rattle.std.proofs.Common.{◌≡◌, ℕ, inl, inr, List, length, replicate, get_or, ◌∙◌, ap, arith}
 use Rattle.std.proofs.lemmas.Bool.{cases_lt}
 use Rattle.std.proofs.lemmas.List.{get_or_past, get_or-replicate, length-replicate}
 use Rattle.shop_lanes.specs.Rows.{Rows}
 use Rattle.shop_model.specs.Placements.{IsPlacement, PlacementState}
 use Rattle.shop_model.specs.Shop.{Shop}
 use Rattle.shop_model.specs.Word.{IsWord, placing}
-use Rattle.shop_desk.specs.inner.Dispatchers.{IsReady}
+use Rattle.shop_layout.specs.LaidOuts.{IsReady}
 use Rattle.shop_desk.specs.inner.Fills.{AreNextsPlaced, CanFill, HasFilled, IsRested}
 use Rattle.shop_desk.specs.inner.LaneChoices.{AreNextsOf}
 use Rattle.shop_desk.specs.inner.LaneEnds.{AreEndsOf, CanKeepEnds, HasEnds}
-use Rattle.shop_desk.specs.inner.LaneStates.{AreHeadsInLanes, HasRoom, IsKeptInLanes, rows_of}
-use Rattle.shop_desk.specs.inner.Layings.{place_or}
-use Rattle.shop_desk.specs.inner.Layouts.{LayoutState, first_position}
-use Rattle.shop_desk.proofs.LaneBegins.{heads_fit}
+use Rattle.shop_desk.specs.inner.LaneStates.{AreHeadsInLanes, HasRoom, IsKeptInLanes}
+use Rattle.shop_layout.specs.Lanes.{rows_of}
+use Rattle.shop_layout.specs.Positions.{place_or, LayoutState, first_position}
+use Rattle.shop_desk.proofs.HeadsFit.{heads_fit}
 use Rattle.shop_desk.proofs.LaneEnds.{can_keep, ends_at, with_ends}
 use Rattle.shop_desk.proofs.SoleCandidates.{sole_keeps_bound}
 

@@ -1,11 +1,13 @@
 -- The choice among next operations by lanes.
-use Rattle.std.proofs.Common.{◌≡◌, ℕ, ◌+◌, ◌*◌, ◌-◌, ◌≤◌, ◌<◌, ◌⊎◌, inl, inr, Bool, true, false, List, [], ◌∷◌, length}
-use Rattle.std.proofs.Common.{get_or, take, drop, refl, sym, ◌∙◌, ap, subst, arith, ltb}
+use Rattle.std.proofs.Common.{◌≡◌, ℕ, ◌+◌, ◌*◌, ◌-◌, ◌≤◌, ◌<◌, ◌⊎◌, inl, inr, Bool, true, false}
+use Rattle.std.proofs.Common.{List, ◌∷◌, length, get_or, take, drop, refl, sym, ◌∙◌, ap, subst}
+use Rattle.std.proofs.Common.{arith, ltb}
 use Rattle.std.proofs.lemmas.Bool.{cases_Bool, cases_lt, and_from, and_parts, lt-ltb, ltb-true}
-use Rattle.std.proofs.lemmas.List.{get_or_past, get_or-take, get_or-drop, length-take-le, length-drop}
+use Rattle.std.proofs.lemmas.List.{get_or_past, get_or-take, get_or-drop, length-take-le}
+use Rattle.std.proofs.lemmas.List.{length-drop}
 use Rattle.shop_lanes.specs.Rows.{Rows}
 use Rattle.shop_lanes.specs.Marks.{marked, waits_below, positions_below}
-use Rattle.shop_desk.specs.inner.Layouts.{LayoutState}
+use Rattle.shop_layout.specs.Positions.{LayoutState}
 use Rattle.shop_desk.specs.inner.LaneChoices.{IsNextBelow, AreNextPlaced}
 use Rattle.shop_desk.specs.inner.Raises.{IsInBlocks}
 use Rattle.shop_desk.specs.inner.JobSets.{HasPutIf}
@@ -82,17 +84,6 @@ module _ (l : LayoutState) (nexts heads : List ℕ) (placed : AreNextPlaced l he
               (record { there = next.there; waits = next.waits; below = next.below }))));
           only = λ j h. inl h;
         }
-
-    pub gathering_ends : (todo old now : List ℕ) → todo ≡ [] → AreGathering nexts heads from to limit todo old now
-        → HasGathered (IsNextBelow nexts heads (IsInBlocks from to) limit) old now
-    gathering_ends todo old now none so_far = record {
-      kept = so_far.kept;
-      gathered = λ j next. elim (so_far.gathered j next) [
-        | inl h ↦ h
-        | inr h ↦ absurd (subst (λ (xs : List ℕ). IsIn xs (get_or nexts j 0)) none h)
-      ];
-      only = so_far.only;
-    }
 
     module _ (todo old now : List ℕ) (so_far : AreGathering nexts heads from to limit todo old now) (q : ℕ)
         (rest : List ℕ) (popped : todo ≡ q ∷ rest) where

@@ -1,26 +1,25 @@
 -- The conflict set as what is chosen and what is gathered by lanes.
-use Rattle.std.proofs.Common.{◌≡◌, ℕ, zero, suc, ◌+◌, ◌-◌, ◌≤◌, ◌<◌, ◌⊎◌, inl, inr, Bool, true, false, ◌||◌, List, []}
-use Rattle.std.proofs.Common.{◌∷◌}
-use Rattle.std.proofs.Common.{length, get_or, max, refl, sym, ◌∙◌, ap, subst, arith, eqb, ltb}
+use Rattle.std.proofs.Common.{◌≡◌, ℕ, zero, suc, ◌+◌, ◌≤◌, ◌<◌, ◌⊎◌, inl, inr, Bool, true}
+use Rattle.std.proofs.Common.{false, ◌||◌, List, [], ◌∷◌, length, get_or, refl, sym, ◌∙◌, ap}
+use Rattle.std.proofs.Common.{subst, arith, eqb, ltb}
 use Rattle.std.specs.List.{filter, range_with_len, best_of}
-use Rattle.std.proofs.lemmas.Bool.{cases_Bool, cases_eq, cases_lt, and_from, and_parts, lt-ltb, le-ltb, ltb-true}
-use Rattle.std.proofs.lemmas.Bool.{or_left, or_right, eq-eqb, eqb-true}
+use Rattle.std.proofs.lemmas.Bool.{cases_Bool, cases_eq, cases_lt, and_from, and_parts, lt-ltb}
+use Rattle.std.proofs.lemmas.Bool.{le-ltb, ltb-true, or_left, or_right, eq-eqb, eqb-true}
 use Rattle.std.proofs.lemmas.List.{get_or_past}
 use Rattle.shop_lanes.specs.Ends.{IsFirstLeast}
 use Rattle.shop_lanes.specs.Rows.{Rows}
-use Rattle.shop_model.specs.Shop.{Shop, IsOperation, route_of, machine_of, time_of}
+use Rattle.shop_model.specs.Shop.{Shop, IsOperation, route_of, machine_of}
 use Rattle.shop_model.specs.Word.{Placing}
 use Rattle.shop_model.proofs.Ends.{IsOperation-job}
 use Rattle.shop_heads.specs.Conflicts.{open_jobs, next_machine, next_head, next_end, conflicts_with}
 use Rattle.shop_heads.specs.Conflicts.{conflict_among}
-use Rattle.shop_heads.specs.Heads.{head_of, ready_after}
-use Rattle.shop_desk.specs.inner.LaneChoices.{AreChoosable, AreNextPlaced, AreNextsAt, IsNextBelow}
+use Rattle.shop_desk.specs.inner.LaneChoices.{AreChoosable, AreNextsAt, IsNextBelow}
 use Rattle.shop_desk.specs.inner.JobSets.{HasPutIf}
-use Rattle.shop_desk.specs.inner.Layouts.{LayoutState, place, first_position}
+use Rattle.shop_layout.specs.Positions.{LayoutState, place, first_position}
 use Rattle.shop_desk.specs.inner.Raises.{HasBlocks, IsOnMachine}
 use Rattle.shop_desk.specs.inner.RisingLists.{IsIn, Rises, HasGathered}
-use Rattle.shop_desk.proofs.LaidPlaces.{place_of, on_machine}
-use Rattle.shop_desk.proofs.Followed.{place_past, place_there}
+use Rattle.shop_layout.proofs.LaidPlaces.{place_of, on_machine}
+use Rattle.shop_desk.proofs.NextOperations.{next_is, next_there, stored_end, stored_head}
 use Rattle.shop_desk.proofs.RaisedHeads.{has_blocks}
 use Rattle.shop_desk.proofs.RisingLists.{none_in, one_rising}
 
@@ -124,50 +123,6 @@ either false b e = inr e
 
 module _ (shop : Shop) (p : Placing) (l : LayoutState) (nexts : List ℕ) (rows : Rows)
     (can : AreNextsAt shop p l nexts rows) where
-  -- the next operation of a job, or none, and what stands where it waits
-  pub next_there : (j : ℕ) → IsOperation shop j (p.steps j) → get_or nexts j 0 ≡ place l j (p.steps j)
-  next_there j op =
-      let route = can.laid.routes j
-      in can.are.are j (IsOperation-job shop j (p.steps j) op)
-      ∙ place_there l (first_position l shop.machines) j (p.steps j) (omega arith)
-
-  pub next_op : (j : ℕ) → j < length shop.jobs → get_or nexts j 0 < length rows.heads → IsOperation shop j (p.steps j)
-  next_op j known below = elim (cases_lt (p.steps j) (length (route_of shop j))) [
-    | inl op ↦ op
-    | inr past ↦ absurd (let route = can.laid.routes j in let a = can.are.are j known
-        in let b = place_past l (first_position l shop.machines) j (p.steps j) (omega arith)
-        in let d = can.heads.positions in omega arith)
-  ]
-
-  pub next_placed : AreNextPlaced l rows.heads nexts
-  next_placed = record {
-    positions = can.laid.positions.jobs ∙ sym can.heads.positions;
-    jobs = λ q here. (let a = can.heads.positions in let b = can.laid.known q (omega arith) in let d = can.are.jobs
-        in omega arith);
-    own = λ j known here. (let many = can.are.jobs in let op = next_op j (omega arith) here
-        in ap (λ (x : ℕ). get_or l.jobs x 0) (next_there j op)
-        ∙ (place_of shop can.limits l can.laid j (p.steps j) op).job);
-  }
-
-  head_is : (j : ℕ) → head_of shop p j (p.steps j) ≡ next_head shop p j
-  head_is j = ap (λ (d : ℕ). max (ready_after shop p j d) (p.free (machine_of shop j (p.steps j))))
-      (let e : p.steps j - p.steps j ≡ 0 = omega arith in e)
-
-  pub stored_head : (j : ℕ) → IsOperation shop j (p.steps j)
-      → get_or rows.heads (place l j (p.steps j)) 0 ≡ next_head shop p j + 1
-  stored_head j op =
-      let a = can.heads.waiting j (p.steps j) op (omega arith) in let b = head_is j in omega arith
-
-  pub stored_time : (j : ℕ) → IsOperation shop j (p.steps j)
-      → get_or rows.times (place l j (p.steps j)) 0 ≡ time_of shop j (p.steps j)
-  stored_time j op = ap (λ (ts : List ℕ). get_or ts (place l j (p.steps j)) 0) can.times
-      ∙ (place_of shop can.limits l can.laid j (p.steps j) op).time
-
-  pub stored_within : (j : ℕ) → IsOperation shop j (p.steps j) → place l j (p.steps j) < length rows.heads
-  stored_within j op =
-      let a = (place_of shop can.limits l can.laid j (p.steps j) op).within in let b = can.heads.positions
-      in omega arith
-
   module _ (r : ℕ) (op : IsOperation shop r (p.steps r)) where
     module _ (m limit : ℕ) (on : m ≡ machine_of shop r (p.steps r)) (end : limit ≡ next_end shop p r + 1) where
       abbrev pub Below : ℕ → Type 0
@@ -183,16 +138,14 @@ module _ (shop : Shop) (p : Placing) (l : LayoutState) (nexts : List ℕ) (rows 
             | inr past ↦ absurd (let a = next.waits in let b = get_or_past rows.heads (get_or nexts i 0) 0 past
                 in omega arith)
           ]
-          in let o = next_op i (omega arith) here
-          in let at = next_there i o
+          in let o = next_is shop p l nexts rows can i (omega arith) here
+          in let at = next_there shop p l nexts rows can i o
           in let there = next.there
           in let low = there.0 in let high = there.1
           in let machines = can.limits.on_machines r (p.steps r)
           in let machine = on_machine shop can.limits l can.laid m i (p.steps i) (omega arith) o (omega arith)
           (omega arith)
-          in let head = stored_head i o
-          in let same : get_or rows.heads (get_or nexts i 0) 0 ≡ get_or rows.heads (place l i (p.steps i)) 0 =
-          ap (λ (x : ℕ). get_or rows.heads x 0) at
+          in let head = stored_head shop p l nexts rows can i o
           in let under = next.below
           in (
             o,
@@ -207,11 +160,9 @@ module _ (shop : Shop) (p : Placing) (l : LayoutState) (nexts : List ℕ) (rows 
           → next_head shop p i < next_end shop p r → Below i
       below_from i o machine lt =
           let known = IsOperation-job shop i (p.steps i) o
-          in let at = next_there i o
+          in let at = next_there shop p l nexts rows can i o
           in let many = can.are.jobs
-          in let head = stored_head i o
-          in let same : get_or rows.heads (get_or nexts i 0) 0 ≡ get_or rows.heads (place l i (p.steps i)) 0 =
-          ap (λ (x : ℕ). get_or rows.heads x 0) at
+          in let head = stored_head shop p l nexts rows can i o
           in let stands = place_of shop can.limits l can.laid i (p.steps i) o
           in let its : machine_of shop i (p.steps i) ≡ m = machine ∙ sym on
           in let first : first_position l (machine_of shop i (p.steps i)) ≡ first_position l m = ap (first_position l)
@@ -294,7 +245,7 @@ module _ (greatest : ℕ) (shop : Shop) (p : Placing) (l : LayoutState) (nexts :
     chosen_at n many below =
         let position = get_or nexts r 0
         in let here : position < length rows.heads = (let a = followings in omega arith)
-        in let op = next_op shop p l nexts rows can.at r chosen_job here
+        in let op = next_is shop p l nexts rows can.at r chosen_job here
         in let at : position ≡ place l r (p.steps r) = next_there shop p l nexts rows can.at r op
         in let stands = place_of shop can.at.limits l can.at.laid r (p.steps r) op
         in let from = stands.from in let to = stands.to
@@ -303,15 +254,14 @@ module _ (greatest : ℕ) (shop : Shop) (p : Placing) (l : LayoutState) (nexts :
         ap (λ (x : ℕ). get_or l.machines x 0) at
         ∙ can.at.laid.machines_at.at (machine_of shop r (p.steps r)) (place l r (p.steps r)) known (omega arith)
         (omega arith)
-        in let head = ap (λ (x : ℕ). get_or rows.heads x 0) at ∙ stored_head shop p l nexts rows can.at r op
-        in let time = ap (λ (x : ℕ). get_or rows.times x 0) at ∙ stored_time shop p l nexts rows can.at r op
+        in let end = stored_end shop p l nexts rows can.at r op
         in record {
           operation = op;
           machine_is = machine;
           blocks = has_blocks shop can.at.limits l can.at.laid (length rows.heads) (get_or l.machines position 0)
               can.at.heads.positions (omega arith);
           within = here;
-          end = omega arith;
+          end = end;
           fits = can.ends.fits r op;
         }
 

@@ -1,6 +1,6 @@
 -- The lanes of a machine's blocks are its operations that wait, by nonincreasing tail.
-use Rattle.std.proofs.Common.{◌≡◌, ℕ, zero, suc, ◌+◌, ◌-◌, ◌≤◌, ◌<◌, inl, inr, true, false, List, [], ◌∷◌}
-use Rattle.std.proofs.Common.{length, get_or, drop, refl, sym, ◌∙◌, ap, subst, arith}
+use Rattle.std.proofs.Common.{◌≡◌, ℕ, zero, suc, ◌+◌, ◌-◌, ◌≤◌, ◌<◌, inl, inr, true, false, List}
+use Rattle.std.proofs.Common.{[], ◌∷◌, length, get_or, drop, refl, sym, ◌∙◌, ap, subst, arith}
 use Rattle.std.proofs.lemmas.Bool.{cases_Bool, cases_eq, cases_lt, leb-true, le-leb, true≢false}
 use Rattle.std.proofs.lemmas.List.{get_or-take, get_or-drop}
 use Rattle.shop_lanes.specs.Rows.{Lane, lanes, blocks}
@@ -9,38 +9,39 @@ use Rattle.shop_model.specs.Limits.{IsWithinLimits}
 use Rattle.shop_model.specs.Shop.{Shop, route_of, machine_of, IsOperation}
 use Rattle.shop_model.specs.Word.{Placing}
 use Rattle.shop_model.proofs.Ends.{IsOperation-job}
-use Rattle.shop_desk.specs.declared.slots.Slot.{Slot}
+use Rattle.shop_layout.specs.declared.slots.Slot.{Slot}
 use Rattle.one_machine.specs.declared.triples.Triple.{Triple}
 use Rattle.shop_heads.specs.Heads.{head_of}
-use Rattle.shop_desk.specs.Slots.{slot_at}
-use Rattle.shop_desk.specs.inner.LaneHeads.{AreHeadsAt}
-use Rattle.shop_desk.specs.inner.Layouts.{LayoutState, IsLaidOut, place, first_position}
-use Rattle.shop_desk.specs.inner.OpenSlots.{is_open, triple_of, open_triples}
+use Rattle.shop_layout.specs.Slots.{slot_at}
+use Rattle.shop_desk.specs.inner.LaneHeads.{AreHeadsAt, AreStored}
+use Rattle.shop_layout.specs.Positions.{LayoutState, IsLaidOut, place, first_position}
 use Rattle.shop_desk.proofs.LaneSpans.{AreMatched, nothing, empty, matched, IsLaneOf}
-use Rattle.shop_desk.proofs.SlotFacts.{slots_are_operations, slots_are_all}
-use Rattle.shop_desk.proofs.TabledHeads.{tabled, tabled_is, tabled_heads, tabled_heads_are, left_for}
+use Rattle.shop_desk.proofs.LeftSlots.{is_left, triple_of, left_of, left_for}
+use Rattle.shop_layout.proofs.SlotFacts.{slots_are_operations, slots_are_all}
+use Rattle.shop_layout.proofs.LaidPlaces.{machines_rise}
+use Rattle.shop_layout.proofs.LaidPlaces.{machines_rise}
 
--- lanes that stand for the open ones of some slots, and for nothing else
-slots_matched : (R : Triple → Lane → Type 0) (rows : List (List ℕ)) (steps : List ℕ) (ls : List Lane) (xs : List Slot)
+-- lanes that stand for what is left of some slots, and for nothing else
+slots_matched : (R : Triple → Lane → Type 0) (shop : Shop) (p : Placing) (ls : List Lane) (xs : List Slot)
     → length xs ≤ length ls
-    → ((i : ℕ) (d : Slot) (e : Lane) → i < length xs → is_open steps (get_or xs i d) ≡ true
-    → R (triple_of rows (get_or xs i d)) (get_or ls i e))
-    → ((i : ℕ) (d : Slot) (e : Lane) → i < length xs → is_open steps (get_or xs i d) ≡ false
+    → ((i : ℕ) (d : Slot) (e : Lane) → i < length xs → is_left p (get_or xs i d) ≡ true
+    → R (triple_of shop p (get_or xs i d)) (get_or ls i e))
+    → ((i : ℕ) (d : Slot) (e : Lane) → i < length xs → is_left p (get_or xs i d) ≡ false
     → (get_or ls i e).head ≡ 0)
     → ((i : ℕ) (e : Lane) → length xs ≤ i → i < length ls → (get_or ls i e).head ≡ 0)
-    → AreMatched R (open_triples rows steps xs) ls
-slots_matched R rows steps [] [] long opened closed behind = nothing
-slots_matched R rows steps [] (s ∷ xs) long opened closed behind = absurd (omega arith)
-slots_matched R rows steps (x ∷ ls) [] long opened closed behind =
+    → AreMatched R (left_of shop p xs) ls
+slots_matched R shop p [] [] long left placed behind = nothing
+slots_matched R shop p [] (s ∷ xs) long left placed behind = absurd (omega arith)
+slots_matched R shop p (x ∷ ls) [] long left placed behind =
     empty x (behind 0 x (omega arith) (omega arith))
-    (slots_matched R rows steps ls [] (omega arith) (λ i d e h. absurd (omega arith)) (λ i d e h. absurd (omega arith))
+    (slots_matched R shop p ls [] (omega arith) (λ i d e h. absurd (omega arith)) (λ i d e h. absurd (omega arith))
     (λ i e h b. behind (suc i) e (omega arith) (omega arith)))
-slots_matched R rows steps (x ∷ ls) (s ∷ xs) long opened closed behind =
-    let rest = slots_matched R rows steps ls xs (omega arith) (λ i d e h. opened (suc i) d e (omega arith))
-    (λ i d e h. closed (suc i) d e (omega arith)) (λ i e h b. behind (suc i) e (omega arith) (omega arith))
-    in elim (cases_Bool (is_open steps s)) [
-      | inl e ↦ rw e (matched (triple_of rows s) x (opened 0 s x (omega arith) e) rest)
-      | inr e ↦ rw e (empty x (closed 0 s x (omega arith) e) rest)
+slots_matched R shop p (x ∷ ls) (s ∷ xs) long left placed behind =
+    let rest = slots_matched R shop p ls xs (omega arith) (λ i d e h. left (suc i) d e (omega arith))
+    (λ i d e h. placed (suc i) d e (omega arith)) (λ i e h b. behind (suc i) e (omega arith) (omega arith))
+    in elim (cases_Bool (is_left p s)) [
+      | inl e ↦ rw e (matched (triple_of shop p s) x (left 0 s x (omega arith) e) rest)
+      | inr e ↦ rw e (empty x (placed 0 s x (omega arith) e) rest)
     ]
 
 lane_here : (hs ts qs : List ℕ) (i : ℕ) (d : Lane) → length ts ≡ length hs → length qs ≡ length hs → i < length hs
@@ -52,28 +53,7 @@ lane_here (h ∷ hs) (t ∷ ts) (q ∷ qs) zero d a b lt = refl
 lane_here (h ∷ hs) (t ∷ ts) (q ∷ qs) (suc i) d a b lt =
     lane_here hs ts qs i d (omega arith) (omega arith) (omega arith)
 
--- Numbers by position: one more than f of each step that isn't counted, and 0 elsewhere.
-pub record AreStored (shop : Shop) (steps : ℕ → ℕ) (f : ℕ → ℕ → ℕ) (l : LayoutState) (hs : List ℕ) : Type 0 where
-  pub positions : length hs ≡ first_position l shop.machines
-  pub waiting : (j k : ℕ) → IsOperation shop j k → steps j ≤ k → get_or hs (place l j k) 0 ≡ f j k + 1
-  pub placed : (j k : ℕ) → IsOperation shop j k → k < steps j → get_or hs (place l j k) 0 ≡ 0
-  pub padding : (q : ℕ) → ((j k : ℕ) → IsOperation shop j k → place l j k ≡ q → ⊥) → get_or hs q 0 ≡ 0
-
-pub stored_heads : (shop : Shop) (p : Placing) (l : LayoutState) (hs : List ℕ) → AreHeadsAt shop p l hs
-    → AreStored shop p.steps (head_of shop p) l hs
-stored_heads shop p l hs a =
-    record { positions = a.positions; waiting = a.waiting; placed = a.placed; padding = a.padding }
-
 module _ (shop : Shop) (limits : IsWithinLimits shop) (l : LayoutState) (laid : IsLaidOut shop l) where
-  -- the machines' positions stand one behind the other
-  pub first_rises : (a d b : ℕ) → a + d ≡ b → b ≤ shop.machines → first_position l a ≤ first_position l b
-  first_rises a zero b e within =
-      let f : first_position l b ≡ first_position l a = ap (first_position l) (omega arith) in omega arith
-  first_rises a (suc d) b e within =
-      let before = first_rises a d (a + d) refl (omega arith)
-      in let room = (laid.each (a + d) (omega arith)).room
-      in let f : first_position l b ≡ first_position l (a + d + 1) = ap (first_position l) (omega arith) in omega arith
-
   abbrev pub slots_of : ℕ → List Slot
   slots_of m = get_or laid.slots m []
 
@@ -108,16 +88,16 @@ module _ (shop : Shop) (limits : IsWithinLimits shop) (l : LayoutState) (laid : 
             in let b : length (slots_of n) ≡ length (slots_of m) = ap (λ (x : ℕ). length (slots_of x)) same
             in omega arith)
         | inr ne ↦ elim (cases_lt n m) [
-          | inl low ↦ (let a = first_rises (n + 1) (m - (n + 1)) m (omega arith) (omega arith) in omega arith)
-          | inr high ↦ (let a = first_rises (m + 1) (n - (m + 1)) n (omega arith) (omega arith) in omega arith)
+          | inl low ↦ (let a = machines_rise shop limits l laid (n + 1) m (omega arith) (omega arith) in omega arith)
+          | inr high ↦ (let a = machines_rise shop limits l laid (m + 1) n (omega arith) (omega arith) in omega arith)
         ]
       ]
 
-  module _ (m : ℕ) (known : m < shop.machines) (steps : ℕ → ℕ) (f : ℕ → ℕ → ℕ) (hs : List ℕ)
-      (stored : AreStored shop steps f l hs) where
+  module _ (m : ℕ) (known : m < shop.machines) (p : Placing) (f : ℕ → ℕ → ℕ) (hs : List ℕ)
+      (stored : AreStored shop p.steps f l hs) where
     pub machine_within : first_position l (m + 1) ≤ length hs
     machine_within =
-        let a = first_rises (m + 1) (shop.machines - (m + 1)) shop.machines (omega arith) (omega arith)
+        let a = machines_rise shop limits l laid (m + 1) shop.machines (omega arith) (omega arith)
         in let b = stored.positions in omega arith
 
     machine_lanes : List Lane
@@ -146,41 +126,38 @@ module _ (shop : Shop) (limits : IsWithinLimits shop) (l : LayoutState) (laid : 
         in length-blocks (get_or l.blocks m 0) (get_or l.blocks (m + 1) 0) (lanes hs l.times l.tails) (omega arith)
 
     -- the lanes of a machine, if what is related to a waiting operation's triple is its lane
-    pub lanes_matched : (R : Triple → Lane → Type 0) (rows : List (List ℕ)) (counts : List ℕ)
-        → ((j : ℕ) → j < length shop.jobs → get_or counts j 0 ≡ steps j)
-        → ((s : Slot) → IsOperation shop s.job s.step → machine_of shop s.job s.step ≡ m → steps s.job ≤ s.step
-        → R (triple_of rows s) (record { head = f s.job s.step + 1; time = s.time; tail = s.tail }))
-        → AreMatched R (open_triples rows counts (slots_of m))
+    pub lanes_matched : (R : Triple → Lane → Type 0)
+        → ((s : Slot) → IsOperation shop s.job s.step → machine_of shop s.job s.step ≡ m → p.steps s.job ≤ s.step
+        → R (triple_of shop p s) (record { head = f s.job s.step + 1; time = s.time; tail = s.tail }))
+        → AreMatched R (left_of shop p (slots_of m))
         (blocks (get_or l.blocks m 0) (get_or l.blocks (m + 1) 0) (lanes hs l.times l.tails))
     unfolding machine_lanes
-    lanes_matched R rows counts agree related =
+    lanes_matched R related =
         let long = machine_long
         in let room = (laid.each m known).room
-        in slots_matched R rows counts machine_lanes (slots_of m) (omega arith)
-        (λ i d e here opened.
+        in slots_matched R shop p machine_lanes (slots_of m) (omega arith)
+        (λ i d e here left.
         let s = get_or (slots_of m) i d
         in let op = slots_are_operations shop m (slots_of m) (laid.are.slots m known) i d here
         in let at = (laid.each m known).at i d here
-        in let a = leb-true (get_or counts s.job 0) s.step opened
-        in let b = agree s.job op.job
+        in let a = leb-true (p.steps s.job) s.step left
         in let w = stored.waiting s.job s.step op.step (omega arith)
         in let head : get_or hs (first_position l m + i) 0 ≡ f s.job s.step + 1 =
         ap (λ (q : ℕ). get_or hs q 0) (sym at.place) ∙ w
         in let lane : lane_at hs l.times l.tails (first_position l m + i)
         ≡ record { head = f s.job s.step + 1; time = s.time; tail = s.tail } =
         (let c = at.time in let g = at.tail in cc)
-        in subst (λ (x : Lane). R (triple_of rows s) x) (sym (lane_in i e (omega arith) ∙ lane))
+        in subst (λ (x : Lane). R (triple_of shop p s) x) (sym (lane_in i e (omega arith) ∙ lane))
         (related s op.step op.machine (omega arith)))
-        (λ i d e here closed.
+        (λ i d e here placed.
         let s = get_or (slots_of m) i d
         in let op = slots_are_operations shop m (slots_of m) (laid.are.slots m known) i d here
         in let at = (laid.each m known).at i d here
-        in let b = agree s.job op.job
         in let h = ap (λ (x : Lane). x.head) (lane_in i e (omega arith))
-        in elim (cases_lt s.step (get_or counts s.job 0)) [
+        in elim (cases_lt s.step (p.steps s.job)) [
           | inl low ↦ (let w = stored.placed s.job s.step op.step (omega arith)
               in h ∙ (ap (λ (q : ℕ). get_or hs q 0) (sym at.place) ∙ w))
-          | inr high ↦ absurd (true≢false (sym (le-leb (get_or counts s.job 0) s.step high) ∙ closed))
+          | inr high ↦ absurd (true≢false (sym (le-leb (p.steps s.job) s.step high) ∙ placed))
         ])
         (λ i e behind here.
         let h = ap (λ (x : Lane). x.head) (lane_in i e (omega arith))
@@ -192,13 +169,5 @@ module _ (shop : Shop) (limits : IsWithinLimits shop) (l : LayoutState) (laid : 
       → AreMatched IsLaneOf (left_for shop laid.slots p m)
       (blocks (get_or l.blocks m 0) (get_or l.blocks (m + 1) 0) (lanes hs l.times l.tails))
   left_matched m known p hs heads =
-      lanes_matched m known p.steps (head_of shop p) hs (stored_heads shop p l hs heads) IsLaneOf
-      (tabled_heads shop p) (tabled shop p).steps (tabled_is shop p).steps
-      (λ s op on opened. record {
-        head = ap suc_of (sym ((tabled_heads_are shop p).heads s.job s.step op opened));
-        time = refl;
-        tail = refl;
-      })
-    where
-      suc_of : ℕ → ℕ
-      suc_of n = n + 1
+      lanes_matched m known p (head_of shop p) hs heads IsLaneOf
+      (λ s op on left. record { head = refl; time = refl; tail = refl })

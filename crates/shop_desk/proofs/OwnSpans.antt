@@ -1,6 +1,7 @@
 -- Own spans tell the bound after each candidate of a word.
-use Rattle.std.proofs.Common.{◌≡◌, ℕ, zero, suc, ◌+◌, ◌-◌, ◌*◌, ◌≤◌, ◌<◌, max, inl, inr, true, List, [], ◌∷◌, ◌++◌}
-use Rattle.std.proofs.Common.{length, get_or, drop, refl, sym, ◌∙◌, ap, subst, arith, eqb}
+use Rattle.std.proofs.Common.{◌≡◌, ℕ, zero, suc, ◌+◌, ◌-◌, ◌*◌, ◌≤◌, ◌<◌, max, inl, inr, true, List}
+use Rattle.std.proofs.Common.{[], ◌∷◌, ◌++◌, length, get_or, drop, refl, sym, ◌∙◌, ap, subst, arith}
+use Rattle.std.proofs.Common.{eqb}
 use Rattle.std.specs.List.{All}
 use Rattle.std.specs.Prelude.{map}
 use Rattle.std.proofs.lemmas.Bool.{and_parts, cases_Bool, cases_lt, eqb-true}
@@ -13,21 +14,23 @@ use Rattle.shop_model.specs.Limits.{IsWithinLimits}
 use Rattle.shop_model.specs.Shop.{Shop, machine_of}
 use Rattle.shop_model.specs.Word.{Placing, IsWord, placing}
 use Rattle.shop_heads.specs.Bound.{lb}
-use Rattle.shop_heads.specs.Conflicts.{chosen_of, conflict, conflict_among, conflicts_with, next_machine, open_jobs}
+use Rattle.shop_heads.specs.Conflicts.{chosen_of, conflict, conflict_among, conflicts_with}
+use Rattle.shop_heads.specs.Conflicts.{next_machine, open_jobs}
 use Rattle.shop_desk.specs.inner.Advances.{IsAdvancing, foreseen}
-use Rattle.shop_desk.specs.inner.Candidates.{AreCandidatesOf, IsCandidateOf, IsTold, own_at, told_at}
-use Rattle.shop_desk.specs.inner.Dispatchers.{DispatcherState}
-use Rattle.shop_desk.specs.inner.HeadLimits.{latest_end}
-use Rattle.shop_desk.specs.inner.LaneBounds.{AreSpansFit, lanes_on}
+use Rattle.shop_desk.specs.inner.Candidates.{AreCandidatesOf, IsCandidateOf, IsTold, own_at}
+use Rattle.shop_desk.specs.inner.Candidates.{told_at}
+use Rattle.shop_layout.specs.HeadLimits.{latest_end}
+use Rattle.shop_desk.specs.inner.LaneBounds.{AreSpansFit}
+use Rattle.shop_layout.specs.Lanes.{lanes_on, rows_of}
 use Rattle.shop_desk.specs.inner.LaneHeads.{AreHeadsAt}
-use Rattle.shop_desk.specs.inner.LaneStates.{IsKeptInLanes, rows_of}
-use Rattle.shop_desk.specs.inner.Layouts.{IsLaidOut, LayoutState, first_position, place}
+use Rattle.shop_desk.specs.inner.LaneStates.{IsKeptInLanes}
+use Rattle.shop_layout.specs.Positions.{IsLaidOut, LayoutState, first_position, place}
 use Rattle.shop_desk.specs.inner.RisingLists.{IsIn}
 use Rattle.shop_desk.specs.declared.dispatching.Candidate.{Candidate}
 use Rattle.shop_desk.proofs.Candidates.{advancing, candidate_fits, foreseen_least, is_in_at}
 use Rattle.shop_desk.proofs.ChildRaises.{heads_small}
 use Rattle.shop_desk.proofs.ChildReads.{head_here, is_operation, machine_here}
-use Rattle.shop_desk.proofs.LaidPlaces.{each_position, place_of}
+use Rattle.shop_layout.proofs.LaidPlaces.{each_position, place_of}
 use Rattle.shop_desk.proofs.LaneConflicts.{in_filter}
 use Rattle.shop_desk.proofs.LaneFits.{spans_fit}
 use Rattle.shop_desk.proofs.StateSteps.{next_at, next_known, within}
@@ -306,17 +309,3 @@ module _ (greatest : ℕ) (shop : Shop) (w : List ℕ) (l : LayoutState) (heads 
           in let a = told_is j (set_fits j h) m (on_its_machine j h) owns (rw (from_is, to_is) at spans)
           in let b = own i d here
           in let e = ap (λ (n : ℕ). told_at nexts (8 * n) owns j) from_is in omega arith)
-
--- what is gathered in lanes is of the dispatcher's instance
-pub gathered : (greatest : ℕ) (own d : DispatcherState) → own ≡ d → (heads ends nexts given : List ℕ) → given ≡ nexts
-    → (cs : List Candidate) → ((shop : Shop) (w : List ℕ)
-    → IsKeptInLanes greatest shop w own.layout (rows_of own.layout heads ends) given
-    → AreCandidatesOf shop w own.layout cs) → (w : List ℕ)
-    → IsKeptInLanes greatest d.shop w d.layout (rows_of d.layout heads ends) nexts
-    → AreCandidatesOf d.shop w d.layout cs
-gathered greatest own d same heads ends nexts given read cs are w kept =
-    subst (λ (e : DispatcherState). AreCandidatesOf e.shop w e.layout cs) same
-    (are own.shop w (subst (λ (ns : List ℕ). IsKeptInLanes greatest own.shop w own.layout
-    (rows_of own.layout heads ends) ns) (sym read)
-    (subst (λ (e : DispatcherState). IsKeptInLanes greatest e.shop w e.layout (rows_of e.layout heads ends) nexts)
-    (sym same) kept)))

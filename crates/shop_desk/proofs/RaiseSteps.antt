@@ -1,13 +1,11 @@
 -- A raise over rows, head by head.
-use Rattle.std.proofs.Common.{◌≡◌, ℕ, zero, suc, ◌+◌, ◌≤◌, ◌<◌, List, [], ◌∷◌, length}
-use Rattle.std.proofs.Common.{get_or, set, refl, sym, ◌∙◌, ap, subst, arith}
+use Rattle.std.proofs.Common.{◌≡◌, ℕ, zero, suc, ◌+◌, ◌≤◌, ◌<◌, List, [], ◌∷◌, length, get_or, set}
+use Rattle.std.proofs.Common.{refl, sym, ◌∙◌, ap, subst, arith}
 use Rattle.std.proofs.lemmas.List.{set-get_or}
 use Rattle.shop_lanes.specs.Rows.{Rows, with_end, with_head}
-use Rattle.shop_desk.specs.inner.Layings.{place_or}
-use Rattle.shop_desk.specs.inner.Layouts.{LayoutState, place}
-use Rattle.shop_desk.specs.inner.LaneStates.{rows_of}
-use Rattle.shop_desk.specs.inner.Raises.{steps_of}
-use Rattle.shop_desk.specs.inner.Raises.{IsPosition, IsRaisable, Raises}
+use Rattle.shop_layout.specs.Positions.{place_or, LayoutState, place}
+use Rattle.shop_layout.specs.Lanes.{rows_of}
+use Rattle.shop_desk.specs.inner.Raises.{steps_of, IsPosition, IsRaisable, Raises}
 use Rattle.shop_desk.proofs.Followed.{place_there, step_there, left_from, left_less}
 use Rattle.shop_desk.proofs.RaiseWalks.{IsRaisedUpTo, walk_begins, next_least, walk_on, walk_ends}
 
@@ -39,11 +37,6 @@ pub record IsWalking (greatest : ℕ) (l : LayoutState) (p e t ready : ℕ) (old
 
 module _ (greatest : ℕ) (l : LayoutState) (p e : ℕ) (old : Rows)
     (can : IsRaisable greatest l [] old (IsPosition p) e) (some : 0 < get_or old.heads p 0) where
-  -- its end fits
-  pub end_fits : e + get_or l.times p 0 ≤ greatest
-  end_fits = let a = can.raised.reach p refl some in let b = can.fits p (let c = can.raised.rises p in omega arith)
-      in omega arith
-
   pub begun : get_or old.heads p 0 ≤ e → (new : Rows)
       → new ≡ with_head old p e
       → (t ready time : ℕ) → t ≡ get_or l.steps p 0 + 1 → time ≡ get_or new.times p 0 → ready ≡ e + time
@@ -177,19 +170,3 @@ module _ (greatest : ℕ) (l : LayoutState) (p e : ℕ) (old : Rows)
         walking = on greatest l p e old can some so_far.step ready now so_far.walking more next here low new
             wrote h time (so_far.step + 1) refl read sum;
       }
-
-    -- the head there is late enough, or there is none
-    pub following_ended : (next < n → ready ≤ get_or now.heads next 0)
-        → Raises greatest l [] (IsPosition p) e old now
-    following_ended enough = ended greatest l p e old can some so_far.step ready now so_far.walking
-        (λ there. let a = place_there l (length old.heads) (get_or l.jobs p 0) so_far.step there
-        in let b = so_far.next_is
-        in let c = (can.indexed.step (get_or l.jobs p 0) so_far.step there).within
-        in let d = can.indexed.jobs in let f = whole
-        in let g = enough (omega arith)
-        in let same : get_or now.heads next 0 ≡ get_or now.heads (place l (get_or l.jobs p 0) so_far.step) 0 =
-        ap (λ (x : ℕ). get_or now.heads x 0) (b ∙ a)
-        in omega arith)
-
-pub same_times : (old new : Rows) (p v q : ℕ) → new ≡ with_head old p v → get_or new.times q 0 ≡ get_or old.times q 0
-same_times old new p v q wrote = ap (λ (r : Rows). get_or r.times q 0) wrote

@@ -11,24 +11,16 @@ use Rattle.shop_model.proofs.Ends.{IsOperation-job}
 use Rattle.shop_model.proofs.Placings.{IsNext}
 use Rattle.shop_lanes.specs.Rows.{Rows}
 use Rattle.shop_heads.specs.Heads.{head_of, ready_after}
-use Rattle.shop_desk.specs.inner.LaneHeads.{AreHeadsAt}
-use Rattle.shop_desk.specs.inner.Layings.{place_or}
-use Rattle.shop_desk.specs.inner.Layouts.{LayoutState, place, first_position, IsLaidOut}
-use Rattle.shop_desk.specs.inner.Raises.{steps_of, at_in, AreFirst, IsFollowed, IsIndexed, IsPlace, AreInRouteOrder}
-use Rattle.shop_desk.specs.inner.Raises.{IsRaised}
-use Rattle.shop_desk.specs.inner.Raises.{IsLeastRaise, IsRaisable, IsOnMachine, HasBlocks}
+use Rattle.shop_desk.specs.inner.LaneHeads.{AreHeadsAt, AreStored}
+use Rattle.shop_layout.specs.Positions.{place_or, LayoutState, place, first_position, IsLaidOut}
+use Rattle.shop_desk.specs.inner.Raises.{steps_of, at_in, AreFirst, IsFollowed, IsIndexed, IsPlace}
+use Rattle.shop_desk.specs.inner.Raises.{AreInRouteOrder, IsRaised, IsLeastRaise, IsRaisable}
+use Rattle.shop_desk.specs.inner.Raises.{IsOnMachine, HasBlocks}
 use Rattle.shop_heads.proofs.HeadsRise.{heads_up}
 use Rattle.shop_heads.proofs.HeadsStay.{ready_first_same, steps_rise}
 use Rattle.shop_heads.proofs.HeadTurns.{ready_first, ready_more}
-use Rattle.shop_desk.proofs.LaidPlaces.{IsOperationAt, IsFree, machines_rise, place_of, each_position, on_machine}
-
--- the heads before, where what was placed since has none
-pub record AreHeadsLeft (shop : Shop) (p q : Placing) (l : LayoutState) (heads : List ℕ) : Type 0 where
-  pub positions : length heads ≡ first_position l shop.machines
-  pub waiting : (i k : ℕ) → IsOperation shop i k → q.steps i ≤ k
-      → get_or heads (place l i k) 0 ≡ head_of shop p i k + 1
-  pub placed : (i k : ℕ) → IsOperation shop i k → k < q.steps i → get_or heads (place l i k) 0 ≡ 0
-  pub padding : (r : ℕ) → IsFree shop l r → get_or heads r 0 ≡ 0
+use Rattle.shop_layout.proofs.LaidPlaces.{IsOperationAt, machines_rise, place_of}
+use Rattle.shop_layout.proofs.LaidPlaces.{each_position, on_machine}
 
 module _ (shop : Shop) (limits : IsWithinLimits shop) (l : LayoutState) (laid : IsLaidOut shop l) where
   operation_in : (j k : ℕ) → k < steps_of l j → IsOperation shop j k
@@ -85,7 +77,8 @@ module _ (shop : Shop) (limits : IsWithinLimits shop) (l : LayoutState) (laid : 
     machine = machine_of shop j (p.steps j)
 
     -- what is dispatched has no head any more
-    pub left : (old : List ℕ) → AreHeadsAt shop p l old → AreHeadsLeft shop p q l (set old (place l j (p.steps j)) 0)
+    pub left : (old : List ℕ) → AreHeadsAt shop p l old
+        → AreStored shop q.steps (head_of shop p) l (set old (place l j (p.steps j)) 0)
     left old are =
         let x = place l j (p.steps j)
         in let here = place_of shop limits l laid j (p.steps j) next
@@ -120,7 +113,7 @@ module _ (shop : Shop) (limits : IsWithinLimits shop) (l : LayoutState) (laid : 
           ];
         }
 
-    module _ (old : List ℕ) (are : AreHeadsLeft shop p q l old) where
+    module _ (old : List ℕ) (are : AreStored shop q.steps (head_of shop p) l old) where
       -- what waits is an operation that isn't placed
       waits_at : (r : ℕ) → 0 < get_or old r 0 → (o : IsOperationAt shop l r) × (q.steps o.job ≤ o.step)
       waits_at r some = elim (each_position shop limits l laid r) [

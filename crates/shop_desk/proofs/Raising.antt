@@ -1,15 +1,19 @@
 -- Operations of which some are taken out and some heads are raised: only what begins among these heads can bound more.
-use Rattle.std.proofs.Common.{◌≡◌, ℕ, ◌+◌, ◌≤◌, ◌<◌, max, ◌⊎◌, inl, inr, Bool, true, false, List, [], ◌∷◌}
-use Rattle.std.proofs.Common.{length, cond, refl, sym, ◌∙◌, subst, arith, leb}
+use Rattle.std.proofs.Common.{◌≡◌, ℕ, ◌+◌, ◌≤◌, ◌<◌, max, ◌⊎◌, inl, inr, Bool, true, false, List}
+use Rattle.std.proofs.Common.{[], ◌∷◌, length, cond, refl, sym, ◌∙◌, subst, arith, leb}
 use Rattle.std.specs.List.{AllByRecursion, filter, sum_by}
 use Rattle.std.proofs.lemmas.Bool.{cases_Bool, cases_lt, and_from, leb-true, le-leb, true≢false}
 use Rattle.std.proofs.lemmas.List.Sums.{sum_by-cons}
-use Rattle.shop_desk.specs.declared.slots.Slot.{Slot}
+use Rattle.shop_layout.specs.declared.slots.Slot.{Slot}
 use Rattle.one_machine.specs.declared.triples.Triple.{Triple}
 use Rattle.one_machine.specs.OneMachine.{sublists, greatest_of, least_of, span_of, one}
-use Rattle.shop_desk.specs.inner.OpenSlots.{is_open, triple_of, open_triples}
+use Rattle.shop_model.specs.Shop.{Shop}
+use Rattle.shop_model.specs.Word.{Placing}
+use Rattle.shop_heads.specs.Heads.{head_of}
+use Rattle.shop_desk.proofs.LeftSlots.{is_left, triple_of, left_of}
 use Rattle.one_machine.specs.inner.NonincreasingTails.{begins_between, one_between}
-use Rattle.one_machine.proofs.Lists.{IsSublist, none, skip, keep, all_map, all_both, least_of-le, greatest_of-le}
+use Rattle.one_machine.proofs.Lists.{IsSublist, none, skip, keep, all_map, all_both, least_of-le}
+use Rattle.one_machine.proofs.Lists.{greatest_of-le}
 use Rattle.one_machine.proofs.ThresholdLemmas.{le-greatest_sublist, le-least_of, sublists-are}
 
 -- y is x with the same head, or with one that is at most `to` where x has one that is at least `from` less 1
@@ -151,25 +155,23 @@ one_between-none from to ts h = none_passes span_of (begins_between from to) (su
     | inr e ↦ rw e refl
   ]
 
--- what the rows and the counts before and after say of a slot: what is open was open, with a head raised so
-pub record IsSlotRaised (from to : ℕ) (rows : List (List ℕ)) (steps : List ℕ) (rows' : List (List ℕ)) (steps' : List ℕ)
-    (s : Slot) : Type 0 where
-  pub opened : is_open steps' s ≡ true → is_open steps s ≡ true
-  pub head : is_open steps' s ≡ true
-      → ((triple_of rows s).head ≡ (triple_of rows' s).head)
-      ⊎ ((from ≤ (triple_of rows s).head + 1) × ((triple_of rows' s).head ≤ to))
+-- a slot before and after: what is left was left, with a head raised so
+pub record IsSlotRaised (from to : ℕ) (shop : Shop) (p q : Placing) (s : Slot) : Type 0 where
+  pub was_left : is_left q s ≡ true → is_left p s ≡ true
+  pub head : is_left q s ≡ true → (head_of shop p s.job s.step ≡ head_of shop q s.job s.step)
+      ⊎ ((from ≤ head_of shop p s.job s.step + 1) × (head_of shop q s.job s.step ≤ to))
 
-pub open_raised : (from to : ℕ) (rows : List (List ℕ)) (steps : List ℕ) (rows' : List (List ℕ)) (steps' : List ℕ)
-    (slots : List Slot) → AllByRecursion (IsSlotRaised from to rows steps rows' steps') slots
-    → IsRaisedPart from to (open_triples rows steps slots) (open_triples rows' steps' slots)
-open_raised from to rows steps rows' steps' [] h = done
-open_raised from to rows steps rows' steps' (s ∷ slots) h =
-    let rest = open_raised from to rows steps rows' steps' slots h.1
-    in elim (cases_Bool (is_open steps' s)) [
-      | inl e ↦ rw (e, h.0.opened e) (more (triple_of rows s) (triple_of rows' s)
+pub left_raised : (from to : ℕ) (shop : Shop) (p q : Placing) (slots : List Slot)
+    → AllByRecursion (IsSlotRaised from to shop p q) slots
+    → IsRaisedPart from to (left_of shop p slots) (left_of shop q slots)
+left_raised from to shop p q [] h = done
+left_raised from to shop p q (s ∷ slots) h =
+    let rest = left_raised from to shop p q slots h.1
+    in elim (cases_Bool (is_left q s)) [
+      | inl e ↦ rw (e, h.0.was_left e) (more (triple_of shop p s) (triple_of shop q s)
           (record { time = refl; tail = refl; head = h.0.head e }) rest)
-      | inr e ↦ elim (cases_Bool (is_open steps s)) [
-        | inl f ↦ rw (e, f) (less (triple_of rows s) rest)
+      | inr e ↦ elim (cases_Bool (is_left p s)) [
+        | inl f ↦ rw (e, f) (less (triple_of shop p s) rest)
         | inr f ↦ rw (e, f) rest
       ]
     ]

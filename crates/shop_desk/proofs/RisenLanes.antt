@@ -43,12 +43,6 @@ span_beside b a (beside {xs} {ys} x y r rest) c e le =
           in let u = span_beside b a rest (c + y.time) (e + x.time) (omega arith) in omega arith)
     ]
 
--- all that begins later begins no earlier
-pub span_wider : (b a : ℕ) → b ≤ a → (c e : ℕ) → c ≤ e → (xs : List Lane) → span a c xs ≤ span b e xs
-span_wider b a le c e later xs = span_beside b a
-    (beside_itself (IsServedBefore b a) (λ x. record { time = refl; tail = refl; counts = λ on. omega arith }) xs) c e
-    later
-
 -- no span of lanes is above u, from whatever moment up to `top` on
 abbrev pub AreUpTo : ℕ → ℕ → List Lane → Type 0
 AreUpTo top u xs = (g : ℕ) → 0 < g → g ≤ top → span g g xs ≤ u

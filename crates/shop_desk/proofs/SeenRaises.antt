@@ -1,8 +1,7 @@
 -- What was seen while heads were raised bounds what is left after one more operation.
-use Rattle.std.proofs.Common.{◌≡◌, ℕ, ◌+◌, ◌-◌, ◌*◌, ◌≤◌, ◌<◌, inl, inr, List, [], ◌∷◌, ◌++◌, length}
-use Rattle.std.proofs.Common.{get_or, refl, sym, ◌∙◌, ap, subst, arith, drop}
+use Rattle.std.proofs.Common.{◌≡◌, ℕ, ◌+◌, ◌-◌, ◌*◌, ◌≤◌, ◌<◌, inl, inr, List, [], ◌∷◌, ◌++◌}
+use Rattle.std.proofs.Common.{length, get_or, refl, sym, ◌∙◌, ap, subst, arith}
 use Rattle.std.proofs.lemmas.Bool.{cases_eq, cases_lt, eq-eqb, ne_eqb}
-use Rattle.std.proofs.lemmas.List.{get_or-take, get_or-drop}
 use Rattle.shop_lanes.specs.Rows.{Rows, Lane, lanes, blocks}
 use Rattle.shop_lanes.specs.Spans.{span}
 use Rattle.shop_lanes.proofs.LaneLists.{length-blocks, lanes-blocks}
@@ -13,27 +12,21 @@ use Rattle.shop_model.proofs.Placings.{place_next-is}
 use Rattle.shop_model.proofs.WordLemmas.{IsWord-init}
 use Rattle.shop_heads.specs.Bound.{lb}
 use Rattle.shop_heads.specs.Heads.{head_of}
-use Rattle.shop_desk.specs.inner.LaneBounds.{lanes_on, AreMachinesAt}
-use Rattle.shop_desk.specs.inner.LaneHeads.{AreHeadsAt}
-use Rattle.shop_desk.specs.inner.Layouts.{LayoutState, IsLaidOut, place, first_position}
+use Rattle.shop_layout.specs.Lanes.{lanes_on}
+use Rattle.shop_desk.specs.inner.LaneHeads.{AreHeadsAt, AreStored}
+use Rattle.shop_layout.specs.Positions.{AreMachinesOf, LayoutState, IsLaidOut, place, first_position}
 use Rattle.shop_desk.specs.inner.Watchers.{IsSeenAt, floor_on}
 use Rattle.shop_desk.specs.declared.head_raises.Raise.{Raise}
 use Rattle.shop_desk.proofs.ChildBounds.{left-le-lb}
 use Rattle.shop_desk.proofs.ChildRaises.{IsBounded, bounded_by_raise, covered_all}
 use Rattle.shop_heads.proofs.HeadsStay.{steps_rise}
-use Rattle.shop_desk.proofs.LaidPlaces.{each_position}
-use Rattle.shop_desk.proofs.RisenLanes.{AreBeside, AreUpTo, IsRisen, IsRisenLane, IsServedBefore, beside_as}
-use Rattle.shop_desk.proofs.RisenLanes.{lanes_risen, span_beside, spans_risen}
+use Rattle.shop_layout.proofs.LaidPlaces.{each_position}
+use Rattle.shop_layout.proofs.MachineLoads.{block_at}
+use Rattle.shop_desk.proofs.RisenLanes.{AreBeside, AreUpTo, IsRisen, IsRisenLane, IsServedBefore}
+use Rattle.shop_desk.proofs.RisenLanes.{beside_as, lanes_risen, span_beside, spans_risen}
 use Rattle.shop_desk.proofs.LaneSpans.{from_head_within}
-use Rattle.shop_desk.proofs.MachineLanes.{AreStored, left_matched}
-use Rattle.shop_desk.proofs.OpenSlots.{open_falls}
-use Rattle.shop_desk.proofs.TabledHeads.{tabled, tabled_heads}
-
--- the blocks of a row
-block_at : (from to i : ℕ) (xs : List ℕ) → i < 8 * to - 8 * from
-    → get_or (blocks from to xs) i 0 ≡ get_or xs (8 * from + i) 0
-block_at from to i xs below = get_or-take (8 * to - 8 * from) (drop (8 * from) xs) i 0 below
-    ∙ get_or-drop (8 * from) xs i 0
+use Rattle.shop_desk.proofs.MachineLanes.{left_matched}
+use Rattle.shop_desk.proofs.LeftSlots.{left_falls}
 
 -- lanes of the same blocks of rows whose heads rose there
 blocks_risen : (from to floor first end : ℕ) (hs hs' ts qs : List ℕ) → length ts ≡ length hs → length qs ≡ length hs
@@ -48,8 +41,8 @@ blocks_risen from to floor first end hs hs' ts qs a b c within each =
     in let risen = lanes_risen from to floor (blocks first end hs) (blocks first end hs') (blocks first end ts)
     (blocks first end qs) (omega arith) (omega arith) (omega arith)
     (λ i here. subst (λ (x : ℕ). IsRisen from to floor x (get_or (blocks first end hs') i 0))
-    (sym (block_at first end i hs (omega arith)))
-    (subst (IsRisen from to floor (get_or hs (8 * first + i) 0)) (sym (block_at first end i hs' (omega arith)))
+    (sym (block_at hs first end i (omega arith)))
+    (subst (IsRisen from to floor (get_or hs (8 * first + i) 0)) (sym (block_at hs' first end i (omega arith)))
     (each (8 * first + i) (omega arith) (omega arith))))
     in subst (λ (xs : List Lane). AreBeside (IsRisenLane from to floor) xs (blocks first end (lanes hs' ts qs)))
     (lanes-blocks hs ts qs first end a b)
@@ -109,7 +102,7 @@ module _ (shop : Shop) (limits : IsWithinLimits shop) (l : LayoutState) (laid : 
           counts = λ on. r.head.some (omega arith);
         }) risen) h end up
 
-  module _ (ms : List ℕ) (machines : AreMachinesAt l shop.machines ms) (own end least m : ℕ)
+  module _ (ms : List ℕ) (machines : AreMachinesOf l.blocks shop.machines ms) (own end least m : ℕ)
       (known : m < shop.machines) (raise : Raise)
       (covered : (q : ℕ) → get_or ms q 0 ≡ m → 0 < get_or now q 0
       → IsSeenAt raise (floor_on own end m) (get_or was q 0) (get_or now q 0)) where
@@ -152,7 +145,7 @@ module _ (shop : Shop) (limits : IsWithinLimits shop) (l : LayoutState) (laid : 
       spans_before g some high =
           let p = placing shop w
           in let word = IsWord-init shop w j fits
-          in let falls = open_falls (tabled_heads shop p) (tabled shop p).steps (get_or laid.slots m [])
+          in let falls = left_falls shop p (get_or laid.slots m [])
           (laid.are.slots m known).nonincreasing
           in let a = from_head_within (left_matched shop limits l laid m known p was old) falls (g - 1)
           in let b = left-le-lb shop limits laid.slots laid.are w word m known

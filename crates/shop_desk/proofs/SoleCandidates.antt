@@ -1,8 +1,9 @@
 -- Where the conflict set is one job, its next operation leaves the bound as it is.
-use Rattle.std.proofs.Common.{◌≡◌, ℕ, zero, suc, ◌+◌, ◌-◌, ◌≤◌, ◌<◌, max, inl, inr, List, [], ◌∷◌, ◌++◌, refl, sym, ◌∙◌}
-use Rattle.std.proofs.Common.{ap, subst, arith, eqb, ltb, true}
+use Rattle.std.proofs.Common.{◌≡◌, ℕ, zero, suc, ◌+◌, ◌-◌, ◌≤◌, ◌<◌, inl, inr, List, [], ◌∷◌}
+use Rattle.std.proofs.Common.{◌++◌, refl, sym, ◌∙◌, ap, subst, arith, eqb, ltb, true}
 use Rattle.std.specs.List.{best_of}
-use Rattle.std.proofs.lemmas.Bool.{cases_eq, cases_lt, and_from, eq-eqb, le-ltb, lt-ltb, or_left, or_right}
+use Rattle.std.proofs.lemmas.Bool.{cases_eq, cases_lt, and_from, eq-eqb, le-ltb, lt-ltb, or_left}
+use Rattle.std.proofs.lemmas.Bool.{or_right}
 use Rattle.shop_model.specs.Limits.{IsWithinLimits}
 use Rattle.shop_model.specs.Shop.{Shop, IsOperation, machine_of}
 use Rattle.shop_model.specs.Word.{Placing, IsWord, placing, place_next}
@@ -10,13 +11,14 @@ use Rattle.shop_model.proofs.Greatest.{le-greatest_below}
 use Rattle.shop_model.proofs.Placings.{IsNext, place_next-is}
 use Rattle.shop_model.proofs.Unders.{after_word}
 use Rattle.shop_heads.specs.Bound.{waiting, triples_on, lb}
-use Rattle.shop_heads.specs.Conflicts.{open_jobs, next_machine, next_head, next_end, chosen_of, conflicts_with}
-use Rattle.shop_heads.specs.Conflicts.{conflict, conflict_among, SoleCandidateKeepsBound}
+use Rattle.shop_heads.specs.Conflicts.{open_jobs, next_machine, next_head, next_end, chosen_of}
+use Rattle.shop_heads.specs.Conflicts.{conflicts_with, conflict, conflict_among}
+use Rattle.shop_heads.specs.Conflicts.{SoleCandidateKeepsBound}
 use Rattle.shop_heads.specs.Heads.{ready_after, head_of}
 use Rattle.one_machine.specs.OneMachine.{one}
-use Rattle.shop_desk.specs.Slots.{AreMachineSlots}
+use Rattle.shop_layout.specs.Slots.{AreMachineSlots}
 use Rattle.shop_desk.specs.inner.RisingLists.{IsIn}
-use Rattle.shop_desk.specs.declared.slots.Slot.{Slot}
+use Rattle.shop_layout.specs.declared.slots.Slot.{Slot}
 use Rattle.shop_heads.proofs.BoundsRise.{bounds_rise, end-le-left}
 use Rattle.shop_desk.proofs.ChildBounds.{child-le, raised_left}
 use Rattle.shop_heads.proofs.Entries.{IsWord-snoc}
@@ -24,7 +26,8 @@ use Rattle.shop_heads.proofs.HeadsStay.{head_stays}
 use Rattle.shop_heads.proofs.HeadTurns.{ready_more}
 use Rattle.shop_desk.proofs.LaneConflicts.{filter_in, is_open, open_is}
 use Rattle.shop_desk.proofs.Raising.{one_between-none}
-use Rattle.shop_desk.proofs.TabledHeads.{left_for}
+use Rattle.shop_desk.proofs.LeftSlots.{left_for}
+use Rattle.shop_desk.proofs.NextOperations.{head_first}
 
 -- what is chosen by least value
 record IsLeastOf (f : ℕ → ℕ) (js : List ℕ) (c : ℕ) : Type 0 where
@@ -96,16 +99,11 @@ module _ (shop : Shop) (p : Placing) where
         ];
       })
 
-  -- the head of a next operation
-  head_first : (i : ℕ) → head_of shop p i (p.steps i) ≡ next_head shop p i
-  head_first i = ap (λ (d : ℕ). max (ready_after shop p i d) (p.free (machine_of shop i (p.steps i))))
-      (let e : p.steps i - p.steps i ≡ 0 = omega arith in e)
-
   -- later steps of a job are ready at the end of its next one or later
   later_ready : (i d l : ℕ) → p.steps i + 1 + d ≡ l → next_end shop p i ≤ ready_after shop p i (l - p.steps i)
   later_ready i zero l e =
       let more = ready_more shop p i (p.steps i) (omega arith)
-      in let head = head_first i
+      in let head = head_first shop p i
       in let f : p.steps i + 1 ≡ l = omega arith
       in let same = ap (λ (x : ℕ). ready_after shop p i (x - p.steps i)) f in omega arith
   later_ready i (suc d) l e =
@@ -127,7 +125,7 @@ module _ (shop : Shop) (p : Placing) where
       | inr ne ↦ (let a = n.steps_other i ne
           in let op_next : IsOperation shop i (p.steps i) = omega arith
           in elim (cases_eq k (p.steps i)) [
-            | inl f ↦ (let head = head_first i
+            | inl f ↦ (let head = head_first shop p i
                 in let same = ap (head_of shop p i) f
                 in let late = sole.late i op_next ne (ap (machine_of shop i) (sym f) ∙ on) in omega arith)
             | inr later ↦ (let b = later_ready i (k - p.steps i - 1) k (omega arith)

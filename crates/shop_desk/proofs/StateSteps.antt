@@ -1,6 +1,6 @@
 -- What is kept of a word, with one operation more.
-use Rattle.std.proofs.Common.{◌≡◌, ℕ, ◌+◌, ◌<◌, inl, inr, List, [], ◌∷◌, ◌++◌, length}
-use Rattle.std.proofs.Common.{get_or, set, refl, sym, ◌∙◌, ap, subst, arith}
+use Rattle.std.proofs.Common.{◌≡◌, ℕ, ◌+◌, ◌<◌, inl, inr, List, [], ◌∷◌, ◌++◌, length, get_or, set}
+use Rattle.std.proofs.Common.{refl, sym, ◌∙◌, ap, subst, arith}
 use Rattle.std.proofs.lemmas.Bool.{cases_eq}
 use Rattle.std.proofs.lemmas.Grind.{get_or-set_at}
 use Rattle.std.proofs.lemmas.List.{get_or-set_other, length-set}
@@ -9,16 +9,16 @@ use Rattle.shop_model.specs.Shop.{Shop, IsOperation}
 use Rattle.shop_model.specs.Word.{Placing, IsWord, placing, place_next}
 use Rattle.shop_model.proofs.Placings.{place_next-is}
 use Rattle.shop_model.proofs.Unders.{placing-snoc}
-use Rattle.shop_desk.specs.inner.LaneChoices.{AreNextsOf}
+use Rattle.shop_desk.specs.inner.LaneChoices.{AreNextsAt, AreNextsOf}
 use Rattle.shop_desk.specs.inner.LaneEnds.{AreEndsOf, CanKeepEnds, HasEnds, IsEndOf, end_at}
 use Rattle.shop_desk.specs.inner.LaneStates.{AreHeadsInLanes, HasNextAt, IsKeptInLanes}
-use Rattle.shop_desk.specs.inner.Layings.{place_or}
-use Rattle.shop_desk.specs.inner.Layouts.{LayoutState, first_position, place}
+use Rattle.shop_layout.specs.Positions.{place_or, LayoutState, first_position, place}
 use Rattle.shop_desk.specs.inner.Raises.{AreFirst}
 use Rattle.shop_desk.proofs.ChildReads.{is_operation}
 use Rattle.shop_desk.proofs.ChildTurns.{its_job}
 use Rattle.shop_desk.proofs.LaneEnds.{beside_more, can_keep, end_here, end_other, ends_at, ends_of}
-use Rattle.shop_desk.proofs.LaneEnds.{next_first, next_there, next_within, with_ends}
+use Rattle.shop_desk.proofs.LaneEnds.{next_first, nexts_at, with_ends}
+use Rattle.shop_desk.proofs.NextOperations.{next_there, next_within}
 use Rattle.shop_desk.proofs.RaisedHeads.{followed}
 use Rattle.shop_desk.proofs.SoleCandidates.{sole_keeps_bound}
 
@@ -30,16 +30,18 @@ module _ (greatest : ℕ) (shop : Shop) (w : List ℕ) (j : ℕ) (l : LayoutStat
   pub firsts : AreFirst l nexts rows.heads
   firsts = next_first greatest shop w l rows kept.kept nexts kept.are_next
 
+  there : AreNextsAt shop (placing shop w) l nexts rows
+  there = nexts_at greatest shop w l rows kept.kept nexts kept.are_next
+
   operation : IsOperation shop j ((placing shop w).steps j)
   operation = is_operation greatest shop w l rows kept.kept j fits
 
   module _ (x : ℕ) (x_is : x ≡ get_or nexts j 0) where
     pub next_at : x ≡ place l j ((placing shop w).steps j)
-    next_at = x_is ∙ next_there greatest shop w l rows kept.kept nexts kept.are_next j operation
+    next_at = x_is ∙ next_there shop (placing shop w) l nexts rows there j operation
 
     pub within : x < length rows.heads
-    within = let a = next_within greatest shop w l rows kept.kept nexts kept.are_next j operation
-        in let b = x_is in omega arith
+    within = let a = next_within shop (placing shop w) l nexts rows there j operation in let b = x_is in omega arith
 
     pub has_next : HasNextAt greatest l nexts x rows
     has_next = record {

@@ -1,6 +1,6 @@
 -- The one candidate of a word is dispatched: it is struck out, and no head rises.
-use Rattle.std.proofs.Common.{◌≡◌, ℕ, ◌<◌, inl, inr, List, [], ◌∷◌, ◌++◌, length}
-use Rattle.std.proofs.Common.{get_or, set, refl, sym, ◌∙◌, ap, subst, arith}
+use Rattle.std.proofs.Common.{◌≡◌, ℕ, ◌<◌, inl, inr, List, [], ◌∷◌, ◌++◌, length, get_or, set, refl}
+use Rattle.std.proofs.Common.{sym, ◌∙◌, ap, subst, arith}
 use Rattle.std.proofs.lemmas.Bool.{cases_lt, le-ltb, lt-ltb}
 use Rattle.std.proofs.lemmas.List.{get_or-set_other, length-set}
 use Rattle.shop_lanes.specs.Rows.{Rows, with_end, with_head}
@@ -11,7 +11,7 @@ use Rattle.shop_heads.specs.Conflicts.{conflict}
 use Rattle.shop_desk.specs.inner.LaneEnds.{CanKeepEnds, IsEndOf, end_at}
 use Rattle.shop_desk.specs.inner.LaneHeads.{AreHeadsAt}
 use Rattle.shop_desk.specs.inner.LaneStates.{AreHeadsInLanes, IsKeptInLanes}
-use Rattle.shop_desk.specs.inner.Layouts.{LayoutState, place}
+use Rattle.shop_layout.specs.Positions.{LayoutState, place}
 use Rattle.shop_desk.proofs.ChildReads.{left_stored}
 use Rattle.shop_desk.proofs.SoleCandidates.{sole_fits, sole_heads}
 use Rattle.shop_desk.proofs.StateSteps.{ends_more, kept_more, next_at, next_known, within}

@@ -11,12 +11,13 @@ use Rattle.shop_model.specs.Word.{IsWord, placing}
 use Rattle.shop_heads.specs.Bound.{lb}
 use Rattle.shop_desk.specs.inner.Advances.{IsLeastAt}
 use Rattle.shop_desk.specs.inner.BoundsUpTo.{IsBoundUpTo}
-use Rattle.shop_desk.specs.inner.HeadLimits.{latest_end}
+use Rattle.shop_layout.specs.HeadLimits.{latest_end}
 use Rattle.shop_desk.specs.inner.HeadRaises.{raise_of}
-use Rattle.shop_desk.specs.inner.LaneBounds.{AreSpansFit, lanes_on}
+use Rattle.shop_desk.specs.inner.LaneBounds.{AreSpansFit}
+use Rattle.shop_layout.specs.Lanes.{lanes_on}
 use Rattle.shop_desk.specs.inner.LaneEnds.{CanKeepEnds, end_at}
 use Rattle.shop_desk.specs.inner.LaneStates.{Advances, AreHeadsInLanes, HasNextAt, IsKeptInLanes}
-use Rattle.shop_desk.specs.inner.Layouts.{IsLaidOut, LayoutState, place}
+use Rattle.shop_layout.specs.Positions.{IsLaidOut, LayoutState, place}
 use Rattle.shop_desk.specs.inner.MachineRaises.{AreEmpty, AreRaisesFit}
 use Rattle.shop_desk.specs.inner.Raises.{HasBlocks, IsOnMachine, IsRaisable, Raises}
 use Rattle.shop_desk.specs.inner.Watchers.{AreSeen, IsSeenAt, Sees, Watches, floor_on}
@@ -62,9 +63,6 @@ module _ (greatest : ℕ) (shop : Shop) (w : List ℕ) (l : LayoutState) (rows :
 
   pub tails_long : length l.tails ≡ length l.times
   tails_long = kept.kept.laid.positions.tails ∙ sym kept.kept.laid.positions.times
-
-  pub following_long : length l.following ≡ length rows.heads
-  following_long = kept.kept.laid.positions.following ∙ sym kept.kept.heads.positions
 
   pub its_end : (get_or rows.heads (get_or nexts j 0) 0 + get_or rows.times (get_or nexts j 0) 0 ≤ greatest)
       × (get_or rows.heads (get_or nexts j 0) 0 + get_or rows.times (get_or nexts j 0) 0 < 2 ^ 64)

@@ -1,4 +1,3 @@
+pub use Rattle.shop_layout.specs.Layouts
 pub mod States
-pub mod Slots
-pub mod Layouts
 pub mod inner

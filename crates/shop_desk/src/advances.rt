@@ -1,22 +1,22 @@
 // One more operation in the state of a word.
-ghost use Rattle.std.specs.Prelude.{◌≡◌, ◌<◌, ◌^◌, ◌++◌, ◌∷◌, [], List, ℕ, OnSome, length, slice_index};
-ghost use Rattle.std.specs.Prelude.{slice_set};
+ghost use Rattle.std.specs.Prelude.{◌≡◌, ◌<◌, ◌^◌, ◌++◌, ◌∷◌, [], List, ℕ, OnSome, length};
+ghost use Rattle.std.specs.Prelude.{slice_index, slice_set};
 ghost use Rattle.shop_model.specs.Shop.{Shop};
 ghost use Rattle.shop_model.specs.Word.{IsWord};
 ghost use Rattle.shop_heads.specs.Bound.{lb};
 ghost use Rattle.shop_heads.specs.Conflicts.{conflict};
 ghost use Rattle.shop_desk.specs.States.{TellsBoundBelow};
-ghost use Rattle.shop_desk.specs.inner.Advances.{CanAdvance, CanStrike, HasSameRoom};
-ghost use Rattle.shop_desk.specs.inner.Advances.{IsAdvancing};
+ghost use Rattle.shop_desk.specs.inner.Advances.{CanAdvance, CanStrike, HasSameRoom, IsAdvancing};
 ghost use Rattle.shop_desk.specs.inner.LaneEnds.{CanKeepEnds};
-ghost use Rattle.shop_desk.specs.inner.LaneStates.{GoesOn, IsKeptInLanes, rows_of};
+ghost use Rattle.shop_desk.specs.inner.LaneStates.{GoesOn, IsKeptInLanes};
+ghost use Rattle.shop_layout.specs.Lanes.{rows_of};
 ghost use Rattle.shop_desk.specs.inner.MachineRaises.{AreEmpty};
 
-use crate::grid::Grid;
 use crate::lane_ends::set_end_of;
 use crate::machine_raises::MachineRaises;
 use crate::raises::raise;
 use shop_lanes::StateLanes;
+use shop_layout::Grid;
 
 /// The job's operation at this position was dispatched: the one that follows is its next one, with its end.
 #[inline(always)]

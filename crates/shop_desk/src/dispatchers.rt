@@ -1,58 +1,25 @@
 // Operations are dispatched in lanes of one width.
 ghost use Rattle.std.specs.Prelude.{◌≡◌, ◌≤◌, ◌<◌, ◌^◌, All, IfOk, length, map, vec_capacity};
-ghost use Rattle.shop_desk.specs.inner.Dispatchers.{IsReady};
+ghost use Rattle.shop_layout.specs.LaidOuts.{IsReady};
 
 use crate::advances::{advance_below, strike};
 use crate::dispatching::{Candidate, Dispatching};
 use crate::fills::fill_state;
 use crate::gathering::gather;
-use crate::grid::Grid;
 use crate::machine_raises::MachineRaises;
-use crate::positions::Positions;
 use crate::states::{Scratch, State};
 use crate::steps::{BOUNDS, step};
 use shop_lanes::StateLanes;
-use shop_model::{Instance, Placement};
+use shop_layout::LaidOut;
+use shop_model::Placement;
 use std::alloc::{AllocError, Global};
-use std::marker::Model;
 
-/// Dispatches operations of an instance in lanes of one width.
-#[derive(Drop)]
-pub struct Dispatcher<'a, L: StateLanes> {
-    instance: &'a Instance,
-    grid: Grid<L>,
-}
-
-impl<'a, L: StateLanes> Model for Dispatcher<'a, L> {
-    ghost use Rattle.shop_desk.specs.inner.Dispatchers.{DispatcherState, IsReady};
-
-    ghost Value = { DispatcherState };
-
-    ghost view = { λ d. record { shop = d.instance.now; layout = d.grid } };
-
-    ghost invariant = { λ d. IsReady L.GREATEST d.instance.now d.grid };
-}
-
-impl<'a, L: StateLanes> Dispatcher<'a, L> {
-    /// Of an instance and its layout. Fails with `AllocError` if memory runs out.
-    pub(crate) fn of(
-        alloc: Global,
-        instance: &'a Instance,
-        positions: Positions,
-    ) -> Result<Dispatcher<'a, L>, AllocError>
-        requires { IsReady L.GREATEST instance.now positions }
-        ensures { IfOk result (λ d. d.shop ≡ instance.now) }
-    {
-        let grid = Grid::of(alloc, positions)?;
-        Ok(Dispatcher { instance, grid })
-    }
-}
-
-impl<'a, L: StateLanes> Dispatching for Dispatcher<'a, L> {
+impl<'a, L: StateLanes> Dispatching for LaidOut<'a, L> {
     ghost use Rattle.std.specs.Prelude.{◌∷◌, ◌++◌, [], vec_capacity};
     ghost use Rattle.shop_desk.specs.inner.Candidates.{IsCandidateOf};
-    ghost use Rattle.shop_desk.specs.inner.Dispatchers.{IsScratchOf};
-    ghost use Rattle.shop_desk.specs.inner.LaneStates.{HasRoom, IsKeptInLanes, rows_of};
+    ghost use Rattle.shop_desk.specs.inner.Scratches.{IsScratchOf};
+    ghost use Rattle.shop_desk.specs.inner.LaneStates.{HasRoom, IsKeptInLanes};
+    ghost use Rattle.shop_layout.specs.Lanes.{rows_of};
 
     type State = State<L>;
 
@@ -72,11 +39,12 @@ impl<'a, L: StateLanes> Dispatching for Dispatcher<'a, L> {
     ghost IsCandidate = { λ d w c. IsCandidateOf d.shop w d.layout c.job c.own };
 
     fn scratch(&self, alloc: Global) -> Result<Scratch<L>, AllocError> {
-        self.instance.keeps_limits();
-        let placement = Placement::none(alloc, self.instance)?;
-        let raises = MachineRaises::new(alloc, self.instance.machines())?;
-        let owns = vec![in alloc; L::narrowed(0); self.grid.positions()]?;
-        let jobs = Vec::with_capacity(alloc, self.instance.jobs())?;
+        let instance = self.instance();
+        instance.keeps_limits();
+        let placement = Placement::none(alloc, instance)?;
+        let raises = MachineRaises::new(alloc, instance.machines())?;
+        let owns = vec![in alloc; L::narrowed(0); self.grid().positions()]?;
+        let jobs = Vec::with_capacity(alloc, instance.jobs())?;
         Ok(Scratch {
             placement,
             raises,
@@ -86,19 +54,20 @@ impl<'a, L: StateLanes> Dispatching for Dispatcher<'a, L> {
     }
 
     fn slot(&self, alloc: Global) -> Result<State<L>, AllocError> {
-        let jobs = self.instance.jobs();
-        let lanes = L::new(alloc, self.grid.positions(), jobs)?;
+        let jobs = self.instance().jobs();
+        let lanes = L::new(alloc, self.grid().positions(), jobs)?;
         let next = vec![in alloc; 0; jobs]?;
         Ok(State { lanes, next })
     }
 
     fn fill(&self, scratch: &mut Scratch<L>, path: &[u16], state: &mut State<L>) {
-        scratch.placement.set_to(self.instance, path);
+        let instance = self.instance();
+        scratch.placement.set_to(instance, path);
         fill_state(
             &mut state.lanes,
             state.next.as_mut_slice(),
-            &self.grid,
-            self.instance,
+            self.grid(),
+            instance,
             &scratch.placement,
         );
     }
@@ -119,7 +88,7 @@ impl<'a, L: StateLanes> Dispatching for Dispatcher<'a, L> {
             &mut scratch.jobs,
             scratch.owns.as_mut_slice(),
             &state.lanes,
-            &self.grid,
+            self.grid(),
             state.next.as_slice(),
         );
     }
@@ -129,7 +98,7 @@ impl<'a, L: StateLanes> Dispatching for Dispatcher<'a, L> {
         strike(
             &mut state.lanes,
             state.next.as_mut_slice(),
-            &self.grid,
+            self.grid(),
             job as usize,
         );
     }
@@ -147,7 +116,7 @@ impl<'a, L: StateLanes> Dispatching for Dispatcher<'a, L> {
             &mut state.lanes,
             state.next.as_mut_slice(),
             &mut scratch.raises,
-            &self.grid,
+            self.grid(),
             candidate.job as usize,
             bound.max(candidate.own),
             limit.min(BOUNDS),
@@ -165,7 +134,7 @@ impl<'a, L: StateLanes> Dispatching for Dispatcher<'a, L> {
             &mut state.lanes,
             state.next.as_mut_slice(),
             &mut scratch.raises,
-            &self.grid,
+            self.grid(),
             job as usize,
             bound,
         )

@@ -3,13 +3,14 @@ ghost use Rattle.std.specs.Prelude.{◌≡◌, ℕ, ◌<◌, List, length};
 ghost use Rattle.shop_model.specs.Placements.{IsPlacement};
 ghost use Rattle.shop_model.specs.Word.{IsWord, placing};
 ghost use Rattle.shop_heads.specs.inner.PlacedWords.{IsOfWord};
-ghost use Rattle.shop_desk.specs.inner.Dispatchers.{IsReady};
+ghost use Rattle.shop_layout.specs.LaidOuts.{IsReady};
 ghost use Rattle.shop_desk.specs.inner.Fills.{AreNextsPlaced, CanFill, HasFilled, HasFilledJob};
-ghost use Rattle.shop_desk.specs.inner.LaneStates.{HasRoom, IsKeptInLanes, rows_of};
+ghost use Rattle.shop_desk.specs.inner.LaneStates.{HasRoom, IsKeptInLanes};
+ghost use Rattle.shop_layout.specs.Lanes.{rows_of};
 
-use crate::grid::Grid;
 use crate::lane_ends::set_ends;
 use shop_lanes::StateLanes;
+use shop_layout::Grid;
 use shop_model::{Instance, Placement};
 
 /// Sets the heads of a job's operations.

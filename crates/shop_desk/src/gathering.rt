@@ -1,15 +1,16 @@
 // The candidates of a word: its conflict set, each job with what the bound after it is at least.
-ghost use Rattle.std.specs.Prelude.{◌≡◌, ℕ, ◌-◌, ◌≤◌, ◌<◌, ◌^◌, List, [], All, length, map, slice_index};
-ghost use Rattle.std.specs.Prelude.{vec_capacity};
+ghost use Rattle.std.specs.Prelude.{◌≡◌, ℕ, ◌-◌, ◌≤◌, ◌<◌, ◌^◌, List, [], All, length, map};
+ghost use Rattle.std.specs.Prelude.{slice_index, vec_capacity};
 ghost use Rattle.shop_model.specs.Shop.{Shop};
 ghost use Rattle.shop_heads.specs.Conflicts.{conflict};
 ghost use Rattle.shop_desk.specs.inner.Candidates.{AreCandidatesOf, CanGather, IsTold, told_at};
-ghost use Rattle.shop_desk.specs.inner.LaneStates.{IsKeptInLanes, rows_of};
+ghost use Rattle.shop_desk.specs.inner.LaneStates.{IsKeptInLanes};
+ghost use Rattle.shop_layout.specs.Lanes.{rows_of};
 
 use crate::dispatching::Candidate;
-use crate::grid::Grid;
 use crate::lane_choices::gather_conflict;
 use shop_lanes::StateLanes;
+use shop_layout::Grid;
 
 /// Fills the empty list with candidates for these jobs, of which nothing more is known.
 #[inline(always)]

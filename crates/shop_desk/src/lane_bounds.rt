@@ -2,13 +2,12 @@
 ghost use Rattle.std.specs.Prelude.{◌≡◌, ◌+◌, ◌≤◌, ◌<◌, ◌^◌, length, slice_index};
 ghost use Rattle.shop_lanes.specs.Rows.{AreBlocks};
 ghost use Rattle.shop_lanes.specs.Spans.{FitsSpan};
-ghost use Rattle.shop_desk.specs.inner.LaneBounds.{lanes_on};
-ghost use Rattle.shop_desk.specs.inner.LaneStates.{rows_of};
+ghost use Rattle.shop_layout.specs.Lanes.{lanes_on, rows_of};
 ghost use Rattle.shop_desk.specs.inner.MachineRaises.{IsBoundByRaise};
 
-use crate::grid::Grid;
 use crate::head_raises::Raise;
 use shop_lanes::StateLanes;
+use shop_layout::Grid;
 
 /// The greater of a number and of what begins within the raise of a machine; or as much of it as reaches the limit.
 #[inline(always)]
@@ -38,6 +37,6 @@ pub(crate) fn bound_by_raise<L: StateLanes>(
     }
     let (from, to) = (grid.block(machine), grid.block(machine + 1));
     let most = (least + 1).min(L::GREATEST);
-    let left = grid.bound_raised(lanes, from, to, raise, most, limit + 1);
+    let left = grid.bound_raised(lanes, from, to, raise.from, raise.to, most, limit + 1);
     least.max(left.saturating_sub(1))
 }

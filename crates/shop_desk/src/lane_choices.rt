@@ -3,13 +3,13 @@ ghost use Rattle.std.specs.Prelude.{◌≡◌, ◌+◌, ◌≤◌, ◌<◌, leng
 ghost use Rattle.shop_lanes.specs.Rows.{AreBlocks};
 ghost use Rattle.shop_desk.specs.inner.LaneChoices.{AreInConflict, AreNextPlaced, CanChoose};
 ghost use Rattle.shop_desk.specs.inner.LaneChoices.{IsNextBelow};
-ghost use Rattle.shop_desk.specs.inner.LaneStates.{rows_of};
+ghost use Rattle.shop_layout.specs.Lanes.{rows_of};
 ghost use Rattle.shop_desk.specs.inner.Raises.{HasBlocks, IsInBlocks, IsOnMachine};
 ghost use Rattle.shop_desk.specs.inner.RisingLists.{HasGathered};
 
-use crate::grid::Grid;
 use crate::job_sets::JobSet;
 use shop_lanes::StateLanes;
+use shop_layout::Grid;
 
 /// Puts each job into the set whose next operation waits in these blocks, at most eight, with a head below the limit.
 #[inline(always)]

@@ -2,10 +2,10 @@
 ghost use Rattle.std.specs.Prelude.{◌≡◌, ◌<◌, length};
 ghost use Rattle.shop_lanes.specs.Rows.{with_end};
 ghost use Rattle.shop_desk.specs.inner.LaneEnds.{AreEndsOf, CanKeepEnds, HasEnds, end_at};
-ghost use Rattle.shop_desk.specs.inner.LaneStates.{rows_of};
+ghost use Rattle.shop_layout.specs.Lanes.{rows_of};
 
-use crate::grid::Grid;
 use shop_lanes::StateLanes;
+use shop_layout::Grid;
 
 /// One more than when the next operation of a job can end from its head on, or the greatest number where the job has no
 /// step left.

@@ -2,8 +2,8 @@
 ghost use Rattle.std.specs.Prelude.{◌≡◌};
 ghost use Rattle.shop_desk.specs.inner.Advances.{CanForesee, foreseen};
 
-use crate::grid::Grid;
 use shop_lanes::StateLanes;
+use shop_layout::Grid;
 
 /// The greatest of a number, of the end of the operation at a position, and of what else waits on its machine, from that
 /// end on.

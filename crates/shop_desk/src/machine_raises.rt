@@ -2,14 +2,13 @@
 ghost use Rattle.std.specs.Prelude.{◌≡◌, ℕ, ◌+◌, ◌*◌, ◌≤◌, ◌<◌, ◌^◌, IfOk, length, slice_set};
 ghost use Rattle.shop_lanes.specs.Spans.{spans_between};
 ghost use Rattle.shop_desk.specs.inner.HeadRaises.{raise_of, widened};
-ghost use Rattle.shop_desk.specs.inner.LaneBounds.{lanes_on};
-ghost use Rattle.shop_desk.specs.inner.LaneStates.{rows_of};
+ghost use Rattle.shop_layout.specs.Lanes.{lanes_on, rows_of};
 ghost use Rattle.shop_desk.specs.inner.MachineRaises.{AreEmpty, AreListed, AreRaisesFit};
 
-use crate::grid::Grid;
 use crate::head_raises::{NO_RAISE, Raise};
 use crate::lane_bounds::bound_by_raise;
 use shop_lanes::StateLanes;
+use shop_layout::Grid;
 use std::alloc::{AllocError, Global};
 use std::marker::Model;
 use std::mem;

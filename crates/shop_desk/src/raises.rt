@@ -1,13 +1,13 @@
 // Heads by position are raised once an operation is placed.
 ghost use Rattle.std.specs.Prelude.{◌≡◌, ◌+◌, ◌*◌, ◌≤◌, ◌<◌, ◌^◌, [], length, slice_index};
-ghost use Rattle.shop_desk.specs.inner.LaneStates.{rows_of};
+ghost use Rattle.shop_layout.specs.Lanes.{rows_of};
 ghost use Rattle.shop_desk.specs.inner.Raises.{HasBlocks, IsInBlocks, IsPosition, IsRaisable};
 ghost use Rattle.shop_desk.specs.inner.Raises.{IsOnMachine, Raises, SetsEndAt};
 ghost use Rattle.shop_desk.specs.inner.Watchers.{AreKnown, Sees};
 
-use crate::grid::Grid;
 use crate::machine_raises::MachineRaises;
 use shop_lanes::StateLanes;
+use shop_layout::Grid;
 
 /// Raises the head of what waits at a position to `end`, and those of its route behind it that are too small then, which
 /// are seen.

@@ -4,15 +4,16 @@ ghost use Rattle.shop_model.specs.Shop.{Shop};
 ghost use Rattle.shop_model.specs.Word.{IsWord};
 ghost use Rattle.shop_heads.specs.Bound.{lb};
 ghost use Rattle.shop_desk.specs.inner.Advances.{HasSameRoom};
-ghost use Rattle.shop_desk.specs.inner.LaneStates.{IsKeptInLanes, rows_of};
+ghost use Rattle.shop_desk.specs.inner.LaneStates.{IsKeptInLanes};
+ghost use Rattle.shop_layout.specs.Lanes.{rows_of};
 ghost use Rattle.shop_desk.specs.inner.MachineRaises.{AreEmpty};
 ghost use Rattle.shop_desk.specs.inner.Steps.{CanStep};
 
 use crate::advances::advance_below;
-use crate::grid::Grid;
 use crate::look_aheads::foresee;
 use crate::machine_raises::MachineRaises;
 use shop_lanes::StateLanes;
+use shop_layout::Grid;
 
 /// No bound of a word within the limits reaches this.
 pub(crate) const BOUNDS: u64 = 1 << 50;

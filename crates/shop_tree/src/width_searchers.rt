@@ -4,7 +4,7 @@ ghost use Rattle.shop_nodes.specs.Nodes.{AreNodes};
 ghost use Rattle.shop_nodes.specs.Sheets.{IsSheetOf, KeepsTables};
 
 use crate::walkers::Walker;
-use shop_desk::{Dispatcher, Dispatching};
+use shop_desk::{Dispatching, LaidOut};
 use shop_lanes::{NarrowLanes, PlainLanes, WideLanes};
 use shop_model::Instance;
 use shop_nodes::{Piece, Sheet};
@@ -78,7 +78,7 @@ impl<'l, 'a, D: Dispatching> WidthSearcher<'l, 'a, D> {
 /// A searcher in lanes of 16, 32 or 64 bits.
 #[derive(Drop)]
 pub(crate) enum Widths<'l, 'a> {
-    Narrow(WidthSearcher<'l, 'a, Dispatcher<'a, NarrowLanes>>),
-    Wide(WidthSearcher<'l, 'a, Dispatcher<'a, WideLanes>>),
-    Plain(WidthSearcher<'l, 'a, Dispatcher<'a, PlainLanes>>),
+    Narrow(WidthSearcher<'l, 'a, LaidOut<'a, NarrowLanes>>),
+    Wide(WidthSearcher<'l, 'a, LaidOut<'a, WideLanes>>),
+    Plain(WidthSearcher<'l, 'a, LaidOut<'a, PlainLanes>>),
 }

@@ -14,9 +14,9 @@ use Rattle.shop_model.specs.Shop.{Shop}
 use Rattle.shop_model.specs.Word.{IsWord}
 use Rattle.shop_heads.specs.Conflicts.{conflict}
 use Rattle.shop_desk.specs.inner.ChildBounds.{IsLeastAfter}
-use Rattle.shop_desk.specs.inner.LaneBounds.{lanes_on}
-use Rattle.shop_desk.specs.inner.LaneStates.{IsKeptInLanes, rows_of}
-use Rattle.shop_desk.specs.inner.Layouts.{LayoutState}
+use Rattle.shop_layout.specs.Lanes.{lanes_on, rows_of}
+use Rattle.shop_desk.specs.inner.LaneStates.{IsKeptInLanes}
+use Rattle.shop_layout.specs.Positions.{LayoutState}
 
 -- `least` for the operation at a position
 abbrev pub IsLeastAt : Shop → List ℕ → LayoutState → Rows → ℕ → ℕ → ℕ → Type 0

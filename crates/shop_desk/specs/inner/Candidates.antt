@@ -8,8 +8,8 @@
 --     AreCandidatesOf shop w l cs    the conflict set, each of it a candidate, and the bound after it
 --                                    is at least its own
 --     CanGather greatest l ..        they are kept for some word
-use Rattle.std.specs.Prelude.{◌≡◌, ℕ, ◌+◌, ◌-◌, ◌≤◌, ◌<◌, max, List, [], ◌∷◌, ◌++◌, All, length, map}
-use Rattle.std.specs.Prelude.{slice_index}
+use Rattle.std.specs.Prelude.{◌≡◌, ℕ, ◌+◌, ◌-◌, ◌≤◌, ◌<◌, max, List, [], ◌∷◌, ◌++◌, All, length}
+use Rattle.std.specs.Prelude.{map, slice_index}
 use Rattle.shop_lanes.specs.Rows.{Rows}
 use Rattle.shop_lanes.specs.Spans.{own_span}
 use Rattle.shop_model.specs.Shop.{Shop}
@@ -18,7 +18,7 @@ use Rattle.shop_heads.specs.Bound.{lb}
 use Rattle.shop_heads.specs.Conflicts.{conflict}
 use Rattle.shop_desk.specs.inner.LaneHeads.{AreHeadsAt}
 use Rattle.shop_desk.specs.inner.LaneStates.{IsKeptInLanes}
-use Rattle.shop_desk.specs.inner.Layouts.{LayoutState, place}
+use Rattle.shop_layout.specs.Positions.{LayoutState, place}
 use Rattle.shop_desk.specs.declared.dispatching.Candidate.{Candidate}
 
 abbrev pub own_at : LayoutState → List ℕ → ℕ → ℕ

@@ -11,21 +11,16 @@ use Rattle.shop_model.specs.Word.{Placing}
 use Rattle.shop_heads.specs.Heads.{head_of}
 use Rattle.shop_model.specs.Placements.{PlacementState, IsPlacement}
 use Rattle.shop_desk.specs.inner.LaneHeads.{AreHeadsAt, AreHeadsFit}
-use Rattle.shop_desk.specs.inner.Layings.{place_or}
-use Rattle.shop_desk.specs.inner.Layouts.{LayoutState, place, first_position, IsLaidOut}
+use Rattle.shop_layout.specs.Positions.{IsFree, place_or, LayoutState, place, first_position, IsLaidOut}
 
 pub record IsStored (shop : Shop) (p : Placing) (l : LayoutState) (heads : List ℕ)
     (j k : ℕ) : Type 0 where
   pub waiting : p.steps j ≤ k → slice_index heads (place l j k) ≡ head_of shop p j k + 1
   pub placed : k < p.steps j → slice_index heads (place l j k) ≡ 0
 
--- no operation stands there
-abbrev pub IsPositionFree : Shop → LayoutState → ℕ → Type 0
-IsPositionFree shop l q = (j k : ℕ) → IsOperation shop j k → place l j k ≡ q → ⊥
-
 -- where no operation stands nothing waits
 abbrev pub IsRested : Shop → LayoutState → List ℕ → Type 0
-IsRested shop l heads = (q : ℕ) → IsPositionFree shop l q → slice_index heads q ≡ 0
+IsRested shop l heads = (q : ℕ) → IsFree shop l q → slice_index heads q ≡ 0
 
 pub record CanFill (greatest : ℕ) (shop : Shop) (l : LayoutState) (rows : Rows) : Type 0 where
   pub limits : IsWithinLimits shop

@@ -15,8 +15,7 @@ use Rattle.shop_model.specs.Shop.{Shop, route_of, IsOperation}
 use Rattle.shop_model.specs.Word.{Placing}
 use Rattle.shop_heads.specs.Conflicts.{next_end, open_jobs, conflict_among}
 use Rattle.shop_desk.specs.inner.LaneHeads.{AreHeadsAt}
-use Rattle.shop_desk.specs.inner.Layings.{place_or}
-use Rattle.shop_desk.specs.inner.Layouts.{LayoutState, IsLaidOut, first_position}
+use Rattle.shop_layout.specs.Positions.{place_or, LayoutState, IsLaidOut, first_position}
 
 pub record AreNextsOf (shop : Shop) (p : Placing) (l : LayoutState)
     (nexts : List ℕ) : Type 0 where

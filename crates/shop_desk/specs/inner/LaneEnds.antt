@@ -5,12 +5,11 @@
 --     AreEndsOf greatest nexts rows      the ends are these
 --     CanKeepEnds greatest l nexts rows  they can be set
 --     HasEnds old new                    the ends alone differ
-use Rattle.std.specs.Prelude.{◌≡◌, ℕ, ◌+◌, ◌≤◌, ◌<◌, ◌^◌, List}
-use Rattle.std.specs.Prelude.{length, slice_index}
-use Rattle.std.specs.Prelude.{if◌then◌else◌, nat_lt}
+use Rattle.std.specs.Prelude.{◌≡◌, ℕ, ◌+◌, ◌≤◌, ◌<◌, ◌^◌, List, length, slice_index, if◌then◌else◌}
+use Rattle.std.specs.Prelude.{nat_lt}
 use Rattle.shop_lanes.specs.Rows.{Rows}
 use Rattle.shop_desk.specs.inner.LaneChoices.{AreNextPlaced}
-use Rattle.shop_desk.specs.inner.Layouts.{LayoutState}
+use Rattle.shop_layout.specs.Positions.{LayoutState}
 
 abbrev pub end_at : ℕ → List ℕ → Rows → ℕ → ℕ
 end_at greatest nexts rows j =

@@ -1,5 +1,4 @@
 -- What is kept of a word in lanes.
---     rows_of l heads ends           heads and ends of a state, with the times and tails of the layout
 --     AreHeadsInLanes greatest shop w ..   the heads of what the word leaves, one number a position
 --     IsKeptInLanes greatest shop w ..     these, its next operations and their ends, and that a sole
 --                                          candidate keeps its bound
@@ -11,15 +10,12 @@ use Rattle.shop_model.specs.Limits.{IsWithinLimits}
 use Rattle.shop_model.specs.Shop.{Shop}
 use Rattle.shop_model.specs.Word.{IsWord, placing}
 use Rattle.shop_heads.specs.Conflicts.{SoleCandidateKeepsBound}
-use Rattle.shop_desk.specs.inner.HeadLimits.{FitsLanes}
+use Rattle.shop_layout.specs.HeadLimits.{FitsLanes}
 use Rattle.shop_desk.specs.inner.LaneChoices.{AreEndsAt, AreNextsOf}
 use Rattle.shop_desk.specs.inner.LaneEnds.{IsEndOf, end_at}
 use Rattle.shop_desk.specs.inner.LaneHeads.{AreHeadsAt, AreHeadsFit}
-use Rattle.shop_desk.specs.inner.Layouts.{LayoutState, IsLaidOut, first_position, place}
+use Rattle.shop_layout.specs.Positions.{LayoutState, IsLaidOut, first_position, place}
 use Rattle.shop_desk.specs.inner.Raises.{AreFirst}
-
-abbrev pub rows_of : LayoutState → List ℕ → List ℕ → Rows
-rows_of l heads ends = record { heads = heads; times = l.times; tails = l.tails; ends = ends }
 
 pub record AreHeadsInLanes (greatest : ℕ) (shop : Shop) (w : List ℕ) (l : LayoutState)
     (rows : Rows) : Type 0 where

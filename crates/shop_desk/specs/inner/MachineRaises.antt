@@ -8,8 +8,8 @@ use Rattle.std.specs.Prelude.{slice_index}
 use Rattle.shop_lanes.specs.Rows.{Rows, Lane, AreBlocks}
 use Rattle.shop_lanes.specs.Spans.{spans_between, FitsSpan}
 use Rattle.shop_desk.specs.inner.HeadRaises.{raise_of}
-use Rattle.shop_desk.specs.inner.LaneBounds.{lanes_on}
-use Rattle.shop_desk.specs.inner.Layouts.{LayoutState}
+use Rattle.shop_layout.specs.Lanes.{lanes_on}
+use Rattle.shop_layout.specs.Positions.{LayoutState}
 use Rattle.shop_desk.specs.declared.head_raises.Raise.{Raise}
 
 abbrev pub AreEmpty : List Raise → Type 0

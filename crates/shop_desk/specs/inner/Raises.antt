@@ -9,8 +9,7 @@
 use Rattle.std.specs.Prelude.{◌≡◌, ℕ, ◌+◌, ◌*◌, ◌≤◌, ◌<◌, ◌^◌, List, [], length, slice_index}
 use Rattle.std.specs.Prelude.{slice_index_or}
 use Rattle.shop_lanes.specs.Rows.{Rows}
-use Rattle.shop_desk.specs.inner.Layings.{place_or}
-use Rattle.shop_desk.specs.inner.Layouts.{LayoutState, place}
+use Rattle.shop_layout.specs.Positions.{place_or, LayoutState, place}
 use Rattle.shop_desk.specs.inner.LaneEnds.{IsEndOf}
 
 abbrev pub steps_of : LayoutState → ℕ → ℕ

@@ -7,7 +7,7 @@ use Rattle.shop_model.specs.Shop.{Shop}
 use Rattle.shop_model.specs.Word.{IsWord}
 use Rattle.shop_heads.specs.Bound.{lb}
 use Rattle.shop_desk.specs.inner.LaneStates.{IsKeptInLanes}
-use Rattle.shop_desk.specs.inner.Layouts.{LayoutState}
+use Rattle.shop_layout.specs.Positions.{LayoutState}
 
 pub record CanStep (greatest : ℕ) (l : LayoutState) (rows : Rows) (nexts : List ℕ)
     (job bound machines : ℕ) : Type 0 where

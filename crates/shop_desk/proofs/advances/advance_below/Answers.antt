@@ -1,11 +1,11 @@
-use Rattle.std.proofs.Common.{◌≡◌, ℕ, ◌+◌, ◌∙◌, List, get_or, set, length, ap, sym, subst, refl, arith}
-use Rattle.shop_desk.specs.inner.LaneStates.{rows_of}
+use Rattle.std.proofs.Common.{◌≡◌, ℕ, ◌+◌, ◌∙◌, List, get_or, set, length, ap, sym, subst, refl}
+use Rattle.std.proofs.Common.{arith}
+use Rattle.shop_layout.specs.Lanes.{rows_of}
 use Rattle.shop_desk.specs.inner.Raises.{HasBlocks, IsOnMachine, IsRaisable, Raises}
 use Rattle.shop_desk.specs.inner.Watchers.{Sees}
 use Rattle.shop_desk.proofs.RaiseSteps.{put_is}
-use Rattle.shop_desk.proofs.Trials.{its_end, its_job}
-use Rattle.shop_desk.proofs.Trials.{trial_blocks, trial_bound, trial_keep, trial_kept, trial_raisable}
-use Rattle.shop_desk.proofs.Trials.{same_machines, trial_raises_fit}
+use Rattle.shop_desk.proofs.Trials.{its_end, its_job, trial_blocks, trial_bound, trial_keep}
+use Rattle.shop_desk.proofs.Trials.{trial_kept, trial_raisable, same_machines, trial_raises_fit}
 use Rattle.shop_desk.proofs.advances.advance_below.Goals as goal
 
 pub offset_bounds-next-job : goal.offset_bounds-next-job

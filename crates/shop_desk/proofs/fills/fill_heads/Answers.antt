@@ -1,5 +1,5 @@
 use Rattle.std.proofs.Common.{arith}
-use Rattle.shop_desk.specs.inner.LaneStates.{rows_of}
+use Rattle.shop_layout.specs.Lanes.{rows_of}
 use Rattle.shop_desk.proofs.FillTurns.{jobs_can, jobs_more, jobs_all}
 use Rattle.shop_desk.proofs.fills.fill_heads.Goals as goal
 

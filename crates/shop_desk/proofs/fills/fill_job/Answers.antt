@@ -1,8 +1,9 @@
 use Rattle.std.proofs.Common.{◌≡◌, ℕ, ◌+◌, max, get_or, refl, subst}
 use Rattle.shop_model.specs.Shop.{no_op}
-use Rattle.shop_desk.specs.inner.LaneStates.{rows_of}
+use Rattle.shop_layout.specs.Lanes.{rows_of}
 use Rattle.shop_desk.proofs.RaiseSteps.{put_is}
-use Rattle.shop_desk.proofs.FillTurns.{position_known, filled_placed, open_fits, filled_open, places_read, step_read}
+use Rattle.shop_desk.proofs.FillTurns.{position_known, filled_placed, open_fits, filled_open}
+use Rattle.shop_desk.proofs.FillTurns.{places_read, step_read}
 use Rattle.shop_desk.proofs.fills.fill_job.Goals as goal
 
 pub set_head-requires-clause-in_range : goal.set_head-requires-clause-in_range

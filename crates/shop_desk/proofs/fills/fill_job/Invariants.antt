@@ -1,4 +1,4 @@
-use Rattle.shop_desk.specs.inner.LaneStates.{rows_of}
+use Rattle.shop_layout.specs.Lanes.{rows_of}
 use Rattle.shop_desk.proofs.FillTurns.{IsFilledUpTo}
 use Rattle.shop_desk.proofs.fills.fill_job.Given as goal
 

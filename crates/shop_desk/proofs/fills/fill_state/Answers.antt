@@ -1,4 +1,4 @@
-use Rattle.shop_desk.specs.inner.LaneStates.{rows_of}
+use Rattle.shop_layout.specs.Lanes.{rows_of}
 use Rattle.shop_desk.proofs.FilledStates.{can_fill, filled_keep, filled_kept, times_long}
 use Rattle.shop_desk.proofs.fills.fill_state.Goals as goal
 

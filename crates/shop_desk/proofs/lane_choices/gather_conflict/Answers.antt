@@ -1,12 +1,13 @@
-use Rattle.std.proofs.Common.{◌≡◌, ℕ, ◌<◌, inl, inr, List, true, length, get_or, ◌∙◌, ap, sym, subst, arith}
+use Rattle.std.proofs.Common.{◌≡◌, ℕ, ◌<◌, inl, inr, List, true, length, get_or, ◌∙◌, ap, sym}
+use Rattle.std.proofs.Common.{subst, arith}
 use Rattle.shop_model.specs.Limits.{IsWithinLimits}
 use Rattle.shop_model.specs.Shop.{Shop}
-use Rattle.shop_desk.specs.inner.LaneStates.{rows_of}
+use Rattle.shop_layout.specs.Lanes.{rows_of}
 use Rattle.shop_desk.specs.inner.Raises.{HasBlocks}
 use Rattle.shop_desk.specs.inner.JobSets.{HasPutIf}
 use Rattle.shop_desk.specs.inner.RisingLists.{IsIn}
-use Rattle.shop_desk.proofs.LaneConflicts.{next_placed, chosen_at, chosen_job, none_open}
-use Rattle.shop_desk.proofs.LaneConflicts.{is_conflict}
+use Rattle.shop_desk.proofs.LaneConflicts.{chosen_at, chosen_job, is_conflict, none_open}
+use Rattle.shop_desk.proofs.NextOperations.{next_placed}
 use Rattle.shop_desk.proofs.lane_choices.gather_conflict.Goals as goal
 
 -- the machine that is read

@@ -1,9 +1,8 @@
 use Rattle.std.proofs.Common.{◌≡◌, ℕ, nat_eq, get_or, refl, sym, ◌∙◌, ap, subst, arith}
 use Rattle.std.proofs.lemmas.Bool.{eqb-true, eq-eqb, true≢false}
-use Rattle.shop_desk.specs.inner.LaneStates.{rows_of}
+use Rattle.shop_layout.specs.Lanes.{rows_of}
 use Rattle.shop_desk.specs.inner.JobSets.{HasPutIf}
-use Rattle.shop_desk.proofs.LaneChoices.{gathering_begins, gathering_on}
-use Rattle.shop_desk.proofs.LaneChoices.{position_known, job_known}
+use Rattle.shop_desk.proofs.LaneChoices.{gathering_begins, gathering_on, position_known, job_known}
 use Rattle.shop_desk.proofs.lane_choices.gather_in_blocks.Goals as goal
 
 pub loop-position-init : goal.loop-position-init

@@ -1,6 +1,6 @@
 use Rattle.std.proofs.Common.{ℕ, ◌<◌}
 use Rattle.shop_desk.specs.inner.LaneEnds.{HasEnds, IsEndOf}
-use Rattle.shop_desk.specs.inner.LaneStates.{rows_of}
+use Rattle.shop_layout.specs.Lanes.{rows_of}
 use Rattle.shop_desk.proofs.lane_ends.set_ends.Given as goal
 
 abbrev pub invariant-loop-job : goal.invariant-loop-job

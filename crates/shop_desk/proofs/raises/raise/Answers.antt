@@ -1,5 +1,5 @@
 use Rattle.std.proofs.Common.{ℕ, ◌+◌, ◌∙◌, get_or, refl, subst, sym, arith}
-use Rattle.shop_desk.specs.inner.LaneStates.{rows_of}
+use Rattle.shop_layout.specs.Lanes.{rows_of}
 use Rattle.shop_desk.specs.inner.Raises.{Raises, IsInBlocks, IsOnMachine}
 use Rattle.shop_desk.proofs.RaiseLoops.{blocks_raisable, more_blocks, no_blocks, all_blocks}
 use Rattle.shop_desk.proofs.Watching.{sees_both, sees_none}

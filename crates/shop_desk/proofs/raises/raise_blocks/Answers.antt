@@ -1,9 +1,8 @@
 use Rattle.std.proofs.Common.{◌∙◌, refl, subst, sym, arith}
-use Rattle.shop_desk.specs.inner.LaneStates.{rows_of}
+use Rattle.shop_layout.specs.Lanes.{rows_of}
 use Rattle.shop_desk.specs.inner.Raises.{IsInBlocks, IsPosition}
-use Rattle.shop_desk.proofs.RaiseLoops.{blocks_begin, popped_here, popped_within, popped_waits, popped_raisable}
-use Rattle.shop_desk.proofs.RaiseLoops.{blocks_on}
-use Rattle.shop_desk.proofs.RaiseLoops.{blocks_past, blocks_end}
+use Rattle.shop_desk.proofs.RaiseLoops.{blocks_begin, popped_here, popped_within, popped_waits}
+use Rattle.shop_desk.proofs.RaiseLoops.{popped_raisable, blocks_on, blocks_past, blocks_end}
 use Rattle.shop_desk.proofs.Watching.{sees_both, sees_long, sees_none}
 use Rattle.shop_desk.proofs.raises.raise_blocks.Goals as goal
 

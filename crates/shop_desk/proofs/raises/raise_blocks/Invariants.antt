@@ -1,5 +1,5 @@
 use Rattle.std.proofs.Common.{◌≡◌, length}
-use Rattle.shop_desk.specs.inner.LaneStates.{rows_of}
+use Rattle.shop_layout.specs.Lanes.{rows_of}
 use Rattle.shop_desk.specs.inner.Raises.{IsInBlocks}
 use Rattle.shop_desk.specs.inner.Watchers.{Sees}
 use Rattle.shop_desk.proofs.RaiseLoops.{AreBlocksRaised}

@@ -1,7 +1,7 @@
 use Rattle.std.proofs.Common.{ℕ, ◌+◌, List, ap, get_or, refl, arith, []}
-use Rattle.shop_desk.specs.inner.LaneStates.{rows_of}
-use Rattle.shop_desk.proofs.RaiseSteps.{begun_following, followed, following_fits}
-use Rattle.shop_desk.proofs.RaiseSteps.{following_less, put_is}
+use Rattle.shop_layout.specs.Lanes.{rows_of}
+use Rattle.shop_desk.proofs.RaiseSteps.{begun_following, followed, following_fits, following_less}
+use Rattle.shop_desk.proofs.RaiseSteps.{put_is}
 use Rattle.shop_desk.proofs.RaisedEnds.{raised_within}
 use Rattle.shop_desk.proofs.Watching.{sees_first, sees_long, sees_next}
 use Rattle.shop_desk.proofs.raises.raise_route.Goals as goal

@@ -2,7 +2,8 @@ use Rattle.std.proofs.Common.{ℕ, [], ◌∷◌, ◌++◌, ◌^◌, get_or, ref
 use Rattle.std.specs.Option.{OnSome}
 use Rattle.std.specs.Prelude.{Option}
 use Rattle.shop_heads.specs.Bound.{lb}
-use Rattle.shop_desk.specs.inner.LaneStates.{IsKeptInLanes, rows_of}
+use Rattle.shop_desk.specs.inner.LaneStates.{IsKeptInLanes}
+use Rattle.shop_layout.specs.Lanes.{rows_of}
 use Rattle.shop_desk.proofs.AnySteps.{same_kept, some_told, told_bound}
 use Rattle.shop_desk.proofs.Candidates.{advancing, can_foresee, job_known}
 use Rattle.shop_desk.proofs.steps.step.Goals as goal

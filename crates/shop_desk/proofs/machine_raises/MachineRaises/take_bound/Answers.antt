@@ -1,10 +1,10 @@
-use Rattle.std.proofs.Common.{◌≡◌, ℕ, ◌+◌, ◌-◌, ◌≤◌, ◌<◌, ◌∙◌, List, length, get_or, arith, ap, sym, subst}
+use Rattle.std.proofs.Common.{◌≡◌, ℕ, ◌+◌, ◌-◌, ◌≤◌, ◌<◌, ◌∙◌, List, length, get_or, arith, ap, sym}
+use Rattle.std.proofs.Common.{subst}
 use Rattle.std.proofs.lemmas.List.{get_or_default}
 use Rattle.shop_lanes.specs.Rows.{Lane}
 use Rattle.shop_lanes.specs.Spans.{spans_between}
-use Rattle.shop_desk.specs.inner.LaneStates.{rows_of}
+use Rattle.shop_layout.specs.Lanes.{rows_of, lanes_on}
 use Rattle.shop_desk.specs.inner.HeadRaises.{no_raise, raise_of}
-use Rattle.shop_desk.specs.inner.LaneBounds.{lanes_on}
 use Rattle.shop_desk.specs.inner.MachineRaises.{AreListed, AreRaisesFit, IsBoundByRaise}
 use Rattle.shop_desk.specs.declared.head_raises.Raise.{Raise}
 use Rattle.shop_desk.proofs.RaisedMachines.{IsTakenSo, room_left, taken_all, taken_more, taken_none}

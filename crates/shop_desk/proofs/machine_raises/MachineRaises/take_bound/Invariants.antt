@@ -1,5 +1,4 @@
-use Rattle.shop_desk.specs.inner.LaneStates.{rows_of}
-use Rattle.shop_desk.specs.inner.LaneBounds.{lanes_on}
+use Rattle.shop_layout.specs.Lanes.{rows_of, lanes_on}
 use Rattle.shop_desk.proofs.RaisedMachines.{IsTakenSo}
 use Rattle.shop_desk.proofs.machine_raises.MachineRaises.take_bound.Given as goal
 

@@ -1,6 +1,0 @@
-use Rattle.std.proofs.Common.{map}
-use Rattle.shop_desk.proofs.SlotLists.{IsSortedUpTo}
-use Rattle.shop_desk.proofs.slots.machine_slots.Given as goal
-
-abbrev pub invariant-loop-m : goal.invariant-loop-m
-invariant-loop-m l = IsSortedUpTo l.instance l.m (map (λ slots. slots.items) l.lists.items)

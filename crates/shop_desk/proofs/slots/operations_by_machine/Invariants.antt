@@ -1,6 +1,0 @@
-use Rattle.std.proofs.Common.{map}
-use Rattle.shop_desk.proofs.SlotLists.{HasJobs}
-use Rattle.shop_desk.proofs.slots.operations_by_machine.Given as goal
-
-abbrev pub invariant-loop-j : goal.invariant-loop-j
-invariant-loop-j l = HasJobs l.instance l.j (map (λ slots. slots.items) l.lists.items)

@@ -1,0 +1,137 @@
+-- Where the operations of an instance stand by position.
+use Rattle.std.proofs.Common.{◌≡◌, ℕ, zero, suc, ◌+◌, ◌-◌, ◌≤◌, ◌<◌, ◌⊎◌, inl, inr, [], length}
+use Rattle.std.proofs.Common.{get_or, refl, sym, ◌∙◌, ap, subst, arith}
+use Rattle.std.proofs.lemmas.Bool.{cases_eq, cases_lt}
+use Rattle.shop_model.specs.Limits.{IsWithinLimits}
+use Rattle.shop_model.specs.Shop.{Shop, IsOperation, route_of, machine_of, time_of}
+use Rattle.shop_model.proofs.Ends.{IsOperation-job}
+use Rattle.shop_heads.specs.Heads.{tail_of}
+use Rattle.shop_layout.specs.Slots.{slot_at}
+use Rattle.shop_layout.specs.Positions.{IsFree, LayoutState, place, first_position, IsAt, IsLaidOut}
+use Rattle.shop_layout.specs.Positions.{IsPadding}
+use Rattle.shop_layout.proofs.SlotFacts.{slots_are_all, slots_are_operations}
+
+pub record IsPlaceOf (shop : Shop) (l : LayoutState) (j k : ℕ) : Type 0 where
+  pub job : get_or l.jobs (place l j k) 0 ≡ j
+  pub step : get_or l.steps (place l j k) 0 ≡ k
+  pub time : get_or l.times (place l j k) 0 ≡ time_of shop j k
+  pub tail : get_or l.tails (place l j k) 0 ≡ tail_of shop j k
+  pub from : first_position l (machine_of shop j k) ≤ place l j k
+  pub to : place l j k < first_position l (machine_of shop j k + 1)
+  pub within : place l j k < first_position l shop.machines
+
+-- an operation of the instance stands at position q, or none does
+pub record IsOperationAt (shop : Shop) (l : LayoutState) (q : ℕ) : Type 0 where
+  pub job : ℕ
+  pub step : ℕ
+  pub is : IsOperation shop job step
+  pub at : place l job step ≡ q
+
+module _ (shop : Shop) (limits : IsWithinLimits shop) (l : LayoutState) (laid : IsLaidOut shop l) where
+  -- machines stand one after another
+  pub later_machine : (d m k : ℕ) → m + d ≡ k → k ≤ shop.machines → first_position l m ≤ first_position l k
+  later_machine zero m k e known =
+      let same : first_position l m ≡ first_position l k = ap (first_position l) (let f = e in omega arith) in omega
+      arith
+  later_machine (suc d) m k e known =
+      let before = later_machine d m (m + d) refl (omega arith)
+      in let room = (laid.each (m + d) (omega arith)).room
+      in let same : first_position l k ≡ first_position l (m + d + 1) = ap (first_position l) (omega arith)
+      in omega arith
+
+  pub machines_rise : (m k : ℕ) → m ≤ k → k ≤ shop.machines → first_position l m ≤ first_position l k
+  machines_rise m k le known = later_machine (k - m) m k (omega arith) known
+
+  pub place_of : (j k : ℕ) → IsOperation shop j k → IsPlaceOf shop l j k
+  place_of j k op =
+      let m = machine_of shop j k
+      in let known = limits.on_machines j k
+      in let slots = get_or laid.slots m []
+      in let slot = slot_at (route_of shop j) j k
+      in let found = slots_are_all shop m slots (laid.are.slots m known) j k (IsOperation-job shop j k op) op refl
+      in let i = found.0
+      in let is : get_or slots i slot ≡ slot = found.2
+      in let machine = laid.each m known
+      in let here : IsAt l (first_position l m + i) slot =
+      subst (IsAt l (first_position l m + i)) is (machine.at i slot found.1)
+      in let q : first_position l m + i ≡ place l j k = sym here.place
+      in let below = found.1
+      in let room = machine.room
+      in let last = machines_rise (m + 1) shop.machines (omega arith) (omega arith)
+      in record {
+        job = ap (λ (x : ℕ). get_or l.jobs x 0) (sym q) ∙ here.job;
+        step = ap (λ (x : ℕ). get_or l.steps x 0) (sym q) ∙ here.step;
+        time = ap (λ (x : ℕ). get_or l.times x 0) (sym q) ∙ here.time;
+        tail = ap (λ (x : ℕ). get_or l.tails x 0) (sym q) ∙ here.tail;
+        from = omega arith;
+        to = omega arith;
+        within = omega arith;
+      }
+
+  pub each_position : (q : ℕ) → IsOperationAt shop l q ⊎ IsFree shop l q
+  each_position q =
+      let j = get_or l.jobs q 0
+      in let k = get_or l.steps q 0
+      in let same : (i t : ℕ) → IsOperation shop i t → place l i t ≡ q → (j ≡ i) × (k ≡ t) =
+      (λ i t op at. let a = place_of i t op in (
+        ap (λ (x : ℕ). get_or l.jobs x 0) (sym at) ∙ a.job,
+        ap (λ (x : ℕ). get_or l.steps x 0) (sym at) ∙ a.step,
+      ))
+      in elim (cases_lt k (length (route_of shop j))) [
+        | inl op ↦ elim (cases_eq (place l j k) q) [
+          | inl at ↦ inl (record { job = j; step = k; is = op; at = at })
+          | inr ne ↦ inr (λ i t is at. let s = same i t is at
+              in ne (ap (λ (x : ℕ). place l x k) s.0 ∙ (ap (place l i) s.1 ∙ at)))
+        ]
+        | inr none ↦ inr (λ i t is at. let s = same i t is at
+            in let long : length (route_of shop j) ≡ length (route_of shop i) =
+            ap (λ (x : ℕ). length (route_of shop x)) s.0 in let u = s.1 in omega arith)
+      ]
+
+  -- the operations among the positions of a machine are its operations
+  pub on_machine : (m j k : ℕ) → m < shop.machines → IsOperation shop j k → first_position l m ≤ place l j k
+      → place l j k < first_position l (m + 1) → machine_of shop j k ≡ m
+  on_machine m j k known op low high =
+      let a = place_of j k op
+      in let from = a.from in let to = a.to
+      in let its = limits.on_machines j k
+      in elim (cases_lt (machine_of shop j k) m) [
+        | inl below ↦ (let r = machines_rise (machine_of shop j k + 1) m (omega arith) (omega arith)
+            in absurd (omega arith))
+        | inr above ↦ elim (cases_lt m (machine_of shop j k)) [
+          | inl more ↦ (let r = machines_rise (m + 1) (machine_of shop j k) (omega arith) (omega arith)
+              in absurd (omega arith))
+          | inr less ↦ omega arith
+        ]
+      ]
+
+  -- the machine that a position belongs to
+  pub machine_at : (k q : ℕ) → k ≤ shop.machines → q < first_position l k
+      → (m : ℕ) × (m < shop.machines) × (first_position l m ≤ q) × (q < first_position l (m + 1))
+  machine_at zero q known below = absurd (let a = laid.from_0 in omega arith)
+  machine_at (suc k) q known below =
+      let f : first_position l (suc k) ≡ first_position l (k + 1) = ap (first_position l) (omega arith)
+      in elim (cases_lt q (first_position l k)) [
+        | inl low ↦ machine_at k q (omega arith) low
+        | inr high ↦ (k, omega arith, high, omega arith)
+      ]
+
+  -- an operation, or nothing that takes time
+  pub cell_at : (q : ℕ) → q < first_position l shop.machines → IsOperationAt shop l q ⊎ IsPadding l q
+  cell_at q below =
+      let at = machine_at shop.machines q (omega arith) below
+      in let m = at.0
+      in let slots = get_or laid.slots m []
+      in let machine = laid.each m at.1
+      in let low = at.2 in let high = at.3
+      in elim (cases_lt q (first_position l m + length slots)) [
+        | inl within ↦ (
+            let i = q - first_position l m
+            in let e : first_position l m + i ≡ q = omega arith
+            in let d = slot_at [] 0 0
+            in let s = get_or slots i d
+            in let op = slots_are_operations shop m slots (laid.are.slots m at.1) i d (omega arith)
+            in let here = machine.at i d (omega arith)
+            in inl (record { job = s.job; step = s.step; is = op.step; at = here.place ∙ e }))
+        | inr past ↦ inr (machine.padding q past high)
+      ]

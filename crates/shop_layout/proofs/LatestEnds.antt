@@ -1,0 +1,151 @@
+-- No operation ends later than the latest release and all times together.
+use Rattle.std.proofs.Common.{◌≡◌, ℕ, zero, suc, ◌+◌, ◌-◌, ◌≤◌, ◌<◌, inl, inr, List, length, get_or}
+use Rattle.std.proofs.Common.{take, ap, refl, ◌∙◌, arith}
+use Rattle.std.specs.List.{sum_by}
+use Rattle.std.proofs.lemmas.Bool.{cases_eq}
+use Rattle.std.proofs.lemmas.List.{take_more}
+use Rattle.std.proofs.lemmas.List.Sums.{sum_by_push, sum_by-take-le}
+use Rattle.shop_model.specs.declared.ops.Op.{Op}
+use Rattle.shop_model.specs.Shop.{Shop, no_op, route_of, release_of, machine_of, time_of}
+use Rattle.shop_model.specs.Shop.{IsOperation}
+use Rattle.shop_model.specs.Word.{Placing, IsWord, placing, place_next}
+use Rattle.shop_model.proofs.Ends.{IsOperation-job}
+use Rattle.shop_model.proofs.Greatest.{le-greatest_below}
+use Rattle.shop_model.proofs.Placings.{IsNext, place_next-is}
+use Rattle.shop_model.proofs.Unders.{placing-snoc, next_operation, after_word}
+use Rattle.shop_model.proofs.WordLemmas.{snoc_induct, IsWord-init}
+use Rattle.shop_heads.specs.Heads.{head_of, ready_after}
+use Rattle.shop_layout.specs.HeadLimits.{total_before, latest_release, latest_end}
+use Rattle.shop_heads.proofs.HeadTurns.{ready_first, ready_more}
+
+-- the times of the first k steps of job i
+abbrev begun : Shop → ℕ → ℕ → ℕ
+begun shop i k = sum_by (λ o. o.time) (take k (route_of shop i))
+
+begun_more : (shop : Shop) (i k : ℕ) → IsOperation shop i k → begun shop i (k + 1) ≡ begun shop i k + time_of shop i k
+begun_more shop i k op = ap (λ (os : List Op). sum_by (λ o. o.time) os) (take_more (route_of shop i) k no_op op)
+    ∙ sum_by_push (λ (o : Op). o.time) (take k (route_of shop i)) (get_or (route_of shop i) k no_op)
+
+begun-le : (shop : Shop) (i k : ℕ) → begun shop i k ≤ sum_by (λ o. o.time) (route_of shop i)
+begun-le shop i k = sum_by-take-le (λ (o : Op). o.time) (route_of shop i) k
+
+-- the times of all placed steps of the first n jobs
+placed_before : Shop → Placing → ℕ → ℕ
+placed_before shop p zero = 0
+placed_before shop p (suc n) = placed_before shop p n + begun shop n (p.steps n)
+
+module _ (shop : Shop) (p : Placing) (j : ℕ) (q : Placing) (n : IsNext shop p j q) (op : IsOperation shop j (p.steps j))
+  where
+    placed_below : (i : ℕ) → i ≤ j → placed_before shop q i ≡ placed_before shop p i
+    unfolding placed_before
+    placed_below zero h = refl
+    placed_below (suc i) h =
+        let a = placed_below i (omega arith)
+        in let e = ap (begun shop i) (n.steps_other i (λ same. omega arith)) in omega arith
+
+    placed_past : (i : ℕ) → j < i → placed_before shop q i ≡ placed_before shop p i + time_of shop j (p.steps j)
+    unfolding placed_before
+    placed_past zero h = absurd (omega arith)
+    placed_past (suc i) h = elim (cases_eq i j) [
+      | inl e ↦ (let a = placed_below i (omega arith)
+          in let b : begun shop i (q.steps i) ≡ begun shop j (q.steps j) = ap (λ (x : ℕ). begun shop x (q.steps x)) e
+          in let d : begun shop i (p.steps i) ≡ begun shop j (p.steps j) = ap (λ (x : ℕ). begun shop x (p.steps x)) e
+          in let f = ap (begun shop j) n.steps_here
+          in let g = begun_more shop j (p.steps j) op in omega arith)
+      | inr ne ↦ (let a = placed_past i (omega arith)
+          in let b = ap (begun shop i) (n.steps_other i ne) in omega arith)
+    ]
+
+-- what is placed of the first jobs, and the times of further steps of one of them, are no more than all
+placed-le : (shop : Shop) (p : Placing) (n : ℕ) → placed_before shop p n ≤ total_before shop n
+unfolding placed_before
+placed-le shop p zero = omega arith
+placed-le shop p (suc n) = let a = placed-le shop p n in let b = begun-le shop n (p.steps n) in omega arith
+
+placed_and_more : (shop : Shop) (p : Placing) (j k n : ℕ) → j < n
+    → placed_before shop p n + begun shop j k ≤ total_before shop n + begun shop j (p.steps j)
+unfolding placed_before
+placed_and_more shop p j k zero h = absurd (omega arith)
+placed_and_more shop p j k (suc n) h = elim (cases_eq n j) [
+  | inl e ↦ (let a = placed-le shop p n in let b = begun-le shop j k
+      in let d : begun shop n (p.steps n) ≡ begun shop j (p.steps j) = ap (λ (x : ℕ). begun shop x (p.steps x)) e
+      in let f : sum_by (λ (o : Op). o.time) (route_of shop n) ≡ sum_by (λ (o : Op). o.time) (route_of shop j) =
+      ap (λ (x : ℕ). sum_by (λ (o : Op). o.time) (route_of shop x)) e in omega arith)
+  | inr ne ↦ (let a = placed_and_more shop p j k n (omega arith) in let b = begun-le shop n (p.steps n) in omega arith)
+]
+
+-- no job and no machine is ready later than the latest release and the times of what is placed
+record AreInTime (shop : Shop) (p : Placing) : Type 0 where
+  ready : (j : ℕ) → j < length shop.jobs → p.ready j ≤ latest_release shop + placed_before shop p (length shop.jobs)
+  free : (m : ℕ) → p.free m ≤ latest_release shop + placed_before shop p (length shop.jobs)
+
+in_time_next : (shop : Shop) (p : Placing) (j : ℕ) (q : Placing) → IsNext shop p j q → IsOperation shop j (p.steps j)
+    → AreInTime shop p → AreInTime shop q
+in_time_next shop p j q n op t =
+    let job = IsOperation-job shop j (p.steps j) op
+    in let more = placed_past shop p j q n op (length shop.jobs) job
+    in let start = n.begins_here in let r = t.ready j job in let f = t.free (machine_of shop j (p.steps j))
+    in record {
+      ready = λ i known. elim (cases_eq i j) [
+        | inl e ↦ (let a = n.ready_here in let s : q.ready i ≡ q.ready j = ap q.ready e in omega arith)
+        | inr ne ↦ (let a = n.ready_other i ne in let s = t.ready i known in omega arith)
+      ];
+      free = λ m. elim (cases_eq m (machine_of shop j (p.steps j))) [
+        | inl e ↦ (let a = n.free_here m e in omega arith)
+        | inr ne ↦ (let a = n.free_other m ne in let s = t.free m in omega arith)
+      ];
+    }
+
+in_time : (shop : Shop) (w : List ℕ) → IsWord shop w → AreInTime shop (placing shop w)
+in_time shop = snoc_induct (λ w. IsWord shop w → AreInTime shop (placing shop w))
+    (λ _. record {
+      ready = λ j known. (let a = le-greatest_below (release_of shop) (length shop.jobs) j known in omega arith);
+      free = λ m. omega arith;
+    })
+    (λ w j before word. rw placing-snoc
+    (in_time_next shop (placing shop w) j (place_next shop (placing shop w) j) (place_next-is shop (placing shop w) j)
+    (rw (after_word shop w (IsWord-init shop w j word)).steps (next_operation shop w j word))
+    (before (IsWord-init shop w j word))))
+
+begun_rises : (shop : Shop) (i a d k : ℕ) → a + d ≡ k → k ≤ length (route_of shop i) → begun shop i a ≤ begun shop i k
+begun_rises shop i a zero k e within =
+    let f : begun shop i k ≡ begun shop i a = ap (begun shop i) (omega arith) in omega arith
+begun_rises shop i a (suc d) k e within =
+    let l = a + d
+    in let before = begun_rises shop i a d l refl (omega arith)
+    in let more = begun_more shop i l (omega arith)
+    in let f : begun shop i k ≡ begun shop i (l + 1) = ap (begun shop i) (omega arith) in omega arith
+
+module _ (shop : Shop) (p : Placing) (t : AreInTime shop p) (j : ℕ) (job : j < length shop.jobs) where
+  -- a job is ready for a step no later than that and the times of its steps before it
+  ready_in_time : (d k : ℕ) → p.steps j + d ≡ k → k ≤ length (route_of shop j)
+      → ready_after shop p j (k - p.steps j) + begun shop j (p.steps j)
+      ≤ latest_release shop + placed_before shop p (length shop.jobs) + begun shop j k
+  ready_in_time zero k e within =
+      let a = t.ready j job in let b = ready_first shop p j k (omega arith)
+      in let f : begun shop j k ≡ begun shop j (p.steps j) = ap (begun shop j) (omega arith) in omega arith
+  ready_in_time (suc d) k e within =
+      let l = p.steps j + d
+      in let f : k ≡ l + 1 = omega arith
+      in let before = ready_in_time d l refl (omega arith)
+      in let more = ready_more shop p j l (omega arith)
+      in let g : ready_after shop p j (k - p.steps j) ≡ ready_after shop p j (l + 1 - p.steps j) =
+      ap (λ (x : ℕ). ready_after shop p j (x - p.steps j)) f
+      in let h : begun shop j k ≡ begun shop j (l + 1) = ap (begun shop j) f
+      in let times = begun_more shop j l (omega arith)
+      in let free = t.free (machine_of shop j l)
+      in let grow = begun_rises shop j (p.steps j) d l refl (omega arith)
+      in omega arith
+
+pub latest_end_is : (shop : Shop) (w : List ℕ) → IsWord shop w → (j k : ℕ) → IsOperation shop j k
+    → (placing shop w).steps j ≤ k → head_of shop (placing shop w) j k + time_of shop j k ≤ latest_end shop
+latest_end_is shop w word j k op opened =
+    let p = placing shop w
+    in let job = IsOperation-job shop j k op
+    in let t = in_time shop w word
+    in let a = ready_in_time shop p t j job (k - p.steps j) k (omega arith) (omega arith)
+    in let b = begun_more shop j k op
+    in let d = placed_and_more shop p j (k + 1) (length shop.jobs) job
+    in let f = t.free (machine_of shop j k)
+    in let g = begun_rises shop j (p.steps j) (k - p.steps j) k (omega arith) (omega arith)
+    in omega arith

@@ -1,0 +1,13 @@
+pub mod ApartSlots
+pub mod CellLemmas
+pub mod FlatLists
+pub mod LaidLists
+pub mod LaidPlaces
+pub mod LaneLimits
+pub mod LatestEnds
+pub mod MachineLoads
+pub mod NotedPlaces
+pub mod SlotFacts
+pub mod SlotLemmas
+pub mod SlotLists
+pub mod Written

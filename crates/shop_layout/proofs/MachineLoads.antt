@@ -1,0 +1,138 @@
+-- The times of a machine, its greatest tail included, stay small.
+use Rattle.std.proofs.Common.{◌≡◌, ℕ, zero, suc, ◌+◌, ◌-◌, ◌*◌, ◌^◌, ◌≤◌, ◌<◌, inl, inr, List, []}
+use Rattle.std.proofs.Common.{◌∷◌, length, get_or, drop, ◌∙◌, ap, arith}
+use Rattle.std.specs.List.{sum_by}
+use Rattle.std.proofs.lemmas.Bool.{cases_lt}
+use Rattle.std.proofs.lemmas.List.{get_or-take, get_or-drop, get_or_past}
+use Rattle.std.proofs.lemmas.List.Sums.{sum_by-cons, sum_by-take-drop}
+use Rattle.shop_lanes.specs.Rows.{blocks}
+use Rattle.shop_lanes.proofs.LaneLists.{length-blocks}
+use Rattle.shop_model.specs.declared.ops.Op.{Op}
+use Rattle.shop_model.specs.Limits.{IsWithinLimits}
+use Rattle.shop_model.specs.Shop.{Shop, route_of, time_of}
+use Rattle.one_machine.specs.OneMachine.{greatest_of}
+use Rattle.shop_heads.specs.Heads.{tail_in}
+use Rattle.shop_layout.specs.HeadLimits.{total_before, load_on}
+use Rattle.shop_layout.specs.Positions.{LayoutState, IsLaidOut, first_position}
+use Rattle.shop_layout.specs.declared.slots.Slot.{Slot}
+use Rattle.shop_layout.proofs.ApartSlots.{slots_few}
+use Rattle.shop_layout.proofs.LaidPlaces.{machines_rise}
+use Rattle.shop_layout.proofs.SlotFacts.{slots_are_operations}
+use Rattle.shop_heads.proofs.TimeSums.{route_times}
+
+pub total_small : (shop : Shop) → IsWithinLimits shop → (n : ℕ) → total_before shop n ≤ n * 100000000000
+total_small shop limits zero = omega arith
+total_small shop limits (suc n) =
+    let a = total_small shop limits n in let b = route_times shop limits n
+    in let m : suc n * 100000000000 ≡ n * 100000000000 + 100000000000 = omega arith in omega arith
+
+-- a sum of which only the first n numbers are not 0
+sum_front : (b : ℕ) (xs : List ℕ) (n : ℕ) → ((i : ℕ) → get_or xs i 0 ≤ b) → ((i : ℕ) → n ≤ i → get_or xs i 0 ≡ 0)
+    → sum_by (λ t. t) xs ≤ n * b
+sum_front b [] n each rest = omega arith
+sum_front b (x ∷ xs) zero each rest =
+    let a = sum_front b xs zero (λ i. each (suc i)) (λ i h. rest (suc i) (omega arith))
+    in let c = sum_by-cons (λ (t : ℕ). t) x xs in let d = rest 0 (omega arith) in omega arith
+sum_front b (x ∷ xs) (suc n) each rest =
+    let a = sum_front b xs n (λ i. each (suc i)) (λ i h. rest (suc i) (omega arith))
+    in let c = sum_by-cons (λ (t : ℕ). t) x xs in let d = each 0
+    in let m : suc n * b ≡ n * b + b = grind arith in omega arith
+
+greatest_each : (b : ℕ) (xs : List ℕ) → ((i : ℕ) → get_or xs i 0 ≤ b) → greatest_of (λ t. t) xs ≤ b
+greatest_each b [] each = omega arith
+greatest_each b (x ∷ xs) each = let a = greatest_each b xs (λ i. each (suc i)) in let d = each 0 in omega arith
+
+-- what stands at a place of some blocks
+pub block_at : (xs : List ℕ) (from to i : ℕ) → i < 8 * to - 8 * from
+    → get_or (blocks from to xs) i 0 ≡ get_or xs (8 * from + i) 0
+block_at xs from to i here =
+    get_or-take (8 * to - 8 * from) (drop (8 * from) xs) i 0 here ∙ get_or-drop (8 * from) xs i 0
+
+block_past : (xs : List ℕ) (from to i : ℕ) → 8 * to ≤ length xs → 8 * to - 8 * from ≤ i
+    → get_or (blocks from to xs) i 0 ≡ 0
+block_past xs from to i within here =
+    let long = length-blocks from to xs within in get_or_past (blocks from to xs) i 0 (omega arith)
+
+module _ (shop : Shop) (limits : IsWithinLimits shop) (l : LayoutState) (laid : IsLaidOut shop l) where
+  module _ (m : ℕ) (known : m < shop.machines) where
+    within : first_position l (m + 1) ≤ first_position l shop.machines
+    within = machines_rise shop limits l laid (m + 1) shop.machines (omega arith) (omega arith)
+
+    -- its positions are among all
+    pub machine_in : (first_position l m ≤ first_position l (m + 1)) × (first_position l (m + 1) ≤ length l.times)
+        × (first_position l (m + 1) ≤ length l.tails)
+    machine_in = (let a = within in let b = (laid.each m known).room in let c = laid.positions.times
+        in let d = laid.positions.tails in (omega arith, omega arith, omega arith))
+
+    slots : List Slot
+    slots = get_or laid.slots m []
+
+    -- the times and tails of a machine are small, and 0 behind its operations
+    time_small : (i : ℕ) → get_or (blocks (get_or l.blocks m 0) (get_or l.blocks (m + 1) 0) l.times) i 0 ≤ 1000000000
+    unfolding slots
+    time_small i =
+        let all = within in let long = laid.positions.times
+        in elim (cases_lt i (first_position l (m + 1) - first_position l m)) [
+          | inl here ↦ (let e = block_at l.times (get_or l.blocks m 0) (get_or l.blocks (m + 1) 0) i here
+              in elim (cases_lt i (length slots)) [
+                | inl of ↦ (let d : Slot = record { job = 0; step = 0; time = 0; tail = 0 }
+                    in let at = (laid.each m known).at i d of
+                    in let op = slots_are_operations shop m slots (laid.are.slots m known) i d of
+                    in let t = at.time
+                    in let is : (get_or slots i d).time ≡ time_of shop (get_or slots i d).job (get_or slots i d).step =
+                    ap (λ (s : Slot). s.time) op.is
+                    in let small = limits.times (get_or slots i d).job (get_or slots i d).step in omega arith)
+                | inr behind ↦ (let p = (laid.each m known).padding (first_position l m + i) (omega arith) (omega arith)
+                    in let t = p.time in omega arith)
+              ])
+          | inr past ↦
+              (let e = block_past l.times (get_or l.blocks m 0) (get_or l.blocks (m + 1) 0) i (omega arith) past
+              in omega arith)
+        ]
+
+    time_behind : (i : ℕ) → length slots ≤ i
+        → get_or (blocks (get_or l.blocks m 0) (get_or l.blocks (m + 1) 0) l.times) i 0 ≡ 0
+    unfolding slots
+    time_behind i behind =
+        let all = within in let long = laid.positions.times
+        in elim (cases_lt i (first_position l (m + 1) - first_position l m)) [
+          | inl here ↦ (let e = block_at l.times (get_or l.blocks m 0) (get_or l.blocks (m + 1) 0) i here
+              in let p = (laid.each m known).padding (first_position l m + i) (omega arith) (omega arith)
+              in let t = p.time in omega arith)
+          | inr past ↦ block_past l.times (get_or l.blocks m 0) (get_or l.blocks (m + 1) 0) i (omega arith) past
+        ]
+
+    tail_small : (i : ℕ) → get_or (blocks (get_or l.blocks m 0) (get_or l.blocks (m + 1) 0) l.tails) i 0 ≤ 100000000000
+    unfolding slots
+    tail_small i =
+        let all = within in let long = laid.positions.tails
+        in elim (cases_lt i (first_position l (m + 1) - first_position l m)) [
+          | inl here ↦ (let e = block_at l.tails (get_or l.blocks m 0) (get_or l.blocks (m + 1) 0) i here
+              in elim (cases_lt i (length slots)) [
+                | inl of ↦ (let d : Slot = record { job = 0; step = 0; time = 0; tail = 0 }
+                    in let at = (laid.each m known).at i d of
+                    in let op = slots_are_operations shop m slots (laid.are.slots m known) i d of
+                    in let t = at.tail
+                    in let is : (get_or slots i d).tail
+                    ≡ tail_in (route_of shop (get_or slots i d).job) (get_or slots i d).step =
+                    ap (λ (s : Slot). s.tail) op.is
+                    in let whole = route_times shop limits (get_or slots i d).job
+                    in let part = sum_by-take-drop (λ (o : Op). o.time) (route_of shop (get_or slots i d).job)
+                    ((get_or slots i d).step + 1) in omega arith)
+                | inr behind ↦ (let p = (laid.each m known).padding (first_position l m + i) (omega arith) (omega arith)
+                    in let t = p.tail in omega arith)
+              ])
+          | inr past ↦
+              (let e = block_past l.tails (get_or l.blocks m 0) (get_or l.blocks (m + 1) 0) i (omega arith) past
+              in omega arith)
+        ]
+
+    pub load_small : load_on l m < 2 ^ 47
+    unfolding slots
+    load_small =
+        let a = sum_front 1000000000 (blocks (get_or l.blocks m 0) (get_or l.blocks (m + 1) 0) l.times) (length slots)
+        time_small time_behind
+        in let few = slots_few shop limits m slots (laid.are.slots m known)
+        in let b =
+        greatest_each 100000000000 (blocks (get_or l.blocks m 0) (get_or l.blocks (m + 1) 0) l.tails) tail_small
+        in omega arith

@@ -1,0 +1,83 @@
+-- Places that are written one after another.
+use Rattle.std.proofs.Common.{◌≡◌, ℕ, ◌+◌, ◌<◌, inl, inr, List, [], length, get_or, set, refl, sym}
+use Rattle.std.proofs.Common.{◌∙◌, ap, arith}
+use Rattle.std.specs.List.{All}
+use Rattle.std.proofs.lemmas.Bool.{cases_eq}
+use Rattle.std.proofs.lemmas.List.{get_or-set_same, get_or-set_other, length-set, get_or_default}
+use Rattle.shop_layout.specs.declared.slots.Slot.{Slot}
+use Rattle.shop_layout.specs.inner.Layings.{AreApart, AreNoted, IsInRows, no_slot}
+use Rattle.shop_layout.specs.Positions.{place_in}
+
+module _ (now : List (List ℕ)) (j k x : ℕ) (job : j < length now) (step : k < length (get_or now j [])) where
+  abbrev written : List (List ℕ)
+  written = set now j (set (get_or now j []) k x)
+
+  row_here : get_or written j [] ≡ set (get_or now j []) k x
+  row_here = get_or-set_same now j (set (get_or now j []) k x) [] job
+
+  place_here : place_in written j k ≡ x
+  place_here = ap (λ (row : List ℕ). get_or row k 0) row_here ∙ get_or-set_same (get_or now j []) k x 0 step
+
+  place_other : (i n : ℕ) → (i ≡ j → n ≡ k → ⊥) → place_in written i n ≡ place_in now i n
+  place_other i n ne = elim (cases_eq i j) [
+    | inl e ↦ ap (λ (y : ℕ). get_or (get_or written y []) n 0) e
+        ∙ (ap (λ (row : List ℕ). get_or row n 0) row_here
+        ∙ (get_or-set_other (get_or now j []) k n x 0 (λ f. ne e f)
+        ∙ ap (λ (y : ℕ). get_or (get_or now y []) n 0) (sym e)))
+    | inr differ ↦ ap (λ (row : List ℕ). get_or row n 0)
+        (get_or-set_other now j i (set (get_or now j []) k x) [] differ)
+  ]
+
+  row_long : (i : ℕ) → length (get_or written i []) ≡ length (get_or now i [])
+  row_long i = elim (cases_eq i j) [
+    | inl e ↦ ap (λ (y : ℕ). length (get_or written y [])) e
+        ∙ (ap (λ (row : List ℕ). length row) row_here ∙ (length-set (get_or now j []) k x
+        ∙ ap (λ (y : ℕ). length (get_or now y [])) (sym e)))
+    | inr differ ↦ ap (λ (row : List ℕ). length row) (get_or-set_other now j i (set (get_or now j []) k x) [] differ)
+  ]
+
+pub noted_none : (first : ℕ) (slots : List Slot) (old : List (List ℕ)) → AreNoted 0 first slots old old
+noted_none first slots old = record {
+  long = refl;
+  rows = λ j. refl;
+  noted = λ i d below. absurd (omega arith);
+  others = λ j k none. refl;
+}
+
+pub noted_more : (n first : ℕ) (slots : List Slot) (old now new : List (List ℕ)) → AreNoted n first slots old now
+    → n < length slots → AreApart slots → All (IsInRows old) slots
+    → new ≡ set now (get_or slots n no_slot).job (set (get_or now (get_or slots n no_slot).job [])
+    (get_or slots n no_slot).step (first + n))
+    → AreNoted (n + 1) first slots old new
+noted_more n first slots old now new before here apart rows is =
+    let s = get_or slots n no_slot
+    in let at = rows n no_slot here
+    in let long = before.long
+    in let row = before.rows s.job
+    in let a = at.job
+    in let b = at.step
+    in let job : s.job < length now = omega arith
+    in let step : s.step < length (get_or now s.job []) = omega arith
+    in record {
+      long = ap length is ∙ (length-set now s.job (set (get_or now s.job []) s.step (first + n)) ∙ long);
+      rows = λ j. ap (λ (xs : List (List ℕ)). length (get_or xs j [])) is
+          ∙ (row_long now s.job s.step (first + n) job step j ∙ before.rows j);
+      noted = λ i d below. elim (cases_eq i n) [
+        | inl e ↦ (let same : get_or slots i d ≡ s =
+            ap (λ (k : ℕ). get_or slots k d) e ∙ get_or_default slots n d no_slot here
+            in ap (λ (t : Slot). place_in new t.job t.step) same
+            ∙ (ap (λ (xs : List (List ℕ)). place_in xs s.job s.step) is
+            ∙ (place_here now s.job s.step (first + n) job step ∙ omega arith)))
+        | inr ne ↦ (let t = get_or slots i d
+            in ap (λ (xs : List (List ℕ)). place_in xs t.job t.step) is
+            ∙ (place_other now s.job s.step (first + n) job step t.job t.step
+            (λ e f. apart i n d (omega arith) here
+            (e ∙ ap (λ (u : Slot). u.job) (get_or_default slots n no_slot d here))
+            (f ∙ ap (λ (u : Slot). u.step) (get_or_default slots n no_slot d here)))
+            ∙ before.noted i d (omega arith)))
+      ];
+      others = λ j k none. ap (λ (xs : List (List ℕ)). place_in xs j k) is
+          ∙ (place_other now s.job s.step (first + n) job step j k
+          (λ e f. none n no_slot (omega arith) (sym e) (sym f))
+          ∙ before.others j k (λ i d below. none i d (omega arith)));
+    }

@@ -1,0 +1,12 @@
+use Rattle.shop_layout.proofs.LaneLimits.{tails_fit, times_fit}
+use Rattle.shop_layout.proofs.laid_outs.LaidOut.of.Goals as goal
+
+pub of-requires-clause-times : goal.of-requires-clause-times
+of-requires-clause-times g c =
+    let ready = c.requires
+    in times_fit g.L.StateLanes.GREATEST c.args.instance.now ready.limits c.args.positions ready.laid ready.holds
+
+pub of-requires-clause-tails : goal.of-requires-clause-tails
+of-requires-clause-tails g c =
+    let ready = c.requires
+    in tails_fit g.L.StateLanes.GREATEST c.args.instance.now ready.limits c.args.positions ready.laid ready.holds

@@ -1,0 +1,7 @@
+pub mod Slots
+pub mod Positions
+pub mod Lanes
+pub mod HeadLimits
+pub mod LaidOuts
+pub mod Layouts
+pub mod inner

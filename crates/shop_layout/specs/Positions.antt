@@ -1,0 +1,96 @@
+-- The operations of an instance by position: machine after machine, on a machine by nonincreasing
+-- tail.
+--     LayoutState                    what a program keeps: numbers by position, by job and step,
+--                                    and by machine
+--     place l j k                    the position of step k of job j
+--     place_or n rows j k            the same by rows, one a job, or n if the route has no such step
+--     AreMachinesOf blocks n ms      the machine of each position, of the first n machines
+--     IsAt l q s                     operation s stands at position q
+--     IsFree shop l q                no operation of the instance stands there
+--     IsPadding l q                  nothing is added up there
+--     IsLaidOut shop l               it is the layout of the instance
+use Rattle.std.specs.Prelude.{◌≡◌, ℕ, ◌+◌, ◌*◌, ◌≤◌, ◌<◌, List, [], length, slice_index}
+use Rattle.std.specs.Prelude.{slice_index_or, if◌then◌else◌, nat_lt}
+use Rattle.shop_model.specs.Shop.{Shop, IsOperation, route_of}
+use Rattle.shop_layout.specs.Slots.{AreMachineSlots}
+use Rattle.shop_layout.specs.declared.slots.Slot.{Slot}
+
+-- the job, the step, the time and the tail of the operation at a position; the position of each
+-- step of each job; the first block of eight positions of each machine, with the number of all
+-- blocks behind the last; and of a position its machine, and the position of the step that follows
+-- on the route, or the number of all positions
+pub record LayoutState : Type 0 where
+  pub jobs : List ℕ
+  pub steps : List ℕ
+  pub times : List ℕ
+  pub tails : List ℕ
+  pub places : List (List ℕ)
+  pub blocks : List ℕ
+  pub machines : List ℕ
+  pub following : List ℕ
+
+abbrev pub place : LayoutState → ℕ → ℕ → ℕ
+place l j k = slice_index (slice_index_or l.places j []) k
+
+abbrev pub place_in : List (List ℕ) → ℕ → ℕ → ℕ
+place_in rows j k = slice_index (slice_index_or rows j []) k
+
+abbrev pub place_or : ℕ → List (List ℕ) → ℕ → ℕ → ℕ
+place_or n rows j k =
+    if nat_lt k (length (slice_index_or rows j [])) then place_in rows j k else n
+
+pub record AreMachinesOf (blocks : List ℕ) (machines : ℕ) (ms : List ℕ) : Type 0 where
+  pub positions : length ms ≡ 8 * slice_index blocks machines
+  pub known : (q : ℕ) → q < length ms → slice_index ms q < machines
+  pub at : (m q : ℕ) → m < machines → 8 * slice_index blocks m ≤ q
+      → q < 8 * slice_index blocks (m + 1) → slice_index ms q ≡ m
+
+-- the first position of machine m, and how many positions there are
+abbrev pub first_position : LayoutState → ℕ → ℕ
+first_position l m = 8 * slice_index l.blocks m
+
+pub record IsAt (l : LayoutState) (q : ℕ) (s : Slot) : Type 0 where
+  pub job : slice_index l.jobs q ≡ s.job
+  pub step : slice_index l.steps q ≡ s.step
+  pub time : slice_index l.times q ≡ s.time
+  pub tail : slice_index l.tails q ≡ s.tail
+  pub place : place l s.job s.step ≡ q
+
+abbrev pub IsFree : Shop → LayoutState → ℕ → Type 0
+IsFree shop l q = (j k : ℕ) → IsOperation shop j k → place l j k ≡ q → ⊥
+
+pub record IsPadding (l : LayoutState) (q : ℕ) : Type 0 where
+  pub time : slice_index l.times q ≡ 0
+  pub tail : slice_index l.tails q ≡ 0
+
+-- as many positions as these in each list
+pub record HasPositions (l : LayoutState) (n : ℕ) : Type 0 where
+  pub jobs : length l.jobs ≡ n
+  pub steps : length l.steps ≡ n
+  pub times : length l.times ≡ n
+  pub tails : length l.tails ≡ n
+  pub following : length l.following ≡ n
+
+-- the operations of machine m, by nonincreasing tail, stand from its first position on, and padding
+-- behind them
+pub record IsMachineLaidOut (l : LayoutState) (m : ℕ) (slots : List Slot) : Type 0 where
+  pub room : first_position l m + length slots ≤ first_position l (m + 1)
+  pub at : (i : ℕ) (d : Slot) → i < length slots
+      → IsAt l (first_position l m + i) (slice_index_or slots i d)
+  pub padding : (q : ℕ) → first_position l m + length slots ≤ q → q < first_position l (m + 1)
+      → IsPadding l q
+
+pub record IsLaidOut (shop : Shop) (l : LayoutState) : Type 0 where
+  pub slots : List (List Slot)
+  pub are : AreMachineSlots shop slots
+  pub machines : length l.blocks ≡ shop.machines + 1
+  pub from_0 : slice_index l.blocks 0 ≡ 0
+  pub positions : HasPositions l (first_position l shop.machines)
+  pub each : (m : ℕ) → m < shop.machines → IsMachineLaidOut l m (slice_index_or slots m [])
+  pub jobs : length l.places ≡ length shop.jobs
+  pub routes : (j : ℕ) → length (slice_index_or l.places j []) ≡ length (route_of shop j)
+  pub machines_at : AreMachinesOf l.blocks shop.machines l.machines
+  pub known : (q : ℕ) → q < first_position l shop.machines → slice_index l.jobs q < length shop.jobs
+  pub follows : (q : ℕ) → q < first_position l shop.machines → slice_index l.following q
+      ≡ place_or (first_position l shop.machines) l.places (slice_index l.jobs q)
+      (slice_index l.steps q + 1)

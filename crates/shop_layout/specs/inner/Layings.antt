@@ -1,0 +1,77 @@
+-- How the operations of an instance come to their positions.
+--     AreCells lists n cells blocks  the first n lists stand in the cells, each from its first
+--                                    block on
+--     AreApart slots                 no two are the same step of a job
+--     AreNoted n first slots ..      the places of the first n of a machine's slots were written,
+--                                    and nothing else
+--     ArePlaces shop lists n ..      the places of the slots of the first n machines
+--     place_after n rows slot        the place of the step behind the slot's, or n if there is none
+use Rattle.std.specs.Prelude.{◌≡◌, ℕ, ◌+◌, ◌*◌, ◌≤◌, ◌<◌, List, [], length, slice_index}
+use Rattle.std.specs.Prelude.{slice_index_or}
+use Rattle.shop_model.specs.Shop.{Shop, route_of}
+use Rattle.shop_layout.specs.Positions.{place_in, place_or}
+use Rattle.shop_layout.specs.declared.slots.Slot.{Slot}
+
+-- what stands where no operation does
+abbrev pub no_slot : Slot
+no_slot = record { job = 0; step = 0; time = 0; tail = 0 }
+
+-- no list is longer than this
+abbrev pub AreShorter : ℕ → List (List Slot) → Type 0
+AreShorter n lists = (m : ℕ) → length (slice_index_or lists m []) ≤ n
+
+-- list m stands in the cells from the first block of machine m on, and padding behind it
+pub record IsListIn (cells : List Slot) (blocks : List ℕ) (m : ℕ) (slots : List Slot) : Type 0 where
+  pub room : 8 * slice_index blocks m + length slots ≤ 8 * slice_index blocks (m + 1)
+  pub at : (i : ℕ) (d : Slot) → i < length slots
+      → slice_index_or cells (8 * slice_index blocks m + i) no_slot ≡ slice_index_or slots i d
+  pub padding : (q : ℕ) → 8 * slice_index blocks m + length slots ≤ q
+      → q < 8 * slice_index blocks (m + 1)
+      → slice_index_or cells q no_slot ≡ no_slot
+  pub within : 8 * slice_index blocks (m + 1) ≤ length cells
+
+pub record AreCells (lists : List (List Slot)) (n : ℕ) (cells : List Slot)
+    (blocks : List ℕ) : Type 0 where
+  pub machines : length blocks ≡ n + 1
+  pub from_0 : slice_index blocks 0 ≡ 0
+  pub whole : length cells ≡ 8 * slice_index blocks n
+  pub each : (m : ℕ) → m < n → IsListIn cells blocks m (slice_index_or lists m [])
+  pub few : length cells ≤ n * 100008
+  pub some : 0 < length cells → (m : ℕ) × (m < n) × (0 < length (slice_index_or lists m []))
+
+abbrev pub AreApart : List Slot → Type 0
+AreApart slots = (p q : ℕ) (d : Slot) → p < q → q < length slots
+    → (slice_index_or slots p d).job ≡ (slice_index_or slots q d).job
+    → (slice_index_or slots p d).step ≡ (slice_index_or slots q d).step → ⊥
+
+-- a row for each job, as long as its route
+pub record HasRoutes (shop : Shop) (rows : List (List ℕ)) : Type 0 where
+  pub jobs : length rows ≡ length shop.jobs
+  pub routes : (j : ℕ) → length (slice_index_or rows j []) ≡ length (route_of shop j)
+
+-- there is a place for each slot
+pub record IsInRows (rows : List (List ℕ)) (s : Slot) : Type 0 where
+  pub job : s.job < length rows
+  pub step : s.step < length (slice_index_or rows s.job [])
+
+pub record AreNoted (n first : ℕ) (slots : List Slot) (old new : List (List ℕ)) : Type 0 where
+  pub long : length new ≡ length old
+  pub rows : (j : ℕ) → length (slice_index_or new j []) ≡ length (slice_index_or old j [])
+  pub noted : (i : ℕ) (d : Slot) → i < n
+      → place_in new (slice_index_or slots i d).job (slice_index_or slots i d).step ≡ first + i
+  pub others : (j k : ℕ)
+      → ((i : ℕ) (d : Slot) → i < n → (slice_index_or slots i d).job ≡ j
+      → (slice_index_or slots i d).step ≡ k → ⊥)
+      → place_in new j k ≡ place_in old j k
+
+pub record ArePlaces (shop : Shop) (lists : List (List Slot)) (blocks : List ℕ) (n : ℕ)
+    (rows : List (List ℕ))
+    : Type 0 where
+  pub shape : HasRoutes shop rows
+  pub each : (m i : ℕ) (d : Slot) → m < n → i < length (slice_index_or lists m [])
+      → place_in rows (slice_index_or (slice_index_or lists m []) i d).job
+      (slice_index_or (slice_index_or lists m []) i d).step ≡ 8 * slice_index blocks m + i
+
+-- the place of the step after this one
+abbrev pub place_after : ℕ → List (List ℕ) → Slot → ℕ
+place_after n rows s = place_or n rows s.job (s.step + 1)

@@ -1,0 +1,183 @@
+// The operations of an instance by position, with their times and tails in lanes.
+ghost use Rattle.std.specs.Prelude.{◌≡◌, ◌<◌, All, IfOk, length, slice_index, slice_index_or, []};
+ghost use Rattle.std.specs.Prelude.{◌≤◌, ◌-◌, ◌*◌, map, max};
+ghost use Rattle.shop_lanes.specs.Rows.{AreBlocks, lanes_between};
+ghost use Rattle.shop_lanes.specs.Spans.{AreOwnSpans, FitOwnSpans, FitsSpan, IsRaisedBelow, span};
+ghost use Rattle.shop_lanes.specs.Spans.{spans_between};
+ghost use Rattle.shop_layout.specs.Lanes.{rows_of};
+
+use crate::positions::Positions;
+use shop_lanes::StateLanes;
+use std::alloc::{AllocError, Global};
+use std::marker::Model;
+
+/// The same as positions, with times and tails in lanes.
+#[derive(Drop)]
+pub struct Grid<L: StateLanes> {
+    positions: Positions,
+    fixed: L::Fixed,
+}
+
+impl<L: StateLanes> Model for Grid<L> {
+    ghost use Rattle.std.specs.Prelude.{◌≡◌};
+    ghost use Rattle.shop_layout.specs.Positions.{LayoutState};
+
+    ghost Value = { LayoutState };
+
+    ghost view = { λ g. g.positions };
+
+    ghost invariant = { λ g. (L.times g.fixed ≡ g.positions.times)
+        × (L.tails g.fixed ≡ g.positions.tails) };
+}
+
+impl<L: StateLanes> Grid<L> {
+    /// Of these positions. Fails with `AllocError` if memory runs out.
+    pub(crate) fn of(alloc: Global, positions: Positions) -> Result<Grid<L>, AllocError>
+        requires times { All (λ t. t ≤ L.GREATEST) positions.times }
+        requires tails { All (λ t. t ≤ L.GREATEST) positions.tails }
+        ensures { IfOk result (λ g. g ≡ positions) }
+    {
+        let fixed = L::fixed(alloc, positions.times(), positions.tails())?;
+        Ok(Grid { positions, fixed })
+    }
+
+    /// The job of the operation at a position.
+    #[inline(always)]
+    pub fn job(&self, position: usize) -> usize
+        requires { position < length self.now.jobs }
+        ensures { result ≡ slice_index self.now.jobs position }
+    {
+        self.positions.job(position)
+    }
+
+    /// The time of the operation at a position.
+    #[inline(always)]
+    pub fn time(&self, position: usize) -> u64
+        requires { position < length self.now.times }
+        ensures { result ≡ slice_index self.now.times position }
+    {
+        L::time(&self.fixed, position)
+    }
+
+    /// The positions of the steps of a job.
+    #[inline(always)]
+    pub fn places(&self, job: usize) -> &[u32]
+        requires { job < length self.now.places }
+        ensures { result.now ≡ slice_index_or self.now.places job [] }
+    {
+        self.positions.places(job)
+    }
+
+    /// The first block of a machine, or the number of all blocks behind the last one's.
+    #[inline(always)]
+    pub fn block(&self, machine: usize) -> usize
+        requires { machine < length self.now.blocks }
+        ensures { result ≡ slice_index self.now.blocks machine }
+    {
+        self.positions.block(machine)
+    }
+
+    /// The machine of the operation at each position.
+    #[inline(always)]
+    pub fn machines(&self) -> &[u32]
+        ensures { result.now ≡ self.now.machines }
+    {
+        self.positions.machines()
+    }
+
+    /// The position of the step that follows on the route of the operation at a position, or the number of all
+    /// positions.
+    #[inline(always)]
+    pub fn following(&self, position: usize) -> usize
+        requires { position < length self.now.following }
+        ensures { result ≡ slice_index self.now.following position }
+    {
+        self.positions.following(position)
+    }
+
+    /// The same as a number of 32 bits.
+    #[inline(always)]
+    pub fn next_behind(&self, position: usize) -> u32
+        requires { position < length self.now.following }
+        ensures { result ≡ slice_index self.now.following position }
+    {
+        self.positions.next_behind(position)
+    }
+
+    /// How many positions there are, as a number of 32 bits.
+    #[inline(always)]
+    pub fn end(&self) -> u32
+        ensures { result ≡ length self.now.following }
+    {
+        self.positions.end()
+    }
+
+    /// How many positions there are.
+    #[inline(always)]
+    pub fn positions(&self) -> usize
+        ensures { result ≡ length self.now.following }
+    {
+        self.positions.positions()
+    }
+
+    /// The greater of a number and of the spans that begin from `above` up to `upto`, in these blocks; or as much of it
+    /// as reaches the limit.
+    #[inline(always)]
+    pub fn bound_raised(
+        &self,
+        lanes: &L,
+        from: usize,
+        to: usize,
+        above: u64,
+        upto: u64,
+        most: u64,
+        limit: u64,
+    ) -> u64
+        requires blocks { AreBlocks (rows_of self.now (L.heads lanes.now) (L.ends lanes.now))
+            from to }
+        requires times { length self.now.times ≡ length (L.heads lanes.now) }
+        requires tails { length self.now.tails ≡ length self.now.times }
+        requires most { most ≤ L.GREATEST }
+        requires fits { FitsSpan L.GREATEST upto (lanes_between
+            (rows_of self.now (L.heads lanes.now) (L.ends lanes.now)) from to) }
+        ensures { IsRaisedBelow limit (max most (spans_between above upto (lanes_between
+            (rows_of self.now (L.heads lanes.now) (L.ends lanes.now)) from to))) result }
+    {
+        lanes.bound_raised(&self.fixed, from, to, above, upto, most, limit)
+    }
+
+    /// The own spans of what waits in these blocks, from the first of the room on.
+    #[inline(always)]
+    pub fn own_spans(&self, lanes: &L, from: usize, to: usize, owns: &mut [L::Number])
+        requires blocks { AreBlocks (rows_of self.now (L.heads lanes.now) (L.ends lanes.now))
+            from to }
+        requires times { length self.now.times ≡ length (L.heads lanes.now) }
+        requires tails { length self.now.tails ≡ length self.now.times }
+        requires room { 8 * to - 8 * from ≤ length owns.old }
+        requires fits { FitOwnSpans L.GREATEST (lanes_between
+            (rows_of self.now (L.heads lanes.now) (L.ends lanes.now)) from to) }
+        ensures long { length owns.new ≡ length owns.old }
+        ensures owns { AreOwnSpans (L.heads lanes.now) self.now.times self.now.tails from to
+            (map L.value owns.new) }
+    {
+        let owns = &mut owns[..8 * (to - from)];
+        lanes.own_spans(&self.fixed, from, to, owns);
+    }
+
+    /// When the last of what waits in these blocks ends, its tail included, if it is served by position, from `start`
+    /// on.
+    #[inline(always)]
+    pub fn span(&self, lanes: &L, from: usize, to: usize, start: u64) -> u64
+        requires blocks { AreBlocks (rows_of self.now (L.heads lanes.now) (L.ends lanes.now))
+            from to }
+        requires times { length self.now.times ≡ length (L.heads lanes.now) }
+        requires tails { length self.now.tails ≡ length self.now.times }
+        requires greatest { 1 ≤ L.GREATEST }
+        requires fits { FitsSpan L.GREATEST start (lanes_between
+            (rows_of self.now (L.heads lanes.now) (L.ends lanes.now)) from to) }
+        ensures { result ≡ span 1 start (lanes_between
+            (rows_of self.now (L.heads lanes.now) (L.ends lanes.now)) from to) }
+    {
+        lanes.span(&self.fixed, from, to, 1, start, 0)
+    }
+}

@@ -1,0 +1,58 @@
+// An instance laid out in lanes of one width.
+ghost use Rattle.std.specs.Prelude.{◌≡◌, IfOk};
+ghost use Rattle.shop_layout.specs.LaidOuts.{IsReady};
+
+use crate::grid::Grid;
+use crate::positions::Positions;
+use shop_lanes::StateLanes;
+use shop_model::Instance;
+use std::alloc::{AllocError, Global};
+use std::marker::Model;
+
+/// An instance with its operations by position, their times and tails in lanes of one width.
+#[derive(Drop)]
+pub struct LaidOut<'a, L: StateLanes> {
+    instance: &'a Instance,
+    grid: Grid<L>,
+}
+
+impl<'a, L: StateLanes> Model for LaidOut<'a, L> {
+    ghost use Rattle.shop_layout.specs.LaidOuts.{IsReady, LaidOutState};
+
+    ghost Value = { LaidOutState };
+
+    ghost view = { λ l. record { shop = l.instance.now; layout = l.grid } };
+
+    ghost invariant = { λ l. IsReady L.GREATEST l.instance.now l.grid };
+}
+
+impl<'a, L: StateLanes> LaidOut<'a, L> {
+    /// Of an instance and the positions of its operations. Fails with `AllocError` if memory runs out.
+    pub(crate) fn of(
+        alloc: Global,
+        instance: &'a Instance,
+        positions: Positions,
+    ) -> Result<LaidOut<'a, L>, AllocError>
+        requires { IsReady L.GREATEST instance.now positions }
+        ensures { IfOk result (λ l. l.shop ≡ instance.now) }
+    {
+        let grid = Grid::of(alloc, positions)?;
+        Ok(LaidOut { instance, grid })
+    }
+
+    #[inline(always)]
+    pub fn instance(&self) -> &Instance
+        ensures { result.now ≡ self.now.shop }
+    {
+        self.instance
+    }
+
+    /// Its operations by position. Lanes of this width hold what may be dispatched of the instance.
+    #[inline(always)]
+    pub fn grid(&self) -> &Grid<L>
+        ensures grid { result.now ≡ self.now.layout }
+        ensures ready { IsReady L.GREATEST self.now.shop self.now.layout }
+    {
+        &self.grid
+    }
+}

@@ -1,0 +1,68 @@
+// How late operations can end at most, and how much time a machine's operations take.
+ghost use Rattle.std.specs.Prelude.{◌≡◌, ℕ, ◌+◌, ◌*◌, ◌≤◌, ◌<◌, ◌^◌, length};
+ghost use Rattle.shop_lanes.specs.Rows.{blocks};
+ghost use Rattle.shop_layout.specs.HeadLimits.{latest_end, load_of, load_on};
+ghost use Rattle.shop_layout.specs.Positions.{IsLaidOut};
+
+use crate::positions::Positions;
+use shop_heads::total_time;
+use shop_model::Instance;
+
+/// The latest release and all times together: no operation ends later if each is placed as soon as its job and its
+/// machine can.
+pub(crate) fn latest_end(instance: &Instance) -> u64
+    ensures latest { result ≡ latest_end instance.now }
+    ensures small { result < 2 ^ 48 }
+{
+    instance.keeps_limits();
+    let mut release = 0;
+    let mut total = 0;
+    for job in 0..instance.jobs() {
+        release = instance.release(job).max(release);
+        total += total_time(instance.route(job));
+    }
+    release + total
+}
+
+/// All times and the greatest tail.
+fn load_of(times: &[u64], tails: &[u64]) -> u64
+    requires { load_of times.now tails.now < 2 ^ 48 }
+    ensures { result ≡ load_of times.now tails.now }
+{
+    let mut total = 0;
+    for time in times {
+        total += *time;
+    }
+    let mut greatest = 0;
+    for tail in tails {
+        greatest = (*tail).max(greatest);
+    }
+    total + greatest
+}
+
+/// The same of some blocks.
+fn load_of_blocks(times: &[u64], tails: &[u64], from: usize, to: usize) -> u64
+    requires ordered { from ≤ to }
+    requires times { 8 * to ≤ length times.now }
+    requires tails { 8 * to ≤ length tails.now }
+    requires small { load_of (blocks from to times.now) (blocks from to tails.now) < 2 ^ 48 }
+    ensures { result ≡ load_of (blocks from to times.now) (blocks from to tails.now) }
+{
+    load_of(&times[8 * from..8 * to], &tails[8 * from..8 * to])
+}
+
+/// No machine's operations take more time, the greatest tail included.
+pub(crate) fn greatest_load(layout: &Positions, instance: &Instance) -> u64
+    requires { IsLaidOut instance.now layout.now }
+    ensures each { (m : ℕ) → m < instance.now.machines → load_on layout.now m ≤ result }
+    ensures small { result < 2 ^ 48 }
+{
+    instance.keeps_limits();
+    let mut greatest = 0;
+    for machine in 0..instance.machines() {
+        let (from, to) = (layout.block(machine), layout.block(machine + 1));
+        let load = load_of_blocks(layout.times(), layout.tails(), from, to);
+        greatest = load.max(greatest);
+    }
+    greatest
+}

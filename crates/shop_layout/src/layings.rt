@@ -1,0 +1,175 @@
+// The operations of an instance come to their positions.
+ghost use Rattle.std.specs.Prelude.{◌≡◌, ℕ, ◌+◌, ◌-◌, ◌*◌, ◌<◌, ◌≤◌, ◌^◌, All, IfOk, length, map};
+ghost use Rattle.std.specs.Prelude.{slice_index};
+ghost use Rattle.shop_model.specs.declared.limits.TheConstants.{MAX_JOBS, MAX_MACHINES, MAX_STEPS};
+ghost use Rattle.shop_layout.specs.Slots.{AreMachineSlots};
+ghost use Rattle.shop_layout.specs.inner.Vectors.{items_in};
+ghost use Rattle.shop_layout.specs.inner.Layings.{AreApart, AreCells, AreNoted, ArePlaces};
+ghost use Rattle.shop_layout.specs.inner.Layings.{AreShorter, HasRoutes, IsInRows, place_after};
+ghost use Rattle.shop_layout.specs.Positions.{AreMachinesOf};
+
+use crate::slots::Slot;
+use shop_model::Instance;
+use std::alloc::{AllocError, Global};
+
+/// Stands where no operation does.
+const NO_SLOT: Slot = Slot {
+    job: 0,
+    step: 0,
+    time: 0,
+    tail: 0,
+};
+
+/// The operations of all machines by position, and the first block of each machine.
+#[derive(Drop)]
+pub(crate) struct Cells {
+    pub slots: Vec<Slot>,
+    pub blocks: Vec<u32>,
+}
+
+/// The lists one after another, each padded to whole blocks of eight positions.
+pub(crate) fn cells_of(alloc: Global, lists: &[Vec<Slot>]) -> Result<Cells, AllocError>
+    requires few { length lists.now ≤ MAX_MACHINES }
+    requires short { AreShorter (MAX_JOBS * MAX_STEPS) (items_in lists.now) }
+    ensures { IfOk result (λ c. AreCells (items_in lists.now) (length lists.now)
+        c.slots.items c.blocks.items) }
+{
+    let mut slots = Vec::new(alloc);
+    let mut blocks = Vec::new(alloc);
+    blocks.push(0)?;
+    for m in 0..lists.len() {
+        slots.extend_from_slice(lists[m].as_slice())?;
+        let count = slots.len().div_ceil(8);
+        slots.resize(8 * count, NO_SLOT)?;
+        blocks.push(count as u32)?;
+    }
+    Ok(Cells { slots, blocks })
+}
+
+/// The jobs of the cells.
+pub(crate) fn jobs_of(alloc: Global, slots: &[Slot]) -> Result<Vec<u32>, AllocError>
+    requires { All (λ s. s.job < 2 ^ 32) slots.now }
+    ensures { IfOk result (λ v. v.items ≡ map (λ s. s.job) slots.now) }
+{
+    let mut jobs = Vec::new(alloc);
+    for s in slots {
+        jobs.push(s.job as u32)?;
+    }
+    Ok(jobs)
+}
+
+/// The steps of the cells.
+pub(crate) fn steps_of(alloc: Global, slots: &[Slot]) -> Result<Vec<u32>, AllocError>
+    requires { All (λ s. s.step < 2 ^ 32) slots.now }
+    ensures { IfOk result (λ v. v.items ≡ map (λ s. s.step) slots.now) }
+{
+    let mut steps = Vec::new(alloc);
+    for s in slots {
+        steps.push(s.step as u32)?;
+    }
+    Ok(steps)
+}
+
+/// The times of the cells.
+pub(crate) fn times_of(alloc: Global, slots: &[Slot]) -> Result<Vec<u64>, AllocError>
+    ensures { IfOk result (λ v. v.items ≡ map (λ s. s.time) slots.now) }
+{
+    slots.iter().map(|s| s.time).collect(alloc)
+}
+
+/// The tails of the cells.
+pub(crate) fn tails_of(alloc: Global, slots: &[Slot]) -> Result<Vec<u64>, AllocError>
+    ensures { IfOk result (λ v. v.items ≡ map (λ s. s.tail) slots.now) }
+{
+    slots.iter().map(|s| s.tail).collect(alloc)
+}
+
+/// A row for each job, as long as its route.
+fn empty_places(alloc: Global, instance: &Instance) -> Result<Vec<Vec<u32>>, AllocError>
+    ensures { IfOk result (λ v. HasRoutes instance.now (items_in v.items)) }
+{
+    let mut places = Vec::new(alloc);
+    for j in 0..instance.jobs() {
+        places.push(vec![in alloc; 0; instance.route(j).len()]?)?;
+    }
+    Ok(places)
+}
+
+/// Writes the positions of a machine's operations, which stand from this one on.
+fn note_places(places: &mut [Vec<u32>], slots: &[Slot], first: usize)
+    requires rows { All (IsInRows (items_in places.old)) slots.now }
+    requires apart { AreApart slots.now }
+    requires small { first + length slots.now < 2 ^ 32 }
+    ensures long { length places.new ≡ length places.old }
+    ensures noted { AreNoted (length slots.now) first slots.now
+        (items_in places.old) (items_in places.new) }
+{
+    for i in 0..slots.len() {
+        let slot = slots[i];
+        places[slot.job][slot.step] = (first + i) as u32;
+    }
+}
+
+/// The position of each step of each job.
+pub(crate) fn places_of(
+    alloc: Global,
+    instance: &Instance,
+    lists: &[Vec<Slot>],
+    blocks: &[u32],
+) -> Result<Vec<Vec<u32>>, AllocError>
+    requires slots { AreMachineSlots instance.now (items_in lists.now) }
+    requires blocks { length blocks.now ≡ instance.now.machines + 1 }
+    requires few { All (λ b. b ≤ MAX_MACHINES * (MAX_JOBS * MAX_STEPS + 8)) blocks.now }
+    ensures { IfOk result (λ v. ArePlaces instance.now (items_in lists.now) blocks.now
+        instance.now.machines (items_in v.items)) }
+{
+    instance.keeps_limits();
+    let mut places = empty_places(alloc, instance)?;
+    for m in 0..lists.len() {
+        let first = 8 * blocks[m] as usize;
+        note_places(places.as_mut_slice(), lists[m].as_slice(), first);
+    }
+    Ok(places)
+}
+
+/// The position of the step that follows each cell's on its route, or the number of all positions where none does.
+pub(crate) fn following_of(
+    alloc: Global,
+    slots: &[Slot],
+    places: &[Vec<u32>],
+) -> Result<Vec<u32>, AllocError>
+    requires jobs { All (λ s. s.job < length places.now) slots.now }
+    requires steps { All (λ s. s.step < 2 ^ 32) slots.now }
+    requires few { length slots.now < 2 ^ 32 }
+    ensures { IfOk result (λ v. v.items
+        ≡ map (place_after (length slots.now) (items_in places.now)) slots.now) }
+{
+    let mut following = Vec::new(alloc);
+    for s in slots {
+        let route = places[s.job].as_slice();
+        let next = s.step + 1;
+        following.push(if next < route.len() {
+            route[next]
+        } else {
+            slots.len() as u32
+        })?;
+    }
+    Ok(following)
+}
+
+/// The machine of each cell, by the first block of each machine.
+pub(crate) fn machines_of(alloc: Global, blocks: &[u32]) -> Result<Vec<u32>, AllocError>
+    requires from_0 { slice_index blocks.now 0 ≡ 0 }
+    requires some { 0 < length blocks.now }
+    requires ordered { (m : ℕ) → m + 1 < length blocks.now
+        → slice_index blocks.now m ≤ slice_index blocks.now (m + 1) }
+    requires few { All (λ b. b ≤ MAX_MACHINES * (MAX_JOBS * MAX_STEPS + 8)) blocks.now }
+    requires small { length blocks.now ≤ MAX_MACHINES + 1 }
+    ensures { IfOk result (λ v. AreMachinesOf blocks.now (length blocks.now - 1) v.items) }
+{
+    let mut machines = Vec::new(alloc);
+    for machine in 0..blocks.len() - 1 {
+        machines.resize(8 * blocks[machine + 1] as usize, machine as u32)?;
+    }
+    Ok(machines)
+}

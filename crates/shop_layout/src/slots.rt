@@ -1,0 +1,82 @@
+// The operations of each machine by nonincreasing tails.
+ghost use Rattle.std.specs.Prelude.{◌≡◌, ℕ, ◌<◌, [], slice_index_or, IfOk, OnOk, length, map};
+ghost use Rattle.std.specs.Prelude.{replicate};
+ghost use Rattle.shop_model.specs.Shop.{no_op};
+ghost use Rattle.shop_heads.specs.Heads.{AreTimesSmall};
+ghost use Rattle.shop_layout.specs.Slots.{AreMachineSlots};
+ghost use Rattle.shop_layout.specs.inner.MachineLists.{AddsOperations, AreOperations};
+ghost use Rattle.shop_layout.specs.inner.Vectors.{items_in};
+
+use shop_heads::total_time;
+use shop_model::{Instance, Op};
+use std::alloc::{AllocError, Global};
+use std::cmp::Reverse;
+
+/// An operation as its machine sees it: its job and step, its time and its tail.
+#[derive(Clone, Copy, Debug, PartialEq, Eq)]
+pub struct Slot {
+    pub job: usize,
+    pub step: usize,
+    pub time: u64,
+    pub tail: u64,
+}
+
+/// Adds the operations of one job to the lists of their machines.
+fn add_operations(lists: &mut [Vec<Slot>], route: &[Op], job: usize) -> Result<(), AllocError>
+    requires times { AreTimesSmall route.now }
+    requires machines { (k : ℕ) → (slice_index_or route.now k no_op).machine < length lists.old }
+    ensures { OnOk result
+        (AddsOperations (items_in lists.old) (items_in lists.new) route.now job) }
+{
+    let mut tail = total_time(route);
+    for k in 0..route.len() {
+        let op = route[k];
+        tail -= op.time;
+        let slots = &mut lists[op.machine];
+        slots.push(Slot {
+            job,
+            step: k,
+            time: op.time,
+            tail,
+        })?;
+    }
+    Ok(())
+}
+
+/// An empty list for each machine, with room for one operation of each job.
+fn empty_lists(alloc: Global, instance: &Instance) -> Result<Vec<Vec<Slot>>, AllocError>
+    ensures { IfOk result (λ v. items_in v.items ≡ replicate instance.now.machines []) }
+{
+    let mut lists = Vec::with_capacity(alloc, instance.machines())?;
+    for _ in 0..instance.machines() {
+        lists
+            .push(Vec::with_capacity(alloc, instance.jobs())?)
+            .unwrap();
+    }
+    Ok(lists)
+}
+
+/// The operations of each machine, job by job.
+fn operations_by_machine(alloc: Global, instance: &Instance) -> Result<Vec<Vec<Slot>>, AllocError>
+    ensures { IfOk result (λ v. AreOperations instance.now (map (λ slots. slots.items) v.items)) }
+{
+    let mut lists = empty_lists(alloc, instance)?;
+    for j in 0..instance.jobs() {
+        add_operations(lists.as_mut_slice(), instance.route(j), j)?;
+    }
+    Ok(lists)
+}
+
+/// The operations of each machine, by nonincreasing tails. Fails with `AllocError` if memory runs out.
+pub(crate) fn machine_slots(
+    alloc: Global,
+    instance: &Instance,
+) -> Result<Vec<Vec<Slot>>, AllocError>
+    ensures { IfOk result (λ v. AreMachineSlots instance.now (map (λ slots. slots.items) v.items)) }
+{
+    let mut lists = operations_by_machine(alloc, instance)?;
+    for m in 0..lists.len() {
+        lists[m].sort_by_key(|slot| Reverse(slot.tail))?;
+    }
+    Ok(lists)
+}
