@@ -7,7 +7,7 @@ use shop_model::Instance;
 use std::alloc::AllocError;
 use std::fmt::{self, Display, Formatter, Write};
 
-/// A call, as a byte says it.
+/// A call, encoded as one byte.
 enum Call {
     Bound,
     Undo,
@@ -63,7 +63,7 @@ fn has_next(instance: &Instance, desk: &Desk, job: usize) -> bool
     dispatched(desk, job) < instance.route(job).len()
 }
 
-/// Dispatches the next operation of a job; whether it had one left.
+/// Dispatches the next operation of a job. Returns whether it had one left.
 fn dispatch(instance: &Instance, desk: &mut Desk, job: usize) -> bool
     requires { desk.old.shop ≡ instance.now }
     ensures { desk.new.shop ≡ desk.old.shop }
@@ -75,7 +75,7 @@ fn dispatch(instance: &Instance, desk: &mut Desk, job: usize) -> bool
     true
 }
 
-/// Takes back what was dispatched last; whether anything was.
+/// Takes back the operation dispatched last. Returns whether there was one.
 fn undo(desk: &mut Desk) -> bool
     ensures { desk.new.shop ≡ desk.old.shop }
 {
@@ -86,7 +86,7 @@ fn undo(desk: &mut Desk) -> bool
     false
 }
 
-/// Makes a call if it can be made. What it answers, if anything.
+/// Makes a call if it can be made. Returns its answer, if it gives one.
 fn make_call(instance: &Instance, desk: &mut Desk, call: Call) -> Option<Answer>
     requires { desk.old.shop ≡ instance.now }
     ensures { desk.new.shop ≡ desk.old.shop }
@@ -99,7 +99,7 @@ fn make_call(instance: &Instance, desk: &mut Desk, call: Call) -> Option<Answer>
     if is_made { None } else { Some(Answer::No) }
 }
 
-/// Makes all calls that can be made, one after another, and puts what they answer behind the other answers.
+/// Makes all calls that can be made, one after another, and adds their answers to the list.
 pub(crate) fn make_calls(
     instance: &Instance,
     desk: &mut Desk,

@@ -1,6 +1,6 @@
-// What standard input holds.
+// The parts of standard input.
 
-/// What stands before the first byte of 0, and what stands behind it.
+/// The bytes before the first byte of 0, and those behind it.
 pub(crate) fn parts(input: &[u8]) -> (&[u8], &[u8]) {
     match input.iter().position(|&byte| byte == 0) {
         Some(at) => (&input[..at], &input[at + 1..]),

@@ -186,7 +186,7 @@ fn parts_of_extent(triples: &[Triple]) -> Option<(u64, u64, u64)>
     ))
 }
 
-/// Whether bounds of these can be computed.
+/// Whether these are small enough for a one-machine bound.
 fn is_small(triples: &[Triple]) -> bool
     ensures { IsTrue result → IsSmall triples.now }
 {
@@ -272,7 +272,7 @@ fn long_route(alloc: Global) -> Result<Vec<Op>, AllocError> {
     Ok(route)
 }
 
-/// As many jobs of such routes.
+/// So many jobs, each of this route.
 fn long_routes(alloc: Global, count: usize) -> Result<Vec<Job>, AllocError> {
     let mut jobs = Vec::with_capacity(alloc, count)?;
     for _ in 0..count {
@@ -347,7 +347,7 @@ fn has_next(rt: &impl Abort, alloc: Global, instance: &Instance, desk: &Desk, jo
     fits(instance, &Word::of_jobs(jobs))
 }
 
-/// Dispatches the next operation of a job; whether it had one left.
+/// Dispatches the next operation of a job. Returns whether it had one left.
 fn dispatch(rt: &impl Abort, alloc: Global, instance: &Instance, desk: &mut Desk, job: u16) -> bool
     requires { desk.old.shop ≡ instance.now }
     ensures { desk.new.shop ≡ desk.old.shop }
@@ -359,7 +359,7 @@ fn dispatch(rt: &impl Abort, alloc: Global, instance: &Instance, desk: &mut Desk
     true
 }
 
-/// Takes back what was dispatched last, if anything was.
+/// Takes back the operation dispatched last, if there is one.
 fn undo(desk: &mut Desk)
     ensures { desk.new.shop ≡ desk.old.shop }
 {
@@ -368,7 +368,7 @@ fn undo(desk: &mut Desk)
     }
 }
 
-/// The bound after the next operation of a job, if it has one left. What is dispatched stays.
+/// The bound with the next operation of a job dispatched, which is taken back; `None` where the job has none left.
 fn bound_after(
     rt: &impl Abort,
     alloc: Global,

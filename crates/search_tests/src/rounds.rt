@@ -8,7 +8,7 @@ use std::alloc::Global;
 use std::process::Abort;
 use worked_instances::{crossing, of_rows, op, released, with_a_gap, with_two_orders, with_zeros};
 
-/// The answer's makespan, bound, open nodes, rounds and nodes.
+/// The makespan, bound, open nodes, rounds and nodes of an answer.
 fn assert_numbers(rt: &impl Abort, answer: &Answer, numbers: [u64; 5]) {
     assert_eq!(rt; answer.makespan, numbers[0]);
     assert_eq!(rt; answer.bound, numbers[1]);
@@ -17,7 +17,7 @@ fn assert_numbers(rt: &impl Abort, answer: &Answer, numbers: [u64; 5]) {
     assert_eq!(rt; answer.nodes, numbers[4]);
 }
 
-/// These, and the rows of its table.
+/// The same numbers of an answer, and the rows of its table.
 fn assert_answer(
     rt: &impl Abort,
     alloc: Global,

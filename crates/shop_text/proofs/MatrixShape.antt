@@ -1,6 +1,6 @@
 -- The parts of `taillard` are those in plain words.
 use Rattle.std.proofs.Common.{◌≡◌, ℕ, zero, suc, ◌+◌, ◌-◌, ◌*◌, ◌≤◌, ◌<◌, inl, inr, Bool, true}
-use Rattle.std.proofs.Common.{leb, ltb, eqb, List, [], ◌∷◌, ◌++◌, length, Option, None, refl, sym, ◌∙◌, subst}
+use Rattle.std.proofs.Common.{leb, ltb, eqb, List, [], ◌∷◌, ◌++◌, length, Option, None, refl, sym, ◌∙◌, ap, subst}
 use Rattle.std.proofs.Common.{cond, arith}
 use Rattle.std.specs.List.{list_all, AllByRecursion}
 use Rattle.std.proofs.lemmas.Bool.{and_parts, and_from, or_right, or_from, leb-true, le-leb, lt-ltb, le-ltb}
@@ -147,7 +147,7 @@ times_on_from size (suc more) done (e ∷ rows) some left len a =
     in record {
       times = e ∷ on.times;
       machines = on.machines;
-      cut = subst (λ r. e ∷ rows ≡ e ∷ r) on.cut refl;
+      cut = ap (λ (r : List Entry). e ∷ r) on.cut;
       times_count = omega (arith, on.times_count);
       machines_count = on.machines_count;
       are_times = (

@@ -64,7 +64,7 @@ line_taken text n rest bytes after p old new w cut shorter same read = record {
   further = further_here 0 text n rest bytes after w.further cut shorter;
 }
 
--- a fault of the text, or want of memory
+-- a fault of the text, or that memory ran out
 abbrev IsError : Grammar → List ℕ → ReadFault → Type 0
 IsError f text e = (e ≡ NoMemory) ⊎ IsTextFault f text e
 

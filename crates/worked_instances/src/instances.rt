@@ -1,4 +1,4 @@
-// Worked instances; None if memory runs out.
+// Worked instances; each is `None` if memory runs out.
 use shop_model::{Instance, Job, Op};
 use std::alloc::Global;
 
@@ -21,21 +21,21 @@ pub fn crossing(alloc: Global) -> Option<Instance> {
     of_rows(2, vec![in alloc; first, second].ok()?)
 }
 
-/// The bound of the empty word is below the optimum, and a last step takes no time.
+/// An instance whose first bound is below its least makespan; a last step takes no time.
 pub fn with_a_gap(alloc: Global) -> Option<Instance> {
     let first = vec![in alloc; op(0, 5), op(1, 3), op(2, 0)].ok()?;
     let second = vec![in alloc; op(1, 1), op(0, 1), op(2, 6)].ok()?;
     of_rows(3, vec![in alloc; first, second].ok()?)
 }
 
-/// Several steps of time 0.
+/// Two jobs with several steps of time 0.
 pub fn with_zeros(alloc: Global) -> Option<Instance> {
     let first = vec![in alloc; op(0, 4), op(1, 1), op(2, 0)].ok()?;
     let second = vec![in alloc; op(1, 0), op(2, 5), op(0, 0)].ok()?;
     of_rows(3, vec![in alloc; first, second].ok()?)
 }
 
-/// Releases 0, 4 and 7, and a job without operations.
+/// Three jobs with releases 0, 4 and 7, the last without operations.
 pub fn released(alloc: Global) -> Option<Instance> {
     let first = vec![in alloc; op(0, 3), op(1, 2)].ok()?;
     let second = vec![in alloc; op(1, 2), op(0, 4)].ok()?;
@@ -57,7 +57,7 @@ pub fn released(alloc: Global) -> Option<Instance> {
     of_jobs(2, jobs)
 }
 
-/// The two orders find different tables.
+/// An instance for which the two orders of open nodes find different tables.
 pub fn with_two_orders(alloc: Global) -> Option<Instance> {
     let first = vec![in alloc; op(0, 5), op(1, 3)].ok()?;
     let second = vec![in alloc; op(0, 1), op(2, 6)].ok()?;

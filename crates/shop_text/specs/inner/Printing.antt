@@ -1,5 +1,4 @@
--- What the parts of the writers tell: what stands behind what was written before, unless memory was
--- wanting.
+-- What the parts of the writers append to a text, unless memory runs out.
 use Rattle.std.specs.Prelude.{◌≡◌, ℕ, List, ◌++◌, Result, OnOk, String, string_bytes}
 use Rattle.std.specs.declared.alloc.Global.{Global}
 use Rattle.std.specs.declared.alloc.AllocError.{AllocError}

@@ -20,7 +20,7 @@ rows_held rows = map (λ row. row.items) rows.items
 abbrev pub row_read : Option (Vec ℕ Global) → Option (List ℕ)
 row_read row = option_map (λ v. v.items) row
 
--- a row is this, unless memory was wanting
+-- a row is this, unless memory ran out
 abbrev pub IsRowRead : Result (Option (Vec ℕ Global)) AllocError → Option (List ℕ) → Type 0
 IsRowRead result row = IfOk result (λ v. row_read v ≡ row)
 
