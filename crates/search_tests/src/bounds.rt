@@ -25,7 +25,7 @@ const FT06: [[(usize, u64); 6]; 6] = [
     [(1, 3), (3, 3), (5, 9), (0, 10), (4, 4), (2, 1)],
 ];
 
-fn ft06_rows(alloc: Global) -> Result<Vec<Vec<Op>>, AllocError> {
+pub fn ft06_rows(alloc: Global) -> Result<Vec<Vec<Op>>, AllocError> {
     let mut rows = Vec::with_capacity(alloc, 6)?;
     for row in FT06 {
         let mut route = Vec::with_capacity(alloc, 6)?;

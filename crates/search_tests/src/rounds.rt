@@ -1,6 +1,7 @@
 // Worked instances and plans, and each public call of rounds and runs once.
 ghost use Rattle.shop_round.specs.Runs.{IsStandingOf};
 
+use crate::bounds::ft06_rows;
 use shop_model::Instance;
 use shop_round::{Alone, Answer, Crew, Order, Plan, Round, Standing, gather, run_alone};
 use shop_tree::Node;
@@ -190,6 +191,24 @@ fn rounds_cut_and_gathered_one_by_one(rt: HostRuntime) {
     assert_standing(&rt, &second, 16, 3, (2, 9));
     let third = after_round(&rt, alloc, &instance, &plan, second);
     assert_standing(&rt, &third, 10, 0, (3, 10));
+}
+
+/// Three rounds leave 334 nodes: the fourth takes 256 of them, and the other 78 are its rest.
+#[test]
+fn a_round_with_a_rest(rt: HostRuntime) {
+    let alloc = rt.alloc();
+    let rows = ft06_rows(alloc).expect(&rt, "memory");
+    let instance = of_rows(6, rows).expect(&rt, "an instance");
+    let plan = Plan::new(4, 8, 1).expect(&rt, "plan");
+    let start = Standing::start(alloc, &instance).expect(&rt, "memory");
+    let first = after_round(&rt, alloc, &instance, &plan, start);
+    assert_standing(&rt, &first, 152, 10, (1, 8));
+    let second = after_round(&rt, alloc, &instance, &plan, first);
+    assert_standing(&rt, &second, 152, 60, (2, 88));
+    let third = after_round(&rt, alloc, &instance, &plan, second);
+    assert_standing(&rt, &third, 152, 334, (3, 568));
+    let fourth = after_round(&rt, alloc, &instance, &plan, third);
+    assert_standing(&rt, &fourth, 152, 1487, (4, 2616));
 }
 
 fn assert_node(rt: &impl Abort, node: &Node, jobs: &[usize], bound: u64) {
