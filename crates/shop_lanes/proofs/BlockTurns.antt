@@ -53,10 +53,6 @@ pub record IsPassed (limit least start first : ℕ) (all : List Lane) (clock mos
   pub reaches : max most (span least clock rest) ≡ max first (span least start all)
   pub fits : FitsSpan limit clock rest
 
-pub passed_none : (limit least start first : ℕ) (all : List Lane) → FitsSpan limit start all
-    → IsPassed limit least start first all start first all
-passed_none limit least start first all h = record { reaches = refl; fits = h }
-
 pub part_fits : (limit start : ℕ) (xs ys : List Lane) → FitsSpan limit start (xs ++ ys) → FitsSpan limit start xs
 part_fits limit start xs ys h =
     omega (arith, sum_by-append (λ x. x.time) xs ys, greatest_by-append (λ x. x.tail) xs ys)
@@ -104,13 +100,6 @@ block_split b hs ts qs a c =
 pub record IsBlockPass (limit least start first : ℕ) (all : List Lane) (clock : List ℕ) (most b : ℕ) : Type 0 where
   pub splat : clock ≡ replicate 8 (get_or clock 0 0)
   pub passed : IsPassed limit least start first all (get_or clock 0 0) most (drop (8 * b) all)
-
-pub pass_begins : (limit least start first : ℕ) (all : List Lane) → FitsSpan limit start all
-    → IsBlockPass limit least start first all (replicate 8 start) first 0
-pass_begins limit least start first all h = record {
-  splat = refl;
-  passed = passed_none limit least start first all h;
-}
 
 module _ (limit least start first : ℕ) (hs ts qs : List ℕ) (a : length ts ≡ length hs) (c : length qs ≡ length hs) where
   abbrev pub block_at : ℕ → List Lane

@@ -193,9 +193,6 @@ pub record IsLeaped (above upto most : ℕ) (all : List Lane) (settled bound : �
   pub kept : most ≤ bound
   pub reaches : max bound (spans_between settled upto all) ≡ max most (spans_between above upto all)
 
-pub leaps_begin : (above upto most : ℕ) (all : List Lane) → IsLeaped above upto most all above most
-leaps_begin above upto most all = record { kept = omega arith; reaches = refl }
-
 module _ (top above upto most : ℕ) (all : List Lane) (settled bound : ℕ)
     (h : IsLeaped above upto most all settled bound) where
   pub leaps_no_greater : bound ≤ max most (spans_between above upto all)

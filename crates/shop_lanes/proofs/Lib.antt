@@ -4,6 +4,7 @@ pub mod LeapTurns
 pub mod LaterTurns
 pub mod TailedEnds
 pub mod OwnPositions
+pub mod OwnBlocks
 pub mod OwnTurns
 pub mod OwnRows
 pub mod SpanTurns

@@ -95,13 +95,6 @@ work-one least x = by_test (leb least x.head)
     by_test true = omega arith
     by_test false = refl
 
-pub load-one : (least : ℕ) (x : Lane) → span least 0 (x ∷ []) ≡ cond (leb least x.head) (x.time + x.tail) 0
-load-one least x = by_test (leb least x.head)
-  where
-    by_test : (on : Bool) → cond on (max (0 + x.time + x.tail) 0) 0 ≡ cond on (x.time + x.tail) 0
-    by_test true = omega arith
-    by_test false = refl
-
 -- neither is above what all lanes together come to
 pub work_le : (least : ℕ) (xs : List Lane) → clock_after least 0 xs ≤ sum_by (λ x. x.time) xs
 work_le least [] = omega arith

@@ -1,8 +1,7 @@
 -- Bits as positions: the lowest taken out, none left, and the mask of a test.
 use Rattle.std.proofs.Common.{◌≡◌, ℕ, zero, suc, ◌+◌, ◌-◌, ◌*◌, ◌/◌, ◌%◌, ◌^◌, ◌<◌, ◌≤◌, Bool, true, false, List, []}
 use Rattle.std.proofs.Common.{◌∷◌, length, map, refl, ap, sym, ◌∙◌, arith, min, ◌⊎◌, inl, inr, ◌↔◌, IsTrue, nat_eq}
-use Rattle.std.proofs.Common.{pow-suc, drop, length-drop}
-use Rattle.std.proofs.lemmas.List.{length-map}
+use Rattle.std.proofs.Common.{pow-suc}
 use Rattle.std.proofs.lemmas.Bool.Decides.{nat_tests}
 use Rattle.std.proofs.lemmas.Bool.{cases_eq}
 use Rattle.std.specs.Int.Bits.{bit_and, and_self}
@@ -10,8 +9,6 @@ use Rattle.std.specs.Int.{bit_at}
 use Rattle.std.proofs.lemmas.Nat.Bits.{bit_at_and, bit_at-suc, bit_at_lowest, same_from_bits}
 use lib.Count.{count_trailing_zeros}
 use lib.Lanes.{mask_l}
-use Rattle.std.proofs.Math.Pow.{pow_mono}
-use Rattle.std.proofs.lemmas.Simd.{mask_l-lt}
 use Rattle.shop_lanes.specs.Marks.{marked}
 use Rattle.shop_lanes.specs.SetBits.{set_bits}
 
@@ -120,12 +117,3 @@ no_bits_exactly n at m marks small is = (
   (λ t. sym is ∙ ap (set_bits n at) (grind (arith, nat_tests)) ∙ set_bits-zero n at),
   (λ e. let z = no_bits n at m small (is ∙ e) in grind (arith, nat_tests)),
 )
-
--- the mask of fewer than 64 numbers has room for one bit more
-pub room_for_bit : (p : ℕ → Bool) (xs : List ℕ) (i : ℕ) → length xs ≤ 64 → 0 < i
-    → mask_l (map p (drop i xs)) < 2 ^ 63
-room_for_bit p xs i le some =
-    let a : mask_l (map p (drop i xs)) < 2 ^ length (map p (drop i xs)) = mask_l-lt (map p (drop i xs))
-    in let b : length (map p (drop i xs)) ≤ 63 = simp (length-map, length-drop) (omega arith)
-    in let d : 2 ^ length (map p (drop i xs)) ≤ 2 ^ 63 = pow_mono b
-    in omega arith

@@ -1,5 +1,5 @@
-// When what else waits on a machine ends, if one operation is served before: of all operations in one pass down the
-// blocks and one back.
+// When what else waits on a machine ends, if one operation is served before: of all operations by one pass down the
+// blocks of the machine and one back.
 ghost use Rattle.std.specs.Prelude.{◌≡◌, ◌%◌, length, replicate, max};
 ghost use Rattle.std.specs.Simd.Lanes.{zip2};
 ghost use Rattle.shop_blocks.specs.Eights.{added, lessened, AddsFit};
@@ -47,8 +47,8 @@ fn note<B: Block>(
     clock
 }
 
-/// Eight own spans: from the greatest ends of what waits before and of what waits behind, where these count the
-/// operation itself.
+/// Eight own spans: the end of each operation at its head and the greater of two ends of what else waits, of what stands
+/// before it and of what stands behind it, whose end counts its own time and so is less by that.
 #[inline(always)]
 fn own_ends<B: Block>(heads: B, times: B, before: B, behind: B) -> B
     requires heads { length (B.numbers heads) ≡ 8 }
@@ -144,7 +144,14 @@ fn own_spans_of_longer<B: Block>(
     ensures long { length owns.new ≡ length owns.old }
     ensures owns { AreOwnSpansOf B.value heads.now times.now tails.now owns.new }
 {
-    own_spans_of::<B>(heads.len(), heads, times, tails, owns);
+    match heads.len() {
+        32 => own_spans_of::<B>(32, heads, times, tails, owns),
+        40 => own_spans_of::<B>(40, heads, times, tails, owns),
+        48 => own_spans_of::<B>(48, heads, times, tails, owns),
+        56 => own_spans_of::<B>(56, heads, times, tails, owns),
+        64 => own_spans_of::<B>(64, heads, times, tails, owns),
+        _ => own_spans_of::<B>(heads.len(), heads, times, tails, owns),
+    }
 }
 
 /// Of each operation that waits, the greater of its end and of when the last of what else waits ends, if that is served

@@ -1,9 +1,9 @@
-use Rattle.std.proofs.Common.{◌≡◌, ◌∙◌, ◌+◌, ◌*◌, ◌%◌, ◌≤◌, max, length, map, refl, ap, sym, arith}
+use Rattle.std.proofs.Common.{◌≡◌, ◌∙◌, ◌+◌, ◌*◌, ◌≤◌, max, length, map, refl, ap, sym, arith}
 use Rattle.std.proofs.lemmas.List.{length-map}
 use Rattle.std.proofs.lemmas.Simd.{length-zip2}
 use lib.Lanes.{zip2}
-use Rattle.shop_lanes.proofs.OwnTurns.{IsLoaded, splat_long, block_fits, late_long, befores_long, noted_long, note_more}
-use Rattle.shop_lanes.proofs.OwnTurns.{noted_all}
+use Rattle.shop_lanes.proofs.OwnBlocks.{IsLoaded, splat_long, block_fits, late_long}
+use Rattle.shop_lanes.proofs.OwnTurns.{befores_long, noted_long, note_more, noted_all}
 use Rattle.shop_lanes.proofs.RowValues.{as_long}
 use Rattle.shop_lanes.proofs.owning.note.Goals as goal
 

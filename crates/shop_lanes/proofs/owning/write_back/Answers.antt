@@ -1,12 +1,12 @@
-use Rattle.std.proofs.Common.{◌≡◌, ◌∙◌, ◌+◌, ◌-◌, ◌*◌, ◌/◌, ◌%◌, ◌≤◌, max, length, map, take, replicate, refl, ap, sym}
+use Rattle.std.proofs.Common.{◌≡◌, ◌∙◌, ◌+◌, ◌-◌, ◌*◌, ◌/◌, ◌≤◌, max, length, map, take, replicate, refl, ap, sym}
 use Rattle.std.proofs.Common.{subst, arith}
 use Rattle.std.proofs.lemmas.List.{length-map}
 use lib.Lanes.{zip2}
 use Rattle.shop_lanes.specs.Rows.{lanes}
 use Rattle.shop_lanes.specs.inner.Passes.{clock_after}
-use Rattle.shop_lanes.proofs.OwnTurns.{IsLoaded, IsBackTo, splat_long, block_fits, waiting_fits, clock_back, late_long}
-use Rattle.shop_lanes.proofs.OwnTurns.{behinds_long, after_long, begins_fit, own_ends_fit, own_ends_long, back_begins}
-use Rattle.shop_lanes.proofs.OwnTurns.{back_more}
+use Rattle.shop_lanes.proofs.OwnBlocks.{IsLoaded, splat_long, block_fits, waiting_fits, clock_back, late_long}
+use Rattle.shop_lanes.proofs.OwnTurns.{IsBackTo, behinds_long, after_long, begins_fit, own_ends_fit, own_ends_long}
+use Rattle.shop_lanes.proofs.OwnTurns.{back_begins, back_more}
 use Rattle.shop_lanes.proofs.RowValues.{as_long}
 use Rattle.shop_lanes.proofs.owning.write_back.Goals as goal
 

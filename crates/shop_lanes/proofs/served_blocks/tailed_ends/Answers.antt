@@ -1,4 +1,4 @@
-use Rattle.std.proofs.Common.{◌∙◌, ap, sym, get_or, replicate}
+use Rattle.std.proofs.Common.{◌∙◌, ap, get_or, replicate}
 use Rattle.shop_lanes.proofs.Serving.{served_long, served_fit, ends_fit, ends_long, late_fit, block_clock, late_is}
 use Rattle.shop_lanes.proofs.served_blocks.tailed_ends.Goals as goal
 
