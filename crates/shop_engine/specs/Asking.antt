@@ -2,7 +2,7 @@
 --     IsAsked format name text asked       the instance that is asked for stands in the text
 --     OfAsked format name text Says        and this holds of it
 --     IsAskFault format name text fault    why there is none
---     OrNoMemory IsBad text fault          why a call is refused: want of memory, or a fault
+--     OrNoMemory IsBad text fault          why a call is refused: memory ran out, or a fault
 use Rattle.std.specs.Prelude.{◌≡◌, ℕ, ◌≤◌, List, length, Option, Some, None, string_bytes}
 use Rattle.std.specs.Option.{option_map}
 use Rattle.std.specs.declared.string.String.{String}

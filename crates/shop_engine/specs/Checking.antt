@@ -118,8 +118,8 @@ IsScheduleRefused second second' fault text shop =
 
 -- The second source is read only after an instance was picked. On success the sink took just the
 -- line, and no device failed. A refusal is that of all bytes of its source; it and a failed read
--- leave the sink as it was, and so does want of memory, where no device failed. After a failed
--- write a beginning of the line is out.
+-- leave the sink as it was, and so does a call that runs out of memory, where no device failed.
+-- After a failed write the sink holds a beginning of the line.
 abbrev pub IsChecking : CheckArgs → Device → Device → Second → Second → Device → Device
     → Result Bool Fault → Type 0
 IsChecking args source source' second second' sink sink' (Ok feasible) =

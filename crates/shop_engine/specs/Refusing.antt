@@ -18,7 +18,7 @@ use Rattle.shop_engine.specs.Listing.{IsListing}
 use Rattle.shop_engine.specs.Checking.{Second, IsChecking}
 use Rattle.shop_engine.specs.Solving.{IsSolving}
 
--- In its place may stand want of memory, or a failed read.
+-- the text is refused by this fault, or else memory ran out or a read failed
 abbrev pub IsRefusal : {A : Type 0} → ReadFault → Result A Fault → Type 0
 IsRefusal fault (Ok a) = ⊥
 IsRefusal fault (Err (Text NoMemory)) = Unit {0}

@@ -32,8 +32,8 @@ abbrev pub GivesSchedule : NamedShop → List ℕ → Type 0
 GivesSchedule asked written = IsTrue (list_all is_visible asked.name) → length written ≤ MAX_TEXT
     → IsScheduleOf asked written
 
--- each answer of `check_bytes` on this instance text and this schedule text, but want of memory, is
--- that it is feasible, with the line that names the report's makespan
+-- unless memory runs out, `check_bytes` answers on this instance text and this schedule text that
+-- the schedule is feasible, with the line that names the report's makespan
 pub record IsFoundFeasible (format : Format) (name : Option (List ℕ)) (text written : List ℕ)
     : Type 0 where
   pub report : Reported

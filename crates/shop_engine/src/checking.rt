@@ -42,11 +42,11 @@ fn schedule_or<'t>(schedule: Option<&'t [u8]>, text: &'t [u8]) -> &'t [u8]
 }
 
 /// Whether a schedule text is feasible for the instance that is asked for in an instance text, and the line of the
-/// verdict; without a schedule text it stands in the instance text itself. For library callers: the program
-/// doesn't use it. It reads and writes no device.
+/// verdict; without a schedule text it stands in the instance text itself. Reads and writes no device. For library
+/// callers: the program doesn't use it.
 ///
-/// Refused by the instance text's one fault, as `NoSuchName`, by the schedule text's one fault, or as `NoMemory` if
-/// memory runs out.
+/// Fails with the fault of the instance text, with `NoSuchName`, or with the fault of the schedule text. Fails with
+/// `NoMemory` if memory runs out.
 pub fn check_bytes(
     alloc: Global,
     text: &[u8],
@@ -81,7 +81,7 @@ fn schedule_of<T: Source>(
     }
 }
 
-/// Writes the verdict on a schedule for an instance of a source, and answers whether it is feasible. The schedule is
+/// Writes the verdict on a schedule for an instance of a source, and returns whether it is feasible. The schedule is
 /// read from a second source, after the instance is picked; without one it stands in the instance text itself.
 /// Nothing is written before the line is made.
 pub fn check_text<S: Source, T: Source, K: Sink>(

@@ -1,3 +1,4 @@
+// Why an engine refuses.
 ghost use Rattle.std.specs.Prelude.{◌≡◌};
 ghost use Rattle.shop_text.specs.declared.faults.ReadFault.TheVariants.{NoMemory};
 ghost use Rattle.shop_engine.specs.declared.faults.Fault.TheVariants.{Text};

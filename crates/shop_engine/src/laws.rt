@@ -4,19 +4,19 @@ ghost use Rattle.shop_engine.specs.Refusing.{ListingRefuses, CheckingRefuses, So
 ghost use Rattle.shop_engine.specs.WholeRun.{OneWholeRun};
 
 /// Where the bytes of a source are known and their text is refused, the engines answer that refusal: the one fault of
-/// the text, or that it has no instance of the name. In its place may stand want of memory, or a failed read.
+/// the text, or that it has no instance of the name; or else that memory ran out or a read failed.
 pub fn refused_texts_are_answered()
     ensures list { ListingRefuses }
     ensures check { CheckingRefuses }
     ensures solve { SolvingRefuses }
 {}
 
-/// A text is right by one report alone: what is written can't be read as another answer.
+/// A text is right for one report alone: it can't be read as another answer.
 pub fn one_report()
     ensures { OneReport }
 {}
 
-/// The report of two jobs that cross, from the bytes of their text to its own: the definitions give these bytes and no
+/// The report of two jobs that cross: from the bytes of their text the definitions give the bytes of the report, and no
 /// others.
 pub fn one_whole_run()
     ensures { OneWholeRun }

@@ -12,10 +12,10 @@ use crate::transfers::{read_all, write_all};
 use shop_text::{ReadFault, listing, read};
 use std::alloc::Global;
 
-/// The list of the instances of a text: a line for each, with its name, its jobs and its machines. For those who embed
-/// the library: it reads and writes no device.
+/// The list of the instances of a text: a line for each, with its name, its jobs and its machines. Reads and writes no
+/// device.
 ///
-/// Refused by the text's one fault, or as `NoMemory` if memory runs out.
+/// Fails with the fault of the text. Fails with `NoMemory` if memory runs out.
 pub fn list_bytes(alloc: Global, text: &[u8], args: &ListArgs) -> Result<Vec<u8>, ReadFault>
     ensures list { IfOk result (λ out. IsListOf args.now.format text.now out.items) }
     ensures refused { IfErr result (λ fault.

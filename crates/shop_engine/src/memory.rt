@@ -28,7 +28,7 @@ impl Memory {
         })
     }
 
-    /// What was written.
+    /// The bytes that were written.
     pub fn bytes(&self) -> &[u8]
         ensures { result.now ≡ self.now.held.items }
     {

@@ -22,7 +22,7 @@ use shop_round::{Answer, Crew, Plan, run};
 use shop_text::{Named, ReadFault, Report, gantt, read, report};
 use std::alloc::{AllocError, Global};
 
-/// Each number of this type is printed in full.
+/// A `u64` is below 2^64. (A fact for proofs; the call does nothing.)
 fn is_word(number: u64)
     ensures { number < 2 ^ 64 }
 {}
@@ -75,10 +75,10 @@ fn text_of(
 
 /// The report of the best schedule that a plan finds for an instance, with any crew, and its Gantt text where that is
 /// asked for. The schedule is feasible and ends at the printed makespan, no feasible schedule ends before the printed
-/// bound, and where the status is optimal none ends before the makespan. For those who embed the library.
+/// bound, and where the status is optimal none ends before the makespan.
 ///
-/// What is returned is itself a schedule text of the instance, if it has no more than `MAX_TEXT` bytes.
-/// Fails with `AllocError` if memory runs out.
+/// The report is itself a schedule text of the instance, if it has no more than `MAX_TEXT` bytes. Fails with
+/// `AllocError` if memory runs out.
 pub fn solve_instance<R, C: Crew<R>>(
     rt: &R,
     alloc: Global,
@@ -98,12 +98,10 @@ pub fn solve_instance<R, C: Crew<R>>(
     text_of(alloc, asked, &answer, with_gantt)
 }
 
-/// The report as `solve_instance` makes it, of the instance that is asked for in a text. For those who embed the
-/// library: it reads and writes no device.
+/// The report as `solve_instance` makes it, of the instance that is asked for in a text. Reads and writes no device.
 ///
-/// What is returned, given to `check_bytes` with the same text, is found feasible and to end at the printed makespan,
-/// if it has no more than `MAX_TEXT` bytes.
-/// Refused by the text's one fault, as `NoSuchName`, or as `NoMemory` if memory runs out.
+/// `check_bytes` of the same text finds the report feasible, with the printed makespan, if the report has no more than
+/// `MAX_TEXT` bytes. Fails with the fault of the text, or with `NoSuchName`. Fails with `NoMemory` if memory runs out.
 pub fn solve_bytes<R, C: Crew<R>>(
     rt: &R,
     alloc: Global,

@@ -8,8 +8,8 @@ use crate::faults::Fault;
 use shop_text::{MAX_TEXT, ReadFault};
 use std::alloc::Global;
 
-/// All bytes of a source up to its end, after which it isn't read again. Where there are more than a text may have, the
-/// source is left after the first one too many.
+/// All bytes of a source up to its end, after which it isn't read again. Fails with `ReadFailed` if the source fails,
+/// and with `TooLong` after the first byte above `MAX_TEXT`. Fails with `NoMemory` if memory runs out.
 pub(crate) fn read_all<S: Source>(alloc: Global, source: &mut S) -> Result<Vec<u8>, Fault>
     ensures short { IfOk result (λ text. length text.items ≤ MAX_TEXT) }
     ensures read { IfOk result (λ text.
@@ -32,7 +32,7 @@ pub(crate) fn read_all<S: Source>(alloc: Global, source: &mut S) -> Result<Vec<u
     Err(Fault::Text(ReadFault::TooLong))
 }
 
-/// Writes all of a text. Where the sink fails, a beginning of it went out.
+/// Writes all of a text. Fails with `WriteFailed` if the sink does, once it holds a beginning of the text.
 pub fn write_all<K: Sink>(sink: &mut K, text: &[u8]) -> Result<(), Fault>
     ensures written { OnOk result (IsWritten (K.device sink.old) (K.device sink.new) text.now) }
     ensures unwritten { IfErr result (λ fault.

@@ -1,4 +1,4 @@
-// Laws of answers: how their bounds stand to what can be counted by hand, and to those of shorter runs.
+// Laws of answers: how their bounds compare with what can be counted by hand, and with those of shorter runs.
 ghost use Rattle.shop_laws.specs.Floors.{BoundsReachTheFloor};
 ghost use Rattle.shop_laws.specs.LaterBounds.{MoreRoundsLowerNoBound};
 

@@ -15,7 +15,7 @@ pub fn relaxations_are_no_later()
     ensures { RelaxationsAreNoLater }
 {}
 
-/// With all times and releases a whole number of times as long, so is the least makespan.
+/// Where all times and releases are multiplied by a whole number, so is the least makespan.
 pub fn scaling_keeps_the_least()
     ensures { ScalingKeepsTheLeast }
 {}
