@@ -1,6 +1,6 @@
 // Texts cut to their first n bytes, for each n; the answers are derived from the formats' description.
-use crate::texts_readers::{told, two_examples};
-use shop_text::{read_orlib, read_taillard};
+use crate::texts_readers::{assert_read, two_examples};
+use shop_text::Format;
 
 #[test]
 fn orlib_cut_at_each_byte(rt: HostRuntime) {
@@ -15,8 +15,7 @@ fn orlib_cut_at_each_byte(rt: HostRuntime) {
             13..=18 => "error 7: line 3: bad row",
             _ => "[1 2 | 0 0:3 1:2 | 0 1:2 0:4]",
         };
-        let answer = read_orlib(rt.alloc(), &text[..n]);
-        assert_eq!(rt; told(&rt, rt.alloc(), &answer).as_str(), want, "at {n}");
+        assert_read(&rt, rt.alloc(), Format::Orlib, &text[..n], want);
     }
 }
 
@@ -49,8 +48,7 @@ fn named_instances_cut_at_each_byte(rt: HostRuntime) {
             162..=171 => "error 7: line 16: bad row",
             _ => "[alpha 2 | 0 0:3 1:2 | 0 1:2 0:4][gap 3 | 0 0:5 1:3 2:0 | 0 1:1 0:1 2:6]",
         };
-        let answer = read_orlib(rt.alloc(), &bytes[..n]);
-        assert_eq!(rt; told(&rt, rt.alloc(), &answer).as_str(), want, "at {n}");
+        assert_read(&rt, rt.alloc(), Format::Orlib, &bytes[..n], want);
     }
 }
 
@@ -75,7 +73,6 @@ fn taillard_cut_at_each_byte(rt: HostRuntime) {
             61..=62 => "error 7: line 8: bad row",
             _ => "[1 2 | 0 0:3 1:2 | 0 1:2 0:4]",
         };
-        let answer = read_taillard(rt.alloc(), &text[..n]);
-        assert_eq!(rt; told(&rt, rt.alloc(), &answer).as_str(), want, "at {n}");
+        assert_read(&rt, rt.alloc(), Format::Taillard, &text[..n], want);
     }
 }

@@ -7,7 +7,7 @@ use std::fmt::Write;
 use std::process::Abort;
 
 /// NAME MACHINES, then for each job its release and its operations, or the fault.
-pub fn told(rt: &impl Abort, alloc: Global, answer: &Result<Vec<Named>, ReadFault>) -> String {
+fn told(rt: &impl Abort, alloc: Global, answer: &Result<Vec<Named>, ReadFault>) -> String {
     let mut text = String::new(alloc);
     match answer {
         Err(fault) => write!(text, "{fault}").expect(rt, "memory"),
@@ -25,6 +25,19 @@ pub fn told(rt: &impl Abort, alloc: Global, answer: &Result<Vec<Named>, ReadFaul
         }
     }
     text
+}
+
+/// Asserts an answer, as `told` writes it.
+fn assert_told(rt: &impl Abort, alloc: Global, answer: &Result<Vec<Named>, ReadFault>, want: &str) {
+    let text = told(rt, alloc, answer);
+    assert_eq!(rt; text.as_str(), want);
+}
+
+/// Asserts what is read of a text in this format.
+pub fn assert_read(rt: &impl Abort, alloc: Global, format: Format, text: &[u8], want: &str) {
+    let answer = read(alloc, format, text);
+    let told = told(rt, alloc, &answer);
+    assert_eq!(rt; told.as_str(), want, "a text of {} bytes", text.len());
 }
 
 #[test]
@@ -98,8 +111,7 @@ fn texts_of_orlib(rt: HostRuntime) {
         ),
     ];
     for (text, want) in cases {
-        let answer = read_orlib(rt.alloc(), text.as_bytes());
-        assert_eq!(rt; told(&rt, rt.alloc(), &answer).as_str(), want, "at {text}");
+        assert_read(&rt, rt.alloc(), Format::Orlib, text.as_bytes(), want);
     }
 }
 
@@ -133,8 +145,7 @@ fn texts_of_taillard(rt: HostRuntime) {
         ),
     ];
     for (text, want) in cases {
-        let answer = read_taillard(rt.alloc(), text.as_bytes());
-        assert_eq!(rt; told(&rt, rt.alloc(), &answer).as_str(), want, "at {text}");
+        assert_read(&rt, rt.alloc(), Format::Taillard, text.as_bytes(), want);
     }
 }
 
@@ -156,12 +167,11 @@ fn texts_of_routes(rt: HostRuntime) {
         ("1 1\n0 1 5\n", "error 9: line 2: no such machine"),
     ];
     for (text, want) in cases {
-        let answer = read_routes(rt.alloc(), text.as_bytes());
-        assert_eq!(rt; told(&rt, rt.alloc(), &answer).as_str(), want, "at {text}");
+        assert_read(&rt, rt.alloc(), Format::Routes, text.as_bytes(), want);
     }
 }
 
-// two instances with names, lines ended by CR LF
+/// Two instances with names, their lines ended by CR LF.
 pub fn two_examples(rt: &impl Abort, alloc: Global) -> String {
     let lines = [
         "Two small examples",
@@ -189,16 +199,21 @@ pub fn two_examples(rt: &impl Abort, alloc: Global) -> String {
     text
 }
 
+/// Asserts on how many machines the picked instance is.
+fn assert_picked(
+    rt: &impl Abort,
+    named: &[Named],
+    name: Option<&str>,
+    want: Result<usize, ReadFault>,
+) {
+    assert!(rt; named.len() > 0);
+    assert_eq!(rt; pick(named, name).map(|n| n.instance.machines()), want);
+}
+
 #[test]
 fn instances_by_name(rt: HostRuntime) {
     let text = two_examples(&rt, rt.alloc());
-    let answer = read_orlib(rt.alloc(), text.as_bytes());
-    assert_eq!(rt;
-        told(&rt, rt.alloc(), &answer).as_str(),
-        "[alpha 2 | 0 0:3 1:2 | 0 1:2 0:4][gap 3 | 0 0:5 1:3 2:0 | 0 1:1 0:1 2:6]"
-    );
-    let named = answer.expect(&rt, "two instances");
-    assert!(rt; named.len() == 2);
+    let named = read_orlib(rt.alloc(), text.as_bytes()).expect(&rt, "two instances");
     let cases = [
         (None, Ok(2)),
         (Some("alpha"), Ok(2)),
@@ -206,66 +221,63 @@ fn instances_by_name(rt: HostRuntime) {
         (Some("beta"), Err(ReadFault::NoSuchName)),
     ];
     for (name, want) in cases {
-        assert_eq!(rt;
-            pick(named.as_slice(), name).map(|n| n.instance.machines()),
-            want
-        );
+        assert_picked(&rt, named.as_slice(), name, want);
     }
-    let twice = read_orlib(
-        rt.alloc(),
-        b"instance a\n1 1\n0 1\ninstance a\n1 2\n0 1 1 1\n".as_slice(),
-    )
-    .expect(&rt, "memory");
-    assert!(rt; twice.len() == 2);
-    assert_eq!(rt;
-        pick(twice.as_slice(), Some("a")).map(|n| n.instance.machines()),
-        Ok(1)
-    );
 }
 
 #[test]
-fn forged_texts(rt: HostRuntime) {
-    let mut zeros = Vec::from_slice(rt.alloc(), b"1 1\n0 ".as_slice()).expect(&rt, "memory");
-    let mut nines = Vec::from_slice(rt.alloc(), b"1 1\n0 ".as_slice()).expect(&rt, "memory");
+fn the_first_instance_of_a_name_is_picked(rt: HostRuntime) {
+    let text = b"instance a\n1 1\n0 1\ninstance a\n1 2\n0 1 1 1\n".as_slice();
+    let named = read_orlib(rt.alloc(), text).expect(&rt, "two instances");
+    assert_picked(&rt, named.as_slice(), Some("a"), Ok(1));
+}
+
+/// An instance of one operation, whose time is 9,999 of one digit and then another.
+fn with_long_time(rt: &impl Abort, alloc: Global, digit: u8, last: u8) -> Vec<u8> {
+    let mut text = Vec::from_slice(alloc, b"1 1\n0 ".as_slice()).expect(rt, "memory");
     for _ in 0..9_999 {
-        zeros.push(b'0').expect(&rt, "memory");
-        nines.push(b'9').expect(&rt, "memory");
+        text.push(digit).expect(rt, "memory");
     }
-    zeros.push(b'7').expect(&rt, "memory");
-    nines.push(b'9').expect(&rt, "memory");
-    let seven = read_orlib(rt.alloc(), zeros.as_slice());
-    assert_eq!(rt; told(&rt, rt.alloc(), &seven).as_str(), "[1 1 | 0 0:7]");
-    let over = read_orlib(rt.alloc(), nines.as_slice());
-    assert_eq!(rt;
-        told(&rt, rt.alloc(), &over).as_str(),
-        "error 10: line 2: time out of range"
-    );
-    let before = read_orlib(rt.alloc(), b"\xff\x00\n1 1\n0 7\n".as_slice());
-    assert_eq!(rt; told(&rt, rt.alloc(), &before).as_str(), "[1 1 | 0 0:7]");
-    let among = read_orlib(rt.alloc(), b"1 1\n\xff\x00\n0 7\n".as_slice());
-    assert_eq!(rt;
-        told(&rt, rt.alloc(), &among).as_str(),
-        "error 7: line 2: bad row"
-    );
+    text.push(last).expect(rt, "memory");
+    text
+}
+
+#[test]
+fn long_numbers(rt: HostRuntime) {
+    let cases = [
+        (b'0', b'7', "[1 1 | 0 0:7]"),
+        (b'9', b'9', "error 10: line 2: time out of range"),
+    ];
+    for (digit, last, want) in cases {
+        let text = with_long_time(&rt, rt.alloc(), digit, last);
+        assert_read(&rt, rt.alloc(), Format::Orlib, text.as_slice(), want);
+    }
+}
+
+#[test]
+fn bytes_that_are_no_text(rt: HostRuntime) {
+    let cases = [
+        (b"\xff\x00\n1 1\n0 7\n".as_slice(), "[1 1 | 0 0:7]"),
+        (
+            b"1 1\n\xff\x00\n0 7\n".as_slice(),
+            "error 7: line 2: bad row",
+        ),
+    ];
+    for (text, want) in cases {
+        assert_read(&rt, rt.alloc(), Format::Orlib, text, want);
+    }
+}
+
+/// Asserts what is read of so many blanks.
+fn assert_blanks_read(rt: &impl Abort, alloc: Global, bytes: usize, want: &str) {
+    let text = vec![in alloc; b' '; bytes].expect(rt, "memory");
+    assert_read(rt, alloc, Format::Orlib, text.as_slice(), want);
 }
 
 #[test]
 fn texts_at_the_limit_of_bytes(rt: HostRuntime) {
-    let mut text = Vec::with_capacity(rt.alloc(), 16_777_217).expect(&rt, "memory");
-    for _ in 0..16_777_216 {
-        text.push(b' ').expect(&rt, "memory");
-    }
-    let longest = read_orlib(rt.alloc(), text.as_slice());
-    assert_eq!(rt;
-        told(&rt, rt.alloc(), &longest).as_str(),
-        "error 4: no instance"
-    );
-    text.push(b' ').expect(&rt, "memory");
-    let over = read_orlib(rt.alloc(), text.as_slice());
-    assert_eq!(rt;
-        told(&rt, rt.alloc(), &over).as_str(),
-        "error 3: text too long"
-    );
+    assert_blanks_read(&rt, rt.alloc(), 16_777_216, "error 4: no instance");
+    assert_blanks_read(&rt, rt.alloc(), 16_777_217, "error 3: text too long");
 }
 
 #[test]
@@ -287,9 +299,26 @@ fn one_text_in_each_format(rt: HostRuntime) {
         (Format::Routes, "error 7: line 2: bad row"),
     ];
     for (format, want) in answers {
-        let answer = read(rt.alloc(), format, text);
-        assert_eq!(rt; told(&rt, rt.alloc(), &answer).as_str(), want);
+        assert_read(&rt, rt.alloc(), format, text, want);
     }
+}
+
+#[test]
+fn each_reader_reads_its_format(rt: HostRuntime) {
+    let alloc = rt.alloc();
+    let want = "[1 1 | 0 0:7]";
+    let orlib = read_orlib(alloc, b"1 1\n0 7\n".as_slice());
+    assert_told(&rt, alloc, &orlib, want);
+    let taillard = read_taillard(alloc, b"1 1\n7\n1\n".as_slice());
+    assert_told(&rt, alloc, &taillard, want);
+    let routes = read_routes(alloc, b"1 1\n0 0 7\n".as_slice());
+    assert_told(&rt, alloc, &routes, want);
+}
+
+/// Asserts the words of a fault.
+fn assert_said(rt: &impl Abort, alloc: Global, fault: ReadFault, want: &str) {
+    let said = format!(in alloc; "{fault}").expect(rt, "memory");
+    assert_eq!(rt; said.as_str(), want);
 }
 
 #[test]
@@ -326,7 +355,6 @@ fn words_of_faults(rt: HostRuntime) {
         ),
     ];
     for (fault, want) in words {
-        let said = format!(in rt.alloc(); "{fault}").expect(&rt, "memory");
-        assert_eq!(rt; said.as_str(), want);
+        assert_said(&rt, rt.alloc(), fault, want);
     }
 }
