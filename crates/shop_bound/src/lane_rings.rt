@@ -24,15 +24,13 @@ impl<'a> LaneRing<'a> {
     pub(crate) fn new(alloc: Global, instance: &'a Instance) -> Result<LaneRing<'a>, AllocError>
         ensures { IfOk result (λ r. kept_in r ≡ nothing_dispatched instance.now) }
     {
-        Ok(match Layout::of(alloc, instance)? {
-            Layout::Narrow(dispatcher) => {
-                LaneRing::Narrow(Ring::new(alloc, instance, dispatcher)?)
+        match Layout::of(alloc, instance)? {
+            Layout::Narrow(laid_out) => {
+                Ok(LaneRing::Narrow(Ring::new(alloc, instance, laid_out)?))
             }
-            Layout::Wide(dispatcher) => { LaneRing::Wide(Ring::new(alloc, instance, dispatcher)?) }
-            Layout::Plain(dispatcher) => {
-                LaneRing::Plain(Ring::new(alloc, instance, dispatcher)?)
-            }
-        })
+            Layout::Wide(laid_out) => Ok(LaneRing::Wide(Ring::new(alloc, instance, laid_out)?)),
+            Layout::Plain(laid_out) => Ok(LaneRing::Plain(Ring::new(alloc, instance, laid_out)?)),
+        }
     }
 
     /// Adds the next operation of a job, which has one left.
