@@ -47,8 +47,8 @@ fn note<B: Block>(
     clock
 }
 
-/// Eight own spans: the end of each operation at its head and the greater of two ends of what else waits, of what stands
-/// before it and of what stands behind it, whose end counts its own time and so is less by that.
+/// The own spans of eight lanes. If all that waits is served from 0 on, `before` is the greatest end of what stands
+/// before each lane and `behind` that of what stands behind it, tails included; so `behind` counts the lane's own time.
 #[inline(always)]
 fn own_ends<B: Block>(heads: B, times: B, before: B, behind: B) -> B
     requires heads { length (B.numbers heads) ≡ 8 }
