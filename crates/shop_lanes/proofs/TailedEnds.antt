@@ -1,6 +1,6 @@
 -- When lanes end with their tails: of parts of the lanes, and the greatest of all.
-use Rattle.std.proofs.Common.{◌≡◌, ℕ, zero, suc, ◌+◌, max, Bool, true, false, cond, leb, List, [], ◌∷◌, length, take, drop}
-use Rattle.std.proofs.Common.{refl, ap, arith}
+use Rattle.std.proofs.Common.{◌≡◌, ℕ, zero, suc, ◌+◌, max, Bool, true, false, cond, leb, List, [], ◌∷◌, length}
+use Rattle.std.proofs.Common.{take, drop, refl, ap, arith}
 use Rattle.shop_blocks.specs.Folds.{greatest}
 use Rattle.shop_lanes.specs.Rows.{Lane}
 use Rattle.shop_lanes.specs.Spans.{span}

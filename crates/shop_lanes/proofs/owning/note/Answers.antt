@@ -29,7 +29,8 @@ tailed_ends-after-requires-clause-fits g c =
       one_is = c.splat-one.ensures;
       clock_is = c.loop-block.invariant.clock_is;
     }
-    in block_fits hs ts qs a b p room (n c.load-head.result) (n c.load-time.result) (n c.load-tail.result) (n c.splat-one.result)
+    in block_fits hs ts qs a b p room (n c.load-head.result) (n c.load-time.result) (n c.load-tail.result)
+    (n c.splat-one.result)
     (n c.loop-block.clock) read
     g.B.Block.GREATEST c.requires.fits
 
@@ -55,7 +56,8 @@ greatest_before-requires g c =
       one_is = c.splat-one.ensures;
       clock_is = c.loop-block.invariant.clock_is;
     }
-    in late_long hs ts qs a b p room (n c.load-head.result) (n c.load-time.result) (n c.load-tail.result) (n c.splat-one.result)
+    in late_long hs ts qs a b p room (n c.load-head.result) (n c.load-time.result) (n c.load-tail.result)
+    (n c.splat-one.result)
     (n c.loop-block.clock) read (n c.tailed_ends-after.result.1) c.tailed_ends-after.ensures.ends_are
 
 pub greater-noted-requires : goal.greater-noted-requires
@@ -81,7 +83,8 @@ greater-noted-requires g c =
       clock_is = c.loop-block.invariant.clock_is;
     }
     in splat_long (n c.loop-block.most) _ c.loop-block.invariant.most_is
-    ∙ sym (befores_long hs ts qs a b p room (n c.load-head.result) (n c.load-time.result) (n c.load-tail.result) (n c.splat-one.result)
+    ∙ sym (befores_long hs ts qs a b p room (n c.load-head.result) (n c.load-time.result) (n c.load-tail.result)
+    (n c.splat-one.result)
     (n c.loop-block.clock) read (n c.tailed_ends-after.result.1) c.tailed_ends-after.ensures.ends_are
     (n c.loop-block.most) (row c.loop-block.owns) (n c.greatest_before.result)
     (zip2 max (n c.loop-block.most) (n c.greatest_before.result)) c.loop-block.invariant c.greatest_before.ensures refl)
@@ -108,7 +111,8 @@ store-requires-clause-eight g c =
       one_is = c.splat-one.ensures;
       clock_is = c.loop-block.invariant.clock_is;
     }
-    in noted_long hs ts qs a b p room (n c.load-head.result) (n c.load-time.result) (n c.load-tail.result) (n c.splat-one.result)
+    in noted_long hs ts qs a b p room (n c.load-head.result) (n c.load-time.result) (n c.load-tail.result)
+    (n c.splat-one.result)
     (n c.loop-block.clock) read (n c.tailed_ends-after.result.1) c.tailed_ends-after.ensures.ends_are
     (n c.loop-block.most) (row c.loop-block.owns) (n c.greatest_before.result) (n c.greater-noted.result)
     c.loop-block.invariant c.greatest_before.ensures c.greater-noted.ensures
@@ -135,11 +139,13 @@ greater-requires g c =
       one_is = c.splat-one.ensures;
       clock_is = c.loop-block.invariant.clock_is;
     }
-    in noted_long hs ts qs a b p room (n c.load-head.result) (n c.load-time.result) (n c.load-tail.result) (n c.splat-one.result)
+    in noted_long hs ts qs a b p room (n c.load-head.result) (n c.load-time.result) (n c.load-tail.result)
+    (n c.splat-one.result)
     (n c.loop-block.clock) read (n c.tailed_ends-after.result.1) c.tailed_ends-after.ensures.ends_are
     (n c.loop-block.most) (row c.loop-block.owns) (n c.greatest_before.result) (n c.greater-noted.result)
     c.loop-block.invariant c.greatest_before.ensures c.greater-noted.ensures
-    ∙ sym (late_long hs ts qs a b p room (n c.load-head.result) (n c.load-time.result) (n c.load-tail.result) (n c.splat-one.result)
+    ∙ sym (late_long hs ts qs a b p room (n c.load-head.result) (n c.load-time.result) (n c.load-tail.result)
+    (n c.splat-one.result)
     (n c.loop-block.clock) read (n c.tailed_ends-after.result.1) c.tailed_ends-after.ensures.ends_are)
 
 pub last-most-requires : goal.last-most-requires
@@ -164,11 +170,13 @@ last-most-requires g c =
       one_is = c.splat-one.ensures;
       clock_is = c.loop-block.invariant.clock_is;
     }
-    in let long = noted_long hs ts qs a b p room (n c.load-head.result) (n c.load-time.result) (n c.load-tail.result) (n c.splat-one.result)
+    in let long = noted_long hs ts qs a b p room (n c.load-head.result) (n c.load-time.result) (n c.load-tail.result)
+    (n c.splat-one.result)
     (n c.loop-block.clock) read (n c.tailed_ends-after.result.1) c.tailed_ends-after.ensures.ends_are
     (n c.loop-block.most) (row c.loop-block.owns) (n c.greatest_before.result) (n c.greater-noted.result)
     c.loop-block.invariant c.greatest_before.ensures c.greater-noted.ensures
-    in let as_long' = late_long hs ts qs a b p room (n c.load-head.result) (n c.load-time.result) (n c.load-tail.result) (n c.splat-one.result)
+    in let as_long' = late_long hs ts qs a b p room (n c.load-head.result) (n c.load-time.result)
+    (n c.load-tail.result) (n c.splat-one.result)
     (n c.loop-block.clock) read (n c.tailed_ends-after.result.1) c.tailed_ends-after.ensures.ends_are
     in ap length c.greater.ensures
     ∙ length-zip2 max (n c.greater-noted.result) (n c.tailed_ends-after.result.1) (long ∙ sym as_long')
@@ -196,7 +204,8 @@ loop-block-preserved g c =
       one_is = c.splat-one.ensures;
       clock_is = c.loop-block.invariant.clock_is;
     }
-    in note_more hs ts qs a b p room (n c.load-head.result) (n c.load-time.result) (n c.load-tail.result) (n c.splat-one.result)
+    in note_more hs ts qs a b p room (n c.load-head.result) (n c.load-time.result) (n c.load-tail.result)
+    (n c.splat-one.result)
     (n c.loop-block.clock) read (n c.tailed_ends-after.result.1) c.tailed_ends-after.ensures.ends_are
     (n c.loop-block.most) (row c.loop-block.owns) (n c.greatest_before.result) (n c.greater-noted.result)
     c.loop-block.invariant c.greatest_before.ensures c.greater-noted.ensures

@@ -53,7 +53,8 @@ clock_before-clock-requires-clause-fits g c =
       one_is = c.splat-one.ensures;
       clock_is = refl;
     }
-    in waiting_fits hs ts qs a b p room (n c.load-head.result) (n c.load-time.result) (n c.load-tail.result) (n c.splat-one.result)
+    in waiting_fits hs ts qs a b p room (n c.load-head.result) (n c.load-time.result) (n c.load-tail.result)
+    (n c.splat-one.result)
     begun first
     g.B.Block.GREATEST c.requires.fits.whole
 
@@ -89,11 +90,13 @@ tailed_ends-late-requires-clause-fits g c =
       times_are = c.load-time.ensures;
       tails_are = c.load-tail.ensures;
       one_is = c.splat-one.ensures;
-      clock_is = clock_back hs ts qs a b p room (n c.load-head.result) (n c.load-time.result) (n c.load-tail.result) (n c.splat-one.result)
+      clock_is = clock_back hs ts qs a b p room (n c.load-head.result) (n c.load-time.result) (n c.load-tail.result)
+          (n c.splat-one.result)
           begun first
           (n c.loop-block.clock) (n c.clock_before-clock.result) clock_is c.clock_before-clock.ensures;
     }
-    in block_fits hs ts qs a b p room (n c.load-head.result) (n c.load-time.result) (n c.load-tail.result) (n c.splat-one.result)
+    in block_fits hs ts qs a b p room (n c.load-head.result) (n c.load-time.result) (n c.load-tail.result)
+    (n c.splat-one.result)
     (n c.clock_before-clock.result) read
     g.B.Block.GREATEST c.requires.fits.whole
 
@@ -129,11 +132,13 @@ greatest_behind-requires g c =
       times_are = c.load-time.ensures;
       tails_are = c.load-tail.ensures;
       one_is = c.splat-one.ensures;
-      clock_is = clock_back hs ts qs a b p room (n c.load-head.result) (n c.load-time.result) (n c.load-tail.result) (n c.splat-one.result)
+      clock_is = clock_back hs ts qs a b p room (n c.load-head.result) (n c.load-time.result) (n c.load-tail.result)
+          (n c.splat-one.result)
           begun first
           (n c.loop-block.clock) (n c.clock_before-clock.result) clock_is c.clock_before-clock.ensures;
     }
-    in late_long hs ts qs a b p room (n c.load-head.result) (n c.load-time.result) (n c.load-tail.result) (n c.splat-one.result)
+    in late_long hs ts qs a b p room (n c.load-head.result) (n c.load-time.result) (n c.load-tail.result)
+    (n c.splat-one.result)
     (n c.clock_before-clock.result) read (n c.tailed_ends-late.result.1)
     c.tailed_ends-late.ensures.ends_are
 
@@ -169,15 +174,18 @@ greater-after-requires g c =
       times_are = c.load-time.ensures;
       tails_are = c.load-tail.ensures;
       one_is = c.splat-one.ensures;
-      clock_is = clock_back hs ts qs a b p room (n c.load-head.result) (n c.load-time.result) (n c.load-tail.result) (n c.splat-one.result)
+      clock_is = clock_back hs ts qs a b p room (n c.load-head.result) (n c.load-time.result) (n c.load-tail.result)
+          (n c.splat-one.result)
           begun first
           (n c.loop-block.clock) (n c.clock_before-clock.result) clock_is c.clock_before-clock.ensures;
     }
     in splat_long (n c.loop-block.behind) _ c.loop-block.invariant.behind_is
-    ∙ sym (behinds_long hs ts qs a b p room (n c.load-head.result) (n c.load-time.result) (n c.load-tail.result) (n c.splat-one.result)
+    ∙ sym (behinds_long hs ts qs a b p room (n c.load-head.result) (n c.load-time.result) (n c.load-tail.result)
+    (n c.splat-one.result)
     (n c.clock_before-clock.result) read (n c.tailed_ends-late.result.1)
     c.tailed_ends-late.ensures.ends_are c.loop-block.block some (n c.loop-block.clock)
-    (n c.loop-block.behind) (row c.loop-block.owns) (n c.greatest_behind.result) (zip2 max (n c.loop-block.behind) (n c.greatest_behind.result))
+    (n c.loop-block.behind) (row c.loop-block.owns) (n c.greatest_behind.result) (zip2 max (n c.loop-block.behind)
+    (n c.greatest_behind.result))
     (n c.load-before.result) c.loop-block.invariant c.greatest_behind.ensures refl c.load-before.ensures)
 
 pub own_ends-own-requires-clause-behind : goal.own_ends-own-requires-clause-behind
@@ -212,15 +220,18 @@ own_ends-own-requires-clause-behind g c =
       times_are = c.load-time.ensures;
       tails_are = c.load-tail.ensures;
       one_is = c.splat-one.ensures;
-      clock_is = clock_back hs ts qs a b p room (n c.load-head.result) (n c.load-time.result) (n c.load-tail.result) (n c.splat-one.result)
+      clock_is = clock_back hs ts qs a b p room (n c.load-head.result) (n c.load-time.result) (n c.load-tail.result)
+          (n c.splat-one.result)
           begun first
           (n c.loop-block.clock) (n c.clock_before-clock.result) clock_is c.clock_before-clock.ensures;
     }
-    in after_long hs ts qs a b p room (n c.load-head.result) (n c.load-time.result) (n c.load-tail.result) (n c.splat-one.result)
+    in after_long hs ts qs a b p room (n c.load-head.result) (n c.load-time.result) (n c.load-tail.result)
+    (n c.splat-one.result)
     (n c.clock_before-clock.result) read (n c.tailed_ends-late.result.1)
     c.tailed_ends-late.ensures.ends_are c.loop-block.block some (n c.loop-block.clock)
     (n c.loop-block.behind) (row c.loop-block.owns) (n c.greatest_behind.result) (n c.greater-after.result)
-    (n c.load-before.result) c.loop-block.invariant c.greatest_behind.ensures c.greater-after.ensures c.load-before.ensures
+    (n c.load-before.result) c.loop-block.invariant c.greatest_behind.ensures c.greater-after.ensures
+    c.load-before.ensures
 
 pub own_ends-own-requires-clause-begins : goal.own_ends-own-requires-clause-begins
 own_ends-own-requires-clause-begins g c =
@@ -254,15 +265,18 @@ own_ends-own-requires-clause-begins g c =
       times_are = c.load-time.ensures;
       tails_are = c.load-tail.ensures;
       one_is = c.splat-one.ensures;
-      clock_is = clock_back hs ts qs a b p room (n c.load-head.result) (n c.load-time.result) (n c.load-tail.result) (n c.splat-one.result)
+      clock_is = clock_back hs ts qs a b p room (n c.load-head.result) (n c.load-time.result) (n c.load-tail.result)
+          (n c.splat-one.result)
           begun first
           (n c.loop-block.clock) (n c.clock_before-clock.result) clock_is c.clock_before-clock.ensures;
     }
-    in begins_fit hs ts qs a b p room (n c.load-head.result) (n c.load-time.result) (n c.load-tail.result) (n c.splat-one.result)
+    in begins_fit hs ts qs a b p room (n c.load-head.result) (n c.load-time.result) (n c.load-tail.result)
+    (n c.splat-one.result)
     (n c.clock_before-clock.result) read (n c.tailed_ends-late.result.1)
     c.tailed_ends-late.ensures.ends_are c.loop-block.block some (n c.loop-block.clock)
     (n c.loop-block.behind) (row c.loop-block.owns) (n c.greatest_behind.result) (n c.greater-after.result)
-    (n c.load-before.result) c.loop-block.invariant c.greatest_behind.ensures c.greater-after.ensures c.load-before.ensures
+    (n c.load-before.result) c.loop-block.invariant c.greatest_behind.ensures c.greater-after.ensures
+    c.load-before.ensures
     g.B.Block.GREATEST c.requires.fits
 
 pub own_ends-own-requires-clause-ends : goal.own_ends-own-requires-clause-ends
@@ -297,15 +311,18 @@ own_ends-own-requires-clause-ends g c =
       times_are = c.load-time.ensures;
       tails_are = c.load-tail.ensures;
       one_is = c.splat-one.ensures;
-      clock_is = clock_back hs ts qs a b p room (n c.load-head.result) (n c.load-time.result) (n c.load-tail.result) (n c.splat-one.result)
+      clock_is = clock_back hs ts qs a b p room (n c.load-head.result) (n c.load-time.result) (n c.load-tail.result)
+          (n c.splat-one.result)
           begun first
           (n c.loop-block.clock) (n c.clock_before-clock.result) clock_is c.clock_before-clock.ensures;
     }
-    in own_ends_fit hs ts qs a b p room (n c.load-head.result) (n c.load-time.result) (n c.load-tail.result) (n c.splat-one.result)
+    in own_ends_fit hs ts qs a b p room (n c.load-head.result) (n c.load-time.result) (n c.load-tail.result)
+    (n c.splat-one.result)
     (n c.clock_before-clock.result) read (n c.tailed_ends-late.result.1)
     c.tailed_ends-late.ensures.ends_are c.loop-block.block some (n c.loop-block.clock)
     (n c.loop-block.behind) (row c.loop-block.owns) (n c.greatest_behind.result) (n c.greater-after.result)
-    (n c.load-before.result) c.loop-block.invariant c.greatest_behind.ensures c.greater-after.ensures c.load-before.ensures
+    (n c.load-before.result) c.loop-block.invariant c.greatest_behind.ensures c.greater-after.ensures
+    c.load-before.ensures
     g.B.Block.GREATEST c.requires.fits
 
 pub store-requires-clause-eight : goal.store-requires-clause-eight
@@ -340,15 +357,18 @@ store-requires-clause-eight g c =
       times_are = c.load-time.ensures;
       tails_are = c.load-tail.ensures;
       one_is = c.splat-one.ensures;
-      clock_is = clock_back hs ts qs a b p room (n c.load-head.result) (n c.load-time.result) (n c.load-tail.result) (n c.splat-one.result)
+      clock_is = clock_back hs ts qs a b p room (n c.load-head.result) (n c.load-time.result) (n c.load-tail.result)
+          (n c.splat-one.result)
           begun first
           (n c.loop-block.clock) (n c.clock_before-clock.result) clock_is c.clock_before-clock.ensures;
     }
-    in own_ends_long hs ts qs a b p room (n c.load-head.result) (n c.load-time.result) (n c.load-tail.result) (n c.splat-one.result)
+    in own_ends_long hs ts qs a b p room (n c.load-head.result) (n c.load-time.result) (n c.load-tail.result)
+    (n c.splat-one.result)
     (n c.clock_before-clock.result) read (n c.tailed_ends-late.result.1)
     c.tailed_ends-late.ensures.ends_are c.loop-block.block some (n c.loop-block.clock)
     (n c.loop-block.behind) (row c.loop-block.owns) (n c.greatest_behind.result) (n c.greater-after.result)
-    (n c.load-before.result) c.loop-block.invariant c.greatest_behind.ensures c.greater-after.ensures c.load-before.ensures
+    (n c.load-before.result) c.loop-block.invariant c.greatest_behind.ensures c.greater-after.ensures
+    c.load-before.ensures
     (n c.own_ends-own.result) c.own_ends-own.ensures
 
 pub greater-requires : goal.greater-requires
@@ -383,16 +403,20 @@ greater-requires g c =
       times_are = c.load-time.ensures;
       tails_are = c.load-tail.ensures;
       one_is = c.splat-one.ensures;
-      clock_is = clock_back hs ts qs a b p room (n c.load-head.result) (n c.load-time.result) (n c.load-tail.result) (n c.splat-one.result)
+      clock_is = clock_back hs ts qs a b p room (n c.load-head.result) (n c.load-time.result) (n c.load-tail.result)
+          (n c.splat-one.result)
           begun first
           (n c.loop-block.clock) (n c.clock_before-clock.result) clock_is c.clock_before-clock.ensures;
     }
-    in after_long hs ts qs a b p room (n c.load-head.result) (n c.load-time.result) (n c.load-tail.result) (n c.splat-one.result)
+    in after_long hs ts qs a b p room (n c.load-head.result) (n c.load-time.result) (n c.load-tail.result)
+    (n c.splat-one.result)
     (n c.clock_before-clock.result) read (n c.tailed_ends-late.result.1)
     c.tailed_ends-late.ensures.ends_are c.loop-block.block some (n c.loop-block.clock)
     (n c.loop-block.behind) (row c.loop-block.owns) (n c.greatest_behind.result) (n c.greater-after.result)
-    (n c.load-before.result) c.loop-block.invariant c.greatest_behind.ensures c.greater-after.ensures c.load-before.ensures
-    ∙ sym (late_long hs ts qs a b p room (n c.load-head.result) (n c.load-time.result) (n c.load-tail.result) (n c.splat-one.result)
+    (n c.load-before.result) c.loop-block.invariant c.greatest_behind.ensures c.greater-after.ensures
+    c.load-before.ensures
+    ∙ sym (late_long hs ts qs a b p room (n c.load-head.result) (n c.load-time.result) (n c.load-tail.result)
+    (n c.splat-one.result)
     (n c.clock_before-clock.result) read (n c.tailed_ends-late.result.1)
     c.tailed_ends-late.ensures.ends_are)
 
@@ -428,15 +452,18 @@ loop-block-preserved g c =
       times_are = c.load-time.ensures;
       tails_are = c.load-tail.ensures;
       one_is = c.splat-one.ensures;
-      clock_is = clock_back hs ts qs a b p room (n c.load-head.result) (n c.load-time.result) (n c.load-tail.result) (n c.splat-one.result)
+      clock_is = clock_back hs ts qs a b p room (n c.load-head.result) (n c.load-time.result) (n c.load-tail.result)
+          (n c.splat-one.result)
           begun first
           (n c.loop-block.clock) (n c.clock_before-clock.result) clock_is c.clock_before-clock.ensures;
     }
-    in back_more hs ts qs a b p room (n c.load-head.result) (n c.load-time.result) (n c.load-tail.result) (n c.splat-one.result)
+    in back_more hs ts qs a b p room (n c.load-head.result) (n c.load-time.result) (n c.load-tail.result)
+    (n c.splat-one.result)
     (n c.clock_before-clock.result) read (n c.tailed_ends-late.result.1)
     c.tailed_ends-late.ensures.ends_are c.loop-block.block some (n c.loop-block.clock)
     (n c.loop-block.behind) (row c.loop-block.owns) (n c.greatest_behind.result) (n c.greater-after.result)
-    (n c.load-before.result) c.loop-block.invariant c.greatest_behind.ensures c.greater-after.ensures c.load-before.ensures
+    (n c.load-before.result) c.loop-block.invariant c.greatest_behind.ensures c.greater-after.ensures
+    c.load-before.ensures
     (n c.own_ends-own.result) (row c.store.new.row) (n c.greater.result) (n c.splat-behind-in-loop-block.result)
     c.own_ends-own.ensures c.store.ensures c.greater.ensures
     (c.splat-behind-in-loop-block.ensures ∙ ap (replicate 8) c.first.ensures.first)
