@@ -1,4 +1,3 @@
-pub mod Results
 pub mod Picks
 pub mod Verdicts
 pub mod Reported

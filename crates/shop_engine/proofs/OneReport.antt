@@ -1,17 +1,18 @@
 -- A written text is read as the one report that it is.
-use Rattle.std.proofs.Common.{◌≡◌, ℕ, suc, ◌+◌, ◌^◌, ◌<◌, Bool, true, List, [], ◌∷◌, ◌++◌, length, get_or, drop, map}
+use Rattle.std.proofs.Common.{◌≡◌, ℕ, suc, ◌+◌, Bool, true, List, [], ◌∷◌, ◌++◌, length, get_or, drop, map}
 use Rattle.std.proofs.Common.{refl, sym, ◌∙◌, ap, arith, append_assoc}
 use Rattle.std.specs.Prelude.{if◌then◌else◌}
 use Rattle.std.specs.List.{list_all, join_with_byte}
 use Rattle.shop_text.specs.Formats.{is_visible}
 use Rattle.std.specs.Fmt.{decimal}
+use Rattle.std.proofs.lemmas.Fmt.{decimal_injective}
 use Rattle.shop_model.specs.Shop.{Shop}
 use Rattle.shop_model.specs.Checking.{starts_of}
 use Rattle.shop_text.specs.Lines.{lines_of, tokens_of, value_of}
 use Rattle.shop_text.specs.Schedules.{Tokens}
 use Rattle.shop_text.specs.Writing.{Reported, printed_line, text_of, answer_lines, job_line, job_lines}
 use Rattle.shop_text.specs.Writing.{report_lines, gantt_text}
-use Rattle.shop_text.proofs.PrintedLines.{AreLines, line_cut, are_lines_append, decimal_value}
+use Rattle.shop_text.proofs.PrintedLines.{AreLines, line_cut, are_lines_append}
 use Rattle.shop_text.proofs.PrintedJobLines.{AreSmallStarts, jobs_from, job_lines_are_lines, line_is_tokens}
 use Rattle.shop_text.proofs.PrintedJobLines.{values_read}
 use Rattle.shop_text.proofs.ReportReading.{answer_is_lines}
@@ -25,9 +26,6 @@ front (line ∷ lines) rest are =
     ap lines_of (append_assoc (printed_line line) (text_of lines) rest)
     ∙ line_cut (join_with_byte 32 line) (text_of lines ++ rest) are.0
     ∙ ap (λ (ls : List (List ℕ)). join_with_byte 32 line ∷ ls) (front lines rest are.1)
-
-same_number : (n m : ℕ) → n < 2 ^ 64 → m < 2 ^ 64 → decimal n ≡ decimal m → n ≡ m
-same_number n m small low e = sym (decimal_value n small) ∙ ap value_of e ∙ decimal_value m low
 
 same_row : (j : ℕ) (row other : List ℕ) → AreSmallStarts row → AreSmallStarts other
     → join_with_byte 32 (job_line j row) ≡ join_with_byte 32 (job_line j other) → row ≡ other
@@ -100,9 +98,10 @@ one_report asked gantt written visible x y =
     in same_report r s named (x.on ∙ sym y.on)
     (same_rows 0 r.table s.table (lines_of (chart_of r gantt)) (lines_of (chart_of s gantt))
     (x.shape.jobs ∙ sym y.shape.jobs) p.starts q.starts (ap (λ (ls : List (List ℕ)). drop 8 ls) e))
-    (same_number r.makespan s.makespan p.makespan q.makespan (ap (λ (ls : List (List ℕ)). drop 9 (get_or ls 2 [])) e))
-    (same_number r.bound s.bound p.bound q.bound (ap (λ (ls : List (List ℕ)). drop 6 (get_or ls 3 [])) e))
-    (same_number r.open_nodes s.open_nodes p.open_nodes q.open_nodes
+    (decimal_injective r.makespan s.makespan p.makespan q.makespan
+    (ap (λ (ls : List (List ℕ)). drop 9 (get_or ls 2 [])) e))
+    (decimal_injective r.bound s.bound p.bound q.bound (ap (λ (ls : List (List ℕ)). drop 6 (get_or ls 3 [])) e))
+    (decimal_injective r.open_nodes s.open_nodes p.open_nodes q.open_nodes
     (ap (λ (ls : List (List ℕ)). drop 5 (get_or ls 5 [])) e))
-    (same_number r.rounds s.rounds p.rounds q.rounds (ap (λ (ls : List (List ℕ)). drop 7 (get_or ls 6 [])) e))
-    (same_number r.nodes s.nodes p.nodes q.nodes (ap (λ (ls : List (List ℕ)). drop 6 (get_or ls 7 [])) e))
+    (decimal_injective r.rounds s.rounds p.rounds q.rounds (ap (λ (ls : List (List ℕ)). drop 7 (get_or ls 6 [])) e))
+    (decimal_injective r.nodes s.nodes p.nodes q.nodes (ap (λ (ls : List (List ℕ)). drop 6 (get_or ls 7 [])) e))

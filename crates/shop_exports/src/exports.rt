@@ -1,12 +1,14 @@
-// The calls of C: each makes one of the engine's calls over bytes, with one worker, and puts what it answers in the
-// caller's room. Formats are 0 for `orlib`, 1 for `taillard` and 2 for `routes`; without a name the first instance is
-// meant. Where a call doesn't end as `DONE`, the room is as it was.
-ghost use Rattle.shop_exports.specs.Exports.{ListsFor, ChecksFor, SolvesFor};
+// The functions that C calls. Each makes one of the engine's calls over bytes, with one worker, and writes the answer
+// into the caller's room. Formats are 0 for `orlib`, 1 for `taillard` and 2 for `routes`; without a name the first
+// instance is meant. Where a call doesn't end as `DONE`, the room is as it was.
+ghost use Rattle.std.specs.Option.{option_copied};
+ghost use Rattle.shop_exports.specs.Exports.{ListsFor, ChecksWith, ChecksFor, SolvesFor};
 ghost use Rattle.shop_exports.specs.Requests.{bytes_given};
+ghost use Rattle.shop_exports.specs.inner.Reports.{SolvesWith};
 
 use crate::outcomes::{Outcome, faulty, give, refused};
 use crate::requests::{Options, check_args, format_of, given, solve_args};
-use shop_engine::{ListArgs, check_bytes, list_bytes, solve_bytes};
+use shop_engine::{CheckArgs, ListArgs, SolveArgs, check_bytes, list_bytes, solve_bytes};
 use shop_round::Alone;
 use std::alloc::Global;
 
@@ -29,6 +31,23 @@ pub extern "C" fn shop_exports_list(
     }
 }
 
+/// Gives the line of the verdict on a schedule; where none is given, it stands in the text.
+fn give_verdict(
+    alloc: Global,
+    args: &CheckArgs,
+    text: &[u8],
+    schedule: Option<&[u8]>,
+    room: &mut [u8],
+) -> Outcome
+    ensures { ChecksWith args.now text.now room.old room.new (option_copied schedule.entry)
+        result }
+{
+    match check_bytes(alloc, text, schedule, args) {
+        Ok((feasible, line)) => give(room, line.as_slice(), feasible),
+        Err(fault) => refused(fault),
+    }
+}
+
 /// Judges a schedule, as `check` does; where none is given, it stands in the text.
 #[unsafe(no_mangle)]
 pub extern "C" fn shop_exports_check(
@@ -44,12 +63,18 @@ pub extern "C" fn shop_exports_check(
     ensures { ChecksFor format is_named name.now text.now (bytes_given is_apart schedule.now)
         room.old room.new result }
 {
-    let args = match check_args(alloc, format, is_named, name) {
-        Ok(args) => args,
-        Err(outcome) => return outcome,
-    };
-    match check_bytes(alloc, text, given(is_apart, schedule), &args) {
-        Ok((feasible, line)) => give(room, line.as_slice(), feasible),
+    match check_args(alloc, format, is_named, name) {
+        Ok(args) => give_verdict(alloc, &args, text, given(is_apart, schedule), room),
+        Err(outcome) => outcome,
+    }
+}
+
+/// Gives the report of the best schedule that a plan finds.
+fn give_report(alloc: Global, args: &SolveArgs, text: &[u8], room: &mut [u8]) -> Outcome
+    ensures { SolvesWith args.now text.now room.old room.new result }
+{
+    match solve_bytes(&(), alloc, text, args, &mut Alone) {
+        Ok(report) => give(room, report.as_slice(), false),
         Err(fault) => refused(fault),
     }
 }
@@ -67,12 +92,8 @@ pub extern "C" fn shop_exports_solve(
 ) -> Outcome
     ensures { SolvesFor format is_named name.now options.now text.now room.old room.new result }
 {
-    let args = match solve_args(alloc, format, is_named, name, options) {
-        Ok(args) => args,
-        Err(outcome) => return outcome,
-    };
-    match solve_bytes(&(), alloc, text, &args, &mut Alone) {
-        Ok(report) => give(room, report.as_slice(), false),
-        Err(fault) => refused(fault),
+    match solve_args(alloc, format, is_named, name, options) {
+        Ok(args) => give_report(alloc, &args, text, room),
+        Err(outcome) => outcome,
     }
 }

@@ -1,11 +1,11 @@
 use Rattle.std.proofs.Common.{◌≡◌, ℕ, List, subst}
+use Rattle.std.proofs.lemmas.Result.{IfOk-weaker}
 use Rattle.shop_model.specs.Limits.{AreStarts}
 use Rattle.shop_text.specs.Names.{shop_of_named}
 use Rattle.shop_round.specs.Runs.{planned}
 use Rattle.shop_engine.specs.inner.Told.{told_by}
 use Rattle.shop_engine.specs.Answers.{text_with_gantt}
 use Rattle.shop_engine.specs.Headline.{IsRight, IsDetermined}
-use Rattle.shop_engine.proofs.Results.{if_ok}
 use Rattle.shop_engine.specs.SolvedSchedules.{GivesSchedule}
 use Rattle.shop_engine.proofs.Reported.{right, determined}
 use Rattle.shop_engine.proofs.SolvedSchedules.{gives_schedule}
@@ -18,8 +18,8 @@ returns-clause-right g c =
     in let gantt = c.args.with_gantt
     in let words = c.text_of.ensures.words
     in let small = subst (λ (rows : List (List ℕ)). AreStarts rows) c.drop-3.view_is c.drop-3.invariant
-    in if_ok (λ out. out.items ≡ text_with_gantt (told_by asked a.answer) gantt)
-    (λ out. IsRight asked gantt out.items) c.text_of.result
+    in IfOk-weaker c.text_of.result (λ out. out.items ≡ text_with_gantt (told_by asked a.answer) gantt)
+    (λ out. IsRight asked gantt out.items)
     (λ out e. right asked a.answer gantt out.items a.ensures.trust (record {
       starts = small;
       makespan = words.makespan;
@@ -35,8 +35,8 @@ returns-clause-determined g c =
     in let plan = planned c.args.plan.now
     in let a = c.in_ok-answer
     in let gantt = c.args.with_gantt
-    in if_ok (λ out. out.items ≡ text_with_gantt (told_by asked a.answer) gantt)
-    (λ out. IsDetermined asked plan gantt out.items) c.text_of.result
+    in IfOk-weaker c.text_of.result (λ out. out.items ≡ text_with_gantt (told_by asked a.answer) gantt)
+    (λ out. IsDetermined asked plan gantt out.items)
     (λ out e. determined asked plan a.answer gantt out.items a.ensures.says e) c.text_of.ensures.written
 
 pub returns-clause-schedule : goal.returns-clause-schedule
@@ -45,6 +45,6 @@ returns-clause-schedule g c =
     in let a = c.in_ok-answer
     in let gantt = c.args.with_gantt
     in let small = subst (λ (rows : List (List ℕ)). AreStarts rows) c.drop-3.view_is c.drop-3.invariant
-    in if_ok (λ out. out.items ≡ text_with_gantt (told_by asked a.answer) gantt)
-    (λ out. GivesSchedule asked out.items) c.text_of.result
+    in IfOk-weaker c.text_of.result (λ out. out.items ≡ text_with_gantt (told_by asked a.answer) gantt)
+    (λ out. GivesSchedule asked out.items)
     (λ out e. gives_schedule asked a.answer gantt out.items a.ensures.trust small e) c.text_of.ensures.written

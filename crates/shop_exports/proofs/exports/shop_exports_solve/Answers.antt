@@ -1,11 +1,5 @@
-use Rattle.shop_exports.proofs.Calls.{solve_served, solve_refused}
+use Rattle.std.proofs.Common.{inr}
 use Rattle.shop_exports.proofs.exports.shop_exports_solve.Goals as goal
 
-pub returns-in-Ok-solve_bytes : goal.returns-in-Ok-solve_bytes
-returns-in-Ok-solve_bytes c = solve_served c.in-Ok.args c.in-Ok.ensures.asked c.in-Ok-solve_bytes.ensures.right
-    c.in-Ok-solve_bytes.ensures.determined c.in-Ok-solve_bytes.ensures.schedule c.as_slice.ensures.value
-    c.give.ensures
-
-pub returns : goal.returns
-returns c = solve_refused c.in-Ok.args c.in-Err-solve_bytes.fault c.in-Ok.ensures.asked
-    c.in-Err-solve_bytes.ensures.refused c.refused.ensures
+pub returns-in-Ok : goal.returns-in-Ok
+returns-in-Ok c = inr (c.in-Ok.args, c.in-Ok.ensures.asked, c.give_report.ensures)
