@@ -11,10 +11,10 @@ use Rattle.std.specs.Str.{IsUtf8}
 use Rattle.shop_text.specs.declared.formats.Format.{Format}
 use Rattle.shop_text.specs.declared.formats.Format.TheVariants.{Orlib, Taillard, Routes}
 use Rattle.shop_text.specs.declared.faults.ReadFault.TheVariants.{NoMemory}
-use Rattle.shop_round.specs.Limits.{IsPlanWithin}
-use Rattle.shop_round.specs.declared.plans.Plan.{Plan}
-use Rattle.shop_round.specs.declared.plans.Order.{Order}
-use Rattle.shop_round.specs.declared.plans.Order.TheVariants.{Kept, Bound}
+use Rattle.shop_plans.specs.Limits.{IsPlanWithin}
+use Rattle.shop_plans.specs.declared.plans.Plan.{Plan}
+use Rattle.shop_plans.specs.declared.plans.Order.{Order}
+use Rattle.shop_plans.specs.declared.plans.Order.TheVariants.{Kept, Bound}
 use Rattle.shop_engine.specs.Asking.{name_in}
 use Rattle.shop_engine.specs.declared.arguments.CheckArgs.{CheckArgs}
 use Rattle.shop_engine.specs.declared.arguments.SolveArgs.{SolveArgs}

@@ -13,7 +13,7 @@ use Rattle.shop_round.specs.Entries.{told}
 use Rattle.shop_round.specs.Round.{in_order, words_below, pieces_of, rest_of}
 use Rattle.shop_round.specs.Runs.{stands, StandsAt, Says}
 use Rattle.shop_round.specs.declared.open_nodes.OpenNodes.{OpenNodes}
-use Rattle.shop_round.specs.declared.plans.Order.{Order}
+use Rattle.shop_plans.specs.declared.plans.Order.{Order}
 use Rattle.shop_round.specs.declared.rounds.Round.{Round}
 use Rattle.shop_round.specs.declared.runs.Search.{Search}
 use Rattle.shop_round.specs.inner.OpenNodes.{least_of_bounds}

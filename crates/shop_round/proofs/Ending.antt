@@ -8,8 +8,8 @@ use Rattle.shop_heads.specs.Bound.{lb}
 use Rattle.shop_tree.specs.Branching.{insert_by, sort_by}
 use Rattle.shop_tree.specs.Walking.{Walk}
 use Rattle.shop_tree.proofs.Members.{in_all}
-use Rattle.shop_round.specs.declared.plans.Order.{Order}
-use Rattle.shop_round.specs.declared.plans.Order.TheVariants.{Kept, Bound}
+use Rattle.shop_plans.specs.declared.plans.Order.{Order}
+use Rattle.shop_plans.specs.declared.plans.Order.TheVariants.{Kept, Bound}
 use Rattle.shop_round.specs.Round.{Planned, Stand, Told, cut_into, in_order, up_to_hit, after_round}
 use Rattle.shop_round.specs.Round.{words_of_round, sheet_in, sheets_of, cut_of, round}
 use Rattle.shop_round.specs.Round.{opening, unless_closed, rounds_from, answer, makespan_of}

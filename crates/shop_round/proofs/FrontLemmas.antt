@@ -15,8 +15,8 @@ use Rattle.shop_tree.specs.Walking.{Walk}
 use Rattle.shop_tree.specs.declared.nodes.Node.{Node}
 use Rattle.shop_tree.specs.Nodes.{words_of, IsNode, AreNodes}
 use Rattle.shop_tree.proofs.Members.{all_contains, contains_all, all_insert, in_all}
-use Rattle.shop_round.specs.declared.plans.Order.{Order}
-use Rattle.shop_round.specs.declared.plans.Order.TheVariants.{Kept, Bound}
+use Rattle.shop_plans.specs.declared.plans.Order.{Order}
+use Rattle.shop_plans.specs.declared.plans.Order.TheVariants.{Kept, Bound}
 use Rattle.shop_round.specs.declared.standings.Standing.{Standing}
 use Rattle.shop_round.specs.declared.open_nodes.OpenNodes.{OpenNodes}
 use Rattle.shop_round.specs.declared.runs.Search.{Search}

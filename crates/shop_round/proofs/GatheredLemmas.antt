@@ -12,7 +12,7 @@ use Rattle.shop_round.specs.declared.standings.Standing.{Standing}
 use Rattle.shop_round.specs.Round.{Stand, gathered, words_below}
 use Rattle.shop_round.specs.inner.OpenNodes.{nodes_below}
 use Rattle.shop_round.specs.Laws.{IsStanding, StandsCovering, CoversInRound}
-use Rattle.shop_round.specs.Limits.{IsCountWithin}
+use Rattle.shop_plans.specs.Limits.{IsCountWithin}
 use Rattle.shop_round.specs.Entries.{told}
 use Rattle.shop_round.specs.inner.Outcomes.{stands_after, IsOutcome, IsStandingAfter}
 use Rattle.shop_round.specs.Runs.{stands, StandsAt, IsStandingOf}

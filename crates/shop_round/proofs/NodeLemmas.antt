@@ -12,8 +12,8 @@ use Rattle.shop_tree.specs.declared.nodes.Node.{Node}
 use Rattle.shop_tree.specs.Branching.{insert_by, sort_by}
 use Rattle.shop_tree.specs.Nodes.{words_of, IsNode, AreNodes}
 use Rattle.shop_tree.proofs.Members.{all_sort, all_contains}
-use Rattle.shop_round.specs.declared.plans.Order.{Order}
-use Rattle.shop_round.specs.declared.plans.Order.TheVariants.{Kept, Bound}
+use Rattle.shop_plans.specs.declared.plans.Order.{Order}
+use Rattle.shop_plans.specs.declared.plans.Order.TheVariants.{Kept, Bound}
 use Rattle.shop_round.specs.Round.{in_order, words_below, least_bound}
 use Rattle.shop_round.specs.inner.OpenNodes.{least_of_bounds, nodes_in_order, nodes_below, AreBelow, AreSharable}
 

@@ -9,8 +9,8 @@ use Rattle.shop_heads.proofs.BoundLaw.{lb-le-end}
 use Rattle.one_machine.proofs.Lists.{all_filter}
 use Rattle.shop_tree.specs.Laws.{HasBetter}
 use Rattle.shop_tree.proofs.Members.{In, in_contains, contains_in, contains_all, in_all, all_sort, in_sort, in_filter}
-use Rattle.shop_round.specs.declared.plans.Order.{Order}
-use Rattle.shop_round.specs.declared.plans.Order.TheVariants.{Kept, Bound}
+use Rattle.shop_plans.specs.declared.plans.Order.{Order}
+use Rattle.shop_plans.specs.declared.plans.Order.TheVariants.{Kept, Bound}
 use Rattle.shop_round.specs.Round.{in_order, words_below, least_bound}
 use Rattle.shop_round.specs.Laws.{IsStanding}
 

@@ -1,4 +1,3 @@
-pub mod Limits
 pub mod Round
 pub mod Nodes
 pub mod Laws

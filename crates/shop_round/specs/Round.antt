@@ -10,15 +10,10 @@ use Rattle.shop_tree.specs.Branching.{sort_by}
 pub use Rattle.shop_tree.specs.Pieces.{words_below}
 use Rattle.shop_tree.specs.Walking.{Walk, sheet}
 use Rattle.shop_tree.specs.Laws.{HasBetter}
-use Rattle.shop_round.specs.declared.plans.TheConstants.{MAX_PIECES}
-use Rattle.shop_round.specs.declared.plans.Order.{Order}
-use Rattle.shop_round.specs.declared.plans.Order.TheVariants.{Kept, Bound}
-
-pub record Planned : Type 0 where
-  pub rounds : ℕ
-  pub budget : ℕ
-  pub piece : ℕ
-  pub order : Order
+pub use Rattle.shop_plans.specs.Plans.{Planned}
+use Rattle.shop_plans.specs.declared.plans.TheConstants.{MAX_PIECES}
+use Rattle.shop_plans.specs.declared.plans.Order.{Order}
+use Rattle.shop_plans.specs.declared.plans.Order.TheVariants.{Kept, Bound}
 
 -- Where a run stands: the best word, the open words, the rounds done and the nodes counted.
 pub record Stand : Type 0 where

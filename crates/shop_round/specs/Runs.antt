@@ -1,25 +1,17 @@
--- Plans, standings and answers of a run.
-use Rattle.std.specs.Prelude.{◌≡◌, ℕ, length}
+-- Standings and answers of a run.
+use Rattle.std.specs.Prelude.{◌≡◌, length}
 use Rattle.shop_model.specs.Shop.{Shop, IsFeasible, end_of}
 use Rattle.shop_model.specs.Checking.{HasShape, starts_of}
-use Rattle.shop_round.specs.Round.{Planned, Stand, cut_of, gathered, answer, makespan_of, bound_of}
+pub use Rattle.shop_plans.specs.Plans.{planned, IsPlanMadeOf}
+use Rattle.shop_round.specs.Round.{Stand, cut_of, gathered, answer, makespan_of, bound_of}
 use Rattle.shop_tree.specs.Nodes.{words_of, AreNodes}
 use Rattle.shop_model.specs.Word.{placed, rows_of}
 use Rattle.shop_round.specs.Laws.{IsStanding, StandsCovering, CoversInRound, IsTrustworthy}
 use Rattle.shop_round.specs.Entries.{told}
-use Rattle.shop_round.specs.declared.plans.Order.{Order}
 use Rattle.shop_round.specs.declared.rounds.Round.{Round}
-use Rattle.shop_round.specs.declared.plans.Plan.{Plan}
+use Rattle.shop_plans.specs.declared.plans.Plan.{Plan}
 use Rattle.shop_round.specs.declared.standings.Standing.{Standing}
 use Rattle.shop_round.specs.declared.runs.Answer.{Answer}
-
-abbrev pub planned : Plan → Planned
-planned p = record { rounds = p.rounds; budget = p.budget; piece = p.piece; order = p.order }
-
--- the plan of these
-abbrev pub IsPlanMadeOf : ℕ → ℕ → ℕ → Order → Plan → Type 0
-IsPlanMadeOf rounds budget piece order p =
-    planned p ≡ record { rounds = rounds; budget = budget; piece = piece; order = order }
 
 abbrev pub stands : Standing → Stand
 stands s =

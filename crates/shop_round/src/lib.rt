@@ -7,7 +7,6 @@ mod kept_nodes;
 mod laws;
 mod open_nodes;
 mod outcomes;
-mod plans;
 mod rounds;
 mod runs;
 mod stacks;
@@ -21,7 +20,7 @@ pub use laws::{
     solved_stays,
 };
 pub use outcomes::gather;
-pub use plans::{MAX_BUDGET, MAX_PIECE, MAX_PIECES, MAX_ROUNDS, Order, Plan};
 pub use rounds::Round;
 pub use runs::{Answer, run, run_alone};
+pub use shop_plans::{MAX_BUDGET, MAX_PIECE, MAX_PIECES, MAX_ROUNDS, Order, Plan};
 pub use standings::Standing;

@@ -6,10 +6,10 @@ ghost use Rattle.shop_model.specs.SharedWords.{CanBeShared};
 ghost use Rattle.shop_round.specs.inner.OpenNodes.{least_of_bounds, AreBelow, AreSharable};
 
 use crate::kept_nodes::{KeptNode, least_kept};
-use crate::plans::Order;
 use crate::stacks::{
     Stack, count_by_bound, keep_by_bound, least_by_bound, pop_by_bound, put_by_bound,
 };
+use shop_plans::Order;
 use shop_tree::Node;
 use std::alloc::{AllocError, Global};
 use std::collections::BTreeMap;

@@ -1,6 +1,6 @@
 // Outcomes: what the sheets of a round come to, and what stands after it.
 ghost use Rattle.std.specs.Prelude.{◌≡◌, ◌+◌, ◌<◌, ◌^◌, [], true, false, IfOk, OnOk};
-ghost use Rattle.shop_round.specs.Limits.{IsCountWithin};
+ghost use Rattle.shop_plans.specs.Limits.{IsCountWithin};
 ghost use Rattle.shop_round.specs.Entries.{told};
 ghost use Rattle.shop_round.specs.Crews.{OneForEach};
 ghost use Rattle.shop_round.specs.Runs.{IsGatheredOf, GatheredCovers, IsStandingOf};

@@ -3,17 +3,17 @@ ghost use Rattle.std.specs.Prelude.{◌≡◌, ◌≤◌, ◌<◌, length, take,
 ghost use Rattle.std.specs.Vec.Iter.{into_iter_items};
 ghost use Rattle.shop_desk.specs.Layouts.{IsLayoutOf};
 ghost use Rattle.shop_tree.specs.Nodes.{AreNodes};
-ghost use Rattle.shop_round.specs.Limits.{IsCountWithin};
+ghost use Rattle.shop_plans.specs.Limits.{IsCountWithin};
 ghost use Rattle.shop_round.specs.Round.{cut_into};
 ghost use Rattle.shop_round.specs.Nodes.{numbered, told_of, ArePieces};
 ghost use Rattle.shop_round.specs.Laws.{IsRound};
 ghost use Rattle.shop_round.specs.inner.OpenNodes.{least_of_bounds, nodes_in_order, nodes_in};
-ghost use Rattle.shop_round.specs.declared.plans.TheConstants.{MAX_BUDGET, MAX_PIECES, MAX_ROUNDS};
+ghost use Rattle.shop_plans.specs.declared.plans.TheConstants.{MAX_BUDGET, MAX_PIECES, MAX_ROUNDS};
 
 use crate::outcomes::Outcome;
-use crate::plans::{MAX_PIECES, Order, Plan};
 use crate::standings::Standing;
 use shop_model::{Instance, Word};
+use shop_plans::{MAX_PIECES, Order, Plan};
 use shop_tree::{Layout, Node, Piece};
 use std::alloc::{AllocError, Global};
 use std::vec::IntoIter;

@@ -1,15 +1,15 @@
 // Runs: where one stands between two rounds, and the answer of a plan.
 ghost use Rattle.std.specs.Prelude.{◌^◌, ◌<◌, IfOk};
-ghost use Rattle.shop_round.specs.Limits.{IsCountWithin};
+ghost use Rattle.shop_plans.specs.Limits.{IsCountWithin};
 ghost use Rattle.shop_round.specs.Runs.{SaysAnswer, IsTrusted};
 
 use crate::crews::{Alone, Crew};
 use crate::open_nodes::OpenNodes;
 use crate::outcomes::outcome_of;
-use crate::plans::{MAX_PIECES, Order, Plan};
 use crate::rounds::{Round, cut_pieces};
 use crate::standings::Standing;
 use shop_model::{Instance, Table, Word, place};
+use shop_plans::{MAX_PIECES, Order, Plan};
 use shop_tree::Layout;
 use std::alloc::{AllocError, Global};
 

@@ -1,5 +1,5 @@
 // What stands between two rounds, and where a search begins.
-ghost use Rattle.shop_round.specs.Limits.{IsCountWithin};
+ghost use Rattle.shop_plans.specs.Limits.{IsCountWithin};
 
 use shop_heads::lower_bound;
 use shop_model::{Instance, Word, start_word};

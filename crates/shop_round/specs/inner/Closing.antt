@@ -3,7 +3,7 @@ use Rattle.shop_model.specs.Shop.{Shop}
 use Rattle.shop_round.specs.Round.{answer}
 use Rattle.shop_round.specs.Runs.{planned}
 use Rattle.shop_round.specs.inner.Searches.{IsSearchAt}
-use Rattle.shop_round.specs.declared.plans.Plan.{Plan}
+use Rattle.shop_plans.specs.declared.plans.Plan.{Plan}
 use Rattle.shop_round.specs.declared.runs.Search.{Search}
 
 -- the run is where the plan's rounds end

@@ -4,8 +4,8 @@ use Rattle.shop_model.specs.SharedWords.{CanBeShared}
 use Rattle.shop_tree.specs.Branching.{sort_by}
 use Rattle.shop_tree.specs.declared.nodes.Node.{Node}
 use Rattle.shop_tree.specs.declared.pieces.Piece.{Piece}
-use Rattle.shop_round.specs.declared.plans.Order.{Order}
-use Rattle.shop_round.specs.declared.plans.Order.TheVariants.{Kept, Bound}
+use Rattle.shop_plans.specs.declared.plans.Order.{Order}
+use Rattle.shop_plans.specs.declared.plans.Order.TheVariants.{Kept, Bound}
 
 -- the least of a makespan and the bounds that nodes hold
 abbrev pub least_of_bounds : ℕ → List Node → ℕ

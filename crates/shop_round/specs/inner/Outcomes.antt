@@ -8,7 +8,7 @@ use Rattle.shop_tree.specs.declared.nodes.Node.{Node}
 use Rattle.shop_tree.specs.declared.sheets.Sheet.{Sheet}
 use Rattle.shop_round.specs.Round.{Told, Stand, gathered, words_below}
 use Rattle.shop_round.specs.inner.OpenNodes.{nodes_below}
-use Rattle.shop_round.specs.declared.plans.TheConstants.{MAX_BUDGET, MAX_PIECES}
+use Rattle.shop_plans.specs.declared.plans.TheConstants.{MAX_BUDGET, MAX_PIECES}
 use Rattle.shop_round.specs.declared.outcomes.Outcome.{Outcome}
 use Rattle.shop_round.specs.declared.standings.Standing.{Standing}
 

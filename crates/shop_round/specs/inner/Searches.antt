@@ -18,8 +18,8 @@ use Rattle.shop_round.specs.inner.OpenNodes.{nodes_below, AreBelow}
 use Rattle.shop_round.specs.inner.Stacks.{put_all_before}
 use Rattle.shop_round.specs.inner.Stores.{open_list, order_of}
 use Rattle.shop_round.specs.declared.open_nodes.OpenNodes.{OpenNodes}
-use Rattle.shop_round.specs.declared.plans.Order.{Order}
-use Rattle.shop_round.specs.declared.plans.Plan.{Plan}
+use Rattle.shop_plans.specs.declared.plans.Order.{Order}
+use Rattle.shop_plans.specs.declared.plans.Plan.{Plan}
 use Rattle.shop_round.specs.declared.rounds.Round.{Round}
 use Rattle.shop_round.specs.declared.runs.Search.{Search}
 use Rattle.shop_round.specs.declared.standings.Standing.{Standing}

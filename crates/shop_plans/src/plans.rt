@@ -1,5 +1,5 @@
-// Plans: how long a search goes on, and how its rounds are cut; the limits of plans and rounds.
-ghost use Rattle.shop_round.specs.Limits.{IsPlanWithin};
+// Plans: how long a search goes on, and how its rounds are cut; the limits of plans, rounds and workers.
+ghost use Rattle.shop_plans.specs.Limits.{IsPlanWithin};
 
 /// Rounds of a plan at most.
 pub const MAX_ROUNDS: u64 = 100_000;
@@ -12,6 +12,9 @@ pub const MAX_PIECE: usize = 1_000;
 
 /// Pieces of a round at most.
 pub const MAX_PIECES: usize = 256;
+
+/// Threads that search side by side at most.
+pub const MAX_WORKERS: usize = 64;
 
 /// The order in which the open nodes are cut: as they stand, or by their bounds, ties keeping their
 /// places.
@@ -34,8 +37,8 @@ pub struct Plan {
 
 impl Plan {
     ghost use Rattle.std.specs.Prelude.{◌↔◌, IsSome, IfSome};
-    ghost use Rattle.shop_round.specs.Runs.{IsPlanMadeOf};
-    ghost use Rattle.shop_round.specs.declared.plans.Order.TheVariants.{Kept};
+    ghost use Rattle.shop_plans.specs.Plans.{IsPlanMadeOf};
+    ghost use Rattle.shop_plans.specs.declared.plans.Order.TheVariants.{Kept};
 
     /// A plan in an order, if it is within the limits.
     pub fn ordered(rounds: u64, budget: u64, piece: usize, order: Order) -> Option<Plan>
