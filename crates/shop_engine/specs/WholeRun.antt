@@ -6,7 +6,7 @@ use Rattle.shop_text.specs.declared.formats.Format.TheVariants.{Orlib}
 use Rattle.shop_round.specs.Round.{Planned}
 use Rattle.shop_round.specs.Runs.{planned}
 use Rattle.shop_plans.specs.declared.plans.Order.TheVariants.{Kept}
-use Rattle.shop_engine.specs.declared.arguments.SolveArgs.{SolveArgs}
+use Rattle.shop_args.specs.declared.SolveArgs.{SolveArgs}
 use Rattle.shop_engine.specs.Asking.{OfAsked}
 use Rattle.shop_engine.specs.Headline.{IsDetermined, IsDeterminedOf}
 

@@ -16,8 +16,8 @@ use Rattle.shop_plans.specs.declared.plans.Plan.{Plan}
 use Rattle.shop_plans.specs.declared.plans.Order.{Order}
 use Rattle.shop_plans.specs.declared.plans.Order.TheVariants.{Kept, Bound}
 use Rattle.shop_engine.specs.Asking.{name_in}
-use Rattle.shop_engine.specs.declared.arguments.CheckArgs.{CheckArgs}
-use Rattle.shop_engine.specs.declared.arguments.SolveArgs.{SolveArgs}
+use Rattle.shop_args.specs.declared.CheckArgs.{CheckArgs}
+use Rattle.shop_args.specs.declared.SolveArgs.{SolveArgs}
 use Rattle.shop_exports.specs.Outcomes.{is_refused, is_faulty}
 use Rattle.shop_exports.specs.declared.outcomes.Outcome.{Outcome}
 use Rattle.shop_exports.specs.declared.requests.Options.{Options}

@@ -1,5 +1,7 @@
 // The arguments of the engines.
-use shop_round::Plan;
+#![tactic(auto)]
+
+use shop_plans::Plan;
 use shop_text::Format;
 
 /// The arguments of `list`.
