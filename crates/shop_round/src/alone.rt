@@ -6,7 +6,7 @@ ghost use Rattle.shop_round.specs.inner.Hits.{IsEntryUpToHit, IsFirstHitBelow};
 
 use shop_crews::{Crew, Entry, Round};
 use shop_nodes::Sheet;
-use shop_tree::Searcher;
+use shop_tree::{Searcher, search};
 use std::alloc::{AllocError, Global};
 
 /// The sheet of a piece of the round, by a searcher for its instance. Fails with `AllocError` if memory runs out.
@@ -25,7 +25,8 @@ pub fn search_piece_with<'r>(
     searcher.search(alloc, &round.pieces[number], round.best, round.budget)
 }
 
-/// The sheet of a piece of the round, by a searcher of its own. Fails with `AllocError` if memory runs out.
+/// The sheet of a piece of the round, by a search and a layout of its own. Who searches several pieces keeps a searcher
+/// over the round's layout (`search_piece_with`). Fails with `AllocError` if memory runs out.
 pub fn search_piece<'r>(
     alloc: Global,
     round: &'r Round<'r>,
@@ -35,8 +36,8 @@ pub fn search_piece<'r>(
     ensures of { IfOk result (λ s. IsOf (told round.now) s × (s.number ≡ number)) }
     ensures hit { IfOk result (λ s. TellsHit (told round.now) number s) }
 {
-    let mut searcher = Searcher::over(alloc, round.instance, round.layout())?;
-    search_piece_with(alloc, &mut searcher, round, number)
+    let piece = &round.pieces[number];
+    search(alloc, round.instance, piece, round.best, round.budget)
 }
 
 /// The entry of the next piece. Where an earlier one, `hit`, ends at the opening bound, the piece is passed; else it is
