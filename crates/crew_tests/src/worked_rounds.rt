@@ -1,6 +1,6 @@
 // Rounds of the worked instance whose first bound is below the optimum.
 ghost use Rattle.std.specs.Prelude.{◌≡◌};
-ghost use Rattle.shop_round.specs.Runs.{IsStandingOf};
+ghost use Rattle.shop_round.specs.Standings.{IsStandingOf};
 
 use shop_model::Instance;
 use shop_round::{Alone, Crew, Plan, Round, Standing, gather};

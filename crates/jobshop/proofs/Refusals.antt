@@ -1,7 +1,7 @@
 -- What is of no plan, and of no arguments.
 use Rattle.std.proofs.Common.{◌≡◌, ℕ, ap, arith, codes, get_or, nat_eq, true≢false, List, ◌<◌, ◌≤◌, ◌^◌}
 use Rattle.clap.specs.Words.{Row, Text}
-use Rattle.shop_round.specs.declared.plans.Plan.{Plan}
+use Rattle.shop_plans.specs.declared.plans.Plan.{Plan}
 use Rattle.jobshop.specs.CommandLine.{HasNumber, HasPlan, IsArgs}
 use Rattle.jobshop.specs.declared.arguments.Args.{Args}
 use Rattle.jobshop.specs.declared.arguments.Args.TheVariants.{List as ListNames, Check, Solve}

@@ -13,11 +13,11 @@ use Rattle.clap.specs.declared.builder.command.Command.{Command}
 use Rattle.clap.specs.declared.builder.command.Command.TheViews.{out-Command}
 use Rattle.clap.specs.declared.builder.value_parser.ValueParser.{ValueParser}
 use Rattle.clap.specs.declared.builder.value_parser.ValueParser.TheVariants.{Unsigned, Names}
-use Rattle.shop_round.specs.Limits.{IsPlanWithin}
-use Rattle.shop_round.specs.declared.plans.TheConstants.{MAX_ROUNDS, MAX_BUDGET, MAX_PIECE}
-use Rattle.shop_round.specs.declared.plans.Order.{Order}
-use Rattle.shop_round.specs.declared.plans.Order.TheVariants.{Kept, Bound}
-use Rattle.shop_round.specs.declared.plans.Plan.{Plan}
+use Rattle.shop_plans.specs.Limits.{IsPlanWithin}
+use Rattle.shop_plans.specs.declared.plans.TheConstants.{MAX_ROUNDS, MAX_BUDGET, MAX_PIECE}
+use Rattle.shop_plans.specs.declared.plans.Order.{Order}
+use Rattle.shop_plans.specs.declared.plans.Order.TheVariants.{Kept, Bound}
+use Rattle.shop_plans.specs.declared.plans.Plan.{Plan}
 use Rattle.shop_board.specs.declared.limits.TheConstants.{MAX_WORKERS}
 use Rattle.shop_text.specs.Formats.{word_of}
 use Rattle.shop_text.specs.declared.formats.Format.TheVariants.{Orlib, Taillard, Routes}

@@ -5,7 +5,7 @@ ghost use Rattle.shop_text.specs.Formats.{word_of};
 ghost use Rattle.jobshop.specs.CommandLine.{HasText, HasNumber, HasFlag, MayHave, order_word};
 ghost use Rattle.jobshop.specs.CommandLine.{UnlessNoMemory};
 ghost use Rattle.shop_text.specs.declared.formats.Format.{Format};
-ghost use Rattle.shop_round.specs.declared.plans.Order.{Order};
+ghost use Rattle.shop_plans.specs.declared.plans.Order.{Order};
 ghost use Rattle.std.specs.Prelude.{codes};
 
 use crate::line_faults::{LineFault, misread};

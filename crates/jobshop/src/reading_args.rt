@@ -4,7 +4,7 @@ ghost use Rattle.clap.specs.Words.{found_of, rows_of};
 ghost use Rattle.jobshop.specs.CommandLine.{IsArgs, IsLineOf, IsUnread, HasPlan};
 ghost use Rattle.jobshop.specs.CommandLine.{UnlessNoMemory};
 ghost use Rattle.jobshop.specs.declared.arguments.Args.{Args};
-ghost use Rattle.shop_round.specs.declared.plans.Plan.{Plan};
+ghost use Rattle.shop_plans.specs.declared.plans.Plan.{Plan};
 
 use crate::arguments::{Args, Workers};
 use crate::command_line::command;

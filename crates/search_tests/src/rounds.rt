@@ -1,5 +1,5 @@
 // Worked instances and plans, and each public call of rounds and runs once.
-ghost use Rattle.shop_round.specs.Runs.{IsStandingOf};
+ghost use Rattle.shop_round.specs.Standings.{IsStandingOf};
 
 use crate::bounds::ft06_rows;
 use shop_model::Instance;

@@ -2,9 +2,9 @@
 use Rattle.std.proofs.Common.{◌≡◌, ℕ, zero, suc, ◌<◌, List, [], ◌∷◌, length, map, get_or, Bool, true, false, true≢false}
 use Rattle.std.proofs.Common.{refl, ap, sym, ◌∙◌, subst, ⊎_elim, arith}
 use Rattle.std.proofs.lemmas.List.{length-map}
-use Rattle.shop_round.specs.Entries as entries
-use Rattle.shop_round.specs.Entries.{told}
-use Rattle.shop_round.specs.declared.rounds.Round.{Round}
+use Rattle.shop_crews.specs.Entries as entries
+use Rattle.shop_crews.specs.Entries.{told}
+use Rattle.shop_crews.specs.declared.rounds.Round.{Round}
 use Rattle.shop_board.specs.Hits.{hits_of_round}
 use Rattle.shop_board.specs.Views.{is_hit_in, IsHitOrEnd}
 

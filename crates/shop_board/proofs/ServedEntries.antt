@@ -4,13 +4,13 @@ use Rattle.std.proofs.Common.{sym, ◌∙◌, subst, inl, inr, ⊎_elim, arith, 
 use Rattle.std.proofs.lemmas.List.{reverse-append}
 use Rattle.std.proofs.lemmas.List.Elements.{All-head, All-tail}
 use Rattle.std.specs.Prelude.{All, Ok, Err, IfOk, OnOk}
-use Rattle.shop_round.specs.Round.{Told}
-use Rattle.shop_round.specs.Entries as entries
-use Rattle.shop_round.specs.Entries.{told, number_of, Fits}
-use Rattle.shop_round.specs.declared.entries.Entry.{Entry}
-use Rattle.shop_round.specs.declared.rounds.Round.{Round}
-use Rattle.shop_round.specs.declared.entries.Kind.{Kind}
-use Rattle.shop_round.specs.declared.entries.Kind.TheVariants.{Done, Passed}
+use Rattle.shop_crews.specs.Round.{Told}
+use Rattle.shop_crews.specs.Entries as entries
+use Rattle.shop_crews.specs.Entries.{told, number_of, Fits}
+use Rattle.shop_crews.specs.declared.entries.Entry.{Entry}
+use Rattle.shop_crews.specs.declared.rounds.Round.{Round}
+use Rattle.shop_crews.specs.declared.entries.Kind.{Kind}
+use Rattle.shop_crews.specs.declared.entries.Kind.TheVariants.{Done, Passed}
 use Rattle.shop_board.specs.declared.views.View.{View}
 use Rattle.shop_board.specs.Hits.{hits_of_round}
 use Rattle.shop_board.specs.Views.{has, is_hit_in, HasServed}

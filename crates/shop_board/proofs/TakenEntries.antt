@@ -4,10 +4,10 @@ use Rattle.std.proofs.lemmas.List.Elements.{All-push, All-weaker, All-get_or}
 use Rattle.std.proofs.lemmas.List.Quantifiers.{all_pairs_push}
 use Rattle.std.specs.Prelude.{All}
 use Rattle.std.specs.List.{AllPairs}
-use Rattle.shop_round.specs.Round.{Told}
-use Rattle.shop_round.specs.Crews.{IsEntryOf}
-use Rattle.shop_round.specs.Entries.{told, number_of, is_hit}
-use Rattle.shop_round.specs.declared.entries.Entry.{Entry}
+use Rattle.shop_crews.specs.Round.{Told}
+use Rattle.shop_crews.specs.Crews.{IsEntryOf}
+use Rattle.shop_crews.specs.Entries.{told, number_of, is_hit}
+use Rattle.shop_crews.specs.declared.entries.Entry.{Entry}
 use Rattle.shop_board.specs.Entries.{OfRound}
 use Rattle.shop_board.specs.Works.{IsPassed, LetsPass}
 

@@ -10,11 +10,11 @@ use Rattle.std.specs.Prelude.{All}
 use Rattle.std.specs.List.Sorted.{IsStrictlyIncreasing}
 use mathlib.Core.Logic.{dite}
 use native.Mathlib.Decide.{ℕ_discrete}
-use Rattle.shop_round.specs.Round.{Told}
-use Rattle.shop_round.specs.Entries.{told, number_of, Fits}
-use Rattle.shop_round.specs.declared.entries.Entry.{Entry}
-use Rattle.shop_round.specs.declared.entries.Kind.{Kind}
-use Rattle.shop_round.specs.declared.entries.Kind.TheVariants.{Done, Passed}
+use Rattle.shop_crews.specs.Round.{Told}
+use Rattle.shop_crews.specs.Entries.{told, number_of, Fits}
+use Rattle.shop_crews.specs.declared.entries.Entry.{Entry}
+use Rattle.shop_crews.specs.declared.entries.Kind.{Kind}
+use Rattle.shop_crews.specs.declared.entries.Kind.TheVariants.{Done, Passed}
 use Rattle.shop_board.specs.declared.views.View.{View}
 use Rattle.shop_board.specs.Works.{Grows, IsKnown, IsAllKnown, numbers_of, IsServed, IsPassed, LetsPass, AreWon}
 use Rattle.shop_board.specs.Views.{has}

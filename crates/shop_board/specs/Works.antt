@@ -14,11 +14,11 @@
 use Rattle.std.specs.Prelude.{◌≡◌, ℕ, ◌<◌, ◌≤◌, List, ◌++◌, map, reverse, All, true, ◌⊎◌, IfOk}
 use Rattle.std.specs.List.{AllPairs}
 use Rattle.std.specs.List.Sorted.{IsStrictlyIncreasing}
-use Rattle.shop_round.specs.Round.{Told}
-use Rattle.shop_round.specs.Entries.{number_of, is_hit}
-use Rattle.shop_round.specs.declared.entries.Entry.{Entry}
-use Rattle.shop_round.specs.declared.entries.Kind.{Kind}
-use Rattle.shop_round.specs.declared.entries.Kind.TheVariants.{Done, Passed}
+use Rattle.shop_crews.specs.Round.{Told}
+use Rattle.shop_crews.specs.Entries.{number_of, is_hit}
+use Rattle.shop_crews.specs.declared.entries.Entry.{Entry}
+use Rattle.shop_crews.specs.declared.entries.Kind.{Kind}
+use Rattle.shop_crews.specs.declared.entries.Kind.TheVariants.{Done, Passed}
 use Rattle.shop_board.specs.declared.views.View.{View}
 use Rattle.shop_board.specs.Views.{has}
 use Rattle.shop_board.specs.Entries.{OfRound, Brought}

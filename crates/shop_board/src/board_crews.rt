@@ -1,14 +1,14 @@
 // A crew whose workers claim pieces on a board.
 ghost use Rattle.std.specs.Thread.{IsSync};
 ghost use Rattle.std.specs.Prelude.{◌≡◌, ◌<◌, ◌≤◌, ◌↔◌, IsSome, IfSome, IfOk};
-ghost use Rattle.shop_round.specs.Entries.{told};
-ghost use Rattle.shop_round.specs.Crews.{OneForEach};
+ghost use Rattle.shop_crews.specs.Entries.{told};
+ghost use Rattle.shop_crews.specs.Crews.{OneForEach};
 
 use crate::board_search::search_claimed;
 use crate::gates::{OpenGate, SeatGate};
-use crate::limits::MAX_WORKERS;
 use crate::workers::Workers;
-use shop_round::{Crew, Entry, Round};
+use shop_crews::{Crew, Entry, Round};
+use shop_plans::MAX_WORKERS;
 use std::alloc::{AllocError, Global};
 use std::thread::Threads;
 

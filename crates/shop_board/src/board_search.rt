@@ -1,7 +1,7 @@
 // A round searched by workers who claim its pieces on a board.
 ghost use Rattle.std.specs.Prelude.{◌≡◌, ◌<◌, length, vec_len, All, IfOk, IfSome, IfNone};
-ghost use Rattle.shop_round.specs.Entries.{told};
-ghost use Rattle.shop_round.specs.Crews.{OneForEach};
+ghost use Rattle.shop_crews.specs.Entries.{told};
+ghost use Rattle.shop_crews.specs.Crews.{OneForEach};
 ghost use Rattle.shop_board.specs.Entries.{OfRound};
 ghost use Rattle.shop_board.specs.inner.Gathered.{AllOfRound, IsReturned, AreReturned};
 ghost use Rattle.shop_board.specs.Hits.{hits_of_round};
@@ -13,7 +13,7 @@ use crate::boards::{Board, Seat};
 use crate::gates::SeatGate;
 use crate::ordering::{complete, in_places};
 use crate::working::work;
-use shop_round::{Entry, Round};
+use shop_crews::{Entry, Round};
 use std::alloc::{AllocError, Global};
 use std::thread;
 use std::thread::Threads;

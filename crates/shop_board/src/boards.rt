@@ -6,7 +6,7 @@ use crate::round_hits::RoundHits;
 use crate::rules::{Claim, Law, Look, Mark, Recall, Share};
 use crate::views::View;
 use atomic_table::Table;
-use shop_round::Round;
+use shop_crews::Round;
 use std::alloc::{AllocError, Global};
 
 /// A board that threads share: a flag for each piece of a round, and the least number of a piece that was marked as

@@ -2,20 +2,20 @@
 ghost use Rattle.std.specs.Thread.{IsSync};
 ghost use Rattle.std.specs.Prelude.{◌≡◌, ◌<◌, ◌≤◌, ◌↔◌, length, true, IsSome, IfSome, IfOk, OnOk};
 ghost use Rattle.std.specs.List.{AllPairs};
-ghost use Rattle.shop_round.specs.Entries.{told, is_hit};
-ghost use Rattle.shop_round.specs.Crews.{OneForEach, IsEntryOf};
+ghost use Rattle.shop_crews.specs.Entries.{told, is_hit};
+ghost use Rattle.shop_crews.specs.Crews.{OneForEach, IsEntryOf};
 ghost use Rattle.shop_board.specs.Hits.{hits_of_round};
 ghost use Rattle.shop_board.specs.Views.{IsHitOrEnd};
 ghost use Rattle.shop_board.specs.Entries.{OfRound};
 ghost use Rattle.shop_board.specs.Works.{IsPassed, LetsPass};
 
 use crate::gates::{Gate, OpenGate};
-use crate::limits::MAX_WORKERS;
 use crate::ordering::in_order;
 use crate::piece_searchers::PieceSearcher;
 use crate::pools::Pool;
 use crate::workers::Workers;
-use shop_round::{Crew, Entry, Round};
+use shop_crews::{Crew, Entry, Round};
+use shop_plans::MAX_WORKERS;
 use std::alloc::{AllocError, Global};
 use std::sync::{Mutex, Wait};
 use std::thread;
@@ -108,8 +108,41 @@ fn turn<'r, G: Gate>(
     Ok(Entry::done(round, sheet))
 }
 
+// The next number of the pool, if it is that of a piece.
+fn next_piece<R: Wait>(rt: &R, pool: &Mutex<Pool>, pieces: usize) -> Option<usize>
+    ensures { IfSome result (λ n. n < pieces) }
+{
+    let number = pool.lock(rt).take()?;
+    if number < pieces { Some(number) } else { None }
+}
+
 // The entries of the pieces that a worker takes. Once one of its own ends at the opening bound, those of a higher
 // number are passed.
+fn serve_with<'r, R: Wait, G: Gate>(
+    rt: &R,
+    alloc: Global,
+    searcher: &mut PieceSearcher<'r>,
+    pool: &Mutex<Pool>,
+    gate: &G,
+    worker: usize,
+) -> Result<Vec<Entry<'r>>, AllocError>
+    ensures of { IfOk result (λ v. OfRound (told searcher.old) v.items) }
+    ensures passes { IfOk result (λ v. AllPairs (LetsPass (told searcher.old)) v.items) }
+{
+    let mut entries = Vec::new(alloc);
+    let pieces = searcher.round().pieces.len();
+    let mut low = pieces;
+    for _ in rt.forever() {
+        let Some(number) = next_piece(rt, pool, pieces) else {
+            break;
+        };
+        let entry = turn(alloc, searcher, &mut low, number, worker, gate)?;
+        entries.push(entry)?;
+    }
+    Ok(entries)
+}
+
+// The same, by a searcher of the worker's own.
 fn serve<'r, R: Wait, G: Gate>(
     rt: &R,
     alloc: Global,
@@ -121,20 +154,8 @@ fn serve<'r, R: Wait, G: Gate>(
     ensures of { IfOk result (λ v. OfRound (told round.now) v.items) }
     ensures passes { IfOk result (λ v. AllPairs (LetsPass (told round.now)) v.items) }
 {
-    let mut entries = Vec::new(alloc);
     let mut searcher = PieceSearcher::new(round);
-    let mut low = round.pieces.len();
-    for _ in rt.forever() {
-        let Some(number) = pool.lock(rt).take() else {
-            break;
-        };
-        if number >= round.pieces.len() {
-            break;
-        }
-        let entry = turn(alloc, &mut searcher, &mut low, number, worker, gate)?;
-        entries.push(entry)?;
-    }
-    Ok(entries)
+    serve_with(rt, alloc, &mut searcher, pool, gate, worker)
 }
 
 // The entries of a round by this many workers at most, of which the calling thread is one. No more are started than

@@ -1,14 +1,14 @@
 // Entries that workers brought, put in the order of their pieces.
 ghost use Rattle.std.specs.Prelude.{◌≡◌, ◌<◌, length, All, IfOk, IfSome, None, slice_set};
 ghost use Rattle.std.specs.Prelude.{slice_index_or, vec_len};
-ghost use Rattle.shop_round.specs.Entries.{told};
-ghost use Rattle.shop_round.specs.Crews.{OneForEach, IsEntryOf};
+ghost use Rattle.shop_crews.specs.Entries.{told};
+ghost use Rattle.shop_crews.specs.Crews.{OneForEach, IsEntryOf};
 ghost use Rattle.shop_board.specs.Entries.{OfRound};
 ghost use Rattle.shop_board.specs.inner.Gathered.{AllOfRound, Placed, AreFilled, AreKept, Fills};
 ghost use Rattle.shop_board.specs.inner.Gathered.{StayFilled};
 
 use crate::piece_searchers::PieceSearcher;
-use shop_round::{Entry, Round};
+use shop_crews::{Entry, Round};
 use std::alloc::{AllocError, Global};
 
 // A place for each piece.
@@ -38,7 +38,7 @@ fn put<'r>(round: &'r Round<'r>, slots: &mut Vec<Option<Entry<'r>>>, entry: Entr
     }
 }
 
-// Puts each entry into its place, where a double takes the place of the one before.
+// Puts each entry into the place of its piece; of two entries of one piece the one that is put last stays.
 fn place<'r>(round: &'r Round<'r>, slots: &mut Vec<Option<Entry<'r>>>, mut entries: Vec<Entry<'r>>)
     requires entries { OfRound (told round.now) entries.items }
     requires slots { Placed (told round.now) slots.old.items }
@@ -52,6 +52,7 @@ fn place<'r>(round: &'r Round<'r>, slots: &mut Vec<Option<Entry<'r>>>, mut entri
     }
 }
 
+// Takes the entry out of a place.
 fn take<'r>(slots: &mut Vec<Option<Entry<'r>>>, number: usize) -> Option<Entry<'r>>
     requires { number < vec_len slots.old }
     ensures after { slots.new.items ≡ slice_set slots.old.items number None }
@@ -82,6 +83,25 @@ fn or_search<'r>(
     }
 }
 
+// The entries of a round, one for each piece and in number order; a piece whose place is empty is searched.
+fn complete_with<'r>(
+    alloc: Global,
+    searcher: &mut PieceSearcher<'r>,
+    slots: &mut Vec<Option<Entry<'r>>>,
+) -> Result<Vec<Entry<'r>>, AllocError>
+    requires len { vec_len slots.old ≡ length searcher.old.pieces.items }
+    requires slots { Placed (told searcher.old) slots.old.items }
+    ensures each { IfOk result (λ v. OneForEach (told searcher.old) v.items) }
+    ensures kept { IfOk result (λ v. AreKept slots.old.items v.items) }
+{
+    let mut entries = Vec::with_capacity(alloc, slots.len())?;
+    for number in 0..slots.len() {
+        let brought = take(slots, number);
+        entries.push(or_search(alloc, searcher, number, brought)?)?;
+    }
+    Ok(entries)
+}
+
 /// Gives the entries of a round, one for each piece and in number order; a piece whose place is empty is searched.
 /// Fails with `AllocError` if memory runs out.
 pub fn complete<'r>(
@@ -94,13 +114,8 @@ pub fn complete<'r>(
     ensures each { IfOk result (λ v. OneForEach (told round.now) v.items) }
     ensures kept { IfOk result (λ v. AreKept slots.entry.items v.items) }
 {
-    let mut entries = Vec::with_capacity(alloc, slots.len())?;
     let mut searcher = PieceSearcher::new(round);
-    for number in 0..slots.len() {
-        let brought = take(&mut slots, number);
-        entries.push(or_search(alloc, &mut searcher, number, brought)?)?;
-    }
-    Ok(entries)
+    complete_with(alloc, &mut searcher, &mut slots)
 }
 
 /// Puts what the workers of a round brought into the places of its pieces: doubles are dropped, and where nobody

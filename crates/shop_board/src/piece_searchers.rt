@@ -1,9 +1,10 @@
 // The search of a worker's pieces, over the layout of the round.
-ghost use Rattle.std.specs.Prelude.{◌≡◌, ◌<◌, length, IfOk};
-ghost use Rattle.shop_round.specs.Entries.{told, IsOf, TellsHit};
+ghost use Rattle.std.specs.Prelude.{◌≡◌, ◌<◌, length, IfOk, OnOk};
+ghost use Rattle.shop_crews.specs.Entries.{told, IsOf, TellsHit};
 
-use shop_round::{Round, search_piece_with};
-use shop_tree::{Searcher, Sheet};
+use shop_crews::Round;
+use shop_nodes::Sheet;
+use shop_tree::Searcher;
 use std::alloc::{AllocError, Global};
 use std::marker::Model;
 
@@ -17,13 +18,29 @@ pub struct PieceSearcher<'r> {
 
 impl<'r> Model for PieceSearcher<'r> {
     ghost use Rattle.std.specs.Prelude.{◌≡◌, IfSome};
-    ghost use Rattle.shop_round.specs.declared.rounds.Round.{Round};
+    ghost use Rattle.shop_crews.specs.declared.rounds.Round.{Round};
 
     ghost Value = { Round };
 
     ghost view = { λ s. s.round.now };
 
     ghost invariant = { λ s. IfSome s.searcher (λ shop. shop ≡ s.round.now.instance.now) };
+}
+
+// The sheet of a piece of the round, by a searcher for its instance.
+fn sheet_of<'r>(
+    alloc: Global,
+    searcher: &mut Searcher<'r, 'r>,
+    round: &'r Round<'r>,
+    number: usize,
+) -> Result<Sheet<'r>, AllocError>
+    requires piece { number < length round.now.pieces.items }
+    requires instance { searcher.old ≡ round.now.instance.now }
+    ensures of { IfOk result (λ s. IsOf (told round.now) s × (s.number ≡ number)) }
+    ensures hit { IfOk result (λ s. TellsHit (told round.now) number s) }
+    ensures instance { OnOk result (searcher.new ≡ round.now.instance.now) }
+{
+    searcher.search(alloc, &round.pieces[number], round.best, round.budget)
 }
 
 impl<'r> PieceSearcher<'r> {
@@ -55,7 +72,7 @@ impl<'r> PieceSearcher<'r> {
             Some(kept) => kept,
             None => Searcher::over(alloc, self.round.instance, self.round.layout())?,
         };
-        let sheet = search_piece_with(alloc, &mut searcher, self.round, number)?;
+        let sheet = sheet_of(alloc, &mut searcher, self.round, number)?;
         self.searcher = Some(searcher);
         Ok(sheet)
     }

@@ -1,5 +1,5 @@
 // Which pieces of a round end at its opening bound.
-use shop_round::Round;
+use shop_crews::Round;
 use std::marker::Model;
 
 /// Which pieces of a round end at its opening bound. Contracts see that list; at run time it is the round itself.

@@ -1,8 +1,8 @@
 // The workers of a crew, and the gate that is called before each piece.
 ghost use Rattle.std.specs.Prelude.{◌≡◌, ◌<◌, ◌≤◌, ◌↔◌, IsSome, IfSome};
-ghost use Rattle.shop_board.specs.declared.limits.TheConstants.{MAX_WORKERS};
+ghost use Rattle.shop_plans.specs.declared.plans.TheConstants.{MAX_WORKERS};
 
-use crate::limits::MAX_WORKERS;
+use shop_plans::MAX_WORKERS;
 
 /// How many workers a crew has, and its gate.
 #[derive(Drop)]

@@ -1,6 +1,6 @@
 // What a worker does with its seat.
 ghost use Rattle.std.specs.Prelude.{◌≡◌, ◌<◌, length, true, IfOk, OnOk};
-ghost use Rattle.shop_round.specs.Entries.{told};
+ghost use Rattle.shop_crews.specs.Entries.{told};
 ghost use Rattle.shop_board.specs.Hits.{hits_of_round};
 ghost use Rattle.shop_board.specs.Views.{has, HasServed};
 ghost use Rattle.shop_board.specs.Seats.{knows, hits_of, IsSeatOf};
@@ -10,7 +10,7 @@ ghost use Rattle.shop_board.specs.inner.Turns.{IsServedEntry, BringsTurn};
 use crate::boards::{Board, Seat};
 use crate::gates::SeatGate;
 use crate::piece_searchers::PieceSearcher;
-use shop_round::{Entry, Round};
+use shop_crews::{Entry, Round};
 use std::alloc::{AllocError, Global};
 
 // Searches a piece that the seat won, and marks it where it ends at the opening bound.

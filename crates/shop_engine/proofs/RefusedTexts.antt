@@ -13,7 +13,7 @@ use Rattle.shop_text.specs.declared.faults.ReadFault.{ReadFault}
 use Rattle.shop_text.specs.declared.faults.ReadFault.TheVariants as fault
 use Rattle.shop_text.specs.declared.formats.Format.{Format}
 use Rattle.shop_engine.specs.declared.faults.Fault.TheVariants.{Text, ReadFailed, WriteFailed}
-use Rattle.shop_engine.specs.declared.arguments.CheckArgs.{CheckArgs}
+use Rattle.shop_args.specs.declared.CheckArgs.{CheckArgs}
 use Rattle.shop_engine.specs.Devices.{Device, IsReadToEnd, IsRefusedWhole, IsTextRefused}
 use Rattle.shop_engine.specs.Asking.{name_in, IsAsked, IsMissing, IsAskFault}
 use Rattle.shop_engine.specs.Checking.{IsPicked}

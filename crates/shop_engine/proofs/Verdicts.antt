@@ -8,7 +8,7 @@ use Rattle.shop_text.specs.declared.faults.ReadFault.{ReadFault}
 use Rattle.shop_text.specs.declared.faults.ReadFault.TheVariants as fault
 use Rattle.shop_model.specs.Shop.{Shop}
 use Rattle.shop_text.specs.declared.formats.Format.{Format}
-use Rattle.shop_engine.specs.declared.arguments.CheckArgs.{CheckArgs}
+use Rattle.shop_args.specs.declared.CheckArgs.{CheckArgs}
 use Rattle.shop_engine.specs.declared.faults.Fault.{Fault}
 use Rattle.shop_engine.specs.declared.faults.Fault.TheVariants.{Text, ReadFailed, WriteFailed}
 use Rattle.shop_engine.specs.Devices.{Device, IsReadToEnd, IsUnwritten, IsCutOff}

@@ -20,7 +20,7 @@ use Rattle.shop_text.specs.Writing.{verdict_text}
 use Rattle.shop_text.specs.declared.faults.ReadFault.{ReadFault}
 use Rattle.shop_text.specs.declared.faults.ReadFault.TheVariants.{NoMemory}
 use Rattle.shop_text.specs.declared.formats.Format.{Format}
-use Rattle.shop_engine.specs.declared.arguments.CheckArgs.{CheckArgs}
+use Rattle.shop_args.specs.declared.CheckArgs.{CheckArgs}
 use Rattle.shop_engine.specs.declared.faults.Fault.{Fault}
 use Rattle.shop_engine.specs.declared.faults.Fault.TheVariants.{Text, ReadFailed, WriteFailed}
 use Rattle.shop_engine.specs.Devices.{Device, HasReadOnce, HasReadFailed, IsReadToEnd, IsUnread}

@@ -30,7 +30,7 @@ use Rattle.shop_text.specs.Writing.{Reported}
 use Rattle.shop_round.specs.Round.{Planned}
 use Rattle.shop_round.specs.Runs.{planned}
 use Rattle.shop_text.specs.declared.formats.Format.{Format}
-use Rattle.shop_engine.specs.declared.arguments.SolveArgs.{SolveArgs}
+use Rattle.shop_args.specs.declared.SolveArgs.{SolveArgs}
 use Rattle.shop_engine.specs.declared.faults.Fault.{Fault}
 use Rattle.shop_engine.specs.Asking.{name_in, OfAsked}
 use Rattle.shop_engine.specs.Devices.{Device}

@@ -5,7 +5,7 @@ use Rattle.std.specs.Prelude.{◌≡◌, ℕ, List, Result}
 use Rattle.shop_text.specs.Texts.{NamedShop, IsText, IsTextFault}
 use Rattle.shop_text.specs.Writing.{list_text}
 use Rattle.shop_text.specs.declared.formats.Format.{Format}
-use Rattle.shop_engine.specs.declared.arguments.ListArgs.{ListArgs}
+use Rattle.shop_args.specs.declared.ListArgs.{ListArgs}
 use Rattle.shop_engine.specs.declared.faults.Fault.{Fault}
 use Rattle.shop_text.specs.Formats.{grammar_of}
 use Rattle.shop_engine.specs.Devices.{Device, IsTransfer}

@@ -6,9 +6,9 @@ use Rattle.std.specs.Prelude.{◌≡◌, ℕ, List, Bool, Some, Result, Ok, Err}
 use Rattle.shop_text.specs.Texts.{IsTextFault}
 use Rattle.shop_text.specs.declared.faults.ReadFault.{ReadFault}
 use Rattle.shop_text.specs.declared.faults.ReadFault.TheVariants.{NoMemory}
-use Rattle.shop_engine.specs.declared.arguments.ListArgs.{ListArgs}
-use Rattle.shop_engine.specs.declared.arguments.CheckArgs.{CheckArgs}
-use Rattle.shop_engine.specs.declared.arguments.SolveArgs.{SolveArgs}
+use Rattle.shop_args.specs.declared.ListArgs.{ListArgs}
+use Rattle.shop_args.specs.declared.CheckArgs.{CheckArgs}
+use Rattle.shop_args.specs.declared.SolveArgs.{SolveArgs}
 use Rattle.shop_engine.specs.declared.faults.Fault.{Fault}
 use Rattle.shop_engine.specs.declared.faults.Fault.TheVariants.{Text, ReadFailed, WriteFailed}
 use Rattle.shop_engine.specs.Devices.{Device}

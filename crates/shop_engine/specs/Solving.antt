@@ -2,7 +2,7 @@
 --     IsSolution args text written                           the report that is written for a text
 --     IsSolving args source source' sink sink' result        what is answered
 use Rattle.std.specs.Prelude.{ℕ, List, Result}
-use Rattle.shop_engine.specs.declared.arguments.SolveArgs.{SolveArgs}
+use Rattle.shop_args.specs.declared.SolveArgs.{SolveArgs}
 use Rattle.shop_engine.specs.declared.faults.Fault.{Fault}
 use Rattle.shop_engine.specs.Asking.{name_in, IsAskFault}
 use Rattle.shop_engine.specs.Devices.{Device, IsTransfer}

@@ -7,11 +7,11 @@ ghost use Rattle.shop_engine.specs.Asking.{name_in, OrNoMemory};
 ghost use Rattle.shop_engine.specs.Checking.{schedule_in, IsVerdictOn, IsCheckOf, IsCheckFault};
 ghost use Rattle.shop_engine.specs.Checking.{IsScheduleRead, IsSecondUnread, IsChecking};
 
-use crate::arguments::CheckArgs;
 use crate::asking::ask;
 use crate::devices::{Sink, Source};
 use crate::faults::Fault;
 use crate::transfers::{read_all, write_all};
+use shop_args::CheckArgs;
 use shop_model::{Instance, Verdict, check_quickly};
 use shop_text::{ReadFault, read, read_table, verdict_line};
 use std::alloc::Global;

@@ -1,7 +1,6 @@
 // The engines of the program: from the bytes of a text, or of a source, to the bytes that are written.
 #![tactic(auto)]
 
-mod arguments;
 mod asking;
 mod checking;
 mod devices;
@@ -13,13 +12,13 @@ mod solving;
 mod streams;
 mod transfers;
 
-pub use arguments::{CheckArgs, ListArgs, SolveArgs};
 pub use checking::{check_bytes, check_text};
 pub use devices::{DeviceFailed, Sink, Source};
 pub use faults::Fault;
 pub use laws::{one_report, one_whole_run, refused_texts_are_answered};
 pub use listing::{list_bytes, list_text};
 pub use memory::Memory;
+pub use shop_args::{CheckArgs, ListArgs, SolveArgs};
 pub use shop_text::Format;
 pub use solving::{solve_bytes, solve_instance, solve_text};
 pub use streams::{Reading, Writing};

@@ -5,10 +5,10 @@ ghost use Rattle.shop_text.specs.Formats.{grammar_of};
 ghost use Rattle.shop_engine.specs.Asking.{OrNoMemory};
 ghost use Rattle.shop_engine.specs.Listing.{IsListOf, IsListing};
 
-use crate::arguments::ListArgs;
 use crate::devices::{Sink, Source};
 use crate::faults::Fault;
 use crate::transfers::{read_all, write_all};
+use shop_args::ListArgs;
 use shop_text::{ReadFault, listing, read};
 use std::alloc::Global;
 

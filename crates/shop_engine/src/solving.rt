@@ -13,11 +13,11 @@ ghost use Rattle.shop_engine.specs.Solving.{IsSolving};
 ghost use Rattle.shop_engine.specs.SolvedSchedules.{GivesSchedule, PassesCheck};
 ghost use Rattle.shop_engine.specs.inner.Told.{told_by, HasWords};
 
-use crate::arguments::SolveArgs;
 use crate::asking::ask;
 use crate::devices::{Sink, Source};
 use crate::faults::Fault;
 use crate::transfers::{read_all, write_all};
+use shop_args::SolveArgs;
 use shop_round::{Answer, Crew, Plan, run};
 use shop_text::{Named, ReadFault, Report, gantt, read, report};
 use std::alloc::{AllocError, Global};

@@ -8,8 +8,8 @@ use Rattle.shop_engine.specs.Asking.{name_in, IsAskFault, OrNoMemory}
 use Rattle.shop_engine.specs.Checking.{schedule_in, IsCheckOf, IsCheckFault}
 use Rattle.shop_engine.specs.Headline.{IsRightOf, IsDeterminedOf}
 use Rattle.shop_engine.specs.SolvedSchedules.{PassesCheck}
-use Rattle.shop_engine.specs.declared.arguments.CheckArgs.{CheckArgs}
-use Rattle.shop_engine.specs.declared.arguments.SolveArgs.{SolveArgs}
+use Rattle.shop_args.specs.declared.CheckArgs.{CheckArgs}
+use Rattle.shop_args.specs.declared.SolveArgs.{SolveArgs}
 use Rattle.shop_exports.specs.Outcomes.{is_refused, IsGiven}
 use Rattle.shop_exports.specs.Requests.{format_code}
 use Rattle.shop_exports.specs.Exports.{Serves, ListsFor, ChecksWith, IsReport}

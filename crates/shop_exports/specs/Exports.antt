@@ -12,8 +12,8 @@ use Rattle.shop_engine.specs.Listing.{IsListOf}
 use Rattle.shop_engine.specs.Checking.{schedule_in, IsCheckOf, IsCheckFault}
 use Rattle.shop_engine.specs.Solving.{IsSolution}
 use Rattle.shop_engine.specs.SolvedSchedules.{PassesCheck}
-use Rattle.shop_engine.specs.declared.arguments.CheckArgs.{CheckArgs}
-use Rattle.shop_engine.specs.declared.arguments.SolveArgs.{SolveArgs}
+use Rattle.shop_args.specs.declared.CheckArgs.{CheckArgs}
+use Rattle.shop_args.specs.declared.SolveArgs.{SolveArgs}
 use Rattle.shop_exports.specs.Outcomes.{is_refused, is_faulty, IsGiven}
 use Rattle.shop_exports.specs.Requests.{format_code, IsNoFormat, IsUnasked}
 use Rattle.shop_exports.specs.Requests.{AsksCheck, IsFaultyCheck, AsksSolve, IsFaultySolve}

@@ -11,13 +11,13 @@ use Rattle.std.specs.Str.{IsUtf8}
 use Rattle.shop_text.specs.declared.formats.Format.{Format}
 use Rattle.shop_text.specs.declared.formats.Format.TheVariants.{Orlib, Taillard, Routes}
 use Rattle.shop_text.specs.declared.faults.ReadFault.TheVariants.{NoMemory}
-use Rattle.shop_round.specs.Limits.{IsPlanWithin}
-use Rattle.shop_round.specs.declared.plans.Plan.{Plan}
-use Rattle.shop_round.specs.declared.plans.Order.{Order}
-use Rattle.shop_round.specs.declared.plans.Order.TheVariants.{Kept, Bound}
+use Rattle.shop_plans.specs.Limits.{IsPlanWithin}
+use Rattle.shop_plans.specs.declared.plans.Plan.{Plan}
+use Rattle.shop_plans.specs.declared.plans.Order.{Order}
+use Rattle.shop_plans.specs.declared.plans.Order.TheVariants.{Kept, Bound}
 use Rattle.shop_engine.specs.Asking.{name_in}
-use Rattle.shop_engine.specs.declared.arguments.CheckArgs.{CheckArgs}
-use Rattle.shop_engine.specs.declared.arguments.SolveArgs.{SolveArgs}
+use Rattle.shop_args.specs.declared.CheckArgs.{CheckArgs}
+use Rattle.shop_args.specs.declared.SolveArgs.{SolveArgs}
 use Rattle.shop_exports.specs.Outcomes.{is_refused, is_faulty}
 use Rattle.shop_exports.specs.declared.outcomes.Outcome.{Outcome}
 use Rattle.shop_exports.specs.declared.requests.Options.{Options}

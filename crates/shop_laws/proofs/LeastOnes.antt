@@ -1,9 +1,10 @@
 -- The search ends, so there is a least makespan; and no other.
 use Rattle.std.proofs.Common.{◌≡◌, ℕ, arith}
 use Rattle.shop_model.specs.Shop.{Shop, IsLeast}
-use Rattle.shop_round.specs.Round.{Planned, answer, makespan_of}
+use Rattle.shop_round.specs.Round.{Planned, makespan_of}
+use Rattle.shop_round.specs.Answers.{answer}
 use Rattle.shop_round.specs.Exact.{with_rounds}
-use Rattle.shop_round.specs.declared.plans.Order.TheVariants.{Kept}
+use Rattle.shop_plans.specs.declared.plans.Order.TheVariants.{Kept}
 use Rattle.shop_round.proofs.Ending.{searches_end}
 use Rattle.shop_laws.specs.LeastMakespans.{EachHasOneLeast}
 

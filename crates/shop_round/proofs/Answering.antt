@@ -3,30 +3,36 @@ use Rattle.std.proofs.Common.{◌≡◌, ℕ, zero, suc, ◌+◌, ◌-◌, ◌*�
 use Rattle.std.proofs.Common.{◌∙◌, ap, subst, arith, false, eqb}
 use Rattle.shop_model.specs.Shop.{Shop}
 use Rattle.std.proofs.lemmas.List.{length-map}
-use Rattle.shop_round.specs.Round.{Planned, Stand, Told, cut_of, gathered, round, rounds_from, unless_closed, answer}
-use Rattle.shop_round.specs.Round.{opening, least_bound, makespan_of, bound_of}
-use Rattle.shop_round.specs.Laws.{StandsCovering, IsTrustworthy}
+use Rattle.shop_plans.specs.Plans.{Planned}
+use Rattle.shop_crews.specs.Round.{Stand, Told, cut_of, gathered, round}
+use Rattle.shop_round.specs.Answers.{rounds_from, unless_closed, answer}
+use Rattle.shop_crews.specs.Round.{opening, least_bound, makespan_of}
+use Rattle.shop_round.specs.Answers.{bound_of}
+use Rattle.shop_crews.specs.Laws.{StandsCovering}
+use Rattle.shop_round.specs.Trust.{IsTrustworthy}
 use Rattle.shop_nodes.specs.Nodes.{words_of}
 use Rattle.shop_heads.specs.Bound.{lb}
 use Rattle.shop_nodes.specs.Nodes.{AreNodes}
-use Rattle.shop_round.specs.Entries.{told}
-use Rattle.shop_round.specs.Round.{in_order, words_below, pieces_of, rest_of}
-use Rattle.shop_round.specs.Runs.{stands, StandsAt, Says}
+use Rattle.shop_crews.specs.Entries.{told}
+use Rattle.shop_crews.specs.Round.{in_order, words_below, pieces_of, rest_of}
+use Rattle.shop_crews.specs.Standings.{stands, StandsAt}
+use Rattle.shop_round.specs.Runs.{Says}
 use Rattle.shop_round.specs.declared.open_nodes.OpenNodes.{OpenNodes}
-use Rattle.shop_round.specs.declared.plans.Order.{Order}
-use Rattle.shop_round.specs.declared.rounds.Round.{Round}
+use Rattle.shop_plans.specs.declared.plans.Order.{Order}
+use Rattle.shop_crews.specs.declared.rounds.Round.{Round}
 use Rattle.shop_round.specs.declared.runs.Search.{Search}
-use Rattle.shop_round.specs.inner.OpenNodes.{least_of_bounds}
+use Rattle.shop_crews.specs.inner.OpenNodes.{least_of_bounds}
 use Rattle.shop_round.specs.inner.Searches.{IsSearchAt, IsSearchOf, IsJoined, front_of, stand_of}
 use Rattle.shop_round.specs.inner.Stores.{open_list, order_of}
 use Rattle.shop_round.proofs.FrontLemmas.{IsInOrder, in_order_is, order_drop, ordered_twice, gathered_front, rejoined}
 use Rattle.shop_round.proofs.FrontLemmas.{joined_at, search_of, least_order, length_order}
-use Rattle.shop_round.proofs.NodeLemmas.{least_is}
+use Rattle.shop_crews.proofs.NodeLemmas.{least_is}
 use Rattle.shop_round.specs.declared.runs.Answer.{Answer}
 use Rattle.shop_model.specs.Word.{placed, rows_of}
-use Rattle.shop_round.specs.declared.standings.Standing.{Standing}
-use Rattle.shop_round.proofs.Covering.{opens_covering, round_covers, trustworthy, cut_is_round, none_from}
-use Rattle.shop_round.proofs.Counting.{counts_small}
+use Rattle.shop_crews.specs.declared.standings.Standing.{Standing}
+use Rattle.shop_crews.proofs.Covering.{opens_covering, round_covers, cut_is_round}
+use Rattle.shop_round.proofs.Trusting.{trustworthy, none_from}
+use Rattle.shop_crews.proofs.Counting.{counts_small}
 
 -- what a run that has done i rounds of its plan has still to come to
 pub record GoesTo (shop : Shop) (plan : Planned) (i : ℕ) (s : Stand) : Type 0 where
@@ -67,17 +73,36 @@ pub goes_last : (shop : Shop) (plan : Planned) (i : ℕ) (s : Stand) → GoesTo 
 goes_last shop plan i s g h = let e : plan.rounds - i ≡ 0 = omega arith
     in sym (ap (λ n. rounds_from shop plan n s) e) ∙ g.goes_to
 
-pub at_own : (shop : Shop) (s : Stand) (t : Standing) → StandsAt shop s t → StandsAt shop (stands t) t
-at_own shop s t a = record {
-  stands_at = refl;
-  makespan = a.makespan
-      ∙ ap (makespan_of shop) (sym a.stands_at);
-  bounds = a.bounds;
-}
+-- a round of a run: its front is cut off and searched, what stands after that is joined by the others
+module _ (shop : Shop) (plan : Planned) (t : Search) (of : IsSearchOf shop plan.order t) where
+  whole : Told
+  whole = cut_of shop plan (stand_of t)
 
-pub some_open : (n m : ℕ) → n ≡ m → false ≡ eqb n 0 → 0 < m
-some_open zero m e f = absurd (cc)
-some_open (suc n) m e f = omega arith
+  pub next_round : (r : Round) (others : OpenNodes) (u : Standing) (v : Search)
+      → told r ≡ front_of (cut_of shop plan (stand_of t))
+      → words_of (open_list others) ≡ (cut_of shop plan (stand_of t)).rest → AreNodes shop (open_list others)
+      → order_of others ≡ order_of t.open → StandsAt r.instance.now (gathered (told r)) u → IsJoined u others v
+      → IsSearchAt shop plan.order (round shop plan (stand_of t)) v
+  unfolding whole
+  next_round r others u v front rest bounds kept at joined =
+      let is = cut_is_round shop plan (stand_of t) of.standing
+      in let stands_at : StandsAt shop (gathered (front_of whole)) u =
+      subst (λ (q : Told). StandsAt q.shop (gathered q) u) front at
+      in let first = gathered (front_of whole)
+      in let split : round shop plan (stand_of t) ≡ rejoined whole first = gathered_front whole is
+      in let word : u.word ≡ first.word = ap (λ (x : Stand). x.word) stands_at.stands_at
+      in let words : (rejoined whole first).open_words
+      ≡ words_of u.open.items ++ words_below shop u.makespan (words_of (open_list others)) =
+      (λ j. ap (λ (x : Stand). x.open_words) (sym stands_at.stands_at) j
+      ++ words_below shop (sym stands_at.makespan j) (sym rest j))
+      in let rises : IsInOrder shop plan.order (words_of (open_list others)) =
+      subst (IsInOrder shop plan.order) (sym rest) (order_drop shop plan.order (256 * plan.piece)
+      (in_order shop plan.order (stand_of t).open_words) (in_order_is shop plan.order (stand_of t).open_words))
+      in let landed : IsSearchAt shop plan.order (rejoined whole first) v =
+      joined_at shop plan.order (rejoined whole first) u others v words word stands_at.makespan
+      (ap (λ (x : Stand). x.rounds) stands_at.stands_at) (ap (λ (x : Stand). x.nodes) stands_at.stands_at)
+      stands_at.bounds bounds (kept ∙ of.kept) rises joined
+      in subst (λ x. IsSearchAt shop plan.order x v) (sym split) landed
 
 -- a run on its way: it stands where the definition does, which covers the instance, and goes to the answer
 pub record OnTheWay (shop : Shop) (plan : Planned) (i : ℕ) (t : Search) : Type 0 where
@@ -138,39 +163,16 @@ module _ (shop : Shop) (plan : Planned) (i : ℕ) (t : Search) (way : OnTheWay s
     nodes = way.stand.nodes;
   }) (ordered_twice shop plan.order way.stand.open_words)
 
-  pub way_next : (r : Round) (others : OpenNodes) (u : Standing) (v : Search) → i < plan.rounds
-      → 0 < length (open_list t.open) → told r ≡ front_of (cut_of shop plan (stand_of t))
-      → words_of (open_list others) ≡ (cut_of shop plan (stand_of t)).rest → AreNodes shop (open_list others)
-      → order_of others ≡ order_of t.open → StandsAt r.instance.now (gathered (told r)) u → IsJoined u others v
-      → OnTheWay shop plan (i + 1) v
-  way_next r others u v h some front rest bounds kept at joined =
-      let whole = cut_of shop plan way.stand
-      in let is = cut_is_round shop plan way.stand way.covering.0
-      in let told_is : told r ≡ front_of whole = front ∙ ap front_of same_cut
-      in let stands_at : StandsAt shop (gathered (front_of whole)) u =
-      subst (λ (q : Told). StandsAt q.shop (gathered q) u) told_is at
-      in let first = gathered (front_of whole)
-      in let split : round shop plan way.stand ≡ rejoined whole first = gathered_front whole is
-      in let rest_is : words_of (open_list others) ≡ whole.rest = rest ∙ ap (λ (q : Told). q.rest) same_cut
-      in let word : u.word ≡ first.word = ap (λ (x : Stand). x.word) stands_at.stands_at
-      in let words : (rejoined whole first).open_words
-      ≡ words_of u.open.items ++ words_below shop u.makespan (words_of (open_list others)) =
-      (λ j. ap (λ (x : Stand). x.open_words) (sym stands_at.stands_at) j
-      ++ words_below shop (sym stands_at.makespan j) (sym rest_is j))
-      in let rises : IsInOrder shop plan.order (words_of (open_list others)) =
-      subst (IsInOrder shop plan.order) (sym rest_is) (order_drop shop plan.order (256 * plan.piece)
-      (in_order shop plan.order way.stand.open_words) (in_order_is shop plan.order way.stand.open_words))
-      in let landed : IsSearchAt shop plan.order (rejoined whole first) v =
-      joined_at shop plan.order (rejoined whole first) u others v words word stands_at.makespan
-      (ap (λ (x : Stand). x.rounds) stands_at.stands_at) (ap (λ (x : Stand). x.nodes) stands_at.stands_at)
-      stands_at.bounds bounds (kept ∙ way.at.kept) rises joined
-      in record {
-        stand = round shop plan way.stand;
-        at = subst (λ x. IsSearchAt shop plan.order x v) (sym split) landed;
-        covering = round_covers shop plan way.stand way.covering;
-        goes = goes_on shop plan i way.stand way.goes h (let m = many in omega arith);
-        rounds = (counts_small (cut_of shop plan way.stand)).0 ∙ ap (λ k. k + 1) way.rounds;
-      }
+  -- one more round brings it to where the definition's next round ends
+  pub way_next : (v : Search) → i < plan.rounds → 0 < length (open_list t.open)
+      → IsSearchAt shop plan.order (round shop plan (stand_of t)) v → OnTheWay shop plan (i + 1) v
+  way_next v h some at = record {
+    stand = round shop plan way.stand;
+    at = subst (λ x. IsSearchAt shop plan.order (gathered x) v) same_cut at;
+    covering = round_covers shop plan way.stand way.covering;
+    goes = goes_on shop plan i way.stand way.goes h (let m = many in omega arith);
+    rounds = (counts_small (cut_of shop plan way.stand)).0 ∙ ap (λ k. k + 1) way.rounds;
+  }
 
 -- the answer that is made of a run says what stands
 module _ (shop : Shop) (o : Order) (s : Stand) (t : Search) (at : IsSearchAt shop o s t) where

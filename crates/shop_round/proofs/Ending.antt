@@ -8,18 +8,21 @@ use Rattle.shop_heads.specs.Bound.{lb}
 use Rattle.shop_nodes.specs.Branching.{insert_by, sort_by}
 use Rattle.shop_nodes.specs.Walking.{Walk}
 use Rattle.shop_nodes.proofs.Members.{in_all}
-use Rattle.shop_round.specs.declared.plans.Order.{Order}
-use Rattle.shop_round.specs.declared.plans.Order.TheVariants.{Kept, Bound}
-use Rattle.shop_round.specs.Round.{Planned, Stand, Told, cut_into, in_order, up_to_hit, after_round}
-use Rattle.shop_round.specs.Round.{words_of_round, sheet_in, sheets_of, cut_of, round}
-use Rattle.shop_round.specs.Round.{opening, unless_closed, rounds_from, answer, makespan_of}
-use Rattle.shop_round.specs.Laws.{IsStanding, IsRound}
+use Rattle.shop_plans.specs.declared.plans.Order.{Order}
+use Rattle.shop_plans.specs.declared.plans.Order.TheVariants.{Kept, Bound}
+use Rattle.shop_plans.specs.Plans.{Planned}
+use Rattle.shop_crews.specs.Round.{Stand, Told, cut_into, in_order, up_to_hit, after_round}
+use Rattle.shop_crews.specs.Round.{words_of_round, sheet_in, sheets_of, cut_of, round}
+use Rattle.shop_crews.specs.Round.{opening, makespan_of}
+use Rattle.shop_round.specs.Answers.{unless_closed, rounds_from, answer}
+use Rattle.shop_crews.specs.Laws.{IsStanding, IsRound}
 use Rattle.shop_round.specs.Exact.{with_rounds, SearchesEnd, MoreRoundsAreNoWorse, SolvedStays}
 use Rattle.shop_round.proofs.Answering.{closed}
-use Rattle.shop_round.proofs.Covering.{opens_covering, cut_is_round, trustworthy}
-use Rattle.shop_round.proofs.Cutting.{pieces_all}
-use Rattle.shop_round.proofs.SheetLemmas.{IsOfRound, hit_in, found_is}
-use Rattle.shop_round.proofs.StandingLemmas.{known, best_of_round, gathered_is_standing}
+use Rattle.shop_crews.proofs.Covering.{opens_covering, cut_is_round}
+use Rattle.shop_round.proofs.Trusting.{trustworthy}
+use Rattle.shop_crews.proofs.Cutting.{pieces_all}
+use Rattle.shop_crews.proofs.SheetLemmas.{IsOfRound, hit_in, found_is}
+use Rattle.shop_crews.proofs.StandingLemmas.{known, best_of_round, gathered_is_standing}
 use Rattle.shop_round.proofs.TreeSizes.{size_of, size_all, size_none, size_cons, size_append, size_some}
 use Rattle.shop_round.proofs.TreeSizes.{sheet_leaves, sheet_leaves_less}
 

@@ -1,54 +1,60 @@
 -- The front that is cut off a run's open nodes.
 use Rattle.std.proofs.Common.{◌≡◌, ℕ, ◌*◌, ◌≤◌, ◌<◌, List, [], length, take, drop, sym, ◌∙◌, ap, subst, arith}
+use Rattle.std.proofs.lemmas.List.Elements.{All-take}
 use Rattle.shop_model.specs.Shop.{Shop}
 use Rattle.shop_heads.specs.Bound.{lb}
 use Rattle.shop_nodes.specs.declared.nodes.Node.{Node}
-use Rattle.shop_nodes.specs.declared.pieces.Piece.{Piece}
-use Rattle.shop_nodes.specs.Nodes.{words_of}
+use Rattle.shop_nodes.specs.Nodes.{words_of, IsNode, AreNodes}
+use Rattle.shop_plans.specs.Plans.{Planned, planned}
+use Rattle.shop_plans.specs.declared.plans.Plan.{Plan}
+use Rattle.shop_crews.specs.Round.{cut_into, in_order, least_bound, cut_of}
+use Rattle.shop_crews.specs.Laws.{IsRound}
+use Rattle.shop_crews.specs.Standings.{round_of}
+use Rattle.shop_crews.specs.inner.OpenNodes.{least_of_bounds}
+use Rattle.shop_crews.proofs.Covering.{cut_is_round}
+use Rattle.shop_crews.proofs.NodeLemmas.{least_is}
+use Rattle.shop_crews.proofs.PieceLemmas.{map_drop, cut_words_of, cut_front}
 use Rattle.shop_round.specs.declared.runs.Search.{Search}
-use Rattle.shop_round.specs.Round.{Planned, cut_into, in_order, least_bound, cut_of}
-use Rattle.shop_round.specs.Nodes.{ArePieces, told_of}
-use Rattle.shop_round.specs.Laws.{IsRound}
-use Rattle.shop_round.specs.inner.OpenNodes.{least_of_bounds, nodes_in}
 use Rattle.shop_round.specs.inner.Searches.{IsSearchOf, front_of, stand_of}
 use Rattle.shop_round.specs.inner.Stores.{open_list}
-use Rattle.shop_round.proofs.Covering.{cut_is_round}
 use Rattle.shop_round.proofs.FrontLemmas.{front_is_round}
-use Rattle.shop_round.proofs.NodeLemmas.{least_is}
-use Rattle.shop_round.proofs.PieceLemmas.{map_drop, cut_words, cut_nodes, cut_front, few_pieces, length_in}
 
--- the least bound, and the pieces that the first nodes are cut into
-pub record IsFrontCut (plan : Planned) (t : Search) (bound : ℕ) (front : List Node) (ps : List Piece) : Type 0 where
+-- the least bound, and the first nodes
+pub record IsFrontCut (plan : Planned) (t : Search) (bound : ℕ) (front : List Node) : Type 0 where
   pub some : 0 < plan.piece
   pub least : bound ≡ least_of_bounds t.makespan (open_list t.open)
   pub first : front ≡ take (256 * plan.piece) (open_list t.open)
-  pub pieces : nodes_in ps ≡ cut_into 256 plan.piece front
 
-module _ (shop : Shop) (plan : Planned) (t : Search) (bound : ℕ) (front : List Node) (ps : List Piece)
-    (of : IsSearchOf shop plan.order t) (cut : IsFrontCut plan t bound front ps) where
+pub is_front_cut : (plan : Plan) (t : Search) (bound : ℕ) (front : List Node)
+    → bound ≡ least_of_bounds t.makespan (open_list t.open) → front ≡ take (256 * plan.piece) (open_list t.open)
+    → IsFrontCut (planned plan) t bound front
+is_front_cut plan t bound front least first = record {
+  some = (let size = plan.within.3 in omega arith);
+  least = least;
+  first = first;
+}
+
+module _ (shop : Shop) (plan : Planned) (t : Search) (bound : ℕ) (front : List Node) (rest : List Node)
+    (none : rest ≡ []) (of : IsSearchOf shop plan.order t) (cut : IsFrontCut plan t bound front) where
   nodes : List Node
   nodes = open_list t.open
 
-  pieces_all : nodes_in ps ≡ cut_into 256 plan.piece nodes
-  unfolding nodes
-  pieces_all = cut.pieces ∙ (ap (cut_into 256 plan.piece) cut.first
-      ∙ cut_front 256 plan.piece (256 * plan.piece) nodes cut.some (omega arith))
-
-  pub front_told : (rest : List Node) → rest ≡ []
-      → told_of shop t.word t.makespan bound plan.budget ps rest t.rounds t.nodes
+  pub front_told : round_of shop plan
+      (record { word = t.word; open_words = words_of front; rounds = t.rounds; nodes = t.nodes }) bound (words_of rest)
       ≡ front_of (cut_of shop plan (stand_of t))
   unfolding nodes
-  front_told rest none =
+  front_told =
       let words : words_of nodes ≡ in_order shop plan.order (words_of nodes) = sym of.ordered
       in let best : t.makespan ≡ lb shop t.word = of.makespan
       in let least : bound ≡ least_bound shop (lb shop t.word) (in_order shop plan.order (words_of nodes)) =
       cut.least ∙ (least_is shop t.makespan nodes of.bounds ∙ (λ i. least_bound shop (best i) (words i)))
-      in let pieces = cut_words ps 256 plan.piece nodes pieces_all ∙ ap (cut_into 256 plan.piece) words
+      in let pieces = cut_words_of 256 plan.piece front nodes (ap (cut_into 256 plan.piece) cut.first
+      ∙ cut_front 256 plan.piece (256 * plan.piece) nodes cut.some (omega arith)) ∙ ap (cut_into 256 plan.piece) words
       in let others : words_of rest ≡ [] = ap words_of none
       in (λ i. record {
         shop = shop;
         word = t.word;
-        best = best i;
+        best = lb shop t.word;
         bound = least i;
         budget = plan.budget;
         pieces = pieces i;
@@ -57,20 +63,17 @@ module _ (shop : Shop) (plan : Planned) (t : Search) (bound : ℕ) (front : List
         nodes = t.nodes;
       })
 
-  pub front_pieces : ArePieces shop ps
-  unfolding nodes
-  front_pieces = cut_nodes shop ps 256 plan.piece nodes pieces_all of.bounds
-
-  pub front_few : length ps ≤ 256
-  front_few = let a = few_pieces 256 plan.piece nodes in let b = ap length pieces_all in let d = length_in ps
-      in omega arith
-
-  pub front_round : (rest : List Node) → rest ≡ []
-      → IsRound (told_of shop t.word t.makespan bound plan.budget ps rest t.rounds t.nodes)
-  front_round rest none = subst IsRound (sym (front_told rest none)) (front_is_round (cut_of shop plan (stand_of t))
+  pub front_round : IsRound (round_of shop plan
+      (record { word = t.word; open_words = words_of front; rounds = t.rounds; nodes = t.nodes }) bound (words_of rest))
+  front_round = subst IsRound (sym front_told) (front_is_round (cut_of shop plan (stand_of t))
       (cut_is_round shop plan (stand_of t) of.standing))
 
-  pub others_are : (others : List Node) → others ≡ drop (256 * plan.piece) (open_list t.open)
-      → words_of others ≡ (cut_of shop plan (stand_of t)).rest
-  others_are others e = ap words_of e ∙ (map_drop (λ (x : Node). x.word) (256 * plan.piece) (open_list t.open)
-      ∙ ap (drop (256 * plan.piece)) (sym of.ordered))
+  pub front_nodes : AreNodes shop front
+  front_nodes = subst (AreNodes shop) (sym cut.first)
+      (All-take (IsNode shop) (256 * plan.piece) (open_list t.open) of.bounds)
+
+-- the others are the rest of what is cut
+pub others_are : (shop : Shop) (plan : Planned) (t : Search) (others : List Node) → IsSearchOf shop plan.order t
+    → others ≡ drop (256 * plan.piece) (open_list t.open) → words_of others ≡ (cut_of shop plan (stand_of t)).rest
+others_are shop plan t others of e = ap words_of e ∙ (map_drop (λ (x : Node). x.word) (256 * plan.piece)
+    (open_list t.open) ∙ ap (drop (256 * plan.piece)) (sym of.ordered))

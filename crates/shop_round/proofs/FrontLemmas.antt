@@ -15,24 +15,24 @@ use Rattle.shop_nodes.specs.Walking.{Walk}
 use Rattle.shop_nodes.specs.declared.nodes.Node.{Node}
 use Rattle.shop_nodes.specs.Nodes.{words_of, IsNode, AreNodes}
 use Rattle.shop_nodes.proofs.Members.{all_contains, contains_all, all_insert, in_all}
-use Rattle.shop_round.specs.declared.plans.Order.{Order}
-use Rattle.shop_round.specs.declared.plans.Order.TheVariants.{Kept, Bound}
-use Rattle.shop_round.specs.declared.standings.Standing.{Standing}
+use Rattle.shop_plans.specs.declared.plans.Order.{Order}
+use Rattle.shop_plans.specs.declared.plans.Order.TheVariants.{Kept, Bound}
+use Rattle.shop_crews.specs.declared.standings.Standing.{Standing}
 use Rattle.shop_round.specs.declared.open_nodes.OpenNodes.{OpenNodes}
 use Rattle.shop_round.specs.declared.runs.Search.{Search}
-use Rattle.shop_round.specs.Round.{Stand, Told, in_order, words_below, words_of_round, sheets_of, up_to_hit}
-use Rattle.shop_round.specs.Round.{after_round, gathered, best_word, makespan_of, least_bound}
-use Rattle.shop_round.specs.Laws.{IsRound, IsStanding}
-use Rattle.shop_round.specs.inner.OpenNodes.{nodes_below}
+use Rattle.shop_crews.specs.Round.{Stand, Told, in_order, words_below, words_of_round, sheets_of, up_to_hit}
+use Rattle.shop_crews.specs.Round.{after_round, gathered, best_word, makespan_of, least_bound}
+use Rattle.shop_crews.specs.Laws.{IsRound, IsStanding}
+use Rattle.shop_crews.specs.inner.OpenNodes.{nodes_below}
 use Rattle.shop_round.specs.inner.Searches.{IsSearchAt, IsSearchOf, IsJoined, front_of}
 use Rattle.shop_round.specs.inner.Stacks.{put_before, put_all_before}
 use Rattle.shop_round.specs.inner.Stores.{open_list, order_of}
-use Rattle.shop_round.proofs.Cutting.{all_front, all_back}
-use Rattle.shop_round.proofs.NodeLemmas.{insert_words, below_is}
-use Rattle.shop_round.proofs.OpenLemmas.{ordered_all}
-use Rattle.shop_round.proofs.SheetLemmas.{IsOfRound, hit_in, found_is}
-use Rattle.shop_round.proofs.SortLemmas.{Rises, sort_rises}
-use Rattle.shop_round.proofs.StandingLemmas.{known}
+use Rattle.shop_crews.proofs.Cutting.{all_front, all_back}
+use Rattle.shop_crews.proofs.NodeLemmas.{insert_words, below_is}
+use Rattle.shop_crews.proofs.OpenLemmas.{ordered_all}
+use Rattle.shop_crews.proofs.SheetLemmas.{IsOfRound, hit_in, found_is}
+use Rattle.shop_crews.proofs.SortLemmas.{Rises, sort_rises}
+use Rattle.shop_crews.proofs.StandingLemmas.{known}
 
 -- a list in order stays as it is, and so do its parts
 module _ {A : Type 0} (key : A → ℕ) where

@@ -1,21 +1,8 @@
 pub mod Rows
-pub mod Opening
-pub mod Cutting
-pub mod OpenLemmas
-pub mod SheetLemmas
-pub mod StandingLemmas
-pub mod Covering
+pub mod Trusting
 pub mod Answering
-pub mod Counting
-pub mod SortLemmas
-pub mod NodeLemmas
-pub mod StartLemmas
-pub mod PieceLemmas
-pub mod CutLemmas
-pub mod GatherLemmas
-pub mod OutcomeLemmas
-pub mod EntryLemmas
-pub mod GatheredLemmas
+pub mod KeptBelow
+pub mod AloneEntries
 pub mod TreeSizes
 pub mod Ending
 pub mod CoverRows
@@ -23,4 +10,3 @@ pub mod StackLemmas
 pub mod StoreLemmas
 pub mod FrontLemmas
 pub mod FrontCuts
-mod OpenWords

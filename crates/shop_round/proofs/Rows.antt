@@ -5,8 +5,10 @@ use Rattle.shop_nodes.proofs.Rows.{shop_z}
 use Rattle.shop_model.specs.Shop.{Shop, ShopJob}
 use Rattle.shop_model.specs.Word.{placed, rows_of}
 use Rattle.shop_model.specs.declared.ops.Op.{Op}
-use Rattle.shop_round.specs.Round.{answer, Planned, makespan_of, bound_of}
-use Rattle.shop_round.specs.declared.plans.Order.TheVariants.{Kept, Bound}
+use Rattle.shop_round.specs.Answers.{answer, bound_of}
+use Rattle.shop_plans.specs.Plans.{Planned}
+use Rattle.shop_crews.specs.Round.{makespan_of}
+use Rattle.shop_plans.specs.declared.plans.Order.TheVariants.{Kept, Bound}
 
 abbrev pub plan : ℕ → ℕ → Planned
 plan rounds budget = record { rounds = rounds; budget = budget; piece = 1; order = Kept }

@@ -4,7 +4,9 @@
 --     SearchesEnd, MoreRoundsAreNoWorse, SolvedStays      the laws
 use Rattle.std.specs.Prelude.{◌≡◌, ℕ, ◌≤◌, []}
 use Rattle.shop_model.specs.Shop.{Shop, IsLeast}
-use Rattle.shop_round.specs.Round.{Planned, Stand, answer, makespan_of}
+use Rattle.shop_plans.specs.Plans.{Planned}
+use Rattle.shop_crews.specs.Round.{Stand, makespan_of}
+use Rattle.shop_round.specs.Answers.{answer}
 
 -- the plan, with n rounds
 abbrev pub with_rounds : Planned → ℕ → Planned

@@ -1,6 +1,6 @@
 pub mod Closing
+pub mod Hits
 pub mod OpenNodes
-pub mod Outcomes
 pub mod Searches
 pub mod Stacks
 pub mod Stores

@@ -1,10 +1,10 @@
 // Nodes as a run keeps them.
 ghost use Rattle.std.specs.Prelude.{◌≡◌, IfOk};
 ghost use Rattle.shop_model.specs.SharedWords.{CanBeShared};
-ghost use Rattle.shop_round.specs.inner.OpenNodes.{least_of_bounds};
+ghost use Rattle.shop_crews.specs.inner.OpenNodes.{least_of_bounds};
 
 use shop_model::{SharedWord, Word};
-use shop_tree::Node;
+use shop_nodes::Node;
 use std::alloc::{AllocError, Global};
 use std::marker::Model;
 

@@ -3,26 +3,28 @@ ghost use Rattle.std.specs.Prelude.{◌≡◌, ◌==◌, ◌^◌, ◌≤◌, ◌
 ghost use Rattle.std.specs.Prelude.{reverse};
 ghost use Rattle.shop_round.specs.inner.Stacks.{IsNextOf};
 ghost use Rattle.shop_model.specs.SharedWords.{CanBeShared};
-ghost use Rattle.shop_round.specs.inner.OpenNodes.{least_of_bounds, AreBelow, AreSharable};
+ghost use Rattle.shop_crews.specs.inner.OpenNodes.{least_of_bounds};
+ghost use Rattle.shop_round.specs.inner.OpenNodes.{AreBelow, AreSharable};
 
 use crate::kept_nodes::{KeptNode, least_kept};
-use crate::plans::Order;
 use crate::stacks::{
     Stack, count_by_bound, keep_by_bound, least_by_bound, pop_by_bound, put_by_bound,
 };
-use shop_tree::Node;
+use shop_nodes::Node;
+use shop_plans::Order;
 use std::alloc::{AllocError, Global};
 use std::collections::BTreeMap;
 
-/// Open nodes in the order in which the next cut takes them: as they are kept, the last one first, or by their bounds,
-/// each bound with the stack of its words. To put nodes and to take them costs no more where many are open.
+/// Open nodes in the order in which the next cut takes them. In the kept order they lie on one stack, and the last one
+/// is taken first; by bound, each bound has a stack of its words. To put a node or to take one costs hardly more where
+/// many are open.
 #[derive(Drop)]
 pub(crate) enum OpenNodes {
     AsKept(Vec<KeptNode>),
     ByBound(BTreeMap<u64, Stack>),
 }
 
-/// Puts a node at the end of a list, which takes room for a quarter more where it is full, since it is what takes most
+/// Puts a node at the end of a list. A full list grows by a quarter alone, since the open nodes are what takes most
 /// memory. Fails with `AllocError` if memory runs out.
 fn push_sparingly(nodes: &mut Vec<KeptNode>, node: KeptNode) -> Result<(), AllocError>
     ensures { OnOk result (nodes.new.items ≡ nodes.old.items ++ node ∷ []) }
@@ -106,8 +108,8 @@ impl OpenNodes {
         Ok(taken)
     }
 
-    /// Lets go of the nodes whose bounds are at least this makespan. All are below the opening one, so there are none
-    /// where it stays.
+    /// Lets go of the nodes whose bounds reach this makespan. All bounds are below the opening makespan, so there are
+    /// none where the makespan stays.
     pub(crate) fn keep_below(&mut self, opening: u64, makespan: u64) -> Result<(), AllocError>
         requires { AreBelow opening (open_list self.old) }
         ensures { OnOk result (IsKeptBelow makespan self.old self.new) }

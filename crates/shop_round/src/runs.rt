@@ -1,16 +1,15 @@
 // Runs: where one stands between two rounds, and the answer of a plan.
-ghost use Rattle.std.specs.Prelude.{◌^◌, ◌<◌, IfOk};
-ghost use Rattle.shop_round.specs.Limits.{IsCountWithin};
+ghost use Rattle.std.specs.Prelude.{◌^◌, ◌<◌, IfOk, IfSome};
+ghost use Rattle.shop_layout.specs.Layouts.{IsLayoutOf};
+ghost use Rattle.shop_plans.specs.Limits.{IsCountWithin};
 ghost use Rattle.shop_round.specs.Runs.{SaysAnswer, IsTrusted};
 
-use crate::crews::{Alone, Crew};
+use crate::alone::Alone;
 use crate::open_nodes::OpenNodes;
-use crate::outcomes::outcome_of;
-use crate::plans::{MAX_PIECES, Order, Plan};
-use crate::rounds::{Round, cut_pieces};
-use crate::standings::Standing;
+use shop_crews::{Crew, Round, Standing, outcome_of};
+use shop_layout::Layout;
 use shop_model::{Instance, Table, Word, place};
-use shop_tree::Layout;
+use shop_plans::{MAX_PIECES, Order, Plan};
 use std::alloc::{AllocError, Global};
 
 /// Where a run stands: the best word and its makespan, the open nodes in the order of the next cut, the rounds done and
@@ -27,12 +26,12 @@ pub(crate) struct Search {
 
 impl Search {
     ghost use Rattle.std.specs.Prelude.{length};
-    ghost use Rattle.shop_round.specs.Round.{opening};
+    ghost use Rattle.shop_crews.specs.Round.{opening};
     ghost use Rattle.shop_round.specs.inner.OpenNodes.{AreBelow, AreSharable};
     ghost use Rattle.shop_round.specs.inner.Stores.{open_list};
     ghost use Rattle.shop_round.specs.inner.Searches.{IsSearchAt, IsSearchOf, IsJoined, IsFront};
+    ghost use Rattle.shop_round.specs.inner.Closing.{IsNextSearch};
     ghost use Rattle.shop_round.specs.inner.Closing.{IsAtAnswer};
-    ghost use Rattle.shop_desk.specs.Layouts.{IsLayoutOf};
 
     /// Where a run begins. Fails with `AllocError` if memory runs out.
     pub(crate) fn start(
@@ -47,8 +46,8 @@ impl Search {
         Search::joined(alloc, Standing::start(alloc, instance)?, open, 0)
     }
 
-    /// What stands after a round, once the open nodes that it didn't take have joined, those of bounds below the
-    /// makespan; all are below the opening one. Fails with `AllocError` if memory runs out.
+    /// What stands after a round, joined by those of the other open nodes whose bounds are below the makespan; all are
+    /// below the opening makespan. Fails with `AllocError` if memory runs out.
     pub(crate) fn joined(
         alloc: Global,
         standing: Standing,
@@ -100,24 +99,48 @@ impl Search {
         } = self;
         let bound = open.least_bound(makespan);
         let front = open.take(alloc, MAX_PIECES * plan.piece)?;
-        let pieces = cut_pieces(alloc, front, plan.piece)?;
-        let round = Round {
-            instance,
+        let front = Standing {
             word,
-            best: makespan,
-            bound,
-            budget: plan.budget,
-            pieces,
-            rest: Vec::new(alloc),
+            makespan,
+            open: front,
             rounds,
             nodes,
-            layout,
         };
+        let round = Round::of(alloc, instance, plan, front, Vec::new(alloc), bound, layout)?;
         Ok((round, open))
     }
 
-    /// Where a run stands after the rounds of a plan, or as soon as nothing is open. One layout goes from round to
-    /// round.
+    /// Where the run stands after one more round, and the layout for the next: the one that was kept, if there is one,
+    /// else a new one. Fails with `AllocError` if memory runs out.
+    fn next<'r, R, C: Crew<R>>(
+        self,
+        rt: &R,
+        alloc: Global,
+        instance: &'r Instance,
+        plan: &Plan,
+        kept: Option<Layout<'r>>,
+        crew: &mut C,
+    ) -> Result<(Search, Layout<'r>), AllocError>
+        requires ready { C.ready }
+        requires layout { IfSome kept (IsLayoutOf instance.now) }
+        requires rounds { self.rounds < plan.now.rounds }
+        requires search { IsSearchOf instance.now plan.now.order self }
+        ensures next { IfOk result (λ p. IsNextSearch instance.now plan.now self p.0) }
+        ensures layout { IfOk result (λ p. IsLayoutOf instance.now p.1) }
+    {
+        instance.keeps_limits();
+        let opening = self.makespan;
+        let layout = kept_or_new(alloc, instance, kept)?;
+        let (round, others) = self.cut(alloc, instance, layout, plan)?;
+        let entries = crew.search(rt, alloc, &round)?;
+        let outcome = outcome_of(alloc, &round, entries)?;
+        let (standing, layout) = round.closed(outcome)?;
+        let search = Search::joined(alloc, standing, others, opening)?;
+        Ok((search, layout))
+    }
+
+    /// Where a run stands after the rounds of a plan, or as soon as nothing is open. Its layout is made with its first
+    /// round, and goes from round to round.
     fn at_end<R, C: Crew<R>>(
         rt: &R,
         alloc: Global,
@@ -128,22 +151,32 @@ impl Search {
         requires { C.ready }
         ensures { IfOk result (λ t. IsAtAnswer instance.now plan.now t) }
     {
-        instance.keeps_limits();
-        let mut layout = Layout::of(alloc, instance)?;
         let mut search = Search::start(alloc, instance, plan.order)?;
+        let mut layout = None;
         for done in 0..plan.rounds {
             if search.open.is_empty() {
                 return Ok(search);
             }
-            let opening = search.makespan;
-            let (round, others) = search.cut(alloc, instance, layout, plan)?;
-            let entries = crew.search(rt, alloc, &round)?;
-            let outcome = outcome_of(alloc, &round, entries)?;
-            let (standing, kept) = round.closed(outcome)?;
-            layout = kept;
-            search = Search::joined(alloc, standing, others, opening)?;
+            let (next, kept) = search.next(rt, alloc, instance, plan, layout, crew)?;
+            search = next;
+            layout = Some(kept);
         }
         Ok(search)
+    }
+}
+
+/// The layout that was kept, or else a new one of the instance. Fails with `AllocError` if memory runs out.
+fn kept_or_new<'r>(
+    alloc: Global,
+    instance: &'r Instance,
+    kept: Option<Layout<'r>>,
+) -> Result<Layout<'r>, AllocError>
+    requires { IfSome kept (IsLayoutOf instance.now) }
+    ensures { IfOk result (IsLayoutOf instance.now) }
+{
+    match kept {
+        Some(layout) => Ok(layout),
+        None => Layout::of(alloc, instance),
     }
 }
 

@@ -1,13 +1,13 @@
 // Open nodes by bound: for each bound a stack of their words.
 ghost use Rattle.std.specs.Prelude.{◌≡◌, ◌^◌, ◌≤◌, ◌∷◌, [], length, IfOk, OnOk, OnErr};
 ghost use Rattle.shop_model.specs.SharedWords.{CanBeShared};
-ghost use Rattle.shop_round.specs.inner.OpenNodes.{least_of_bounds};
+ghost use Rattle.shop_crews.specs.inner.OpenNodes.{least_of_bounds};
 ghost use Rattle.shop_round.specs.inner.Stacks.{words_in, words_in_rest, words_on, words_left};
 ghost use Rattle.shop_round.specs.inner.Stacks.{nodes_in_stacks, IsPutByBound, IsNextByBound};
 ghost use Rattle.shop_round.specs.inner.Stacks.{KeepsBelow};
 
 use shop_model::{SharedWord, Word};
-use shop_tree::Node;
+use shop_nodes::Node;
 use std::alloc::{AllocError, Global};
 use std::collections::BTreeMap;
 use std::collections::btree_map::Entry;

@@ -13,10 +13,10 @@
 use Rattle.std.specs.Prelude.{◌≡◌, ℕ, ◌<◌, List, length, All, Option, Some, None, IsSome, IfSome}
 use Rattle.std.specs.Prelude.{IfOk}
 use Rattle.std.specs.Prelude.{slice_index_or}
-use Rattle.shop_round.specs.Round.{Told}
-use Rattle.shop_round.specs.Crews.{IsEntryOf}
-use Rattle.shop_round.specs.Entries.{number_of}
-use Rattle.shop_round.specs.declared.entries.Entry.{Entry}
+use Rattle.shop_crews.specs.Round.{Told}
+use Rattle.shop_crews.specs.Crews.{IsEntryOf}
+use Rattle.shop_crews.specs.Entries.{number_of}
+use Rattle.shop_crews.specs.declared.entries.Entry.{Entry}
 use Rattle.shop_board.specs.Entries.{OfRound, Brought}
 use Rattle.shop_board.specs.Seats.{IsSeatOf}
 use Rattle.shop_board.specs.declared.boards.Board.{Board}

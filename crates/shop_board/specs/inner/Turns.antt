@@ -10,11 +10,11 @@ use Rattle.std.specs.Prelude.{◌≡◌, ℕ, ◌<◌, ◌≤◌, List, ◌∷�
 use Rattle.std.specs.Prelude.{Result, IfOk}
 use Rattle.std.specs.declared.alloc.AllocError.{AllocError}
 use Rattle.std.specs.Prelude.{slice_index_or}
-use Rattle.shop_round.specs.Round.{Told}
-use Rattle.shop_round.specs.Crews.{IsEntryOf}
-use Rattle.shop_round.specs.declared.entries.Entry.{Entry}
-use Rattle.shop_round.specs.declared.entries.Kind.{Kind}
-use Rattle.shop_round.specs.declared.entries.Kind.TheVariants.{Done, Passed}
+use Rattle.shop_crews.specs.Round.{Told}
+use Rattle.shop_crews.specs.Crews.{IsEntryOf}
+use Rattle.shop_crews.specs.declared.entries.Entry.{Entry}
+use Rattle.shop_crews.specs.declared.entries.Kind.{Kind}
+use Rattle.shop_crews.specs.declared.entries.Kind.TheVariants.{Done, Passed}
 use Rattle.shop_board.specs.declared.views.View.{View}
 use Rattle.shop_board.specs.Moves.{IsAtMostMarked}
 use Rattle.shop_board.specs.Works.{IsKnown, IsServed}

@@ -1,24 +1,7 @@
--- Open nodes: their least bound, their order, and those of pieces.
-use Rattle.std.specs.Prelude.{ℕ, ◌<◌, min, List, map, filter, fold, nat_lt, All}
+-- Open nodes that a run keeps.
+use Rattle.std.specs.Prelude.{ℕ, ◌<◌, List, All}
 use Rattle.shop_model.specs.SharedWords.{CanBeShared}
-use Rattle.shop_nodes.specs.Branching.{sort_by}
 use Rattle.shop_nodes.specs.declared.nodes.Node.{Node}
-use Rattle.shop_nodes.specs.declared.pieces.Piece.{Piece}
-use Rattle.shop_round.specs.declared.plans.Order.{Order}
-use Rattle.shop_round.specs.declared.plans.Order.TheVariants.{Kept, Bound}
-
--- the least of a makespan and the bounds that nodes hold
-abbrev pub least_of_bounds : ℕ → List Node → ℕ
-least_of_bounds makespan nodes = fold (λ b n. min b n.bound) makespan nodes
-
--- as they stand, or in order of the bounds that they hold, ties keeping their places
-abbrev pub nodes_in_order : Order → List Node → List Node
-nodes_in_order Kept nodes = nodes
-nodes_in_order Bound nodes = sort_by (λ n. n.bound) nodes
-
--- those that hold a bound below c
-abbrev pub nodes_below : ℕ → List Node → List Node
-nodes_below c nodes = filter (λ n. nat_lt n.bound c) nodes
 
 -- all hold bounds below c
 abbrev pub AreBelow : ℕ → List Node → Type 0
@@ -27,7 +10,3 @@ AreBelow c nodes = All (λ n. n.bound < c) nodes
 -- their words can share their jobs
 abbrev pub AreSharable : List Node → Type 0
 AreSharable nodes = All (λ n. CanBeShared n.word) nodes
-
--- the nodes of each piece
-abbrev pub nodes_in : List Piece → List (List Node)
-nodes_in pieces = map (λ p. p.nodes.items) pieces

@@ -10,19 +10,20 @@
 use Rattle.std.specs.Prelude.{◌≡◌, []}
 use Rattle.shop_model.specs.Shop.{Shop}
 use Rattle.shop_nodes.specs.Nodes.{words_of, AreNodes}
-use Rattle.shop_round.specs.Round.{Stand, Told, in_order, makespan_of, cut_of}
-use Rattle.shop_round.specs.Laws.{IsStanding}
-use Rattle.shop_round.specs.Entries.{told}
-use Rattle.shop_round.specs.Runs.{planned}
-use Rattle.shop_round.specs.inner.OpenNodes.{nodes_below, AreBelow}
+use Rattle.shop_crews.specs.Round.{Stand, Told, in_order, makespan_of, cut_of}
+use Rattle.shop_crews.specs.Laws.{IsStanding}
+use Rattle.shop_crews.specs.Entries.{told}
+use Rattle.shop_plans.specs.Plans.{planned}
+use Rattle.shop_crews.specs.inner.OpenNodes.{nodes_below}
+use Rattle.shop_round.specs.inner.OpenNodes.{AreBelow}
 use Rattle.shop_round.specs.inner.Stacks.{put_all_before}
 use Rattle.shop_round.specs.inner.Stores.{open_list, order_of}
 use Rattle.shop_round.specs.declared.open_nodes.OpenNodes.{OpenNodes}
-use Rattle.shop_round.specs.declared.plans.Order.{Order}
-use Rattle.shop_round.specs.declared.plans.Plan.{Plan}
-use Rattle.shop_round.specs.declared.rounds.Round.{Round}
+use Rattle.shop_plans.specs.declared.plans.Order.{Order}
+use Rattle.shop_plans.specs.declared.plans.Plan.{Plan}
+use Rattle.shop_crews.specs.declared.rounds.Round.{Round}
 use Rattle.shop_round.specs.declared.runs.Search.{Search}
-use Rattle.shop_round.specs.declared.standings.Standing.{Standing}
+use Rattle.shop_crews.specs.declared.standings.Standing.{Standing}
 
 abbrev pub stand_of : Search → Stand
 stand_of t = record {

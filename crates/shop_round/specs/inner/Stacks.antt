@@ -15,9 +15,9 @@ use Rattle.shop_nodes.specs.Branching.{insert_by}
 use Rattle.shop_nodes.specs.declared.nodes.Node.{Node}
 use Rattle.shop_round.specs.declared.stacks.Block.{Block}
 use Rattle.shop_round.specs.declared.stacks.Stack.{Stack}
-use Rattle.shop_round.specs.inner.OpenNodes.{nodes_below}
-use Rattle.shop_round.specs.declared.plans.Order.{Order}
-use Rattle.shop_round.specs.declared.plans.Order.TheVariants.{Kept, Bound}
+use Rattle.shop_crews.specs.inner.OpenNodes.{nodes_below}
+use Rattle.shop_plans.specs.declared.plans.Order.{Order}
+use Rattle.shop_plans.specs.declared.plans.Order.TheVariants.{Kept, Bound}
 
 abbrev pub words_in : Block → List (List ℕ)
 words_in b = b.top ∷ reverse b.below.items

@@ -2,7 +2,7 @@ use Rattle.std.proofs.Common.{refl, codes}
 use Rattle.std.proofs.lemmas.Result.{IfOk-weaker}
 use Rattle.clap.specs.Words.{App, Rule, app_of, with_rule}
 use Rattle.clap.specs.declared.builder.value_parser.ValueParser.TheVariants.{Names}
-use Rattle.shop_round.specs.declared.plans.TheConstants.{MAX_ROUNDS, MAX_BUDGET, MAX_PIECE}
+use Rattle.shop_plans.specs.declared.plans.TheConstants.{MAX_ROUNDS, MAX_BUDGET, MAX_PIECE}
 use Rattle.jobshop.specs.CommandLine.{IsCommandOf, choice_rule, number_rule, with_plan_rules}
 use Rattle.jobshop.proofs.Commands.{added_arg}
 use Rattle.jobshop.proofs.command_line.with_plan.Goals as goal

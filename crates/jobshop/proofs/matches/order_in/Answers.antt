@@ -1,8 +1,8 @@
 use Rattle.std.proofs.Common.{◌≡◌, List, Some, None, sym, codes}
 use Rattle.clap.specs.Words.{Row, Text, first_value, found_of, rows_of}
 use Rattle.clap.specs.declared.parser.matches.Found.{Found}
-use Rattle.shop_round.specs.declared.plans.Order.{Order}
-use Rattle.shop_round.specs.declared.plans.Order.TheVariants.{Kept, Bound}
+use Rattle.shop_plans.specs.declared.plans.Order.{Order}
+use Rattle.shop_plans.specs.declared.plans.Order.TheVariants.{Kept, Bound}
 use Rattle.jobshop.specs.CommandLine.{HasText, order_word}
 use Rattle.jobshop.proofs.Getters.{has_text, unless, no_value, other_value}
 use Rattle.jobshop.proofs.matches.order_in.Goals as goal

@@ -1,6 +1,6 @@
 use Rattle.std.proofs.Common.{vec_len}
 use Rattle.std.specs.Prelude.{All, IfSome}
-use Rattle.shop_round.specs.Entries.{told}
+use Rattle.shop_crews.specs.Entries.{told}
 use Rattle.shop_board.specs.inner.Gathered.{AllOfRound}
 use Rattle.shop_board.specs.Seats.{IsSeatOf}
 use Rattle.shop_board.specs.inner.Gathered.{IsReturned}

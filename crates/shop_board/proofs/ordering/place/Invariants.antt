@@ -1,5 +1,5 @@
 use Rattle.std.proofs.Common.{◌≡◌, vec_len}
-use Rattle.shop_round.specs.Entries.{told}
+use Rattle.shop_crews.specs.Entries.{told}
 use Rattle.shop_board.specs.Entries.{OfRound}
 use Rattle.shop_board.specs.inner.Gathered.{Placed, Fills, StayFilled}
 use Rattle.shop_board.proofs.KeptEntries.{AreThrough}

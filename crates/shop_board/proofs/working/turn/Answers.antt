@@ -1,6 +1,6 @@
 use Rattle.std.proofs.Common.{sym, subst, ◌<◌, length}
 use Rattle.std.proofs.lemmas.List.{length-map}
-use Rattle.shop_round.specs.Entries.{told, MayPass}
+use Rattle.shop_crews.specs.Entries.{told, MayPass}
 use Rattle.shop_board.specs.Seats.{hits_of}
 use Rattle.shop_board.proofs.RoundPieces.{read_hit}
 use Rattle.shop_board.proofs.working.turn.Goals as goal

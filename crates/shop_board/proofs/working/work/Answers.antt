@@ -1,6 +1,6 @@
 use Rattle.std.proofs.Common.{subst}
 use Rattle.std.specs.Prelude.{IfOk}
-use Rattle.shop_round.specs.Entries.{told}
+use Rattle.shop_crews.specs.Entries.{told}
 use Rattle.shop_board.specs.Seats.{knows, hits_of}
 use Rattle.shop_board.specs.Views.{HasServed}
 use Rattle.shop_board.specs.Works.{AreWon}

@@ -1,6 +1,6 @@
 use Rattle.std.proofs.Common.{◌+◌, ◌<◌, ap, ◌∙◌, subst, sym, Some, None}
 use Rattle.std.specs.Prelude.{All}
-use Rattle.shop_round.specs.Entries.{told}
+use Rattle.shop_crews.specs.Entries.{told}
 use Rattle.shop_board.specs.Seats.{knows}
 use Rattle.shop_board.specs.Works.{AreWon, numbers_of}
 use Rattle.shop_board.specs.inner.Turns.{TakesTurn}

@@ -1,6 +1,6 @@
 use Rattle.std.proofs.Common.{◌<◌, ◌≡◌}
 use Rattle.std.specs.Prelude.{All}
-use Rattle.shop_round.specs.Entries.{told}
+use Rattle.shop_crews.specs.Entries.{told}
 use Rattle.shop_board.specs.Seats.{knows, IsSeatOf}
 use Rattle.shop_board.specs.Works.{Grows, IsAllKnown, AreWon, numbers_of}
 use Rattle.shop_board.proofs.working.work_through.Given as goal

@@ -1,5 +1,5 @@
 use Rattle.std.proofs.Common.{◌≡◌, take}
-use Rattle.shop_round.specs.inner.OpenNodes.{least_of_bounds}
+use Rattle.shop_crews.specs.inner.OpenNodes.{least_of_bounds}
 use Rattle.shop_round.proofs.kept_nodes.least_kept.Given as goal
 
 abbrev pub invariant-loop-node : goal.invariant-loop-node

@@ -1,4 +1,4 @@
-use Rattle.shop_round.proofs.Covering.{trustworthy}
+use Rattle.shop_round.proofs.Trusting.{trustworthy}
 use Rattle.shop_round.proofs.laws.answers_are_trustworthy.Goals as goal
 
 pub returns : goal.returns

@@ -1,9 +1,9 @@
 use Rattle.std.proofs.Common.{refl, sym, ◌∙◌, subst}
 use Rattle.shop_model.specs.Word.{IsFull}
-use Rattle.shop_round.specs.Round.{answer}
-use Rattle.shop_round.specs.Runs.{planned}
+use Rattle.shop_round.specs.Answers.{answer}
+use Rattle.shop_plans.specs.Plans.{planned}
 use Rattle.shop_round.proofs.Answering.{word_same, says_search, trust_says}
-use Rattle.shop_round.proofs.Covering.{trustworthy}
+use Rattle.shop_round.proofs.Trusting.{trustworthy}
 use Rattle.shop_round.proofs.runs.run.Goals as goal
 
 pub place-requires : goal.place-requires

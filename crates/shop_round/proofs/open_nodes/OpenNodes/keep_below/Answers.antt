@@ -1,8 +1,8 @@
 use Rattle.std.proofs.Common.{◌≡◌, rules, refl, sym, ◌∙◌, ap, reverse}
 use Rattle.std.proofs.lemmas.Fn.{filter_same}
-use Rattle.shop_round.specs.inner.OpenNodes.{nodes_below}
+use Rattle.shop_crews.specs.inner.OpenNodes.{nodes_below}
 use Rattle.shop_round.specs.inner.Stores.{open_list, order_of}
-use Rattle.shop_round.proofs.NodeLemmas.{none_closed}
+use Rattle.shop_round.proofs.KeptBelow.{none_closed}
 use Rattle.shop_round.proofs.StoreLemmas.{below_reverse}
 use Rattle.shop_round.proofs.open_nodes.OpenNodes.keep_below.Goals as goal
 

@@ -1,5 +1,5 @@
 use Rattle.std.proofs.Common.{sym, ◌∙◌, ap}
-use Rattle.shop_round.specs.inner.OpenNodes.{least_of_bounds}
+use Rattle.shop_crews.specs.inner.OpenNodes.{least_of_bounds}
 use Rattle.shop_round.specs.inner.Stores.{open_list}
 use Rattle.shop_round.proofs.StoreLemmas.{least_reverse}
 use Rattle.shop_round.proofs.open_nodes.OpenNodes.least_bound.Goals as goal

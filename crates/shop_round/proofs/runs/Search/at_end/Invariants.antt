@@ -1,10 +1,11 @@
-use Rattle.shop_desk.specs.Layouts.{IsLayoutOf}
-use Rattle.shop_round.specs.Runs.{planned}
+use Rattle.std.specs.Prelude.{IfSome}
+use Rattle.shop_layout.specs.Layouts.{IsLayoutOf}
+use Rattle.shop_plans.specs.Plans.{planned}
 use Rattle.shop_round.proofs.Answering.{OnTheWay}
 use Rattle.shop_round.proofs.runs.Search.at_end.Given as goal
 
 abbrev pub invariant-loop-done : goal.invariant-loop-done
 invariant-loop-done g l = record {
   way : OnTheWay l.instance (planned l.plan) l.done l.search;
-  layout : IsLayoutOf l.instance l.layout;
+  layout : IfSome l.layout (IsLayoutOf l.instance);
 }

@@ -1,62 +1,45 @@
-use Rattle.std.proofs.Common.{◌*◌, ◌<◌, sym, subst, arith}
+use Rattle.std.proofs.Common.{◌≡◌, ◌*◌, ◌<◌, [], refl, sym, ◌∙◌, subst, arith}
+use Rattle.std.specs.declared.alloc.AllocError.{AllocError}
 use Rattle.std.proofs.lemmas.List.Elements.{All-drop}
 use Rattle.shop_nodes.specs.Nodes.{IsNode, AreNodes}
-use Rattle.shop_round.specs.Runs.{planned}
+use Rattle.shop_plans.specs.Plans.{planned}
 use Rattle.shop_round.specs.inner.OpenNodes.{AreBelow}
 use Rattle.shop_round.specs.inner.Stores.{open_list}
-use Rattle.shop_round.proofs.FrontCuts.{IsFrontCut, front_told, front_pieces, front_few, front_round, others_are}
-use Rattle.shop_round.proofs.NodeLemmas.{all_below}
+use Rattle.shop_round.proofs.FrontCuts.{IsFrontCut, is_front_cut, front_told, front_round, front_nodes, others_are}
+use Rattle.shop_round.proofs.KeptBelow.{all_below}
 use Rattle.shop_round.proofs.runs.Search.cut.Goals as goal
 
-pub invariant_of-round : goal.invariant_of-round
-invariant_of-round c =
-    let shop = c.args.instance.now
-    in let plan = planned c.args.plan.now
-    in let within = c.args.plan.now.within
-    in let size = within.3
-    in let bound = c.least_bound-bound.result
-    in let front = c.in_ok-front.front.items
-    in let ps = c.in_ok-pieces.pieces.items
-    in let left = c.requires.rounds
-    in let cut : IsFrontCut plan c.args.self bound front ps = record {
-      some = omega arith;
-      least = c.least_bound-bound.ensures;
-      first = c.in_ok-front.ensures.1;
-      pieces = c.in_ok-pieces.ensures.nodes;
-    }
-    in record {
-      layout_of = c.requires.layout;
-      numbered = c.in_ok-pieces.ensures.numbers;
-      nodes_of_pieces = front_pieces shop plan c.args.self bound front ps c.requires.search cut;
-      nodes_of_rest = subst (AreNodes shop) (sym c.new.ensures.items) (λ k d h. absurd (omega arith));
-      few_pieces = front_few shop plan c.args.self bound front ps c.requires.search cut;
-      small_budget = within.2;
-      rounds_left = (let most = within.0 in omega arith);
-      counted = c.args.self.within;
-      is_round = front_round shop plan c.args.self bound front ps c.requires.search cut c.new.result.items
-          c.new.ensures.items;
-    }
+pub of-requires-clause-standing : goal.of-requires-clause-standing
+of-requires-clause-standing c = record {
+  stands_at = refl;
+  makespan = c.requires.search.makespan;
+  bounds = front_nodes c.args.instance.now (planned c.args.plan.now) c.args.self c.least_bound-bound.result
+      c.in_ok-front.front.items [] refl c.requires.search
+      (is_front_cut c.args.plan.now c.args.self c.least_bound-bound.result c.in_ok-front.front.items
+      c.least_bound-bound.ensures c.in_ok-front.ensures.1);
+}
+
+pub of-requires-clause-rest : goal.of-requires-clause-rest
+of-requires-clause-rest c =
+    subst (AreNodes c.args.instance.now) (sym c.new.ensures.items) (λ k d h. absurd (omega arith))
+
+pub of-requires-clause-round : goal.of-requires-clause-round
+of-requires-clause-round c = front_round c.args.instance.now (planned c.args.plan.now) c.args.self
+    c.least_bound-bound.result c.in_ok-front.front.items c.new.result.items c.new.ensures.items c.requires.search
+    (is_front_cut c.args.plan.now c.args.self c.least_bound-bound.result c.in_ok-front.front.items
+    c.least_bound-bound.ensures c.in_ok-front.ensures.1)
 
 pub returns : goal.returns
 returns c =
     let shop = c.args.instance.now
     in let plan = planned c.args.plan.now
-    in let within = c.args.plan.now.within
-    in let size = within.3
-    in let bound = c.least_bound-bound.result
-    in let front = c.in_ok-front.front.items
-    in let ps = c.in_ok-pieces.pieces.items
-    in let cut : IsFrontCut plan c.args.self bound front ps = record {
-      some = omega arith;
-      least = c.least_bound-bound.ensures;
-      first = c.in_ok-front.ensures.1;
-      pieces = c.in_ok-pieces.ensures.nodes;
-    }
+    in let cut = is_front_cut c.args.plan.now c.args.self c.least_bound-bound.result c.in_ok-front.front.items
+    c.least_bound-bound.ensures c.in_ok-front.ensures.1
     in let others = c.in_ok-front.ensures.2
     in record {
-      round = front_told shop plan c.args.self bound front ps c.requires.search cut c.new.result.items
-          c.new.ensures.items;
-      rest = others_are shop plan c.args.self bound front ps c.requires.search cut (open_list c.take.new.self) others;
+      round = c.in_ok-round.ensures ∙ front_told shop plan c.args.self c.least_bound-bound.result
+          c.in_ok-front.front.items c.new.result.items c.new.ensures.items c.requires.search cut;
+      rest = others_are shop plan c.args.self (open_list c.take.new.self) c.requires.search others;
       bounds = subst (AreNodes shop) (sym others)
           (All-drop (IsNode shop) (256 * plan.piece) (open_list c.args.self.open) c.requires.search.bounds);
       below = subst (AreBelow c.args.self.makespan) (sym others)

@@ -1,10 +1,10 @@
 use Rattle.std.proofs.Common.{◌≡◌, ◌++◌, sym, ◌∙◌, ap, subst, arith, append-nil}
 use Rattle.std.proofs.lemmas.Result.{IfOk-weaker}
 use Rattle.shop_nodes.specs.Nodes.{words_of, AreNodes}
-use Rattle.shop_round.specs.Round.{Stand, opening, words_below}
+use Rattle.shop_crews.specs.Round.{Stand, opening, words_below}
 use Rattle.shop_round.specs.inner.Stores.{open_list}
 use Rattle.shop_round.proofs.FrontLemmas.{IsInOrder, joined_at, none_in_order}
-use Rattle.shop_round.proofs.NodeLemmas.{all_sharable}
+use Rattle.shop_round.proofs.KeptBelow.{all_sharable}
 use Rattle.shop_round.proofs.runs.Search.start.Goals as goal
 
 pub joined-requires-clause-left : goal.joined-requires-clause-left

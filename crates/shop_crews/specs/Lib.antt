@@ -1,0 +1,7 @@
+pub mod Round
+pub mod Nodes
+pub mod Laws
+pub mod Entries
+pub mod Crews
+pub mod Standings
+pub mod inner

@@ -1,0 +1,2 @@
+pub mod OpenNodes
+pub mod Outcomes

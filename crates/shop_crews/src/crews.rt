@@ -1,0 +1,24 @@
+// Crews, who search the pieces of a round.
+ghost use Rattle.std.specs.Prelude.{IfOk};
+ghost use Rattle.shop_crews.specs.Entries.{told};
+ghost use Rattle.shop_crews.specs.Crews.{OneForEach};
+
+use crate::entries::Entry;
+use crate::rounds::Round;
+use std::alloc::{AllocError, Global};
+
+/// Who searches the pieces of a round.
+pub trait Crew<R> {
+    /// What has to hold of what it shares among threads.
+    ghost ready: { Type 0 };
+
+    /// One entry for each piece, in number order. Fails with `AllocError` if memory runs out.
+    fn search<'r>(
+        &mut self,
+        rt: &R,
+        alloc: Global,
+        round: &'r Round<'r>,
+    ) -> Result<Vec<Entry<'r>>, AllocError>
+        requires { ready }
+        ensures { IfOk result (λ v. OneForEach (told round.now) v.items) };
+}
