@@ -1,0 +1,3 @@
+pub mod LineFaults
+pub mod CommandLine
+pub mod inner

@@ -1,0 +1,13 @@
+// The command line: what its words ask for.
+#![tactic(auto)]
+
+mod arguments;
+mod command_line;
+mod help;
+mod line_faults;
+mod matches;
+mod reading_args;
+
+pub use arguments::{Args, Workers};
+pub use line_faults::LineFault;
+pub use reading_args::args_of;

@@ -1,0 +1,61 @@
+// Entry points: the program over its words and its streams.
+ghost use Rattle.std.specs.Prelude.{map, string_bytes};
+ghost use Rattle.std.specs.Thread.{IsSync};
+ghost use Rattle.shop_program.specs.Running.{Streams, IsEnd, IsStart};
+
+use crate::running::run_args;
+use crate::saying::{say_fault, say_line_fault, say_no_memory, say_no_text};
+use shop_engine::{Sink, Source};
+use shop_line::args_of;
+use std::env::args;
+use std::io::ErrorKind;
+use std::rt::{Env, Files};
+use std::thread::Threads;
+
+/// Runs the program on the words of a command line, the program's name first: it reads files or the source, writes to
+/// `out`, and says faults on `err`. The exit status: 0 done, 1 infeasible, 2 a faulty command line, 3 a text refused,
+/// 4 a read or write that failed, 5 no memory.
+pub fn program<R: Files + Threads + Sync + AllocGlobal, S: Source, K: Sink, E: Sink>(
+    rt: &R,
+    words: &[String],
+    source: &mut S,
+    out: &mut K,
+    err: &mut E,
+) -> u8
+    requires { IsSync R.row }
+    ensures { IsEnd (map string_bytes words.now)
+        (record { source = S.device source.old; sink = K.device out.old })
+        (record { source = S.device source.new; sink = K.device out.new }) result }
+{
+    let args = match args_of(rt.alloc(), words) {
+        Ok(args) => args,
+        Err(fault) => return say_line_fault(err, fault),
+    };
+    match run_args(rt, &args, source, out) {
+        Ok(status) => status,
+        Err(fault) => say_fault(err, fault),
+    }
+}
+
+/// Runs the program on the words of the process. Words that aren't UTF-8 are a fault of the command line.
+pub fn start<R: Env + Files + Threads + Sync + AllocGlobal, S: Source, K: Sink, E: Sink>(
+    rt: &R,
+    source: &mut S,
+    out: &mut K,
+    err: &mut E,
+) -> u8
+    requires { IsSync R.row }
+    ensures { IsStart
+        (record { source = S.device source.old; sink = K.device out.old })
+        (record { source = S.device source.new; sink = K.device out.new }) result }
+{
+    let words = match args(rt) {
+        Ok(words) => words,
+        Err(fault) if fault.kind() == ErrorKind::OutOfMemory => return say_no_memory(err),
+        Err(_) => return say_no_text(err),
+    };
+    match words.collect::<Vec<String>>(rt.alloc()) {
+        Ok(words) => program(rt, words.as_slice(), source, out, err),
+        Err(_) => say_no_memory(err),
+    }
+}

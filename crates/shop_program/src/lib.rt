@@ -1,0 +1,13 @@
+// The program over its words and its streams: it runs an engine on files or on the source that it is given, and ends
+// with a status.
+#![tactic(auto)]
+
+mod entry_points;
+mod running;
+mod saying;
+mod statuses;
+
+pub use entry_points::{program, start};
+pub use running::run_args;
+pub use shop_line::{Args, LineFault, Workers, args_of};
+pub use statuses::{COMMAND_LINE, DONE, FAILED, INFEASIBLE, NO_MEMORY, REFUSED};

@@ -1,0 +1,194 @@
+// Runs of the commands, on files or on the source that they are given.
+ghost use Rattle.std.specs.Prelude.{◌≡◌, true, IfOk, IfErr, is_some};
+ghost use Rattle.std.specs.Thread.{IsSync};
+ghost use Rattle.shop_engine.specs.declared.faults.Fault.TheVariants.{ReadFailed};
+ghost use Rattle.shop_program.specs.Running.{Streams, IsRunOn, IsCommandRun};
+ghost use Rattle.shop_program.specs.Running.{ListsFrom, ChecksFrom, HasSolved, SolvesFrom};
+
+use crate::statuses::{DONE, status_of_check};
+use shop_board::{BoardCrew, OpenGate};
+use shop_engine::{
+    CheckArgs, Fault, ListArgs, Reading, Sink, SolveArgs, Source, check_text, list_text, solve_text,
+};
+use shop_line::{Args, Workers};
+use shop_round::Alone;
+use std::alloc::Global;
+use std::fs::File;
+use std::rt::Files;
+use std::thread::Threads;
+
+/// Opens a file, if a path is given; one that can't be opened is a failed read.
+fn open_given<R: Files>(rt: &R, path: &Option<String>) -> Result<Option<Reading<R::File>>, Fault>
+    ensures opened { IfOk result (λ opened. is_some opened ≡ is_some path.now) }
+    ensures unopened { IfErr result (λ fault.
+        (fault ≡ ReadFailed) × (is_some path.now ≡ true)) }
+{
+    let Some(path) = path else {
+        return Ok(None);
+    };
+    match File::open(rt, path.as_str()) {
+        Ok(file) => Ok(Some(Reading::new(file))),
+        Err(_) => Err(Fault::ReadFailed),
+    }
+}
+
+/// Lists the instances of a source. The exit status.
+fn list_from<S: Source, K: Sink>(
+    alloc: Global,
+    args: &ListArgs,
+    source: &mut S,
+    out: &mut K,
+) -> Result<u8, Fault>
+    ensures { ListsFrom args.now (K.device out.old) (K.device out.new) result
+        (S.device source.old) (S.device source.new) }
+{
+    list_text(alloc, source, out, args)?;
+    Ok(DONE)
+}
+
+/// Runs `list`. The exit status.
+fn run_list<R: Files + AllocGlobal, S: Source, K: Sink>(
+    rt: &R,
+    args: &ListArgs,
+    file: &Option<String>,
+    source: &mut S,
+    out: &mut K,
+) -> Result<u8, Fault>
+    ensures { IsRunOn file.now
+        (record { source = S.device source.old; sink = K.device out.old })
+        (record { source = S.device source.new; sink = K.device out.new }) result
+        (ListsFrom args.now (K.device out.old) (K.device out.new) result) }
+{
+    match open_given(rt, file)? {
+        Some(mut first) => list_from(rt.alloc(), args, &mut first, out),
+        None => list_from(rt.alloc(), args, source, out),
+    }
+}
+
+/// Judges the schedule of a file, if a path is given, or else of the source. The exit status.
+fn check_from<R: Files + AllocGlobal, S: Source, K: Sink>(
+    rt: &R,
+    args: &CheckArgs,
+    schedule: &Option<String>,
+    source: &mut S,
+    out: &mut K,
+) -> Result<u8, Fault>
+    ensures { ChecksFrom args.now schedule.now (K.device out.old) (K.device out.new) result
+        (S.device source.old) (S.device source.new) }
+{
+    let mut second = open_given(rt, schedule)?;
+    let is_feasible = check_text(rt.alloc(), source, &mut second, out, args)?;
+    Ok(status_of_check(is_feasible))
+}
+
+/// Runs `check`. The exit status.
+fn run_check<R: Files + AllocGlobal, S: Source, K: Sink>(
+    rt: &R,
+    args: &CheckArgs,
+    file: &Option<String>,
+    schedule: &Option<String>,
+    source: &mut S,
+    out: &mut K,
+) -> Result<u8, Fault>
+    ensures { IsRunOn file.now
+        (record { source = S.device source.old; sink = K.device out.old })
+        (record { source = S.device source.new; sink = K.device out.new }) result
+        (ChecksFrom args.now schedule.now (K.device out.old) (K.device out.new) result) }
+{
+    match open_given(rt, file)? {
+        Some(mut first) => check_from(rt, args, schedule, &mut first, out),
+        None => check_from(rt, args, schedule, source, out),
+    }
+}
+
+/// The crew of so many threads.
+fn crew_of(workers: Workers) -> BoardCrew<OpenGate>
+    ensures { result.workers.count ≡ workers.count }
+{
+    BoardCrew::new(workers.count, OpenGate).unwrap()
+}
+
+/// Solves with one worker, the calling thread, or with a crew of threads: the report is the same for every number of
+/// workers.
+fn solve_by<R: Threads + Sync + AllocGlobal, S: Source, K: Sink>(
+    rt: &R,
+    args: &SolveArgs,
+    workers: Workers,
+    source: &mut S,
+    out: &mut K,
+) -> Result<(), Fault>
+    requires { IsSync R.row }
+    ensures { HasSolved args.now (K.device out.old) (K.device out.new) result
+        (S.device source.old) (S.device source.new) }
+{
+    if workers.count == 1 {
+        return solve_text(rt, rt.alloc(), source, out, args, &mut Alone);
+    }
+    let mut crew = crew_of(workers);
+    solve_text(rt, rt.alloc(), source, out, args, &mut crew)
+}
+
+/// Solves an instance of a source. The exit status.
+fn solve_from<R: Threads + Sync + AllocGlobal, S: Source, K: Sink>(
+    rt: &R,
+    args: &SolveArgs,
+    workers: Workers,
+    source: &mut S,
+    out: &mut K,
+) -> Result<u8, Fault>
+    requires { IsSync R.row }
+    ensures { SolvesFrom args.now (K.device out.old) (K.device out.new) result
+        (S.device source.old) (S.device source.new) }
+{
+    solve_by(rt, args, workers, source, out)?;
+    Ok(DONE)
+}
+
+/// Runs `solve`. The exit status.
+fn run_solve<R: Files + Threads + Sync + AllocGlobal, S: Source, K: Sink>(
+    rt: &R,
+    args: &SolveArgs,
+    workers: Workers,
+    file: &Option<String>,
+    source: &mut S,
+    out: &mut K,
+) -> Result<u8, Fault>
+    requires { IsSync R.row }
+    ensures { IsRunOn file.now
+        (record { source = S.device source.old; sink = K.device out.old })
+        (record { source = S.device source.new; sink = K.device out.new }) result
+        (SolvesFrom args.now (K.device out.old) (K.device out.new) result) }
+{
+    match open_given(rt, file)? {
+        Some(mut first) => solve_from(rt, args, workers, &mut first, out),
+        None => solve_from(rt, args, workers, source, out),
+    }
+}
+
+/// Runs what a command line asks for, on the files that it names or on the source, and writes to `out`. The exit status:
+/// 1 where `check` finds the schedule infeasible, else 0; or why it was refused.
+pub fn run_args<R: Files + Threads + Sync + AllocGlobal, S: Source, K: Sink>(
+    rt: &R,
+    args: &Args,
+    source: &mut S,
+    out: &mut K,
+) -> Result<u8, Fault>
+    requires { IsSync R.row }
+    ensures { IsCommandRun args.now
+        (record { source = S.device source.old; sink = K.device out.old })
+        (record { source = S.device source.new; sink = K.device out.new }) result }
+{
+    match args {
+        Args::List { args, file } => run_list(rt, args, file, source, out),
+        Args::Check {
+            args,
+            file,
+            schedule,
+        } => run_check(rt, args, file, schedule, source, out),
+        Args::Solve {
+            args,
+            workers,
+            file,
+        } => run_solve(rt, args, *workers, file, source, out),
+    }
+}
