@@ -12,9 +12,9 @@
  *     REFUSE_THREAD_FROM=N  all threads from number N on
  *     REFUSE_HOLD=N         nothing, but a thread that is about to end waits until the first N threads have begun, or
  *                           the next N where it is one of these, and so on; none once one waited two seconds in vain
- *     REFUSE_LOG=FILE       the file gets one line: the allocations, how many of them were refused, the same of threads,
- *                           which the system may refuse too, the bytes that were asked for in all, the most started
- *                           threads alive at a time, and the calls of read and of write
+ *     REFUSE_LOG=FILE       the file gets one line: the allocations, how many of them were refused, the same of
+ *                           threads, which the system may refuse too, the bytes that were asked for in all, the most
+ *                           started threads alive at a time, and the calls of read and of write
  */
 #define _GNU_SOURCE
 #include <dlfcn.h>
