@@ -42,7 +42,9 @@ pub fn second_round<'r>(rt: &impl Abort, alloc: Global, instance: &'r Instance) 
     let plan = Plan::new(2, 3, 1).expect(rt, "plan");
     let start = Standing::start(alloc, instance).expect(rt, "memory");
     let first = after_round(rt, alloc, instance, &plan, start);
-    next_round(rt, alloc, instance, &plan, first)
+    let round = next_round(rt, alloc, instance, &plan, first);
+    assert!(rt; round.best == 16 && round.bound == 10);
+    round
 }
 
 // The third round: three pieces of one node each, opening best 16, opening bound 10.
@@ -51,5 +53,7 @@ pub fn third_round<'r>(rt: &impl Abort, alloc: Global, instance: &'r Instance) -
     let start = Standing::start(alloc, instance).expect(rt, "memory");
     let first = after_round(rt, alloc, instance, &plan, start);
     let second = after_round(rt, alloc, instance, &plan, first);
-    next_round(rt, alloc, instance, &plan, second)
+    let round = next_round(rt, alloc, instance, &plan, second);
+    assert!(rt; round.best == 16 && round.bound == 10);
+    round
 }

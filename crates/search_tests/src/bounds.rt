@@ -90,19 +90,6 @@ fn jackson_at_releases_and_times_of_0(rt: HostRuntime) {
 }
 
 #[test]
-fn thresholds_on_a_machine_of_ft06(rt: HostRuntime) {
-    let fifth = [
-        triple(20, 6, 0),
-        triple(13, 10, 24),
-        triple(27, 7, 0),
-        triple(18, 8, 9),
-        triple(12, 5, 8),
-        triple(25, 4, 1),
-    ];
-    assert_eq!(rt; one_machine(&fifth), 52);
-}
-
-#[test]
 fn heads_and_tails_of_two_jobs_that_cross(rt: HostRuntime) {
     let alloc = rt.alloc();
     let instance = crossing(alloc).expect(&rt, "an instance");
@@ -217,6 +204,24 @@ fn triples_of(rt: &impl Abort, alloc: Global, instance: &Instance, machine: usiz
         }
     }
     triples
+}
+
+#[test]
+fn one_machine_of_ft06(rt: HostRuntime) {
+    let alloc = rt.alloc();
+    let fifth = [
+        triple(20, 6, 0),
+        triple(13, 10, 24),
+        triple(27, 7, 0),
+        triple(18, 8, 9),
+        triple(12, 5, 8),
+        triple(25, 4, 1),
+    ];
+    assert_eq!(rt; one_machine(&fifth), 52);
+    let rows = ft06_rows(alloc).expect(&rt, "memory");
+    let instance = of_rows(6, rows).expect(&rt, "an instance");
+    let triples = triples_of(&rt, alloc, &instance, 4);
+    assert_eq!(rt; triples.as_slice(), fifth.as_slice());
 }
 
 #[test]

@@ -57,15 +57,12 @@ fn two_jobs_that_cross(rt: HostRuntime) {
 fn operations_that_take_no_time(rt: HostRuntime) {
     let alloc = rt.alloc();
     let instance = with_zeros(alloc).expect(&rt, "an instance");
-    let plan = Plan::new(1, 100, 1);
-    assert_answer(
-        &rt,
-        alloc,
-        &instance,
-        plan,
-        [5, 5, 0, 1, 8],
-        &[&[0, 4, 5], &[0, 0, 5]],
-    );
+    let start: [&[u64]; 2] = [&[0, 4, 5], &[5, 5, 10]];
+    let least: [&[u64]; 2] = [&[0, 4, 5], &[0, 0, 5]];
+    for (rounds, numbers, rows) in [(0, [10, 5, 1, 0, 0], start), (1, [5, 5, 0, 1, 8], least)] {
+        let plan = Plan::new(rounds, 100, 1);
+        assert_answer(&rt, alloc, &instance, plan, numbers, &rows);
+    }
 }
 
 #[test]

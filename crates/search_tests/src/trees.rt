@@ -178,10 +178,12 @@ fn sheets_of_later_rounds(rt: HostRuntime) {
     let sheet = search(alloc, &instance, &second, 16, 3).expect(&rt, "memory");
     assert_sheet(&rt, &sheet, None, 16, 3);
     assert_left(&rt, alloc, &sheet, &[&[1, 1, 0, 1, 0, 0]]);
+    assert_bounds(&rt, alloc, &sheet, &[10]);
     let second = one_node(&rt, alloc, &instance, &[1, 0]);
     let sheet = search(alloc, &instance, &second, 16, 3).expect(&rt, "memory");
     assert_sheet(&rt, &sheet, None, 16, 3);
     assert_left(&rt, alloc, &sheet, &[&[1, 0, 1, 0, 1], &[1, 0, 1, 0, 0]]);
+    assert_bounds(&rt, alloc, &sheet, &[12, 14]);
     let third = [
         ([1, 1, 0, 1, 0, 0].as_slice(), 10, 1),
         ([1, 0, 1, 0, 1].as_slice(), 12, 2),
@@ -324,6 +326,20 @@ fn a_found_word_is_placed(rt: HostRuntime) {
     assert_eq!(&rt; table.len(), 2);
     assert_eq!(&rt; table.row(0), [0, 3].as_slice());
     assert_eq!(&rt; table.row(1), [0, 3].as_slice());
+}
+
+#[test]
+fn a_word_left_is_placed(rt: HostRuntime) {
+    let alloc = rt.alloc();
+    let instance = with_a_gap(alloc).expect(&rt, "an instance");
+    let piece = one_node(&rt, alloc, &instance, &[1, 1, 0]);
+    let sheet = search(alloc, &instance, &piece, 16, 3).expect(&rt, "memory");
+    let left = sheet.left.nodes(alloc).expect(&rt, "memory");
+    assert!(&rt; left.len() == 1 && is_full(&instance, &left[0].word));
+    let table = place(alloc, &instance, &left[0].word).expect(&rt, "memory");
+    assert_eq!(&rt; table.len(), 2);
+    assert_eq!(&rt; table.row(0), [2, 7, 10].as_slice());
+    assert_eq!(&rt; table.row(1), [0, 1, 2].as_slice());
 }
 
 /// The search of a piece with at most so many states for children that wait.
