@@ -30,20 +30,18 @@ fn raise_route<L: StateLanes>(
     ensures seen { Sees grid.now.machines (IsPosition position) end
         (L.heads lanes.old) (L.heads lanes.new) raises.old raises.new }
 {
-    // read once, since the loop writes to other rows
-    let (following, machines) = (grid.all_following(), grid.machines());
     lanes.set_head(position, end);
     let mut ready = end + grid.time(position);
-    let mut next = following[position] as usize;
-    while next < following.len() {
+    let mut next = grid.following(position);
+    while next < grid.positions() {
         let head = lanes.head(next);
         if head >= ready {
             return;
         }
-        raises.see(machines[next], head, ready);
+        raises.see(grid.machines()[next], head, ready);
         lanes.set_head(next, ready);
         ready += grid.time(next);
-        next = following[next] as usize;
+        next = grid.following(next);
     }
 }
 

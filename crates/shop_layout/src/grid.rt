@@ -85,15 +85,17 @@ impl<L: StateLanes> Grid<L> {
         self.positions.machines()
     }
 
-    /// For each position that of the step which follows on its operation's route, or the number of all positions.
+    /// The position of the step that follows on the route of the operation at a position, or the number of all
+    /// positions.
     #[inline(always)]
-    pub fn all_following(&self) -> &[u32]
-        ensures { result.now ≡ self.now.following }
+    pub fn following(&self, position: usize) -> usize
+        requires { position < length self.now.following }
+        ensures { result ≡ slice_index self.now.following position }
     {
-        self.positions.all_following()
+        self.positions.following(position)
     }
 
-    /// The same of one position.
+    /// The same as a number of 32 bits.
     #[inline(always)]
     pub fn next_behind(&self, position: usize) -> u32
         requires { position < length self.now.following }

@@ -122,14 +122,16 @@ impl Positions {
         self.machines.as_slice()
     }
 
-    /// For each position that of the step which follows on its operation's route, or the number of all positions.
-    pub(crate) fn all_following(&self) -> &[u32]
-        ensures { result.now ≡ self.now.following }
+    /// The position of the step that follows on the route of the operation at a position, or the number of all
+    /// positions.
+    pub(crate) fn following(&self, position: usize) -> usize
+        requires { position < length self.now.following }
+        ensures { result ≡ slice_index self.now.following position }
     {
-        self.following.as_slice()
+        self.following[position] as usize
     }
 
-    /// The same of one position.
+    /// The same as a number of 32 bits.
     #[inline(always)]
     pub(crate) fn next_behind(&self, position: usize) -> u32
         requires { position < length self.now.following }

@@ -1,4 +1,4 @@
-use Rattle.std.proofs.Common.{ℕ, ◌+◌, List, ap, get_or, length, refl, arith, []}
+use Rattle.std.proofs.Common.{ℕ, ◌+◌, List, ap, get_or, refl, arith, []}
 use Rattle.shop_layout.specs.Lanes.{rows_of}
 use Rattle.shop_desk.proofs.RaiseSteps.{begun_following, followed, following_fits, following_less}
 use Rattle.shop_desk.proofs.RaiseSteps.{put_is}
@@ -28,7 +28,7 @@ loop-next-init g c =
           (put_is c.args.grid.now (g.L.StateLanes.heads c.args.lanes.now) (g.L.StateLanes.ends c.args.lanes.now)
           (g.L.StateLanes.heads c.set_head.new.self) (g.L.StateLanes.ends c.set_head.new.self) c.args.position
           c.args.end c.set_head.ensures.heads c.set_head.ensures.ends)
-          (get_or c.all_following-following.result.now c.args.position 0) (c.args.end + c.time.result) c.time.result (ap (λ (xs : List ℕ). get_or xs c.args.position 0) c.all_following-following.ensures) c.time.ensures refl;
+          c.following-next.result (c.args.end + c.time.result) c.time.result c.following-next.ensures c.time.ensures refl;
       seen = sees_first c.args.grid.now.machines c.args.position c.args.end
           (g.L.StateLanes.heads c.args.lanes.now) (g.L.StateLanes.heads c.set_head.new.self) c.args.raises.now
           c.set_head.ensures.heads within;
@@ -39,9 +39,9 @@ see-requires-clause-known g c =
     let long = sees_long c.args.grid.now.machines c.args.position c.args.end
     (g.L.StateLanes.heads c.args.lanes.now) (g.L.StateLanes.heads c.loop-next.lanes)
     c.args.raises.now c.loop-next.raises c.loop-next.invariant.seen
-    in let many = ap length c.all_following-following.ensures in let there = c.loop-next-test.true
+    in let many = c.positions.ensures in let there = c.loop-next-test.true
     in let machines = c.requires.raisable.machines in let following = c.requires.raisable.followed.following
-    in let read = ap (λ (xs : List ℕ). get_or xs c.loop-next.next 0) c.machines-machines.ensures
+    in let read = ap (λ (xs : List ℕ). get_or xs c.loop-next.next 0) c.machines.ensures
     in let known = c.requires.known c.loop-next.next (omega arith)
     in omega arith
 
@@ -52,12 +52,12 @@ set_head-requires-in-loop-next-clause-fits g c = (following_fits g.L.StateLanes.
     c.requires.raisable c.requires.waits c.loop-next.next c.loop-next.ready
     (rows_of c.args.grid.now (g.L.StateLanes.heads c.loop-next.lanes)
     (g.L.StateLanes.ends c.loop-next.lanes))
-    c.loop-next.invariant.following (length c.all_following-following.result.now) (ap length c.all_following-following.ensures)
+    c.loop-next.invariant.following c.positions.result c.positions.ensures
     c.loop-next-test.true).0
 
 pub time-ready-requires : goal.time-ready-requires
 time-ready-requires g c =
-    let many = ap length c.all_following-following.ensures in let there = c.loop-next-test.true
+    let many = c.positions.ensures in let there = c.loop-next-test.true
     in let following = c.requires.raisable.followed.following in let timed = c.requires.raisable.timed
     in omega arith
 
@@ -69,7 +69,7 @@ overflow_add-ready-in-loop-next g c =
     c.requires.raisable c.requires.waits c.loop-next.next c.loop-next.ready
     (rows_of c.args.grid.now (g.L.StateLanes.heads c.loop-next.lanes)
     (g.L.StateLanes.ends c.loop-next.lanes))
-    c.loop-next.invariant.following (length c.all_following-following.result.now) (ap length c.all_following-following.ensures) c.loop-next-test.true).1
+    c.loop-next.invariant.following c.positions.result c.positions.ensures c.loop-next-test.true).1
     in let computable = c.requires.raisable.computable
     in let time = c.time-ready.ensures in omega arith
 
@@ -80,17 +80,17 @@ loop-next-smaller g c = following_less g.L.StateLanes.GREATEST c.args.grid.now c
     c.requires.raisable c.requires.waits c.loop-next.next c.loop-next.ready
     (rows_of c.args.grid.now (g.L.StateLanes.heads c.loop-next.lanes)
     (g.L.StateLanes.ends c.loop-next.lanes))
-    c.loop-next.invariant.following (length c.all_following-following.result.now) (ap length c.all_following-following.ensures)
-    c.loop-next-test.true (get_or c.all_following-following.result.now c.loop-next.next 0) (ap (λ (xs : List ℕ). get_or xs c.loop-next.next 0) c.all_following-following.ensures)
+    c.loop-next.invariant.following c.positions.result c.positions.ensures
+    c.loop-next-test.true c.following-next-in-loop-next.result c.following-next-in-loop-next.ensures
 
 pub loop-next-preserved : goal.loop-next-preserved
 loop-next-preserved g c =
-    let many = ap length c.all_following-following.ensures in let there = c.loop-next-test.true
+    let many = c.positions.ensures in let there = c.loop-next-test.true
     in let head = c.head-head.ensures
     in let below = c.if-head-ready.false
     in let machines = c.requires.raisable.machines in let following = c.requires.raisable.followed.following
     in let long = c.loop-next.invariant.following.walking.up_to.positions
-    in let read = ap (λ (xs : List ℕ). get_or xs c.loop-next.next 0) c.machines-machines.ensures
+    in let read = ap (λ (xs : List ℕ). get_or xs c.loop-next.next 0) c.machines.ensures
     in let known = c.requires.known c.loop-next.next (omega arith)
     in record {
       following = followed g.L.StateLanes.GREATEST c.args.grid.now c.args.position c.args.end
@@ -99,19 +99,19 @@ loop-next-preserved g c =
           c.requires.raisable c.requires.waits c.loop-next.next c.loop-next.ready
           (rows_of c.args.grid.now (g.L.StateLanes.heads c.loop-next.lanes)
           (g.L.StateLanes.ends c.loop-next.lanes))
-          c.loop-next.invariant.following (length c.all_following-following.result.now) (ap length c.all_following-following.ensures)
+          c.loop-next.invariant.following c.positions.result c.positions.ensures
           c.loop-next-test.true (omega arith) (rows_of c.args.grid.now (g.L.StateLanes.heads c.set_head-in-loop-next.new.self)
           (g.L.StateLanes.ends c.set_head-in-loop-next.new.self))
           (put_is c.args.grid.now (g.L.StateLanes.heads c.loop-next.lanes) (g.L.StateLanes.ends c.loop-next.lanes)
           (g.L.StateLanes.heads c.set_head-in-loop-next.new.self) (g.L.StateLanes.ends c.set_head-in-loop-next.new.self)
           c.loop-next.next c.loop-next.ready c.set_head-in-loop-next.ensures.heads c.set_head-in-loop-next.ensures.ends)
-          (c.loop-next.ready + c.time-ready.result) c.time-ready.result (get_or c.all_following-following.result.now c.loop-next.next 0)
-          c.time-ready.ensures refl (ap (λ (xs : List ℕ). get_or xs c.loop-next.next 0) c.all_following-following.ensures);
+          (c.loop-next.ready + c.time-ready.result) c.time-ready.result c.following-next-in-loop-next.result
+          c.time-ready.ensures refl c.following-next-in-loop-next.ensures;
       seen = sees_next c.args.grid.now.machines c.args.position c.args.end
           (g.L.StateLanes.heads c.args.lanes.now) (g.L.StateLanes.heads c.loop-next.lanes)
           c.args.raises.now c.loop-next.raises c.loop-next.invariant.seen
           (g.L.StateLanes.heads c.set_head-in-loop-next.new.self) c.see.new.self c.loop-next.next
-          c.loop-next.ready c.head-head.result (get_or c.machines-machines.result.now c.loop-next.next 0)
+          c.loop-next.ready c.head-head.result (get_or c.machines.result.now c.loop-next.next 0)
           c.set_head-in-loop-next.ensures.heads (omega arith) c.head-head.ensures
           c.if-head-ready.false read (omega arith) c.see.ensures;
     }
