@@ -1,10 +1,12 @@
 // Eight numbers of one width at once.
-ghost use Rattle.std.specs.Prelude.{◌≡◌, ℕ, ◌+◌, ◌*◌, ◌<◌, ◌≤◌, List, length, replicate, map, min};
+ghost use Rattle.std.specs.Prelude.{◌≡◌, ℕ, ◌+◌, ◌*◌, ◌<◌, ◌≤◌, List, length, replicate, map, min, IfOk};
 ghost use Rattle.std.specs.Prelude.{max, ◌==◌, take, drop, slice_index};
 ghost use Rattle.std.specs.Simd.Lanes.{mask_l, zip2, put_chunk};
 ghost use Rattle.shop_blocks.specs.Eights.{first_of, is_between, IsSplat, up_one, up_two, up_four};
 ghost use Rattle.shop_blocks.specs.Eights.{down_one, down_two, down_four, halves, quarters};
 ghost use Rattle.shop_blocks.specs.Eights.{neighbours, added, lessened, waiting, AddsFit, later_head};
+
+use std::alloc::{AllocError, Global};
 
 /// Eight numbers of a row at once.
 pub trait Block: Copy + Drop {
@@ -25,6 +27,11 @@ pub trait Block: Copy + Drop {
 
     fn widened(number: Self::Number) -> u64
         ensures { result ≡ value number };
+
+    /// A row of so many times the same number. Fails with `AllocError` if memory runs out.
+    fn row_of(alloc: Global, number: u64, count: usize) -> Result<Vec<Self::Number>, AllocError>
+        requires { number ≤ GREATEST }
+        ensures { IfOk result (λ row. map value row.items ≡ replicate count number) };
 
     fn splat(number: u64) -> Self
         requires { number ≤ GREATEST }

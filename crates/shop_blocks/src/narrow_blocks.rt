@@ -3,6 +3,7 @@ ghost use Rattle.std.specs.Prelude.{ℕ};
 ghost use Rattle.std.proofs.Common.{lit<};
 
 use crate::blocks::Block;
+use std::alloc::{AllocError, Global};
 use std::simd::prelude::*;
 
 /// Eight numbers of 16 bits.
@@ -30,6 +31,10 @@ impl Block for NarrowBlock {
     #[inline(always)]
     fn widened(number: u16) -> u64 {
         u64::from(number)
+    }
+
+    fn row_of(alloc: Global, number: u64, count: usize) -> Result<Vec<u16>, AllocError> {
+        Ok(vec![in alloc; number as u16; count]?)
     }
 
     #[inline(always)]

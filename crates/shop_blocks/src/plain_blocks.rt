@@ -3,6 +3,7 @@ ghost use Rattle.std.specs.Prelude.{ℕ, ◌-◌, ◌^◌};
 ghost use Rattle.std.proofs.Common.{lit<};
 
 use crate::blocks::Block;
+use std::alloc::{AllocError, Global};
 use std::simd::prelude::*;
 
 /// Eight numbers of 64 bits.
@@ -30,6 +31,10 @@ impl Block for PlainBlock {
     #[inline(always)]
     fn widened(number: u64) -> u64 {
         number
+    }
+
+    fn row_of(alloc: Global, number: u64, count: usize) -> Result<Vec<u64>, AllocError> {
+        Ok(vec![in alloc; number; count]?)
     }
 
     #[inline(always)]

@@ -3,6 +3,7 @@ ghost use Rattle.std.specs.Prelude.{ℕ};
 ghost use Rattle.std.proofs.Common.{lit<};
 
 use crate::blocks::Block;
+use std::alloc::{AllocError, Global};
 use std::simd::prelude::*;
 
 /// Eight numbers of 32 bits.
@@ -30,6 +31,10 @@ impl Block for WideBlock {
     #[inline(always)]
     fn widened(number: u32) -> u64 {
         u64::from(number)
+    }
+
+    fn row_of(alloc: Global, number: u64, count: usize) -> Result<Vec<u32>, AllocError> {
+        Ok(vec![in alloc; number as u32; count]?)
     }
 
     #[inline(always)]

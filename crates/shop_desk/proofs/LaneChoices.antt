@@ -1,6 +1,8 @@
 -- The choice among next operations by lanes.
 use Rattle.std.proofs.Common.{◌≡◌, ℕ, ◌+◌, ◌*◌, ◌-◌, ◌≤◌, ◌<◌, ◌⊎◌, inl, inr, Bool, true, false}
-use Rattle.std.proofs.Common.{List, ◌∷◌, length, get_or, take, drop, refl, sym, ◌∙◌, ap, subst}
+use Rattle.std.proofs.Common.{List, [], ◌∷◌, length, get_or, take, drop, refl, sym, ◌∙◌, ap, subst}
+use Rattle.std.specs.List.{All, AllByRecursion}
+use Rattle.std.proofs.lemmas.List.Elements.{recursion_from_All}
 use Rattle.std.proofs.Common.{arith, ltb}
 use Rattle.std.proofs.lemmas.Bool.{cases_Bool, cases_lt, and_from, and_parts, lt-ltb, ltb-true}
 use Rattle.std.proofs.lemmas.List.{get_or_past, get_or-take, get_or-drop, length-take-le}
@@ -11,7 +13,7 @@ use Rattle.shop_layout.specs.Positions.{LayoutState}
 use Rattle.shop_desk.specs.inner.LaneChoices.{IsNextBelow, AreNextPlaced}
 use Rattle.shop_desk.specs.inner.Raises.{IsInBlocks}
 use Rattle.shop_desk.specs.inner.JobSets.{HasPutIf}
-use Rattle.shop_desk.specs.inner.RisingLists.{IsIn, HasGathered}
+use Rattle.shop_desk.specs.inner.RisingLists.{IsIn, Rises, HasGathered, IsGatheredWith}
 use Rattle.shop_desk.proofs.RaiseLoops.{marked_in, marked_out}
 
 -- the positions of some blocks at which something waits below a limit
@@ -194,3 +196,47 @@ module _ (nexts heads : List ℕ) (limit : ℕ) where
           (λ q there. (let a = there.0 in let b = there.1 in (omega arith, omega arith))) j next)
     ];
   }
+
+-- what is put in first, and all that is gathered then
+pub gathered_with : (j : ℕ) (P : ℕ → Type 0) (one js : List ℕ) → HasPutIf true j [] one → HasGathered P one js → Rises js
+    → IsGatheredWith j P js
+gathered_with j P one js put more rises = record {
+  has = more.kept j (put.gathered j (refl, refl));
+  gathered = more.gathered;
+  only = λ q h. elim (more.only q h) [
+    | inl g ↦ elim (put.only q g) [
+      | inl none ↦ absurd none
+      | inr e ↦ inl e.1
+    ]
+    | inr is ↦ inr is
+  ];
+  rises = rises;
+}
+
+in_alike : (x : ℕ) (xs : List ℕ) → AllByRecursion (λ p. p ≡ x) xs → (q : ℕ) → IsIn xs q → q ≡ x
+in_alike x [] all q h = absurd h
+in_alike x (y ∷ ys) all q (inl e) = e ∙ all.0
+in_alike x (y ∷ ys) all q (inr h) = in_alike x ys all.1 q h
+
+-- where nothing else waits below the limit, what is put in is alone
+pub alone_with : (l : LayoutState) (nexts : List ℕ) (rows : Rows) → AreNextPlaced l rows.heads nexts
+    → (from to limit j : ℕ) → from ≤ to → 8 * to ≤ length rows.heads → j < length nexts
+    → All (λ p. p ≡ get_or nexts j 0) (positions_below rows from to limit)
+    → IsGatheredWith j (IsNextBelow nexts rows.heads (IsInBlocks from to) limit) (j ∷ [])
+alone_with l nexts rows placed from to limit j ordered within known all = record {
+  has = inl refl;
+  gathered = λ q next.
+      let at : get_or nexts q 0 ≡ get_or nexts j 0 =
+      in_alike (get_or nexts j 0) (positions_below rows from to limit) (recursion_from_All (λ p. p ≡ get_or nexts j 0) (positions_below rows from to limit) all) (get_or nexts q 0)
+      (below_is_in rows from to limit ordered within (get_or nexts q 0)
+      (record { there = next.there; waits = next.waits; below = next.below }))
+      in let high = next.there.1
+      in let here : get_or nexts q 0 < length rows.heads = omega arith
+      in inl (sym (placed.own q next.job here) ∙ ap (λ (x : ℕ). get_or l.jobs x 0) at
+      ∙ placed.own j known (omega arith));
+  only = λ q h. elim h [
+    | inl e ↦ inl e
+    | inr none ↦ absurd none
+  ];
+  rises = ((λ q h. absurd h), tt);
+}

@@ -14,10 +14,9 @@ use Rattle.shop_model.proofs.Ends.{IsOperation-job}
 use Rattle.shop_heads.specs.Conflicts.{open_jobs, next_machine, next_head, next_end, conflicts_with}
 use Rattle.shop_heads.specs.Conflicts.{conflict_among}
 use Rattle.shop_desk.specs.inner.LaneChoices.{AreChoosable, AreNextsAt, IsNextBelow}
-use Rattle.shop_desk.specs.inner.JobSets.{HasPutIf}
 use Rattle.shop_layout.specs.Positions.{LayoutState, place, first_position}
 use Rattle.shop_desk.specs.inner.Raises.{HasBlocks, IsOnMachine}
-use Rattle.shop_desk.specs.inner.RisingLists.{IsIn, Rises, HasGathered}
+use Rattle.shop_desk.specs.inner.RisingLists.{IsIn, Rises, IsGatheredWith}
 use Rattle.shop_layout.proofs.LaidPlaces.{place_of, on_machine}
 use Rattle.shop_desk.proofs.NextOperations.{next_is, next_there, stored_end, stored_head}
 use Rattle.shop_desk.proofs.RaisedHeads.{has_blocks}
@@ -178,28 +177,24 @@ module _ (shop : Shop) (p : Placing) (l : LayoutState) (nexts : List ℕ) (rows 
           }
 
       -- the jobs whose next operations conflict with that of r
-      pub are_conflicting : (one new : List ℕ) → HasPutIf true r [] one → HasGathered Below one new
-          → Rises new → new ≡ filter (conflicts_with shop p r) (open_jobs shop p)
-      are_conflicting one new put gathered rises =
+      pub are_conflicting : (js : List ℕ) → IsGatheredWith r Below js
+          → js ≡ filter (conflicts_with shop p r) (open_jobs shop p)
+      are_conflicting js is =
           let all = open_jobs shop p
-          in one_rising new (filter (conflicts_with shop p r) all) rises
-          (filter_rises (conflicts_with shop p r) all (open_rises shop p)) (λ q h. elim (gathered.only q h) [
-            | inl g ↦ elim (put.only q g) [
-              | inl none ↦ absurd none
-              | inr e ↦ filter_in (conflicts_with shop p r) all q
-                  (subst (IsIn all) (sym e.1) (is_open shop p r op))
-                  (or_left (eqb q r) _ (eq-eqb q r e.1))
-            ]
+          in one_rising js (filter (conflicts_with shop p r) all) is.rises
+          (filter_rises (conflicts_with shop p r) all (open_rises shop p)) (λ q h. elim (is.only q h) [
+            | inl e ↦ filter_in (conflicts_with shop p r) all q (subst (IsIn all) (sym e) (is_open shop p r op))
+                (or_left (eqb q r) _ (eq-eqb q r e))
             | inr next ↦ (let c = in_conflict q next
                 in filter_in (conflicts_with shop p r) all q (is_open shop p q c.0) c.1)
           ]) (λ q h.
           let f = in_filter (conflicts_with shop p r) all q h
           in let o = open_is shop p q f.0
           in elim (either (eqb q r) _ f.1) [
-            | inl e ↦ gathered.kept q (put.gathered q (refl, eqb-true q r e))
+            | inl e ↦ subst (IsIn js) (sym (eqb-true q r e)) is.has
             | inr e ↦ (let parts = and_parts (eqb (next_machine shop p q) (next_machine shop p r))
                 (ltb (next_head shop p q) (next_end shop p r)) e
-                in gathered.gathered q (below_from q o.1
+                in is.gathered q (below_from q o.1
                 (eqb-true (next_machine shop p q) (next_machine shop p r) parts.0)
                 (ltb-true (next_head shop p q) (next_end shop p r) parts.1)))
           ])
@@ -276,8 +271,7 @@ module _ (greatest : ℕ) (shop : Shop) (p : Placing) (l : LayoutState) (nexts :
           in let b = can.ends.next i o.1 in let d = can.ends.next r op in omega arith)
 
       pub is_conflict : (m limit : ℕ) → m ≡ machine_of shop r (p.steps r) → limit ≡ next_end shop p r + 1
-          → (one new : List ℕ) → HasPutIf true r [] one
-          → HasGathered (IsNextBelow nexts rows.heads (IsOnMachine l m) limit) one new
-          → Rises new → new ≡ conflict_among shop p (open_jobs shop p)
-      is_conflict m limit on end one new put gathered rises =
-          are_conflicting shop p l nexts rows can.at r op m limit on end one new put gathered rises ∙ sym chosen_is
+          → (js : List ℕ) → IsGatheredWith r (IsNextBelow nexts rows.heads (IsOnMachine l m) limit) js
+          → js ≡ conflict_among shop p (open_jobs shop p)
+      is_conflict m limit on end js is =
+          are_conflicting shop p l nexts rows can.at r op m limit on end js is ∙ sym chosen_is

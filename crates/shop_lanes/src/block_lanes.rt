@@ -41,18 +41,6 @@ fn copied<B: Block>(alloc: Global, numbers: &[u64]) -> Result<Vec<B::Number>, Al
     Ok(copy)
 }
 
-/// So many times the same number.
-fn filled<B: Block>(alloc: Global, number: u64, count: usize) -> Result<Vec<B::Number>, AllocError>
-    requires { number ≤ B.GREATEST }
-    ensures { IfOk result (λ v. map B.value v.items ≡ replicate count number) }
-{
-    let mut row = Vec::with_capacity(alloc, count)?;
-    for _ in 0..count {
-        row.push(B::narrowed(number))?;
-    }
-    Ok(row)
-}
-
 /// Writes the same number everywhere.
 fn set_all<B: Block>(row: &mut [B::Number], number: u64)
     requires { number ≤ B.GREATEST }
@@ -71,7 +59,7 @@ fn no_heads<B: Block>(alloc: Global, positions: usize) -> Result<Vec<B::Number>,
     if positions > usize::MAX - 128 {
         return Err(AllocError);
     }
-    Ok(filled::<B>(alloc, 0, positions)?)
+    Ok(B::row_of(alloc, 0, positions)?)
 }
 
 /// The greatest number for each job, and for as many more as fill whole blocks.
@@ -84,7 +72,7 @@ fn no_ends<B: Block>(alloc: Global, jobs: usize) -> Result<Vec<B::Number>, Alloc
     if jobs > usize::MAX - 128 {
         return Err(AllocError);
     }
-    Ok(filled::<B>(alloc, B::GREATEST, 8 * (jobs / 8 + 1))?)
+    Ok(B::row_of(alloc, B::GREATEST, 8 * (jobs / 8 + 1))?)
 }
 
 impl<B: Block> StateLanes for BlockLanes<B> {

@@ -1,5 +1,5 @@
 // Positions that are marked by bits.
-ghost use Rattle.std.specs.Prelude.{◌≡◌, ℕ, ◌<◌, ◌+◌, ◌≤◌, ◌↔◌, ◌^◌, List, [], ◌∷◌, IsTrue};
+ghost use Rattle.std.specs.Prelude.{◌≡◌, ℕ, ◌<◌, ◌+◌, ◌≤◌, ◌↔◌, ◌^◌, List, [], ◌∷◌, IsTrue, All};
 ghost use Rattle.std.specs.Prelude.{MatchOption};
 ghost use Rattle.shop_lanes.specs.Marks.{IsPopped};
 ghost use Rattle.shop_lanes.specs.SetBits.{set_bits};
@@ -37,6 +37,21 @@ impl Marks {
         ensures { IsTrue result ↔ (self.now ≡ []) }
     {
         self.bits == 0
+    }
+
+    /// Whether no position but this one is marked.
+    #[inline(always)]
+    pub fn has_no_other(&self, position: usize) -> bool
+        ensures { IsTrue result → All (λ p. p ≡ position) self.now }
+    {
+        let mut others = Marks {
+            first: self.first,
+            bits: self.bits,
+        };
+        match others.pop_first() {
+            Some(first) => first == position && others.is_empty(),
+            None => true,
+        }
     }
 
     /// Takes the first marked position out.

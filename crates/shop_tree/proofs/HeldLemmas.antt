@@ -60,6 +60,14 @@ module _ {S : Type 0} (old : List (Held S)) (kids : List (Kept S)) where
   states_moved is word new e below above = subst (All (IsHeld is word)) (sym e)
       (All-append (IsHeld is word) old (map held kids) below (All-map (IsHeld is word) held kids above))
 
+-- the others first, then the first child
+pub moved_then : {S : Type 0} (old : List (Held S)) (all others : List (Kept S)) (first : Kept S) (mid new : List (Held S))
+    → all ≡ others ++ first ∷ [] → mid ≡ old ++ map held others → new ≡ mid ++ held first ∷ [] → new ≡ old ++ map held all
+moved_then old all others first mid new popped moved put = put
+    ∙ (ap (λ (hs : List (Held _)). hs ++ held first ∷ []) moved
+    ∙ (append_assoc old (map held others) (held first ∷ [])
+    ∙ ap (λ (hs : List (Held _)). old ++ hs) (sym (ap (map held) popped ∙ map-append held others (first ∷ [])))))
+
 -- so for closed ones
 module _ {S : Type 0} (old : List (Held S)) where
   pub states_rest : (is : List ℕ → S → Type 0) (word : List ℕ) (depth n : ℕ) → All (IsHeld is word) old

@@ -7,6 +7,16 @@ use crate::held::{Held, Kept};
 use shop_nodes::Waiting;
 use std::alloc::AllocError;
 
+/// Leaves a list empty in which mostly nothing stands.
+#[inline(always)]
+pub(crate) fn empty<S: Drop>(children: &mut Vec<Kept<S>>)
+    ensures { children.new.items ≡ [] }
+{
+    if !children.is_empty() {
+        children.clear();
+    }
+}
+
 /// Moves the children onto the stack, the last one on top.
 pub(crate) fn push_kept<S: Drop>(
     stack: &mut Vec<Held<S>>,
@@ -18,6 +28,9 @@ pub(crate) fn push_kept<S: Drop>(
         ≡ with_opens (waiting_in stack.old.items) (opens_in children.old.items)) }
     ensures empty { OnOk result (children.new.items ≡ []) }
 {
+    let Some(first) = children.pop() else {
+        return Ok(());
+    };
     for k in 0..children.len() {
         let child = &mut children[k];
         let waiting = Waiting::Child(child.open);
@@ -26,7 +39,11 @@ pub(crate) fn push_kept<S: Drop>(
             state: child.state.take(),
         })?;
     }
-    children.clear();
+    empty(children);
+    stack.push(Held {
+        waiting: Waiting::Child(first.open),
+        state: first.state,
+    })?;
     Ok(())
 }
 

@@ -11,6 +11,7 @@ ghost use Rattle.shop_tree.specs.inner.Slots.{HoldSlots};
 ghost use Rattle.shop_tree.specs.inner.Tried.{IsTried};
 
 use crate::held::Kept;
+use crate::pushing::empty;
 use crate::putting::{all_reach, put};
 use shop_desk::{Candidate, Dispatching};
 use shop_nodes::Open;
@@ -267,7 +268,7 @@ impl<'l, D: Dispatching> WalkStates<'l, D> {
         ensures dispatcher { self.new.dispatcher.now ≡ self.old.dispatcher.now }
         ensures room { vec_capacity candidates.old ≤ vec_capacity candidates.new }
     {
-        children.clear();
+        empty(children);
         let mut others = 0;
         // The last job first: of equal bounds the lower job then comes to lie above.
         while let Some(candidate) = candidates.pop() {

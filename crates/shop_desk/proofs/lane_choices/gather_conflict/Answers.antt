@@ -1,12 +1,10 @@
-use Rattle.std.proofs.Common.{◌≡◌, ℕ, ◌<◌, inl, inr, List, true, length, get_or, ◌∙◌, ap, sym}
+use Rattle.std.proofs.Common.{◌≡◌, ℕ, ◌<◌, List, length, get_or, ◌∙◌, ap, sym}
 use Rattle.std.proofs.Common.{subst, arith}
 use Rattle.shop_model.specs.Limits.{IsWithinLimits}
 use Rattle.shop_model.specs.Shop.{Shop}
 use Rattle.shop_layout.specs.Lanes.{rows_of}
 use Rattle.shop_desk.specs.inner.Raises.{HasBlocks}
-use Rattle.shop_desk.specs.inner.JobSets.{HasPutIf}
-use Rattle.shop_desk.specs.inner.RisingLists.{IsIn}
-use Rattle.shop_desk.proofs.LaneConflicts.{chosen_at, chosen_job, is_conflict, none_open}
+use Rattle.shop_desk.proofs.LaneConflicts.{chosen_at, is_conflict, none_open}
 use Rattle.shop_desk.proofs.NextOperations.{next_placed}
 use Rattle.shop_desk.proofs.lane_choices.gather_conflict.Goals as goal
 
@@ -36,8 +34,8 @@ overflow_add-end g c =
     in let head = c.head.ensures in let time = c.time.ensures in let end = at.end in let fits = at.fits
     in let small = c.requires.kept.choosable.computable in omega arith
 
-pub gather_on_machine-requires-clause-machine : goal.gather_on_machine-requires-clause-machine
-gather_on_machine-requires-clause-machine g c =
+pub gather_with-requires-clause-machine : goal.gather_with-requires-clause-machine
+gather_with-requires-clause-machine g c =
     let read = machine_read c.args.grid.now.machines c.machines.result.now
     (get_or c.args.next.now c.first_least_end-chosen.result 0) c.machines.ensures
     in subst (λ (m : ℕ). HasBlocks c.args.grid.now (length (g.L.StateLanes.heads c.args.lanes.now)) m) (sym read)
@@ -45,15 +43,15 @@ gather_on_machine-requires-clause-machine g c =
     (rows_of c.args.grid.now (g.L.StateLanes.heads c.args.lanes.now) (g.L.StateLanes.ends c.args.lanes.now)) c.requires.kept.choosable c.first_least_end-chosen.result
     c.first_least_end-chosen.ensures c.positions.result c.positions.ensures c.if-position-positions.false).blocks
 
-pub gather_on_machine-requires-clause-fits : goal.gather_on_machine-requires-clause-fits
-gather_on_machine-requires-clause-fits g c =
+pub gather_with-requires-clause-fits : goal.gather_with-requires-clause-fits
+gather_with-requires-clause-fits g c =
     let at = chosen_at g.L.StateLanes.GREATEST c.requires.kept.shop c.requires.kept.of c.args.grid.now c.args.next.now
     (rows_of c.args.grid.now (g.L.StateLanes.heads c.args.lanes.now) (g.L.StateLanes.ends c.args.lanes.now)) c.requires.kept.choosable c.first_least_end-chosen.result
     c.first_least_end-chosen.ensures c.positions.result c.positions.ensures c.if-position-positions.false
     in let head = c.head.ensures in let time = c.time.ensures in let end = at.end in let fits = at.fits in omega arith
 
-pub gather_on_machine-requires-clause-placed : goal.gather_on_machine-requires-clause-placed
-gather_on_machine-requires-clause-placed g c =
+pub gather_with-requires-clause-placed : goal.gather_with-requires-clause-placed
+gather_with-requires-clause-placed g c =
     next_placed c.requires.kept.shop c.requires.kept.of c.args.grid.now c.args.next.now
     (rows_of c.args.grid.now (g.L.StateLanes.heads c.args.lanes.now) (g.L.StateLanes.ends c.args.lanes.now)) c.requires.kept.choosable.at
 
@@ -62,35 +60,10 @@ few_jobs : (shop : Shop) (nexts : List ℕ) → IsWithinLimits shop → length n
     → length nexts < 1024
 few_jobs shop nexts limits many = let few = limits.jobs in omega arith
 
-pub put_if-requires : goal.put_if-requires
-put_if-requires g c =
-    let can = c.requires.kept.choosable
-    in let known = chosen_job g.L.StateLanes.GREATEST c.requires.kept.shop c.requires.kept.of c.args.grid.now
-    c.args.next.now
-    (rows_of c.args.grid.now (g.L.StateLanes.heads c.args.lanes.now) (g.L.StateLanes.ends c.args.lanes.now)) c.requires.kept.choosable c.first_least_end-chosen.result
-    c.first_least_end-chosen.ensures
-    in let few = few_jobs c.requires.kept.shop c.args.next.now can.at.limits can.at.are.jobs
-    in let many = can.at.are.jobs
-    in omega arith
-
-pub gather_on_machine-requires-clause-many : goal.gather_on_machine-requires-clause-many
-gather_on_machine-requires-clause-many g c =
+pub gather_with-requires-clause-many : goal.gather_with-requires-clause-many
+gather_with-requires-clause-many g c =
     let can = c.requires.kept.choosable
     in few_jobs c.requires.kept.shop c.args.next.now can.at.limits can.at.are.jobs
-
-pub append_to-requires-clause-below : goal.append_to-requires-clause-below
-append_to-requires-clause-below g c = λ j h. elim (c.gather_on_machine.ensures.only j h) [
-  | inl one ↦ elim (c.put_if.ensures.only j one) [
-    | inl none ↦ absurd (subst (λ (js : List ℕ). IsIn js j) c.new-candidates.ensures none)
-    | inr e ↦ (let known = chosen_job g.L.StateLanes.GREATEST c.requires.kept.shop c.requires.kept.of c.args.grid.now
-        c.args.next.now (rows_of c.args.grid.now (g.L.StateLanes.heads c.args.lanes.now) (g.L.StateLanes.ends c.args.lanes.now)) c.requires.kept.choosable c.first_least_end-chosen.result
-        c.first_least_end-chosen.ensures
-        in let many = c.requires.kept.choosable.at.are.jobs
-        in let chosen = e.1
-        in omega arith)
-  ]
-  | inr next ↦ next.job
-]
 
 pub returns-then-position-positions-clause-jobs : goal.returns-then-position-positions-clause-jobs
 returns-then-position-positions-clause-jobs g c = λ shop p can.
@@ -109,8 +82,5 @@ returns-clause-jobs g c = λ shop p can.
     c.if-position-positions.false
     in let read = machine_read l.machines c.machines.result.now (get_or nexts r 0) c.machines.ensures
     in let head = c.head.ensures in let time = c.time.ensures in let end = at.end
-    in c.append_to.ensures.jobs
-    ∙ is_conflict g.L.StateLanes.GREATEST shop p l nexts rows can r is at.operation _ _ (read ∙ at.machine_is) (omega arith)
-    c.put_if.new.self c.gather_on_machine.new.jobs
-    (subst (λ (js : List ℕ). HasPutIf true r js c.put_if.new.self) c.new-candidates.ensures c.put_if.ensures)
-    c.gather_on_machine.ensures c.append_to.ensures.rises
+    in is_conflict g.L.StateLanes.GREATEST shop p l nexts rows can r is at.operation _ _ (read ∙ at.machine_is) (omega arith)
+    c.gather_with.new.jobs.items c.gather_with.ensures.jobs

@@ -1,10 +1,16 @@
-use Rattle.std.proofs.Common.{length}
-use Rattle.shop_desk.proofs.LaneChoices.{AreGathering}
+use Rattle.std.proofs.Common.{◌≤◌, ◌-◌}
+use Rattle.shop_desk.specs.inner.LaneChoices.{IsNextBelow}
+use Rattle.shop_desk.specs.inner.Raises.{IsInBlocks}
+use Rattle.shop_desk.specs.inner.RisingLists.{HasGathered}
 use Rattle.shop_desk.proofs.lane_choices.gather_in_blocks.Given as goal
 
-abbrev pub invariant-loop-position : goal.invariant-loop-position
-invariant-loop-position g l =
-    AreGathering l.next (g.L.StateLanes.heads l.lanes) l.from l.to l.limit l.below l.fn.jobs l.jobs
+abbrev pub invariant-loop-from : goal.invariant-loop-from
+invariant-loop-from g l = record {
+  ordered : l.first ≤ l.from;
+  within : l.from ≤ l.behind;
+  gathered : HasGathered (IsNextBelow l.next (g.L.StateLanes.heads l.lanes) (IsInBlocks l.first l.from) l.limit)
+      l.fn.jobs l.jobs;
+}
 
-abbrev pub decreases-loop-position : goal.decreases-loop-position
-decreases-loop-position g l = length l.below
+abbrev pub decreases-loop-from : goal.decreases-loop-from
+decreases-loop-from g l = l.behind - l.from

@@ -11,8 +11,8 @@ use Rattle.shop_tree.proofs.walk_states.WalkStates.try_candidates.Goals as goal
 pub loop-candidate-init : goal.loop-candidate-init
 loop-candidate-init g c = record {
   trying = trying_begins g.D.Dispatching.IsStateOf g.D.Dispatching.IsCandidate g.D.Dispatching.shop c.args.limit
-      c.args.word.now _ c.args.bound c.args.self.now.dispatcher.now c.args.candidates.now.items c.clear.new.self.items
-      c.args.self.now.current.value refl c.clear.ensures.items c.requires.jobs c.requires.are c.requires.lower
+      c.args.word.now _ c.args.bound c.args.self.now.dispatcher.now c.args.candidates.now.items c.empty.new.children.items
+      c.args.self.now.current.value refl c.empty.ensures c.requires.jobs c.requires.are c.requires.lower
       c.requires.bound c.requires.state;
   sound = c.requires.sound;
   same = refl;
