@@ -13,5 +13,6 @@ pub mod CutLemmas
 pub mod GatherLemmas
 pub mod OutcomeLemmas
 pub mod EntryLemmas
+pub mod RoundPieces
 pub mod GatheredLemmas
 mod OpenWords

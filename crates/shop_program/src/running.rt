@@ -6,7 +6,7 @@ ghost use Rattle.shop_program.specs.Running.{Streams, IsRunOn, IsCommandRun};
 ghost use Rattle.shop_program.specs.Running.{ListsFrom, ChecksFrom, HasSolved, SolvesFrom};
 
 use crate::statuses::{DONE, status_of_check};
-use shop_board::{BoardCrew, OpenGate};
+use shop_claims::{BoardCrew, OpenGate};
 use shop_engine::{
     CheckArgs, Fault, ListArgs, Reading, Sink, SolveArgs, Source, check_text, list_text, solve_text,
 };

@@ -3,8 +3,8 @@
 use Rattle.std.specs.Prelude.{◌≡◌, ℕ, length}
 use Rattle.shop_board.specs.Views.{HasServed}
 use Rattle.shop_board.specs.Seats.{knows, IsSeatOf}
-use Rattle.shop_board.specs.declared.boards.Board.{Board}
-use Rattle.shop_board.specs.declared.boards.Seat.{Seat}
+use Rattle.shop_seats.specs.declared.boards.Board.{Board}
+use Rattle.shop_seats.specs.declared.boards.Seat.{Seat}
 
 abbrev pub HasServedOf : Board → Seat → ℕ → Type 0
 HasServedOf b s n = IsSeatOf b s × HasServed (knows s) × (length (knows s).mine ≡ n)

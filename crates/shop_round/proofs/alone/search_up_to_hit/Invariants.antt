@@ -6,7 +6,7 @@ use Rattle.shop_round.proofs.alone.search_up_to_hit.Given as goal
 
 abbrev pub invariant-loop-number : goal.invariant-loop-number
 invariant-loop-number l = record {
-  entries : AreEntriesUpTo (told l.round) l.entries.items l.number;
-  hit : IsFirstHitBelow (told l.round) l.number l.hit;
-  instance : l.searcher ≡ l.round.instance.now;
+  entries : AreEntriesUpTo (told l.initial.searcher) l.entries.items l.number;
+  hit : IsFirstHitBelow (told l.initial.searcher) l.number l.hit;
+  round : l.searcher ≡ l.initial.searcher;
 }

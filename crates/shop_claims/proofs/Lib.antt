@@ -1,0 +1,2 @@
+pub mod ServedEntries
+pub mod WonEntries

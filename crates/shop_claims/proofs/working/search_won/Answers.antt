@@ -1,0 +1,10 @@
+use Rattle.std.proofs.Common.{◌∙◌, rules}
+use Rattle.std.proofs.lemmas.Bool.{eq-eqb}
+use Rattle.shop_seats.specs.Seats.{hits_of}
+use Rattle.shop_crews.proofs.RoundPieces.{same_hit}
+use Rattle.shop_claims.proofs.working.search_won.Goals as goal
+
+pub mark-requires-clause-hit : goal.mark-requires-clause-hit
+mark-requires-clause-hit g c =
+    same_hit c.args.searcher.now (hits_of c.args.board.now) c.args.number c.requires.round c.requires.piece
+    ∙ (c.in_ok-sheet.ensures.hit ∙ eq-eqb c.in_ok-sheet.sheet.makespan c.args.searcher.now.bound (search rules))

@@ -1,0 +1,6 @@
+pub mod Views
+pub mod Moments
+pub mod Moves
+pub mod Seats
+pub mod Winners
+pub mod inner

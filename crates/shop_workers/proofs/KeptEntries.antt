@@ -1,0 +1,89 @@
+-- Entries that stand in places are kept, and the places of entries that were put are filled.
+use Rattle.std.proofs.Common.{◌≡◌, ◌≢◌, ℕ, ◌+◌, ◌<◌, ◌≤◌, List, [], ◌∷◌, ◌++◌, length, get_or}
+use Rattle.std.proofs.Common.{refl, sym, ap, ◌∙◌, subst, Option, Some, None, arith}
+use Rattle.std.proofs.Math.ListN.{get_or-append}
+use Rattle.std.proofs.Math.Seq.{get_or-append_seam}
+use Rattle.std.proofs.lemmas.List.{length-set, get_or-set_same, get_or-set_other, append-nil, append_assoc}
+use Rattle.std.proofs.lemmas.List.Elements.{All-nil, All-cons, All-weaker}
+use Rattle.std.specs.Prelude.{All, IsSome, IfSome, Ok, Err, slice_index_or, slice_set}
+use native.Mathlib.Decide.{ℕ_discrete}
+use mathlib.Core.Logic.{dite}
+use Rattle.shop_crews.specs.Entries.{number_of}
+use Rattle.shop_crews.specs.declared.entries.Entry.{Entry}
+use Rattle.shop_workers.specs.Entries.{Brought}
+use Rattle.shop_workers.specs.inner.Gathered.{Fills, FillsAll, StayFilled}
+
+-- of the places below k the entries are kept, and those from k on stand as they did
+pub record AreKeptUpTo (places now : List (Option Entry)) (es : List Entry) (k : ℕ) : Type 0 where
+  pub rest : (n : ℕ) → k ≤ n → slice_index_or now n None ≡ slice_index_or places n None
+  pub kept : (n : ℕ) (e : Entry) → n < k → slice_index_or places n None ≡ Some e → slice_index_or es n e ≡ e
+
+pub one_kept : (places now : List (Option Entry)) (es : List Entry) (k : ℕ) (brought : Option Entry) (e : Entry)
+    → length es ≡ k → AreKeptUpTo places now es k → brought ≡ slice_index_or now k None
+    → IfSome brought (λ x. e ≡ x) → AreKeptUpTo places (slice_set now k None) (es ++ e ∷ []) (k + 1)
+one_kept places now es k brought e len up is same = record {
+  rest = λ n above. get_or-set_other now k n None None (λ eq. omega arith) ∙ up.rest n (omega arith);
+  kept = λ n x below there. dite (ℕ_discrete n k) (λ eq. last n x eq there) (λ ne. before n x ne below there);
+}
+  where
+    last : (n : ℕ) (x : Entry) → n ≡ k → slice_index_or places n None ≡ Some x → get_or (es ++ e ∷ []) n x ≡ x
+    last n x eq there =
+        let here : brought ≡ Some x =
+        is ∙ up.rest k (omega arith) ∙ subst (λ i. slice_index_or places i None ≡ Some x) eq there in
+        let seam : get_or (es ++ e ∷ []) (length es) x ≡ e = get_or-append_seam es e [] x in
+        subst (λ i. get_or (es ++ e ∷ []) i x ≡ e) (len ∙ sym eq) seam
+        ∙ subst (λ o. IfSome o (λ y. e ≡ y)) here same
+
+    before : (n : ℕ) (x : Entry) → n ≢ k → n < k + 1 → slice_index_or places n None ≡ Some x
+        → get_or (es ++ e ∷ []) n x ≡ x
+    before n x ne below there =
+        let inside : n < length es = omega arith in
+        get_or-append es (e ∷ []) x n inside ∙ up.kept n x (omega arith) there
+
+-- a place that is written is filled, and no other is emptied
+pub put_fills : (places : List (Option Entry)) (e : Entry)
+    → Fills (slice_set places (number_of e.kind) (Some e)) e
+put_fills places e inside =
+    let n = number_of e.kind in
+    let within : n < length places = subst (λ k. n < k) (length-set places n (Some e)) inside in
+    subst IsSome (sym (get_or-set_same places n (Some e) None within)) refl
+
+pub put_stays : (places : List (Option Entry)) (k : ℕ) (e : Entry) → StayFilled places (slice_set places k (Some e))
+put_stays places k e n filled inside = dite (ℕ_discrete n k) here there where
+  within : n < length places
+  within = subst (λ m. n < m) (length-set places k (Some e)) inside
+
+  here : n ≡ k → IsSome (slice_index_or (slice_set places k (Some e)) n None)
+  here eq =
+      let same = get_or-set_same places k (Some e) None (subst (λ i. i < length places) eq within) in
+      subst (λ i. IsSome (slice_index_or (slice_set places k (Some e)) i None)) (sym eq) (subst IsSome (sym same) refl)
+
+  there : n ≢ k → IsSome (slice_index_or (slice_set places k (Some e)) n None)
+  there ne = subst IsSome (sym (get_or-set_other places k n (Some e) None ne)) (filled within)
+
+pub still_filled : (before after : List (Option Entry)) → StayFilled before after → (l : Brought) → FillsAll before l
+    → FillsAll after l
+still_filled before after stays (Ok v) h =
+    All-weaker (Fills before) (Fills after) (λ e f. stays (number_of e.kind) f) v.items h
+still_filled before after stays (Err e) h = tt
+
+-- of a list that is taken from its end: what was taken has P
+pub record AreThrough {X : Type 0} (P : X → Type 0) (all left : List X) : Type 0 where
+  pub done : List X
+  pub split : all ≡ left ++ done
+  pub holds : All P done
+
+pub through_none : {X : Type 0} (P : X → Type 0) (all : List X) → AreThrough P all all
+through_none P all = record { done = []; split = sym (append-nil all); holds = All-nil P }
+
+pub through_one : {X : Type 0} (P Q : X → Type 0) (all before left : List X) (x : X) → ((y : X) → P y → Q y) → Q x
+    → before ≡ left ++ x ∷ [] → AreThrough P all before → AreThrough Q all left
+through_one P Q all before left x weaker here was through = record {
+  done = x ∷ through.done;
+  split = through.split ∙ ap (λ l. l ++ through.done) was ∙ append_assoc left (x ∷ []) through.done;
+  holds = All-cons Q x through.done here (All-weaker P Q weaker through.done through.holds);
+}
+
+pub through_all : {X : Type 0} (P : X → Type 0) (all left : List X) → left ≡ [] → AreThrough P all left → All P all
+through_all P all left none through =
+    subst (All P) (sym (through.split ∙ ap (λ l. l ++ through.done) none)) through.holds

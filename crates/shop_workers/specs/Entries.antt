@@ -1,0 +1,28 @@
+-- Entries that a worker brings back.
+--     OfRound r entries    each is of this round
+--     Brought              the entries, or its refusal of memory
+--     LetsPass r e later   behind a piece that ends at the opening bound the later entry is
+--                          passed
+use Rattle.std.specs.Prelude.{◌≡◌, ◌<◌, List, All, true, Result}
+use Rattle.std.specs.declared.vec.Vec.{Vec}
+use Rattle.std.specs.declared.alloc.Global.{Global}
+use Rattle.std.specs.declared.alloc.AllocError.{AllocError}
+use Rattle.shop_crews.specs.Round.{Told}
+use Rattle.shop_crews.specs.Entries.{told, number_of, is_hit}
+use Rattle.shop_crews.specs.declared.entries.Entry.{Entry}
+use Rattle.shop_crews.specs.declared.entries.Kind.{Kind}
+use Rattle.shop_crews.specs.declared.entries.Kind.TheVariants.{Done, Passed}
+
+abbrev pub OfRound : Told → List Entry → Type 0
+OfRound r es = All (λ (e : Entry). told e.round.now ≡ r) es
+
+abbrev pub Brought : Type 0
+Brought = Result (Vec Entry Global) AllocError
+
+abbrev pub IsPassed : Kind → Type 0
+IsPassed (Done sheet) = ⊥
+IsPassed (Passed number by') = Unit {0}
+
+abbrev pub LetsPass : Told → Entry → Entry → Type 0
+LetsPass r e later = is_hit r (number_of e.kind) ≡ true
+    → number_of e.kind < number_of later.kind → IsPassed later.kind

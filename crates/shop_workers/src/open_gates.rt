@@ -1,0 +1,5 @@
+// The gate that is always open.
+
+/// Lets every worker pass.
+#[derive(Clone, Copy, Debug, PartialEq, Eq)]
+pub struct OpenGate;

@@ -1,0 +1,152 @@
+// Entries that workers brought, put in the order of their pieces.
+ghost use Rattle.std.specs.Prelude.{◌≡◌, ◌<◌, length, All, IfOk, IfSome, None, slice_set};
+ghost use Rattle.std.specs.Prelude.{slice_index_or, vec_len};
+ghost use Rattle.shop_crews.specs.Entries.{told};
+ghost use Rattle.shop_crews.specs.Crews.{OneForEach, IsEntryOf};
+ghost use Rattle.shop_workers.specs.Entries.{OfRound};
+ghost use Rattle.shop_workers.specs.inner.Gathered.{AllOfRound, Placed, AreFilled, AreKept, Fills};
+ghost use Rattle.shop_workers.specs.inner.Gathered.{StayFilled};
+
+use crate::piece_searchers::PieceSearcher;
+use shop_crews::{Entry, Round};
+use std::alloc::{AllocError, Global};
+
+// A place for each piece.
+fn places<'r>(alloc: Global, round: &'r Round<'r>) -> Result<Vec<Option<Entry<'r>>>, AllocError>
+    ensures len { IfOk result (λ v. vec_len v ≡ length round.now.pieces.items) }
+    ensures placed { IfOk result (λ v. Placed (told round.now) v.items) }
+{
+    let mut slots = Vec::with_capacity(alloc, round.pieces.len())?;
+    for _ in 0..round.pieces.len() {
+        slots.push(None)?;
+    }
+    Ok(slots)
+}
+
+// Puts an entry into the place of its piece.
+fn put<'r>(round: &'r Round<'r>, slots: &mut Vec<Option<Entry<'r>>>, entry: Entry<'r>)
+    requires of { told entry.round.now ≡ told round.now }
+    requires slots { Placed (told round.now) slots.old.items }
+    ensures len { vec_len slots.new ≡ vec_len slots.old }
+    ensures placed { Placed (told round.now) slots.new.items }
+    ensures stays { StayFilled slots.old.items slots.new.items }
+    ensures fills { Fills slots.new.items entry.entry }
+{
+    let number = entry.number();
+    if number < slots.len() {
+        slots[number] = Some(entry);
+    }
+}
+
+// Puts each entry into the place of its piece; of two entries of one piece the one that is put last stays.
+fn place<'r>(round: &'r Round<'r>, slots: &mut Vec<Option<Entry<'r>>>, mut entries: Vec<Entry<'r>>)
+    requires entries { OfRound (told round.now) entries.items }
+    requires slots { Placed (told round.now) slots.old.items }
+    ensures len { vec_len slots.new ≡ vec_len slots.old }
+    ensures placed { Placed (told round.now) slots.new.items }
+    ensures stays { StayFilled slots.old.items slots.new.items }
+    ensures filled { All (Fills slots.new.items) entries.entry.items }
+{
+    while let Some(entry) = entries.pop() {
+        put(round, slots, entry);
+    }
+}
+
+// Takes the entry out of a place.
+fn take<'r>(slots: &mut Vec<Option<Entry<'r>>>, number: usize) -> Option<Entry<'r>>
+    requires { number < vec_len slots.old }
+    ensures after { slots.new.items ≡ slice_set slots.old.items number None }
+    ensures value { result ≡ slice_index_or slots.old.items number None }
+{
+    slots[number].take()
+}
+
+// The entry that a worker brought, or else the piece's sheet.
+fn or_search<'r>(
+    alloc: Global,
+    searcher: &mut PieceSearcher<'r>,
+    number: usize,
+    brought: Option<Entry<'r>>,
+) -> Result<Entry<'r>, AllocError>
+    requires number { number < length searcher.old.pieces.items }
+    requires brought { IfSome brought (λ e. IsEntryOf (told searcher.old) number e) }
+    ensures round { searcher.new ≡ searcher.old }
+    ensures entry { IfOk result (λ e. IsEntryOf (told searcher.old) number e) }
+    ensures kept { IfOk result (λ e. IfSome brought.entry (λ kept. e ≡ kept)) }
+{
+    match brought {
+        Some(entry) => Ok(entry),
+        None => {
+            let sheet = searcher.search(alloc, number)?;
+            Ok(Entry::done(searcher.round(), sheet))
+        }
+    }
+}
+
+// The entries of a round, one for each piece and in number order; a piece whose place is empty is searched.
+fn complete_with<'r>(
+    alloc: Global,
+    searcher: &mut PieceSearcher<'r>,
+    slots: &mut Vec<Option<Entry<'r>>>,
+) -> Result<Vec<Entry<'r>>, AllocError>
+    requires len { vec_len slots.old ≡ length searcher.old.pieces.items }
+    requires slots { Placed (told searcher.old) slots.old.items }
+    ensures each { IfOk result (λ v. OneForEach (told searcher.old) v.items) }
+    ensures kept { IfOk result (λ v. AreKept slots.old.items v.items) }
+{
+    let mut entries = Vec::with_capacity(alloc, slots.len())?;
+    for number in 0..slots.len() {
+        let brought = take(slots, number);
+        entries.push(or_search(alloc, searcher, number, brought)?)?;
+    }
+    Ok(entries)
+}
+
+/// Gives the entries of a round, one for each piece and in number order; a piece whose place is empty is searched.
+/// Fails with `AllocError` if memory runs out.
+pub fn complete<'r>(
+    alloc: Global,
+    round: &'r Round<'r>,
+    mut slots: Vec<Option<Entry<'r>>>,
+) -> Result<Vec<Entry<'r>>, AllocError>
+    requires len { vec_len slots ≡ length round.now.pieces.items }
+    requires slots { Placed (told round.now) slots.items }
+    ensures each { IfOk result (λ v. OneForEach (told round.now) v.items) }
+    ensures kept { IfOk result (λ v. AreKept slots.entry.items v.items) }
+{
+    let mut searcher = PieceSearcher::new(round);
+    complete_with(alloc, &mut searcher, &mut slots)
+}
+
+/// Puts what the workers of a round brought into the places of its pieces: doubles are dropped, and where nobody
+/// brought a piece its place is empty. Fails with `AllocError` if memory runs out.
+pub fn in_places<'r>(
+    alloc: Global,
+    round: &'r Round<'r>,
+    mut lists: Vec<Result<Vec<Entry<'r>>, AllocError>>,
+) -> Result<Vec<Option<Entry<'r>>>, AllocError>
+    requires { AllOfRound (told round.now) lists.items }
+    ensures len { IfOk result (λ v. vec_len v ≡ length round.now.pieces.items) }
+    ensures placed { IfOk result (λ v. Placed (told round.now) v.items) }
+    ensures filled { IfOk result (λ v. AreFilled lists.entry.items v.items) }
+{
+    let mut slots = places(alloc, round)?;
+    while let Some(entries) = lists.pop() {
+        place(round, &mut slots, entries?);
+    }
+    Ok(slots)
+}
+
+/// Gives the entries of a round, one for each piece and in number order, of what its workers brought: doubles are
+/// dropped, and pieces that nobody brought are searched. Fails with `AllocError` if memory runs out.
+pub fn in_order<'r>(
+    alloc: Global,
+    round: &'r Round<'r>,
+    lists: Vec<Result<Vec<Entry<'r>>, AllocError>>,
+) -> Result<Vec<Entry<'r>>, AllocError>
+    requires { AllOfRound (told round.now) lists.items }
+    ensures { IfOk result (λ v. OneForEach (told round.now) v.items) }
+{
+    let slots = in_places(alloc, round, lists)?;
+    complete(alloc, round, slots)
+}
