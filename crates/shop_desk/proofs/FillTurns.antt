@@ -15,7 +15,6 @@ use Rattle.shop_desk.specs.inner.Fills.{IsStored, CanFill, AreSameBeside}
 use Rattle.shop_desk.specs.inner.Fills.{HasFilledJob, HasFilled}
 use Rattle.shop_layout.specs.Positions.{IsFree, LayoutState, place, first_position}
 use Rattle.shop_heads.specs.inner.PlacedWords.{IsOfWord}
-use Rattle.shop_heads.proofs.HeadTurns.{ready_first}
 use Rattle.shop_layout.proofs.LaidPlaces.{place_of}
 use Rattle.shop_desk.proofs.RowTurns.{open_turn}
 
@@ -40,7 +39,7 @@ pub record IsFilledUpTo (shop : Shop) (l : LayoutState) (s : PlacementState) (j 
     : Type 0 where
   pub beside : AreSameBeside old now
   pub filled : (p : Placing) → IsPlacement shop p s → (t : ℕ) → IsOperation shop j t → t < k
-      → IsStored shop p l now.heads j t
+      → IsStored shop p l old.heads now.heads j t
   pub others : (q : ℕ) → ((t : ℕ) → IsOperation shop j t → place l j t ≡ q → ⊥)
       → get_or now.heads q 0 ≡ get_or old.heads q 0
   pub ready_is : (p : Placing) → IsPlacement shop p s → ready ≡ ready_after shop p j (k - p.steps j)
@@ -57,8 +56,8 @@ module _ (greatest : ℕ) (shop : Shop) (l : LayoutState) (s : PlacementState) (
 
     -- the head of one step is written
     pub filled_more : (new : Rows) (v h : ℕ) → new ≡ with_head now q v
-        → ((p : Placing) → IsPlacement shop p s → (p.steps j ≤ k → v ≡ head_of shop p j k + 1)
-        × (k < p.steps j → v ≡ 0) × (h ≡ ready_after shop p j (k + 1 - p.steps j)))
+        → ((p : Placing) → IsPlacement shop p s → (p.steps j ≤ k) × (v ≡ head_of shop p j k + 1)
+        × (h ≡ ready_after shop p j (k + 1 - p.steps j)))
         → IsFilledUpTo shop l s j (k + 1) h rows new
     filled_more new v h wrote value =
         let heads : new.heads ≡ set now.heads q v = ap (λ (r : Rows). r.heads) wrote
@@ -75,8 +74,8 @@ module _ (greatest : ℕ) (shop : Shop) (l : LayoutState) (s : PlacementState) (
                 in let w = value p is
                 in let head : head_of shop p j t ≡ head_of shop p j k = ap (head_of shop p j) f
                 in record {
-                  waiting = λ opened. (let a = w.0 (omega arith) in omega arith);
-                  placed = λ before. (let a = w.1 (omega arith) in omega arith);
+                  waiting = λ opened. (let a = w.1 in omega arith);
+                  placed = λ before. absurd (let a = w.0 in omega arith);
                 })
             | inr ne ↦ (
                 let apart : place l j t ≡ q → ⊥ = (λ f. ne (
@@ -93,16 +92,6 @@ module _ (greatest : ℕ) (shop : Shop) (l : LayoutState) (s : PlacementState) (
           others = λ r free. other r (λ f. free k op (sym at ∙ sym f)) ∙ so_far.others r free;
           ready_is = λ p is. (value p is).2;
         }
-
-    -- the step is placed
-    pub filled_placed : (placed : ℕ) → placed ≡ get_or s.steps j 0 → k < placed → (new : Rows)
-        → new ≡ with_head now q 0 → IsFilledUpTo shop l s j (k + 1) ready rows new
-    filled_placed placed read below new wrote = filled_more new 0 ready wrote (λ p is.
-        let steps = is.steps j job
-        in let a = so_far.ready_is p is
-        in let b = ready_first shop p j k (omega arith)
-        in let c = ready_first shop p j (k + 1) (omega arith)
-        in ((λ opened. absurd (omega arith)), (λ done. refl), omega arith))
 
     module _ (placed : ℕ) (read : placed ≡ get_or s.steps j 0) (opened : placed ≤ k) (route : List Op)
         (is_route : route ≡ route_of shop j) (head : ℕ)
@@ -130,13 +119,26 @@ module _ (greatest : ℕ) (shop : Shop) (l : LayoutState) (s : PlacementState) (
       filled_open new wrote h sum = filled_more new (head + 1) h wrote (λ p is.
           let t = turn p is
           in let steps = is.steps j job
-          in ((λ o. (let a = t.0 in omega arith)), (λ done. absurd (omega arith)), sum ∙ t.1))
+          in (omega arith, (let a = t.0 in omega arith), sum ∙ t.1))
+
+  -- what is placed stays as it was
+  pub filled_begins : (placed ready : ℕ) → placed ≡ get_or s.steps j 0 → ready ≡ get_or s.ready j 0
+      → IsFilledUpTo shop l s j placed ready rows rows
+  filled_begins placed ready read is_ready = record {
+    beside = record { times = refl; tails = refl; ends = refl; positions = refl };
+    filled = λ p is t op below. (let steps = is.steps j job
+        in record { waiting = λ opened. absurd (omega arith); placed = λ done. refl });
+    others = λ q free. refl;
+    ready_is = λ p is. (let steps = is.steps j job
+        in let none : placed - p.steps j ≡ 0 = omega arith in rw none (is_ready ∙ is.ready j job));
+  }
 
 -- the heads of the jobs below n
 pub record AreFilledUpTo (shop : Shop) (l : LayoutState) (s : PlacementState) (n : ℕ) (old now : Rows) : Type 0 where
   pub beside : AreSameBeside old now
   pub filled : (p : Placing) → IsPlacement shop p s → (j k : ℕ) → IsOperation shop j k → j < n
-      → IsStored shop p l now.heads j k
+      → IsStored shop p l old.heads now.heads j k
+  pub later : (j k : ℕ) → IsOperation shop j k → n ≤ j → get_or now.heads (place l j k) 0 ≡ get_or old.heads (place l j k) 0
   pub free : (q : ℕ) → IsFree shop l q → get_or now.heads q 0 ≡ get_or old.heads q 0
 
 module _ (greatest : ℕ) (shop : Shop) (l : LayoutState) (s : PlacementState) (rows : Rows)
@@ -152,24 +154,31 @@ module _ (greatest : ℕ) (shop : Shop) (l : LayoutState) (s : PlacementState) (
 
   pub jobs_more : (n : ℕ) (now new : Rows) → AreFilledUpTo shop l s n rows now → HasFilledJob shop l s n now new
       → AreFilledUpTo shop l s (n + 1) rows new
-  jobs_more n now new so_far job = record {
-    beside = beside_both rows now new so_far.beside job.beside;
-    filled = λ p is j k op below. elim (cases_eq j n) [
-      | inl f ↦ subst (λ (x : ℕ). IsStored shop p l new.heads x k) (sym f)
-          (job.filled p is k (subst (λ (x : ℕ). IsOperation shop x k) f op))
-      | inr ne ↦ (
-          let same = job.others (place l j k) (λ t op_t f. ne (
-          let a = place_of shop can.limits l can.laid j k op
-          in let b = place_of shop can.limits l can.laid n t op_t
-          in sym a.job ∙ (ap (λ (x : ℕ). get_or l.jobs x 0) (sym f) ∙ b.job)))
-          in let before = so_far.filled p is j k op (omega arith)
-          in record {
-            waiting = λ opened. same ∙ before.waiting opened;
-            placed = λ done. same ∙ before.placed done;
-          })
-    ];
-    free = λ q none. job.others q (λ t op f. none n t op f) ∙ so_far.free q none;
-  }
+  jobs_more n now new so_far job =
+      let same : (j k : ℕ) → IsOperation shop j k → (j ≡ n → ⊥)
+      → get_or new.heads (place l j k) 0 ≡ get_or now.heads (place l j k) 0 = (λ j k op ne.
+      job.others (place l j k) (λ t op_t f. ne (
+      let a = place_of shop can.limits l can.laid j k op
+      in let b = place_of shop can.limits l can.laid n t op_t
+      in sym a.job ∙ (ap (λ (x : ℕ). get_or l.jobs x 0) (sym f) ∙ b.job))))
+      in record {
+        beside = beside_both rows now new so_far.beside job.beside;
+        filled = λ p is j k op below. elim (cases_eq j n) [
+          | inl f ↦ (let op_n : IsOperation shop n k = subst (λ (x : ℕ). IsOperation shop x k) f op
+              in let mine = job.filled p is k op_n
+              in subst (λ (x : ℕ). IsStored shop p l rows.heads new.heads x k) (sym f) (record {
+                waiting = mine.waiting;
+                placed = λ done. mine.placed done ∙ so_far.later n k op_n (omega arith);
+              }))
+          | inr ne ↦ (let before = so_far.filled p is j k op (omega arith)
+              in record {
+                waiting = λ opened. same j k op ne ∙ before.waiting opened;
+                placed = λ done. same j k op ne ∙ before.placed done;
+              })
+        ];
+        later = λ j k op behind. same j k op (λ f. omega arith) ∙ so_far.later j k op (omega arith);
+        free = λ q none. job.others q (λ t op f. none n t op f) ∙ so_far.free q none;
+      }
 
   pub jobs_all : (n : ℕ) (now : Rows) → length shop.jobs ≤ n → AreFilledUpTo shop l s n rows now
       → HasFilled shop l s rows now
@@ -180,8 +189,8 @@ module _ (greatest : ℕ) (shop : Shop) (l : LayoutState) (s : PlacementState) (
       waiting = λ j k op opened. (let a = IsOperation-job shop j k op
           in (so_far.filled p is j k op (omega arith)).waiting opened);
       placed = λ j k op before. (let a = IsOperation-job shop j k op
-          in (so_far.filled p is j k op (omega arith)).placed before);
-      padding = λ q none. so_far.free q none ∙ rested q none;
+          in (so_far.filled p is j k op (omega arith)).placed before ∙ rested (place l j k));
+      padding = λ q none. so_far.free q none ∙ rested q;
     };
   }
 

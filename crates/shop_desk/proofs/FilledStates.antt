@@ -29,8 +29,8 @@ module _ (greatest : ℕ) (shop : Shop) (l : LayoutState) (ready : IsReady great
     positions = ap length heads ∙ (length-replicate (length hs) 0 ∙ room.positions);
   }
 
-  rested : IsRested shop l hs'
-  rested q free = ap (λ (xs : List ℕ). get_or xs q 0) heads ∙ elim (cases_lt q (length hs)) [
+  rested : IsRested hs'
+  rested q = ap (λ (xs : List ℕ). get_or xs q 0) heads ∙ elim (cases_lt q (length hs)) [
     | inl below ↦ get_or-replicate (length hs) q 0 0 below
     | inr past ↦ get_or_past (replicate (length hs) 0) q 0
         (omega (arith, length-replicate {A = ℕ} (length hs) 0))

@@ -13,7 +13,7 @@ use shop_lanes::StateLanes;
 use shop_layout::Grid;
 use shop_model::{Instance, Placement};
 
-/// Sets the heads of a job's operations.
+/// Sets the heads of a job's operations that aren't placed.
 fn fill_job<L: StateLanes>(
     lanes: &mut L,
     grid: &Grid<L>,
@@ -31,22 +31,16 @@ fn fill_job<L: StateLanes>(
 {
     let route = instance.route(job);
     let places = grid.places(job);
-    let placed = placement.steps(job);
     let mut ready = placement.ready(job);
-    for step in 0..route.len() {
-        let position = places[step] as usize;
-        if step < placed {
-            lanes.set_head(position, 0);
-            continue;
-        }
+    for step in placement.steps(job)..route.len() {
         let op = route[step];
         let head = ready.max(placement.free(op.machine));
-        lanes.set_head(position, head + 1);
+        lanes.set_head(places[step] as usize, head + 1);
         ready = head + op.time;
     }
 }
 
-/// Sets the heads of all operations.
+/// Sets the heads of all operations that aren't placed.
 pub(crate) fn fill_heads<L: StateLanes>(
     lanes: &mut L,
     grid: &Grid<L>,

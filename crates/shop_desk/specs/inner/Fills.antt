@@ -1,6 +1,7 @@
 -- Heads by position that are set anew.
---     IsStored shop p l heads j k    the head of step k of job j, and one more, or 0 where it is
---                                    placed
+--     IsStored shop p l old new j k  the head of step k of job j was set, and one more, or left as it
+--                                    was where the step is placed
+--     IsRested heads                 nothing waits anywhere
 --     CanFill greatest shop l rows   all heads of what was placed can be set
 --     HasFilledJob, HasFilled        those of a job, or of all jobs, were set
 use Rattle.std.specs.Prelude.{◌≡◌, ℕ, ◌+◌, ◌≤◌, ◌<◌, ◌^◌, List, length, slice_index}
@@ -11,16 +12,15 @@ use Rattle.shop_model.specs.Word.{Placing}
 use Rattle.shop_heads.specs.Heads.{head_of}
 use Rattle.shop_model.specs.Placements.{PlacementState, IsPlacement}
 use Rattle.shop_desk.specs.inner.LaneHeads.{AreHeadsAt, AreHeadsFit}
-use Rattle.shop_layout.specs.Positions.{IsFree, place_or, LayoutState, place, first_position, IsLaidOut}
+use Rattle.shop_layout.specs.Positions.{place_or, LayoutState, place, first_position, IsLaidOut}
 
-pub record IsStored (shop : Shop) (p : Placing) (l : LayoutState) (heads : List ℕ)
+pub record IsStored (shop : Shop) (p : Placing) (l : LayoutState) (old new : List ℕ)
     (j k : ℕ) : Type 0 where
-  pub waiting : p.steps j ≤ k → slice_index heads (place l j k) ≡ head_of shop p j k + 1
-  pub placed : k < p.steps j → slice_index heads (place l j k) ≡ 0
+  pub waiting : p.steps j ≤ k → slice_index new (place l j k) ≡ head_of shop p j k + 1
+  pub placed : k < p.steps j → slice_index new (place l j k) ≡ slice_index old (place l j k)
 
--- where no operation stands nothing waits
-abbrev pub IsRested : Shop → LayoutState → List ℕ → Type 0
-IsRested shop l heads = (q : ℕ) → IsFree shop l q → slice_index heads q ≡ 0
+abbrev pub IsRested : List ℕ → Type 0
+IsRested heads = (q : ℕ) → slice_index heads q ≡ 0
 
 pub record CanFill (greatest : ℕ) (shop : Shop) (l : LayoutState) (rows : Rows) : Type 0 where
   pub limits : IsWithinLimits shop
@@ -40,14 +40,14 @@ pub record HasFilledJob (shop : Shop) (l : LayoutState) (s : PlacementState) (j 
     (old new : Rows) : Type 0 where
   pub beside : AreSameBeside old new
   pub filled : (p : Placing) → IsPlacement shop p s → (k : ℕ) → IsOperation shop j k
-      → IsStored shop p l new.heads j k
+      → IsStored shop p l old.heads new.heads j k
   pub others : (q : ℕ) → ((k : ℕ) → IsOperation shop j k → place l j k ≡ q → ⊥)
       → slice_index new.heads q ≡ slice_index old.heads q
 
 pub record HasFilled (shop : Shop) (l : LayoutState) (s : PlacementState)
     (old new : Rows) : Type 0 where
   pub beside : AreSameBeside old new
-  pub filled : IsRested shop l old.heads → (p : Placing) → IsPlacement shop p s
+  pub filled : IsRested old.heads → (p : Placing) → IsPlacement shop p s
       → AreHeadsAt shop p l new.heads
 
 -- the next operations of the first n jobs
