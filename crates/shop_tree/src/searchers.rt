@@ -29,9 +29,15 @@ fn bytes_of_number(layout: &Layout) -> usize
 /// Searches pieces of an instance, one after the other, over a layout that others may search over too. What a search
 /// needs is kept from one to the next, so that only what it finds or leaves takes memory. To contracts it is the
 /// instance.
-#[derive(Drop)]
 pub struct Searcher<'l, 'a> {
     widths: Widths<'l, 'a>,
+}
+
+// Written out, so that those who let go of a searcher call it, and don't go through all that a searcher holds.
+impl Drop for Searcher<'_, '_> {
+    fn drop(self) {
+        let Searcher { widths: _ } = self;
+    }
 }
 
 impl<'l, 'a> Model for Searcher<'l, 'a> {
