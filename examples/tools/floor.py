@@ -16,6 +16,8 @@ for words in map(str.split, sys.stdin):
     else:
         steps[int(words[1])].append((int(words[5]), int(words[7])))
 
+if not steps:
+    sys.exit("no instance was given")
 waits = {}
 for job, route in steps.items():
     times = [time for _, time in route]
