@@ -4,18 +4,21 @@
 
 static char text[1 << 20], schedule[1 << 20], room[256];
 
-static size_t read_file(const char *path, char *into, size_t length) {
+/* Reads a file; of one that can't be read, or is too long, it says so. */
+static bool read_file(const char *path, char *into, size_t most, size_t *length) {
     FILE *file = fopen(path, "rb");
-    if (file == NULL) return 0;
-    size_t count = fread(into, 1, length, file);
-    fclose(file);
-    return count;
+    if (file != NULL) *length = fread(into, 1, most, file);
+    bool is_read = file != NULL && !ferror(file) && *length < most;
+    if (!is_read) fprintf(stderr, "%s can't be read, or is too long\n", path);
+    if (file != NULL) fclose(file);
+    return is_read;
 }
 
 int main(int count, char **words) {
+    size_t text_length, schedule_length;
     if (count != 3) return 2;
-    size_t text_length = read_file(words[1], text, sizeof text);
-    size_t schedule_length = read_file(words[2], schedule, sizeof schedule);
+    if (!read_file(words[1], text, sizeof text, &text_length)) return 4;
+    if (!read_file(words[2], schedule, sizeof schedule, &schedule_length)) return 4;
     jobshop_outcome end = jobshop_check(JOBSHOP_ORLIB, NULL, 0, text, text_length, schedule, schedule_length, room,
                                         sizeof room);
     if (end.status != JOBSHOP_DONE) {

@@ -2,8 +2,8 @@
 
     python3 judge_many.py TEXT COUNT
 
-TEXT is in the format `orlib`, with one instance. Prints how many schedules are feasible and the best
-makespan; the time goes to standard error.
+TEXT is in the format `orlib`, with one instance. Prints how many schedules are feasible and the best makespan; the time
+goes to standard error.
 """
 
 import random
@@ -28,6 +28,8 @@ def schedule_of(routes, numbers):
     return "".join(f"job {job}: {' '.join(map(str, row))}\n" for job, row in enumerate(starts))
 
 
+if len(sys.argv) != 3:
+    sys.exit(__doc__)
 text = Path(sys.argv[1]).read_text()
 rows = [line.split() for line in text.splitlines() if line[:1].isdigit()]
 routes = [[(int(m), int(t)) for m, t in zip(row[::2], row[1::2])] for row in rows[1:]]

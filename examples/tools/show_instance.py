@@ -32,8 +32,13 @@ def rows_of(form, path, wanted):
         name = None
 
 
+if len(sys.argv) not in (3, 4) or sys.argv[1] not in ("orlib", "taillard", "routes"):
+    sys.exit(__doc__)
 form, path, *names = sys.argv[1:]
-rows = rows_of(form, path, names[0] if names else None)
+try:
+    rows = rows_of(form, path, names[0] if names else None)
+except (OSError, ValueError, IndexError) as fault:
+    sys.exit(f"{path}: no such instance in the format {form} ({fault})")
 if form == "taillard":
     half = len(rows) // 2
     rows = [[it for m, t in zip(ms, ts) for it in (m - 1, t)] for ts, ms in zip(rows[:half], rows[half:])]
