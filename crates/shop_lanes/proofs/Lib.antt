@@ -1,4 +1,5 @@
 pub mod LaneLists
+pub mod Columns
 pub mod Loads
 pub mod LeapTurns
 pub mod LaterTurns
