@@ -10,7 +10,7 @@ use Rattle.shop_lanes.specs.Rows.{Lane, lanes}
 use Rattle.shop_lanes.specs.Spans.{span, FitsSpan, FitOwnSpans}
 use Rattle.shop_lanes.specs.inner.OwnSpans.{own_span_at}
 use Rattle.shop_lanes.specs.inner.Passes.{clock_after, tailed_ends}
-use Rattle.shop_lanes.proofs.BlockTurns.{greatest_by-append}
+use Rattle.shop_lanes.proofs.SpanParts.{greatest_by-append}
 use Rattle.shop_lanes.proofs.LaneLists.{lane_at, lanes_more, lanes-take, lanes-drop}
 use Rattle.shop_lanes.proofs.Loads.{work-append, load-append, work-one, work_le_load, work_le, load_le, span_from_start}
 use Rattle.shop_lanes.proofs.TailedEnds.{take-tailed, drop-tailed, greatest-tailed}
