@@ -14,7 +14,7 @@ use Rattle.shop_lanes.proofs.ColumnTurns.{eight_fit, in_eight}
 use Rattle.shop_lanes.proofs.Loads.{work-append, load-append, work_le, load_le, work_le_load}
 use Rattle.shop_lanes.proofs.SpanParts.{sum_part, greatest_part}
 
-next_column : (k count : ℕ) → suc k * count ≡ k * count + count
+pub next_column : (k count : ℕ) → suc k * count ≡ k * count + count
 next_column k count = omega arith
 
 no_columns : (count : ℕ) → 0 * count ≡ 0

@@ -1,6 +1,6 @@
 -- Eight columns served side by side, a block at a time, over lists alone.
 use Rattle.std.proofs.Common.{◌≡◌, ℕ, zero, suc, ◌+◌, ◌*◌, ◌<◌, ◌≤◌, max, cond, leb, List, [], ◌∷◌, ◌++◌, length}
-use Rattle.std.proofs.Common.{take, drop, get_or, refl, ap, sym, ◌∙◌, arith, subst, replicate, ◌/◌, ◌%◌, map}
+use Rattle.std.proofs.Common.{take, drop, get_or, refl, ap, sym, ◌∙◌, arith, subst, replicate, ◌/◌, ◌%◌, map, sum_by}
 use Rattle.std.proofs.Math.Seq.{take-suc}
 use Rattle.std.proofs.lemmas.List.{get_or-drop, length-drop, length-map}
 use Rattle.std.proofs.lemmas.Simd.{get_or-chunk}
@@ -86,10 +86,26 @@ columns_by f heads times tails count e whole a b =
     (columns_of (length heads / 8) (map f heads) (map f times) (map f tails)
     (length-map heads f ∙ omega (arith, e, whole)) (as_long f times heads a) (as_long f tails heads b))
 
--- the pass as far as block j
-pub record IsServedTo (least count : ℕ) (all : List Lane) (j : ℕ) (clocks most : List ℕ) : Type 0 where
-  pub clocks_are : clocks ≡ eight (λ k. clock_after least 0 (take j (drop (k * count) all)))
-  pub most_are : most ≡ eight (λ k. span least 0 (take j (drop (k * count) all)))
+pub lanes_by_is : {A : Type 0} (f : A → ℕ) (heads times tails : List A) (count : ℕ) → length heads ≡ count
+    → lanes_by f heads times tails ≡ by_columns (count / 8) (lanes (map f heads) (map f times) (map f tails))
+lanes_by_is f heads times tails count e =
+    ap (λ n. by_columns (n / 8) (lanes (map f heads) (map f times) (map f tails))) e
+
+pub heads_whole : {A : Type 0} (f : A → ℕ) (heads : List A) (count : ℕ) → length heads ≡ count → count % 8 ≡ 0
+    → length (map f heads) ≡ 8 * (count / 8)
+heads_whole f heads count e whole = length-map heads f ∙ omega (arith, e, whole)
+
+-- the first j lanes of column k, and all lanes up to there
+abbrev pub part_of : ℕ → List Lane → ℕ → ℕ → List Lane
+part_of count all k j = take j (drop (k * count) all)
+
+abbrev pub front_of : ℕ → List Lane → ℕ → ℕ → List Lane
+front_of count all k j = take (k * count + j) all
+
+-- a pass as far as block j, which keeps for column k what some lanes come to
+pub record IsServedTo (least : ℕ) (part : ℕ → ℕ → List Lane) (j : ℕ) (clocks most : List ℕ) : Type 0 where
+  pub clocks_are : clocks ≡ eight (λ k. clock_after least 0 (part k j))
+  pub most_are : most ≡ eight (λ k. span least 0 (part k j))
 
 module _ (count : ℕ) (hs ts qs : List ℕ) (all : List Lane) (c : AreColumnsOf count hs ts qs all) where
   -- what stands in column k, j blocks down
@@ -104,19 +120,36 @@ module _ (count : ℕ) (hs ts qs : List ℕ) (all : List Lane) (c : AreColumnsOf
       ap (λ x. x.tail) (c.at k j k_lt j_lt (here k j))
       in omega (arith, each, is)
 
-  -- the first j lanes of column k
-  abbrev pub part : ℕ → ℕ → List Lane
-  part k j = take j (drop (k * count) all)
-
-  pub part_more : (k j : ℕ) → k < 8 → j < count → part k (suc j) ≡ part k j ++ (here k j ∷ [])
+  pub part_more : (k j : ℕ) → k < 8 → j < count
+      → part_of count all k (suc j) ≡ part_of count all k j ++ (here k j ∷ [])
   part_more k j k_lt j_lt =
       let below = rank_below count k j k_lt j_lt
       in let long = length-drop (k * count) all
       in take-suc (drop (k * count) all) j (here k j) (omega (arith, long, below, c.long))
-      ∙ ap (λ x. part k j ++ (x ∷ []))
+      ∙ ap (λ x. part_of count all k j ++ (x ∷ []))
       (get_or-drop (k * count) all j (here k j) ∙ c.at k j k_lt j_lt (here k j))
 
-  module _ (least : ℕ) where
+  pub part_within : (k j : ℕ) → sum_by (λ x. x.time) (part_of count all k j) ≤ sum_by (λ x. x.time) all
+  part_within k j = sum_part (λ x. x.time) j (k * count) all
+
+  pub front_more : (k j : ℕ) → k < 8 → j < count
+      → front_of count all k (suc j) ≡ front_of count all k j ++ (here k j ∷ [])
+  front_more k j k_lt j_lt =
+      let below = rank_below count k j k_lt j_lt
+      in let on : k * count + suc j ≡ suc (k * count + j) = omega arith
+      in ap (λ n. take n all) on
+      ∙ take-suc all (k * count + j) (here k j) (omega (arith, below, c.long))
+      ∙ ap (λ x. front_of count all k j ++ (x ∷ [])) (c.at k j k_lt j_lt (here k j))
+
+  pub front_within : (k j : ℕ) → sum_by (λ x. x.time) (front_of count all k j) ≤ sum_by (λ x. x.time) all
+  front_within k j = sum_part (λ x. x.time) (k * count + j) 0 all
+
+  pub served_none : (least : ℕ) → IsServedTo least (part_of count all) 0 (replicate 8 0) (replicate 8 0)
+  served_none least = record { clocks_are = refl; most_are = refl }
+
+  module _ (part : ℕ → ℕ → List Lane)
+      (more : (k j : ℕ) → k < 8 → j < count → part k (suc j) ≡ part k j ++ (here k j ∷ []))
+      (within : (k j : ℕ) → sum_by (λ x. x.time) (part k j) ≤ sum_by (λ x. x.time) all) (least : ℕ) where
     abbrev pub work : ℕ → ℕ → ℕ
     work k j = clock_after least 0 (part k j)
 
@@ -128,27 +161,24 @@ module _ (count : ℕ) (hs ts qs : List ℕ) (all : List Lane) (c : AreColumnsOf
     added_by k j = cond (leb least (get_or hs (8 * j + k) 0)) (get_or ts (8 * j + k) 0) 0
 
     pub work_next : (k j : ℕ) → k < 8 → j < count → work k (suc j) ≡ work k j + added_by k j
-    work_next k j k_lt j_lt = ap (clock_after least 0) (part_more k j k_lt j_lt) ∙ work_more least (part k j) (here k j)
+    work_next k j k_lt j_lt = ap (clock_after least 0) (more k j k_lt j_lt) ∙ work_more least (part k j) (here k j)
 
     pub end_next : (k j : ℕ) → k < 8 → j < count
         → end k (suc j)
         ≡ max (end k j)
         (cond (leb least (get_or hs (8 * j + k) 0)) (work k j + added_by k j + get_or qs (8 * j + k) 0) 0)
-    end_next k j k_lt j_lt = ap (span least 0) (part_more k j k_lt j_lt) ∙ load_more least (part k j) (here k j)
+    end_next k j k_lt j_lt = ap (span least 0) (more k j k_lt j_lt) ∙ load_more least (part k j) (here k j)
 
     pub work_small : (limit : ℕ) → FitsSpan limit 0 all → (k j : ℕ)
         → work k j + greatest_by (λ x. x.tail) all ≤ limit
     work_small limit fits k j =
         let a = work_le least (part k j)
-        in let b = sum_part (λ x. x.time) j (k * count) all
+        in let b = within k j
         in omega (arith, fits, a, b)
-
-    pub served_none : IsServedTo least count all 0 (replicate 8 0) (replicate 8 0)
-    served_none = record { clocks_are = refl; most_are = refl }
 
     module _ (j : ℕ) (j_lt : j < count) (heads times tails leasts clocks most : List ℕ)
         (read : IsRead hs ts qs j heads times tails) (leasts_are : leasts ≡ replicate 8 least)
-        (so_far : IsServedTo least count all j clocks most) where
+        (so_far : IsServedTo least part j clocks most) where
       abbrev pub served : List ℕ
       served = waiting (get_or leasts 0 0) heads times
 
@@ -193,12 +223,11 @@ module _ (count : ℕ) (hs ts qs : List ℕ) (all : List Lane) (c : AreColumnsOf
           in let tail = tail_small k j lt j_lt
           in omega (arith, next, small, tail))))
 
-      module _ (after later : List ℕ) (after_is : after ≡ added clocks served)
-          (later_is : later ≡ zip2 max most (waiting (get_or leasts 0 0) heads (added after tails))) where
+      module _ (after : List ℕ) (after_is : after ≡ added clocks served) where
         next_eight : after ≡ eight (λ k. work k j + added_by k j)
         next_eight = after_is ∙ after_eight
 
-        late_eight : waiting (get_or leasts 0 0) heads (added after tails)
+        pub late_eight : waiting (get_or leasts 0 0) heads (added after tails)
             ≡ eight (λ k. cond (leb least (get_or hs (8 * j + k) 0))
             (work k j + added_by k j + get_or qs (8 * j + k) 0) 0)
         late_eight =
@@ -208,18 +237,20 @@ module _ (count : ℕ) (hs ts qs : List ℕ) (all : List Lane) (c : AreColumnsOf
             ∙ ap (λ l. waiting least (eight (λ k. get_or hs (8 * j + k) 0))
             (added (eight (λ k. work k j + added_by k j)) l)) tails_eight
 
-        pub served_more : IsServedTo least count all (j + 1) after later
-        served_more =
-            let on : suc j ≡ j + 1 = omega arith
-            in subst (λ n. IsServedTo least count all n after later) on (record {
-              clocks_are = next_eight
-                  ∙ eight_same (λ k. work k j + added_by k j) (λ k. work k (suc j))
-                  (λ k lt. sym (work_next k j lt j_lt));
-              most_are = later_is
-                  ∙ ap (λ l. zip2 max l (waiting (get_or leasts 0 0) heads (added after tails))) so_far.most_are
-                  ∙ ap (zip2 max (eight (λ k. end k j))) late_eight
-                  ∙ eight_same
-                  (λ k. max (end k j) (cond (leb least (get_or hs (8 * j + k) 0))
-                  (work k j + added_by k j + get_or qs (8 * j + k) 0) 0)) (λ k. end k (suc j))
-                  (λ k lt. sym (end_next k j lt j_lt));
-            })
+        module _ (later : List ℕ)
+            (later_is : later ≡ zip2 max most (waiting (get_or leasts 0 0) heads (added after tails))) where
+          pub served_more : IsServedTo least part (j + 1) after later
+          served_more =
+              let on : suc j ≡ j + 1 = omega arith
+              in subst (λ n. IsServedTo least part n after later) on (record {
+                clocks_are = next_eight
+                    ∙ eight_same (λ k. work k j + added_by k j) (λ k. work k (suc j))
+                    (λ k lt. sym (work_next k j lt j_lt));
+                most_are = later_is
+                    ∙ ap (λ l. zip2 max l (waiting (get_or leasts 0 0) heads (added after tails))) so_far.most_are
+                    ∙ ap (zip2 max (eight (λ k. end k j))) late_eight
+                    ∙ eight_same
+                    (λ k. max (end k j) (cond (leb least (get_or hs (8 * j + k) 0))
+                    (work k j + added_by k j + get_or qs (8 * j + k) 0) 0)) (λ k. end k (suc j))
+                    (λ k lt. sym (end_next k j lt j_lt));
+              })

@@ -7,7 +7,10 @@ pub mod ColumnScan
 pub mod Loads
 pub mod LeapTurns
 pub mod LaterTurns
+pub mod AnyOrder
 pub mod OwnPositions
+pub mod OwnScan
+pub mod OwnColumns
 pub mod OwnRows
 pub mod MarkLemmas
 pub mod BlockMasks

@@ -183,7 +183,7 @@ impl<B: Block> StateLanes for BlockLanes<B> {
         let times = &fixed.times[first..end];
         let tails = &fixed.tails[first..end];
         if upto == B::GREATEST {
-            return greatest_span::<B>(heads, times, tails, above, upto, most);
+            return greatest_span::<B>(heads, times, tails, above, most);
         }
         leap_over::<B>(heads, times, tails, above, upto, most, limit)
     }

@@ -120,51 +120,52 @@ pub(crate) fn load<B: Block>(
     }
 }
 
-/// The span from the head at a position on, if that is above `above` and at most `upto`; else 0.
+/// The span from the head at a position on, if that is above `above`; else 0.
 fn span_from<B: Block>(
     heads: &[B::Number],
     times: &[B::Number],
     tails: &[B::Number],
     above: u64,
-    upto: u64,
     position: usize,
 ) -> u64
     requires whole_blocks { length heads.now % 8 ≡ 0 }
     requires times { length times.now ≡ length heads.now }
     requires tails { length tails.now ≡ length heads.now }
     requires within { position < length heads.now }
-    requires upto { upto ≤ B.GREATEST }
-    requires fits { FitsSpan B.GREATEST upto (lanes_by B.value heads.now times.now tails.now) }
-    ensures { result ≡ span_within above upto (lanes_by B.value heads.now times.now tails.now)
+    requires fits { FitsSpan B.GREATEST B.GREATEST
+        (lanes_by B.value heads.now times.now tails.now) }
+    ensures { result ≡ span_within above B.GREATEST
+        (lanes_by B.value heads.now times.now tails.now)
         (slice_index (map B.value heads.now) position) }
 {
     let head = B::widened(heads[position]);
+    let upto = B::GREATEST;
     if above < head && head <= upto {
         return head + load_of::<B>(heads.len(), heads, times, tails, head);
     }
     0
 }
 
-/// The greatest of `most` and the spans from each head above `above` and up to `upto` on; in a function of its own.
+/// The greatest of `most` and the spans from each head above `above` on; in a function of its own.
 #[inline(never)]
 pub(crate) fn greatest_span<B: Block>(
     heads: &[B::Number],
     times: &[B::Number],
     tails: &[B::Number],
     above: u64,
-    upto: u64,
     most: u64,
 ) -> u64
     requires whole_blocks { length heads.now % 8 ≡ 0 }
     requires times { length times.now ≡ length heads.now }
     requires tails { length tails.now ≡ length heads.now }
-    requires upto { upto ≤ B.GREATEST }
-    requires fits { FitsSpan B.GREATEST upto (lanes_by B.value heads.now times.now tails.now) }
-    ensures { result ≡ max most (spans_by B.value heads.now times.now tails.now above upto) }
+    requires fits { FitsSpan B.GREATEST B.GREATEST
+        (lanes_by B.value heads.now times.now tails.now) }
+    ensures { result
+        ≡ max most (spans_by B.value heads.now times.now tails.now above B.GREATEST) }
 {
     let mut most = most;
     for position in 0..heads.len() {
-        most = most.max(span_from::<B>(heads, times, tails, above, upto, position));
+        most = most.max(span_from::<B>(heads, times, tails, above, position));
     }
     most
 }

@@ -1,10 +1,10 @@
-use Rattle.std.proofs.Common.{◌≡◌, ◌∙◌, ◌+◌, ◌-◌, max, map, arith, rules}
+use Rattle.std.proofs.Common.{◌≡◌, ◌∙◌, ◌+◌, ◌-◌, max, arith, rules}
 use Rattle.shop_lanes.specs.Spans.{span, spans_between}
 use Rattle.shop_lanes.specs.inner.Passes.{lanes_by}
 use Rattle.shop_lanes.proofs.Loads.{load_le, work_le}
-use Rattle.shop_lanes.proofs.LeapTurns.{least_head, least_head_is, leaps_end, leaps_within, leaps_past}
+use Rattle.shop_lanes.proofs.LeapTurns.{least_head, leaps_end, leaps_within, leaps_past}
 use Rattle.shop_lanes.proofs.LeapTurns.{leaps_no_greater, leap_rises, leap}
-use Rattle.shop_lanes.proofs.RowValues.{as_long}
+use Rattle.shop_lanes.proofs.AnyOrder.{least_of_rows}
 use Rattle.shop_lanes.proofs.leaps.leap.Goals as goal
 
 pub overflow_add-upto : goal.overflow_add-upto
@@ -64,12 +64,10 @@ returns-then-head-upto g c =
     in let load_is : load ≡ span (settled + 1) 0 all =
     let e = c.load_of-load.ensures in omega (arith, e)
     in let head = c.least_head_of-head.result
-    in let row = map g.B.Block.value
     in let head_is : head ≡ least_head g.B.Block.GREATEST (settled + 1) all =
     c.least_head_of-head.ensures
-    ∙ least_head_is g.B.Block.GREATEST (settled + 1) (row c.args.heads.now) (row c.args.times.now)
-    (row c.args.tails.now) (as_long g.B.Block.value c.args.times.now c.args.heads.now c.requires.times)
-    (as_long g.B.Block.value c.args.tails.now c.args.heads.now c.requires.tails)
+    ∙ least_of_rows g.B.Block.value c.args.heads.now c.args.times.now c.args.tails.now c.args.count c.requires.count
+    c.requires.whole_blocks c.requires.times c.requires.tails g.B.Block.GREATEST (settled + 1)
     in let is : bound ≡ max c.args.most (spans_between c.args.above c.args.upto all) =
     leaps_past g.B.Block.GREATEST c.args.above c.args.upto c.args.most all settled bound inv load load_is head head_is
     c.if-head-upto.true
@@ -85,12 +83,10 @@ returns-then-bound-limit g c =
     in let load_is : load ≡ span (settled + 1) 0 all =
     let e = c.load_of-load.ensures in omega (arith, e)
     in let head = c.least_head_of-head.result
-    in let row = map g.B.Block.value
     in let head_is : head ≡ least_head g.B.Block.GREATEST (settled + 1) all =
     c.least_head_of-head.ensures
-    ∙ least_head_is g.B.Block.GREATEST (settled + 1) (row c.args.heads.now) (row c.args.times.now)
-    (row c.args.tails.now) (as_long g.B.Block.value c.args.times.now c.args.heads.now c.requires.times)
-    (as_long g.B.Block.value c.args.tails.now c.args.heads.now c.requires.tails)
+    ∙ least_of_rows g.B.Block.value c.args.heads.now c.args.times.now c.args.tails.now c.args.count c.requires.count
+    c.requires.whole_blocks c.requires.times c.requires.tails g.B.Block.GREATEST (settled + 1)
     in let next_is : c.max-bound.result ≡ max bound (head + load) = search rules
     in let test = c.loop-settled-test.true
     in let below = c.requires.below
@@ -114,12 +110,10 @@ loop-settled-smaller g c =
     in let load_is : load ≡ span (settled + 1) 0 all =
     let e = c.load_of-load.ensures in omega (arith, e)
     in let head = c.least_head_of-head.result
-    in let row = map g.B.Block.value
     in let head_is : head ≡ least_head g.B.Block.GREATEST (settled + 1) all =
     c.least_head_of-head.ensures
-    ∙ least_head_is g.B.Block.GREATEST (settled + 1) (row c.args.heads.now) (row c.args.times.now)
-    (row c.args.tails.now) (as_long g.B.Block.value c.args.times.now c.args.heads.now c.requires.times)
-    (as_long g.B.Block.value c.args.tails.now c.args.heads.now c.requires.tails)
+    ∙ least_of_rows g.B.Block.value c.args.heads.now c.args.times.now c.args.tails.now c.args.count c.requires.count
+    c.requires.whole_blocks c.requires.times c.requires.tails g.B.Block.GREATEST (settled + 1)
     in let next_is : c.max-bound.result ≡ max bound (head + load) = search rules
     in let test = c.loop-settled-test.true
     in let below = c.requires.below
@@ -139,12 +133,10 @@ loop-settled-preserved g c =
     in let load_is : load ≡ span (settled + 1) 0 all =
     let e = c.load_of-load.ensures in omega (arith, e)
     in let head = c.least_head_of-head.result
-    in let row = map g.B.Block.value
     in let head_is : head ≡ least_head g.B.Block.GREATEST (settled + 1) all =
     c.least_head_of-head.ensures
-    ∙ least_head_is g.B.Block.GREATEST (settled + 1) (row c.args.heads.now) (row c.args.times.now)
-    (row c.args.tails.now) (as_long g.B.Block.value c.args.times.now c.args.heads.now c.requires.times)
-    (as_long g.B.Block.value c.args.tails.now c.args.heads.now c.requires.tails)
+    ∙ least_of_rows g.B.Block.value c.args.heads.now c.args.times.now c.args.tails.now c.args.count c.requires.count
+    c.requires.whole_blocks c.requires.times c.requires.tails g.B.Block.GREATEST (settled + 1)
     in let next_is : c.max-bound.result ≡ max bound (head + load) = search rules
     in let test = c.loop-settled-test.true
     in let below = c.requires.below
