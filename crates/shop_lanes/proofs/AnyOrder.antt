@@ -1,12 +1,12 @@
 -- The least and the greatest of lanes are the same in any order.
-use Rattle.std.proofs.Common.{◌≡◌, ℕ, zero, suc, ◌+◌, ◌*◌, ◌/◌, ◌%◌, ◌<◌, ◌≤◌, min, max, List, [], ◌∷◌, length, map}
-use Rattle.std.proofs.Common.{drop, get_or, refl, ap, sym, ◌∙◌, arith}
+use Rattle.std.proofs.Common.{◌≡◌, ℕ, zero, suc, ◌+◌, ◌*◌, ◌/◌, ◌%◌, ◌<◌, ◌≤◌, max, List, [], ◌∷◌, length, map}
+use Rattle.std.proofs.Common.{drop, get_or, ap, sym, ◌∙◌, arith}
 use Rattle.std.specs.List.{All}
 use Rattle.std.proofs.lemmas.Bool.Decides.{nat_tests}
 use Rattle.std.proofs.lemmas.List.{length-map, drop_all}
 use Rattle.shop_blocks.specs.Eights.{later_head}
 use Rattle.shop_lanes.specs.Rows.{Lane, lanes, by_columns}
-use Rattle.shop_lanes.specs.Spans.{span, spans_from, greatest_by, FitsSpan}
+use Rattle.shop_lanes.specs.Spans.{span, spans_from, greatest_by}
 use Rattle.shop_lanes.specs.inner.LaterHeads.{least_later}
 use Rattle.shop_lanes.specs.inner.OwnSpans.{rank_of}
 use Rattle.shop_lanes.specs.inner.Passes.{lanes_by, span_within}

@@ -1,6 +1,6 @@
 -- What all columns come to one after the other, from what each comes to by itself.
 use Rattle.std.proofs.Common.{◌≡◌, ℕ, zero, suc, ◌+◌, ◌*◌, ◌<◌, ◌≤◌, max, List, [], ◌∷◌, ◌++◌, length}
-use Rattle.std.proofs.Common.{take, drop, get_or, refl, ap, sym, ◌∙◌, arith, subst, take-append-drop}
+use Rattle.std.proofs.Common.{take, drop, get_or, refl, ap, sym, ◌∙◌, arith, take-append-drop}
 use Rattle.std.proofs.Math.Seq.{take-suc, take-add}
 use Rattle.std.proofs.lemmas.List.{drop-drop, drop_all}
 use lib.Lanes.{sum_l}
@@ -8,7 +8,7 @@ use Rattle.shop_blocks.specs.Eights.{added, AddsFit}
 use Rattle.shop_blocks.specs.Folds.{greatest, sums_before}
 use Rattle.shop_blocks.proofs.Extremes.{greatest-append}
 use Rattle.shop_lanes.specs.Rows.{Lane}
-use Rattle.shop_lanes.specs.Spans.{span, greatest_by, FitsSpan}
+use Rattle.shop_lanes.specs.Spans.{span, FitsSpan}
 use Rattle.shop_lanes.specs.inner.Passes.{clock_after, column, eight}
 use Rattle.shop_lanes.proofs.ColumnTurns.{eight_fit, in_eight}
 use Rattle.shop_lanes.proofs.Loads.{work-append, load-append, work_le, load_le, work_le_load}

@@ -37,8 +37,19 @@ pub as_eight : (v : List ℕ) → length v ≡ 8 → v ≡ eight (λ k. get_or v
 as_eight = on_eight (λ v. v ≡ eight (λ k. get_or v k 0)) (λ a b c d e f g h. refl)
 
 pub eight_fit : (limit : ℕ) (f g : ℕ → ℕ) → ((k : ℕ) → k < 8 → f k + g k ≤ limit) → AddsFit limit (eight f) (eight g)
-eight_fit limit f g each = (each 0 (omega arith), (each 1 (omega arith), (each 2 (omega arith), (each 3 (omega arith),
-    (each 4 (omega arith), (each 5 (omega arith), (each 6 (omega arith), (each 7 (omega arith), tt))))))))
+eight_fit limit f g each = (
+  each 0 (omega arith),
+  (
+    each 1 (omega arith),
+    (
+      each 2 (omega arith),
+      (
+        each 3 (omega arith),
+        (each 4 (omega arith), (each 5 (omega arith), (each 6 (omega arith), (each 7 (omega arith), tt)))),
+      ),
+    ),
+  ),
+)
 
 pub block_eight : (b : ℕ) (xs : List ℕ) → 8 * (b + 1) ≤ length xs
     → take 8 (drop (8 * b) xs) ≡ eight (λ k. get_or xs (8 * b + k) 0)

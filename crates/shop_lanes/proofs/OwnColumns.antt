@@ -1,6 +1,6 @@
 -- The passes for own spans: down the columns, and back.
-use Rattle.std.proofs.Common.{◌≡◌, ℕ, zero, suc, ◌+◌, ◌-◌, ◌*◌, ◌/◌, ◌%◌, ◌<◌, ◌≤◌, max, Bool, true, false, cond, leb}
-use Rattle.std.proofs.Common.{List, [], ◌∷◌, ◌++◌, length, take, drop, set, get_or, refl, ap, sym, ◌∙◌, arith, subst}
+use Rattle.std.proofs.Common.{◌≡◌, ℕ, suc, ◌+◌, ◌-◌, ◌*◌, ◌<◌, ◌≤◌, max, Bool, true, false, cond, leb}
+use Rattle.std.proofs.Common.{List, ◌∷◌, length, take, drop, set, get_or, ap, sym, ◌∙◌, arith, subst}
 use Rattle.std.proofs.Common.{replicate, inl, inr, length-set}
 use Rattle.std.proofs.Math.Seq.{drop-cons}
 use Rattle.std.proofs.lemmas.Bool.{cases_lt}
@@ -9,14 +9,13 @@ use Rattle.std.proofs.lemmas.Simd.{get_or-put_chunk_at, get_or-put_chunk_above}
 use lib.Lanes.{zip2, put_chunk}
 use Rattle.shop_blocks.specs.Eights.{added, lessened, waiting, AddsFit}
 use Rattle.shop_lanes.specs.Rows.{Lane, lanes, by_columns}
-use Rattle.shop_lanes.specs.Spans.{span, greatest_by, FitsSpan, FitOwnSpans}
+use Rattle.shop_lanes.specs.Spans.{span, FitOwnSpans}
 use Rattle.shop_lanes.specs.inner.OwnSpans.{rank_of, IsLoadBehind, own_span_at}
 use Rattle.shop_lanes.specs.inner.Passes.{clock_after, eight}
-use Rattle.shop_lanes.proofs.BlockMasks.{length-block}
 use Rattle.shop_lanes.proofs.Columns.{rank_fits, rank_below, rank_of_parts, by_columns-of, by_columns-set}
 use Rattle.shop_lanes.proofs.Columns.{length-by_columns, lanes-by_columns}
-use Rattle.shop_lanes.proofs.ColumnTurns.{AreColumnsOf, IsRead, IsServedTo, front_of, front_more, front_within, here}
-use Rattle.shop_lanes.proofs.ColumnTurns.{as_eight, eight_same, in_eight, eight_fit, block_eight, added_by, work_next, work_small}
+use Rattle.shop_lanes.proofs.ColumnTurns.{AreColumnsOf, IsRead, IsServedTo, front_of, front_more, front_within}
+use Rattle.shop_lanes.proofs.ColumnTurns.{as_eight, eight_same, in_eight, eight_fit, block_eight, work_next, work_small}
 use Rattle.shop_lanes.proofs.ColumnTurns.{tail_small}
 use Rattle.shop_lanes.proofs.LaneLists.{lane_at}
 use Rattle.shop_lanes.proofs.Loads.{span_from_start}

@@ -1,8 +1,8 @@
 -- Where the passes for own spans begin, down the columns and back.
-use Rattle.std.proofs.Common.{◌≡◌, ℕ, zero, suc, ◌+◌, ◌*◌, ◌<◌, ◌≤◌, max, List, length, take, drop, get_or, refl, ap, sym}
+use Rattle.std.proofs.Common.{◌≡◌, ℕ, ◌+◌, ◌*◌, ◌<◌, List, length, take, get_or, refl, ap, sym}
 use Rattle.std.proofs.Common.{◌∙◌, arith, subst}
 use Rattle.shop_blocks.specs.Eights.{added}
-use Rattle.shop_blocks.specs.Folds.{greatest, maxima_before, maxima_behind, sums_before}
+use Rattle.shop_blocks.specs.Folds.{maxima_before, maxima_behind, sums_before}
 use Rattle.shop_blocks.proofs.Maxima.{maxima_before-get, maxima_behind-get}
 use Rattle.shop_lanes.specs.Rows.{Lane}
 use Rattle.shop_lanes.specs.Spans.{span}

@@ -1,5 +1,5 @@
 -- Rows that are filled up to whole blocks, and what of them is seen.
-use Rattle.std.proofs.Common.{◌≡◌, ℕ, zero, suc, ◌+◌, ◌-◌, ◌*◌, ◌/◌, ◌<◌, ◌≤◌, min, max, Bool, cond, ◌&&◌, ltb, leb}
+use Rattle.std.proofs.Common.{◌≡◌, ℕ, zero, suc, ◌+◌, ◌-◌, ◌*◌, ◌/◌, ◌<◌, ◌≤◌, Bool, cond}
 use Rattle.std.proofs.Common.{inl, inr, List, [], ◌∷◌, length, map, take, drop, set, replicate, get_or, refl, ap, sym}
 use Rattle.std.proofs.Common.{◌∙◌, arith, length-set}
 use Rattle.std.proofs.lemmas.Bool.{cases_lt}
@@ -7,11 +7,10 @@ use Rattle.std.proofs.lemmas.Bool.Decides.{nat_tests}
 use Rattle.std.proofs.lemmas.List.{length-replicate, length-take, get_or-replicate, get_or-take, get_or-drop}
 use Rattle.std.proofs.lemmas.List.{take-replicate, drop-replicate, drop-set-lt}
 use lib.Lanes.{mask_l}
-use Rattle.shop_lanes.specs.Rows.{Lane, blocks}
+use Rattle.shop_lanes.specs.Rows.{blocks}
 use Rattle.shop_lanes.specs.Marks.{marked, waits_below}
 use Rattle.shop_lanes.specs.SetBits.{set_bits}
 use Rattle.shop_lanes.specs.Ends.{IsFirstLeast}
-use Rattle.shop_lanes.specs.Spans.{span, spans_from, spans_between}
 use Rattle.shop_blocks.specs.Eights.{is_between}
 use Rattle.shop_lanes.specs.inner.Passes.{IsPadded}
 use Rattle.shop_lanes.proofs.LaneLists.{length-blocks}

@@ -1,7 +1,6 @@
 -- How many numbers serving a block gives.
-use Rattle.std.proofs.Common.{◌≡◌, ℕ, ◌+◌, max, List, [], ◌∷◌, length, ap, sym, ◌∙◌, arith, refl}
+use Rattle.std.proofs.Common.{◌≡◌, ℕ, ◌+◌, List, [], ◌∷◌, length, ap, sym, ◌∙◌, arith, refl}
 use Rattle.std.proofs.lemmas.Simd.{length-zip2}
-use lib.Lanes.{zip2}
 use Rattle.shop_blocks.specs.Eights.{added, waiting}
 
 pub length-waiting : (least : ℕ) (hs ts : List ℕ) → length ts ≡ length hs

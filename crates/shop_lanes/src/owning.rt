@@ -105,8 +105,9 @@ fn write_back<B: Block>(
         let time = B::load(times, block);
         let tail = B::load(tails, block);
         let before = B::load(owns, block);
+        let late = B::waiting(B::sum(clocks, tail), head, one);
         B::store(own_ends(head, time, before, behind), owns, block);
-        behind = B::greater(behind, B::waiting(B::sum(clocks, tail), head, one));
+        behind = B::greater(behind, late);
         clocks = B::less(clocks, B::waiting(time, head, one));
     }
 }
@@ -132,9 +133,25 @@ fn own_spans_of<B: Block>(
     let (work, most) = serve_columns::<B>(count, heads, times, tails, 1);
     let begins = sums_before(work);
     let ends = B::sum(begins, most);
-    note::<B>(count, heads, times, tails, begins, greatest_before(ends), owns);
+    note::<B>(
+        count,
+        heads,
+        times,
+        tails,
+        begins,
+        greatest_before(ends),
+        owns,
+    );
     let clocks = B::sum(begins, work);
-    write_back::<B>(count, heads, times, tails, clocks, greatest_behind(ends), owns);
+    write_back::<B>(
+        count,
+        heads,
+        times,
+        tails,
+        clocks,
+        greatest_behind(ends),
+        owns,
+    );
 }
 
 /// The same for machines of four blocks and more, in a function of its own.

@@ -1,4 +1,4 @@
-use Rattle.std.proofs.Common.{◌≡◌, ◌∙◌, ◌/◌, ap, sym, length, map, max}
+use Rattle.std.proofs.Common.{◌∙◌, ◌/◌, ap, sym, length, map, max}
 use lib.Lanes.{zip2}
 use Rattle.shop_lanes.specs.inner.Passes.{lanes_by}
 use Rattle.shop_lanes.proofs.ColumnTurns.{IsRead, columns_by, front_of, front_more, front_within}

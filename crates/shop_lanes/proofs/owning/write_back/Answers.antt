@@ -1,4 +1,4 @@
-use Rattle.std.proofs.Common.{◌≡◌, ◌∙◌, ◌-◌, ◌/◌, ap, sym, length, map, arith}
+use Rattle.std.proofs.Common.{◌∙◌, ◌-◌, ◌/◌, ap, sym, length, map, arith}
 use Rattle.shop_lanes.specs.inner.Passes.{lanes_by}
 use Rattle.shop_lanes.proofs.ColumnTurns.{IsRead, columns_by, heads_whole, lanes_by_is}
 use Rattle.shop_lanes.proofs.OwnColumns.{back_at, begins_fit, ends_fit, tails_fit, own_eight, late_eight, served_eight}
@@ -151,7 +151,7 @@ greater-behind-requires g c =
     cols g.B.Block.GREATEST c.requires.fits j (n c.loop-block.clocks) (n c.loop-block.behind) (row c.loop-block.owns)
     so_far (n c.load-head.result) (n c.load-time.result) (n c.load-tail.result) (n c.load-before.result)
     (n c.splat-one.result) read c.load-before.ensures c.splat-one.ensures
-    (n c.sum.result) (n c.waiting.result) c.sum.ensures c.waiting.ensures))
+    (n c.sum.result) (n c.waiting-late.result) c.sum.ensures c.waiting-late.ensures))
 
 pub less-clocks-requires : goal.less-clocks-requires
 less-clocks-requires g c =
@@ -181,7 +181,7 @@ less-clocks-requires g c =
     cols g.B.Block.GREATEST c.requires.fits j (n c.loop-block.clocks) (n c.loop-block.behind) (row c.loop-block.owns)
     so_far (n c.load-head.result) (n c.load-time.result) (n c.load-tail.result) (n c.load-before.result)
     (n c.splat-one.result) read c.load-before.ensures c.splat-one.ensures
-    (n c.waiting-in-loop-block.result) c.waiting-in-loop-block.ensures))
+    (n c.waiting.result) c.waiting.ensures))
 
 pub loop-block-preserved : goal.loop-block-preserved
 loop-block-preserved g c =
@@ -211,6 +211,6 @@ loop-block-preserved g c =
     cols g.B.Block.GREATEST c.requires.fits j (n c.loop-block.clocks) (n c.loop-block.behind) (row c.loop-block.owns)
     so_far (n c.load-head.result) (n c.load-time.result) (n c.load-tail.result) (n c.load-before.result)
     (n c.splat-one.result) read c.load-before.ensures c.splat-one.ensures
-    (n c.own_ends.result) c.own_ends.ensures (n c.sum.result) (n c.waiting.result) c.sum.ensures c.waiting.ensures
-    (n c.waiting-in-loop-block.result) c.waiting-in-loop-block.ensures (row c.store.new.row) (n c.greater-behind.result)
+    (n c.own_ends.result) c.own_ends.ensures (n c.sum.result) (n c.waiting-late.result) c.sum.ensures c.waiting-late.ensures
+    (n c.waiting.result) c.waiting.ensures (row c.store.new.row) (n c.greater-behind.result)
     (n c.less-clocks.result) c.store.ensures c.greater-behind.ensures c.less-clocks.ensures

@@ -1,7 +1,5 @@
-use Rattle.std.proofs.Common.{◌≡◌, ◌∙◌, max, map, length, refl, ap, sym, arith, drop, get_or, rules, subst, ◌+◌}
-use Rattle.std.proofs.lemmas.List.{drop_all}
+use Rattle.std.proofs.Common.{◌≡◌, max, map, length, refl, arith, get_or, rules}
 use Rattle.shop_lanes.specs.Rows.{lanes}
-use Rattle.shop_lanes.specs.Spans.{greatest_by}
 use Rattle.shop_lanes.specs.inner.Passes.{lanes_by, span_within}
 use Rattle.shop_lanes.proofs.AnyOrder.{spans_of_rows, spans_at_next, none_behind}
 use Rattle.shop_lanes.proofs.passes.greatest_span.Goals as goal

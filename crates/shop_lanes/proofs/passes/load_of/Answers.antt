@@ -1,10 +1,10 @@
-use Rattle.std.proofs.Common.{◌≡◌, ◌∙◌, ◌≤◌, ◌*◌, ◌/◌, ap, length, subst, sym, map}
+use Rattle.std.proofs.Common.{◌≡◌, ◌∙◌, ◌≤◌, ◌/◌, ap, length, subst, sym}
 use lib.Lanes.{sum_l}
 use Rattle.shop_blocks.specs.Eights.{AddsFit}
 use Rattle.shop_blocks.specs.Folds.{greatest, sums_before}
 use Rattle.shop_lanes.specs.inner.Passes.{lanes_by, eight}
 use Rattle.shop_lanes.proofs.ColumnTurns.{columns_by}
-use Rattle.shop_lanes.proofs.ColumnScan.{work, load, begin, finish, all_fits, ends_fit, begins_are, scanned, last_end}
+use Rattle.shop_lanes.proofs.ColumnScan.{begin, all_fits, ends_fit, begins_are, scanned, last_end}
 use Rattle.shop_lanes.proofs.passes.load_of.Goals as goal
 
 pub sums_before-requires-clause-eight : goal.sums_before-requires-clause-eight

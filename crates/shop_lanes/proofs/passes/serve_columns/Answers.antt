@@ -1,4 +1,4 @@
-use Rattle.std.proofs.Common.{◌/◌, ap, length, map}
+use Rattle.std.proofs.Common.{◌/◌, map}
 use Rattle.shop_lanes.specs.inner.Passes.{lanes_by}
 use Rattle.shop_lanes.proofs.ColumnTurns.{IsRead, columns_by, clocks_fit, ends_fit, served_more}
 use Rattle.shop_lanes.proofs.ColumnTurns.{part_of, part_more, part_within}
