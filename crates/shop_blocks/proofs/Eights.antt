@@ -6,7 +6,7 @@ use mir.Syntax.{Width}
 use mir.Val.{Fits, bits}
 use Rattle.std.proofs.lemmas.Nat.{pow_pos}
 use Rattle.shop_blocks.specs.Eights.{added, up_one, up_two, up_four, AddsFit}
-use Rattle.shop_blocks.specs.Folds.{running}
+use Rattle.shop_blocks.specs.Folds.{running, sums_before}
 
 one_more : (P : List ℕ → Type 0) (n : ℕ) → ((x : ℕ) (xs : List ℕ) → length xs ≡ n → P (x ∷ xs))
     → (v : List ℕ) → length v ≡ suc n → P v
@@ -47,9 +47,9 @@ lanes_fit w (x ∷ xs) [] h = tt
 lanes_fit w (x ∷ xs) (y ∷ ys) h =
     (record { fits = let a = h.0 in omega (arith, pow_pos (bits w)) }, lanes_fit w xs ys h.1)
 
-pub last_everywhere : (v : List ℕ) → length v ≡ 8 → replicate 8 (get_or (v ++ v) 7 0) ≡ replicate 8 (get_or v 7 0)
-last_everywhere =
-    on_eight (λ v. replicate 8 (get_or (v ++ v) 7 0) ≡ replicate 8 (get_or v 7 0)) (λ a b c d e f g h. refl)
+-- the sums up to each one, moved by one
+pub sums_moved : (v : List ℕ) → length v ≡ 8 → up_one (running 0 v) ≡ sums_before 0 v
+sums_moved = on_eight (λ v. up_one (running 0 v) ≡ sums_before 0 v) (λ a b c d e f g h. refl)
 
 pub pairs_fit : (limit : ℕ) (v : List ℕ) → length v ≡ 8 → sum_l v ≤ limit → AddsFit limit v (up_one v)
 pairs_fit limit = on_eight (λ v. sum_l v ≤ limit → AddsFit limit v (up_one v)) (λ a b c d e f g h small.

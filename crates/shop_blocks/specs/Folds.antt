@@ -1,5 +1,6 @@
 -- Sums and extremes of numbers in order.
 --     running start xs            the start and the sum of the numbers up to each one
+--     sums_before start xs        the start and the sum of the numbers before each one
 --     greatest xs                 the greatest number, 0 if there is none
 --     maxima_before most xs       the greatest of `most` and the numbers before each one
 --     maxima_behind most xs       the greatest of `most` and the numbers behind each one
@@ -9,6 +10,10 @@ use Rattle.std.specs.Prelude.{ℕ, ◌+◌, min, max, List, [], ◌∷◌}
 abbrev pub running : ℕ → List ℕ → List ℕ
 running start [] = []
 running start (x ∷ xs) = (start + x) ∷ running (start + x) xs
+
+abbrev pub sums_before : ℕ → List ℕ → List ℕ
+sums_before start [] = []
+sums_before start (x ∷ xs) = start ∷ sums_before (start + x) xs
 
 abbrev pub greatest : List ℕ → ℕ
 greatest [] = 0

@@ -1,6 +1,6 @@
 // Eight numbers of one width at once.
 ghost use Rattle.std.specs.Prelude.{◌≡◌, ℕ, ◌+◌, ◌*◌, ◌<◌, ◌≤◌, List, length, replicate, map, min, IfOk};
-ghost use Rattle.std.specs.Prelude.{max, ◌==◌, take, drop, slice_index};
+ghost use Rattle.std.specs.Prelude.{max, ◌==◌, take, drop};
 ghost use Rattle.std.specs.Simd.Lanes.{mask_l, zip2, put_chunk};
 ghost use Rattle.shop_blocks.specs.Eights.{first_of, is_between, IsSplat, up_one, up_two, up_four};
 ghost use Rattle.shop_blocks.specs.Eights.{down_one, down_two, down_four, halves, quarters};
@@ -53,11 +53,6 @@ pub trait Block: Copy + Drop {
     fn first(block: Self) -> u64
         ensures first { result ≡ first_of (numbers block) }
         ensures small { result ≤ GREATEST };
-
-    /// The last number in every lane.
-    fn last(block: Self) -> Self
-        requires { length (numbers block) ≡ 8 }
-        ensures { numbers result ≡ replicate 8 (slice_index (numbers block) 7) };
 
     fn up_one(block: Self) -> Self
         ensures { numbers result ≡ up_one (numbers block) };

@@ -1,14 +1,14 @@
 // Sums and extremes of eight numbers, each by three turns.
 ghost use Rattle.std.specs.Prelude.{◌≡◌, ◌≤◌, length};
 ghost use Rattle.std.specs.Simd.Lanes.{sum_l};
-ghost use Rattle.shop_blocks.specs.Folds.{running, greatest, least_up_to, maxima_before};
-ghost use Rattle.shop_blocks.specs.Folds.{maxima_behind};
+ghost use Rattle.shop_blocks.specs.Folds.{running, sums_before, greatest, least_up_to};
+ghost use Rattle.shop_blocks.specs.Folds.{maxima_before, maxima_behind};
 
 use crate::blocks::Block;
 
 /// The sum of the numbers up to each one.
 #[inline(always)]
-pub fn sums_up_to<B: Block>(block: B) -> B
+fn sums_up_to<B: Block>(block: B) -> B
     requires eight { length (B.numbers block) ≡ 8 }
     requires fits { sum_l (B.numbers block) ≤ B.GREATEST }
     ensures { B.numbers result ≡ running 0 (B.numbers block) }
@@ -16,6 +16,16 @@ pub fn sums_up_to<B: Block>(block: B) -> B
     let pairs = B::sum(block, B::up_one(block));
     let fours = B::sum(pairs, B::up_two(pairs));
     B::sum(fours, B::up_four(fours))
+}
+
+/// The sum of the numbers before each one.
+#[inline(always)]
+pub fn sums_before<B: Block>(block: B) -> B
+    requires eight { length (B.numbers block) ≡ 8 }
+    requires fits { sum_l (B.numbers block) ≤ B.GREATEST }
+    ensures { B.numbers result ≡ sums_before 0 (B.numbers block) }
+{
+    B::up_one(sums_up_to(block))
 }
 
 /// The greatest number before each one; 0 for the first.

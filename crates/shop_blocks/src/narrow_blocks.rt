@@ -59,11 +59,6 @@ impl Block for NarrowBlock {
     }
 
     #[inline(always)]
-    fn last(block: Self) -> Self {
-        NarrowBlock(block.0.swizzle([7, 7, 7, 7, 7, 7, 7, 7]))
-    }
-
-    #[inline(always)]
     fn up_one(block: Self) -> Self {
         NarrowBlock(block.0.shuffle(u16x8::splat(0), [8, 0, 1, 2, 3, 4, 5, 6]))
     }

@@ -36,6 +36,15 @@ length-lanes (h ∷ hs) (t ∷ ts) (q ∷ qs) a b =
 abbrev pub lane_at : List ℕ → List ℕ → List ℕ → ℕ → Lane
 lane_at hs ts qs i = record { head = get_or hs i 0; time = get_or ts i 0; tail = get_or qs i 0 }
 
+pub get_or-lanes : (hs ts qs : List ℕ) (i : ℕ) (d : Lane) → length ts ≡ length hs → length qs ≡ length hs
+    → i < length hs → get_or (lanes hs ts qs) i d ≡ lane_at hs ts qs i
+get_or-lanes [] ts qs i d a b lt = absurd (omega arith)
+get_or-lanes (h ∷ hs) [] qs i d a b lt = absurd (omega arith)
+get_or-lanes (h ∷ hs) (t ∷ ts) [] i d a b lt = absurd (omega arith)
+get_or-lanes (h ∷ hs) (t ∷ ts) (q ∷ qs) zero d a b lt = refl
+get_or-lanes (h ∷ hs) (t ∷ ts) (q ∷ qs) (suc i) d a b lt =
+    get_or-lanes hs ts qs i d (omega arith) (omega arith) (omega arith)
+
 pub lanes_more : (hs ts qs : List ℕ) (i : ℕ) → length ts ≡ length hs → length qs ≡ length hs → i < length hs
     → drop i (lanes hs ts qs) ≡ lane_at hs ts qs i ∷ drop (i + 1) (lanes hs ts qs)
 lanes_more [] ts qs i a b lt = absurd (omega arith)

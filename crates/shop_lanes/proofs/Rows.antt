@@ -1,7 +1,7 @@
 -- Worked rows: lanes served by hand, and the bits of a number.
-use Rattle.std.specs.Prelude.{◌≡◌, List, [], ◌∷◌}
+use Rattle.std.specs.Prelude.{◌≡◌, ℕ, List, [], ◌∷◌}
 use Rattle.std.proofs.Common.{refl}
-use Rattle.shop_lanes.specs.Rows.{Rows, Lane, lanes_between}
+use Rattle.shop_lanes.specs.Rows.{Rows, Lane, lanes_between, place_at_rank, by_columns}
 use Rattle.shop_lanes.specs.Spans.{span, spans_between, own_span}
 use Rattle.shop_lanes.specs.Marks.{positions_below}
 use Rattle.shop_lanes.specs.SetBits.{set_bits}
@@ -71,8 +71,29 @@ second_block = refl
 pub second_block_from_20 : span 1 20 (lanes_between two_blocks 1 2) ≡ 35
 second_block_from_20 = refl
 
--- both blocks from 0 on: at 4, 6, 9, 16 and 17, with their tails at 13, 11, 10, 24 and 19
-pub both_blocks : span 1 0 (lanes_between two_blocks 0 2) ≡ 24
+-- in two blocks rank 0 stands in the first lane of the first one, rank 1 in the first lane of the second one
+pub second_rank : place_at_rank 2 1 ≡ 8
+second_rank = refl
+
+pub last_rank : place_at_rank 2 15 ≡ 15
+last_rank = refl
+
+-- in three blocks the sixth rank is the last one of the second lanes
+pub sixth_rank : place_at_rank 3 5 ≡ 17
+sixth_rank = refl
+
+pub one_block : by_columns {A = ℕ} 1 (3 ∷ 1 ∷ 4 ∷ 1 ∷ 5 ∷ 9 ∷ 2 ∷ 6 ∷ []) ≡ 3 ∷ 1 ∷ 4 ∷ 1 ∷ 5 ∷ 9 ∷ 2 ∷ 6 ∷ []
+one_block = refl
+
+pub two_columns :
+    by_columns {A = ℕ} 2
+    (0 ∷ 1 ∷ 2 ∷ 3 ∷ 4 ∷ 5 ∷ 6 ∷ 7 ∷ 8 ∷ 9 ∷ 10 ∷ 11 ∷ 12 ∷ 13 ∷ 14 ∷ 15 ∷ [])
+    ≡ 0 ∷ 8 ∷ 1 ∷ 9 ∷ 2 ∷ 10 ∷ 3 ∷ 11 ∷ 4 ∷ 12 ∷ 5 ∷ 13 ∷ 6 ∷ 14 ∷ 7 ∷ 15 ∷ []
+two_columns = refl
+
+-- both blocks by columns from 0 on, positions 0, 1, 9, 2 and 15: at 4, 6, 13, 16 and 17, with their tails at 13, 11, 21,
+-- 17 and 19
+pub both_blocks : span 1 0 (lanes_between two_blocks 0 2) ≡ 21
 both_blocks = refl
 
 -- 10 is 1010 in binary

@@ -1,11 +1,15 @@
 -- Rows of numbers by position, in blocks of eight, and the lanes that they make.
 --     Rows                           heads, times and tails by position, and ends by job
 --     Lane                           what stands at one position
---     lanes_between rows from to     the lanes of the blocks from `from` on and before `to`
+--     place_at_rank count i          where rank i stands in so many blocks: ranks run down the first
+--                                    lanes of all blocks, then down the second ones, and so on
+--     by_columns count xs            what stands in so many blocks, in order of rank
+--     lanes_between rows from to     the lanes of the blocks from `from` on and before `to`, in order
+--                                    of rank
 --     lanes_of heads times tails     the same of rows that are told one by one
 --     with_head, with_end            the same rows with one number replaced
-use Rattle.std.specs.Prelude.{◌≡◌, ℕ, ◌*◌, ◌-◌, ◌≤◌, List, [], ◌∷◌, length, take, drop}
-use Rattle.std.specs.Prelude.{slice_set}
+use Rattle.std.specs.Prelude.{◌≡◌, ℕ, zero, suc, ◌+◌, ◌*◌, ◌-◌, ◌/◌, ◌%◌, ◌≤◌, List, [], ◌∷◌, ◌++◌}
+use Rattle.std.specs.Prelude.{length, take, drop, slice_set}
 
 -- heads, times and tails stand by position, ends by job
 pub record Rows : Type 0 where
@@ -30,11 +34,23 @@ lanes (h ∷ hs) (t ∷ ts) (q ∷ qs) = record { head = h; time = t; tail = q }
 abbrev pub blocks : {A : Type 0} → ℕ → ℕ → List A → List A
 blocks from to xs = take (8 * to - 8 * from) (drop (8 * from) xs)
 
+abbrev pub place_at_rank : ℕ → ℕ → ℕ
+place_at_rank count i = 8 * (i % count) + i / count
+
+-- what stands at the places of the first n ranks
+abbrev pub first_ranks : {A : Type 0} → ℕ → List A → ℕ → List A
+first_ranks count xs zero = []
+first_ranks count xs (suc n) = first_ranks count xs n ++ take 1 (drop (place_at_rank count n) xs)
+
+abbrev pub by_columns : {A : Type 0} → ℕ → List A → List A
+by_columns count xs = first_ranks count xs (8 * count)
+
 abbrev pub lanes_between : Rows → ℕ → ℕ → List Lane
-lanes_between rows from to = blocks from to (lanes rows.heads rows.times rows.tails)
+lanes_between rows from to =
+    by_columns (to - from) (blocks from to (lanes rows.heads rows.times rows.tails))
 
 abbrev pub lanes_of : List ℕ → List ℕ → List ℕ → ℕ → ℕ → List Lane
-lanes_of heads times tails from to = blocks from to (lanes heads times tails)
+lanes_of heads times tails from to = by_columns (to - from) (blocks from to (lanes heads times tails))
 
 -- there are such blocks, and a time and a tail for each head
 pub record AreBlocksOf (heads times tails : List ℕ) (from to : ℕ) : Type 0 where

@@ -12,6 +12,7 @@ use std::alloc::{AllocError, Global};
 
 /// The heads of operations by position and the ends of the jobs' next operations, of one state of a search. A head of
 /// 0 says that nothing waits at the position. Positions come in blocks of eight, which are read and added up together.
+/// Some blocks are served by rank: down the first lanes of all of them, then down the second ones, and so on.
 pub trait StateLanes: Drop {
     /// The times and tails of the operations by position, which are the same in every state.
     type Fixed: Drop;
@@ -90,24 +91,15 @@ pub trait StateLanes: Drop {
         requires fits { limit ≤ GREATEST }
         ensures { result ≡ positions_among (heads self.now) from to limit };
 
-    /// When the last operation in the blocks from `from` on and before `to` ends, its tail included, if those that wait
-    /// with a head of at least `least` are served by position, from `start` on; `most` if that is greater.
-    fn span(
-        &self,
-        fixed: &Self::Fixed,
-        from: usize,
-        to: usize,
-        least: u64,
-        start: u64,
-        most: u64,
-    ) -> u64
+    /// When the last of what waits in the blocks from `from` on and before `to` with a head of at least `least` ends,
+    /// its tail included, if that is served by rank, from 0 on; 0 if nothing waits.
+    fn load(&self, fixed: &Self::Fixed, from: usize, to: usize, least: u64) -> u64
         requires blocks { AreBlocksOf (heads self.now) (times fixed.now) (tails fixed.now) from to }
         requires least { least ≤ GREATEST }
-        requires most { most ≤ GREATEST }
-        requires fits { FitsSpan GREATEST start
+        requires fits { FitsSpan GREATEST 0
             (lanes_of (heads self.now) (times fixed.now) (tails fixed.now) from to) }
-        ensures { result ≡ max most (span least start
-            (lanes_of (heads self.now) (times fixed.now) (tails fixed.now) from to)) };
+        ensures { result ≡ span least 0
+            (lanes_of (heads self.now) (times fixed.now) (tails fixed.now) from to) };
 
     /// The greatest of `most` and the spans of those that begin no earlier than one of them, from its head on, for each
     /// head above `above` and up to `upto`; where that reaches the limit, `most` or one of these that reaches it.
@@ -136,7 +128,7 @@ pub trait StateLanes: Drop {
         ensures { result ≡ value number };
 
     /// For each position of these blocks at which something waits: when that ends if it is served at its head or, if
-    /// that is later, when the last of what else waits there ends, its tail included, served by position from there on.
+    /// that is later, when the last of what else waits there ends, its tail included, served by rank from there on.
     fn own_spans(&self, fixed: &Self::Fixed, from: usize, to: usize, owns: &mut [Self::Number])
         requires blocks { AreBlocksOf (heads self.now) (times fixed.now) (tails fixed.now) from to }
         requires room { length owns.old ≡ 8 * to - 8 * from }

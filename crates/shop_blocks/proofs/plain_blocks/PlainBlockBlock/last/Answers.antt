@@ -1,5 +1,0 @@
-use Rattle.shop_blocks.proofs.Eights.{last_everywhere}
-use Rattle.shop_blocks.proofs.plain_blocks.PlainBlockBlock.last.Goals as goal
-
-pub returns : goal.returns
-returns c = last_everywhere c.args.block.0 c.requires

@@ -1,0 +1,188 @@
+-- Blocks read down their columns: which rank stands where.
+use Rattle.std.proofs.Common.{◌≡◌, ◌≢◌, ℕ, zero, suc, ◌+◌, ◌*◌, ◌/◌, ◌%◌, ◌<◌, ◌≤◌, List, length, take}
+use Rattle.std.proofs.Common.{drop, set, get_or, refl, ap, sym, ◌∙◌, arith, subst, inl, inr, ◌⊎◌, length-set}
+use Rattle.std.specs.List.{All}
+use Rattle.std.proofs.Math.Nat.{mod-lt, div-lt_iff_lt-mul, div-add-mod, suc-mul, mul-le-mul_right}
+use Rattle.std.proofs.lemmas.Nat.{div-mul-add, mod-mul-add}
+use Rattle.std.proofs.lemmas.Bool.{cases_lt}
+use Rattle.std.proofs.lemmas.List.{same_lists, get_or-take, get_or-drop, length-append, get_or_append_left}
+use Rattle.std.proofs.lemmas.List.{get_or-append_right, length-take, length-drop, get_or-set_same, get_or-set_other}
+use Rattle.shop_lanes.specs.Rows.{lanes, place_at_rank, first_ranks, by_columns}
+use Rattle.shop_lanes.specs.inner.OwnSpans.{rank_of}
+use Rattle.shop_lanes.proofs.LaneLists.{length-lanes, get_or-lanes}
+
+some_blocks : (count i : ℕ) → i < 8 * count → 0 < count
+some_blocks count i lt = omega arith
+
+pub rank_parts : (count i : ℕ) → i < 8 * count → (i % count < count) × (i / count < 8)
+rank_parts count i lt =
+    let some = some_blocks count i lt
+    in (mod-lt i some, (div-lt_iff_lt-mul some).1 lt)
+
+pub place_fits : (count i : ℕ) → i < 8 * count → place_at_rank count i < 8 * count
+place_fits count i lt = let parts = rank_parts count i lt in omega (arith, parts.0, parts.1)
+
+-- the place j blocks down column k
+pub place_of_rank : (count k j : ℕ) → j < count → place_at_rank count (k * count + j) ≡ 8 * j + k
+place_of_rank count k j lt =
+    ap (λ n. 8 * n + (k * count + j) / count) (mod-mul-add k count j lt)
+    ∙ ap (λ n. 8 * j + n) (div-mul-add k count j lt)
+
+pub rank_below : (count k j : ℕ) → k < 8 → j < count → k * count + j < 8 * count
+rank_below count k j k_lt j_lt =
+    let next : suc k * count ≤ 8 * count = mul-le-mul_right count (omega (arith, k_lt))
+    in let parts = suc-mul k count
+    in omega (arith, next, parts, j_lt)
+
+pub rank_fits : (count p : ℕ) → p < 8 * count → rank_of count p < 8 * count
+rank_fits count p lt = rank_below count (p % 8) (p / 8) (omega arith) (omega arith)
+
+pub place_of_rank_of : (count p : ℕ) → p < 8 * count → place_at_rank count (rank_of count p) ≡ p
+place_of_rank_of count p lt = place_of_rank count (p % 8) (p / 8) (omega arith) ∙ omega arith
+
+pub rank_of_place : (count i : ℕ) → i < 8 * count → rank_of count (place_at_rank count i) ≡ i
+rank_of_place count i lt =
+    let parts = rank_parts count i lt
+    in let lane : (8 * (i % count) + i / count) % 8 ≡ i / count = omega (arith, parts.1)
+    in let block : (8 * (i % count) + i / count) / 8 ≡ i % count = omega (arith, parts.1)
+    in ap (λ n. n * count + (8 * (i % count) + i / count) / 8) lane
+    ∙ ap (λ n. i / count * count + n) block
+    ∙ whole (i / count) (div-add-mod i count)
+  where
+    whole : (q : ℕ) → count * q + i % count ≡ i → q * count + i % count ≡ i
+    whole q e = omega (arith, e)
+
+pub rank_of_parts : (count k j : ℕ) → k < 8 → rank_of count (8 * j + k) ≡ k * count + j
+rank_of_parts count k j lt =
+    let lane : (8 * j + k) % 8 ≡ k = omega arith
+    in let block : (8 * j + k) / 8 ≡ j = omega arith
+    in ap (λ n. n * count + (8 * j + k) / 8) lane ∙ ap (λ n. k * count + n) block
+
+module _ {A : Type 0} where
+  one_long : (p : ℕ) (xs : List A) → p < length xs → length (take 1 (drop p xs)) ≡ 1
+  one_long p xs lt = omega (arith, length-take 1 (drop p xs), length-drop p xs)
+
+  module _ (count : ℕ) (xs : List A) (whole : length xs ≡ 8 * count) where
+    length-ranks : (n : ℕ) → n ≤ 8 * count → length (first_ranks count xs n) ≡ n
+    length-ranks zero le = refl
+    length-ranks (suc n) le =
+        let place = place_fits count n (omega arith)
+        in let rest = length-ranks n (omega arith)
+        in let both = length-append (first_ranks count xs n) (take 1 (drop (place_at_rank count n) xs))
+        in let one = one_long (place_at_rank count n) xs (omega (arith, place, whole))
+        in omega (arith, rest, both, one)
+
+    ranks-at : (n : ℕ) → n ≤ 8 * count → (i : ℕ) (d : A) → i < n
+        → get_or (first_ranks count xs n) i d ≡ get_or xs (place_at_rank count i) d
+    ranks-at zero le i d lt = absurd (omega arith)
+    ranks-at (suc n) le i d lt =
+        let front = first_ranks count xs n
+        in let last = take 1 (drop (place_at_rank count n) xs)
+        in let long = length-ranks n (omega arith)
+        in elim (cases_lt i n) [
+          | inl before ↦ get_or_append_left front last d i (omega (arith, long, before))
+              ∙ ranks-at n (omega arith) i d before
+          | inr from ↦
+              let here : i ≡ n = omega (arith, from)
+              in get_or-append_right front last n i d long from
+              ∙ ap (λ k. get_or last k d) (omega (arith, here))
+              ∙ get_or-take 1 (drop (place_at_rank count n) xs) 0 d (omega arith)
+              ∙ get_or-drop (place_at_rank count n) xs 0 d
+              ∙ ap (λ k. get_or xs k d) (omega arith)
+              ∙ ap (λ k. get_or xs (place_at_rank count k) d) (sym here)
+        ]
+
+    pub length-by_columns : length (by_columns count xs) ≡ 8 * count
+    length-by_columns = length-ranks (8 * count) (omega arith)
+
+    pub by_columns-at : (i : ℕ) (d : A) → i < 8 * count
+        → get_or (by_columns count xs) i d ≡ get_or xs (place_at_rank count i) d
+    by_columns-at i d lt = ranks-at (8 * count) (omega arith) i d lt
+
+    pub by_columns-of : (p : ℕ) (d : A) → p < 8 * count
+        → get_or (by_columns count xs) (rank_of count p) d ≡ get_or xs p d
+    by_columns-of p d lt =
+        by_columns-at (rank_of count p) d (rank_fits count p lt)
+        ∙ ap (λ k. get_or xs k d) (place_of_rank_of count p lt)
+
+    pub All-by_columns : (P : A → Type 0) → All P xs → All P (by_columns count xs)
+    All-by_columns P each i d lt =
+        let inside : i < 8 * count = omega (arith, length-by_columns)
+        in subst P (sym (by_columns-at i d inside))
+        (each (place_at_rank count i) d (let fits = place_fits count i inside in omega (arith, fits, whole)))
+
+    pub All-by_places : (P : A → Type 0) → All P (by_columns count xs) → All P xs
+    All-by_places P each p d lt =
+        let inside : p < 8 * count = omega (arith, whole)
+        in subst P (by_columns-of p d inside)
+        (each (rank_of count p) d (let fits = rank_fits count p inside in omega (arith, fits, length-by_columns)))
+
+pub lanes-by_columns : (count : ℕ) (hs ts qs : List ℕ) → length hs ≡ 8 * count → length ts ≡ length hs
+    → length qs ≡ length hs
+    → lanes (by_columns count hs) (by_columns count ts) (by_columns count qs) ≡ by_columns count (lanes hs ts qs)
+lanes-by_columns count hs ts qs whole a b =
+    let hl = length-by_columns count hs whole
+    in let tl = length-by_columns count ts (a ∙ whole)
+    in let ql = length-by_columns count qs (b ∙ whole)
+    in let al : length (lanes hs ts qs) ≡ 8 * count = length-lanes hs ts qs a b ∙ whole
+    in let rl = length-lanes (by_columns count hs) (by_columns count ts) (by_columns count qs) (tl ∙ sym hl)
+    (ql ∙ sym hl)
+    in same_lists (lanes (by_columns count hs) (by_columns count ts) (by_columns count qs))
+    (by_columns count (lanes hs ts qs))
+    (rl ∙ hl ∙ sym (length-by_columns count (lanes hs ts qs) al))
+    (λ i d lt.
+    let inside : i < 8 * count = omega (arith, rl, hl)
+    in let place = place_at_rank count i
+    in let there = place_fits count i inside
+    in get_or-lanes (by_columns count hs) (by_columns count ts) (by_columns count qs) i d (tl ∙ sym hl) (ql ∙ sym hl)
+    (omega (arith, inside, hl))
+    ∙ ap (λ h. record {
+      head = h;
+      time = get_or (by_columns count ts) i 0;
+      tail = get_or (by_columns count qs) i 0;
+    }) (by_columns-at count hs whole i 0 inside)
+    ∙ ap (λ t. record { head = get_or hs place 0; time = t; tail = get_or (by_columns count qs) i 0 })
+    (by_columns-at count ts (a ∙ whole) i 0 inside)
+    ∙ ap (λ q. record { head = get_or hs place 0; time = get_or ts place 0; tail = q })
+    (by_columns-at count qs (b ∙ whole) i 0 inside)
+    ∙ sym (get_or-lanes hs ts qs place d a b (omega (arith, there, whole)))
+    ∙ sym (by_columns-at count (lanes hs ts qs) al i d inside))
+
+-- a number replaced at a place is replaced at its rank
+pub by_columns-set : (count : ℕ) (xs : List ℕ) → length xs ≡ 8 * count → (p x : ℕ) → p < 8 * count
+    → by_columns count (set xs p x) ≡ set (by_columns count xs) (rank_of count p) x
+by_columns-set count xs whole p x lt =
+    let written : length (set xs p x) ≡ 8 * count = length-set xs p x ∙ whole
+    in let long = length-by_columns count (set xs p x) written
+    in let ranked = length-by_columns count xs whole
+    in let r = rank_of count p
+    in let r_lt = rank_fits count p lt
+    in same_lists (by_columns count (set xs p x)) (set (by_columns count xs) r x)
+    (long ∙ sym (length-set (by_columns count xs) r x ∙ ranked))
+    (λ i d i_lt.
+    let inside : i < 8 * count = omega (arith, long)
+    in let there = place_fits count i inside
+    in by_columns-at count (set xs p x) written i d inside
+    ∙ elim (same_or_not i r) [
+      | inl same ↦
+          let here : place_at_rank count i ≡ p = ap (place_at_rank count) same ∙ place_of_rank_of count p lt
+          in ap (λ k. get_or (set xs p x) k d) here
+          ∙ get_or-set_same xs p x d (omega (arith, whole, lt))
+          ∙ sym (get_or-set_same (by_columns count xs) r x d (omega (arith, ranked, r_lt)))
+          ∙ ap (λ k. get_or (set (by_columns count xs) r x) k d) (sym same)
+      | inr other ↦
+          let apart : place_at_rank count i ≢ p =
+          λ e. other (sym (rank_of_place count i inside) ∙ ap (rank_of count) e)
+          in get_or-set_other xs p (place_at_rank count i) x d apart
+          ∙ sym (by_columns-at count xs whole i d inside)
+          ∙ sym (get_or-set_other (by_columns count xs) r i x d other)
+    ])
+  where
+    same_or_not : (i r : ℕ) → (i ≡ r) ⊎ (i ≢ r)
+    same_or_not i r = elim (cases_lt i r) [
+      | inl less ↦ inr (λ e. omega (arith, e))
+      | inr le ↦ elim (cases_lt r i) [
+        | inl more ↦ inr (λ e. omega (arith, e))
+        | inr back ↦ inl (omega arith)
+      ]
+    ]
