@@ -1,4 +1,5 @@
-// The greatest of the spans from many heads on, found by leaps: each load settles all spans up to some head.
+// The greatest span over a range of heads. The load of what waits from a head on bounds the spans of all heads up to the
+// bound less that load, so most heads are leapt over.
 ghost use Rattle.std.specs.Prelude.{◌≡◌, ℕ, ◌%◌, ◌<◌, ◌≤◌, max, length, map};
 ghost use Rattle.shop_lanes.specs.Spans.{spans_between, FitsSpan, IsRaisedBelow};
 ghost use Rattle.shop_lanes.specs.inner.Passes.{lanes_by};
@@ -26,7 +27,7 @@ fn least_head_of<B: Block>(count: usize, heads: &[B::Number], from: u64, greates
 }
 
 /// The greater of `most` and the spans from each head above `above` and up to `upto` on; where that reaches the limit,
-/// one that does. Where a call says the count by a number, the blocks are read without a loop.
+/// one that does. With a literal `count` the loops over blocks are unrolled.
 #[inline(always)]
 fn leap<B: Block>(
     count: usize,

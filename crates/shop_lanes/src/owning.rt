@@ -1,5 +1,5 @@
-// When what else waits on a machine ends, if one operation is served before: of all operations by three passes, of which
-// the first sums up the columns, and the others go down the columns and back, from what stands in the columns beside.
+// The own span of each operation that waits on a machine: when the last operation ends if this one is sequenced first.
+// The first of three passes sums up the columns, the others go down the columns and back.
 ghost use Rattle.std.specs.Prelude.{◌≡◌, ◌%◌, ◌/◌, length, max};
 ghost use Rattle.std.specs.Simd.Lanes.{zip2};
 ghost use Rattle.shop_blocks.specs.Eights.{added, lessened, AddsFit};
@@ -112,7 +112,7 @@ fn write_back<B: Block>(
     }
 }
 
-/// All passes. Where a call says the count by a number, the blocks are read without a loop.
+/// All three passes. With a literal `count` the loops over blocks are unrolled.
 #[inline(always)]
 fn own_spans_of<B: Block>(
     count: usize,
@@ -180,8 +180,8 @@ fn own_spans_of_longer<B: Block>(
     }
 }
 
-/// Of each operation that waits, the greater of its end and of when the last of what else waits ends, if that is served
-/// by rank from there on.
+/// The own span of each operation that waits: the greater of its end and of the greatest end, tails included, of the
+/// others, sequenced after it by rank.
 #[inline(always)]
 pub(crate) fn own_spans<B: Block>(
     heads: &[B::Number],

@@ -13,7 +13,7 @@ use crate::served_blocks::serve;
 use shop_blocks::{Block, greatest_of, least_of, sums_before};
 
 /// The columns of all blocks served side by side, each from 0 on: when each one ends, and the greatest end of each one,
-/// tails included. Where a call says the count by a number, the blocks are served without a loop.
+/// tails included. With a literal `count` the loop over blocks is unrolled.
 #[inline(always)]
 pub(crate) fn serve_columns<B: Block>(
     count: usize,
