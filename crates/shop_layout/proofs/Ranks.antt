@@ -1,6 +1,7 @@
 -- Ranks of a machine and their positions.
-use Rattle.std.proofs.Common.{◌≡◌, ℕ, ◌+◌, ◌-◌, ◌*◌, ◌/◌, ◌%◌, ◌≤◌, ◌<◌, List, get_or, ap, ◌∙◌, arith}
-use Rattle.shop_lanes.proofs.Columns.{place_fits, place_of_rank_of, rank_fits}
+use Rattle.std.proofs.Common.{◌≡◌, ℕ, ◌+◌, ◌-◌, ◌*◌, ◌/◌, ◌%◌, ◌≤◌, ◌<◌, List, get_or, sym, ◌∙◌, ap, arith}
+use Rattle.shop_lanes.specs.Rows.{place_at_rank}
+use Rattle.shop_lanes.proofs.Columns.{place_fits, place_of_rank_of, rank_fits, rank_of_place}
 use Rattle.shop_layout.specs.Positions.{position_at_rank}
 
 -- the rank that stands at position q
@@ -30,3 +31,12 @@ module _ (blocks : List ℕ) (m : ℕ) where
         within = omega (arith, a);
         at = ap (λ (n : ℕ). 8 * get_or blocks m 0 + n) b ∙ omega arith;
       }
+
+  -- two ranks don't stand at one position
+  pub same_rank : (i k : ℕ) → 8 * get_or blocks m 0 + i < 8 * get_or blocks (m + 1) 0
+      → 8 * get_or blocks m 0 + k < 8 * get_or blocks (m + 1) 0
+      → position_at_rank blocks m i ≡ position_at_rank blocks m k → i ≡ k
+  same_rank i k here there at =
+      let e : place_at_rank count i ≡ place_at_rank count k = omega (arith, at)
+      in sym (rank_of_place count i (omega arith))
+      ∙ (ap (λ (p : ℕ). p % 8 * count + p / 8) e ∙ rank_of_place count k (omega arith))
