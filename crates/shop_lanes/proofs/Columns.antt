@@ -1,14 +1,15 @@
 -- Blocks read down their columns: which rank stands where.
-use Rattle.std.proofs.Common.{◌≡◌, ◌≢◌, ℕ, zero, suc, ◌+◌, ◌*◌, ◌/◌, ◌%◌, ◌<◌, ◌≤◌, List, [], ◌∷◌, ◌++◌, length, take}
+use Rattle.std.proofs.Common.{◌≡◌, ◌≢◌, ℕ, zero, suc, ◌+◌, ◌*◌, ◌/◌, ◌%◌, ◌<◌, ◌≤◌, List, length, take}
 use Rattle.std.proofs.Common.{drop, set, get_or, refl, ap, sym, ◌∙◌, arith, subst, inl, inr, ◌⊎◌, length-set}
 use Rattle.std.specs.List.{All}
-use Rattle.std.proofs.Math.Nat.{mod-lt, div-lt_iff_lt-mul, div-add-mod}
+use Rattle.std.proofs.Math.Nat.{mod-lt, div-lt_iff_lt-mul, div-add-mod, suc-mul, mul-le-mul_right}
 use Rattle.std.proofs.lemmas.Nat.{div-mul-add, mod-mul-add}
 use Rattle.std.proofs.lemmas.Bool.{cases_lt}
 use Rattle.std.proofs.lemmas.List.{same_lists, get_or-take, get_or-drop, length-append, get_or_append_left}
 use Rattle.std.proofs.lemmas.List.{get_or-append_right, length-take, length-drop, get_or-set_same, get_or-set_other}
-use Rattle.shop_lanes.specs.Rows.{Lane, lanes, place_at_rank, first_ranks, by_columns}
-use Rattle.shop_lanes.proofs.LaneLists.{lane_at, length-lanes, get_or-lanes}
+use Rattle.shop_lanes.specs.Rows.{lanes, place_at_rank, first_ranks, by_columns}
+use Rattle.shop_lanes.specs.inner.OwnSpans.{rank_of}
+use Rattle.shop_lanes.proofs.LaneLists.{length-lanes, get_or-lanes}
 
 some_blocks : (count i : ℕ) → i < 8 * count → 0 < count
 some_blocks count i lt = omega arith
@@ -27,19 +28,11 @@ place_of_rank count k j lt =
     ap (λ n. 8 * n + (k * count + j) / count) (mod-mul-add k count j lt)
     ∙ ap (λ n. 8 * j + n) (div-mul-add k count j lt)
 
-abbrev pub rank_of : ℕ → ℕ → ℕ
-rank_of count p = p % 8 * count + p / 8
-
 pub rank_below : (count k j : ℕ) → k < 8 → j < count → k * count + j < 8 * count
-rank_below count 0 j k_lt j_lt = omega arith
-rank_below count 1 j k_lt j_lt = omega arith
-rank_below count 2 j k_lt j_lt = omega arith
-rank_below count 3 j k_lt j_lt = omega arith
-rank_below count 4 j k_lt j_lt = omega arith
-rank_below count 5 j k_lt j_lt = omega arith
-rank_below count 6 j k_lt j_lt = omega arith
-rank_below count 7 j k_lt j_lt = omega arith
-rank_below count (suc (suc (suc (suc (suc (suc (suc (suc k)))))))) j k_lt j_lt = absurd (omega arith)
+rank_below count k j k_lt j_lt =
+    let next : suc k * count ≤ 8 * count = mul-le-mul_right count (omega (arith, k_lt))
+    in let parts = suc-mul k count
+    in omega (arith, next, parts, j_lt)
 
 pub rank_fits : (count p : ℕ) → p < 8 * count → rank_of count p < 8 * count
 rank_fits count p lt = rank_below count (p % 8) (p / 8) (omega arith) (omega arith)
@@ -123,21 +116,6 @@ module _ {A : Type 0} where
         let inside : p < 8 * count = omega (arith, whole)
         in subst P (by_columns-of p d inside)
         (each (rank_of count p) d (let fits = rank_fits count p inside in omega (arith, fits, length-by_columns)))
-
--- a row as it stands, and the same row by rank
-pub record AreRanked (count : ℕ) (xs ranked : List ℕ) : Type 0 where
-  pub whole : length xs ≡ 8 * count
-  pub long : length ranked ≡ 8 * count
-  pub at : (k j : ℕ) → k < 8 → j < count → get_or ranked (k * count + j) 0 ≡ get_or xs (8 * j + k) 0
-
-pub are_ranked : (count : ℕ) (xs : List ℕ) → length xs ≡ 8 * count → AreRanked count xs (by_columns count xs)
-are_ranked count xs whole = record {
-  whole = whole;
-  long = length-by_columns count xs whole;
-  at = λ k j k_lt j_lt.
-      by_columns-at count xs whole (k * count + j) 0 (rank_below count k j k_lt j_lt)
-      ∙ ap (λ p. get_or xs p 0) (place_of_rank count k j j_lt);
-}
 
 pub lanes-by_columns : (count : ℕ) (hs ts qs : List ℕ) → length hs ≡ 8 * count → length ts ≡ length hs
     → length qs ≡ length hs

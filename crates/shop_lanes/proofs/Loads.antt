@@ -5,7 +5,7 @@ use Rattle.std.proofs.lemmas.List.Sums.{sum_by-cons}
 use Rattle.shop_lanes.specs.Rows.{Lane}
 use Rattle.shop_lanes.specs.Spans.{span, greatest_by}
 use Rattle.shop_lanes.specs.inner.Passes.{clock_after}
-use Rattle.shop_lanes.proofs.BlockTurns.{span-append}
+use Rattle.shop_lanes.proofs.SpanParts.{span-append}
 
 -- all ends are later by the start; with no lane there is but the start
 pub span-later : (least s k : ℕ) (xs : List Lane) → max s (span least (s + k) xs) ≡ s + span least k xs
@@ -94,6 +94,24 @@ work-one least x = by_test (leb least x.head)
     by_test : (on : Bool) → cond on (0 + x.time) 0 ≡ cond on x.time 0
     by_test true = omega arith
     by_test false = refl
+
+pub work_more : (least : ℕ) (xs : List Lane) (x : Lane)
+    → clock_after least 0 (xs ++ (x ∷ [])) ≡ clock_after least 0 xs + cond (leb least x.head) x.time 0
+work_more least xs x = work-append least xs (x ∷ []) ∙ ap (λ m. clock_after least 0 xs + m) (work-one least x)
+
+pub load_more : (least : ℕ) (xs : List Lane) (x : Lane)
+    → span least 0 (xs ++ (x ∷ []))
+    ≡ max (span least 0 xs) (cond (leb least x.head) (clock_after least 0 xs + cond (leb least x.head) x.time 0 + x.tail)
+    0)
+load_more least xs x =
+    load-append least xs (x ∷ []) ∙ by_test (leb least x.head) (work_le_load least xs)
+  where
+    by_test : (on : Bool) → clock_after least 0 xs ≤ span least 0 xs
+        → max (span least 0 xs)
+        (clock_after least 0 xs + cond on (max (0 + x.time + x.tail) (span least (0 + x.time) [])) (span least 0 []))
+        ≡ max (span least 0 xs) (cond on (clock_after least 0 xs + cond on x.time 0 + x.tail) 0)
+    by_test true le = omega arith
+    by_test false le = omega (arith, le)
 
 -- neither is above what all lanes together come to
 pub work_le : (least : ℕ) (xs : List Lane) → clock_after least 0 xs ≤ sum_by (λ x. x.time) xs

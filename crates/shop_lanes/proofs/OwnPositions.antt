@@ -5,15 +5,13 @@ use Rattle.std.proofs.Common.{take-append-drop, length-set}
 use Rattle.std.specs.Prelude.{All}
 use Rattle.std.proofs.lemmas.List.Sums.{sum_by-cons, sum_by-append}
 use Rattle.std.proofs.lemmas.Bool.Decides.{nat_tests}
-use Rattle.shop_blocks.specs.Folds.{greatest}
 use Rattle.shop_lanes.specs.Rows.{Lane, lanes}
 use Rattle.shop_lanes.specs.Spans.{span, FitsSpan, FitOwnSpans}
-use Rattle.shop_lanes.specs.inner.OwnSpans.{own_span_at}
-use Rattle.shop_lanes.specs.inner.Passes.{clock_after, tailed_ends}
-use Rattle.shop_lanes.proofs.BlockTurns.{greatest_by-append}
+use Rattle.shop_lanes.specs.inner.OwnSpans.{IsLoadBehind}
+use Rattle.shop_lanes.specs.inner.Passes.{clock_after}
+use Rattle.shop_lanes.proofs.SpanParts.{greatest_by-append}
 use Rattle.shop_lanes.proofs.LaneLists.{lane_at, lanes_more, lanes-take, lanes-drop}
 use Rattle.shop_lanes.proofs.Loads.{work-append, load-append, work-one, work_le_load, work_le, load_le, span_from_start}
-use Rattle.shop_lanes.proofs.TailedEnds.{take-tailed, drop-tailed, greatest-tailed}
 
 -- where all lanes are those before one, that one and those behind, none of their sums is above the limit
 pub record ArePartsWithin (limit start : ℕ) (before : List Lane) (x : Lane) (behind : List Lane) : Type 0 where
@@ -67,6 +65,12 @@ taken_more (h ∷ hs) (t ∷ ts) (q ∷ qs) (suc i) a b lt =
     ap (λ l. record { head = h; time = t; tail = q } ∷ l)
     (taken_more hs ts qs i (omega arith) (omega arith) (omega arith))
 
+-- its end, or when the last of what else waits ends if it is served in this order from there on
+abbrev pub own_in_order : List ℕ → List ℕ → List ℕ → ℕ → ℕ
+own_in_order heads times tails i =
+    let end = get_or heads i 0 + get_or times i 0
+    in max end (span 1 end (lanes (set heads i 0) times tails))
+
 -- one operation in numbers: what is written fits
 fit_numbers : (limit h t q C A R K Z : ℕ) (on : Bool) → K ≡ C + cond on t 0 → max K Z ≡ K + R
     → h + C + t + q ≤ limit → h + A + t ≤ limit → h + C + t + R ≤ limit
@@ -117,7 +121,7 @@ module _ (hs ts qs : List ℕ) (a : length ts ≡ length hs) (b : length qs ≡ 
 
   own_is : (p r : ℕ) → p < length hs
       → r ≡ max (span 1 0 (take p all)) (clock_after 1 0 (take p all) + span 1 0 (drop (p + 1) all))
-      → get_or hs p 0 + get_or ts p 0 + r ≡ own_span_at hs ts qs p
+      → get_or hs p 0 + get_or ts p 0 + r ≡ own_in_order hs ts qs p
   own_is p r lt e =
       let taken = set hs p 0
       in let none : get_or taken p 0 ≡ 0 = set_to_none hs p
@@ -129,28 +133,13 @@ module _ (hs ts qs : List ℕ) (a : length ts ≡ length hs) (b : length qs ≡ 
       in ap (λ m. get_or hs p 0 + get_or ts p 0 + m) (e ∙ sym load)
       ∙ sym (span_from_start 1 (get_or hs p 0 + get_or ts p 0) (lanes taken ts qs))
 
-  -- the greatest ends before a position, and from one on
-  pub ends_before : (i : ℕ) → greatest (take i (tailed_ends 1 0 all)) ≡ span 1 0 (take i all)
-  ends_before i = ap greatest (take-tailed i 1 0 all) ∙ greatest-tailed 1 0 (take i all)
-
-  ends_from : (i : ℕ)
-      → max (clock_after 1 0 (take i all)) (greatest (drop i (tailed_ends 1 0 all)))
-      ≡ clock_after 1 0 (take i all) + span 1 0 (drop i all)
-  ends_from i =
-      let clock = clock_after 1 0 (take i all)
-      in ap (λ l. max clock (greatest l)) (drop-tailed i 1 0 all)
-      ∙ ap (max clock) (greatest-tailed 1 clock (drop i all))
-      ∙ span_from_start 1 clock (drop i all)
-
   module _ (i : ℕ) (lt : i < length hs) (before behind : ℕ) (before_is : before ≡ span 1 0 (take i all))
-      (behind_is : behind ≡ greatest (drop (suc i) (tailed_ends 1 0 all))) where
+      (behind_is : IsLoadBehind all (suc i) behind) where
     behind_here : max (clock_after 1 0 (take (suc i) all)) behind
         ≡ clock_after 1 0 (take (suc i) all) + span 1 0 (drop (i + 1) all)
     behind_here =
         let on : suc i ≡ i + 1 = omega arith
-        in ap (max (clock_after 1 0 (take (suc i) all))) behind_is
-        ∙ ends_from (suc i)
-        ∙ ap (λ k. clock_after 1 0 (take (suc i) all) + span 1 0 (drop k all)) on
+        in behind_is ∙ ap (λ k. clock_after 1 0 (take (suc i) all) + span 1 0 (drop k all)) on
 
     pub own_fits : (limit : ℕ) → FitOwnSpans limit all
         → (get_or hs i 0 + get_or ts i 0 ≤ limit)
@@ -168,7 +157,7 @@ module _ (hs ts qs : List ℕ) (a : length ts ≡ length hs) (b : length qs ≡ 
         (work_more i lt) behind_here within.fit load_before within.load_behind
 
     pub own_at : 0 < get_or hs i 0
-        → get_or hs i 0 + get_or ts i 0 + max before (behind - get_or ts i 0) ≡ own_span_at hs ts qs i
+        → get_or hs i 0 + get_or ts i 0 + max before (behind - get_or ts i 0) ≡ own_in_order hs ts qs i
     own_at waits =
         let on : leb 1 (get_or hs i 0) ≡ true = is_on (get_or hs i 0) waits
         in let served : cond (leb 1 (get_or hs i 0)) (get_or ts i 0) 0 ≡ get_or ts i 0 = rw on refl

@@ -1,10 +1,10 @@
 -- Own spans in blocks that were sliced out of rows are those of the rows.
-use Rattle.std.proofs.Common.{◌≡◌, ℕ, zero, suc, ◌+◌, ◌-◌, ◌*◌, ◌<◌, ◌≤◌, max, List, [], ◌∷◌, length, map, take, drop}
+use Rattle.std.proofs.Common.{◌≡◌, ℕ, zero, suc, ◌+◌, ◌-◌, ◌*◌, ◌/◌, ◌<◌, ◌≤◌, max, List, [], ◌∷◌, length, map, take, drop}
 use Rattle.std.proofs.Common.{set}
 use Rattle.std.proofs.Common.{get_or, refl, ap, sym, ◌∙◌, arith, length-set}
 use Rattle.std.proofs.lemmas.List.{length-map}
 use Rattle.std.proofs.lemmas.Simd.{get_or-chunk}
-use Rattle.shop_lanes.specs.Rows.{lanes, blocks}
+use Rattle.shop_lanes.specs.Rows.{lanes, blocks, by_columns}
 use Rattle.shop_lanes.specs.Spans.{span, own_span, AreOwnSpans}
 use Rattle.shop_lanes.specs.inner.OwnSpans.{own_span_at, AreOwnSpansOf}
 use Rattle.shop_lanes.proofs.LaneLists.{lanes-blocks, length-blocks}
@@ -22,7 +22,7 @@ drop-set (suc k) i x (y ∷ xs) =
 
 own_in_blocks : (hs ts qs : List ℕ) (from to q : ℕ) → length ts ≡ length hs → length qs ≡ length hs → 8 * from ≤ q
     → q < 8 * to
-    → own_span_at (blocks from to hs) (blocks from to ts) (blocks from to qs) (q - 8 * from)
+    → own_span_at (to - from) (blocks from to hs) (blocks from to ts) (blocks from to qs) (q - 8 * from)
     ≡ own_span hs ts qs from to q
 own_in_blocks hs ts qs from to q a b le lt =
     let i = q - 8 * from
@@ -43,8 +43,10 @@ own_in_blocks hs ts qs from to q a b le lt =
     ∙ lanes-blocks (set hs q 0) ts qs from to (a ∙ sym many) (b ∙ sym many)
     in let end : get_or (blocks from to hs) i 0 + get_or (blocks from to ts) i 0 ≡ get_or hs q 0 + get_or ts q 0 =
     omega (arith, head, time)
-    in ap (λ e. max e (span 1 e (lanes (set (blocks from to hs) i 0) (blocks from to ts) (blocks from to qs)))) end
-    ∙ ap (λ l. max (get_or hs q 0 + get_or ts q 0) (span 1 (get_or hs q 0 + get_or ts q 0) l)) whole
+    in ap (λ e. max e (span 1 e (by_columns (to - from)
+    (lanes (set (blocks from to hs) i 0) (blocks from to ts) (blocks from to qs))))) end
+    ∙ ap (λ l. max (get_or hs q 0 + get_or ts q 0) (span 1 (get_or hs q 0 + get_or ts q 0) (by_columns (to - from) l)))
+    whole
 
 module _ {A : Type 0} (f : A → ℕ) {heads times tails : List A} (hs ts qs : List A) (from to : ℕ) (eh : hs ≡ heads)
     (et : ts ≡ times) (eq : qs ≡ tails) where
@@ -66,8 +68,10 @@ module _ {A : Type 0} (f : A → ℕ) {heads times tails : List A} (hs ts qs : L
       ap (λ l. get_or l i 0) h_is
       ∙ get_or-chunk (8 * from) (8 * to - 8 * from) (map f heads) i 0 (omega arith)
       ∙ ap (λ k. get_or (map f heads) k 0) whole
+      in let count : length (slice hs) / 8 ≡ to - from = omega (arith, many)
       in h i (omega (arith, many)) (omega (arith, head, waits))
-      ∙ ap (λ l. own_span_at l (map f (slice ts)) (map f (slice qs)) i) h_is
-      ∙ ap (λ l. own_span_at (blocks from to (map f heads)) l (map f (slice qs)) i) t_is
-      ∙ ap (λ l. own_span_at (blocks from to (map f heads)) (blocks from to (map f times)) l i) q_is
+      ∙ ap (λ n. own_span_at n (map f (slice hs)) (map f (slice ts)) (map f (slice qs)) i) count
+      ∙ ap (λ l. own_span_at (to - from) l (map f (slice ts)) (map f (slice qs)) i) h_is
+      ∙ ap (λ l. own_span_at (to - from) (blocks from to (map f heads)) l (map f (slice qs)) i) t_is
+      ∙ ap (λ l. own_span_at (to - from) (blocks from to (map f heads)) (blocks from to (map f times)) l i) q_is
       ∙ own_in_blocks (map f heads) (map f times) (map f tails) from to q a b low high

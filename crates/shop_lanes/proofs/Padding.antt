@@ -1,5 +1,5 @@
 -- Rows that are filled up to whole blocks, and what of them is seen.
-use Rattle.std.proofs.Common.{◌≡◌, ℕ, zero, suc, ◌+◌, ◌-◌, ◌*◌, ◌/◌, ◌<◌, ◌≤◌, min, max, Bool, cond, ◌&&◌, ltb, leb}
+use Rattle.std.proofs.Common.{◌≡◌, ℕ, zero, suc, ◌+◌, ◌-◌, ◌*◌, ◌/◌, ◌<◌, ◌≤◌, Bool, cond}
 use Rattle.std.proofs.Common.{inl, inr, List, [], ◌∷◌, length, map, take, drop, set, replicate, get_or, refl, ap, sym}
 use Rattle.std.proofs.Common.{◌∙◌, arith, length-set}
 use Rattle.std.proofs.lemmas.Bool.{cases_lt}
@@ -7,11 +7,10 @@ use Rattle.std.proofs.lemmas.Bool.Decides.{nat_tests}
 use Rattle.std.proofs.lemmas.List.{length-replicate, length-take, get_or-replicate, get_or-take, get_or-drop}
 use Rattle.std.proofs.lemmas.List.{take-replicate, drop-replicate, drop-set-lt}
 use lib.Lanes.{mask_l}
-use Rattle.shop_lanes.specs.Rows.{Lane, blocks}
+use Rattle.shop_lanes.specs.Rows.{blocks}
 use Rattle.shop_lanes.specs.Marks.{marked, waits_below}
 use Rattle.shop_lanes.specs.SetBits.{set_bits}
 use Rattle.shop_lanes.specs.Ends.{IsFirstLeast}
-use Rattle.shop_lanes.specs.Spans.{span, spans_from, spans_between}
 use Rattle.shop_blocks.specs.Eights.{is_between}
 use Rattle.shop_lanes.specs.inner.Passes.{IsPadded}
 use Rattle.shop_lanes.proofs.LaneLists.{length-blocks}
@@ -121,25 +120,3 @@ marks_below heads from to limit upto bits marks room few below marks_are bits_ar
     ∙ set_bits-mask (is_between 0 upto) 64 (8 * from) part short
     ∙ ap (λ n. marked (is_between 0 n) (8 * from) part) below
     ∙ marked_alike (is_between 0 (limit - 1)) (waits_below limit) (below_is_between limit) (8 * from) part
-
--- a head is above the lesser of both and at most `upto` exactly where it is above `above` and at most `upto`
-same_heads : (above upto x : ℕ) → (ltb (min above upto) x && leb x upto) ≡ (ltb above x && leb x upto)
-same_heads above upto x = grind (arith, nat_tests)
-
-pub spans_above_least : (above upto : ℕ) (all xs : List Lane)
-    → spans_from (min above upto) upto all xs ≡ spans_from above upto all xs
-spans_above_least above upto all [] = refl
-spans_above_least above upto all (x ∷ xs) =
-    ap (λ b. max (cond b (span x.head x.head all) 0) (spans_from (min above upto) upto all xs))
-    (same_heads above upto x.head)
-    ∙ ap (max (cond (ltb above x.head && leb x.head upto) (span x.head x.head all) 0))
-    (spans_above_least above upto all xs)
-
--- what a pass returns, by what it comes to
-pub spans_told : (above upto most lower r : ℕ) (xs ys : List Lane)
-    → r ≡ max most (spans_between lower upto xs) → lower ≡ min above upto → xs ≡ ys
-    → r ≡ max most (spans_between above upto ys)
-spans_told above upto most lower r xs ys b c e =
-    b ∙ ap (λ n. max most (spans_between n upto xs)) c
-    ∙ ap (max most) (spans_above_least above upto xs xs)
-    ∙ ap (λ l. max most (spans_between above upto l)) e

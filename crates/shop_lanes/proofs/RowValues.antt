@@ -1,14 +1,19 @@
 -- Rows of numbers of some width, seen as numbers.
-use Rattle.std.proofs.Common.{◌≡◌, ℕ, ◌-◌, ◌*◌, ◌++◌, min, List, length, map, take, drop, replicate, ap, sym, ◌∙◌}
-use Rattle.std.proofs.lemmas.List.{length-map, length-take, length-replicate, take-map, drop-map}
+use Rattle.std.proofs.Common.{◌≡◌, ℕ, ◌<◌, get_or, ◌-◌, ◌*◌, ◌/◌, ◌++◌, min, List, length, map, take, drop, replicate, ap, sym, ◌∙◌, arith}
+use Rattle.std.proofs.lemmas.List.{length-map, get_or-map, length-take, length-replicate, take-map, drop-map}
 use Rattle.std.proofs.Math.Seq.{take-append_seam}
 use Rattle.std.proofs.Common.{length-drop}
-use Rattle.shop_lanes.specs.Rows.{lanes, blocks}
-use Rattle.shop_lanes.proofs.LaneLists.{lanes-blocks}
+use Rattle.shop_lanes.specs.Rows.{lanes, blocks, by_columns, lanes_of, AreBlocksOf}
+use Rattle.shop_lanes.specs.inner.Passes.{lanes_by}
+use Rattle.shop_lanes.proofs.LaneLists.{lanes-blocks, length-blocks}
 
 module _ {A : Type 0} (f : A → ℕ) where
   pub as_long : (xs ys : List A) → length xs ≡ length ys → length (map f xs) ≡ length (map f ys)
   as_long xs ys e = length-map xs f ∙ e ∙ sym (length-map ys f)
+
+  pub value_read : (row : List A) (i : ℕ) (now : A) → i < length row → now ≡ get_or row i now
+      → f now ≡ get_or (map f row) i 0
+  value_read row i now lt read = ap f read ∙ sym (get_or-map f row i now 0 lt)
 
   -- the values of blocks that were sliced out of a row
   pub values_of_blocks : (xs row : List A) (from to : ℕ) → xs ≡ row
@@ -20,31 +25,28 @@ module _ {A : Type 0} (f : A → ℕ) where
       ∙ take-map f (8 * to - 8 * from) (drop (8 * from) row)
       )
 
-  pub lanes_of_values : {heads times tails : List A} (hs ts qs : List A) (from to : ℕ) → hs ≡ heads → ts ≡ times
-      → qs ≡ tails → length times ≡ length heads → length tails ≡ length heads
-      → lanes (map f (take (8 * to - 8 * from) (drop (8 * from) hs)))
-      (map f (take (8 * to - 8 * from) (drop (8 * from) ts)))
-      (map f (take (8 * to - 8 * from) (drop (8 * from) qs)))
-      ≡ blocks from to (lanes (map f heads) (map f times) (map f tails))
-  lanes_of_values {heads} {times} {tails} hs ts qs from to eh et eq a b =
-      let h = values_of_blocks hs heads from to eh
-      in let t = values_of_blocks ts times from to et
-      in let q = values_of_blocks qs tails from to eq
-      in rw (h, t, q) (lanes-blocks (map f heads) (map f times) (map f tails) from to (as_long times heads a)
-      (as_long tails heads b))
-
   pub as_short : (xs ys : List A) → length (map f xs) ≡ length (map f ys) → length xs ≡ length ys
   as_short xs ys e = sym (length-map xs f) ∙ e ∙ length-map ys f
 
-  -- the same where the values of the rows are as many
+  -- the lanes of blocks that were sliced out of rows
   pub lanes_of_rows : {heads times tails : List A} (hs ts qs : List A) (from to : ℕ) → hs ≡ heads → ts ≡ times
-      → qs ≡ tails → length (map f times) ≡ length (map f heads) → length (map f tails) ≡ length (map f heads)
-      → lanes (map f (take (8 * to - 8 * from) (drop (8 * from) hs)))
+      → qs ≡ tails → AreBlocksOf (map f heads) (map f times) (map f tails) from to
+      → lanes_by f (take (8 * to - 8 * from) (drop (8 * from) hs)) (take (8 * to - 8 * from) (drop (8 * from) ts))
+      (take (8 * to - 8 * from) (drop (8 * from) qs))
+      ≡ lanes_of (map f heads) (map f times) (map f tails) from to
+  lanes_of_rows {heads} {times} {tails} hs ts qs from to eh et eq rows =
+      let h = values_of_blocks hs heads from to eh
+      in let t = values_of_blocks ts times from to et
+      in let q = values_of_blocks qs tails from to eq
+      in let long : length (take (8 * to - 8 * from) (drop (8 * from) hs)) ≡ 8 * to - 8 * from =
+      sym (length-map (take (8 * to - 8 * from) (drop (8 * from) hs)) f)
+      ∙ ap length h ∙ length-blocks from to (map f heads) rows.within
+      in let many : length (take (8 * to - 8 * from) (drop (8 * from) hs)) / 8 ≡ to - from = omega (arith, long)
+      in ap (λ n. by_columns n (lanes (map f (take (8 * to - 8 * from) (drop (8 * from) hs)))
       (map f (take (8 * to - 8 * from) (drop (8 * from) ts)))
-      (map f (take (8 * to - 8 * from) (drop (8 * from) qs)))
-      ≡ blocks from to (lanes (map f heads) (map f times) (map f tails))
-  lanes_of_rows {heads} {times} {tails} hs ts qs from to eh et eq a b =
-      lanes_of_values hs ts qs from to eh et eq (as_short times heads a) (as_short tails heads b)
+      (map f (take (8 * to - 8 * from) (drop (8 * from) qs))))) many
+      ∙ ap (by_columns (to - from)) (rw (h, t, q) (lanes-blocks (map f heads) (map f times) (map f tails) from to
+      rows.times_are_as_many rows.tails_are_as_many))
 
   -- blocks of rows that are as long are as many
   pub blocks_as_long : {row heads : List A} (xs hs : List A) (from to : ℕ) → xs ≡ row → hs ≡ heads

@@ -1,5 +1,5 @@
 -- Worked rows: lanes served by hand, and the bits of a number.
-use Rattle.std.specs.Prelude.{◌≡◌, List, [], ◌∷◌}
+use Rattle.std.specs.Prelude.{◌≡◌, ℕ, List, [], ◌∷◌}
 use Rattle.std.proofs.Common.{refl}
 use Rattle.shop_lanes.specs.Rows.{Rows, Lane, lanes_between, place_at_rank, by_columns}
 use Rattle.shop_lanes.specs.Spans.{span, spans_between, own_span}
@@ -82,11 +82,11 @@ last_rank = refl
 pub sixth_rank : place_at_rank 3 5 ≡ 17
 sixth_rank = refl
 
-pub one_block : by_columns 1 (3 ∷ 1 ∷ 4 ∷ 1 ∷ 5 ∷ 9 ∷ 2 ∷ 6 ∷ []) ≡ 3 ∷ 1 ∷ 4 ∷ 1 ∷ 5 ∷ 9 ∷ 2 ∷ 6 ∷ []
+pub one_block : by_columns {A = ℕ} 1 (3 ∷ 1 ∷ 4 ∷ 1 ∷ 5 ∷ 9 ∷ 2 ∷ 6 ∷ []) ≡ 3 ∷ 1 ∷ 4 ∷ 1 ∷ 5 ∷ 9 ∷ 2 ∷ 6 ∷ []
 one_block = refl
 
 pub two_columns :
-    by_columns 2
+    by_columns {A = ℕ} 2
     (0 ∷ 1 ∷ 2 ∷ 3 ∷ 4 ∷ 5 ∷ 6 ∷ 7 ∷ 8 ∷ 9 ∷ 10 ∷ 11 ∷ 12 ∷ 13 ∷ 14 ∷ 15 ∷ [])
     ≡ 0 ∷ 8 ∷ 1 ∷ 9 ∷ 2 ∷ 10 ∷ 3 ∷ 11 ∷ 4 ∷ 12 ∷ 5 ∷ 13 ∷ 6 ∷ 14 ∷ 7 ∷ 15 ∷ []
 two_columns = refl

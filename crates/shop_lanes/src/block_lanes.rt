@@ -6,7 +6,7 @@ ghost use Rattle.shop_lanes.specs.inner.Passes.{IsPadded};
 use crate::leaps::leap_over;
 use crate::marking::Marks;
 use crate::owning::own_spans;
-use crate::passes::{bits_up_to, first_least, greatest_span, single_span};
+use crate::passes::{bits_up_to, first_least, greatest_span, load};
 use crate::state_lanes::StateLanes;
 use shop_blocks::Block;
 use std::alloc::{AllocError, Global};
@@ -159,20 +159,12 @@ impl<B: Block> StateLanes for BlockLanes<B> {
     }
 
     #[inline(always)]
-    fn span(
-        &self,
-        fixed: &FixedBlocks<B>,
-        from: usize,
-        to: usize,
-        least: u64,
-        start: u64,
-        most: u64,
-    ) -> u64 {
+    fn load(&self, fixed: &FixedBlocks<B>, from: usize, to: usize, least: u64) -> u64 {
         let (first, end) = (8 * from, 8 * to);
         let heads = &self.heads[first..end];
         let times = &fixed.times[first..end];
         let tails = &fixed.tails[first..end];
-        single_span::<B>(heads, times, tails, least, start, most)
+        load::<B>(heads, times, tails, least)
     }
 
     #[inline(always)]
@@ -191,8 +183,7 @@ impl<B: Block> StateLanes for BlockLanes<B> {
         let times = &fixed.times[first..end];
         let tails = &fixed.tails[first..end];
         if upto == B::GREATEST {
-            let above = above.min(upto);
-            return greatest_span::<B>(heads, times, tails, above, upto, most);
+            return greatest_span::<B>(heads, times, tails, above, most);
         }
         leap_over::<B>(heads, times, tails, above, upto, most, limit)
     }

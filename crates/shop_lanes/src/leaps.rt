@@ -4,7 +4,7 @@ ghost use Rattle.shop_lanes.specs.Spans.{spans_between, FitsSpan, IsRaisedBelow}
 ghost use Rattle.shop_lanes.specs.inner.Passes.{lanes_by};
 ghost use Rattle.shop_lanes.specs.inner.LaterHeads.{least_later};
 
-use crate::passes::single_span_of;
+use crate::passes::load_of;
 use shop_blocks::{Block, least_of};
 
 /// The least head of at least `from`; the greatest number if there is none.
@@ -52,7 +52,7 @@ fn leap<B: Block>(
     let mut bound = most;
     let mut settled = above;
     while settled < upto {
-        let load = single_span_of::<B>(count, heads, times, tails, settled + 1, 0, 0);
+        let load = load_of::<B>(count, heads, times, tails, settled + 1);
         if upto + load <= bound {
             return bound;
         }

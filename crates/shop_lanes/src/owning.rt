@@ -1,50 +1,54 @@
-// When what else waits on a machine ends, if one operation is served before: of all operations by one pass down the
-// blocks of the machine and one back.
-ghost use Rattle.std.specs.Prelude.{◌≡◌, ◌%◌, length, replicate, max};
+// When what else waits on a machine ends, if one operation is served before: of all operations by three passes, of which
+// the first sums up the columns, and the others go down the columns and back, from what stands in the columns beside.
+ghost use Rattle.std.specs.Prelude.{◌≡◌, ◌%◌, ◌/◌, length, max};
 ghost use Rattle.std.specs.Simd.Lanes.{zip2};
 ghost use Rattle.shop_blocks.specs.Eights.{added, lessened, AddsFit};
 ghost use Rattle.shop_lanes.specs.Spans.{FitsSpan, FitOwnSpans};
 ghost use Rattle.shop_lanes.specs.inner.Passes.{lanes_by};
-ghost use Rattle.shop_lanes.specs.inner.OwnSpans.{AreNoted, AreOwnSpansOf, work_of};
+ghost use Rattle.shop_lanes.specs.inner.OwnSpans.{AreNoted, AreOwnSpansOf, AreClocks, AreLoadsBefore};
+ghost use Rattle.shop_lanes.specs.inner.OwnSpans.{AreLoadsBehind};
 
-use crate::served_blocks::{clock_before, tailed_ends};
-use shop_blocks::{Block, greatest_before, greatest_behind};
+use crate::passes::serve_columns;
+use crate::served_blocks::tailed_ends;
+use shop_blocks::{Block, greatest_before, greatest_behind, sums_before};
 
-/// Notes for each position when the last of what waits before it ends, its tail included, if it is served by position
-/// from 0 on; the clock after all, in every lane.
+/// Notes for each position when the last of what waits before it ends, its tail included, if it is served by rank from 0
+/// on; from when each column begins, and the greatest end before each.
 #[inline(always)]
 fn note<B: Block>(
     count: usize,
     heads: &[B::Number],
     times: &[B::Number],
     tails: &[B::Number],
+    clocks: B,
+    most: B,
     owns: &mut [B::Number],
-) -> B
+)
     requires count { length heads.now ≡ count }
     requires whole_blocks { count % 8 ≡ 0 }
     requires times { length times.now ≡ length heads.now }
     requires tails { length tails.now ≡ length heads.now }
     requires owns { length owns.old ≡ length heads.now }
     requires fits { FitsSpan B.GREATEST 0 (lanes_by B.value heads.now times.now tails.now) }
+    requires clocks { AreClocks B.numbers (count / 8)
+        (lanes_by B.value heads.now times.now tails.now) 0 clocks }
+    requires most { AreLoadsBefore B.numbers (count / 8)
+        (lanes_by B.value heads.now times.now tails.now) 0 most }
     ensures long { length owns.new ≡ length owns.old }
     ensures noted { AreNoted B.value heads.now times.now tails.now owns.new }
-    ensures clock { B.numbers result
-        ≡ replicate 8 (work_of B.value heads.now times.now tails.now) }
 {
     let one = B::splat(1);
-    let mut clock = B::splat(0);
-    let mut most = B::splat(0);
+    let mut clocks = clocks;
+    let mut most = most;
     for block in 0..count / 8 {
         let head = B::load(heads, block);
         let time = B::load(times, block);
         let tail = B::load(tails, block);
-        let (after, late) = tailed_ends(head, time, tail, one, clock);
-        let noted = B::greater(most, greatest_before(late));
-        B::store(noted, owns, block);
-        most = B::last(B::greater(noted, late));
-        clock = after;
+        B::store(most, owns, block);
+        let (after, late) = tailed_ends(head, time, tail, one, clocks);
+        most = B::greater(most, late);
+        clocks = after;
     }
-    clock
 }
 
 /// The own spans of eight lanes. If all that waits is served from 0 on, `before` is the greatest end of what stands
@@ -65,14 +69,16 @@ fn own_ends<B: Block>(heads: B, times: B, before: B, behind: B) -> B
     B::sum(B::sum(heads, times), rest)
 }
 
-/// Writes the own spans over what was noted, from the last block back.
+/// Writes the own spans over what was noted, from the last block back; from when each column ends, and the greatest end
+/// behind each.
 #[inline(always)]
 fn write_back<B: Block>(
     count: usize,
     heads: &[B::Number],
     times: &[B::Number],
     tails: &[B::Number],
-    clock: B,
+    clocks: B,
+    behind: B,
     owns: &mut [B::Number],
 )
     requires count { length heads.now ≡ count }
@@ -82,14 +88,16 @@ fn write_back<B: Block>(
     requires owns { length owns.old ≡ length heads.now }
     requires fits { FitOwnSpans B.GREATEST (lanes_by B.value heads.now times.now tails.now) }
     requires noted { AreNoted B.value heads.now times.now tails.now owns.old }
-    requires clock { B.numbers clock
-        ≡ replicate 8 (work_of B.value heads.now times.now tails.now) }
+    requires clocks { AreClocks B.numbers (count / 8)
+        (lanes_by B.value heads.now times.now tails.now) (count / 8) clocks }
+    requires behind { AreLoadsBehind B.numbers (count / 8)
+        (lanes_by B.value heads.now times.now tails.now) (count / 8) behind }
     ensures long { length owns.new ≡ length owns.old }
     ensures owns { AreOwnSpansOf B.value heads.now times.now tails.now owns.new }
 {
     let one = B::splat(1);
-    let mut clock = clock;
-    let mut behind = B::splat(0);
+    let mut clocks = clocks;
+    let mut behind = behind;
     let mut block = count / 8;
     while block > 0 {
         block -= 1;
@@ -97,16 +105,14 @@ fn write_back<B: Block>(
         let time = B::load(times, block);
         let tail = B::load(tails, block);
         let before = B::load(owns, block);
-        clock = clock_before(head, time, one, clock);
-        let (_, late) = tailed_ends(head, time, tail, one, clock);
-        let after = B::greater(behind, greatest_behind(late));
-        let own = own_ends(head, time, before, after);
-        B::store(own, owns, block);
-        behind = B::splat(B::first(B::greater(after, late)));
+        let late = B::waiting(B::sum(clocks, tail), head, one);
+        B::store(own_ends(head, time, before, behind), owns, block);
+        behind = B::greater(behind, late);
+        clocks = B::less(clocks, B::waiting(time, head, one));
     }
 }
 
-/// Both passes. Where a call says the count by a number, the blocks are read without a loop.
+/// All passes. Where a call says the count by a number, the blocks are read without a loop.
 #[inline(always)]
 fn own_spans_of<B: Block>(
     count: usize,
@@ -124,8 +130,28 @@ fn own_spans_of<B: Block>(
     ensures long { length owns.new ≡ length owns.old }
     ensures owns { AreOwnSpansOf B.value heads.now times.now tails.now owns.new }
 {
-    let clock: B = note::<B>(count, heads, times, tails, owns);
-    write_back::<B>(count, heads, times, tails, clock, owns);
+    let (work, most) = serve_columns::<B>(count, heads, times, tails, 1);
+    let begins = sums_before(work);
+    let ends = B::sum(begins, most);
+    note::<B>(
+        count,
+        heads,
+        times,
+        tails,
+        begins,
+        greatest_before(ends),
+        owns,
+    );
+    let clocks = B::sum(begins, work);
+    write_back::<B>(
+        count,
+        heads,
+        times,
+        tails,
+        clocks,
+        greatest_behind(ends),
+        owns,
+    );
 }
 
 /// The same for machines of four blocks and more, in a function of its own.
@@ -155,7 +181,7 @@ fn own_spans_of_longer<B: Block>(
 }
 
 /// Of each operation that waits, the greater of its end and of when the last of what else waits ends, if that is served
-/// by position from there on.
+/// by rank from there on.
 #[inline(always)]
 pub(crate) fn own_spans<B: Block>(
     heads: &[B::Number],

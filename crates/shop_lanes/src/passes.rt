@@ -1,157 +1,171 @@
 // Passes over rows of numbers, a block of eight at a time.
-ghost use Rattle.std.specs.Prelude.{◌≡◌, ℕ, ◌+◌, ◌*◌, ◌%◌, ◌^◌, ◌<◌, ◌≤◌, max, length, map};
+ghost use Rattle.std.specs.Prelude.{◌≡◌, ℕ, ◌+◌, ◌*◌, ◌/◌, ◌%◌, ◌^◌, ◌<◌, ◌≤◌, max, length, map};
 ghost use Rattle.std.specs.Prelude.{slice_index};
 ghost use Rattle.std.specs.Simd.Lanes.{mask_l};
 ghost use Rattle.shop_lanes.specs.Spans.{FitsSpan};
 ghost use Rattle.shop_lanes.specs.Ends.{IsFirstLeast};
 ghost use Rattle.shop_blocks.specs.Eights.{is_between};
 ghost use Rattle.shop_blocks.specs.Folds.{least_up_to};
-ghost use Rattle.shop_lanes.specs.inner.Passes.{lanes_by, span_by, spans_by, HasSpan, HasSpans};
-ghost use Rattle.shop_lanes.specs.inner.Passes.{HasAllSpans, AreSmallBy, IsFirstOf};
+ghost use Rattle.shop_lanes.specs.inner.Passes.{lanes_by, span_by, spans_by, AreColumns, span_within};
+ghost use Rattle.shop_lanes.specs.inner.Passes.{IsFirstOf};
 
-use crate::marking::Marks;
 use crate::served_blocks::serve;
-use shop_blocks::{Block, greatest_of, least_of};
+use shop_blocks::{Block, greatest_of, least_of, sums_before};
 
-/// The pass over all blocks: in the lanes the greatest of `most` and the ends, tails included. Where a call says the
-/// count by a number, the blocks are served without a loop.
+/// The columns of all blocks served side by side, each from 0 on: when each one ends, and the greatest end of each one,
+/// tails included. Where a call says the count by a number, the blocks are served without a loop.
 #[inline(always)]
-fn span_of<B: Block>(
+pub(crate) fn serve_columns<B: Block>(
     count: usize,
     heads: &[B::Number],
     times: &[B::Number],
     tails: &[B::Number],
     least: u64,
-    start: u64,
-    most: B,
-) -> B
+) -> (B, B)
     requires count { length heads.now ≡ count }
     requires whole_blocks { count % 8 ≡ 0 }
     requires times { length times.now ≡ length heads.now }
     requires tails { length tails.now ≡ length heads.now }
     requires least { least ≤ B.GREATEST }
-    requires most { length (B.numbers most) ≡ 8 }
-    requires fits { FitsSpan B.GREATEST start (lanes_by B.value heads.now times.now tails.now) }
-    ensures { HasSpan B.numbers B.value heads.now times.now tails.now least start most result }
+    requires fits { FitsSpan B.GREATEST 0 (lanes_by B.value heads.now times.now tails.now) }
+    ensures { AreColumns B.numbers (count / 8)
+        (lanes_by B.value heads.now times.now tails.now) least result }
 {
     let least = B::splat(least);
-    let mut clock = B::splat(start);
-    let mut most = most;
+    let mut clocks = B::splat(0);
+    let mut most = B::splat(0);
     for block in 0..count / 8 {
         let (after, later) = serve(
             B::load(heads, block),
             B::load(times, block),
             B::load(tails, block),
             least,
-            clock,
+            clocks,
             most,
         );
-        clock = after;
+        clocks = after;
         most = later;
     }
-    most
+    (clocks, most)
 }
 
-/// The greatest of `most` and the ends, tails included; laid out by the number of positions.
+/// When the last of what waits with a head of at least `least` ends, its tail included, if it is served by rank from 0
+/// on; laid out by the number of positions.
 #[inline(always)]
-pub(crate) fn single_span_of<B: Block>(
+pub(crate) fn load_of<B: Block>(
     count: usize,
     heads: &[B::Number],
     times: &[B::Number],
     tails: &[B::Number],
     least: u64,
-    start: u64,
-    most: u64,
 ) -> u64
     requires count { length heads.now ≡ count }
     requires whole_blocks { count % 8 ≡ 0 }
     requires times { length times.now ≡ length heads.now }
     requires tails { length tails.now ≡ length heads.now }
     requires least { least ≤ B.GREATEST }
-    requires most { most ≤ B.GREATEST }
-    requires fits { FitsSpan B.GREATEST start (lanes_by B.value heads.now times.now tails.now) }
-    ensures { result ≡ max most (span_by B.value heads.now times.now tails.now least start) }
+    requires fits { FitsSpan B.GREATEST 0 (lanes_by B.value heads.now times.now tails.now) }
+    ensures { result ≡ span_by B.value heads.now times.now tails.now least 0 }
 {
-    greatest_of(span_of(count, heads, times, tails, least, start, B::splat(most)))
+    let (clocks, most) = serve_columns::<B>(count, heads, times, tails, least);
+    greatest_of(B::sum(sums_before(clocks), most))
 }
 
 /// The same for machines of four blocks and more, in a function of its own.
 #[inline(never)]
-fn single_span_of_longer<B: Block>(
+fn load_of_longer<B: Block>(
     heads: &[B::Number],
     times: &[B::Number],
     tails: &[B::Number],
     least: u64,
-    start: u64,
-    most: u64,
 ) -> u64
     requires whole_blocks { length heads.now % 8 ≡ 0 }
     requires times { length times.now ≡ length heads.now }
     requires tails { length tails.now ≡ length heads.now }
     requires least { least ≤ B.GREATEST }
-    requires most { most ≤ B.GREATEST }
-    requires fits { FitsSpan B.GREATEST start (lanes_by B.value heads.now times.now tails.now) }
-    ensures { result ≡ max most (span_by B.value heads.now times.now tails.now least start) }
+    requires fits { FitsSpan B.GREATEST 0 (lanes_by B.value heads.now times.now tails.now) }
+    ensures { result ≡ span_by B.value heads.now times.now tails.now least 0 }
 {
     match heads.len() {
-        32 => single_span_of::<B>(32, heads, times, tails, least, start, most),
-        40 => single_span_of::<B>(40, heads, times, tails, least, start, most),
-        48 => single_span_of::<B>(48, heads, times, tails, least, start, most),
-        56 => single_span_of::<B>(56, heads, times, tails, least, start, most),
-        64 => single_span_of::<B>(64, heads, times, tails, least, start, most),
-        _ => single_span_of::<B>(heads.len(), heads, times, tails, least, start, most),
+        32 => load_of::<B>(32, heads, times, tails, least),
+        40 => load_of::<B>(40, heads, times, tails, least),
+        48 => load_of::<B>(48, heads, times, tails, least),
+        56 => load_of::<B>(56, heads, times, tails, least),
+        64 => load_of::<B>(64, heads, times, tails, least),
+        _ => load_of::<B>(heads.len(), heads, times, tails, least),
     }
 }
 
-/// The greatest of `most` and the ends, tails included.
+/// When the last of what waits with a head of at least `least` ends, its tail included, if it is served by rank from 0
+/// on.
 #[inline(always)]
-pub(crate) fn single_span<B: Block>(
+pub(crate) fn load<B: Block>(
     heads: &[B::Number],
     times: &[B::Number],
     tails: &[B::Number],
     least: u64,
-    start: u64,
-    most: u64,
 ) -> u64
     requires whole_blocks { length heads.now % 8 ≡ 0 }
     requires times { length times.now ≡ length heads.now }
     requires tails { length tails.now ≡ length heads.now }
     requires least { least ≤ B.GREATEST }
-    requires most { most ≤ B.GREATEST }
-    requires fits { FitsSpan B.GREATEST start (lanes_by B.value heads.now times.now tails.now) }
-    ensures { result ≡ max most (span_by B.value heads.now times.now tails.now least start) }
+    requires fits { FitsSpan B.GREATEST 0 (lanes_by B.value heads.now times.now tails.now) }
+    ensures { result ≡ span_by B.value heads.now times.now tails.now least 0 }
 {
     match heads.len() {
-        8 => single_span_of::<B>(8, heads, times, tails, least, start, most),
-        16 => single_span_of::<B>(16, heads, times, tails, least, start, most),
-        24 => single_span_of::<B>(24, heads, times, tails, least, start, most),
-        _ => single_span_of_longer::<B>(heads, times, tails, least, start, most),
+        8 => load_of::<B>(8, heads, times, tails, least),
+        16 => load_of::<B>(16, heads, times, tails, least),
+        24 => load_of::<B>(24, heads, times, tails, least),
+        _ => load_of_longer::<B>(heads, times, tails, least),
     }
 }
 
-/// The greatest of `most` and the spans from the heads at these positions on.
-#[inline(always)]
-fn spans_of<B: Block>(
-    count: usize,
+/// The span from the head at a position on, if that is above `above`; else 0.
+fn span_from<B: Block>(
     heads: &[B::Number],
     times: &[B::Number],
     tails: &[B::Number],
-    marks: Marks,
-    most: B,
-) -> B
-    requires count { length heads.now ≡ count }
-    requires whole_blocks { count % 8 ≡ 0 }
+    above: u64,
+    position: usize,
+) -> u64
+    requires whole_blocks { length heads.now % 8 ≡ 0 }
     requires times { length times.now ≡ length heads.now }
     requires tails { length tails.now ≡ length heads.now }
-    requires most { length (B.numbers most) ≡ 8 }
-    requires fits { AreSmallBy B.value heads.now times.now tails.now marks B.GREATEST }
-    ensures { HasSpans B.numbers B.value heads.now times.now tails.now marks most result }
+    requires within { position < length heads.now }
+    requires fits { FitsSpan B.GREATEST B.GREATEST
+        (lanes_by B.value heads.now times.now tails.now) }
+    ensures { result ≡ span_within above B.GREATEST
+        (lanes_by B.value heads.now times.now tails.now)
+        (slice_index (map B.value heads.now) position) }
 {
-    let mut marks = marks;
+    let head = B::widened(heads[position]);
+    let upto = B::GREATEST;
+    if above < head && head <= upto {
+        return head + load_of::<B>(heads.len(), heads, times, tails, head);
+    }
+    0
+}
+
+/// The greatest of `most` and the spans from each head above `above` on; in a function of its own.
+#[inline(never)]
+pub(crate) fn greatest_span<B: Block>(
+    heads: &[B::Number],
+    times: &[B::Number],
+    tails: &[B::Number],
+    above: u64,
+    most: u64,
+) -> u64
+    requires whole_blocks { length heads.now % 8 ≡ 0 }
+    requires times { length times.now ≡ length heads.now }
+    requires tails { length tails.now ≡ length heads.now }
+    requires fits { FitsSpan B.GREATEST B.GREATEST
+        (lanes_by B.value heads.now times.now tails.now) }
+    ensures { result
+        ≡ max most (spans_by B.value heads.now times.now tails.now above B.GREATEST) }
+{
     let mut most = most;
-    while let Some(position) = marks.pop_first() {
-        let head = B::widened(heads[position]);
-        most = span_of(count, heads, times, tails, head, head, most);
+    for position in 0..heads.len() {
+        most = most.max(span_from::<B>(heads, times, tails, above, position));
     }
     most
 }
@@ -173,56 +187,6 @@ fn bits_between<B: Block>(count: usize, heads: &[B::Number], above: u64, upto: u
         bits = B::bits_between(B::load(heads, block), above, upto) + 256 * bits;
     }
     bits
-}
-
-/// The greatest of `most` and the spans from each head above `above` and up to `upto` on, marked a block at a time.
-#[inline(always)]
-fn spans_by_block<B: Block>(
-    heads: &[B::Number],
-    times: &[B::Number],
-    tails: &[B::Number],
-    above: u64,
-    upto: u64,
-    most: B,
-) -> B
-    requires whole_blocks { length heads.now % 8 ≡ 0 }
-    requires times { length times.now ≡ length heads.now }
-    requires tails { length tails.now ≡ length heads.now }
-    requires room { length heads.now + 64 ≤ 2 ^ 64 }
-    requires above { above ≤ B.GREATEST }
-    requires most { length (B.numbers most) ≡ 8 }
-    requires fits { FitsSpan B.GREATEST upto (lanes_by B.value heads.now times.now tails.now) }
-    ensures { HasAllSpans B.numbers B.value heads.now times.now tails.now above upto most result }
-{
-    let mut most = most;
-    for block in 0..heads.len() / 8 {
-        let bits = B::bits_between(B::load(heads, block), above, upto);
-        let marks = Marks::new(8 * block, bits);
-        most = spans_of(heads.len(), heads, times, tails, marks, most);
-    }
-    most
-}
-
-/// The greatest of `most` and the spans from each head above `above` and up to `upto` on; in a function of its own.
-#[inline(never)]
-pub(crate) fn greatest_span<B: Block>(
-    heads: &[B::Number],
-    times: &[B::Number],
-    tails: &[B::Number],
-    above: u64,
-    upto: u64,
-    most: u64,
-) -> u64
-    requires whole_blocks { length heads.now % 8 ≡ 0 }
-    requires times { length times.now ≡ length heads.now }
-    requires tails { length tails.now ≡ length heads.now }
-    requires room { length heads.now + 64 ≤ 2 ^ 64 }
-    requires above { above ≤ B.GREATEST }
-    requires most { most ≤ B.GREATEST }
-    requires fits { FitsSpan B.GREATEST upto (lanes_by B.value heads.now times.now tails.now) }
-    ensures { result ≡ max most (spans_by B.value heads.now times.now tails.now above upto) }
-{
-    greatest_of(spans_by_block(heads, times, tails, above, upto, B::splat(most)))
 }
 
 /// A bit for each of the numbers of four blocks and more, the first the lowest, that says whether it is above 0 and at

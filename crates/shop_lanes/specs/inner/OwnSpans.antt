@@ -1,28 +1,49 @@
 -- What the passes for own spans keep.
-use Rattle.std.specs.Prelude.{◌≡◌, ℕ, ◌+◌, ◌<◌, max, List, length, map, take, slice_index}
-use Rattle.std.specs.Prelude.{slice_set}
-use Rattle.shop_lanes.specs.Rows.{lanes}
+--     rank_of count p                  the rank of what stands at a place
+--     AreClocks .. count xs j          the clock in each column before j blocks down, with all served
+--                                      by rank from 0 on
+--     AreLoadsBefore, AreLoadsBehind   the greatest end of what stands before that, and behind it
+use Rattle.std.specs.Prelude.{◌≡◌, ℕ, ◌+◌, ◌*◌, ◌/◌, ◌%◌, ◌<◌, max, List, length, map, take, drop}
+use Rattle.std.specs.Prelude.{slice_index, slice_set, get_or}
+use Rattle.shop_lanes.specs.Rows.{Lane, lanes, by_columns}
 use Rattle.shop_lanes.specs.Spans.{span}
-use Rattle.shop_lanes.specs.inner.Passes.{clock_after, lanes_by}
+use Rattle.shop_lanes.specs.inner.Passes.{clock_after, lanes_by, eight}
 
--- the clock after all that waits is served from 0 on
-abbrev pub work_of : {A : Type 0} → (A → ℕ) → List A → List A → List A → ℕ
-work_of value heads times tails = clock_after 1 0 (lanes_by value heads times tails)
+abbrev pub rank_of : ℕ → ℕ → ℕ
+rank_of count p = p % 8 * count + p / 8
 
--- for each position the span of what stands before it, from 0 on
+abbrev pub AreClocks : {B : Type 0} → (B → List ℕ) → ℕ → List Lane → ℕ → B → Type 0
+AreClocks numbers count xs j clocks =
+    numbers clocks ≡ eight (λ k. clock_after 1 0 (take (k * count + j) xs))
+
+abbrev pub AreLoadsBefore : {B : Type 0} → (B → List ℕ) → ℕ → List Lane → ℕ → B → Type 0
+AreLoadsBefore numbers count xs j most =
+    numbers most ≡ eight (λ k. span 1 0 (take (k * count + j) xs))
+
+-- where nothing waits behind, any number up to the clock will do
+abbrev pub IsLoadBehind : List Lane → ℕ → ℕ → Type 0
+IsLoadBehind xs r end =
+    max (clock_after 1 0 (take r xs)) end ≡ clock_after 1 0 (take r xs) + span 1 0 (drop r xs)
+
+pub record AreLoadsBehind {B : Type 0} (numbers : B → List ℕ) (count : ℕ) (xs : List Lane) (j : ℕ)
+    (behind : B) : Type 0 where
+  pub long : length (numbers behind) ≡ 8
+  pub each : (k : ℕ) → k < 8 → IsLoadBehind xs (k * count + j) (get_or (numbers behind) k 0)
+
+-- for each position the span of what stands before it in order of rank, from 0 on
 abbrev pub AreNoted : {A : Type 0} → (A → ℕ) → List A → List A → List A → List A → Type 0
 AreNoted value heads times tails noted =
-    (i : ℕ) → i < length heads
-    → slice_index (map value noted) i ≡ span 1 0 (take i (lanes_by value heads times tails))
+    (p : ℕ) → p < length heads → slice_index (map value noted) p
+    ≡ span 1 0 (take (rank_of (length heads / 8) p) (lanes_by value heads times tails))
 
 -- its end, or when the last of what else waits ends if it is served from there on
-abbrev pub own_span_at : List ℕ → List ℕ → List ℕ → ℕ → ℕ
-own_span_at heads times tails i =
-    let end = slice_index heads i + slice_index times i
-    in max end (span 1 end (lanes (slice_set heads i 0) times tails))
+abbrev pub own_span_at : ℕ → List ℕ → List ℕ → List ℕ → ℕ → ℕ
+own_span_at count heads times tails p =
+    let end = slice_index heads p + slice_index times p
+    in max end (span 1 end (by_columns count (lanes (slice_set heads p 0) times tails)))
 
 abbrev pub AreOwnSpansOf : {A : Type 0} → (A → ℕ) → List A → List A → List A → List A → Type 0
 AreOwnSpansOf value heads times tails owns =
-    (i : ℕ) → i < length heads → 0 < slice_index (map value heads) i
-    → slice_index (map value owns) i
-    ≡ own_span_at (map value heads) (map value times) (map value tails) i
+    (p : ℕ) → p < length heads → 0 < slice_index (map value heads) p
+    → slice_index (map value owns) p
+    ≡ own_span_at (length heads / 8) (map value heads) (map value times) (map value tails) p

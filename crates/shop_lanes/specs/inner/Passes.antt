@@ -1,14 +1,14 @@
 -- What a pass over lanes keeps.
 --     clock_after least start xs     when the last of those with a head of at least `least` ends
---     tailed_ends least start xs     when each of those ends, its tail included, and 0 for the others
-use Rattle.std.specs.Prelude.{◌≡◌, ◌≢◌, ℕ, ◌+◌, ◌-◌, ◌%◌, drop, replicate, ◌<◌, ◌≤◌, length}
-use Rattle.std.specs.Prelude.{max, List, [], ◌∷◌, if◌then◌else◌, nat_le}
+--     column count xs k              of lanes in order of rank, those of the k-th lanes of so many blocks
+--     eight f                        the numbers that a function gives for each of eight columns
+use Rattle.std.specs.Prelude.{◌≡◌, ◌≢◌, ℕ, ◌+◌, ◌*◌, ◌-◌, ◌/◌, ◌%◌, take, drop, replicate, ◌<◌, ◌≤◌}
+use Rattle.std.specs.Prelude.{length, max, List, [], ◌∷◌, if◌then◌else◌, nat_le, nat_lt, ◌&&◌}
 use Rattle.std.specs.Prelude.{get_or, map}
-use Rattle.std.specs.Simd.Lanes.{sum_l}
-use Rattle.shop_blocks.specs.Eights.{first_of, waiting}
-use Rattle.shop_blocks.specs.Folds.{greatest}
-use Rattle.shop_lanes.specs.Rows.{Lane, lanes}
-use Rattle.shop_lanes.specs.Spans.{span, spans_between, FitsSpan}
+use Rattle.std.specs.Simd.Lanes.{zip2}
+use Rattle.shop_blocks.specs.Eights.{first_of, added, waiting, AddsFit}
+use Rattle.shop_lanes.specs.Rows.{Lane, lanes, by_columns}
+use Rattle.shop_lanes.specs.Spans.{span, spans_between}
 
 abbrev pub clock_after : ℕ → ℕ → List Lane → ℕ
 clock_after least start [] = start
@@ -17,33 +17,10 @@ clock_after least start (x ∷ xs) =
     then clock_after least (start + x.time) xs
     else clock_after least start xs
 
-abbrev pub tailed_ends : ℕ → ℕ → List Lane → List ℕ
-tailed_ends least start [] = []
-tailed_ends least start (x ∷ xs) =
-    if nat_le least x.head
-    then (start + x.time + x.tail) ∷ tailed_ends least (start + x.time) xs
-    else 0 ∷ tailed_ends least start xs
-
--- the greatest span from the head at a position on, of those that begin no earlier, over some
--- positions
-abbrev pub spans_at : List ℕ → List Lane → List ℕ → ℕ
-spans_at heads all [] = 0
-spans_at heads all (p ∷ ps) =
-    max (span (get_or heads p 0) (get_or heads p 0) all) (spans_at heads all ps)
-
--- there is a head at each of these positions, and a span from it on fits
-abbrev pub AreSmallAt : ℕ → List ℕ → List Lane → List ℕ → Type 0
-AreSmallAt limit heads all [] = Unit {0}
-AreSmallAt limit heads all (p ∷ ps) =
-    (p < length heads) × FitsSpan limit (get_or heads p 0) all × AreSmallAt limit heads all ps
-
--- the lanes of three rows, whose elements stand for these numbers
+-- the lanes of three rows of whole blocks, whose elements stand for these numbers
 abbrev pub lanes_by : {A : Type 0} → (A → ℕ) → List A → List A → List A → List Lane
-lanes_by value heads times tails = lanes (map value heads) (map value times) (map value tails)
-
-abbrev pub AreSmallBy : {A : Type 0} → (A → ℕ) → List A → List A → List A → List ℕ → ℕ → Type 0
-AreSmallBy value heads times tails marks limit =
-    AreSmallAt limit (map value heads) (lanes_by value heads times tails) marks
+lanes_by value heads times tails =
+    by_columns (length heads / 8) (lanes (map value heads) (map value times) (map value tails))
 
 abbrev pub span_by : {A : Type 0} → (A → ℕ) → List A → List A → List A → ℕ → ℕ → ℕ
 span_by value heads times tails least start = span least start (lanes_by value heads times tails)
@@ -52,68 +29,50 @@ abbrev pub spans_by : {A : Type 0} → (A → ℕ) → List A → List A → Lis
 spans_by value heads times tails above upto =
     spans_between above upto (lanes_by value heads times tails)
 
--- the lanes of three blocks, which stand for these lists of numbers
-abbrev pub lanes_in : {B : Type 0} → (B → List ℕ) → B → B → B → List Lane
-lanes_in numbers heads times tails = lanes (numbers heads) (numbers times) (numbers tails)
+-- the span from a head on that is above `above` and at most `upto`; 0 from any other
+abbrev pub span_within : ℕ → ℕ → List Lane → ℕ → ℕ
+span_within above upto xs head =
+    if nat_lt above head && nat_le head upto then span head head xs else 0
 
-abbrev pub FitsFrom : {B : Type 0} → ℕ → (B → List ℕ) → B → B → B → B → Type 0
-FitsFrom limit numbers heads times tails clock =
-    FitsSpan limit (first_of (numbers clock)) (lanes_in numbers heads times tails)
+abbrev pub column : ℕ → List Lane → ℕ → List Lane
+column count xs k = take count (drop (k * count) xs)
 
--- eight numbers whose greatest is that of the ones before, or `end` if that is greater
-pub record AreRaised {B : Type 0} (numbers : B → List ℕ) (before : B) (end : ℕ) (after : B)
-    : Type 0 where
-  pub eight : length (numbers after) ≡ 8
-  pub most : greatest (numbers after) ≡ max (greatest (numbers before)) end
+abbrev pub eight : (ℕ → ℕ) → List ℕ
+eight f = f 0 ∷ f 1 ∷ f 2 ∷ f 3 ∷ f 4 ∷ f 5 ∷ f 6 ∷ f 7 ∷ []
 
--- raised by the span of these rows
-abbrev pub HasSpan : {A B : Type 0} → (B → List ℕ) → (A → ℕ) → List A → List A → List A → ℕ → ℕ
-    → B → B → Type 0
-HasSpan numbers value heads times tails least start before after =
-    AreRaised numbers before (span_by value heads times tails least start) after
-
--- raised by their spans from the heads at these positions on
-abbrev pub HasSpans : {A B : Type 0} → (B → List ℕ) → (A → ℕ) → List A → List A → List A → List ℕ
-    → B → B → Type 0
-HasSpans numbers value heads times tails marks before after =
-    let spans = spans_at (map value heads) (lanes_by value heads times tails) marks
-    in AreRaised numbers before spans after
-
--- raised by their spans from each head above `above` and up to `upto` on
-abbrev pub HasAllSpans : {A B : Type 0} → (B → List ℕ) → (A → ℕ) → List A → List A → List A
-    → ℕ → ℕ → B → B → Type 0
-HasAllSpans numbers value heads times tails above upto before after =
-    AreRaised numbers before (spans_by value heads times tails above upto) after
-
--- the clock after some lanes are served from `least` and `clock` on, and the span of that
-abbrev pub next_clock : {B : Type 0} → (B → List ℕ) → List Lane → B → B → ℕ
-next_clock numbers xs least clock =
-    clock_after (first_of (numbers least)) (first_of (numbers clock)) xs
-
-abbrev pub span_from : {B : Type 0} → (B → List ℕ) → List Lane → B → B → ℕ
-span_from numbers xs least clock = span (first_of (numbers least)) (first_of (numbers clock)) xs
-
--- eight lanes served: the clock afterwards in each lane, and when each lane ends with its tail
-pub record AreTailed {B : Type 0} (numbers : B → List ℕ) (heads times tails least clock : B)
+-- each column served by itself from 0 on: the clock afterwards, and the greatest end
+pub record AreColumns {B : Type 0} (numbers : B → List ℕ) (count : ℕ) (xs : List Lane) (least : ℕ)
     (served : B × B) : Type 0 where
-  pub clock_is : numbers served.0
-      ≡ replicate 8 (next_clock numbers (lanes_in numbers heads times tails) least clock)
-  pub ends_are : numbers served.1
-      ≡ tailed_ends (first_of (numbers least)) (first_of (numbers clock))
-      (lanes_in numbers heads times tails)
+  pub clocks_are : numbers served.0 ≡ eight (λ k. clock_after least 0 (column count xs k))
+  pub ends_are : numbers served.1 ≡ eight (λ k. span least 0 (column count xs k))
 
--- the times of those lanes of a block that have a head of at least `least`
-abbrev pub work_in : {B : Type 0} → (B → List ℕ) → B → B → B → ℕ
-work_in numbers heads times least =
-    sum_l (waiting (first_of (numbers least)) (numbers heads) (numbers times))
+-- the times of those that wait
+abbrev pub times_served : {B : Type 0} → (B → List ℕ) → B → B → B → List ℕ
+times_served numbers heads times least =
+    waiting (first_of (numbers least)) (numbers heads) (numbers times)
+
+-- no sum is above what a lane holds
+pub record FitServed {B : Type 0} (limit : ℕ) (numbers : B → List ℕ)
+    (heads times tails least clocks : B) : Type 0 where
+  pub clocks_fit : AddsFit limit (numbers clocks) (times_served numbers heads times least)
+  pub ends_fit : AddsFit limit (added (numbers clocks) (times_served numbers heads times least))
+      (numbers tails)
+
+-- a block served: the clocks afterwards, and when each lane ends with its tail
+pub record AreTailed {B : Type 0} (numbers : B → List ℕ) (heads times tails least clocks : B)
+    (served : B × B) : Type 0 where
+  pub clocks_are : numbers served.0
+      ≡ added (numbers clocks) (times_served numbers heads times least)
+  pub ends_are : numbers served.1
+      ≡ waiting (first_of (numbers least)) (numbers heads) (added (numbers served.0) (numbers tails))
 
 -- the same with the greatest end so far in each lane
-pub record AreServed {B : Type 0} (numbers : B → List ℕ) (heads times tails least clock most : B)
+pub record AreServed {B : Type 0} (numbers : B → List ℕ) (heads times tails least clocks most : B)
     (served : B × B) : Type 0 where
-  pub clock_is : numbers served.0
-      ≡ replicate 8 (next_clock numbers (lanes_in numbers heads times tails) least clock)
-  pub raised : AreRaised numbers most
-      (span_from numbers (lanes_in numbers heads times tails) least clock) served.1
+  pub clocks_are : numbers served.0
+      ≡ added (numbers clocks) (times_served numbers heads times least)
+  pub most_are : numbers served.1 ≡ zip2 max (numbers most)
+      (waiting (first_of (numbers least)) (numbers heads) (added (numbers served.0) (numbers tails)))
 
 -- i is the first position of the number, or their count if it is none of them
 pub record IsFirstOf (xs : List ℕ) (number i : ℕ) : Type 0 where

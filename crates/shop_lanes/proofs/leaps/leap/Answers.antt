@@ -1,10 +1,10 @@
-use Rattle.std.proofs.Common.{◌≡◌, ◌∙◌, ◌+◌, ◌-◌, max, map, arith, rules}
+use Rattle.std.proofs.Common.{◌≡◌, ◌∙◌, ◌+◌, ◌-◌, max, arith, rules}
 use Rattle.shop_lanes.specs.Spans.{span, spans_between}
 use Rattle.shop_lanes.specs.inner.Passes.{lanes_by}
 use Rattle.shop_lanes.proofs.Loads.{load_le, work_le}
-use Rattle.shop_lanes.proofs.LeapTurns.{least_head, least_head_is, leaps_end, leaps_within, leaps_past}
+use Rattle.shop_lanes.proofs.LeapTurns.{least_head, leaps_end, leaps_within, leaps_past}
 use Rattle.shop_lanes.proofs.LeapTurns.{leaps_no_greater, leap_rises, leap}
-use Rattle.shop_lanes.proofs.RowValues.{as_long}
+use Rattle.shop_lanes.proofs.AnyOrder.{least_of_rows}
 use Rattle.shop_lanes.proofs.leaps.leap.Goals as goal
 
 pub overflow_add-upto : goal.overflow_add-upto
@@ -13,9 +13,9 @@ overflow_add-upto g c =
     in let settled = c.loop-settled.settled
     in let bound = c.loop-settled.bound
     in let inv = c.loop-settled.invariant
-    in let load = c.single_span_of-load.result
+    in let load = c.load_of-load.result
     in let load_is : load ≡ span (settled + 1) 0 all =
-    let e = c.single_span_of-load.ensures in omega (arith, e)
+    let e = c.load_of-load.ensures in omega (arith, e)
     in let fits = c.requires.fits
     in let greatest = c.GREATEST-greatest.ensures
     in let range = c.GREATEST-greatest.type_inv
@@ -29,9 +29,9 @@ overflow_add-head g c =
     in let settled = c.loop-settled.settled
     in let bound = c.loop-settled.bound
     in let inv = c.loop-settled.invariant
-    in let load = c.single_span_of-load.result
+    in let load = c.load_of-load.result
     in let load_is : load ≡ span (settled + 1) 0 all =
-    let e = c.single_span_of-load.ensures in omega (arith, e)
+    let e = c.load_of-load.ensures in omega (arith, e)
     in let fits = c.requires.fits
     in let greatest = c.GREATEST-greatest.ensures
     in let range = c.GREATEST-greatest.type_inv
@@ -46,9 +46,9 @@ returns-then-upto-load g c =
     in let settled = c.loop-settled.settled
     in let bound = c.loop-settled.bound
     in let inv = c.loop-settled.invariant
-    in let load = c.single_span_of-load.result
+    in let load = c.load_of-load.result
     in let load_is : load ≡ span (settled + 1) 0 all =
-    let e = c.single_span_of-load.ensures in omega (arith, e)
+    let e = c.load_of-load.ensures in omega (arith, e)
     in let is : bound ≡ max c.args.most (spans_between c.args.above c.args.upto all) =
     leaps_within g.B.Block.GREATEST c.args.above c.args.upto c.args.most all settled bound inv load load_is
     c.if-upto-load.true
@@ -60,16 +60,14 @@ returns-then-head-upto g c =
     in let settled = c.loop-settled.settled
     in let bound = c.loop-settled.bound
     in let inv = c.loop-settled.invariant
-    in let load = c.single_span_of-load.result
+    in let load = c.load_of-load.result
     in let load_is : load ≡ span (settled + 1) 0 all =
-    let e = c.single_span_of-load.ensures in omega (arith, e)
+    let e = c.load_of-load.ensures in omega (arith, e)
     in let head = c.least_head_of-head.result
-    in let row = map g.B.Block.value
     in let head_is : head ≡ least_head g.B.Block.GREATEST (settled + 1) all =
     c.least_head_of-head.ensures
-    ∙ least_head_is g.B.Block.GREATEST (settled + 1) (row c.args.heads.now) (row c.args.times.now)
-    (row c.args.tails.now) (as_long g.B.Block.value c.args.times.now c.args.heads.now c.requires.times)
-    (as_long g.B.Block.value c.args.tails.now c.args.heads.now c.requires.tails)
+    ∙ least_of_rows g.B.Block.value c.args.heads.now c.args.times.now c.args.tails.now c.args.count c.requires.count
+    c.requires.whole_blocks c.requires.times c.requires.tails g.B.Block.GREATEST (settled + 1)
     in let is : bound ≡ max c.args.most (spans_between c.args.above c.args.upto all) =
     leaps_past g.B.Block.GREATEST c.args.above c.args.upto c.args.most all settled bound inv load load_is head head_is
     c.if-head-upto.true
@@ -81,16 +79,14 @@ returns-then-bound-limit g c =
     in let settled = c.loop-settled.settled
     in let bound = c.loop-settled.bound
     in let inv = c.loop-settled.invariant
-    in let load = c.single_span_of-load.result
+    in let load = c.load_of-load.result
     in let load_is : load ≡ span (settled + 1) 0 all =
-    let e = c.single_span_of-load.ensures in omega (arith, e)
+    let e = c.load_of-load.ensures in omega (arith, e)
     in let head = c.least_head_of-head.result
-    in let row = map g.B.Block.value
     in let head_is : head ≡ least_head g.B.Block.GREATEST (settled + 1) all =
     c.least_head_of-head.ensures
-    ∙ least_head_is g.B.Block.GREATEST (settled + 1) (row c.args.heads.now) (row c.args.times.now)
-    (row c.args.tails.now) (as_long g.B.Block.value c.args.times.now c.args.heads.now c.requires.times)
-    (as_long g.B.Block.value c.args.tails.now c.args.heads.now c.requires.tails)
+    ∙ least_of_rows g.B.Block.value c.args.heads.now c.args.times.now c.args.tails.now c.args.count c.requires.count
+    c.requires.whole_blocks c.requires.times c.requires.tails g.B.Block.GREATEST (settled + 1)
     in let next_is : c.max-bound.result ≡ max bound (head + load) = search rules
     in let test = c.loop-settled-test.true
     in let below = c.requires.below
@@ -110,16 +106,14 @@ loop-settled-smaller g c =
     in let settled = c.loop-settled.settled
     in let bound = c.loop-settled.bound
     in let inv = c.loop-settled.invariant
-    in let load = c.single_span_of-load.result
+    in let load = c.load_of-load.result
     in let load_is : load ≡ span (settled + 1) 0 all =
-    let e = c.single_span_of-load.ensures in omega (arith, e)
+    let e = c.load_of-load.ensures in omega (arith, e)
     in let head = c.least_head_of-head.result
-    in let row = map g.B.Block.value
     in let head_is : head ≡ least_head g.B.Block.GREATEST (settled + 1) all =
     c.least_head_of-head.ensures
-    ∙ least_head_is g.B.Block.GREATEST (settled + 1) (row c.args.heads.now) (row c.args.times.now)
-    (row c.args.tails.now) (as_long g.B.Block.value c.args.times.now c.args.heads.now c.requires.times)
-    (as_long g.B.Block.value c.args.tails.now c.args.heads.now c.requires.tails)
+    ∙ least_of_rows g.B.Block.value c.args.heads.now c.args.times.now c.args.tails.now c.args.count c.requires.count
+    c.requires.whole_blocks c.requires.times c.requires.tails g.B.Block.GREATEST (settled + 1)
     in let next_is : c.max-bound.result ≡ max bound (head + load) = search rules
     in let test = c.loop-settled-test.true
     in let below = c.requires.below
@@ -135,16 +129,14 @@ loop-settled-preserved g c =
     in let settled = c.loop-settled.settled
     in let bound = c.loop-settled.bound
     in let inv = c.loop-settled.invariant
-    in let load = c.single_span_of-load.result
+    in let load = c.load_of-load.result
     in let load_is : load ≡ span (settled + 1) 0 all =
-    let e = c.single_span_of-load.ensures in omega (arith, e)
+    let e = c.load_of-load.ensures in omega (arith, e)
     in let head = c.least_head_of-head.result
-    in let row = map g.B.Block.value
     in let head_is : head ≡ least_head g.B.Block.GREATEST (settled + 1) all =
     c.least_head_of-head.ensures
-    ∙ least_head_is g.B.Block.GREATEST (settled + 1) (row c.args.heads.now) (row c.args.times.now)
-    (row c.args.tails.now) (as_long g.B.Block.value c.args.times.now c.args.heads.now c.requires.times)
-    (as_long g.B.Block.value c.args.tails.now c.args.heads.now c.requires.tails)
+    ∙ least_of_rows g.B.Block.value c.args.heads.now c.args.times.now c.args.tails.now c.args.count c.requires.count
+    c.requires.whole_blocks c.requires.times c.requires.tails g.B.Block.GREATEST (settled + 1)
     in let next_is : c.max-bound.result ≡ max bound (head + load) = search rules
     in let test = c.loop-settled-test.true
     in let below = c.requires.below

@@ -7,8 +7,7 @@ use Rattle.shop_lanes.proofs.block_lanes.BlockLanesStateLanes.own_spans.Goals as
 pub own_spans-requires-clause-fits : goal.own_spans-requires-clause-fits
 own_spans-requires-clause-fits g c = subst (FitOwnSpans g.B.Block.GREATEST) (sym (
     lanes_of_rows g.B.Block.value c.deref.result.now c.deref-2.result.now c.deref-3.result.now c.args.from c.args.to
-    c.deref.ensures.value c.deref-2.ensures.value c.deref-3.ensures.value c.requires.blocks.times_are_as_many
-    c.requires.blocks.tails_are_as_many
+    c.deref.ensures.value c.deref-2.ensures.value c.deref-3.ensures.value c.requires.blocks
     )) c.requires.fits
 
 pub own_spans-requires-clause-times : goal.own_spans-requires-clause-times
