@@ -1,11 +1,11 @@
 -- Where lanes hold the loads of all machines, they hold the spans of any word.
-use Rattle.std.proofs.Common.{◌≡◌, ℕ, zero, suc, ◌+◌, ◌-◌, ◌*◌, ◌≤◌, ◌<◌, List, []}
+use Rattle.std.proofs.Common.{◌≡◌, ℕ, ◌+◌, ◌-◌, ◌*◌, ◌≤◌, ◌<◌, List, []}
 use Rattle.std.proofs.Common.{◌∷◌, length, get_or, refl, sym, ◌∙◌, ap, arith}
-use Rattle.std.specs.List.{All, sum_by}
+use Rattle.std.specs.List.{sum_by}
 use Rattle.std.proofs.lemmas.List.Sums.{sum_by-cons}
-use Rattle.shop_lanes.specs.Rows.{Rows, Lane, lanes, blocks, by_columns}
+use Rattle.shop_lanes.specs.Rows.{Rows, Lane, lanes, blocks}
 use Rattle.shop_lanes.specs.Spans.{greatest_by}
-use Rattle.shop_lanes.proofs.Columns.{All-by_columns}
+use Rattle.shop_lanes.proofs.AnyOrder.{greatest-by_columns}
 use Rattle.shop_lanes.proofs.LaneLists.{lanes-blocks, length-blocks, length-lanes}
 use Rattle.shop_model.specs.Limits.{IsWithinLimits}
 use Rattle.shop_model.specs.Shop.{Shop}
@@ -37,23 +37,6 @@ lanes_tails (h ∷ hs) [] qs a b = absurd (omega arith)
 lanes_tails (h ∷ hs) (t ∷ ts) [] a b = absurd (omega arith)
 lanes_tails (h ∷ hs) (t ∷ ts) (q ∷ qs) a b =
     let rest = lanes_tails hs ts qs (omega arith) (omega arith) in omega arith
-
--- none of the same lanes by columns is above the greatest
-greatest_columns : (f : Lane → ℕ) (count : ℕ) (xs : List Lane) → length xs ≡ 8 * count
-    → greatest_by f (by_columns count xs) ≤ greatest_by f xs
-greatest_columns f count xs whole =
-    up_to (by_columns count xs) (All-by_columns count xs whole (λ x. f x ≤ greatest_by f xs) (each xs))
-  where
-    each : (ys : List Lane) → All (λ y. f y ≤ greatest_by f ys) ys
-    each [] i d below = absurd (omega arith)
-    each (y ∷ ys) zero d below = omega arith
-    each (y ∷ ys) (suc i) d below = let a = each ys i d (omega arith) in omega (arith, a)
-
-    up_to : (ys : List Lane) → All (λ y. f y ≤ greatest_by f xs) ys → greatest_by f ys ≤ greatest_by f xs
-    up_to [] all = omega arith
-    up_to (y ∷ ys) all =
-        let a = all 0 y (omega arith) in let b = up_to ys (λ i d below. all (suc i) d (omega arith))
-        in omega (arith, a, b)
 
 module _ (shop : Shop) (limits : IsWithinLimits shop) (l : LayoutState) (laid : IsLaidOut shop l) where
   within : (m : ℕ) → m < shop.machines → first_position l (m + 1) ≤ first_position l shop.machines
@@ -95,6 +78,6 @@ module _ (shop : Shop) (limits : IsWithinLimits shop) (l : LayoutState) (laid : 
         ≡ greatest_of (λ (n : ℕ). n) (blocks from to l.tails) =
         ap (λ (xs : List Lane). greatest_by (λ x. x.tail) xs) (sym same)
         ∙ (q ∙ ap (λ (xs : List ℕ). greatest_of (λ n. n) (blocks from to xs)) tails)
-        in let most = greatest_columns (λ (x : Lane). x.tail) (to - from) its whole
+        in let most = greatest-by_columns (to - from) its whole (λ (x : Lane). x.tail)
         in omega (arith, lt, lq, most, f));
   }
