@@ -110,6 +110,7 @@ module _ (greatest : ℕ) (shop : Shop) (w : List ℕ) (l : LayoutState) (heads 
           known = omega arith;
           head = omega arith;
           end = omega arith;
+          computable = a;
           some = omega arith;
           blocks = all.blocks (get_or l.machines x 0) known;
           fits = omega arith;

@@ -2,7 +2,7 @@
 use Rattle.std.proofs.Common.{◌≡◌, ℕ, ◌+◌, ◌-◌, ◌≤◌, ◌<◌, ◌⊎◌, inl, inr, List, [], ◌∷◌, ◌++◌}
 use Rattle.std.proofs.Common.{get_or, refl, ap, arith}
 use Rattle.std.proofs.lemmas.Bool.{cases_lt}
-use Rattle.shop_lanes.specs.Rows.{Lane, lanes, blocks}
+use Rattle.shop_lanes.specs.Rows.{Lane, lanes_of}
 use Rattle.shop_lanes.specs.Spans.{span, spans_between}
 use Rattle.shop_model.specs.Limits.{IsWithinLimits}
 use Rattle.shop_model.specs.Shop.{Shop, machine_of, IsOperation}
@@ -32,7 +32,7 @@ module _ (shop : Shop) (limits : IsWithinLimits shop) (l : LayoutState) (laid : 
 
   -- the lanes of a machine
   abbrev pub lanes_on : List ℕ → ℕ → List Lane
-  lanes_on hs m = blocks (get_or l.blocks m 0) (get_or l.blocks (m + 1) 0) (lanes hs l.times l.tails)
+  lanes_on hs m = lanes_of hs l.times l.tails (get_or l.blocks m 0) (get_or l.blocks (m + 1) 0)
 
   on_machine : its_machine < shop.machines
   unfolding its_machine

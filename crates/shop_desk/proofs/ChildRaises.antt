@@ -2,7 +2,7 @@
 use Rattle.std.proofs.Common.{◌≡◌, ℕ, ◌+◌, ◌≤◌, ◌<◌, ◌⊎◌, inl, inr, List, [], ◌∷◌, ◌++◌, get_or}
 use Rattle.std.proofs.Common.{refl, sym, ap, arith}
 use Rattle.std.proofs.lemmas.Bool.{cases_lt}
-use Rattle.shop_lanes.specs.Rows.{Rows, lanes, blocks}
+use Rattle.shop_lanes.specs.Rows.{Rows, lanes_of}
 use Rattle.shop_lanes.specs.Spans.{spans_between}
 use Rattle.shop_model.specs.Limits.{IsWithinLimits}
 use Rattle.shop_model.specs.Shop.{Shop, machine_of, IsOperation}
@@ -59,7 +59,7 @@ module _ (shop : Shop) (limits : IsWithinLimits shop) (l : LayoutState) (laid : 
   module _ (rows : Rows) (heads : rows.heads ≡ now) (times : rows.times ≡ l.times)
       (tails : rows.tails ≡ l.tails) where
     pub its_lanes : (m : ℕ) → lanes_on rows l m
-        ≡ blocks (get_or l.blocks m 0) (get_or l.blocks (m + 1) 0) (lanes now l.times l.tails)
+        ≡ lanes_of now l.times l.tails (get_or l.blocks m 0) (get_or l.blocks (m + 1) 0)
     its_lanes m = rw (heads, times, tails) refl
 
     -- from `least` on, what bounds the spans that begin within the raise bounds all that is left

@@ -1,7 +1,7 @@
 -- What is read of the next operation of a job, and what is foreseen of the bound after it.
 use Rattle.std.proofs.Common.{◌≡◌, ℕ, ◌+◌, ◌≤◌, ◌<◌, max, ◌-◌, List, [], ◌∷◌, ◌++◌, set}
 use Rattle.std.proofs.Common.{get_or, refl, sym, ◌∙◌, ap, subst, arith}
-use Rattle.shop_lanes.specs.Rows.{Rows, Lane, with_head, lanes, blocks}
+use Rattle.shop_lanes.specs.Rows.{Rows, Lane, with_head, lanes_of}
 use Rattle.shop_lanes.specs.Spans.{span}
 use Rattle.shop_model.specs.Shop.{Shop, machine_of, time_of, IsOperation}
 use Rattle.shop_model.specs.Word.{Placing, IsWord, placing, place_next}
@@ -102,24 +102,23 @@ module _ (greatest : ℕ) (shop : Shop) (w : List ℕ) (l : LayoutState) (rows :
             let a = child-ge-before shop kept.limits kept.laid.slots kept.laid.are w j fits least least_is
             in let b = open_span-le shop kept.limits l kept.laid w j fits (set rows.heads x 0) stored
             ((place_next shop (placing shop w) j).free (machine_of shop j ((placing shop w).steps j))) refl
-            in let same : blocks (get_or l.blocks m 0) (get_or l.blocks (m + 1) 0)
-            (lanes (set rows.heads x 0) rows.times rows.tails)
-            ≡ blocks (get_or l.blocks (machine_of shop j ((placing shop w).steps j)) 0)
-            (get_or l.blocks (machine_of shop j ((placing shop w).steps j) + 1) 0)
-            (lanes (set rows.heads x 0) l.times l.tails) =
-            ap (λ (n : ℕ). blocks (get_or l.blocks n 0) (get_or l.blocks (n + 1) 0)
-            (lanes (set rows.heads x 0) rows.times rows.tails)) m_is
-            ∙ (ap (λ (ts : List ℕ). blocks (get_or l.blocks (machine_of shop j ((placing shop w).steps j)) 0)
-            (get_or l.blocks (machine_of shop j ((placing shop w).steps j) + 1) 0)
-            (lanes (set rows.heads x 0) ts rows.tails)) kept.times
-            ∙ ap (λ (ts : List ℕ). blocks (get_or l.blocks (machine_of shop j ((placing shop w).steps j)) 0)
-            (get_or l.blocks (machine_of shop j ((placing shop w).steps j) + 1) 0)
-            (lanes (set rows.heads x 0) l.times ts)) kept.tails)
-            in let c = ap (λ (ls : List Lane). span 1 e ls) same
-            in let d = ap (λ (n : ℕ). span 1 n (blocks
+            in let same : lanes_of (set rows.heads x 0) rows.times rows.tails
+            (get_or l.blocks m 0) (get_or l.blocks (m + 1) 0)
+            ≡ lanes_of (set rows.heads x 0) l.times l.tails
             (get_or l.blocks (machine_of shop j ((placing shop w).steps j)) 0)
-            (get_or l.blocks (machine_of shop j ((placing shop w).steps j) + 1) 0)
-            (lanes (set rows.heads x 0) l.times l.tails))) e_is
+            (get_or l.blocks (machine_of shop j ((placing shop w).steps j) + 1) 0) =
+            ap (λ (n : ℕ). lanes_of (set rows.heads x 0) rows.times rows.tails
+            (get_or l.blocks n 0) (get_or l.blocks (n + 1) 0)) m_is
+            ∙ (ap (λ (ts : List ℕ). lanes_of (set rows.heads x 0) ts rows.tails
+            (get_or l.blocks (machine_of shop j ((placing shop w).steps j)) 0)
+            (get_or l.blocks (machine_of shop j ((placing shop w).steps j) + 1) 0)) kept.times
+            ∙ ap (λ (ts : List ℕ). lanes_of (set rows.heads x 0) l.times ts
+            (get_or l.blocks (machine_of shop j ((placing shop w).steps j)) 0)
+            (get_or l.blocks (machine_of shop j ((placing shop w).steps j) + 1) 0)) kept.tails)
+            in let c = ap (λ (ls : List Lane). span 1 e ls) same
+            in let d = ap (λ (n : ℕ). span 1 n (lanes_of (set rows.heads x 0) l.times l.tails
+            (get_or l.blocks (machine_of shop j ((placing shop w).steps j)) 0)
+            (get_or l.blocks (machine_of shop j ((placing shop w).steps j) + 1) 0))) e_is
             in omega arith
 
         pub after_look : IsLeastAfter shop w l rows j x m e b

@@ -2,7 +2,7 @@
 use Rattle.std.proofs.Common.{◌≡◌, ℕ, ◌+◌, ◌*◌, ◌≤◌, ◌<◌, List, [], ◌∷◌, ◌++◌, length, get_or, set}
 use Rattle.std.proofs.Common.{refl, ◌∙◌, ap, subst, arith}
 use Rattle.std.proofs.lemmas.List.{length-set}
-use Rattle.shop_lanes.specs.Rows.{Rows, with_head, lanes, blocks}
+use Rattle.shop_lanes.specs.Rows.{Rows, with_head, lanes_of}
 use Rattle.shop_lanes.specs.Spans.{span, spans_between}
 use Rattle.shop_model.specs.Shop.{Shop}
 use Rattle.shop_model.specs.Word.{Placing, IsWord, placing, place_next}
@@ -97,7 +97,7 @@ module _ (greatest : ℕ) (shop : Shop) (l : LayoutState) (j position : ℕ) (ro
             in let e = ap (span h h) (its_lanes shop kept.limits l kept.laid w j fits rows.heads rows'.heads kept.heads
             now_heads rows' refl times tails m)
             in let f : lanes_on (with_head rows position 0) l own
-            ≡ blocks (get_or l.blocks m 0) (get_or l.blocks (m + 1) 0) (lanes (set rows.heads x 0) l.times l.tails) =
+            ≡ lanes_of (set rows.heads x 0) l.times l.tails (get_or l.blocks m 0) (get_or l.blocks (m + 1) 0) =
             rw (after.next.position_is, on, kept.times, kept.tails) refl
             in let g = ap (span 1 end) f in let ahead = after.ahead in omega arith
 

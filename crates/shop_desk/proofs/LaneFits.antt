@@ -1,11 +1,12 @@
 -- Where lanes hold the loads of all machines, they hold the spans of any word.
-use Rattle.std.proofs.Common.{◌≡◌, ℕ, ◌+◌, ◌≤◌, ◌<◌, List, []}
+use Rattle.std.proofs.Common.{◌≡◌, ℕ, ◌+◌, ◌-◌, ◌*◌, ◌≤◌, ◌<◌, List, []}
 use Rattle.std.proofs.Common.{◌∷◌, length, get_or, refl, sym, ◌∙◌, ap, arith}
 use Rattle.std.specs.List.{sum_by}
 use Rattle.std.proofs.lemmas.List.Sums.{sum_by-cons}
 use Rattle.shop_lanes.specs.Rows.{Rows, Lane, lanes, blocks}
 use Rattle.shop_lanes.specs.Spans.{greatest_by}
-use Rattle.shop_lanes.proofs.LaneLists.{lanes-blocks, length-blocks}
+use Rattle.shop_lanes.proofs.AnyOrder.{greatest-by_columns}
+use Rattle.shop_lanes.proofs.LaneLists.{lanes-blocks, length-blocks, length-lanes}
 use Rattle.shop_model.specs.Limits.{IsWithinLimits}
 use Rattle.shop_model.specs.Shop.{Shop}
 use Rattle.one_machine.specs.OneMachine.{greatest_of}
@@ -13,6 +14,7 @@ use Rattle.shop_layout.specs.HeadLimits.{latest_end, FitsLanes}
 use Rattle.shop_desk.specs.inner.LaneBounds.{AreSpansFit}
 use Rattle.shop_layout.specs.Lanes.{lanes_on}
 use Rattle.shop_layout.specs.Positions.{LayoutState, IsLaidOut, first_position}
+use Rattle.shop_layout.proofs.ColumnSums.{sum_by_columns}
 use Rattle.shop_layout.proofs.LaidPlaces.{machines_rise}
 
 -- what the lanes of rows add up to
@@ -63,13 +65,19 @@ module _ (shop : Shop) (limits : IsWithinLimits shop) (l : LayoutState) (laid : 
         (omega arith) (omega arith)
         in let q = lanes_tails (blocks from to rows.heads) (blocks from to rows.times) (blocks from to rows.tails)
         (omega arith) (omega arith)
+        in let its : List Lane = blocks from to (lanes rows.heads rows.times rows.tails)
+        in let whole : length its ≡ 8 * (to - from) =
+        (let a = length-lanes rows.heads rows.times rows.tails et eq
+        in length-blocks from to (lanes rows.heads rows.times rows.tails) (omega arith) ∙ omega arith)
         in let f = fits m known
         in let lt : sum_by (λ (x : Lane). x.time) (lanes_on rows l m) ≡ sum_by (λ (n : ℕ). n) (blocks from to l.times) =
-        ap (λ (xs : List Lane). sum_by (λ x. x.time) xs) (sym same)
-        ∙ (t ∙ ap (λ (xs : List ℕ). sum_by (λ n. n) (blocks from to xs)) times)
-        in let lq : greatest_by (λ (x : Lane). x.tail) (lanes_on rows l m)
+        sum_by_columns (λ (x : Lane). x.time) (to - from) its whole
+        ∙ (ap (λ (xs : List Lane). sum_by (λ x. x.time) xs) (sym same)
+        ∙ (t ∙ ap (λ (xs : List ℕ). sum_by (λ n. n) (blocks from to xs)) times))
+        in let lq : greatest_by (λ (x : Lane). x.tail) its
         ≡ greatest_of (λ (n : ℕ). n) (blocks from to l.tails) =
         ap (λ (xs : List Lane). greatest_by (λ x. x.tail) xs) (sym same)
         ∙ (q ∙ ap (λ (xs : List ℕ). greatest_of (λ n. n) (blocks from to xs)) tails)
-        in omega arith);
+        in let most = greatest-by_columns (to - from) its whole (λ (x : Lane). x.tail)
+        in omega (arith, lt, lq, most, f));
   }

@@ -19,6 +19,7 @@ pub mod LaneEnds
 pub mod LaneFits
 pub mod LaneSpans
 pub mod LeftSlots
+pub mod LookAheads
 pub mod MachineLanes
 pub mod NextOperations
 pub mod OwnSpans
@@ -35,6 +36,7 @@ pub mod RisingLists
 pub mod RowTurns
 pub mod SeenRaises
 pub mod SoleCandidates
+pub mod SpanTurns
 pub mod StateSteps
 pub mod Strikes
 pub mod Trials

@@ -1,9 +1,10 @@
 -- The lanes of a machine's blocks are its operations that wait, by nonincreasing tail.
-use Rattle.std.proofs.Common.{◌≡◌, ℕ, zero, suc, ◌+◌, ◌-◌, ◌≤◌, ◌<◌, inl, inr, true, false, List}
+use Rattle.std.proofs.Common.{◌≡◌, ℕ, zero, suc, ◌+◌, ◌-◌, ◌*◌, ◌≤◌, ◌<◌, inl, inr, true, false, List}
 use Rattle.std.proofs.Common.{[], ◌∷◌, length, get_or, drop, refl, sym, ◌∙◌, ap, subst, arith}
 use Rattle.std.proofs.lemmas.Bool.{cases_Bool, cases_eq, cases_lt, leb-true, le-leb, true≢false}
 use Rattle.std.proofs.lemmas.List.{get_or-take, get_or-drop}
-use Rattle.shop_lanes.specs.Rows.{Lane, lanes, blocks}
+use Rattle.shop_lanes.specs.Rows.{Lane, lanes, lanes_of, blocks, place_at_rank}
+use Rattle.shop_lanes.proofs.Columns.{by_columns-at, length-by_columns}
 use Rattle.shop_lanes.proofs.LaneLists.{lane_at, length-lanes, length-blocks}
 use Rattle.shop_model.specs.Limits.{IsWithinLimits}
 use Rattle.shop_model.specs.Shop.{Shop, route_of, machine_of, IsOperation}
@@ -14,12 +15,12 @@ use Rattle.one_machine.specs.declared.triples.Triple.{Triple}
 use Rattle.shop_heads.specs.Heads.{head_of}
 use Rattle.shop_layout.specs.Slots.{slot_at}
 use Rattle.shop_desk.specs.inner.LaneHeads.{AreHeadsAt, AreStored}
-use Rattle.shop_layout.specs.Positions.{LayoutState, IsLaidOut, place, first_position}
+use Rattle.shop_layout.specs.Positions.{LayoutState, IsLaidOut, place, first_position, position_at_rank}
 use Rattle.shop_desk.proofs.LaneSpans.{AreMatched, nothing, empty, matched, IsLaneOf}
 use Rattle.shop_desk.proofs.LeftSlots.{is_left, triple_of, left_of, left_for}
 use Rattle.shop_layout.proofs.SlotFacts.{slots_are_operations, slots_are_all}
 use Rattle.shop_layout.proofs.LaidPlaces.{machines_rise}
-use Rattle.shop_layout.proofs.LaidPlaces.{machines_rise}
+use Rattle.shop_layout.proofs.Ranks.{position_within, same_rank}
 
 -- lanes that stand for what is left of some slots, and for nothing else
 slots_matched : (R : Triple → Lane → Type 0) (shop : Shop) (p : Placing) (ls : List Lane) (xs : List Slot)
@@ -60,7 +61,7 @@ module _ (shop : Shop) (limits : IsWithinLimits shop) (l : LayoutState) (laid : 
   -- where an operation stands among those of its machine
   pub record HasIndex (j k m i : ℕ) : Type 0 where
     pub below : i < length (slots_of m)
-    pub place : place l j k ≡ first_position l m + i
+    pub place : place l j k ≡ position_at_rank l.blocks m i
 
   pub index_of : (j k : ℕ) → IsOperation shop j k → (i : ℕ) × HasIndex j k (machine_of shop j k) i
   index_of j k op =
@@ -73,20 +74,25 @@ module _ (shop : Shop) (limits : IsWithinLimits shop) (l : LayoutState) (laid : 
       ap (λ (x : Slot). place l x.job x.step) (sym c.2)
       in (c.0, record { below = c.1; place = there ∙ at.place })
 
-  -- behind a machine's operations nothing stands
-  pub none_behind : (m q : ℕ) → m < shop.machines → first_position l m + length (slots_of m) ≤ q
-      → q < first_position l (m + 1) → (j k : ℕ) → IsOperation shop j k → place l j k ≡ q → ⊥
-  none_behind m q known behind before j k op e =
+  -- at the ranks behind a machine's operations nothing stands
+  pub none_behind : (m r : ℕ) → m < shop.machines → length (slots_of m) ≤ r
+      → first_position l m + r < first_position l (m + 1) → (j k : ℕ) → IsOperation shop j k
+      → place l j k ≡ position_at_rank l.blocks m r → ⊥
+  none_behind m r known behind before j k op e =
       let n = machine_of shop j k
       in let other = limits.on_machines j k
       in let i = index_of j k op
       in let below = i.1.below
       in let there = i.1.place
       in let room = (laid.each n other).room
+      in let its = position_within l.blocks n i.0 (omega arith)
+      in let at = position_within l.blocks m r before
       in elim (cases_eq n m) [
-        | inl same ↦ (let a : first_position l n ≡ first_position l m = ap (first_position l) same
+        | inl same ↦ (let a : position_at_rank l.blocks n i.0 ≡ position_at_rank l.blocks m i.0 =
+            ap (λ (x : ℕ). position_at_rank l.blocks x i.0) same
             in let b : length (slots_of n) ≡ length (slots_of m) = ap (λ (x : ℕ). length (slots_of x)) same
-            in omega arith)
+            in let here = same_rank l.blocks m i.0 r (omega (arith, before, below, b, behind)) before
+            (sym a ∙ (sym there ∙ e)) in omega (arith, here, below, b, behind))
         | inr ne ↦ elim (cases_lt n m) [
           | inl low ↦ (let a = machines_rise shop limits l laid (n + 1) m (omega arith) (omega arith) in omega arith)
           | inr high ↦ (let a = machines_rise shop limits l laid (m + 1) n (omega arith) (omega arith) in omega arith)
@@ -100,37 +106,48 @@ module _ (shop : Shop) (limits : IsWithinLimits shop) (l : LayoutState) (laid : 
         let a = machines_rise shop limits l laid (m + 1) shop.machines (omega arith) (omega arith)
         in let b = stored.positions in omega arith
 
+    abbrev from : ℕ
+    from = get_or l.blocks m 0
+
+    abbrev to : ℕ
+    to = get_or l.blocks (m + 1) 0
+
     machine_lanes : List Lane
-    machine_lanes = blocks (get_or l.blocks m 0) (get_or l.blocks (m + 1) 0) (lanes hs l.times l.tails)
+    machine_lanes = lanes_of hs l.times l.tails from to
 
     lanes_as_many : (length l.times ≡ length hs) × (length l.tails ≡ length hs)
     lanes_as_many = (let a = laid.positions.times in let b = laid.positions.tails in let c = stored.positions
         in (omega arith, omega arith))
 
+    whole_blocks : length (blocks from to (lanes hs l.times l.tails)) ≡ 8 * (to - from)
+    whole_blocks =
+        let within = machine_within
+        in let long = length-lanes hs l.times l.tails lanes_as_many.0 lanes_as_many.1
+        in length-blocks from to (lanes hs l.times l.tails) (omega arith) ∙ omega arith
+
     lane_in : (i : ℕ) (d : Lane) → first_position l m + i < first_position l (m + 1)
-        → get_or machine_lanes i d ≡ lane_at hs l.times l.tails (first_position l m + i)
+        → get_or machine_lanes i d ≡ lane_at hs l.times l.tails (position_at_rank l.blocks m i)
     unfolding machine_lanes
     lane_in i d below =
         let within = machine_within
-        in get_or-take (first_position l (m + 1) - first_position l m)
-        (drop (first_position l m) (lanes hs l.times l.tails)) i d
-        (omega arith)
-        ∙ get_or-drop (first_position l m) (lanes hs l.times l.tails) i d
-        ∙ lane_here hs l.times l.tails (first_position l m + i) d lanes_as_many.0 lanes_as_many.1 (omega arith)
+        in let q = place_at_rank (to - from) i
+        in let there = position_within l.blocks m i below
+        in by_columns-at (to - from) (blocks from to (lanes hs l.times l.tails)) whole_blocks i d (omega arith)
+        ∙ get_or-take (8 * to - 8 * from) (drop (8 * from) (lanes hs l.times l.tails)) q d (omega (arith, there))
+        ∙ get_or-drop (8 * from) (lanes hs l.times l.tails) q d
+        ∙ lane_here hs l.times l.tails (8 * from + q) d lanes_as_many.0 lanes_as_many.1 (omega (arith, there, within))
 
     machine_long : length machine_lanes ≡ first_position l (m + 1) - first_position l m
     unfolding machine_lanes
     machine_long =
-        let within = machine_within
-        in let long = length-lanes hs l.times l.tails lanes_as_many.0 lanes_as_many.1
-        in length-blocks (get_or l.blocks m 0) (get_or l.blocks (m + 1) 0) (lanes hs l.times l.tails) (omega arith)
+        length-by_columns (to - from) (blocks from to (lanes hs l.times l.tails)) whole_blocks ∙ omega arith
 
     -- the lanes of a machine, if what is related to a waiting operation's triple is its lane
     pub lanes_matched : (R : Triple → Lane → Type 0)
         → ((s : Slot) → IsOperation shop s.job s.step → machine_of shop s.job s.step ≡ m → p.steps s.job ≤ s.step
         → R (triple_of shop p s) (record { head = f s.job s.step + 1; time = s.time; tail = s.tail }))
         → AreMatched R (left_of shop p (slots_of m))
-        (blocks (get_or l.blocks m 0) (get_or l.blocks (m + 1) 0) (lanes hs l.times l.tails))
+        (lanes_of hs l.times l.tails (get_or l.blocks m 0) (get_or l.blocks (m + 1) 0))
     unfolding machine_lanes
     lanes_matched R related =
         let long = machine_long
@@ -142,9 +159,9 @@ module _ (shop : Shop) (limits : IsWithinLimits shop) (l : LayoutState) (laid : 
         in let at = (laid.each m known).at i d here
         in let a = leb-true (p.steps s.job) s.step left
         in let w = stored.waiting s.job s.step op.step (omega arith)
-        in let head : get_or hs (first_position l m + i) 0 ≡ f s.job s.step + 1 =
+        in let head : get_or hs (position_at_rank l.blocks m i) 0 ≡ f s.job s.step + 1 =
         ap (λ (q : ℕ). get_or hs q 0) (sym at.place) ∙ w
-        in let lane : lane_at hs l.times l.tails (first_position l m + i)
+        in let lane : lane_at hs l.times l.tails (position_at_rank l.blocks m i)
         ≡ record { head = f s.job s.step + 1; time = s.time; tail = s.tail } =
         (let c = at.time in let g = at.tail in cc)
         in subst (λ (x : Lane). R (triple_of shop p s) x) (sym (lane_in i e (omega arith) ∙ lane))
@@ -161,13 +178,12 @@ module _ (shop : Shop) (limits : IsWithinLimits shop) (l : LayoutState) (laid : 
         ])
         (λ i e behind here.
         let h = ap (λ (x : Lane). x.head) (lane_in i e (omega arith))
-        in h ∙ stored.padding (first_position l m + i)
-        (none_behind m (first_position l m + i) known (omega arith) (omega arith)))
+        in h ∙ stored.padding (position_at_rank l.blocks m i) (none_behind m i known behind (omega arith)))
 
   -- the lanes of what waits for a machine
   pub left_matched : (m : ℕ) → m < shop.machines → (p : Placing) (hs : List ℕ) → AreHeadsAt shop p l hs
       → AreMatched IsLaneOf (left_for shop laid.slots p m)
-      (blocks (get_or l.blocks m 0) (get_or l.blocks (m + 1) 0) (lanes hs l.times l.tails))
+      (lanes_of hs l.times l.tails (get_or l.blocks m 0) (get_or l.blocks (m + 1) 0))
   left_matched m known p hs heads =
       lanes_matched m known p (head_of shop p) hs heads IsLaneOf
       (λ s op on left. record { head = refl; time = refl; tail = refl })

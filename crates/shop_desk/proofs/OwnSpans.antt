@@ -8,7 +8,9 @@ use Rattle.std.proofs.lemmas.Bool.{and_parts, cases_Bool, cases_lt, eqb-true}
 use Rattle.std.proofs.lemmas.Grind.{same_number_lists}
 use Rattle.std.proofs.lemmas.List.{length-map, get_or-map}
 use Rattle.std.proofs.lemmas.List.Elements.{All-drop, All-take}
-use Rattle.shop_lanes.specs.Rows.{AreBlocks, Lane, Rows, lanes, lanes_between, blocks}
+use Rattle.shop_lanes.specs.Rows.{AreBlocks, Lane, Rows, lanes, lanes_between, lanes_of, blocks}
+use Rattle.shop_lanes.proofs.Columns.{All-by_columns}
+use Rattle.shop_lanes.proofs.LaneLists.{length-blocks, length-lanes}
 use Rattle.shop_lanes.specs.Spans.{AreOwnSpans, FitOwnSpans, own_span}
 use Rattle.shop_model.specs.Limits.{IsWithinLimits}
 use Rattle.shop_model.specs.Shop.{Shop, machine_of}
@@ -85,11 +87,14 @@ head_in (h ∷ hs) (t ∷ ts) (q ∷ qs) top small zero d here = small 0
 head_in (h ∷ hs) (t ∷ ts) (q ∷ qs) top small (suc i) d here =
     head_in hs ts qs top (λ x. small (suc x)) i d (omega arith)
 
-heads_in : (hs ts qs : List ℕ) (top from to : ℕ) → ((q : ℕ) → get_or hs q 0 ≤ top)
-    → All (λ (x : Lane). x.head ≤ top) (blocks from to (lanes hs ts qs))
-heads_in hs ts qs top from to small =
-    All-take (λ (x : Lane). x.head ≤ top) (8 * to - 8 * from) (drop (8 * from) (lanes hs ts qs))
-    (All-drop (λ (x : Lane). x.head ≤ top) (8 * from) (lanes hs ts qs) (head_in hs ts qs top small))
+heads_in : (hs ts qs : List ℕ) (top from to : ℕ) → length ts ≡ length hs → length qs ≡ length hs → 8 * to ≤ length hs
+    → ((q : ℕ) → get_or hs q 0 ≤ top) → All (λ (x : Lane). x.head ≤ top) (lanes_of hs ts qs from to)
+heads_in hs ts qs top from to a b within small =
+    let long = length-lanes hs ts qs a b
+    in All-by_columns (to - from) (blocks from to (lanes hs ts qs))
+    (length-blocks from to (lanes hs ts qs) (omega arith) ∙ omega arith) (λ (x : Lane). x.head ≤ top)
+    (All-take (λ (x : Lane). x.head ≤ top) (8 * to - 8 * from) (drop (8 * from) (lanes hs ts qs))
+    (All-drop (λ (x : Lane). x.head ≤ top) (8 * from) (lanes hs ts qs) (head_in hs ts qs top small)))
 
 -- the own spans of what waits where the next operation of the first job does can be told
 pub record CanTell (greatest : ℕ) (l : LayoutState) (rows : Rows) (nexts jobs ms : List ℕ) (from to : ℕ) : Type 0 where
@@ -117,6 +122,8 @@ module _ (greatest : ℕ) (shop : Shop) (w : List ℕ) (l : LayoutState) (heads 
         let all = fit.fits m known
         in let small = heads_in heads l.times l.tails (latest_end shop + 1) (get_or l.blocks m 0)
         (get_or l.blocks (m + 1) 0)
+        (kept.kept.laid.positions.times ∙ sym kept.kept.heads.positions)
+        (kept.kept.laid.positions.tails ∙ sym kept.kept.heads.positions) its_blocks.within
         (heads_small shop kept.kept.limits l kept.kept.laid w kept.kept.word heads kept.kept.heads)
         in record {
           whole = omega arith;

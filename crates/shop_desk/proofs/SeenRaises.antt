@@ -2,8 +2,9 @@
 use Rattle.std.proofs.Common.{◌≡◌, ℕ, ◌+◌, ◌-◌, ◌*◌, ◌≤◌, ◌<◌, inl, inr, List, [], ◌∷◌, ◌++◌}
 use Rattle.std.proofs.Common.{length, get_or, refl, sym, ◌∙◌, ap, subst, arith}
 use Rattle.std.proofs.lemmas.Bool.{cases_eq, cases_lt, eq-eqb, ne_eqb}
-use Rattle.shop_lanes.specs.Rows.{Rows, Lane, lanes, blocks}
+use Rattle.shop_lanes.specs.Rows.{Rows, Lane, lanes, lanes_of, blocks, by_columns, place_at_rank}
 use Rattle.shop_lanes.specs.Spans.{span}
+use Rattle.shop_lanes.proofs.Columns.{by_columns-at, lanes-by_columns, length-by_columns, place_fits}
 use Rattle.shop_lanes.proofs.LaneLists.{length-blocks, lanes-blocks}
 use Rattle.shop_model.specs.Limits.{IsWithinLimits}
 use Rattle.shop_model.specs.Shop.{Shop}
@@ -32,29 +33,53 @@ use Rattle.shop_desk.proofs.LeftSlots.{left_falls}
 blocks_risen : (from to floor first end : ℕ) (hs hs' ts qs : List ℕ) → length ts ≡ length hs → length qs ≡ length hs
     → length hs' ≡ length hs → 8 * end ≤ length hs
     → ((q : ℕ) → 8 * first ≤ q → q < 8 * end → IsRisen from to floor (get_or hs q 0) (get_or hs' q 0))
-    → AreBeside (IsRisenLane from to floor) (blocks first end (lanes hs ts qs)) (blocks first end (lanes hs' ts qs))
+    → AreBeside (IsRisenLane from to floor) (lanes_of hs ts qs first end) (lanes_of hs' ts qs first end)
 blocks_risen from to floor first end hs hs' ts qs a b c within each =
-    let lh = length-blocks first end hs within
-    in let lh' = length-blocks first end hs' (omega arith)
-    in let lt = length-blocks first end ts (omega arith)
-    in let lq = length-blocks first end qs (omega arith)
-    in let risen = lanes_risen from to floor (blocks first end hs) (blocks first end hs') (blocks first end ts)
-    (blocks first end qs) (omega arith) (omega arith) (omega arith)
-    (λ i here. subst (λ (x : ℕ). IsRisen from to floor x (get_or (blocks first end hs') i 0))
-    (sym (block_at hs first end i (omega arith)))
-    (subst (IsRisen from to floor (get_or hs (8 * first + i) 0)) (sym (block_at hs' first end i (omega arith)))
-    (each (8 * first + i) (omega arith) (omega arith))))
-    in subst (λ (xs : List Lane). AreBeside (IsRisenLane from to floor) xs (blocks first end (lanes hs' ts qs)))
-    (lanes-blocks hs ts qs first end a b)
+    let n = end - first
+    in let whole = λ (xs : List ℕ) (e : 8 * end ≤ length xs). length-blocks first end xs e ∙ eights
+    in let lh : length (blocks first end hs) ≡ 8 * n = whole hs within
+    in let lh' : length (blocks first end hs') ≡ 8 * n = whole hs' (omega arith)
+    in let lt : length (blocks first end ts) ≡ 8 * n = whole ts (omega arith)
+    in let lq : length (blocks first end qs) ≡ 8 * n = whole qs (omega arith)
+    in let rh = length-by_columns n (blocks first end hs) lh
+    in let rh' = length-by_columns n (blocks first end hs') lh'
+    in let rt = length-by_columns n (blocks first end ts) lt
+    in let rq = length-by_columns n (blocks first end qs) lq
+    in let risen = lanes_risen from to floor (by_columns n (blocks first end hs)) (by_columns n (blocks first end hs'))
+    (by_columns n (blocks first end ts)) (by_columns n (blocks first end qs)) (rt ∙ sym rh) (rq ∙ sym rh) (rh' ∙ sym rh)
+    (λ i here.
+    let q = place_at_rank n i
+    in let inside : i < 8 * n = omega (arith, here, rh)
+    in let fits = place_fits n i inside
+    in let old = by_columns-at n (blocks first end hs) lh i 0 inside ∙ block_at hs first end q (omega (arith, fits))
+    in let new = by_columns-at n (blocks first end hs') lh' i 0 inside ∙ block_at hs' first end q (omega (arith, fits))
+    in subst (λ (x : ℕ). IsRisen from to floor x (get_or (by_columns n (blocks first end hs')) i 0)) (sym old)
+    (subst (IsRisen from to floor (get_or hs (8 * first + q) 0)) (sym new)
+    (each (8 * first + q) (omega arith) (omega (arith, fits)))))
+    in subst (λ (xs : List Lane). AreBeside (IsRisenLane from to floor) xs (lanes_of hs' ts qs first end))
+    (by_both hs lh lt lq a b)
     (subst (AreBeside (IsRisenLane from to floor)
-    (lanes (blocks first end hs) (blocks first end ts) (blocks first end qs)))
-    (lanes-blocks hs' ts qs first end (omega arith) (omega arith)) risen)
+    (lanes (by_columns n (blocks first end hs)) (by_columns n (blocks first end ts)) (by_columns n (blocks first end qs))))
+    (by_both hs' lh' lt lq (a ∙ sym c) (b ∙ sym c)) risen)
+  where
+    eights : 8 * end - 8 * first ≡ 8 * (end - first)
+    eights = omega arith
+
+    by_both : (ks : List ℕ) → length (blocks first end ks) ≡ 8 * (end - first)
+        → length (blocks first end ts) ≡ 8 * (end - first) → length (blocks first end qs) ≡ 8 * (end - first)
+        → length ts ≡ length ks → length qs ≡ length ks
+        → lanes (by_columns (end - first) (blocks first end ks)) (by_columns (end - first) (blocks first end ts))
+        (by_columns (end - first) (blocks first end qs)) ≡ lanes_of ks ts qs first end
+    by_both ks lk lt lq et eq =
+        lanes-by_columns (end - first) (blocks first end ks) (blocks first end ts) (blocks first end qs) lk
+        (lt ∙ sym lk) (lq ∙ sym lk)
+        ∙ ap (λ (xs : List Lane). by_columns (end - first) xs) (lanes-blocks ks ts qs first end et eq)
 
 -- the lanes of a machine by what stands in the rows
-lanes_of : (l : LayoutState) (rows : Rows) (hs : List ℕ) → rows.heads ≡ hs → rows.times ≡ l.times
+lanes_are : (l : LayoutState) (rows : Rows) (hs : List ℕ) → rows.heads ≡ hs → rows.times ≡ l.times
     → rows.tails ≡ l.tails → (m : ℕ)
-    → blocks (get_or l.blocks m 0) (get_or l.blocks (m + 1) 0) (lanes hs l.times l.tails) ≡ lanes_on rows l m
-lanes_of l rows hs heads times tails m = rw (heads, times, tails) refl
+    → lanes_of hs l.times l.tails (get_or l.blocks m 0) (get_or l.blocks (m + 1) 0) ≡ lanes_on rows l m
+lanes_are l rows hs heads times tails m = rw (heads, times, tails) refl
 
 module _ (shop : Shop) (limits : IsWithinLimits shop) (l : LayoutState) (laid : IsLaidOut shop l) (w : List ℕ) (j : ℕ)
     (fits : IsWord shop (w ++ j ∷ [])) (was now : List ℕ) (old : AreHeadsAt shop (placing shop w) l was)
@@ -89,8 +114,8 @@ module _ (shop : Shop) (limits : IsWithinLimits shop) (l : LayoutState) (laid : 
 
     pub span_ahead : (top m h end : ℕ) → ((q : ℕ) → get_or now q 0 ≤ top) → 0 < h → h ≤ end
         → 8 * get_or l.blocks (m + 1) 0 ≤ length left
-        → span h h (blocks (get_or l.blocks m 0) (get_or l.blocks (m + 1) 0) (lanes now l.times l.tails))
-        ≤ span 1 end (blocks (get_or l.blocks m 0) (get_or l.blocks (m + 1) 0) (lanes left l.times l.tails))
+        → span h h (lanes_of now l.times l.tails (get_or l.blocks m 0) (get_or l.blocks (m + 1) 0))
+        ≤ span 1 end (lanes_of left l.times l.tails (get_or l.blocks m 0) (get_or l.blocks (m + 1) 0))
     span_ahead top m h end small some up within =
         let risen = blocks_risen 0 0 top (get_or l.blocks m 0) (get_or l.blocks (m + 1) 0) left now l.times l.tails
         (laid.positions.times ∙ sym stored.positions) (laid.positions.tails ∙ sym stored.positions)
@@ -133,9 +158,9 @@ module _ (shop : Shop) (limits : IsWithinLimits shop) (l : LayoutState) (laid : 
           (laid.positions.times ∙ sym old.positions) (laid.positions.tails ∙ sym old.positions)
           (new.positions ∙ sym old.positions) within (risen floor foreseen)
           in subst (λ (xs : List Lane). AreBeside IsRisenHere xs (lanes_on rows' l m))
-          (lanes_of l rows was heads times tails m)
-          (subst (AreBeside IsRisenHere (blocks (get_or l.blocks m 0) (get_or l.blocks (m + 1) 0)
-          (lanes was l.times l.tails))) (lanes_of l rows' now heads' times' tails' m) a)
+          (lanes_are l rows was heads times tails m)
+          (subst (AreBeside IsRisenHere (lanes_of was l.times l.tails (get_or l.blocks m 0) (get_or l.blocks (m + 1) 0)))
+          (lanes_are l rows' now heads' times' tails' m) a)
         where
           IsRisenHere : Lane → Lane → Type 0
           IsRisenHere = IsRisenLane raise.from raise.to floor
@@ -149,7 +174,7 @@ module _ (shop : Shop) (limits : IsWithinLimits shop) (l : LayoutState) (laid : 
           (laid.are.slots m known).nonincreasing
           in let a = from_head_within (left_matched shop limits l laid m known p was old) falls (g - 1)
           in let b = left-le-lb shop limits laid.slots laid.are w word m known
-          in let e = ap (λ (xs : List Lane). span (g - 1 + 1) (g - 1 + 1) xs) (lanes_of l rows was heads times tails m)
+          in let e = ap (λ (xs : List Lane). span (g - 1 + 1) (g - 1 + 1) xs) (lanes_are l rows was heads times tails m)
           in let f : span (g - 1 + 1) (g - 1 + 1) (lanes_on rows l m) ≡ span g g (lanes_on rows l m) =
           ap (λ (n : ℕ). span n n (lanes_on rows l m)) (omega arith)
           in omega arith

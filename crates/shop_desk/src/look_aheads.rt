@@ -24,9 +24,7 @@ pub(crate) fn foresee<L: StateLanes>(
     let end = head + grid.time(position);
     lanes.set_head(position, 0);
     let (from, to) = (grid.block(machine), grid.block(machine + 1));
-    let ahead = grid.span(lanes, from, to, end);
+    let load = grid.load(lanes, from, to);
     lanes.set_head(position, head);
-    least
-        .max(end.saturating_sub(1))
-        .max(ahead.saturating_sub(1))
+    least.max((end + load).saturating_sub(1))
 }

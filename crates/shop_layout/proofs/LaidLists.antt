@@ -11,7 +11,9 @@ use Rattle.shop_layout.specs.Slots.{AreMachineSlots, AreSlotsOf}
 use Rattle.shop_layout.specs.inner.Layings.{AreCells, AreNoted, ArePlaces, AreShorter, HasRoutes}
 use Rattle.shop_layout.specs.inner.Layings.{IsInRows, no_slot, place_after}
 use Rattle.shop_layout.specs.Positions.{AreMachinesOf, place_in, place_or, IsLaidOut, LayoutState}
+use Rattle.shop_layout.specs.Positions.{position_at_rank}
 use Rattle.shop_layout.proofs.ApartSlots.{slots_few}
+use Rattle.shop_layout.proofs.Ranks.{rank_at}
 use Rattle.shop_layout.proofs.SlotFacts.{slots_are_operations}
 
 pub machine_few : (shop : Shop) → IsWithinLimits shop → (lists : List (List Slot)) → AreMachineSlots shop lists
@@ -32,9 +34,10 @@ rows_in shop rows shape m slots are k d here =
 -- the places of one more machine
 pub places_turn : (shop : Shop) (lists : List (List Slot)) (blocks : List ℕ) (n : ℕ) (old new : List (List ℕ))
     → AreMachineSlots shop lists → n < shop.machines → ArePlaces shop lists blocks n old
-    → (slots : List Slot) → slots ≡ get_or lists n [] → (first : ℕ) → first ≡ 8 * get_or blocks n 0
-    → AreNoted (length slots) first slots old new → ArePlaces shop lists blocks (n + 1) new
-places_turn shop lists blocks n old new are known before slots is first from noted = record {
+    → (slots : List Slot) → slots ≡ get_or lists n []
+    → AreNoted (length slots) (8 * get_or blocks n 0) (get_or blocks (n + 1) 0 - get_or blocks n 0) slots old new
+    → ArePlaces shop lists blocks (n + 1) new
+places_turn shop lists blocks n old new are known before slots is noted = record {
   shape = record {
     jobs = noted.long ∙ before.shape.jobs;
     routes = λ j. noted.rows j ∙ before.shape.routes j;
@@ -43,7 +46,7 @@ places_turn shop lists blocks n old new are known before slots is first from not
     | inl e ↦ (let same : get_or lists m [] ≡ slots = ap (λ (k : ℕ). get_or lists k []) e ∙ sym is
         in let a = noted.noted i d (let b = ap length same in omega arith)
         in ap (λ (xs : List Slot). place_in new (get_or xs i d).job (get_or xs i d).step) same
-        ∙ (a ∙ (let b = ap (λ (k : ℕ). get_or blocks k 0) e in omega arith)))
+        ∙ (a ∙ ap (λ (k : ℕ). position_at_rank blocks k i) (sym e)))
     | inr ne ↦ (let s = get_or (get_or lists m []) i d
         in noted.others s.job s.step (λ p q l e f. ne (
         let x = get_or slots p q
@@ -123,17 +126,18 @@ module _ (shop : Shop) (limits : IsWithinLimits shop) (lists : List (List Slot))
       in let slots = get_or lists at.0 []
       in let same = get_or_default cells q d no_slot here
       in let low = at.2 in let high = at.3
-      in elim (cases_lt q (8 * get_or blocks at.0 0 + length slots)) [
-        | inl l ↦ (let i = q - 8 * get_or blocks at.0 0
-            in let e : 8 * get_or blocks at.0 0 + i ≡ q = omega arith
-            in let is : get_or cells q d ≡ get_or slots i no_slot =
-            same ∙ (ap (λ (n : ℕ). get_or cells n no_slot) (sym e) ∙ list.at i no_slot (omega arith))
-            in let op = slots_are_operations shop at.0 slots (are.slots at.0 at.1) i no_slot (omega arith)
+      in let r = rank_at blocks at.0 q low high
+      in let i = r.rank
+      in elim (cases_lt i (length slots)) [
+        | inl l ↦ (let is : get_or cells q d ≡ get_or slots i no_slot =
+            same ∙ (ap (λ (n : ℕ). get_or cells n no_slot) (sym r.at) ∙ list.at i no_slot l)
+            in let op = slots_are_operations shop at.0 slots (are.slots at.0 at.1) i no_slot l
             in let job = op.job in let step = op.step in let jobs = limits.jobs
             in let routes = limits.routes (get_or slots i no_slot).job
             in let a = ap (λ (s : Slot). s.job) is in let b = ap (λ (s : Slot). s.step) is
             in (omega arith, omega arith))
-        | inr l ↦ (let is : get_or cells q d ≡ no_slot = same ∙ list.padding q l high
+        | inr l ↦ (let is : get_or cells q d ≡ no_slot =
+            same ∙ (ap (λ (n : ℕ). get_or cells n no_slot) (sym r.at) ∙ list.padding i l r.within)
             in let a = ap (λ (s : Slot). s.job) is in let b = ap (λ (s : Slot). s.step) is
             in let some = jobs_known (omega arith)
             in (omega arith, omega arith))
@@ -192,10 +196,12 @@ module _ (shop : Shop) (limits : IsWithinLimits shop) (lists : List (List Slot))
         };
         each = λ m known. (let list = laid.each m known
             in let a = block m in let b = block (m + 1) in let room = list.room
+            in let there : (i : ℕ) → position_at_rank l.blocks m i ≡ position_at_rank blocks m i =
+            (λ i. ap (λ (bs : List ℕ). position_at_rank bs m i) is)
             in record {
               room = omega arith;
-              at = λ i d here. (let q = 8 * get_or l.blocks m 0 + i
-                  in let e : q ≡ 8 * get_or blocks m 0 + i = omega arith
+              at = λ i d here. (let q = position_at_rank l.blocks m i
+                  in let e = there i
                   in let stands : get_or cells q no_slot ≡ get_or (get_or lists m []) i d =
                   ap (λ (n : ℕ). get_or cells n no_slot) e ∙ list.at i d here
                   in record {
@@ -207,7 +213,9 @@ module _ (shop : Shop) (limits : IsWithinLimits shop) (lists : List (List Slot))
                         (get_or (get_or lists m []) i d).step) places
                         ∙ (placed.each m i d known here ∙ sym e);
                   });
-              padding = λ q from to. (let stands = list.padding q (omega arith) (omega arith)
+              padding = λ i from to. (let q = position_at_rank l.blocks m i
+                  in let stands : get_or cells q no_slot ≡ no_slot =
+                  ap (λ (n : ℕ). get_or cells n no_slot) (there i) ∙ list.padding i from (omega arith)
                   in record {
                     time = time q ∙ ap (λ (s : Slot). s.time) stands;
                     tail = tail q ∙ ap (λ (s : Slot). s.tail) stands;

@@ -8,7 +8,8 @@ use Rattle.shop_model.proofs.Ends.{IsOperation-job}
 use Rattle.shop_heads.specs.Heads.{tail_of}
 use Rattle.shop_layout.specs.Slots.{slot_at}
 use Rattle.shop_layout.specs.Positions.{IsFree, LayoutState, place, first_position, IsAt, IsLaidOut}
-use Rattle.shop_layout.specs.Positions.{IsPadding}
+use Rattle.shop_layout.specs.Positions.{IsPadding, position_at_rank}
+use Rattle.shop_layout.proofs.Ranks.{position_within, rank_at}
 use Rattle.shop_layout.proofs.SlotFacts.{slots_are_all, slots_are_operations}
 
 pub record IsPlaceOf (shop : Shop) (l : LayoutState) (j k : ℕ) : Type 0 where
@@ -52,20 +53,21 @@ module _ (shop : Shop) (limits : IsWithinLimits shop) (l : LayoutState) (laid : 
       in let i = found.0
       in let is : get_or slots i slot ≡ slot = found.2
       in let machine = laid.each m known
-      in let here : IsAt l (first_position l m + i) slot =
-      subst (IsAt l (first_position l m + i)) is (machine.at i slot found.1)
-      in let q : first_position l m + i ≡ place l j k = sym here.place
+      in let here : IsAt l (position_at_rank l.blocks m i) slot =
+      subst (IsAt l (position_at_rank l.blocks m i)) is (machine.at i slot found.1)
+      in let q : position_at_rank l.blocks m i ≡ place l j k = sym here.place
       in let below = found.1
       in let room = machine.room
+      in let inside = position_within l.blocks m i (omega arith)
       in let last = machines_rise (m + 1) shop.machines (omega arith) (omega arith)
       in record {
         job = ap (λ (x : ℕ). get_or l.jobs x 0) (sym q) ∙ here.job;
         step = ap (λ (x : ℕ). get_or l.steps x 0) (sym q) ∙ here.step;
         time = ap (λ (x : ℕ). get_or l.times x 0) (sym q) ∙ here.time;
         tail = ap (λ (x : ℕ). get_or l.tails x 0) (sym q) ∙ here.tail;
-        from = omega arith;
-        to = omega arith;
-        within = omega arith;
+        from = omega (arith, q);
+        to = omega (arith, q, inside);
+        within = omega (arith, q, inside, last);
       }
 
   pub each_position : (q : ℕ) → IsOperationAt shop l q ⊎ IsFree shop l q
@@ -124,14 +126,14 @@ module _ (shop : Shop) (limits : IsWithinLimits shop) (l : LayoutState) (laid : 
       in let slots = get_or laid.slots m []
       in let machine = laid.each m at.1
       in let low = at.2 in let high = at.3
-      in elim (cases_lt q (first_position l m + length slots)) [
+      in let r = rank_at l.blocks m q low high
+      in let i = r.rank
+      in elim (cases_lt i (length slots)) [
         | inl within ↦ (
-            let i = q - first_position l m
-            in let e : first_position l m + i ≡ q = omega arith
-            in let d = slot_at [] 0 0
+            let d = slot_at [] 0 0
             in let s = get_or slots i d
-            in let op = slots_are_operations shop m slots (laid.are.slots m at.1) i d (omega arith)
-            in let here = machine.at i d (omega arith)
-            in inl (record { job = s.job; step = s.step; is = op.step; at = here.place ∙ e }))
-        | inr past ↦ inr (machine.padding q past high)
+            in let op = slots_are_operations shop m slots (laid.are.slots m at.1) i d within
+            in let here = machine.at i d within
+            in inl (record { job = s.job; step = s.step; is = op.step; at = here.place ∙ r.at }))
+        | inr past ↦ inr (subst (IsPadding l) r.at (machine.padding i past r.within))
       ]

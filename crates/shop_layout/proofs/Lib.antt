@@ -1,5 +1,6 @@
 pub mod ApartSlots
 pub mod CellLemmas
+pub mod ColumnSums
 pub mod FlatLists
 pub mod LaidLists
 pub mod LaidPlaces
@@ -7,6 +8,7 @@ pub mod LaneLimits
 pub mod LatestEnds
 pub mod MachineLoads
 pub mod NotedPlaces
+pub mod Ranks
 pub mod SlotFacts
 pub mod SlotLemmas
 pub mod SlotLists

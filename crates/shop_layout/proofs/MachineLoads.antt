@@ -5,7 +5,8 @@ use Rattle.std.specs.List.{sum_by}
 use Rattle.std.proofs.lemmas.Bool.{cases_lt}
 use Rattle.std.proofs.lemmas.List.{get_or-take, get_or-drop, get_or_past}
 use Rattle.std.proofs.lemmas.List.Sums.{sum_by-cons, sum_by-take-drop}
-use Rattle.shop_lanes.specs.Rows.{blocks}
+use Rattle.shop_lanes.specs.Rows.{blocks, by_columns, place_at_rank}
+use Rattle.shop_lanes.proofs.Columns.{by_columns-at, length-by_columns, place_fits}
 use Rattle.shop_lanes.proofs.LaneLists.{length-blocks}
 use Rattle.shop_model.specs.declared.ops.Op.{Op}
 use Rattle.shop_model.specs.Limits.{IsWithinLimits}
@@ -13,10 +14,12 @@ use Rattle.shop_model.specs.Shop.{Shop, route_of, time_of}
 use Rattle.one_machine.specs.OneMachine.{greatest_of}
 use Rattle.shop_heads.specs.Heads.{tail_in}
 use Rattle.shop_layout.specs.HeadLimits.{total_before, load_on}
-use Rattle.shop_layout.specs.Positions.{LayoutState, IsLaidOut, first_position}
+use Rattle.shop_layout.specs.Positions.{LayoutState, IsLaidOut, first_position, position_at_rank}
 use Rattle.shop_layout.specs.declared.slots.Slot.{Slot}
 use Rattle.shop_layout.proofs.ApartSlots.{slots_few}
+use Rattle.shop_layout.proofs.ColumnSums.{sum_by_columns}
 use Rattle.shop_layout.proofs.LaidPlaces.{machines_rise}
+use Rattle.shop_layout.proofs.Ranks.{rank_at}
 use Rattle.shop_layout.proofs.SlotFacts.{slots_are_operations}
 use Rattle.shop_heads.proofs.TimeSums.{route_times}
 
@@ -67,72 +70,96 @@ module _ (shop : Shop) (limits : IsWithinLimits shop) (l : LayoutState) (laid : 
     slots : List Slot
     slots = get_or laid.slots m []
 
+    abbrev from : ℕ
+    from = get_or l.blocks m 0
+
+    abbrev to : ℕ
+    to = get_or l.blocks (m + 1) 0
+
+    -- times in order of rank
+    ranked : List ℕ
+    ranked = by_columns (to - from) (blocks from to l.times)
+
+    whole_blocks : length (blocks from to l.times) ≡ 8 * (to - from)
+    whole_blocks =
+        let all = within in let long = laid.positions.times
+        in length-blocks from to l.times (omega arith) ∙ omega arith
+
+    time_at : (i : ℕ) → i < 8 * (to - from) → get_or ranked i 0 ≡ get_or l.times (position_at_rank l.blocks m i) 0
+    unfolding ranked
+    time_at i here =
+        by_columns-at (to - from) (blocks from to l.times) whole_blocks i 0 here
+        ∙ block_at l.times from to (place_at_rank (to - from) i)
+        (let a = place_fits (to - from) i here in omega (arith, a))
+
+    time_past : (i : ℕ) → 8 * (to - from) ≤ i → get_or ranked i 0 ≡ 0
+    unfolding ranked
+    time_past i past =
+        let long = length-by_columns (to - from) (blocks from to l.times) whole_blocks
+        in get_or_past ranked i 0 (omega arith)
+
     -- the times and tails of a machine are small, and 0 behind its operations
-    time_small : (i : ℕ) → get_or (blocks (get_or l.blocks m 0) (get_or l.blocks (m + 1) 0) l.times) i 0 ≤ 1000000000
+    time_small : (i : ℕ) → get_or ranked i 0 ≤ 1000000000
     unfolding slots
-    time_small i =
-        let all = within in let long = laid.positions.times
-        in elim (cases_lt i (first_position l (m + 1) - first_position l m)) [
-          | inl here ↦ (let e = block_at l.times (get_or l.blocks m 0) (get_or l.blocks (m + 1) 0) i here
-              in elim (cases_lt i (length slots)) [
-                | inl of ↦ (let d : Slot = record { job = 0; step = 0; time = 0; tail = 0 }
-                    in let at = (laid.each m known).at i d of
-                    in let op = slots_are_operations shop m slots (laid.are.slots m known) i d of
-                    in let t = at.time
-                    in let is : (get_or slots i d).time ≡ time_of shop (get_or slots i d).job (get_or slots i d).step =
-                    ap (λ (s : Slot). s.time) op.is
-                    in let small = limits.times (get_or slots i d).job (get_or slots i d).step in omega arith)
-                | inr behind ↦ (let p = (laid.each m known).padding (first_position l m + i) (omega arith) (omega arith)
-                    in let t = p.time in omega arith)
-              ])
-          | inr past ↦
-              (let e = block_past l.times (get_or l.blocks m 0) (get_or l.blocks (m + 1) 0) i (omega arith) past
-              in omega arith)
+    time_small i = elim (cases_lt i (8 * (to - from))) [
+      | inl here ↦ (let e = time_at i here
+          in elim (cases_lt i (length slots)) [
+            | inl of ↦ (let d : Slot = record { job = 0; step = 0; time = 0; tail = 0 }
+                in let at = (laid.each m known).at i d of
+                in let op = slots_are_operations shop m slots (laid.are.slots m known) i d of
+                in let t = at.time
+                in let is : (get_or slots i d).time ≡ time_of shop (get_or slots i d).job (get_or slots i d).step =
+                ap (λ (s : Slot). s.time) op.is
+                in let small = limits.times (get_or slots i d).job (get_or slots i d).step
+                in omega (arith, e, t, is, small))
+            | inr behind ↦ (let t = ((laid.each m known).padding i behind (omega arith)).time in omega (arith, e, t))
+          ])
+      | inr past ↦ (let e = time_past i past in omega (arith, e))
+    ]
+
+    time_behind : (i : ℕ) → length slots ≤ i → get_or ranked i 0 ≡ 0
+    unfolding slots
+    time_behind i behind = elim (cases_lt i (8 * (to - from))) [
+      | inl here ↦ (let e = time_at i here
+          in let t = ((laid.each m known).padding i behind (omega arith)).time in omega (arith, e, t))
+      | inr past ↦ time_past i past
+    ]
+
+    tail_at : (q : ℕ) → first_position l m ≤ q → q < first_position l (m + 1) → get_or l.tails q 0 ≤ 100000000000
+    unfolding slots
+    tail_at q low high =
+        let r = rank_at l.blocks m q low high
+        in let i = r.rank
+        in let here : get_or l.tails (position_at_rank l.blocks m i) 0 ≡ get_or l.tails q 0 =
+        ap (λ (x : ℕ). get_or l.tails x 0) r.at
+        in elim (cases_lt i (length slots)) [
+          | inl of ↦ (let d : Slot = record { job = 0; step = 0; time = 0; tail = 0 }
+              in let at = (laid.each m known).at i d of
+              in let op = slots_are_operations shop m slots (laid.are.slots m known) i d of
+              in let t = at.tail
+              in let is : (get_or slots i d).tail
+              ≡ tail_in (route_of shop (get_or slots i d).job) (get_or slots i d).step =
+              ap (λ (s : Slot). s.tail) op.is
+              in let whole = route_times shop limits (get_or slots i d).job
+              in let part = sum_by-take-drop (λ (o : Op). o.time) (route_of shop (get_or slots i d).job)
+              ((get_or slots i d).step + 1) in omega (arith, here, t, is, whole, part))
+          | inr behind ↦ (let t = ((laid.each m known).padding i behind r.within).tail in omega (arith, here, t))
         ]
 
-    time_behind : (i : ℕ) → length slots ≤ i
-        → get_or (blocks (get_or l.blocks m 0) (get_or l.blocks (m + 1) 0) l.times) i 0 ≡ 0
-    unfolding slots
-    time_behind i behind =
-        let all = within in let long = laid.positions.times
-        in elim (cases_lt i (first_position l (m + 1) - first_position l m)) [
-          | inl here ↦ (let e = block_at l.times (get_or l.blocks m 0) (get_or l.blocks (m + 1) 0) i here
-              in let p = (laid.each m known).padding (first_position l m + i) (omega arith) (omega arith)
-              in let t = p.time in omega arith)
-          | inr past ↦ block_past l.times (get_or l.blocks m 0) (get_or l.blocks (m + 1) 0) i (omega arith) past
-        ]
-
-    tail_small : (i : ℕ) → get_or (blocks (get_or l.blocks m 0) (get_or l.blocks (m + 1) 0) l.tails) i 0 ≤ 100000000000
-    unfolding slots
+    tail_small : (i : ℕ) → get_or (blocks from to l.tails) i 0 ≤ 100000000000
     tail_small i =
         let all = within in let long = laid.positions.tails
-        in elim (cases_lt i (first_position l (m + 1) - first_position l m)) [
-          | inl here ↦ (let e = block_at l.tails (get_or l.blocks m 0) (get_or l.blocks (m + 1) 0) i here
-              in elim (cases_lt i (length slots)) [
-                | inl of ↦ (let d : Slot = record { job = 0; step = 0; time = 0; tail = 0 }
-                    in let at = (laid.each m known).at i d of
-                    in let op = slots_are_operations shop m slots (laid.are.slots m known) i d of
-                    in let t = at.tail
-                    in let is : (get_or slots i d).tail
-                    ≡ tail_in (route_of shop (get_or slots i d).job) (get_or slots i d).step =
-                    ap (λ (s : Slot). s.tail) op.is
-                    in let whole = route_times shop limits (get_or slots i d).job
-                    in let part = sum_by-take-drop (λ (o : Op). o.time) (route_of shop (get_or slots i d).job)
-                    ((get_or slots i d).step + 1) in omega arith)
-                | inr behind ↦ (let p = (laid.each m known).padding (first_position l m + i) (omega arith) (omega arith)
-                    in let t = p.tail in omega arith)
-              ])
-          | inr past ↦
-              (let e = block_past l.tails (get_or l.blocks m 0) (get_or l.blocks (m + 1) 0) i (omega arith) past
-              in omega arith)
+        in elim (cases_lt i (8 * to - 8 * from)) [
+          | inl here ↦ (let e = block_at l.tails from to i here
+              in let small = tail_at (8 * from + i) (omega arith) (omega arith) in omega (arith, e, small))
+          | inr past ↦ (let e = block_past l.tails from to i (omega arith) past in omega (arith, e))
         ]
 
     pub load_small : load_on l m < 2 ^ 47
-    unfolding slots
+    unfolding slots ranked
     load_small =
-        let a = sum_front 1000000000 (blocks (get_or l.blocks m 0) (get_or l.blocks (m + 1) 0) l.times) (length slots)
-        time_small time_behind
+        let a = sum_front 1000000000 ranked (length slots) time_small time_behind
+        in let same = sum_by_columns (λ (t : ℕ). t) (to - from) (blocks from to l.times) whole_blocks
         in let few = slots_few shop limits m slots (laid.are.slots m known)
-        in let b =
-        greatest_each 100000000000 (blocks (get_or l.blocks m 0) (get_or l.blocks (m + 1) 0) l.tails) tail_small
+        in let b = greatest_each 100000000000 (blocks from to l.tails) tail_small
         in omega arith

@@ -4,6 +4,7 @@ use Rattle.std.proofs.Common.{◌∙◌, ap, arith}
 use Rattle.std.specs.List.{All}
 use Rattle.std.proofs.lemmas.Bool.{cases_eq}
 use Rattle.std.proofs.lemmas.List.{get_or-set_same, get_or-set_other, length-set, get_or_default}
+use Rattle.shop_lanes.specs.Rows.{place_at_rank}
 use Rattle.shop_layout.specs.declared.slots.Slot.{Slot}
 use Rattle.shop_layout.specs.inner.Layings.{AreApart, AreNoted, IsInRows, no_slot}
 use Rattle.shop_layout.specs.Positions.{place_in}
@@ -36,20 +37,21 @@ module _ (now : List (List ℕ)) (j k x : ℕ) (job : j < length now) (step : k 
     | inr differ ↦ ap (λ (row : List ℕ). length row) (get_or-set_other now j i (set (get_or now j []) k x) [] differ)
   ]
 
-pub noted_none : (first : ℕ) (slots : List Slot) (old : List (List ℕ)) → AreNoted 0 first slots old old
-noted_none first slots old = record {
+pub noted_none : (first count : ℕ) (slots : List Slot) (old : List (List ℕ)) → AreNoted 0 first count slots old old
+noted_none first count slots old = record {
   long = refl;
   rows = λ j. refl;
   noted = λ i d below. absurd (omega arith);
   others = λ j k none. refl;
 }
 
-pub noted_more : (n first : ℕ) (slots : List Slot) (old now new : List (List ℕ)) → AreNoted n first slots old now
-    → n < length slots → AreApart slots → All (IsInRows old) slots
+pub noted_more : (n first count : ℕ) (slots : List Slot) (old now new : List (List ℕ))
+    → AreNoted n first count slots old now
+    → n < length slots → AreApart slots → All (IsInRows old) slots → (x : ℕ) → x ≡ first + place_at_rank count n
     → new ≡ set now (get_or slots n no_slot).job (set (get_or now (get_or slots n no_slot).job [])
-    (get_or slots n no_slot).step (first + n))
-    → AreNoted (n + 1) first slots old new
-noted_more n first slots old now new before here apart rows is =
+    (get_or slots n no_slot).step x)
+    → AreNoted (n + 1) first count slots old new
+noted_more n first count slots old now new before here apart rows x x_is is =
     let s = get_or slots n no_slot
     in let at = rows n no_slot here
     in let long = before.long
@@ -59,25 +61,25 @@ noted_more n first slots old now new before here apart rows is =
     in let job : s.job < length now = omega arith
     in let step : s.step < length (get_or now s.job []) = omega arith
     in record {
-      long = ap length is ∙ (length-set now s.job (set (get_or now s.job []) s.step (first + n)) ∙ long);
+      long = ap length is ∙ (length-set now s.job (set (get_or now s.job []) s.step x) ∙ long);
       rows = λ j. ap (λ (xs : List (List ℕ)). length (get_or xs j [])) is
-          ∙ (row_long now s.job s.step (first + n) job step j ∙ before.rows j);
+          ∙ (row_long now s.job s.step x job step j ∙ before.rows j);
       noted = λ i d below. elim (cases_eq i n) [
         | inl e ↦ (let same : get_or slots i d ≡ s =
             ap (λ (k : ℕ). get_or slots k d) e ∙ get_or_default slots n d no_slot here
             in ap (λ (t : Slot). place_in new t.job t.step) same
             ∙ (ap (λ (xs : List (List ℕ)). place_in xs s.job s.step) is
-            ∙ (place_here now s.job s.step (first + n) job step ∙ omega arith)))
+            ∙ (place_here now s.job s.step x job step ∙ (x_is ∙ ap (λ (k : ℕ). first + place_at_rank count k) (sym e)))))
         | inr ne ↦ (let t = get_or slots i d
             in ap (λ (xs : List (List ℕ)). place_in xs t.job t.step) is
-            ∙ (place_other now s.job s.step (first + n) job step t.job t.step
+            ∙ (place_other now s.job s.step x job step t.job t.step
             (λ e f. apart i n d (omega arith) here
             (e ∙ ap (λ (u : Slot). u.job) (get_or_default slots n no_slot d here))
             (f ∙ ap (λ (u : Slot). u.step) (get_or_default slots n no_slot d here)))
             ∙ before.noted i d (omega arith)))
       ];
       others = λ j k none. ap (λ (xs : List (List ℕ)). place_in xs j k) is
-          ∙ (place_other now s.job s.step (first + n) job step j k
+          ∙ (place_other now s.job s.step x job step j k
           (λ e f. none n no_slot (omega arith) (sym e) (sym f))
           ∙ before.others j k (λ i d below. none i d (omega arith)));
     }

@@ -1,16 +1,18 @@
 -- The operations of an instance by position: machine after machine, on a machine by nonincreasing
--- tail.
+-- tail down the columns of its blocks.
 --     LayoutState                    what a program keeps: numbers by position, by job and step,
 --                                    and by machine
 --     place l j k                    the position of step k of job j
 --     place_or n rows j k            the same by rows, one a job, or n if the route has no such step
 --     AreMachinesOf blocks n ms      the machine of each position, of the first n machines
+--     position_at_rank blocks m i    where rank i of machine m stands
 --     IsAt l q s                     operation s stands at position q
 --     IsFree shop l q                no operation of the instance stands there
 --     IsPadding l q                  nothing is added up there
 --     IsLaidOut shop l               it is the layout of the instance
-use Rattle.std.specs.Prelude.{◌≡◌, ℕ, ◌+◌, ◌*◌, ◌≤◌, ◌<◌, List, [], length, slice_index}
+use Rattle.std.specs.Prelude.{◌≡◌, ℕ, ◌+◌, ◌-◌, ◌*◌, ◌≤◌, ◌<◌, List, [], length, slice_index}
 use Rattle.std.specs.Prelude.{slice_index_or, if◌then◌else◌, nat_lt}
+use Rattle.shop_lanes.specs.Rows.{place_at_rank}
 use Rattle.shop_model.specs.Shop.{Shop, IsOperation, route_of}
 use Rattle.shop_layout.specs.Slots.{AreMachineSlots}
 use Rattle.shop_layout.specs.declared.slots.Slot.{Slot}
@@ -49,6 +51,11 @@ pub record AreMachinesOf (blocks : List ℕ) (machines : ℕ) (ms : List ℕ) : 
 abbrev pub first_position : LayoutState → ℕ → ℕ
 first_position l m = 8 * slice_index l.blocks m
 
+-- ranks run down the first lane of all blocks of the machine, then down the second one, and so on
+abbrev pub position_at_rank : List ℕ → ℕ → ℕ → ℕ
+position_at_rank blocks m i = 8 * slice_index blocks m
+    + place_at_rank (slice_index blocks (m + 1) - slice_index blocks m) i
+
 pub record IsAt (l : LayoutState) (q : ℕ) (s : Slot) : Type 0 where
   pub job : slice_index l.jobs q ≡ s.job
   pub step : slice_index l.steps q ≡ s.step
@@ -71,14 +78,14 @@ pub record HasPositions (l : LayoutState) (n : ℕ) : Type 0 where
   pub tails : length l.tails ≡ n
   pub following : length l.following ≡ n
 
--- the operations of machine m, by nonincreasing tail, stand from its first position on, and padding
--- behind them
+-- the operations of machine m, by nonincreasing tail, have the first ranks, and the other ranks
+-- padding
 pub record IsMachineLaidOut (l : LayoutState) (m : ℕ) (slots : List Slot) : Type 0 where
   pub room : first_position l m + length slots ≤ first_position l (m + 1)
   pub at : (i : ℕ) (d : Slot) → i < length slots
-      → IsAt l (first_position l m + i) (slice_index_or slots i d)
-  pub padding : (q : ℕ) → first_position l m + length slots ≤ q → q < first_position l (m + 1)
-      → IsPadding l q
+      → IsAt l (position_at_rank l.blocks m i) (slice_index_or slots i d)
+  pub padding : (i : ℕ) → length slots ≤ i → first_position l m + i < first_position l (m + 1)
+      → IsPadding l (position_at_rank l.blocks m i)
 
 pub record IsLaidOut (shop : Shop) (l : LayoutState) : Type 0 where
   pub slots : List (List Slot)

@@ -164,20 +164,20 @@ impl<L: StateLanes> Grid<L> {
         lanes.own_spans(&self.fixed, from, to, owns);
     }
 
-    /// When the last of what waits in these blocks ends, its tail included, if it is served by position, from `start`
-    /// on.
+    /// When the last of what waits in these blocks ends, its tail included, if it is served by rank, from 0 on; 0 if
+    /// nothing waits.
     #[inline(always)]
-    pub fn span(&self, lanes: &L, from: usize, to: usize, start: u64) -> u64
+    pub fn load(&self, lanes: &L, from: usize, to: usize) -> u64
         requires blocks { AreBlocks (rows_of self.now (L.heads lanes.now) (L.ends lanes.now))
             from to }
         requires times { length self.now.times ≡ length (L.heads lanes.now) }
         requires tails { length self.now.tails ≡ length self.now.times }
         requires greatest { 1 ≤ L.GREATEST }
-        requires fits { FitsSpan L.GREATEST start (lanes_between
+        requires fits { FitsSpan L.GREATEST 0 (lanes_between
             (rows_of self.now (L.heads lanes.now) (L.ends lanes.now)) from to) }
-        ensures { result ≡ span 1 start (lanes_between
+        ensures { result ≡ span 1 0 (lanes_between
             (rows_of self.now (L.heads lanes.now) (L.ends lanes.now)) from to) }
     {
-        lanes.span(&self.fixed, from, to, 1, start, 0)
+        lanes.load(&self.fixed, from, to, 1)
     }
 }

@@ -1,11 +1,13 @@
 // The operations of an instance come to their positions.
-ghost use Rattle.std.specs.Prelude.{◌≡◌, ℕ, ◌+◌, ◌-◌, ◌*◌, ◌<◌, ◌≤◌, ◌^◌, All, IfOk, length, map};
-ghost use Rattle.std.specs.Prelude.{slice_index};
+ghost use Rattle.std.specs.Prelude.{◌≡◌, ℕ, ◌+◌, ◌-◌, ◌*◌, ◌/◌, ◌%◌, ◌<◌, ◌≤◌, ◌^◌, All, IfOk, OnOk};
+ghost use Rattle.std.specs.Prelude.{length, map, slice_index};
+ghost use Rattle.shop_lanes.specs.Rows.{place_at_rank};
 ghost use Rattle.shop_model.specs.declared.limits.TheConstants.{MAX_JOBS, MAX_MACHINES, MAX_STEPS};
 ghost use Rattle.shop_layout.specs.Slots.{AreMachineSlots};
 ghost use Rattle.shop_layout.specs.inner.Vectors.{items_in};
-ghost use Rattle.shop_layout.specs.inner.Layings.{AreApart, AreCells, AreNoted, ArePlaces};
-ghost use Rattle.shop_layout.specs.inner.Layings.{AreShorter, HasRoutes, IsInRows, place_after};
+ghost use Rattle.shop_layout.specs.inner.Layings.{AreAdded, AreApart, AreCells, AreNoted};
+ghost use Rattle.shop_layout.specs.inner.Layings.{ArePlaces, AreShorter, HasRoutes, HaveRoom};
+ghost use Rattle.shop_layout.specs.inner.Layings.{IsInRows, place_after};
 ghost use Rattle.shop_layout.specs.Positions.{AreMachinesOf};
 
 use crate::slots::Slot;
@@ -27,7 +29,33 @@ pub(crate) struct Cells {
     pub blocks: Vec<u32>,
 }
 
-/// The lists one after another, each padded to whole blocks of eight positions.
+/// The rank of a place in so many blocks.
+fn rank_of(count: usize, place: usize) -> usize
+    requires place { place < 8 * count }
+    requires small { 8 * count < 2 ^ 32 }
+    ensures { result ≡ place % 8 * count + place / 8 }
+{
+    place % 8 * count + place / 8
+}
+
+/// Adds so many blocks, in which a list stands down the columns, and padding behind it.
+fn add_blocks(slots: &mut Vec<Slot>, list: &[Slot], count: usize) -> Result<(), AllocError>
+    requires { 8 * count < 2 ^ 32 }
+    ensures { OnOk result (AreAdded list.now count (8 * count) slots.old.items slots.new.items) }
+{
+    for place in 0..8 * count {
+        let rank = rank_of(count, place);
+        let slot = if rank < list.len() {
+            list[rank]
+        } else {
+            NO_SLOT
+        };
+        slots.push(slot)?;
+    }
+    Ok(())
+}
+
+/// The lists one after another, each down the columns of as many blocks of eight positions as it needs.
 pub(crate) fn cells_of(alloc: Global, lists: &[Vec<Slot>]) -> Result<Cells, AllocError>
     requires few { length lists.now ≤ MAX_MACHINES }
     requires short { AreShorter (MAX_JOBS * MAX_STEPS) (items_in lists.now) }
@@ -38,10 +66,9 @@ pub(crate) fn cells_of(alloc: Global, lists: &[Vec<Slot>]) -> Result<Cells, Allo
     let mut blocks = Vec::new(alloc);
     blocks.push(0)?;
     for m in 0..lists.len() {
-        slots.extend_from_slice(lists[m].as_slice())?;
-        let count = slots.len().div_ceil(8);
-        slots.resize(8 * count, NO_SLOT)?;
-        blocks.push(count as u32)?;
+        let list = lists[m].as_slice();
+        add_blocks(&mut slots, list, list.len().div_ceil(8))?;
+        blocks.push((slots.len() / 8) as u32)?;
     }
     Ok(Cells { slots, blocks })
 }
@@ -95,18 +122,29 @@ fn empty_places(alloc: Global, instance: &Instance) -> Result<Vec<Vec<u32>>, All
     Ok(places)
 }
 
-/// Writes the positions of a machine's operations, which stand from this one on.
-fn note_places(places: &mut [Vec<u32>], slots: &[Slot], first: usize)
+/// The place of a rank in so many blocks: ranks run down the first lanes of all of them, then down the second ones.
+fn place_at_rank(count: usize, rank: usize) -> usize
+    requires rank { rank < 8 * count }
+    requires small { 8 * count < 2 ^ 32 }
+    ensures is { result ≡ place_at_rank count rank }
+    ensures within { result < 8 * count }
+{
+    8 * (rank % count) + rank / count
+}
+
+/// Writes the positions of a machine's operations, which stand in so many blocks down their columns.
+fn note_places(places: &mut [Vec<u32>], slots: &[Slot], first: usize, count: usize)
     requires rows { All (IsInRows (items_in places.old)) slots.now }
     requires apart { AreApart slots.now }
-    requires small { first + length slots.now < 2 ^ 32 }
+    requires room { length slots.now ≤ 8 * count }
+    requires small { first + 8 * count < 2 ^ 32 }
     ensures long { length places.new ≡ length places.old }
-    ensures noted { AreNoted (length slots.now) first slots.now
+    ensures noted { AreNoted (length slots.now) first count slots.now
         (items_in places.old) (items_in places.new) }
 {
     for i in 0..slots.len() {
         let slot = slots[i];
-        places[slot.job][slot.step] = (first + i) as u32;
+        places[slot.job][slot.step] = (first + place_at_rank(count, i)) as u32;
     }
 }
 
@@ -119,6 +157,7 @@ pub(crate) fn places_of(
 ) -> Result<Vec<Vec<u32>>, AllocError>
     requires slots { AreMachineSlots instance.now (items_in lists.now) }
     requires blocks { length blocks.now ≡ instance.now.machines + 1 }
+    requires room { HaveRoom (items_in lists.now) instance.now.machines blocks.now }
     requires few { All (λ b. b ≤ MAX_MACHINES * (MAX_JOBS * MAX_STEPS + 8)) blocks.now }
     ensures { IfOk result (λ v. ArePlaces instance.now (items_in lists.now) blocks.now
         instance.now.machines (items_in v.items)) }
@@ -126,8 +165,13 @@ pub(crate) fn places_of(
     instance.keeps_limits();
     let mut places = empty_places(alloc, instance)?;
     for m in 0..lists.len() {
-        let first = 8 * blocks[m] as usize;
-        note_places(places.as_mut_slice(), lists[m].as_slice(), first);
+        let (from, to) = (blocks[m] as usize, blocks[m + 1] as usize);
+        note_places(
+            places.as_mut_slice(),
+            lists[m].as_slice(),
+            8 * from,
+            to - from,
+        );
     }
     Ok(places)
 }

@@ -10,8 +10,8 @@ use shop_model::Instance;
 use std::alloc::{AllocError, Global};
 use std::marker::Model;
 
-/// The operations of an instance by position: machine after machine, each padded to whole blocks of eight positions, on
-/// a machine by nonincreasing tail.
+/// The operations of an instance by position: machine after machine, each in whole blocks of eight positions with
+/// padding, on a machine by nonincreasing tail down the columns of its blocks.
 #[derive(Drop)]
 pub(crate) struct Positions {
     /// jobs[position], 0 at padding

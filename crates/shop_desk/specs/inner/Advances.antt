@@ -60,6 +60,7 @@ pub record CanForesee (greatest : ℕ) (l : LayoutState) (heads ends : List ℕ)
   pub known : slice_index l.machines position + 1 < length l.blocks
   pub head : slice_index heads position ≤ greatest
   pub end : slice_index heads position + slice_index l.times position < 2 ^ 64
+  pub computable : greatest < 2 ^ 64
   pub some : 1 ≤ greatest
   pub blocks : AreBlocks (rows_of l (slice_set heads position 0) ends)
       (slice_index l.blocks (slice_index l.machines position))

@@ -18,8 +18,10 @@ items_set now j k x d here = map-set (λ v. v.items) now j (with_item (get_or no
 pub loop-i-preserved : goal.loop-i-preserved
 loop-i-preserved c =
     let s = get_or c.args.slots.now c.loop-i.i no_slot
-    in noted_more c.loop-i.i c.args.first c.args.slots.now (map (λ v. v.items) c.args.places.now)
+    in let x = c.args.first + c.place_at_rank.result
+    in noted_more c.loop-i.i c.args.first c.args.count c.args.slots.now (map (λ v. v.items) c.args.places.now)
     (map (λ v. v.items) c.loop-i.places) _ c.loop-i.invariant c.loop-i-test.true c.requires.apart c.requires.rows
-    (items_set c.loop-i.places s.job s.step (c.args.first + c.loop-i.i) c.index-places-slot.result
+    x (ap (λ (p : ℕ). c.args.first + p) c.place_at_rank.ensures.is)
+    (items_set c.loop-i.places s.job s.step x c.index-places-slot.result
     (let a = (c.requires.rows c.loop-i.i no_slot c.loop-i-test.true).job in let b = c.loop-i.invariant.long
     in omega (arith, length-map c.loop-i.places (λ v. v.items), length-map c.args.places.now (λ v. v.items))))

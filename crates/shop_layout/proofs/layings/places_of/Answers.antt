@@ -1,4 +1,4 @@
-use Rattle.std.proofs.Common.{◌≡◌, ◌∙◌, ℕ, ◌+◌, ◌*◌, ◌<◌, refl, List, [], get_or, length, map, sym}
+use Rattle.std.proofs.Common.{◌≡◌, ◌∙◌, ℕ, ◌+◌, ◌-◌, ◌*◌, ◌<◌, List, [], get_or, length, map, sym}
 use Rattle.std.proofs.Common.{subst, arith}
 use Rattle.std.specs.Prelude.{Vec}
 use Rattle.std.specs.declared.alloc.Global.{Global}
@@ -7,7 +7,7 @@ use Rattle.shop_model.specs.Shop.{Shop}
 use Rattle.shop_layout.specs.declared.slots.Slot.{Slot}
 use Rattle.shop_layout.specs.Slots.{AreMachineSlots, AreSlotsOf}
 use Rattle.shop_layout.specs.inner.Layings.{AreNoted, ArePlaces}
-use Rattle.shop_layout.proofs.ApartSlots.{slots_apart, slots_few}
+use Rattle.shop_layout.proofs.ApartSlots.{slots_apart}
 use Rattle.shop_layout.proofs.Written.{written_vec}
 use Rattle.shop_layout.proofs.LaidLists.{rows_in, places_turn}
 use Rattle.shop_layout.proofs.SlotLists.{items_read}
@@ -50,11 +50,10 @@ note_places-requires-clause-small c =
     let shop = c.args.instance.now in let m = c.loop-m.m
     in let is = at_hand c.args.lists.now m c.index-lists-m.result c.as_slice.result.now c.loop-m-test.true
     c.index-lists-m.is c.as_slice.ensures.value
-    in let few = slots_few shop c.keeps_limits.ensures m c.as_slice.result.now
-    (of_machine shop c.args.lists.now c.requires.slots m c.loop-m-test.true c.as_slice.result.now is)
     in let here = known shop c.args.lists.now c.requires.slots m c.loop-m-test.true
+    in let room = c.requires.room m here
     in let long = c.requires.blocks
-    in let block = c.requires.few m 0 (omega arith) in omega arith
+    in let block = c.requires.few (m + 1) 0 (omega arith) in omega (arith, room, block)
 
 pub loop-m-preserved : goal.loop-m-preserved
 loop-m-preserved c =
@@ -64,7 +63,8 @@ loop-m-preserved c =
     in let whole = written_vec c.loop-m.places c.as_mut_slice.result.now c.note_places.new.places
     c.as_mut_slice.ensures.value c.note_places.ensures.long
     in let noted = subst (λ (vs : List (Vec ℕ Global)). AreNoted (length c.as_slice.result.now)
-    (8 * get_or c.args.blocks.now c.loop-m.m 0) c.as_slice.result.now
+    (8 * get_or c.args.blocks.now m 0) (get_or c.args.blocks.now (m + 1) 0 - get_or c.args.blocks.now m 0)
+    c.as_slice.result.now
     (map (λ v. v.items) vs) (map (λ v. v.items) c.note_places.new.places)) c.as_mut_slice.ensures.value
     c.note_places.ensures.noted
     in subst (λ (vs : List (Vec ℕ Global)). ArePlaces shop (map (λ v. v.items) c.args.lists.now) c.args.blocks.now
@@ -72,4 +72,4 @@ loop-m-preserved c =
     (places_turn shop (map (λ v. v.items) c.args.lists.now) c.args.blocks.now m
     (map (λ v. v.items) c.loop-m.places.items) (map (λ v. v.items) c.note_places.new.places) c.requires.slots
     (known shop c.args.lists.now c.requires.slots m c.loop-m-test.true) c.loop-m.invariant c.as_slice.result.now is
-    (8 * get_or c.args.blocks.now c.loop-m.m 0) refl noted)
+    noted)
