@@ -10,6 +10,7 @@ pub mod ChildTurns
 pub mod FillTurns
 pub mod FilledStates
 pub mod Followed
+pub mod Gathering
 pub mod HeadsFit
 pub mod JobSets
 pub mod LaneBoundTurns
@@ -19,6 +20,7 @@ pub mod LaneEnds
 pub mod LaneFits
 pub mod LaneSpans
 pub mod LeftSlots
+pub mod Listing
 pub mod MachineLanes
 pub mod NextOperations
 pub mod OwnSpans

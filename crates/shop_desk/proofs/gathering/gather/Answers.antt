@@ -1,10 +1,11 @@
-use Rattle.std.proofs.Common.{◌≡◌, ℕ, List, [], get_or, ◌∙◌, ap, sym, subst, arith}
+use Rattle.std.proofs.Common.{◌≡◌, ℕ, List, [], get_or, length, ◌∙◌, ap, sym, subst, arith}
+use Rattle.std.specs.List.{All}
 use Rattle.std.specs.Prelude.{map}
 use Rattle.shop_model.specs.Word.{placing}
 use Rattle.shop_layout.specs.Lanes.{rows_of}
 use Rattle.shop_desk.specs.inner.Raises.{HasBlocks}
 use Rattle.shop_desk.proofs.Candidates.{choosable}
-use Rattle.shop_desk.proofs.LaneConflicts.{chosen_at, chosen_known, is_conflict, none_open}
+use Rattle.shop_desk.proofs.LaneConflicts.{chosen_at, chosen_job, is_conflict, none_open}
 use Rattle.shop_desk.proofs.OwnSpans.{alone}
 use Rattle.shop_desk.proofs.gathering.gather.Goals as goal
 
@@ -62,7 +63,7 @@ gather_on-requires-clause-chosen g c = λ shop w kept.
     ap (λ (xs : List ℕ). get_or xs (get_or nexts r 0) 0) c.machines.ensures
     in let head = c.head.ensures in let time = c.time.ensures in let end = at.end in let fits = at.fits
     in record {
-      known = (let a = chosen_known greatest shop (placing shop w) l nexts rows can r is
+      known = (let a = chosen_job greatest shop (placing shop w) l nexts rows can r is
           in let b = kept.are_next.jobs in omega arith);
       machine_is = read;
       blocks = subst (λ (m : ℕ). HasBlocks l (length heads) m) (sym read) at.blocks;
@@ -82,4 +83,5 @@ returns-then-position-positions-clause-are g c = λ shop w kept.
     in alone greatest shop w l heads ends nexts kept [] (none_open greatest shop (placing shop w) l nexts
     (rows_of l heads ends) can c.first_least_end-chosen.result c.first_least_end-chosen.ensures
     c.positions.result c.positions.ensures c.if-position-positions.true) (omega arith) c.clear.new.self.items
-    (ap (map (λ x. x.job)) c.clear.ensures.items) _
+    (ap (map (λ x. x.job)) c.clear.ensures.items)
+    (subst (All (λ x. x.own ≡ 0)) (sym c.clear.ensures.items) (λ i d here. absurd (omega arith)))

@@ -1,6 +1,7 @@
-use Rattle.std.proofs.Common.{map, arith}
+use Rattle.std.proofs.Common.{ℕ, List, length, map, ap, subst, arith, vec_capacity}
 use Rattle.std.proofs.lemmas.List.{length-map}
 use Rattle.shop_desk.specs.declared.dispatching.Candidate.{Candidate}
+use Rattle.shop_desk.specs.inner.RisingLists.{IsIn}
 use Rattle.shop_desk.proofs.JobSets.{room_for_word, all_appended, in_word}
 use Rattle.shop_desk.proofs.gathering.list_words.Goals as goal
 
