@@ -7,10 +7,10 @@ pub mod ChildExits
 pub mod ChildRaises
 pub mod ChildReads
 pub mod ChildTurns
+pub mod ConflictSets
 pub mod FillTurns
 pub mod FilledStates
 pub mod Followed
-pub mod Gathering
 pub mod HeadsFit
 pub mod JobSets
 pub mod LaneBoundTurns

@@ -3,7 +3,7 @@ use Rattle.std.specs.List.{All}
 use Rattle.shop_desk.specs.declared.dispatching.Candidate.{Candidate}
 use Rattle.shop_desk.specs.inner.RisingLists.{IsIn}
 use Rattle.shop_desk.proofs.Candidates.{few_jobs}
-use Rattle.shop_desk.proofs.Gathering.{all_told, each_told, placed, sole, tells}
+use Rattle.shop_desk.proofs.ConflictSets.{all_told, each_told, placed, sole, tells}
 use Rattle.shop_desk.proofs.gathering.gather_on.Goals as goal
 
 pub block-from-requires : goal.block-from-requires

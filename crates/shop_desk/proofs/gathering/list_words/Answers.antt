@@ -20,7 +20,7 @@ list_marked-requires-clause-room g c =
     in let room = c.requires.room
     in let more = c.loop-word.invariant.capacity
     in let long = length-map c.loop-word.candidates.items (λ (x : Candidate). x.job)
-    in let marks = ap length c.new-jobs.ensures
+    in let marks = ap (λ (js : List ℕ). length js) c.new-jobs.ensures
     in let a = room_for_word c.args.words.now (length c.args.next.now) (λ i h. (c.requires.told i h).job)
     c.loop-word.word (map (λ x. x.job) c.loop-word.candidates.items)
     c.loop-word.invariant.appended (vec_capacity c.args.candidates.now) (omega arith) (omega arith)
