@@ -1,7 +1,6 @@
 -- The candidates of a word, and what is foreseen of the bound after one.
-use Rattle.std.proofs.Common.{◌≡◌, ℕ, zero, suc, ◌+◌, ◌-◌, ◌≤◌, ◌<◌, ◌^◌, max, min, inl, inr, List}
+use Rattle.std.proofs.Common.{◌≡◌, ℕ, zero, suc, ◌+◌, ◌-◌, ◌<◌, ◌^◌, max, min, inl, inr, List}
 use Rattle.std.proofs.Common.{[], ◌∷◌, ◌++◌, length, get_or, refl, ◌∙◌, ap, subst, arith}
-use Rattle.std.specs.List.{All}
 use Rattle.shop_lanes.specs.Rows.{Rows}
 use Rattle.shop_model.specs.Limits.{IsWithinLimits}
 use Rattle.shop_model.specs.Shop.{Shop, IsOperation, machine_of}
@@ -22,8 +21,7 @@ use Rattle.shop_layout.specs.Positions.{LayoutState, place}
 use Rattle.shop_desk.specs.inner.RisingLists.{IsIn, Rises}
 use Rattle.shop_desk.proofs.ChildReads.{after_look, end_here, end_latest, end_small, head_here}
 use Rattle.shop_desk.proofs.ChildReads.{left_fits, machine_here, time_here}
-use Rattle.shop_desk.proofs.LaneConflicts.{filter_rises, in_filter, open_is, open_rises}
-use Rattle.shop_desk.proofs.RisingLists.{rising_short}
+use Rattle.shop_desk.proofs.LaneConflicts.{filter_rises, in_filter, open_is}
 use Rattle.shop_desk.proofs.StateSteps.{next_at, next_known, within}
 
 pub is_in_at : (xs : List ℕ) (i d : ℕ) → i < length xs → IsIn xs (get_or xs i d)

@@ -1,5 +1,5 @@
 -- The conflict set gathered on the machine of the operation that can end first.
-use Rattle.std.proofs.Common.{◌≡◌, ℕ, ◌+◌, ◌*◌, ◌≤◌, ◌<◌, List, [], ◌∷◌, length, get_or, map, sym, ◌∙◌, ap, subst}
+use Rattle.std.proofs.Common.{◌≡◌, ℕ, ◌+◌, ◌*◌, List, [], ◌∷◌, length, get_or, map, sym, ap, subst}
 use Rattle.std.proofs.Common.{arith, refl}
 use Rattle.std.specs.List.{All}
 use Rattle.std.proofs.lemmas.List.Elements.{All-from_recursion}
@@ -14,7 +14,7 @@ use Rattle.shop_desk.specs.declared.dispatching.Candidate.{Candidate}
 use Rattle.shop_desk.specs.inner.Candidates.{AreCandidatesOf, IsChosenBy, IsTold, told_at}
 use Rattle.shop_desk.specs.inner.LaneChoices.{AreNextPlaced, IsNextBelow}
 use Rattle.shop_desk.specs.inner.LaneStates.{IsKeptInLanes}
-use Rattle.shop_desk.specs.inner.Raises.{IsInBlocks, IsOnMachine}
+use Rattle.shop_desk.specs.inner.Raises.{IsInBlocks}
 use Rattle.shop_desk.specs.inner.RisingLists.{IsIn, IsGatheredWith}
 use Rattle.shop_desk.proofs.Candidates.{choosable}
 use Rattle.shop_desk.proofs.LaneChoices.{alone_with}
@@ -33,8 +33,8 @@ module _ (greatest : ℕ) (shop : Shop) (w : List ℕ) (l : LayoutState) (heads 
     set_is : (js : List ℕ) → IsGatheredWith job (IsNextBelow nexts heads (IsInBlocks from behind) end) js
         → js ≡ conflict shop w
     set_is js is = chosen.set js
-        (subst (λ (x : ℕ). IsGatheredWith job (IsNextBelow nexts heads (IsInBlocks (get_or l.blocks machine 0) x) end) js)
-        behind_is
+        (subst (λ (x : ℕ). IsGatheredWith job
+        (IsNextBelow nexts heads (IsInBlocks (get_or l.blocks machine 0) x) end) js) behind_is
         (subst (λ (x : ℕ). IsGatheredWith job (IsNextBelow nexts heads (IsInBlocks x behind) end) js) from_is is))
 
     -- nothing else waits there

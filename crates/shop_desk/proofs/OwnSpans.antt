@@ -196,7 +196,7 @@ module _ (greatest : ℕ) (shop : Shop) (w : List ℕ) (l : LayoutState) (heads 
           ap (λ (n : ℕ). n - 1) (are x its_from its_to its_head
           ∙ ap (λ (n : ℕ). own_span heads l.times l.tails (get_or l.blocks n 0) (get_or l.blocks (n + 1) 0) x) (sym m_is))
 
-  -- the conflict set, the first of which is on machine m
+  -- the conflict set
   module _ (jobs : List ℕ) (set_is : jobs ≡ conflict shop w) where
     in_set : (i d : ℕ) → i < length jobs → IsIn (conflict shop w) (get_or jobs i d)
     in_set i d here = subst (λ (xs : List ℕ). IsIn xs (get_or jobs i d)) set_is (is_in_at jobs i d here)

@@ -93,8 +93,8 @@ fn list_words<L: StateLanes>(
     }
 }
 
-/// Fills the empty list with the candidates of what stands in lanes, where the chosen job's next operation can end first:
-/// before `end`, on this machine.
+/// Fills the empty list with the candidates of what stands in lanes, where the chosen job's next operation can end
+/// first: before `end`, on this machine.
 #[inline(always)]
 fn gather_on<L: StateLanes>(
     candidates: &mut Vec<Candidate>,

@@ -69,8 +69,8 @@ fn gather_in_blocks<L: StateLanes>(
     }
 }
 
-/// The conflict set where the job's next operation can end first: before `end`, on the machine of these blocks. What waits
-/// in those before `to` with a head below the end is marked already.
+/// The conflict set where the chosen job's next operation can end first: before `end`, on the machine of these blocks.
+/// What waits in those before `to` with a head below the end is marked already.
 #[inline(always)]
 pub(crate) fn conflict_set<L: StateLanes>(
     below: Marks,

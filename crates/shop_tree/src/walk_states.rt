@@ -192,8 +192,8 @@ impl<'l, D: Dispatching> WalkStates<'l, D> {
         self.dispatcher.copy(&self.current, &mut self.trial);
     }
 
-    /// Dispatches a candidate in the trial's state, and tells the bound of its child if that is below the limit. The bound
-    /// of the current state's word is at hand. After the last trial the current state is that of no word.
+    /// Dispatches a candidate in the trial's state, and tells the bound of its child if that is below the limit. The
+    /// bound of the current state's word is at hand. After the last trial the current state is that of no word.
     fn try_candidate(
         &mut self,
         candidate: Candidate,
@@ -217,18 +217,12 @@ impl<'l, D: Dispatching> WalkStates<'l, D> {
         ensures dispatcher { self.new.dispatcher.now ≡ self.old.dispatcher.now }
     {
         self.begin_trial(is_last);
-        self.dispatcher.dispatch_below(
-            &mut self.scratch,
-            &mut self.trial,
-            candidate,
-            bound,
-            limit,
-        )
+        self.dispatcher.dispatch_below(&mut self.scratch, &mut self.trial, candidate, bound, limit)
     }
 
-    /// Puts the children of the current state's word with bounds below the limit on the stack, by bound, then by job, the
-    /// first one on top, each with its state where there is room for one; and tells how many others there are. The word's
-    /// bound and its candidates are at hand. Fails with `AllocError` if memory runs out.
+    /// Puts the children of the current state's word with bounds below the limit on the stack, by bound, then by job,
+    /// the first one on top, each with its state where there is room for one; and tells how many others there are. The
+    /// word's bound and its candidates are at hand. Fails with `AllocError` if memory runs out.
     pub(crate) fn try_candidates(
         &mut self,
         alloc: Global,

@@ -12,7 +12,7 @@ use Rattle.shop_lanes.specs.Rows.{Rows}
 use Rattle.shop_model.specs.Limits.{IsWithinLimits}
 use Rattle.shop_model.specs.Shop.{Shop, route_of, IsOperation}
 use Rattle.shop_model.specs.Word.{Placing}
-use Rattle.shop_heads.specs.Conflicts.{next_end, open_jobs, conflict_among}
+use Rattle.shop_heads.specs.Conflicts.{next_end}
 use Rattle.shop_desk.specs.inner.LaneHeads.{AreHeadsAt}
 use Rattle.shop_layout.specs.Positions.{place_or, LayoutState, IsLaidOut, first_position}
 

@@ -1,6 +1,5 @@
-use Rattle.std.proofs.Common.{◌≡◌, ℕ, List, [], ◌∷◌, ◌+◌, ◌∙◌, get_or, length, map, refl, sym, ap, subst, arith}
+use Rattle.std.proofs.Common.{◌≡◌, ℕ, List, [], ◌∷◌, ◌+◌, ◌∙◌, get_or, length, map, refl, subst, arith}
 use Rattle.std.specs.List.{All}
-use Rattle.shop_desk.specs.declared.dispatching.Candidate.{Candidate}
 use Rattle.shop_desk.specs.inner.RisingLists.{IsIn}
 use Rattle.shop_desk.proofs.Candidates.{few_jobs}
 use Rattle.shop_desk.proofs.ConflictSets.{all_told, each_told, placed, sole, tells}
@@ -69,7 +68,8 @@ offset_bounds-next-chosen g c =
     in let heads = g.L.StateLanes.heads c.args.lanes.now
     in let ends = g.L.StateLanes.ends c.args.lanes.now
     in let chosen = c.requires.chosen can.shop can.word can.kept
-    in let a = chosen.known in let few = few_jobs greatest can.shop can.word c.args.grid.now heads ends c.args.next.now can.kept
+    in let a = chosen.known in let few = few_jobs greatest can.shop can.word c.args.grid.now heads ends
+    c.args.next.now can.kept
     in omega arith
 
 pub bounds-next-chosen : goal.bounds-next-chosen
@@ -88,7 +88,8 @@ overflow_cast-job g c =
     in let heads = g.L.StateLanes.heads c.args.lanes.now
     in let ends = g.L.StateLanes.ends c.args.lanes.now
     in let chosen = c.requires.chosen can.shop can.word can.kept
-    in let a = chosen.known in let few = few_jobs greatest can.shop can.word c.args.grid.now heads ends c.args.next.now can.kept
+    in let a = chosen.known in let few = few_jobs greatest can.shop can.word c.args.grid.now heads ends
+    c.args.next.now can.kept
     in omega arith
 
 pub conflict_set-jobs-requires-clause-last : goal.conflict_set-jobs-requires-clause-last

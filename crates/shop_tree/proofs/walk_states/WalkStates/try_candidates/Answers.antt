@@ -45,7 +45,8 @@ loop-index-preserved-then-candidate-limit g c =
     in record {
       kids = now.kids;
       stack = now.stack;
-      trying = turn_counted is shop c.args.limit word cs first i some now.kids c.loop-index.others current now.trying current
+      trying = turn_counted is shop c.args.limit word cs first i some now.kids c.loop-index.others current
+          now.trying current
           (let a = c.if-candidate-limit.true in omega arith) (λ wanted. now.trying.wanted (omega arith));
       sound = now.sound;
       same = now.same;
@@ -64,7 +65,8 @@ try_candidate-requires-clause-can g c =
     in let current = c.loop-index.self.current.value
     in let some : 0 < i = (let a = c.loop-index-test.true in omega arith)
     in let job = (get_or cs (i - 1) (record { job = 0; own = 0 })).job
-    in let state : is word current = next_state is shop c.args.limit word cs first i some now.kids c.loop-index.others current now.trying
+    in let state : is word current = next_state is shop c.args.limit word cs first i some now.kids
+    c.loop-index.others current now.trying
     c.first_below-first.ensures (let a = c.if-candidate-limit.false in omega arith)
     in let can = next_is is shop c.args.limit word cs first i some now.kids c.loop-index.others current now.trying
     (g.D.Dispatching.IsCandidate d word) c.requires.are
@@ -91,14 +93,15 @@ loop-index-preserved-in_default g c =
     in let current = c.loop-index.self.current.value
     in let some : 0 < i = (let a = c.loop-index-test.true in omega arith)
     in let job = (get_or cs (i - 1) (record { job = 0; own = 0 })).job
-    in let state : is word current = next_state is shop c.args.limit word cs first i some now.kids c.loop-index.others current now.trying
+    in let state : is word current = next_state is shop c.args.limit word cs first i some now.kids
+    c.loop-index.others current now.trying
     c.first_below-first.ensures (let a = c.if-candidate-limit.false in omega arith)
     in let can = next_is is shop c.args.limit word cs first i some now.kids c.loop-index.others current now.trying
     (g.D.Dispatching.IsCandidate d word) c.requires.are
     in let back = sym now.same
     in let state_now = subst (λ x. g.D.Dispatching.IsStateOf x word current) back state
-    in let can_now = subst (λ x. g.D.Dispatching.IsCandidate x word (get_or cs (i - 1) (record { job = 0; own = 0 }))) back
-    can
+    in let can_now = subst (λ x. g.D.Dispatching.IsCandidate x word
+    (get_or cs (i - 1) (record { job = 0; own = 0 }))) back can
     in let bound_now = subst (λ x. c.args.bound ≡ lb (g.D.Dispatching.shop x) word) back c.requires.bound
     in let tells = subst (λ x. TellsBoundBelow c.args.limit (lb (g.D.Dispatching.shop x) (word ++ job ∷ []))
     c.try_candidate.result) now.same (c.try_candidate.ensures.told word state_now can_now bound_now)
@@ -107,7 +110,8 @@ loop-index-preserved-in_default g c =
     in record {
       kids = now.kids;
       stack = now.stack;
-      trying = turn_counted is shop c.args.limit word cs first i some now.kids c.loop-index.others current now.trying left high
+      trying = turn_counted is shop c.args.limit word cs first i some now.kids c.loop-index.others current
+          now.trying left high
           (still_wanted is shop c.args.limit word cs first i current left c.try_candidate.ensures.current state);
       sound = c.try_candidate.ensures.sound;
       same = c.try_candidate.ensures.dispatcher ∙ now.same;
@@ -126,14 +130,15 @@ loop-index-preserved g c =
     in let current = c.loop-index.self.current.value
     in let some : 0 < i = (let a = c.loop-index-test.true in omega arith)
     in let job = (get_or cs (i - 1) (record { job = 0; own = 0 })).job
-    in let state : is word current = next_state is shop c.args.limit word cs first i some now.kids c.loop-index.others current now.trying
+    in let state : is word current = next_state is shop c.args.limit word cs first i some now.kids
+    c.loop-index.others current now.trying
     c.first_below-first.ensures (let a = c.if-candidate-limit.false in omega arith)
     in let can = next_is is shop c.args.limit word cs first i some now.kids c.loop-index.others current now.trying
     (g.D.Dispatching.IsCandidate d word) c.requires.are
     in let back = sym now.same
     in let state_now = subst (λ x. g.D.Dispatching.IsStateOf x word current) back state
-    in let can_now = subst (λ x. g.D.Dispatching.IsCandidate x word (get_or cs (i - 1) (record { job = 0; own = 0 }))) back
-    can
+    in let can_now = subst (λ x. g.D.Dispatching.IsCandidate x word
+    (get_or cs (i - 1) (record { job = 0; own = 0 }))) back can
     in let bound_now = subst (λ x. c.args.bound ≡ lb (g.D.Dispatching.shop x) word) back c.requires.bound
     in let tells = subst (λ x. TellsBoundBelow c.args.limit (lb (g.D.Dispatching.shop x) (word ++ job ∷ []))
     c.try_candidate.result) now.same (c.try_candidate.ensures.told word state_now can_now bound_now)
@@ -150,7 +155,8 @@ loop-index-preserved g c =
         state = c.in_ok-state.state;
       });
       stack = put.put;
-      trying = turn_kept is shop c.args.limit word cs first i some now.kids c.loop-index.others current now.trying left _ c.args.stack.now.items
+      trying = turn_kept is shop c.args.limit word cs first i some now.kids c.loop-index.others current
+          now.trying left _ c.args.stack.now.items
           c.put.new.stack.items (g.met.D.Dispatching.state_is_of_word d word current state) child put
           (still_wanted is shop c.args.limit word cs first i current left
           (λ e. c.take_trial.ensures.current ∙ c.try_candidate.ensures.current e) state);
