@@ -1,7 +1,6 @@
 -- The candidates of a word, and what is foreseen of the bound after one.
-use Rattle.std.proofs.Common.{◌≡◌, ℕ, zero, suc, ◌+◌, ◌-◌, ◌≤◌, ◌<◌, ◌^◌, max, min, inl, inr, List}
+use Rattle.std.proofs.Common.{◌≡◌, ℕ, zero, suc, ◌+◌, ◌-◌, ◌<◌, ◌^◌, max, min, inl, inr, List}
 use Rattle.std.proofs.Common.{[], ◌∷◌, ◌++◌, length, get_or, refl, ◌∙◌, ap, subst, arith}
-use Rattle.std.specs.List.{All}
 use Rattle.shop_lanes.specs.Rows.{Rows}
 use Rattle.shop_model.specs.Limits.{IsWithinLimits}
 use Rattle.shop_model.specs.Shop.{Shop, IsOperation, machine_of}
@@ -15,15 +14,14 @@ use Rattle.shop_heads.specs.Conflicts.{chosen_of, conflict, conflict_among, conf
 use Rattle.shop_heads.specs.Conflicts.{open_jobs}
 use Rattle.shop_heads.proofs.Entries.{IsWord-snoc}
 use Rattle.shop_desk.specs.inner.Advances.{CanForesee, IsAdvancing, IsLeastAt, foreseen}
-use Rattle.shop_desk.specs.inner.LaneChoices.{AreChoosable, AreInConflict}
+use Rattle.shop_desk.specs.inner.LaneChoices.{AreChoosable}
 use Rattle.shop_desk.specs.inner.LaneStates.{IsKeptInLanes}
 use Rattle.shop_layout.specs.Lanes.{rows_of}
 use Rattle.shop_layout.specs.Positions.{LayoutState, place}
 use Rattle.shop_desk.specs.inner.RisingLists.{IsIn, Rises}
 use Rattle.shop_desk.proofs.ChildReads.{after_look, end_here, end_latest, end_small, head_here}
 use Rattle.shop_desk.proofs.ChildReads.{left_fits, machine_here, time_here}
-use Rattle.shop_desk.proofs.LaneConflicts.{filter_rises, in_filter, open_is, open_rises}
-use Rattle.shop_desk.proofs.RisingLists.{rising_short}
+use Rattle.shop_desk.proofs.LaneConflicts.{filter_rises, in_filter, open_is}
 use Rattle.shop_desk.proofs.StateSteps.{next_at, next_known, within}
 
 pub is_in_at : (xs : List ℕ) (i d : ℕ) → i < length xs → IsIn xs (get_or xs i d)
@@ -43,19 +41,6 @@ conflict_rises shop p (j ∷ js) r = filter_rises (conflicts_with shop p (chosen
 module _ (shop : Shop) (w : List ℕ) (word : IsWord shop w) where
   known : (q : ℕ) → IsIn (conflict shop w) q → (q < length shop.jobs) × IsOperation shop q ((placing shop w).steps q)
   known q h = open_is shop (placing shop w) q (conflict_in shop (placing shop w) (open_jobs shop (placing shop w)) q h)
-
-  pub few : length (conflict shop w) ≤ length shop.jobs
-  few =
-      let short = rising_short (conflict shop w) 0 (length shop.jobs) (omega arith)
-      (conflict_rises shop (placing shop w) (open_jobs shop (placing shop w)) (open_rises shop (placing shop w)))
-      (λ q h. (omega arith, (known q h).0))
-      in omega arith
-
-  pub small : IsWithinLimits shop → (jobs : List ℕ) → jobs ≡ conflict shop w → All (λ j. j < 2 ^ 16) jobs
-  small limits jobs are i d here =
-      let is = (known (get_or jobs i d) (subst (λ (xs : List ℕ). IsIn xs (get_or jobs i d)) are
-      (is_in_at jobs i d here))).0
-      in let many = limits.jobs in omega arith
 
   -- the word goes on with each
   pub candidate_fits : (q : ℕ) → IsIn (conflict shop w) q → IsWord shop (w ++ q ∷ [])
@@ -145,7 +130,7 @@ module _ (greatest : ℕ) (shop : Shop) (w : List ℕ) (l : LayoutState) (heads 
 -- the choice by lanes is that of the word
 module _ (greatest : ℕ) (shop : Shop) (w : List ℕ) (l : LayoutState) (heads ends nexts : List ℕ)
     (kept : IsKeptInLanes greatest shop w l (rows_of l heads ends) nexts) where
-  choosable : AreChoosable greatest shop (placing shop w) l nexts (rows_of l heads ends)
+  pub choosable : AreChoosable greatest shop (placing shop w) l nexts (rows_of l heads ends)
   choosable = record {
     at = record {
       laid = kept.kept.laid;
@@ -158,11 +143,8 @@ module _ (greatest : ℕ) (shop : Shop) (w : List ℕ) (l : LayoutState) (heads 
     computable = kept.kept.computable;
   }
 
-  pub are_conflict : (given jobs : List ℕ) → given ≡ nexts → AreInConflict greatest l given (rows_of l heads ends) jobs
-      → jobs ≡ conflict shop w
-  are_conflict given jobs is are =
-      let same = subst (λ (ns : List ℕ). AreInConflict greatest l ns (rows_of l heads ends) jobs) is are
-      in same shop (placing shop w) choosable
+  pub few_jobs : length nexts < 1024
+  few_jobs = let few = kept.kept.limits.jobs in let many = kept.are_next.jobs in omega arith
 
 -- the limit is beyond all bounds, or is not
 pub tells_below : (shop : Shop) → IsWithinLimits shop → (w : List ℕ) → IsWord shop w → (limit least : ℕ)

@@ -262,6 +262,13 @@ module _ (words : List ℕ) (count : ℕ) (below : (j : ℕ) → IsIn (members 0
       in let e = length-append word rest
       in omega arith
 
+  pub in_word : i < length words → (q : ℕ) → IsIn (set_bits 64 (64 * i) (get_or words i 0)) q
+      → IsIn (members 0 words) q
+  in_word within q h = subst (λ (l : List ℕ). IsIn l q) so_far
+      (append_right jobs (members (64 * i) (drop i words)) q
+      (subst (λ (l : List ℕ). IsIn l q) (sym (next_word (64 * i) i words within))
+      (append_left (set_bits 64 (64 * i) (get_or words i 0)) (members (64 * i + 64) (drop (suc i) words)) q h)))
+
   pub all_appended : count < 64 * i → jobs ≡ members 0 words
   all_appended past =
       let none = none_in (members (64 * i) (drop i words)) (λ q h.

@@ -7,6 +7,7 @@ pub mod ChildExits
 pub mod ChildRaises
 pub mod ChildReads
 pub mod ChildTurns
+pub mod ConflictSets
 pub mod FillTurns
 pub mod FilledStates
 pub mod FittingSpans
@@ -20,6 +21,7 @@ pub mod LaneEnds
 pub mod LaneFits
 pub mod LaneSpans
 pub mod LeftSlots
+pub mod Listing
 pub mod LookAheads
 pub mod MachineLanes
 pub mod NextOperations

@@ -96,15 +96,12 @@ heads_in hs ts qs top from to a b within small =
     (All-take (λ (x : Lane). x.head ≤ top) (8 * to - 8 * from) (drop (8 * from) (lanes hs ts qs))
     (All-drop (λ (x : Lane). x.head ≤ top) (8 * from) (lanes hs ts qs) (head_in hs ts qs top small)))
 
--- the own spans of what waits where the next operation of the first job does can be told
-pub record CanTell (greatest : ℕ) (l : LayoutState) (rows : Rows) (nexts jobs ms : List ℕ) (from to : ℕ) : Type 0 where
-  pub job : get_or jobs 0 0 < length nexts
-  pub position : get_or nexts (get_or jobs 0 0) 0 < length ms
-  pub machine : get_or ms (get_or nexts (get_or jobs 0 0) 0) 0 + 1 < length l.blocks
+-- the own spans of what waits where the next operation of a job does can be told
+pub record CanTell (greatest : ℕ) (rows : Rows) (nexts : List ℕ) (job from to : ℕ) : Type 0 where
   pub blocks : AreBlocks rows from to
   pub room : 8 * to - 8 * from ≤ length rows.heads
   pub fits : FitOwnSpans greatest (lanes_between rows from to)
-  pub low : 8 * from ≤ get_or nexts (get_or jobs 0 0) 0
+  pub low : 8 * from ≤ get_or nexts job 0
 
 module _ (greatest : ℕ) (shop : Shop) (w : List ℕ) (l : LayoutState) (heads ends nexts : List ℕ)
     (kept : IsKeptInLanes greatest shop w l (rows_of l heads ends) nexts) where
@@ -206,7 +203,7 @@ module _ (greatest : ℕ) (shop : Shop) (w : List ℕ) (l : LayoutState) (heads 
           ap (λ (n : ℕ). n - 1) (are x its_from its_to its_head
           ∙ ap (λ (n : ℕ). own_span heads l.times l.tails (get_or l.blocks n 0) (get_or l.blocks (n + 1) 0) x) (sym m_is))
 
-  -- the conflict set, the first of which is on machine m
+  -- the conflict set
   module _ (jobs : List ℕ) (set_is : jobs ≡ conflict shop w) where
     in_set : (i d : ℕ) → i < length jobs → IsIn (conflict shop w) (get_or jobs i d)
     in_set i d here = subst (λ (xs : List ℕ). IsIn xs (get_or jobs i d)) set_is (is_in_at jobs i d here)
@@ -251,61 +248,43 @@ module _ (greatest : ℕ) (shop : Shop) (w : List ℕ) (l : LayoutState) (heads 
         in let low = own_low j (set_fits j (job_in cs are i d here))
         in let own = none i d here in omega arith)
 
-    -- the machine of the first is read, and its blocks
-    module _ (some : 0 < length jobs) (ms : List ℕ) (ms_are : ms ≡ l.machines) (from to : ℕ)
-        (from_is : from ≡ get_or l.blocks (get_or ms (get_or nexts (get_or jobs 0 0) 0) 0) 0)
-        (to_is : to ≡ get_or l.blocks (get_or ms (get_or nexts (get_or jobs 0 0) 0) 0 + 1) 0) where
-      abbrev m : ℕ
-      m = get_or ms (get_or nexts (get_or jobs 0 0) 0) 0
-
-      abbrev first_fits : IsWord shop (w ++ get_or jobs 0 0 ∷ [])
-      first_fits = set_fits (get_or jobs 0 0) (in_set 0 0 some)
-
-      m_is : m ≡ get_or l.machines (get_or nexts (get_or jobs 0 0) 0) 0
-      m_is = ap (λ (xs : List ℕ). get_or xs (get_or nexts (get_or jobs 0 0) 0) 0) ms_are
+    -- the machine of one of them, and its blocks
+    module _ (first : ℕ) (has : IsIn (conflict shop w) first) (m : ℕ)
+        (m_is : m ≡ get_or l.machines (get_or nexts first 0) 0) (from to : ℕ)
+        (from_is : from ≡ get_or l.blocks m 0) (to_is : to ≡ get_or l.blocks (m + 1) 0) where
+      abbrev first_fits : IsWord shop (w ++ first ∷ [])
+      first_fits = set_fits first has
 
       on_its_machine : (j : ℕ) → IsIn (conflict shop w) j → get_or l.machines (get_or nexts j 0) 0 ≡ m
       on_its_machine j h =
           its_machine j (set_fits j h)
-          ∙ (on_one shop (placing shop w) (open_jobs shop (placing shop w)) j (get_or jobs 0 0) h (in_set 0 0 some)
-          ∙ (sym (its_machine (get_or jobs 0 0) first_fits) ∙ sym m_is))
+          ∙ (on_one shop (placing shop w) (open_jobs shop (placing shop w)) j first h has
+          ∙ (sym (its_machine first first_fits) ∙ sym m_is))
 
       m_known : m < shop.machines
       m_known =
-          let a = its_machine (get_or jobs 0 0) first_fits in let e = m_is
-          in let b = kept.kept.limits.on_machines (get_or jobs 0 0) ((placing shop w).steps (get_or jobs 0 0))
-          in omega arith
+          let a = its_machine first first_fits in let e = m_is
+          in let b = kept.kept.limits.on_machines first ((placing shop w).steps first) in omega arith
 
       blocks_are : AreBlocks (rows_of l heads ends) from to
       blocks_are = rw (from_is, to_is) (its_blocks m m_known)
 
-      pub can_tell : CanTell greatest l (rows_of l heads ends) nexts jobs ms from to
+      pub can_tell : CanTell greatest (rows_of l heads ends) nexts first from to
       can_tell =
-          let j = get_or jobs 0 0
-          in let x = get_or nexts j 0
-          in let here = within greatest shop w j l (rows_of l heads ends) nexts kept first_fits x refl
-          in let known = m_known
-          in let b = blocks_are in let b1 = b.ordered in let b2 = b.within
-          in let c = its_from j first_fits m (sym m_is)
-          in let long = ap length ms_are
-          in let machined = kept.kept.laid.machines_at.positions
-          in let many = kept.kept.heads.positions
-          in let blocked = kept.kept.laid.machines
+          let b = blocks_are in let b1 = b.ordered in let b2 = b.within
+          in let c = its_from first first_fits m (sym m_is)
           in record {
-            job = next_known greatest shop w j l (rows_of l heads ends) nexts kept first_fits;
-            position = omega arith;
-            machine = omega arith;
             blocks = b;
             room = omega arith;
             fits = rw (from_is, to_is) (owns_fit m m_known);
             low = omega arith;
           }
 
-      pub told_all : (count : ℕ) → count ≡ length heads → All (λ j. IsTold nexts (8 * from) count j) jobs
-      told_all count many i d here =
-          let j = get_or jobs i d
+      pub told_all : (count : ℕ) → count ≡ length heads → (j : ℕ) → IsIn jobs j → IsTold nexts (8 * from) count j
+      told_all count many j h =
+          let g = subst (λ (js : List ℕ). IsIn js j) set_is h
           in subst (λ (n : ℕ). IsTold nexts (8 * n) count j) (sym from_is)
-          (is_told j (set_fits j (in_set i d here)) m (on_its_machine j (in_set i d here)) count many)
+          (is_told j (set_fits j g) m (on_its_machine j g) count many)
 
       pub told : (owns : List ℕ) → AreOwnSpans heads l.times l.tails from to owns
           → (cs : List Candidate) → map (λ c. c.job) cs ≡ jobs

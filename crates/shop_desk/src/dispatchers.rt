@@ -1,5 +1,5 @@
 // Operations are dispatched in lanes of one width.
-ghost use Rattle.std.specs.Prelude.{◌≡◌, ◌≤◌, ◌<◌, ◌^◌, All, IfOk, length, map, vec_capacity};
+ghost use Rattle.std.specs.Prelude.{◌≡◌, ◌≤◌, ◌<◌, ◌^◌, All, IfOk, length, map};
 ghost use Rattle.shop_layout.specs.LaidOuts.{IsReady};
 
 use crate::advances::{advance_below, strike};
@@ -33,8 +33,7 @@ impl<'a, L: StateLanes> Dispatching for LaidOut<'a, L> {
     ghost IsStateOf = { λ d w s. IsKeptInLanes L.GREATEST d.shop w d.layout
         (rows_of d.layout (L.heads s.lanes) (L.ends s.lanes)) s.next.items };
 
-    ghost IsScratch = { λ d s. IsScratchOf d.shop d.layout s.placement s.raises (length s.owns.items)
-        (vec_capacity s.jobs) };
+    ghost IsScratch = { λ d s. IsScratchOf d.shop d.layout s.placement s.raises (length s.owns.items) };
 
     ghost IsCandidate = { λ d w c. IsCandidateOf d.shop w d.layout c.job c.own };
 
@@ -44,12 +43,10 @@ impl<'a, L: StateLanes> Dispatching for LaidOut<'a, L> {
         let placement = Placement::none(alloc, instance)?;
         let raises = MachineRaises::new(alloc, instance.machines())?;
         let owns = vec![in alloc; L::narrowed(0); self.grid().positions()]?;
-        let jobs = Vec::with_capacity(alloc, instance.jobs())?;
         Ok(Scratch {
             placement,
             raises,
             owns,
-            jobs,
         })
     }
 
@@ -85,7 +82,6 @@ impl<'a, L: StateLanes> Dispatching for LaidOut<'a, L> {
     ) {
         gather(
             candidates,
-            &mut scratch.jobs,
             scratch.owns.as_mut_slice(),
             &state.lanes,
             self.grid(),

@@ -20,6 +20,4 @@ pub struct Scratch<L: StateLanes> {
     pub(crate) raises: MachineRaises,
     /// owns[i]: the own span at the position that is i behind the first one of some machine
     pub(crate) owns: Vec<L::Number>,
-    /// with room for all jobs
-    pub(crate) jobs: Vec<usize>,
 }

@@ -4,10 +4,9 @@ use Rattle.std.proofs.Common.{◌∙◌, refl, sym, ap, subst, Result, Ok, Err}
 use Rattle.shop_model.specs.Shop.{operation_count}
 use Rattle.shop_model.specs.Word.{IsWord}
 use Rattle.shop_tree.specs.declared.held.Held.{Held}
-use Rattle.shop_tree.specs.declared.held.Kept.{Kept}
 use Rattle.shop_nodes.specs.declared.halts.Open.{Open}
 use Rattle.shop_nodes.specs.declared.halts.Waiting.{Waiting}
-use Rattle.shop_tree.specs.inner.Held.{IsKept, held, with_held_rest}
+use Rattle.shop_tree.specs.inner.Held.{IsKept, Kept, held, with_held_rest}
 use Rattle.shop_tree.specs.inner.Opens.{AreChildren}
 use Rattle.shop_tree.specs.inner.Pushing.{with_opens, with_rest}
 use Rattle.shop_tree.specs.inner.Searching.{Adds}
@@ -22,12 +21,12 @@ use Rattle.shop_tree.proofs.AddLemmas.{adds-children, few-children}
 use Rattle.shop_tree.proofs.HeldLemmas.{states_moved, states_rest}
 
 -- the children of the word are on the stack
-pub branched : (s : Stage) (opens : List Open) (n depth : ℕ) (rest stack : List Waiting) → IsWord s.shop s.word
+pub branched : (s : Stage) (opens : List Open) (n depth : ℕ) (stack : List Waiting) → IsWord s.shop s.word
     → length s.word < operation_count s.shop → AreChildren s.shop s.walk.best s.word opens n → depth ≡ length s.word
-    → rest ≡ with_rest s.stack depth n → stack ≡ with_opens rest opens → HasBranched s (record s { stack = stack })
-branched s opens n depth rest stack is short kids deep put moved =
+    → stack ≡ with_opens (with_rest s.stack depth n) opens → HasBranched s (record s { stack = stack })
+branched s opens n depth stack is short kids deep put =
     let all : stack ≡ with_opens (with_rest s.stack (length s.word) n) opens =
-    moved ∙ ap (λ (xs : List Waiting). with_opens xs opens) (put ∙ ap (λ k. with_rest s.stack k n) deep)
+    put ∙ ap (λ (k : ℕ). with_opens (with_rest s.stack k n) opens) deep
     in record {
       stack = subst (λ (xs : List Waiting). Adds s.shop s.walk.best s.word s.stack xs) (sym all)
           (adds-children s.shop s.walk.best s.word opens n s.stack is short kids);
@@ -37,12 +36,11 @@ branched s opens n depth rest stack is short kids deep put moved =
     }
 
 -- with their states
-pub held_branched : {S : Type 0} (is : List ℕ → S → Type 0) (word : List ℕ) (old rest new : List (Held S))
+pub held_branched : {S : Type 0} (is : List ℕ → S → Type 0) (word : List ℕ) (old new : List (Held S))
     (kids : List (Kept S)) (depth n : ℕ) → AreHeld is word old → All (IsKept is word) kids
-    → rest ≡ with_held_rest old depth n → new ≡ rest ++ map held kids → AreHeld is word new
-held_branched is word old rest new kids depth n below above put moved =
-    states_moved rest kids is word new moved
-    (subst (AreHeld is word) (sym put) (states_rest old is word depth n below)) above
+    → new ≡ with_held_rest old depth n ++ map held kids → AreHeld is word new
+held_branched is word old new kids depth n below above put =
+    states_moved (with_held_rest old depth n) kids is word new put (states_rest old is word depth n below) above
 
 -- the walk stands where it stood, whoever gave a state back
 pub stands_still : {D S C T E : Type 0} {g : Ghosts D S C} (v w : Walker D S C g) (r : Result T E)

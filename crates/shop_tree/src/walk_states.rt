@@ -1,18 +1,17 @@
 // The states of a walk.
-ghost use Rattle.std.specs.Prelude.{◌≡◌, ℕ, ◌≤◌, ◌<◌, ◌^◌, false, List, [], ◌∷◌, ◌++◌, All, IfOk, OnOk};
+ghost use Rattle.std.specs.Prelude.{◌≡◌, ℕ, ◌≤◌, false, List, [], ◌∷◌, ◌++◌, All, IfOk, OnOk, OnSome};
 ghost use Rattle.std.specs.Prelude.{length, map, vec_capacity};
 ghost use Rattle.shop_model.specs.Word.{IsWord};
 ghost use Rattle.shop_heads.specs.Bound.{lb};
-ghost use Rattle.shop_desk.specs.States.{HasSoleCandidate, IsOfSomeWord};
+ghost use Rattle.shop_desk.specs.States.{CanDispatch, HasSoleCandidate, IsOfSomeWord};
+ghost use Rattle.shop_desk.specs.States.{TellsBoundBelow};
 ghost use Rattle.shop_nodes.specs.Branching.{conflict};
-ghost use Rattle.shop_tree.specs.inner.Held.{IsHeldOf, IsKept, opens_in};
-ghost use Rattle.shop_tree.specs.inner.Opens.{AreChildren};
+ghost use Rattle.shop_tree.specs.inner.Held.{IsHeldOf};
 ghost use Rattle.shop_tree.specs.inner.Slots.{HoldSlots};
-ghost use Rattle.shop_tree.specs.inner.Tried.{IsTried};
+ghost use Rattle.shop_tree.specs.inner.Tried.{HasPutChildren};
 
-use crate::held::Kept;
-use crate::pushing::empty;
-use crate::putting::{all_reach, put};
+use crate::held::Held;
+use crate::putting::{first_below, put};
 use shop_desk::{Candidate, Dispatching};
 use shop_nodes::Open;
 use std::alloc::{AllocError, Global};
@@ -193,60 +192,42 @@ impl<'l, D: Dispatching> WalkStates<'l, D> {
         self.dispatcher.copy(&self.current, &mut self.trial);
     }
 
-    /// Tries a candidate of a word, and tells its child if its bound is below the limit, with its state where there is
-    /// room for it. After the last trial the current state is that of no word.
+    /// Dispatches a candidate in the trial's state, and tells the bound of its child if that is below the limit. The
+    /// bound of the current state's word is at hand. After the last trial the current state is that of no word.
     fn try_candidate(
         &mut self,
-        alloc: Global,
-        word: &[u16],
         candidate: Candidate,
         is_last: bool,
         bound: u64,
         limit: u64,
-    ) -> Result<Option<Kept<D::State>>, AllocError>
+    ) -> Option<u64>
         requires sound { HoldSlots D.IsSlot D.IsScratch self.old }
-        requires state { D.IsStateOf self.old.dispatcher.now word.now self.old.current.value }
-        requires long { length word.now < 2 ^ 32 }
-        requires fits { IsWord (D.shop self.old.dispatcher.now) (word.now ++ candidate.job ∷ []) }
-        requires is { D.IsCandidate self.old.dispatcher.now word.now candidate }
-        requires bound { bound ≡ lb (D.shop self.old.dispatcher.now) word.now }
-        ensures sound { OnOk result (HoldSlots D.IsSlot D.IsScratch self.new) }
-        ensures tried { IfOk result (IsTried (D.IsStateOf self.old.dispatcher.now)
-            (D.shop self.old.dispatcher.now) word.now limit candidate.job) }
-        ensures current { is_last ≡ false
-            → OnOk result (self.new.current.value ≡ self.old.current.value) }
+        requires can { CanDispatch (D.shop self.old.dispatcher.now)
+            (λ w. D.IsStateOf self.old.dispatcher.now w self.old.current.value
+            × D.IsCandidate self.old.dispatcher.now w candidate) candidate.job bound }
+        ensures sound { HoldSlots D.IsSlot D.IsScratch self.new }
+        ensures told { (w : List ℕ) → D.IsStateOf self.old.dispatcher.now w self.old.current.value
+            → D.IsCandidate self.old.dispatcher.now w candidate → bound ≡ lb (D.shop self.old.dispatcher.now) w
+            → TellsBoundBelow limit (lb (D.shop self.old.dispatcher.now) (w ++ candidate.job ∷ [])) result }
+        ensures state { (w : List ℕ) → D.IsStateOf self.old.dispatcher.now w self.old.current.value
+            → D.IsCandidate self.old.dispatcher.now w candidate
+            → OnSome result (D.IsStateOf self.old.dispatcher.now (w ++ candidate.job ∷ [])
+            self.new.trial.value) }
+        ensures current { is_last ≡ false → self.new.current.value ≡ self.old.current.value }
         ensures dispatcher { self.new.dispatcher.now ≡ self.old.dispatcher.now }
     {
         self.begin_trial(is_last);
-        let told = self.dispatcher.dispatch_below(
-            &mut self.scratch,
-            &mut self.trial,
-            candidate,
-            bound,
-            limit,
-        );
-        let Some(bound) = told else {
-            return Ok(None);
-        };
-        let open = Open {
-            depth: word.len() as u32,
-            job: candidate.job,
-            bound,
-        };
-        Ok(Some(Kept {
-            open,
-            state: self.take_trial(alloc)?,
-        }))
+        self.dispatcher.dispatch_below(&mut self.scratch, &mut self.trial, candidate, bound, limit)
     }
 
-    /// Replaces the list with the children of the current state's word with bounds below the limit, by bound, then by
-    /// job, the first one last, each with its state where there is room for one; and tells how many others there are.
-    /// The word's bound and its candidates are at hand. Fails with `AllocError` if memory runs out.
+    /// Puts the children of the current state's word with bounds below the limit on the stack, by bound, then by job,
+    /// the first one on top, each with its state where there is room for one; and tells how many others there are. The
+    /// word's bound and its candidates are at hand. Fails with `AllocError` if memory runs out.
     pub(crate) fn try_candidates(
         &mut self,
         alloc: Global,
-        children: &mut Vec<Kept<D::State>>,
-        candidates: &mut Vec<Candidate>,
+        stack: &mut Vec<Held<D::State>>,
+        candidates: &[Candidate],
         word: &[u16],
         bound: u64,
         limit: u64,
@@ -254,35 +235,34 @@ impl<'l, D: Dispatching> WalkStates<'l, D> {
         requires sound { HoldSlots D.IsSlot D.IsScratch self.old }
         requires state { D.IsStateOf self.old.dispatcher.now word.now self.old.current.value }
         requires bound { bound ≡ lb (D.shop self.old.dispatcher.now) word.now }
-        requires jobs { map (λ c. c.job) candidates.old.items
+        requires jobs { map (λ c. c.job) candidates.now
             ≡ conflict (D.shop self.old.dispatcher.now) word.now }
-        requires are { All (λ c. D.IsCandidate self.old.dispatcher.now word.now c)
-            candidates.old.items }
+        requires are { All (λ c. D.IsCandidate self.old.dispatcher.now word.now c) candidates.now }
         requires lower { All (λ c. c.own
-            ≤ lb (D.shop self.old.dispatcher.now) (word.now ++ c.job ∷ [])) candidates.old.items }
+            ≤ lb (D.shop self.old.dispatcher.now) (word.now ++ c.job ∷ [])) candidates.now }
         ensures sound { OnOk result (HoldSlots D.IsSlot D.IsScratch self.new) }
-        ensures children { IfOk result (λ n. AreChildren (D.shop self.old.dispatcher.now) limit
-            word.now (opens_in children.new.items) n) }
-        ensures states { OnOk result (All (IsKept (D.IsStateOf self.old.dispatcher.now) word.now)
-            children.new.items) }
+        ensures children { IfOk result (λ n. HasPutChildren (D.IsStateOf self.old.dispatcher.now)
+            (D.shop self.old.dispatcher.now) limit word.now stack.old.items stack.new.items n) }
         ensures dispatcher { self.new.dispatcher.now ≡ self.old.dispatcher.now }
-        ensures room { vec_capacity candidates.old ≤ vec_capacity candidates.new }
     {
-        empty(children);
+        let (from, depth) = (stack.len(), word.len() as u32);
+        let first = first_below(candidates, limit);
         let mut others = 0;
         // The last job first: of equal bounds the lower job then comes to lie above.
-        while let Some(candidate) = candidates.pop() {
+        for index in (0..candidates.len()).rev() {
+            let candidate = candidates[index];
             if candidate.own >= limit {
                 others += 1;
                 continue;
             }
-            let is_last = all_reach(candidates, limit);
-            let Some(child) = self.try_candidate(alloc, word, candidate, is_last, bound, limit)?
-            else {
+            let is_last = index == first;
+            let Some(bound) = self.try_candidate(candidate, is_last, bound, limit) else {
                 others += 1;
                 continue;
             };
-            put(children, child)?;
+            let job = candidate.job;
+            let state = self.take_trial(alloc)?;
+            put(stack, from, Open { depth, job, bound }, state)?;
         }
         Ok(others)
     }

@@ -5,9 +5,9 @@ ghost use Rattle.shop_nodes.specs.Nodes.{IsNode, AreNodes};
 ghost use Rattle.shop_nodes.specs.Sheets.{IsSheetOf, KeepsTables};
 ghost use Rattle.shop_heads.specs.Bound.{lb};
 
-use crate::held::{Held, Kept, copy_waiting};
+use crate::held::{Held, copy_waiting};
 use crate::progress::Progress;
-use crate::pushing::{push_kept, push_rest};
+use crate::pushing::put_rest;
 use crate::walk_states::WalkStates;
 use shop_desk::{Candidate, Dispatching};
 use shop_model::{Instance, SharedWord, Word};
@@ -15,15 +15,14 @@ use shop_nodes::{Halt, Left, Node, Open, Piece, Sheet, Waiting};
 use std::alloc::{AllocError, Global};
 use std::sync::ArcSlice;
 
-/// A walk with its states and the lists that it takes: the word that it came to, what waits, and room for the children
-/// and the candidates of a word.
+/// A walk with its states and the lists that it takes: the word that it came to, what waits, and room for the candidates
+/// of a word.
 #[derive(Drop)]
 pub(crate) struct Walker<'l, 'a, D: Dispatching> {
     pub(crate) progress: Progress<'a>,
     pub(crate) states: WalkStates<'l, D>,
     pub(crate) path: Vec<u16>,
     pub(crate) stack: Vec<Held<D::State>>,
-    pub(crate) children: Vec<Kept<D::State>>,
     pub(crate) candidates: Vec<Candidate>,
     /// what waits below this place of the stack has no state
     stripped: usize,
@@ -60,7 +59,6 @@ impl<'l, 'a, D: Dispatching> Walker<'l, 'a, D> {
             states: WalkStates::new(alloc, dispatcher, most)?,
             path: Vec::with_capacity(alloc, instance.operations())?,
             stack: Vec::new(alloc),
-            children: Vec::new(alloc),
             candidates: Vec::with_capacity(alloc, instance.jobs())?,
             stripped: 0,
         })
@@ -140,16 +138,16 @@ impl<'l, 'a, D: Dispatching> Walker<'l, 'a, D> {
         ensures branched { OnOk result (HasBranched (stage_of self.old) (stage_of self.new)) }
         ensures states { OnOk result (HasStates self.new) }
     {
+        let below = self.stack.len();
         let closed = self.states.try_candidates(
             alloc,
-            &mut self.children,
-            &mut self.candidates,
+            &mut self.stack,
+            self.candidates.as_slice(),
             self.path.as_slice(),
             bound,
             self.progress.best,
         )?;
-        push_rest(&mut self.stack, self.path.len(), closed)?;
-        push_kept(&mut self.stack, &mut self.children)
+        put_rest(&mut self.stack, below, self.path.len(), closed)
     }
 
     /// Goes on from the word, which was taken and whose bound is below the best: as far as there is one way alone, then

@@ -8,6 +8,9 @@
 --     AreCandidatesOf shop w l cs    the conflict set, each of it a candidate, and the bound after it
 --                                    is at least its own
 --     CanGather greatest l ..        they are kept for some word
+--     IsChosenBy .. job machine end  the next operation of the job can end first, before `end`, on this
+--                                    machine, and what waits there with a head below the end is in the
+--                                    conflict set
 use Rattle.std.specs.Prelude.{◌≡◌, ℕ, ◌+◌, ◌-◌, ◌≤◌, ◌<◌, max, List, [], ◌∷◌, ◌++◌, All, length}
 use Rattle.std.specs.Prelude.{map, slice_index}
 use Rattle.shop_lanes.specs.Rows.{Rows}
@@ -16,8 +19,11 @@ use Rattle.shop_model.specs.Shop.{Shop}
 use Rattle.shop_model.specs.Word.{IsWord, placing}
 use Rattle.shop_heads.specs.Bound.{lb}
 use Rattle.shop_heads.specs.Conflicts.{conflict}
+use Rattle.shop_desk.specs.inner.LaneChoices.{IsNextBelow}
 use Rattle.shop_desk.specs.inner.LaneHeads.{AreHeadsAt}
 use Rattle.shop_desk.specs.inner.LaneStates.{IsKeptInLanes}
+use Rattle.shop_desk.specs.inner.Raises.{HasBlocks, IsOnMachine}
+use Rattle.shop_desk.specs.inner.RisingLists.{IsGatheredWith}
 use Rattle.shop_layout.specs.Positions.{LayoutState, place}
 use Rattle.shop_desk.specs.declared.dispatching.Candidate.{Candidate}
 
@@ -49,3 +55,12 @@ pub record CanGather (greatest : ℕ) (l : LayoutState) (rows : Rows) (nexts : L
   pub shop : Shop
   pub word : List ℕ
   pub kept : IsKeptInLanes greatest shop word l rows nexts
+
+pub record IsChosenBy (greatest : ℕ) (shop : Shop) (w : List ℕ) (l : LayoutState)
+    (heads nexts : List ℕ) (job machine end : ℕ) : Type 0 where
+  pub known : job < length nexts
+  pub machine_is : machine ≡ slice_index l.machines (slice_index nexts job)
+  pub blocks : HasBlocks l (length heads) machine
+  pub fits : end ≤ greatest
+  pub set : (js : List ℕ) → IsGatheredWith job (IsNextBelow nexts heads (IsOnMachine l machine) end) js
+      → js ≡ conflict shop w

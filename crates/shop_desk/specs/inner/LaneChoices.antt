@@ -5,7 +5,6 @@
 --                                    head below a limit
 --     AreNextPlaced l heads nexts    each position has a job, and the next operations have theirs
 --     AreEndsAt greatest shop p ..   when the next operations can end
---     AreInConflict .. jobs          the list is the conflict set
 --     AreNextsAt shop p l nexts ..   heads and next operations are those of the placing
 --     AreChoosable greatest ..       all that the choice by lanes stands on
 use Rattle.std.specs.Prelude.{◌≡◌, ℕ, ◌+◌, ◌≤◌, ◌<◌, ◌^◌, List, length, slice_index}
@@ -13,7 +12,7 @@ use Rattle.shop_lanes.specs.Rows.{Rows}
 use Rattle.shop_model.specs.Limits.{IsWithinLimits}
 use Rattle.shop_model.specs.Shop.{Shop, route_of, IsOperation}
 use Rattle.shop_model.specs.Word.{Placing}
-use Rattle.shop_heads.specs.Conflicts.{next_end, open_jobs, conflict_among}
+use Rattle.shop_heads.specs.Conflicts.{next_end}
 use Rattle.shop_desk.specs.inner.LaneHeads.{AreHeadsAt}
 use Rattle.shop_layout.specs.Positions.{place_or, LayoutState, IsLaidOut, first_position}
 
@@ -59,16 +58,3 @@ pub record AreChoosable (greatest : ℕ) (shop : Shop) (p : Placing) (l : Layout
   pub at : AreNextsAt shop p l nexts rows
   pub ends : AreEndsAt greatest shop p rows.ends
   pub computable : greatest < 2 ^ 64
-
--- so for some placing
-pub record CanChoose (greatest : ℕ) (l : LayoutState) (nexts : List ℕ)
-    (rows : Rows) : Type 0 where
-  pub shop : Shop
-  pub of : Placing
-  pub choosable : AreChoosable greatest shop of l nexts rows
-
--- whatever they are of, the list is its conflict set
-abbrev pub AreInConflict : ℕ → LayoutState → List ℕ → Rows → List ℕ → Type 0
-AreInConflict greatest l nexts rows jobs =
-    (shop : Shop) (p : Placing) → AreChoosable greatest shop p l nexts rows
-    → jobs ≡ conflict_among shop p (open_jobs shop p)

@@ -1,21 +1,32 @@
 -- Children that wait with their states, whatever a state is: `is w s` says that s is the state of w.
+--     Kept S                         a child that was tried and is kept, with its state, if any
 --     IsHeldOf is w state            the state, where there is one, is that of w
 --     IsKept is word k               a child that was tried along the word has its own state, if any
 --     IsHeld is word h               so has one that waits; closed children have none
 --     opens_in ks, waiting_in hs     the children, and what waits, without their states
 --     held k                         the child as what waits, with its state
+--     bound_of x                     the bound of a child that waits, and 0 of closed ones
 --     with_held_rest stack depth n   the stack with n closed children of what so many entries make on
 --                                    top, if there are any
+--     with_rest_at stack i depth n   the same at place i
 --     AreStates slot is_scratch ..   what the states of a walk hold is room for states, and what a
 --                                    dispatch needs
 use Rattle.std.specs.Prelude.{◌≡◌, ℕ, zero, suc, [], ◌∷◌, ◌++◌, Option, Some, None, List, map, All}
 use Rattle.std.specs.Global.{Box}
+use Rattle.std.specs.List.{insert}
 use Rattle.shop_nodes.specs.declared.halts.Open.{Open}
 use Rattle.shop_nodes.specs.declared.halts.Waiting.{Waiting}
 use Rattle.shop_nodes.specs.declared.halts.Waiting.TheVariants.{Child, Rest}
 use Rattle.shop_tree.specs.declared.held.Held.{Held}
-use Rattle.shop_tree.specs.declared.held.Kept.{Kept}
 use Rattle.shop_nodes.specs.Halts.{word_at}
+
+pub record Kept (S : Type 0) : Type 0 where
+  pub «open» : Open
+  pub state : Option (Box S)
+
+abbrev pub bound_of : Waiting → ℕ
+bound_of (Child o) = o.bound
+bound_of (Rest depth count) = 0
 
 module _ {S : Type 0} where
   abbrev pub opens_in : List (Kept S) → List Open
@@ -31,6 +42,11 @@ module _ {S : Type 0} where
   with_held_rest stack depth zero = stack
   with_held_rest stack depth (suc n) =
       stack ++ record { waiting = Rest depth (suc n); state = None } ∷ []
+
+  abbrev pub with_rest_at : List (Held S) → ℕ → ℕ → ℕ → List (Held S)
+  with_rest_at stack place depth zero = stack
+  with_rest_at stack place depth (suc n) =
+      insert stack place (record { waiting = Rest depth (suc n); state = None })
 
 module _ {S : Type 0} (is : List ℕ → S → Type 0) where
   abbrev pub IsHeldOf : List ℕ → Option (Box S) → Type 0

@@ -1,23 +1,87 @@
-use Rattle.std.proofs.Common.{◌∙◌, ◌<◌, ap, length, refl, arith}
-use Rattle.shop_desk.proofs.Candidates.{are_conflict, small}
+use Rattle.std.proofs.Common.{◌≡◌, ℕ, List, [], get_or, length, ◌∙◌, ap, sym, subst, arith}
+use Rattle.std.specs.List.{All}
+use Rattle.std.specs.Prelude.{map}
+use Rattle.shop_model.specs.Word.{placing}
+use Rattle.shop_layout.specs.Lanes.{rows_of}
+use Rattle.shop_desk.specs.inner.Raises.{HasBlocks}
+use Rattle.shop_desk.proofs.Candidates.{choosable}
+use Rattle.shop_desk.proofs.LaneConflicts.{chosen_at, chosen_job, is_conflict, none_open}
 use Rattle.shop_desk.proofs.OwnSpans.{alone}
 use Rattle.shop_desk.proofs.gathering.gather.Goals as goal
 
-pub list_candidates-requires-clause-small : goal.list_candidates-requires-clause-small
-list_candidates-requires-clause-small g c = small c.requires.can.shop c.requires.can.word c.requires.can.kept.kept.word
-    c.requires.can.kept.kept.limits c.as_slice.result.now (c.as_slice.ensures.value
-    ∙ are_conflict g.L.StateLanes.GREATEST c.requires.can.shop c.requires.can.word c.args.grid.now
-    (g.L.StateLanes.heads c.args.lanes.now) (g.L.StateLanes.ends c.args.lanes.now) c.args.next.now c.requires.can.kept
-    c.args.next.now c.gather_conflict.new.jobs.items refl c.gather_conflict.ensures.jobs)
+pub head-requires : goal.head-requires
+head-requires g c =
+    let heads = g.L.StateLanes.heads c.args.lanes.now
+    in let ends = g.L.StateLanes.ends c.args.lanes.now
+    in (chosen_at g.L.StateLanes.GREATEST c.requires.can.shop (placing c.requires.can.shop c.requires.can.word)
+    c.args.grid.now c.args.next.now (rows_of c.args.grid.now heads ends)
+    (choosable g.L.StateLanes.GREATEST c.requires.can.shop c.requires.can.word c.args.grid.now heads ends
+    c.args.next.now c.requires.can.kept) c.first_least_end-chosen.result c.first_least_end-chosen.ensures
+    c.positions.result c.positions.ensures c.if-position-positions.false).within
 
-pub returns-then-len-lt2-clause-are : goal.returns-then-len-lt2-clause-are
-returns-then-len-lt2-clause-are g c = λ shop w kept.
-    let sole : length c.as_slice.result.now < 2 = (let a = ap length c.as_slice.ensures.value
-    in let b = c.len.ensures in let d = c.if-len-lt2.true in omega arith)
-    in alone g.L.StateLanes.GREATEST shop w c.args.grid.now
-    (g.L.StateLanes.heads c.args.lanes.now) (g.L.StateLanes.ends c.args.lanes.now) c.args.next.now kept
-    c.as_slice.result.now (c.as_slice.ensures.value
-    ∙ are_conflict g.L.StateLanes.GREATEST shop w c.args.grid.now
-    (g.L.StateLanes.heads c.args.lanes.now) (g.L.StateLanes.ends c.args.lanes.now) c.args.next.now kept
-    c.args.next.now c.gather_conflict.new.jobs.items refl c.gather_conflict.ensures.jobs)
-    sole c.list_candidates.new.candidates.items c.list_candidates.ensures.jobs c.list_candidates.ensures.own
+pub time-requires : goal.time-requires
+time-requires g c =
+    let heads = g.L.StateLanes.heads c.args.lanes.now
+    in let ends = g.L.StateLanes.ends c.args.lanes.now
+    in let times = c.requires.can.kept.kept.laid.positions.times
+    in let long = c.requires.can.kept.kept.heads.positions
+    in let within = (chosen_at g.L.StateLanes.GREATEST c.requires.can.shop
+    (placing c.requires.can.shop c.requires.can.word)
+    c.args.grid.now c.args.next.now (rows_of c.args.grid.now heads ends)
+    (choosable g.L.StateLanes.GREATEST c.requires.can.shop c.requires.can.word c.args.grid.now heads ends
+    c.args.next.now c.requires.can.kept) c.first_least_end-chosen.result c.first_least_end-chosen.ensures
+    c.positions.result c.positions.ensures c.if-position-positions.false).within
+    in omega arith
+
+pub overflow_add-end : goal.overflow_add-end
+overflow_add-end g c =
+    let heads = g.L.StateLanes.heads c.args.lanes.now
+    in let ends = g.L.StateLanes.ends c.args.lanes.now
+    in let at = chosen_at g.L.StateLanes.GREATEST c.requires.can.shop
+    (placing c.requires.can.shop c.requires.can.word)
+    c.args.grid.now c.args.next.now (rows_of c.args.grid.now heads ends)
+    (choosable g.L.StateLanes.GREATEST c.requires.can.shop c.requires.can.word c.args.grid.now heads ends
+    c.args.next.now c.requires.can.kept) c.first_least_end-chosen.result c.first_least_end-chosen.ensures
+    c.positions.result c.positions.ensures c.if-position-positions.false
+    in let head = c.head.ensures in let time = c.time.ensures in let end = at.end in let fits = at.fits
+    in let small = c.requires.can.kept.kept.computable in omega arith
+
+pub gather_on-requires-clause-chosen : goal.gather_on-requires-clause-chosen
+gather_on-requires-clause-chosen g c = λ shop w kept.
+    let greatest = g.L.StateLanes.GREATEST
+    in let l = c.args.grid.now
+    in let nexts = c.args.next.now
+    in let heads = g.L.StateLanes.heads c.args.lanes.now
+    in let ends = g.L.StateLanes.ends c.args.lanes.now
+    in let rows = rows_of l heads ends
+    in let r = c.first_least_end-chosen.result
+    in let is = c.first_least_end-chosen.ensures
+    in let can = choosable greatest shop w l heads ends nexts kept
+    in let at = chosen_at greatest shop (placing shop w) l nexts rows can r is c.positions.result c.positions.ensures
+    c.if-position-positions.false
+    in let read : get_or c.machines.result.now (get_or nexts r 0) 0 ≡ get_or l.machines (get_or nexts r 0) 0 =
+    ap (λ (xs : List ℕ). get_or xs (get_or nexts r 0) 0) c.machines.ensures
+    in let head = c.head.ensures in let time = c.time.ensures in let end = at.end in let fits = at.fits
+    in record {
+      known = (let a = chosen_job greatest shop (placing shop w) l nexts rows can r is
+          in let b = kept.are_next.jobs in omega arith);
+      machine_is = read;
+      blocks = subst (λ (m : ℕ). HasBlocks l (length heads) m) (sym read) at.blocks;
+      fits = omega arith;
+      set = λ js are. is_conflict greatest shop (placing shop w) l nexts rows can r is at.operation _ _
+          (read ∙ at.machine_is) (omega arith) js are;
+    }
+
+pub returns-then-position-positions-clause-are : goal.returns-then-position-positions-clause-are
+returns-then-position-positions-clause-are g c = λ shop w kept.
+    let greatest = g.L.StateLanes.GREATEST
+    in let l = c.args.grid.now
+    in let nexts = c.args.next.now
+    in let heads = g.L.StateLanes.heads c.args.lanes.now
+    in let ends = g.L.StateLanes.ends c.args.lanes.now
+    in let can = choosable greatest shop w l heads ends nexts kept
+    in alone greatest shop w l heads ends nexts kept [] (none_open greatest shop (placing shop w) l nexts
+    (rows_of l heads ends) can c.first_least_end-chosen.result c.first_least_end-chosen.ensures
+    c.positions.result c.positions.ensures c.if-position-positions.true) (omega arith) c.clear.new.self.items
+    (ap (map (λ x. x.job)) c.clear.ensures.items)
+    (subst (All (λ x. x.own ≡ 0)) (sym c.clear.ensures.items) (λ i d here. absurd (omega arith)))

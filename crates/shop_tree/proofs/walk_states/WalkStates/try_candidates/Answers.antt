@@ -1,96 +1,165 @@
-use Rattle.std.proofs.Common.{◌≤◌, List, Option, All, refl, ◌∙◌, subst, arith}
-use Rattle.std.specs.Bool.{OnTrue}
+use Rattle.std.proofs.Common.{◌≡◌, ◌≤◌, ◌<◌, ◌-◌, List, [], ◌∷◌, ◌++◌, get_or, refl, sym, ◌∙◌, ap, subst}
+use Rattle.std.proofs.Common.{append-nil, arith}
+use Rattle.std.specs.List.{insert}
+use Rattle.std.specs.Prelude.{length, OnSome}
 use Rattle.shop_model.proofs.WordLengths.{word_length}
-use Rattle.shop_desk.specs.declared.dispatching.Candidate.{Candidate}
-use Rattle.shop_tree.specs.declared.held.Kept.{Kept}
-use Rattle.shop_tree.specs.inner.Tried.{IsTried}
-use Rattle.shop_tree.proofs.TrialLemmas.{trying_begins, trying_moved, wanted_stays, wanted_then, next_low, next_can}
-use Rattle.shop_tree.proofs.TrialLemmas.{next_fits, next_state, turn_counted, turn_kept}
+use Rattle.shop_heads.specs.Bound.{lb}
+use Rattle.shop_desk.specs.States.{CanDispatch, TellsBoundBelow}
+use Rattle.shop_tree.proofs.TrialLemmas.{trying_begins, next_is, next_fits, next_state, turn_counted}
+use Rattle.shop_tree.proofs.TrialLemmas.{turn_kept, told_high, tried_child, still_wanted}
 use Rattle.shop_tree.proofs.walk_states.WalkStates.try_candidates.Goals as goal
 
-pub loop-candidate-init : goal.loop-candidate-init
-loop-candidate-init g c = record {
-  trying = trying_begins g.D.Dispatching.IsStateOf g.D.Dispatching.IsCandidate g.D.Dispatching.shop c.args.limit
-      c.args.word.now _ c.args.bound c.args.self.now.dispatcher.now c.args.candidates.now.items c.empty.new.children.items
-      c.args.self.now.current.value refl c.empty.ensures c.requires.jobs c.requires.are c.requires.lower
-      c.requires.bound c.requires.state;
-  sound = c.requires.sound;
-  same = refl;
-  room = omega arith;
-}
-
-pub loop-candidate-preserved-then-candidate-limit :
-    goal.loop-candidate-preserved-then-candidate-limit
-loop-candidate-preserved-then-candidate-limit g c =
-    let now = c.loop-candidate.invariant
-    in let low = next_low _ _ _ _ _ _ _ _ _ _ _ c.in-Some.ensures.items _ _ _ now.trying
-    in record {
-      trying = turn_counted _ _ _ _ _ _ _ _ _ _ _ c.in-Some.ensures.items _ _ _ now.trying _
-          (let a = c.if-candidate-limit.true in omega arith)
-          (wanted_stays (g.D.Dispatching.IsStateOf c.loop-candidate.self.dispatcher.now) _ c.args.word.now _ _ _
-          c.loop-candidate.self.current.value c.in-Some.ensures.items now.trying.wanted);
-      sound = now.sound;
-      same = now.same;
-      room = (let a = now.room in let b = c.pop.ensures.capacity in omega arith);
-    }
-
-pub try_candidate-requires-clause-long : goal.try_candidate-requires-clause-long
-try_candidate-requires-clause-long g c =
-    let now = c.loop-candidate.invariant
-    in let d = c.loop-candidate.self.dispatcher.now
-    in let state = next_state _ _ _ _ _ _ _ _ _ _ _ c.in-Some.ensures.items _ _ _ now.trying c.if-candidate-limit.false
+pub overflow_cast-depth : goal.overflow_cast-depth
+overflow_cast-depth g c =
+    let d = c.args.self.now.dispatcher.now
     in let a = word_length (g.D.Dispatching.shop d) c.args.word.now
-    (g.met.D.Dispatching.state_is_within_limits d c.args.word.now _ state)
-    (g.met.D.Dispatching.state_is_of_word d c.args.word.now _ state)
+    (g.met.D.Dispatching.state_is_within_limits d c.args.word.now _ c.requires.state)
+    (g.met.D.Dispatching.state_is_of_word d c.args.word.now _ c.requires.state)
     in omega arith
 
-pub try_candidate-requires-clause-fits : goal.try_candidate-requires-clause-fits
-try_candidate-requires-clause-fits g c =
-    let now = c.loop-candidate.invariant
-    in let d = c.loop-candidate.self.dispatcher.now
-    in let state = next_state _ _ _ _ _ _ _ _ _ _ _ c.in-Some.ensures.items _ _ _ now.trying c.if-candidate-limit.false
-    in next_fits _ _ _ _ _ _ _ _ _ _ _ c.in-Some.ensures.items _ _ _ now.trying
-    (g.met.D.Dispatching.state_is_of_word d c.args.word.now _ state)
+pub loop-index-init : goal.loop-index-init
+loop-index-init g c = record {
+  kids = [];
+  stack = sym (append-nil _);
+  trying = trying_begins (g.D.Dispatching.IsStateOf c.args.self.now.dispatcher.now)
+      (g.D.Dispatching.shop c.args.self.now.dispatcher.now) c.args.limit c.args.word.now c.args.candidates.now
+      c.first_below-first.result c.args.self.now.current.value c.requires.jobs c.requires.state;
+  sound = c.requires.sound;
+  same = refl;
+}
 
-pub try_candidate-requires-clause-is : goal.try_candidate-requires-clause-is
-try_candidate-requires-clause-is g c =
-    next_can _ _ _ _ _ _ _ _ _ _ _ c.in-Some.ensures.items _ _ _ c.loop-candidate.invariant.trying
-
-pub loop-candidate-preserved-in_default-2 : goal.loop-candidate-preserved-in_default-2
-loop-candidate-preserved-in_default-2 g c =
-    let now = c.loop-candidate.invariant
-    in let d = c.loop-candidate.self.dispatcher.now
-    in let state = next_state _ _ _ _ _ _ _ _ _ _ _ c.in-Some.ensures.items _ _ _ now.trying c.if-candidate-limit.false
-    in let reach = subst (λ (cs : List Candidate). OnTrue c.all_reach-is_last.result
-    (All (λ e. c.args.limit ≤ e.own) cs)) c.deref.ensures.value c.all_reach-is_last.ensures
-    in let high = subst (λ (o : Option (Kept g.row.D-State.Denot)). IsTried (g.D.Dispatching.IsStateOf d)
-    (g.D.Dispatching.shop d) c.args.word.now c.args.limit c.in-Some.candidate.job o) c.in_default-2.is
-    c.in_ok-child.ensures.tried
+pub loop-index-preserved-then-candidate-limit : goal.loop-index-preserved-then-candidate-limit
+loop-index-preserved-then-candidate-limit g c =
+    let now = c.loop-index.invariant
+    in let d = c.args.self.now.dispatcher.now
+    in let is = g.D.Dispatching.IsStateOf d
+    in let shop = g.D.Dispatching.shop d
+    in let word = c.args.word.now
+    in let cs = c.args.candidates.now
+    in let first = c.first_below-first.result
+    in let i = c.loop-index.index
+    in let current = c.loop-index.self.current.value
+    in let some : 0 < i = (let a = c.loop-index-test.true in omega arith)
+    in let low = next_is is shop c.args.limit word cs first i some now.kids c.loop-index.others current now.trying
+    (λ x. x.own ≤ lb shop (word ++ x.job ∷ [])) c.requires.lower
     in record {
-      trying = trying_moved _ _ _ _ _ _ _ _ _ _ _ _ _ c.try_candidate.ensures.dispatcher
-          (turn_counted _ _ _ _ _ _ _ _ _ _ _ c.in-Some.ensures.items _ _ _ now.trying _ high
-          (wanted_then (g.D.Dispatching.IsStateOf d) _ _ _ _ _ _ reach c.in_ok-child.ensures.current state));
-      sound = c.in_ok-child.ensures.sound;
-      same = c.try_candidate.ensures.dispatcher ∙ now.same;
-      room = (let a = now.room in let b = c.pop.ensures.capacity in omega arith);
+      kids = now.kids;
+      stack = now.stack;
+      trying = turn_counted is shop c.args.limit word cs first i some now.kids c.loop-index.others current
+          now.trying current
+          (let a = c.if-candidate-limit.true in omega arith) (λ wanted. now.trying.wanted (omega arith));
+      sound = now.sound;
+      same = now.same;
     }
 
-pub loop-candidate-preserved : goal.loop-candidate-preserved
-loop-candidate-preserved g c =
-    let now = c.loop-candidate.invariant
-    in let d = c.loop-candidate.self.dispatcher.now
-    in let state = next_state _ _ _ _ _ _ _ _ _ _ _ c.in-Some.ensures.items _ _ _ now.trying c.if-candidate-limit.false
-    in let reach = subst (λ (cs : List Candidate). OnTrue c.all_reach-is_last.result
-    (All (λ e. c.args.limit ≤ e.own) cs)) c.deref.ensures.value c.all_reach-is_last.ensures
-    in let child = subst (λ (o : Option (Kept g.row.D-State.Denot)). IsTried (g.D.Dispatching.IsStateOf d)
-    (g.D.Dispatching.shop d) c.args.word.now c.args.limit c.in-Some.candidate.job o) c.in-Some-2.is
-    c.in_ok-child.ensures.tried
+pub try_candidate-requires-clause-can : goal.try_candidate-requires-clause-can
+try_candidate-requires-clause-can g c =
+    let now = c.loop-index.invariant
+    in let d = c.args.self.now.dispatcher.now
+    in let is = g.D.Dispatching.IsStateOf d
+    in let shop = g.D.Dispatching.shop d
+    in let word = c.args.word.now
+    in let cs = c.args.candidates.now
+    in let first = c.first_below-first.result
+    in let i = c.loop-index.index
+    in let current = c.loop-index.self.current.value
+    in let some : 0 < i = (let a = c.loop-index-test.true in omega arith)
+    in let job = (get_or cs (i - 1) (record { job = 0; own = 0 })).job
+    in let state : is word current = next_state is shop c.args.limit word cs first i some now.kids
+    c.loop-index.others current now.trying
+    c.first_below-first.ensures (let a = c.if-candidate-limit.false in omega arith)
+    in let can = next_is is shop c.args.limit word cs first i some now.kids c.loop-index.others current now.trying
+    (g.D.Dispatching.IsCandidate d word) c.requires.are
+    in subst (λ x. CanDispatch (g.D.Dispatching.shop x) (λ w. g.D.Dispatching.IsStateOf x w current
+    × g.D.Dispatching.IsCandidate x w (get_or cs (i - 1) (record { job = 0; own = 0 }))) job c.args.bound)
+    (sym now.same) (record {
+      word = word;
+      is = (state, can);
+      fits = next_fits is shop c.args.limit word cs first i some now.kids c.loop-index.others current now.trying
+          (g.met.D.Dispatching.state_is_of_word d word current state);
+      bound_is = c.requires.bound;
+    })
+
+pub loop-index-preserved-in_default : goal.loop-index-preserved-in_default
+loop-index-preserved-in_default g c =
+    let now = c.loop-index.invariant
+    in let d = c.args.self.now.dispatcher.now
+    in let is = g.D.Dispatching.IsStateOf d
+    in let shop = g.D.Dispatching.shop d
+    in let word = c.args.word.now
+    in let cs = c.args.candidates.now
+    in let first = c.first_below-first.result
+    in let i = c.loop-index.index
+    in let current = c.loop-index.self.current.value
+    in let some : 0 < i = (let a = c.loop-index-test.true in omega arith)
+    in let job = (get_or cs (i - 1) (record { job = 0; own = 0 })).job
+    in let state : is word current = next_state is shop c.args.limit word cs first i some now.kids
+    c.loop-index.others current now.trying
+    c.first_below-first.ensures (let a = c.if-candidate-limit.false in omega arith)
+    in let can = next_is is shop c.args.limit word cs first i some now.kids c.loop-index.others current now.trying
+    (g.D.Dispatching.IsCandidate d word) c.requires.are
+    in let back = sym now.same
+    in let state_now = subst (λ x. g.D.Dispatching.IsStateOf x word current) back state
+    in let can_now = subst (λ x. g.D.Dispatching.IsCandidate x word
+    (get_or cs (i - 1) (record { job = 0; own = 0 }))) back can
+    in let bound_now = subst (λ x. c.args.bound ≡ lb (g.D.Dispatching.shop x) word) back c.requires.bound
+    in let tells = subst (λ x. TellsBoundBelow c.args.limit (lb (g.D.Dispatching.shop x) (word ++ job ∷ []))
+    c.try_candidate.result) now.same (c.try_candidate.ensures.told word state_now can_now bound_now)
+    in let high = told_high c.args.limit (lb shop (word ++ job ∷ [])) c.try_candidate.result c.in_default.is tells
+    in let left = c.try_candidate.new.self.current.value
     in record {
-      trying = trying_moved _ _ _ _ _ _ _ _ _ _ _ _ _ c.try_candidate.ensures.dispatcher
-          (turn_kept _ _ _ _ _ _ _ _ _ _ _ c.in-Some.ensures.items _ _ _ now.trying _ c.in-Some-2.child _
-          (g.met.D.Dispatching.state_is_of_word d c.args.word.now _ state) child c.in_ok-put.ensures
-          (wanted_then (g.D.Dispatching.IsStateOf d) _ _ _ _ _ _ reach c.in_ok-child.ensures.current state));
-      sound = c.in_ok-child.ensures.sound;
+      kids = now.kids;
+      stack = now.stack;
+      trying = turn_counted is shop c.args.limit word cs first i some now.kids c.loop-index.others current
+          now.trying left high
+          (still_wanted is shop c.args.limit word cs first i current left c.try_candidate.ensures.current state);
+      sound = c.try_candidate.ensures.sound;
       same = c.try_candidate.ensures.dispatcher ∙ now.same;
-      room = (let a = now.room in let b = c.pop.ensures.capacity in omega arith);
+    }
+
+pub loop-index-preserved : goal.loop-index-preserved
+loop-index-preserved g c =
+    let now = c.loop-index.invariant
+    in let d = c.args.self.now.dispatcher.now
+    in let is = g.D.Dispatching.IsStateOf d
+    in let shop = g.D.Dispatching.shop d
+    in let word = c.args.word.now
+    in let cs = c.args.candidates.now
+    in let first = c.first_below-first.result
+    in let i = c.loop-index.index
+    in let current = c.loop-index.self.current.value
+    in let some : 0 < i = (let a = c.loop-index-test.true in omega arith)
+    in let job = (get_or cs (i - 1) (record { job = 0; own = 0 })).job
+    in let state : is word current = next_state is shop c.args.limit word cs first i some now.kids
+    c.loop-index.others current now.trying
+    c.first_below-first.ensures (let a = c.if-candidate-limit.false in omega arith)
+    in let can = next_is is shop c.args.limit word cs first i some now.kids c.loop-index.others current now.trying
+    (g.D.Dispatching.IsCandidate d word) c.requires.are
+    in let back = sym now.same
+    in let state_now = subst (λ x. g.D.Dispatching.IsStateOf x word current) back state
+    in let can_now = subst (λ x. g.D.Dispatching.IsCandidate x word
+    (get_or cs (i - 1) (record { job = 0; own = 0 }))) back can
+    in let bound_now = subst (λ x. c.args.bound ≡ lb (g.D.Dispatching.shop x) word) back c.requires.bound
+    in let tells = subst (λ x. TellsBoundBelow c.args.limit (lb (g.D.Dispatching.shop x) (word ++ job ∷ []))
+    c.try_candidate.result) now.same (c.try_candidate.ensures.told word state_now can_now bound_now)
+    in let of = subst (λ x. OnSome c.try_candidate.result (g.D.Dispatching.IsStateOf x (word ++ job ∷ [])
+    c.try_candidate.new.self.trial.value)) now.same (c.try_candidate.ensures.state word state_now can_now)
+    in let child = tried_child is shop word c.args.limit job c.in-Some.bound c.try_candidate.result
+    c.try_candidate.new.self.trial.value c.in_ok-state.state c.in-Some.is tells of c.in_ok-state.ensures.taken
+    in let put = c.in_ok-put.ensures c.args.stack.now.items now.kids
+    (let a = c.len-from.ensures in let b = c.args.stack.now.ok.0 in omega arith) now.stack
+    in let left = c.take_trial.new.self.current.value
+    in record {
+      kids = insert now.kids put.at (record {
+        «open» = record { depth = length word; job = job; bound = c.in-Some.bound };
+        state = c.in_ok-state.state;
+      });
+      stack = put.put;
+      trying = turn_kept is shop c.args.limit word cs first i some now.kids c.loop-index.others current
+          now.trying left _ c.args.stack.now.items
+          c.put.new.stack.items (g.met.D.Dispatching.state_is_of_word d word current state) child put
+          (still_wanted is shop c.args.limit word cs first i current left
+          (λ e. c.take_trial.ensures.current ∙ c.try_candidate.ensures.current e) state);
+      sound = c.in_ok-state.ensures.sound;
+      same = c.take_trial.ensures.dispatcher ∙ (c.try_candidate.ensures.dispatcher ∙ now.same);
     }
