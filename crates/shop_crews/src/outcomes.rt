@@ -87,7 +87,7 @@ impl Outcome {
         left.add_open(alloc, &mut self.left)
     }
 
-    /// What stands after a round of which this is the outcome, with its opening best, its rest and
+    /// The standing after a round of which this is the outcome, with its opening best, its rest and
     /// the rounds done before it. The rest moves, so no word is copied.
     pub fn standing_after(
         self,
@@ -146,8 +146,8 @@ pub fn outcome_of<'r>(
     Ok(outcome)
 }
 
-/// The result of a round, of an entry for each of its pieces. Fails with `AllocError` if memory
-/// runs out.
+/// The standing after a round, by an entry for each of its pieces. Fails with `AllocError` if memory
+/// runs out. For library callers, as `Round::cut`.
 pub fn gather<'r>(
     alloc: Global,
     round: &'r Round<'r>,

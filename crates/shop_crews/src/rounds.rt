@@ -52,7 +52,7 @@ impl<'r> Round<'r> {
     ghost use Rattle.shop_crews.specs.Standings.{IsStandingOf, StandsAt, stands, round_of, planned};
 
     /// Cuts the open nodes, in the plan's order, into at most 256 pieces; the others are the rest.
-    /// Fails with `AllocError` if memory runs out.
+    /// Fails with `AllocError` if memory runs out. For library callers: a run cuts its own store of open nodes.
     pub fn cut(
         alloc: Global,
         instance: &'r Instance,
@@ -123,8 +123,8 @@ impl<'r> Round<'r> {
         &self.layout
     }
 
-    /// What stands after the round, of what its sheets come to, and the layout for the next round: as
-    /// `gather`, but the rest moves, so no word is copied.
+    /// The standing after the round, by the outcome of its sheets, and the layout for the next round: as `gather`, but
+    /// the rest moves, so no word is copied.
     pub fn closed(self, outcome: Outcome) -> Result<(Standing, Layout<'r>), AllocError>
         requires { IsOutcome (told self) outcome }
         ensures gathered { IfOk result (λ p. IsGatheredOf self.entry p.0) }

@@ -40,8 +40,8 @@ pub(crate) fn go_on<L: StateLanes>(
     set_end_of(lanes, grid, next, job);
 }
 
-/// Dispatches the next operation of a job, and tells the bound then if it is below the limit; `least` is no more than
-/// that, and no less than the bound before, the end of the operation and what else waits on its machine come to.
+/// Dispatches the next operation of a job, and tells the new bound if it is below the limit. `least` is at most that,
+/// and at least the bound before and the own span of the operation.
 #[inline(always)]
 pub(crate) fn advance_below<L: StateLanes>(
     lanes: &mut L,

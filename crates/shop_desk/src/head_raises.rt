@@ -3,7 +3,7 @@ ghost use Rattle.std.specs.Prelude.{◌≡◌, ◌*◌, ◌<◌, ◌^◌, length
 ghost use Rattle.shop_desk.specs.inner.HeadRaises.{raise_of, widened};
 ghost use Rattle.shop_desk.specs.inner.MachineRaises.{AreListed};
 
-/// Of the heads on a machine that changed: the least before, and the greatest after. `from` is above `to` where none
+/// Over the heads of one machine that changed: the least old and the greatest new one. `from` is above `to` where none
 /// did.
 #[derive(Clone, Copy, Debug)]
 pub(crate) struct Raise {

@@ -9,7 +9,8 @@ use crate::head_raises::Raise;
 use shop_lanes::StateLanes;
 use shop_layout::Grid;
 
-/// The greater of a number and of what begins within the raise of a machine; or as much of it as reaches the limit.
+/// The greatest of `least` and the spans of a machine from its raised heads on; once that reaches the limit, any number
+/// between the limit and it.
 #[inline(always)]
 pub(crate) fn span_by_raise<L: StateLanes>(
     lanes: &L,

@@ -1,4 +1,4 @@
-// States of words: each child of a search has its own.
+// States of words: a state is filled, copied, and operations are dispatched in it.
 #![tactic(auto)]
 
 mod advances;

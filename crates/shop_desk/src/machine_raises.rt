@@ -38,8 +38,9 @@ impl Model for MachineRaises {
     ghost invariant = { λ r. AreListed r.raises.items r.raised.items r.count };
 }
 
-/// The greater of a number and of what begins within the raises of the listed machines; or as much of it as reaches the
-/// limit. These are empty afterwards. Heads, spans and so these numbers are one more than what they stand for.
+/// The greatest of `least` and the spans of the listed machines from their raised heads on; once that reaches the limit,
+/// any number between the limit and it. These raises are empty afterwards. Heads and spans in lanes are one more than
+/// what they stand for, and so are these numbers.
 #[inline(always)]
 fn take_spans<L: StateLanes>(
     raises: &mut [Raise],
@@ -92,9 +93,8 @@ impl MachineRaises {
         })
     }
 
-    /// Raises the heads of what waits on a machine below `end`, one more than the end of what was placed there, and those
-    /// of the routes behind as far as they are too small then, which are seen; and keeps the ends of these next
-    /// operations up.
+    /// Sets each head below `end` of what waits on a machine to `end`, propagates it along the routes as far as heads are
+    /// too small then, notes each change, and keeps the ends of next operations up.
     #[inline(always)]
     pub(crate) fn raise<L: StateLanes>(
         &mut self,
@@ -122,8 +122,8 @@ impl MachineRaises {
         self.count = raise(lanes, raises, raised, self.count, grid, next, machine, end);
     }
 
-    /// The greater of a number and of what begins within the raises; or as much of it as reaches the limit. They are
-    /// empty afterwards.
+    /// The greatest of `least` and the bounds of all machines from their raised heads on; once that reaches the limit,
+    /// any number between the limit and it. The raises are empty afterwards.
     #[inline(always)]
     pub(crate) fn take_bound<L: StateLanes>(
         &mut self,

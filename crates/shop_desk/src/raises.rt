@@ -10,8 +10,8 @@ use crate::head_raises::{Raise, see};
 use shop_lanes::StateLanes;
 use shop_layout::{Grid, Routes};
 
-/// Raises the head of what waits at a position to `end`, and those of its route behind it that are too small then, which
-/// are seen.
+/// Raises the head of what waits at a position to `end`, propagates it along its route as far as heads are too small
+/// then, and notes each change. Tells how many machines are listed then.
 #[inline(always)]
 fn raise_route<L: StateLanes>(
     lanes: &mut L,
@@ -151,9 +151,9 @@ fn raise_blocks<L: StateLanes>(
     count
 }
 
-/// Raises the heads of what waits on a machine below `end`, one more than the end of what was placed there, and those
-/// of the routes behind as far as they are too small then, which are seen; and keeps the ends of these next operations
-/// up.
+/// Sets each head below `end` of what waits on a machine to `end`, propagates it along the routes as far as heads are too
+/// small then, notes each change in the raises, and keeps the ends of next operations up. Tells how many machines are
+/// listed then.
 #[inline(always)]
 pub(crate) fn raise<L: StateLanes>(
     lanes: &mut L,

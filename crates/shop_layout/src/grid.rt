@@ -129,8 +129,8 @@ impl<L: StateLanes> Grid<L> {
         self.positions.positions()
     }
 
-    /// The greater of a number and of the spans that begin from `above` up to `upto`, in these blocks; or as much of it
-    /// as reaches the limit.
+    /// The greatest of `most` and the spans from each head above `above` and up to `upto` on, in these blocks; once that
+    /// reaches the limit, any number between the limit and it.
     #[inline(always)]
     pub fn bound_raised(
         &self,

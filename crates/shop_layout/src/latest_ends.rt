@@ -40,7 +40,7 @@ fn load_of(times: &[u64], tails: &[u64]) -> u64
     total + greatest
 }
 
-/// The same of some blocks.
+/// The total time of these blocks and their greatest tail.
 fn load_of_blocks(times: &[u64], tails: &[u64], from: usize, to: usize) -> u64
     requires ordered { from ≤ to }
     requires times { 8 * to ≤ length times.now }
@@ -51,7 +51,7 @@ fn load_of_blocks(times: &[u64], tails: &[u64], from: usize, to: usize) -> u64
     load_of(&times[8 * from..8 * to], &tails[8 * from..8 * to])
 }
 
-/// No machine's operations take more time, the greatest tail included.
+/// The greatest, over the machines, of a machine's total time and its greatest tail.
 pub(crate) fn greatest_load(layout: &Positions, instance: &Instance) -> u64
     requires { IsLaidOut instance.now layout.now }
     ensures each { (m : ℕ) → m < instance.now.machines → load_on layout.now m ≤ result }

@@ -14,7 +14,7 @@ use crate::slots::Slot;
 use shop_model::Instance;
 use std::alloc::{AllocError, Global};
 
-/// Stands where no operation does.
+/// Padding.
 const NO_SLOT: Slot = Slot {
     job: 0,
     step: 0,

@@ -61,7 +61,8 @@ impl OpenNodes {
         }
     }
 
-    /// Puts a node before those that the order has behind it. Fails with `AllocError` if memory runs out.
+    /// Puts a node where the order wants it: by `Kept` before all others, by `Bound` before those of an equal or a
+    /// greater bound. Fails with `AllocError` if memory runs out.
     pub(crate) fn put(&mut self, alloc: Global, node: Node) -> Result<(), AllocError>
         requires { CanBeShared node.word }
         ensures { OnOk result (IsPut node self.old self.new) }

@@ -18,7 +18,7 @@ pub(crate) struct Progress<'a> {
 impl<'a> Progress<'a> {
     ghost use Rattle.shop_tree.specs.inner.Searching.{opening_walk, walked};
 
-    /// Of a walk that may take nothing.
+    /// An empty walk with budget 0.
     pub(crate) fn new(instance: &'a Instance) -> Progress<'a>
         ensures { result.instance.now ≡ instance.now }
     {

@@ -33,7 +33,7 @@ pub struct Searcher<'l, 'a> {
     widths: Widths<'l, 'a>,
 }
 
-// Written out, so that those who let go of a searcher call it, and don't go through all that a searcher holds.
+// Written out, so that the code that lets go of a searcher stands once, and not in each function that has one.
 impl Drop for Searcher<'_, '_> {
     fn drop(self) {
         let Searcher { widths: _ } = self;
