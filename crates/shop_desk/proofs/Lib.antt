@@ -9,6 +9,7 @@ pub mod ChildReads
 pub mod ChildTurns
 pub mod FillTurns
 pub mod FilledStates
+pub mod FittingSpans
 pub mod Followed
 pub mod HeadsFit
 pub mod JobSets

@@ -7,7 +7,7 @@ use Rattle.std.proofs.lemmas.List.Sums.{sum_by-le, sum_by-set}
 use Rattle.shop_lanes.specs.Rows.{Lane}
 use Rattle.shop_lanes.specs.Spans.{spans_between}
 use Rattle.shop_desk.specs.inner.HeadRaises.{no_raise, raise_of, widened}
-use Rattle.shop_desk.specs.inner.MachineRaises.{AreEmpty, AreListed, IsBoundByRaise}
+use Rattle.shop_desk.specs.inner.MachineRaises.{AreEmpty, AreListed, IsSpanByRaise}
 use Rattle.shop_desk.specs.declared.head_raises.Raise.{Raise}
 use Rattle.shop_desk.proofs.LaneBoundTurns.{spans-none}
 
@@ -142,9 +142,9 @@ pub record IsTakenSo (least limit : ℕ) (old : List Raise) (on : ℕ → List L
   pub smaller : (m : ℕ) → (raise_of raises m).to ≤ (raise_of old m).to
   pub low : least ≤ bound
   pub covers : bound < limit → (m : ℕ) → (raise_of old m ≡ raise_of raises m)
-      ⊎ (spans_between (raise_of old m).from (raise_of old m).to (on m) ≤ bound + 1)
+      ⊎ (spans_between (raise_of old m).from (raise_of old m).to (on m) ≤ bound)
   pub within : (c : ℕ) → least ≤ c
-      → ((m above upto : ℕ) → m < length old → spans_between above upto (on m) ≤ c + 1) → bound ≤ c
+      → ((m above upto : ℕ) → m < length old → spans_between above upto (on m) ≤ c) → bound ≤ c
 
 module _ (least limit : ℕ) (old : List Raise) (on : ℕ → List Lane) where
   pub taken_none : (raised : List ℕ) (count : ℕ) → AreListed old raised count
@@ -161,7 +161,7 @@ module _ (least limit : ℕ) (old : List Raise) (on : ℕ → List Lane) where
   pub taken_more : (raises : List Raise) (raised : List ℕ) (count bound : ℕ)
       → IsTakenSo least limit old on raises raised count bound → (last m : ℕ) → last + 1 ≡ count
       → m ≡ get_or raised last 0 → (empty : Raise) → empty.to ≡ 0 → (b : ℕ)
-      → IsBoundByRaise (raise_of raises m) (on m) limit bound b
+      → IsSpanByRaise (raise_of raises m) (on m) limit bound b
       → IsTakenSo least limit old on (set raises m empty) raised last b
   taken_more raises raised count bound so last m is at empty none b turn =
       let are = so.are_listed in let low = so.low in let more = turn.low in let long = so.long
@@ -188,7 +188,7 @@ module _ (least limit : ℕ) (old : List Raise) (on : ℕ → List Lane) where
 
   pub taken_all : (raises : List Raise) (raised : List ℕ) (bound : ℕ)
       → IsTakenSo least limit old on raises raised 0 bound → bound < limit → (m : ℕ)
-      → spans_between (raise_of old m).from (raise_of old m).to (on m) ≤ bound + 1
+      → spans_between (raise_of old m).from (raise_of old m).to (on m) ≤ bound
   taken_all raises raised bound so under m = elim (so.covers under m) [
     | inl same ↦ (let z = all_empty raises raised so.are_listed m
         in let e = ap (λ (r : Raise). r.to) same

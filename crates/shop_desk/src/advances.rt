@@ -14,7 +14,6 @@ ghost use Rattle.shop_desk.specs.inner.MachineRaises.{AreEmpty};
 
 use crate::lane_ends::set_end_of;
 use crate::machine_raises::MachineRaises;
-use crate::raises::raise;
 use shop_lanes::StateLanes;
 use shop_layout::Grid;
 
@@ -78,7 +77,7 @@ pub(crate) fn advance_below<L: StateLanes>(
     let machine = grid.machines()[position] as usize;
     let end = lanes.head(position) + grid.time(position);
     lanes.set_head(position, 0);
-    raise(lanes, raises, grid, next, machine, end);
+    raises.raise(lanes, grid, next, machine, end);
     let bound = raises.take_bound(lanes, grid, least, limit);
     if limit <= bound {
         return None;

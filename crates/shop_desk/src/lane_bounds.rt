@@ -3,7 +3,7 @@ ghost use Rattle.std.specs.Prelude.{◌≡◌, ◌+◌, ◌≤◌, ◌<◌, ◌^
 ghost use Rattle.shop_lanes.specs.Rows.{AreBlocks};
 ghost use Rattle.shop_lanes.specs.Spans.{FitsSpan};
 ghost use Rattle.shop_layout.specs.Lanes.{lanes_on, rows_of};
-ghost use Rattle.shop_desk.specs.inner.MachineRaises.{IsBoundByRaise};
+ghost use Rattle.shop_desk.specs.inner.MachineRaises.{IsSpanByRaise};
 
 use crate::head_raises::Raise;
 use shop_lanes::StateLanes;
@@ -11,7 +11,7 @@ use shop_layout::Grid;
 
 /// The greater of a number and of what begins within the raise of a machine; or as much of it as reaches the limit.
 #[inline(always)]
-pub(crate) fn bound_by_raise<L: StateLanes>(
+pub(crate) fn span_by_raise<L: StateLanes>(
     lanes: &L,
     grid: &Grid<L>,
     machine: usize,
@@ -20,23 +20,22 @@ pub(crate) fn bound_by_raise<L: StateLanes>(
     limit: u64,
 ) -> u64
     requires small { machine + 1 < 2 ^ 64 }
-    requires limit { limit < 2 ^ 63 }
     requires known { machine + 1 < length grid.now.blocks }
     requires blocks { AreBlocks (rows_of grid.now (L.heads lanes.now) (L.ends lanes.now))
         (slice_index grid.now.blocks machine) (slice_index grid.now.blocks (machine + 1)) }
     requires times { length grid.now.times ≡ length (L.heads lanes.now) }
     requires tails { length grid.now.tails ≡ length grid.now.times }
+    requires least { least ≤ L.GREATEST }
     requires fits { FitsSpan L.GREATEST raise.to
         (lanes_on (rows_of grid.now (L.heads lanes.now) (L.ends lanes.now)) grid.now machine) }
-    ensures { IsBoundByRaise raise
+    ensures spans { IsSpanByRaise raise
         (lanes_on (rows_of grid.now (L.heads lanes.now) (L.ends lanes.now)) grid.now machine)
         limit least result }
+    ensures fits { result ≤ L.GREATEST }
 {
     if limit <= least {
         return least;
     }
     let (from, to) = (grid.block(machine), grid.block(machine + 1));
-    let most = (least + 1).min(L::GREATEST);
-    let left = grid.bound_raised(lanes, from, to, raise.from, raise.to, most, limit + 1);
-    least.max(left.saturating_sub(1))
+    grid.bound_raised(lanes, from, to, raise.from, raise.to, least, limit)
 }

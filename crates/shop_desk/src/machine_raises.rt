@@ -1,12 +1,15 @@
 // What changed among the heads of each machine, and the machines on which something did.
-ghost use Rattle.std.specs.Prelude.{◌≡◌, ℕ, ◌+◌, ◌*◌, ◌≤◌, ◌<◌, ◌^◌, IfOk, length, slice_set};
+ghost use Rattle.std.specs.Prelude.{◌≡◌, ℕ, ◌+◌, ◌*◌, ◌≤◌, ◌<◌, ◌^◌, IfOk, length};
 ghost use Rattle.shop_lanes.specs.Spans.{spans_between};
-ghost use Rattle.shop_desk.specs.inner.HeadRaises.{raise_of, widened};
+ghost use Rattle.shop_desk.specs.inner.HeadRaises.{raise_of};
 ghost use Rattle.shop_layout.specs.Lanes.{lanes_on, rows_of};
 ghost use Rattle.shop_desk.specs.inner.MachineRaises.{AreEmpty, AreListed, AreRaisesFit};
+ghost use Rattle.shop_desk.specs.inner.Raises.{HasBlocks, IsOnMachine, IsRaisable, Raises};
+ghost use Rattle.shop_desk.specs.inner.Watchers.{AreKnown, Sees};
 
 use crate::head_raises::{NO_RAISE, Raise};
-use crate::lane_bounds::bound_by_raise;
+use crate::lane_bounds::span_by_raise;
+use crate::raises::raise;
 use shop_lanes::StateLanes;
 use shop_layout::Grid;
 use std::alloc::{AllocError, Global};
@@ -35,29 +38,45 @@ impl Model for MachineRaises {
     ghost invariant = { λ r. AreListed r.raises.items r.raised.items r.count };
 }
 
-/// One more head on a machine changed: widens its raise, and tells how many machines are listed then.
+/// The greater of a number and of what begins within the raises of the listed machines; or as much of it as reaches the
+/// limit. These are empty afterwards. Heads, spans and so these numbers are one more than what they stand for.
 #[inline(always)]
-fn add(
+fn take_spans<L: StateLanes>(
     raises: &mut [Raise],
-    raised: &mut [u32],
+    raised: &[u32],
     count: usize,
-    machine: u32,
-    before: u64,
-    after: u64,
-) -> usize
-    requires small { 4 * length raised.old < 2 ^ 64 }
-    requires listed { AreListed raises.old raised.old count }
-    requires known { machine < length raises.old }
-    requires waits { 0 < after }
-    ensures raises { raises.new
-        ≡ slice_set raises.old machine (widened (raise_of raises.old machine) before after) }
-    ensures listed { AreListed raises.new raised.new result }
+    lanes: &L,
+    grid: &Grid<L>,
+    least: u64,
+    limit: u64,
+) -> u64
+    requires listed { AreListed raises.old raised.now count }
+    requires small { 4 * length raised.now < 2 ^ 64 }
+    requires least { least ≤ L.GREATEST }
+    requires times { length grid.now.times ≡ length (L.heads lanes.now) }
+    requires tails { length grid.now.tails ≡ length grid.now.times }
+    requires fits { AreRaisesFit L.GREATEST raises.old grid.now
+        (rows_of grid.now (L.heads lanes.now) (L.ends lanes.now)) }
+    ensures listed { AreListed raises.new raised.now 0 }
+    ensures long { length raises.new ≡ length raises.old }
+    ensures least { least ≤ result }
+    ensures covers { result < limit → (m : ℕ) → spans_between (raise_of raises.old m).from
+        (raise_of raises.old m).to
+        (lanes_on (rows_of grid.now (L.heads lanes.now) (L.ends lanes.now)) grid.now m) ≤ result }
+    ensures within { (c : ℕ) → least ≤ c → ((m above upto : ℕ) → m < length raises.old
+        → spans_between above upto
+        (lanes_on (rows_of grid.now (L.heads lanes.now) (L.ends lanes.now)) grid.now m) ≤ c)
+        → result ≤ c }
 {
-    let raise = raises[machine as usize];
-    // written in any case, and kept where it is the first raise of the machine
-    raised[count] = machine;
-    raises[machine as usize] = raise.with(before, after);
-    count + usize::from(raise.to == 0)
+    let mut most = least;
+    let mut left = count;
+    while left > 0 {
+        left -= 1;
+        let machine = raised[left] as usize;
+        let raise = mem::replace(&mut raises[machine], NO_RAISE);
+        most = span_by_raise(lanes, grid, machine, raise, most, limit);
+    }
+    most
 }
 
 impl MachineRaises {
@@ -73,17 +92,35 @@ impl MachineRaises {
         })
     }
 
-    /// A head on a machine is raised.
+    /// Raises the heads of what waits on a machine below `end`, one more than the end of what was placed there, and those
+    /// of the routes behind as far as they are too small then, which are seen; and keeps the ends of these next
+    /// operations up.
     #[inline(always)]
-    pub(crate) fn see(&mut self, machine: u32, before: u64, after: u64)
-        requires known { machine < length self.old }
-        requires waits { 0 < after }
-        ensures { self.new
-            ≡ slice_set self.old machine (widened (raise_of self.old machine) before after) }
+    pub(crate) fn raise<L: StateLanes>(
+        &mut self,
+        lanes: &mut L,
+        grid: &Grid<L>,
+        next: &[u32],
+        machine: usize,
+        end: u64,
+    )
+        requires machine { HasBlocks grid.now (length (L.heads lanes.old)) machine }
+        requires fits { end ≤ L.GREATEST }
+        requires raisable { IsRaisable L.GREATEST grid.now next.now
+            (rows_of grid.now (L.heads lanes.old) (L.ends lanes.old))
+            (IsOnMachine grid.now machine) end }
+        requires jobs { length grid.now.places ≤ length next.now }
+        requires known { AreKnown grid.now.machines (length self.old) }
+        ensures raises { Raises L.GREATEST grid.now next.now (IsOnMachine grid.now machine) end
+            (rows_of grid.now (L.heads lanes.old) (L.ends lanes.old))
+            (rows_of grid.now (L.heads lanes.new) (L.ends lanes.new)) }
+        ensures seen { Sees grid.now.machines (IsOnMachine grid.now machine) end
+            (L.heads lanes.old) (L.heads lanes.new) self.old self.new }
+        ensures machines { length self.new ≡ length self.old }
     {
         let raises = self.raises.as_mut_slice();
         let raised = self.raised.as_mut_slice();
-        self.count = add(raises, raised, self.count, machine, before, after);
+        self.count = raise(lanes, raises, raised, self.count, grid, next, machine, end);
     }
 
     /// The greater of a number and of what begins within the raises; or as much of it as reaches the limit. They are
@@ -97,6 +134,7 @@ impl MachineRaises {
         limit: u64,
     ) -> u64
         requires limit { limit < 2 ^ 63 }
+        requires below { least < limit }
         requires times { length grid.now.times ≡ length (L.heads lanes.now) }
         requires tails { length grid.now.tails ≡ length grid.now.times }
         requires fits { AreRaisesFit L.GREATEST self.old grid.now
@@ -113,13 +151,11 @@ impl MachineRaises {
             (lanes_on (rows_of grid.now (L.heads lanes.now) (L.ends lanes.now)) grid.now m) ≤ c + 1)
             → result ≤ c }
     {
-        let mut bound = least;
-        while self.count > 0 {
-            self.count -= 1;
-            let machine = self.raised[self.count] as usize;
-            let raise = mem::replace(&mut self.raises[machine], NO_RAISE);
-            bound = bound_by_raise(lanes, grid, machine, raise, bound, limit);
-        }
-        bound
+        let raises = self.raises.as_mut_slice();
+        let raised = self.raised.as_slice();
+        let most = (least + 1).min(L::GREATEST);
+        let spans = take_spans(raises, raised, self.count, lanes, grid, most, limit + 1);
+        self.count = 0;
+        least.max(spans.saturating_sub(1))
     }
 }

@@ -4,68 +4,78 @@ ghost use Rattle.shop_layout.specs.Lanes.{rows_of};
 ghost use Rattle.shop_desk.specs.inner.Raises.{HasBlocks, IsInBlocks, IsPosition, IsRaisable};
 ghost use Rattle.shop_desk.specs.inner.Raises.{IsOnMachine, Raises, SetsEndAt};
 ghost use Rattle.shop_desk.specs.inner.Watchers.{AreKnown, Sees};
+ghost use Rattle.shop_desk.specs.inner.MachineRaises.{AreListed};
 
-use crate::machine_raises::MachineRaises;
+use crate::head_raises::{Raise, see};
 use shop_lanes::StateLanes;
-use shop_layout::Grid;
+use shop_layout::{Grid, Routes};
 
 /// Raises the head of what waits at a position to `end`, and those of its route behind it that are too small then, which
 /// are seen.
 #[inline(always)]
 fn raise_route<L: StateLanes>(
     lanes: &mut L,
-    raises: &mut MachineRaises,
-    grid: &Grid<L>,
+    raises: &mut [Raise],
+    raised: &mut [u32],
+    count: usize,
+    routes: &Routes,
     position: usize,
     end: u64,
-)
+) -> usize
     requires waits { 0 < slice_index (L.heads lanes.old) position }
     requires below { slice_index (L.heads lanes.old) position ≤ end }
-    requires raisable { IsRaisable L.GREATEST grid.now []
-        (rows_of grid.now (L.heads lanes.old) (L.ends lanes.old)) (IsPosition position) end }
-    requires known { AreKnown grid.now.machines (length raises.old) }
-    ensures raises { Raises L.GREATEST grid.now [] (IsPosition position) end
-        (rows_of grid.now (L.heads lanes.old) (L.ends lanes.old))
-        (rows_of grid.now (L.heads lanes.new) (L.ends lanes.new)) }
-    ensures seen { Sees grid.now.machines (IsPosition position) end
+    requires raisable { IsRaisable L.GREATEST routes.now []
+        (rows_of routes.now (L.heads lanes.old) (L.ends lanes.old)) (IsPosition position) end }
+    requires known { AreKnown routes.now.machines (length raises.old) }
+    requires small { 4 * length raised.old < 2 ^ 64 }
+    requires listed { AreListed raises.old raised.old count }
+    ensures raises { Raises L.GREATEST routes.now [] (IsPosition position) end
+        (rows_of routes.now (L.heads lanes.old) (L.ends lanes.old))
+        (rows_of routes.now (L.heads lanes.new) (L.ends lanes.new)) }
+    ensures seen { Sees routes.now.machines (IsPosition position) end
         (L.heads lanes.old) (L.heads lanes.new) raises.old raises.new }
+    ensures long { length raised.new ≡ length raised.old }
+    ensures listed { AreListed raises.new raised.new result }
 {
     lanes.set_head(position, end);
-    let mut ready = end + grid.time(position);
-    let mut next = grid.following(position);
-    while next < grid.positions() {
+    let mut count = count;
+    let mut ready = end + routes.time(position);
+    let mut next = routes.following(position);
+    while next < routes.positions() {
         let head = lanes.head(next);
         if head >= ready {
-            return;
+            return count;
         }
-        raises.see(grid.machines()[next], head, ready);
         lanes.set_head(next, ready);
-        ready += grid.time(next);
-        next = grid.following(next);
+        count = see(raises, raised, count, routes.machine(next), head, ready);
+        ready += routes.time(next);
+        next = routes.following(next);
     }
+    count
 }
 
 /// Sets the end of what stands at a position, whose head is to be `begin`, if it is one of these next operations.
 #[inline(always)]
 fn set_end_at<L: StateLanes>(
     lanes: &mut L,
-    grid: &Grid<L>,
+    routes: &Routes,
     next: &[u32],
     position: usize,
     begin: u64,
 )
-    requires within { position < length grid.now.times }
-    requires job { position < length grid.now.jobs }
+    requires within { position < length routes.now.times }
+    requires job { position < length routes.now.jobs }
+    requires known { slice_index routes.now.jobs position < length next.now }
     requires ends { length next.now ≤ length (L.ends lanes.old) }
-    requires fits { begin + slice_index grid.now.times position ≤ L.GREATEST }
+    requires fits { begin + slice_index routes.now.times position ≤ L.GREATEST }
     requires computable { L.GREATEST < 2 ^ 64 }
-    ensures { SetsEndAt grid.now next.now position begin
-        (rows_of grid.now (L.heads lanes.old) (L.ends lanes.old))
-        (rows_of grid.now (L.heads lanes.new) (L.ends lanes.new)) }
+    ensures { SetsEndAt routes.now next.now position begin
+        (rows_of routes.now (L.heads lanes.old) (L.ends lanes.old))
+        (rows_of routes.now (L.heads lanes.new) (L.ends lanes.new)) }
 {
-    let job = grid.job(position);
-    if job < next.len() && next[job] as usize == position {
-        lanes.set_end(job, begin + grid.time(position));
+    let job = routes.job(position);
+    if next[job] as usize == position {
+        lanes.set_end(job, begin + routes.time(position));
     }
 }
 
@@ -74,58 +84,74 @@ fn set_end_at<L: StateLanes>(
 #[inline(always)]
 fn raise_from<L: StateLanes>(
     lanes: &mut L,
-    raises: &mut MachineRaises,
-    grid: &Grid<L>,
+    raises: &mut [Raise],
+    raised: &mut [u32],
+    count: usize,
+    routes: &Routes,
     next: &[u32],
     position: usize,
     end: u64,
-)
+) -> usize
     requires waits { 0 < slice_index (L.heads lanes.old) position }
     requires below { slice_index (L.heads lanes.old) position ≤ end }
-    requires raisable { IsRaisable L.GREATEST grid.now next.now
-        (rows_of grid.now (L.heads lanes.old) (L.ends lanes.old)) (IsPosition position) end }
-    requires known { AreKnown grid.now.machines (length raises.old) }
-    ensures raises { Raises L.GREATEST grid.now next.now (IsPosition position) end
-        (rows_of grid.now (L.heads lanes.old) (L.ends lanes.old))
-        (rows_of grid.now (L.heads lanes.new) (L.ends lanes.new)) }
-    ensures seen { Sees grid.now.machines (IsPosition position) end
+    requires raisable { IsRaisable L.GREATEST routes.now next.now
+        (rows_of routes.now (L.heads lanes.old) (L.ends lanes.old)) (IsPosition position) end }
+    requires jobs { length routes.now.places ≤ length next.now }
+    requires known { AreKnown routes.now.machines (length raises.old) }
+    requires small { 4 * length raised.old < 2 ^ 64 }
+    requires listed { AreListed raises.old raised.old count }
+    ensures raises { Raises L.GREATEST routes.now next.now (IsPosition position) end
+        (rows_of routes.now (L.heads lanes.old) (L.ends lanes.old))
+        (rows_of routes.now (L.heads lanes.new) (L.ends lanes.new)) }
+    ensures seen { Sees routes.now.machines (IsPosition position) end
         (L.heads lanes.old) (L.heads lanes.new) raises.old raises.new }
+    ensures long { length raised.new ≡ length raised.old }
+    ensures listed { AreListed raises.new raised.new result }
 {
-    set_end_at(lanes, grid, next, position, end);
-    raise_route(lanes, raises, grid, position, end);
+    set_end_at(lanes, routes, next, position, end);
+    raise_route(lanes, raises, raised, count, routes, position, end)
 }
 
 /// Raises the heads of what waits in at most eight blocks below `end`.
 #[inline(always)]
 fn raise_blocks<L: StateLanes>(
     lanes: &mut L,
-    raises: &mut MachineRaises,
-    grid: &Grid<L>,
+    raises: &mut [Raise],
+    raised: &mut [u32],
+    count: usize,
+    routes: &Routes,
     next: &[u32],
     from: usize,
     to: usize,
     end: u64,
-)
+) -> usize
     requires few { to ≤ from + 8 }
     requires ordered { from ≤ to }
     requires within { 8 * to ≤ length (L.heads lanes.old) }
     requires fits { end ≤ L.GREATEST }
-    requires raisable { IsRaisable L.GREATEST grid.now next.now
-        (rows_of grid.now (L.heads lanes.old) (L.ends lanes.old)) (IsInBlocks from to) end }
-    requires known { AreKnown grid.now.machines (length raises.old) }
-    ensures raises { Raises L.GREATEST grid.now next.now (IsInBlocks from to) end
-        (rows_of grid.now (L.heads lanes.old) (L.ends lanes.old))
-        (rows_of grid.now (L.heads lanes.new) (L.ends lanes.new)) }
-    ensures seen { Sees grid.now.machines (IsInBlocks from to) end
+    requires raisable { IsRaisable L.GREATEST routes.now next.now
+        (rows_of routes.now (L.heads lanes.old) (L.ends lanes.old)) (IsInBlocks from to) end }
+    requires jobs { length routes.now.places ≤ length next.now }
+    requires known { AreKnown routes.now.machines (length raises.old) }
+    requires small { 4 * length raised.old < 2 ^ 64 }
+    requires listed { AreListed raises.old raised.old count }
+    ensures raises { Raises L.GREATEST routes.now next.now (IsInBlocks from to) end
+        (rows_of routes.now (L.heads lanes.old) (L.ends lanes.old))
+        (rows_of routes.now (L.heads lanes.new) (L.ends lanes.new)) }
+    ensures seen { Sees routes.now.machines (IsInBlocks from to) end
         (L.heads lanes.old) (L.heads lanes.new) raises.old raises.new }
+    ensures long { length raised.new ≡ length raised.old }
+    ensures listed { AreListed raises.new raised.new result }
     ensures machines { length raises.new ≡ length raises.old }
 {
+    let mut count = count;
     let mut below = lanes.below(from, to, end);
     while let Some(position) = below.pop_first() {
         if lanes.head(position) < end {
-            raise_from(lanes, raises, grid, next, position, end);
+            count = raise_from(lanes, raises, raised, count, routes, next, position, end);
         }
     }
+    count
 }
 
 /// Raises the heads of what waits on a machine below `end`, one more than the end of what was placed there, and those
@@ -134,30 +160,40 @@ fn raise_blocks<L: StateLanes>(
 #[inline(always)]
 pub(crate) fn raise<L: StateLanes>(
     lanes: &mut L,
-    raises: &mut MachineRaises,
+    raises: &mut [Raise],
+    raised: &mut [u32],
+    count: usize,
     grid: &Grid<L>,
     next: &[u32],
     machine: usize,
     end: u64,
-)
+) -> usize
     requires machine { HasBlocks grid.now (length (L.heads lanes.old)) machine }
     requires fits { end ≤ L.GREATEST }
     requires raisable { IsRaisable L.GREATEST grid.now next.now
         (rows_of grid.now (L.heads lanes.old) (L.ends lanes.old)) (IsOnMachine grid.now machine)
         end }
+    requires jobs { length grid.now.places ≤ length next.now }
     requires known { AreKnown grid.now.machines (length raises.old) }
+    requires small { 4 * length raised.old < 2 ^ 64 }
+    requires listed { AreListed raises.old raised.old count }
     ensures raises { Raises L.GREATEST grid.now next.now (IsOnMachine grid.now machine) end
         (rows_of grid.now (L.heads lanes.old) (L.ends lanes.old))
         (rows_of grid.now (L.heads lanes.new) (L.ends lanes.new)) }
     ensures seen { Sees grid.now.machines (IsOnMachine grid.now machine) end
         (L.heads lanes.old) (L.heads lanes.new) raises.old raises.new }
+    ensures long { length raised.new ≡ length raised.old }
+    ensures listed { AreListed raises.new raised.new result }
     ensures machines { length raises.new ≡ length raises.old }
 {
+    let routes = grid.routes();
     let behind = grid.block(machine + 1);
+    let mut count = count;
     let mut from = grid.block(machine);
     while from < behind {
         let to = from + (behind - from).min(8);
-        raise_blocks(lanes, raises, grid, next, from, to, end);
+        count = raise_blocks(lanes, raises, raised, count, &routes, next, from, to, end);
         from = to;
     }
+    count
 }

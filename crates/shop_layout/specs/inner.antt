@@ -1,3 +1,4 @@
 pub mod Layings
 pub mod MachineLists
+pub mod RouteRows
 pub mod Vectors

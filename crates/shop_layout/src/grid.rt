@@ -7,6 +7,7 @@ ghost use Rattle.shop_lanes.specs.Spans.{spans_between};
 ghost use Rattle.shop_layout.specs.Lanes.{rows_of};
 
 use crate::positions::Positions;
+use crate::routes::Routes;
 use shop_lanes::StateLanes;
 use std::alloc::{AllocError, Global};
 use std::marker::Model;
@@ -39,6 +40,14 @@ impl<L: StateLanes> Grid<L> {
     {
         let fixed = L::fixed(alloc, positions.times(), positions.tails())?;
         Ok(Grid { positions, fixed })
+    }
+
+    /// What is read along routes.
+    #[inline(always)]
+    pub fn routes(&self) -> Routes
+        ensures { result ≡ self.now }
+    {
+        self.positions.routes()
     }
 
     /// The job of the operation at a position.

@@ -10,10 +10,19 @@ use std::alloc::{AllocError, Global};
 use std::marker::Model;
 
 /// An instance with its operations by position, their times and tails in lanes of one width.
-#[derive(Drop)]
 pub struct LaidOut<'a, L: StateLanes> {
     instance: &'a Instance,
     grid: Grid<L>,
+}
+
+// Written out, so that those who let go of a layout call it, and don't go through all that it holds.
+impl<L: StateLanes> Drop for LaidOut<'_, L> {
+    fn drop(self) {
+        let LaidOut {
+            instance: _,
+            grid: _,
+        } = self;
+    }
 }
 
 impl<'a, L: StateLanes> Model for LaidOut<'a, L> {

@@ -7,9 +7,11 @@ mod latest_ends;
 mod layings;
 mod layouts;
 mod positions;
+mod routes;
 mod slots;
 
 pub use grid::Grid;
 pub use laid_outs::LaidOut;
 pub use layouts::Layout;
+pub use routes::Routes;
 pub use slots::Slot;

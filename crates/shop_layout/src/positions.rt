@@ -5,6 +5,7 @@ ghost use Rattle.shop_layout.specs.Positions.{IsLaidOut};
 use crate::layings::{
     Cells, cells_of, following_of, jobs_of, machines_of, places_of, steps_of, tails_of, times_of,
 };
+use crate::routes::Routes;
 use crate::slots::machine_slots;
 use shop_model::Instance;
 use std::alloc::{AllocError, Global};
@@ -75,6 +76,20 @@ impl Positions {
             blocks,
             end: slots.len() as u32,
         })
+    }
+
+    /// What is read along routes.
+    #[inline(always)]
+    pub(crate) fn routes(&self) -> Routes
+        ensures { result ≡ self.now }
+    {
+        Routes::of(
+            self,
+            self.jobs.as_slice(),
+            self.machines.as_slice(),
+            self.times.as_slice(),
+            self.following.as_slice(),
+        )
     }
 
     /// The job of the operation at a position.

@@ -2,7 +2,7 @@
 --     AreEmpty raises                no head changed on any machine
 --     AreListed raises raised count  the machines with a raise are among the first of a list
 --     AreRaisesFit greatest ..       each machine has its blocks, and a span from its raise fits
---     IsBoundByRaise ..              the greater of a bound and of what begins within a raise
+--     IsSpanByRaise ..               the greater of a number and of what begins within a raise
 use Rattle.std.specs.Prelude.{◌≡◌, ℕ, ◌+◌, ◌≤◌, ◌<◌, List, length, sum_by, if◌then◌else◌, nat_lt}
 use Rattle.std.specs.Prelude.{slice_index}
 use Rattle.shop_lanes.specs.Rows.{Rows, Lane, AreBlocks}
@@ -34,10 +34,10 @@ pub record AreRaisesFit (greatest : ℕ) (raises : List Raise) (l : LayoutState)
   pub fits : (m : ℕ) → m < length raises
       → FitsSpan greatest (raise_of raises m).to (lanes_on rows l m)
 
--- b is at least `least`, and no more than that and the spans of these lanes bound; if it is below
--- the limit, it bounds what begins within the raise
-pub record IsBoundByRaise (raise : Raise) (xs : List Lane) (limit least b : ℕ) : Type 0 where
-  pub low : least ≤ b
-  pub covers : b < limit → spans_between raise.from raise.to xs ≤ b + 1
-  pub within : (c : ℕ) → least ≤ c → ((above upto : ℕ) → spans_between above upto xs ≤ c + 1)
-      → b ≤ c
+-- r is at least `least`, and no more than that and the spans of these lanes; if it is below the
+-- limit, no span that begins within the raise is more
+pub record IsSpanByRaise (raise : Raise) (xs : List Lane) (limit least r : ℕ) : Type 0 where
+  pub low : least ≤ r
+  pub covers : r < limit → spans_between raise.from raise.to xs ≤ r
+  pub within : (c : ℕ) → least ≤ c → ((above upto : ℕ) → spans_between above upto xs ≤ c)
+      → r ≤ c

@@ -65,6 +65,10 @@ raise-requires-clause-raisable g c =
     (put_is c.args.grid.now (g.L.StateLanes.heads c.args.lanes.now) (g.L.StateLanes.ends c.args.lanes.now) (g.L.StateLanes.heads c.set_head.new.self)
     (g.L.StateLanes.ends c.set_head.new.self) (get_or c.args.next.now c.args.job 0) 0 c.set_head.ensures.heads c.set_head.ensures.ends)))
 
+pub raise-requires-clause-jobs : goal.raise-requires-clause-jobs
+raise-requires-clause-jobs g c =
+    let nexts = c.requires.can.is.kept.are_next.jobs in let routes = c.requires.can.is.kept.kept.laid.jobs in omega arith
+
 pub raise-requires-clause-known : goal.raise-requires-clause-known
 raise-requires-clause-known g c = λ q here.
     let a = c.requires.can.is.kept.kept.laid.machines_at.known q here in let b = c.requires.can.machines_are in omega arith
@@ -98,12 +102,12 @@ take_bound-bound-requires-clause-fits g c =
     in let sees : Sees c.args.grid.now.machines
     (IsOnMachine c.args.grid.now (get_or c.args.grid.now.machines (get_or c.args.next.now c.args.job 0) 0))
     (get_or (g.L.StateLanes.heads c.args.lanes.now) (get_or c.args.next.now c.args.job 0) 0 + get_or c.args.grid.now.times (get_or c.args.next.now c.args.job 0) 0)
-    (g.L.StateLanes.heads c.set_head.new.self) (g.L.StateLanes.heads c.raise.new.lanes) c.args.raises.now c.raise.new.raises =
+    (g.L.StateLanes.heads c.set_head.new.self) (g.L.StateLanes.heads c.raise.new.lanes) c.args.raises.now c.raise.new.self =
     subst (λ (m : ℕ). Sees c.args.grid.now.machines (IsOnMachine c.args.grid.now m)
     (get_or (g.L.StateLanes.heads c.args.lanes.now) (get_or c.args.next.now c.args.job 0) 0 + get_or c.args.grid.now.times (get_or c.args.next.now c.args.job 0) 0)
-    (g.L.StateLanes.heads c.set_head.new.self) (g.L.StateLanes.heads c.raise.new.lanes) c.args.raises.now c.raise.new.raises) machine
+    (g.L.StateLanes.heads c.set_head.new.self) (g.L.StateLanes.heads c.raise.new.lanes) c.args.raises.now c.raise.new.self) machine
     (subst (λ (e : ℕ). Sees c.args.grid.now.machines (IsOnMachine c.args.grid.now (get_or c.machines.result.now (get_or c.args.next.now c.args.job 0) 0)) e
-    (g.L.StateLanes.heads c.set_head.new.self) (g.L.StateLanes.heads c.raise.new.lanes) c.args.raises.now c.raise.new.raises) end c.raise.ensures.seen)
+    (g.L.StateLanes.heads c.set_head.new.self) (g.L.StateLanes.heads c.raise.new.lanes) c.args.raises.now c.raise.new.self) end c.raise.ensures.seen)
     in trial_raises_fit g.L.StateLanes.GREATEST c.requires.can.shop c.requires.can.word c.args.grid.now
     (rows_of c.args.grid.now (g.L.StateLanes.heads c.args.lanes.now)
     (g.L.StateLanes.ends c.args.lanes.now)) c.args.next.now c.args.job c.requires.can.is.kept c.requires.can.is.fits
@@ -112,7 +116,7 @@ take_bound-bound-requires-clause-fits g c =
     (put_is c.args.grid.now (g.L.StateLanes.heads c.args.lanes.now) (g.L.StateLanes.ends c.args.lanes.now) (g.L.StateLanes.heads c.set_head.new.self)
     (g.L.StateLanes.ends c.set_head.new.self) (get_or c.args.next.now c.args.job 0) 0 c.set_head.ensures.heads c.set_head.ensures.ends)
     (rows_of c.args.grid.now (g.L.StateLanes.heads c.raise.new.lanes)
-    (g.L.StateLanes.ends c.raise.new.lanes)) raising c.args.raises.now c.raise.new.raises c.requires.at_rest
+    (g.L.StateLanes.ends c.raise.new.lanes)) raising c.args.raises.now c.raise.new.self c.requires.at_rest
     c.requires.can.machines_are sees
 
 pub returns-then-limit-bound-clause-told : goal.returns-then-limit-bound-clause-told
@@ -144,12 +148,12 @@ returns-then-limit-bound-clause-told g c = λ shop w is.
     in let sees : Sees c.args.grid.now.machines
     (IsOnMachine c.args.grid.now (get_or c.args.grid.now.machines (get_or c.args.next.now c.args.job 0) 0))
     (get_or (g.L.StateLanes.heads c.args.lanes.now) (get_or c.args.next.now c.args.job 0) 0 + get_or c.args.grid.now.times (get_or c.args.next.now c.args.job 0) 0)
-    (g.L.StateLanes.heads c.set_head.new.self) (g.L.StateLanes.heads c.raise.new.lanes) c.args.raises.now c.raise.new.raises =
+    (g.L.StateLanes.heads c.set_head.new.self) (g.L.StateLanes.heads c.raise.new.lanes) c.args.raises.now c.raise.new.self =
     subst (λ (m : ℕ). Sees c.args.grid.now.machines (IsOnMachine c.args.grid.now m)
     (get_or (g.L.StateLanes.heads c.args.lanes.now) (get_or c.args.next.now c.args.job 0) 0 + get_or c.args.grid.now.times (get_or c.args.next.now c.args.job 0) 0)
-    (g.L.StateLanes.heads c.set_head.new.self) (g.L.StateLanes.heads c.raise.new.lanes) c.args.raises.now c.raise.new.raises) machine
+    (g.L.StateLanes.heads c.set_head.new.self) (g.L.StateLanes.heads c.raise.new.lanes) c.args.raises.now c.raise.new.self) machine
     (subst (λ (e : ℕ). Sees c.args.grid.now.machines (IsOnMachine c.args.grid.now (get_or c.machines.result.now (get_or c.args.next.now c.args.job 0) 0)) e
-    (g.L.StateLanes.heads c.set_head.new.self) (g.L.StateLanes.heads c.raise.new.lanes) c.args.raises.now c.raise.new.raises) end c.raise.ensures.seen)
+    (g.L.StateLanes.heads c.set_head.new.self) (g.L.StateLanes.heads c.raise.new.lanes) c.args.raises.now c.raise.new.self) end c.raise.ensures.seen)
     in let many = c.requires.can.machines_are ∙ same_machines c.args.grid.now c.requires.can.shop shop
     c.requires.can.is.kept.kept.laid is.kept.kept.laid
     in let up_to = trial_bound g.L.StateLanes.GREATEST shop w c.args.grid.now
@@ -160,7 +164,7 @@ returns-then-limit-bound-clause-told g c = λ shop w is.
     (put_is c.args.grid.now (g.L.StateLanes.heads c.args.lanes.now) (g.L.StateLanes.ends c.args.lanes.now) (g.L.StateLanes.heads c.set_head.new.self)
     (g.L.StateLanes.ends c.set_head.new.self) (get_or c.args.next.now c.args.job 0) 0 c.set_head.ensures.heads c.set_head.ensures.ends)
     (rows_of c.args.grid.now (g.L.StateLanes.heads c.raise.new.lanes)
-    (g.L.StateLanes.ends c.raise.new.lanes)) raising c.args.raises.now c.raise.new.raises c.requires.at_rest many sees
+    (g.L.StateLanes.ends c.raise.new.lanes)) raising c.args.raises.now c.raise.new.self c.requires.at_rest many sees
     c.args.least is.foreseen c.args.limit c.take_bound-bound.result c.take_bound-bound.ensures.least c.take_bound-bound.ensures.covers
     c.take_bound-bound.ensures.within
     in let most = up_to.at_most in let reached = c.if-limit-bound.true in omega arith
@@ -236,12 +240,12 @@ returns-clause-told g c = λ shop w is.
     in let sees : Sees c.args.grid.now.machines
     (IsOnMachine c.args.grid.now (get_or c.args.grid.now.machines (get_or c.args.next.now c.args.job 0) 0))
     (get_or (g.L.StateLanes.heads c.args.lanes.now) (get_or c.args.next.now c.args.job 0) 0 + get_or c.args.grid.now.times (get_or c.args.next.now c.args.job 0) 0)
-    (g.L.StateLanes.heads c.set_head.new.self) (g.L.StateLanes.heads c.raise.new.lanes) c.args.raises.now c.raise.new.raises =
+    (g.L.StateLanes.heads c.set_head.new.self) (g.L.StateLanes.heads c.raise.new.lanes) c.args.raises.now c.raise.new.self =
     subst (λ (m : ℕ). Sees c.args.grid.now.machines (IsOnMachine c.args.grid.now m)
     (get_or (g.L.StateLanes.heads c.args.lanes.now) (get_or c.args.next.now c.args.job 0) 0 + get_or c.args.grid.now.times (get_or c.args.next.now c.args.job 0) 0)
-    (g.L.StateLanes.heads c.set_head.new.self) (g.L.StateLanes.heads c.raise.new.lanes) c.args.raises.now c.raise.new.raises) machine
+    (g.L.StateLanes.heads c.set_head.new.self) (g.L.StateLanes.heads c.raise.new.lanes) c.args.raises.now c.raise.new.self) machine
     (subst (λ (e : ℕ). Sees c.args.grid.now.machines (IsOnMachine c.args.grid.now (get_or c.machines.result.now (get_or c.args.next.now c.args.job 0) 0)) e
-    (g.L.StateLanes.heads c.set_head.new.self) (g.L.StateLanes.heads c.raise.new.lanes) c.args.raises.now c.raise.new.raises) end c.raise.ensures.seen)
+    (g.L.StateLanes.heads c.set_head.new.self) (g.L.StateLanes.heads c.raise.new.lanes) c.args.raises.now c.raise.new.self) end c.raise.ensures.seen)
     in let many = c.requires.can.machines_are ∙ same_machines c.args.grid.now c.requires.can.shop shop
     c.requires.can.is.kept.kept.laid is.kept.kept.laid
     in let up_to = trial_bound g.L.StateLanes.GREATEST shop w c.args.grid.now
@@ -252,7 +256,7 @@ returns-clause-told g c = λ shop w is.
     (put_is c.args.grid.now (g.L.StateLanes.heads c.args.lanes.now) (g.L.StateLanes.ends c.args.lanes.now) (g.L.StateLanes.heads c.set_head.new.self)
     (g.L.StateLanes.ends c.set_head.new.self) (get_or c.args.next.now c.args.job 0) 0 c.set_head.ensures.heads c.set_head.ensures.ends)
     (rows_of c.args.grid.now (g.L.StateLanes.heads c.raise.new.lanes)
-    (g.L.StateLanes.ends c.raise.new.lanes)) raising c.args.raises.now c.raise.new.raises c.requires.at_rest many sees
+    (g.L.StateLanes.ends c.raise.new.lanes)) raising c.args.raises.now c.raise.new.self c.requires.at_rest many sees
     c.args.least is.foreseen c.args.limit c.take_bound-bound.result c.take_bound-bound.ensures.least c.take_bound-bound.ensures.covers
     c.take_bound-bound.ensures.within
     in (up_to.exact c.if-limit-bound.false, c.if-limit-bound.false)

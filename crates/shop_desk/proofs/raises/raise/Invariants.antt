@@ -1,6 +1,7 @@
 use Rattle.std.proofs.Common.{◌≡◌, ◌≤◌, ◌-◌, get_or, length}
 use Rattle.shop_layout.specs.Lanes.{rows_of}
 use Rattle.shop_desk.specs.inner.Raises.{Raises, IsInBlocks, IsOnMachine}
+use Rattle.shop_desk.specs.inner.MachineRaises.{AreListed}
 use Rattle.shop_desk.specs.inner.Watchers.{Sees}
 use Rattle.shop_desk.proofs.raises.raise.Given as goal
 
@@ -14,6 +15,8 @@ invariant-loop-from g l = record {
       (g.L.StateLanes.heads l.fn.lanes) (g.L.StateLanes.heads l.lanes) l.fn.raises
       l.raises;
   machines : length l.raises ≡ length l.fn.raises;
+  listed : AreListed l.raises l.raised l.count;
+  long : length l.raised ≡ length l.fn.raised;
 }
 
 abbrev pub decreases-loop-from : goal.decreases-loop-from

@@ -1,4 +1,4 @@
-use Rattle.std.proofs.Common.{ℕ, ◌+◌, List, ap, get_or, refl, arith, []}
+use Rattle.std.proofs.Common.{◌+◌, ◌∙◌, refl, arith, []}
 use Rattle.shop_layout.specs.Lanes.{rows_of}
 use Rattle.shop_desk.proofs.RaiseSteps.{begun_following, followed, following_fits, following_less}
 use Rattle.shop_desk.proofs.RaiseSteps.{put_is}
@@ -8,49 +8,57 @@ use Rattle.shop_desk.proofs.raises.raise_route.Goals as goal
 
 pub time-requires : goal.time-requires
 time-requires g c =
-    let within = raised_within g.L.StateLanes.GREATEST c.args.grid.now [] c.args.position c.args.end
-    (rows_of c.args.grid.now (g.L.StateLanes.heads c.args.lanes.now)
+    let within = raised_within g.L.StateLanes.GREATEST c.args.routes.now [] c.args.position c.args.end
+    (rows_of c.args.routes.now (g.L.StateLanes.heads c.args.lanes.now)
     (g.L.StateLanes.ends c.args.lanes.now)) c.requires.raisable c.requires.waits
     in let timed = c.requires.raisable.timed in omega arith
 
 pub loop-next-init : goal.loop-next-init
 loop-next-init g c =
-    let within = raised_within g.L.StateLanes.GREATEST c.args.grid.now [] c.args.position c.args.end
-    (rows_of c.args.grid.now (g.L.StateLanes.heads c.args.lanes.now)
+    let within = raised_within g.L.StateLanes.GREATEST c.args.routes.now [] c.args.position c.args.end
+    (rows_of c.args.routes.now (g.L.StateLanes.heads c.args.lanes.now)
     (g.L.StateLanes.ends c.args.lanes.now)) c.requires.raisable c.requires.waits
     in record {
-      following = begun_following g.L.StateLanes.GREATEST c.args.grid.now c.args.position c.args.end
-          (rows_of c.args.grid.now (g.L.StateLanes.heads c.args.lanes.now)
+      following = begun_following g.L.StateLanes.GREATEST c.args.routes.now c.args.position c.args.end
+          (rows_of c.args.routes.now (g.L.StateLanes.heads c.args.lanes.now)
           (g.L.StateLanes.ends c.args.lanes.now))
           c.requires.raisable c.requires.waits
-          c.requires.below (rows_of c.args.grid.now (g.L.StateLanes.heads c.set_head.new.self)
+          c.requires.below (rows_of c.args.routes.now (g.L.StateLanes.heads c.set_head.new.self)
           (g.L.StateLanes.ends c.set_head.new.self))
-          (put_is c.args.grid.now (g.L.StateLanes.heads c.args.lanes.now) (g.L.StateLanes.ends c.args.lanes.now)
+          (put_is c.args.routes.now (g.L.StateLanes.heads c.args.lanes.now) (g.L.StateLanes.ends c.args.lanes.now)
           (g.L.StateLanes.heads c.set_head.new.self) (g.L.StateLanes.ends c.set_head.new.self) c.args.position
           c.args.end c.set_head.ensures.heads c.set_head.ensures.ends)
           c.following-next.result (c.args.end + c.time.result) c.time.result c.following-next.ensures c.time.ensures refl;
-      seen = sees_first c.args.grid.now.machines c.args.position c.args.end
+      seen = sees_first c.args.routes.now.machines c.args.position c.args.end
           (g.L.StateLanes.heads c.args.lanes.now) (g.L.StateLanes.heads c.set_head.new.self) c.args.raises.now
           c.set_head.ensures.heads within;
+      listed = c.requires.listed;
+      long = refl;
     }
 
-pub see-requires-clause-known : goal.see-requires-clause-known
-see-requires-clause-known g c =
-    let long = sees_long c.args.grid.now.machines c.args.position c.args.end
+pub see-count-requires-clause-known : goal.see-count-requires-clause-known
+see-count-requires-clause-known g c =
+    let long = sees_long c.args.routes.now.machines c.args.position c.args.end
     (g.L.StateLanes.heads c.args.lanes.now) (g.L.StateLanes.heads c.loop-next.lanes)
     c.args.raises.now c.loop-next.raises c.loop-next.invariant.seen
     in let many = c.positions.ensures in let there = c.loop-next-test.true
     in let machines = c.requires.raisable.machines in let following = c.requires.raisable.followed.following
-    in let read = ap (λ (xs : List ℕ). get_or xs c.loop-next.next 0) c.machines.ensures
+    in let read = c.machine.ensures
     in let known = c.requires.known c.loop-next.next (omega arith)
     in omega arith
 
+pub machine-requires : goal.machine-requires
+machine-requires g c =
+    let many = c.positions.ensures in let there = c.loop-next-test.true
+    in let machines = c.requires.raisable.machines in let following = c.requires.raisable.followed.following
+    in omega arith
+
 pub set_head-requires-in-loop-next-clause-fits : goal.set_head-requires-in-loop-next-clause-fits
-set_head-requires-in-loop-next-clause-fits g c = (following_fits g.L.StateLanes.GREATEST c.args.grid.now c.args.position c.args.end
-    (rows_of c.args.grid.now (g.L.StateLanes.heads c.args.lanes.now)
+set_head-requires-in-loop-next-clause-fits g c = (following_fits g.L.StateLanes.GREATEST c.args.routes.now c.args.position c.args.end
+    (rows_of c.args.routes.now (g.L.StateLanes.heads c.args.lanes.now)
     (g.L.StateLanes.ends c.args.lanes.now))
     c.requires.raisable c.requires.waits c.loop-next.next c.loop-next.ready
-    (rows_of c.args.grid.now (g.L.StateLanes.heads c.loop-next.lanes)
+    (rows_of c.args.routes.now (g.L.StateLanes.heads c.loop-next.lanes)
     (g.L.StateLanes.ends c.loop-next.lanes))
     c.loop-next.invariant.following c.positions.result c.positions.ensures
     c.loop-next-test.true).0
@@ -63,22 +71,22 @@ time-ready-requires g c =
 
 pub overflow_add-ready-in-loop-next : goal.overflow_add-ready-in-loop-next
 overflow_add-ready-in-loop-next g c =
-    let fits = (following_fits g.L.StateLanes.GREATEST c.args.grid.now c.args.position c.args.end
-    (rows_of c.args.grid.now (g.L.StateLanes.heads c.args.lanes.now)
+    let fits = (following_fits g.L.StateLanes.GREATEST c.args.routes.now c.args.position c.args.end
+    (rows_of c.args.routes.now (g.L.StateLanes.heads c.args.lanes.now)
     (g.L.StateLanes.ends c.args.lanes.now))
     c.requires.raisable c.requires.waits c.loop-next.next c.loop-next.ready
-    (rows_of c.args.grid.now (g.L.StateLanes.heads c.loop-next.lanes)
+    (rows_of c.args.routes.now (g.L.StateLanes.heads c.loop-next.lanes)
     (g.L.StateLanes.ends c.loop-next.lanes))
     c.loop-next.invariant.following c.positions.result c.positions.ensures c.loop-next-test.true).1
     in let computable = c.requires.raisable.computable
     in let time = c.time-ready.ensures in omega arith
 
 pub loop-next-smaller : goal.loop-next-smaller
-loop-next-smaller g c = following_less g.L.StateLanes.GREATEST c.args.grid.now c.args.position c.args.end
-    (rows_of c.args.grid.now (g.L.StateLanes.heads c.args.lanes.now)
+loop-next-smaller g c = following_less g.L.StateLanes.GREATEST c.args.routes.now c.args.position c.args.end
+    (rows_of c.args.routes.now (g.L.StateLanes.heads c.args.lanes.now)
     (g.L.StateLanes.ends c.args.lanes.now))
     c.requires.raisable c.requires.waits c.loop-next.next c.loop-next.ready
-    (rows_of c.args.grid.now (g.L.StateLanes.heads c.loop-next.lanes)
+    (rows_of c.args.routes.now (g.L.StateLanes.heads c.loop-next.lanes)
     (g.L.StateLanes.ends c.loop-next.lanes))
     c.loop-next.invariant.following c.positions.result c.positions.ensures
     c.loop-next-test.true c.following-next-in-loop-next.result c.following-next-in-loop-next.ensures
@@ -90,28 +98,30 @@ loop-next-preserved g c =
     in let below = c.if-head-ready.false
     in let machines = c.requires.raisable.machines in let following = c.requires.raisable.followed.following
     in let long = c.loop-next.invariant.following.walking.up_to.positions
-    in let read = ap (λ (xs : List ℕ). get_or xs c.loop-next.next 0) c.machines.ensures
+    in let read = c.machine.ensures
     in let known = c.requires.known c.loop-next.next (omega arith)
     in record {
-      following = followed g.L.StateLanes.GREATEST c.args.grid.now c.args.position c.args.end
-          (rows_of c.args.grid.now (g.L.StateLanes.heads c.args.lanes.now)
+      following = followed g.L.StateLanes.GREATEST c.args.routes.now c.args.position c.args.end
+          (rows_of c.args.routes.now (g.L.StateLanes.heads c.args.lanes.now)
           (g.L.StateLanes.ends c.args.lanes.now))
           c.requires.raisable c.requires.waits c.loop-next.next c.loop-next.ready
-          (rows_of c.args.grid.now (g.L.StateLanes.heads c.loop-next.lanes)
+          (rows_of c.args.routes.now (g.L.StateLanes.heads c.loop-next.lanes)
           (g.L.StateLanes.ends c.loop-next.lanes))
           c.loop-next.invariant.following c.positions.result c.positions.ensures
-          c.loop-next-test.true (omega arith) (rows_of c.args.grid.now (g.L.StateLanes.heads c.set_head-in-loop-next.new.self)
+          c.loop-next-test.true (omega arith) (rows_of c.args.routes.now (g.L.StateLanes.heads c.set_head-in-loop-next.new.self)
           (g.L.StateLanes.ends c.set_head-in-loop-next.new.self))
-          (put_is c.args.grid.now (g.L.StateLanes.heads c.loop-next.lanes) (g.L.StateLanes.ends c.loop-next.lanes)
+          (put_is c.args.routes.now (g.L.StateLanes.heads c.loop-next.lanes) (g.L.StateLanes.ends c.loop-next.lanes)
           (g.L.StateLanes.heads c.set_head-in-loop-next.new.self) (g.L.StateLanes.ends c.set_head-in-loop-next.new.self)
           c.loop-next.next c.loop-next.ready c.set_head-in-loop-next.ensures.heads c.set_head-in-loop-next.ensures.ends)
           (c.loop-next.ready + c.time-ready.result) c.time-ready.result c.following-next-in-loop-next.result
           c.time-ready.ensures refl c.following-next-in-loop-next.ensures;
-      seen = sees_next c.args.grid.now.machines c.args.position c.args.end
+      seen = sees_next c.args.routes.now.machines c.args.position c.args.end
           (g.L.StateLanes.heads c.args.lanes.now) (g.L.StateLanes.heads c.loop-next.lanes)
           c.args.raises.now c.loop-next.raises c.loop-next.invariant.seen
-          (g.L.StateLanes.heads c.set_head-in-loop-next.new.self) c.see.new.self c.loop-next.next
-          c.loop-next.ready c.head-head.result (get_or c.machines.result.now c.loop-next.next 0)
+          (g.L.StateLanes.heads c.set_head-in-loop-next.new.self) c.see-count.new.raises c.loop-next.next
+          c.loop-next.ready c.head-head.result c.machine.result
           c.set_head-in-loop-next.ensures.heads (omega arith) c.head-head.ensures
-          c.if-head-ready.false read (omega arith) c.see.ensures;
+          c.if-head-ready.false read (omega arith) c.see-count.ensures.raises;
+      listed = c.see-count.ensures.listed;
+      long = c.see-count.ensures.long ∙ c.loop-next.invariant.long;
     }

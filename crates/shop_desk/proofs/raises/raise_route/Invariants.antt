@@ -1,6 +1,7 @@
-use Rattle.std.proofs.Common.{get_or, length}
+use Rattle.std.proofs.Common.{◌≡◌, get_or, length}
 use Rattle.shop_layout.specs.Lanes.{rows_of}
 use Rattle.shop_desk.specs.inner.Raises.{IsPosition}
+use Rattle.shop_desk.specs.inner.MachineRaises.{AreListed}
 use Rattle.shop_desk.specs.inner.Watchers.{Sees}
 use Rattle.shop_desk.proofs.Followed.{left_from}
 use Rattle.shop_desk.proofs.RaiseSteps.{IsFollowing}
@@ -8,12 +9,14 @@ use Rattle.shop_desk.proofs.raises.raise_route.Given as goal
 
 abbrev pub invariant-loop-next : goal.invariant-loop-next
 invariant-loop-next g l = record {
-  following : IsFollowing g.L.StateLanes.GREATEST l.grid l.position l.end l.next l.ready (rows_of l.grid (g.L.StateLanes.heads l.fn.lanes) (g.L.StateLanes.ends l.fn.lanes))
-      (rows_of l.grid (g.L.StateLanes.heads l.lanes) (g.L.StateLanes.ends l.lanes));
-  seen : Sees l.grid.machines (IsPosition l.position) l.end
+  following : IsFollowing g.L.StateLanes.GREATEST l.routes l.position l.end l.next l.ready (rows_of l.routes (g.L.StateLanes.heads l.fn.lanes) (g.L.StateLanes.ends l.fn.lanes))
+      (rows_of l.routes (g.L.StateLanes.heads l.lanes) (g.L.StateLanes.ends l.lanes));
+  seen : Sees l.routes.machines (IsPosition l.position) l.end
       (g.L.StateLanes.heads l.fn.lanes) (g.L.StateLanes.heads l.lanes) l.fn.raises
       l.raises;
+  listed : AreListed l.raises l.raised l.count;
+  long : length l.raised ≡ length l.fn.raised;
 }
 
 abbrev pub decreases-loop-next : goal.decreases-loop-next
-decreases-loop-next g l = left_from l.grid (length l.grid.following) (get_or l.grid.jobs l.position 0) l.next
+decreases-loop-next g l = left_from l.routes (length l.routes.following) (get_or l.routes.jobs l.position 0) l.next

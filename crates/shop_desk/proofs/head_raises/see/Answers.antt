@@ -5,7 +5,7 @@ use Rattle.shop_desk.specs.inner.HeadRaises.{raise_of}
 use Rattle.shop_desk.specs.inner.MachineRaises.{AreListed}
 use Rattle.shop_desk.specs.declared.head_raises.Raise.{Raise}
 use Rattle.shop_desk.proofs.RaisedMachines.{listed_more, room_left}
-use Rattle.shop_desk.proofs.machine_raises.add.Goals as goal
+use Rattle.shop_desk.proofs.head_raises.see.Goals as goal
 
 -- whether it is the first raise, as a number
 first_is : (to first : ℕ) → first ≡ bool_byte (eqb to 0) → (to ≡ 0 → first ≡ 1) × (0 < to → first ≡ 0)
@@ -22,8 +22,8 @@ offset_bounds-raised-count c =
     let a = room_left c.args.raises.now c.args.raised.now c.args.count c.requires.listed
     in let small = c.requires.small in omega arith
 
-pub overflow_add-result : goal.overflow_add-result
-overflow_add-result c =
+pub overflow_add-listed : goal.overflow_add-listed
+overflow_add-listed c =
     let a = room_left c.args.raises.now c.args.raised.now c.args.count c.requires.listed
     in let to = (raise_of c.args.raises.now c.args.machine).to
     in let first = first_is to c.from.result c.from.ensures
