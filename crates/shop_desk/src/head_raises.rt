@@ -51,6 +51,7 @@ pub(crate) fn see(
     let raise = raises[machine as usize];
     // written in any case, and kept where it is the first raise of the machine
     raised[count] = machine;
+    let listed = count + usize::from(raise.to == 0);
     raises[machine as usize] = raise.with(before, after);
-    count + usize::from(raise.to == 0)
+    listed
 }

@@ -109,6 +109,7 @@ impl MachineRaises {
         requires raisable { IsRaisable L.GREATEST grid.now next.now
             (rows_of grid.now (L.heads lanes.old) (L.ends lanes.old))
             (IsOnMachine grid.now machine) end }
+        requires jobs { length grid.now.places ≤ length next.now }
         requires known { AreKnown grid.now.machines (length self.old) }
         ensures raises { Raises L.GREATEST grid.now next.now (IsOnMachine grid.now machine) end
             (rows_of grid.now (L.heads lanes.old) (L.ends lanes.old))

@@ -65,6 +65,7 @@ fn set_end_at<L: StateLanes>(
 )
     requires within { position < length routes.now.times }
     requires job { position < length routes.now.jobs }
+    requires known { slice_index routes.now.jobs position < length next.now }
     requires ends { length next.now ≤ length (L.ends lanes.old) }
     requires fits { begin + slice_index routes.now.times position ≤ L.GREATEST }
     requires computable { L.GREATEST < 2 ^ 64 }
@@ -73,7 +74,7 @@ fn set_end_at<L: StateLanes>(
         (rows_of routes.now (L.heads lanes.new) (L.ends lanes.new)) }
 {
     let job = routes.job(position);
-    if job < next.len() && next[job] as usize == position {
+    if next[job] as usize == position {
         lanes.set_end(job, begin + routes.time(position));
     }
 }
@@ -95,6 +96,7 @@ fn raise_from<L: StateLanes>(
     requires below { slice_index (L.heads lanes.old) position ≤ end }
     requires raisable { IsRaisable L.GREATEST routes.now next.now
         (rows_of routes.now (L.heads lanes.old) (L.ends lanes.old)) (IsPosition position) end }
+    requires jobs { length routes.now.places ≤ length next.now }
     requires known { AreKnown routes.now.machines (length raises.old) }
     requires small { 4 * length raised.old < 2 ^ 64 }
     requires listed { AreListed raises.old raised.old count }
@@ -129,6 +131,7 @@ fn raise_blocks<L: StateLanes>(
     requires fits { end ≤ L.GREATEST }
     requires raisable { IsRaisable L.GREATEST routes.now next.now
         (rows_of routes.now (L.heads lanes.old) (L.ends lanes.old)) (IsInBlocks from to) end }
+    requires jobs { length routes.now.places ≤ length next.now }
     requires known { AreKnown routes.now.machines (length raises.old) }
     requires small { 4 * length raised.old < 2 ^ 64 }
     requires listed { AreListed raises.old raised.old count }
@@ -170,6 +173,7 @@ pub(crate) fn raise<L: StateLanes>(
     requires raisable { IsRaisable L.GREATEST grid.now next.now
         (rows_of grid.now (L.heads lanes.old) (L.ends lanes.old)) (IsOnMachine grid.now machine)
         end }
+    requires jobs { length grid.now.places ≤ length next.now }
     requires known { AreKnown grid.now.machines (length raises.old) }
     requires small { 4 * length raised.old < 2 ^ 64 }
     requires listed { AreListed raises.old raised.old count }

@@ -65,6 +65,10 @@ raise-requires-clause-raisable g c =
     (put_is c.args.grid.now (g.L.StateLanes.heads c.args.lanes.now) (g.L.StateLanes.ends c.args.lanes.now) (g.L.StateLanes.heads c.set_head.new.self)
     (g.L.StateLanes.ends c.set_head.new.self) (get_or c.args.next.now c.args.job 0) 0 c.set_head.ensures.heads c.set_head.ensures.ends)))
 
+pub raise-requires-clause-jobs : goal.raise-requires-clause-jobs
+raise-requires-clause-jobs g c =
+    let nexts = c.requires.can.is.kept.are_next.jobs in let routes = c.requires.can.is.kept.kept.laid.jobs in omega arith
+
 pub raise-requires-clause-known : goal.raise-requires-clause-known
 raise-requires-clause-known g c = λ q here.
     let a = c.requires.can.is.kept.kept.laid.machines_at.known q here in let b = c.requires.can.machines_are in omega arith

@@ -22,8 +22,8 @@ offset_bounds-raised-count c =
     let a = room_left c.args.raises.now c.args.raised.now c.args.count c.requires.listed
     in let small = c.requires.small in omega arith
 
-pub overflow_add-result : goal.overflow_add-result
-overflow_add-result c =
+pub overflow_add-listed : goal.overflow_add-listed
+overflow_add-listed c =
     let a = room_left c.args.raises.now c.args.raised.now c.args.count c.requires.listed
     in let to = (raise_of c.args.raises.now c.args.machine).to
     in let first = first_is to c.from.result c.from.ensures

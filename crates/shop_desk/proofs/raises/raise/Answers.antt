@@ -1,4 +1,4 @@
-use Rattle.std.proofs.Common.{ℕ, ◌+◌, ◌∙◌, get_or, length, refl, subst, sym, arith}
+use Rattle.std.proofs.Common.{ℕ, ◌+◌, ◌≤◌, ◌∙◌, get_or, length, refl, subst, sym, arith}
 use Rattle.shop_layout.specs.Lanes.{rows_of}
 use Rattle.shop_layout.specs.Positions.{LayoutState}
 use Rattle.shop_desk.specs.inner.Raises.{Raises, IsInBlocks, IsOnMachine, IsRaisable}
@@ -40,6 +40,10 @@ raise_blocks-count-requires-clause-raisable g c =
     (get_or c.args.grid.now.blocks (c.args.machine + 1) 0) c.args.end
     (rows_of c.args.grid.now (g.L.StateLanes.heads c.args.lanes.now) (g.L.StateLanes.ends c.args.lanes.now)) (rows_of c.args.grid.now (g.L.StateLanes.heads c.loop-from.lanes) (g.L.StateLanes.ends c.loop-from.lanes))
     c.loop-from.invariant.raises c.loop-from.invariant.ordered (omega arith) (omega arith) c.requires.raisable)
+
+pub raise_blocks-count-requires-clause-jobs : goal.raise_blocks-count-requires-clause-jobs
+raise_blocks-count-requires-clause-jobs g c =
+    subst (λ (l : LayoutState). length l.places ≤ length c.args.next.now) (sym c.routes-routes.ensures) c.requires.jobs
 
 pub raise_blocks-count-requires-clause-known : goal.raise_blocks-count-requires-clause-known
 raise_blocks-count-requires-clause-known g c =

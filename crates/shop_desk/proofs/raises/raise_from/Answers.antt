@@ -14,6 +14,7 @@ set_end_at-requires g c =
     in record {
       within = (let timed = can.timed in omega arith);
       job = omega arith;
+      known = (let job = (can.places c.args.position c.requires.waits).job in let many = c.requires.jobs in omega arith);
       ends = can.ends;
       fits = raised_fits g.L.StateLanes.GREATEST c.args.routes.now c.args.next.now c.args.position c.args.end
           (rows_of c.args.routes.now (g.L.StateLanes.heads c.args.lanes.now) (g.L.StateLanes.ends c.args.lanes.now)) can c.requires.waits;
