@@ -47,13 +47,13 @@ fn assert_two_blocks<L: StateLanes>(rt: &impl Abort, fixed: &L::Fixed, lanes: &L
     assert_eq!(rt; lanes.head(9), 5);
     assert_eq!(rt; L::time(fixed, 2), 3);
     assert_eq!(rt; lanes.first_least_end(), 1);
-    // all three of the first block from 10 on; the first and the third; none
-    assert_eq!(rt; lanes.span(fixed, 0, 1, 1, 10, 0), 23);
-    assert_eq!(rt; lanes.span(fixed, 0, 1, 3, 0, 0), 13);
-    assert_eq!(rt; lanes.span(fixed, 0, 1, 7, 5, 4), 4);
-    // the second block, and both
-    assert_eq!(rt; lanes.span(fixed, 1, 2, 1, 20, 0), 35);
-    assert_eq!(rt; lanes.span(fixed, 0, 2, 1, 0, 0), 24);
+    // all three of the first block; the first and the third; none
+    assert_eq!(rt; lanes.load(fixed, 0, 1, 1), 13);
+    assert_eq!(rt; lanes.load(fixed, 0, 1, 3), 13);
+    assert_eq!(rt; lanes.load(fixed, 0, 1, 7), 0);
+    // the second block, and both, down their columns
+    assert_eq!(rt; lanes.load(fixed, 1, 2, 1), 15);
+    assert_eq!(rt; lanes.load(fixed, 0, 2, 1), 21);
     // from 3 on the first, the third and position 9; from 5 on these two; from 6 on the third
     assert_eq!(rt; lanes.bound_raised(fixed, 0, 1, 1, 6, 0, 1000), 16);
     assert_eq!(rt; lanes.bound_raised(fixed, 0, 1, 3, 6, 0, 1000), 10);
