@@ -47,17 +47,19 @@ fn assert_two_blocks<L: StateLanes>(rt: &impl Abort, fixed: &L::Fixed, lanes: &L
     assert_eq!(rt; lanes.head(9), 5);
     assert_eq!(rt; L::time(fixed, 2), 3);
     assert_eq!(rt; lanes.first_least_end(), 1);
-    // all three of the first block; the first and the third; none
+    // all three of the first block; the third alone; none
     assert_eq!(rt; lanes.load(fixed, 0, 1, 1), 13);
-    assert_eq!(rt; lanes.load(fixed, 0, 1, 3), 13);
+    assert_eq!(rt; lanes.load(fixed, 0, 1, 4), 4);
     assert_eq!(rt; lanes.load(fixed, 0, 1, 7), 0);
-    // the second block, and both, down their columns
+    // the second block, and both, down their columns: positions 0, 1, 9, 2 and 15
     assert_eq!(rt; lanes.load(fixed, 1, 2, 1), 15);
     assert_eq!(rt; lanes.load(fixed, 0, 2, 1), 21);
     // from 3 on the first, the third and position 9; from 5 on these two; from 6 on the third
     assert_eq!(rt; lanes.bound_raised(fixed, 0, 1, 1, 6, 0, 1000), 16);
     assert_eq!(rt; lanes.bound_raised(fixed, 0, 1, 3, 6, 0, 1000), 10);
     assert_eq!(rt; lanes.bound_raised(fixed, 0, 1, 6, 9, 1, 1000), 1);
+    // from 3 on all but position 1 and 15
+    assert_eq!(rt; lanes.bound_raised(fixed, 0, 2, 2, 6, 0, 1000), 22);
     let mut marks = lanes.below(0, 2, 4);
     assert!(rt; !marks.is_empty());
     assert_eq!(rt; marks.pop_first(), Some(0));
