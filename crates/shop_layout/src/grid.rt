@@ -65,7 +65,7 @@ impl<L: StateLanes> Grid<L> {
         requires { position < length self.now.times }
         ensures { result ≡ slice_index self.now.times position }
     {
-        L::time(&self.fixed, position)
+        self.positions.time(position)
     }
 
     /// The positions of the steps of a job.

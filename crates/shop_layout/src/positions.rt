@@ -100,6 +100,15 @@ impl Positions {
         self.jobs[position] as usize
     }
 
+    /// The time of the operation at a position.
+    #[inline(always)]
+    pub(crate) fn time(&self, position: usize) -> u64
+        requires { position < length self.now.times }
+        ensures { result ≡ slice_index self.now.times position }
+    {
+        self.times[position]
+    }
+
     /// The time of the operation at each position.
     pub(crate) fn times(&self) -> &[u64]
         ensures { result.now ≡ self.now.times }

@@ -25,6 +25,10 @@ last_taken : (least limit : ℕ) (old : List Raise) (on : ℕ → List Lane) (ra
 last_taken least limit old on raises raised count bound so none =
     subst (λ (n : ℕ). IsTakenSo least limit old on raises raised n bound) (omega arith) so
 
+-- what is left in its place is empty
+emptied : (r e : Raise) → r ≡ e → e.to ≡ 0 → r.to ≡ 0
+emptied r e same none = let to = ap (λ (x : Raise). x.to) same in omega arith
+
 pub loop-left-preserved : goal.loop-left-preserved
 loop-left-preserved g c =
     let so = c.loop-left.invariant.taken in let some = c.loop-left-test.true
@@ -37,7 +41,8 @@ loop-left-preserved g c =
     in record {
       taken = taken_more c.args.least c.args.limit c.args.raises.now on c.loop-left.raises c.args.raised.now
           c.loop-left.left c.loop-left.most so (c.loop-left.left - 1) m (omega arith) refl c.replace-raise.new.dest
-          (ap (λ (r : Raise). r.to) c.replace-raise.ensures.after) c.span_by_raise-most.result
+          (emptied c.replace-raise.new.dest (record { from = 18446744073709551615; to = 0 })
+          c.replace-raise.ensures.after refl) c.span_by_raise-most.result
           (subst (λ (r : Raise). IsSpanByRaise r (on m) c.args.limit c.loop-left.most c.span_by_raise-most.result) is
           c.span_by_raise-most.ensures.spans);
       fits = c.span_by_raise-most.ensures.fits;
