@@ -4,7 +4,7 @@ use Rattle.std.proofs.lemmas.Bool.{cases_lt}
 use Rattle.std.proofs.lemmas.List.Sums.{sum_by-cons}
 use Rattle.shop_lanes.specs.Rows.{Lane, Rows, lanes_between}
 use Rattle.shop_lanes.specs.Spans.{FitsSpan, greatest_by, span, spans_between, spans_from}
-use Rattle.shop_lanes.proofs.SpanTurns.{span_left, span_served, spans_counted, spans_high, spans_low}
+use Rattle.shop_desk.proofs.SpanTurns.{span_left, span_served, spans_counted, spans_high, spans_low}
 
 span_within : (least start : ℕ) (xs : List Lane)
     → span least start xs ≤ start + sum_by (λ x. x.time) xs + greatest_by (λ x. x.tail) xs
