@@ -92,8 +92,8 @@ impl MachineRaises {
         })
     }
 
-    /// Raises the heads of what waits on a machine below `end`, one more than the end of what was placed there, and those
-    /// of the routes behind as far as they are too small then, which are seen; and keeps the ends of these next
+    /// Raises the heads of what waits on a machine below `end`, one more than the end of what was placed there, and
+    /// those of the routes behind as far as they are too small then, which are seen; and keeps the ends of these next
     /// operations up.
     #[inline(always)]
     pub(crate) fn raise<L: StateLanes>(

@@ -10,8 +10,8 @@ use crate::head_raises::{Raise, see};
 use shop_lanes::StateLanes;
 use shop_layout::{Grid, Routes};
 
-/// Raises the head of what waits at a position to `end`, and those of its route behind it that are too small then, which
-/// are seen.
+/// Raises the head of what waits at a position to `end`, and those of its route behind it that are too small then,
+/// which are seen; tells how many machines are listed then.
 #[inline(always)]
 fn raise_route<L: StateLanes>(
     lanes: &mut L,
