@@ -74,10 +74,11 @@ pub(crate) fn advance_below<L: StateLanes>(
         return None;
     }
     let position = next[job] as usize;
-    let machine = grid.machines()[position] as usize;
-    let end = lanes.head(position) + grid.time(position);
+    let routes = grid.routes();
+    let machine = routes.machine(position) as usize;
+    let end = lanes.head(position) + routes.time(position);
     lanes.set_head(position, 0);
-    raises.raise(lanes, grid, next, machine, end);
+    raises.raise(lanes, grid, &routes, next, machine, end);
     let bound = raises.take_bound(lanes, grid, least, limit);
     if limit <= bound {
         return None;

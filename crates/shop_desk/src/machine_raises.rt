@@ -11,7 +11,7 @@ use crate::head_raises::{NO_RAISE, Raise};
 use crate::lane_bounds::span_by_raise;
 use crate::raises::raise;
 use shop_lanes::StateLanes;
-use shop_layout::Grid;
+use shop_layout::{Grid, Routes};
 use std::alloc::{AllocError, Global};
 use std::marker::Model;
 use std::mem;
@@ -100,10 +100,12 @@ impl MachineRaises {
         &mut self,
         lanes: &mut L,
         grid: &Grid<L>,
+        routes: &Routes,
         next: &[u32],
         machine: usize,
         end: u64,
     )
+        requires routes { routes.now ≡ grid.now }
         requires machine { HasBlocks grid.now (length (L.heads lanes.old)) machine }
         requires fits { end ≤ L.GREATEST }
         requires raisable { IsRaisable L.GREATEST grid.now next.now
@@ -120,7 +122,9 @@ impl MachineRaises {
     {
         let raises = self.raises.as_mut_slice();
         let raised = self.raised.as_mut_slice();
-        self.count = raise(lanes, raises, raised, self.count, grid, next, machine, end);
+        self.count = raise(
+            lanes, raises, raised, self.count, grid, routes, next, machine, end,
+        );
     }
 
     /// The greatest of `least` and the bounds of all machines from their raised heads on; once that reaches the limit,

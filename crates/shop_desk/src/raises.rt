@@ -164,10 +164,12 @@ pub(crate) fn raise<L: StateLanes>(
     raised: &mut [u32],
     count: usize,
     grid: &Grid<L>,
+    routes: &Routes,
     next: &[u32],
     machine: usize,
     end: u64,
 ) -> usize
+    requires routes { routes.now ≡ grid.now }
     requires machine { HasBlocks grid.now (length (L.heads lanes.old)) machine }
     requires fits { end ≤ L.GREATEST }
     requires raisable { IsRaisable L.GREATEST grid.now next.now
@@ -186,13 +188,12 @@ pub(crate) fn raise<L: StateLanes>(
     ensures listed { AreListed raises.new raised.new result }
     ensures machines { length raises.new ≡ length raises.old }
 {
-    let routes = grid.routes();
     let behind = grid.block(machine + 1);
     let mut count = count;
     let mut from = grid.block(machine);
     while from < behind {
         let to = from + (behind - from).min(8);
-        count = raise_blocks(lanes, raises, raised, count, &routes, next, from, to, end);
+        count = raise_blocks(lanes, raises, raised, count, routes, next, from, to, end);
         from = to;
     }
     count

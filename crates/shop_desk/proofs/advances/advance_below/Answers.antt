@@ -1,6 +1,7 @@
-use Rattle.std.proofs.Common.{◌≡◌, ℕ, ◌+◌, ◌∙◌, List, get_or, set, length, ap, sym, subst, refl}
+use Rattle.std.proofs.Common.{◌≡◌, ℕ, ◌+◌, ◌∙◌, get_or, set, length, ap, sym, subst, refl}
 use Rattle.std.proofs.Common.{arith}
 use Rattle.shop_layout.specs.Lanes.{rows_of}
+use Rattle.shop_layout.specs.Positions.{LayoutState}
 use Rattle.shop_desk.specs.inner.Raises.{HasBlocks, IsOnMachine, IsRaisable, Raises}
 use Rattle.shop_desk.specs.inner.Watchers.{Sees}
 use Rattle.shop_desk.proofs.RaiseSteps.{put_is}
@@ -21,8 +22,9 @@ bounds-next-job g c = its_job g.L.StateLanes.GREATEST c.requires.can.shop c.requ
 
 pub raise-requires-clause-machine : goal.raise-requires-clause-machine
 raise-requires-clause-machine g c =
-    let machine : get_or c.machines.result.now (get_or c.args.next.now c.args.job 0) 0 ≡ get_or c.args.grid.now.machines (get_or c.args.next.now c.args.job 0) 0 =
-    ap (λ (xs : List ℕ). get_or xs (get_or c.args.next.now c.args.job 0) 0) c.machines.ensures
+    let machine : c.machine-machine.result ≡ get_or c.args.grid.now.machines (get_or c.args.next.now c.args.job 0) 0 =
+    c.machine-machine.ensures
+    ∙ ap (λ (l : LayoutState). get_or l.machines (get_or c.args.next.now c.args.job 0) 0) c.routes-routes.ensures
     in subst (HasBlocks c.args.grid.now (length (g.L.StateLanes.heads c.set_head.new.self))) (sym machine)
     (trial_blocks g.L.StateLanes.GREATEST c.requires.can.shop c.requires.can.word c.args.grid.now
     (rows_of c.args.grid.now (g.L.StateLanes.heads c.args.lanes.now)
@@ -35,6 +37,7 @@ raise-requires-clause-machine g c =
 pub raise-requires-clause-fits : goal.raise-requires-clause-fits
 raise-requires-clause-fits g c =
     let head = c.head.ensures in let time = c.time.ensures
+    ∙ ap (λ (l : LayoutState). get_or l.times (get_or c.args.next.now c.args.job 0) 0) c.routes-routes.ensures
     in let end : c.head.result + c.time.result ≡ get_or (g.L.StateLanes.heads c.args.lanes.now) (get_or c.args.next.now c.args.job 0) 0
     + get_or c.args.grid.now.times (get_or c.args.next.now c.args.job 0) 0 = omega arith
     in let fits = (its_end g.L.StateLanes.GREATEST c.requires.can.shop c.requires.can.word c.args.grid.now
@@ -44,9 +47,11 @@ raise-requires-clause-fits g c =
 
 pub raise-requires-clause-raisable : goal.raise-requires-clause-raisable
 raise-requires-clause-raisable g c =
-    let machine : get_or c.machines.result.now (get_or c.args.next.now c.args.job 0) 0 ≡ get_or c.args.grid.now.machines (get_or c.args.next.now c.args.job 0) 0 =
-    ap (λ (xs : List ℕ). get_or xs (get_or c.args.next.now c.args.job 0) 0) c.machines.ensures
+    let machine : c.machine-machine.result ≡ get_or c.args.grid.now.machines (get_or c.args.next.now c.args.job 0) 0 =
+    c.machine-machine.ensures
+    ∙ ap (λ (l : LayoutState). get_or l.machines (get_or c.args.next.now c.args.job 0) 0) c.routes-routes.ensures
     in let head = c.head.ensures in let time = c.time.ensures
+    ∙ ap (λ (l : LayoutState). get_or l.times (get_or c.args.next.now c.args.job 0) 0) c.routes-routes.ensures
     in let end : c.head.result + c.time.result ≡ get_or (g.L.StateLanes.heads c.args.lanes.now) (get_or c.args.next.now c.args.job 0) 0
     + get_or c.args.grid.now.times (get_or c.args.next.now c.args.job 0) 0 = omega arith
     in subst (λ (m : ℕ). IsRaisable g.L.StateLanes.GREATEST c.args.grid.now c.args.next.now
@@ -75,9 +80,11 @@ raise-requires-clause-known g c = λ q here.
 
 pub take_bound-bound-requires-clause-fits : goal.take_bound-bound-requires-clause-fits
 take_bound-bound-requires-clause-fits g c =
-    let machine : get_or c.machines.result.now (get_or c.args.next.now c.args.job 0) 0 ≡ get_or c.args.grid.now.machines (get_or c.args.next.now c.args.job 0) 0 =
-    ap (λ (xs : List ℕ). get_or xs (get_or c.args.next.now c.args.job 0) 0) c.machines.ensures
+    let machine : c.machine-machine.result ≡ get_or c.args.grid.now.machines (get_or c.args.next.now c.args.job 0) 0 =
+    c.machine-machine.ensures
+    ∙ ap (λ (l : LayoutState). get_or l.machines (get_or c.args.next.now c.args.job 0) 0) c.routes-routes.ensures
     in let head = c.head.ensures in let time = c.time.ensures
+    ∙ ap (λ (l : LayoutState). get_or l.times (get_or c.args.next.now c.args.job 0) 0) c.routes-routes.ensures
     in let end : c.head.result + c.time.result ≡ get_or (g.L.StateLanes.heads c.args.lanes.now) (get_or c.args.next.now c.args.job 0) 0
     + get_or c.args.grid.now.times (get_or c.args.next.now c.args.job 0) 0 = omega arith
     in let raising : Raises g.L.StateLanes.GREATEST c.args.grid.now c.args.next.now
@@ -94,7 +101,7 @@ take_bound-bound-requires-clause-fits g c =
     (rows_of c.args.grid.now (g.L.StateLanes.heads c.raise.new.lanes)
     (g.L.StateLanes.ends c.raise.new.lanes))) machine
     (subst (λ (e : ℕ). Raises g.L.StateLanes.GREATEST c.args.grid.now c.args.next.now
-    (IsOnMachine c.args.grid.now (get_or c.machines.result.now (get_or c.args.next.now c.args.job 0) 0)) e
+    (IsOnMachine c.args.grid.now c.machine-machine.result) e
     (rows_of c.args.grid.now (g.L.StateLanes.heads c.set_head.new.self)
     (g.L.StateLanes.ends c.set_head.new.self))
     (rows_of c.args.grid.now (g.L.StateLanes.heads c.raise.new.lanes)
@@ -106,7 +113,7 @@ take_bound-bound-requires-clause-fits g c =
     subst (λ (m : ℕ). Sees c.args.grid.now.machines (IsOnMachine c.args.grid.now m)
     (get_or (g.L.StateLanes.heads c.args.lanes.now) (get_or c.args.next.now c.args.job 0) 0 + get_or c.args.grid.now.times (get_or c.args.next.now c.args.job 0) 0)
     (g.L.StateLanes.heads c.set_head.new.self) (g.L.StateLanes.heads c.raise.new.lanes) c.args.raises.now c.raise.new.self) machine
-    (subst (λ (e : ℕ). Sees c.args.grid.now.machines (IsOnMachine c.args.grid.now (get_or c.machines.result.now (get_or c.args.next.now c.args.job 0) 0)) e
+    (subst (λ (e : ℕ). Sees c.args.grid.now.machines (IsOnMachine c.args.grid.now c.machine-machine.result) e
     (g.L.StateLanes.heads c.set_head.new.self) (g.L.StateLanes.heads c.raise.new.lanes) c.args.raises.now c.raise.new.self) end c.raise.ensures.seen)
     in trial_raises_fit g.L.StateLanes.GREATEST c.requires.can.shop c.requires.can.word c.args.grid.now
     (rows_of c.args.grid.now (g.L.StateLanes.heads c.args.lanes.now)
@@ -121,9 +128,11 @@ take_bound-bound-requires-clause-fits g c =
 
 pub returns-then-limit-bound-clause-told : goal.returns-then-limit-bound-clause-told
 returns-then-limit-bound-clause-told g c = λ shop w is.
-    let machine : get_or c.machines.result.now (get_or c.args.next.now c.args.job 0) 0 ≡ get_or c.args.grid.now.machines (get_or c.args.next.now c.args.job 0) 0 =
-    ap (λ (xs : List ℕ). get_or xs (get_or c.args.next.now c.args.job 0) 0) c.machines.ensures
+    let machine : c.machine-machine.result ≡ get_or c.args.grid.now.machines (get_or c.args.next.now c.args.job 0) 0 =
+    c.machine-machine.ensures
+    ∙ ap (λ (l : LayoutState). get_or l.machines (get_or c.args.next.now c.args.job 0) 0) c.routes-routes.ensures
     in let head = c.head.ensures in let time = c.time.ensures
+    ∙ ap (λ (l : LayoutState). get_or l.times (get_or c.args.next.now c.args.job 0) 0) c.routes-routes.ensures
     in let end : c.head.result + c.time.result ≡ get_or (g.L.StateLanes.heads c.args.lanes.now) (get_or c.args.next.now c.args.job 0) 0
     + get_or c.args.grid.now.times (get_or c.args.next.now c.args.job 0) 0 = omega arith
     in let raising : Raises g.L.StateLanes.GREATEST c.args.grid.now c.args.next.now
@@ -140,7 +149,7 @@ returns-then-limit-bound-clause-told g c = λ shop w is.
     (rows_of c.args.grid.now (g.L.StateLanes.heads c.raise.new.lanes)
     (g.L.StateLanes.ends c.raise.new.lanes))) machine
     (subst (λ (e : ℕ). Raises g.L.StateLanes.GREATEST c.args.grid.now c.args.next.now
-    (IsOnMachine c.args.grid.now (get_or c.machines.result.now (get_or c.args.next.now c.args.job 0) 0)) e
+    (IsOnMachine c.args.grid.now c.machine-machine.result) e
     (rows_of c.args.grid.now (g.L.StateLanes.heads c.set_head.new.self)
     (g.L.StateLanes.ends c.set_head.new.self))
     (rows_of c.args.grid.now (g.L.StateLanes.heads c.raise.new.lanes)
@@ -152,7 +161,7 @@ returns-then-limit-bound-clause-told g c = λ shop w is.
     subst (λ (m : ℕ). Sees c.args.grid.now.machines (IsOnMachine c.args.grid.now m)
     (get_or (g.L.StateLanes.heads c.args.lanes.now) (get_or c.args.next.now c.args.job 0) 0 + get_or c.args.grid.now.times (get_or c.args.next.now c.args.job 0) 0)
     (g.L.StateLanes.heads c.set_head.new.self) (g.L.StateLanes.heads c.raise.new.lanes) c.args.raises.now c.raise.new.self) machine
-    (subst (λ (e : ℕ). Sees c.args.grid.now.machines (IsOnMachine c.args.grid.now (get_or c.machines.result.now (get_or c.args.next.now c.args.job 0) 0)) e
+    (subst (λ (e : ℕ). Sees c.args.grid.now.machines (IsOnMachine c.args.grid.now c.machine-machine.result) e
     (g.L.StateLanes.heads c.set_head.new.self) (g.L.StateLanes.heads c.raise.new.lanes) c.args.raises.now c.raise.new.self) end c.raise.ensures.seen)
     in let many = c.requires.can.machines_are ∙ same_machines c.args.grid.now c.requires.can.shop shop
     c.requires.can.is.kept.kept.laid is.kept.kept.laid
@@ -176,9 +185,11 @@ go_on-requires-clause-job g c = its_job g.L.StateLanes.GREATEST c.requires.can.s
 
 pub go_on-requires-clause-keep : goal.go_on-requires-clause-keep
 go_on-requires-clause-keep g c =
-    let machine : get_or c.machines.result.now (get_or c.args.next.now c.args.job 0) 0 ≡ get_or c.args.grid.now.machines (get_or c.args.next.now c.args.job 0) 0 =
-    ap (λ (xs : List ℕ). get_or xs (get_or c.args.next.now c.args.job 0) 0) c.machines.ensures
+    let machine : c.machine-machine.result ≡ get_or c.args.grid.now.machines (get_or c.args.next.now c.args.job 0) 0 =
+    c.machine-machine.ensures
+    ∙ ap (λ (l : LayoutState). get_or l.machines (get_or c.args.next.now c.args.job 0) 0) c.routes-routes.ensures
     in let head = c.head.ensures in let time = c.time.ensures
+    ∙ ap (λ (l : LayoutState). get_or l.times (get_or c.args.next.now c.args.job 0) 0) c.routes-routes.ensures
     in let end : c.head.result + c.time.result ≡ get_or (g.L.StateLanes.heads c.args.lanes.now) (get_or c.args.next.now c.args.job 0) 0
     + get_or c.args.grid.now.times (get_or c.args.next.now c.args.job 0) 0 = omega arith
     in let raising : Raises g.L.StateLanes.GREATEST c.args.grid.now c.args.next.now
@@ -195,7 +206,7 @@ go_on-requires-clause-keep g c =
     (rows_of c.args.grid.now (g.L.StateLanes.heads c.raise.new.lanes)
     (g.L.StateLanes.ends c.raise.new.lanes))) machine
     (subst (λ (e : ℕ). Raises g.L.StateLanes.GREATEST c.args.grid.now c.args.next.now
-    (IsOnMachine c.args.grid.now (get_or c.machines.result.now (get_or c.args.next.now c.args.job 0) 0)) e
+    (IsOnMachine c.args.grid.now c.machine-machine.result) e
     (rows_of c.args.grid.now (g.L.StateLanes.heads c.set_head.new.self)
     (g.L.StateLanes.ends c.set_head.new.self))
     (rows_of c.args.grid.now (g.L.StateLanes.heads c.raise.new.lanes)
@@ -213,9 +224,11 @@ go_on-requires-clause-keep g c =
 
 pub returns-clause-told : goal.returns-clause-told
 returns-clause-told g c = λ shop w is.
-    let machine : get_or c.machines.result.now (get_or c.args.next.now c.args.job 0) 0 ≡ get_or c.args.grid.now.machines (get_or c.args.next.now c.args.job 0) 0 =
-    ap (λ (xs : List ℕ). get_or xs (get_or c.args.next.now c.args.job 0) 0) c.machines.ensures
+    let machine : c.machine-machine.result ≡ get_or c.args.grid.now.machines (get_or c.args.next.now c.args.job 0) 0 =
+    c.machine-machine.ensures
+    ∙ ap (λ (l : LayoutState). get_or l.machines (get_or c.args.next.now c.args.job 0) 0) c.routes-routes.ensures
     in let head = c.head.ensures in let time = c.time.ensures
+    ∙ ap (λ (l : LayoutState). get_or l.times (get_or c.args.next.now c.args.job 0) 0) c.routes-routes.ensures
     in let end : c.head.result + c.time.result ≡ get_or (g.L.StateLanes.heads c.args.lanes.now) (get_or c.args.next.now c.args.job 0) 0
     + get_or c.args.grid.now.times (get_or c.args.next.now c.args.job 0) 0 = omega arith
     in let raising : Raises g.L.StateLanes.GREATEST c.args.grid.now c.args.next.now
@@ -232,7 +245,7 @@ returns-clause-told g c = λ shop w is.
     (rows_of c.args.grid.now (g.L.StateLanes.heads c.raise.new.lanes)
     (g.L.StateLanes.ends c.raise.new.lanes))) machine
     (subst (λ (e : ℕ). Raises g.L.StateLanes.GREATEST c.args.grid.now c.args.next.now
-    (IsOnMachine c.args.grid.now (get_or c.machines.result.now (get_or c.args.next.now c.args.job 0) 0)) e
+    (IsOnMachine c.args.grid.now c.machine-machine.result) e
     (rows_of c.args.grid.now (g.L.StateLanes.heads c.set_head.new.self)
     (g.L.StateLanes.ends c.set_head.new.self))
     (rows_of c.args.grid.now (g.L.StateLanes.heads c.raise.new.lanes)
@@ -244,7 +257,7 @@ returns-clause-told g c = λ shop w is.
     subst (λ (m : ℕ). Sees c.args.grid.now.machines (IsOnMachine c.args.grid.now m)
     (get_or (g.L.StateLanes.heads c.args.lanes.now) (get_or c.args.next.now c.args.job 0) 0 + get_or c.args.grid.now.times (get_or c.args.next.now c.args.job 0) 0)
     (g.L.StateLanes.heads c.set_head.new.self) (g.L.StateLanes.heads c.raise.new.lanes) c.args.raises.now c.raise.new.self) machine
-    (subst (λ (e : ℕ). Sees c.args.grid.now.machines (IsOnMachine c.args.grid.now (get_or c.machines.result.now (get_or c.args.next.now c.args.job 0) 0)) e
+    (subst (λ (e : ℕ). Sees c.args.grid.now.machines (IsOnMachine c.args.grid.now c.machine-machine.result) e
     (g.L.StateLanes.heads c.set_head.new.self) (g.L.StateLanes.heads c.raise.new.lanes) c.args.raises.now c.raise.new.self) end c.raise.ensures.seen)
     in let many = c.requires.can.machines_are ∙ same_machines c.args.grid.now c.requires.can.shop shop
     c.requires.can.is.kept.kept.laid is.kept.kept.laid
@@ -263,9 +276,11 @@ returns-clause-told g c = λ shop w is.
 
 pub returns-clause-state : goal.returns-clause-state
 returns-clause-state g c = λ shop w kept fits.
-    let machine : get_or c.machines.result.now (get_or c.args.next.now c.args.job 0) 0 ≡ get_or c.args.grid.now.machines (get_or c.args.next.now c.args.job 0) 0 =
-    ap (λ (xs : List ℕ). get_or xs (get_or c.args.next.now c.args.job 0) 0) c.machines.ensures
+    let machine : c.machine-machine.result ≡ get_or c.args.grid.now.machines (get_or c.args.next.now c.args.job 0) 0 =
+    c.machine-machine.ensures
+    ∙ ap (λ (l : LayoutState). get_or l.machines (get_or c.args.next.now c.args.job 0) 0) c.routes-routes.ensures
     in let head = c.head.ensures in let time = c.time.ensures
+    ∙ ap (λ (l : LayoutState). get_or l.times (get_or c.args.next.now c.args.job 0) 0) c.routes-routes.ensures
     in let end : c.head.result + c.time.result ≡ get_or (g.L.StateLanes.heads c.args.lanes.now) (get_or c.args.next.now c.args.job 0) 0
     + get_or c.args.grid.now.times (get_or c.args.next.now c.args.job 0) 0 = omega arith
     in let raising : Raises g.L.StateLanes.GREATEST c.args.grid.now c.args.next.now
@@ -282,7 +297,7 @@ returns-clause-state g c = λ shop w kept fits.
     (rows_of c.args.grid.now (g.L.StateLanes.heads c.raise.new.lanes)
     (g.L.StateLanes.ends c.raise.new.lanes))) machine
     (subst (λ (e : ℕ). Raises g.L.StateLanes.GREATEST c.args.grid.now c.args.next.now
-    (IsOnMachine c.args.grid.now (get_or c.machines.result.now (get_or c.args.next.now c.args.job 0) 0)) e
+    (IsOnMachine c.args.grid.now c.machine-machine.result) e
     (rows_of c.args.grid.now (g.L.StateLanes.heads c.set_head.new.self)
     (g.L.StateLanes.ends c.set_head.new.self))
     (rows_of c.args.grid.now (g.L.StateLanes.heads c.raise.new.lanes)

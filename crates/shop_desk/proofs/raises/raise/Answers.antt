@@ -33,7 +33,7 @@ raise_blocks-count-requires-clause-raisable g c =
     let a = c.min.ensures in let b = c.block-behind.ensures in let d = c.loop-from-test.true
     in subst (λ (l : LayoutState). IsRaisable g.L.StateLanes.GREATEST l c.args.next.now
     (rows_of l (g.L.StateLanes.heads c.loop-from.lanes) (g.L.StateLanes.ends c.loop-from.lanes))
-    (IsInBlocks c.loop-from.from (c.loop-from.from + c.min.result)) c.args.end) (sym c.routes-routes.ensures)
+    (IsInBlocks c.loop-from.from (c.loop-from.from + c.min.result)) c.args.end) (sym c.requires.routes)
     (blocks_raisable g.L.StateLanes.GREATEST c.args.grid.now c.args.next.now
     (get_or c.args.grid.now.blocks c.args.machine 0)
     c.loop-from.from (c.loop-from.from + c.min.result)
@@ -43,11 +43,11 @@ raise_blocks-count-requires-clause-raisable g c =
 
 pub raise_blocks-count-requires-clause-jobs : goal.raise_blocks-count-requires-clause-jobs
 raise_blocks-count-requires-clause-jobs g c =
-    subst (λ (l : LayoutState). length l.places ≤ length c.args.next.now) (sym c.routes-routes.ensures) c.requires.jobs
+    subst (λ (l : LayoutState). length l.places ≤ length c.args.next.now) (sym c.requires.routes) c.requires.jobs
 
 pub raise_blocks-count-requires-clause-known : goal.raise_blocks-count-requires-clause-known
 raise_blocks-count-requires-clause-known g c =
-    subst (λ (l : LayoutState). AreKnown l.machines (length c.loop-from.raises)) (sym c.routes-routes.ensures) (λ q here.
+    subst (λ (l : LayoutState). AreKnown l.machines (length c.loop-from.raises)) (sym c.requires.routes) (λ q here.
     let long = c.loop-from.invariant.machines in let known = c.requires.known q here in omega arith)
 
 pub loop-from-preserved : goal.loop-from-preserved
@@ -58,11 +58,11 @@ loop-from-preserved g c =
     (IsInBlocks c.loop-from.from (c.loop-from.from + c.min.result)) c.args.end
     (rows_of l (g.L.StateLanes.heads c.loop-from.lanes) (g.L.StateLanes.ends c.loop-from.lanes))
     (rows_of l (g.L.StateLanes.heads c.raise_blocks-count.new.lanes) (g.L.StateLanes.ends c.raise_blocks-count.new.lanes)))
-    c.routes-routes.ensures c.raise_blocks-count.ensures.raises
+    c.requires.routes c.raise_blocks-count.ensures.raises
     in let seen = subst (λ (l : LayoutState). Sees l.machines
     (IsInBlocks c.loop-from.from (c.loop-from.from + c.min.result)) c.args.end
     (g.L.StateLanes.heads c.loop-from.lanes) (g.L.StateLanes.heads c.raise_blocks-count.new.lanes) c.loop-from.raises
-    c.raise_blocks-count.new.raises) c.routes-routes.ensures c.raise_blocks-count.ensures.seen
+    c.raise_blocks-count.new.raises) c.requires.routes c.raise_blocks-count.ensures.seen
     in record {
       ordered = omega arith;
       within = omega arith;
