@@ -30,7 +30,8 @@ module _ (l : LayoutState) (heads ends : List ℕ) (x : ℕ) (now ends' : List �
       is ∙ (ap (λ (hs : List ℕ). span 1 0 (lanes_of hs l.times l.tails from to)) now_is
       ∙ (ap (λ (n : ℕ). span 1 0 (lanes_of (set heads x 0) l.times l.tails n to))
       (from_is ∙ ap (λ (xs : List ℕ). get_or l.blocks (get_or xs x 0) 0) ms_is)
-      ∙ ap (λ (n : ℕ). span 1 0 (lanes_of (set heads x 0) l.times l.tails (get_or l.blocks (get_or l.machines x 0) 0) n))
+      ∙ ap (λ (n : ℕ). span 1 0 (lanes_of (set heads x 0) l.times l.tails
+      (get_or l.blocks (get_or l.machines x 0) 0) n))
       (to_is ∙ ap (λ (xs : List ℕ). get_or l.blocks (get_or xs x 0 + 1) 0) ms_is)))
 
   pub ahead_fits : (greatest end : ℕ) → FitsSpan greatest end beside → end + load ≤ greatest

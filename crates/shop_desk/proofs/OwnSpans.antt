@@ -201,7 +201,8 @@ module _ (greatest : ℕ) (shop : Shop) (w : List ℕ) (l : LayoutState) (heads 
           → told_at nexts (8 * get_or l.blocks m 0) owns j ≡ own_at l heads x - 1
       told_is owns are =
           ap (λ (n : ℕ). n - 1) (are x its_from its_to its_head
-          ∙ ap (λ (n : ℕ). own_span heads l.times l.tails (get_or l.blocks n 0) (get_or l.blocks (n + 1) 0) x) (sym m_is))
+          ∙ ap (λ (n : ℕ). own_span heads l.times l.tails (get_or l.blocks n 0) (get_or l.blocks (n + 1) 0) x)
+          (sym m_is))
 
   -- the conflict set
   module _ (jobs : List ℕ) (set_is : jobs ≡ conflict shop w) where

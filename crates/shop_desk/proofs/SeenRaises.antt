@@ -59,7 +59,8 @@ blocks_risen from to floor first end hs hs' ts qs a b c within each =
     in subst (λ (xs : List Lane). AreBeside (IsRisenLane from to floor) xs (lanes_of hs' ts qs first end))
     (by_both hs lh lt lq a b)
     (subst (AreBeside (IsRisenLane from to floor)
-    (lanes (by_columns n (blocks first end hs)) (by_columns n (blocks first end ts)) (by_columns n (blocks first end qs))))
+    (lanes (by_columns n (blocks first end hs)) (by_columns n (blocks first end ts))
+    (by_columns n (blocks first end qs))))
     (by_both hs' lh' lt lq (a ∙ sym c) (b ∙ sym c)) risen)
   where
     eights : 8 * end - 8 * first ≡ 8 * (end - first)
@@ -159,7 +160,8 @@ module _ (shop : Shop) (limits : IsWithinLimits shop) (l : LayoutState) (laid : 
           (new.positions ∙ sym old.positions) within (risen floor foreseen)
           in subst (λ (xs : List Lane). AreBeside IsRisenHere xs (lanes_on rows' l m))
           (lanes_are l rows was heads times tails m)
-          (subst (AreBeside IsRisenHere (lanes_of was l.times l.tails (get_or l.blocks m 0) (get_or l.blocks (m + 1) 0)))
+          (subst (AreBeside IsRisenHere (lanes_of was l.times l.tails
+          (get_or l.blocks m 0) (get_or l.blocks (m + 1) 0)))
           (lanes_are l rows' now heads' times' tails' m) a)
         where
           IsRisenHere : Lane → Lane → Type 0

@@ -69,7 +69,8 @@ noted_more n first count slots old now new before here apart rows x x_is is =
             ap (λ (k : ℕ). get_or slots k d) e ∙ get_or_default slots n d no_slot here
             in ap (λ (t : Slot). place_in new t.job t.step) same
             ∙ (ap (λ (xs : List (List ℕ)). place_in xs s.job s.step) is
-            ∙ (place_here now s.job s.step x job step ∙ (x_is ∙ ap (λ (k : ℕ). first + place_at_rank count k) (sym e)))))
+            ∙ (place_here now s.job s.step x job step
+            ∙ (x_is ∙ ap (λ (k : ℕ). first + place_at_rank count k) (sym e)))))
         | inr ne ↦ (let t = get_or slots i d
             in ap (λ (xs : List (List ℕ)). place_in xs t.job t.step) is
             ∙ (place_other now s.job s.step x job step t.job t.step
