@@ -50,7 +50,7 @@ pub record CanTakeSpans (greatest : ℕ) (raises : List Raise) (raised : List �
     (l : LayoutState) (rows : Rows) (least : ℕ) : Type 0 where
   pub listed : AreListed raises raised count
   pub small : 4 * length raised < 2 ^ 64
-  pub least : least ≤ greatest
+  pub least_fits : least ≤ greatest
   pub times : length l.times ≡ length rows.heads
   pub tails : length l.tails ≡ length l.times
   pub fits : AreRaisesFit greatest raises l rows
