@@ -52,6 +52,7 @@ module _ (shop : Shop) (limits : IsWithinLimits shop) (l : LayoutState) (laid : 
       ordered = omega arith;
       within = omega arith;
     });
+    below = λ m known. (let f = fits m known in omega arith);
     fits = λ m known. (let from = get_or l.blocks m 0 in let to = get_or l.blocks (m + 1) 0
         in let b = within m known
         in let ts = laid.positions.times in let qs = laid.positions.tails

@@ -8,13 +8,12 @@ ghost use Rattle.shop_desk.specs.inner.Raises.{HasBlocks, IsOnMachine, IsRaisabl
 ghost use Rattle.shop_desk.specs.inner.Watchers.{AreKnown, Sees};
 
 use crate::head_raises::{NO_RAISE, Raise};
-use crate::lane_bounds::span_by_raise;
+use crate::lane_bounds::take_spans;
 use crate::raises::raise;
 use shop_lanes::StateLanes;
 use shop_layout::{Grid, Routes};
 use std::alloc::{AllocError, Global};
 use std::marker::Model;
-use std::mem;
 
 /// The raise of each machine, empty at rest, with a list of the machines that have one: so a bound visits only those.
 #[derive(Drop)]
@@ -36,48 +35,6 @@ impl Model for MachineRaises {
     ghost view = { λ r. r.raises.items };
 
     ghost invariant = { λ r. AreListed r.raises.items r.raised.items r.count };
-}
-
-/// The greatest of `least` and the spans of the listed machines from their raised heads on; once that reaches the limit,
-/// any number between the limit and it. These raises are empty afterwards. Heads and spans in lanes are one more than
-/// what they stand for, and so are these numbers.
-#[inline(always)]
-fn take_spans<L: StateLanes>(
-    raises: &mut [Raise],
-    raised: &[u32],
-    count: usize,
-    lanes: &L,
-    grid: &Grid<L>,
-    least: u64,
-    limit: u64,
-) -> u64
-    requires listed { AreListed raises.old raised.now count }
-    requires small { 4 * length raised.now < 2 ^ 64 }
-    requires least { least ≤ L.GREATEST }
-    requires times { length grid.now.times ≡ length (L.heads lanes.now) }
-    requires tails { length grid.now.tails ≡ length grid.now.times }
-    requires fits { AreRaisesFit L.GREATEST raises.old grid.now
-        (rows_of grid.now (L.heads lanes.now) (L.ends lanes.now)) }
-    ensures listed { AreListed raises.new raised.now 0 }
-    ensures long { length raises.new ≡ length raises.old }
-    ensures least { least ≤ result }
-    ensures covers { result < limit → (m : ℕ) → spans_between (raise_of raises.old m).from
-        (raise_of raises.old m).to
-        (lanes_on (rows_of grid.now (L.heads lanes.now) (L.ends lanes.now)) grid.now m) ≤ result }
-    ensures within { (c : ℕ) → least ≤ c → ((m above upto : ℕ) → m < length raises.old
-        → spans_between above upto
-        (lanes_on (rows_of grid.now (L.heads lanes.now) (L.ends lanes.now)) grid.now m) ≤ c)
-        → result ≤ c }
-{
-    let mut most = least;
-    let mut left = count;
-    while left > 0 {
-        left -= 1;
-        let machine = raised[left] as usize;
-        let raise = mem::replace(&mut raises[machine], NO_RAISE);
-        most = span_by_raise(lanes, grid, machine, raise, most, limit);
-    }
-    most
 }
 
 impl MachineRaises {

@@ -1,6 +1,6 @@
 -- Spans from heads on, and how far one load settles them.
 use Rattle.std.proofs.Common.{◌≡◌, ℕ, ◌+◌, ◌-◌, ◌<◌, ◌≤◌, min, max, Bool, true, false, cond, leb, ltb, ◌&&◌, List, []}
-use Rattle.std.proofs.Common.{◌∷◌, zero, suc, get_or}
+use Rattle.std.proofs.Common.{◌∷◌}
 use Rattle.std.proofs.Common.{length, refl, ap, sym, ◌∙◌, arith, inl, inr}
 use Rattle.std.proofs.lemmas.Bool.Decides.{nat_tests}
 use Rattle.std.proofs.lemmas.Bool.{cases_lt}
@@ -90,27 +90,6 @@ some_waits top from s (x ∷ xs) lt =
         → s ≤ cond on (max (s + x.time + x.tail) (span from (s + x.time) xs)) (span from s xs)
     by_test true rest less = omega arith
     by_test false rest less = rest (omega arith)
-
-pub waits_at : (from s : ℕ) (xs : List Lane) (i : ℕ) (d : Lane) → i < length xs → from ≤ (get_or xs i d).head
-    → s ≤ span from s xs
-waits_at from s [] i d lt waits = absurd (omega arith)
-waits_at from s (x ∷ xs) zero d lt waits =
-    by_test (leb from x.head) (is_on x.head waits)
-  where
-    is_on : (h : ℕ) → from ≤ h → leb from h ≡ true
-    is_on h le = grind (arith, nat_tests)
-
-    by_test : (on : Bool) → on ≡ true
-        → s ≤ cond on (max (s + x.time + x.tail) (span from (s + x.time) xs)) (span from s xs)
-    by_test true e = omega arith
-    by_test false e = absurd (true_false (sym e))
-waits_at from s (x ∷ xs) (suc i) d lt waits =
-    by_test (leb from x.head) (waits_at from s xs i d (omega arith) waits)
-  where
-    by_test : (on : Bool) → s ≤ span from s xs
-        → s ≤ cond on (max (s + x.time + x.tail) (span from (s + x.time) xs)) (span from s xs)
-    by_test true rest = omega arith
-    by_test false rest = rest
 
 -- the span from the least head on is that head and the load
 pub least_span : (top from : ℕ) (xs : List Lane) → from ≤ top → least_head top from xs < top

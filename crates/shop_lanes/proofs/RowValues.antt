@@ -1,6 +1,6 @@
 -- Rows of numbers of some width, seen as numbers.
-use Rattle.std.proofs.Common.{◌≡◌, ℕ, ◌<◌, get_or, ◌-◌, ◌*◌, ◌/◌, ◌++◌, min, List, length, map, take, drop, replicate, ap, sym, ◌∙◌, arith}
-use Rattle.std.proofs.lemmas.List.{length-map, get_or-map, length-take, length-replicate, take-map, drop-map}
+use Rattle.std.proofs.Common.{◌≡◌, ℕ, ◌-◌, ◌*◌, ◌/◌, ◌++◌, min, List, length, map, take, drop, replicate, ap, sym, ◌∙◌, arith}
+use Rattle.std.proofs.lemmas.List.{length-map, length-take, length-replicate, take-map, drop-map}
 use Rattle.std.proofs.Math.Seq.{take-append_seam}
 use Rattle.std.proofs.Common.{length-drop}
 use Rattle.shop_lanes.specs.Rows.{lanes, blocks, by_columns, lanes_of, AreBlocksOf}
@@ -10,10 +10,6 @@ use Rattle.shop_lanes.proofs.LaneLists.{lanes-blocks, length-blocks}
 module _ {A : Type 0} (f : A → ℕ) where
   pub as_long : (xs ys : List A) → length xs ≡ length ys → length (map f xs) ≡ length (map f ys)
   as_long xs ys e = length-map xs f ∙ e ∙ sym (length-map ys f)
-
-  pub value_read : (row : List A) (i : ℕ) (now : A) → i < length row → now ≡ get_or row i now
-      → f now ≡ get_or (map f row) i 0
-  value_read row i now lt read = ap f read ∙ sym (get_or-map f row i now 0 lt)
 
   -- the values of blocks that were sliced out of a row
   pub values_of_blocks : (xs row : List A) (from to : ℕ) → xs ≡ row

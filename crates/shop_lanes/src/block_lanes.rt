@@ -6,7 +6,7 @@ ghost use Rattle.shop_lanes.specs.inner.Passes.{IsPadded};
 use crate::leaps::leap_over;
 use crate::marking::Marks;
 use crate::owning::own_spans;
-use crate::passes::{bits_up_to, first_least, greatest_span, load};
+use crate::passes::{bits_up_to, first_least, load};
 use crate::state_lanes::StateLanes;
 use shop_blocks::Block;
 use std::alloc::{AllocError, Global};
@@ -182,9 +182,6 @@ impl<B: Block> StateLanes for BlockLanes<B> {
         let heads = &self.heads[first..end];
         let times = &fixed.times[first..end];
         let tails = &fixed.tails[first..end];
-        if upto == B::GREATEST {
-            return greatest_span::<B>(heads, times, tails, above, most);
-        }
         leap_over::<B>(heads, times, tails, above, upto, most, limit)
     }
 

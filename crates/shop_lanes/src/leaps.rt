@@ -70,38 +70,8 @@ fn leap<B: Block>(
     bound
 }
 
-/// The same for machines of four blocks and more, in a function of its own.
-#[inline(never)]
-fn leap_over_longer<B: Block>(
-    heads: &[B::Number],
-    times: &[B::Number],
-    tails: &[B::Number],
-    above: u64,
-    upto: u64,
-    most: u64,
-    limit: u64,
-) -> u64
-    requires whole_blocks { length heads.now % 8 ≡ 0 }
-    requires times { length times.now ≡ length heads.now }
-    requires tails { length tails.now ≡ length heads.now }
-    requires below { upto < B.GREATEST }
-    requires fits { FitsSpan B.GREATEST upto
-        (lanes_by B.value heads.now times.now tails.now) }
-    ensures { IsRaisedBelow limit (max most (spans_between above upto
-        (lanes_by B.value heads.now times.now tails.now))) result }
-{
-    match heads.len() {
-        32 => leap::<B>(32, heads, times, tails, above, upto, most, limit),
-        40 => leap::<B>(40, heads, times, tails, above, upto, most, limit),
-        48 => leap::<B>(48, heads, times, tails, above, upto, most, limit),
-        56 => leap::<B>(56, heads, times, tails, above, upto, most, limit),
-        64 => leap::<B>(64, heads, times, tails, above, upto, most, limit),
-        _ => leap::<B>(heads.len(), heads, times, tails, above, upto, most, limit),
-    }
-}
-
 /// The greater of `most` and the spans from each head above `above` and up to `upto` on; where that reaches the limit,
-/// one that does.
+/// one that does. Where the caller knows how many heads there are, one of these is left.
 #[inline(always)]
 pub(crate) fn leap_over<B: Block>(
     heads: &[B::Number],
@@ -125,6 +95,11 @@ pub(crate) fn leap_over<B: Block>(
         8 => leap::<B>(8, heads, times, tails, above, upto, most, limit),
         16 => leap::<B>(16, heads, times, tails, above, upto, most, limit),
         24 => leap::<B>(24, heads, times, tails, above, upto, most, limit),
-        _ => leap_over_longer::<B>(heads, times, tails, above, upto, most, limit),
+        32 => leap::<B>(32, heads, times, tails, above, upto, most, limit),
+        40 => leap::<B>(40, heads, times, tails, above, upto, most, limit),
+        48 => leap::<B>(48, heads, times, tails, above, upto, most, limit),
+        56 => leap::<B>(56, heads, times, tails, above, upto, most, limit),
+        64 => leap::<B>(64, heads, times, tails, above, upto, most, limit),
+        _ => leap::<B>(heads.len(), heads, times, tails, above, upto, most, limit),
     }
 }

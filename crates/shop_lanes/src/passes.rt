@@ -1,13 +1,12 @@
 // Passes over rows of numbers, a block of eight at a time.
-ghost use Rattle.std.specs.Prelude.{◌≡◌, ℕ, ◌+◌, ◌*◌, ◌/◌, ◌%◌, ◌^◌, ◌<◌, ◌≤◌, max, length, map};
+ghost use Rattle.std.specs.Prelude.{◌≡◌, ℕ, ◌+◌, ◌*◌, ◌/◌, ◌%◌, ◌^◌, ◌<◌, ◌≤◌, length, map};
 ghost use Rattle.std.specs.Prelude.{slice_index};
 ghost use Rattle.std.specs.Simd.Lanes.{mask_l};
 ghost use Rattle.shop_lanes.specs.Spans.{FitsSpan};
 ghost use Rattle.shop_lanes.specs.Ends.{IsFirstLeast};
 ghost use Rattle.shop_blocks.specs.Eights.{is_between};
 ghost use Rattle.shop_blocks.specs.Folds.{least_up_to};
-ghost use Rattle.shop_lanes.specs.inner.Passes.{lanes_by, span_by, spans_by, AreColumns, span_within};
-ghost use Rattle.shop_lanes.specs.inner.Passes.{IsFirstOf};
+ghost use Rattle.shop_lanes.specs.inner.Passes.{lanes_by, span_by, AreColumns, IsFirstOf};
 
 use crate::served_blocks::serve;
 use shop_blocks::{Block, greatest_of, least_of, sums_before};
@@ -118,56 +117,6 @@ pub(crate) fn load<B: Block>(
         24 => load_of::<B>(24, heads, times, tails, least),
         _ => load_of_longer::<B>(heads, times, tails, least),
     }
-}
-
-/// The span from the head at a position on, if that is above `above`; else 0.
-fn span_from<B: Block>(
-    heads: &[B::Number],
-    times: &[B::Number],
-    tails: &[B::Number],
-    above: u64,
-    position: usize,
-) -> u64
-    requires whole_blocks { length heads.now % 8 ≡ 0 }
-    requires times { length times.now ≡ length heads.now }
-    requires tails { length tails.now ≡ length heads.now }
-    requires within { position < length heads.now }
-    requires fits { FitsSpan B.GREATEST B.GREATEST
-        (lanes_by B.value heads.now times.now tails.now) }
-    ensures { result ≡ span_within above B.GREATEST
-        (lanes_by B.value heads.now times.now tails.now)
-        (slice_index (map B.value heads.now) position) }
-{
-    let head = B::widened(heads[position]);
-    let upto = B::GREATEST;
-    if above < head && head <= upto {
-        return head + load_of::<B>(heads.len(), heads, times, tails, head);
-    }
-    0
-}
-
-/// The greatest of `most` and the spans from each head above `above` on; in a function of its own.
-#[inline(never)]
-pub(crate) fn greatest_span<B: Block>(
-    heads: &[B::Number],
-    times: &[B::Number],
-    tails: &[B::Number],
-    above: u64,
-    most: u64,
-) -> u64
-    requires whole_blocks { length heads.now % 8 ≡ 0 }
-    requires times { length times.now ≡ length heads.now }
-    requires tails { length tails.now ≡ length heads.now }
-    requires fits { FitsSpan B.GREATEST B.GREATEST
-        (lanes_by B.value heads.now times.now tails.now) }
-    ensures { result
-        ≡ max most (spans_by B.value heads.now times.now tails.now above B.GREATEST) }
-{
-    let mut most = most;
-    for position in 0..heads.len() {
-        most = most.max(span_from::<B>(heads, times, tails, above, position));
-    }
-    most
 }
 
 /// A bit for each of so many numbers, the first the lowest, that says whether it is above `above` and at most `upto`.

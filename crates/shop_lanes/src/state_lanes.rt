@@ -115,6 +115,7 @@ pub trait StateLanes: Drop {
     ) -> u64
         requires blocks { AreBlocksOf (heads self.now) (times fixed.now) (tails fixed.now) from to }
         requires most { most ≤ GREATEST }
+        requires below { upto < GREATEST }
         requires fits { FitsSpan GREATEST upto
             (lanes_of (heads self.now) (times fixed.now) (tails fixed.now) from to) }
         ensures { IsRaisedBelow limit (max most (spans_between above upto

@@ -5,12 +5,13 @@
 --     place l j k                    the position of step k of job j
 --     place_or n rows j k            the same by rows, one a job, or n if the route has no such step
 --     AreMachinesOf blocks n ms      the machine of each position, of the first n machines
+--     AreEven blocks each            each machine has so many blocks, if this isn't 0
 --     position_at_rank blocks m i    where rank i of machine m stands
 --     IsAt l q s                     operation s stands at position q
 --     IsFree shop l q                no operation of the instance stands there
 --     IsPadding l q                  nothing is added up there
 --     IsLaidOut shop l               it is the layout of the instance
-use Rattle.std.specs.Prelude.{◌≡◌, ℕ, ◌+◌, ◌-◌, ◌*◌, ◌≤◌, ◌<◌, List, [], length, slice_index}
+use Rattle.std.specs.Prelude.{◌≡◌, ℕ, ◌+◌, ◌-◌, ◌*◌, ◌^◌, ◌≤◌, ◌<◌, List, [], length, slice_index}
 use Rattle.std.specs.Prelude.{slice_index_or, if◌then◌else◌, nat_lt}
 use Rattle.shop_lanes.specs.Rows.{place_at_rank}
 use Rattle.shop_model.specs.Shop.{Shop, IsOperation, route_of}
@@ -46,6 +47,13 @@ pub record AreMachinesOf (blocks : List ℕ) (machines : ℕ) (ms : List ℕ) : 
   pub known : (q : ℕ) → q < length ms → slice_index ms q < machines
   pub at : (m q : ℕ) → m < machines → 8 * slice_index blocks m ≤ q
       → q < 8 * slice_index blocks (m + 1) → slice_index ms q ≡ m
+
+pub record AreMultiples (blocks : List ℕ) (each : ℕ) : Type 0 where
+  pub at : (m : ℕ) → m < length blocks → slice_index blocks m ≡ each * m
+  pub small : (m : ℕ) → m < length blocks → each * m < 2 ^ 32
+
+abbrev pub AreEven : List ℕ → ℕ → Type 0
+AreEven blocks each = 0 < each → AreMultiples blocks each
 
 -- the first position of machine m, and how many positions there are
 abbrev pub first_position : LayoutState → ℕ → ℕ

@@ -1,10 +1,11 @@
 // The operations of an instance by position, with their times and tails in lanes.
 ghost use Rattle.std.specs.Prelude.{◌≡◌, ◌<◌, All, IfOk, length, slice_index, slice_index_or, []};
-ghost use Rattle.std.specs.Prelude.{◌≤◌, ◌-◌, ◌*◌, map, max};
+ghost use Rattle.std.specs.Prelude.{◌≤◌, ◌+◌, ◌-◌, ◌*◌, ◌^◌, map, max};
 ghost use Rattle.shop_lanes.specs.Rows.{AreBlocks, lanes_between};
 ghost use Rattle.shop_lanes.specs.Spans.{AreOwnSpans, FitOwnSpans, FitsSpan, IsRaisedBelow, span};
 ghost use Rattle.shop_lanes.specs.Spans.{spans_between};
 ghost use Rattle.shop_layout.specs.Lanes.{rows_of};
+ghost use Rattle.shop_layout.specs.Positions.{AreEven};
 
 use crate::positions::Positions;
 use crate::routes::Routes;
@@ -17,18 +18,39 @@ use std::marker::Model;
 pub struct Grid<L: StateLanes> {
     positions: Positions,
     fixed: L::Fixed,
+    /// how many blocks each machine has; 0 where they differ
+    blocks_each: usize,
 }
 
 impl<L: StateLanes> Model for Grid<L> {
     ghost use Rattle.std.specs.Prelude.{◌≡◌};
-    ghost use Rattle.shop_layout.specs.Positions.{LayoutState};
+    ghost use Rattle.shop_layout.specs.Positions.{AreEven, LayoutState};
 
     ghost Value = { LayoutState };
 
     ghost view = { λ g. g.positions };
 
     ghost invariant = { λ g. (L.times g.fixed ≡ g.positions.times)
-        × (L.tails g.fixed ≡ g.positions.tails) };
+        × (L.tails g.fixed ≡ g.positions.tails)
+        × AreEven g.positions.blocks g.blocks_each };
+}
+
+/// How many blocks each machine has, by the first block of each; 0 where they differ.
+fn even_blocks(blocks: &[u32]) -> usize
+    ensures { AreEven blocks.now result }
+{
+    if blocks.len() < 2 {
+        return 0;
+    }
+    let each = blocks[1] as usize;
+    let mut first = 0;
+    for m in 0..blocks.len() {
+        if blocks[m] as usize != first {
+            return 0;
+        }
+        first += each;
+    }
+    each
 }
 
 impl<L: StateLanes> Grid<L> {
@@ -39,7 +61,12 @@ impl<L: StateLanes> Grid<L> {
         ensures { IfOk result (λ g. g ≡ positions) }
     {
         let fixed = L::fixed(alloc, positions.times(), positions.tails())?;
-        Ok(Grid { positions, fixed })
+        let blocks_each = even_blocks(positions.blocks());
+        Ok(Grid {
+            positions,
+            fixed,
+            blocks_each,
+        })
     }
 
     /// What is read along routes.
@@ -84,6 +111,30 @@ impl<L: StateLanes> Grid<L> {
         ensures { result ≡ slice_index self.now.blocks machine }
     {
         self.positions.block(machine)
+    }
+
+    /// How many blocks each machine has; 0 where they differ.
+    #[inline(always)]
+    pub fn blocks_each(&self) -> usize
+        ensures { AreEven self.now.blocks result }
+    {
+        self.blocks_each
+    }
+
+    /// The first block of a machine and the one behind its last, where each machine has so many blocks, or this is 0.
+    #[inline(always)]
+    pub fn blocks_of(&self, each: usize, machine: usize) -> (usize, usize)
+        requires even { AreEven self.now.blocks each }
+        requires small { machine + 1 < 2 ^ 64 }
+        requires known { machine + 1 < length self.now.blocks }
+        ensures first { result.0 ≡ slice_index self.now.blocks machine }
+        ensures behind { result.1 ≡ slice_index self.now.blocks (machine + 1) }
+    {
+        if each == 0 {
+            return (self.block(machine), self.block(machine + 1));
+        }
+        let first = each * machine;
+        (first, first + each)
     }
 
     /// The machine of the operation at each position.
@@ -147,6 +198,7 @@ impl<L: StateLanes> Grid<L> {
         requires times { length self.now.times ≡ length (L.heads lanes.now) }
         requires tails { length self.now.tails ≡ length self.now.times }
         requires most { most ≤ L.GREATEST }
+        requires below { upto < L.GREATEST }
         requires fits { FitsSpan L.GREATEST upto (lanes_between
             (rows_of self.now (L.heads lanes.now) (L.ends lanes.now)) from to) }
         ensures { IsRaisedBelow limit (max most (spans_between above upto (lanes_between

@@ -139,6 +139,13 @@ impl Positions {
         self.blocks[machine] as usize
     }
 
+    /// The first block of each machine, and behind the last one's the number of all blocks.
+    pub(crate) fn blocks(&self) -> &[u32]
+        ensures { result.now ≡ self.now.blocks }
+    {
+        self.blocks.as_slice()
+    }
+
     /// The machine of the operation at each position.
     pub(crate) fn machines(&self) -> &[u32]
         ensures { result.now ≡ self.now.machines }

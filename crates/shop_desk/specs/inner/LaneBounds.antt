@@ -13,6 +13,7 @@ pub record AreSpansFit (greatest top machines : ℕ) (l : LayoutState) (rows : R
   pub known : length l.blocks ≡ machines + 1
   pub blocks : (m : ℕ) → m < machines
       → AreBlocks rows (slice_index l.blocks m) (slice_index l.blocks (m + 1))
+  pub below : (m : ℕ) → m < machines → top < greatest
   pub fits : (m : ℕ) → m < machines → FitsSpan greatest top (lanes_on rows l m)
 
 -- no raise goes beyond

@@ -3,7 +3,10 @@
 --     AreListed raises raised count  the machines with a raise are among the first of a list
 --     AreRaisesFit greatest ..       each machine has its blocks, and a span from its raise fits
 --     IsSpanByRaise ..               the greater of a number and of what begins within a raise
-use Rattle.std.specs.Prelude.{◌≡◌, ℕ, ◌+◌, ◌≤◌, ◌<◌, List, length, sum_by, if◌then◌else◌, nat_lt}
+--     CanTakeSpans greatest ..       what begins within the listed raises can be bounded
+--     TakesSpans ..                  the greater of a number and of that, once the raises are empty
+use Rattle.std.specs.Prelude.{◌≡◌, ℕ, ◌+◌, ◌*◌, ◌^◌, ◌≤◌, ◌<◌, List, length, sum_by}
+use Rattle.std.specs.Prelude.{if◌then◌else◌, nat_lt}
 use Rattle.std.specs.Prelude.{slice_index}
 use Rattle.shop_lanes.specs.Rows.{Rows, Lane, AreBlocks}
 use Rattle.shop_lanes.specs.Spans.{spans_between, FitsSpan}
@@ -31,6 +34,7 @@ pub record AreRaisesFit (greatest : ℕ) (raises : List Raise) (l : LayoutState)
   pub known : length l.blocks ≡ length raises + 1
   pub blocks : (m : ℕ) → m < length raises
       → AreBlocks rows (slice_index l.blocks m) (slice_index l.blocks (m + 1))
+  pub below : (m : ℕ) → m < length raises → (raise_of raises m).to < greatest
   pub fits : (m : ℕ) → m < length raises
       → FitsSpan greatest (raise_of raises m).to (lanes_on rows l m)
 
@@ -41,3 +45,24 @@ pub record IsSpanByRaise (raise : Raise) (xs : List Lane) (limit least r : ℕ) 
   pub covers : r < limit → spans_between raise.from raise.to xs ≤ r
   pub within : (c : ℕ) → least ≤ c → ((above upto : ℕ) → spans_between above upto xs ≤ c)
       → r ≤ c
+
+pub record CanTakeSpans (greatest : ℕ) (raises : List Raise) (raised : List ℕ) (count : ℕ)
+    (l : LayoutState) (rows : Rows) (least : ℕ) : Type 0 where
+  pub listed : AreListed raises raised count
+  pub small : 4 * length raised < 2 ^ 64
+  pub least_fits : least ≤ greatest
+  pub times : length l.times ≡ length rows.heads
+  pub tails : length l.tails ≡ length l.times
+  pub fits : AreRaisesFit greatest raises l rows
+
+-- b is at least `least`, and no more than that and the spans of these machines; if it is below the
+-- limit, no span that begins within a raise is more
+pub record TakesSpans (l : LayoutState) (rows : Rows) (raised : List ℕ) (old new : List Raise)
+    (least limit b : ℕ) : Type 0 where
+  pub listed : AreListed new raised 0
+  pub long : length new ≡ length old
+  pub low : least ≤ b
+  pub covers : b < limit → (m : ℕ)
+      → spans_between (raise_of old m).from (raise_of old m).to (lanes_on rows l m) ≤ b
+  pub within : (c : ℕ) → least ≤ c → ((m above upto : ℕ) → m < length old
+      → spans_between above upto (lanes_on rows l m) ≤ c) → b ≤ c

@@ -3,12 +3,12 @@
 --     column count xs k              of lanes in order of rank, those of the k-th lanes of so many blocks
 --     eight f                        the numbers that a function gives for each of eight columns
 use Rattle.std.specs.Prelude.{◌≡◌, ◌≢◌, ℕ, ◌+◌, ◌*◌, ◌-◌, ◌/◌, ◌%◌, take, drop, replicate, ◌<◌, ◌≤◌}
-use Rattle.std.specs.Prelude.{length, max, List, [], ◌∷◌, if◌then◌else◌, nat_le, nat_lt, ◌&&◌}
+use Rattle.std.specs.Prelude.{length, max, List, [], ◌∷◌, if◌then◌else◌, nat_le}
 use Rattle.std.specs.Prelude.{get_or, map}
 use Rattle.std.specs.Simd.Lanes.{zip2}
 use Rattle.shop_blocks.specs.Eights.{first_of, added, waiting, AddsFit}
 use Rattle.shop_lanes.specs.Rows.{Lane, lanes, by_columns}
-use Rattle.shop_lanes.specs.Spans.{span, spans_between}
+use Rattle.shop_lanes.specs.Spans.{span}
 
 abbrev pub clock_after : ℕ → ℕ → List Lane → ℕ
 clock_after least start [] = start
@@ -24,15 +24,6 @@ lanes_by value heads times tails =
 
 abbrev pub span_by : {A : Type 0} → (A → ℕ) → List A → List A → List A → ℕ → ℕ → ℕ
 span_by value heads times tails least start = span least start (lanes_by value heads times tails)
-
-abbrev pub spans_by : {A : Type 0} → (A → ℕ) → List A → List A → List A → ℕ → ℕ → ℕ
-spans_by value heads times tails above upto =
-    spans_between above upto (lanes_by value heads times tails)
-
--- the span from a head on that is above `above` and at most `upto`; 0 from any other
-abbrev pub span_within : ℕ → ℕ → List Lane → ℕ → ℕ
-span_within above upto xs head =
-    if nat_lt above head && nat_le head upto then span head head xs else 0
 
 abbrev pub column : ℕ → List Lane → ℕ → List Lane
 column count xs k = take count (drop (k * count) xs)

@@ -1,7 +1,7 @@
 use Rattle.std.proofs.Common.{◌≤◌}
 use Rattle.shop_layout.specs.Lanes.{rows_of, lanes_on}
 use Rattle.shop_desk.proofs.RaisedMachines.{IsTakenSo}
-use Rattle.shop_desk.proofs.machine_raises.take_spans.Given as goal
+use Rattle.shop_desk.proofs.lane_bounds.take_spans_of.Given as goal
 
 abbrev pub invariant-loop-left : goal.invariant-loop-left
 invariant-loop-left g l = record {

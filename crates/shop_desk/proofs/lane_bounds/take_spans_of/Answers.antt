@@ -6,7 +6,7 @@ use Rattle.shop_desk.specs.inner.HeadRaises.{no_raise, raise_of}
 use Rattle.shop_desk.specs.inner.MachineRaises.{IsSpanByRaise}
 use Rattle.shop_desk.specs.declared.head_raises.Raise.{Raise}
 use Rattle.shop_desk.proofs.RaisedMachines.{IsTakenSo, room_left, taken_all, taken_more}
-use Rattle.shop_desk.proofs.machine_raises.take_spans.Goals as goal
+use Rattle.shop_desk.proofs.lane_bounds.take_spans_of.Goals as goal
 
 pub bounds-raised-left : goal.bounds-raised-left
 bounds-raised-left g c =
@@ -16,7 +16,7 @@ bounds-raised-left g c =
 pub offset_bounds-raised-left : goal.offset_bounds-raised-left
 offset_bounds-raised-left g c =
     let a = room_left c.loop-left.raises c.args.raised.now c.loop-left.left c.loop-left.invariant.taken.are_listed
-    in let few = c.requires.small in omega arith
+    in let few = c.requires.can.small in omega arith
 
 -- all are taken
 last_taken : (least limit : ℕ) (old : List Raise) (on : ℕ → List Lane) (raises : List Raise) (raised : List ℕ)
@@ -48,10 +48,17 @@ loop-left-preserved g c =
       fits = c.span_by_raise-most.ensures.fits;
     }
 
-pub returns-clause-covers : goal.returns-clause-covers
-returns-clause-covers g c = λ under m.
+pub returns : goal.returns
+returns g c =
     let on = lanes_on (rows_of c.args.grid.now (g.L.StateLanes.heads c.args.lanes.now)
     (g.L.StateLanes.ends c.args.lanes.now)) c.args.grid.now
-    in taken_all c.args.least c.args.limit c.args.raises.now on c.loop-left.raises c.args.raised.now
-    c.loop-left.most (last_taken c.args.least c.args.limit c.args.raises.now on c.loop-left.raises
-    c.args.raised.now c.loop-left.left c.loop-left.most c.loop-left.invariant.taken c.loop-left-test.false) under m
+    in let all = last_taken c.args.least c.args.limit c.args.raises.now on c.loop-left.raises c.args.raised.now
+    c.loop-left.left c.loop-left.most c.loop-left.invariant.taken c.loop-left-test.false
+    in record {
+      listed = all.are_listed;
+      long = all.long;
+      low = all.low;
+      covers = taken_all c.args.least c.args.limit c.args.raises.now on c.loop-left.raises c.args.raised.now
+          c.loop-left.most all;
+      within = all.within;
+    }
