@@ -3,9 +3,10 @@ ghost use Rattle.std.specs.Prelude.{◌≡◌, ◌+◌, ◌≤◌, ◌<◌, ◌^
 ghost use Rattle.shop_lanes.specs.Rows.{AreBlocks};
 ghost use Rattle.shop_lanes.specs.Spans.{FitsSpan};
 ghost use Rattle.shop_layout.specs.Lanes.{lanes_on, rows_of};
+ghost use Rattle.shop_desk.specs.inner.HeadRaises.{raise_in};
 ghost use Rattle.shop_desk.specs.inner.MachineRaises.{IsSpanByRaise};
 
-use crate::head_raises::Raise;
+use crate::head_raises::LaneRaise;
 use shop_lanes::StateLanes;
 use shop_layout::Grid;
 
@@ -16,7 +17,7 @@ pub(crate) fn span_by_raise<L: StateLanes>(
     lanes: &L,
     grid: &Grid<L>,
     machine: usize,
-    raise: Raise,
+    raise: LaneRaise<L::Number>,
     least: u64,
     limit: u64,
 ) -> u64
@@ -27,9 +28,9 @@ pub(crate) fn span_by_raise<L: StateLanes>(
     requires times { length grid.now.times ≡ length (L.heads lanes.now) }
     requires tails { length grid.now.tails ≡ length grid.now.times }
     requires least { least ≤ L.GREATEST }
-    requires fits { FitsSpan L.GREATEST raise.to
+    requires fits { FitsSpan L.GREATEST (L.value raise.to)
         (lanes_on (rows_of grid.now (L.heads lanes.now) (L.ends lanes.now)) grid.now machine) }
-    ensures spans { IsSpanByRaise raise
+    ensures spans { IsSpanByRaise (raise_in L.value raise)
         (lanes_on (rows_of grid.now (L.heads lanes.now) (L.ends lanes.now)) grid.now machine)
         limit least result }
     ensures fits { result ≤ L.GREATEST }
@@ -38,5 +39,6 @@ pub(crate) fn span_by_raise<L: StateLanes>(
         return least;
     }
     let (from, to) = (grid.block(machine), grid.block(machine + 1));
-    grid.bound_raised(lanes, from, to, raise.from, raise.to, least, limit)
+    let (above, upto) = (L::widened(raise.from), L::widened(raise.to));
+    grid.bound_raised(lanes, from, to, above, upto, least, limit)
 }

@@ -1,5 +1,6 @@
 use Rattle.std.proofs.Common.{ℕ, List, get_or, ap, subst, arith}
 use Rattle.shop_layout.specs.Lanes.{rows_of}
+use Rattle.shop_desk.specs.inner.HeadRaises.{raises_in}
 use Rattle.shop_desk.specs.inner.Raises.{IsPosition}
 use Rattle.shop_desk.specs.inner.Watchers.{Sees}
 use Rattle.shop_desk.proofs.RaisedEnds.{mid_raisable, raised_with_ends, raised_within, raised_fits}
@@ -32,7 +33,6 @@ raise_route-requires g c =
           (rows_of c.args.routes.now (g.L.StateLanes.heads c.args.lanes.now) (g.L.StateLanes.ends c.args.lanes.now)) (rows_of c.args.routes.now (g.L.StateLanes.heads c.set_end_at.new.lanes) (g.L.StateLanes.ends c.set_end_at.new.lanes)) c.requires.raisable
           c.set_end_at.ensures;
       known = c.requires.known;
-      small = c.requires.small;
       listed = c.requires.listed;
     }
 
@@ -46,5 +46,5 @@ returns-clause-raises g c = raised_with_ends g.L.StateLanes.GREATEST c.args.rout
 pub returns-clause-seen : goal.returns-clause-seen
 returns-clause-seen g c = subst (λ (hs : List ℕ). Sees c.args.routes.now.machines
     (IsPosition c.args.position) c.args.end hs (g.L.StateLanes.heads c.raise_route.new.lanes)
-    c.args.raises.now c.raise_route.new.raises) c.set_end_at.ensures.heads
+    (raises_in g.L.StateLanes.value c.args.raises.now) (raises_in g.L.StateLanes.value c.raise_route.new.raises)) c.set_end_at.ensures.heads
     c.raise_route.ensures.seen
