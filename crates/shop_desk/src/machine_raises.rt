@@ -49,9 +49,9 @@ fn empty_raises<L: StateLanes>(
     Ok(raises)
 }
 
-/// The greatest of `least` and the spans of the listed machines from their raised heads on; once that reaches the limit,
-/// any number between the limit and it. These raises are empty afterwards. Heads and spans in lanes are one more than
-/// what they stand for, and so are these numbers.
+/// The greatest of `least` and the spans of the listed machines from their raised heads on; once that reaches the
+/// limit, any number between the limit and it. These raises are empty afterwards. Heads and spans in lanes are one more
+/// than what they stand for, and so are these numbers.
 #[inline(always)]
 fn take_spans<L: StateLanes>(
     raises: &mut [LaneRaise<L::Number>],
@@ -99,8 +99,9 @@ impl<L: StateLanes> MachineRaises<L> {
         })
     }
 
-    /// Sets each head below `end` of what waits on a machine to `end`, propagates it along the routes as far as heads are
-    /// too small then, notes each change, and keeps the ends of next operations up. Tells the machines with a raise.
+    /// Sets each head below `end` of what waits on a machine to `end`, propagates it along the routes as far as heads
+    /// are too small then, notes each change, and keeps the ends of next operations up. Tells the machines with a
+    /// raise.
     #[inline(always)]
     pub(crate) fn raise(
         &mut self,
@@ -134,8 +135,8 @@ impl<L: StateLanes> MachineRaises<L> {
         raised
     }
 
-    /// The greatest of `least` and the bounds of the machines with a raise from their raised heads on; once that reaches
-    /// the limit, any number between the limit and it. The raises are empty afterwards.
+    /// The greatest of `least` and the bounds of the machines with a raise from their raised heads on; once that
+    /// reaches the limit, any number between the limit and it. The raises are empty afterwards.
     #[inline(always)]
     pub(crate) fn take_bound(
         &mut self,

@@ -146,8 +146,8 @@ fn raise_blocks<L: StateLanes>(
     }
 }
 
-/// Sets each head below `end` of what waits on a machine to `end`, propagates it along the routes as far as heads are too
-/// small then, notes each change in the raises, and keeps the ends of next operations up.
+/// Sets each head below `end` of what waits on a machine to `end`, propagates it along the routes as far as heads are
+/// too small then, notes each change in the raises, and keeps the ends of next operations up.
 #[inline(always)]
 pub(crate) fn raise<L: StateLanes>(
     lanes: &mut L,

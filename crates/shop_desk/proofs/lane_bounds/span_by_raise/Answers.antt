@@ -13,5 +13,6 @@ returns-clause-fits g c =
     in let within = spans_within g.L.StateLanes.GREATEST above upto on
     (subst (λ (n : ℕ). FitsSpan g.L.StateLanes.GREATEST n on) (sym c.widened-upto.ensures) c.requires.fits) on
     in let same = spans_same above upto rows c.block-from.result c.block-to.result
-    (get_or l.blocks c.args.machine 0) (get_or l.blocks (c.args.machine + 1) 0) c.block-from.ensures c.block-to.ensures
+    (get_or l.blocks c.args.machine 0) (get_or l.blocks
+    (c.args.machine + 1) 0) c.block-from.ensures c.block-to.ensures
     in let no_greater = c.bound_raised.ensures.no_greater in let least = c.requires.least in omega arith

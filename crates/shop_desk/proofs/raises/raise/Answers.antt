@@ -17,10 +17,14 @@ loop-from-init g c = record {
   within = (let a = c.block-from.ensures in let b = c.block-behind.ensures in let d = c.requires.machine.ordered
       in omega arith);
   raises = subst (λ (x : ℕ). Raises g.L.StateLanes.GREATEST c.args.grid.now c.args.next.now
-      (IsInBlocks (get_or c.args.grid.now.blocks c.args.machine 0) x) c.args.end (rows_of c.args.grid.now (g.L.StateLanes.heads c.args.lanes.now) (g.L.StateLanes.ends c.args.lanes.now))
-      (rows_of c.args.grid.now (g.L.StateLanes.heads c.args.lanes.now) (g.L.StateLanes.ends c.args.lanes.now))) (sym c.block-from.ensures)
-      (no_blocks g.L.StateLanes.GREATEST c.args.grid.now c.args.next.now (get_or c.args.grid.now.blocks c.args.machine 0)
-      (get_or c.args.grid.now.blocks (c.args.machine + 1) 0) c.args.end (rows_of c.args.grid.now (g.L.StateLanes.heads c.args.lanes.now) (g.L.StateLanes.ends c.args.lanes.now)) c.requires.raisable);
+      (IsInBlocks (get_or c.args.grid.now.blocks c.args.machine 0) x) c.args.end (rows_of c.args.grid.now
+      (g.L.StateLanes.heads c.args.lanes.now) (g.L.StateLanes.ends c.args.lanes.now))
+      (rows_of c.args.grid.now (g.L.StateLanes.heads c.args.lanes.now) (g.L.StateLanes.ends c.args.lanes.now)))
+      (sym c.block-from.ensures)
+      (no_blocks g.L.StateLanes.GREATEST c.args.grid.now c.args.next.now
+      (get_or c.args.grid.now.blocks c.args.machine 0)
+      (get_or c.args.grid.now.blocks (c.args.machine + 1) 0) c.args.end (rows_of c.args.grid.now
+      (g.L.StateLanes.heads c.args.lanes.now) (g.L.StateLanes.ends c.args.lanes.now)) c.requires.raisable);
   seen = sees_none c.args.grid.now.machines
       (IsOnMachine c.args.grid.now c.args.machine) c.args.end (g.L.StateLanes.heads c.args.lanes.now)
       (raises_in g.L.StateLanes.value c.args.raises.now);
@@ -38,7 +42,8 @@ raise_blocks-requires-clause-raisable g c =
     (get_or c.args.grid.now.blocks c.args.machine 0)
     c.loop-from.from (c.loop-from.from + c.min.result)
     (get_or c.args.grid.now.blocks (c.args.machine + 1) 0) c.args.end
-    (rows_of c.args.grid.now (g.L.StateLanes.heads c.args.lanes.now) (g.L.StateLanes.ends c.args.lanes.now)) (rows_of c.args.grid.now (g.L.StateLanes.heads c.loop-from.lanes) (g.L.StateLanes.ends c.loop-from.lanes))
+    (rows_of c.args.grid.now (g.L.StateLanes.heads c.args.lanes.now) (g.L.StateLanes.ends c.args.lanes.now))
+    (rows_of c.args.grid.now (g.L.StateLanes.heads c.loop-from.lanes) (g.L.StateLanes.ends c.loop-from.lanes))
     c.loop-from.invariant.raises c.loop-from.invariant.ordered (omega arith) (omega arith) c.requires.raisable)
 
 pub raise_blocks-requires-clause-jobs : goal.raise_blocks-requires-clause-jobs
@@ -62,7 +67,8 @@ loop-from-preserved g c =
     in let seen = subst (λ (l : LayoutState). Sees l.machines
     (IsInBlocks c.loop-from.from (c.loop-from.from + c.min.result)) c.args.end
     (g.L.StateLanes.heads c.loop-from.lanes) (g.L.StateLanes.heads c.raise_blocks.new.lanes)
-    (raises_in g.L.StateLanes.value c.loop-from.raises) (raises_in g.L.StateLanes.value c.raise_blocks.new.raises)) c.requires.routes c.raise_blocks.ensures.seen
+    (raises_in g.L.StateLanes.value c.loop-from.raises)
+    (raises_in g.L.StateLanes.value c.raise_blocks.new.raises)) c.requires.routes c.raise_blocks.ensures.seen
     in record {
       ordered = omega arith;
       within = omega arith;
@@ -70,9 +76,11 @@ loop-from-preserved g c =
           (get_or c.args.grid.now.blocks c.args.machine 0)
           c.loop-from.from (c.loop-from.from + c.min.result)
           (get_or c.args.grid.now.blocks (c.args.machine + 1) 0) c.args.end
-          (rows_of c.args.grid.now (g.L.StateLanes.heads c.args.lanes.now) (g.L.StateLanes.ends c.args.lanes.now)) (rows_of c.args.grid.now (g.L.StateLanes.heads c.loop-from.lanes) (g.L.StateLanes.ends c.loop-from.lanes))
+          (rows_of c.args.grid.now (g.L.StateLanes.heads c.args.lanes.now) (g.L.StateLanes.ends c.args.lanes.now))
+          (rows_of c.args.grid.now (g.L.StateLanes.heads c.loop-from.lanes) (g.L.StateLanes.ends c.loop-from.lanes))
           c.loop-from.invariant.raises o (omega arith) (omega arith)
-          (rows_of c.args.grid.now (g.L.StateLanes.heads c.raise_blocks.new.lanes) (g.L.StateLanes.ends c.raise_blocks.new.lanes)) raises;
+          (rows_of c.args.grid.now (g.L.StateLanes.heads c.raise_blocks.new.lanes)
+          (g.L.StateLanes.ends c.raise_blocks.new.lanes)) raises;
       seen = sees_both c.args.grid.now.machines
           (IsOnMachine c.args.grid.now c.args.machine) (IsInBlocks c.loop-from.from (c.loop-from.from + c.min.result))
           (IsOnMachine c.args.grid.now c.args.machine) c.args.end (g.L.StateLanes.heads c.args.lanes.now)
@@ -91,5 +99,6 @@ returns-clause-raises g c =
     in all_blocks g.L.StateLanes.GREATEST c.args.grid.now c.args.next.now
     (get_or c.args.grid.now.blocks c.args.machine 0)
     c.loop-from.from (get_or c.args.grid.now.blocks (c.args.machine + 1) 0) c.args.end
-    (rows_of c.args.grid.now (g.L.StateLanes.heads c.args.lanes.now) (g.L.StateLanes.ends c.args.lanes.now)) (rows_of c.args.grid.now (g.L.StateLanes.heads c.loop-from.lanes) (g.L.StateLanes.ends c.loop-from.lanes))
+    (rows_of c.args.grid.now (g.L.StateLanes.heads c.args.lanes.now) (g.L.StateLanes.ends c.args.lanes.now))
+    (rows_of c.args.grid.now (g.L.StateLanes.heads c.loop-from.lanes) (g.L.StateLanes.ends c.loop-from.lanes))
     (omega arith) c.loop-from.invariant.raises

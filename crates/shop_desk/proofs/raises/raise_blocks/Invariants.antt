@@ -13,7 +13,8 @@ invariant-loop-position g l = record {
       (rows_of l.routes (g.L.StateLanes.heads l.fn.lanes) (g.L.StateLanes.ends l.fn.lanes))
       (rows_of l.routes (g.L.StateLanes.heads l.lanes) (g.L.StateLanes.ends l.lanes));
   seen : Sees l.routes.machines (IsInBlocks l.from l.to) l.end (g.L.StateLanes.heads l.fn.lanes)
-      (g.L.StateLanes.heads l.lanes) (raises_in g.L.StateLanes.value l.fn.raises) (raises_in g.L.StateLanes.value l.raises);
+      (g.L.StateLanes.heads l.lanes) (raises_in g.L.StateLanes.value l.fn.raises)
+      (raises_in g.L.StateLanes.value l.raises);
   machines : length l.raises ≡ length l.fn.raises;
   listed : AreListed (raises_in g.L.StateLanes.value l.raises) l.raised;
 }

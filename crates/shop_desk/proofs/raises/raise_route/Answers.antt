@@ -31,7 +31,8 @@ loop-next-init g c =
           (put_is c.args.routes.now (g.L.StateLanes.heads c.args.lanes.now) (g.L.StateLanes.ends c.args.lanes.now)
           (g.L.StateLanes.heads c.set_head.new.self) (g.L.StateLanes.ends c.set_head.new.self) c.args.position
           c.args.end c.set_head.ensures.heads c.set_head.ensures.ends)
-          c.following-next.result (c.args.end + c.time.result) c.time.result c.following-next.ensures c.time.ensures refl;
+          c.following-next.result
+          (c.args.end + c.time.result) c.time.result c.following-next.ensures c.time.ensures refl;
       seen = sees_first c.args.routes.now.machines c.args.position c.args.end
           (g.L.StateLanes.heads c.args.lanes.now) (g.L.StateLanes.heads c.set_head.new.self)
           (raises_in g.L.StateLanes.value c.args.raises.now) c.set_head.ensures.heads within;
@@ -43,7 +44,8 @@ see-requires-clause-known g c =
     let long = lengths_in g.L.StateLanes.value c.args.raises.now c.loop-next.raises
     (sees_long c.args.routes.now.machines c.args.position c.args.end
     (g.L.StateLanes.heads c.args.lanes.now) (g.L.StateLanes.heads c.loop-next.lanes)
-    (raises_in g.L.StateLanes.value c.args.raises.now) (raises_in g.L.StateLanes.value c.loop-next.raises) c.loop-next.invariant.seen)
+    (raises_in g.L.StateLanes.value c.args.raises.now)
+    (raises_in g.L.StateLanes.value c.loop-next.raises) c.loop-next.invariant.seen)
     in let many = c.positions.ensures in let there = c.loop-next-test.true
     in let machines = c.requires.raisable.machines in let following = c.requires.raisable.followed.following
     in let read = c.machine.ensures
@@ -57,7 +59,8 @@ machine-requires g c =
     in omega arith
 
 pub set_head-requires-in-loop-next-clause-fits : goal.set_head-requires-in-loop-next-clause-fits
-set_head-requires-in-loop-next-clause-fits g c = (following_fits g.L.StateLanes.GREATEST c.args.routes.now c.args.position c.args.end
+set_head-requires-in-loop-next-clause-fits g c =
+    (following_fits g.L.StateLanes.GREATEST c.args.routes.now c.args.position c.args.end
     (rows_of c.args.routes.now (g.L.StateLanes.heads c.args.lanes.now)
     (g.L.StateLanes.ends c.args.lanes.now))
     c.requires.raisable c.requires.waits c.loop-next.next c.loop-next.ready
@@ -122,17 +125,22 @@ loop-next-preserved g c =
           (rows_of c.args.routes.now (g.L.StateLanes.heads c.loop-next.lanes)
           (g.L.StateLanes.ends c.loop-next.lanes))
           c.loop-next.invariant.following c.positions.result c.positions.ensures
-          c.loop-next-test.true (omega arith) (rows_of c.args.routes.now (g.L.StateLanes.heads c.set_head-in-loop-next.new.self)
+          c.loop-next-test.true (omega arith) (rows_of c.args.routes.now
+          (g.L.StateLanes.heads c.set_head-in-loop-next.new.self)
           (g.L.StateLanes.ends c.set_head-in-loop-next.new.self))
           (put_is c.args.routes.now (g.L.StateLanes.heads c.loop-next.lanes) (g.L.StateLanes.ends c.loop-next.lanes)
-          (g.L.StateLanes.heads c.set_head-in-loop-next.new.self) (g.L.StateLanes.ends c.set_head-in-loop-next.new.self)
-          c.loop-next.next c.loop-next.ready c.set_head-in-loop-next.ensures.heads c.set_head-in-loop-next.ensures.ends)
+          (g.L.StateLanes.heads c.set_head-in-loop-next.new.self)
+          (g.L.StateLanes.ends c.set_head-in-loop-next.new.self)
+          c.loop-next.next c.loop-next.ready c.set_head-in-loop-next.ensures.heads
+          c.set_head-in-loop-next.ensures.ends)
           (c.loop-next.ready + c.time-ready.result) c.time-ready.result c.following-next-in-loop-next.result
           c.time-ready.ensures refl c.following-next-in-loop-next.ensures;
       seen = sees_next c.args.routes.now.machines c.args.position c.args.end
           (g.L.StateLanes.heads c.args.lanes.now) (g.L.StateLanes.heads c.loop-next.lanes)
-          (raises_in g.L.StateLanes.value c.args.raises.now) (raises_in g.L.StateLanes.value c.loop-next.raises) c.loop-next.invariant.seen
-          (g.L.StateLanes.heads c.set_head-in-loop-next.new.self) (raises_in g.L.StateLanes.value c.see.new.raises) c.loop-next.next
+          (raises_in g.L.StateLanes.value c.args.raises.now)
+          (raises_in g.L.StateLanes.value c.loop-next.raises) c.loop-next.invariant.seen
+          (g.L.StateLanes.heads c.set_head-in-loop-next.new.self)
+          (raises_in g.L.StateLanes.value c.see.new.raises) c.loop-next.next
           c.loop-next.ready c.head-head.result c.machine.result
           c.set_head-in-loop-next.ensures.heads (omega arith) c.head-head.ensures
           c.if-head-ready.false read (omega arith) c.see.ensures.raises;

@@ -20,7 +20,8 @@ pub returns-clause-within : goal.returns-clause-within
 returns-clause-within g c = λ b above each.
     let read : raises_in g.L.StateLanes.value c.as_mut_slice-raises.result.now ≡ c.args.self.now =
     ap (raises_in g.L.StateLanes.value) c.as_mut_slice-raises.ensures.value ∙ c.self.view_is
-    in let long = ap length read in let many = length-map c.as_mut_slice-raises.result.now (raise_in g.L.StateLanes.value)
+    in let long = ap length read in let many = length-map c.as_mut_slice-raises.result.now
+    (raise_in g.L.StateLanes.value)
     in let less = c.saturating_sub.ensures in let most = c.max.ensures in let first = c.min-most.ensures
     in let within = c.take_spans-spans.ensures.within (b + 1) (omega arith)
     (λ m x y known. each m x y (omega arith))
