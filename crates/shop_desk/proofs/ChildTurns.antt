@@ -18,7 +18,7 @@ use Rattle.shop_desk.specs.inner.LaneHeads.{AreHeadsAt}
 use Rattle.shop_desk.specs.inner.LaneStates.{AreHeadsInLanes, Advances}
 use Rattle.shop_layout.specs.Positions.{AreMachinesOf, LayoutState, place}
 use Rattle.shop_desk.specs.inner.Watchers.{IsSeenAt, floor_on}
-use Rattle.shop_desk.specs.declared.head_raises.Raise.{Raise}
+use Rattle.shop_desk.specs.inner.HeadRaises.{Raise}
 use Rattle.shop_desk.proofs.ChildRaises.{bound_is, heads_small, its_lanes}
 use Rattle.shop_desk.proofs.ChildReads.{left_stored}
 use Rattle.shop_layout.proofs.LaneLimits.{blocks_within}

@@ -119,7 +119,7 @@ other_of_two a b c e one none = omega arith
 no_bit : (a : ℕ) → a < 2 → (a ≡ 1 → ⊥) → a ≡ 0
 no_bit a small other = omega arith
 
-bit_put : (at word k : ℕ) → k < 64
+pub bit_put : (at word k : ℕ) → k < 64
     → HasGathered (λ q. (true ≡ true) × (q ≡ at + k)) (set_bits 64 at word) (set_bits 64 at (bit_or word (2 ^ k)))
 bit_put at word k lt =
     let new = bit_or word (2 ^ k)
@@ -148,7 +148,7 @@ bit_put at word k lt =
     }
 
 -- what is put into a part is put into the whole
-more_behind : (P : ℕ → Type 0) (old new rest : List ℕ) → HasGathered P old new → HasGathered P (old ++ rest)
+pub more_behind : (P : ℕ → Type 0) (old new rest : List ℕ) → HasGathered P old new → HasGathered P (old ++ rest)
     (new ++ rest)
 more_behind P old new rest put = record {
   kept = λ q h. elim (in_append old rest q h) [
@@ -165,7 +165,7 @@ more_behind P old new rest put = record {
   ];
 }
 
-more_before : (P : ℕ → Type 0) (old new first : List ℕ) → HasGathered P old new
+pub more_before : (P : ℕ → Type 0) (old new first : List ℕ) → HasGathered P old new
     → HasGathered P (first ++ old) (first ++ new)
 more_before P old new first put = record {
   kept = λ q h. elim (in_append first old q h) [

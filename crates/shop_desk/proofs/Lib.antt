@@ -24,6 +24,7 @@ pub mod LeftSlots
 pub mod Listing
 pub mod LookAheads
 pub mod MachineLanes
+pub mod MachineSets
 pub mod NextOperations
 pub mod OwnSpans
 pub mod RaiseLoops

@@ -134,6 +134,13 @@ module _ (greatest : ℕ) (l : LayoutState) (p e : ℕ) (old : Rows)
     whole : n ≡ length old.heads
     whole = many ∙ can.followed.following
 
+    -- it ends behind the route's last step
+    pub ended_behind : n ≤ next → Raises greatest l [] (IsPosition p) e old now
+    ended_behind past = ended greatest l p e old can some so_far.step ready now so_far.walking (λ there.
+        absurd (let i = get_or l.jobs p 0 in let a = place_there l (length old.heads) i so_far.step there
+        in let b = (can.indexed.step i so_far.step there).within
+        in let c = can.indexed.jobs in let d = whole in let f = so_far.next_is in omega arith))
+
     module _ (below : next < n) where
       pub more : so_far.step < steps_of l (get_or l.jobs p 0)
       more = let a = whole in let b = so_far.next_is
@@ -141,6 +148,13 @@ module _ (greatest : ℕ) (l : LayoutState) (p e : ℕ) (old : Rows)
 
       pub here : next ≡ place l (get_or l.jobs p 0) so_far.step
       here = so_far.next_is ∙ place_there l (length old.heads) (get_or l.jobs p 0) so_far.step more
+
+      -- it ends before a head that is great enough
+      pub ended_before : (head : ℕ) → head ≡ get_or now.heads next 0 → ready ≤ head
+          → Raises greatest l [] (IsPosition p) e old now
+      ended_before head read enough = ended greatest l p e old can some so_far.step ready now so_far.walking (λ there.
+          let same : get_or now.heads next 0 ≡ get_or now.heads (place l (get_or l.jobs p 0) so_far.step) 0 =
+          ap (λ (x : ℕ). get_or now.heads x 0) here in omega arith)
 
       pub following_fits : (ready ≤ greatest) × (ready + get_or now.times next 0 ≤ greatest)
       following_fits = next_fits greatest l p e old can some so_far.step ready now so_far.walking more next

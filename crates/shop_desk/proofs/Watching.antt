@@ -4,10 +4,9 @@ use Rattle.std.proofs.Common.{subst, arith}
 use Rattle.std.proofs.lemmas.Bool.{cases_eq, eq-eqb}
 use Rattle.std.proofs.lemmas.Grind.{get_or-set_at}
 use Rattle.std.proofs.lemmas.List.{get_or-set_other, length-set}
-use Rattle.shop_desk.specs.inner.HeadRaises.{raise_of, widened}
+use Rattle.shop_desk.specs.inner.HeadRaises.{Raise, raise_of, widened}
 use Rattle.shop_desk.specs.inner.Raises.{IsPosition}
 use Rattle.shop_desk.specs.inner.Watchers.{IsSeenAt, Sees, Watches, floor_on}
-use Rattle.shop_desk.specs.declared.head_raises.Raise.{Raise}
 use Rattle.shop_desk.proofs.LaneBoundTurns.{raise_from, raise_here, raise_to, up_to_turn}
 
 module _ (own end : ℕ) (ms : List ℕ) where

@@ -46,7 +46,7 @@ pub(crate) fn go_on<L: StateLanes>(
 pub(crate) fn advance_below<L: StateLanes>(
     lanes: &mut L,
     next: &mut [u32],
-    raises: &mut MachineRaises,
+    raises: &mut MachineRaises<L>,
     grid: &Grid<L>,
     job: usize,
     least: u64,
@@ -78,8 +78,8 @@ pub(crate) fn advance_below<L: StateLanes>(
     let machine = routes.machine(position) as usize;
     let end = lanes.head(position) + routes.time(position);
     lanes.set_head(position, 0);
-    raises.raise(lanes, grid, &routes, next, machine, end);
-    let bound = raises.take_bound(lanes, grid, least, limit);
+    let raised = raises.raise(lanes, grid, &routes, next, machine, end);
+    let bound = raises.take_bound(raised, lanes, grid, least, limit);
     if limit <= bound {
         return None;
     }

@@ -1,57 +1,106 @@
 // What changed among the heads on a machine.
-ghost use Rattle.std.specs.Prelude.{◌≡◌, ◌*◌, ◌<◌, ◌^◌, length, slice_set};
-ghost use Rattle.shop_desk.specs.inner.HeadRaises.{raise_of, widened};
+ghost use Rattle.std.specs.Prelude.{◌≡◌, ◌≤◌, ◌<◌, min, max, length, slice_set};
+ghost use Rattle.shop_desk.specs.inner.HeadRaises.{nothing_raised, raise_in, raise_of};
+ghost use Rattle.shop_desk.specs.inner.HeadRaises.{raises_in, widened};
 ghost use Rattle.shop_desk.specs.inner.MachineRaises.{AreListed};
 
-/// Over the heads of one machine that changed: the least old and the greatest new one. `from` is above `to` where none
-/// did.
-#[derive(Clone, Copy, Debug)]
-pub(crate) struct Raise {
-    pub from: u64,
-    pub to: u64,
+use crate::machine_sets::MachineSet;
+use shop_lanes::StateLanes;
+use std::mem;
+
+/// Over the heads of one machine that changed, in numbers of lanes: the least old and the greatest new one. `from` is
+/// the greatest number and `to` is 0 where none did.
+#[derive(Clone, Copy)]
+pub(crate) struct LaneRaise<N> {
+    pub from: N,
+    pub to: N,
 }
 
 /// Of a machine on which no head changed.
-pub(crate) const NO_RAISE: Raise = Raise {
-    from: u64::MAX,
-    to: 0,
-};
-
-impl Raise {
-    /// With one more head that changed.
-    pub(crate) fn with(self, before: u64, after: u64) -> Raise
-        ensures { result ≡ widened self before after }
-    {
-        Raise {
-            from: self.from.min(before),
-            to: self.to.max(after),
-        }
+#[inline(always)]
+pub(crate) fn no_raise<L: StateLanes>() -> LaneRaise<L::Number>
+    ensures { raise_in L.value result ≡ nothing_raised L.GREATEST }
+{
+    LaneRaise {
+        from: L::narrowed(L::GREATEST),
+        to: L::narrowed(0),
     }
 }
 
-/// One more head on a machine changed: widens its raise, and tells how many machines are listed then.
+/// The lesser of a number of lanes and another one.
 #[inline(always)]
-pub(crate) fn see(
-    raises: &mut [Raise],
-    raised: &mut [u32],
-    count: usize,
+fn lesser<L: StateLanes>(number: L::Number, other: u64) -> L::Number
+    requires { other ≤ L.GREATEST }
+    ensures { L.value result ≡ min (L.value number) other }
+{
+    if other < L::widened(number) {
+        return L::narrowed(other);
+    }
+    number
+}
+
+/// The greater of a number of lanes and another one.
+#[inline(always)]
+fn greater<L: StateLanes>(number: L::Number, other: u64) -> L::Number
+    requires { other ≤ L.GREATEST }
+    ensures { L.value result ≡ max (L.value number) other }
+{
+    if L::widened(number) < other {
+        return L::narrowed(other);
+    }
+    number
+}
+
+/// A raise with one more head that changed.
+#[inline(always)]
+fn with_head<L: StateLanes>(
+    raise: LaneRaise<L::Number>,
+    before: u64,
+    after: u64,
+) -> LaneRaise<L::Number>
+    requires rises { before ≤ after }
+    requires fits { after ≤ L.GREATEST }
+    ensures { raise_in L.value result ≡ widened (raise_in L.value raise) before after }
+{
+    LaneRaise {
+        from: lesser::<L>(raise.from, before),
+        to: greater::<L>(raise.to, after),
+    }
+}
+
+/// One more head on a machine changed: widens its raise, and lists the machine.
+#[inline(always)]
+pub(crate) fn see<L: StateLanes>(
+    raises: &mut [LaneRaise<L::Number>],
+    raised: &mut MachineSet,
     machine: u32,
     before: u64,
     after: u64,
-) -> usize
-    requires small { 4 * length raised.old < 2 ^ 64 }
-    requires listed { AreListed raises.old raised.old count }
+)
+    requires listed { AreListed (raises_in L.value raises.old) raised.old }
     requires known { machine < length raises.old }
-    requires waits { 0 < after }
-    ensures raises { raises.new
-        ≡ slice_set raises.old machine (widened (raise_of raises.old machine) before after) }
-    ensures long { length raised.new ≡ length raised.old }
-    ensures listed { AreListed raises.new raised.new result }
+    requires rises { before ≤ after }
+    requires fits { after ≤ L.GREATEST }
+    ensures raises { raises_in L.value raises.new
+        ≡ slice_set (raises_in L.value raises.old) machine
+        (widened (raise_of (raises_in L.value raises.old) machine) before after) }
+    ensures listed { AreListed (raises_in L.value raises.new) raised.new }
 {
     let raise = raises[machine as usize];
-    // written in any case, and kept where it is the first raise of the machine
-    raised[count] = machine;
-    let listed = count + usize::from(raise.to == 0);
-    raises[machine as usize] = raise.with(before, after);
-    listed
+    raised.put(machine);
+    raises[machine as usize] = with_head::<L>(raise, before, after);
+}
+
+/// Takes the raise of a machine out.
+#[inline(always)]
+pub(crate) fn take_raise<L: StateLanes>(
+    raises: &mut [LaneRaise<L::Number>],
+    machine: usize,
+) -> LaneRaise<L::Number>
+    requires { machine < length raises.old }
+    ensures raise { raise_in L.value result ≡ raise_of (raises_in L.value raises.old) machine }
+    ensures empty { raises_in L.value raises.new
+        ≡ slice_set (raises_in L.value raises.old) machine (nothing_raised L.GREATEST) }
+{
+    mem::replace(&mut raises[machine], no_raise::<L>())
 }

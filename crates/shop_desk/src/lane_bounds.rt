@@ -4,12 +4,13 @@ ghost use Rattle.shop_lanes.specs.Rows.{AreBlocks};
 ghost use Rattle.shop_lanes.specs.Spans.{FitsSpan};
 ghost use Rattle.shop_layout.specs.Lanes.{lanes_on, rows_of};
 ghost use Rattle.shop_layout.specs.Positions.{AreEven};
+ghost use Rattle.shop_desk.specs.inner.HeadRaises.{raise_in, raises_in};
 ghost use Rattle.shop_desk.specs.inner.MachineRaises.{CanTakeSpans, IsSpanByRaise, TakesSpans};
 
-use crate::head_raises::{NO_RAISE, Raise};
+use crate::head_raises::{LaneRaise, take_raise};
+use crate::machine_sets::MachineSet;
 use shop_lanes::StateLanes;
 use shop_layout::Grid;
-use std::mem;
 
 /// The greatest of `least` and the spans of a machine from its raised heads on; once that reaches the limit, any number
 /// between the limit and it. Each machine has so many blocks, or this is 0.
@@ -19,7 +20,7 @@ fn span_by_raise<L: StateLanes>(
     lanes: &L,
     grid: &Grid<L>,
     machine: usize,
-    raise: Raise,
+    raise: LaneRaise<L::Number>,
     least: u64,
     limit: u64,
 ) -> u64
@@ -31,10 +32,10 @@ fn span_by_raise<L: StateLanes>(
     requires times { length grid.now.times ≡ length (L.heads lanes.now) }
     requires tails { length grid.now.tails ≡ length grid.now.times }
     requires least { least ≤ L.GREATEST }
-    requires below { raise.to < L.GREATEST }
-    requires fits { FitsSpan L.GREATEST raise.to
+    requires below { L.value raise.to < L.GREATEST }
+    requires fits { FitsSpan L.GREATEST (L.value raise.to)
         (lanes_on (rows_of grid.now (L.heads lanes.now) (L.ends lanes.now)) grid.now machine) }
-    ensures spans { IsSpanByRaise raise
+    ensures spans { IsSpanByRaise (raise_in L.value raise)
         (lanes_on (rows_of grid.now (L.heads lanes.now) (L.ends lanes.now)) grid.now machine)
         limit least result }
     ensures fits { result ≤ L.GREATEST }
@@ -43,7 +44,8 @@ fn span_by_raise<L: StateLanes>(
         return least;
     }
     let (from, to) = grid.blocks_of(each, machine);
-    grid.bound_raised(lanes, from, to, raise.from, raise.to, least, limit)
+    let (above, upto) = (L::widened(raise.from), L::widened(raise.to));
+    grid.bound_raised(lanes, from, to, above, upto, least, limit)
 }
 
 /// The greatest of `least` and the spans of the listed machines from their raised heads on; once that reaches the limit,
@@ -53,26 +55,23 @@ fn span_by_raise<L: StateLanes>(
 #[inline(always)]
 fn take_spans_of<L: StateLanes>(
     each: usize,
-    raises: &mut [Raise],
-    raised: &[u32],
-    count: usize,
+    raises: &mut [LaneRaise<L::Number>],
+    raised: MachineSet,
     lanes: &L,
     grid: &Grid<L>,
     least: u64,
     limit: u64,
 ) -> u64
     requires even { AreEven grid.now.blocks each }
-    requires can { CanTakeSpans L.GREATEST raises.old raised.now count grid.now
+    requires can { CanTakeSpans L.GREATEST (raises_in L.value raises.old) raised grid.now
         (rows_of grid.now (L.heads lanes.now) (L.ends lanes.now)) least }
     ensures { TakesSpans grid.now (rows_of grid.now (L.heads lanes.now) (L.ends lanes.now))
-        raised.now raises.old raises.new least limit result }
+        (raises_in L.value raises.old) (raises_in L.value raises.new) least limit result }
 {
     let mut most = least;
-    let mut left = count;
-    while left > 0 {
-        left -= 1;
-        let machine = raised[left] as usize;
-        let raise = mem::replace(&mut raises[machine], NO_RAISE);
+    let mut left = raised;
+    while let Some(machine) = left.pop_first() {
+        let raise = take_raise::<L>(raises, machine);
         most = span_by_raise(each, lanes, grid, machine, raise, most, limit);
     }
     most
@@ -81,26 +80,25 @@ fn take_spans_of<L: StateLanes>(
 /// The same for machines of four blocks and more, or of different numbers of blocks, in a function of its own.
 #[inline(never)]
 fn take_longer_spans<L: StateLanes>(
-    raises: &mut [Raise],
-    raised: &[u32],
-    count: usize,
+    raises: &mut [LaneRaise<L::Number>],
+    raised: MachineSet,
     lanes: &L,
     grid: &Grid<L>,
     least: u64,
     limit: u64,
 ) -> u64
-    requires can { CanTakeSpans L.GREATEST raises.old raised.now count grid.now
+    requires can { CanTakeSpans L.GREATEST (raises_in L.value raises.old) raised grid.now
         (rows_of grid.now (L.heads lanes.now) (L.ends lanes.now)) least }
     ensures { TakesSpans grid.now (rows_of grid.now (L.heads lanes.now) (L.ends lanes.now))
-        raised.now raises.old raises.new least limit result }
+        (raises_in L.value raises.old) (raises_in L.value raises.new) least limit result }
 {
     match grid.blocks_each() {
-        4 => take_spans_of(4, raises, raised, count, lanes, grid, least, limit),
-        5 => take_spans_of(5, raises, raised, count, lanes, grid, least, limit),
-        6 => take_spans_of(6, raises, raised, count, lanes, grid, least, limit),
-        7 => take_spans_of(7, raises, raised, count, lanes, grid, least, limit),
-        8 => take_spans_of(8, raises, raised, count, lanes, grid, least, limit),
-        _ => take_spans_of(0, raises, raised, count, lanes, grid, least, limit),
+        4 => take_spans_of(4, raises, raised, lanes, grid, least, limit),
+        5 => take_spans_of(5, raises, raised, lanes, grid, least, limit),
+        6 => take_spans_of(6, raises, raised, lanes, grid, least, limit),
+        7 => take_spans_of(7, raises, raised, lanes, grid, least, limit),
+        8 => take_spans_of(8, raises, raised, lanes, grid, least, limit),
+        _ => take_spans_of(0, raises, raised, lanes, grid, least, limit),
     }
 }
 
@@ -109,23 +107,22 @@ fn take_longer_spans<L: StateLanes>(
 /// what they stand for, and so are these numbers.
 #[inline(always)]
 pub(crate) fn take_spans<L: StateLanes>(
-    raises: &mut [Raise],
-    raised: &[u32],
-    count: usize,
+    raises: &mut [LaneRaise<L::Number>],
+    raised: MachineSet,
     lanes: &L,
     grid: &Grid<L>,
     least: u64,
     limit: u64,
 ) -> u64
-    requires can { CanTakeSpans L.GREATEST raises.old raised.now count grid.now
+    requires can { CanTakeSpans L.GREATEST (raises_in L.value raises.old) raised grid.now
         (rows_of grid.now (L.heads lanes.now) (L.ends lanes.now)) least }
     ensures { TakesSpans grid.now (rows_of grid.now (L.heads lanes.now) (L.ends lanes.now))
-        raised.now raises.old raises.new least limit result }
+        (raises_in L.value raises.old) (raises_in L.value raises.new) least limit result }
 {
     match grid.blocks_each() {
-        1 => take_spans_of(1, raises, raised, count, lanes, grid, least, limit),
-        2 => take_spans_of(2, raises, raised, count, lanes, grid, least, limit),
-        3 => take_spans_of(3, raises, raised, count, lanes, grid, least, limit),
-        _ => take_longer_spans(raises, raised, count, lanes, grid, least, limit),
+        1 => take_spans_of(1, raises, raised, lanes, grid, least, limit),
+        2 => take_spans_of(2, raises, raised, lanes, grid, least, limit),
+        3 => take_spans_of(3, raises, raised, lanes, grid, least, limit),
+        _ => take_longer_spans(raises, raised, lanes, grid, least, limit),
     }
 }

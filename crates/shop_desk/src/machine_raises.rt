@@ -1,59 +1,70 @@
-// What changed among the heads of each machine, and the machines on which something did.
-ghost use Rattle.std.specs.Prelude.{◌≡◌, ℕ, ◌+◌, ◌*◌, ◌≤◌, ◌<◌, ◌^◌, IfOk, length};
+// What changed among the heads of each machine.
+ghost use Rattle.std.specs.Prelude.{◌≡◌, ℕ, ◌+◌, ◌≤◌, ◌<◌, ◌^◌, IfOk, length, replicate};
 ghost use Rattle.shop_lanes.specs.Spans.{spans_between};
-ghost use Rattle.shop_desk.specs.inner.HeadRaises.{raise_of};
+ghost use Rattle.shop_desk.specs.inner.HeadRaises.{nothing_raised, raise_of, raises_in};
 ghost use Rattle.shop_layout.specs.Lanes.{lanes_on, rows_of};
 ghost use Rattle.shop_desk.specs.inner.MachineRaises.{AreEmpty, AreListed, AreRaisesFit};
 ghost use Rattle.shop_desk.specs.inner.Raises.{HasBlocks, IsOnMachine, IsRaisable, Raises};
 ghost use Rattle.shop_desk.specs.inner.Watchers.{AreKnown, Sees};
 
-use crate::head_raises::{NO_RAISE, Raise};
+use crate::head_raises::{LaneRaise, no_raise};
 use crate::lane_bounds::take_spans;
+use crate::machine_sets::MachineSet;
 use crate::raises::raise;
 use shop_lanes::StateLanes;
 use shop_layout::{Grid, Routes};
 use std::alloc::{AllocError, Global};
 use std::marker::Model;
 
-/// The raise of each machine, empty at rest, with a list of the machines that have one: so a bound visits only those.
+/// The raise of each machine, empty at rest. The machines that have one are told apart: so a bound visits only those.
 #[derive(Drop)]
-pub(crate) struct MachineRaises {
+pub(crate) struct MachineRaises<L: StateLanes> {
     /// raises[machine]
-    raises: Vec<Raise>,
-    /// the first `count` are the machines with a raise
-    raised: Vec<u32>,
-    count: usize,
+    raises: Vec<LaneRaise<L::Number>>,
 }
 
-impl Model for MachineRaises {
-    ghost use Rattle.std.specs.Prelude.{List};
-    ghost use Rattle.shop_desk.specs.inner.MachineRaises.{AreListed};
-    ghost use Rattle.shop_desk.specs.declared.head_raises.Raise.{Raise};
+impl<L: StateLanes> Model for MachineRaises<L> {
+    ghost use Rattle.std.specs.Prelude.{◌≤◌, List, length};
+    ghost use Rattle.shop_desk.specs.inner.HeadRaises.{Raise, raises_in};
 
     ghost Value = { List Raise };
 
-    ghost view = { λ r. r.raises.items };
+    ghost view = { λ r. raises_in L.value r.raises.items };
 
-    ghost invariant = { λ r. AreListed r.raises.items r.raised.items r.count };
+    ghost invariant = { λ r. length r.raises.items ≤ 128 };
 }
 
-impl MachineRaises {
+/// So many times no raise.
+fn empty_raises<L: StateLanes>(
+    alloc: Global,
+    machines: usize,
+) -> Result<Vec<LaneRaise<L::Number>>, AllocError>
+    ensures { IfOk result (λ v. raises_in L.value v.items
+        ≡ replicate machines (nothing_raised L.GREATEST)) }
+{
+    let mut raises = Vec::with_capacity(alloc, machines)?;
+    for _ in 0..machines {
+        raises.push(no_raise::<L>()).unwrap();
+    }
+    Ok(raises)
+}
+
+impl<L: StateLanes> MachineRaises<L> {
     /// Of so many machines, all empty. Fails with `AllocError` if memory runs out.
-    pub(crate) fn new(alloc: Global, machines: usize) -> Result<MachineRaises, AllocError>
-        requires { machines < 2 ^ 32 }
+    pub(crate) fn new(alloc: Global, machines: usize) -> Result<MachineRaises<L>, AllocError>
+        requires { machines ≤ 128 }
         ensures { IfOk result (λ r. (length r ≡ machines) × AreEmpty r) }
     {
         Ok(MachineRaises {
-            raises: vec![in alloc; NO_RAISE; machines]?,
-            raised: vec![in alloc; 0; machines + 1]?,
-            count: 0,
+            raises: empty_raises::<L>(alloc, machines)?,
         })
     }
 
-    /// Sets each head below `end` of what waits on a machine to `end`, propagates it along the routes as far as heads are
-    /// too small then, notes each change, and keeps the ends of next operations up.
+    /// Sets each head below `end` of what waits on a machine to `end`, propagates it along the routes as far as heads
+    /// are too small then, notes each change, and keeps the ends of next operations up. Tells the machines with a
+    /// raise.
     #[inline(always)]
-    pub(crate) fn raise<L: StateLanes>(
+    pub(crate) fn raise(
         &mut self,
         lanes: &mut L,
         grid: &Grid<L>,
@@ -61,7 +72,8 @@ impl MachineRaises {
         next: &[u32],
         machine: usize,
         end: u64,
-    )
+    ) -> MachineSet
+        requires at_rest { AreEmpty self.old }
         requires routes { routes.now ≡ grid.now }
         requires machine { HasBlocks grid.now (length (L.heads lanes.old)) machine }
         requires fits { end ≤ L.GREATEST }
@@ -76,19 +88,20 @@ impl MachineRaises {
         ensures seen { Sees grid.now.machines (IsOnMachine grid.now machine) end
             (L.heads lanes.old) (L.heads lanes.new) self.old self.new }
         ensures machines { length self.new ≡ length self.old }
+        ensures listed { AreListed self.new result }
     {
+        let mut raised = MachineSet::none();
         let raises = self.raises.as_mut_slice();
-        let raised = self.raised.as_mut_slice();
-        self.count = raise(
-            lanes, raises, raised, self.count, grid, routes, next, machine, end,
-        );
+        raise(lanes, raises, &mut raised, grid, routes, next, machine, end);
+        raised
     }
 
-    /// The greatest of `least` and the bounds of all machines from their raised heads on; once that reaches the limit,
-    /// any number between the limit and it. The raises are empty afterwards.
+    /// The greatest of `least` and the bounds of the machines with a raise from their raised heads on; once that
+    /// reaches the limit, any number between the limit and it. The raises are empty afterwards.
     #[inline(always)]
-    pub(crate) fn take_bound<L: StateLanes>(
+    pub(crate) fn take_bound(
         &mut self,
+        raised: MachineSet,
         lanes: &L,
         grid: &Grid<L>,
         least: u64,
@@ -96,6 +109,7 @@ impl MachineRaises {
     ) -> u64
         requires limit { limit < 2 ^ 63 }
         requires below { least < limit }
+        requires listed { AreListed self.old raised }
         requires times { length grid.now.times ≡ length (L.heads lanes.now) }
         requires tails { length grid.now.tails ≡ length grid.now.times }
         requires fits { AreRaisesFit L.GREATEST self.old grid.now
@@ -113,10 +127,8 @@ impl MachineRaises {
             → result ≤ c }
     {
         let raises = self.raises.as_mut_slice();
-        let raised = self.raised.as_slice();
         let most = (least + 1).min(L::GREATEST);
-        let spans = take_spans(raises, raised, self.count, lanes, grid, most, limit + 1);
-        self.count = 0;
+        let spans = take_spans(raises, raised, lanes, grid, most, limit + 1);
         least.max(spans.saturating_sub(1))
     }
 }

@@ -17,7 +17,7 @@ pub struct Scratch<L: StateLanes> {
     /// of some word
     pub(crate) placement: Placement,
     /// at rest
-    pub(crate) raises: MachineRaises,
+    pub(crate) raises: MachineRaises<L>,
     /// owns[i]: the own span at the position that is i behind the first one of some machine
     pub(crate) owns: Vec<L::Number>,
 }

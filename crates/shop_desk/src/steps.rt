@@ -22,7 +22,7 @@ pub(crate) const BOUNDS: u64 = 1 << 50;
 pub(crate) fn step<L: StateLanes>(
     lanes: &mut L,
     next: &mut [u32],
-    raises: &mut MachineRaises,
+    raises: &mut MachineRaises<L>,
     grid: &Grid<L>,
     job: usize,
     bound: u64,

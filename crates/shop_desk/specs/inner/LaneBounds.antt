@@ -5,9 +5,8 @@ use Rattle.std.specs.Prelude.{◌≡◌, ℕ, ◌+◌, ◌≤◌, ◌<◌, List,
 use Rattle.shop_lanes.specs.Rows.{Rows, AreBlocks}
 use Rattle.shop_lanes.specs.Spans.{FitsSpan}
 use Rattle.shop_layout.specs.Lanes.{lanes_on}
-use Rattle.shop_desk.specs.inner.HeadRaises.{raise_of}
+use Rattle.shop_desk.specs.inner.HeadRaises.{Raise, raise_of}
 use Rattle.shop_layout.specs.Positions.{LayoutState}
-use Rattle.shop_desk.specs.declared.head_raises.Raise.{Raise}
 
 pub record AreSpansFit (greatest top machines : ℕ) (l : LayoutState) (rows : Rows) : Type 0 where
   pub known : length l.blocks ≡ machines + 1

@@ -1,33 +1,26 @@
 -- The raises of machines, and a list of the machines that have one.
 --     AreEmpty raises                no head changed on any machine
---     AreListed raises raised count  the machines with a raise are among the first of a list
+--     AreListed raises machines      the machines with a raise are in a list
 --     AreRaisesFit greatest ..       each machine has its blocks, and a span from its raise fits
 --     IsSpanByRaise ..               the greater of a number and of what begins within a raise
---     CanTakeSpans greatest ..       what begins within the listed raises can be bounded
+--     CanTakeSpans greatest ..       what begins within these raises can be bounded
 --     TakesSpans ..                  the greater of a number and of that, once the raises are empty
-use Rattle.std.specs.Prelude.{◌≡◌, ℕ, ◌+◌, ◌*◌, ◌^◌, ◌≤◌, ◌<◌, List, length, sum_by}
-use Rattle.std.specs.Prelude.{if◌then◌else◌, nat_lt}
-use Rattle.std.specs.Prelude.{slice_index}
+use Rattle.std.specs.Prelude.{◌≡◌, ℕ, ◌+◌, ◌≤◌, ◌<◌, List, length, slice_index}
 use Rattle.shop_lanes.specs.Rows.{Rows, Lane, AreBlocks}
 use Rattle.shop_lanes.specs.Spans.{spans_between, FitsSpan}
-use Rattle.shop_desk.specs.inner.HeadRaises.{raise_of}
+use Rattle.shop_desk.specs.inner.HeadRaises.{Raise, raise_of}
+use Rattle.shop_desk.specs.inner.RisingLists.{IsIn}
 use Rattle.shop_layout.specs.Lanes.{lanes_on}
 use Rattle.shop_layout.specs.Positions.{LayoutState}
-use Rattle.shop_desk.specs.declared.head_raises.Raise.{Raise}
 
 abbrev pub AreEmpty : List Raise → Type 0
 AreEmpty raises = (m : ℕ) → (raise_of raises m).to ≡ 0
 
--- how many machines have a raise
-abbrev pub raised_count : List Raise → ℕ
-raised_count raises = sum_by (λ r. if nat_lt 0 r.to then 1 else 0) raises
-
-pub record AreListed (raises : List Raise) (raised : List ℕ) (count : ℕ) : Type 0 where
-  pub room : length raised ≡ length raises + 1
-  pub few : count ≤ raised_count raises
-  pub known : (i : ℕ) → i < count → slice_index raised i < length raises
-  pub listed : (m : ℕ) → 0 < (raise_of raises m).to
-      → (i : ℕ) × (i < count) × (slice_index raised i ≡ m)
+-- of at most 128 machines
+pub record AreListed (raises : List Raise) (machines : List ℕ) : Type 0 where
+  pub few : length raises ≤ 128
+  pub known : (m : ℕ) → IsIn machines m → m < length raises
+  pub listed : (m : ℕ) → 0 < (raise_of raises m).to → IsIn machines m
 
 pub record AreRaisesFit (greatest : ℕ) (raises : List Raise) (l : LayoutState)
     (rows : Rows) : Type 0 where
@@ -46,10 +39,9 @@ pub record IsSpanByRaise (raise : Raise) (xs : List Lane) (limit least r : ℕ) 
   pub within : (c : ℕ) → least ≤ c → ((above upto : ℕ) → spans_between above upto xs ≤ c)
       → r ≤ c
 
-pub record CanTakeSpans (greatest : ℕ) (raises : List Raise) (raised : List ℕ) (count : ℕ)
-    (l : LayoutState) (rows : Rows) (least : ℕ) : Type 0 where
-  pub listed : AreListed raises raised count
-  pub small : 4 * length raised < 2 ^ 64
+pub record CanTakeSpans (greatest : ℕ) (raises : List Raise) (raised : List ℕ) (l : LayoutState)
+    (rows : Rows) (least : ℕ) : Type 0 where
+  pub listed : AreListed raises raised
   pub least_fits : least ≤ greatest
   pub times : length l.times ≡ length rows.heads
   pub tails : length l.tails ≡ length l.times
@@ -57,9 +49,9 @@ pub record CanTakeSpans (greatest : ℕ) (raises : List Raise) (raised : List �
 
 -- b is at least `least`, and no more than that and the spans of these machines; if it is below the
 -- limit, no span that begins within a raise is more
-pub record TakesSpans (l : LayoutState) (rows : Rows) (raised : List ℕ) (old new : List Raise)
-    (least limit b : ℕ) : Type 0 where
-  pub listed : AreListed new raised 0
+pub record TakesSpans (l : LayoutState) (rows : Rows) (old new : List Raise) (least limit b : ℕ)
+    : Type 0 where
+  pub empty : AreEmpty new
   pub long : length new ≡ length old
   pub low : least ≤ b
   pub covers : b < limit → (m : ℕ)

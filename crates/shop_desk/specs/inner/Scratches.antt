@@ -6,7 +6,7 @@ use Rattle.shop_model.specs.Placements.{HasPlaces, PlacementState}
 use Rattle.shop_model.specs.Shop.{Shop}
 use Rattle.shop_layout.specs.Positions.{LayoutState}
 use Rattle.shop_desk.specs.inner.MachineRaises.{AreEmpty}
-use Rattle.shop_desk.specs.declared.head_raises.Raise.{Raise}
+use Rattle.shop_desk.specs.inner.HeadRaises.{Raise}
 
 pub record IsScratchOf (shop : Shop) (l : LayoutState) (s : PlacementState) (raises : List Raise)
     (owns : ℕ) : Type 0 where

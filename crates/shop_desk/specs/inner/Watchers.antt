@@ -5,9 +5,8 @@
 --     Sees ms among end ..           the same of what is raised at positions on one machine
 use Rattle.std.specs.Prelude.{◌≡◌, ℕ, ◌≤◌, ◌<◌, ◌⊎◌, max, List, length, slice_index}
 use Rattle.std.specs.Prelude.{◌==◌, if◌then◌else◌}
-use Rattle.shop_desk.specs.inner.HeadRaises.{raise_of}
+use Rattle.shop_desk.specs.inner.HeadRaises.{Raise, raise_of}
 use Rattle.shop_desk.specs.inner.LaneBounds.{AreRaisesUpTo}
-use Rattle.shop_desk.specs.declared.head_raises.Raise.{Raise}
 
 -- on the machine of the operation as far as its end, and not at all on others
 abbrev pub floor_on : ℕ → ℕ → ℕ → ℕ

@@ -1,50 +1,71 @@
-use Rattle.std.proofs.Common.{◌≡◌, ℕ, ◌-◌, ◌≤◌, ◌∙◌, List, get_or, ap, subst, refl, arith}
-use Rattle.std.proofs.lemmas.List.{get_or_default}
-use Rattle.shop_lanes.specs.Rows.{Lane}
+use Rattle.std.proofs.Common.{List, ap, subst, sym, refl, arith}
+use Rattle.std.proofs.lemmas.List.{length-map}
 use Rattle.shop_layout.specs.Lanes.{rows_of, lanes_on}
-use Rattle.shop_desk.specs.inner.HeadRaises.{no_raise, raise_of}
+use Rattle.shop_desk.specs.inner.HeadRaises.{Raise, nothing_raised, raise_in, raises_in}
 use Rattle.shop_desk.specs.inner.MachineRaises.{IsSpanByRaise}
-use Rattle.shop_desk.specs.declared.head_raises.Raise.{Raise}
-use Rattle.shop_desk.proofs.RaisedMachines.{IsTakenSo, room_left, taken_all, taken_more}
+use Rattle.shop_desk.proofs.RaisedMachines.{IsTakenSo, first_known, taken_all, taken_more}
 use Rattle.shop_desk.proofs.lane_bounds.take_spans_of.Goals as goal
 
-pub bounds-raised-left : goal.bounds-raised-left
-bounds-raised-left g c =
-    let a = room_left c.loop-left.raises c.args.raised.now c.loop-left.left c.loop-left.invariant.taken.are_listed
-    in let some = c.loop-left-test.true in omega arith
+pub take_raise-raise-requires : goal.take_raise-raise-requires
+take_raise-raise-requires g c =
+    let many = length-map c.loop-machine.raises (raise_in g.L.StateLanes.value)
+    in let known = first_known (raises_in g.L.StateLanes.value c.loop-machine.raises) c.loop-machine.left
+    c.pop_first.new.self c.in-Some.machine c.loop-machine.invariant.taken.are_listed c.in-Some.ensures
+    in omega arith
 
-pub offset_bounds-raised-left : goal.offset_bounds-raised-left
-offset_bounds-raised-left g c =
-    let a = room_left c.loop-left.raises c.args.raised.now c.loop-left.left c.loop-left.invariant.taken.are_listed
-    in let few = c.requires.can.small in omega arith
+pub span_by_raise-most-requires-clause-small : goal.span_by_raise-most-requires-clause-small
+span_by_raise-most-requires-clause-small g c =
+    let few = c.loop-machine.invariant.taken.are_listed.few
+    in let known = first_known (raises_in g.L.StateLanes.value c.loop-machine.raises) c.loop-machine.left
+    c.pop_first.new.self c.in-Some.machine c.loop-machine.invariant.taken.are_listed c.in-Some.ensures
+    in omega arith
 
--- all are taken
-last_taken : (least limit : ℕ) (old : List Raise) (on : ℕ → List Lane) (raises : List Raise) (raised : List ℕ)
-    (count bound : ℕ) → IsTakenSo least limit old on raises raised count bound → count ≤ 0
-    → IsTakenSo least limit old on raises raised 0 bound
-last_taken least limit old on raises raised count bound so none =
-    subst (λ (n : ℕ). IsTakenSo least limit old on raises raised n bound) (omega arith) so
+pub span_by_raise-most-requires-clause-known : goal.span_by_raise-most-requires-clause-known
+span_by_raise-most-requires-clause-known g c =
+    let long = c.loop-machine.invariant.taken.long in let blocks = c.requires.can.fits.known
+    in let known = first_known (raises_in g.L.StateLanes.value c.loop-machine.raises) c.loop-machine.left
+    c.pop_first.new.self c.in-Some.machine c.loop-machine.invariant.taken.are_listed c.in-Some.ensures
+    in omega arith
 
--- what is left in its place is empty
-emptied : (r e : Raise) → r ≡ e → e.to ≡ 0 → r.to ≡ 0
-emptied r e same none = let to = ap (λ (x : Raise). x.to) same in omega arith
+pub span_by_raise-most-requires-clause-blocks : goal.span_by_raise-most-requires-clause-blocks
+span_by_raise-most-requires-clause-blocks g c =
+    let long = c.loop-machine.invariant.taken.long
+    in let known = first_known (raises_in g.L.StateLanes.value c.loop-machine.raises) c.loop-machine.left
+    c.pop_first.new.self c.in-Some.machine c.loop-machine.invariant.taken.are_listed c.in-Some.ensures
+    in c.requires.can.fits.blocks c.in-Some.machine (omega arith)
 
-pub loop-left-preserved : goal.loop-left-preserved
-loop-left-preserved g c =
-    let so = c.loop-left.invariant.taken in let some = c.loop-left-test.true
-    in let m = get_or c.args.raised.now (c.loop-left.left - 1) 0
-    in let here = so.are_listed.known (c.loop-left.left - 1) (omega arith)
-    in let is : c.replace-raise.result ≡ raise_of c.loop-left.raises m =
-    c.replace-raise.ensures.value ∙ get_or_default c.loop-left.raises m _ no_raise here
+pub span_by_raise-most-requires-clause-below : goal.span_by_raise-most-requires-clause-below
+span_by_raise-most-requires-clause-below g c =
+    let long = c.loop-machine.invariant.taken.long
+    in let known = first_known (raises_in g.L.StateLanes.value c.loop-machine.raises) c.loop-machine.left
+    c.pop_first.new.self c.in-Some.machine c.loop-machine.invariant.taken.are_listed c.in-Some.ensures
+    in let below = c.requires.can.fits.below c.in-Some.machine (omega arith)
+    in let smaller = c.loop-machine.invariant.taken.smaller c.in-Some.machine
+    in let to = ap (λ (r : Raise). r.to) c.take_raise-raise.ensures.raise in omega arith
+
+pub span_by_raise-most-requires-clause-fits : goal.span_by_raise-most-requires-clause-fits
+span_by_raise-most-requires-clause-fits g c =
+    let long = c.loop-machine.invariant.taken.long
+    in let known = first_known (raises_in g.L.StateLanes.value c.loop-machine.raises) c.loop-machine.left
+    c.pop_first.new.self c.in-Some.machine c.loop-machine.invariant.taken.are_listed c.in-Some.ensures
+    in let fits = c.requires.can.fits.fits c.in-Some.machine (omega arith)
+    in let smaller = c.loop-machine.invariant.taken.smaller c.in-Some.machine
+    in let to = ap (λ (r : Raise). r.to) c.take_raise-raise.ensures.raise in omega arith
+
+pub loop-machine-preserved : goal.loop-machine-preserved
+loop-machine-preserved g c =
+    let raises = raises_in g.L.StateLanes.value c.loop-machine.raises
     in let on = lanes_on (rows_of c.args.grid.now (g.L.StateLanes.heads c.args.lanes.now)
     (g.L.StateLanes.ends c.args.lanes.now)) c.args.grid.now
+    in let old = raises_in g.L.StateLanes.value c.args.raises.now
     in record {
-      taken = taken_more c.args.least c.args.limit c.args.raises.now on c.loop-left.raises c.args.raised.now
-          c.loop-left.left c.loop-left.most so (c.loop-left.left - 1) m (omega arith) refl c.replace-raise.new.dest
-          (emptied c.replace-raise.new.dest (record { from = 18446744073709551615; to = 0 })
-          c.replace-raise.ensures.after refl) c.span_by_raise-most.result
-          (subst (λ (r : Raise). IsSpanByRaise r (on m) c.args.limit c.loop-left.most c.span_by_raise-most.result) is
-          c.span_by_raise-most.ensures.spans);
+      taken = subst (λ (rs : List Raise). IsTakenSo c.args.least c.args.limit old on rs c.pop_first.new.self
+          c.span_by_raise-most.result) (sym c.take_raise-raise.ensures.empty)
+          (taken_more c.args.least c.args.limit old on raises c.loop-machine.left c.pop_first.new.self
+          c.loop-machine.most c.loop-machine.invariant.taken c.in-Some.machine c.in-Some.ensures
+          (nothing_raised g.L.StateLanes.GREATEST) refl c.span_by_raise-most.result
+          (subst (λ (r : Raise). IsSpanByRaise r (on c.in-Some.machine) c.args.limit c.loop-machine.most
+          c.span_by_raise-most.result) c.take_raise-raise.ensures.raise c.span_by_raise-most.ensures.spans));
       fits = c.span_by_raise-most.ensures.fits;
     }
 
@@ -52,13 +73,14 @@ pub returns : goal.returns
 returns g c =
     let on = lanes_on (rows_of c.args.grid.now (g.L.StateLanes.heads c.args.lanes.now)
     (g.L.StateLanes.ends c.args.lanes.now)) c.args.grid.now
-    in let all = last_taken c.args.least c.args.limit c.args.raises.now on c.loop-left.raises c.args.raised.now
-    c.loop-left.left c.loop-left.most c.loop-left.invariant.taken c.loop-left-test.false
+    in let so = c.loop-machine.invariant.taken
+    in let all = taken_all c.args.least c.args.limit (raises_in g.L.StateLanes.value c.args.raises.now) on
+    (raises_in g.L.StateLanes.value c.loop-machine.raises) c.loop-machine.left c.loop-machine.most
+    c.in_default.ensures.0 so
     in record {
-      listed = all.are_listed;
-      long = all.long;
-      low = all.low;
-      covers = taken_all c.args.least c.args.limit c.args.raises.now on c.loop-left.raises c.args.raised.now
-          c.loop-left.most all;
-      within = all.within;
+      empty = all.0;
+      long = so.long;
+      low = so.low;
+      covers = all.1;
+      within = so.within;
     }

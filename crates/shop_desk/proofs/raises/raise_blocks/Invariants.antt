@@ -1,5 +1,6 @@
 use Rattle.std.proofs.Common.{◌≡◌, length}
 use Rattle.shop_layout.specs.Lanes.{rows_of}
+use Rattle.shop_desk.specs.inner.HeadRaises.{raises_in}
 use Rattle.shop_desk.specs.inner.Raises.{IsInBlocks}
 use Rattle.shop_desk.specs.inner.MachineRaises.{AreListed}
 use Rattle.shop_desk.specs.inner.Watchers.{Sees}
@@ -8,13 +9,14 @@ use Rattle.shop_desk.proofs.raises.raise_blocks.Given as goal
 
 abbrev pub invariant-loop-position : goal.invariant-loop-position
 invariant-loop-position g l = record {
-  raised : AreBlocksRaised g.L.StateLanes.GREATEST l.routes l.next l.from l.to l.end l.below (rows_of l.routes (g.L.StateLanes.heads l.fn.lanes) (g.L.StateLanes.ends l.fn.lanes))
+  raised : AreBlocksRaised g.L.StateLanes.GREATEST l.routes l.next l.from l.to l.end l.below
+      (rows_of l.routes (g.L.StateLanes.heads l.fn.lanes) (g.L.StateLanes.ends l.fn.lanes))
       (rows_of l.routes (g.L.StateLanes.heads l.lanes) (g.L.StateLanes.ends l.lanes));
   seen : Sees l.routes.machines (IsInBlocks l.from l.to) l.end (g.L.StateLanes.heads l.fn.lanes)
-      (g.L.StateLanes.heads l.lanes) l.fn.raises l.raises;
+      (g.L.StateLanes.heads l.lanes) (raises_in g.L.StateLanes.value l.fn.raises)
+      (raises_in g.L.StateLanes.value l.raises);
   machines : length l.raises ≡ length l.fn.raises;
-  listed : AreListed l.raises l.raised l.count;
-  long : length l.raised ≡ length l.fn.raised;
+  listed : AreListed (raises_in g.L.StateLanes.value l.raises) l.raised;
 }
 
 abbrev pub decreases-loop-position : goal.decreases-loop-position

@@ -1,5 +1,6 @@
-use Rattle.std.proofs.Common.{◌≡◌, get_or, length}
+use Rattle.std.proofs.Common.{get_or, length}
 use Rattle.shop_layout.specs.Lanes.{rows_of}
+use Rattle.shop_desk.specs.inner.HeadRaises.{raises_in}
 use Rattle.shop_desk.specs.inner.Raises.{IsPosition}
 use Rattle.shop_desk.specs.inner.MachineRaises.{AreListed}
 use Rattle.shop_desk.specs.inner.Watchers.{Sees}
@@ -9,13 +10,13 @@ use Rattle.shop_desk.proofs.raises.raise_route.Given as goal
 
 abbrev pub invariant-loop-next : goal.invariant-loop-next
 invariant-loop-next g l = record {
-  following : IsFollowing g.L.StateLanes.GREATEST l.routes l.position l.end l.next l.ready (rows_of l.routes (g.L.StateLanes.heads l.fn.lanes) (g.L.StateLanes.ends l.fn.lanes))
+  following : IsFollowing g.L.StateLanes.GREATEST l.routes l.position l.end l.next l.ready
+      (rows_of l.routes (g.L.StateLanes.heads l.fn.lanes) (g.L.StateLanes.ends l.fn.lanes))
       (rows_of l.routes (g.L.StateLanes.heads l.lanes) (g.L.StateLanes.ends l.lanes));
   seen : Sees l.routes.machines (IsPosition l.position) l.end
-      (g.L.StateLanes.heads l.fn.lanes) (g.L.StateLanes.heads l.lanes) l.fn.raises
-      l.raises;
-  listed : AreListed l.raises l.raised l.count;
-  long : length l.raised ≡ length l.fn.raised;
+      (g.L.StateLanes.heads l.fn.lanes) (g.L.StateLanes.heads l.lanes) (raises_in g.L.StateLanes.value l.fn.raises)
+      (raises_in g.L.StateLanes.value l.raises);
+  listed : AreListed (raises_in g.L.StateLanes.value l.raises) l.raised;
 }
 
 abbrev pub decreases-loop-next : goal.decreases-loop-next
