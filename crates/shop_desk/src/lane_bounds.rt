@@ -43,7 +43,9 @@ fn span_by_raise<L: StateLanes>(
         return least;
     }
     let (from, to) = grid.blocks_of(each, machine);
-    grid.bound_raised(lanes, from, to, raise.from, raise.to, least, limit)
+    grid.bound_raised(
+        lanes, each, from, to, raise.from, raise.to, least, limit,
+    )
 }
 
 /// The greatest of `least` and the spans of the listed machines from their raised heads on; once that reaches the limit,
