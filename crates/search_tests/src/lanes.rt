@@ -55,11 +55,11 @@ fn assert_two_blocks<L: StateLanes>(rt: &impl Abort, fixed: &L::Fixed, lanes: &L
     assert_eq!(rt; lanes.load(fixed, 1, 2, 1), 15);
     assert_eq!(rt; lanes.load(fixed, 0, 2, 1), 21);
     // from 3 on the first, the third and position 9; from 5 on these two; from 6 on the third
-    assert_eq!(rt; lanes.bound_raised(fixed, 0, 1, 1, 6, 0, 1000), 16);
-    assert_eq!(rt; lanes.bound_raised(fixed, 0, 1, 3, 6, 0, 1000), 10);
-    assert_eq!(rt; lanes.bound_raised(fixed, 0, 1, 6, 9, 1, 1000), 1);
+    assert_eq!(rt; lanes.bound_raised(fixed, 1, 0, 1, 1, 6, 0, 1000), 16);
+    assert_eq!(rt; lanes.bound_raised(fixed, 1, 0, 1, 3, 6, 0, 1000), 10);
+    assert_eq!(rt; lanes.bound_raised(fixed, 0, 0, 1, 6, 9, 1, 1000), 1);
     // from 3 on all but position 1 and 15
-    assert_eq!(rt; lanes.bound_raised(fixed, 0, 2, 2, 6, 0, 1000), 22);
+    assert_eq!(rt; lanes.bound_raised(fixed, 0, 0, 2, 2, 6, 0, 1000), 22);
     let mut marks = lanes.below(0, 2, 4);
     assert!(rt; !marks.is_empty());
     assert_eq!(rt; marks.pop_first(), Some(0));

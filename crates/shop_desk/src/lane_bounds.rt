@@ -45,7 +45,7 @@ fn span_by_raise<L: StateLanes>(
     }
     let (from, to) = grid.blocks_of(each, machine);
     let (above, upto) = (L::widened(raise.from), L::widened(raise.to));
-    grid.bound_raised(lanes, from, to, above, upto, least, limit)
+    grid.bound_raised(lanes, each, from, to, above, upto, least, limit)
 }
 
 /// The greatest of `least` and the spans of the listed machines from their raised heads on; once that reaches the limit,

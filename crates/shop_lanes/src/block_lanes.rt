@@ -3,7 +3,7 @@ ghost use Rattle.std.specs.Prelude.{◌≡◌, ℕ, ◌+◌, ◌-◌, ◌*◌, �
 ghost use Rattle.std.specs.Prelude.{replicate, All, IfOk};
 ghost use Rattle.shop_lanes.specs.inner.Passes.{IsPadded};
 
-use crate::leaps::leap_over;
+use crate::leaps::{leap, leap_over};
 use crate::marking::Marks;
 use crate::owning::own_spans;
 use crate::passes::{bits_up_to, first_least, load};
@@ -171,6 +171,7 @@ impl<B: Block> StateLanes for BlockLanes<B> {
     fn bound_raised(
         &self,
         fixed: &FixedBlocks<B>,
+        count: usize,
         from: usize,
         to: usize,
         above: u64,
@@ -182,7 +183,10 @@ impl<B: Block> StateLanes for BlockLanes<B> {
         let heads = &self.heads[first..end];
         let times = &fixed.times[first..end];
         let tails = &fixed.tails[first..end];
-        leap_over::<B>(heads, times, tails, above, upto, most, limit)
+        if count == 0 {
+            return leap_over::<B>(heads, times, tails, above, upto, most, limit);
+        }
+        leap::<B>(8 * count, heads, times, tails, above, upto, most, limit)
     }
 
     #[inline(always)]

@@ -29,7 +29,7 @@ fn least_head_of<B: Block>(count: usize, heads: &[B::Number], from: u64, greates
 /// The greater of `most` and the spans from each head above `above` and up to `upto` on; where that reaches the limit,
 /// one that does. With a literal `count` the loops over blocks are unrolled.
 #[inline(always)]
-fn leap<B: Block>(
+pub(crate) fn leap<B: Block>(
     count: usize,
     heads: &[B::Number],
     times: &[B::Number],
@@ -71,8 +71,8 @@ fn leap<B: Block>(
 }
 
 /// The greater of `most` and the spans from each head above `above` and up to `upto` on; where that reaches the limit,
-/// one that does. Where the caller knows how many heads there are, one of these is left.
-#[inline(always)]
+/// one that does; in a function of its own, for any number of blocks.
+#[inline(never)]
 pub(crate) fn leap_over<B: Block>(
     heads: &[B::Number],
     times: &[B::Number],

@@ -102,10 +102,12 @@ pub trait StateLanes: Drop {
             (lanes_of (heads self.now) (times fixed.now) (tails fixed.now) from to) };
 
     /// The greatest of `most` and the spans of those that begin no earlier than one of them, from its head on, for each
-    /// head above `above` and up to `upto`; where that reaches the limit, `most` or one of these that reaches it.
+    /// head above `above` and up to `upto`; where that reaches the limit, `most` or one of these that reaches it. `count`
+    /// is the number of these blocks, or 0; with a literal number the passes over them are unrolled.
     fn bound_raised(
         &self,
         fixed: &Self::Fixed,
+        count: usize,
         from: usize,
         to: usize,
         above: u64,
@@ -114,6 +116,7 @@ pub trait StateLanes: Drop {
         limit: u64,
     ) -> u64
         requires blocks { AreBlocksOf (heads self.now) (times fixed.now) (tails fixed.now) from to }
+        requires count { 0 < count → to ≡ from + count }
         requires most { most ≤ GREATEST }
         requires below { upto < GREATEST }
         requires fits { FitsSpan GREATEST upto

@@ -129,6 +129,7 @@ impl<L: StateLanes> Grid<L> {
         requires known { machine + 1 < length self.now.blocks }
         ensures first { result.0 ≡ slice_index self.now.blocks machine }
         ensures behind { result.1 ≡ slice_index self.now.blocks (machine + 1) }
+        ensures count { 0 < each → result.1 ≡ result.0 + each }
     {
         if each == 0 {
             return (self.block(machine), self.block(machine + 1));
@@ -181,11 +182,12 @@ impl<L: StateLanes> Grid<L> {
     }
 
     /// The greatest of `most` and the spans from each head above `above` and up to `upto` on, in these blocks; once that
-    /// reaches the limit, any number between the limit and it.
+    /// reaches the limit, any number between the limit and it. `count` is the number of these blocks, or 0.
     #[inline(always)]
     pub fn bound_raised(
         &self,
         lanes: &L,
+        count: usize,
         from: usize,
         to: usize,
         above: u64,
@@ -197,6 +199,7 @@ impl<L: StateLanes> Grid<L> {
             from to }
         requires times { length self.now.times ≡ length (L.heads lanes.now) }
         requires tails { length self.now.tails ≡ length self.now.times }
+        requires count { 0 < count → to ≡ from + count }
         requires most { most ≤ L.GREATEST }
         requires below { upto < L.GREATEST }
         requires fits { FitsSpan L.GREATEST upto (lanes_between
@@ -204,7 +207,7 @@ impl<L: StateLanes> Grid<L> {
         ensures { IsRaisedBelow limit (max most (spans_between above upto (lanes_between
             (rows_of self.now (L.heads lanes.now) (L.ends lanes.now)) from to))) result }
     {
-        lanes.bound_raised(&self.fixed, from, to, above, upto, most, limit)
+        lanes.bound_raised(&self.fixed, count, from, to, above, upto, most, limit)
     }
 
     /// The own spans of what waits in these blocks, from the first of the room on.
