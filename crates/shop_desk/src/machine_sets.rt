@@ -1,5 +1,5 @@
 // A set of machines, by bits.
-ghost use Rattle.std.specs.Prelude.{◌≡◌, ◌<◌, ◌≤◌, ◌++◌, ◌^◌, ℕ, List, []};
+ghost use Rattle.std.specs.Prelude.{◌≡◌, ◌<◌, ◌++◌, ◌^◌, ℕ, List, []};
 ghost use Rattle.shop_lanes.specs.Marks.{IsPopped};
 ghost use Rattle.shop_lanes.specs.SetBits.{set_bits};
 ghost use Rattle.shop_desk.specs.inner.MachineSets.{HasPut};
