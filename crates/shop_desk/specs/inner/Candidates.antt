@@ -76,7 +76,8 @@ pub record CanList (greatest : ℕ) (l : LayoutState) (heads nexts : List ℕ)
   pub few : length nexts < 1024
   pub known : chosen < length nexts
   pub told : (js : List ℕ)
-      → IsGatheredWith chosen (IsJobBelow l heads (IsInBlocks from behind) end) js → (j : ℕ) → IsIn js j → IsTold nexts (8 * from) count j
+      → IsGatheredWith chosen (IsJobBelow l heads (IsInBlocks from behind) end) js
+      → (j : ℕ) → IsIn js j → IsTold nexts (8 * from) count j
 
 abbrev pub AreCandidatesOf : Shop → List ℕ → LayoutState → ℕ → List Candidate → ℕ → Type 0
 AreCandidatesOf shop w l limit cs others =

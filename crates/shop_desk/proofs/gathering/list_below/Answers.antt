@@ -1,4 +1,4 @@
-use Rattle.std.proofs.Common.{ℕ, arith}
+use Rattle.std.proofs.Common.{arith}
 use Rattle.shop_desk.proofs.Listing.{one_kept, one_left_out}
 use Rattle.shop_desk.proofs.gathering.list_below.Goals as goal
 

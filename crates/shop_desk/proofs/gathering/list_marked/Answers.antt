@@ -1,6 +1,6 @@
-use Rattle.std.proofs.Common.{ℕ, ◌≡◌, List, ◌+◌, ◌++◌, ◌∷◌, [], inl, inr, sym, ◌∙◌, ap, length, map, subst, arith}
+use Rattle.std.proofs.Common.{ℕ, ◌≡◌, List, ◌+◌, ◌++◌, ◌∷◌, [], inl, inr, sym, ◌∙◌, ap, map, subst, arith}
 use Rattle.std.proofs.Common.{append_assoc, refl}
-use Rattle.std.proofs.lemmas.List.{append-nil, length-append}
+use Rattle.std.proofs.lemmas.List.{length-append}
 use Rattle.shop_desk.specs.inner.Candidates.{ListsOwn, told_at}
 use Rattle.shop_desk.specs.inner.RisingLists.{IsIn}
 use Rattle.shop_desk.proofs.Listing.{begun, ended, regrouped}

@@ -1,4 +1,4 @@
-use Rattle.std.proofs.Common.{◌≡◌, ℕ, ◌*◌, List, map, subst, arith}
+use Rattle.std.proofs.Common.{ℕ, ◌*◌, List, map, subst}
 use Rattle.shop_desk.specs.inner.Candidates.{ListsOwn, told_at}
 use Rattle.shop_desk.specs.inner.RisingLists.{IsIn}
 use Rattle.shop_desk.proofs.gathering.list_set.Goals as goal

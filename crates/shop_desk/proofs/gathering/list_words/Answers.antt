@@ -1,5 +1,4 @@
-use Rattle.std.proofs.Common.{◌≡◌, ℕ, List, [], ◌+◌, ◌*◌, ◌++◌, drop, length, map, refl, sym, ◌∙◌, ap, subst, arith}
-use Rattle.std.proofs.Common.{vec_capacity}
+use Rattle.std.proofs.Common.{ℕ, List, [], ◌++◌, length, map, refl, sym, ◌∙◌, ap, subst, arith}
 use Rattle.std.proofs.lemmas.List.{length-append}
 use Rattle.shop_desk.specs.inner.Candidates.{ListsOwn, empty, told_at}
 use Rattle.shop_desk.specs.inner.RisingLists.{IsIn}

@@ -1,4 +1,4 @@
-use Rattle.std.proofs.Common.{ℕ, List, [], subst}
+use Rattle.std.proofs.Common.{ℕ, List, subst}
 use Rattle.shop_desk.specs.inner.JobSets.{HasPut}
 use Rattle.shop_desk.specs.inner.LaneChoices.{IsJobBelow}
 use Rattle.shop_desk.specs.inner.Raises.{IsInBlocks}
