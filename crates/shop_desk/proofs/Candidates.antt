@@ -1,5 +1,5 @@
 -- The candidates of a word, and what is foreseen of the bound after one.
-use Rattle.std.proofs.Common.{◌≡◌, ℕ, zero, suc, ◌+◌, ◌-◌, ◌<◌, ◌^◌, max, min, inl, inr, List}
+use Rattle.std.proofs.Common.{◌≡◌, ℕ, ◌+◌, ◌-◌, ◌<◌, ◌^◌, max, min, List}
 use Rattle.std.proofs.Common.{[], ◌∷◌, ◌++◌, length, get_or, refl, ◌∙◌, ap, subst, arith}
 use Rattle.shop_lanes.specs.Rows.{Rows}
 use Rattle.shop_model.specs.Limits.{IsWithinLimits}
@@ -23,11 +23,6 @@ use Rattle.shop_desk.proofs.ChildReads.{after_look, end_here, end_latest, end_sm
 use Rattle.shop_desk.proofs.ChildReads.{left_fits, machine_here, time_here}
 use Rattle.shop_desk.proofs.LaneConflicts.{filter_rises, in_filter, open_is}
 use Rattle.shop_desk.proofs.StateSteps.{next_at, next_known, within}
-
-pub is_in_at : (xs : List ℕ) (i d : ℕ) → i < length xs → IsIn xs (get_or xs i d)
-is_in_at [] i d here = absurd (omega arith)
-is_in_at (x ∷ xs) zero d here = inl refl
-is_in_at (x ∷ xs) (suc i) d here = inr (is_in_at xs i d (omega arith))
 
 -- a conflict set is a part of the open jobs
 conflict_in : (shop : Shop) (p : Placing) (js : List ℕ) (q : ℕ) → IsIn (conflict_among shop p js) q → IsIn js q

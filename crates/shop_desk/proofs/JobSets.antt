@@ -1,20 +1,19 @@
 -- Numbers as the bits of words: which are among them, that they rise, and one bit more.
-use Rattle.std.proofs.Common.{◌≡◌, ℕ, zero, suc, ◌+◌, ◌*◌, ◌/◌, ◌%◌, ◌^◌, ◌≤◌, ◌<◌, ◌⊎◌, inl, inr, Bool, true, false}
+use Rattle.std.proofs.Common.{◌≡◌, ℕ, zero, suc, ◌+◌, ◌*◌, ◌/◌, ◌%◌, ◌^◌, ◌≤◌, ◌<◌, ◌⊎◌, inl, inr}
 use Rattle.std.proofs.Common.{List, [], ◌∷◌, ◌++◌, length, get_or, set, drop, replicate, max, refl, sym, ◌∙◌, ap, subst}
-use Rattle.std.proofs.Common.{arith}
-use Rattle.std.proofs.lemmas.Bool.{cases_eq, false≢true}
+use Rattle.std.proofs.Common.{append_assoc, arith}
+use Rattle.std.proofs.lemmas.Bool.{cases_eq}
 use Rattle.std.proofs.lemmas.List.{append-nil, length-append}
-use Rattle.std.specs.Int.Bits.{bit_or, or_zero_r}
+use Rattle.std.specs.Int.Bits.{bit_or}
 use Rattle.std.specs.Int.{bit_at}
+use Rattle.std.proofs.Math.Pow.{pow-lt}
 use Rattle.std.proofs.lemmas.Nat.Bits.{bit_at_or, bit_at-suc, bit_at_lowest, bit_at-lt, bit_at-pow_same}
 use Rattle.std.proofs.lemmas.Nat.Bits.{bit_at-pow_other}
 use Rattle.shop_lanes.specs.SetBits.{set_bits}
-use mir.Val.{bool_byte}
-use Rattle.std.proofs.Math.Pow.{pow-lt}
 use Rattle.shop_lanes.proofs.MarkLemmas.{set_bits-odd, set_bits-even, set_bits-zero}
-use Rattle.shop_desk.specs.inner.JobSets.{members, HasPutIf}
+use Rattle.shop_desk.specs.inner.JobSets.{members, HasPut}
 use Rattle.shop_desk.specs.inner.RisingLists.{IsIn, Rises, HasGathered}
-use Rattle.shop_desk.proofs.RisingLists.{rising_short, none_in}
+use Rattle.shop_desk.proofs.RisingLists.{rising_short}
 
 -- two lists as one
 pub in_append : (xs ys : List ℕ) (q : ℕ) → IsIn (xs ++ ys) q → IsIn xs q ⊎ IsIn ys q
@@ -120,7 +119,7 @@ no_bit : (a : ℕ) → a < 2 → (a ≡ 1 → ⊥) → a ≡ 0
 no_bit a small other = omega arith
 
 pub bit_put : (at word k : ℕ) → k < 64
-    → HasGathered (λ q. (true ≡ true) × (q ≡ at + k)) (set_bits 64 at word) (set_bits 64 at (bit_or word (2 ^ k)))
+    → HasPut (at + k) (set_bits 64 at word) (set_bits 64 at (bit_or word (2 ^ k)))
 bit_put at word k lt =
     let new = bit_or word (2 ^ k)
     in record {
@@ -129,7 +128,7 @@ bit_put at word k lt =
           in subst (IsIn (set_bits 64 at new)) (sym b.2) (bits_in 64 at new b.0 b.1
           (one_of_two (bit_at word b.0) (bit_at (2 ^ k) b.0) (bit_at new b.0) (bit_at_or word (2 ^ k) b.0)
           (bit_at-lt new b.0) b.3));
-      gathered = λ q is. subst (IsIn (set_bits 64 at new)) (sym is.1) (bits_in 64 at new k lt
+      gathered = λ q is. subst (IsIn (set_bits 64 at new)) (sym is) (bits_in 64 at new k lt
           (one_of_two (bit_at (2 ^ k) k) (bit_at word k) (bit_at new k)
           (bit_at_or word (2 ^ k) k ∙ (let e : max (bit_at word k) (bit_at (2 ^ k) k) ≡ max (bit_at (2 ^ k) k)
           (bit_at word k) = omega arith in e))
@@ -139,7 +138,7 @@ bit_put at word k lt =
           in elim (cases_eq (bit_at word b.0) 1) [
             | inl one ↦ inl (subst (IsIn (set_bits 64 at word)) (sym b.2) (bits_in 64 at word b.0 b.1 one))
             | inr not_one ↦ elim (cases_eq b.0 k) [
-              | inl same ↦ inr (refl, b.2 ∙ ap (λ (i : ℕ). at + i) same)
+              | inl same ↦ inr (b.2 ∙ ap (λ (i : ℕ). at + i) same)
               | inr other ↦ absurd (let bit = other_of_two (bit_at word b.0) (bit_at (2 ^ k) b.0) (bit_at new b.0)
                   (bit_at_or word (2 ^ k) b.0) b.3 (no_bit (bit_at word b.0) (bit_at-lt word b.0) not_one)
                   in let none = bit_at-pow_other k b.0 other in omega arith)
@@ -183,57 +182,45 @@ more_before P old new first put = record {
 }
 
 member_put : (at : ℕ) (words : List ℕ) (i k : ℕ) → i < length words → k < 64
-    → HasGathered (λ q. (true ≡ true) × (q ≡ at + (64 * i + k))) (members at words)
+    → HasPut (at + (64 * i + k)) (members at words)
     (members at (set words i (bit_or (get_or words i 0) (2 ^ k))))
 member_put at [] i k within lt = absurd (omega arith)
 member_put at (word ∷ words) zero k within lt =
     let e : at + k ≡ at + (64 * zero + k) = omega arith
-    in more_behind (λ q. (true ≡ true) × (q ≡ at + (64 * zero + k))) (set_bits 64 at word)
+    in more_behind (λ q. q ≡ at + (64 * zero + k)) (set_bits 64 at word)
     (set_bits 64 at (bit_or word (2 ^ k))) (members (at + 64) words)
-    (subst (λ (n : ℕ). HasGathered (λ q. (true ≡ true) × (q ≡ n)) (set_bits 64 at word)
+    (subst (λ (n : ℕ). HasPut n (set_bits 64 at word)
     (set_bits 64 at (bit_or word (2 ^ k)))) e (bit_put at word k lt))
 member_put at (word ∷ words) (suc i) k within lt =
     let e : at + 64 + (64 * i + k) ≡ at + (64 * suc i + k) = omega arith
-    in more_before (λ q. (true ≡ true) × (q ≡ at + (64 * suc i + k))) (members (at + 64) words)
+    in more_before (λ q. q ≡ at + (64 * suc i + k)) (members (at + 64) words)
     (members (at + 64) (set words i (bit_or (get_or words i 0) (2 ^ k)))) (set_bits 64 at word)
-    (subst (λ (n : ℕ). HasGathered (λ q. (true ≡ true) × (q ≡ n)) (members (at + 64) words)
+    (subst (λ (n : ℕ). HasPut n (members (at + 64) words)
     (members (at + 64) (set words i (bit_or (get_or words i 0) (2 ^ k))))) e
     (member_put (at + 64) words i k (omega arith) lt))
-
-set_same : (words : List ℕ) (i : ℕ) → i < length words → set words i (get_or words i 0) ≡ words
-set_same [] i within = absurd (omega arith)
-set_same (word ∷ words) zero within = refl
-set_same (word ∷ words) (suc i) within = ap (λ (l : List ℕ). word ∷ l) (set_same words i (omega arith))
 
 small_shift : (x : ℕ) → x < 2 ^ 64 → 1 * x % 2 ^ 64 ≡ x
 small_shift x small = omega arith
 
-no_shift : (x : ℕ) → 0 * x % 2 ^ 64 ≡ 0
-no_shift x = omega arith
-
--- a job put into words, or not
-pub put_by : (told : Bool) (words : List ℕ) (job bit : ℕ) → job < 64 * length words → bit ≡ bool_byte told
-    → HasPutIf told job (members 0 words)
-    (members 0 (set words (job / 64) (bit_or (get_or words (job / 64) 0) (bit * 2 ^ (job % 64) % 2 ^ 64))))
-put_by true words job bit within is =
-    let low : job % 64 < 64 = omega arith
-    in let shifted : bit * 2 ^ (job % 64) % 2 ^ 64 ≡ 2 ^ (job % 64) =
-    ap (λ (b : ℕ). b * 2 ^ (job % 64) % 2 ^ 64) is ∙ small_shift (2 ^ (job % 64)) (pow-lt {i = job % 64} {j = 64} low)
-    in let e : 0 + (64 * (job / 64) + job % 64) ≡ job = omega arith
-    in subst (λ (x : ℕ). HasPutIf true job (members 0 words)
-    (members 0 (set words (job / 64) (bit_or (get_or words (job / 64) 0) x)))) (sym shifted)
-    (subst (λ (n : ℕ). HasPutIf true n (members 0 words)
+put_bit : (words : List ℕ) (job bit : ℕ) → job < 64 * length words → bit ≡ 2 ^ (job % 64)
+    → HasPut job (members 0 words) (members 0 (set words (job / 64) (bit_or (get_or words (job / 64) 0) bit)))
+put_bit words job bit within is =
+    let e : 0 + (64 * (job / 64) + job % 64) ≡ job = omega arith
+    in subst (λ (x : ℕ). HasPut job (members 0 words)
+    (members 0 (set words (job / 64) (bit_or (get_or words (job / 64) 0) x)))) (sym is)
+    (subst (λ (n : ℕ). HasPut n (members 0 words)
     (members 0 (set words (job / 64) (bit_or (get_or words (job / 64) 0) (2 ^ (job % 64)))))) e
     (member_put 0 words (job / 64) (job % 64) (omega arith) (omega arith)))
-put_by false words job bit within is =
-    let shifted : bit * 2 ^ (job % 64) % 2 ^ 64 ≡ 0 =
-    ap (λ (b : ℕ). b * 2 ^ (job % 64) % 2 ^ 64) is ∙ no_shift (2 ^ (job % 64))
-    in let same : set words (job / 64) (bit_or (get_or words (job / 64) 0) (bit * 2 ^ (job % 64) % 2 ^ 64)) ≡ words =
-    ap (λ (x : ℕ). set words (job / 64) (bit_or (get_or words (job / 64) 0) x)) shifted
-    ∙ ap (λ (x : ℕ). set words (job / 64) x) (or_zero_r (get_or words (job / 64) 0))
-    ∙ set_same words (job / 64) (omega arith)
-    in subst (λ (l : List ℕ). HasPutIf false job (members 0 words) (members 0 l)) (sym same)
-    (record { kept = λ q h. h; gathered = λ q is_put. absurd (false≢true is_put.0); only = λ q h. inl h })
+
+-- a job put into words
+pub put_in : (words : List ℕ) (job word : ℕ) → job < 64 * length words → word ≡ job / 64
+    → HasPut job (members 0 words)
+    (members 0 (set words word (bit_or (get_or words word 0) (1 * 2 ^ (job % 64) % 2 ^ 64))))
+put_in words job word within at =
+    subst (λ (i : ℕ). HasPut job (members 0 words)
+    (members 0 (set words i (bit_or (get_or words i 0) (1 * 2 ^ (job % 64) % 2 ^ 64))))) (sym at)
+    (put_bit words job (1 * 2 ^ (job % 64) % 2 ^ 64) within
+    (small_shift (2 ^ (job % 64)) (pow-lt {i = job % 64} {j = 64} (omega arith))))
 
 pub no_members : (n at : ℕ) → members at (replicate n 0) ≡ []
 no_members zero at = refl
@@ -269,11 +256,30 @@ module _ (words : List ℕ) (count : ℕ) (below : (j : ℕ) → IsIn (members 0
       (subst (λ (l : List ℕ). IsIn l q) (sym (next_word (64 * i) i words within))
       (append_left (set_bits 64 (64 * i) (get_or words i 0)) (members (64 * i + 64) (drop (suc i) words)) q h)))
 
-  pub all_appended : count < 64 * i → jobs ≡ members 0 words
-  all_appended past =
-      let none = none_in (members (64 * i) (drop i words)) (λ q h.
-      let low = members_from (64 * i) (drop i words) q h
-      in let high = below q (subst (λ (l : List ℕ). IsIn l q) so_far
-      (append_right jobs (members (64 * i) (drop i words)) q h))
-      in absurd (omega arith))
-      in sym (append-nil jobs) ∙ ap (λ (l : List ℕ). jobs ++ l) (sym none) ∙ so_far
+-- the jobs of one word more
+pub word_more : (words : List ℕ) (i : ℕ) (done jobs : List ℕ) → i < length words
+    → jobs ≡ set_bits 64 (64 * i) (get_or words i 0)
+    → done ++ members (64 * i) (drop i words) ≡ members 0 words
+    → (done ++ jobs) ++ members (64 * (i + 1)) (drop (i + 1) words) ≡ members 0 words
+word_more words i done jobs within is so_far =
+    let next : suc i ≡ i + 1 = omega arith
+    in let at : 64 * i + 64 ≡ 64 * (i + 1) = omega arith
+    in let rest : members (64 * i) (drop i words) ≡ jobs ++ members (64 * (i + 1)) (drop (i + 1) words) =
+    next_word (64 * i) i words within
+    ∙ (ap (λ (l : List ℕ). l ++ members (64 * i + 64) (drop (suc i) words)) (sym is)
+    ∙ (ap (λ (n : ℕ). jobs ++ members n (drop (suc i) words)) at
+    ∙ ap (λ (n : ℕ). jobs ++ members (64 * (i + 1)) (drop n words)) next))
+    in append_assoc done jobs (members (64 * (i + 1)) (drop (i + 1) words))
+    ∙ (ap (λ (l : List ℕ). done ++ l) (sym rest) ∙ so_far)
+
+drop_all : (i : ℕ) (words : List ℕ) → length words ≤ i → drop i words ≡ []
+drop_all zero [] past = refl
+drop_all zero (word ∷ words) past = absurd (omega arith)
+drop_all (suc i) [] past = refl
+drop_all (suc i) (word ∷ words) past = drop_all i words (omega arith)
+
+pub all_words : (words : List ℕ) (i : ℕ) (done : List ℕ) → length words ≤ i
+    → done ++ members (64 * i) (drop i words) ≡ members 0 words → done ≡ members 0 words
+all_words words i done past so_far =
+    sym (append-nil done)
+    ∙ (ap (λ (l : List ℕ). done ++ l) (sym (ap (members (64 * i)) (drop_all i words past))) ∙ so_far)

@@ -1,18 +1,18 @@
 -- The choice among next operations by lanes.
-use Rattle.std.proofs.Common.{◌≡◌, ℕ, ◌+◌, ◌*◌, ◌-◌, ◌≤◌, ◌<◌, ◌⊎◌, inl, inr, Bool, true, false}
+use Rattle.std.proofs.Common.{◌≡◌, ℕ, ◌+◌, ◌*◌, ◌-◌, ◌≤◌, ◌<◌, ◌⊎◌, inl, inr}
 use Rattle.std.proofs.Common.{List, [], ◌∷◌, length, get_or, take, drop, refl, sym, ◌∙◌, ap, subst}
 use Rattle.std.specs.List.{All, AllByRecursion}
 use Rattle.std.proofs.lemmas.List.Elements.{recursion_from_All}
 use Rattle.std.proofs.Common.{arith, ltb}
-use Rattle.std.proofs.lemmas.Bool.{cases_Bool, cases_lt, and_from, and_parts, lt-ltb, ltb-true}
+use Rattle.std.proofs.lemmas.Bool.{cases_lt, and_from, and_parts, lt-ltb, ltb-true}
 use Rattle.std.proofs.lemmas.List.{get_or_past, get_or-take, get_or-drop, length-take-le}
 use Rattle.std.proofs.lemmas.List.{length-drop}
 use Rattle.shop_lanes.specs.Rows.{Rows}
 use Rattle.shop_lanes.specs.Marks.{marked, waits_below, positions_below}
 use Rattle.shop_layout.specs.Positions.{LayoutState}
-use Rattle.shop_desk.specs.inner.LaneChoices.{IsNextBelow, AreNextPlaced}
+use Rattle.shop_desk.specs.inner.LaneChoices.{AreNextPlaced, IsJobBelow}
 use Rattle.shop_desk.specs.inner.Raises.{IsInBlocks}
-use Rattle.shop_desk.specs.inner.JobSets.{HasPutIf}
+use Rattle.shop_desk.specs.inner.JobSets.{HasPut}
 use Rattle.shop_desk.specs.inner.RisingLists.{IsIn, Rises, HasGathered, IsGatheredWith}
 use Rattle.shop_desk.proofs.RaiseLoops.{marked_in, marked_out}
 
@@ -61,105 +61,91 @@ module _ (rows : Rows) (from to limit : ℕ) (ordered : from ≤ to) (within : 8
       in record { there = (omega arith, omega arith); waits = omega arith; below = omega arith }
 
 -- what is gathered while some positions are still to come
-pub record AreGathering (nexts heads : List ℕ) (from to limit : ℕ) (todo old now : List ℕ) : Type 0
+pub record AreGathering (l : LayoutState) (heads : List ℕ) (from to limit : ℕ) (todo old now : List ℕ) : Type 0
   where
     pub to_come : (q : ℕ) → IsIn todo q → IsBelow heads from to limit q
     pub kept : (j : ℕ) → IsIn old j → IsIn now j
-    pub gathered : (j : ℕ) → IsNextBelow nexts heads (IsInBlocks from to) limit j
-        → IsIn now j ⊎ IsIn todo (get_or nexts j 0)
-    pub only : (j : ℕ) → IsIn now j → IsIn old j ⊎ IsNextBelow nexts heads (IsInBlocks from to) limit j
+    pub gathered : (q : ℕ) → IsBelow heads from to limit q → IsIn now (get_or l.jobs q 0) ⊎ IsIn todo q
+    pub only : (j : ℕ) → IsIn now j → IsIn old j ⊎ IsJobBelow l heads (IsInBlocks from to) limit j
 
-module _ (l : LayoutState) (nexts heads : List ℕ) (placed : AreNextPlaced l heads nexts) where
-  module _ (from to limit : ℕ) where
-    pub gathering_begins : (rows : Rows) → rows.heads ≡ heads → from ≤ to → 8 * to ≤ length heads
-        → (todo old : List ℕ) → todo ≡ positions_below rows from to limit
-        → AreGathering nexts heads from to limit todo old old
-    gathering_begins rows are ordered within todo old is =
-        let high : 8 * to ≤ length rows.heads = (let a = ap (λ (xs : List ℕ). length xs) are in omega arith)
-        in record {
-          to_come = λ q h. subst (λ (xs : List ℕ). IsBelow xs from to limit q) are
-              (in_is_below rows from to limit ordered high q (subst (λ (xs : List ℕ). IsIn xs q) is h));
-          kept = λ j h. h;
-          gathered = λ j next. inr (subst (λ (xs : List ℕ). IsIn xs (get_or nexts j 0)) (sym is)
-              (below_is_in rows from to limit ordered high (get_or nexts j 0)
-              (subst (λ (xs : List ℕ). IsBelow xs from to limit (get_or nexts j 0)) (sym are)
-              (record { there = next.there; waits = next.waits; below = next.below }))));
-          only = λ j h. inl h;
-        }
-
-    module _ (todo old now : List ℕ) (so_far : AreGathering nexts heads from to limit todo old now) (q : ℕ)
-        (rest : List ℕ) (popped : todo ≡ q ∷ rest) where
-      popped_below : IsBelow heads from to limit q
-      popped_below = so_far.to_come q (subst (λ (xs : List ℕ). IsIn xs q) (sym popped) (inl refl))
-
-      popped_within : q < length heads
-      popped_within = elim (cases_lt q (length heads)) [
-        | inl here ↦ here
-        | inr past ↦ absurd (let a = popped_below.waits in let b = get_or_past heads q 0 past in omega arith)
-      ]
-
-      pub position_known : q < length l.jobs
-      position_known = let a = placed.positions in let b = popped_within in omega arith
-
-      pub job_known : get_or l.jobs q 0 < length nexts
-      job_known = placed.jobs q popped_within
-
-      left_to_come : (r : ℕ) → IsIn rest r → IsBelow heads from to limit r
-      left_to_come r h = so_far.to_come r (subst (λ (xs : List ℕ). IsIn xs r) (sym popped) (inr h))
-
-      -- whose next operation stands there
-      whose : (j : ℕ) → IsNextBelow nexts heads (IsInBlocks from to) limit j → get_or nexts j 0 ≡ q
-          → j ≡ get_or l.jobs q 0
-      whose j next e =
-          let within = popped_within
-          in sym (placed.own j next.job (omega arith)) ∙ ap (λ (x : ℕ). get_or l.jobs x 0) e
-
-      here_or_left : (j : ℕ) → IsIn todo (get_or nexts j 0)
-          → (get_or nexts j 0 ≡ q) ⊎ IsIn rest (get_or nexts j 0)
-      here_or_left j h = subst (λ (xs : List ℕ). IsIn xs (get_or nexts j 0)) popped h
-
-      next_here : get_or nexts (get_or l.jobs q 0) 0 ≡ q
-          → IsNextBelow nexts heads (IsInBlocks from to) limit (get_or l.jobs q 0)
-      next_here e =
-          let is = subst (λ (x : ℕ). IsBelow heads from to limit x) (sym e) popped_below
-          in record { job = job_known; there = is.there; waits = is.waits; below = is.below }
-
-      -- its job is put in, if this is its next operation
-      pub gathering_on : (told : Bool) → (told ≡ true → get_or nexts (get_or l.jobs q 0) 0 ≡ q)
-          → (told ≡ false → get_or nexts (get_or l.jobs q 0) 0 ≡ q → ⊥) → (new : List ℕ)
-          → HasPutIf told (get_or l.jobs q 0) now new → AreGathering nexts heads from to limit rest old new
-      gathering_on told is other new put = record {
-        to_come = left_to_come;
-        kept = λ j h. put.kept j (so_far.kept j h);
-        gathered = λ j next. elim (so_far.gathered j next) [
-          | inl h ↦ inl (put.kept j h)
-          | inr h ↦ elim (here_or_left j h) [
-            | inl e ↦ elim (cases_Bool told) [
-              | inl t ↦ inl (put.gathered j (t, whose j next e))
-              | inr t ↦ absurd (other t (ap (λ (x : ℕ). get_or nexts x 0) (sym (whose j next e)) ∙ e))
-            ]
-            | inr g ↦ inr g
-          ]
-        ];
-        only = λ j h. elim (put.only j h) [
-          | inl g ↦ so_far.only j g
-          | inr e ↦ inr (subst (IsNextBelow nexts heads (IsInBlocks from to) limit) (sym e.1) (next_here (is e.0)))
-        ];
+module _ (l : LayoutState) (heads : List ℕ) (from to limit : ℕ) where
+  pub gathering_begins : (rows : Rows) → rows.heads ≡ heads → from ≤ to → 8 * to ≤ length heads
+      → (todo old : List ℕ) → todo ≡ positions_below rows from to limit
+      → AreGathering l heads from to limit todo old old
+  gathering_begins rows are ordered within todo old is =
+      let high : 8 * to ≤ length rows.heads = (let a = ap (λ (xs : List ℕ). length xs) are in omega arith)
+      in record {
+        to_come = λ q h. subst (λ (xs : List ℕ). IsBelow xs from to limit q) are
+            (in_is_below rows from to limit ordered high q (subst (λ (xs : List ℕ). IsIn xs q) is h));
+        kept = λ j h. h;
+        gathered = λ q below. inr (subst (λ (xs : List ℕ). IsIn xs q) (sym is)
+            (below_is_in rows from to limit ordered high q
+            (subst (λ (xs : List ℕ). IsBelow xs from to limit q) (sym are) below)));
+        only = λ j h. inl h;
       }
 
+  pub gathering_ends : (todo old now : List ℕ) → AreGathering l heads from to limit todo old now → todo ≡ []
+      → HasGathered (IsJobBelow l heads (IsInBlocks from to) limit) old now
+  gathering_ends todo old now are nothing = record {
+    kept = are.kept;
+    gathered = λ j next. elim (are.gathered next.position
+        (record { there = next.there; waits = next.waits; below = next.below })) [
+          | inl h ↦ subst (IsIn now) next.job h
+          | inr h ↦ absurd (subst (λ (xs : List ℕ). IsIn xs next.position) nothing h)
+        ];
+    only = are.only;
+  }
+
+  module _ (todo old now : List ℕ) (so_far : AreGathering l heads from to limit todo old now) (q : ℕ)
+      (rest : List ℕ) (popped : todo ≡ q ∷ rest) where
+    popped_below : IsBelow heads from to limit q
+    popped_below = so_far.to_come q (subst (λ (xs : List ℕ). IsIn xs q) (sym popped) (inl refl))
+
+    pub popped_within : q < length heads
+    popped_within = elim (cases_lt q (length heads)) [
+      | inl here ↦ here
+      | inr past ↦ absurd (let a = popped_below.waits in let b = get_or_past heads q 0 past in omega arith)
+    ]
+
+    -- its job is put in
+    pub gathering_on : (new : List ℕ) → HasPut (get_or l.jobs q 0) now new
+        → AreGathering l heads from to limit rest old new
+    gathering_on new put = record {
+      to_come = λ r h. so_far.to_come r (subst (λ (xs : List ℕ). IsIn xs r) (sym popped) (inr h));
+      kept = λ j h. put.kept j (so_far.kept j h);
+      gathered = λ r below. elim (so_far.gathered r below) [
+        | inl h ↦ inl (put.kept (get_or l.jobs r 0) h)
+        | inr h ↦ elim (subst (λ (xs : List ℕ). IsIn xs r) popped h) [
+          | inl e ↦ inl (put.gathered (get_or l.jobs r 0) (ap (λ (x : ℕ). get_or l.jobs x 0) e))
+          | inr g ↦ inr g
+        ]
+      ];
+      only = λ j h. elim (put.only j h) [
+        | inl g ↦ so_far.only j g
+        | inr e ↦ inr (record {
+          position = q;
+          there = popped_below.there;
+          waits = popped_below.waits;
+          below = popped_below.below;
+          job = sym e;
+        })
+      ];
+    }
+
 -- some blocks, and those behind them
-module _ (nexts heads : List ℕ) (limit : ℕ) where
-  moved : (among others : ℕ → Type 0) → ((q : ℕ) → among q → others q) → (j : ℕ)
-      → IsNextBelow nexts heads among limit j → IsNextBelow nexts heads others limit j
-  moved among others in_others j next = record {
-    job = next.job;
-    there = in_others (get_or nexts j 0) next.there;
+module _ (l : LayoutState) (heads : List ℕ) (limit : ℕ) where
+  moved : (among others : ℕ → Type 0) → (j : ℕ) → (next : IsJobBelow l heads among limit j) → others next.position
+      → IsJobBelow l heads others limit j
+  moved among others j next there = record {
+    position = next.position;
+    there = there;
     waits = next.waits;
     below = next.below;
+    job = next.job;
   }
 
   pub none_gathered : (from : ℕ) (old : List ℕ)
-      → HasGathered (IsNextBelow nexts heads (IsInBlocks from from) limit) old old
+      → HasGathered (IsJobBelow l heads (IsInBlocks from from) limit) old old
   none_gathered from old = record {
     kept = λ j h. h;
     gathered = λ j next. (let a = next.there.0 in let b = next.there.1 in absurd (omega arith));
@@ -167,46 +153,38 @@ module _ (nexts heads : List ℕ) (limit : ℕ) where
   }
 
   pub more_gathered : (first from to : ℕ) (old now new : List ℕ) → first ≤ from → from ≤ to
-      → HasGathered (IsNextBelow nexts heads (IsInBlocks first from) limit) old now
-      → HasGathered (IsNextBelow nexts heads (IsInBlocks from to) limit) now new
-      → HasGathered (IsNextBelow nexts heads (IsInBlocks first to) limit) old new
+      → HasGathered (IsJobBelow l heads (IsInBlocks first from) limit) old now
+      → HasGathered (IsJobBelow l heads (IsInBlocks from to) limit) now new
+      → HasGathered (IsJobBelow l heads (IsInBlocks first to) limit) old new
   more_gathered first from to old now new low high before then = record {
     kept = λ j h. then.kept j (before.kept j h);
-    gathered = λ j next. elim (cases_lt (get_or nexts j 0) (8 * from)) [
-      | inl lt ↦ then.kept j (before.gathered j (record {
-        job = next.job;
-        there = (next.there.0, lt);
-        waits = next.waits;
-        below = next.below;
-      }))
-      | inr ge ↦ then.gathered j (record {
-        job = next.job;
-        there = (ge, next.there.1);
-        waits = next.waits;
-        below = next.below;
-      })
+    gathered = λ j next. elim (cases_lt next.position (8 * from)) [
+      | inl lt ↦ then.kept j (before.gathered j
+          (moved (IsInBlocks first to) (IsInBlocks first from) j next (next.there.0, lt)))
+      | inr ge ↦ then.gathered j
+          (moved (IsInBlocks first to) (IsInBlocks from to) j next (ge, next.there.1))
     ];
     only = λ j h. elim (then.only j h) [
       | inl g ↦ elim (before.only j g) [
         | inl f ↦ inl f
-        | inr next ↦ inr (moved (IsInBlocks first from) (IsInBlocks first to)
-            (λ q there. (let a = there.0 in let b = there.1 in (omega arith, omega arith))) j next)
+        | inr next ↦ inr (moved (IsInBlocks first from) (IsInBlocks first to) j next
+            (let a = next.there.0 in let b = next.there.1 in (omega arith, omega arith)))
       ]
-      | inr next ↦ inr (moved (IsInBlocks from to) (IsInBlocks first to)
-          (λ q there. (let a = there.0 in let b = there.1 in (omega arith, omega arith))) j next)
+      | inr next ↦ inr (moved (IsInBlocks from to) (IsInBlocks first to) j next
+          (let a = next.there.0 in let b = next.there.1 in (omega arith, omega arith)))
     ];
   }
 
 -- what is put in first, and all that is gathered then
-pub gathered_with : (j : ℕ) (P : ℕ → Type 0) (one js : List ℕ) → HasPutIf true j [] one → HasGathered P one js → Rises js
+pub gathered_with : (j : ℕ) (P : ℕ → Type 0) (one js : List ℕ) → HasPut j [] one → HasGathered P one js → Rises js
     → IsGatheredWith j P js
 gathered_with j P one js put more rises = record {
-  has = more.kept j (put.gathered j (refl, refl));
+  has = more.kept j (put.gathered j refl);
   gathered = more.gathered;
   only = λ q h. elim (more.only q h) [
     | inl g ↦ elim (put.only q g) [
-      | inl none ↦ absurd none
-      | inr e ↦ inl e.1
+      | inl nothing ↦ absurd nothing
+      | inr e ↦ inl e
     ]
     | inr is ↦ inr is
   ];
@@ -222,21 +200,20 @@ in_alike x (y ∷ ys) all q (inr h) = in_alike x ys all.1 q h
 pub alone_with : (l : LayoutState) (nexts : List ℕ) (rows : Rows) → AreNextPlaced l rows.heads nexts
     → (from to limit j : ℕ) → from ≤ to → 8 * to ≤ length rows.heads → j < length nexts
     → All (λ p. p ≡ get_or nexts j 0) (positions_below rows from to limit)
-    → IsGatheredWith j (IsNextBelow nexts rows.heads (IsInBlocks from to) limit) (j ∷ [])
+    → IsGatheredWith j (IsJobBelow l rows.heads (IsInBlocks from to) limit) (j ∷ [])
 alone_with l nexts rows placed from to limit j ordered within known all = record {
   has = inl refl;
   gathered = λ q next.
-      let at : get_or nexts q 0 ≡ get_or nexts j 0 =
-      in_alike (get_or nexts j 0) (positions_below rows from to limit) (recursion_from_All (λ p. p ≡ get_or nexts j 0) (positions_below rows from to limit) all) (get_or nexts q 0)
-      (below_is_in rows from to limit ordered within (get_or nexts q 0)
+      let at : next.position ≡ get_or nexts j 0 =
+      in_alike (get_or nexts j 0) (positions_below rows from to limit)
+      (recursion_from_All (λ p. p ≡ get_or nexts j 0) (positions_below rows from to limit) all) next.position
+      (below_is_in rows from to limit ordered within next.position
       (record { there = next.there; waits = next.waits; below = next.below }))
       in let high = next.there.1
-      in let here : get_or nexts q 0 < length rows.heads = omega arith
-      in inl (sym (placed.own q next.job here) ∙ ap (λ (x : ℕ). get_or l.jobs x 0) at
-      ∙ placed.own j known (omega arith));
+      in inl (sym next.job ∙ ap (λ (x : ℕ). get_or l.jobs x 0) at ∙ placed.own j known (omega arith));
   only = λ q h. elim h [
     | inl e ↦ inl e
-    | inr none ↦ absurd none
+    | inr nothing ↦ absurd nothing
   ];
   rises = ((λ q h. absurd h), tt);
 }

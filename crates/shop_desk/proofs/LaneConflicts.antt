@@ -1,5 +1,5 @@
 -- The conflict set as what is chosen and what is gathered by lanes.
-use Rattle.std.proofs.Common.{◌≡◌, ℕ, zero, suc, ◌+◌, ◌≤◌, ◌<◌, ◌⊎◌, inl, inr, Bool, true}
+use Rattle.std.proofs.Common.{◌≡◌, ℕ, zero, suc, ◌+◌, ◌-◌, ◌≤◌, ◌<◌, max, ◌⊎◌, inl, inr, Bool, true}
 use Rattle.std.proofs.Common.{false, ◌||◌, List, [], ◌∷◌, length, get_or, refl, sym, ◌∙◌, ap}
 use Rattle.std.proofs.Common.{subst, arith, eqb, ltb}
 use Rattle.std.specs.List.{filter, range_with_len, best_of}
@@ -8,17 +8,18 @@ use Rattle.std.proofs.lemmas.Bool.{le-ltb, ltb-true, or_left, or_right, eq-eqb, 
 use Rattle.std.proofs.lemmas.List.{get_or_past}
 use Rattle.shop_lanes.specs.Ends.{IsFirstLeast}
 use Rattle.shop_lanes.specs.Rows.{Rows}
-use Rattle.shop_model.specs.Shop.{Shop, IsOperation, route_of, machine_of}
+use Rattle.shop_model.specs.Shop.{Shop, IsOperation, route_of, machine_of, time_of}
 use Rattle.shop_model.specs.Word.{Placing}
 use Rattle.shop_model.proofs.Ends.{IsOperation-job}
 use Rattle.shop_heads.specs.Conflicts.{open_jobs, next_machine, next_head, next_end, conflicts_with}
 use Rattle.shop_heads.specs.Conflicts.{conflict_among}
-use Rattle.shop_desk.specs.inner.LaneChoices.{AreChoosable, AreNextsAt, IsNextBelow}
+use Rattle.shop_heads.specs.Heads.{head_of, ready_after}
+use Rattle.shop_desk.specs.inner.LaneChoices.{AreChoosable, AreNextsAt, IsJobBelow}
 use Rattle.shop_layout.specs.Positions.{LayoutState, place, first_position}
 use Rattle.shop_desk.specs.inner.Raises.{HasBlocks, IsOnMachine}
 use Rattle.shop_desk.specs.inner.RisingLists.{IsIn, Rises, IsGatheredWith}
-use Rattle.shop_layout.proofs.LaidPlaces.{place_of, on_machine}
-use Rattle.shop_desk.proofs.NextOperations.{next_is, next_there, stored_end, stored_head}
+use Rattle.shop_layout.proofs.LaidPlaces.{each_position, place_of, on_machine}
+use Rattle.shop_desk.proofs.NextOperations.{next_is, next_placed, next_there, stored_end, stored_head}
 use Rattle.shop_desk.proofs.RaisedHeads.{has_blocks}
 use Rattle.shop_desk.proofs.RisingLists.{none_in, one_rising}
 
@@ -120,8 +121,98 @@ either : (a b : Bool) → (a || b) ≡ true → (a ≡ true) ⊎ (b ≡ true)
 either true b e = inl refl
 either false b e = inr e
 
+-- what follows a next operation begins no earlier than that can end
+ready_from_end : (shop : Shop) (p : Placing) (j n : ℕ) → next_end shop p j ≤ ready_after shop p j (suc n)
+ready_from_end shop p j zero =
+    let e : p.steps j + 0 ≡ p.steps j = omega arith
+    in let a = ap (λ (k : ℕ). max (p.ready j) (p.free (machine_of shop j k)) + time_of shop j k) e
+    in omega arith
+ready_from_end shop p j (suc n) = let a = ready_from_end shop p j n in omega arith
+
+later_head : (shop : Shop) (p : Placing) (j k : ℕ) → p.steps j < k → next_end shop p j ≤ head_of shop p j k
+later_head shop p j k later =
+    let e : suc (k - p.steps j - 1) ≡ k - p.steps j = omega arith
+    in let a = ready_from_end shop p j (k - p.steps j - 1)
+    in let b = ap (λ (n : ℕ). ready_after shop p j n) e in omega arith
+
+-- the next operation of a job waits among some positions with a head below a limit
+pub record IsNextBelow (nexts heads : List ℕ) (among : ℕ → Type 0) (limit j : ℕ) : Type 0 where
+  pub job : j < length nexts
+  pub there : among (get_or nexts j 0)
+  pub waits : 0 < get_or heads (get_or nexts j 0) 0
+  pub below : get_or heads (get_or nexts j 0) 0 < limit
+
+gathered_as : (j : ℕ) (P Q : ℕ → Type 0) → ((i : ℕ) → P i → Q i) → ((i : ℕ) → Q i → P i) → (js : List ℕ)
+    → IsGatheredWith j P js → IsGatheredWith j Q js
+gathered_as j P Q to back js is = record {
+  has = is.has;
+  gathered = λ i q. is.gathered i (back i q);
+  only = λ i h. elim (is.only i h) [
+    | inl e ↦ inl e
+    | inr p ↦ inr (to i p)
+  ];
+  rises = is.rises;
+}
+
 module _ (shop : Shop) (p : Placing) (l : LayoutState) (nexts : List ℕ) (rows : Rows)
     (can : AreNextsAt shop p l nexts rows) where
+  -- what waits below the least end of next operations is one
+  module _ (limit : ℕ) (least : (i : ℕ) → IsOperation shop i (p.steps i) → limit ≤ next_end shop p i + 1) where
+    waits_next : (q : ℕ) → 0 < get_or rows.heads q 0 → get_or rows.heads q 0 < limit
+        → IsOperation shop (get_or l.jobs q 0) (p.steps (get_or l.jobs q 0)) × (get_or nexts (get_or l.jobs q 0) 0 ≡ q)
+    waits_next q waits below = elim (each_position shop can.limits l can.laid q) [
+      | inl o ↦ (let at = o.at
+          in let here = ap (λ (x : ℕ). get_or rows.heads x 0) at
+          in let job : o.job ≡ get_or l.jobs q 0 =
+          sym (place_of shop can.limits l can.laid o.job o.step o.is).job ∙ ap (λ (x : ℕ). get_or l.jobs x 0) at
+          in elim (cases_lt o.step (p.steps o.job)) [
+            | inl before ↦ absurd (let a = can.heads.placed o.job o.step o.is before in omega arith)
+            | inr opened ↦ (let a = can.heads.waiting o.job o.step o.is opened
+                in elim (cases_lt (p.steps o.job) o.step) [
+                  | inl later ↦ absurd (let op = o.is
+                      in let b = later_head shop p o.job o.step later
+                      in let d = least o.job (omega arith) in omega arith)
+                  | inr same ↦ (let e : o.step ≡ p.steps o.job = omega arith
+                      in let op = subst (IsOperation shop o.job) e o.is
+                      in subst (λ (j : ℕ). IsOperation shop j (p.steps j) × (get_or nexts j 0 ≡ q)) job
+                      (op, next_there shop p l nexts rows can o.job op ∙ (ap (place l o.job) (sym e) ∙ at)))
+                ])
+          ])
+      | inr free ↦ absurd (let a = can.heads.padding q free in omega arith)
+    ]
+
+    to_next : (among : ℕ → Type 0) (j : ℕ) → IsJobBelow l rows.heads among limit j
+        → IsNextBelow nexts rows.heads among limit j
+    to_next among j is =
+        let w = waits_next is.position is.waits is.below
+        in let at : get_or nexts j 0 ≡ is.position = ap (λ (i : ℕ). get_or nexts i 0) (sym is.job) ∙ w.1
+        in let here = ap (λ (q : ℕ). get_or rows.heads q 0) at
+        in let waits = is.waits in let below = is.below
+        in let known = IsOperation-job shop (get_or l.jobs is.position 0) (p.steps (get_or l.jobs is.position 0)) w.0
+        in let many = can.are.jobs in let job = is.job
+        in record {
+          job = omega arith;
+          there = subst among (sym at) is.there;
+          waits = omega arith;
+          below = omega arith;
+        }
+
+    from_next : (among : ℕ → Type 0) (j : ℕ) → IsNextBelow nexts rows.heads among limit j
+        → IsJobBelow l rows.heads among limit j
+    from_next among j is =
+        let here : get_or nexts j 0 < length rows.heads = elim (cases_lt (get_or nexts j 0) (length rows.heads)) [
+          | inl h ↦ h
+          | inr past ↦ absurd (let a = is.waits in let b = get_or_past rows.heads (get_or nexts j 0) 0 past
+              in omega arith)
+        ]
+        in record {
+          position = get_or nexts j 0;
+          there = is.there;
+          waits = is.waits;
+          below = is.below;
+          job = (next_placed shop p l nexts rows can).own j is.job here;
+        }
+
   module _ (r : ℕ) (op : IsOperation shop r (p.steps r)) where
     module _ (m limit : ℕ) (on : m ≡ machine_of shop r (p.steps r)) (end : limit ≡ next_end shop p r + 1) where
       abbrev pub Below : ℕ → Type 0
@@ -261,6 +352,9 @@ module _ (greatest : ℕ) (shop : Shop) (p : Placing) (l : LayoutState) (nexts :
         }
 
     module _ (op : IsOperation shop r (p.steps r)) where
+      least_end : IsFirstLeast rows.ends r
+      least_end = is
+
       pub chosen_is : conflict_among shop p (open_jobs shop p) ≡ filter (conflicts_with shop p r) (open_jobs shop p)
       chosen_is = conflict_of_first shop p (open_jobs shop p) r (open_rises shop p) (is_open shop p r op)
           (λ i h. let o = open_is shop p i h
@@ -270,8 +364,21 @@ module _ (greatest : ℕ) (shop : Shop) (p : Placing) (l : LayoutState) (nexts :
           in let a = is.first i lt
           in let b = can.ends.next i o.1 in let d = can.ends.next r op in omega arith)
 
+      pub chosen_in : IsIn (conflict_among shop p (open_jobs shop p)) r
+      chosen_in = subst (λ (js : List ℕ). IsIn js r) (sym chosen_is)
+          (filter_in (conflicts_with shop p r) (open_jobs shop p) r (is_open shop p r op)
+          (or_left (eqb r r) _ (eq-eqb r r refl)))
+
       pub is_conflict : (m limit : ℕ) → m ≡ machine_of shop r (p.steps r) → limit ≡ next_end shop p r + 1
-          → (js : List ℕ) → IsGatheredWith r (IsNextBelow nexts rows.heads (IsOnMachine l m) limit) js
+          → (js : List ℕ) → IsGatheredWith r (IsJobBelow l rows.heads (IsOnMachine l m) limit) js
           → js ≡ conflict_among shop p (open_jobs shop p)
       is_conflict m limit on end js is =
-          are_conflicting shop p l nexts rows can.at r op m limit on end js is ∙ sym chosen_is
+          let least : (i : ℕ) → IsOperation shop i (p.steps i) → limit ≤ next_end shop p i + 1 = (λ i o.
+          let a = least_end.least i (let b = can.ends.jobs in let d = IsOperation-job shop i (p.steps i) o in omega arith)
+          in let b = can.ends.next i o in let d = can.ends.next r op in omega arith)
+          in are_conflicting shop p l nexts rows can.at r op m limit on end js
+          (gathered_as r (IsJobBelow l rows.heads (IsOnMachine l m) limit)
+          (IsNextBelow nexts rows.heads (IsOnMachine l m) limit)
+          (to_next shop p l nexts rows can.at limit least (IsOnMachine l m))
+          (from_next shop p l nexts rows can.at limit least (IsOnMachine l m)) js is)
+          ∙ sym chosen_is

@@ -6,44 +6,29 @@ use Rattle.std.proofs.lemmas.Nat.{or_lt}
 use lib.Count.{count_trailing_zeros}
 use Rattle.shop_lanes.specs.SetBits.{set_bits}
 use Rattle.shop_lanes.proofs.MarkLemmas.{set_bits-lowest, set_bits-zero}
-use Rattle.shop_desk.specs.inner.MachineSets.{HasPut}
-use Rattle.shop_desk.specs.inner.RisingLists.{HasGathered}
+use Rattle.shop_desk.specs.inner.JobSets.{HasPut}
 use Rattle.shop_desk.proofs.JobSets.{bit_put, more_before, more_behind}
 
 -- the machines whose bits are set
 abbrev pub machines_of : ℕ → ℕ → List ℕ
 machines_of low high = set_bits 64 0 low ++ set_bits 64 64 high
 
-of_gathered : (m : ℕ) (old new : List ℕ) → HasGathered (λ q. (true ≡ true) × (q ≡ m)) old new → HasPut m old new
-of_gathered m old new put = record {
-  kept = put.kept;
-  has = put.gathered m (refl, refl);
-  only = λ q h. elim (put.only q h) [
-    | inl was ↦ inl was
-    | inr is ↦ inr is.1
-  ];
-}
-
 pub put_low : (low high m bit : ℕ) → m < 64 → bit ≡ 2 ^ m
     → HasPut m (machines_of low high) (machines_of (bit_or low bit) high)
 put_low low high m bit here is =
     let e : 0 + m ≡ m = omega arith
     in subst (λ (b : ℕ). HasPut m (machines_of low high) (machines_of (bit_or low b) high)) (sym is)
-    (of_gathered m (machines_of low high) (machines_of (bit_or low (2 ^ m)) high)
-    (more_behind (λ q. (true ≡ true) × (q ≡ m)) (set_bits 64 0 low) (set_bits 64 0 (bit_or low (2 ^ m)))
-    (set_bits 64 64 high) (subst (λ (n : ℕ). HasGathered (λ q. (true ≡ true) × (q ≡ n)) (set_bits 64 0 low)
-    (set_bits 64 0 (bit_or low (2 ^ m)))) e (bit_put 0 low m here))))
+    (more_behind (λ q. q ≡ m) (set_bits 64 0 low) (set_bits 64 0 (bit_or low (2 ^ m))) (set_bits 64 64 high)
+    (subst (λ (n : ℕ). HasPut n (set_bits 64 0 low) (set_bits 64 0 (bit_or low (2 ^ m)))) e (bit_put 0 low m here)))
 
 pub put_high : (low high m bit : ℕ) → 64 ≤ m → m < 128 → bit ≡ 2 ^ (m - 64)
     → HasPut m (machines_of low high) (machines_of low (bit_or high bit))
 put_high low high m bit from here is =
     let e : 64 + (m - 64) ≡ m = omega arith
     in subst (λ (b : ℕ). HasPut m (machines_of low high) (machines_of low (bit_or high b))) (sym is)
-    (of_gathered m (machines_of low high) (machines_of low (bit_or high (2 ^ (m - 64))))
-    (more_before (λ q. (true ≡ true) × (q ≡ m)) (set_bits 64 64 high) (set_bits 64 64 (bit_or high (2 ^ (m - 64))))
-    (set_bits 64 0 low)
-    (subst (λ (n : ℕ). HasGathered (λ q. (true ≡ true) × (q ≡ n)) (set_bits 64 64 high)
-    (set_bits 64 64 (bit_or high (2 ^ (m - 64))))) e (bit_put 64 high (m - 64) (omega arith)))))
+    (more_before (λ q. q ≡ m) (set_bits 64 64 high) (set_bits 64 64 (bit_or high (2 ^ (m - 64)))) (set_bits 64 0 low)
+    (subst (λ (n : ℕ). HasPut n (set_bits 64 64 high) (set_bits 64 64 (bit_or high (2 ^ (m - 64))))) e
+    (bit_put 64 high (m - 64) (omega arith))))
 
 pub put_small : (word k : ℕ) → word < 2 ^ 64 → k < 64 → bit_or word (1 * 2 ^ k % 2 ^ 64) < 2 ^ 64
 put_small word k small here = or_lt 64 word (1 * 2 ^ k % 2 ^ 64) small (omega arith)

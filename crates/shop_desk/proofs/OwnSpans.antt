@@ -3,10 +3,8 @@ use Rattle.std.proofs.Common.{◌≡◌, ℕ, zero, suc, ◌+◌, ◌-◌, ◌*�
 use Rattle.std.proofs.Common.{[], ◌∷◌, ◌++◌, length, get_or, drop, refl, sym, ◌∙◌, ap, subst, arith}
 use Rattle.std.proofs.Common.{eqb}
 use Rattle.std.specs.List.{All}
-use Rattle.std.specs.Prelude.{map}
 use Rattle.std.proofs.lemmas.Bool.{and_parts, cases_Bool, cases_lt, eqb-true}
 use Rattle.std.proofs.lemmas.Grind.{same_number_lists}
-use Rattle.std.proofs.lemmas.List.{length-map, get_or-map}
 use Rattle.std.proofs.lemmas.List.Elements.{All-drop, All-take}
 use Rattle.shop_lanes.specs.Rows.{AreBlocks, Lane, Rows, lanes, lanes_between, lanes_of, blocks}
 use Rattle.shop_lanes.proofs.Columns.{All-by_columns}
@@ -19,8 +17,9 @@ use Rattle.shop_heads.specs.Bound.{lb}
 use Rattle.shop_heads.specs.Conflicts.{chosen_of, conflict, conflict_among, conflicts_with}
 use Rattle.shop_heads.specs.Conflicts.{next_machine, open_jobs}
 use Rattle.shop_desk.specs.inner.Advances.{IsAdvancing, foreseen}
-use Rattle.shop_desk.specs.inner.Candidates.{AreCandidatesOf, IsCandidateOf, IsTold, own_at}
-use Rattle.shop_desk.specs.inner.Candidates.{told_at}
+use Rattle.shop_desk.specs.States.{ListsBelow, none, listed, closed}
+use Rattle.shop_desk.specs.inner.Candidates.{AreCandidatesOf, IsCandidateOf, IsTold, ListsOwn, own_at}
+use Rattle.shop_desk.specs.inner.Candidates.{empty, left_out, taken, told_at}
 use Rattle.shop_layout.specs.HeadLimits.{latest_end}
 use Rattle.shop_desk.specs.inner.LaneBounds.{AreSpansFit}
 use Rattle.shop_layout.specs.Lanes.{lanes_on, rows_of}
@@ -29,7 +28,7 @@ use Rattle.shop_desk.specs.inner.LaneStates.{IsKeptInLanes}
 use Rattle.shop_layout.specs.Positions.{IsLaidOut, LayoutState, first_position, place}
 use Rattle.shop_desk.specs.inner.RisingLists.{IsIn}
 use Rattle.shop_desk.specs.declared.dispatching.Candidate.{Candidate}
-use Rattle.shop_desk.proofs.Candidates.{advancing, candidate_fits, foreseen_least, is_in_at}
+use Rattle.shop_desk.proofs.Candidates.{advancing, candidate_fits, foreseen_least}
 use Rattle.shop_desk.proofs.ChildRaises.{heads_small}
 use Rattle.shop_desk.proofs.ChildReads.{head_here, is_operation, machine_here}
 use Rattle.shop_layout.proofs.LaidPlaces.{each_position, place_of}
@@ -70,12 +69,6 @@ on_one shop p (j ∷ js) i k h g =
     let c = chosen_of shop p j js
     in on_its shop p c i (in_filter (conflicts_with shop p c) (j ∷ js) i h).1
     ∙ sym (on_its shop p c k (in_filter (conflicts_with shop p c) (j ∷ js) k g).1)
-
-one_of : (xs : List ℕ) (i d : ℕ) → length xs < 2 → i < length xs → xs ≡ get_or xs i d ∷ []
-one_of [] i d few here = absurd (omega arith)
-one_of (x ∷ []) zero d few here = refl
-one_of (x ∷ []) (suc i) d few here = absurd (omega arith)
-one_of (x ∷ y ∷ xs) i d few here = absurd (omega arith)
 
 -- the heads of lanes
 head_in : (hs ts qs : List ℕ) (top : ℕ) → ((q : ℕ) → get_or hs q 0 ≤ top)
@@ -206,48 +199,51 @@ module _ (greatest : ℕ) (shop : Shop) (w : List ℕ) (l : LayoutState) (heads 
 
   -- the conflict set
   module _ (jobs : List ℕ) (set_is : jobs ≡ conflict shop w) where
-    in_set : (i d : ℕ) → i < length jobs → IsIn (conflict shop w) (get_or jobs i d)
-    in_set i d here = subst (λ (xs : List ℕ). IsIn xs (get_or jobs i d)) set_is (is_in_at jobs i d here)
-
     set_fits : (j : ℕ) → IsIn (conflict shop w) j → IsWord shop (w ++ j ∷ [])
     set_fits j h = candidate_fits shop w kept.kept.word j h
 
-    job_in : (cs : List Candidate) → map (λ c. c.job) cs ≡ jobs → (i : ℕ) (d : Candidate) → i < length cs
-        → IsIn (conflict shop w) (get_or cs i d).job
-    job_in cs are i d here =
-        let j : ℕ = (get_or cs i d).job
-        in let at : get_or (map (λ c. c.job) cs) i j ≡ j = get_or-map (λ (c : Candidate). c.job) cs i d j here
-        in let long = length-map cs (λ (c : Candidate). c.job)
-        in let many = ap length are
-        in subst (IsIn (conflict shop w)) (ap (λ (xs : List ℕ). get_or xs i j) (sym are) ∙ at)
-        (in_set i j (omega arith))
+    -- one that adds what its own span does
+    is_one : (j : ℕ) → IsIn (conflict shop w) j → (c : Candidate) → c.job ≡ j
+        → max (lb shop w) c.own ≡ max (lb shop w) (own_at l heads (get_or nexts j 0) - 1)
+        → IsCandidateOf shop w l c.job c.own
+    is_one j h c same adds =
+        subst (λ (i : ℕ). IsCandidateOf shop w l i c.own) (sym same) (own_of j (set_fits j h) c.own adds)
 
-    candidates : (cs : List Candidate) → map (λ c. c.job) cs ≡ jobs
-        → ((i : ℕ) (d : Candidate) → i < length cs → max (lb shop w) (get_or cs i d).own
-        ≡ max (lb shop w) (own_at l heads (get_or nexts (get_or cs i d).job 0) - 1))
-        → AreCandidatesOf shop w l cs
-    candidates cs are adds = record {
-      jobs = are ∙ set_is;
-      are = λ i d here. own_of (get_or cs i d).job (set_fits (get_or cs i d).job (job_in cs are i d here))
-          (get_or cs i d).own (adds i d here);
-      lower = λ i d here.
-          let low = own_low (get_or cs i d).job (set_fits (get_or cs i d).job (job_in cs are i d here))
-          in let same = adds i d here in omega arith;
-    }
+    listing : (limit : ℕ) (own : ℕ → ℕ)
+        → ((j : ℕ) → IsIn (conflict shop w) j → own j ≡ own_at l heads (get_or nexts j 0) - 1)
+        → {js : List ℕ} {cs : List Candidate} {n : ℕ} → ListsOwn limit own js cs n
+        → ((j : ℕ) → IsIn js j → IsIn (conflict shop w) j)
+        → ListsBelow shop w limit (λ c. IsCandidateOf shop w l c.job c.own) js cs n
+    listing limit own tells empty all = none
+    listing limit own tells (taken j c same own_is rest) all =
+        listed j c same
+        (is_one j (all j (inl refl)) c same (ap (max (lb shop w)) (own_is ∙ tells j (all j (inl refl)))))
+        (listing limit own tells rest (λ i h. all i (inr h)))
+    listing limit own tells (left_out j low rest) all =
+        closed j
+        (let a = own_low j (set_fits j (all j (inl refl))) in let b = tells j (all j (inl refl)) in omega arith)
+        (listing limit own tells rest (λ i h. all i (inr h)))
 
     -- a sole one adds nothing
-    pub alone : length jobs < 2 → (cs : List Candidate) → map (λ c. c.job) cs ≡ jobs → All (λ c. c.own ≡ 0) cs
-        → AreCandidatesOf shop w l cs
-    alone few cs are none = candidates cs are (λ i d here.
-        let j : ℕ = (get_or cs i d).job
-        in let at : get_or (map (λ c. c.job) cs) i j ≡ j = get_or-map (λ (c : Candidate). c.job) cs i d j here
-        in let long = length-map cs (λ (c : Candidate). c.job)
-        in let many = ap length are
-        in let sole : conflict shop w ≡ j ∷ [] = sym set_is ∙ (one_of jobs i j few (omega arith)
-        ∙ ap (λ (k : ℕ). k ∷ []) (ap (λ (xs : List ℕ). get_or xs i j) (sym are) ∙ at))
+    pub alone : (limit j : ℕ) → jobs ≡ j ∷ [] → (cs : List Candidate) → cs ≡ record { job = j; own = 0 } ∷ []
+        → AreCandidatesOf shop w l limit cs 0
+    alone limit j one cs is =
+        let sole : conflict shop w ≡ j ∷ [] = sym set_is ∙ one
+        in let here : IsIn (conflict shop w) j = subst (λ (js : List ℕ). IsIn js j) (sym sole) (inl refl)
         in let keeps = kept.sole j sole
-        in let low = own_low j (set_fits j (job_in cs are i d here))
-        in let own = none i d here in omega arith)
+        in let low = own_low j (set_fits j here)
+        in subst (λ (ds : List Candidate). AreCandidatesOf shop w l limit ds 0) (sym is)
+        (subst (λ (js : List ℕ). ListsBelow shop w limit (λ c. IsCandidateOf shop w l c.job c.own) js
+        (record { job = j; own = 0 } ∷ []) 0) (sym sole)
+        (listed j (record { job = j; own = 0 }) refl (is_one j here (record { job = j; own = 0 }) refl (omega arith))
+        none))
+
+    -- there is none
+    pub nobody : (limit : ℕ) → jobs ≡ [] → (cs : List Candidate) → cs ≡ [] → AreCandidatesOf shop w l limit cs 0
+    nobody limit no_jobs cs is =
+        subst (λ (ds : List Candidate). AreCandidatesOf shop w l limit ds 0) (sym is)
+        (subst (λ (js : List ℕ). ListsBelow shop w limit (λ c. IsCandidateOf shop w l c.job c.own) js [] 0)
+        (sym no_jobs ∙ set_is) none)
 
     -- the machine of one of them, and its blocks
     module _ (first : ℕ) (has : IsIn (conflict shop w) first) (m : ℕ)
@@ -288,11 +284,12 @@ module _ (greatest : ℕ) (shop : Shop) (w : List ℕ) (l : LayoutState) (heads 
           (is_told j (set_fits j g) m (on_its_machine j g) count many)
 
       pub told : (owns : List ℕ) → AreOwnSpans heads l.times l.tails from to owns
-          → (cs : List Candidate) → map (λ c. c.job) cs ≡ jobs
-          → All (λ c. c.own ≡ told_at nexts (8 * from) owns c.job) cs → AreCandidatesOf shop w l cs
-      told owns spans cs are own = candidates cs are (λ i d here.
-          let j : ℕ = (get_or cs i d).job
-          in let h = job_in cs are i d here
-          in let a = told_is j (set_fits j h) m (on_its_machine j h) owns (rw (from_is, to_is) at spans)
-          in let b = own i d here
-          in let e = ap (λ (n : ℕ). told_at nexts (8 * n) owns j) from_is in omega arith)
+          → (limit : ℕ) (cs : List Candidate) (others : ℕ)
+          → ListsOwn limit (told_at nexts (8 * from) owns) jobs cs others
+          → AreCandidatesOf shop w l limit cs others
+      told owns spans limit cs others list =
+          subst (λ (js : List ℕ). ListsBelow shop w limit (λ c. IsCandidateOf shop w l c.job c.own) js cs others) set_is
+          (listing limit (told_at nexts (8 * from) owns) (λ j h.
+          ap (λ (n : ℕ). told_at nexts (8 * n) owns j) from_is
+          ∙ told_is j (set_fits j h) m (on_its_machine j h) owns (rw (from_is, to_is) at spans)) list
+          (λ j h. subst (λ (js : List ℕ). IsIn js j) set_is h))

@@ -8,7 +8,7 @@ use Rattle.shop_lanes.specs.Spans.{spans_between}
 use Rattle.shop_desk.specs.declared.head_raises.LaneRaise.{LaneRaise}
 use Rattle.shop_desk.specs.inner.HeadRaises.{Raise, no_raise, nothing_raised, raise_in, raise_of, raises_in, widened}
 use Rattle.shop_desk.specs.inner.MachineRaises.{AreEmpty, AreListed, IsSpanByRaise}
-use Rattle.shop_desk.specs.inner.MachineSets.{HasPut}
+use Rattle.shop_desk.specs.inner.JobSets.{HasPut}
 use Rattle.shop_desk.specs.inner.RisingLists.{IsIn}
 use Rattle.shop_desk.proofs.LaneBoundTurns.{spans-none}
 
@@ -53,7 +53,7 @@ listed_more raises machines after m a b are known put =
         | inr e ↦ omega arith
       ];
       listed = λ n some. elim (cases_eq n m) [
-        | inl e ↦ subst (IsIn after) (sym e) put.has
+        | inl e ↦ subst (IsIn after) (sym e) (put.gathered m refl)
         | inr ne ↦ put.kept n (are.listed n (let f = ap (λ (r : Raise). r.to)
             (get_or-set_other raises m n (widened (raise_of raises m) a b) no_raise ne) in omega arith))
       ];

@@ -11,7 +11,6 @@ pub mod LaneEnds
 pub mod LaneHeads
 pub mod LaneStates
 pub mod MachineRaises
-pub mod MachineSets
 pub mod Raises
 pub mod RisingLists
 pub mod Scratches

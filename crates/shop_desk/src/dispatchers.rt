@@ -1,5 +1,5 @@
 // Operations are dispatched in lanes of one width.
-ghost use Rattle.std.specs.Prelude.{◌≡◌, ◌≤◌, ◌<◌, ◌^◌, All, IfOk, length, map};
+ghost use Rattle.std.specs.Prelude.{◌≡◌, ◌≤◌, ◌<◌, ◌^◌, IfOk, length};
 ghost use Rattle.shop_layout.specs.LaidOuts.{IsReady};
 
 use crate::advances::{advance_below, strike};
@@ -78,15 +78,17 @@ impl<'a, L: StateLanes> Dispatching for LaidOut<'a, L> {
         &self,
         scratch: &mut Scratch<L>,
         state: &State<L>,
+        limit: u64,
         candidates: &mut Vec<Candidate>,
-    ) {
+    ) -> usize {
         gather(
             candidates,
             scratch.owns.as_mut_slice(),
             &state.lanes,
             self.grid(),
             state.next.as_slice(),
-        );
+            limit,
+        )
     }
 
     #[inline(always)]

@@ -1,5 +1,5 @@
 // Operations are dispatched in states of words.
-ghost use Rattle.std.specs.Prelude.{◌≡◌, ℕ, ◌≤◌, List, [], ◌∷◌, ◌++◌, All, IfOk, OnSome, length, map};
+ghost use Rattle.std.specs.Prelude.{◌≡◌, ℕ, ◌≤◌, List, [], ◌∷◌, ◌++◌, IfOk, OnSome, length};
 ghost use Rattle.std.specs.Prelude.{vec_capacity};
 ghost use Rattle.shop_model.specs.Limits.{IsWithinLimits};
 ghost use Rattle.shop_model.specs.Shop.{Shop};
@@ -8,7 +8,7 @@ ghost use Rattle.shop_heads.specs.Bound.{lb};
 ghost use Rattle.shop_heads.specs.Conflicts.{conflict, SoleCandidateKeepsBound};
 ghost use Rattle.shop_desk.specs.States.{TellsBoundBelow};
 ghost use Rattle.shop_desk.specs.declared.dispatching.Candidate.{Candidate};
-ghost use Rattle.shop_desk.specs.States.{CanDispatch, HasSoleCandidate, IsOfSomeWord};
+ghost use Rattle.shop_desk.specs.States.{CanDispatch, HasSoleCandidate, IsOfSomeWord, ListsBelow};
 
 use std::alloc::{AllocError, Global};
 
@@ -64,23 +64,22 @@ pub trait Dispatching {
         ensures state { (w : List ℕ) → IsStateOf self.now w from.now → IsStateOf self.now w to.new }
         ensures slot { IsSlot self.now to.new };
 
-    /// Replaces the list with the conflict set of a word, in ascending order, each with its bound by its own machine.
-    /// The list has room for all jobs.
+    /// Replaces the list with those of the conflict set of a word, in ascending order, whose bounds by their own
+    /// machine are below the limit, and tells how many others there are. A sole candidate is listed in any case. The
+    /// list has room for all jobs.
     fn gather_candidates(
         &self,
         scratch: &mut Self::Scratch,
         state: &Self::State,
+        limit: u64,
         candidates: &mut Vec<Candidate>,
-    )
+    ) -> usize
         requires scratch { IsScratch self.now scratch.old }
         requires state { IsOfSomeWord (λ w. IsStateOf self.now w state.now) }
         requires room { length (shop self.now).jobs ≤ vec_capacity candidates.old }
-        ensures jobs { (w : List ℕ) → IsStateOf self.now w state.now
-            → map (λ c. c.job) candidates.new.items ≡ conflict (shop self.now) w }
-        ensures are { (w : List ℕ) → IsStateOf self.now w state.now
-            → All (λ c. IsCandidate self.now w c) candidates.new.items }
-        ensures lower { (w : List ℕ) → IsStateOf self.now w state.now
-            → All (λ c. c.own ≤ lb (shop self.now) (w ++ c.job ∷ [])) candidates.new.items }
+        ensures listed { (w : List ℕ) → IsStateOf self.now w state.now
+            → ListsBelow (shop self.now) w limit (IsCandidate self.now w)
+            (conflict (shop self.now) w) candidates.new.items result }
         ensures room { vec_capacity candidates.old ≤ vec_capacity candidates.new }
         ensures scratch { IsScratch self.now scratch.new };
 

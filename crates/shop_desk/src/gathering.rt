@@ -1,12 +1,15 @@
 // The candidates of a word: its conflict set, each job with what the bound after it is at least.
-ghost use Rattle.std.specs.Prelude.{◌≡◌, ℕ, ◌+◌, ◌*◌, ◌≤◌, ◌<◌, List, [], ◌++◌, All, length, map};
+ghost use Rattle.std.specs.Prelude.{◌≡◌, ℕ, ◌+◌, ◌*◌, ◌≤◌, ◌<◌, List, [], ◌∷◌, ◌++◌, length, map};
 ghost use Rattle.std.specs.Prelude.{slice_index, vec_capacity};
+ghost use Rattle.shop_lanes.specs.Marks.{positions_below};
 ghost use Rattle.shop_model.specs.Shop.{Shop};
-ghost use Rattle.shop_desk.specs.inner.Candidates.{AreCandidatesOf, CanGather, IsChosenBy};
-ghost use Rattle.shop_desk.specs.inner.Candidates.{IsTold, told_at};
+ghost use Rattle.shop_desk.specs.inner.Candidates.{AreCandidatesOf, CanGather, CanList, IsChosenBy};
+ghost use Rattle.shop_desk.specs.inner.Candidates.{IsTold, ListsGathered, ListsOwn, told_at};
 ghost use Rattle.shop_desk.specs.inner.JobSets.{members};
+ghost use Rattle.shop_desk.specs.inner.LaneChoices.{IsJobBelow};
 ghost use Rattle.shop_desk.specs.inner.LaneStates.{IsKeptInLanes};
-ghost use Rattle.shop_desk.specs.inner.RisingLists.{IsIn};
+ghost use Rattle.shop_desk.specs.inner.Raises.{IsInBlocks};
+ghost use Rattle.shop_desk.specs.inner.RisingLists.{IsGatheredWith, IsIn};
 ghost use Rattle.shop_layout.specs.Lanes.{rows_of};
 
 use crate::dispatching::Candidate;
@@ -45,7 +48,25 @@ fn candidate_for<L: StateLanes>(
     }
 }
 
-/// Appends candidates for these jobs, whose own spans are told from position `first` on.
+/// Appends a candidate if its own number is below the limit, and tells how many are left out: none or this one.
+#[inline(always)]
+fn list_below(candidates: &mut Vec<Candidate>, candidate: Candidate, limit: u64) -> usize
+    requires room { length candidates.old.items < vec_capacity candidates.old }
+    ensures listed { (own : ℕ → ℕ) (js : List ℕ) (n : ℕ) → candidate.own ≡ own candidate.job
+        → ListsOwn limit own js candidates.old.items n
+        → ListsOwn limit own (js ++ candidate.job ∷ []) candidates.new.items (n + result) }
+    ensures count { length candidates.new.items + result ≡ length candidates.old.items + 1 }
+    ensures room { vec_capacity candidates.new ≡ vec_capacity candidates.old }
+{
+    if candidate.own >= limit {
+        return 1;
+    }
+    candidates.push_reserved(candidate);
+    0
+}
+
+/// Appends those candidates for these jobs whose own numbers are below the limit, and tells how many others there are.
+/// The own spans are told from position `first` on.
 #[inline(always)]
 fn list_marked<L: StateLanes>(
     candidates: &mut Vec<Candidate>,
@@ -53,23 +74,30 @@ fn list_marked<L: StateLanes>(
     next: &[u32],
     first: usize,
     owns: &[L::Number],
-)
+    limit: u64,
+) -> usize
     requires small { length next.now < 1024 }
     requires told { (j : ℕ) → IsIn jobs j → IsTold next.now first (length owns.now) j }
-    requires own { All (λ c. c.own ≡ told_at next.now first (map L.value owns.now) c.job) candidates.old.items }
+    requires few { length jobs < 1024 }
     requires room { length candidates.old.items + length jobs ≤ vec_capacity candidates.old }
-    ensures jobs { map (λ c. c.job) candidates.new.items ≡ map (λ c. c.job) candidates.old.items ++ jobs }
-    ensures own { All (λ c. c.own ≡ told_at next.now first (map L.value owns.now) c.job) candidates.new.items }
-    ensures room { vec_capacity candidates.old ≤ vec_capacity candidates.new }
+    ensures listed { (js : List ℕ) (n : ℕ)
+        → ListsOwn limit (told_at next.now first (map L.value owns.now)) js candidates.old.items n
+        → ListsOwn limit (told_at next.now first (map L.value owns.now)) (js ++ jobs)
+        candidates.new.items (n + result) }
+    ensures count { length candidates.new.items + result ≡ length candidates.old.items + length jobs }
+    ensures room { vec_capacity candidates.new ≡ vec_capacity candidates.old }
 {
+    let mut others = 0;
     let mut left = jobs;
     while let Some(job) = left.pop_first() {
         let candidate = candidate_for::<L>(job, next, first, owns);
-        candidates.push(candidate).unwrap();
+        others += list_below(candidates, candidate, limit);
     }
+    others
 }
 
-/// Fills the empty list with candidates for the jobs of words, whose own spans are told from position `first` on.
+/// Fills the empty list with those candidates for the jobs of words whose own numbers are below the limit, and tells
+/// how many others there are. The own spans are told from position `first` on.
 #[inline(always)]
 fn list_words<L: StateLanes>(
     candidates: &mut Vec<Candidate>,
@@ -77,24 +105,99 @@ fn list_words<L: StateLanes>(
     next: &[u32],
     first: usize,
     owns: &[L::Number],
-)
-    requires words { length words.now ≡ 16 }
+    limit: u64,
+) -> usize
+    requires words { length words.now ≤ 16 }
     requires small { length next.now < 1024 }
     requires told { (j : ℕ) → IsIn (members 0 words.now) j → IsTold next.now first (length owns.now) j }
     requires none { candidates.old.items ≡ [] }
     requires room { length next.now ≤ vec_capacity candidates.old }
-    ensures jobs { map (λ c. c.job) candidates.new.items ≡ members 0 words.now }
-    ensures own { All (λ c. c.own ≡ told_at next.now first (map L.value owns.now) c.job) candidates.new.items }
-    ensures room { vec_capacity candidates.old ≤ vec_capacity candidates.new }
+    ensures listed { ListsOwn limit (told_at next.now first (map L.value owns.now)) (members 0 words.now)
+        candidates.new.items result }
+    ensures room { vec_capacity candidates.new ≡ vec_capacity candidates.old }
 {
-    for word in 0..next.len() / BITS + 1 {
+    let mut others = 0;
+    for word in 0..words.len() {
         let jobs = Marks::new(BITS * word, words[word]);
-        list_marked::<L>(candidates, jobs, next, first, owns);
+        others += list_marked::<L>(candidates, jobs, next, first, owns, limit);
     }
+    others
 }
 
-/// Fills the empty list with the candidates of what stands in lanes, where the chosen job's next operation can end
-/// first: before `end`, on this machine.
+/// The same for the conflict set, which has room in so many words. The chosen job's next operation can end first:
+/// before `end`, on the machine of these blocks, whose own spans are told. What waits in those before `to` with a head
+/// below the end is marked already.
+#[inline(always)]
+fn list_set<const WORDS: usize, L: StateLanes>(
+    candidates: &mut Vec<Candidate>,
+    below: Marks,
+    owns: &[L::Number],
+    lanes: &L,
+    grid: &Grid<L>,
+    next: &[u32],
+    chosen: usize,
+    from: usize,
+    to: usize,
+    behind: usize,
+    end: u64,
+    limit: u64,
+) -> usize
+    requires words { WORDS ≤ 16 }
+    requires many { length next.now ≤ 64 * WORDS }
+    requires can { CanList L.GREATEST grid.now (L.heads lanes.now) next.now chosen from to behind end
+        (length owns.now) }
+    requires marks { below
+        ≡ positions_below (rows_of grid.now (L.heads lanes.now) (L.ends lanes.now)) from to end }
+    requires none { candidates.old.items ≡ [] }
+    requires room { length next.now ≤ vec_capacity candidates.old }
+    ensures listed { ListsGathered limit (told_at next.now (8 * from) (map L.value owns.now))
+        (IsGatheredWith chosen (IsJobBelow grid.now (L.heads lanes.now) (IsInBlocks from behind) end))
+        candidates.new.items result }
+    ensures room { vec_capacity candidates.new ≡ vec_capacity candidates.old }
+{
+    let jobs = conflict_set::<WORDS, L>(below, lanes, grid, chosen, from, to, behind, end);
+    list_words::<L>(candidates, jobs.words(), next, 8 * from, owns, limit)
+}
+
+/// The same with the words that the jobs want.
+#[inline(always)]
+fn list_conflict_set<L: StateLanes>(
+    candidates: &mut Vec<Candidate>,
+    below: Marks,
+    owns: &[L::Number],
+    lanes: &L,
+    grid: &Grid<L>,
+    next: &[u32],
+    chosen: usize,
+    from: usize,
+    to: usize,
+    behind: usize,
+    end: u64,
+    limit: u64,
+) -> usize
+    requires can { CanList L.GREATEST grid.now (L.heads lanes.now) next.now chosen from to behind end
+        (length owns.now) }
+    requires marks { below
+        ≡ positions_below (rows_of grid.now (L.heads lanes.now) (L.ends lanes.now)) from to end }
+    requires none { candidates.old.items ≡ [] }
+    requires room { length next.now ≤ vec_capacity candidates.old }
+    ensures listed { ListsGathered limit (told_at next.now (8 * from) (map L.value owns.now))
+        (IsGatheredWith chosen (IsJobBelow grid.now (L.heads lanes.now) (IsInBlocks from behind) end))
+        candidates.new.items result }
+    ensures room { vec_capacity candidates.new ≡ vec_capacity candidates.old }
+{
+    if next.len() <= BITS {
+        return list_set::<1, L>(
+            candidates, below, owns, lanes, grid, next, chosen, from, to, behind, end, limit,
+        );
+    }
+    list_set::<16, L>(
+        candidates, below, owns, lanes, grid, next, chosen, from, to, behind, end, limit,
+    )
+}
+
+/// Fills the empty list with those candidates of what stands in lanes whose own numbers are below the limit, and tells
+/// how many others there are. The chosen job's next operation can end first: before `end`, on this machine.
 #[inline(always)]
 fn gather_on<L: StateLanes>(
     candidates: &mut Vec<Candidate>,
@@ -105,7 +208,8 @@ fn gather_on<L: StateLanes>(
     chosen: usize,
     machine: usize,
     end: u64,
-)
+    limit: u64,
+) -> usize
     requires can { CanGather L.GREATEST grid.now
         (rows_of grid.now (L.heads lanes.now) (L.ends lanes.now)) next.now }
     requires chosen { (shop : Shop) (w : List ℕ) → IsKeptInLanes L.GREATEST shop w grid.now
@@ -116,7 +220,7 @@ fn gather_on<L: StateLanes>(
     requires room { length next.now ≤ vec_capacity candidates.old }
     ensures are { (shop : Shop) (w : List ℕ) → IsKeptInLanes L.GREATEST shop w grid.now
         (rows_of grid.now (L.heads lanes.now) (L.ends lanes.now)) next.now
-        → AreCandidatesOf shop w grid.now candidates.new.items }
+        → AreCandidatesOf shop w grid.now limit candidates.new.items result }
     ensures long { length owns.new ≡ length owns.old }
     ensures room { vec_capacity candidates.old ≤ vec_capacity candidates.new }
 {
@@ -126,15 +230,17 @@ fn gather_on<L: StateLanes>(
     // a sole candidate leaves the bound as it is
     if to == behind && below.has_no_other(next[chosen] as usize) {
         let job = chosen as u16;
-        candidates.push(Candidate { job, own: 0 }).unwrap();
-        return;
+        candidates.push_reserved(Candidate { job, own: 0 });
+        return 0;
     }
-    let jobs = conflict_set(below, lanes, grid, next, chosen, from, to, behind, end);
     grid.own_spans(lanes, from, behind, owns);
-    list_words::<L>(candidates, jobs.words(), next, 8 * from, owns);
+    list_conflict_set(
+        candidates, below, owns, lanes, grid, next, chosen, from, to, behind, end, limit,
+    )
 }
 
-/// Replaces the list with the candidates of what stands in lanes.
+/// Replaces the list with those candidates of what stands in lanes whose own numbers are below the limit, and tells how
+/// many others there are.
 #[inline(always)]
 pub(crate) fn gather<L: StateLanes>(
     candidates: &mut Vec<Candidate>,
@@ -142,14 +248,15 @@ pub(crate) fn gather<L: StateLanes>(
     lanes: &L,
     grid: &Grid<L>,
     next: &[u32],
-)
+    limit: u64,
+) -> usize
     requires can { CanGather L.GREATEST grid.now
         (rows_of grid.now (L.heads lanes.now) (L.ends lanes.now)) next.now }
     requires owns { length owns.old ≡ length (L.heads lanes.now) }
     requires room { length next.now ≤ vec_capacity candidates.old }
     ensures are { (shop : Shop) (w : List ℕ) → IsKeptInLanes L.GREATEST shop w grid.now
         (rows_of grid.now (L.heads lanes.now) (L.ends lanes.now)) next.now
-        → AreCandidatesOf shop w grid.now candidates.new.items }
+        → AreCandidatesOf shop w grid.now limit candidates.new.items result }
     ensures long { length owns.new ≡ length owns.old }
     ensures room { vec_capacity candidates.old ≤ vec_capacity candidates.new }
 {
@@ -157,9 +264,11 @@ pub(crate) fn gather<L: StateLanes>(
     let chosen = lanes.first_least_end();
     let position = next[chosen] as usize;
     if position >= grid.positions() {
-        return;
+        return 0;
     }
     let end = lanes.head(position) + grid.time(position);
     let machine = grid.machines()[position] as usize;
-    gather_on(candidates, owns, lanes, grid, next, chosen, machine, end);
+    gather_on(
+        candidates, owns, lanes, grid, next, chosen, machine, end, limit,
+    )
 }

@@ -1,8 +1,9 @@
 -- The choice among next operations by lanes.
 --     AreNextsOf shop p l nexts      the position of the next operation of each job, or the number
 --                                    of all positions
---     IsNextBelow nexts heads ..     the next operation of job j waits among some positions with a
---                                    head below a limit
+--     IsJobBelow l heads among ..    an operation of job j waits among some positions with a head
+--                                    below a limit
+--     HaveJobs l positions most      each position has a job, all jobs being below a number
 --     AreNextPlaced l heads nexts    each position has a job, and the next operations have theirs
 --     AreEndsAt greatest shop p ..   when the next operations can end
 --     AreNextsAt shop p l nexts ..   heads and next operations are those of the placing
@@ -22,11 +23,17 @@ pub record AreNextsOf (shop : Shop) (p : Placing) (l : LayoutState)
   pub are : (j : ℕ) → j < length shop.jobs
       → slice_index nexts j ≡ place_or (first_position l shop.machines) l.places j (p.steps j)
 
-pub record IsNextBelow (nexts heads : List ℕ) (among : ℕ → Type 0) (limit j : ℕ) : Type 0 where
-  pub job : j < length nexts
-  pub there : among (slice_index nexts j)
-  pub waits : 0 < slice_index heads (slice_index nexts j)
-  pub below : slice_index heads (slice_index nexts j) < limit
+pub record IsJobBelow (l : LayoutState) (heads : List ℕ) (among : ℕ → Type 0) (limit j : ℕ) : Type 0
+  where
+    pub position : ℕ
+    pub there : among position
+    pub waits : 0 < slice_index heads position
+    pub below : slice_index heads position < limit
+    pub job : slice_index l.jobs position ≡ j
+
+pub record HaveJobs (l : LayoutState) (positions most : ℕ) : Type 0 where
+  pub many : length l.jobs ≡ positions
+  pub below : (q : ℕ) → q < positions → slice_index l.jobs q < most
 
 pub record AreNextPlaced (l : LayoutState) (heads nexts : List ℕ) : Type 0 where
   pub positions : length l.jobs ≡ length heads

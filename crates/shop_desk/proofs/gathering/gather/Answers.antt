@@ -1,12 +1,10 @@
-use Rattle.std.proofs.Common.{◌≡◌, ℕ, List, [], get_or, length, ◌∙◌, ap, sym, subst, arith}
-use Rattle.std.specs.List.{All}
-use Rattle.std.specs.Prelude.{map}
+use Rattle.std.proofs.Common.{◌≡◌, ℕ, List, [], get_or, length, ◌∙◌, ap, refl, sym, subst, arith}
 use Rattle.shop_model.specs.Word.{placing}
 use Rattle.shop_layout.specs.Lanes.{rows_of}
 use Rattle.shop_desk.specs.inner.Raises.{HasBlocks}
 use Rattle.shop_desk.proofs.Candidates.{choosable}
-use Rattle.shop_desk.proofs.LaneConflicts.{chosen_at, chosen_job, is_conflict, none_open}
-use Rattle.shop_desk.proofs.OwnSpans.{alone}
+use Rattle.shop_desk.proofs.LaneConflicts.{chosen_at, chosen_in, chosen_job, is_conflict, none_open}
+use Rattle.shop_desk.proofs.OwnSpans.{nobody}
 use Rattle.shop_desk.proofs.gathering.gather.Goals as goal
 
 pub head-requires : goal.head-requires
@@ -68,6 +66,7 @@ gather_on-requires-clause-chosen g c = λ shop w kept.
       machine_is = read;
       blocks = subst (λ (m : ℕ). HasBlocks l (length heads) m) (sym read) at.blocks;
       fits = omega arith;
+      has = chosen_in greatest shop (placing shop w) l nexts rows can r is at.operation;
       set = λ js are. is_conflict greatest shop (placing shop w) l nexts rows can r is at.operation _ _
           (read ∙ at.machine_is) (omega arith) js are;
     }
@@ -80,8 +79,7 @@ returns-then-position-positions-clause-are g c = λ shop w kept.
     in let heads = g.L.StateLanes.heads c.args.lanes.now
     in let ends = g.L.StateLanes.ends c.args.lanes.now
     in let can = choosable greatest shop w l heads ends nexts kept
-    in alone greatest shop w l heads ends nexts kept [] (none_open greatest shop (placing shop w) l nexts
+    in nobody greatest shop w l heads ends nexts kept [] (none_open greatest shop (placing shop w) l nexts
     (rows_of l heads ends) can c.first_least_end-chosen.result c.first_least_end-chosen.ensures
-    c.positions.result c.positions.ensures c.if-position-positions.true) (omega arith) c.clear.new.self.items
-    (ap (map (λ x. x.job)) c.clear.ensures.items)
-    (subst (All (λ x. x.own ≡ 0)) (sym c.clear.ensures.items) (λ i d here. absurd (omega arith)))
+    c.positions.result c.positions.ensures c.if-position-positions.true) c.args.limit refl c.clear.new.self.items
+    c.clear.ensures.items

@@ -1,8 +1,7 @@
 use Rattle.std.proofs.Common.{◌≡◌, ℕ, List, [], ◌∷◌, ◌+◌, ◌∙◌, get_or, length, map, refl, subst, arith}
 use Rattle.std.specs.List.{All}
-use Rattle.shop_desk.specs.inner.RisingLists.{IsIn}
 use Rattle.shop_desk.proofs.Candidates.{few_jobs}
-use Rattle.shop_desk.proofs.ConflictSets.{all_told, each_told, placed, sole, tells}
+use Rattle.shop_desk.proofs.ConflictSets.{all_told, can_list, sole, tells}
 use Rattle.shop_desk.proofs.gathering.gather_on.Goals as goal
 
 pub block-from-requires : goal.block-from-requires
@@ -92,52 +91,6 @@ overflow_cast-job g c =
     c.args.next.now can.kept
     in omega arith
 
-pub conflict_set-jobs-requires-clause-last : goal.conflict_set-jobs-requires-clause-last
-conflict_set-jobs-requires-clause-last g c =
-    let greatest = g.L.StateLanes.GREATEST
-    in let can = c.requires.can
-    in let heads = g.L.StateLanes.heads c.args.lanes.now
-    in let ends = g.L.StateLanes.ends c.args.lanes.now
-    in let chosen = c.requires.chosen can.shop can.word can.kept
-    in let a = c.block-from.ensures in let b = c.block-behind.ensures in let d = chosen.blocks.ordered
-    in let e = chosen.blocks.within in let f = c.min.ensures in omega arith
-
-pub conflict_set-jobs-requires-clause-within : goal.conflict_set-jobs-requires-clause-within
-conflict_set-jobs-requires-clause-within g c =
-    let greatest = g.L.StateLanes.GREATEST
-    in let can = c.requires.can
-    in let heads = g.L.StateLanes.heads c.args.lanes.now
-    in let ends = g.L.StateLanes.ends c.args.lanes.now
-    in let chosen = c.requires.chosen can.shop can.word can.kept
-    in let b = c.block-behind.ensures in let e = chosen.blocks.within in omega arith
-
-pub conflict_set-jobs-requires-clause-fits : goal.conflict_set-jobs-requires-clause-fits
-conflict_set-jobs-requires-clause-fits g c =
-    let greatest = g.L.StateLanes.GREATEST
-    in let can = c.requires.can
-    in let heads = g.L.StateLanes.heads c.args.lanes.now
-    in let ends = g.L.StateLanes.ends c.args.lanes.now
-    in let chosen = c.requires.chosen can.shop can.word can.kept
-    in chosen.fits
-
-pub conflict_set-jobs-requires-clause-placed : goal.conflict_set-jobs-requires-clause-placed
-conflict_set-jobs-requires-clause-placed g c =
-    let greatest = g.L.StateLanes.GREATEST
-    in let can = c.requires.can
-    in let heads = g.L.StateLanes.heads c.args.lanes.now
-    in let ends = g.L.StateLanes.ends c.args.lanes.now
-    in let chosen = c.requires.chosen can.shop can.word can.kept
-    in placed greatest can.shop can.word c.args.grid.now heads ends c.args.next.now can.kept
-
-pub conflict_set-jobs-requires-clause-chosen : goal.conflict_set-jobs-requires-clause-chosen
-conflict_set-jobs-requires-clause-chosen g c =
-    let greatest = g.L.StateLanes.GREATEST
-    in let can = c.requires.can
-    in let heads = g.L.StateLanes.heads c.args.lanes.now
-    in let ends = g.L.StateLanes.ends c.args.lanes.now
-    in let chosen = c.requires.chosen can.shop can.word can.kept
-    in chosen.known
-
 pub own_spans-requires-clause-blocks : goal.own_spans-requires-clause-blocks
 own_spans-requires-clause-blocks g c =
     let greatest = g.L.StateLanes.GREATEST
@@ -145,9 +98,10 @@ own_spans-requires-clause-blocks g c =
     in let heads = g.L.StateLanes.heads c.args.lanes.now
     in let ends = g.L.StateLanes.ends c.args.lanes.now
     in let chosen = c.requires.chosen can.shop can.word can.kept
-    in (tells greatest can.shop can.word c.args.grid.now heads ends c.args.next.now can.kept c.args.chosen
+    in let tells_it = tells greatest can.shop can.word c.args.grid.now heads ends c.args.next.now can.kept c.args.chosen
     c.args.machine c.args.end chosen c.block-from.result c.block-behind.result c.block-from.ensures
-    c.block-behind.ensures c.conflict_set-jobs.result c.conflict_set-jobs.ensures).blocks
+    c.block-behind.ensures
+    in tells_it.blocks
 
 pub own_spans-requires-clause-room : goal.own_spans-requires-clause-room
 own_spans-requires-clause-room g c =
@@ -156,10 +110,10 @@ own_spans-requires-clause-room g c =
     in let heads = g.L.StateLanes.heads c.args.lanes.now
     in let ends = g.L.StateLanes.ends c.args.lanes.now
     in let chosen = c.requires.chosen can.shop can.word can.kept
-    in let a = (tells greatest can.shop can.word c.args.grid.now heads ends c.args.next.now can.kept c.args.chosen
+    in let tells_it = tells greatest can.shop can.word c.args.grid.now heads ends c.args.next.now can.kept c.args.chosen
     c.args.machine c.args.end chosen c.block-from.result c.block-behind.result c.block-from.ensures
-    c.block-behind.ensures c.conflict_set-jobs.result c.conflict_set-jobs.ensures).room
-    in let b = c.requires.owns in omega arith
+    c.block-behind.ensures
+    in let a = tells_it.room in let b = c.requires.owns in omega arith
 
 pub own_spans-requires-clause-fits : goal.own_spans-requires-clause-fits
 own_spans-requires-clause-fits g c =
@@ -168,34 +122,24 @@ own_spans-requires-clause-fits g c =
     in let heads = g.L.StateLanes.heads c.args.lanes.now
     in let ends = g.L.StateLanes.ends c.args.lanes.now
     in let chosen = c.requires.chosen can.shop can.word can.kept
-    in (tells greatest can.shop can.word c.args.grid.now heads ends c.args.next.now can.kept c.args.chosen
+    in let tells_it = tells greatest can.shop can.word c.args.grid.now heads ends c.args.next.now can.kept c.args.chosen
     c.args.machine c.args.end chosen c.block-from.result c.block-behind.result c.block-from.ensures
-    c.block-behind.ensures c.conflict_set-jobs.result c.conflict_set-jobs.ensures).fits
+    c.block-behind.ensures
+    in tells_it.fits
 
-pub overflow_mul-from : goal.overflow_mul-from
-overflow_mul-from g c =
+pub list_conflict_set-requires-clause-can : goal.list_conflict_set-requires-clause-can
+list_conflict_set-requires-clause-can g c =
     let greatest = g.L.StateLanes.GREATEST
     in let can = c.requires.can
     in let heads = g.L.StateLanes.heads c.args.lanes.now
     in let ends = g.L.StateLanes.ends c.args.lanes.now
     in let chosen = c.requires.chosen can.shop can.word can.kept
-    in let a = (tells greatest can.shop can.word c.args.grid.now heads ends c.args.next.now can.kept c.args.chosen
-    c.args.machine c.args.end chosen c.block-from.result c.block-behind.result c.block-from.ensures
-    c.block-behind.ensures c.conflict_set-jobs.result c.conflict_set-jobs.ensures).low
-    in let b = c.type_inv.next c.args.chosen in omega arith
-
-pub list_words-requires-clause-told : goal.list_words-requires-clause-told
-list_words-requires-clause-told g c =
-    let greatest = g.L.StateLanes.GREATEST
-    in let can = c.requires.can
-    in let heads = g.L.StateLanes.heads c.args.lanes.now
-    in let ends = g.L.StateLanes.ends c.args.lanes.now
-    in let chosen = c.requires.chosen can.shop can.word can.kept
-    in (λ j h. each_told greatest can.shop can.word c.args.grid.now heads ends c.args.next.now can.kept c.args.chosen
-    c.args.machine c.args.end chosen c.block-from.result c.block-behind.result c.block-from.ensures
-    c.block-behind.ensures c.conflict_set-jobs.result c.conflict_set-jobs.ensures (length c.own_spans.new.owns)
-    (c.own_spans.ensures.long ∙ c.requires.owns) j
-    (subst (λ (js : List ℕ). IsIn js j) c.words.ensures.members h))
+    in let a = c.block-from.ensures in let b = c.block-behind.ensures in let d = chosen.blocks.ordered
+    in let f = c.min.ensures in let small = c.type_inv.next c.args.chosen
+    in can_list greatest can.shop can.word c.args.grid.now heads ends c.args.next.now can.kept c.args.chosen
+    c.args.machine c.args.end chosen c.block-from.result c.block-behind.result a b
+    (c.block-from.result + c.min.result) (omega arith) (omega arith) (omega arith) (length c.own_spans.new.owns)
+    (c.own_spans.ensures.long ∙ c.requires.owns)
 
 pub returns-then-has_no_other-clause-are : goal.returns-then-has_no_other-clause-are
 returns-then-has_no_other-clause-are g c = λ shop w kept.
@@ -204,13 +148,13 @@ returns-then-has_no_other-clause-are g c = λ shop w kept.
     in let ends = g.L.StateLanes.ends c.args.lanes.now
     in let r = c.args.chosen
     in let chosen = c.requires.chosen shop w kept
-    in let items : c.push.new.self.items ≡ record { job = r; own = 0 } ∷ [] =
-    rw (c.unwrap.ensures, c.requires.none) at c.push.ensures.items
+    in let items : c.push_reserved.new.self.items ≡ record { job = r; own = 0 } ∷ [] =
+    rw c.requires.none at c.push_reserved.ensures.items
     in sole greatest shop w c.args.grid.now heads ends c.args.next.now kept r c.args.machine c.args.end chosen
     c.block-from.result c.block-behind.result c.block-from.ensures c.block-behind.ensures
     (c.block-from.result + c.min.result) (let t = c.if-to-behind.true in omega arith)
     (subst (λ (ps : List ℕ). All (λ p. p ≡ get_or c.args.next.now r 0) ps) c.below-below.ensures
-    (c.if-has_no_other.ensures refl)) c.push.new.self.items items
+    (c.if-has_no_other.ensures refl)) c.args.limit c.push_reserved.new.self.items items
 
 pub returns-clause-are : goal.returns-clause-are
 returns-clause-are g c = λ shop w kept.
@@ -220,6 +164,5 @@ returns-clause-are g c = λ shop w kept.
     in let chosen = c.requires.chosen shop w kept
     in all_told greatest shop w c.args.grid.now heads ends c.args.next.now kept c.args.chosen c.args.machine c.args.end
     chosen c.block-from.result c.block-behind.result c.block-from.ensures c.block-behind.ensures
-    c.conflict_set-jobs.result c.conflict_set-jobs.ensures
-    (map g.L.StateLanes.value c.own_spans.new.owns) c.own_spans.ensures.owns c.list_words.new.candidates.items
-    (c.list_words.ensures.jobs ∙ c.words.ensures.members) c.list_words.ensures.own
+    (map g.L.StateLanes.value c.own_spans.new.owns) c.own_spans.ensures.owns c.args.limit
+    c.list_conflict_set.new.candidates.items c.list_conflict_set.result c.list_conflict_set.ensures.listed

@@ -1,12 +1,14 @@
-use Rattle.std.proofs.Common.{◌≡◌, ◌*◌, ◌≤◌, ◌++◌, drop, map, vec_capacity}
-use Rattle.std.specs.List.{All}
-use Rattle.shop_desk.specs.inner.Candidates.{told_at}
+use Rattle.std.proofs.Common.{◌≡◌, ℕ, List, ◌+◌, ◌*◌, ◌++◌, drop, length, map, vec_capacity}
+use Rattle.shop_desk.specs.inner.Candidates.{ListsOwn, told_at}
 use Rattle.shop_desk.specs.inner.JobSets.{members}
 use Rattle.shop_desk.proofs.gathering.list_words.Given as goal
 
 abbrev pub invariant-loop-word : goal.invariant-loop-word
-invariant-loop-word g l = record {
-  appended : map (λ c. c.job) l.candidates.items ++ members (64 * l.word) (drop l.word l.words) ≡ members 0 l.words;
-  own : All (λ c. c.own ≡ told_at l.next l.first (map g.L.StateLanes.value l.owns) c.job) l.candidates.items;
-  capacity : vec_capacity l.fn.candidates ≤ vec_capacity l.candidates;
-}
+invariant-loop-word g l =
+    let own : ℕ → ℕ = told_at l.next l.first (map g.L.StateLanes.value l.owns)
+    in (done : List ℕ) × record {
+      all : done ++ members (64 * l.word) (drop l.word l.words) ≡ members 0 l.words;
+      listed : ListsOwn l.limit own done l.candidates.items l.others;
+      count : length l.candidates.items + l.others ≡ length done;
+      capacity : vec_capacity l.candidates ≡ vec_capacity l.fn.candidates;
+    }

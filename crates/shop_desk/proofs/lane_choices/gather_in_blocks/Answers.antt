@@ -6,7 +6,7 @@ pub loop-from-init : goal.loop-from-init
 loop-from-init g c = record {
   ordered = omega arith;
   within = c.requires.ordered;
-  gathered = none_gathered c.args.next.now (g.L.StateLanes.heads c.args.lanes.now) c.args.limit c.args.first
+  gathered = none_gathered c.args.grid.now (g.L.StateLanes.heads c.args.lanes.now) c.args.limit c.args.first
       c.args.jobs.now;
 }
 
@@ -18,7 +18,7 @@ loop-from-preserved g c =
     in record {
       ordered = omega arith;
       within = omega arith;
-      gathered = more_gathered c.args.next.now (g.L.StateLanes.heads c.args.lanes.now) c.args.limit c.args.first
+      gathered = more_gathered c.args.grid.now (g.L.StateLanes.heads c.args.lanes.now) c.args.limit c.args.first
           c.loop-from.from (c.loop-from.from + c.min.result) c.args.jobs.now c.loop-from.jobs
           c.gather_marked.new.jobs o (omega arith) now.gathered c.gather_marked.ensures;
     }

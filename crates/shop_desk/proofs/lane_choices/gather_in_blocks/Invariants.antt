@@ -1,5 +1,5 @@
 use Rattle.std.proofs.Common.{◌≤◌, ◌-◌}
-use Rattle.shop_desk.specs.inner.LaneChoices.{IsNextBelow}
+use Rattle.shop_desk.specs.inner.LaneChoices.{IsJobBelow}
 use Rattle.shop_desk.specs.inner.Raises.{IsInBlocks}
 use Rattle.shop_desk.specs.inner.RisingLists.{HasGathered}
 use Rattle.shop_desk.proofs.lane_choices.gather_in_blocks.Given as goal
@@ -8,7 +8,7 @@ abbrev pub invariant-loop-from : goal.invariant-loop-from
 invariant-loop-from g l = record {
   ordered : l.first ≤ l.from;
   within : l.from ≤ l.behind;
-  gathered : HasGathered (IsNextBelow l.next (g.L.StateLanes.heads l.lanes) (IsInBlocks l.first l.from) l.limit)
+  gathered : HasGathered (IsJobBelow l.grid (g.L.StateLanes.heads l.lanes) (IsInBlocks l.first l.from) l.limit)
       l.fn.jobs l.jobs;
 }
 

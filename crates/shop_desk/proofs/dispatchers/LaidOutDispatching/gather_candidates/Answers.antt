@@ -9,28 +9,17 @@ use Rattle.shop_desk.proofs.ReadStates.{kept_read}
 use Rattle.shop_desk.proofs.dispatchers.LaidOutDispatching.gather_candidates.Goals as goal
 
 gathered : (greatest : ℕ) (shop : Shop) (l read : LayoutState) → read ≡ l → (heads ends nexts given : List ℕ)
-    → given ≡ nexts → (cs : List Candidate)
+    → given ≡ nexts → (limit : ℕ) (cs : List Candidate) (others : ℕ)
     → ((s : Shop) (w : List ℕ) → IsKeptInLanes greatest s w read (rows_of read heads ends) given
-    → AreCandidatesOf s w read cs) → (w : List ℕ) → IsKeptInLanes greatest shop w l (rows_of l heads ends) nexts
-    → AreCandidatesOf shop w l cs
-gathered greatest shop l read is heads ends nexts given same cs are w kept =
-    subst (λ (x : LayoutState). AreCandidatesOf shop w x cs) is
+    → AreCandidatesOf s w read limit cs others)
+    → (w : List ℕ) → IsKeptInLanes greatest shop w l (rows_of l heads ends) nexts
+    → AreCandidatesOf shop w l limit cs others
+gathered greatest shop l read is heads ends nexts given same limit cs others are w kept =
+    subst (λ (x : LayoutState). AreCandidatesOf shop w x limit cs others) is
     (are shop w (kept_read greatest shop w l read heads ends nexts given is same kept))
 
-pub returns-clause-jobs : goal.returns-clause-jobs
-returns-clause-jobs g c = λ w kept. (gathered g.L.StateLanes.GREATEST c.args.self.now.shop c.args.self.now.layout
+pub returns-clause-listed : goal.returns-clause-listed
+returns-clause-listed g c = λ w kept. gathered g.L.StateLanes.GREATEST c.args.self.now.shop c.args.self.now.layout
     c.grid.result.now c.grid.ensures.grid (g.L.StateLanes.heads c.args.state.now.lanes)
     (g.L.StateLanes.ends c.args.state.now.lanes) c.args.state.now.next.items c.as_slice.result.now
-    c.as_slice.ensures.value c.gather.new.candidates.items c.gather.ensures.are w kept).jobs
-
-pub returns-clause-are : goal.returns-clause-are
-returns-clause-are g c = λ w kept. (gathered g.L.StateLanes.GREATEST c.args.self.now.shop c.args.self.now.layout
-    c.grid.result.now c.grid.ensures.grid (g.L.StateLanes.heads c.args.state.now.lanes)
-    (g.L.StateLanes.ends c.args.state.now.lanes) c.args.state.now.next.items c.as_slice.result.now
-    c.as_slice.ensures.value c.gather.new.candidates.items c.gather.ensures.are w kept).are
-
-pub returns-clause-lower : goal.returns-clause-lower
-returns-clause-lower g c = λ w kept. (gathered g.L.StateLanes.GREATEST c.args.self.now.shop c.args.self.now.layout
-    c.grid.result.now c.grid.ensures.grid (g.L.StateLanes.heads c.args.state.now.lanes)
-    (g.L.StateLanes.ends c.args.state.now.lanes) c.args.state.now.next.items c.as_slice.result.now
-    c.as_slice.ensures.value c.gather.new.candidates.items c.gather.ensures.are w kept).lower
+    c.as_slice.ensures.value c.args.limit c.gather.new.candidates.items c.gather.result c.gather.ensures.are w kept

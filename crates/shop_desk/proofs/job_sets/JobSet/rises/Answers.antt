@@ -4,4 +4,4 @@ use Rattle.shop_desk.proofs.JobSets.{members_rise}
 use Rattle.shop_desk.proofs.job_sets.JobSet.rises.Goals as goal
 
 pub returns : goal.returns
-returns c = subst Rises c.self.view_is (members_rise 0 c.self.inside.words)
+returns g c = subst Rises c.self.view_is (members_rise 0 c.self.inside.words)
