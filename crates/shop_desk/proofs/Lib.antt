@@ -9,6 +9,7 @@ pub mod ChildReads
 pub mod ChildTurns
 pub mod ConflictSets
 pub mod FillTurns
+pub mod FillWalks
 pub mod FilledStates
 pub mod FittingSpans
 pub mod Followed
@@ -26,6 +27,7 @@ pub mod LookAheads
 pub mod MachineLanes
 pub mod NextOperations
 pub mod OwnSpans
+pub mod PlacedNexts
 pub mod RaiseLoops
 pub mod RaiseSteps
 pub mod RaiseWalks

@@ -13,6 +13,7 @@ mod lane_choices;
 mod lane_ends;
 mod look_aheads;
 mod machine_raises;
+mod placing;
 mod raises;
 mod states;
 mod steps;
