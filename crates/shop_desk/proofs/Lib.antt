@@ -9,6 +9,7 @@ pub mod ChildReads
 pub mod ChildTurns
 pub mod ConflictSets
 pub mod FillTurns
+pub mod FillWalks
 pub mod FilledStates
 pub mod FittingSpans
 pub mod Followed
@@ -27,6 +28,7 @@ pub mod MachineLanes
 pub mod MachineSets
 pub mod NextOperations
 pub mod OwnSpans
+pub mod PlacedNexts
 pub mod RaiseLoops
 pub mod RaiseSteps
 pub mod RaiseWalks

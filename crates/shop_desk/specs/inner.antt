@@ -11,6 +11,7 @@ pub mod LaneEnds
 pub mod LaneHeads
 pub mod LaneStates
 pub mod MachineRaises
+pub mod PlacedNexts
 pub mod Raises
 pub mod RisingLists
 pub mod Scratches

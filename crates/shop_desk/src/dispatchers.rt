@@ -7,11 +7,11 @@ use crate::dispatching::{Candidate, Dispatching};
 use crate::fills::fill_state;
 use crate::gathering::gather;
 use crate::machine_raises::MachineRaises;
+use crate::placing::place_word;
 use crate::states::{Scratch, State};
 use crate::steps::{BOUNDS, step};
 use shop_lanes::StateLanes;
 use shop_layout::LaidOut;
-use shop_model::Placement;
 use std::alloc::{AllocError, Global};
 
 impl<'a, L: StateLanes> Dispatching for LaidOut<'a, L> {
@@ -33,18 +33,21 @@ impl<'a, L: StateLanes> Dispatching for LaidOut<'a, L> {
     ghost IsStateOf = { λ d w s. IsKeptInLanes L.GREATEST d.shop w d.layout
         (rows_of d.layout (L.heads s.lanes) (L.ends s.lanes)) s.next.items };
 
-    ghost IsScratch = { λ d s. IsScratchOf d.shop d.layout s.placement s.raises (length s.owns.items) };
+    ghost IsScratch = { λ d s. IsScratchOf d.shop d.layout (length s.ready.items)
+        (length s.free.items) s.raises (length s.owns.items) };
 
     ghost IsCandidate = { λ d w c. IsCandidateOf d.shop w d.layout c.job c.own };
 
     fn scratch(&self, alloc: Global) -> Result<Scratch<L>, AllocError> {
         let instance = self.instance();
         instance.keeps_limits();
-        let placement = Placement::none(alloc, instance)?;
+        let ready = vec![in alloc; 0; instance.jobs()]?;
+        let free = vec![in alloc; 0; instance.machines()]?;
         let raises = MachineRaises::new(alloc, instance.machines())?;
         let owns = vec![in alloc; L::narrowed(0); self.grid().positions()]?;
         Ok(Scratch {
-            placement,
+            ready,
+            free,
             raises,
             owns,
         })
@@ -58,15 +61,11 @@ impl<'a, L: StateLanes> Dispatching for LaidOut<'a, L> {
     }
 
     fn fill(&self, scratch: &mut Scratch<L>, path: &[u16], state: &mut State<L>) {
-        let instance = self.instance();
-        scratch.placement.set_to(instance, path);
-        fill_state(
-            &mut state.lanes,
-            state.next.as_mut_slice(),
-            self.grid(),
-            instance,
-            &scratch.placement,
-        );
+        let next = state.next.as_mut_slice();
+        let ready = scratch.ready.as_mut_slice();
+        let free = scratch.free.as_mut_slice();
+        place_word(self, next, ready, free, path);
+        fill_state(&mut state.lanes, self, next, ready, free);
     }
 
     fn copy(&self, from: &State<L>, to: &mut State<L>) {

@@ -14,6 +14,7 @@ mod lane_ends;
 mod look_aheads;
 mod machine_raises;
 mod machine_sets;
+mod placing;
 mod raises;
 mod states;
 mod steps;

@@ -1,7 +1,6 @@
 // A state of a word, and what a dispatch needs beside it.
 use crate::machine_raises::MachineRaises;
 use shop_lanes::StateLanes;
-use shop_model::Placement;
 
 /// What a word leaves: the heads of its operations by position, and by job its next operation and the end of that.
 #[derive(Drop)]
@@ -14,8 +13,10 @@ pub struct State<L: StateLanes> {
 /// What fills and dispatches need beside states.
 #[derive(Drop)]
 pub struct Scratch<L: StateLanes> {
-    /// of some word
-    pub(crate) placement: Placement,
+    /// ready[job]: of some word, when the job is ready
+    pub(crate) ready: Vec<u64>,
+    /// free[machine]: of some word, when the machine is free
+    pub(crate) free: Vec<u64>,
     /// at rest
     pub(crate) raises: MachineRaises<L>,
     /// owns[i]: the own span at the position that is i behind the first one of some machine

@@ -1,16 +1,16 @@
 -- What a dispatch needs beside a state.
---     IsScratchOf shop l s raises .. a placement for the instance, raises at rest, an own span for each
---                                    position
+--     IsScratchOf shop l ready ..    room for the times of jobs and machines, raises at rest, an own
+--                                    span for each position
 use Rattle.std.specs.Prelude.{◌≡◌, ℕ, List, length}
-use Rattle.shop_model.specs.Placements.{HasPlaces, PlacementState}
 use Rattle.shop_model.specs.Shop.{Shop}
 use Rattle.shop_layout.specs.Positions.{LayoutState}
 use Rattle.shop_desk.specs.inner.MachineRaises.{AreEmpty}
 use Rattle.shop_desk.specs.inner.HeadRaises.{Raise}
 
-pub record IsScratchOf (shop : Shop) (l : LayoutState) (s : PlacementState) (raises : List Raise)
+pub record IsScratchOf (shop : Shop) (l : LayoutState) (ready free : ℕ) (raises : List Raise)
     (owns : ℕ) : Type 0 where
-  pub places : HasPlaces shop s
+  pub jobs_ready : ready ≡ length shop.jobs
+  pub machines_free : free ≡ shop.machines
   pub machines : length raises ≡ shop.machines
   pub at_rest : AreEmpty raises
   pub positions : owns ≡ length l.following
