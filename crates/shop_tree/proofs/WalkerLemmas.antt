@@ -15,7 +15,7 @@ use Rattle.shop_nodes.specs.Pieces.{walk_told}
 use Rattle.shop_nodes.specs.Walking.{Walk, walk, sheet}
 use Rattle.shop_nodes.specs.Halts.{word_at, last_of, waiting_words, stack_words, IsClosed}
 use Rattle.shop_tree.specs.inner.Walkers.{Stage, HasExpanded, HasWalked, HasWalkedUpTo, IsInOrder, IsTurn}
-use Rattle.shop_tree.specs.inner.Walkers.{on_top, node_walk, stack_walk, turns_left}
+use Rattle.shop_tree.specs.inner.Walkers.{on_top, node_walk, spent_one, stack_walk, turns_left}
 use Rattle.shop_tree.specs.inner.Searching.{walk_stack, opening_walk, entered}
 use Rattle.shop_nodes.specs.declared.nodes.Node.{Node}
 use Rattle.shop_nodes.specs.declared.halts.Open.{Open}
@@ -24,7 +24,7 @@ use Rattle.shop_nodes.specs.declared.halts.Waiting.TheVariants.{Child, Rest}
 use Rattle.shop_nodes.proofs.HighWalks.{high-taken, none-walked}
 use Rattle.shop_tree.proofs.OpenLemmas.{popped, replaced, walk-top}
 use Rattle.shop_tree.proofs.TurnLemmas.{below_waits, child_walks}
-use Rattle.shop_tree.proofs.ExpandLemmas.{spent_one, enters, cuts}
+use Rattle.shop_tree.proofs.ExpandLemmas.{enters, cuts}
 
 -- turns over plain numbers
 one_spent : (b jobs jobs' new rest one : ℕ) → 0 < b → jobs' ≡ jobs → one ≡ rest + 1
