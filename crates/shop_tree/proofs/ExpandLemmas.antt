@@ -15,7 +15,7 @@ use Rattle.shop_nodes.specs.Halts.{word_at, IsWaiting}
 use Rattle.shop_tree.specs.inner.Opens.{AreChildren, IsUpTo}
 use Rattle.shop_tree.specs.inner.Pushing.{with_opens, with_rest}
 use Rattle.shop_tree.specs.inner.Walkers.{Stage, HasFollowed, HasBranched, HasExpanded, IsInOrder}
-use Rattle.shop_tree.specs.inner.Walkers.{gone_on, on_top, spent_one, turns_left}
+use Rattle.shop_tree.specs.inner.Walkers.{gone_on, on_top, spent_one}
 use Rattle.shop_tree.specs.inner.Searching.{walk_stack, Adds, entered}
 use Rattle.shop_nodes.specs.declared.halts.Open.{Open}
 use Rattle.shop_nodes.specs.declared.halts.Waiting.{Waiting}
@@ -193,7 +193,7 @@ expands_followed s m t f e = record {
   walk = e.walk ∙ f.walk;
   in_order = e.in_order;
   fewer = (let a = e.fewer in let b = f.fewer in let same : length m.shop.jobs ≡ length s.shop.jobs =
-  ap (λ (x : Shop). length x.jobs) f.shop in omega arith);
+      ap (λ (x : Shop). length x.jobs) f.shop in omega arith);
   shop = e.shop ∙ f.shop;
   spent = (let a = e.spent in let b = f.spent in omega arith);
 }

@@ -1,5 +1,5 @@
 -- Steps of a walk over states: where it stands before and after, and what waits.
-use Rattle.std.proofs.Common.{◌≡◌, ℕ, ◌+◌, ◌≤◌, ◌<◌, List, ◌++◌, All, length, map}
+use Rattle.std.proofs.Common.{◌≡◌, ℕ, List, ◌++◌, All, map}
 use Rattle.std.proofs.Common.{◌∙◌, refl, sym, ap, subst, arith, Result, Ok, Err, Option, Some, None}
 use Rattle.shop_heads.specs.Bound.{lb}
 use Rattle.shop_tree.specs.declared.held.Held.{Held}
@@ -75,7 +75,7 @@ pub still_at : {D S C : Type 0} {g : Ghosts D S C} (v w : Walker D S C g) (b : �
 still_at v w b at same states state = record {
   bound = at.bound ∙ sym (ap (λ (t : Stage). lb t.shop t.word) same);
   below = (let a = at.below in let e : w.progress.best ≡ v.progress.best = ap (λ (t : Stage). t.walk.best) same
-  in omega arith);
+      in omega arith);
   in_order = subst IsInOrder (sym same) at.in_order;
   states = states;
   state = state;

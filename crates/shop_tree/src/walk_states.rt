@@ -115,8 +115,13 @@ impl<'l, D: Dispatching> WalkStates<'l, D> {
             self.new.current.value) }
         ensures dispatcher { self.new.dispatcher.now ≡ self.old.dispatcher.now }
     {
-        self.dispatcher
-            .dispatch_below(&mut self.scratch, &mut self.current, candidate, bound, limit)
+        self.dispatcher.dispatch_below(
+            &mut self.scratch,
+            &mut self.current,
+            candidate,
+            bound,
+            limit,
+        )
     }
 
     /// How many states are at hand for children.

@@ -1,7 +1,7 @@
-use Rattle.std.proofs.Common.{◌≡◌, ◌≤◌, ◌<◌, length, refl, sym, ap, subst, arith, Some, None}
+use Rattle.std.proofs.Common.{◌≡◌, length, refl, ap, arith}
 use Rattle.shop_model.specs.Shop.{operation_count}
-use Rattle.shop_tree.specs.inner.StateWalkers.{stage_of, HasGoneOn, HasReached}
-use Rattle.shop_tree.specs.inner.Walkers.{Stage, HasExpanded, HasFollowed}
+use Rattle.shop_tree.specs.inner.StateWalkers.{stage_of}
+use Rattle.shop_tree.specs.inner.Walkers.{Stage, HasExpanded}
 use Rattle.shop_tree.proofs.ListLemmas.{on_ok}
 use Rattle.shop_tree.proofs.ExpandLemmas.{expands_followed, followed_same, followed_then}
 use Rattle.shop_tree.proofs.StateSteps.{ended, gone, still_at}

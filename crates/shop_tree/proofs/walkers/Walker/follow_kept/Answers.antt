@@ -1,13 +1,12 @@
-use Rattle.std.proofs.Common.{◌≡◌, ◌+◌, ◌<◌, ◌++◌, ◌∷◌, ◌∙◌, [], ℕ, List, length, refl, sym, ap, subst, arith}
+use Rattle.std.proofs.Common.{◌≡◌, ◌+◌, ◌<◌, ◌++◌, ◌∷◌, ◌∙◌, [], length, refl, sym, ap, subst, arith}
 use Rattle.shop_model.specs.Shop.{Shop, operation_count}
 use Rattle.shop_model.specs.Word.{IsWord}
 use Rattle.shop_model.proofs.WordLengths.{word_length}
 use Rattle.shop_heads.specs.Bound.{lb}
 use Rattle.shop_nodes.specs.declared.halts.Open.{Open}
-use Rattle.shop_nodes.specs.declared.halts.Waiting.{Waiting}
 use Rattle.shop_tree.specs.inner.Held.{waiting_in}
 use Rattle.shop_tree.specs.inner.Opens.{AreChildren}
-use Rattle.shop_tree.specs.inner.StateWalkers.{stage_of, AreHeld, KeepsStates}
+use Rattle.shop_tree.specs.inner.StateWalkers.{stage_of, AreHeld}
 use Rattle.shop_tree.specs.inner.Walkers.{Stage}
 use Rattle.shop_tree.proofs.ExpandLemmas.{HasGone, ends_closed, follows_kept}
 use Rattle.shop_tree.proofs.HeldLemmas.{rest_waits, states_rest}
@@ -29,8 +28,11 @@ advance-requires-clause-can g c =
     in let at = c.requires.at
     in record {
       word = word;
-      is = (at.state, alone_own shop word self.progress.best of cand self.candidates.items c.args.closed one
-          c.requires.candidates);
+      is = (
+        at.state,
+        alone_own shop word self.progress.best of cand self.candidates.items c.args.closed one
+            c.requires.candidates,
+      );
       fits = alone_fits shop word self.progress.best of cand self.candidates.items c.args.closed one
           c.requires.candidates (g.met.D.Dispatching.state_is_of_word d word self.states.current.value at.state);
       bound_is = at.bound ∙ ap (λ (x : Shop). lb x word) (sym self.same_shop);

@@ -1,4 +1,4 @@
-use Rattle.std.proofs.Common.{◌≡◌, ℕ, sym, subst, arith}
+use Rattle.std.proofs.Common.{◌≡◌, ℕ, subst, arith}
 use Rattle.shop_tree.specs.inner.StateWalkers.{HasCandidates}
 use Rattle.shop_tree.proofs.walkers.Walker.go_on.Goals as goal
 

@@ -1,10 +1,10 @@
-use Rattle.std.proofs.Common.{◌≡◌, ◌≤◌, ◌<◌, ◌++◌, ◌∙◌, ℕ, List, All, ap, length, map, sym, subst, arith}
+use Rattle.std.proofs.Common.{◌≡◌, ◌<◌, ◌++◌, ◌∙◌, ℕ, List, All, ap, length, map, sym, subst, arith}
 use Rattle.std.proofs.lemmas.List.{length-append}
 use Rattle.shop_model.specs.Shop.{Shop, operation_count}
 use Rattle.shop_model.specs.Word.{IsWord}
 use Rattle.shop_model.proofs.WordLengths.{word_length}
 use Rattle.shop_tree.specs.declared.held.Held.{Held}
-use Rattle.shop_tree.specs.inner.Held.{held, opens_in, waiting_in, with_held_rest, IsKept}
+use Rattle.shop_tree.specs.inner.Held.{held, opens_in, waiting_in, IsKept}
 use Rattle.shop_tree.specs.inner.Opens.{AreChildren}
 use Rattle.shop_tree.specs.inner.StateWalkers.{stage_of, AreHeld, KeepsStates}
 use Rattle.shop_tree.specs.inner.Walkers.{HasBranched}
