@@ -14,7 +14,11 @@ use Rattle.shop_tree.specs.inner.Opens.{AreChildren, IsPlaceAbove}
 use Rattle.shop_tree.proofs.AddLemmas.{conflict_few}
 use Rattle.shop_tree.proofs.PushLemmas.{IsGathered, gathered_none, gathered_open, gathered_other, all_gathered}
 
--- one alone
+-- none, and one alone
+pub no_items : (cs : List Candidate) → length cs ≡ 0 → cs ≡ []
+no_items [] long = refl
+no_items (c ∷ cs) long = absurd (omega arith)
+
 pub one_listed : (cs : List Candidate) (c d : Candidate) → length cs ≡ 1 → c ≡ get_or cs 0 d → cs ≡ c ∷ []
 one_listed [] c d long is = absurd (omega arith)
 one_listed (x ∷ []) c d long is = ap (λ (y : Candidate). y ∷ []) (sym is)
@@ -118,6 +122,13 @@ module _ (shop : Shop) (word : List ℕ) (limit : ℕ) (is : Candidate → Type 
   pub few_closed : {cs : List Candidate} {n : ℕ} → ListsBelow shop word limit is (conflict shop word) cs n
       → length cs + n ≤ length shop.jobs
   few_closed all = let a = lists_long all in let b = conflict_few shop word in omega arith
+
+  -- all children are closed
+  pub none_kept : (cs : List Candidate) (n : ℕ) → cs ≡ [] → ListsBelow shop word limit is (conflict shop word) cs n
+      → AreChildren shop limit word [] n
+  none_kept cs n e all = all_gathered shop limit word [] n (conflict shop word ++ [])
+      (subst (λ (k : ℕ). IsGathered shop limit word [] k (conflict shop word ++ [])) (let f : 0 + n ≡ n = omega arith in f)
+      (closed_gathered all e [] 0 [] (gathered_none shop limit word [] refl))) (append-nil (conflict shop word))
 
   -- one candidate alone
   module _ (c : Candidate) (cs : List Candidate) (n : ℕ) (e : cs ≡ c ∷ [])

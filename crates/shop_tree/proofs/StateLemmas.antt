@@ -8,8 +8,6 @@ use Rattle.std.proofs.lemmas.List.{map-append}
 use Rattle.std.proofs.lemmas.List.Elements.{All-append, All-set, All-from_recursion, recursion_from_All}
 use Rattle.shop_model.specs.Shop.{Shop}
 use Rattle.shop_desk.specs.declared.dispatching.Dispatching.{Ghosts}
-use Rattle.shop_desk.specs.States.{HasSoleCandidate}
-use Rattle.shop_nodes.specs.Branching.{conflict}
 use Rattle.shop_tree.specs.declared.held.Held.{Held}
 use Rattle.shop_nodes.specs.declared.halts.Open.{Open}
 use Rattle.shop_nodes.specs.declared.halts.Waiting.{Waiting}
@@ -82,13 +80,6 @@ module _ {D S C : Type 0} (g : Ghosts D S C) (d e : D) (word : List ℕ) (now ne
     (state : g.IsStateOf d word now) where
   pub same_state : g.IsStateOf e word new
   same_state = subst (λ x. g.IsStateOf x word new) (sym same) (subst (λ x. g.IsStateOf d word x) (sym copy) state)
-
-  pub same_alone : (job : ℕ) → conflict (g.shop d) word ≡ job ∷ [] → conflict (g.shop e) word ≡ job ∷ []
-  same_alone job alone = ap (λ x. conflict (g.shop x) word) same ∙ alone
-
-  pub sole_candidate : (job : ℕ) → conflict (g.shop d) word ≡ job ∷ []
-      → HasSoleCandidate (g.shop e) (λ w. g.IsStateOf e w new) job
-  sole_candidate job alone = record { word = word; is = same_state; sole = same_alone job alone }
 
 -- what waits, without states, once an entry lost its own
 pub waiting_stripped : {S : Type 0} (hs : List (Held S)) (i : ℕ) (d h : Held S) (state : Option (Box S))

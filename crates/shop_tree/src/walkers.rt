@@ -1,6 +1,8 @@
 // The walk of the nodes of pieces, over states that are kept from one to the next.
 ghost use Rattle.std.specs.Prelude.{◌≡◌, ◌≤◌, ◌<◌, ◌+◌, ◌^◌, length, vec_capacity, [], ◌∷◌, ◌++◌, OnOk, IfOk, IsTrue};
+ghost use Rattle.shop_model.specs.Limits.{IsWithinLimits};
 ghost use Rattle.shop_model.specs.Shop.{operation_count};
+ghost use Rattle.shop_model.specs.Word.{IsWord};
 ghost use Rattle.shop_nodes.specs.Nodes.{IsNode, AreNodes};
 ghost use Rattle.shop_nodes.specs.Sheets.{IsSheetOf, KeepsTables};
 ghost use Rattle.shop_heads.specs.Bound.{lb};
@@ -36,6 +38,7 @@ impl<'l, 'a, D: Dispatching> Walker<'l, 'a, D> {
     ghost use Rattle.shop_tree.specs.inner.Held.{IsHeldOf};
     ghost use Rattle.shop_nodes.specs.Halts.{halted_words, AreHalted};
     ghost use Rattle.shop_nodes.specs.Halts.{stack_words, word_at};
+    ghost use Rattle.shop_tree.specs.inner.Opens.{AreChildren};
     ghost use Rattle.shop_tree.specs.inner.Slots.{HoldSlots};
     ghost use Rattle.shop_tree.specs.inner.StateWalkers.{stage_of, AreHeld, HasCandidates, HasStates};
     ghost use Rattle.shop_tree.specs.inner.StateWalkers.{HasGoneOn, HasReached, IsAtState, StandsAs};
@@ -122,8 +125,28 @@ impl<'l, 'a, D: Dispatching> Walker<'l, 'a, D> {
         self.take_job(job);
     }
 
+    /// All children of the word, so many, are closed: they are counted if the budget lasts for them, and else wait.
+    #[inline(always)]
+    fn close(&mut self, count: usize) -> Result<(), AllocError>
+        requires word { IsWord self.old.progress.instance.now self.old.path.items }
+        requires limits { IsWithinLimits self.old.progress.instance.now }
+        requires short { length self.old.path.items < self.old.progress.operations }
+        requires closed { AreChildren self.old.progress.instance.now self.old.progress.best self.old.path.items
+            [] count }
+        requires in_order { IsInOrder (stage_of self.old) }
+        requires states { HasStates self.old }
+        ensures expanded { OnOk result (HasExpanded (stage_of self.old) (stage_of self.new)) }
+        ensures states { OnOk result (HasStates self.new) }
+    {
+        if self.progress.budget >= count as u64 {
+            self.progress.budget -= count as u64;
+            return Ok(());
+        }
+        put_rest(&mut self.stack, self.path.len(), count)
+    }
+
     /// Goes on from the word to the child by the one candidate, and tells its bound, while so many others are closed, and
-    /// wait as such. Where this one is closed too, all wait, and the walk has nowhere to go.
+    /// wait as such. Where this one is closed too, the walk has nowhere to go.
     #[inline(always)]
     fn follow_kept(&mut self, bound: u64, closed: usize) -> Result<Option<u64>, AllocError>
         requires one { length self.old.candidates.items ≡ 1 }
@@ -135,7 +158,7 @@ impl<'l, 'a, D: Dispatching> Walker<'l, 'a, D> {
     {
         let candidate = self.candidates[0];
         let Some(bound) = self.states.advance(candidate, bound, self.progress.best) else {
-            put_rest(&mut self.stack, self.path.len(), closed + 1)?;
+            self.close(closed + 1)?;
             return Ok(None);
         };
         put_rest(&mut self.stack, self.path.len(), closed)?;
@@ -212,7 +235,8 @@ impl<'l, 'a, D: Dispatching> Walker<'l, 'a, D> {
         raise_rest(&mut self.stack, below, depth, closed, all)
     }
 
-    /// The same, with a state for each child as far as what waits longer has one.
+    /// The same, with a state for each child as far as what waits longer has one; but where all are closed, nothing has
+    /// to wait.
     fn branch(&mut self, alloc: Global, bound: u64, closed: usize) -> Result<(), AllocError>
         requires short { length self.old.path.items < self.old.progress.operations }
         requires at { StandsAt self.old bound }
@@ -220,6 +244,9 @@ impl<'l, 'a, D: Dispatching> Walker<'l, 'a, D> {
         ensures expanded { OnOk result (HasExpanded (stage_of self.old) (stage_of self.new)) }
         ensures states { OnOk result (HasStates self.new) }
     {
+        if self.candidates.is_empty() {
+            return self.close(closed);
+        }
         self.reclaim()?;
         self.push_children(alloc, bound, closed)
     }

@@ -1,12 +1,41 @@
-use Rattle.std.proofs.Common.{◌≡◌, ◌<◌, ◌∙◌, length, sym, ap, subst, arith}
-use Rattle.shop_model.specs.Shop.{operation_count}
+use Rattle.std.proofs.Common.{◌≡◌, ◌<◌, ◌∙◌, [], length, sym, ap, subst, arith, rules}
+use Rattle.shop_model.specs.Limits.{IsWithinLimits}
+use Rattle.shop_model.specs.Shop.{Shop, operation_count}
+use Rattle.shop_model.specs.Word.{IsWord}
 use Rattle.shop_heads.specs.Bound.{lb}
+use Rattle.shop_tree.specs.inner.Opens.{AreChildren}
 use Rattle.shop_tree.specs.inner.StateWalkers.{stage_of}
 use Rattle.shop_tree.specs.inner.Walkers.{Stage, HasBranched, HasExpanded}
 use Rattle.shop_tree.proofs.ListLemmas.{on_ok}
 use Rattle.shop_tree.proofs.ExpandLemmas.{expands_branched}
+use Rattle.shop_tree.proofs.ListedLemmas.{no_items, none_kept}
 use Rattle.shop_tree.proofs.StateSteps.{candidates_stand, state_stands}
 use Rattle.shop_tree.proofs.walkers.Walker.branch.Goals as goal
+
+pub close-requires-clause-word : goal.close-requires-clause-word
+close-requires-clause-word g c =
+    let self = c.args.self.now
+    in subst (λ (x : Shop). IsWord x self.path.items) self.same_shop
+    (g.met.D.Dispatching.state_is_of_word self.states.dispatcher.now self.path.items self.states.current.value
+    c.requires.at.state)
+
+pub close-requires-clause-limits : goal.close-requires-clause-limits
+close-requires-clause-limits g c =
+    let self = c.args.self.now
+    in subst IsWithinLimits self.same_shop
+    (g.met.D.Dispatching.state_is_within_limits self.states.dispatcher.now self.path.items self.states.current.value
+    c.requires.at.state)
+
+pub close-requires-clause-closed : goal.close-requires-clause-closed
+close-requires-clause-closed g c =
+    let self = c.args.self.now
+    in let d = self.states.dispatcher.now
+    in let word = self.path.items
+    in let none : self.candidates.items ≡ [] = no_items self.candidates.items (let a = c.is_empty.ensures
+    in let b = self.candidates.ok.0 in search rules)
+    in subst (λ (x : Shop). AreChildren x self.progress.best word [] c.args.closed) self.same_shop
+    (none_kept (g.D.Dispatching.shop d) word self.progress.best (g.D.Dispatching.IsCandidate d word)
+    self.candidates.items c.args.closed none c.requires.candidates)
 
 pub push_children-requires-clause-bound : goal.push_children-requires-clause-bound
 push_children-requires-clause-bound g c = c.requires.at.bound

@@ -1,4 +1,5 @@
 use Rattle.std.proofs.Common.{◌≡◌, ◌+◌, ◌<◌, ◌++◌, ◌∷◌, ◌∙◌, [], length, refl, sym, ap, subst, arith}
+use Rattle.shop_model.specs.Limits.{IsWithinLimits}
 use Rattle.shop_model.specs.Shop.{Shop, operation_count}
 use Rattle.shop_model.specs.Word.{IsWord}
 use Rattle.shop_model.proofs.WordLengths.{word_length}
@@ -8,7 +9,7 @@ use Rattle.shop_tree.specs.inner.Held.{waiting_in}
 use Rattle.shop_tree.specs.inner.Opens.{AreChildren}
 use Rattle.shop_tree.specs.inner.StateWalkers.{stage_of, AreHeld}
 use Rattle.shop_tree.specs.inner.Walkers.{Stage}
-use Rattle.shop_tree.proofs.ExpandLemmas.{HasGone, ends_closed, follows_kept}
+use Rattle.shop_tree.proofs.ExpandLemmas.{HasGone, follows_kept}
 use Rattle.shop_tree.proofs.HeldLemmas.{rest_waits, states_rest}
 use Rattle.shop_tree.proofs.ListedLemmas.{alone_closed, alone_fits, alone_kept, alone_own, few_closed, one_listed}
 use Rattle.shop_tree.proofs.StateLemmas.{held_on}
@@ -52,6 +53,66 @@ overflow_add-closed g c =
     in let limits = (g.met.D.Dispatching.state_is_within_limits d word self.states.current.value at.state).jobs
     in omega arith
 
+pub close-requires-clause-word : goal.close-requires-clause-word
+close-requires-clause-word g c =
+    let self = c.args.self.now
+    in let d = self.states.dispatcher.now
+    in let shop = g.D.Dispatching.shop d
+    in let word = self.path.items
+    in let of = g.D.Dispatching.IsCandidate d word
+    in let cand = c.index-candidate.result.now
+    in let one = one_listed self.candidates.items cand _ c.requires.one c.index-candidate.ensures
+    in let at = c.requires.at
+    in subst (λ (x : Shop). IsWord x word) self.same_shop
+    (g.met.D.Dispatching.state_is_of_word d word self.states.current.value at.state)
+
+pub close-requires-clause-limits : goal.close-requires-clause-limits
+close-requires-clause-limits g c =
+    let self = c.args.self.now
+    in let d = self.states.dispatcher.now
+    in let shop = g.D.Dispatching.shop d
+    in let word = self.path.items
+    in let of = g.D.Dispatching.IsCandidate d word
+    in let cand = c.index-candidate.result.now
+    in let one = one_listed self.candidates.items cand _ c.requires.one c.index-candidate.ensures
+    in let at = c.requires.at
+    in subst IsWithinLimits self.same_shop
+    (g.met.D.Dispatching.state_is_within_limits d word self.states.current.value at.state)
+
+pub close-requires-clause-closed : goal.close-requires-clause-closed
+close-requires-clause-closed g c =
+    let self = c.args.self.now
+    in let d = self.states.dispatcher.now
+    in let shop = g.D.Dispatching.shop d
+    in let word = self.path.items
+    in let of = g.D.Dispatching.IsCandidate d word
+    in let cand = c.index-candidate.result.now
+    in let one = one_listed self.candidates.items cand _ c.requires.one c.index-candidate.ensures
+    in let at = c.requires.at
+    in let bound = at.bound ∙ ap (λ (x : Shop). lb x word) (sym self.same_shop)
+    in let own = alone_own shop word self.progress.best of cand self.candidates.items c.args.closed one
+    c.requires.candidates
+    in let high = told_high self.progress.best (lb shop (word ++ cand.job ∷ [])) c.advance.result c.in_default.is
+    (c.advance.ensures.told word at.state own bound)
+    in subst (λ (x : Shop). AreChildren x self.progress.best word [] (c.args.closed + 1)) self.same_shop
+    (alone_closed shop word self.progress.best of cand self.candidates.items c.args.closed one c.requires.candidates high)
+
+pub close-requires-clause-states : goal.close-requires-clause-states
+close-requires-clause-states g c =
+    let self = c.args.self.now
+    in let d = self.states.dispatcher.now
+    in let shop = g.D.Dispatching.shop d
+    in let word = self.path.items
+    in let of = g.D.Dispatching.IsCandidate d word
+    in let cand = c.index-candidate.result.now
+    in let one = one_listed self.candidates.items cand _ c.requires.one c.index-candidate.ensures
+    in let at = c.requires.at
+    in record {
+      held = subst (λ x. AreHeld (g.D.Dispatching.IsStateOf x) word self.stack.items) (sym c.advance.ensures.dispatcher)
+          at.states.held;
+      states = c.advance.ensures.sound;
+    }
+
 pub put_rest-requires-clause-depth : goal.put_rest-requires-clause-depth
 put_rest-requires-clause-depth g c =
     let self = c.args.self.now
@@ -81,72 +142,6 @@ put_rest-requires-clause-count g c =
     in let limits = (g.met.D.Dispatching.state_is_within_limits d word self.states.current.value at.state).jobs
     in omega arith
 
-pub returns-in_default : goal.returns-in_default
-returns-in_default g c =
-    let self = c.args.self.now
-    in let d = self.states.dispatcher.now
-    in let shop = g.D.Dispatching.shop d
-    in let word = self.path.items
-    in let of = g.D.Dispatching.IsCandidate d word
-    in let cand = c.index-candidate.result.now
-    in let one = one_listed self.candidates.items cand _ c.requires.one c.index-candidate.ensures
-    in let at = c.requires.at
-    in let bound = at.bound ∙ ap (λ (x : Shop). lb x word) (sym self.same_shop)
-    in let own = alone_own shop word self.progress.best of cand self.candidates.items c.args.closed one
-    c.requires.candidates
-    in let is_word = g.met.D.Dispatching.state_is_of_word d word self.states.current.value at.state
-    in let high = told_high self.progress.best (lb shop (word ++ cand.job ∷ [])) c.advance.result c.in_default.is
-    (c.advance.ensures.told word at.state own bound)
-    in let kids : AreChildren self.progress.instance.now self.progress.best word [] (c.args.closed + 1) =
-    subst (λ (x : Shop). AreChildren x self.progress.best word [] (c.args.closed + 1)) self.same_shop
-    (alone_closed shop word self.progress.best of cand self.candidates.items c.args.closed one c.requires.candidates high)
-    in let short : length word < operation_count self.progress.instance.now = (let a = c.requires.short
-    in let b = self.progress.counted in omega arith)
-    in let new = c.put_rest.new.stack.items
-    in let depth : c.len.result ≡ length word = (let a = c.len.ensures in let b = self.path.ok.0 in omega arith)
-    in let put = c.in_ok-put_rest.ensures
-    in (
-      ends_closed (stage_of self) (c.args.closed + 1) (waiting_in new)
-          (subst (λ (x : Shop). IsWord x word) self.same_shop is_word) short kids at.in_order
-          (rest_waits self.stack.items new word c.len.result (c.args.closed + 1) depth put),
-      record {
-        held = subst (λ x. AreHeld (g.D.Dispatching.IsStateOf x) word new) (sym c.advance.ensures.dispatcher)
-            (subst (λ hs. AreHeld (g.D.Dispatching.IsStateOf d) word hs) (sym put)
-            (states_rest self.stack.items (g.D.Dispatching.IsStateOf d) word c.len.result (c.args.closed + 1)
-            at.states.held));
-        states = c.advance.ensures.sound;
-      },
-    )
-
-pub put_rest-requires-2-clause-depth : goal.put_rest-requires-2-clause-depth
-put_rest-requires-2-clause-depth g c =
-    let self = c.args.self.now
-    in let d = self.states.dispatcher.now
-    in let shop = g.D.Dispatching.shop d
-    in let word = self.path.items
-    in let of = g.D.Dispatching.IsCandidate d word
-    in let cand = c.index-candidate.result.now
-    in let one = one_listed self.candidates.items cand _ c.requires.one c.index-candidate.ensures
-    in let at = c.requires.at
-    in let a = word_length shop word
-    (g.met.D.Dispatching.state_is_within_limits d word self.states.current.value at.state)
-    (g.met.D.Dispatching.state_is_of_word d word self.states.current.value at.state)
-    in let b = c.len-2.ensures in let e = self.path.ok.0 in omega arith
-
-pub put_rest-requires-2-clause-count : goal.put_rest-requires-2-clause-count
-put_rest-requires-2-clause-count g c =
-    let self = c.args.self.now
-    in let d = self.states.dispatcher.now
-    in let shop = g.D.Dispatching.shop d
-    in let word = self.path.items
-    in let of = g.D.Dispatching.IsCandidate d word
-    in let cand = c.index-candidate.result.now
-    in let one = one_listed self.candidates.items cand _ c.requires.one c.index-candidate.ensures
-    in let at = c.requires.at
-    in let few = few_closed shop word self.progress.best of c.requires.candidates
-    in let limits = (g.met.D.Dispatching.state_is_within_limits d word self.states.current.value at.state).jobs
-    in omega arith
-
 pub take_job-requires-clause-held : goal.take_job-requires-clause-held
 take_job-requires-clause-held g c =
     let self = c.args.self.now
@@ -158,12 +153,12 @@ take_job-requires-clause-held g c =
     in let one = one_listed self.candidates.items cand _ c.requires.one c.index-candidate.ensures
     in let at = c.requires.at
     in let is = g.D.Dispatching.IsStateOf d
-    in let new = c.put_rest-2.new.stack.items
+    in let new = c.put_rest.new.stack.items
     in let longer = held_on is self.progress.instance.now self.progress.best word cand.job self.stack.items at.in_order
     at.states.held
     in subst (λ x. AreHeld (g.D.Dispatching.IsStateOf x) (word ++ cand.job ∷ []) new) (sym c.advance.ensures.dispatcher)
-    (subst (λ hs. AreHeld is (word ++ cand.job ∷ []) hs) (sym c.in_ok-put_rest-2.ensures)
-    (states_rest self.stack.items is (word ++ cand.job ∷ []) c.len-2.result c.args.closed longer))
+    (subst (λ hs. AreHeld is (word ++ cand.job ∷ []) hs) (sym c.in_ok-put_rest.ensures)
+    (states_rest self.stack.items is (word ++ cand.job ∷ []) c.len.result c.args.closed longer))
 
 pub take_job-requires-clause-state : goal.take_job-requires-clause-state
 take_job-requires-clause-state g c =
@@ -205,12 +200,12 @@ returns g c =
     is_word refl refl low.0 low.1)
     in let short : length word < operation_count self.progress.instance.now = (let a = c.requires.short
     in let b = self.progress.counted in omega arith)
-    in let new = c.put_rest-2.new.stack.items
-    in let depth : c.len-2.result ≡ length word = (let a = c.len-2.ensures in let b = self.path.ok.0 in omega arith)
+    in let new = c.put_rest.new.stack.items
+    in let depth : c.len.result ≡ length word = (let a = c.len.ensures in let b = self.path.ok.0 in omega arith)
     in let gone = follows_kept (stage_of self) o c.args.closed (waiting_in new)
     (subst (λ (x : Shop). IsWord x word) self.same_shop is_word) short kids refl
     (low.0 ∙ ap (λ (x : Shop). lb x (word ++ cand.job ∷ [])) self.same_shop) low.1 c.requires.some at.in_order
-    (rest_waits self.stack.items new word c.len-2.result c.args.closed depth c.in_ok-put_rest-2.ensures)
+    (rest_waits self.stack.items new word c.len.result c.args.closed depth c.in_ok-put_rest.ensures)
     in reached self c.take_job.new.self c.in-Some.bound
     (subst (λ (t : Stage). HasGone (stage_of self) t c.in-Some.bound) (sym c.take_job.ensures.stage) gone)
     c.take_job.ensures.states c.take_job.ensures.state
