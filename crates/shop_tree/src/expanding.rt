@@ -93,8 +93,8 @@ impl<'l, 'a, D: Dispatching> Walker<'l, 'a, D> {
         put_rest(&mut self.stack, self.path.len(), count)
     }
 
-    /// Goes on from the word to the child by the one candidate, and tells its bound, while so many others are closed, and
-    /// wait as such. Where this one is closed too, the walk has nowhere to go.
+    /// Goes on from the word to the child by the one candidate, and tells its bound, while so many others are closed,
+    /// and wait as such. Where this one is closed too, the walk has nowhere to go.
     #[inline(always)]
     fn follow_kept(&mut self, bound: u64, closed: usize) -> Result<Option<u64>, AllocError>
         requires one { length self.old.candidates.items ≡ 1 }

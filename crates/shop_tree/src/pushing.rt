@@ -27,8 +27,8 @@ pub(crate) fn put_rest<S: Drop>(
     Ok(())
 }
 
-/// Below the open children of what these entries make lie `known` closed ones, at this place if there are any. They come
-/// to be `count`.
+/// Below the open children of what these entries make lie `known` closed ones, at this place if there are any. They
+/// come to be `count`.
 pub(crate) fn raise_rest<S: Drop>(
     stack: &mut Vec<Held<S>>,
     place: usize,
