@@ -7,7 +7,7 @@ use Rattle.std.proofs.lemmas.List.{length-map, length-reverse, length-append, dr
 use Rattle.shop_model.specs.Shop.{Shop, operation_count}
 use Rattle.shop_model.specs.Word.{IsWord}
 use Rattle.shop_heads.specs.Bound.{lb}
-use Rattle.shop_nodes.specs.Branching.{branch}
+use Rattle.shop_nodes.specs.Branching.{branch, conflict, sort_by}
 use Rattle.shop_nodes.specs.Halts.{word_at, last_of, IsClosed, IsWaiting}
 use Rattle.shop_tree.specs.inner.Opens.{open_words, IsAt, AreChildren}
 use Rattle.shop_tree.specs.inner.Pushing.{with_opens, with_rest}
@@ -16,7 +16,7 @@ use Rattle.shop_nodes.specs.declared.halts.Open.{Open}
 use Rattle.shop_nodes.specs.declared.halts.Waiting.{Waiting}
 use Rattle.shop_nodes.specs.declared.halts.Waiting.TheVariants.{Child, Rest}
 use Rattle.shop_tree.proofs.OpenLemmas.{opens-words, all-opens}
-use Rattle.shop_nodes.proofs.WalkSteps.{branch_few}
+use Rattle.shop_nodes.proofs.WalkSteps.{branch_few, length-insert_by}
 
 -- the last elements are the second part
 last_part : {A : Type 0} (xs ys : List A) → last_of (length ys) (xs ++ ys) ≡ ys
@@ -96,3 +96,16 @@ few-children shop limit word opens zero depth old kids =
 few-children shop limit word opens (suc n) depth old kids =
     let a = length-with (old ++ Rest depth (suc n) ∷ []) opens in let b = length-append old (Rest depth (suc n) ∷ [])
     in let c = few_open shop limit word opens (suc n) kids in omega arith
+
+pub long_rest : (old : List Waiting) (depth n : ℕ) → length (with_rest old depth n) ≤ length old + 1
+long_rest old depth zero = omega arith
+long_rest old depth (suc n) = let a = length-append old (Rest depth (suc n) ∷ []) in omega arith
+
+length-sort_by : {A : Type 0} (key : A → ℕ) (xs : List A) → length (sort_by key xs) ≡ length xs
+length-sort_by key [] = refl
+length-sort_by key (x ∷ xs) = length-insert_by key x (sort_by key xs) ∙ ap suc (length-sort_by key xs)
+
+pub conflict_few : (shop : Shop) (word : List ℕ) → length (conflict shop word) ≤ length shop.jobs
+conflict_few shop word =
+    let a = branch_few shop word in let b = length-sort_by (lb shop) (map (λ j. word ++ j ∷ []) (conflict shop word))
+    in let d = length-map (conflict shop word) (λ j. word ++ j ∷ []) in omega arith

@@ -5,6 +5,7 @@ mod AddLemmas
 mod TurnLemmas
 mod ExpandLemmas
 mod PushLemmas
+mod ListedLemmas
 mod HeldLemmas
 mod TrialLemmas
 mod WalkerLemmas

@@ -1,17 +1,13 @@
 -- States that wait, as a walk goes on to another word.
-use Rattle.std.proofs.Common.{◌≡◌, ℕ, ◌≤◌, Option, None, List, [], ◌∷◌, ◌++◌, All, length, map, take}
-use Rattle.std.proofs.Common.{get_or, set, refl, sym, ◌∙◌, ap, subst, arith}
+use Rattle.std.proofs.Common.{◌≡◌, ℕ, Option, None, List, [], ◌∷◌, ◌++◌, length, take}
+use Rattle.std.proofs.Common.{get_or, set, refl, sym, ◌∙◌, ap, subst}
 use Rattle.std.specs.Global.{Box}
 use Rattle.std.specs.List.{AllByRecursion}
 use Rattle.std.proofs.Math.Seq.{map-set_same, take-append_seam, take-length}
 use Rattle.std.proofs.lemmas.List.{map-append}
 use Rattle.std.proofs.lemmas.List.Elements.{All-append, All-set, All-from_recursion, recursion_from_All}
 use Rattle.shop_model.specs.Shop.{Shop}
-use Rattle.shop_heads.specs.Bound.{lb}
-use Rattle.shop_desk.specs.declared.dispatching.Candidate.{Candidate}
 use Rattle.shop_desk.specs.declared.dispatching.Dispatching.{Ghosts}
-use Rattle.shop_desk.specs.States.{HasSoleCandidate}
-use Rattle.shop_nodes.specs.Branching.{conflict}
 use Rattle.shop_tree.specs.declared.held.Held.{Held}
 use Rattle.shop_nodes.specs.declared.halts.Open.{Open}
 use Rattle.shop_nodes.specs.declared.halts.Waiting.{Waiting}
@@ -19,7 +15,7 @@ use Rattle.shop_nodes.specs.declared.halts.Waiting.TheVariants.{Child, Rest}
 use Rattle.shop_tree.specs.inner.Held.{IsHeld, IsHeldAs, IsHeldOf, waiting_in}
 use Rattle.shop_nodes.specs.Halts.{word_at, IsWaiting}
 use Rattle.shop_tree.specs.inner.Opens.{AreWaiting, IsUpTo}
-use Rattle.shop_tree.specs.inner.StateWalkers.{AreCandidates, AreHeld}
+use Rattle.shop_tree.specs.inner.StateWalkers.{AreHeld}
 use Rattle.shop_tree.proofs.ListLemmas.{all_weaker}
 use Rattle.shop_tree.proofs.OpenLemmas.{begins_alike, begins-child, deep, popped, rising-below}
 
@@ -79,38 +75,11 @@ pub waiting_pushed : {S : Type 0} (hs new : List (Held S)) (h : Held S) → new 
     → waiting_in new ≡ waiting_in hs ++ h.waiting ∷ []
 waiting_pushed hs new h put = ap waiting_in put ∙ map-append (λ x. x.waiting) hs (h ∷ [])
 
--- the candidates of a word, gathered by the same dispatcher
-pub gathered : {D S C : Type 0} (g : Ghosts D S C) (d e : D) (word : List ℕ) (cs : List Candidate) → e ≡ d
-    → map (λ c. c.job) cs ≡ conflict (g.shop d) word → All (g.IsCandidate d word) cs
-    → All (λ c. c.own ≤ lb (g.shop d) (word ++ c.job ∷ [])) cs
-    → AreCandidates (g.shop e) (g.IsCandidate e) word cs
-gathered g d e word cs same jobs are lower =
-    subst (λ x. AreCandidates (g.shop x) (g.IsCandidate x) word cs) (sym same)
-    (record { jobs = jobs; are = are; lower = lower })
-
-pub sole_job : (cs : List Candidate) (d : Candidate) → length cs ≡ 1 → map (λ c. c.job) cs ≡ (get_or cs 0 d).job ∷ []
-sole_job [] d long = absurd (omega arith)
-sole_job (c ∷ []) d long = refl
-sole_job (c ∷ e ∷ cs) d long = absurd (omega arith)
-
--- one candidate alone
-pub alone_in : (shop : Shop) (word : List ℕ) (cs : List Candidate) (c d : Candidate)
-    → map (λ x. x.job) cs ≡ conflict shop word → length cs ≡ 1 → c ≡ get_or cs 0 d → conflict shop word ≡ c.job ∷ []
-alone_in shop word cs c d jobs long is = sym jobs
-    ∙ (sole_job cs d long ∙ ap (λ (x : Candidate). x.job ∷ []) (sym is))
-
 -- the same state at hand once more
 module _ {D S C : Type 0} (g : Ghosts D S C) (d e : D) (word : List ℕ) (now new : S) (same : e ≡ d) (copy : new ≡ now)
     (state : g.IsStateOf d word now) where
   pub same_state : g.IsStateOf e word new
   same_state = subst (λ x. g.IsStateOf x word new) (sym same) (subst (λ x. g.IsStateOf d word x) (sym copy) state)
-
-  pub same_alone : (job : ℕ) → conflict (g.shop d) word ≡ job ∷ [] → conflict (g.shop e) word ≡ job ∷ []
-  same_alone job alone = ap (λ x. conflict (g.shop x) word) same ∙ alone
-
-  pub sole_candidate : (job : ℕ) → conflict (g.shop d) word ≡ job ∷ []
-      → HasSoleCandidate (g.shop e) (λ w. g.IsStateOf e w new) job
-  sole_candidate job alone = record { word = word; is = same_state; sole = same_alone job alone }
 
 -- what waits, without states, once an entry lost its own
 pub waiting_stripped : {S : Type 0} (hs : List (Held S)) (i : ℕ) (d h : Held S) (state : Option (Box S))

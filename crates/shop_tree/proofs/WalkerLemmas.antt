@@ -7,15 +7,17 @@ use Rattle.std.specs.List.{AllByRecursion, fold}
 use Rattle.std.proofs.lemmas.Bool.{cases_lt}
 use Rattle.std.proofs.lemmas.List.{length_push, length-drop, drop_all, drop-drop}
 use Rattle.std.proofs.lemmas.List.Sums.{fold-append}
-use Rattle.shop_model.specs.Shop.{Shop}
+use Rattle.shop_model.specs.Shop.{Shop, operation_count}
+use Rattle.shop_model.specs.Word.{IsWord}
 use Rattle.shop_heads.specs.Bound.{lb}
 use Rattle.shop_nodes.specs.Branching.{branch}
 use Rattle.shop_nodes.specs.Nodes.{words_of}
 use Rattle.shop_nodes.specs.Pieces.{walk_told}
 use Rattle.shop_nodes.specs.Walking.{Walk, walk, sheet}
 use Rattle.shop_nodes.specs.Halts.{word_at, last_of, waiting_words, stack_words, IsClosed}
+use Rattle.shop_tree.specs.inner.Opens.{AreChildren}
 use Rattle.shop_tree.specs.inner.Walkers.{Stage, HasExpanded, HasWalked, HasWalkedUpTo, IsInOrder, IsTurn}
-use Rattle.shop_tree.specs.inner.Walkers.{on_top, node_walk, stack_walk, turns_left}
+use Rattle.shop_tree.specs.inner.Walkers.{on_top, node_walk, spent_one, stack_walk, turns_left}
 use Rattle.shop_tree.specs.inner.Searching.{walk_stack, opening_walk, entered}
 use Rattle.shop_nodes.specs.declared.nodes.Node.{Node}
 use Rattle.shop_nodes.specs.declared.halts.Open.{Open}
@@ -24,7 +26,7 @@ use Rattle.shop_nodes.specs.declared.halts.Waiting.TheVariants.{Child, Rest}
 use Rattle.shop_nodes.proofs.HighWalks.{high-taken, none-walked}
 use Rattle.shop_tree.proofs.OpenLemmas.{popped, replaced, walk-top}
 use Rattle.shop_tree.proofs.TurnLemmas.{below_waits, child_walks}
-use Rattle.shop_tree.proofs.ExpandLemmas.{spent_one, enters, cuts}
+use Rattle.shop_tree.proofs.ExpandLemmas.{ends_closed, enters, cuts}
 
 -- turns over plain numbers
 one_spent : (b jobs jobs' new rest one : ℕ) → 0 < b → jobs' ≡ jobs → one ≡ rest + 1
@@ -165,6 +167,25 @@ turn_halted s depth count on some few =
           (fewer_closed s.shop s.walk.best s.word depth count b few p.own);
       fewer = none_spent b (length s.shop.jobs) (length (s.stack ++ rest ∷ [])) (length (s.stack ++ Rest depth count ∷ []))
           some (length_push s.stack rest ∙ sym (length_push s.stack (Rest depth count)));
+      shop = refl;
+      spent = omega arith;
+    }
+
+-- the word has closed children alone, and these are counted
+pub ends_counted : (s : Stage) (n : ℕ) → IsWord s.shop s.word → length s.word < operation_count s.shop
+    → AreChildren s.shop s.walk.best s.word [] n → IsInOrder s → n ≤ s.walk.budget
+    → HasExpanded s (record s { walk = record s.walk { budget = s.walk.budget - n } })
+ends_counted s zero is short kids ordered some =
+    let same : s.walk.budget ≡ s.walk.budget - 0 = omega arith
+    in subst (λ (b : ℕ). HasExpanded s (record s { walk = record s.walk { budget = b } })) same
+    (ends_closed s 0 s.stack is short kids ordered refl)
+ends_counted s (suc n) is short kids ordered some =
+    let e = ends_closed s (suc n) (s.stack ++ Rest (length s.word) (suc n) ∷ []) is short kids ordered refl
+    in let t = turn_counted s (length s.word) (suc n) e.in_order some
+    in record {
+      walk = t.walk ∙ e.walk;
+      in_order = t.in_order;
+      fewer = (let a = t.fewer in let b = e.fewer in omega arith);
       shop = refl;
       spent = omega arith;
     }

@@ -1,6 +1,7 @@
 // The search of one piece: a walk over states of words.
 #![tactic(auto)]
 
+mod expanding;
 mod held;
 mod progress;
 mod pushing;

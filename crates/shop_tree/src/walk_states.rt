@@ -1,8 +1,9 @@
 // The states of a walk.
-ghost use Rattle.std.specs.Prelude.{◌≡◌, ℕ, ◌≤◌, false, List, [], ◌∷◌, ◌++◌, All, IfOk, OnOk, OnSome};
-ghost use Rattle.std.specs.Prelude.{length, map, vec_capacity};
+ghost use Rattle.std.specs.Prelude.{◌≡◌, ℕ, ◌≤◌, false, List, [], ◌∷◌, ◌++◌, IfOk, OnOk, OnSome};
+ghost use Rattle.std.specs.Prelude.{length, vec_capacity};
 ghost use Rattle.shop_model.specs.Word.{IsWord};
 ghost use Rattle.shop_heads.specs.Bound.{lb};
+ghost use Rattle.shop_desk.specs.States.{ListsBelow};
 ghost use Rattle.shop_desk.specs.States.{CanDispatch, HasSoleCandidate, IsOfSomeWord};
 ghost use Rattle.shop_desk.specs.States.{TellsBoundBelow};
 ghost use Rattle.shop_nodes.specs.Branching.{conflict};
@@ -11,7 +12,7 @@ ghost use Rattle.shop_tree.specs.inner.Slots.{HoldSlots};
 ghost use Rattle.shop_tree.specs.inner.Tried.{HasPutChildren};
 
 use crate::held::Held;
-use crate::putting::{first_below, put};
+use crate::putting::put;
 use shop_desk::{Candidate, Dispatching};
 use shop_nodes::Open;
 use std::alloc::{AllocError, Global};
@@ -62,27 +63,24 @@ impl<'l, D: Dispatching> WalkStates<'l, D> {
             .fill(&mut self.scratch, path, &mut self.current);
     }
 
-    /// Replaces the list with the conflict set of the current state's word, in ascending order. It has room for all
-    /// jobs.
-    pub(crate) fn gather(&mut self, candidates: &mut Vec<Candidate>)
+    /// Replaces the list with those of the conflict set of the current state's word, in ascending order, whose bounds by
+    /// their own machine are below the limit, and tells how many others there are. It has room for all jobs.
+    #[inline(always)]
+    pub(crate) fn gather(&mut self, limit: u64, candidates: &mut Vec<Candidate>) -> usize
         requires sound { HoldSlots D.IsSlot D.IsScratch self.old }
         requires state { IsOfSomeWord
             (λ w. D.IsStateOf self.old.dispatcher.now w self.old.current.value) }
         requires room { length (D.shop self.old.dispatcher.now).jobs ≤ vec_capacity candidates.old }
         ensures sound { HoldSlots D.IsSlot D.IsScratch self.new }
-        ensures jobs { (w : List ℕ) → D.IsStateOf self.old.dispatcher.now w self.old.current.value
-            → map (λ c. c.job) candidates.new.items ≡ conflict (D.shop self.old.dispatcher.now) w }
-        ensures are { (w : List ℕ) → D.IsStateOf self.old.dispatcher.now w self.old.current.value
-            → All (λ c. D.IsCandidate self.old.dispatcher.now w c) candidates.new.items }
-        ensures lower { (w : List ℕ) → D.IsStateOf self.old.dispatcher.now w self.old.current.value
-            → All (λ c. c.own ≤ lb (D.shop self.old.dispatcher.now) (w ++ c.job ∷ []))
-            candidates.new.items }
+        ensures listed { (w : List ℕ) → D.IsStateOf self.old.dispatcher.now w self.old.current.value
+            → ListsBelow (D.shop self.old.dispatcher.now) w limit (D.IsCandidate self.old.dispatcher.now w)
+            (conflict (D.shop self.old.dispatcher.now) w) candidates.new.items result }
         ensures room { vec_capacity candidates.old ≤ vec_capacity candidates.new }
         ensures current { self.new.current.value ≡ self.old.current.value }
         ensures dispatcher { self.new.dispatcher.now ≡ self.old.dispatcher.now }
     {
         self.dispatcher
-            .gather_candidates(&mut self.scratch, &self.current, candidates);
+            .gather_candidates(&mut self.scratch, &self.current, limit, candidates)
     }
 
     /// Dispatches the one job of the conflict set in the current state.
@@ -97,6 +95,33 @@ impl<'l, D: Dispatching> WalkStates<'l, D> {
         ensures dispatcher { self.new.dispatcher.now ≡ self.old.dispatcher.now }
     {
         self.dispatcher.strike(&mut self.current, job);
+    }
+
+    /// Dispatches a candidate in the current state, and tells the bound of its child if that is below the limit; else
+    /// the current state is that of no word. The bound of the current state's word is at hand.
+    #[inline(always)]
+    pub(crate) fn advance(&mut self, candidate: Candidate, bound: u64, limit: u64) -> Option<u64>
+        requires sound { HoldSlots D.IsSlot D.IsScratch self.old }
+        requires can { CanDispatch (D.shop self.old.dispatcher.now)
+            (λ w. D.IsStateOf self.old.dispatcher.now w self.old.current.value
+            × D.IsCandidate self.old.dispatcher.now w candidate) candidate.job bound }
+        ensures sound { HoldSlots D.IsSlot D.IsScratch self.new }
+        ensures told { (w : List ℕ) → D.IsStateOf self.old.dispatcher.now w self.old.current.value
+            → D.IsCandidate self.old.dispatcher.now w candidate → bound ≡ lb (D.shop self.old.dispatcher.now) w
+            → TellsBoundBelow limit (lb (D.shop self.old.dispatcher.now) (w ++ candidate.job ∷ [])) result }
+        ensures state { (w : List ℕ) → D.IsStateOf self.old.dispatcher.now w self.old.current.value
+            → D.IsCandidate self.old.dispatcher.now w candidate
+            → OnSome result (D.IsStateOf self.old.dispatcher.now (w ++ candidate.job ∷ [])
+            self.new.current.value) }
+        ensures dispatcher { self.new.dispatcher.now ≡ self.old.dispatcher.now }
+    {
+        self.dispatcher.dispatch_below(
+            &mut self.scratch,
+            &mut self.current,
+            candidate,
+            bound,
+            limit,
+        )
     }
 
     /// How many states are at hand for children.
@@ -143,6 +168,7 @@ impl<'l, D: Dispatching> WalkStates<'l, D> {
     }
 
     /// A spare state, or a new one where one more may be made.
+    #[inline(always)]
     fn spare_state(&mut self, alloc: Global) -> Result<Option<Box<D::State>>, AllocError>
         requires sound { HoldSlots D.IsSlot D.IsScratch self.old }
         ensures sound { OnOk result (HoldSlots D.IsSlot D.IsScratch self.new) }
@@ -154,6 +180,19 @@ impl<'l, D: Dispatching> WalkStates<'l, D> {
         if let Some(state) = self.spare.pop() {
             return Ok(Some(state));
         }
+        self.new_state(alloc)
+    }
+
+    /// A new state, where one more may be made.
+    #[inline(never)]
+    fn new_state(&mut self, alloc: Global) -> Result<Option<Box<D::State>>, AllocError>
+        requires sound { HoldSlots D.IsSlot D.IsScratch self.old }
+        ensures sound { OnOk result (HoldSlots D.IsSlot D.IsScratch self.new) }
+        ensures slot { IfOk result (IsHeldOf (λ _ s. D.IsSlot self.old.dispatcher.now s) []) }
+        ensures current { self.new.current.value ≡ self.old.current.value }
+        ensures trial { self.new.trial.value ≡ self.old.trial.value }
+        ensures dispatcher { self.new.dispatcher.now ≡ self.old.dispatcher.now }
+    {
         if self.unmade == 0 {
             return Ok(None);
         }
@@ -222,12 +261,14 @@ impl<'l, D: Dispatching> WalkStates<'l, D> {
 
     /// Puts the children of the current state's word with bounds below the limit on the stack, by bound, then by job,
     /// the first one on top, each with its state where there is room for one; and tells how many others there are. The
-    /// word's bound and its candidates are at hand. Fails with `AllocError` if memory runs out.
+    /// word's bound and its candidates are at hand, beside which so many others are closed. Fails with `AllocError` if
+    /// memory runs out.
     pub(crate) fn try_candidates(
         &mut self,
         alloc: Global,
         stack: &mut Vec<Held<D::State>>,
         candidates: &[Candidate],
+        closed: usize,
         word: &[u16],
         bound: u64,
         limit: u64,
@@ -235,27 +276,21 @@ impl<'l, D: Dispatching> WalkStates<'l, D> {
         requires sound { HoldSlots D.IsSlot D.IsScratch self.old }
         requires state { D.IsStateOf self.old.dispatcher.now word.now self.old.current.value }
         requires bound { bound ≡ lb (D.shop self.old.dispatcher.now) word.now }
-        requires jobs { map (λ c. c.job) candidates.now
-            ≡ conflict (D.shop self.old.dispatcher.now) word.now }
-        requires are { All (λ c. D.IsCandidate self.old.dispatcher.now word.now c) candidates.now }
-        requires lower { All (λ c. c.own
-            ≤ lb (D.shop self.old.dispatcher.now) (word.now ++ c.job ∷ [])) candidates.now }
+        requires listed { ListsBelow (D.shop self.old.dispatcher.now) word.now limit
+            (D.IsCandidate self.old.dispatcher.now word.now)
+            (conflict (D.shop self.old.dispatcher.now) word.now) candidates.now closed }
         ensures sound { OnOk result (HoldSlots D.IsSlot D.IsScratch self.new) }
         ensures children { IfOk result (λ n. HasPutChildren (D.IsStateOf self.old.dispatcher.now)
             (D.shop self.old.dispatcher.now) limit word.now stack.old.items stack.new.items n) }
+        ensures more { IfOk result (λ n. closed ≤ n) }
         ensures dispatcher { self.new.dispatcher.now ≡ self.old.dispatcher.now }
     {
         let (from, depth) = (stack.len(), word.len() as u32);
-        let first = first_below(candidates, limit);
-        let mut others = 0;
+        let mut others = closed;
         // The last job first: of equal bounds the lower job then comes to lie above.
         for index in (0..candidates.len()).rev() {
             let candidate = candidates[index];
-            if candidate.own >= limit {
-                others += 1;
-                continue;
-            }
-            let is_last = index == first;
+            let is_last = index == 0;
             let Some(bound) = self.try_candidate(candidate, is_last, bound, limit) else {
                 others += 1;
                 continue;

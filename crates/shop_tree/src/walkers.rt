@@ -1,16 +1,14 @@
 // The walk of the nodes of pieces, over states that are kept from one to the next.
-ghost use Rattle.std.specs.Prelude.{◌≡◌, ◌≤◌, ◌<◌, ◌+◌, ◌^◌, length, vec_capacity, [], OnOk, IfOk, IsTrue};
+ghost use Rattle.std.specs.Prelude.{◌≡◌, ◌≤◌, ◌<◌, ◌^◌, length, vec_capacity, [], OnOk, IfOk};
 ghost use Rattle.shop_model.specs.Shop.{operation_count};
 ghost use Rattle.shop_nodes.specs.Nodes.{IsNode, AreNodes};
 ghost use Rattle.shop_nodes.specs.Sheets.{IsSheetOf, KeepsTables};
-ghost use Rattle.shop_heads.specs.Bound.{lb};
 
 use crate::held::{Held, copy_waiting};
 use crate::progress::Progress;
-use crate::pushing::put_rest;
 use crate::walk_states::WalkStates;
 use shop_desk::{Candidate, Dispatching};
-use shop_model::{Instance, SharedWord, Word};
+use shop_model::Instance;
 use shop_nodes::{Halt, Left, Node, Open, Piece, Sheet, Waiting};
 use std::alloc::{AllocError, Global};
 use std::sync::ArcSlice;
@@ -25,7 +23,7 @@ pub(crate) struct Walker<'l, 'a, D: Dispatching> {
     pub(crate) stack: Vec<Held<D::State>>,
     pub(crate) candidates: Vec<Candidate>,
     /// what waits below this place of the stack has no state
-    stripped: usize,
+    pub(crate) stripped: usize,
     pub ghost same_shop: { D.shop states.dispatcher.now ≡ progress.instance.now },
     pub ghost room: { length progress.instance.now.jobs ≤ vec_capacity candidates },
     pub ghost path_room: { operation_count progress.instance.now ≤ vec_capacity path },
@@ -36,11 +34,9 @@ impl<'l, 'a, D: Dispatching> Walker<'l, 'a, D> {
     ghost use Rattle.shop_tree.specs.inner.Held.{IsHeldOf};
     ghost use Rattle.shop_nodes.specs.Halts.{halted_words, AreHalted};
     ghost use Rattle.shop_nodes.specs.Halts.{stack_words, word_at};
-    ghost use Rattle.shop_tree.specs.inner.StateWalkers.{stage_of, HasCandidates, HasStates};
-    ghost use Rattle.shop_tree.specs.inner.StateWalkers.{IsAtState, StandsAs};
+    ghost use Rattle.shop_tree.specs.inner.StateWalkers.{stage_of, HasStates};
     ghost use Rattle.shop_tree.specs.inner.Walkers.{on_top, stack_walk, node_walk, IsInOrder};
-    ghost use Rattle.shop_tree.specs.inner.Walkers.{HasBranched, HasExpanded, HasWalked};
-    ghost use Rattle.shop_tree.specs.inner.Walkers.{HasFollowed, HasWalkedUpTo, IsTurn};
+    ghost use Rattle.shop_tree.specs.inner.Walkers.{HasWalked, HasWalkedUpTo, IsTurn};
 
     /// For pieces of this instance, the dispatcher's, with at most so many states for children that wait. Fails with
     /// `AllocError` if memory runs out.
@@ -62,114 +58,6 @@ impl<'l, 'a, D: Dispatching> Walker<'l, 'a, D> {
             candidates: Vec::with_capacity(alloc, instance.jobs())?,
             stripped: 0,
         })
-    }
-
-    /// Whether there is one child alone, and the budget lasts for it. The candidates are at hand.
-    fn goes_on(&self) -> bool
-        ensures { IsTrue result
-            → (length self.now.candidates.items ≡ 1) × (0 < self.now.progress.budget) }
-    {
-        self.candidates.len() == 1 && self.progress.budget > 0
-    }
-
-    /// Goes on from the word, which was taken and has this bound, to its child and on, as long as the budget lasts and
-    /// there is one child alone: this has the same bound. Where the word that it comes to isn't full, the candidates
-    /// are at hand.
-    fn follow_sole(&mut self, bound: u64)
-        requires bound { bound ≡ lb self.old.progress.instance.now self.old.path.items }
-        requires below { bound < self.old.progress.best }
-        requires in_order { IsInOrder (stage_of self.old) }
-        requires states { HasStates self.old }
-        requires state { IsAtState self.old }
-        ensures followed { HasFollowed (stage_of self.old) (stage_of self.new) }
-        ensures candidates { HasCandidates self.new }
-        ensures states { HasStates self.new }
-        ensures state { IsAtState self.new }
-    {
-        while self.path.len() < self.progress.operations {
-            self.states.gather(&mut self.candidates);
-            if !self.goes_on() {
-                return;
-            }
-            self.progress.budget -= 1;
-            let job = self.candidates[0].job;
-            self.states.strike(job);
-            self.path.push(job).unwrap();
-        }
-    }
-
-    /// Takes back the state of what waits longest of all that may have one.
-    fn strip_next(&mut self) -> Result<(), AllocError>
-        requires within { self.old.stripped < length self.old.stack.items }
-        requires candidates { HasCandidates self.old }
-        requires states { HasStates self.old }
-        requires state { IsAtState self.old }
-        ensures stands { OnOk result (StandsAs self.old self.new) }
-        ensures later { self.new.stripped ≡ self.old.stripped + 1 }
-        ensures length { length self.new.stack.items ≡ length self.old.stack.items }
-    {
-        let state = self.stack[self.stripped].state.take();
-        self.stripped += 1;
-        self.states.give_back(state)
-    }
-
-    /// Takes states back from what waits longest until there is one for each candidate, whose turns come first.
-    fn reclaim(&mut self) -> Result<(), AllocError>
-        requires candidates { HasCandidates self.old }
-        requires states { HasStates self.old }
-        requires state { IsAtState self.old }
-        ensures stands { OnOk result (StandsAs self.old self.new) }
-    {
-        self.stripped = self.stripped.min(self.stack.len());
-        while self.stripped < self.stack.len() && self.states.free() < self.candidates.len() {
-            self.strip_next()?;
-        }
-        Ok(())
-    }
-
-    /// Puts the children of the word on the stack, the first one on top; the word's bound and its candidates are at
-    /// hand.
-    fn push_children(&mut self, alloc: Global, bound: u64) -> Result<(), AllocError>
-        requires bound { bound ≡ lb self.old.progress.instance.now self.old.path.items }
-        requires short { length self.old.path.items < self.old.progress.operations }
-        requires candidates { HasCandidates self.old }
-        requires states { HasStates self.old }
-        requires state { IsAtState self.old }
-        ensures branched { OnOk result (HasBranched (stage_of self.old) (stage_of self.new)) }
-        ensures states { OnOk result (HasStates self.new) }
-    {
-        let below = self.stack.len();
-        let closed = self.states.try_candidates(
-            alloc,
-            &mut self.stack,
-            self.candidates.as_slice(),
-            self.path.as_slice(),
-            bound,
-            self.progress.best,
-        )?;
-        put_rest(&mut self.stack, below, self.path.len(), closed)
-    }
-
-    /// Goes on from the word, which was taken and whose bound is below the best: as far as there is one way alone, then
-    /// a full word is found, and the children of another one are put on the stack.
-    fn expand(&mut self, alloc: Global, bound: u64) -> Result<(), AllocError>
-        requires bound { bound ≡ lb self.old.progress.instance.now self.old.path.items }
-        requires below { bound < self.old.progress.best }
-        requires in_order { IsInOrder (stage_of self.old) }
-        requires states { HasStates self.old }
-        requires state { IsAtState self.old }
-        ensures expanded { OnOk result (HasExpanded (stage_of self.old) (stage_of self.new)) }
-        ensures states { OnOk result (HasStates self.new) }
-    {
-        self.follow_sole(bound);
-        if self.path.len() < self.progress.operations {
-            self.reclaim()?;
-            return self.push_children(alloc, bound);
-        }
-        let word = SharedWord::of_path(alloc, self.path.as_slice())?;
-        self.progress.found = Some(Word::of_shared(word));
-        self.progress.best = bound;
-        Ok(())
     }
 
     /// Walks an open child, which lay on top of the stack, up to its own children: these are put on the stack.

@@ -8,12 +8,12 @@
 --     bound_of x                     the bound of a child that waits, and 0 of closed ones
 --     with_held_rest stack depth n   the stack with n closed children of what so many entries make on
 --                                    top, if there are any
---     with_rest_at stack i depth n   the same at place i
+--     HasRaisedRest i depth n m ..   where n closed children of what so many entries make lay at place
+--                                    i below what they call kids, m of them lie afterwards
 --     AreStates slot is_scratch ..   what the states of a walk hold is room for states, and what a
 --                                    dispatch needs
-use Rattle.std.specs.Prelude.{◌≡◌, ℕ, zero, suc, [], ◌∷◌, ◌++◌, Option, Some, None, List, map, All}
+use Rattle.std.specs.Prelude.{◌≡◌, ℕ, zero, suc, [], ◌∷◌, ◌++◌, Option, Some, None, List, length, map, All}
 use Rattle.std.specs.Global.{Box}
-use Rattle.std.specs.List.{insert}
 use Rattle.shop_nodes.specs.declared.halts.Open.{Open}
 use Rattle.shop_nodes.specs.declared.halts.Waiting.{Waiting}
 use Rattle.shop_nodes.specs.declared.halts.Waiting.TheVariants.{Child, Rest}
@@ -43,10 +43,10 @@ module _ {S : Type 0} where
   with_held_rest stack depth (suc n) =
       stack ++ record { waiting = Rest depth (suc n); state = None } ∷ []
 
-  abbrev pub with_rest_at : List (Held S) → ℕ → ℕ → ℕ → List (Held S)
-  with_rest_at stack place depth zero = stack
-  with_rest_at stack place depth (suc n) =
-      insert stack place (record { waiting = Rest depth (suc n); state = None })
+abbrev pub HasRaisedRest : {S : Type 0} → ℕ → ℕ → ℕ → ℕ → List (Held S) → List (Held S) → Type 0
+HasRaisedRest {S} place depth known count old new = (below kids : List (Held S))
+    → place ≡ length below → old ≡ with_held_rest below depth known ++ kids
+    → new ≡ with_held_rest below depth count ++ kids
 
 module _ {S : Type 0} (is : List ℕ → S → Type 0) where
   abbrev pub IsHeldOf : List ℕ → Option (Box S) → Type 0

@@ -3,18 +3,21 @@
 --     AreHeld is word hs             each child that waits along the word has its own state, if any
 --     KeepsStates g word hs states   they have, and what the walk's states hold is room for states,
 --                                    and what a dispatch needs
---     AreCandidates shop is word cs  the conflict set of the word, each with its bound by its own
---                                    machine
 -- Of a walker:
 --     stage_of w                     where it stands: what waits is told without states
 --     HasStates w                    its states are kept so
 --     IsAtState w                    its current state is that of the word that it came to
---     HasCandidates w                the candidates of that word are at hand, unless it is full
---     StandsAs v w                   w stands where v stood, with all of this
-use Rattle.std.specs.Prelude.{◌≡◌, ℕ, ◌≤◌, ◌<◌, List, [], ◌∷◌, ◌++◌, All, length, map}
-use Rattle.shop_model.specs.Shop.{Shop}
+--     HasCandidates w n              the candidates of that word whose bounds by their own machine are
+--                                    below the best are at hand, and there are n others
+--     StandsAs v w                   w stands where v stood, with the same current state
+--     StandsAt w b                   its word has bound b, which is below the best, and all that waits
+--                                    and its states are in order
+--     HasReached v w b               the walk went on from v's word to one with bound b, and took it
+--     HasGoneOn v w told             the walk went on from v's word to a child with the bound that is
+--                                    told, or had nowhere to go
+use Rattle.std.specs.Prelude.{◌≡◌, ℕ, ◌<◌, Option, Some, None, List, All}
 use Rattle.shop_heads.specs.Bound.{lb}
-use Rattle.shop_desk.specs.declared.dispatching.Candidate.{Candidate}
+use Rattle.shop_desk.specs.States.{ListsBelow}
 use Rattle.shop_desk.specs.declared.dispatching.Dispatching.{Ghosts}
 use Rattle.shop_nodes.specs.Branching.{conflict}
 use Rattle.shop_tree.specs.declared.held.Held.{Held}
@@ -23,16 +26,10 @@ use Rattle.shop_tree.specs.declared.walkers.Walker.{Walker}
 use Rattle.shop_tree.specs.inner.Held.{IsHeld, waiting_in}
 use Rattle.shop_tree.specs.inner.Searching.{walked}
 use Rattle.shop_tree.specs.inner.Slots.{HoldSlots}
-use Rattle.shop_tree.specs.inner.Walkers.{Stage}
+use Rattle.shop_tree.specs.inner.Walkers.{Stage, HasExpanded, HasFollowed, IsInOrder}
 
 abbrev pub AreHeld : {S : Type 0} → (List ℕ → S → Type 0) → List ℕ → List (Held S) → Type 0
 AreHeld is word hs = All (IsHeld is word) hs
-
-pub record AreCandidates (shop : Shop) (is : List ℕ → Candidate → Type 0) (word : List ℕ)
-    (cs : List Candidate) : Type 0 where
-  pub jobs : map (λ c. c.job) cs ≡ conflict shop word
-  pub are : All (is word) cs
-  pub lower : All (λ c. c.own ≤ lb shop (word ++ c.job ∷ [])) cs
 
 pub record KeepsStates {D S C : Type 0} (g : Ghosts D S C) (word : List ℕ) (hs : List (Held S))
     (s : WalkStates D S C) : Type 0 where
@@ -48,11 +45,11 @@ module _ {D S C : Type 0} {g : Ghosts D S C} where
     stack = waiting_in w.stack.items;
   }
 
-  abbrev pub HasCandidates : Walker D S C g → Type 0
-  HasCandidates w =
+  abbrev pub HasCandidates : Walker D S C g → ℕ → Type 0
+  HasCandidates w n =
       let d = w.states.dispatcher.now
-      in length w.path.items < w.progress.operations
-      → AreCandidates (g.shop d) (g.IsCandidate d) w.path.items w.candidates.items
+      in ListsBelow (g.shop d) w.path.items w.progress.best (g.IsCandidate d w.path.items)
+      (conflict (g.shop d) w.path.items) w.candidates.items n
 
   abbrev pub IsAtState : Walker D S C g → Type 0
   IsAtState w = g.IsStateOf w.states.dispatcher.now w.path.items w.states.current.value
@@ -62,6 +59,25 @@ module _ {D S C : Type 0} {g : Ghosts D S C} where
 
 pub record StandsAs {D S C : Type 0} {g : Ghosts D S C} (v w : Walker D S C g) : Type 0 where
   pub stage : stage_of w ≡ stage_of v
-  pub candidates : HasCandidates w
+  pub candidates : w.candidates.items ≡ v.candidates.items
+  pub dispatcher : w.states.dispatcher.now ≡ v.states.dispatcher.now
+  pub current : w.states.current.value ≡ v.states.current.value
+  pub states : HasStates w
+
+pub record StandsAt {D S C : Type 0} {g : Ghosts D S C} (w : Walker D S C g) (b : ℕ) : Type 0 where
+  pub bound : b ≡ lb w.progress.instance.now w.path.items
+  pub below : b < w.progress.best
+  pub in_order : IsInOrder (stage_of w)
   pub states : HasStates w
   pub state : IsAtState w
+
+pub record HasReached {D S C : Type 0} {g : Ghosts D S C} (v w : Walker D S C g) (b : ℕ)
+    : Type 0 where
+  pub followed : HasFollowed (stage_of v) (stage_of w)
+  pub spent : w.progress.budget < v.progress.budget
+  pub at : StandsAt w b
+
+abbrev pub HasGoneOn : {D S C : Type 0} {g : Ghosts D S C} → Walker D S C g → Walker D S C g
+    → Option ℕ → Type 0
+HasGoneOn v w (Some b) = HasReached v w b
+HasGoneOn v w None = HasExpanded (stage_of v) (stage_of w) × HasStates w

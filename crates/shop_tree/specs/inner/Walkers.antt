@@ -5,8 +5,10 @@
 --     walk_on s                    the walk that goes on from the word, and then from what waits
 --     IsInOrder s                  all that waits is told rightly
 --     on_top s x                   the same with x on top of what waits
+--     spent_one t                  the walk t with one of its budget spent
+--     gone_on s job                the same with one job more, which was taken
 --     turns_left s                 more turns than this can't come
---     HasFollowed s t              the walk went on along words that have one child alone
+--     HasFollowed s t              the walk went on along words that have one open child alone
 --     HasBranched s t              the children of the word lie on the stack
 --     HasExpanded s t              what waits afterwards comes to where the walk goes on from the
 --                                  word, and then from what waited before
@@ -14,10 +16,9 @@
 --                                  waited before, and there is less to do
 --     HasWalked s t whole          all that is left of this walk waits: nothing, unless the budget
 --                                  has ended
-use Rattle.std.specs.Prelude.{◌≡◌, ℕ, ◌+◌, ◌*◌, ◌≤◌, ◌<◌, List, [], ◌∷◌, ◌++◌, length, drop}
+use Rattle.std.specs.Prelude.{◌≡◌, ℕ, ◌+◌, ◌-◌, ◌*◌, ◌≤◌, ◌<◌, List, [], ◌∷◌, ◌++◌, length, drop}
 use Rattle.std.specs.Prelude.{fold}
 use Rattle.shop_model.specs.Shop.{Shop}
-use Rattle.shop_heads.specs.Bound.{lb}
 use Rattle.shop_tree.specs.inner.Opens.{AreWaiting}
 use Rattle.shop_tree.specs.inner.Searching.{walk_stack, Adds, entered}
 use Rattle.shop_nodes.specs.Walking.{Walk, walk}
@@ -49,17 +50,20 @@ IsInOrder s = AreWaiting s.shop s.walk.best s.word s.stack
 abbrev pub on_top : Stage → Waiting → Stage
 on_top s x = record s { stack = s.stack ++ x ∷ [] }
 
+abbrev pub spent_one : Walk → Walk
+spent_one t = record t { budget = t.budget - 1 }
+
+abbrev pub gone_on : Stage → ℕ → Stage
+gone_on s job = record s { word = s.word ++ job ∷ []; walk = spent_one s.walk }
+
 abbrev pub turns_left : Stage → ℕ
 turns_left s = s.walk.budget * (length s.shop.jobs + 2) + length s.stack
 
 pub record HasFollowed (s t : Stage) : Type 0 where
   pub walk : walk_on t ≡ walk_on s
-  pub in_order : IsInOrder t
-  pub bound : lb t.shop t.word ≡ lb s.shop s.word
   pub shop : t.shop ≡ s.shop
   pub spent : t.walk.budget ≤ s.walk.budget
-  pub best : t.walk.best ≡ s.walk.best
-  pub stack : t.stack ≡ s.stack
+  pub fewer : turns_left t ≤ turns_left s
 
 pub record HasBranched (s t : Stage) : Type 0 where
   pub stack : Adds s.shop s.walk.best s.word s.stack t.stack

@@ -1,4 +1,4 @@
-use Rattle.std.proofs.Common.{List, ap}
+use Rattle.std.proofs.Common.{List, ap, refl}
 use Rattle.shop_nodes.specs.declared.halts.Waiting.{Waiting}
 use Rattle.shop_tree.specs.inner.StateWalkers.{stage_of}
 use Rattle.shop_tree.specs.inner.Walkers.{Stage}
@@ -13,8 +13,8 @@ returns-clause-stands g c =
     in let at : List Waiting → Stage = λ xs. record (stage_of self) { stack = xs }
     in stands_still self _ c.give_back.result
     (ap at (waiting_stripped self.stack.items self.stripped _ c.index_mut.result.now c.take-state.new.self
-    c.index_mut.ensures.value))
-    c.give_back.ensures.dispatcher c.requires.candidates
+    c.index_mut.ensures.value)) refl
+    c.give_back.ensures.dispatcher
     (held_stripped is self.path.items self.stack.items self.stripped c.index_mut.result.now.waiting
     c.take-state.new.self c.take-state.ensures.after c.requires.states.held)
-    c.requires.state c.give_back.ensures.sound c.give_back.ensures.current
+    c.give_back.ensures.sound c.give_back.ensures.current

@@ -13,7 +13,7 @@ use Rattle.shop_tree.specs.inner.Walkers.{HasExpanded, IsInOrder, IsTurn}
 use Rattle.shop_nodes.specs.declared.halts.Waiting.TheVariants.{Child}
 use Rattle.shop_tree.proofs.OpenLemmas.{popped}
 use Rattle.shop_tree.proofs.ListLemmas.{on_ok}
-use Rattle.shop_tree.proofs.ExpandLemmas.{spent_one}
+use Rattle.shop_tree.specs.inner.Walkers.{spent_one}
 use Rattle.shop_tree.proofs.StateLemmas.{held_below}
 use Rattle.shop_tree.proofs.WalkerLemmas.{turn_cut, turn_expanded, went_in_order}
 use Rattle.shop_tree.proofs.walkers.Walker.walk_open.Goals as goal
