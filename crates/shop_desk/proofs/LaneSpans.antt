@@ -7,7 +7,7 @@ use Rattle.std.proofs.lemmas.Bool.{cases_Bool, cases_lt, leb-true, le-leb}
 use Rattle.std.proofs.lemmas.List.Sums.{sum_by-cons}
 use Rattle.shop_lanes.specs.Rows.{Lane}
 use Rattle.shop_lanes.specs.Spans.{span, spans_from, spans_between}
-use Rattle.shop_desk.proofs.SpanTurns.{span_served, span_left, spans_counted, spans_low, spans_high}
+use Rattle.shop_raises.proofs.SpanTurns.{span_served, span_left, spans_counted, spans_low, spans_high}
 use Rattle.one_machine.specs.declared.triples.Triple.{Triple}
 use Rattle.one_machine.specs.OneMachine.{one}
 use Rattle.one_machine.specs.inner.NonincreasingTails.{one_between}

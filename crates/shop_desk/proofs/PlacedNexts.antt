@@ -20,9 +20,9 @@ use Rattle.shop_heads.specs.inner.PlacedWords.{IsOfWord}
 use Rattle.shop_layout.specs.Positions.{IsLaidOut, LayoutState, first_position, place, place_or}
 use Rattle.shop_layout.proofs.LaidPlaces.{place_of}
 use Rattle.shop_desk.specs.inner.Fills.{AreNextsPlaced}
-use Rattle.shop_desk.specs.inner.LaneChoices.{AreNextsOf}
+use Rattle.shop_raises.specs.LaneChoices.{AreNextsOf}
 use Rattle.shop_desk.specs.inner.PlacedNexts.{AreBegun, IsPlacedAt, IsWordAt, placement_at, step_at}
-use Rattle.shop_desk.proofs.Followed.{place_past, place_there}
+use Rattle.shop_raises.proofs.Followed.{place_past, place_there}
 use Rattle.shop_desk.proofs.RaisedHeads.{followed}
 
 -- nothing is placed

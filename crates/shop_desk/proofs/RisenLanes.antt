@@ -4,7 +4,7 @@ use Rattle.std.proofs.Common.{get_or, refl, arith}
 use Rattle.std.proofs.lemmas.Bool.{cases_lt}
 use Rattle.shop_lanes.specs.Rows.{Lane, lanes}
 use Rattle.shop_lanes.specs.Spans.{span, spans_from, spans_between}
-use Rattle.shop_desk.proofs.SpanTurns.{span_served, span_left, spans_counted, spans_low, spans_high}
+use Rattle.shop_raises.proofs.SpanTurns.{span_served, span_left, spans_counted, spans_low, spans_high}
 
 -- lanes that are related one by one
 pub data AreBeside (R : Lane → Lane → Type 0) : List Lane → List Lane → Type 0 where

@@ -3,17 +3,7 @@ pub mod BoundsUpTo
 pub mod Candidates
 pub mod ChildBounds
 pub mod Fills
-pub mod HeadRaises
-pub mod JobSets
-pub mod LaneBounds
-pub mod LaneChoices
-pub mod LaneEnds
-pub mod LaneHeads
 pub mod LaneStates
-pub mod MachineRaises
 pub mod PlacedNexts
-pub mod Raises
-pub mod RisingLists
 pub mod Scratches
 pub mod Steps
-pub mod Watchers

@@ -7,13 +7,13 @@ ghost use Rattle.shop_heads.specs.Bound.{lb};
 ghost use Rattle.shop_heads.specs.Conflicts.{conflict};
 ghost use Rattle.shop_desk.specs.States.{TellsBoundBelow};
 ghost use Rattle.shop_desk.specs.inner.Advances.{CanAdvance, CanStrike, HasSameRoom, IsAdvancing};
-ghost use Rattle.shop_desk.specs.inner.LaneEnds.{CanKeepEnds};
+ghost use Rattle.shop_raises.specs.LaneEnds.{CanKeepEnds};
 ghost use Rattle.shop_desk.specs.inner.LaneStates.{GoesOn, IsKeptInLanes};
 ghost use Rattle.shop_layout.specs.Lanes.{rows_of};
-ghost use Rattle.shop_desk.specs.inner.MachineRaises.{AreEmpty};
+ghost use Rattle.shop_raises.specs.MachineRaises.{AreEmpty};
 
 use crate::lane_ends::set_end_of;
-use crate::machine_raises::MachineRaises;
+use shop_raises::MachineRaises;
 use shop_lanes::StateLanes;
 use shop_layout::Grid;
 

@@ -6,7 +6,7 @@ use crate::advances::{advance_below, strike};
 use crate::dispatching::{Candidate, Dispatching};
 use crate::fills::fill_state;
 use crate::gathering::gather;
-use crate::machine_raises::MachineRaises;
+use shop_raises::MachineRaises;
 use crate::placing::place_word;
 use crate::states::{Scratch, State};
 use crate::steps::{BOUNDS, step};

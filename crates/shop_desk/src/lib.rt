@@ -6,16 +6,11 @@ mod dispatchers;
 mod dispatching;
 mod fills;
 mod gathering;
-mod head_raises;
 mod job_sets;
-mod lane_bounds;
 mod lane_choices;
 mod lane_ends;
 mod look_aheads;
-mod machine_raises;
-mod machine_sets;
 mod placing;
-mod raises;
 mod states;
 mod steps;
 

@@ -1,5 +1,5 @@
 // A state of a word, and what a dispatch needs beside it.
-use crate::machine_raises::MachineRaises;
+use shop_raises::MachineRaises;
 use shop_lanes::StateLanes;
 
 /// What a word leaves: the heads of its operations by position, and by job its next operation and the end of that.

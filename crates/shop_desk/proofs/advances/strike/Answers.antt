@@ -1,6 +1,6 @@
 use Rattle.std.proofs.Common.{get_or, refl, set, arith}
 use Rattle.shop_layout.specs.Lanes.{rows_of}
-use Rattle.shop_desk.proofs.RaiseSteps.{put_is}
+use Rattle.shop_raises.proofs.RaiseSteps.{put_is}
 use Rattle.shop_desk.proofs.Strikes.{its_job, its_position, lists_long, struck_keep, struck_kept}
 use Rattle.shop_desk.proofs.advances.strike.Goals as goal
 

@@ -3,7 +3,7 @@ use Rattle.shop_layout.specs.Lanes.{rows_of}
 use Rattle.shop_desk.specs.inner.PlacedNexts.{placement_at}
 use Rattle.shop_desk.proofs.FillWalks.{can_fill_at, fill_begins, fill_ends, fill_less, fill_on}
 use Rattle.shop_desk.proofs.PlacedNexts.{nexts_placed, of_word_at}
-use Rattle.shop_desk.proofs.RaiseSteps.{put_is}
+use Rattle.shop_raises.proofs.RaiseSteps.{put_is}
 use Rattle.shop_desk.proofs.fills.fill_job.Goals as goal
 
 pub loop-position-init : goal.loop-position-init

@@ -2,7 +2,7 @@ use Rattle.std.proofs.Common.{length}
 use Rattle.shop_layout.specs.Lanes.{rows_of}
 use Rattle.shop_desk.specs.inner.PlacedNexts.{placement_at}
 use Rattle.shop_desk.proofs.FillWalks.{IsFilledBefore}
-use Rattle.shop_desk.proofs.Followed.{left_from}
+use Rattle.shop_raises.proofs.Followed.{left_from}
 use Rattle.shop_desk.proofs.fills.fill_job.Given as goal
 
 abbrev pub invariant-loop-position : goal.invariant-loop-position

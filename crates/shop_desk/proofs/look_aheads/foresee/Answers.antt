@@ -1,6 +1,6 @@
 use Rattle.std.proofs.Common.{◌≡◌, ◌∙◌, ◌+◌, ◌-◌, ℕ, max, List, ap, arith, get_or, set}
 use Rattle.shop_desk.proofs.LookAheads.{ahead_fits, ahead_is}
-use Rattle.shop_desk.proofs.RaiseSteps.{put_back}
+use Rattle.shop_raises.proofs.RaiseSteps.{put_back}
 use Rattle.shop_desk.proofs.look_aheads.foresee.Goals as goal
 
 pub overflow_add-end-2 : goal.overflow_add-end-2

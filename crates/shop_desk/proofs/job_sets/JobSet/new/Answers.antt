@@ -1,4 +1,4 @@
-use Rattle.shop_desk.proofs.JobSets.{no_members}
+use Rattle.shop_raises.proofs.JobSets.{no_members}
 use Rattle.shop_desk.proofs.job_sets.JobSet.new.Goals as goal
 
 pub returns : goal.returns

@@ -1,0 +1,13 @@
+pub mod FittingSpans
+pub mod Followed
+pub mod JobSets
+pub mod LaneBoundTurns
+pub mod MachineSets
+pub mod RaiseLoops
+pub mod RaiseSteps
+pub mod RaiseWalks
+pub mod RaisedEnds
+pub mod RaisedMachines
+pub mod RisingLists
+pub mod SpanTurns
+pub mod Watching
