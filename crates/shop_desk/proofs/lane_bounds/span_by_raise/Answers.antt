@@ -10,5 +10,6 @@ returns-clause-fits g c =
     in let on = lanes_on rows l c.args.machine
     in let within = spans_within g.L.StateLanes.GREATEST c.args.raise.from c.args.raise.to on c.requires.fits on
     in let same = spans_same c.args.raise.from c.args.raise.to rows c.blocks_of-from.result.0 c.blocks_of-from.result.1
-    (get_or l.blocks c.args.machine 0) (get_or l.blocks (c.args.machine + 1) 0) c.blocks_of-from.ensures.first c.blocks_of-from.ensures.behind
+    (get_or l.blocks c.args.machine 0) (get_or l.blocks (c.args.machine + 1) 0) c.blocks_of-from.ensures.first
+    c.blocks_of-from.ensures.behind
     in let no_greater = c.bound_raised.ensures.no_greater in let least = c.requires.least in omega arith
