@@ -134,7 +134,8 @@ module _ (greatest : ℕ) (shop : Shop) (w : List ℕ) (l : LayoutState) (rows :
               blocks = λ n here. spans.blocks n (omega arith);
               below = λ n here.
                   let a = spans.below n (omega arith)
-                  in let b = watches.up_to (latest_end shop + 1) small (λ k there. let f = empty k in omega arith) n here
+                  in let b = watches.up_to (latest_end shop + 1) small (λ k there. let f = empty k in omega arith) n
+                  here
                   in omega arith;
               fits = λ n here.
                   let a = spans.fits n (omega arith)

@@ -102,8 +102,8 @@ pub trait StateLanes: Drop {
             (lanes_of (heads self.now) (times fixed.now) (tails fixed.now) from to) };
 
     /// The greatest of `most` and the spans of those that begin no earlier than one of them, from its head on, for each
-    /// head above `above` and up to `upto`; where that reaches the limit, `most` or one of these that reaches it. `count`
-    /// is the number of these blocks, or 0; with a literal number the passes over them are unrolled.
+    /// head above `above` and up to `upto`; where that reaches the limit, `most` or one of these that reaches it.
+    /// `count` is the number of these blocks, or 0; with a literal number the passes over them are unrolled.
     fn bound_raised(
         &self,
         fixed: &Self::Fixed,

@@ -48,10 +48,8 @@ fn span_by_raise<L: StateLanes>(
     grid.bound_raised(lanes, each, from, to, above, upto, least, limit)
 }
 
-/// The greatest of `least` and the spans of the listed machines from their raised heads on; once that reaches the limit,
-/// any number between the limit and it. These raises are empty afterwards. Heads and spans in lanes are one more than
-/// what they stand for, and so are these numbers. Each machine has so many blocks, or this is 0; with a literal number
-/// the passes over them are unrolled.
+/// The same as `take_spans`, where each machine has so many blocks, or this is 0. With a literal number the passes over
+/// them are unrolled.
 #[inline(always)]
 fn take_spans_of<L: StateLanes>(
     each: usize,
@@ -77,7 +75,7 @@ fn take_spans_of<L: StateLanes>(
     most
 }
 
-/// The same for machines of four blocks and more, or of different numbers of blocks, in a function of its own.
+/// The same as `take_spans`, for machines of four blocks and more, or not all of as many, in a function of its own.
 #[inline(never)]
 fn take_longer_spans<L: StateLanes>(
     raises: &mut [LaneRaise<L::Number>],
@@ -102,9 +100,9 @@ fn take_longer_spans<L: StateLanes>(
     }
 }
 
-/// The greatest of `least` and the spans of the listed machines from their raised heads on; once that reaches the limit,
-/// any number between the limit and it. These raises are empty afterwards. Heads and spans in lanes are one more than
-/// what they stand for, and so are these numbers.
+/// The greatest of `least` and the spans of the listed machines from their raised heads on; once that reaches the
+/// limit, any number between the limit and it. These raises are empty afterwards. Heads and spans in lanes are one more
+/// than what they stand for, and so are these numbers.
 #[inline(always)]
 pub(crate) fn take_spans<L: StateLanes>(
     raises: &mut [LaneRaise<L::Number>],
