@@ -46,7 +46,9 @@ fn assert_two_blocks<L: StateLanes>(rt: &impl Abort, fixed: &L::Fixed, lanes: &L
 {
     assert_eq!(rt; lanes.head(9), 5);
     assert_eq!(rt; L::time(fixed, 2), 3);
-    assert_eq!(rt; lanes.first_least_end(), 1);
+    let (job, end) = lanes.first_least_end();
+    assert_eq!(rt; job, 1);
+    assert_eq!(rt; end, 3);
     // all three of the first block; the third alone; none
     assert_eq!(rt; lanes.load(fixed, 0, 1, 1), 13);
     assert_eq!(rt; lanes.load(fixed, 0, 1, 4), 4);

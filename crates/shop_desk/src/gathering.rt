@@ -261,12 +261,11 @@ pub(crate) fn gather<L: StateLanes>(
     ensures room { vec_capacity candidates.old ≤ vec_capacity candidates.new }
 {
     candidates.clear();
-    let chosen = lanes.first_least_end();
+    let (chosen, end) = lanes.first_least_end();
     let position = next[chosen] as usize;
     if position >= grid.positions() {
         return 0;
     }
-    let end = lanes.head(position) + grid.time(position);
     let machine = grid.machines()[position] as usize;
     gather_on(
         candidates, owns, lanes, grid, next, chosen, machine, end, limit,

@@ -145,7 +145,7 @@ impl<B: Block> StateLanes for BlockLanes<B> {
     }
 
     #[inline(always)]
-    fn first_least_end(&self) -> usize {
+    fn first_least_end(&self) -> (usize, u64) {
         first_least::<B>(&self.ends)
     }
 

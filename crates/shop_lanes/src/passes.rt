@@ -203,14 +203,16 @@ fn position_of<B: Block>(numbers: &[B::Number], number: u64) -> usize
     numbers.len()
 }
 
-/// The position of the first of the least numbers.
+/// The position of the first of the least numbers, and this number.
 #[inline(always)]
-pub(crate) fn first_least<B: Block>(numbers: &[B::Number]) -> usize
+pub(crate) fn first_least<B: Block>(numbers: &[B::Number]) -> (usize, u64)
     requires whole_blocks { length numbers.now % 8 ≡ 0 }
     requires room { length numbers.now + 8 ≤ 2 ^ 64 }
     requires some { 0 < length numbers.now }
     requires fits { (k : ℕ) → slice_index (map B.value numbers.now) k ≤ B.GREATEST }
-    ensures { IsFirstLeast (map B.value numbers.now) result }
+    ensures first { IsFirstLeast (map B.value numbers.now) result.0 }
+    ensures least { result.1 ≡ slice_index (map B.value numbers.now) result.0 }
 {
-    position_of::<B>(numbers, least_number::<B>(numbers))
+    let least = least_number::<B>(numbers);
+    (position_of::<B>(numbers, least), least)
 }

@@ -78,10 +78,11 @@ pub trait StateLanes: Drop {
         ensures heads { heads self.new ≡ heads self.old }
         ensures ends { ends self.new ≡ slice_set (ends self.old) job end };
 
-    /// The job whose end is the least, the first of them if there are several.
-    fn first_least_end(&self) -> usize
+    /// The job whose end is the least, the first of them if there are several, and this end.
+    fn first_least_end(&self) -> (usize, u64)
         requires { 0 < length (ends self.now) }
-        ensures { IsFirstLeast (ends self.now) result };
+        ensures job { IsFirstLeast (ends self.now) result.0 }
+        ensures end { result.1 ≡ slice_index (ends self.now) result.0 };
 
     /// The positions in the blocks from `from` on and before `to` at which something waits with a head below `limit`.
     fn below(&self, from: usize, to: usize, limit: u64) -> Marks

@@ -7,43 +7,6 @@ use Rattle.shop_desk.proofs.LaneConflicts.{chosen_at, chosen_in, chosen_job, is_
 use Rattle.shop_desk.proofs.OwnSpans.{nobody}
 use Rattle.shop_desk.proofs.gathering.gather.Goals as goal
 
-pub head-requires : goal.head-requires
-head-requires g c =
-    let heads = g.L.StateLanes.heads c.args.lanes.now
-    in let ends = g.L.StateLanes.ends c.args.lanes.now
-    in (chosen_at g.L.StateLanes.GREATEST c.requires.can.shop (placing c.requires.can.shop c.requires.can.word)
-    c.args.grid.now c.args.next.now (rows_of c.args.grid.now heads ends)
-    (choosable g.L.StateLanes.GREATEST c.requires.can.shop c.requires.can.word c.args.grid.now heads ends
-    c.args.next.now c.requires.can.kept) c.first_least_end-chosen.result c.first_least_end-chosen.ensures
-    c.positions.result c.positions.ensures c.if-position-positions.false).within
-
-pub time-requires : goal.time-requires
-time-requires g c =
-    let heads = g.L.StateLanes.heads c.args.lanes.now
-    in let ends = g.L.StateLanes.ends c.args.lanes.now
-    in let times = c.requires.can.kept.kept.laid.positions.times
-    in let long = c.requires.can.kept.kept.heads.positions
-    in let within = (chosen_at g.L.StateLanes.GREATEST c.requires.can.shop
-    (placing c.requires.can.shop c.requires.can.word)
-    c.args.grid.now c.args.next.now (rows_of c.args.grid.now heads ends)
-    (choosable g.L.StateLanes.GREATEST c.requires.can.shop c.requires.can.word c.args.grid.now heads ends
-    c.args.next.now c.requires.can.kept) c.first_least_end-chosen.result c.first_least_end-chosen.ensures
-    c.positions.result c.positions.ensures c.if-position-positions.false).within
-    in omega arith
-
-pub overflow_add-end : goal.overflow_add-end
-overflow_add-end g c =
-    let heads = g.L.StateLanes.heads c.args.lanes.now
-    in let ends = g.L.StateLanes.ends c.args.lanes.now
-    in let at = chosen_at g.L.StateLanes.GREATEST c.requires.can.shop
-    (placing c.requires.can.shop c.requires.can.word)
-    c.args.grid.now c.args.next.now (rows_of c.args.grid.now heads ends)
-    (choosable g.L.StateLanes.GREATEST c.requires.can.shop c.requires.can.word c.args.grid.now heads ends
-    c.args.next.now c.requires.can.kept) c.first_least_end-chosen.result c.first_least_end-chosen.ensures
-    c.positions.result c.positions.ensures c.if-position-positions.false
-    in let head = c.head.ensures in let time = c.time.ensures in let end = at.end in let fits = at.fits
-    in let small = c.requires.can.kept.kept.computable in omega arith
-
 pub gather_on-requires-clause-chosen : goal.gather_on-requires-clause-chosen
 gather_on-requires-clause-chosen g c = λ shop w kept.
     let greatest = g.L.StateLanes.GREATEST
@@ -52,14 +15,14 @@ gather_on-requires-clause-chosen g c = λ shop w kept.
     in let heads = g.L.StateLanes.heads c.args.lanes.now
     in let ends = g.L.StateLanes.ends c.args.lanes.now
     in let rows = rows_of l heads ends
-    in let r = c.first_least_end-chosen.result
-    in let is = c.first_least_end-chosen.ensures
+    in let r = c.first_least_end-chosen.result.0
+    in let is = c.first_least_end-chosen.ensures.job
     in let can = choosable greatest shop w l heads ends nexts kept
     in let at = chosen_at greatest shop (placing shop w) l nexts rows can r is c.positions.result c.positions.ensures
     c.if-position-positions.false
     in let read : get_or c.machines.result.now (get_or nexts r 0) 0 ≡ get_or l.machines (get_or nexts r 0) 0 =
     ap (λ (xs : List ℕ). get_or xs (get_or nexts r 0) 0) c.machines.ensures
-    in let head = c.head.ensures in let time = c.time.ensures in let end = at.end in let fits = at.fits
+    in let end = kept.ends.next r at.operation in let told = c.first_least_end-chosen.ensures.end in let fits = at.fits
     in record {
       known = (let a = chosen_job greatest shop (placing shop w) l nexts rows can r is
           in let b = kept.are_next.jobs in omega arith);
@@ -80,6 +43,6 @@ returns-then-position-positions-clause-are g c = λ shop w kept.
     in let ends = g.L.StateLanes.ends c.args.lanes.now
     in let can = choosable greatest shop w l heads ends nexts kept
     in nobody greatest shop w l heads ends nexts kept [] (none_open greatest shop (placing shop w) l nexts
-    (rows_of l heads ends) can c.first_least_end-chosen.result c.first_least_end-chosen.ensures
+    (rows_of l heads ends) can c.first_least_end-chosen.result.0 c.first_least_end-chosen.ensures.job
     c.positions.result c.positions.ensures c.if-position-positions.true) c.args.limit refl c.clear.new.self.items
     c.clear.ensures.items

@@ -1,18 +1,21 @@
-use Rattle.std.proofs.Common.{arith, map}
+use Rattle.std.proofs.Common.{◌≡◌, ℕ, List, arith, map, sym}
 use Rattle.std.proofs.lemmas.List.{length-map}
-use Rattle.shop_lanes.proofs.BlockMasks.{first_of_least}
 use Rattle.shop_blocks.proofs.Extremes.{least_le_top}
+use Rattle.shop_lanes.proofs.BlockMasks.{first_of_least}
 use Rattle.shop_lanes.proofs.passes.first_least.Goals as goal
 
 pub position_of-requires-clause-fits : goal.position_of-requires-clause-fits
 position_of-requires-clause-fits g c =
     let top = least_le_top g.B.Block.GREATEST (map g.B.Block.value c.args.numbers.now)
-    in omega (arith, c.least_number.ensures, top)
+    in omega (arith, c.least_number-least.ensures, top)
 
-pub returns : goal.returns
-returns g c =
+pub returns-clause-first : goal.returns-clause-first
+returns-clause-first g c =
     let row = map g.B.Block.value c.args.numbers.now
     in let some = c.requires.some
-    in first_of_least g.B.Block.GREATEST row c.least_number.result c.position_of.result
-    (omega (arith, length-map c.args.numbers.now g.B.Block.value)) c.requires.fits c.least_number.ensures
+    in first_of_least g.B.Block.GREATEST row c.least_number-least.result c.position_of.result
+    (omega (arith, length-map c.args.numbers.now g.B.Block.value)) c.requires.fits c.least_number-least.ensures
     c.position_of.ensures
+
+pub returns-clause-least : goal.returns-clause-least
+returns-clause-least g c = sym (c.position_of.ensures.found (returns-clause-first g c).within)

@@ -1,4 +1,5 @@
-use Rattle.std.proofs.Common.{subst, map}
+use Rattle.std.proofs.Common.{◌≡◌, ℕ, List, get_or, take, arith, ap, sym, ◌∙◌, subst, map}
+use Rattle.std.proofs.lemmas.List.{get_or-take, length-take}
 use Rattle.shop_lanes.specs.Ends.{IsFirstLeast}
 use Rattle.shop_lanes.proofs.Padding.{first_least_seen}
 use Rattle.shop_lanes.proofs.block_lanes.BlockLanesStateLanes.first_least_end.Goals as goal
@@ -6,7 +7,18 @@ use Rattle.shop_lanes.proofs.block_lanes.BlockLanesStateLanes.first_least_end.Go
 pub first_least-requires-clause-fits : goal.first_least-requires-clause-fits
 first_least-requires-clause-fits g c k = rw c.deref.ensures.value (c.args.self.now.ends_are_padded.least k)
 
-pub returns : goal.returns
-returns g c = first_least_seen g.B.Block.GREATEST c.args.self.now.jobs (map g.B.Block.value c.args.self.now.ends.items)
-    c.first_least.result c.args.self.now.ends_are_padded c.requires
-    (subst (λ l. IsFirstLeast (map g.B.Block.value l) c.first_least.result) c.deref.ensures.value c.first_least.ensures)
+pub returns-clause-job : goal.returns-clause-job
+returns-clause-job g c = first_least_seen g.B.Block.GREATEST c.args.self.now.jobs
+    (map g.B.Block.value c.args.self.now.ends.items) c.first_least.result.0 c.args.self.now.ends_are_padded c.requires
+    (subst (λ l. IsFirstLeast (map g.B.Block.value l) c.first_least.result.0) c.deref.ensures.value
+    c.first_least.ensures.first)
+
+pub returns-clause-end : goal.returns-clause-end
+returns-clause-end g c =
+    let ends = map g.B.Block.value c.args.self.now.ends.items
+    in let jobs = c.args.self.now.jobs
+    in let here = (returns-clause-job g c).within
+    in let long = length-take jobs ends
+    in c.first_least.ensures.least
+    ∙ (ap (λ l. get_or (map g.B.Block.value l) c.first_least.result.0 0) c.deref.ensures.value
+    ∙ sym (get_or-take jobs ends c.first_least.result.0 0 (omega arith)))
