@@ -138,7 +138,8 @@ pub record AreFilledUpTo (shop : Shop) (l : LayoutState) (s : PlacementState) (n
   pub beside : AreSameBeside old now
   pub filled : (p : Placing) → IsPlacement shop p s → (j k : ℕ) → IsOperation shop j k → j < n
       → IsStored shop p l old.heads now.heads j k
-  pub later : (j k : ℕ) → IsOperation shop j k → n ≤ j → get_or now.heads (place l j k) 0 ≡ get_or old.heads (place l j k) 0
+  pub later : (j k : ℕ) → IsOperation shop j k → n ≤ j
+      → get_or now.heads (place l j k) 0 ≡ get_or old.heads (place l j k) 0
   pub free : (q : ℕ) → IsFree shop l q → get_or now.heads q 0 ≡ get_or old.heads q 0
 
 module _ (greatest : ℕ) (shop : Shop) (l : LayoutState) (s : PlacementState) (rows : Rows)
