@@ -1,5 +1,5 @@
 -- Heads by position are set one by one.
-use Rattle.std.proofs.Common.{◌≡◌, ℕ, ◌+◌, ◌-◌, ◌≤◌, ◌<◌, max, inl, inr, List, [], length, get_or}
+use Rattle.std.proofs.Common.{◌≡◌, ℕ, ◌+◌, ◌-◌, ◌≤◌, ◌<◌, max, inl, inr, List, length, get_or}
 use Rattle.std.proofs.Common.{set, refl, sym, ◌∙◌, ap, subst, arith}
 use Rattle.std.proofs.lemmas.Bool.{cases_eq}
 use Rattle.std.proofs.lemmas.Grind.{get_or-set_at}
@@ -138,7 +138,8 @@ pub record AreFilledUpTo (shop : Shop) (l : LayoutState) (s : PlacementState) (n
   pub beside : AreSameBeside old now
   pub filled : (p : Placing) → IsPlacement shop p s → (j k : ℕ) → IsOperation shop j k → j < n
       → IsStored shop p l old.heads now.heads j k
-  pub later : (j k : ℕ) → IsOperation shop j k → n ≤ j → get_or now.heads (place l j k) 0 ≡ get_or old.heads (place l j k) 0
+  pub later : (j k : ℕ) → IsOperation shop j k → n ≤ j
+      → get_or now.heads (place l j k) 0 ≡ get_or old.heads (place l j k) 0
   pub free : (q : ℕ) → IsFree shop l q → get_or now.heads q 0 ≡ get_or old.heads q 0
 
 module _ (greatest : ℕ) (shop : Shop) (l : LayoutState) (s : PlacementState) (rows : Rows)
@@ -193,12 +194,3 @@ module _ (greatest : ℕ) (shop : Shop) (l : LayoutState) (s : PlacementState) (
       padding = λ q none. so_far.free q none ∙ rested q;
     };
   }
-
--- the places and the route of a job, as they are read
-pub places_read : (l : LayoutState) (j : ℕ) (places : List ℕ) → places ≡ get_or l.places j [] → (k : ℕ)
-    → get_or places k 0 ≡ place l j k
-places_read l j places is k = ap (λ (xs : List ℕ). get_or xs k 0) is
-
-pub step_read : (shop : Shop) (j : ℕ) (route : List Op) → route ≡ route_of shop j → (k : ℕ) → k < length route
-    → IsOperation shop j k
-step_read shop j route is k below = let a : length route ≡ length (route_of shop j) = ap length is in omega arith

@@ -1,17 +1,17 @@
 -- Heads of what waits are set along a route, position by position.
-use Rattle.std.proofs.Common.{◌≡◌, ℕ, ◌+◌, ◌≤◌, ◌<◌, ◌^◌, max, inl, inr, List, length, get_or}
+use Rattle.std.proofs.Common.{◌≡◌, ℕ, ◌+◌, ◌≤◌, ◌<◌, max, inl, inr, List, length, get_or}
 use Rattle.std.proofs.Common.{refl, sym, ◌∙◌, ap, subst, arith}
 use Rattle.std.proofs.lemmas.Bool.{cases_lt}
 use Rattle.shop_lanes.specs.Rows.{Rows, with_head}
 use Rattle.shop_model.specs.Placements.{PlacementState}
 use Rattle.shop_model.specs.Shop.{Shop, no_op, IsOperation, machine_of, route_of, time_of}
 use Rattle.shop_heads.specs.inner.PlacedWords.{IsOfWord}
-use Rattle.shop_layout.specs.Positions.{LayoutState, first_position, place, place_or}
+use Rattle.shop_layout.specs.Positions.{LayoutState, place, place_or}
 use Rattle.shop_layout.proofs.LaidPlaces.{place_of}
 use Rattle.shop_desk.specs.inner.Fills.{AreNextsPlaced, CanFill, HasFilledJob}
 use Rattle.shop_raises.specs.Raises.{steps_of}
 use Rattle.shop_desk.proofs.FillTurns.{IsFilledUpTo, filled_begins, filled_open, open_fits, position_known}
-use Rattle.shop_raises.proofs.Followed.{left_from, left_less, place_past, place_there, step_there}
+use Rattle.shop_raises.proofs.Followed.{left_from, left_less, place_there, step_there}
 use Rattle.shop_desk.proofs.RaisedHeads.{followed, indexed}
 
 -- the heads of job j below some step were set, which stands at position q or is none

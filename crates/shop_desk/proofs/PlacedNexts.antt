@@ -1,5 +1,5 @@
 -- Next operations, and when jobs are ready and machines free, while a word is placed.
-use Rattle.std.proofs.Common.{◌≡◌, ℕ, ◌+◌, ◌≤◌, ◌<◌, ◌^◌, max, inl, inr, List, [], length, map, take}
+use Rattle.std.proofs.Common.{◌≡◌, ℕ, ◌+◌, ◌<◌, ◌^◌, max, inl, inr, List, length, map, take}
 use Rattle.std.proofs.Common.{get_or, set, refl, sym, ◌∙◌, ap, subst, arith}
 use Rattle.std.proofs.lemmas.Bool.{cases_eq, cases_lt, lt-ltb, le-ltb}
 use Rattle.std.proofs.lemmas.Grind.{get_or-set_at}
@@ -9,18 +9,16 @@ use Rattle.std.specs.List.{range_with_len}
 use Rattle.shop_model.specs.Limits.{IsWithinLimits}
 use Rattle.shop_model.specs.Placements.{IsPlacement}
 use Rattle.shop_model.specs.Shop.{Shop, IsOperation, machine_of, route_of, time_of}
-use Rattle.shop_model.specs.Word.{Placing, IsWord, count_of, none_placed, place_next, placing}
+use Rattle.shop_model.specs.Word.{Placing, IsWord, none_placed, place_next, placing}
 use Rattle.shop_model.proofs.Ends.{IsOperation-job}
 use Rattle.shop_model.proofs.PlacementLemmas.{IsWord-take, placing-take}
 use Rattle.shop_model.proofs.Placings.{place_next-is}
 use Rattle.shop_model.proofs.Unders.{after_word, next_operation}
-use Rattle.shop_model.proofs.WordLemmas.{IsWord-init}
 use Rattle.shop_model.proofs.WordLengths.{ready_word, word_length}
 use Rattle.shop_heads.specs.inner.PlacedWords.{IsOfWord}
 use Rattle.shop_layout.specs.Positions.{IsLaidOut, LayoutState, first_position, place, place_or}
 use Rattle.shop_layout.proofs.LaidPlaces.{place_of}
 use Rattle.shop_desk.specs.inner.Fills.{AreNextsPlaced}
-use Rattle.shop_raises.specs.LaneChoices.{AreNextsOf}
 use Rattle.shop_desk.specs.inner.PlacedNexts.{AreBegun, IsPlacedAt, IsWordAt, placement_at, step_at}
 use Rattle.shop_raises.proofs.Followed.{place_past, place_there}
 use Rattle.shop_desk.proofs.RaisedHeads.{followed}

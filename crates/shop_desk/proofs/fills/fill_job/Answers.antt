@@ -11,9 +11,11 @@ loop-position-init g c = fill_begins g.L.StateLanes.GREATEST c.args.laid_out.now
     (placement_at c.args.laid_out.now.layout c.args.next.now c.args.ready.now c.args.free.now)
     (rows_of c.args.laid_out.now.layout (g.L.StateLanes.heads c.args.lanes.now)
     (g.L.StateLanes.ends c.args.lanes.now)) c.requires.fill
-    (of_word_at c.args.laid_out.now.shop c.requires.fill.limits c.args.laid_out.now.layout c.requires.fill.laid c.args.next.now
+    (of_word_at c.args.laid_out.now.shop c.requires.fill.limits c.args.laid_out.now.layout c.requires.fill.laid
+    c.args.next.now
     c.args.ready.now c.args.free.now c.requires.of) c.args.job c.requires.job c.args.next.now
-    (nexts_placed c.args.laid_out.now.shop c.requires.fill.limits c.args.laid_out.now.layout c.requires.fill.laid c.requires.of.word
+    (nexts_placed c.args.laid_out.now.shop c.requires.fill.limits c.args.laid_out.now.layout c.requires.fill.laid
+    c.requires.of.word
     c.requires.of.fits c.args.next.now c.args.ready.now c.args.free.now c.requires.of.placed)
     (let a = c.requires.of.placed.are_next.jobs in let b = c.requires.job in omega arith)
     (get_or c.args.next.now c.args.job 0) (get_or c.args.ready.now c.args.job 0) refl refl
@@ -23,7 +25,8 @@ bounds-free-machine g c = (can_fill_at g.L.StateLanes.GREATEST c.args.laid_out.n
     (placement_at c.args.laid_out.now.layout c.args.next.now c.args.ready.now c.args.free.now)
     (rows_of c.args.laid_out.now.layout (g.L.StateLanes.heads c.args.lanes.now)
     (g.L.StateLanes.ends c.args.lanes.now)) c.requires.fill
-    (of_word_at c.args.laid_out.now.shop c.requires.fill.limits c.args.laid_out.now.layout c.requires.fill.laid c.args.next.now
+    (of_word_at c.args.laid_out.now.shop c.requires.fill.limits c.args.laid_out.now.layout c.requires.fill.laid
+    c.args.next.now
     c.args.ready.now c.args.free.now c.requires.of) c.args.job c.requires.job
     c.loop-position.position c.loop-position.begin
     (rows_of c.args.laid_out.now.layout (g.L.StateLanes.heads c.loop-position.lanes)
@@ -38,7 +41,8 @@ overflow_add-head g c =
     (placement_at c.args.laid_out.now.layout c.args.next.now c.args.ready.now c.args.free.now)
     (rows_of c.args.laid_out.now.layout (g.L.StateLanes.heads c.args.lanes.now)
     (g.L.StateLanes.ends c.args.lanes.now)) c.requires.fill
-    (of_word_at c.args.laid_out.now.shop c.requires.fill.limits c.args.laid_out.now.layout c.requires.fill.laid c.args.next.now
+    (of_word_at c.args.laid_out.now.shop c.requires.fill.limits c.args.laid_out.now.layout c.requires.fill.laid
+    c.args.next.now
     c.args.ready.now c.args.free.now c.requires.of) c.args.job c.requires.job
     c.loop-position.position c.loop-position.begin
     (rows_of c.args.laid_out.now.layout (g.L.StateLanes.heads c.loop-position.lanes)
@@ -49,11 +53,13 @@ overflow_add-head g c =
     in let computable = c.requires.fill.computable in omega arith
 
 pub set_head-requires-clause-fits : goal.set_head-requires-clause-fits
-set_head-requires-clause-fits g c = (can_fill_at g.L.StateLanes.GREATEST c.args.laid_out.now.shop c.args.laid_out.now.layout
+set_head-requires-clause-fits g c = (can_fill_at g.L.StateLanes.GREATEST c.args.laid_out.now.shop
+    c.args.laid_out.now.layout
     (placement_at c.args.laid_out.now.layout c.args.next.now c.args.ready.now c.args.free.now)
     (rows_of c.args.laid_out.now.layout (g.L.StateLanes.heads c.args.lanes.now)
     (g.L.StateLanes.ends c.args.lanes.now)) c.requires.fill
-    (of_word_at c.args.laid_out.now.shop c.requires.fill.limits c.args.laid_out.now.layout c.requires.fill.laid c.args.next.now
+    (of_word_at c.args.laid_out.now.shop c.requires.fill.limits c.args.laid_out.now.layout c.requires.fill.laid
+    c.args.next.now
     c.args.ready.now c.args.free.now c.requires.of) c.args.job c.requires.job
     c.loop-position.position c.loop-position.begin
     (rows_of c.args.laid_out.now.layout (g.L.StateLanes.heads c.loop-position.lanes)
@@ -68,7 +74,8 @@ overflow_add-begin g c =
     (placement_at c.args.laid_out.now.layout c.args.next.now c.args.ready.now c.args.free.now)
     (rows_of c.args.laid_out.now.layout (g.L.StateLanes.heads c.args.lanes.now)
     (g.L.StateLanes.ends c.args.lanes.now)) c.requires.fill
-    (of_word_at c.args.laid_out.now.shop c.requires.fill.limits c.args.laid_out.now.layout c.requires.fill.laid c.args.next.now
+    (of_word_at c.args.laid_out.now.shop c.requires.fill.limits c.args.laid_out.now.layout c.requires.fill.laid
+    c.args.next.now
     c.args.ready.now c.args.free.now c.requires.of) c.args.job c.requires.job
     c.loop-position.position c.loop-position.begin
     (rows_of c.args.laid_out.now.layout (g.L.StateLanes.heads c.loop-position.lanes)
@@ -83,20 +90,23 @@ loop-position-smaller g c = fill_less g.L.StateLanes.GREATEST c.args.laid_out.no
     (placement_at c.args.laid_out.now.layout c.args.next.now c.args.ready.now c.args.free.now)
     (rows_of c.args.laid_out.now.layout (g.L.StateLanes.heads c.args.lanes.now)
     (g.L.StateLanes.ends c.args.lanes.now)) c.requires.fill
-    (of_word_at c.args.laid_out.now.shop c.requires.fill.limits c.args.laid_out.now.layout c.requires.fill.laid c.args.next.now
+    (of_word_at c.args.laid_out.now.shop c.requires.fill.limits c.args.laid_out.now.layout c.requires.fill.laid
+    c.args.next.now
     c.args.ready.now c.args.free.now c.requires.of) c.args.job c.requires.job
     c.loop-position.position c.loop-position.begin
     (rows_of c.args.laid_out.now.layout (g.L.StateLanes.heads c.loop-position.lanes)
     (g.L.StateLanes.ends c.loop-position.lanes)) c.loop-position.invariant
     c.routes-routes.result (c.routes-routes.ensures ∙ c.grid.ensures.grid)
-    c.positions.result c.positions.ensures c.loop-position-test.true c.following-position.result c.following-position.ensures
+    c.positions.result c.positions.ensures c.loop-position-test.true c.following-position.result
+    c.following-position.ensures
 
 pub loop-position-preserved : goal.loop-position-preserved
 loop-position-preserved g c = fill_on g.L.StateLanes.GREATEST c.args.laid_out.now.shop c.args.laid_out.now.layout
     (placement_at c.args.laid_out.now.layout c.args.next.now c.args.ready.now c.args.free.now)
     (rows_of c.args.laid_out.now.layout (g.L.StateLanes.heads c.args.lanes.now)
     (g.L.StateLanes.ends c.args.lanes.now)) c.requires.fill
-    (of_word_at c.args.laid_out.now.shop c.requires.fill.limits c.args.laid_out.now.layout c.requires.fill.laid c.args.next.now
+    (of_word_at c.args.laid_out.now.shop c.requires.fill.limits c.args.laid_out.now.layout c.requires.fill.laid
+    c.args.next.now
     c.args.ready.now c.args.free.now c.requires.of) c.args.job c.requires.job
     c.loop-position.position c.loop-position.begin
     (rows_of c.args.laid_out.now.layout (g.L.StateLanes.heads c.loop-position.lanes)
@@ -117,7 +127,8 @@ returns g c = fill_ends g.L.StateLanes.GREATEST c.args.laid_out.now.shop c.args.
     (placement_at c.args.laid_out.now.layout c.args.next.now c.args.ready.now c.args.free.now)
     (rows_of c.args.laid_out.now.layout (g.L.StateLanes.heads c.args.lanes.now)
     (g.L.StateLanes.ends c.args.lanes.now)) c.requires.fill
-    (of_word_at c.args.laid_out.now.shop c.requires.fill.limits c.args.laid_out.now.layout c.requires.fill.laid c.args.next.now
+    (of_word_at c.args.laid_out.now.shop c.requires.fill.limits c.args.laid_out.now.layout c.requires.fill.laid
+    c.args.next.now
     c.args.ready.now c.args.free.now c.requires.of) c.args.job c.requires.job
     c.loop-position.position c.loop-position.begin
     (rows_of c.args.laid_out.now.layout (g.L.StateLanes.heads c.loop-position.lanes)

@@ -8,7 +8,8 @@ use Rattle.shop_desk.proofs.PlacedNexts.{nexts_placed, placement_is}
 use Rattle.shop_desk.proofs.fills.fill_state.Goals as goal
 
 pub fill_heads-requires-clause-fill : goal.fill_heads-requires-clause-fill
-fill_heads-requires-clause-fill g c = can_fill g.L.StateLanes.GREATEST c.args.laid_out.now.shop c.args.laid_out.now.layout c.grid-grid.ensures.ready
+fill_heads-requires-clause-fill g c = can_fill g.L.StateLanes.GREATEST c.args.laid_out.now.shop
+    c.args.laid_out.now.layout c.grid-grid.ensures.ready
     (g.L.StateLanes.heads c.args.lanes.now) (g.L.StateLanes.ends c.args.lanes.now) c.args.next.now c.requires.room
     (placement_at c.args.laid_out.now.layout c.args.next.now c.args.ready.now c.args.free.now)
     (g.L.StateLanes.heads c.clear.new.self) (g.L.StateLanes.ends c.clear.new.self) c.clear.ensures.heads
@@ -26,10 +27,13 @@ set_ends-requires-clause-keep g c = subst (λ (l : LayoutState). CanKeepEnds g.L
     (rows_of c.args.laid_out.now.layout (g.L.StateLanes.heads c.fill_heads.new.lanes)
     (g.L.StateLanes.ends c.fill_heads.new.lanes)) c.fill_heads.ensures
     c.args.next.now refl
-    (nexts_placed c.args.laid_out.now.shop c.grid-grid.ensures.ready.limits c.args.laid_out.now.layout c.grid-grid.ensures.ready.laid
-    c.requires.of.word c.requires.of.fits c.args.next.now c.args.ready.now c.args.free.now c.requires.of.placed) c.requires.of.word c.requires.of.fits
+    (nexts_placed c.args.laid_out.now.shop c.grid-grid.ensures.ready.limits c.args.laid_out.now.layout
+    c.grid-grid.ensures.ready.laid
+    c.requires.of.word c.requires.of.fits c.args.next.now c.args.ready.now c.args.free.now c.requires.of.placed)
+    c.requires.of.word c.requires.of.fits
     (placement_is c.args.laid_out.now.shop c.grid-grid.ensures.ready.limits c.args.laid_out.now.layout
-    c.grid-grid.ensures.ready.laid c.requires.of.word c.requires.of.fits c.args.next.now c.args.ready.now c.args.free.now c.requires.of.placed))
+    c.grid-grid.ensures.ready.laid c.requires.of.word c.requires.of.fits c.args.next.now c.args.ready.now
+    c.args.free.now c.requires.of.placed))
 
 pub set_ends-requires-clause-times : goal.set_ends-requires-clause-times
 set_ends-requires-clause-times g c = subst (λ (l : LayoutState). length l.times
@@ -43,7 +47,8 @@ set_ends-requires-clause-times g c = subst (λ (l : LayoutState). length l.times
     (g.L.StateLanes.ends c.fill_heads.new.lanes)) c.fill_heads.ensures)
 
 pub returns : goal.returns
-returns g c = λ w word at. filled_kept g.L.StateLanes.GREATEST c.args.laid_out.now.shop c.args.laid_out.now.layout c.grid-grid.ensures.ready
+returns g c = λ w word at. filled_kept g.L.StateLanes.GREATEST c.args.laid_out.now.shop c.args.laid_out.now.layout
+    c.grid-grid.ensures.ready
     (g.L.StateLanes.heads c.args.lanes.now) (g.L.StateLanes.ends c.args.lanes.now) c.args.next.now c.requires.room
     (placement_at c.args.laid_out.now.layout c.args.next.now c.args.ready.now c.args.free.now)
     (g.L.StateLanes.heads c.clear.new.self) (g.L.StateLanes.ends c.clear.new.self) c.clear.ensures.heads
@@ -51,8 +56,10 @@ returns g c = λ w word at. filled_kept g.L.StateLanes.GREATEST c.args.laid_out.
     (rows_of c.args.laid_out.now.layout (g.L.StateLanes.heads c.fill_heads.new.lanes)
     (g.L.StateLanes.ends c.fill_heads.new.lanes)) c.fill_heads.ensures
     c.args.next.now refl
-    (nexts_placed c.args.laid_out.now.shop c.grid-grid.ensures.ready.limits c.args.laid_out.now.layout c.grid-grid.ensures.ready.laid
-    c.requires.of.word c.requires.of.fits c.args.next.now c.args.ready.now c.args.free.now c.requires.of.placed) w word
+    (nexts_placed c.args.laid_out.now.shop c.grid-grid.ensures.ready.limits c.args.laid_out.now.layout
+    c.grid-grid.ensures.ready.laid
+    c.requires.of.word c.requires.of.fits c.args.next.now c.args.ready.now c.args.free.now c.requires.of.placed) w
+    word
     (placement_is c.args.laid_out.now.shop c.grid-grid.ensures.ready.limits c.args.laid_out.now.layout
     c.grid-grid.ensures.ready.laid w word c.args.next.now c.args.ready.now c.args.free.now at)
     (rows_of c.args.laid_out.now.layout (g.L.StateLanes.heads c.set_ends.new.lanes)
