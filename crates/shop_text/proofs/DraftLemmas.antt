@@ -23,7 +23,7 @@ use Rattle.shop_text.specs.Formats.{routes_job}
 use Rattle.shop_text.specs.Formats.{taillard, taillard_job}
 use Rattle.shop_text.specs.inner.LineReading.{Fails, JudgesRow, times_row_fault, machines_row_fault}
 use Rattle.shop_text.specs.inner.Drafts.{items_of, jobs_drafted, HoldsRows, IsDraft}
-use Rattle.shop_text.specs.declared.drafts.Draft.{Draft}
+use Rattle.shop_text.specs.declared.instance_drafts.Draft.{Draft}
 use Rattle.shop_text.specs.declared.faults.ReadFault.{ReadFault}
 use Rattle.shop_text.specs.declared.formats.Format.{Format}
 use Rattle.shop_text.specs.declared.formats.Format.TheVariants.{Orlib, Taillard, Routes}

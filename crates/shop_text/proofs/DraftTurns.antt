@@ -18,7 +18,7 @@ use Rattle.shop_text.specs.Formats.{jobs_in, machines_in, orlib_job, routes_job,
 use Rattle.shop_text.specs.inner.LineReading.{Fails, size_line_fault, times_row_fault}
 use Rattle.shop_text.specs.inner.Drafts.{items_of, jobs_drafted, HoldsTimes, HoldsRows, IsDraft, wants_times, PushesJob}
 use Rattle.shop_text.specs.inner.Drafts.{IsOneMore, TakesRow}
-use Rattle.shop_text.specs.declared.drafts.Draft.{Draft}
+use Rattle.shop_text.specs.declared.instance_drafts.Draft.{Draft}
 use Rattle.shop_text.specs.declared.faults.ReadFault.{ReadFault}
 use Rattle.shop_text.specs.declared.formats.Format.{Format}
 use Rattle.shop_text.specs.declared.formats.Format.TheVariants.{Orlib, Taillard, Routes}

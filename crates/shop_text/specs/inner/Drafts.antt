@@ -8,7 +8,7 @@ use Rattle.shop_model.specs.Given.{job_as_given, shop_of_jobs}
 use Rattle.shop_text.specs.Grammar.{Row}
 use Rattle.shop_text.specs.Formats.{grammar_of, jobs_in, machines_in}
 use Rattle.shop_text.specs.inner.LineReading.{Fails}
-use Rattle.shop_text.specs.declared.drafts.Draft.{Draft}
+use Rattle.shop_text.specs.declared.instance_drafts.Draft.{Draft}
 use Rattle.shop_text.specs.declared.faults.ReadFault.{ReadFault}
 use Rattle.shop_text.specs.declared.faults.ReadFault.TheVariants.{NoMemory}
 use Rattle.shop_text.specs.declared.formats.Format.{Format}
