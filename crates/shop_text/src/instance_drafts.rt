@@ -5,13 +5,13 @@ ghost use Rattle.shop_text.specs.inner.DraftLimits.{IsDraftWithin};
 
 use crate::faults::ReadFault;
 use crate::formats::Format;
-use crate::rows::{orlib_job, routes_job, size_of, taillard_job, times_of};
+use crate::rows::{job_of_machines, job_of_pairs, job_of_release, size_of, times_of};
 use shop_model::{Instance, Job};
 use std::alloc::Global;
 use std::mem;
 
-/// What is read of an instance so far: its size, its jobs, and in `taillard` the rows of times. Before the size line no
-/// jobs are wanted.
+/// What is read of an instance so far: its size, its jobs, and where they stand in a matrix the rows of times. Before
+/// the size line no jobs are wanted.
 #[derive(Drop)]
 pub(crate) struct Draft {
     jobs_wanted: usize,
@@ -29,6 +29,8 @@ impl Draft {
     ghost use Rattle.shop_text.specs.inner.LineReading.{JudgesRow};
     ghost use Rattle.shop_text.specs.inner.Drafts.{IsDraft, wants_times, jobs_drafted};
     ghost use Rattle.shop_text.specs.inner.Drafts.{PushesJob, TakesRow};
+    ghost use Rattle.shop_text.specs.Formats.{taillard};
+    ghost use Rattle.shop_text.specs.declared.formats.Format.TheVariants.{Taillard};
     ghost use Rattle.std.specs.Prelude.{vec_len, IfOk};
 
     /// The draft of an instance of which no line is read.
@@ -50,17 +52,23 @@ impl Draft {
         self.jobs_wanted == 0
     }
 
+    /// Whether a matrix is to begin, of times or of machines, or the size line is still to come.
+    fn is_before_matrix(&self) -> bool
+        ensures { (rows : List Row) → IsDraft Taillard self.now rows
+            → result ≡ taillard.skips rows }
+    {
+        self.times.is_empty() || self.jobs.is_empty() && self.times.len() == self.jobs_wanted
+    }
+
     /// Whether a text line is skipped at this place of the instance.
     pub(crate) fn skips_text(&self, format: Format) -> bool
         ensures { (rows : List Row) → IsDraft format self.now rows
             → result ≡ (grammar_of format).skips rows }
     {
-        match format {
-            Format::Orlib | Format::Routes => self.jobs_wanted == 0,
-            Format::Taillard => {
-                self.times.is_empty()
-                    || self.jobs.is_empty() && self.times.len() == self.jobs_wanted
-            }
+        if format.grammar().has_matrices {
+            self.is_before_matrix()
+        } else {
+            self.is_fresh()
         }
     }
 
@@ -68,10 +76,7 @@ impl Draft {
     fn wants_times(&self, format: Format) -> bool
         ensures { result ≡ wants_times format self.now.jobs_wanted (vec_len self.now.times) }
     {
-        match format {
-            Format::Orlib | Format::Routes => false,
-            Format::Taillard => self.times.len() < self.jobs_wanted,
-        }
+        format.grammar().has_matrices && self.times.len() < self.jobs_wanted
     }
 
     /// The job of a row.
@@ -91,13 +96,15 @@ impl Draft {
             ≡ jobs_drafted format (rows ++ written ∷ [])) }
         ensures within { IfOk result (λ job. IsJobWithin self.now.machines job) }
     {
-        match format {
-            Format::Orlib => orlib_job(alloc, line, self.machines, row),
-            Format::Routes => routes_job(alloc, line, self.machines, row),
-            Format::Taillard => {
-                let times = self.times[self.jobs.len()].as_slice();
-                taillard_job(alloc, line, self.machines, times, row)
-            }
+        let grammar = format.grammar();
+        if grammar.has_matrices {
+            let times = self.times[self.jobs.len()].as_slice();
+            return job_of_machines(alloc, line, self.machines, times, row);
+        }
+        if grammar.has_releases {
+            job_of_release(alloc, line, self.machines, row)
+        } else {
+            job_of_pairs(alloc, line, self.machines, row)
         }
     }
 
@@ -130,7 +137,7 @@ impl Draft {
             → TakesRow format rows written line self.new result }
     {
         if self.jobs_wanted == 0 {
-            let (jobs, machines) = size_of(format, line, row)?;
+            let (jobs, machines) = size_of(format.grammar().most_in_size, line, row)?;
             self.jobs_wanted = jobs;
             self.machines = machines;
             return Ok(None);

@@ -6,6 +6,7 @@ mod format_readers;
 mod formats;
 mod gantt_lines;
 mod gantts;
+mod grammars;
 mod instance_drafts;
 mod instance_readers;
 mod job_lines;

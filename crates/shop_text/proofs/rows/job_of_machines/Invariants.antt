@@ -2,7 +2,7 @@ use Rattle.std.proofs.Common.{◌≡◌, ◌++◌, drop, vec_len, map}
 use Rattle.std.specs.List.{list_all, zip}
 use Rattle.shop_model.specs.Limits.{IsRouteWithin}
 use Rattle.shop_text.specs.Formats.{is_between, taillard_op}
-use Rattle.shop_text.proofs.rows.taillard_job.Given as goal
+use Rattle.shop_text.proofs.rows.job_of_machines.Given as goal
 
 abbrev pub invariant-loop-i : goal.invariant-loop-i
 invariant-loop-i l = record {
