@@ -4,8 +4,8 @@ ghost use Rattle.shop_text.specs.Names.{IsRead};
 
 use crate::faults::ReadFault;
 use crate::formats::Format;
-use crate::names::Named;
 use crate::instance_readers::read_text;
+use crate::names::Named;
 use std::alloc::Global;
 
 /// The instances of a text in this format: see `read_orlib`, `read_taillard` and `read_routes`.

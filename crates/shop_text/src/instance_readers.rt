@@ -11,9 +11,9 @@ ghost use Rattle.shop_text.specs.Texts.{lines_left};
 ghost use Rattle.shop_text.specs.inner.LineReading.{lines_after, IsFurther};
 ghost use Rattle.shop_text.specs.inner.InstanceReading.{name_or, IsReadUpTo, Takes, Ends};
 
-use crate::instance_drafts::Draft;
 use crate::faults::ReadFault;
 use crate::formats::Format;
+use crate::instance_drafts::Draft;
 use crate::limits::MAX_TEXT;
 use crate::lines::next_line;
 use crate::names::Named;
