@@ -10,8 +10,6 @@ use Rattle.shop_text.specs.Grammar.{LineFault, WrongRow, WrongMachine, WrongTime
 use Rattle.shop_text.specs.Formats.{is_between, jobs_in, machines_in, size_fault, pairs_fault, pairs_of}
 use Rattle.shop_text.specs.Formats.{orlib_fault, orlib_job, routes_fault, routes_job, times_fault, machines_fault}
 use Rattle.shop_text.specs.inner.LineReading.{size_line_fault, times_row_fault, machines_row_fault}
-use Rattle.shop_text.specs.declared.formats.Format.{Format}
-use Rattle.shop_text.specs.declared.formats.Format.TheVariants.{Orlib, Taillard, Routes}
 
 pub capped_same : (n : ℕ) → n ≤ 18446744073709551615 → capped n ≡ n
 capped_same n h = omega arith
@@ -173,7 +171,6 @@ size_capped row =
       same_between 100 (machines_in row) (omega arith),
     ) refl
 
-pub size_line_capped : (p : Format) (row : List ℕ) → size_line_fault p (map capped row) ≡ size_line_fault p row
-size_line_capped Orlib row = rw (length-map row capped, size_capped row) refl
-size_line_capped Routes row = rw (length-map row capped, size_capped row) refl
-size_line_capped Taillard row = rw (length-map row capped, size_capped row) refl
+pub size_line_capped : (most : ℕ) (row : List ℕ)
+    → size_line_fault most (map capped row) ≡ size_line_fault most row
+size_line_capped most row = rw (length-map row capped, size_capped row) refl

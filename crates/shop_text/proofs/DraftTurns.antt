@@ -12,27 +12,31 @@ use Rattle.shop_model.specs.declared.ops.Job.{Job}
 use Rattle.shop_model.specs.Shop.{Shop, ShopJob}
 use Rattle.shop_model.specs.Given.{job_as_given}
 use Rattle.shop_text.specs.Formats.{grammar_of}
+use Rattle.shop_text.specs.inner.Grammars.{fields_of}
 use Rattle.shop_text.specs.inner.LineReading.{capped}
 use Rattle.shop_text.specs.Grammar.{Row}
 use Rattle.shop_text.specs.Formats.{jobs_in, machines_in, orlib_job, routes_job, taillard, taillard_job}
 use Rattle.shop_text.specs.inner.LineReading.{Fails, size_line_fault, times_row_fault}
 use Rattle.shop_text.specs.inner.Drafts.{items_of, jobs_drafted, HoldsTimes, HoldsRows, IsDraft, wants_times, PushesJob}
 use Rattle.shop_text.specs.inner.Drafts.{IsOneMore, TakesRow}
-use Rattle.shop_text.specs.declared.drafts.Draft.{Draft}
+use Rattle.shop_text.specs.declared.instance_drafts.Draft.{Draft}
 use Rattle.shop_text.specs.declared.faults.ReadFault.{ReadFault}
 use Rattle.shop_text.specs.declared.formats.Format.{Format}
 use Rattle.shop_text.specs.declared.formats.Format.TheVariants.{Orlib, Taillard, Routes}
 use Rattle.shop_text.proofs.Capping.{size_line_capped, times_capped, times_same}
+use Rattle.shop_text.proofs.GrammarFields.{size_line_is}
 use Rattle.shop_text.proofs.DraftLemmas.{zip_none, times_refused, times_there, taillard_lens, rows_lens}
 
 -- ---- a size line
 
-pub size_failed : (p : Format) (draft : Draft) (n : ℕ) (row : Row) (e : ReadFault) → draft.jobs_wanted ≡ 0
-    → Fails e n (size_line_fault p row) → (rows : List Row) (written : Row) → IsDraft p draft rows
-    → row ≡ map capped written → Fails e n ((grammar_of p).refuses rows written)
-size_failed p draft n row e none h [] written d er =
-    subst (λ o. Fails e n o) (ap (size_line_fault p) er ∙ size_line_capped p written) h
-size_failed p draft n row e none h (size ∷ rows) written d er = absurd (let s = d.some_job in omega arith)
+pub size_failed : (p : Format) (draft : Draft) (most n : ℕ) (row : Row) (e : ReadFault) → draft.jobs_wanted ≡ 0
+    → most ≡ (fields_of p).most_in_size → Fails e n (size_line_fault most row) → (rows : List Row) (written : Row)
+    → IsDraft p draft rows → row ≡ map capped written → Fails e n ((grammar_of p).refuses rows written)
+size_failed p draft most n row e none em h [] written d er =
+    subst (λ o. Fails e n o)
+    (ap (size_line_fault most) er ∙ size_line_capped most written ∙ ap (λ (k : ℕ). size_line_fault k written) em
+    ∙ size_line_is p written) h
+size_failed p draft most n row e none em h (size ∷ rows) written d er = absurd (let s = d.some_job in omega arith)
 
 -- ---- a row of times
 

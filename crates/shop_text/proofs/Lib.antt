@@ -3,6 +3,7 @@ pub mod LineLemmas
 pub mod Seeing
 pub mod Pairs
 pub mod Capping
+pub mod GrammarFields
 pub mod DraftLemmas
 pub mod DraftTurns
 pub mod Headers

@@ -21,7 +21,7 @@ use Rattle.shop_text.specs.declared.faults.ReadFault.TheVariants.{BadRow, Trunca
 use Rattle.shop_text.specs.declared.faults.ReadFault.TheVariants.{NoSuchName, BadTable}
 use Rattle.shop_text.specs.declared.names.Named.{Named}
 use Rattle.shop_text.specs.declared.formats.Format.{Format}
-use Rattle.shop_text.specs.declared.texts.Reader.{Reader}
+use Rattle.shop_text.specs.declared.instance_readers.Reader.{Reader}
 
 pub further_here : (p : ℕ) (text0 : List ℕ) (n : ℕ) (text bytes rest : List ℕ) → IsFurther p text0 n text
     → lines_of text ≡ bytes ∷ lines_of rest → length rest < length text → IsFurther p text0 (n + 1) rest

@@ -19,7 +19,7 @@ use Rattle.shop_text.specs.Names.{shops_of, shop_of_named}
 use Rattle.shop_text.specs.inner.LineReading.{Fails, located}
 use Rattle.shop_text.specs.inner.Drafts.{IsDraft, IsOneMore, IsLastOne}
 use Rattle.shop_text.specs.inner.InstanceReading.{texts_of, name_or, IsLast, IsReadUpTo, AreRead}
-use Rattle.shop_text.specs.declared.drafts.Draft.{Draft}
+use Rattle.shop_text.specs.declared.instance_drafts.Draft.{Draft}
 use Rattle.shop_text.specs.declared.faults.ReadFault.{ReadFault}
 use Rattle.shop_text.specs.declared.faults.ReadFault.TheVariants.{NoMemory, TooLong, NoInstance, BadShape, BadSize}
 use Rattle.shop_text.specs.declared.faults.ReadFault.TheVariants.{BadRow, Truncated, BadMachine, BadTime}
@@ -27,7 +27,7 @@ use Rattle.shop_text.specs.declared.faults.ReadFault.TheVariants.{NoSuchName, Ba
 use Rattle.shop_text.specs.declared.names.Named.{Named}
 use Rattle.shop_text.specs.declared.formats.Format.{Format}
 use Rattle.shop_text.specs.declared.formats.Format.TheVariants.{Orlib, Taillard, Routes}
-use Rattle.shop_text.specs.declared.texts.Reader.{Reader}
+use Rattle.shop_text.specs.declared.instance_readers.Reader.{Reader}
 use Rattle.shop_text.proofs.OneReading.{IsGrammar, with_row, entry}
 use Rattle.shop_text.proofs.Places.{words_on, row_on, part_on, rows_more}
 use Rattle.shop_text.proofs.SomeReading.{nothing_yet, refused_here}

@@ -1,3 +1,4 @@
+pub mod Grammars
 pub mod LineReading
 pub mod DraftLimits
 pub mod Drafts

@@ -5,7 +5,7 @@ ghost use Rattle.shop_model.specs.Checking.{HasShape, starts_of};
 ghost use Rattle.shop_text.specs.Writing.{unit_of, gantt_text};
 ghost use Rattle.shop_text.specs.inner.Printing.{cells_text};
 
-use crate::cells::show_machine;
+use crate::gantt_lines::show_machine;
 use shop_model::{Instance, Table, makespan};
 use std::alloc::{AllocError, Global};
 

@@ -1,27 +1,29 @@
 // Texts: instances, schedules, reports, and what the program prints of them.
 #![tactic(auto)]
 
-mod cells;
-mod drafts;
 mod faults;
+mod format_readers;
 mod formats;
+mod gantt_lines;
 mod gantts;
+mod grammars;
+mod instance_drafts;
+mod instance_readers;
 mod job_lines;
 mod laws;
 mod limits;
 mod lines;
 mod names;
-mod readers;
 mod report_texts;
 mod reports;
 mod rows;
 mod schedules;
 mod seen_lines;
 mod table_laws;
-mod texts;
 mod verdict_lines;
 
 pub use faults::ReadFault;
+pub use format_readers::{read, read_orlib, read_routes, read_taillard};
 pub use formats::{FORMAT_WORDS, FORMATS, Format};
 pub use gantts::gantt;
 pub use laws::{
@@ -29,7 +31,6 @@ pub use laws::{
 };
 pub use limits::MAX_TEXT;
 pub use names::{Named, pick};
-pub use readers::{read, read_orlib, read_routes, read_taillard};
 pub use report_texts::report;
 pub use reports::Report;
 pub use schedules::read_table;

@@ -4,26 +4,20 @@ ghost use Rattle.std.specs.List.{list_all};
 ghost use Rattle.shop_model.specs.Given.{job_as_given};
 ghost use Rattle.shop_model.specs.Limits.{IsJobWithin, IsRouteWithin};
 ghost use Rattle.shop_text.specs.Formats.{pairs_fault, pairs_of, orlib_fault, routes_fault};
-ghost use Rattle.shop_text.specs.Formats.{orlib_job as orlib_row_job, routes_job as routes_row_job};
-ghost use Rattle.shop_text.specs.Formats.{taillard_job as taillard_row_job};
+ghost use Rattle.shop_text.specs.Formats.{orlib_job, routes_job, taillard_job};
 ghost use Rattle.shop_text.specs.inner.LineReading.{JudgesRow, IsSizeIn, size_line_fault};
 ghost use Rattle.shop_text.specs.Shapes.{IsSize};
 ghost use Rattle.shop_text.specs.inner.LineReading.{times_row_fault, machines_row_fault};
 
 use crate::faults::ReadFault;
-use crate::formats::Format;
 use shop_model::{Job, MAX_JOBS, MAX_MACHINES, MAX_STEPS, MAX_TIME, Op};
 use std::alloc::Global;
 
-/// The jobs and machines of a size line.
-pub(crate) fn size_of(format: Format, line: usize, row: &[u64]) -> Result<(usize, usize), ReadFault>
-    ensures judged { JudgesRow result line (size_line_fault format row.now) (IsSizeIn row.now) }
+/// The jobs and machines of a size line of at most `most` numbers.
+pub(crate) fn size_of(most: usize, line: usize, row: &[u64]) -> Result<(usize, usize), ReadFault>
+    ensures judged { JudgesRow result line (size_line_fault most row.now) (IsSizeIn row.now) }
     ensures within { IfOk result (λ size. IsSize size.0 size.1) }
 {
-    let most = match format {
-        Format::Orlib | Format::Routes => 2,
-        Format::Taillard => 6,
-    };
     if row.len() < 2 || most < row.len() {
         return Err(ReadFault::BadShape { line });
     }
@@ -68,8 +62,8 @@ fn route_of(
     Ok(route)
 }
 
-/// The job of a row of `orlib`: a machine and a time for each machine.
-pub(crate) fn orlib_job(
+/// The job of a row of pairs, a machine and a time for each machine.
+pub(crate) fn job_of_pairs(
     alloc: Global,
     line: usize,
     machines: usize,
@@ -77,7 +71,7 @@ pub(crate) fn orlib_job(
 ) -> Result<Job, ReadFault>
     requires { machines ≤ MAX_MACHINES }
     ensures judged { JudgesRow result line (orlib_fault machines row.now)
-        (λ job. job_as_given job ≡ orlib_row_job row.now) }
+        (λ job. job_as_given job ≡ orlib_job row.now) }
     ensures within { IfOk result (λ job. IsJobWithin machines job) }
 {
     if row.len() != 2 * machines {
@@ -87,8 +81,8 @@ pub(crate) fn orlib_job(
     Ok(Job { release: 0, route })
 }
 
-/// The job of a row of `routes`: a release, then a machine and a time for each step.
-pub(crate) fn routes_job(
+/// The job of a row of its release and then a machine and a time for each step.
+pub(crate) fn job_of_release(
     alloc: Global,
     line: usize,
     machines: usize,
@@ -96,7 +90,7 @@ pub(crate) fn routes_job(
 ) -> Result<Job, ReadFault>
     requires { machines ≤ MAX_MACHINES }
     ensures judged { JudgesRow result line (routes_fault machines row.now)
-        (λ job. job_as_given job ≡ routes_row_job row.now) }
+        (λ job. job_as_given job ≡ routes_job row.now) }
     ensures within { IfOk result (λ job. IsJobWithin machines job) }
 {
     if row.len() % 2 == 0 || row.len() > 2 * MAX_STEPS + 1 {
@@ -118,7 +112,7 @@ fn are_times(row: &[u64]) -> bool
     row.iter().all(|time| *time <= MAX_TIME)
 }
 
-/// A row of times of `taillard`.
+/// A row of times.
 pub(crate) fn times_of(
     alloc: Global,
     line: usize,
@@ -140,8 +134,8 @@ pub(crate) fn times_of(
     Ok(times)
 }
 
-/// The job of a row of times of `taillard` and its row of machines, which count from 1.
-pub(crate) fn taillard_job(
+/// The job of a row of times and its row of machines, which count from 1.
+pub(crate) fn job_of_machines(
     alloc: Global,
     line: usize,
     machines: usize,
@@ -152,7 +146,7 @@ pub(crate) fn taillard_job(
     requires times { All (λ time. time ≤ MAX_TIME) times.now }
     requires len { length times.now ≡ machines }
     ensures judged { JudgesRow result line (machines_row_fault machines row.now)
-        (λ job. job_as_given job ≡ taillard_row_job (times.now, row.now)) }
+        (λ job. job_as_given job ≡ taillard_job (times.now, row.now)) }
     ensures within { IfOk result (λ job. IsJobWithin machines job) }
 {
     if row.len() != machines {

@@ -56,9 +56,10 @@ pub(crate) fn header_in(format: Format, line: &[u8]) -> Option<&[u8]>
     ensures { MatchOption result ((grammar_of format).header (Words (tokens_of line.now)) ≡ None)
         (λ n. (grammar_of format).header (Words (tokens_of line.now)) ≡ Some n.now) }
 {
-    match format {
-        Format::Orlib | Format::Routes => name_in(line),
-        Format::Taillard => None,
+    if format.grammar().has_headers {
+        name_in(line)
+    } else {
+        None
     }
 }
 

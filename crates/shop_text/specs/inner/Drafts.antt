@@ -1,5 +1,5 @@
 -- What a draft holds of the number lines that a part has so far.
-use Rattle.std.specs.Prelude.{◌≡◌, ℕ, ◌≤◌, ◌<◌, Bool, false, true, nat_lt, List, [], ◌∷◌, ◌++◌}
+use Rattle.std.specs.Prelude.{◌≡◌, ℕ, ◌≤◌, ◌<◌, Bool, false, true, ◌&&◌, nat_lt, List, [], ◌∷◌, ◌++◌}
 use Rattle.std.specs.Prelude.{length, map, take, Option, Some, None, Result, Ok, Err, Vec}
 use Rattle.std.specs.declared.alloc.Global.{Global}
 use Rattle.shop_model.specs.declared.ops.Job.{Job}
@@ -7,8 +7,9 @@ use Rattle.shop_model.specs.Shop.{Shop, ShopJob}
 use Rattle.shop_model.specs.Given.{job_as_given, shop_of_jobs}
 use Rattle.shop_text.specs.Grammar.{Row}
 use Rattle.shop_text.specs.Formats.{grammar_of, jobs_in, machines_in}
+use Rattle.shop_text.specs.inner.Grammars.{fields_of}
 use Rattle.shop_text.specs.inner.LineReading.{Fails}
-use Rattle.shop_text.specs.declared.drafts.Draft.{Draft}
+use Rattle.shop_text.specs.declared.instance_drafts.Draft.{Draft}
 use Rattle.shop_text.specs.declared.faults.ReadFault.{ReadFault}
 use Rattle.shop_text.specs.declared.faults.ReadFault.TheVariants.{NoMemory}
 use Rattle.shop_text.specs.declared.formats.Format.{Format}
@@ -41,9 +42,7 @@ IsDraft p draft (size ∷ rows) = HoldsRows p draft size rows
 
 -- whether the next row is one of times
 abbrev pub wants_times : Format → ℕ → ℕ → Bool
-wants_times Orlib jobs_wanted times = false
-wants_times Routes jobs_wanted times = false
-wants_times Taillard jobs_wanted times = nat_lt times jobs_wanted
+wants_times p jobs_wanted times = (fields_of p).has_matrices && nat_lt times jobs_wanted
 
 -- a job was added, and some are still to come
 pub record IsPushed (old new : Draft) (job : Job) : Type 0 where

@@ -15,7 +15,7 @@ use Rattle.shop_text.specs.declared.faults.ReadFault.{ReadFault}
 use Rattle.shop_text.specs.declared.faults.ReadFault.TheVariants.{NoMemory}
 use Rattle.shop_text.specs.declared.names.Named.{Named}
 use Rattle.shop_text.specs.declared.formats.Format.{Format}
-use Rattle.shop_text.specs.declared.texts.Reader.{Reader}
+use Rattle.shop_text.specs.declared.instance_readers.Reader.{Reader}
 
 -- the text lines before the number lines of a part
 abbrev pub texts_of : List Entry → List Numbered

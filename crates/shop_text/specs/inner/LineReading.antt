@@ -5,8 +5,9 @@ use Rattle.std.specs.Prelude.{if◌then◌else◌, Option, Some, None, Result, O
 use Rattle.std.specs.List.{enumerate_from}
 use Rattle.shop_text.specs.Lines.{Line, Blank, Numbers, Words, Numbered, is_left, line_of, lines_of}
 use Rattle.shop_text.specs.Lines.{is_number, value_of}
-use Rattle.shop_text.specs.Grammar.{LineFault, WrongRow, fault_at, Row}
-use Rattle.shop_text.specs.Formats.{grammar_of, jobs_in, machines_in, times_fault, machines_fault}
+use Rattle.shop_text.specs.Grammar.{LineFault, WrongShape, WrongRow, fault_at, Row}
+use Rattle.shop_text.specs.Formats.{grammar_of, is_between, jobs_in, machines_in, size_fault}
+use Rattle.shop_text.specs.Formats.{times_fault, machines_fault}
 use Rattle.shop_text.specs.declared.faults.ReadFault.{ReadFault}
 use Rattle.shop_text.specs.declared.faults.ReadFault.TheVariants.{NoMemory}
 use Rattle.shop_text.specs.declared.formats.Format.{Format}
@@ -65,9 +66,10 @@ JudgesRow (Err e) n fault P = Fails e n fault
 abbrev pub IsSizeIn : Row → ℕ × ℕ → Type 0
 IsSizeIn row (jobs, machines) = (jobs ≡ jobs_in row) × (machines ≡ machines_in row)
 
--- why a size line is refused, a row of times, and a row of machines
-abbrev pub size_line_fault : Format → Row → Option LineFault
-size_line_fault p row = (grammar_of p).refuses [] row
+-- why a size line is refused that may have so many numbers, a row of times, and a row of machines
+abbrev pub size_line_fault : ℕ → Row → Option LineFault
+size_line_fault most size =
+    if is_between 2 most (length size) then size_fault size else Some WrongShape
 
 abbrev pub times_row_fault : ℕ → Row → Option LineFault
 times_row_fault machines row = if not (length row == machines) then Some WrongRow

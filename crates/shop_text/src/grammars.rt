@@ -1,0 +1,48 @@
+// What the formats of instance texts differ in.
+ghost use Rattle.std.specs.Prelude.{◌≡◌};
+ghost use Rattle.shop_text.specs.inner.Grammars.{fields_of};
+
+use crate::formats::Format;
+
+/// The grammar of a format: what its size lines, its rows and its text lines are.
+#[derive(Clone, Copy)]
+pub(crate) struct Grammar {
+    /// The most numbers of a size line; those behind jobs and machines are ignored.
+    pub(crate) most_in_size: usize,
+    /// Whether a text line `instance NAME` is a header. Else headers are text lines like others.
+    pub(crate) has_headers: bool,
+    /// Whether the rows are two matrices, of times and of machines counted from 1, a row for each job in each, and text
+    /// lines are skipped before both. Else the row of a job has pairs of machine and time, machines counted from 0.
+    pub(crate) has_matrices: bool,
+    /// Whether the row of pairs of a job begins with its release, and has any number of pairs. Else it has as many as
+    /// there are machines.
+    pub(crate) has_releases: bool,
+}
+
+impl Format {
+    /// The grammar of the format.
+    pub(crate) fn grammar(self) -> Grammar
+        ensures { result ≡ fields_of self }
+    {
+        match self {
+            Format::Orlib => Grammar {
+                most_in_size: 2,
+                has_headers: true,
+                has_matrices: false,
+                has_releases: false,
+            },
+            Format::Taillard => Grammar {
+                most_in_size: 6,
+                has_headers: false,
+                has_matrices: true,
+                has_releases: false,
+            },
+            Format::Routes => Grammar {
+                most_in_size: 2,
+                has_headers: true,
+                has_matrices: false,
+                has_releases: true,
+            },
+        }
+    }
+}

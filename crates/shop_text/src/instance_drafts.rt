@@ -1,0 +1,153 @@
+// The instance that is being read, row by row.
+ghost use Rattle.std.specs.Prelude.{◌≡◌, ℕ, ◌<◌, ◌∷◌, ◌++◌, [], List, map, true, false, ◌==◌};
+ghost use Rattle.shop_text.specs.Formats.{grammar_of};
+ghost use Rattle.shop_text.specs.inner.DraftLimits.{IsDraftWithin};
+
+use crate::faults::ReadFault;
+use crate::formats::Format;
+use crate::rows::{job_of_machines, job_of_pairs, job_of_release, size_of, times_of};
+use shop_model::{Instance, Job};
+use std::alloc::Global;
+use std::mem;
+
+/// What is read of an instance so far: its size, its jobs, and where they stand in a matrix the rows of times. Before
+/// the size line no jobs are wanted.
+#[derive(Drop)]
+pub(crate) struct Draft {
+    jobs_wanted: usize,
+    machines: usize,
+    times: Vec<Vec<u64>>,
+    jobs: Vec<Job>,
+    ghost within: { IsDraftWithin jobs_wanted machines times.items jobs.items },
+}
+
+impl Draft {
+    ghost use Rattle.shop_model.specs.Given.{job_as_given};
+    ghost use Rattle.shop_model.specs.Limits.{IsJobWithin};
+    ghost use Rattle.shop_text.specs.inner.LineReading.{capped};
+    ghost use Rattle.shop_text.specs.Grammar.{Row};
+    ghost use Rattle.shop_text.specs.inner.LineReading.{JudgesRow};
+    ghost use Rattle.shop_text.specs.inner.Drafts.{IsDraft, wants_times, jobs_drafted};
+    ghost use Rattle.shop_text.specs.inner.Drafts.{PushesJob, TakesRow};
+    ghost use Rattle.shop_text.specs.Formats.{taillard};
+    ghost use Rattle.shop_text.specs.declared.formats.Format.TheVariants.{Taillard};
+    ghost use Rattle.std.specs.Prelude.{vec_len, IfOk};
+
+    /// The draft of an instance of which no line is read.
+    pub(crate) fn new(alloc: Global) -> Draft
+        ensures { result.jobs_wanted ≡ 0 }
+    {
+        Draft {
+            jobs_wanted: 0,
+            machines: 0,
+            times: Vec::new(alloc),
+            jobs: Vec::new(alloc),
+        }
+    }
+
+    /// Whether the size line is still to come.
+    pub(crate) fn is_fresh(&self) -> bool
+        ensures { result ≡ (self.now.jobs_wanted == 0) }
+    {
+        self.jobs_wanted == 0
+    }
+
+    /// Whether a matrix is to begin, of times or of machines, or the size line is still to come.
+    fn is_before_matrix(&self) -> bool
+        ensures { (rows : List Row) → IsDraft Taillard self.now rows
+            → result ≡ taillard.skips rows }
+    {
+        self.times.is_empty() || self.jobs.is_empty() && self.times.len() == self.jobs_wanted
+    }
+
+    /// Whether a text line is skipped at this place of the instance.
+    pub(crate) fn skips_text(&self, format: Format) -> bool
+        ensures { (rows : List Row) → IsDraft format self.now rows
+            → result ≡ (grammar_of format).skips rows }
+    {
+        if format.grammar().has_matrices {
+            self.is_before_matrix()
+        } else {
+            self.is_fresh()
+        }
+    }
+
+    /// Whether the next row is one of times.
+    fn wants_times(&self, format: Format) -> bool
+        ensures { result ≡ wants_times format self.now.jobs_wanted (vec_len self.now.times) }
+    {
+        format.grammar().has_matrices && self.times.len() < self.jobs_wanted
+    }
+
+    /// The job of a row.
+    fn job_of(
+        &self,
+        alloc: Global,
+        format: Format,
+        line: usize,
+        row: &[u64],
+    ) -> Result<Job, ReadFault>
+        requires some { 0 < self.now.jobs_wanted }
+        requires times { wants_times format self.now.jobs_wanted (vec_len self.now.times) ≡ false }
+        ensures judged { (rows : List Row) (written : Row)
+            → IsDraft format self.now rows → row.now ≡ map capped written
+            → JudgesRow result line ((grammar_of format).refuses rows written)
+            (λ job. map job_as_given (self.now.jobs.items ++ job ∷ [])
+            ≡ jobs_drafted format (rows ++ written ∷ [])) }
+        ensures within { IfOk result (λ job. IsJobWithin self.now.machines job) }
+    {
+        let grammar = format.grammar();
+        if grammar.has_matrices {
+            let times = self.times[self.jobs.len()].as_slice();
+            return job_of_machines(alloc, line, self.machines, times, row);
+        }
+        if grammar.has_releases {
+            job_of_release(alloc, line, self.machines, row)
+        } else {
+            job_of_pairs(alloc, line, self.machines, row)
+        }
+    }
+
+    /// Adds a job. With the last one it returns the instance, and the draft is empty again.
+    fn push_job(&mut self, alloc: Global, job: Job) -> Result<Option<Instance>, ReadFault>
+        requires some { 0 < self.old.jobs_wanted }
+        requires within { IsJobWithin self.old.machines job }
+        ensures { PushesJob self.old self.new job result }
+    {
+        self.jobs.push(job)?;
+        if self.jobs.len() < self.jobs_wanted {
+            return Ok(None);
+        }
+        let jobs = mem::replace(&mut self.jobs, Vec::new(alloc));
+        self.times.clear();
+        self.jobs_wanted = 0;
+        Ok(Some(Instance::of_jobs(self.machines, jobs).unwrap()))
+    }
+
+    /// Reads a number line. Returns the instance if this was its last row; fails with the fault of the line.
+    pub(crate) fn take_row(
+        &mut self,
+        alloc: Global,
+        format: Format,
+        line: usize,
+        row: &[u64],
+    ) -> Result<Option<Instance>, ReadFault>
+        ensures { (rows : List Row) (written : Row)
+            → IsDraft format self.old rows → row.now ≡ map capped written
+            → TakesRow format rows written line self.new result }
+    {
+        if self.jobs_wanted == 0 {
+            let (jobs, machines) = size_of(format.grammar().most_in_size, line, row)?;
+            self.jobs_wanted = jobs;
+            self.machines = machines;
+            return Ok(None);
+        }
+        if self.wants_times(format) {
+            let times = times_of(alloc, line, self.machines, row)?;
+            self.times.push(times)?;
+            return Ok(None);
+        }
+        let job = self.job_of(alloc, format, line, row)?;
+        self.push_job(alloc, job)
+    }
+}

@@ -1,0 +1,161 @@
+// Instance texts, line by line.
+ghost use Rattle.std.specs.Prelude.{◌≡◌, ℕ, ◌≤◌, List, [], length, map};
+ghost use Rattle.std.specs.Prelude.{MatchOption, Some, None, IfOk};
+ghost use Rattle.std.specs.Prelude.{string_bytes};
+ghost use Rattle.std.specs.Fmt.{decimal};
+ghost use Rattle.shop_text.specs.Formats.{grammar_of};
+ghost use Rattle.shop_text.specs.Lines.{Numbered, Numbers, Words, line_of};
+ghost use Rattle.shop_text.specs.inner.LineReading.{capped};
+ghost use Rattle.shop_text.specs.Names.{IsRead};
+ghost use Rattle.shop_text.specs.Texts.{lines_left};
+ghost use Rattle.shop_text.specs.inner.LineReading.{lines_after, IsFurther};
+ghost use Rattle.shop_text.specs.inner.InstanceReading.{name_or, IsReadUpTo, Takes, Ends};
+
+use crate::faults::ReadFault;
+use crate::formats::Format;
+use crate::instance_drafts::Draft;
+use crate::limits::MAX_TEXT;
+use crate::lines::next_line;
+use crate::names::Named;
+use crate::seen_lines::{Seen, header_in, see};
+use std::alloc::{AllocError, Global};
+
+/// The instances read so far, the name of the last header behind them, and the draft of the next instance.
+#[derive(Drop)]
+struct Reader {
+    format: Format,
+    named: Vec<Named>,
+    name: Option<String>,
+    draft: Draft,
+}
+
+/// The name of an instance, or its number where it has none.
+fn name_or_number(alloc: Global, name: Option<String>, number: usize) -> Result<String, AllocError>
+    ensures { IfOk result (λ s. string_bytes s ≡ name_or (decimal number) name) }
+{
+    match name {
+        Some(name) => Ok(name),
+        None => format!(in alloc; "{number}"),
+    }
+}
+
+impl Reader {
+    /// A reader that has read no line.
+    fn new(alloc: Global, format: Format) -> Reader
+        ensures same { result.format ≡ format }
+        ensures nothing { IsReadUpTo result [] }
+    {
+        Reader {
+            format,
+            named: Vec::new(alloc),
+            name: None,
+            draft: Draft::new(alloc),
+        }
+    }
+
+    /// Reads a text line, and keeps the name that it gives, if any.
+    fn take_words(
+        &mut self,
+        alloc: Global,
+        line: usize,
+        name: Option<&[u8]>,
+    ) -> Result<(), ReadFault>
+        ensures { (front : List Numbered) (words : List (List ℕ)) → IsReadUpTo self.old front
+            → MatchOption name.entry ((grammar_of self.old.format).header (Words words) ≡ None)
+            (λ n. (grammar_of self.old.format).header (Words words) ≡ Some n.now)
+            → Takes self.old.format self.new front line (Words words) result }
+    {
+        if !self.draft.skips_text(self.format) {
+            return Err(ReadFault::BadRow { line });
+        }
+        if let Some(name) = name {
+            self.name = Some(String::from_utf8_lossy(alloc, name)?);
+        }
+        Ok(())
+    }
+
+    /// Reads a number line.
+    fn take_numbers(&mut self, alloc: Global, line: usize, row: &[u64]) -> Result<(), ReadFault>
+        ensures { (front : List Numbered) (written : List ℕ) → IsReadUpTo self.old front
+            → row.now ≡ map capped written
+            → Takes self.old.format self.new front line (Numbers written) result }
+    {
+        if let Some(instance) = self.draft.take_row(alloc, self.format, line, row)? {
+            let name = name_or_number(alloc, self.name.take(), self.named.len() + 1)?;
+            self.named.push(Named { name, instance })?;
+        }
+        Ok(())
+    }
+
+    /// Reads a line; `numbers` is room for its numbers.
+    fn take_line(
+        &mut self,
+        alloc: Global,
+        line: usize,
+        bytes: &[u8],
+        numbers: &mut Vec<u64>,
+    ) -> Result<(), ReadFault>
+        ensures { (front : List Numbered) → IsReadUpTo self.old front
+            → Takes self.old.format self.new front line (line_of bytes.now) result }
+    {
+        match see(self.format, bytes, numbers)? {
+            Seen::Blank => Ok(()),
+            Seen::Words(name) => self.take_words(alloc, line, name),
+            Seen::Numbers => self.take_numbers(alloc, line, numbers.as_slice()),
+        }
+    }
+
+    /// The instances at the end of the text, whose last line has this number.
+    fn finish(self, last: usize) -> Result<Vec<Named>, ReadFault>
+        requires { last ≤ MAX_TEXT }
+        ensures { (lines : List Numbered) → IsReadUpTo self lines
+            → Ends (grammar_of self.format) last lines result }
+    {
+        let Reader { named, draft, .. } = self;
+        if !draft.is_fresh() {
+            return Err(ReadFault::Truncated { line: last + 1 });
+        }
+        if named.is_empty() {
+            return Err(ReadFault::NoInstance);
+        }
+        Ok(named)
+    }
+}
+
+/// The text from its first header on, with the number of lines before that; the whole text if it has no header.
+fn from_first_header(format: Format, text: &[u8]) -> (usize, &[u8])
+    requires { length text.now ≤ MAX_TEXT }
+    ensures left { lines_left (grammar_of format) text.now ≡ lines_after result.0 result.1.now }
+    ensures further { IsFurther 0 text.now result.0 result.1.now }
+{
+    let mut number = 0;
+    let mut rest = text;
+    while rest.len() > 0 {
+        let (line, after) = next_line(rest);
+        if header_in(format, line).is_some() {
+            return (number, rest);
+        }
+        number += 1;
+        rest = after;
+    }
+    (0, text)
+}
+
+/// The instances of a text, with their names.
+pub(crate) fn read_text(alloc: Global, format: Format, text: &[u8]) -> Result<Vec<Named>, ReadFault>
+    ensures { IsRead (grammar_of format) text.now result }
+{
+    if text.len() > MAX_TEXT {
+        return Err(ReadFault::TooLong);
+    }
+    let (mut number, mut rest) = from_first_header(format, text);
+    let mut reader = Reader::new(alloc, format);
+    let mut numbers = Vec::new(alloc);
+    while rest.len() > 0 {
+        let (line, after) = next_line(rest);
+        number += 1;
+        rest = after;
+        reader.take_line(alloc, number, line, &mut numbers)?;
+    }
+    reader.finish(number)
+}
