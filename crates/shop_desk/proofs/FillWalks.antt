@@ -145,7 +145,7 @@ module _ (greatest : ℕ) (shop : Shop) (l : LayoutState) (s : PlacementState) (
         filled = λ p is k op. so_far.filled.filled p is k op (elim (cases_lt so_far.step (steps_of l j)) [
           | inl more ↦ absurd (past (
               let a = place_of shop can.limits l can.laid j so_far.step
-                  (let b = can.laid.routes j in omega arith)
+              (let b = can.laid.routes j in omega arith)
               in let within = a.within
               in let c = so_far.next_is
               in let d = place_there l (length l.following) j so_far.step more

@@ -13,9 +13,9 @@ ghost use Rattle.shop_layout.specs.Lanes.{rows_of};
 ghost use Rattle.shop_raises.specs.MachineRaises.{AreEmpty};
 
 use crate::lane_ends::set_end_of;
-use shop_raises::MachineRaises;
 use shop_lanes::StateLanes;
 use shop_layout::Grid;
+use shop_raises::MachineRaises;
 
 /// The job's operation at this position was dispatched: the one that follows is its next one, with its end.
 #[inline(always)]

@@ -6,12 +6,12 @@ use crate::advances::{advance_below, strike};
 use crate::dispatching::{Candidate, Dispatching};
 use crate::fills::fill_state;
 use crate::gathering::gather;
-use shop_raises::MachineRaises;
 use crate::placing::place_word;
 use crate::states::{Scratch, State};
 use crate::steps::{BOUNDS, step};
 use shop_lanes::StateLanes;
 use shop_layout::LaidOut;
+use shop_raises::MachineRaises;
 use std::alloc::{AllocError, Global};
 
 impl<'a, L: StateLanes> Dispatching for LaidOut<'a, L> {

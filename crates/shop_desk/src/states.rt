@@ -1,6 +1,6 @@
 // A state of a word, and what a dispatch needs beside it.
-use shop_raises::MachineRaises;
 use shop_lanes::StateLanes;
+use shop_raises::MachineRaises;
 
 /// What a word leaves: the heads of its operations by position, and by job its next operation and the end of that.
 #[derive(Drop)]

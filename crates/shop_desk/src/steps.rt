@@ -11,9 +11,9 @@ ghost use Rattle.shop_desk.specs.inner.Steps.{CanStep};
 
 use crate::advances::advance_below;
 use crate::look_aheads::foresee;
-use shop_raises::MachineRaises;
 use shop_lanes::StateLanes;
 use shop_layout::Grid;
+use shop_raises::MachineRaises;
 
 /// No bound of a word within the limits reaches this.
 pub(crate) const BOUNDS: u64 = 1 << 50;
