@@ -10,12 +10,12 @@ use Rattle.shop_model.specs.Word.{Placing, IsWord, placing, place_next}
 use Rattle.shop_model.proofs.Placings.{IsNext, place_next-is}
 use Rattle.shop_model.proofs.Unders.{placing-snoc, next_operation, after_word}
 use Rattle.shop_heads.specs.Heads.{head_of}
-use Rattle.shop_raises.specs.LaneEnds.{IsEndOf}
-use Rattle.shop_raises.specs.LaneHeads.{AreHeadsAt}
+use Rattle.shop_raises.specs.inner.LaneEnds.{IsEndOf}
+use Rattle.shop_raises.specs.inner.LaneHeads.{AreHeadsAt}
 use Rattle.shop_desk.specs.inner.LaneStates.{Advances, AreHeadsInLanes, HasNextAt}
 use Rattle.shop_layout.specs.Positions.{LayoutState, place, first_position}
-use Rattle.shop_raises.specs.Raises.{AreFirst, HasBlocks, IsLeastRaise, IsOnMachine, IsRaisable}
-use Rattle.shop_raises.specs.Raises.{Raises}
+use Rattle.shop_raises.specs.inner.Raises.{AreFirst, HasBlocks, IsLeastRaise, IsOnMachine, IsRaisable}
+use Rattle.shop_raises.specs.inner.Raises.{Raises}
 use Rattle.shop_heads.proofs.HeadTurns.{ready_first}
 use Rattle.shop_layout.proofs.LaidPlaces.{place_of}
 use Rattle.shop_desk.proofs.RaisedHeads.{left, raisable, raised, has_blocks}

@@ -14,11 +14,11 @@ use Rattle.shop_heads.specs.Conflicts.{chosen_of, conflict, conflict_among, conf
 use Rattle.shop_heads.specs.Conflicts.{open_jobs}
 use Rattle.shop_heads.proofs.Entries.{IsWord-snoc}
 use Rattle.shop_desk.specs.inner.Advances.{CanForesee, IsAdvancing, IsLeastAt, foreseen}
-use Rattle.shop_raises.specs.LaneChoices.{AreChoosable}
+use Rattle.shop_raises.specs.inner.LaneChoices.{AreChoosable}
 use Rattle.shop_desk.specs.inner.LaneStates.{IsKeptInLanes}
 use Rattle.shop_layout.specs.Lanes.{rows_of}
 use Rattle.shop_layout.specs.Positions.{LayoutState, place}
-use Rattle.shop_raises.specs.RisingLists.{IsIn, Rises}
+use Rattle.shop_raises.specs.inner.RisingLists.{IsIn, Rises}
 use Rattle.shop_desk.proofs.ChildReads.{after_look, end_here, end_latest, end_small, head_here}
 use Rattle.shop_desk.proofs.ChildReads.{left_fits, machine_here, time_here}
 use Rattle.shop_desk.proofs.LaneConflicts.{filter_rises, in_filter, open_is}

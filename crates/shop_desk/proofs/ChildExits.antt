@@ -10,7 +10,7 @@ use Rattle.shop_model.specs.Word.{Placing, IsWord, placing, place_next}
 use Rattle.shop_heads.specs.Bound.{lb}
 use Rattle.shop_heads.specs.Heads.{head_of}
 use Rattle.one_machine.specs.OneMachine.{one}
-use Rattle.shop_raises.specs.LaneHeads.{AreHeadsAt, AreStored}
+use Rattle.shop_raises.specs.inner.LaneHeads.{AreHeadsAt, AreStored}
 use Rattle.shop_layout.specs.Positions.{LayoutState, IsLaidOut}
 use Rattle.shop_desk.proofs.ChildBounds.{raised_left, child-ge-left}
 use Rattle.shop_desk.proofs.LaneSpans.{IsServedAs, from_none, span_within, spans_cover}

@@ -13,9 +13,9 @@ use Rattle.shop_heads.specs.Heads.{head_of}
 use Rattle.one_machine.specs.OneMachine.{one}
 use Rattle.shop_layout.specs.HeadLimits.{latest_end}
 use Rattle.shop_layout.specs.Lanes.{lanes_on}
-use Rattle.shop_raises.specs.LaneHeads.{AreHeadsAt}
+use Rattle.shop_raises.specs.inner.LaneHeads.{AreHeadsAt}
 use Rattle.shop_layout.specs.Positions.{LayoutState, IsLaidOut, place}
-use Rattle.shop_raises.specs.HeadRaises.{Raise}
+use Rattle.shop_raises.specs.inner.HeadRaises.{Raise}
 use Rattle.shop_desk.proofs.ChildBounds.{child-le}
 use Rattle.shop_desk.proofs.ChildExits.{after_spans-cover, after_spans-le}
 use Rattle.shop_layout.proofs.LaidPlaces.{each_position}

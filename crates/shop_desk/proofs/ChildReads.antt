@@ -12,9 +12,9 @@ use Rattle.shop_heads.specs.Bound.{lb}
 use Rattle.shop_heads.specs.Heads.{head_of}
 use Rattle.shop_desk.specs.inner.ChildBounds.{IsLeastAfter}
 use Rattle.shop_layout.specs.HeadLimits.{FitsLanes, latest_end}
-use Rattle.shop_raises.specs.LaneBounds.{AreSpansFit}
+use Rattle.shop_raises.specs.inner.LaneBounds.{AreSpansFit}
 use Rattle.shop_layout.specs.Lanes.{lanes_on}
-use Rattle.shop_raises.specs.LaneHeads.{AreStored}
+use Rattle.shop_raises.specs.inner.LaneHeads.{AreStored}
 use Rattle.shop_desk.specs.inner.LaneStates.{AreHeadsInLanes}
 use Rattle.shop_layout.specs.Positions.{AreMachinesOf, LayoutState, first_position, place}
 use Rattle.shop_desk.proofs.ChildBounds.{child-ge-before}

@@ -14,11 +14,11 @@ use Rattle.one_machine.specs.OneMachine.{one}
 use Rattle.shop_desk.specs.inner.ChildBounds.{IsLeastAfter}
 use Rattle.shop_layout.specs.HeadLimits.{latest_end}
 use Rattle.shop_layout.specs.Lanes.{lanes_on}
-use Rattle.shop_raises.specs.LaneHeads.{AreHeadsAt}
+use Rattle.shop_raises.specs.inner.LaneHeads.{AreHeadsAt}
 use Rattle.shop_desk.specs.inner.LaneStates.{AreHeadsInLanes, Advances}
 use Rattle.shop_layout.specs.Positions.{AreMachinesOf, LayoutState, place}
-use Rattle.shop_raises.specs.Watchers.{IsSeenAt, floor_on}
-use Rattle.shop_raises.specs.HeadRaises.{Raise}
+use Rattle.shop_raises.specs.inner.Watchers.{IsSeenAt, floor_on}
+use Rattle.shop_raises.specs.inner.HeadRaises.{Raise}
 use Rattle.shop_desk.proofs.ChildRaises.{bound_is, heads_small, its_lanes}
 use Rattle.shop_desk.proofs.ChildReads.{left_stored}
 use Rattle.shop_layout.proofs.LaneLimits.{blocks_within}

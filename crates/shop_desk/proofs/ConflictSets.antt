@@ -12,10 +12,10 @@ use Rattle.shop_layout.specs.Positions.{LayoutState}
 use Rattle.shop_desk.specs.declared.dispatching.Candidate.{Candidate}
 use Rattle.shop_desk.specs.inner.Candidates.{AreCandidatesOf, CanList, IsChosenBy, ListsGathered}
 use Rattle.shop_desk.specs.inner.Candidates.{told_at}
-use Rattle.shop_raises.specs.LaneChoices.{AreNextPlaced, IsJobBelow}
+use Rattle.shop_raises.specs.inner.LaneChoices.{AreNextPlaced, IsJobBelow}
 use Rattle.shop_desk.specs.inner.LaneStates.{IsKeptInLanes}
-use Rattle.shop_raises.specs.Raises.{IsInBlocks}
-use Rattle.shop_raises.specs.RisingLists.{IsGatheredWith}
+use Rattle.shop_raises.specs.inner.Raises.{IsInBlocks}
+use Rattle.shop_raises.specs.inner.RisingLists.{IsGatheredWith}
 use Rattle.shop_desk.proofs.Candidates.{choosable, few_jobs}
 use Rattle.shop_desk.proofs.LaneChoices.{alone_with}
 use Rattle.shop_desk.proofs.NextOperations.{next_placed}

@@ -9,7 +9,7 @@ use Rattle.shop_heads.specs.inner.PlacedWords.{IsOfWord}
 use Rattle.shop_layout.specs.Positions.{LayoutState, place, place_or}
 use Rattle.shop_layout.proofs.LaidPlaces.{place_of}
 use Rattle.shop_desk.specs.inner.Fills.{AreNextsPlaced, CanFill, HasFilledJob}
-use Rattle.shop_raises.specs.Raises.{steps_of}
+use Rattle.shop_raises.specs.inner.Raises.{steps_of}
 use Rattle.shop_desk.proofs.FillTurns.{IsFilledUpTo, filled_begins, filled_open, open_fits, position_known}
 use Rattle.shop_raises.proofs.Followed.{left_from, left_less, place_there, step_there}
 use Rattle.shop_desk.proofs.RaisedHeads.{followed, indexed}

@@ -8,8 +8,8 @@ use Rattle.shop_model.specs.Shop.{Shop}
 use Rattle.shop_model.specs.Word.{IsWord, placing}
 use Rattle.shop_layout.specs.LaidOuts.{IsReady}
 use Rattle.shop_desk.specs.inner.Fills.{AreNextsPlaced, CanFill, HasFilled, IsRested}
-use Rattle.shop_raises.specs.LaneChoices.{AreNextsOf}
-use Rattle.shop_raises.specs.LaneEnds.{AreEndsOf, CanKeepEnds, HasEnds}
+use Rattle.shop_raises.specs.inner.LaneChoices.{AreNextsOf}
+use Rattle.shop_raises.specs.inner.LaneEnds.{AreEndsOf, CanKeepEnds, HasEnds}
 use Rattle.shop_desk.specs.inner.LaneStates.{AreHeadsInLanes, HasRoom, IsKeptInLanes}
 use Rattle.shop_layout.specs.Lanes.{rows_of}
 use Rattle.shop_layout.specs.Positions.{place_or, LayoutState, first_position}

@@ -5,7 +5,7 @@ use Rattle.shop_model.specs.Limits.{IsWithinLimits}
 use Rattle.shop_model.specs.Shop.{Shop}
 use Rattle.shop_layout.specs.HeadLimits.{FitsLanes}
 use Rattle.shop_layout.proofs.LatestEnds.{latest_end_is}
-use Rattle.shop_raises.specs.LaneHeads.{AreHeadsFit}
+use Rattle.shop_raises.specs.inner.LaneHeads.{AreHeadsFit}
 use Rattle.shop_layout.specs.Positions.{LayoutState}
 
 pub heads_fit : (greatest : ℕ) (shop : Shop) (l : LayoutState) → IsWithinLimits shop → FitsLanes greatest shop l

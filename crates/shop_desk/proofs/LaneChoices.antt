@@ -10,10 +10,10 @@ use Rattle.std.proofs.lemmas.List.{length-drop}
 use Rattle.shop_lanes.specs.Rows.{Rows}
 use Rattle.shop_lanes.specs.Marks.{marked, waits_below, positions_below}
 use Rattle.shop_layout.specs.Positions.{LayoutState}
-use Rattle.shop_raises.specs.LaneChoices.{AreNextPlaced, IsJobBelow}
-use Rattle.shop_raises.specs.Raises.{IsInBlocks}
-use Rattle.shop_raises.specs.JobSets.{HasPut}
-use Rattle.shop_raises.specs.RisingLists.{IsIn, Rises, HasGathered, IsGatheredWith}
+use Rattle.shop_raises.specs.inner.LaneChoices.{AreNextPlaced, IsJobBelow}
+use Rattle.shop_raises.specs.inner.Raises.{IsInBlocks}
+use Rattle.shop_raises.specs.inner.JobSets.{HasPut}
+use Rattle.shop_raises.specs.inner.RisingLists.{IsIn, Rises, HasGathered, IsGatheredWith}
 use Rattle.shop_raises.proofs.RaiseLoops.{marked_in, marked_out}
 
 -- the positions of some blocks at which something waits below a limit

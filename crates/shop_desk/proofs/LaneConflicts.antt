@@ -14,10 +14,10 @@ use Rattle.shop_model.proofs.Ends.{IsOperation-job}
 use Rattle.shop_heads.specs.Conflicts.{open_jobs, next_machine, next_head, next_end, conflicts_with}
 use Rattle.shop_heads.specs.Conflicts.{conflict_among}
 use Rattle.shop_heads.specs.Heads.{head_of, ready_after}
-use Rattle.shop_raises.specs.LaneChoices.{AreChoosable, AreNextsAt, IsJobBelow}
+use Rattle.shop_raises.specs.inner.LaneChoices.{AreChoosable, AreNextsAt, IsJobBelow}
 use Rattle.shop_layout.specs.Positions.{LayoutState, place, first_position}
-use Rattle.shop_raises.specs.Raises.{HasBlocks, IsOnMachine}
-use Rattle.shop_raises.specs.RisingLists.{IsIn, Rises, IsGatheredWith}
+use Rattle.shop_raises.specs.inner.Raises.{HasBlocks, IsOnMachine}
+use Rattle.shop_raises.specs.inner.RisingLists.{IsIn, Rises, IsGatheredWith}
 use Rattle.shop_layout.proofs.LaidPlaces.{each_position, place_of, on_machine}
 use Rattle.shop_desk.proofs.NextOperations.{next_is, next_placed, next_there, stored_end, stored_head}
 use Rattle.shop_desk.proofs.RaisedHeads.{has_blocks}

@@ -10,12 +10,12 @@ use Rattle.shop_model.specs.Word.{Placing, placing}
 use Rattle.shop_model.proofs.Ends.{IsOperation-job}
 use Rattle.shop_heads.specs.Conflicts.{next_end}
 use Rattle.shop_layout.specs.HeadLimits.{FitsLanes}
-use Rattle.shop_raises.specs.LaneChoices.{AreEndsAt, AreNextsAt, AreNextsOf}
-use Rattle.shop_raises.specs.LaneEnds.{end_at, AreEndsOf, CanKeepEnds, HasEnds, IsEndOf}
-use Rattle.shop_raises.specs.LaneHeads.{AreHeadsAt}
+use Rattle.shop_raises.specs.inner.LaneChoices.{AreEndsAt, AreNextsAt, AreNextsOf}
+use Rattle.shop_raises.specs.inner.LaneEnds.{end_at, AreEndsOf, CanKeepEnds, HasEnds, IsEndOf}
+use Rattle.shop_raises.specs.inner.LaneHeads.{AreHeadsAt}
 use Rattle.shop_desk.specs.inner.LaneStates.{AreHeadsInLanes}
 use Rattle.shop_layout.specs.Positions.{LayoutState}
-use Rattle.shop_raises.specs.Raises.{AreFirst}
+use Rattle.shop_raises.specs.inner.Raises.{AreFirst}
 use Rattle.shop_layout.proofs.LatestEnds.{latest_end_is}
 use Rattle.shop_desk.proofs.RaisedHeads.{indexed}
 use Rattle.shop_raises.proofs.RaiseWalks.{apart, place_within}

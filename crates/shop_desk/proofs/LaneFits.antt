@@ -11,7 +11,7 @@ use Rattle.shop_model.specs.Limits.{IsWithinLimits}
 use Rattle.shop_model.specs.Shop.{Shop}
 use Rattle.one_machine.specs.OneMachine.{greatest_of}
 use Rattle.shop_layout.specs.HeadLimits.{latest_end, FitsLanes}
-use Rattle.shop_raises.specs.LaneBounds.{AreSpansFit}
+use Rattle.shop_raises.specs.inner.LaneBounds.{AreSpansFit}
 use Rattle.shop_layout.specs.Lanes.{lanes_on}
 use Rattle.shop_layout.specs.Positions.{LayoutState, IsLaidOut, first_position}
 use Rattle.shop_layout.proofs.ColumnSums.{sum_by_columns}

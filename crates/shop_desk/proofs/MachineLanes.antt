@@ -14,7 +14,7 @@ use Rattle.shop_layout.specs.declared.slots.Slot.{Slot}
 use Rattle.one_machine.specs.declared.triples.Triple.{Triple}
 use Rattle.shop_heads.specs.Heads.{head_of}
 use Rattle.shop_layout.specs.Slots.{slot_at}
-use Rattle.shop_raises.specs.LaneHeads.{AreHeadsAt, AreStored}
+use Rattle.shop_raises.specs.inner.LaneHeads.{AreHeadsAt, AreStored}
 use Rattle.shop_layout.specs.Positions.{LayoutState, IsLaidOut, place, first_position, position_at_rank}
 use Rattle.shop_desk.proofs.LaneSpans.{AreMatched, nothing, empty, matched, IsLaneOf}
 use Rattle.shop_desk.proofs.LeftSlots.{is_left, triple_of, left_of, left_for}

@@ -10,7 +10,7 @@ use Rattle.shop_heads.specs.Conflicts.{next_end, next_head}
 use Rattle.shop_heads.specs.Heads.{head_of, ready_after}
 use Rattle.shop_layout.specs.Positions.{LayoutState, first_position, place}
 use Rattle.shop_layout.proofs.LaidPlaces.{place_of}
-use Rattle.shop_raises.specs.LaneChoices.{AreNextPlaced, AreNextsAt}
+use Rattle.shop_raises.specs.inner.LaneChoices.{AreNextPlaced, AreNextsAt}
 use Rattle.shop_raises.proofs.Followed.{place_past, place_there}
 
 -- the head of a next operation

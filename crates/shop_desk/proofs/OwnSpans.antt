@@ -21,12 +21,12 @@ use Rattle.shop_desk.specs.States.{ListsBelow, none, listed, closed}
 use Rattle.shop_desk.specs.inner.Candidates.{AreCandidatesOf, IsCandidateOf, IsTold, ListsOwn, own_at}
 use Rattle.shop_desk.specs.inner.Candidates.{empty, left_out, taken, told_at}
 use Rattle.shop_layout.specs.HeadLimits.{latest_end}
-use Rattle.shop_raises.specs.LaneBounds.{AreSpansFit}
+use Rattle.shop_raises.specs.inner.LaneBounds.{AreSpansFit}
 use Rattle.shop_layout.specs.Lanes.{lanes_on, rows_of}
-use Rattle.shop_raises.specs.LaneHeads.{AreHeadsAt}
+use Rattle.shop_raises.specs.inner.LaneHeads.{AreHeadsAt}
 use Rattle.shop_desk.specs.inner.LaneStates.{IsKeptInLanes}
 use Rattle.shop_layout.specs.Positions.{IsLaidOut, LayoutState, first_position, place}
-use Rattle.shop_raises.specs.RisingLists.{IsIn}
+use Rattle.shop_raises.specs.inner.RisingLists.{IsIn}
 use Rattle.shop_desk.specs.declared.dispatching.Candidate.{Candidate}
 use Rattle.shop_desk.proofs.Candidates.{advancing, candidate_fits, foreseen_least}
 use Rattle.shop_desk.proofs.ChildRaises.{heads_small}

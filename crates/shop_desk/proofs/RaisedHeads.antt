@@ -11,11 +11,11 @@ use Rattle.shop_model.proofs.Ends.{IsOperation-job}
 use Rattle.shop_model.proofs.Placings.{IsNext}
 use Rattle.shop_lanes.specs.Rows.{Rows}
 use Rattle.shop_heads.specs.Heads.{head_of, ready_after}
-use Rattle.shop_raises.specs.LaneHeads.{AreHeadsAt, AreStored}
+use Rattle.shop_raises.specs.inner.LaneHeads.{AreHeadsAt, AreStored}
 use Rattle.shop_layout.specs.Positions.{place_or, LayoutState, place, first_position, IsLaidOut}
-use Rattle.shop_raises.specs.Raises.{steps_of, at_in, AreFirst, IsFollowed, IsIndexed, IsPlace}
-use Rattle.shop_raises.specs.Raises.{AreInRouteOrder, IsRaised, IsLeastRaise, IsRaisable}
-use Rattle.shop_raises.specs.Raises.{IsOnMachine, HasBlocks}
+use Rattle.shop_raises.specs.inner.Raises.{steps_of, at_in, AreFirst, IsFollowed, IsIndexed, IsPlace}
+use Rattle.shop_raises.specs.inner.Raises.{AreInRouteOrder, IsRaised, IsLeastRaise, IsRaisable}
+use Rattle.shop_raises.specs.inner.Raises.{IsOnMachine, HasBlocks}
 use Rattle.shop_heads.proofs.HeadsRise.{heads_up}
 use Rattle.shop_heads.proofs.HeadsStay.{ready_first_same, steps_rise}
 use Rattle.shop_heads.proofs.HeadTurns.{ready_first, ready_more}

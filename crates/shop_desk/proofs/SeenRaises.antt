@@ -14,10 +14,10 @@ use Rattle.shop_model.proofs.WordLemmas.{IsWord-init}
 use Rattle.shop_heads.specs.Bound.{lb}
 use Rattle.shop_heads.specs.Heads.{head_of}
 use Rattle.shop_layout.specs.Lanes.{lanes_on}
-use Rattle.shop_raises.specs.LaneHeads.{AreHeadsAt, AreStored}
+use Rattle.shop_raises.specs.inner.LaneHeads.{AreHeadsAt, AreStored}
 use Rattle.shop_layout.specs.Positions.{AreMachinesOf, LayoutState, IsLaidOut, place, first_position}
-use Rattle.shop_raises.specs.Watchers.{IsSeenAt, floor_on}
-use Rattle.shop_raises.specs.HeadRaises.{Raise}
+use Rattle.shop_raises.specs.inner.Watchers.{IsSeenAt, floor_on}
+use Rattle.shop_raises.specs.inner.HeadRaises.{Raise}
 use Rattle.shop_desk.proofs.ChildBounds.{left-le-lb}
 use Rattle.shop_desk.proofs.ChildRaises.{IsBounded, bounded_by_raise, covered_all}
 use Rattle.shop_heads.proofs.HeadsStay.{steps_rise}

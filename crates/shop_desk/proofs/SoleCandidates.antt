@@ -17,7 +17,7 @@ use Rattle.shop_heads.specs.Conflicts.{SoleCandidateKeepsBound}
 use Rattle.shop_heads.specs.Heads.{ready_after, head_of}
 use Rattle.one_machine.specs.OneMachine.{one}
 use Rattle.shop_layout.specs.Slots.{AreMachineSlots}
-use Rattle.shop_raises.specs.RisingLists.{IsIn}
+use Rattle.shop_raises.specs.inner.RisingLists.{IsIn}
 use Rattle.shop_layout.specs.declared.slots.Slot.{Slot}
 use Rattle.shop_heads.proofs.BoundsRise.{bounds_rise, end-le-left}
 use Rattle.shop_desk.proofs.ChildBounds.{child-le, raised_left}

@@ -9,11 +9,11 @@ use Rattle.shop_model.specs.Shop.{Shop, IsOperation}
 use Rattle.shop_model.specs.Word.{Placing, IsWord, placing, place_next}
 use Rattle.shop_model.proofs.Placings.{place_next-is}
 use Rattle.shop_model.proofs.Unders.{placing-snoc}
-use Rattle.shop_raises.specs.LaneChoices.{AreNextsAt, AreNextsOf}
-use Rattle.shop_raises.specs.LaneEnds.{AreEndsOf, CanKeepEnds, HasEnds, IsEndOf, end_at}
+use Rattle.shop_raises.specs.inner.LaneChoices.{AreNextsAt, AreNextsOf}
+use Rattle.shop_raises.specs.inner.LaneEnds.{AreEndsOf, CanKeepEnds, HasEnds, IsEndOf, end_at}
 use Rattle.shop_desk.specs.inner.LaneStates.{AreHeadsInLanes, HasNextAt, IsKeptInLanes}
 use Rattle.shop_layout.specs.Positions.{place_or, LayoutState, first_position, place}
-use Rattle.shop_raises.specs.Raises.{AreFirst}
+use Rattle.shop_raises.specs.inner.Raises.{AreFirst}
 use Rattle.shop_desk.proofs.ChildReads.{is_operation}
 use Rattle.shop_desk.proofs.ChildTurns.{its_job}
 use Rattle.shop_desk.proofs.LaneEnds.{beside_more, can_keep, end_here, end_other, ends_at, ends_of}

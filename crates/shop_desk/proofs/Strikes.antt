@@ -8,8 +8,8 @@ use Rattle.shop_model.specs.Shop.{Shop}
 use Rattle.shop_model.specs.Word.{Placing, IsWord, placing, place_next}
 use Rattle.shop_model.proofs.Unders.{placing-snoc}
 use Rattle.shop_heads.specs.Conflicts.{conflict}
-use Rattle.shop_raises.specs.LaneEnds.{CanKeepEnds, IsEndOf, end_at}
-use Rattle.shop_raises.specs.LaneHeads.{AreHeadsAt}
+use Rattle.shop_raises.specs.inner.LaneEnds.{CanKeepEnds, IsEndOf, end_at}
+use Rattle.shop_raises.specs.inner.LaneHeads.{AreHeadsAt}
 use Rattle.shop_desk.specs.inner.LaneStates.{AreHeadsInLanes, IsKeptInLanes}
 use Rattle.shop_layout.specs.Positions.{LayoutState, place}
 use Rattle.shop_desk.proofs.ChildReads.{left_stored}

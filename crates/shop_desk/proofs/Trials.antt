@@ -12,15 +12,15 @@ use Rattle.shop_heads.specs.Bound.{lb}
 use Rattle.shop_desk.specs.inner.Advances.{IsLeastAt}
 use Rattle.shop_desk.specs.inner.BoundsUpTo.{IsBoundUpTo}
 use Rattle.shop_layout.specs.HeadLimits.{latest_end}
-use Rattle.shop_raises.specs.HeadRaises.{Raise, raise_of}
-use Rattle.shop_raises.specs.LaneBounds.{AreSpansFit}
+use Rattle.shop_raises.specs.inner.HeadRaises.{Raise, raise_of}
+use Rattle.shop_raises.specs.inner.LaneBounds.{AreSpansFit}
 use Rattle.shop_layout.specs.Lanes.{lanes_on}
-use Rattle.shop_raises.specs.LaneEnds.{CanKeepEnds, end_at}
+use Rattle.shop_raises.specs.inner.LaneEnds.{CanKeepEnds, end_at}
 use Rattle.shop_desk.specs.inner.LaneStates.{Advances, AreHeadsInLanes, HasNextAt, IsKeptInLanes}
 use Rattle.shop_layout.specs.Positions.{IsLaidOut, LayoutState, place}
-use Rattle.shop_raises.specs.MachineRaises.{AreEmpty, AreRaisesFit}
-use Rattle.shop_raises.specs.Raises.{HasBlocks, IsOnMachine, IsRaisable, Raises}
-use Rattle.shop_raises.specs.Watchers.{AreSeen, IsSeenAt, Sees, Watches, floor_on}
+use Rattle.shop_raises.specs.inner.MachineRaises.{AreEmpty, AreRaisesFit}
+use Rattle.shop_raises.specs.inner.Raises.{HasBlocks, IsOnMachine, IsRaisable, Raises}
+use Rattle.shop_raises.specs.inner.Watchers.{AreSeen, IsSeenAt, Sees, Watches, floor_on}
 use Rattle.shop_desk.proofs.AdvanceSteps.{advances, end_small, struck_blocks, struck_raisable}
 use Rattle.shop_desk.proofs.ChildTurns.{next_small, raised_is}
 use Rattle.shop_desk.proofs.LaneFits.{spans_fit}

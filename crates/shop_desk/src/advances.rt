@@ -7,10 +7,10 @@ ghost use Rattle.shop_heads.specs.Bound.{lb};
 ghost use Rattle.shop_heads.specs.Conflicts.{conflict};
 ghost use Rattle.shop_desk.specs.States.{TellsBoundBelow};
 ghost use Rattle.shop_desk.specs.inner.Advances.{CanAdvance, CanStrike, HasSameRoom, IsAdvancing};
-ghost use Rattle.shop_raises.specs.LaneEnds.{CanKeepEnds};
+ghost use Rattle.shop_raises.specs.inner.LaneEnds.{CanKeepEnds};
 ghost use Rattle.shop_desk.specs.inner.LaneStates.{GoesOn, IsKeptInLanes};
 ghost use Rattle.shop_layout.specs.Lanes.{rows_of};
-ghost use Rattle.shop_raises.specs.MachineRaises.{AreEmpty};
+ghost use Rattle.shop_raises.specs.inner.MachineRaises.{AreEmpty};
 
 use crate::lane_ends::set_end_of;
 use shop_lanes::StateLanes;

@@ -5,11 +5,11 @@ ghost use Rattle.shop_lanes.specs.Marks.{positions_below};
 ghost use Rattle.shop_model.specs.Shop.{Shop};
 ghost use Rattle.shop_desk.specs.inner.Candidates.{AreCandidatesOf, CanGather, CanList, IsChosenBy};
 ghost use Rattle.shop_desk.specs.inner.Candidates.{IsTold, ListsGathered, ListsOwn, told_at};
-ghost use Rattle.shop_raises.specs.JobSets.{members};
-ghost use Rattle.shop_raises.specs.LaneChoices.{IsJobBelow};
+ghost use Rattle.shop_raises.specs.inner.JobSets.{members};
+ghost use Rattle.shop_raises.specs.inner.LaneChoices.{IsJobBelow};
 ghost use Rattle.shop_desk.specs.inner.LaneStates.{IsKeptInLanes};
-ghost use Rattle.shop_raises.specs.Raises.{IsInBlocks};
-ghost use Rattle.shop_raises.specs.RisingLists.{IsGatheredWith, IsIn};
+ghost use Rattle.shop_raises.specs.inner.Raises.{IsInBlocks};
+ghost use Rattle.shop_raises.specs.inner.RisingLists.{IsGatheredWith, IsIn};
 ghost use Rattle.shop_layout.specs.Lanes.{rows_of};
 
 use crate::dispatching::Candidate;

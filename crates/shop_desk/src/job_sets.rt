@@ -1,7 +1,7 @@
 // A set of jobs, by bits.
 ghost use Rattle.std.specs.Prelude.{◌≡◌, ℕ, ◌*◌, ◌/◌, ◌<◌, List, [], length};
-ghost use Rattle.shop_raises.specs.JobSets.{members, HasPut};
-ghost use Rattle.shop_raises.specs.RisingLists.{Rises};
+ghost use Rattle.shop_raises.specs.inner.JobSets.{members, HasPut};
+ghost use Rattle.shop_raises.specs.inner.RisingLists.{Rises};
 
 use std::marker::Model;
 

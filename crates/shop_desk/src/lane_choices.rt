@@ -1,10 +1,10 @@
 // The choice among the next operations by lanes.
 ghost use Rattle.std.specs.Prelude.{◌≡◌, ◌*◌, ◌≤◌, ◌<◌, length};
 ghost use Rattle.shop_lanes.specs.Marks.{positions_below};
-ghost use Rattle.shop_raises.specs.LaneChoices.{HaveJobs, IsJobBelow};
+ghost use Rattle.shop_raises.specs.inner.LaneChoices.{HaveJobs, IsJobBelow};
 ghost use Rattle.shop_layout.specs.Lanes.{rows_of};
-ghost use Rattle.shop_raises.specs.Raises.{IsInBlocks};
-ghost use Rattle.shop_raises.specs.RisingLists.{HasGathered, IsGatheredWith};
+ghost use Rattle.shop_raises.specs.inner.Raises.{IsInBlocks};
+ghost use Rattle.shop_raises.specs.inner.RisingLists.{HasGathered, IsGatheredWith};
 
 use crate::job_sets::JobSet;
 use shop_lanes::{Marks, StateLanes};

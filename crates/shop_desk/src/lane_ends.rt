@@ -1,7 +1,7 @@
 // The ends of next operations in lanes.
 ghost use Rattle.std.specs.Prelude.{◌≡◌, ◌<◌, length};
 ghost use Rattle.shop_lanes.specs.Rows.{with_end};
-ghost use Rattle.shop_raises.specs.LaneEnds.{AreEndsOf, CanKeepEnds, HasEnds, end_at};
+ghost use Rattle.shop_raises.specs.inner.LaneEnds.{AreEndsOf, CanKeepEnds, HasEnds, end_at};
 ghost use Rattle.shop_layout.specs.Lanes.{rows_of};
 
 use shop_lanes::StateLanes;

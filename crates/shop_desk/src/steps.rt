@@ -6,7 +6,7 @@ ghost use Rattle.shop_heads.specs.Bound.{lb};
 ghost use Rattle.shop_desk.specs.inner.Advances.{HasSameRoom};
 ghost use Rattle.shop_desk.specs.inner.LaneStates.{IsKeptInLanes};
 ghost use Rattle.shop_layout.specs.Lanes.{rows_of};
-ghost use Rattle.shop_raises.specs.MachineRaises.{AreEmpty};
+ghost use Rattle.shop_raises.specs.inner.MachineRaises.{AreEmpty};
 ghost use Rattle.shop_desk.specs.inner.Steps.{CanStep};
 
 use crate::advances::advance_below;

@@ -3,7 +3,7 @@ use Rattle.std.proofs.Common.{◌≡◌, ℕ, ◌+◌, ◌-◌, ◌≤◌, ◌<�
 use Rattle.std.proofs.Common.{get_or}
 use Rattle.std.proofs.lemmas.Bool.{cases_lt, lt-ltb, le-ltb}
 use Rattle.shop_layout.specs.Positions.{place_or, LayoutState, place}
-use Rattle.shop_raises.specs.Raises.{steps_of, IsIndexed}
+use Rattle.shop_raises.specs.inner.Raises.{steps_of, IsIndexed}
 
 module _ (l : LayoutState) (n j k : ℕ) where
   pub place_there : k < steps_of l j → place_or n l.places j k ≡ place l j k

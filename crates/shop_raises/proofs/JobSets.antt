@@ -11,8 +11,8 @@ use Rattle.std.proofs.lemmas.Nat.Bits.{bit_at_or, bit_at-suc, bit_at_lowest, bit
 use Rattle.std.proofs.lemmas.Nat.Bits.{bit_at-pow_other}
 use Rattle.shop_lanes.specs.SetBits.{set_bits}
 use Rattle.shop_lanes.proofs.MarkLemmas.{set_bits-odd, set_bits-even, set_bits-zero}
-use Rattle.shop_raises.specs.JobSets.{members, HasPut}
-use Rattle.shop_raises.specs.RisingLists.{IsIn, Rises, HasGathered}
+use Rattle.shop_raises.specs.inner.JobSets.{members, HasPut}
+use Rattle.shop_raises.specs.inner.RisingLists.{IsIn, Rises, HasGathered}
 use Rattle.shop_raises.proofs.RisingLists.{rising_short}
 
 -- two lists as one

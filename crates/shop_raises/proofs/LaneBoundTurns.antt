@@ -6,8 +6,8 @@ use Rattle.std.proofs.lemmas.List.{get_or-set_same, get_or-set_other, length-set
 use Rattle.shop_lanes.specs.Rows.{Lane}
 use Rattle.shop_lanes.specs.Spans.{spans_from}
 use Rattle.shop_raises.proofs.SpanTurns.{spans_low, spans_high}
-use Rattle.shop_raises.specs.HeadRaises.{Raise, no_raise, raise_of, widened}
-use Rattle.shop_raises.specs.LaneBounds.{AreRaisesUpTo}
+use Rattle.shop_raises.specs.inner.HeadRaises.{Raise, no_raise, raise_of, widened}
+use Rattle.shop_raises.specs.inner.LaneBounds.{AreRaisesUpTo}
 
 -- nothing begins between where nothing is between
 pub spans-none : (above upto : ℕ) (all xs : List Lane) → upto ≤ above → spans_from above upto all xs ≡ 0

@@ -6,7 +6,7 @@ use Rattle.std.proofs.lemmas.Nat.{or_lt}
 use lib.Count.{count_trailing_zeros}
 use Rattle.shop_lanes.specs.SetBits.{set_bits}
 use Rattle.shop_lanes.proofs.MarkLemmas.{set_bits-lowest, set_bits-zero}
-use Rattle.shop_raises.specs.JobSets.{HasPut}
+use Rattle.shop_raises.specs.inner.JobSets.{HasPut}
 use Rattle.shop_raises.proofs.JobSets.{bit_put, more_before, more_behind}
 
 -- the machines whose bits are set

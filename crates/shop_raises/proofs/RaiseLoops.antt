@@ -9,9 +9,9 @@ use Rattle.std.proofs.lemmas.List.{length-drop}
 use Rattle.shop_lanes.specs.Rows.{Rows}
 use Rattle.shop_lanes.specs.Marks.{marked, waits_below, positions_below}
 use Rattle.shop_layout.specs.Positions.{LayoutState, place}
-use Rattle.shop_raises.specs.RisingLists.{IsIn, Rises}
-use Rattle.shop_raises.specs.Raises.{at_in, AreInRouteOrder, IsRaised, IsLeastRaise, IsRaisable}
-use Rattle.shop_raises.specs.Raises.{Raises, IsFollowed, IsIndexed, IsPosition, IsInBlocks}
+use Rattle.shop_raises.specs.inner.RisingLists.{IsIn, Rises}
+use Rattle.shop_raises.specs.inner.Raises.{at_in, AreInRouteOrder, IsRaised, IsLeastRaise, IsRaisable}
+use Rattle.shop_raises.specs.inner.Raises.{Raises, IsFollowed, IsIndexed, IsPosition, IsInBlocks}
 
 weaker : (l : LayoutState) (A B : ℕ → Type 0) (e : ℕ) (old new : ℕ → ℕ) → ((q : ℕ) → B q → A q)
     → IsRaised l A e old new → IsRaised l B e old new

@@ -5,7 +5,7 @@ use Rattle.std.proofs.lemmas.List.{set-get_or}
 use Rattle.shop_lanes.specs.Rows.{Rows, with_end, with_head}
 use Rattle.shop_layout.specs.Positions.{place_or, LayoutState, place}
 use Rattle.shop_layout.specs.Lanes.{rows_of}
-use Rattle.shop_raises.specs.Raises.{steps_of, IsPosition, IsRaisable, Raises}
+use Rattle.shop_raises.specs.inner.Raises.{steps_of, IsPosition, IsRaisable, Raises}
 use Rattle.shop_raises.proofs.Followed.{place_there, step_there, left_from, left_less}
 use Rattle.shop_raises.proofs.RaiseWalks.{IsRaisedUpTo, walk_begins, next_least, walk_on, walk_ends}
 

@@ -5,8 +5,8 @@ use Rattle.std.proofs.lemmas.Bool.{cases_eq}
 use Rattle.std.proofs.lemmas.Grind.{get_or-set_at}
 use Rattle.std.proofs.lemmas.List.{get_or-set_other, length-set}
 use Rattle.shop_layout.specs.Positions.{LayoutState, place}
-use Rattle.shop_raises.specs.Raises.{steps_of, at_in, IsIndexed, IsPlace, AreInRouteOrder}
-use Rattle.shop_raises.specs.Raises.{IsRaised, IsLeastRaise, IsPosition}
+use Rattle.shop_raises.specs.inner.Raises.{steps_of, at_in, IsIndexed, IsPlace, AreInRouteOrder}
+use Rattle.shop_raises.specs.inner.Raises.{IsRaised, IsLeastRaise, IsPosition}
 
 -- Position p was raised to e, and the route of job i from it on up to the step before t, which ends at `ready`.
 pub record IsRaisedUpTo (l : LayoutState) (p e i t ready : ℕ) (old new : List ℕ) : Type 0 where

@@ -4,10 +4,10 @@ use Rattle.std.proofs.Common.{◌∙◌, ap, arith, cond, eqb}
 use Rattle.std.proofs.lemmas.Bool.{cases_Bool, cases_eq, cases_lt, eq-eqb, eqb-true, le-ltb, lt-ltb}
 use Rattle.std.proofs.lemmas.List.{get_or_past}
 use Rattle.shop_lanes.specs.Rows.{Rows}
-use Rattle.shop_raises.specs.LaneEnds.{IsEndOf}
+use Rattle.shop_raises.specs.inner.LaneEnds.{IsEndOf}
 use Rattle.shop_layout.specs.Positions.{LayoutState, place}
-use Rattle.shop_raises.specs.Raises.{steps_of, at_in, IsPosition, IsRaised, IsLeastRaise}
-use Rattle.shop_raises.specs.Raises.{IsRaisable, Raises, SetsEndAt}
+use Rattle.shop_raises.specs.inner.Raises.{steps_of, at_in, IsPosition, IsRaised, IsLeastRaise}
+use Rattle.shop_raises.specs.inner.Raises.{IsRaisable, Raises, SetsEndAt}
 
 -- a head that is the first of its route is raised at its own position alone
 module _ (l : LayoutState) (p e : ℕ) (old new : List ℕ) (least : IsLeastRaise l (IsPosition p) e old new) (q : ℕ)

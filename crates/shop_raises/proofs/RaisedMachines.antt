@@ -6,10 +6,10 @@ use Rattle.std.proofs.lemmas.List.{get_or-map, get_or-set_same, get_or-set_other
 use Rattle.shop_lanes.specs.Rows.{Lane}
 use Rattle.shop_lanes.specs.Spans.{spans_between}
 use Rattle.shop_raises.specs.declared.head_raises.LaneRaise.{LaneRaise}
-use Rattle.shop_raises.specs.HeadRaises.{Raise, no_raise, nothing_raised, raise_in, raise_of, raises_in, widened}
-use Rattle.shop_raises.specs.MachineRaises.{AreEmpty, AreListed, IsSpanByRaise}
-use Rattle.shop_raises.specs.JobSets.{HasPut}
-use Rattle.shop_raises.specs.RisingLists.{IsIn}
+use Rattle.shop_raises.specs.inner.HeadRaises.{Raise, no_raise, nothing_raised, raise_in, raise_of, raises_in, widened}
+use Rattle.shop_raises.specs.inner.MachineRaises.{AreEmpty, AreListed, IsSpanByRaise}
+use Rattle.shop_raises.specs.inner.JobSets.{HasPut}
+use Rattle.shop_raises.specs.inner.RisingLists.{IsIn}
 use Rattle.shop_raises.proofs.LaneBoundTurns.{spans-none}
 
 -- raises in lanes: one that is read, and one that is written

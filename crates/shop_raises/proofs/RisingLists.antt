@@ -1,6 +1,6 @@
 -- Lists of numbers each of which is below all later ones.
 use Rattle.std.proofs.Common.{◌≡◌, ℕ, ◌+◌, ◌≤◌, ◌<◌, inl, inr, List, [], ◌∷◌, length, refl, sym, arith}
-use Rattle.shop_raises.specs.RisingLists.{IsIn, Rises}
+use Rattle.shop_raises.specs.inner.RisingLists.{IsIn, Rises}
 
 -- numbers that rise from a on and are below n are at most n - a
 pub rising_short : (xs : List ℕ) (a n : ℕ) → a ≤ n → Rises xs → ((q : ℕ) → IsIn xs q → (a ≤ q) × (q < n))

@@ -4,9 +4,9 @@ use Rattle.std.proofs.Common.{subst, arith}
 use Rattle.std.proofs.lemmas.Bool.{cases_eq, eq-eqb}
 use Rattle.std.proofs.lemmas.Grind.{get_or-set_at}
 use Rattle.std.proofs.lemmas.List.{get_or-set_other, length-set}
-use Rattle.shop_raises.specs.HeadRaises.{Raise, raise_of, widened}
-use Rattle.shop_raises.specs.Raises.{IsPosition}
-use Rattle.shop_raises.specs.Watchers.{IsSeenAt, Sees, Watches, floor_on}
+use Rattle.shop_raises.specs.inner.HeadRaises.{Raise, raise_of, widened}
+use Rattle.shop_raises.specs.inner.Raises.{IsPosition}
+use Rattle.shop_raises.specs.inner.Watchers.{IsSeenAt, Sees, Watches, floor_on}
 use Rattle.shop_raises.proofs.LaneBoundTurns.{raise_from, raise_here, raise_to, up_to_turn}
 
 module _ (own end : ℕ) (ms : List ℕ) where

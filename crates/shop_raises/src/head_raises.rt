@@ -1,8 +1,8 @@
 // What changed among the heads on a machine.
 ghost use Rattle.std.specs.Prelude.{◌≡◌, ◌≤◌, ◌<◌, min, max, length, slice_set};
-ghost use Rattle.shop_raises.specs.HeadRaises.{nothing_raised, raise_in, raise_of};
-ghost use Rattle.shop_raises.specs.HeadRaises.{raises_in, widened};
-ghost use Rattle.shop_raises.specs.MachineRaises.{AreListed};
+ghost use Rattle.shop_raises.specs.inner.HeadRaises.{nothing_raised, raise_in, raise_of};
+ghost use Rattle.shop_raises.specs.inner.HeadRaises.{raises_in, widened};
+ghost use Rattle.shop_raises.specs.inner.MachineRaises.{AreListed};
 
 use crate::machine_sets::MachineSet;
 use shop_lanes::StateLanes;

@@ -4,8 +4,8 @@ ghost use Rattle.shop_lanes.specs.Rows.{AreBlocks};
 ghost use Rattle.shop_lanes.specs.Spans.{FitsSpan};
 ghost use Rattle.shop_layout.specs.Lanes.{lanes_on, rows_of};
 ghost use Rattle.shop_layout.specs.Positions.{AreEven};
-ghost use Rattle.shop_raises.specs.HeadRaises.{raise_in, raises_in};
-ghost use Rattle.shop_raises.specs.MachineRaises.{CanTakeSpans, IsSpanByRaise, TakesSpans};
+ghost use Rattle.shop_raises.specs.inner.HeadRaises.{raise_in, raises_in};
+ghost use Rattle.shop_raises.specs.inner.MachineRaises.{CanTakeSpans, IsSpanByRaise, TakesSpans};
 
 use crate::head_raises::{LaneRaise, take_raise};
 use crate::machine_sets::MachineSet;

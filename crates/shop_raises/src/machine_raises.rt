@@ -1,11 +1,11 @@
 // What changed among the heads of each machine.
 ghost use Rattle.std.specs.Prelude.{◌≡◌, ℕ, ◌+◌, ◌≤◌, ◌<◌, ◌^◌, IfOk, length, replicate};
 ghost use Rattle.shop_lanes.specs.Spans.{spans_between};
-ghost use Rattle.shop_raises.specs.HeadRaises.{nothing_raised, raise_of, raises_in};
+ghost use Rattle.shop_raises.specs.inner.HeadRaises.{nothing_raised, raise_of, raises_in};
 ghost use Rattle.shop_layout.specs.Lanes.{lanes_on, rows_of};
-ghost use Rattle.shop_raises.specs.MachineRaises.{AreEmpty, AreListed, AreRaisesFit};
-ghost use Rattle.shop_raises.specs.Raises.{HasBlocks, IsOnMachine, IsRaisable, Raises};
-ghost use Rattle.shop_raises.specs.Watchers.{AreKnown, Sees};
+ghost use Rattle.shop_raises.specs.inner.MachineRaises.{AreEmpty, AreListed, AreRaisesFit};
+ghost use Rattle.shop_raises.specs.inner.Raises.{HasBlocks, IsOnMachine, IsRaisable, Raises};
+ghost use Rattle.shop_raises.specs.inner.Watchers.{AreKnown, Sees};
 
 use crate::head_raises::{LaneRaise, no_raise};
 use crate::lane_bounds::take_spans;
@@ -25,7 +25,7 @@ pub struct MachineRaises<L: StateLanes> {
 
 impl<L: StateLanes> Model for MachineRaises<L> {
     ghost use Rattle.std.specs.Prelude.{◌≤◌, List, length};
-    ghost use Rattle.shop_raises.specs.HeadRaises.{Raise, raises_in};
+    ghost use Rattle.shop_raises.specs.inner.HeadRaises.{Raise, raises_in};
 
     ghost Value = { List Raise };
 

@@ -2,7 +2,7 @@
 ghost use Rattle.std.specs.Prelude.{◌≡◌, ◌<◌, ◌++◌, ◌^◌, ℕ, List, []};
 ghost use Rattle.shop_lanes.specs.Marks.{IsPopped};
 ghost use Rattle.shop_lanes.specs.SetBits.{set_bits};
-ghost use Rattle.shop_raises.specs.JobSets.{HasPut};
+ghost use Rattle.shop_raises.specs.inner.JobSets.{HasPut};
 
 use std::marker::Model;
 

@@ -1,11 +1,11 @@
 // Heads by position are raised once an operation is placed.
 ghost use Rattle.std.specs.Prelude.{◌≡◌, ◌+◌, ◌*◌, ◌≤◌, ◌<◌, ◌^◌, [], length, slice_index};
 ghost use Rattle.shop_layout.specs.Lanes.{rows_of};
-ghost use Rattle.shop_raises.specs.HeadRaises.{raises_in};
-ghost use Rattle.shop_raises.specs.Raises.{HasBlocks, IsInBlocks, IsPosition, IsRaisable};
-ghost use Rattle.shop_raises.specs.Raises.{IsOnMachine, Raises, SetsEndAt};
-ghost use Rattle.shop_raises.specs.Watchers.{AreKnown, Sees};
-ghost use Rattle.shop_raises.specs.MachineRaises.{AreListed};
+ghost use Rattle.shop_raises.specs.inner.HeadRaises.{raises_in};
+ghost use Rattle.shop_raises.specs.inner.Raises.{HasBlocks, IsInBlocks, IsPosition, IsRaisable};
+ghost use Rattle.shop_raises.specs.inner.Raises.{IsOnMachine, Raises, SetsEndAt};
+ghost use Rattle.shop_raises.specs.inner.Watchers.{AreKnown, Sees};
+ghost use Rattle.shop_raises.specs.inner.MachineRaises.{AreListed};
 
 use crate::head_raises::{LaneRaise, see};
 use crate::machine_sets::MachineSet;

@@ -11,7 +11,7 @@ use Rattle.shop_model.specs.Shop.{Shop, IsOperation}
 use Rattle.shop_model.specs.Word.{Placing}
 use Rattle.shop_heads.specs.Heads.{head_of}
 use Rattle.shop_model.specs.Placements.{PlacementState, IsPlacement}
-use Rattle.shop_raises.specs.LaneHeads.{AreHeadsAt, AreHeadsFit}
+use Rattle.shop_raises.specs.inner.LaneHeads.{AreHeadsAt, AreHeadsFit}
 use Rattle.shop_layout.specs.Positions.{place_or, LayoutState, place, first_position, IsLaidOut}
 
 pub record IsStored (shop : Shop) (p : Placing) (l : LayoutState) (old new : List ℕ)

@@ -11,11 +11,11 @@ use Rattle.shop_model.specs.Shop.{Shop}
 use Rattle.shop_model.specs.Word.{IsWord, placing}
 use Rattle.shop_heads.specs.Conflicts.{SoleCandidateKeepsBound}
 use Rattle.shop_layout.specs.HeadLimits.{FitsLanes}
-use Rattle.shop_raises.specs.LaneChoices.{AreEndsAt, AreNextsOf}
-use Rattle.shop_raises.specs.LaneEnds.{IsEndOf, end_at}
-use Rattle.shop_raises.specs.LaneHeads.{AreHeadsAt, AreHeadsFit}
+use Rattle.shop_raises.specs.inner.LaneChoices.{AreEndsAt, AreNextsOf}
+use Rattle.shop_raises.specs.inner.LaneEnds.{IsEndOf, end_at}
+use Rattle.shop_raises.specs.inner.LaneHeads.{AreHeadsAt, AreHeadsFit}
 use Rattle.shop_layout.specs.Positions.{LayoutState, IsLaidOut, first_position, place}
-use Rattle.shop_raises.specs.Raises.{AreFirst}
+use Rattle.shop_raises.specs.inner.Raises.{AreFirst}
 
 pub record AreHeadsInLanes (greatest : ℕ) (shop : Shop) (w : List ℕ) (l : LayoutState)
     (rows : Rows) : Type 0 where

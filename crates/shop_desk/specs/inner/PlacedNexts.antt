@@ -10,7 +10,7 @@ use Rattle.shop_model.specs.Placements.{PlacementState}
 use Rattle.shop_model.specs.Shop.{Shop, release_of}
 use Rattle.shop_model.specs.Word.{Placing, IsWord, placing}
 use Rattle.shop_layout.specs.Positions.{LayoutState, place_or}
-use Rattle.shop_raises.specs.LaneChoices.{AreNextsOf}
+use Rattle.shop_raises.specs.inner.LaneChoices.{AreNextsOf}
 
 pub record IsPlacedAt (shop : Shop) (p : Placing) (l : LayoutState)
     (nexts ready free : List ℕ) : Type 0 where

@@ -4,8 +4,8 @@
 use Rattle.std.specs.Prelude.{◌≡◌, ℕ, List, length}
 use Rattle.shop_model.specs.Shop.{Shop}
 use Rattle.shop_layout.specs.Positions.{LayoutState}
-use Rattle.shop_raises.specs.MachineRaises.{AreEmpty}
-use Rattle.shop_raises.specs.HeadRaises.{Raise}
+use Rattle.shop_raises.specs.inner.MachineRaises.{AreEmpty}
+use Rattle.shop_raises.specs.inner.HeadRaises.{Raise}
 
 pub record IsScratchOf (shop : Shop) (l : LayoutState) (ready free : ℕ) (raises : List Raise)
     (owns : ℕ) : Type 0 where

@@ -2,8 +2,8 @@ use Rattle.std.proofs.Common.{◌≡◌, ℕ, ◌+◌, ◌∙◌, get_or, set, l
 use Rattle.std.proofs.Common.{arith}
 use Rattle.shop_layout.specs.Lanes.{rows_of}
 use Rattle.shop_layout.specs.Positions.{LayoutState}
-use Rattle.shop_raises.specs.Raises.{HasBlocks, IsOnMachine, IsRaisable, Raises}
-use Rattle.shop_raises.specs.Watchers.{Sees}
+use Rattle.shop_raises.specs.inner.Raises.{HasBlocks, IsOnMachine, IsRaisable, Raises}
+use Rattle.shop_raises.specs.inner.Watchers.{Sees}
 use Rattle.shop_raises.proofs.RaiseSteps.{put_is}
 use Rattle.shop_desk.proofs.Trials.{its_end, its_job, trial_blocks, trial_bound, trial_keep}
 use Rattle.shop_desk.proofs.Trials.{trial_kept, trial_raisable, same_machines, trial_raises_fit}

@@ -1,7 +1,7 @@
 use Rattle.std.proofs.Common.{◌≡◌, length, refl, subst, sym}
 use Rattle.shop_layout.specs.Lanes.{rows_of}
 use Rattle.shop_layout.specs.Positions.{LayoutState}
-use Rattle.shop_raises.specs.LaneEnds.{AreEndsOf, CanKeepEnds, HasEnds}
+use Rattle.shop_raises.specs.inner.LaneEnds.{AreEndsOf, CanKeepEnds, HasEnds}
 use Rattle.shop_desk.specs.inner.PlacedNexts.{placement_at}
 use Rattle.shop_desk.proofs.FilledStates.{can_fill, filled_keep, filled_kept, times_long}
 use Rattle.shop_desk.proofs.PlacedNexts.{nexts_placed, placement_is}

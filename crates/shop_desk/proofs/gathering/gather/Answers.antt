@@ -1,7 +1,7 @@
 use Rattle.std.proofs.Common.{◌≡◌, ℕ, List, [], get_or, length, ◌∙◌, ap, refl, sym, subst, arith}
 use Rattle.shop_model.specs.Word.{placing}
 use Rattle.shop_layout.specs.Lanes.{rows_of}
-use Rattle.shop_raises.specs.Raises.{HasBlocks}
+use Rattle.shop_raises.specs.inner.Raises.{HasBlocks}
 use Rattle.shop_desk.proofs.Candidates.{choosable}
 use Rattle.shop_desk.proofs.LaneConflicts.{chosen_at, chosen_in, chosen_job, is_conflict, none_open}
 use Rattle.shop_desk.proofs.OwnSpans.{nobody}

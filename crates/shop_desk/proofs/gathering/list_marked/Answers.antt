@@ -2,7 +2,7 @@ use Rattle.std.proofs.Common.{ℕ, ◌≡◌, List, ◌+◌, ◌++◌, ◌∷◌
 use Rattle.std.proofs.Common.{append_assoc, refl}
 use Rattle.std.proofs.lemmas.List.{length-append}
 use Rattle.shop_desk.specs.inner.Candidates.{ListsOwn, told_at}
-use Rattle.shop_raises.specs.RisingLists.{IsIn}
+use Rattle.shop_raises.specs.inner.RisingLists.{IsIn}
 use Rattle.shop_desk.proofs.Listing.{begun, ended, regrouped}
 use Rattle.shop_desk.proofs.gathering.list_marked.Goals as goal
 

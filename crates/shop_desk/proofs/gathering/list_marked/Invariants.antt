@@ -1,6 +1,6 @@
 use Rattle.std.proofs.Common.{◌≡◌, ℕ, List, ◌+◌, ◌++◌, length, map, vec_capacity}
 use Rattle.shop_desk.specs.inner.Candidates.{IsTold, ListsOwn, told_at}
-use Rattle.shop_raises.specs.RisingLists.{IsIn}
+use Rattle.shop_raises.specs.inner.RisingLists.{IsIn}
 use Rattle.shop_desk.proofs.gathering.list_marked.Given as goal
 
 abbrev pub invariant-loop-job : goal.invariant-loop-job

@@ -1,6 +1,6 @@
 use Rattle.std.proofs.Common.{ℕ, ◌*◌, List, map, subst}
 use Rattle.shop_desk.specs.inner.Candidates.{ListsOwn, told_at}
-use Rattle.shop_raises.specs.RisingLists.{IsIn}
+use Rattle.shop_raises.specs.inner.RisingLists.{IsIn}
 use Rattle.shop_desk.proofs.gathering.list_set.Goals as goal
 
 pub list_words-requires-clause-told : goal.list_words-requires-clause-told

@@ -1,7 +1,7 @@
 use Rattle.std.proofs.Common.{ℕ, List, [], ◌++◌, length, map, refl, sym, ◌∙◌, ap, subst, arith}
 use Rattle.std.proofs.lemmas.List.{length-append}
 use Rattle.shop_desk.specs.inner.Candidates.{ListsOwn, empty, told_at}
-use Rattle.shop_raises.specs.RisingLists.{IsIn}
+use Rattle.shop_raises.specs.inner.RisingLists.{IsIn}
 use Rattle.shop_raises.proofs.JobSets.{all_words, in_word, room_for_word, word_more}
 use Rattle.shop_desk.proofs.gathering.list_words.Goals as goal
 

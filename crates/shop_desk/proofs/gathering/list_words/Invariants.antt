@@ -1,6 +1,6 @@
 use Rattle.std.proofs.Common.{◌≡◌, ℕ, List, ◌+◌, ◌*◌, ◌++◌, drop, length, map, vec_capacity}
 use Rattle.shop_desk.specs.inner.Candidates.{ListsOwn, told_at}
-use Rattle.shop_raises.specs.JobSets.{members}
+use Rattle.shop_raises.specs.inner.JobSets.{members}
 use Rattle.shop_desk.proofs.gathering.list_words.Given as goal
 
 abbrev pub invariant-loop-word : goal.invariant-loop-word

@@ -1,7 +1,7 @@
 use Rattle.std.proofs.Common.{ℕ, List, subst}
-use Rattle.shop_raises.specs.JobSets.{HasPut}
-use Rattle.shop_raises.specs.LaneChoices.{IsJobBelow}
-use Rattle.shop_raises.specs.Raises.{IsInBlocks}
+use Rattle.shop_raises.specs.inner.JobSets.{HasPut}
+use Rattle.shop_raises.specs.inner.LaneChoices.{IsJobBelow}
+use Rattle.shop_raises.specs.inner.Raises.{IsInBlocks}
 use Rattle.shop_desk.proofs.LaneChoices.{gathered_with, more_gathered}
 use Rattle.shop_desk.proofs.lane_choices.conflict_set.Goals as goal
 

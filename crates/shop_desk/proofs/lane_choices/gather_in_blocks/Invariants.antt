@@ -1,7 +1,7 @@
 use Rattle.std.proofs.Common.{◌≤◌, ◌-◌}
-use Rattle.shop_raises.specs.LaneChoices.{IsJobBelow}
-use Rattle.shop_raises.specs.Raises.{IsInBlocks}
-use Rattle.shop_raises.specs.RisingLists.{HasGathered}
+use Rattle.shop_raises.specs.inner.LaneChoices.{IsJobBelow}
+use Rattle.shop_raises.specs.inner.Raises.{IsInBlocks}
+use Rattle.shop_raises.specs.inner.RisingLists.{HasGathered}
 use Rattle.shop_desk.proofs.lane_choices.gather_in_blocks.Given as goal
 
 abbrev pub invariant-loop-from : goal.invariant-loop-from

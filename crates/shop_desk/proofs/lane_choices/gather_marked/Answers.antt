@@ -1,6 +1,6 @@
 use Rattle.std.proofs.Common.{ℕ, refl, subst, arith}
 use Rattle.shop_layout.specs.Lanes.{rows_of}
-use Rattle.shop_raises.specs.JobSets.{HasPut}
+use Rattle.shop_raises.specs.inner.JobSets.{HasPut}
 use Rattle.shop_desk.proofs.LaneChoices.{gathering_begins, gathering_ends, gathering_on, popped_within}
 use Rattle.shop_desk.proofs.lane_choices.gather_marked.Goals as goal
 

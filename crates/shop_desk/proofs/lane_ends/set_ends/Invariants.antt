@@ -1,5 +1,5 @@
 use Rattle.std.proofs.Common.{ℕ, ◌<◌}
-use Rattle.shop_raises.specs.LaneEnds.{HasEnds, IsEndOf}
+use Rattle.shop_raises.specs.inner.LaneEnds.{HasEnds, IsEndOf}
 use Rattle.shop_layout.specs.Lanes.{rows_of}
 use Rattle.shop_desk.proofs.lane_ends.set_ends.Given as goal
 

@@ -1,7 +1,7 @@
 use Rattle.std.proofs.Common.{List, sym, subst, arith}
 use Rattle.std.proofs.lemmas.List.{length-map}
-use Rattle.shop_raises.specs.HeadRaises.{Raise, raise_in, raises_in}
-use Rattle.shop_raises.specs.MachineRaises.{AreListed}
+use Rattle.shop_raises.specs.inner.HeadRaises.{Raise, raise_in, raises_in}
+use Rattle.shop_raises.specs.inner.MachineRaises.{AreListed}
 use Rattle.shop_raises.proofs.RaisedMachines.{listed_more, widened_in}
 use Rattle.shop_raises.proofs.head_raises.see.Goals as goal
 

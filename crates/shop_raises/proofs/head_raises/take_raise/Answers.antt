@@ -1,6 +1,6 @@
 use Rattle.std.proofs.Common.{◌∙◌, ap, set, sym}
 use Rattle.std.proofs.lemmas.List.{get_or-map, map-set}
-use Rattle.shop_raises.specs.HeadRaises.{Raise, no_raise, raise_in, raises_in}
+use Rattle.shop_raises.specs.inner.HeadRaises.{Raise, no_raise, raise_in, raises_in}
 use Rattle.shop_raises.proofs.head_raises.take_raise.Goals as goal
 
 pub returns-clause-raise : goal.returns-clause-raise

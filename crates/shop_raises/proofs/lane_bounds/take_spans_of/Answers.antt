@@ -1,8 +1,8 @@
 use Rattle.std.proofs.Common.{List, ap, subst, sym, refl, arith}
 use Rattle.std.proofs.lemmas.List.{length-map}
 use Rattle.shop_layout.specs.Lanes.{rows_of, lanes_on}
-use Rattle.shop_raises.specs.HeadRaises.{Raise, nothing_raised, raise_in, raises_in}
-use Rattle.shop_raises.specs.MachineRaises.{IsSpanByRaise}
+use Rattle.shop_raises.specs.inner.HeadRaises.{Raise, nothing_raised, raise_in, raises_in}
+use Rattle.shop_raises.specs.inner.MachineRaises.{IsSpanByRaise}
 use Rattle.shop_raises.proofs.RaisedMachines.{IsTakenSo, first_known, taken_all, taken_more}
 use Rattle.shop_raises.proofs.lane_bounds.take_spans_of.Goals as goal
 

@@ -1,6 +1,6 @@
 use Rattle.std.proofs.Common.{◌≤◌, length}
 use Rattle.shop_layout.specs.Lanes.{rows_of, lanes_on}
-use Rattle.shop_raises.specs.HeadRaises.{raises_in}
+use Rattle.shop_raises.specs.inner.HeadRaises.{raises_in}
 use Rattle.shop_raises.proofs.RaisedMachines.{IsTakenSo}
 use Rattle.shop_raises.proofs.lane_bounds.take_spans_of.Given as goal
 

@@ -1,5 +1,5 @@
 use Rattle.std.proofs.Common.{◌≡◌, ◌≤◌, replicate, vec_len, vec_capacity}
-use Rattle.shop_raises.specs.HeadRaises.{nothing_raised, raises_in}
+use Rattle.shop_raises.specs.inner.HeadRaises.{nothing_raised, raises_in}
 use Rattle.shop_raises.proofs.machine_raises.empty_raises.Given as goal
 
 abbrev pub invariant-loop : goal.invariant-loop

@@ -1,9 +1,9 @@
 use Rattle.std.proofs.Common.{ℕ, ◌+◌, ◌≤◌, ◌∙◌, get_or, length, refl, subst, sym, arith}
 use Rattle.shop_layout.specs.Lanes.{rows_of}
 use Rattle.shop_layout.specs.Positions.{LayoutState}
-use Rattle.shop_raises.specs.HeadRaises.{raises_in}
-use Rattle.shop_raises.specs.Raises.{Raises, IsInBlocks, IsOnMachine, IsRaisable}
-use Rattle.shop_raises.specs.Watchers.{AreKnown, Sees}
+use Rattle.shop_raises.specs.inner.HeadRaises.{raises_in}
+use Rattle.shop_raises.specs.inner.Raises.{Raises, IsInBlocks, IsOnMachine, IsRaisable}
+use Rattle.shop_raises.specs.inner.Watchers.{AreKnown, Sees}
 use Rattle.shop_raises.proofs.RaiseLoops.{blocks_raisable, more_blocks, no_blocks, all_blocks}
 use Rattle.shop_raises.proofs.Watching.{sees_both, sees_none}
 use Rattle.shop_raises.proofs.raises.raise.Goals as goal

@@ -1,9 +1,9 @@
 use Rattle.std.proofs.Common.{◌≡◌, ◌≤◌, ◌-◌, get_or, length}
 use Rattle.shop_layout.specs.Lanes.{rows_of}
-use Rattle.shop_raises.specs.HeadRaises.{raises_in}
-use Rattle.shop_raises.specs.Raises.{Raises, IsInBlocks, IsOnMachine}
-use Rattle.shop_raises.specs.MachineRaises.{AreListed}
-use Rattle.shop_raises.specs.Watchers.{Sees}
+use Rattle.shop_raises.specs.inner.HeadRaises.{raises_in}
+use Rattle.shop_raises.specs.inner.Raises.{Raises, IsInBlocks, IsOnMachine}
+use Rattle.shop_raises.specs.inner.MachineRaises.{AreListed}
+use Rattle.shop_raises.specs.inner.Watchers.{Sees}
 use Rattle.shop_raises.proofs.raises.raise.Given as goal
 
 abbrev pub invariant-loop-from : goal.invariant-loop-from

@@ -1,7 +1,7 @@
 use Rattle.std.proofs.Common.{◌∙◌, refl, subst, sym, arith}
 use Rattle.shop_layout.specs.Lanes.{rows_of}
-use Rattle.shop_raises.specs.HeadRaises.{raises_in}
-use Rattle.shop_raises.specs.Raises.{IsInBlocks, IsPosition}
+use Rattle.shop_raises.specs.inner.HeadRaises.{raises_in}
+use Rattle.shop_raises.specs.inner.Raises.{IsInBlocks, IsPosition}
 use Rattle.shop_raises.proofs.RaisedMachines.{lengths_in}
 use Rattle.shop_raises.proofs.RaiseLoops.{blocks_begin, popped_here, popped_within, popped_waits}
 use Rattle.shop_raises.proofs.RaiseLoops.{popped_raisable, blocks_on, blocks_past, blocks_end}

@@ -1,8 +1,8 @@
 use Rattle.std.proofs.Common.{ℕ, List, get_or, ap, subst, arith}
 use Rattle.shop_layout.specs.Lanes.{rows_of}
-use Rattle.shop_raises.specs.HeadRaises.{raises_in}
-use Rattle.shop_raises.specs.Raises.{IsPosition}
-use Rattle.shop_raises.specs.Watchers.{Sees}
+use Rattle.shop_raises.specs.inner.HeadRaises.{raises_in}
+use Rattle.shop_raises.specs.inner.Raises.{IsPosition}
+use Rattle.shop_raises.specs.inner.Watchers.{Sees}
 use Rattle.shop_raises.proofs.RaisedEnds.{mid_raisable, raised_with_ends, raised_within, raised_fits}
 use Rattle.shop_raises.proofs.raises.raise_from.Goals as goal
 

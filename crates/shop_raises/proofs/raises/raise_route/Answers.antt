@@ -1,7 +1,7 @@
 use Rattle.std.proofs.Common.{◌+◌, refl, arith, []}
 use Rattle.std.proofs.lemmas.List.{length-map}
 use Rattle.shop_layout.specs.Lanes.{rows_of}
-use Rattle.shop_raises.specs.HeadRaises.{raise_in, raises_in}
+use Rattle.shop_raises.specs.inner.HeadRaises.{raise_in, raises_in}
 use Rattle.shop_raises.proofs.RaisedMachines.{lengths_in}
 use Rattle.shop_raises.proofs.RaiseSteps.{begun_following, ended_before, ended_behind, followed, following_fits}
 use Rattle.shop_raises.proofs.RaiseSteps.{following_less, put_is}

@@ -1,5 +1,5 @@
 use Rattle.std.proofs.Common.{◌≡◌, ℕ, ◌*◌, ◌%◌, ◌^◌, List, length, get_or, set, bit_or, subst, arith}
-use Rattle.shop_raises.specs.JobSets.{members, HasPut}
+use Rattle.shop_raises.specs.inner.JobSets.{members, HasPut}
 use Rattle.shop_raises.proofs.JobSets.{put_in}
 use Rattle.shop_desk.proofs.job_sets.JobSet.put.Goals as goal
 

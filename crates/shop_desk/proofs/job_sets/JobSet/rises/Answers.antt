@@ -1,5 +1,5 @@
 use Rattle.std.proofs.Common.{subst}
-use Rattle.shop_raises.specs.RisingLists.{Rises}
+use Rattle.shop_raises.specs.inner.RisingLists.{Rises}
 use Rattle.shop_raises.proofs.JobSets.{members_rise}
 use Rattle.shop_desk.proofs.job_sets.JobSet.rises.Goals as goal
 

@@ -1,9 +1,9 @@
 use Rattle.std.proofs.Common.{◌∙◌, List, ap, subst, sym}
 use Rattle.shop_layout.proofs.Written.{written_vec}
 use Rattle.shop_raises.specs.declared.head_raises.LaneRaise.{LaneRaise}
-use Rattle.shop_raises.specs.HeadRaises.{Raise, raises_in}
-use Rattle.shop_raises.specs.Raises.{IsOnMachine}
-use Rattle.shop_raises.specs.Watchers.{Sees}
+use Rattle.shop_raises.specs.inner.HeadRaises.{Raise, raises_in}
+use Rattle.shop_raises.specs.inner.Raises.{IsOnMachine}
+use Rattle.shop_raises.specs.inner.Watchers.{Sees}
 use Rattle.shop_raises.proofs.machine_raises.MachineRaises.raise.Goals as goal
 
 pub returns-clause-seen : goal.returns-clause-seen

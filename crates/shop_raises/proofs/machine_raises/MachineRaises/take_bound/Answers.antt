@@ -1,7 +1,7 @@
 use Rattle.std.proofs.Common.{◌≡◌, ◌+◌, ◌≤◌, ◌∙◌, List, length, ap, subst, arith}
 use Rattle.shop_lanes.specs.Spans.{spans_between}
 use Rattle.shop_layout.specs.Lanes.{lanes_on, rows_of}
-use Rattle.shop_raises.specs.HeadRaises.{Raise, raise_of, raises_in}
+use Rattle.shop_raises.specs.inner.HeadRaises.{Raise, raise_of, raises_in}
 use Rattle.shop_raises.proofs.machine_raises.MachineRaises.take_bound.Goals as goal
 
 pub returns-clause-covers : goal.returns-clause-covers

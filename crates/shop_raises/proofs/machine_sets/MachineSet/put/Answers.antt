@@ -1,6 +1,6 @@
 use Rattle.std.proofs.Common.{ℕ, ◌*◌, ◌-◌, ◌^◌, ◌%◌, List, bit_or, subst, arith}
 use Rattle.std.proofs.lemmas.Nat.{one_shl}
-use Rattle.shop_raises.specs.JobSets.{HasPut}
+use Rattle.shop_raises.specs.inner.JobSets.{HasPut}
 use Rattle.shop_raises.proofs.MachineSets.{machines_of, put_high, put_low, put_small}
 use Rattle.shop_raises.proofs.machine_sets.MachineSet.put.Goals as goal
 

@@ -8,8 +8,8 @@
 use Rattle.std.specs.Prelude.{◌≡◌, ℕ, ◌+◌, ◌≤◌, ◌<◌, List, length, slice_index}
 use Rattle.shop_lanes.specs.Rows.{Rows, Lane, AreBlocks}
 use Rattle.shop_lanes.specs.Spans.{spans_between, FitsSpan}
-use Rattle.shop_raises.specs.HeadRaises.{Raise, raise_of}
-use Rattle.shop_raises.specs.RisingLists.{IsIn}
+use Rattle.shop_raises.specs.inner.HeadRaises.{Raise, raise_of}
+use Rattle.shop_raises.specs.inner.RisingLists.{IsIn}
 use Rattle.shop_layout.specs.Lanes.{lanes_on}
 use Rattle.shop_layout.specs.Positions.{LayoutState}
 

@@ -5,8 +5,8 @@
 --     Sees ms among end ..           the same of what is raised at positions on one machine
 use Rattle.std.specs.Prelude.{◌≡◌, ℕ, ◌≤◌, ◌<◌, ◌⊎◌, max, List, length, slice_index}
 use Rattle.std.specs.Prelude.{◌==◌, if◌then◌else◌}
-use Rattle.shop_raises.specs.HeadRaises.{Raise, raise_of}
-use Rattle.shop_raises.specs.LaneBounds.{AreRaisesUpTo}
+use Rattle.shop_raises.specs.inner.HeadRaises.{Raise, raise_of}
+use Rattle.shop_raises.specs.inner.LaneBounds.{AreRaisesUpTo}
 
 -- on the machine of the operation as far as its end, and not at all on others
 abbrev pub floor_on : ℕ → ℕ → ℕ → ℕ

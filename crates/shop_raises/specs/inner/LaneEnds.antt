@@ -8,7 +8,7 @@
 use Rattle.std.specs.Prelude.{◌≡◌, ℕ, ◌+◌, ◌≤◌, ◌<◌, ◌^◌, List, length, slice_index, if◌then◌else◌}
 use Rattle.std.specs.Prelude.{nat_lt}
 use Rattle.shop_lanes.specs.Rows.{Rows}
-use Rattle.shop_raises.specs.LaneChoices.{AreNextPlaced}
+use Rattle.shop_raises.specs.inner.LaneChoices.{AreNextPlaced}
 use Rattle.shop_layout.specs.Positions.{LayoutState}
 
 abbrev pub end_at : ℕ → List ℕ → Rows → ℕ → ℕ

@@ -5,7 +5,7 @@ use Rattle.std.specs.Prelude.{◌≡◌, ℕ, ◌+◌, ◌≤◌, ◌<◌, List,
 use Rattle.shop_lanes.specs.Rows.{Rows, AreBlocks}
 use Rattle.shop_lanes.specs.Spans.{FitsSpan}
 use Rattle.shop_layout.specs.Lanes.{lanes_on}
-use Rattle.shop_raises.specs.HeadRaises.{Raise, raise_of}
+use Rattle.shop_raises.specs.inner.HeadRaises.{Raise, raise_of}
 use Rattle.shop_layout.specs.Positions.{LayoutState}
 
 pub record AreSpansFit (greatest top machines : ℕ) (l : LayoutState) (rows : Rows) : Type 0 where

@@ -10,7 +10,7 @@ use Rattle.std.specs.Prelude.{◌≡◌, ℕ, ◌+◌, ◌*◌, ◌≤◌, ◌<�
 use Rattle.std.specs.Prelude.{slice_index_or}
 use Rattle.shop_lanes.specs.Rows.{Rows}
 use Rattle.shop_layout.specs.Positions.{place_or, LayoutState, place}
-use Rattle.shop_raises.specs.LaneEnds.{IsEndOf}
+use Rattle.shop_raises.specs.inner.LaneEnds.{IsEndOf}
 
 abbrev pub steps_of : LayoutState → ℕ → ℕ
 steps_of l j = length (slice_index_or l.places j [])

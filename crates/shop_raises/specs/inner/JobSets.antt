@@ -4,7 +4,7 @@
 --     HasPut j old new               the new list is the old one with j
 use Rattle.std.specs.Prelude.{◌≡◌, ℕ, ◌+◌, List, [], ◌∷◌, ◌++◌}
 use Rattle.shop_lanes.specs.SetBits.{set_bits}
-use Rattle.shop_raises.specs.RisingLists.{HasGathered}
+use Rattle.shop_raises.specs.inner.RisingLists.{HasGathered}
 
 abbrev pub members : ℕ → List ℕ → List ℕ
 members at [] = []

@@ -14,7 +14,7 @@ use Rattle.shop_model.specs.Limits.{IsWithinLimits}
 use Rattle.shop_model.specs.Shop.{Shop, route_of, IsOperation}
 use Rattle.shop_model.specs.Word.{Placing}
 use Rattle.shop_heads.specs.Conflicts.{next_end}
-use Rattle.shop_raises.specs.LaneHeads.{AreHeadsAt}
+use Rattle.shop_raises.specs.inner.LaneHeads.{AreHeadsAt}
 use Rattle.shop_layout.specs.Positions.{place_or, LayoutState, IsLaidOut, first_position}
 
 pub record AreNextsOf (shop : Shop) (p : Placing) (l : LayoutState)

@@ -1,0 +1,10 @@
+pub mod HeadRaises
+pub mod JobSets
+pub mod LaneBounds
+pub mod LaneChoices
+pub mod LaneEnds
+pub mod LaneHeads
+pub mod MachineRaises
+pub mod Raises
+pub mod RisingLists
+pub mod Watchers
