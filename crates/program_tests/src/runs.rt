@@ -51,6 +51,9 @@ pub fn run<R: Files + Threads + Sync + AllocGlobal + Abort>(
     Ended { status, out, err }
 }
 
+/// The words of a command line behind the program's name, what stands on standard input, and what the program prints.
+pub type Report = (&'static [&'static str], &'static str, &'static str);
+
 /// Runs the program and sees that it prints this text, says nothing and ends with status 0.
 pub fn reports<R: Files + Threads + Sync + AllocGlobal + Abort>(
     rt: &R,
@@ -60,13 +63,51 @@ pub fn reports<R: Files + Threads + Sync + AllocGlobal + Abort>(
 )
     requires { IsSync R.row }
 {
-    let ended = run(rt, words, text);
-    assert!(rt; ended.out.bytes() == wanted.as_bytes(), "{words:?}");
-    assert!(rt; ended.err.bytes().is_empty());
-    assert_eq!(rt; ended.status, 0);
+    prints(rt, words, text, wanted, 0);
     if words.first() == Some(&"solve") {
         is_judged_feasible(rt, words, text, wanted);
     }
+}
+
+/// Sees that the program prints each of these reports.
+pub fn reports_all<R: Files + Threads + Sync + AllocGlobal + Abort>(rt: &R, rows: &[Report])
+    requires { IsSync R.row }
+{
+    for (words, text, wanted) in rows {
+        reports(rt, words, text, wanted);
+    }
+}
+
+/// Runs the program, and sees what it says on standard error, that it prints nothing, and its status.
+pub fn refuses<R: Files + Threads + Sync + AllocGlobal + Abort>(
+    rt: &R,
+    words: &[&str],
+    text: &str,
+    wanted: &str,
+    status: u8,
+)
+    requires { IsSync R.row }
+{
+    let ended = run(rt, words, text);
+    assert!(rt; ended.err.bytes() == wanted.as_bytes(), "{words:?}, {text}");
+    assert!(rt; ended.out.bytes().is_empty());
+    assert_eq!(rt; ended.status, status);
+}
+
+/// Runs the program, and sees what it prints, that it says nothing, and its status.
+pub fn prints<R: Files + Threads + Sync + AllocGlobal + Abort>(
+    rt: &R,
+    words: &[&str],
+    text: &str,
+    wanted: &str,
+    status: u8,
+)
+    requires { IsSync R.row }
+{
+    let ended = run(rt, words, text);
+    assert!(rt; ended.out.bytes() == wanted.as_bytes(), "{words:?}, {text}");
+    assert!(rt; ended.err.bytes().is_empty());
+    assert_eq!(rt; ended.status, status);
 }
 
 /// The words of a `check` in the same format of the same instance.
@@ -112,8 +153,7 @@ fn is_judged_feasible<R: Files + Threads + Sync + AllocGlobal + Abort>(
     let check = check_words(rt, words);
     let schedule = with_schedule(rt, text, report);
     let verdict = verdict_of(rt, report);
-    let ended = run(rt, check.as_slice(), schedule.as_str());
-    assert!(rt; ended.out.bytes() == verdict.as_bytes(), "{words:?}");
+    prints(rt, check.as_slice(), schedule.as_str(), verdict.as_str(), 0);
 }
 
 /// Runs `solve`, sees that its report begins so, and that `check` judges its schedule feasible with its makespan.

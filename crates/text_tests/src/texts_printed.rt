@@ -2,41 +2,11 @@
 ghost use Rattle.std.specs.Prelude.{◌≤◌};
 ghost use Rattle.shop_model.specs.declared.limits.TheConstants.{MAX_JOBS, MAX_TIME};
 
-use shop_model::{Instance, Op, Position, Table, Verdict, check};
+use shop_model::{Instance, Position, Table, Verdict, check};
 use shop_text::{Named, Report, gantt, listing, read_table, report, verdict_line};
-use std::alloc::{AllocError, Global};
+use std::alloc::Global;
 use std::process::Abort;
-use worked_instances::{crossing, with_a_gap};
-
-fn route(alloc: Global, pairs: &[(usize, u64)]) -> Result<Vec<Op>, AllocError> {
-    let mut operations = Vec::new(alloc);
-    for (machine, time) in pairs {
-        operations.push(Op {
-            machine: *machine,
-            time: *time,
-        })?;
-    }
-    Ok(operations)
-}
-
-/// Fisher and Thompson's instance of 6 jobs on 6 machines.
-const FT06_ROWS: [[(usize, u64); 6]; 6] = [
-    [(2, 1), (0, 3), (1, 6), (3, 7), (5, 3), (4, 6)],
-    [(1, 8), (2, 5), (4, 10), (5, 10), (0, 10), (3, 4)],
-    [(2, 5), (3, 4), (5, 8), (0, 9), (1, 1), (4, 7)],
-    [(1, 5), (0, 5), (2, 5), (3, 3), (4, 8), (5, 9)],
-    [(2, 9), (1, 3), (4, 5), (5, 4), (0, 3), (3, 1)],
-    [(1, 3), (3, 3), (5, 9), (0, 10), (4, 4), (2, 1)],
-];
-
-fn ft06(rt: &impl Abort, alloc: Global) -> Instance {
-    let mut rows = Vec::new(alloc);
-    for row in &FT06_ROWS {
-        let route = route(alloc, row).expect(rt, "memory");
-        rows.push(route).expect(rt, "memory");
-    }
-    Instance::new(6, rows).ok().expect(rt, "limits")
-}
+use worked_instances::{crossing, ft06, of_rows, route, with_a_gap};
 
 /// Jobs of one operation each on one machine, one behind the other.
 fn row_of_jobs(rt: &impl Abort, alloc: Global, jobs: u64, time: u64) -> (Instance, Table)
@@ -46,8 +16,8 @@ fn row_of_jobs(rt: &impl Abort, alloc: Global, jobs: u64, time: u64) -> (Instanc
     let mut rows = Vec::new(alloc);
     let mut starts = Vec::new(alloc);
     for j in 0..jobs {
-        let route = route(alloc, &[(0, time)]).expect(rt, "memory");
-        rows.push(route).expect(rt, "memory");
+        rows.push(route(alloc, &[(0, time)]).expect(rt, "memory"))
+            .expect(rt, "memory");
         let row = vec![in alloc; j * time].expect(rt, "memory");
         starts.push(row).expect(rt, "memory");
     }
@@ -150,7 +120,7 @@ fn jobs_that_cross_are_told_and_drawn(rt: HostRuntime) {
 #[test]
 fn the_start_schedule_of_ft06_is_told(rt: HostRuntime) {
     let alloc = rt.alloc();
-    let instance = ft06(&rt, alloc);
+    let instance = ft06(alloc).expect(&rt, "an instance");
     let lines = b"job 0: 0 1 4 10 17 20\njob 1: 10 18 26 36 46 56\njob 2: 23 60 64 72 81 82\n\
         job 3: 82 87 92 97 100 108\njob 4: 97 106 109 117 121 124\njob 5: 109 125 128 137 147 151\n";
     let table = table_of(&rt, alloc, &instance, lines.as_slice());
@@ -184,17 +154,13 @@ fn one_operation_of_time_0_has_no_columns(rt: HostRuntime) {
     assert_drawn(&rt, alloc, &instance, &table, b"unit 1\nmachine 0 ||\n");
 }
 
-/// An instance of one job, whose second operation takes no time.
-fn one_job(rt: &impl Abort, alloc: Global) -> Instance {
-    let job = route(alloc, &[(2, 4), (0, 0), (1, 5)]).expect(rt, "memory");
-    let rows = vec![in alloc; job].expect(rt, "memory");
-    Instance::new(3, rows).ok().expect(rt, "limits")
-}
+/// One job, whose second operation takes no time.
+const ONE_JOB: [&[(usize, u64)]; 1] = [&[(2, 4), (0, 0), (1, 5)]];
 
 #[test]
 fn a_job_alone_is_told(rt: HostRuntime) {
     let alloc = rt.alloc();
-    let instance = one_job(&rt, alloc);
+    let instance = of_rows(alloc, 3, &ONE_JOB).expect(&rt, "an instance");
     let table = table_of(&rt, alloc, &instance, b"job 0: 0 4 4");
     let report =
         b"instance 1\nsize 1 3\nmakespan 9\nbound 9\nstatus optimal\nopen 0\nrounds 0\nnodes 0\n\
@@ -254,31 +220,29 @@ fn assert_line(rt: &impl Abort, alloc: Global, verdict: &Verdict, want: &[u8]) {
     assert_eq!(rt; line.as_slice(), want);
 }
 
+const VERDICTS: [(Verdict, &[u8]); 4] = [
+    (Verdict::Feasible { makespan: 7 }, b"feasible 7\n"),
+    (
+        Verdict::Overlap {
+            machine: 0,
+            first: Position { job: 0, step: 0 },
+            second: Position { job: 1, step: 1 },
+        },
+        b"infeasible: machine 0 overlap of job 0 step 0 and job 1 step 1\n",
+    ),
+    (
+        Verdict::Early { job: 1, step: 2 },
+        b"infeasible: job 1 step 2 begins before step 1 ends\n",
+    ),
+    (
+        Verdict::Unreleased { job: 1 },
+        b"infeasible: job 1 step 0 begins before its release\n",
+    ),
+];
+
 #[test]
 fn verdicts_are_lines(rt: HostRuntime) {
-    let cases = [
-        (
-            Verdict::Feasible { makespan: 7 },
-            b"feasible 7\n".as_slice(),
-        ),
-        (
-            Verdict::Overlap {
-                machine: 0,
-                first: Position { job: 0, step: 0 },
-                second: Position { job: 1, step: 1 },
-            },
-            b"infeasible: machine 0 overlap of job 0 step 0 and job 1 step 1\n".as_slice(),
-        ),
-        (
-            Verdict::Early { job: 1, step: 2 },
-            b"infeasible: job 1 step 2 begins before step 1 ends\n".as_slice(),
-        ),
-        (
-            Verdict::Unreleased { job: 1 },
-            b"infeasible: job 1 step 0 begins before its release\n".as_slice(),
-        ),
-    ];
-    for (verdict, line) in cases {
+    for (verdict, line) in VERDICTS {
         assert_line(&rt, rt.alloc(), &verdict, line);
     }
 }

@@ -40,133 +40,136 @@ pub fn assert_read(rt: &impl Abort, alloc: Global, format: Format, text: &[u8], 
     assert_eq!(rt; told.as_str(), want, "a text of {} bytes", text.len());
 }
 
+const ORLIB: [(&str, &str); 27] = [
+    ("", "error 4: no instance"),
+    ("words alone\n\n", "error 4: no instance"),
+    ("2", "error 5: line 1: bad shape of size line"),
+    ("2 2 2\n", "error 5: line 1: bad shape of size line"),
+    ("201 2", "error 8: line 2: text ends inside an instance"),
+    ("1001 2", "error 6: line 1: size out of range"),
+    ("1 101", "error 6: line 1: size out of range"),
+    ("0 2", "error 6: line 1: size out of range"),
+    (
+        "2 2\n0 3 1 2\n",
+        "error 8: line 3: text ends inside an instance",
+    ),
+    (
+        "2 2\n0 3 1 2\n\n \n",
+        "error 8: line 5: text ends inside an instance",
+    ),
+    ("2 2\n0 3 9\n1 2 0 4\n", "error 7: line 2: bad row"),
+    ("2 2\n0 3 1 -2\n1 2 0 4\n", "error 7: line 2: bad row"),
+    (
+        "instance a\n2 2\n0 3 1 2\ninstance b\n1 2 0 4\n",
+        "error 7: line 4: bad row",
+    ),
+    ("2 2\n0 3 1 2\ninstance b\n1 1\n0 4\n", "[b 1 | 0 0:4]"),
+    (
+        "2 2\n0 3 2 2\n1 2 0 4\n",
+        "error 9: line 2: no such machine",
+    ),
+    (
+        "2 2\n0 3 1 1000000001\n1 2 0 4\n",
+        "error 10: line 2: time out of range",
+    ),
+    (
+        "2 2\n0 1000000001 5 1\n1 2 0 4\n",
+        "error 10: line 2: time out of range",
+    ),
+    (
+        "2 2\n0 1000001 5 1\n1 2 0 4\n",
+        "error 9: line 2: no such machine",
+    ),
+    (
+        "2 2\n0 3 1 1000001\n1 2 0 4\n",
+        "[1 2 | 0 0:3 1:1000001 | 0 1:2 0:4]",
+    ),
+    ("2 2\n0 3 1 2\n\n1 2 0 4", "[1 2 | 0 0:3 1:2 | 0 1:2 0:4]"),
+    (
+        "1 1\n0 18446744073709551616\n",
+        "error 10: line 2: time out of range",
+    ),
+    (
+        "18446744073709551617 1\n",
+        "error 6: line 1: size out of range",
+    ),
+    ("1 1\n\x0b0 7\n", "error 7: line 2: bad row"),
+    ("1 1\n0\x0c7\n", "error 7: line 2: bad row"),
+    (
+        "82\ninstance a\ninstance b\n1 1\n0 7\n1 1\n0 8\n",
+        "[b 1 | 0 0:7][2 1 | 0 0:8]",
+    ),
+    (
+        "INSTANCE x\ninstance a b\ninstance \x7f\n1 1\n0 7\n",
+        "[1 1 | 0 0:7]",
+    ),
+    (
+        "2 2\n0 3 1 2\n1 2 0 4\ninstance 1\nsize 2 2\nmakespan 7\n",
+        "error 4: no instance",
+    ),
+];
+
 #[test]
 fn texts_of_orlib(rt: HostRuntime) {
-    let cases = [
-        ("", "error 4: no instance"),
-        ("words alone\n\n", "error 4: no instance"),
-        ("2", "error 5: line 1: bad shape of size line"),
-        ("2 2 2\n", "error 5: line 1: bad shape of size line"),
-        ("201 2", "error 8: line 2: text ends inside an instance"),
-        ("1001 2", "error 6: line 1: size out of range"),
-        ("1 101", "error 6: line 1: size out of range"),
-        ("0 2", "error 6: line 1: size out of range"),
-        (
-            "2 2\n0 3 1 2\n",
-            "error 8: line 3: text ends inside an instance",
-        ),
-        (
-            "2 2\n0 3 1 2\n\n \n",
-            "error 8: line 5: text ends inside an instance",
-        ),
-        ("2 2\n0 3 9\n1 2 0 4\n", "error 7: line 2: bad row"),
-        ("2 2\n0 3 1 -2\n1 2 0 4\n", "error 7: line 2: bad row"),
-        (
-            "instance a\n2 2\n0 3 1 2\ninstance b\n1 2 0 4\n",
-            "error 7: line 4: bad row",
-        ),
-        ("2 2\n0 3 1 2\ninstance b\n1 1\n0 4\n", "[b 1 | 0 0:4]"),
-        (
-            "2 2\n0 3 2 2\n1 2 0 4\n",
-            "error 9: line 2: no such machine",
-        ),
-        (
-            "2 2\n0 3 1 1000000001\n1 2 0 4\n",
-            "error 10: line 2: time out of range",
-        ),
-        (
-            "2 2\n0 1000000001 5 1\n1 2 0 4\n",
-            "error 10: line 2: time out of range",
-        ),
-        (
-            "2 2\n0 1000001 5 1\n1 2 0 4\n",
-            "error 9: line 2: no such machine",
-        ),
-        (
-            "2 2\n0 3 1 1000001\n1 2 0 4\n",
-            "[1 2 | 0 0:3 1:1000001 | 0 1:2 0:4]",
-        ),
-        ("2 2\n0 3 1 2\n\n1 2 0 4", "[1 2 | 0 0:3 1:2 | 0 1:2 0:4]"),
-        (
-            "1 1\n0 18446744073709551616\n",
-            "error 10: line 2: time out of range",
-        ),
-        (
-            "18446744073709551617 1\n",
-            "error 6: line 1: size out of range",
-        ),
-        ("1 1\n\x0b0 7\n", "error 7: line 2: bad row"),
-        ("1 1\n0\x0c7\n", "error 7: line 2: bad row"),
-        (
-            "82\ninstance a\ninstance b\n1 1\n0 7\n1 1\n0 8\n",
-            "[b 1 | 0 0:7][2 1 | 0 0:8]",
-        ),
-        (
-            "INSTANCE x\ninstance a b\ninstance \x7f\n1 1\n0 7\n",
-            "[1 1 | 0 0:7]",
-        ),
-        (
-            "2 2\n0 3 1 2\n1 2 0 4\ninstance 1\nsize 2 2\nmakespan 7\n",
-            "error 4: no instance",
-        ),
-    ];
-    for (text, want) in cases {
+    for (text, want) in ORLIB {
         assert_read(&rt, rt.alloc(), Format::Orlib, text.as_bytes(), want);
     }
 }
 
+const TAILLARD: [(&str, &str); 10] = [
+    ("2 2 1 2 3 4 5", "error 5: line 1: bad shape of size line"),
+    ("2", "error 5: line 1: bad shape of size line"),
+    ("2 2\nTimes\n3 2\nwords\n2 4\n", "error 7: line 4: bad row"),
+    (
+        "1 2\nTimes\n3 2\nMachines\n0 1\n",
+        "error 9: line 5: no such machine",
+    ),
+    (
+        "2 2 11 22 6 6\nTimes\n3 2\n2 4\nMachines\n1 3\n2 1\n",
+        "error 9: line 6: no such machine",
+    ),
+    ("1 1\n4\n", "error 8: line 3: text ends inside an instance"),
+    ("1 1 99999999999999999999999\n7\n1\n", "[1 1 | 0 0:7]"),
+    (
+        "a heading in words\n2 2 11 22 6 6\nTimes\n3 2\n2 4\nMachines\n1 2\n2 1\n",
+        "[1 2 | 0 0:3 1:2 | 0 1:2 0:4]",
+    ),
+    (
+        "1 1\n7\n1\ninstance 1\nsize 1 1\nmakespan 3\njob 0: 0\n",
+        "[1 1 | 0 0:7]",
+    ),
+    (
+        "instance a\n1 1\n7\n1\nand\n1 1\n8\n1\n",
+        "[1 1 | 0 0:7][2 1 | 0 0:8]",
+    ),
+];
+
 #[test]
 fn texts_of_taillard(rt: HostRuntime) {
-    let cases = [
-        ("2 2 1 2 3 4 5", "error 5: line 1: bad shape of size line"),
-        ("2", "error 5: line 1: bad shape of size line"),
-        ("2 2\nTimes\n3 2\nwords\n2 4\n", "error 7: line 4: bad row"),
-        (
-            "1 2\nTimes\n3 2\nMachines\n0 1\n",
-            "error 9: line 5: no such machine",
-        ),
-        (
-            "2 2 11 22 6 6\nTimes\n3 2\n2 4\nMachines\n1 3\n2 1\n",
-            "error 9: line 6: no such machine",
-        ),
-        ("1 1\n4\n", "error 8: line 3: text ends inside an instance"),
-        ("1 1 99999999999999999999999\n7\n1\n", "[1 1 | 0 0:7]"),
-        (
-            "a heading in words\n2 2 11 22 6 6\nTimes\n3 2\n2 4\nMachines\n1 2\n2 1\n",
-            "[1 2 | 0 0:3 1:2 | 0 1:2 0:4]",
-        ),
-        (
-            "1 1\n7\n1\ninstance 1\nsize 1 1\nmakespan 3\njob 0: 0\n",
-            "[1 1 | 0 0:7]",
-        ),
-        (
-            "instance a\n1 1\n7\n1\nand\n1 1\n8\n1\n",
-            "[1 1 | 0 0:7][2 1 | 0 0:8]",
-        ),
-    ];
-    for (text, want) in cases {
+    for (text, want) in TAILLARD {
         assert_read(&rt, rt.alloc(), Format::Taillard, text.as_bytes(), want);
     }
 }
 
+const ROUTES: [(&str, &str); 7] = [
+    (
+        "3 2\n0 0 3 1 2\n4 1 2 0 4\n7\n",
+        "[1 2 | 0 0:3 1:2 | 4 1:2 0:4 | 7]",
+    ),
+    ("2 1\n0\n5\n", "[1 1 | 0 | 5]"),
+    ("1 1\n1000001\n", "[1 1 | 1000001]"),
+    ("1 1\n0 0\n", "error 7: line 2: bad row"),
+    ("1 1\n1000000001\n", "error 10: line 2: time out of range"),
+    (
+        "1 1\n1000000001 1 0\n",
+        "error 10: line 2: time out of range",
+    ),
+    ("1 1\n0 1 5\n", "error 9: line 2: no such machine"),
+];
+
 #[test]
 fn texts_of_routes(rt: HostRuntime) {
-    let cases = [
-        (
-            "3 2\n0 0 3 1 2\n4 1 2 0 4\n7\n",
-            "[1 2 | 0 0:3 1:2 | 4 1:2 0:4 | 7]",
-        ),
-        ("2 1\n0\n5\n", "[1 1 | 0 | 5]"),
-        ("1 1\n1000001\n", "[1 1 | 1000001]"),
-        ("1 1\n0 0\n", "error 7: line 2: bad row"),
-        ("1 1\n1000000001\n", "error 10: line 2: time out of range"),
-        (
-            "1 1\n1000000001 1 0\n",
-            "error 10: line 2: time out of range",
-        ),
-        ("1 1\n0 1 5\n", "error 9: line 2: no such machine"),
-    ];
-    for (text, want) in cases {
+    for (text, want) in ROUTES {
         assert_read(&rt, rt.alloc(), Format::Routes, text.as_bytes(), want);
     }
 }
@@ -321,40 +324,41 @@ fn assert_said(rt: &impl Abort, alloc: Global, fault: ReadFault, want: &str) {
     assert_eq!(rt; said.as_str(), want);
 }
 
+const FAULTS: [(ReadFault, &str); 11] = [
+    (ReadFault::NoMemory, "error 1: out of memory"),
+    (ReadFault::TooLong, "error 3: text too long"),
+    (ReadFault::NoInstance, "error 4: no instance"),
+    (
+        ReadFault::BadShape { line: 5 },
+        "error 5: line 5: bad shape of size line",
+    ),
+    (
+        ReadFault::BadSize { line: 6 },
+        "error 6: line 6: size out of range",
+    ),
+    (ReadFault::BadRow { line: 7 }, "error 7: line 7: bad row"),
+    (
+        ReadFault::Truncated { line: 8 },
+        "error 8: line 8: text ends inside an instance",
+    ),
+    (
+        ReadFault::BadMachine { line: 9 },
+        "error 9: line 9: no such machine",
+    ),
+    (
+        ReadFault::BadTime { line: 10 },
+        "error 10: line 10: time out of range",
+    ),
+    (ReadFault::NoSuchName, "error 11: no instance of that name"),
+    (
+        ReadFault::BadTable { line: 12 },
+        "error 12: line 12: bad schedule",
+    ),
+];
+
 #[test]
 fn words_of_faults(rt: HostRuntime) {
-    let words = [
-        (ReadFault::NoMemory, "error 1: out of memory"),
-        (ReadFault::TooLong, "error 3: text too long"),
-        (ReadFault::NoInstance, "error 4: no instance"),
-        (
-            ReadFault::BadShape { line: 5 },
-            "error 5: line 5: bad shape of size line",
-        ),
-        (
-            ReadFault::BadSize { line: 6 },
-            "error 6: line 6: size out of range",
-        ),
-        (ReadFault::BadRow { line: 7 }, "error 7: line 7: bad row"),
-        (
-            ReadFault::Truncated { line: 8 },
-            "error 8: line 8: text ends inside an instance",
-        ),
-        (
-            ReadFault::BadMachine { line: 9 },
-            "error 9: line 9: no such machine",
-        ),
-        (
-            ReadFault::BadTime { line: 10 },
-            "error 10: line 10: time out of range",
-        ),
-        (ReadFault::NoSuchName, "error 11: no instance of that name"),
-        (
-            ReadFault::BadTable { line: 12 },
-            "error 12: line 12: bad schedule",
-        ),
-    ];
-    for (fault, want) in words {
+    for (fault, want) in FAULTS {
         assert_said(&rt, rt.alloc(), fault, want);
     }
 }

@@ -4,6 +4,7 @@ use crate::engines::runs::{room, without_name};
 use shop_engine::{Fault, Reading, Sink, Source, check_text};
 use shop_text::ReadFault;
 use std::alloc::Global;
+use std::process::Abort;
 
 const INSTANCE: &[u8] = b"2 2\n0 3 1 2\n1 2 0 4\n";
 
@@ -32,74 +33,83 @@ fn read_answer(k: u64, calls: u64) -> (Result<bool, Fault>, &'static [u8]) {
     }
 }
 
+fn assert_check_from(rt: &impl Abort, alloc: Global, k: u64) {
+    let mut source = Dripping::new(BOTH, k);
+    let mut sink = room(rt, alloc, 64);
+    let answer = check_one(alloc, &mut source, &mut sink);
+    let (expected, line) = read_answer(k, 43);
+    assert_eq!(rt; answer, expected, "at call {k}");
+    assert_eq!(rt; sink.bytes(), line, "at call {k}");
+    assert_eq!(rt; source.calls, k.min(43), "at call {k}");
+}
+
 #[test]
 fn instance_that_fails_is_never_at_its_end(rt: HostRuntime) {
     for k in 1..45 {
-        let mut source = Dripping::new(BOTH, k);
-        let mut sink = room(&rt, rt.alloc(), 64);
-        let answer = check_one(rt.alloc(), &mut source, &mut sink);
-        let (expected, line) = read_answer(k, 43);
-        assert_eq!(rt; answer, expected, "at call {k}");
-        assert_eq!(rt; sink.bytes(), line, "at call {k}");
-        assert_eq!(rt; source.calls, k.min(43));
+        assert_check_from(&rt, rt.alloc(), k);
     }
+}
+
+fn assert_check_beside(rt: &impl Abort, alloc: Global, k: u64) {
+    let mut source = Dripping::new(INSTANCE, k);
+    let mut second = Some(Reading::new(SCHEDULE));
+    let mut sink = room(rt, alloc, 64);
+    let args = without_name();
+    let answer = check_text(alloc, &mut source, &mut second, &mut sink, &args);
+    let (expected, line) = read_answer(k, 21);
+    assert_eq!(rt; answer, expected, "at call {k}");
+    assert_eq!(rt; sink.bytes(), line, "at call {k}");
+    assert_eq!(rt; source.calls, k.min(21), "at call {k}");
 }
 
 #[test]
 fn instance_beside_a_schedule_is_never_at_its_end(rt: HostRuntime) {
     for k in 1..23 {
-        let mut source = Dripping::new(INSTANCE, k);
-        let mut second = Some(Reading::new(SCHEDULE));
-        let mut sink = room(&rt, rt.alloc(), 64);
-        let answer = check_text(
-            rt.alloc(),
-            &mut source,
-            &mut second,
-            &mut sink,
-            &without_name(),
-        );
-        let (expected, line) = read_answer(k, 21);
-        assert_eq!(rt; answer, expected, "at call {k}");
-        assert_eq!(rt; sink.bytes(), line, "at call {k}");
-        assert_eq!(rt; source.calls, k.min(21));
+        assert_check_beside(&rt, rt.alloc(), k);
     }
+}
+
+fn assert_schedule_from(rt: &impl Abort, alloc: Global, k: u64) {
+    let mut second = Some(Dripping::new(SCHEDULE, k));
+    let mut source = Reading::new(INSTANCE);
+    let mut sink = room(rt, alloc, 64);
+    let args = without_name();
+    let answer = check_text(alloc, &mut source, &mut second, &mut sink, &args);
+    let (expected, line) = read_answer(k, 23);
+    assert_eq!(rt; answer, expected, "at call {k}");
+    assert_eq!(rt; sink.bytes(), line, "at call {k}");
+    let calls = second.map(|schedule| schedule.calls);
+    assert_eq!(rt; calls, Some(k.min(23)), "at call {k}");
 }
 
 #[test]
 fn schedule_that_fails_is_never_at_its_end(rt: HostRuntime) {
     for k in 1..25 {
-        let mut second = Some(Dripping::new(SCHEDULE, k));
-        let mut sink = room(&rt, rt.alloc(), 64);
-        let answer = check_text(
-            rt.alloc(),
-            &mut Reading::new(INSTANCE),
-            &mut second,
-            &mut sink,
-            &without_name(),
-        );
-        let (expected, line) = read_answer(k, 23);
-        assert_eq!(rt; answer, expected, "at call {k}");
-        assert_eq!(rt; sink.bytes(), line, "at call {k}");
-        if let Some(schedule) = second {
-            assert_eq!(rt; schedule.calls, k.min(23));
-        }
+        assert_schedule_from(&rt, rt.alloc(), k);
     }
+}
+
+fn assert_check_to(
+    rt: &impl Abort,
+    alloc: Global,
+    k: u64,
+    expected: Result<bool, Fault>,
+    line: &[u8],
+) {
+    let mut sink = Trickling::new(room(rt, alloc, 64), k);
+    let answer = check_one(alloc, &mut Reading::new(BOTH), &mut sink);
+    assert_eq!(rt; answer, expected, "at call {k}");
+    assert_eq!(rt; sink.memory.bytes(), line, "at call {k}");
 }
 
 #[test]
 fn sink_of_a_verdict_holds_a_beginning(rt: HostRuntime) {
-    for k in 1..13 {
-        let mut sink = Trickling::new(room(&rt, rt.alloc(), 64), k);
-        let answer = check_one(rt.alloc(), &mut Reading::new(BOTH), &mut sink);
-        let expected = if k <= 11 {
-            Err(Fault::WriteFailed)
-        } else {
-            Ok(true)
-        };
-        assert_eq!(rt; answer, expected, "at call {k}");
-        let taken = (k - 1) as usize;
-        assert_eq!(rt; sink.memory.bytes(), &LINE[..taken], "at call {k}");
+    for taken in 0..11 {
+        let k = taken as u64 + 1;
+        let line = &LINE[..taken];
+        assert_check_to(&rt, rt.alloc(), k, Err(Fault::WriteFailed), line);
     }
+    assert_check_to(&rt, rt.alloc(), 12, Ok(true), LINE);
 }
 
 #[test]

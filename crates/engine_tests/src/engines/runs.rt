@@ -3,7 +3,7 @@ use shop_engine::{
     CheckArgs, Fault, Format, ListArgs, Memory, Reading, SolveArgs, check_text, list_text,
     solve_text,
 };
-use shop_round::{Alone, Plan};
+use shop_round::{Alone, Order, Plan};
 use std::alloc::Global;
 use std::process::Abort;
 
@@ -12,48 +12,49 @@ pub(super) fn room(rt: &impl Abort, alloc: Global, bytes: usize) -> Memory {
     Memory::with_room(alloc, bytes).expect(rt, "memory")
 }
 
-/// Asserts what `list` answers and writes of a text.
-pub(super) fn assert_listed(
-    rt: &impl Abort,
-    alloc: Global,
-    format: Format,
-    text: &[u8],
-    expected: (Result<(), Fault>, &[u8]),
-) {
-    let (answer, lines) = expected;
+/// A text, what `list` answers, and what it writes.
+pub(super) type Listed = (&'static [u8], Result<(), Fault>, &'static [u8]);
+
+fn assert_list(rt: &impl Abort, alloc: Global, format: Format, row: Listed) {
+    let (text, expected, lines) = row;
     let mut sink = room(rt, alloc, 1024);
     let args = ListArgs { format };
-    assert_eq!(rt;
-        list_text(alloc, &mut Reading::new(text), &mut sink, &args),
-        answer
-    );
-    assert_eq!(rt; sink.bytes(), lines);
+    let answer = list_text(alloc, &mut Reading::new(text), &mut sink, &args);
+    assert_eq!(rt; answer, expected, "a text of {} bytes", text.len());
+    assert_eq!(rt; sink.bytes(), lines, "a text of {} bytes", text.len());
 }
 
-/// Asserts what `check` answers and writes of a text and, where there is one, a schedule beside it.
-pub(super) fn assert_checked(
-    rt: &impl Abort,
-    alloc: Global,
-    format: Format,
-    text: &[u8],
-    schedule: Option<&[u8]>,
-    expected: (Result<bool, Fault>, &[u8]),
-) {
-    let (answer, line) = expected;
+/// Asserts what `list` makes of texts of a format.
+pub(super) fn assert_listed(rt: &impl Abort, alloc: Global, format: Format, rows: &[Listed]) {
+    for row in rows {
+        assert_list(rt, alloc, format, *row);
+    }
+}
+
+/// A text and, where there is one, a schedule beside it; what `check` answers, and what it writes.
+pub(super) type Checked = (
+    &'static [u8],
+    Option<&'static [u8]>,
+    Result<bool, Fault>,
+    &'static [u8],
+);
+
+fn assert_check(rt: &impl Abort, alloc: Global, format: Format, row: Checked) {
+    let (text, schedule, expected, line) = row;
     let mut sink = room(rt, alloc, 1024);
     let mut second = schedule.map(Reading::new);
     let args = CheckArgs { format, name: None };
-    assert_eq!(rt;
-        check_text(
-            alloc,
-            &mut Reading::new(text),
-            &mut second,
-            &mut sink,
-            &args
-        ),
-        answer
-    );
-    assert_eq!(rt; sink.bytes(), line);
+    let mut source = Reading::new(text);
+    let answer = check_text(alloc, &mut source, &mut second, &mut sink, &args);
+    assert_eq!(rt; answer, expected, "a text of {} bytes", text.len());
+    assert_eq!(rt; sink.bytes(), line, "a text of {} bytes", text.len());
+}
+
+/// Asserts what `check` makes of texts of a format.
+pub(super) fn assert_checked(rt: &impl Abort, alloc: Global, format: Format, rows: &[Checked]) {
+    for row in rows {
+        assert_check(rt, alloc, format, *row);
+    }
 }
 
 /// What `solve` writes of a text, with one worker.
@@ -72,17 +73,41 @@ pub(super) fn without_name() -> CheckArgs {
     }
 }
 
-/// A plan by the kept order, with pieces of one node.
-pub(super) fn plan(rt: &impl Abort, rounds: u64, budget: u64) -> Plan {
-    Plan::new(rounds, budget, 1).expect(rt, "plan")
-}
-
-/// The arguments for the report of the first instance of an `orlib` text.
-pub(super) fn with_plan(plan: Plan, gantt: bool) -> SolveArgs {
+/// The arguments for the report of the first instance of a text.
+pub(super) fn solve_args(format: Format, plan: Plan, gantt: bool) -> SolveArgs {
     SolveArgs {
-        format: Format::Orlib,
+        format,
         name: None,
         plan,
         gantt,
+    }
+}
+
+/// The arguments for the report of the first instance of an `orlib` text, with pieces of one node.
+pub(super) fn with_plan(rt: &impl Abort, rounds: u64, budget: u64, gantt: bool) -> SolveArgs {
+    let plan = Plan::new(rounds, budget, 1).expect(rt, "a plan");
+    solve_args(Format::Orlib, plan, gantt)
+}
+
+/// The rounds, the budget and the order of a plan with pieces of one node, and whether there is a chart; a text; and
+/// its report.
+pub(super) type Solved = ((u64, u64, Order, bool), &'static [u8], &'static [u8]);
+
+fn assert_report(rt: &impl Abort, alloc: Global, args: &SolveArgs, text: &[u8], report: &[u8]) {
+    let sink = solve(rt, alloc, args, text);
+    assert_eq!(rt; sink.bytes(), report);
+}
+
+fn assert_solve(rt: &impl Abort, alloc: Global, format: Format, row: Solved) {
+    let ((rounds, budget, order, gantt), text, report) = row;
+    let plan = Plan::ordered(rounds, budget, 1, order).expect(rt, "a plan");
+    let args = solve_args(format, plan, gantt);
+    assert_report(rt, alloc, &args, text, report);
+}
+
+/// Asserts the reports of texts of a format.
+pub(super) fn assert_solved(rt: &impl Abort, alloc: Global, format: Format, rows: &[Solved]) {
+    for row in rows {
+        assert_solve(rt, alloc, format, *row);
     }
 }

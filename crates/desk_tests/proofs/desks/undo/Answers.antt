@@ -1,6 +1,6 @@
 use Rattle.std.proofs.Common.{ℕ, List, length, ap, arith}
 use Rattle.shop_bound.proofs.DeskSteps.{undone_shop}
-use Rattle.search_tests.proofs.bounds.undo.Goals as goal
+use Rattle.desk_tests.proofs.desks.undo.Goals as goal
 
 pub returns-then-jobs-gt0 : goal.returns-then-jobs-gt0
 returns-then-jobs-gt0 c =

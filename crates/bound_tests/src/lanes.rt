@@ -37,36 +37,57 @@ fn two_blocks<L: StateLanes>(alloc: Global) -> Result<L, AllocError>
     Ok(lanes)
 }
 
-fn assert_two_blocks<L: StateLanes>(rt: &impl Abort, fixed: &L::Fixed, lanes: &L)
+/// The loads of blocks: of the first one from heads of 1, 4 and 7 on, all three, the third alone and none; of the
+/// second one, and of both, down their columns: positions 0, 1, 9, 2 and 15.
+fn loads<L: StateLanes>(fixed: &L::Fixed, lanes: &L) -> [u64; 5]
     requires fits { 1000 ≤ L.GREATEST }
     requires times { L.times fixed.now ≡ two_blocks.times }
     requires tails { L.tails fixed.now ≡ two_blocks.tails }
     requires heads { L.heads lanes.now ≡ two_blocks.heads }
+{
+    [
+        lanes.load(fixed, 0, 1, 1),
+        lanes.load(fixed, 0, 1, 4),
+        lanes.load(fixed, 0, 1, 7),
+        lanes.load(fixed, 1, 2, 1),
+        lanes.load(fixed, 0, 2, 1),
+    ]
+}
+
+/// Raised bounds: of the first block with heads above 1, the first and the third; above 3, the third; above 6, none,
+/// so that 1 stays; of both blocks with heads above 2, all but positions 1 and 15.
+fn bounds<L: StateLanes>(fixed: &L::Fixed, lanes: &L) -> [u64; 4]
+    requires fits { 1000 ≤ L.GREATEST }
+    requires times { L.times fixed.now ≡ two_blocks.times }
+    requires tails { L.tails fixed.now ≡ two_blocks.tails }
+    requires heads { L.heads lanes.now ≡ two_blocks.heads }
+{
+    [
+        lanes.bound_raised(fixed, 1, 0, 1, 1, 6, 0, 1000),
+        lanes.bound_raised(fixed, 1, 0, 1, 3, 6, 0, 1000),
+        lanes.bound_raised(fixed, 0, 0, 1, 6, 9, 1, 1000),
+        lanes.bound_raised(fixed, 0, 0, 2, 2, 6, 0, 1000),
+    ]
+}
+
+/// A time, a head, and the first job of least end with that end.
+fn numbers<L: StateLanes>(fixed: &L::Fixed, lanes: &L) -> (u64, u64, (usize, u64))
+    requires times { L.times fixed.now ≡ two_blocks.times }
+    requires heads { L.heads lanes.now ≡ two_blocks.heads }
     requires ends { L.ends lanes.now ≡ two_blocks.ends }
 {
-    assert_eq!(rt; lanes.head(9), 5);
-    assert_eq!(rt; L::time(fixed, 2), 3);
-    let (job, end) = lanes.first_least_end();
-    assert_eq!(rt; job, 1);
-    assert_eq!(rt; end, 3);
-    // all three of the first block; the third alone; none
-    assert_eq!(rt; lanes.load(fixed, 0, 1, 1), 13);
-    assert_eq!(rt; lanes.load(fixed, 0, 1, 4), 4);
-    assert_eq!(rt; lanes.load(fixed, 0, 1, 7), 0);
-    // the second block, and both, down their columns: positions 0, 1, 9, 2 and 15
-    assert_eq!(rt; lanes.load(fixed, 1, 2, 1), 15);
-    assert_eq!(rt; lanes.load(fixed, 0, 2, 1), 21);
-    // from 3 on the first, the third and position 9; from 5 on these two; from 6 on the third
-    assert_eq!(rt; lanes.bound_raised(fixed, 1, 0, 1, 1, 6, 0, 1000), 16);
-    assert_eq!(rt; lanes.bound_raised(fixed, 1, 0, 1, 3, 6, 0, 1000), 10);
-    assert_eq!(rt; lanes.bound_raised(fixed, 0, 0, 1, 6, 9, 1, 1000), 1);
-    // from 3 on all but position 1 and 15
-    assert_eq!(rt; lanes.bound_raised(fixed, 0, 0, 2, 2, 6, 0, 1000), 22);
+    (L::time(fixed, 2), lanes.head(9), lanes.first_least_end())
+}
+
+/// Asserts at which positions something waits with a head below 4.
+fn assert_below<L: StateLanes>(rt: &impl Abort, lanes: &L)
+    requires fits { 1000 ≤ L.GREATEST }
+    requires heads { L.heads lanes.now ≡ two_blocks.heads }
+{
     let mut marks = lanes.below(0, 2, 4);
     assert!(rt; !marks.is_empty());
-    assert_eq!(rt; marks.pop_first(), Some(0));
-    assert_eq!(rt; marks.pop_first(), Some(1));
-    assert_eq!(rt; marks.pop_first(), Some(15));
+    let first = [marks.pop_first(), marks.pop_first(), marks.pop_first()];
+    assert_eq!(rt; first, [Some(0), Some(1), Some(15)]);
     assert!(rt; marks.is_empty());
 }
 
@@ -75,7 +96,10 @@ fn assert_width<L: StateLanes>(rt: &impl Abort, alloc: Global)
 {
     let fixed = fixed::<L>(alloc).expect(rt, "memory");
     let lanes = two_blocks::<L>(alloc).expect(rt, "memory");
-    assert_two_blocks::<L>(rt, &fixed, &lanes);
+    assert_eq!(rt; numbers::<L>(&fixed, &lanes), (3, 5, (1, 3)));
+    assert_eq!(rt; loads::<L>(&fixed, &lanes), [13, 4, 0, 15, 21]);
+    assert_eq!(rt; bounds::<L>(&fixed, &lanes), [16, 10, 1, 22]);
+    assert_below::<L>(rt, &lanes);
 }
 
 #[test]

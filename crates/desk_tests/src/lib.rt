@@ -1,0 +1,5 @@
+// Tests of desks.
+#![tactic(auto)]
+
+#[cfg(test)]
+mod desks;
