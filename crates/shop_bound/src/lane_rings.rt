@@ -12,11 +12,20 @@ use shop_model::Instance;
 use std::alloc::{AllocError, Global};
 
 /// A ring in lanes of 16, 32 or 64 bits.
-#[derive(Drop)]
 pub(crate) enum LaneRing<'a> {
     Narrow(Ring<LaidOut<'a, NarrowLanes>>),
     Wide(Ring<LaidOut<'a, WideLanes>>),
     Plain(Ring<LaidOut<'a, PlainLanes>>),
+}
+
+impl Drop for LaneRing<'_> {
+    fn drop(self) {
+        match self {
+            LaneRing::Narrow(_) => {}
+            LaneRing::Wide(_) => {}
+            LaneRing::Plain(_) => {}
+        }
+    }
 }
 
 impl<'a> LaneRing<'a> {

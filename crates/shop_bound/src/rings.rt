@@ -15,7 +15,6 @@ const KEPT_OPERATIONS: usize = 1 << 20;
 
 /// A word of an instance, with its state, those of its last beginnings, and the bounds of all. It takes memory in `new`
 /// alone.
-#[derive(Drop)]
 pub(crate) struct Ring<D: Dispatching + Drop> {
     dispatcher: D,
     scratch: D::Scratch,
@@ -27,6 +26,21 @@ pub(crate) struct Ring<D: Dispatching + Drop> {
     /// the first `kept` are those of the word without its last entry, without its last two, and so on
     earlier: VecDeque<D::State>,
     kept: usize,
+}
+
+// Written out, so that the code that lets go of a ring stands once, and not in each function that has one.
+impl<D: Dispatching + Drop> Drop for Ring<D> {
+    fn drop(self) {
+        let Ring {
+            dispatcher: _,
+            scratch: _,
+            word: _,
+            bounds: _,
+            state: _,
+            earlier: _,
+            kept: _,
+        } = self;
+    }
 }
 
 impl<D: Dispatching + Drop> Model for Ring<D> {
