@@ -1,5 +1,5 @@
 -- Heads by position are set one by one.
-use Rattle.std.proofs.Common.{◌≡◌, ℕ, ◌+◌, ◌-◌, ◌≤◌, ◌<◌, max, inl, inr, List, length, get_or}
+use Rattle.std.proofs.Common.{◌≡◌, ℕ, ◌+◌, ◌-◌, ◌≤◌, ◌<◌, max, inl, inr, List, [], length, get_or}
 use Rattle.std.proofs.Common.{set, refl, sym, ◌∙◌, ap, subst, arith}
 use Rattle.std.proofs.lemmas.Bool.{cases_eq}
 use Rattle.std.proofs.lemmas.Grind.{get_or-set_at}
@@ -194,3 +194,12 @@ module _ (greatest : ℕ) (shop : Shop) (l : LayoutState) (s : PlacementState) (
       padding = λ q none. so_far.free q none ∙ rested q;
     };
   }
+
+-- what is read of a job's places and of its route
+pub places_read : (l : LayoutState) (j : ℕ) (places : List ℕ) → places ≡ get_or l.places j [] → (k : ℕ)
+    → get_or places k 0 ≡ place l j k
+places_read l j places is k = ap (λ (xs : List ℕ). get_or xs k 0) is
+
+pub step_read : (shop : Shop) (j : ℕ) (route : List Op) → route ≡ route_of shop j → (k : ℕ) → k < length route
+    → IsOperation shop j k
+step_read shop j route is k below = let a : length route ≡ length (route_of shop j) = ap length is in omega arith

@@ -9,7 +9,6 @@ pub mod ChildReads
 pub mod ChildTurns
 pub mod ConflictSets
 pub mod FillTurns
-pub mod FillWalks
 pub mod FilledStates
 pub mod HeadsFit
 pub mod LaneChoices

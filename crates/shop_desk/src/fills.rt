@@ -3,14 +3,27 @@ ghost use Rattle.std.specs.Prelude.{◌≡◌, ℕ, ◌<◌, List, length};
 ghost use Rattle.shop_model.specs.Word.{IsWord, placing};
 ghost use Rattle.shop_desk.specs.inner.Fills.{CanFill, HasFilled, HasFilledJob};
 ghost use Rattle.shop_desk.specs.inner.LaneStates.{HasRoom, IsKeptInLanes};
-ghost use Rattle.shop_desk.specs.inner.PlacedNexts.{IsPlacedAt, IsWordAt, placement_at};
+ghost use Rattle.shop_desk.specs.inner.PlacedNexts.{IsFirstAt, IsPlacedAt, IsWordAt, placement_at};
 ghost use Rattle.shop_layout.specs.Lanes.{rows_of};
 
 use crate::lane_ends::set_ends;
 use shop_lanes::StateLanes;
 use shop_layout::LaidOut;
 
-/// Sets the heads of a job's operations that aren't placed.
+/// How many operations of a job are placed, by where its operations stand and where the next one does, if there is one.
+fn placed_steps(places: &[u32], next: u32) -> usize
+    ensures { IsFirstAt places.now next result }
+{
+    for step in 0..places.len() {
+        if places[step] == next {
+            return step;
+        }
+    }
+    places.len()
+}
+
+/// Sets the heads of a job's operations that aren't placed. These are read by step, as they lie in memory: each stands at
+/// a position far from the one before.
 fn fill_job<L: StateLanes>(
     lanes: &mut L,
     laid_out: &LaidOut<L>,
@@ -28,14 +41,14 @@ fn fill_job<L: StateLanes>(
         (rows_of laid_out.now.layout (L.heads lanes.old) (L.ends lanes.old))
         (rows_of laid_out.now.layout (L.heads lanes.new) (L.ends lanes.new)) }
 {
-    let routes = laid_out.grid().routes();
-    let mut position = next[job] as usize;
+    let route = laid_out.instance().route(job);
+    let places = laid_out.grid().places(job);
     let mut begin = ready[job];
-    while position < routes.positions() {
-        let head = begin.max(free[routes.machine(position) as usize]);
-        lanes.set_head(position, head + 1);
-        begin = head + routes.time(position);
-        position = routes.following(position);
+    for step in placed_steps(places, next[job])..route.len() {
+        let op = route[step];
+        let head = begin.max(free[op.machine]);
+        lanes.set_head(places[step] as usize, head + 1);
+        begin = head + op.time;
     }
 }
 

@@ -1,137 +1,114 @@
-use Rattle.std.proofs.Common.{◌+◌, get_or, refl, ◌∙◌, arith}
-use Rattle.shop_layout.specs.Lanes.{rows_of}
+use Rattle.std.proofs.Common.{◌+◌, [], get_or, refl, ◌∙◌, ap, arith}
+use Rattle.shop_model.specs.Shop.{Shop, no_op, route_of}
+use Rattle.shop_layout.specs.Positions.{LayoutState}
 use Rattle.shop_desk.specs.inner.PlacedNexts.{placement_at}
-use Rattle.shop_desk.proofs.FillWalks.{can_fill_at, fill_begins, fill_ends, fill_less, fill_on}
-use Rattle.shop_desk.proofs.PlacedNexts.{nexts_placed, of_word_at}
+use Rattle.shop_desk.proofs.PlacedNexts.{first_is, of_word_at}
+use Rattle.shop_layout.specs.Lanes.{rows_of}
 use Rattle.shop_raises.proofs.RaiseSteps.{put_is}
+use Rattle.shop_desk.proofs.FillTurns.{position_known, filled_begins, open_fits, filled_open}
+use Rattle.shop_desk.proofs.FillTurns.{places_read, step_read}
 use Rattle.shop_desk.proofs.fills.fill_job.Goals as goal
 
-pub loop-position-init : goal.loop-position-init
-loop-position-init g c = fill_begins g.L.StateLanes.GREATEST c.args.laid_out.now.shop c.args.laid_out.now.layout
-    (placement_at c.args.laid_out.now.layout c.args.next.now c.args.ready.now c.args.free.now)
-    (rows_of c.args.laid_out.now.layout (g.L.StateLanes.heads c.args.lanes.now)
-    (g.L.StateLanes.ends c.args.lanes.now)) c.requires.fill
-    (of_word_at c.args.laid_out.now.shop c.requires.fill.limits c.args.laid_out.now.layout c.requires.fill.laid
-    c.args.next.now
-    c.args.ready.now c.args.free.now c.requires.of) c.args.job c.requires.job c.args.next.now
-    (nexts_placed c.args.laid_out.now.shop c.requires.fill.limits c.args.laid_out.now.layout c.requires.fill.laid
-    c.requires.of.word
-    c.requires.of.fits c.args.next.now c.args.ready.now c.args.free.now c.requires.of.placed)
-    (let a = c.requires.of.placed.are_next.jobs in let b = c.requires.job in omega arith)
-    (get_or c.args.next.now c.args.job 0) (get_or c.args.ready.now c.args.job 0) refl refl
+pub loop-step-init : goal.loop-step-init
+loop-step-init g c =
+    let first = (first_is c.args.laid_out.now.shop c.requires.fill.limits c.args.laid_out.now.layout c.requires.fill.laid
+    c.requires.of.word c.requires.of.fits c.args.next.now c.args.ready.now c.args.free.now c.requires.of.placed
+    c.args.job c.requires.job c.places-places.result.now
+    (c.places-places.ensures ∙ ap (λ (x : LayoutState). get_or x.places c.args.job []) c.grid.ensures.grid)
+    (get_or c.args.next.now c.args.job 0) c.placed_steps-step.result refl c.placed_steps-step.ensures)
+    in record {
+      filled = filled_begins g.L.StateLanes.GREATEST c.args.laid_out.now.shop c.args.laid_out.now.layout
+          (placement_at c.args.laid_out.now.layout c.args.next.now c.args.ready.now c.args.free.now)
+          (rows_of c.args.laid_out.now.layout (g.L.StateLanes.heads c.args.lanes.now)
+          (g.L.StateLanes.ends c.args.lanes.now)) c.requires.fill c.args.job c.requires.job c.placed_steps-step.result
+          (get_or c.args.ready.now c.args.job 0) first refl;
+      opened = omega arith;
+    }
 
-pub bounds-free-machine : goal.bounds-free-machine
-bounds-free-machine g c = (can_fill_at g.L.StateLanes.GREATEST c.args.laid_out.now.shop c.args.laid_out.now.layout
-    (placement_at c.args.laid_out.now.layout c.args.next.now c.args.ready.now c.args.free.now)
-    (rows_of c.args.laid_out.now.layout (g.L.StateLanes.heads c.args.lanes.now)
-    (g.L.StateLanes.ends c.args.lanes.now)) c.requires.fill
-    (of_word_at c.args.laid_out.now.shop c.requires.fill.limits c.args.laid_out.now.layout c.requires.fill.laid
-    c.args.next.now
-    c.args.ready.now c.args.free.now c.requires.of) c.args.job c.requires.job
-    c.loop-position.position c.loop-position.begin
-    (rows_of c.args.laid_out.now.layout (g.L.StateLanes.heads c.loop-position.lanes)
-    (g.L.StateLanes.ends c.loop-position.lanes)) c.loop-position.invariant
-    c.routes-routes.result (c.routes-routes.ensures ∙ c.grid.ensures.grid)
-    c.positions.result c.positions.ensures c.loop-position-test.true).machine
-    c.machine.result c.machine.ensures
+pub set_head-requires-clause-in_range : goal.set_head-requires-clause-in_range
+set_head-requires-clause-in_range g c =
+    position_known g.L.StateLanes.GREATEST c.args.laid_out.now.shop c.args.laid_out.now.layout (placement_at c.args.laid_out.now.layout c.args.next.now c.args.ready.now c.args.free.now)
+    (rows_of c.args.laid_out.now.layout (g.L.StateLanes.heads c.args.lanes.now) (g.L.StateLanes.ends c.args.lanes.now))
+    c.requires.fill c.args.job c.requires.job c.loop-step.step c.loop-step.begin
+    (rows_of c.args.laid_out.now.layout (g.L.StateLanes.heads c.loop-step.lanes) (g.L.StateLanes.ends c.loop-step.lanes))
+    c.loop-step.invariant.filled
+    (step_read c.args.laid_out.now.shop c.args.job c.route-route.result.now (c.route-route.ensures.route ∙ ap (λ (x : Shop). route_of x c.args.job) c.instance.ensures) c.loop-step.step
+    c.loop-step-test.true)
+    (get_or c.places-places.result.now c.loop-step.step 0)
+    (places_read c.args.laid_out.now.layout c.args.job c.places-places.result.now (c.places-places.ensures ∙ ap (λ (x : LayoutState). get_or x.places c.args.job []) c.grid.ensures.grid) c.loop-step.step)
 
 pub overflow_add-head : goal.overflow_add-head
 overflow_add-head g c =
-    let fits = (can_fill_at g.L.StateLanes.GREATEST c.args.laid_out.now.shop c.args.laid_out.now.layout
-    (placement_at c.args.laid_out.now.layout c.args.next.now c.args.ready.now c.args.free.now)
-    (rows_of c.args.laid_out.now.layout (g.L.StateLanes.heads c.args.lanes.now)
-    (g.L.StateLanes.ends c.args.lanes.now)) c.requires.fill
+    let fits = (open_fits g.L.StateLanes.GREATEST c.args.laid_out.now.shop c.args.laid_out.now.layout (placement_at c.args.laid_out.now.layout c.args.next.now c.args.ready.now c.args.free.now)
+    (rows_of c.args.laid_out.now.layout (g.L.StateLanes.heads c.args.lanes.now) (g.L.StateLanes.ends c.args.lanes.now))
+    c.requires.fill c.args.job c.requires.job c.loop-step.step c.loop-step.begin
+    (rows_of c.args.laid_out.now.layout (g.L.StateLanes.heads c.loop-step.lanes) (g.L.StateLanes.ends c.loop-step.lanes))
+    c.loop-step.invariant.filled
+    (step_read c.args.laid_out.now.shop c.args.job c.route-route.result.now (c.route-route.ensures.route ∙ ap (λ (x : Shop). route_of x c.args.job) c.instance.ensures) c.loop-step.step
+    c.loop-step-test.true)
+    (get_or c.places-places.result.now c.loop-step.step 0)
+    (places_read c.args.laid_out.now.layout c.args.job c.places-places.result.now (c.places-places.ensures ∙ ap (λ (x : LayoutState). get_or x.places c.args.job []) c.grid.ensures.grid) c.loop-step.step)
+    (get_or (placement_at c.args.laid_out.now.layout c.args.next.now c.args.ready.now c.args.free.now).steps c.args.job 0) refl c.loop-step.invariant.opened c.route-route.result.now
+    (c.route-route.ensures.route ∙ ap (λ (x : Shop). route_of x c.args.job) c.instance.ensures) c.max-head.result
+    c.max-head.ensures
     (of_word_at c.args.laid_out.now.shop c.requires.fill.limits c.args.laid_out.now.layout c.requires.fill.laid
-    c.args.next.now
-    c.args.ready.now c.args.free.now c.requires.of) c.args.job c.requires.job
-    c.loop-position.position c.loop-position.begin
-    (rows_of c.args.laid_out.now.layout (g.L.StateLanes.heads c.loop-position.lanes)
-    (g.L.StateLanes.ends c.loop-position.lanes)) c.loop-position.invariant
-    c.routes-routes.result (c.routes-routes.ensures ∙ c.grid.ensures.grid)
-    c.positions.result c.positions.ensures c.loop-position-test.true).fits
-    c.machine.result c.max-head.result c.machine.ensures c.max-head.ensures
+    c.args.next.now c.args.ready.now c.args.free.now c.requires.of)).0
     in let computable = c.requires.fill.computable in omega arith
-
-pub set_head-requires-clause-fits : goal.set_head-requires-clause-fits
-set_head-requires-clause-fits g c = (can_fill_at g.L.StateLanes.GREATEST c.args.laid_out.now.shop
-    c.args.laid_out.now.layout
-    (placement_at c.args.laid_out.now.layout c.args.next.now c.args.ready.now c.args.free.now)
-    (rows_of c.args.laid_out.now.layout (g.L.StateLanes.heads c.args.lanes.now)
-    (g.L.StateLanes.ends c.args.lanes.now)) c.requires.fill
-    (of_word_at c.args.laid_out.now.shop c.requires.fill.limits c.args.laid_out.now.layout c.requires.fill.laid
-    c.args.next.now
-    c.args.ready.now c.args.free.now c.requires.of) c.args.job c.requires.job
-    c.loop-position.position c.loop-position.begin
-    (rows_of c.args.laid_out.now.layout (g.L.StateLanes.heads c.loop-position.lanes)
-    (g.L.StateLanes.ends c.loop-position.lanes)) c.loop-position.invariant
-    c.routes-routes.result (c.routes-routes.ensures ∙ c.grid.ensures.grid)
-    c.positions.result c.positions.ensures c.loop-position-test.true).fits
-    c.machine.result c.max-head.result c.machine.ensures c.max-head.ensures
 
 pub overflow_add-begin : goal.overflow_add-begin
 overflow_add-begin g c =
-    let small = (can_fill_at g.L.StateLanes.GREATEST c.args.laid_out.now.shop c.args.laid_out.now.layout
-    (placement_at c.args.laid_out.now.layout c.args.next.now c.args.ready.now c.args.free.now)
-    (rows_of c.args.laid_out.now.layout (g.L.StateLanes.heads c.args.lanes.now)
-    (g.L.StateLanes.ends c.args.lanes.now)) c.requires.fill
+    let fits = (open_fits g.L.StateLanes.GREATEST c.args.laid_out.now.shop c.args.laid_out.now.layout (placement_at c.args.laid_out.now.layout c.args.next.now c.args.ready.now c.args.free.now)
+    (rows_of c.args.laid_out.now.layout (g.L.StateLanes.heads c.args.lanes.now) (g.L.StateLanes.ends c.args.lanes.now))
+    c.requires.fill c.args.job c.requires.job c.loop-step.step c.loop-step.begin
+    (rows_of c.args.laid_out.now.layout (g.L.StateLanes.heads c.loop-step.lanes) (g.L.StateLanes.ends c.loop-step.lanes))
+    c.loop-step.invariant.filled
+    (step_read c.args.laid_out.now.shop c.args.job c.route-route.result.now (c.route-route.ensures.route ∙ ap (λ (x : Shop). route_of x c.args.job) c.instance.ensures) c.loop-step.step
+    c.loop-step-test.true)
+    (get_or c.places-places.result.now c.loop-step.step 0)
+    (places_read c.args.laid_out.now.layout c.args.job c.places-places.result.now (c.places-places.ensures ∙ ap (λ (x : LayoutState). get_or x.places c.args.job []) c.grid.ensures.grid) c.loop-step.step)
+    (get_or (placement_at c.args.laid_out.now.layout c.args.next.now c.args.ready.now c.args.free.now).steps c.args.job 0) refl c.loop-step.invariant.opened c.route-route.result.now
+    (c.route-route.ensures.route ∙ ap (λ (x : Shop). route_of x c.args.job) c.instance.ensures) c.max-head.result
+    c.max-head.ensures
     (of_word_at c.args.laid_out.now.shop c.requires.fill.limits c.args.laid_out.now.layout c.requires.fill.laid
-    c.args.next.now
-    c.args.ready.now c.args.free.now c.requires.of) c.args.job c.requires.job
-    c.loop-position.position c.loop-position.begin
-    (rows_of c.args.laid_out.now.layout (g.L.StateLanes.heads c.loop-position.lanes)
-    (g.L.StateLanes.ends c.loop-position.lanes)) c.loop-position.invariant
-    c.routes-routes.result (c.routes-routes.ensures ∙ c.grid.ensures.grid)
-    c.positions.result c.positions.ensures c.loop-position-test.true).small
-    c.machine.result c.max-head.result c.time.result c.machine.ensures c.max-head.ensures c.time.ensures
+    c.args.next.now c.args.ready.now c.args.free.now c.requires.of)).1
     in let computable = c.requires.fill.computable in omega arith
 
-pub loop-position-smaller : goal.loop-position-smaller
-loop-position-smaller g c = fill_less g.L.StateLanes.GREATEST c.args.laid_out.now.shop c.args.laid_out.now.layout
-    (placement_at c.args.laid_out.now.layout c.args.next.now c.args.ready.now c.args.free.now)
-    (rows_of c.args.laid_out.now.layout (g.L.StateLanes.heads c.args.lanes.now)
-    (g.L.StateLanes.ends c.args.lanes.now)) c.requires.fill
+pub set_head-requires-clause-fits : goal.set_head-requires-clause-fits
+set_head-requires-clause-fits g c =
+    (open_fits g.L.StateLanes.GREATEST c.args.laid_out.now.shop c.args.laid_out.now.layout (placement_at c.args.laid_out.now.layout c.args.next.now c.args.ready.now c.args.free.now)
+    (rows_of c.args.laid_out.now.layout (g.L.StateLanes.heads c.args.lanes.now) (g.L.StateLanes.ends c.args.lanes.now))
+    c.requires.fill c.args.job c.requires.job c.loop-step.step c.loop-step.begin
+    (rows_of c.args.laid_out.now.layout (g.L.StateLanes.heads c.loop-step.lanes) (g.L.StateLanes.ends c.loop-step.lanes))
+    c.loop-step.invariant.filled
+    (step_read c.args.laid_out.now.shop c.args.job c.route-route.result.now (c.route-route.ensures.route ∙ ap (λ (x : Shop). route_of x c.args.job) c.instance.ensures) c.loop-step.step
+    c.loop-step-test.true)
+    (get_or c.places-places.result.now c.loop-step.step 0)
+    (places_read c.args.laid_out.now.layout c.args.job c.places-places.result.now (c.places-places.ensures ∙ ap (λ (x : LayoutState). get_or x.places c.args.job []) c.grid.ensures.grid) c.loop-step.step)
+    (get_or (placement_at c.args.laid_out.now.layout c.args.next.now c.args.ready.now c.args.free.now).steps c.args.job 0) refl c.loop-step.invariant.opened c.route-route.result.now
+    (c.route-route.ensures.route ∙ ap (λ (x : Shop). route_of x c.args.job) c.instance.ensures) c.max-head.result
+    c.max-head.ensures
     (of_word_at c.args.laid_out.now.shop c.requires.fill.limits c.args.laid_out.now.layout c.requires.fill.laid
-    c.args.next.now
-    c.args.ready.now c.args.free.now c.requires.of) c.args.job c.requires.job
-    c.loop-position.position c.loop-position.begin
-    (rows_of c.args.laid_out.now.layout (g.L.StateLanes.heads c.loop-position.lanes)
-    (g.L.StateLanes.ends c.loop-position.lanes)) c.loop-position.invariant
-    c.routes-routes.result (c.routes-routes.ensures ∙ c.grid.ensures.grid)
-    c.positions.result c.positions.ensures c.loop-position-test.true c.following-position.result
-    c.following-position.ensures
+    c.args.next.now c.args.ready.now c.args.free.now c.requires.of)).0
 
-pub loop-position-preserved : goal.loop-position-preserved
-loop-position-preserved g c = fill_on g.L.StateLanes.GREATEST c.args.laid_out.now.shop c.args.laid_out.now.layout
-    (placement_at c.args.laid_out.now.layout c.args.next.now c.args.ready.now c.args.free.now)
-    (rows_of c.args.laid_out.now.layout (g.L.StateLanes.heads c.args.lanes.now)
-    (g.L.StateLanes.ends c.args.lanes.now)) c.requires.fill
-    (of_word_at c.args.laid_out.now.shop c.requires.fill.limits c.args.laid_out.now.layout c.requires.fill.laid
-    c.args.next.now
-    c.args.ready.now c.args.free.now c.requires.of) c.args.job c.requires.job
-    c.loop-position.position c.loop-position.begin
-    (rows_of c.args.laid_out.now.layout (g.L.StateLanes.heads c.loop-position.lanes)
-    (g.L.StateLanes.ends c.loop-position.lanes)) c.loop-position.invariant
-    c.routes-routes.result (c.routes-routes.ensures ∙ c.grid.ensures.grid)
-    c.positions.result c.positions.ensures c.loop-position-test.true c.machine.result c.max-head.result
-    c.time.result c.following-position.result
-    (rows_of c.args.laid_out.now.layout (g.L.StateLanes.heads c.set_head.new.self)
-    (g.L.StateLanes.ends c.set_head.new.self)) c.machine.ensures c.max-head.ensures c.time.ensures
-    c.following-position.ensures
-    (put_is c.args.laid_out.now.layout (g.L.StateLanes.heads c.loop-position.lanes)
-    (g.L.StateLanes.ends c.loop-position.lanes) (g.L.StateLanes.heads c.set_head.new.self)
-    (g.L.StateLanes.ends c.set_head.new.self) c.loop-position.position (c.max-head.result + 1)
-    c.set_head.ensures.heads c.set_head.ensures.ends)
-
-pub returns : goal.returns
-returns g c = fill_ends g.L.StateLanes.GREATEST c.args.laid_out.now.shop c.args.laid_out.now.layout
-    (placement_at c.args.laid_out.now.layout c.args.next.now c.args.ready.now c.args.free.now)
-    (rows_of c.args.laid_out.now.layout (g.L.StateLanes.heads c.args.lanes.now)
-    (g.L.StateLanes.ends c.args.lanes.now)) c.requires.fill
-    (of_word_at c.args.laid_out.now.shop c.requires.fill.limits c.args.laid_out.now.layout c.requires.fill.laid
-    c.args.next.now
-    c.args.ready.now c.args.free.now c.requires.of) c.args.job c.requires.job
-    c.loop-position.position c.loop-position.begin
-    (rows_of c.args.laid_out.now.layout (g.L.StateLanes.heads c.loop-position.lanes)
-    (g.L.StateLanes.ends c.loop-position.lanes)) c.loop-position.invariant
-    c.routes-routes.result (c.routes-routes.ensures ∙ c.grid.ensures.grid)
-    c.positions.result c.positions.ensures (λ below. absurd (let past = c.loop-position-test.false in omega arith))
+pub loop-step-preserved : goal.loop-step-preserved
+loop-step-preserved g c = record {
+  filled = filled_open g.L.StateLanes.GREATEST c.args.laid_out.now.shop c.args.laid_out.now.layout (placement_at c.args.laid_out.now.layout c.args.next.now c.args.ready.now c.args.free.now)
+      (rows_of c.args.laid_out.now.layout (g.L.StateLanes.heads c.args.lanes.now) (g.L.StateLanes.ends c.args.lanes.now))
+      c.requires.fill c.args.job c.requires.job c.loop-step.step c.loop-step.begin
+      (rows_of c.args.laid_out.now.layout (g.L.StateLanes.heads c.loop-step.lanes) (g.L.StateLanes.ends c.loop-step.lanes))
+      c.loop-step.invariant.filled
+      (step_read c.args.laid_out.now.shop c.args.job c.route-route.result.now (c.route-route.ensures.route ∙ ap (λ (x : Shop). route_of x c.args.job) c.instance.ensures) c.loop-step.step
+      c.loop-step-test.true)
+      (get_or c.places-places.result.now c.loop-step.step 0)
+      (places_read c.args.laid_out.now.layout c.args.job c.places-places.result.now (c.places-places.ensures ∙ ap (λ (x : LayoutState). get_or x.places c.args.job []) c.grid.ensures.grid) c.loop-step.step)
+      (get_or (placement_at c.args.laid_out.now.layout c.args.next.now c.args.ready.now c.args.free.now).steps c.args.job 0) refl c.loop-step.invariant.opened c.route-route.result.now
+      (c.route-route.ensures.route ∙ ap (λ (x : Shop). route_of x c.args.job) c.instance.ensures) c.max-head.result
+      c.max-head.ensures
+      (rows_of c.args.laid_out.now.layout (g.L.StateLanes.heads c.set_head.new.self) (g.L.StateLanes.ends c.set_head.new.self))
+      (put_is c.args.laid_out.now.layout (g.L.StateLanes.heads c.loop-step.lanes) (g.L.StateLanes.ends c.loop-step.lanes)
+      (g.L.StateLanes.heads c.set_head.new.self) (g.L.StateLanes.ends c.set_head.new.self)
+      (get_or c.places-places.result.now c.loop-step.step 0) (c.max-head.result + 1) c.set_head.ensures.heads
+      c.set_head.ensures.ends)
+      (c.max-head.result + (get_or c.route-route.result.now c.loop-step.step no_op).time) refl;
+  opened = (let a = c.loop-step.invariant.opened in omega arith);
+}
