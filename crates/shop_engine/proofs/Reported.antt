@@ -5,10 +5,10 @@ use Rattle.shop_model.specs.Shop.{Shop}
 use Rattle.shop_model.specs.Checking.{starts_of}
 use Rattle.shop_text.specs.Texts.{NamedShop}
 use Rattle.shop_text.specs.Writing.{Reported, gantt_text}
-use Rattle.shop_round.specs.Round.{Planned, makespan_of}
-use Rattle.shop_round.specs.Answers.{answer, bound_of}
-use Rattle.shop_round.specs.Runs.{Says, IsTrusted}
-use Rattle.shop_round.specs.declared.runs.Answer.{Answer}
+use Rattle.shop_runs.specs.Round.{Planned, makespan_of}
+use Rattle.shop_runs.specs.Answers.{answer, bound_of}
+use Rattle.shop_runs.specs.Runs.{Says, IsTrusted}
+use Rattle.shop_runs.specs.declared.runs.Answer.{Answer}
 use Rattle.shop_engine.specs.inner.Told.{told_by}
 use Rattle.shop_engine.specs.Answers.{answer_of, text_with_gantt}
 use Rattle.shop_engine.specs.Headline.{IsPrintable, IsRight, IsDetermined}

@@ -19,8 +19,8 @@ use Rattle.shop_text.specs.declared.formats.Format.{Format}
 use Rattle.shop_text.proofs.ReportReading.{reports_are_schedules}
 use Rattle.shop_text.proofs.TableReadings.{one_table}
 use Rattle.shop_text.proofs.VisibleNames.{asked_visible}
-use Rattle.shop_round.specs.Runs.{IsTrusted}
-use Rattle.shop_round.specs.declared.runs.Answer.{Answer}
+use Rattle.shop_runs.specs.Runs.{IsTrusted}
+use Rattle.shop_runs.specs.declared.runs.Answer.{Answer}
 use Rattle.shop_engine.specs.inner.Told.{told_by}
 use Rattle.shop_engine.specs.Answers.{text_with_gantt}
 use Rattle.shop_engine.specs.Asking.{IsAsked}

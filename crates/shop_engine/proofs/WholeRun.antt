@@ -10,8 +10,8 @@ use Rattle.shop_text.specs.Texts.{NamedShop, IsText}
 use Rattle.shop_text.specs.declared.formats.Format.{Format}
 use Rattle.shop_text.specs.declared.formats.Format.TheVariants.{Orlib}
 use Rattle.shop_text.proofs.Computing.{is_read_as}
-use Rattle.shop_round.specs.Round.{Planned}
-use Rattle.shop_round.specs.Runs.{planned}
+use Rattle.shop_runs.specs.Round.{Planned}
+use Rattle.shop_runs.specs.Runs.{planned}
 use Rattle.shop_engine.specs.Answers.{answer_of, text_with_gantt}
 use Rattle.shop_engine.specs.Asking.{name_in, IsAsked, OfAsked}
 use Rattle.shop_engine.specs.Headline.{IsDetermined}

@@ -6,8 +6,8 @@ use Rattle.shop_model.specs.Word.{placed, rows_of}
 use Rattle.shop_model.specs.Checking.{starts_of}
 use Rattle.shop_text.specs.Texts.{NamedShop}
 use Rattle.shop_text.specs.Writing.{Reported, report_text, gantt_text}
-use Rattle.shop_round.specs.Round.{Planned, makespan_of}
-use Rattle.shop_round.specs.Answers.{answer, bound_of}
+use Rattle.shop_runs.specs.Round.{Planned, makespan_of}
+use Rattle.shop_runs.specs.Answers.{answer, bound_of}
 
 -- the answer of the plan on the instance, whatever crew searches: the table of its best word
 abbrev pub answer_of : NamedShop → Planned → Reported

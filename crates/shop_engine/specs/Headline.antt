@@ -27,8 +27,8 @@ use Rattle.shop_model.specs.Limits.{AreStarts}
 use Rattle.shop_model.specs.Checking.{HasShape, starts_of}
 use Rattle.shop_text.specs.Texts.{NamedShop}
 use Rattle.shop_text.specs.Writing.{Reported}
-use Rattle.shop_round.specs.Round.{Planned}
-use Rattle.shop_round.specs.Runs.{planned}
+use Rattle.shop_runs.specs.Round.{Planned}
+use Rattle.shop_runs.specs.Runs.{planned}
 use Rattle.shop_text.specs.declared.formats.Format.{Format}
 use Rattle.shop_args.specs.declared.SolveArgs.{SolveArgs}
 use Rattle.shop_engine.specs.declared.faults.Fault.{Fault}

@@ -3,8 +3,8 @@
 --     OneWholeRun      the report of that text is these bytes, and no others
 use Rattle.std.specs.Prelude.{◌≡◌, ℕ, true, List, ◌++◌, None, codes}
 use Rattle.shop_text.specs.declared.formats.Format.TheVariants.{Orlib}
-use Rattle.shop_round.specs.Round.{Planned}
-use Rattle.shop_round.specs.Runs.{planned}
+use Rattle.shop_runs.specs.Round.{Planned}
+use Rattle.shop_runs.specs.Runs.{planned}
 use Rattle.shop_plans.specs.declared.plans.Order.TheVariants.{Kept}
 use Rattle.shop_args.specs.declared.SolveArgs.{SolveArgs}
 use Rattle.shop_engine.specs.Asking.{OfAsked}

@@ -4,7 +4,7 @@ ghost use Rattle.shop_model.specs.Shop.{IsFeasible};
 ghost use Rattle.shop_model.specs.Checking.{HasShape, starts_of};
 ghost use Rattle.shop_text.specs.Writing.{report_text};
 ghost use Rattle.shop_text.specs.Names.{shop_of_named};
-ghost use Rattle.shop_round.specs.Runs.{planned};
+ghost use Rattle.shop_runs.specs.Runs.{planned};
 ghost use Rattle.shop_engine.specs.Asking.{name_in, IsAskFault, OrNoMemory};
 ghost use Rattle.shop_engine.specs.Answers.{text_with_gantt};
 ghost use Rattle.shop_engine.specs.Headline.{IsRight, IsDetermined, IsRightOf, IsDeterminedOf};
@@ -18,7 +18,7 @@ use crate::devices::{Sink, Source};
 use crate::faults::Fault;
 use crate::transfers::{read_all, write_all};
 use shop_args::SolveArgs;
-use shop_round::{Answer, Crew, Plan, run};
+use shop_runs::{Answer, Crew, Plan, run};
 use shop_text::{Named, ReadFault, Report, gantt, read, report};
 use std::alloc::{AllocError, Global};
 

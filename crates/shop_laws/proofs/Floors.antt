@@ -19,8 +19,8 @@ use Rattle.shop_heads.proofs.BoundsRise.{bounds_rise}
 use Rattle.one_machine.proofs.Lists.{IsSublist, none, skip, keep, all_append, all_filter, all_map}
 use Rattle.one_machine.proofs.ThresholdLemmas.{le-greatest_sublist, le-least_of}
 use Rattle.shop_nodes.proofs.Members.{In, in_map, in_filter, in_flat_map, in_range}
-use Rattle.shop_round.specs.Round.{Planned, opening}
-use Rattle.shop_round.specs.Answers.{answer, bound_of}
+use Rattle.shop_runs.specs.Round.{Planned, opening}
+use Rattle.shop_runs.specs.Answers.{answer, bound_of}
 use Rattle.shop_crews.proofs.Covering.{opens_covering}
 use Rattle.shop_laws.proofs.WalksAbove.{IsAbove}
 use Rattle.shop_laws.proofs.LaterBounds.{least_above, rounds_above}

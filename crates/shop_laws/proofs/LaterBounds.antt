@@ -11,18 +11,18 @@ use Rattle.shop_heads.proofs.BoundLaw.{full_word}
 use Rattle.one_machine.proofs.Lists.{all_append, all_filter}
 use Rattle.shop_nodes.specs.Walking.{Walk}
 use Rattle.shop_nodes.proofs.Members.{all_contains}
-use Rattle.shop_round.specs.Round.{Planned, Stand, Told, least_bound, sheet_in, sheets_of, up_to_hit, best_word}
-use Rattle.shop_round.specs.Round.{words_of_round, after_round, cut_of, round, opening}
-use Rattle.shop_round.specs.Answers.{unless_closed}
-use Rattle.shop_round.specs.Answers.{rounds_from, answer, bound_of}
-use Rattle.shop_round.specs.Round.{makespan_of}
-use Rattle.shop_round.specs.Laws.{IsStanding, IsRound, StandsCovering}
-use Rattle.shop_round.specs.Exact.{with_rounds}
+use Rattle.shop_runs.specs.Round.{Planned, Stand, Told, least_bound, sheet_in, sheets_of, up_to_hit, best_word}
+use Rattle.shop_runs.specs.Round.{words_of_round, after_round, cut_of, round, opening}
+use Rattle.shop_runs.specs.Answers.{unless_closed}
+use Rattle.shop_runs.specs.Answers.{rounds_from, answer, bound_of}
+use Rattle.shop_runs.specs.Round.{makespan_of}
+use Rattle.shop_runs.specs.Laws.{IsStanding, IsRound, StandsCovering}
+use Rattle.shop_runs.specs.Exact.{with_rounds}
 use Rattle.shop_crews.proofs.Covering.{cut_is_round, round_covers, opens_covering}
-use Rattle.shop_round.proofs.Trusting.{rounds_cover, trust}
+use Rattle.shop_runs.proofs.Trusting.{rounds_cover, trust}
 use Rattle.shop_crews.proofs.Cutting.{all_front, all_back, all_pieces}
-use Rattle.shop_round.proofs.Ending.{goes_on_from}
-use Rattle.shop_round.proofs.FrontLemmas.{least_order}
+use Rattle.shop_runs.proofs.Ending.{goes_on_from}
+use Rattle.shop_runs.proofs.FrontLemmas.{least_order}
 use Rattle.shop_laws.proofs.WalksAbove.{IsAbove, sheet_above}
 use Rattle.shop_laws.specs.LaterBounds.{MoreRoundsLowerNoBound}
 

@@ -1,11 +1,11 @@
 -- The search ends, so there is a least makespan; and no other.
 use Rattle.std.proofs.Common.{◌≡◌, ℕ, arith}
 use Rattle.shop_model.specs.Shop.{Shop, IsLeast}
-use Rattle.shop_round.specs.Round.{Planned, makespan_of}
-use Rattle.shop_round.specs.Answers.{answer}
-use Rattle.shop_round.specs.Exact.{with_rounds}
+use Rattle.shop_runs.specs.Round.{Planned, makespan_of}
+use Rattle.shop_runs.specs.Answers.{answer}
+use Rattle.shop_runs.specs.Exact.{with_rounds}
 use Rattle.shop_plans.specs.declared.plans.Order.TheVariants.{Kept}
-use Rattle.shop_round.proofs.Ending.{searches_end}
+use Rattle.shop_runs.proofs.Ending.{searches_end}
 use Rattle.shop_laws.specs.LeastMakespans.{EachHasOneLeast}
 
 abbrev plan : Planned

@@ -8,8 +8,8 @@ use Rattle.std.specs.List.{range_with_len}
 use Rattle.shop_model.specs.Limits.{IsWithinLimits}
 use Rattle.shop_model.specs.Shop.{Shop, route_of, release_of, machine_of, IsOperation}
 use Rattle.shop_model.specs.declared.ops.Op.{Op}
-use Rattle.shop_round.specs.Round.{Planned}
-use Rattle.shop_round.specs.Answers.{answer, bound_of}
+use Rattle.shop_runs.specs.Round.{Planned}
+use Rattle.shop_runs.specs.Answers.{answer, bound_of}
 
 abbrev pub times_of : List Op → ℕ
 times_of route = sum_by (λ o. o.time) route

@@ -2,9 +2,9 @@
 use Rattle.std.specs.Prelude.{ℕ, ◌≤◌}
 use Rattle.shop_model.specs.Limits.{IsWithinLimits}
 use Rattle.shop_model.specs.Shop.{Shop}
-use Rattle.shop_round.specs.Round.{Planned}
-use Rattle.shop_round.specs.Answers.{answer, bound_of}
-use Rattle.shop_round.specs.Exact.{with_rounds}
+use Rattle.shop_runs.specs.Round.{Planned}
+use Rattle.shop_runs.specs.Answers.{answer, bound_of}
+use Rattle.shop_runs.specs.Exact.{with_rounds}
 
 -- more rounds of a plan end at no smaller bound
 abbrev pub MoreRoundsLowerNoBound : Type 0

@@ -1,12 +1,1 @@
-pub mod Rows
-pub mod Trusting
-pub mod Answering
-pub mod KeptBelow
 pub mod AloneEntries
-pub mod TreeSizes
-pub mod Ending
-pub mod CoverRows
-pub mod StackLemmas
-pub mod StoreLemmas
-pub mod FrontLemmas
-pub mod FrontCuts

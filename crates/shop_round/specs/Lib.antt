@@ -4,8 +4,8 @@ pub use Rattle.shop_crews.specs.Laws
 pub use Rattle.shop_crews.specs.Entries
 pub use Rattle.shop_crews.specs.Crews
 pub use Rattle.shop_crews.specs.Standings
-pub mod Answers
-pub mod Trust
-pub mod Exact
-pub mod Runs
+pub use Rattle.shop_runs.specs.Answers
+pub use Rattle.shop_runs.specs.Trust
+pub use Rattle.shop_runs.specs.Exact
+pub use Rattle.shop_runs.specs.Runs
 pub mod inner

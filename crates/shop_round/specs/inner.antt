@@ -1,6 +1,1 @@
-pub mod Closing
 pub mod Hits
-pub mod OpenNodes
-pub mod Searches
-pub mod Stacks
-pub mod Stores

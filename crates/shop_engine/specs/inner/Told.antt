@@ -2,7 +2,7 @@
 use Rattle.std.specs.Prelude.{◌<◌, ◌^◌}
 use Rattle.shop_text.specs.Texts.{NamedShop}
 use Rattle.shop_text.specs.Writing.{Reported}
-use Rattle.shop_round.specs.declared.runs.Answer.{Answer}
+use Rattle.shop_runs.specs.declared.runs.Answer.{Answer}
 
 abbrev pub told_by : NamedShop → Answer → Reported
 told_by asked a = record {

@@ -2,7 +2,7 @@ use Rattle.std.proofs.Common.{◌≡◌, ℕ, List, subst}
 use Rattle.std.proofs.lemmas.Result.{IfOk-weaker}
 use Rattle.shop_model.specs.Limits.{AreStarts}
 use Rattle.shop_text.specs.Names.{shop_of_named}
-use Rattle.shop_round.specs.Runs.{planned}
+use Rattle.shop_runs.specs.Runs.{planned}
 use Rattle.shop_engine.specs.inner.Told.{told_by}
 use Rattle.shop_engine.specs.Answers.{text_with_gantt}
 use Rattle.shop_engine.specs.Headline.{IsRight, IsDetermined}

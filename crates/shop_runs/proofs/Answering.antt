@@ -1,0 +1,210 @@
+-- Rounds up to the answer.
+use Rattle.std.proofs.Common.{◌≡◌, ℕ, zero, suc, ◌+◌, ◌-◌, ◌*◌, ◌≤◌, ◌<◌, List, [], ◌∷◌, ◌++◌, length, refl, sym}
+use Rattle.std.proofs.Common.{◌∙◌, ap, subst, arith, false, eqb}
+use Rattle.shop_model.specs.Shop.{Shop}
+use Rattle.std.proofs.lemmas.List.{length-map}
+use Rattle.shop_plans.specs.Plans.{Planned}
+use Rattle.shop_crews.specs.Round.{Stand, Told, cut_of, gathered, round}
+use Rattle.shop_runs.specs.Answers.{rounds_from, unless_closed, answer}
+use Rattle.shop_crews.specs.Round.{opening, least_bound, makespan_of}
+use Rattle.shop_runs.specs.Answers.{bound_of}
+use Rattle.shop_crews.specs.Laws.{StandsCovering}
+use Rattle.shop_runs.specs.Trust.{IsTrustworthy}
+use Rattle.shop_nodes.specs.Nodes.{words_of}
+use Rattle.shop_heads.specs.Bound.{lb}
+use Rattle.shop_nodes.specs.Nodes.{AreNodes}
+use Rattle.shop_crews.specs.Entries.{told}
+use Rattle.shop_crews.specs.Round.{in_order, words_below, pieces_of, rest_of}
+use Rattle.shop_crews.specs.Standings.{stands, StandsAt}
+use Rattle.shop_runs.specs.Runs.{Says}
+use Rattle.shop_runs.specs.declared.open_nodes.OpenNodes.{OpenNodes}
+use Rattle.shop_plans.specs.declared.plans.Order.{Order}
+use Rattle.shop_crews.specs.declared.rounds.Round.{Round}
+use Rattle.shop_runs.specs.declared.runs.Search.{Search}
+use Rattle.shop_crews.specs.inner.OpenNodes.{least_of_bounds}
+use Rattle.shop_runs.specs.inner.Searches.{IsSearchAt, IsSearchOf, IsJoined, front_of, stand_of}
+use Rattle.shop_runs.specs.inner.Stores.{open_list, order_of}
+use Rattle.shop_runs.proofs.FrontLemmas.{IsInOrder, in_order_is, order_drop, ordered_twice, gathered_front, rejoined}
+use Rattle.shop_runs.proofs.FrontLemmas.{joined_at, search_of, least_order, length_order}
+use Rattle.shop_crews.proofs.NodeLemmas.{least_is}
+use Rattle.shop_runs.specs.declared.runs.Answer.{Answer}
+use Rattle.shop_model.specs.Word.{placed, rows_of}
+use Rattle.shop_crews.specs.declared.standings.Standing.{Standing}
+use Rattle.shop_crews.proofs.Covering.{opens_covering, round_covers, cut_is_round}
+use Rattle.shop_runs.proofs.Trusting.{trustworthy, none_from}
+use Rattle.shop_crews.proofs.Counting.{counts_small}
+
+-- what a run that has done i rounds of its plan has still to come to
+pub record GoesTo (shop : Shop) (plan : Planned) (i : ℕ) (s : Stand) : Type 0 where
+  pub within : i ≤ plan.rounds
+  pub goes_to : rounds_from shop plan (plan.rounds - i) s ≡ answer shop plan
+
+pub goes_first : (shop : Shop) (plan : Planned) → GoesTo shop plan 0 (opening shop)
+goes_first shop plan = record {
+  within = omega arith;
+  goes_to =
+      (let e : plan.rounds - 0 ≡ plan.rounds = omega arith in ap (λ n. rounds_from shop plan n (opening shop)) e);
+}
+
+pub closed : (shop : Shop) (plan : Planned) (n : ℕ) (s : Stand) → s.open_words ≡ [] → rounds_from shop plan n s ≡ s
+closed shop plan zero s e = refl
+closed shop plan (suc n) s e = ap (λ ws. unless_closed ws s (λ t. rounds_from shop plan n (round shop plan t))) e
+
+opened : (s : Stand) (go : Stand → Stand) (ws : List (List ℕ)) → 0 < length ws → unless_closed ws s go ≡ go s
+opened s go [] h = absurd (omega arith)
+opened s go (w ∷ ws) h = refl
+
+pub goes_on : (shop : Shop) (plan : Planned) (i : ℕ) (s : Stand) → GoesTo shop plan i s → i < plan.rounds
+    → 0 < length s.open_words → GoesTo shop plan (i + 1) (round shop plan s)
+goes_on shop plan i s g h o =
+    let e : plan.rounds - i ≡ suc (plan.rounds - (i + 1)) = omega arith
+    in record {
+      within = omega arith;
+      goes_to = sym (opened s (λ t. rounds_from shop plan (plan.rounds - (i + 1)) (round shop plan t)) s.open_words o)
+          ∙ (sym (ap (λ n. rounds_from shop plan n s) e) ∙ g.goes_to);
+    }
+
+pub goes_closed : (shop : Shop) (plan : Planned) (i : ℕ) (s : Stand) → GoesTo shop plan i s → s.open_words ≡ []
+    → s ≡ answer shop plan
+goes_closed shop plan i s g e = sym (closed shop plan (plan.rounds - i) s e) ∙ g.goes_to
+
+pub goes_last : (shop : Shop) (plan : Planned) (i : ℕ) (s : Stand) → GoesTo shop plan i s → plan.rounds ≤ i
+    → s ≡ answer shop plan
+goes_last shop plan i s g h = let e : plan.rounds - i ≡ 0 = omega arith
+    in sym (ap (λ n. rounds_from shop plan n s) e) ∙ g.goes_to
+
+-- a round of a run: its front is cut off and searched, what stands after that is joined by the others
+module _ (shop : Shop) (plan : Planned) (t : Search) (of : IsSearchOf shop plan.order t) where
+  whole : Told
+  whole = cut_of shop plan (stand_of t)
+
+  pub next_round : (r : Round) (others : OpenNodes) (u : Standing) (v : Search)
+      → told r ≡ front_of (cut_of shop plan (stand_of t))
+      → words_of (open_list others) ≡ (cut_of shop plan (stand_of t)).rest → AreNodes shop (open_list others)
+      → order_of others ≡ order_of t.open → StandsAt r.instance.now (gathered (told r)) u → IsJoined u others v
+      → IsSearchAt shop plan.order (round shop plan (stand_of t)) v
+  unfolding whole
+  next_round r others u v front rest bounds kept at joined =
+      let is = cut_is_round shop plan (stand_of t) of.standing
+      in let stands_at : StandsAt shop (gathered (front_of whole)) u =
+      subst (λ (q : Told). StandsAt q.shop (gathered q) u) front at
+      in let first = gathered (front_of whole)
+      in let split : round shop plan (stand_of t) ≡ rejoined whole first = gathered_front whole is
+      in let word : u.word ≡ first.word = ap (λ (x : Stand). x.word) stands_at.stands_at
+      in let words : (rejoined whole first).open_words
+      ≡ words_of u.open.items ++ words_below shop u.makespan (words_of (open_list others)) =
+      (λ j. ap (λ (x : Stand). x.open_words) (sym stands_at.stands_at) j
+      ++ words_below shop (sym stands_at.makespan j) (sym rest j))
+      in let rises : IsInOrder shop plan.order (words_of (open_list others)) =
+      subst (IsInOrder shop plan.order) (sym rest) (order_drop shop plan.order (256 * plan.piece)
+      (in_order shop plan.order (stand_of t).open_words) (in_order_is shop plan.order (stand_of t).open_words))
+      in let landed : IsSearchAt shop plan.order (rejoined whole first) v =
+      joined_at shop plan.order (rejoined whole first) u others v words word stands_at.makespan
+      (ap (λ (x : Stand). x.rounds) stands_at.stands_at) (ap (λ (x : Stand). x.nodes) stands_at.stands_at)
+      stands_at.bounds bounds (kept ∙ of.kept) rises joined
+      in subst (λ x. IsSearchAt shop plan.order x v) (sym split) landed
+
+-- a run on its way: it stands where the definition does, which covers the instance, and goes to the answer
+pub record OnTheWay (shop : Shop) (plan : Planned) (i : ℕ) (t : Search) : Type 0 where
+  pub stand : Stand
+  pub at : IsSearchAt shop plan.order stand t
+  pub covering : StandsCovering shop stand
+  pub goes : GoesTo shop plan i stand
+  pub rounds : stand.rounds ≡ i
+
+pub way_first : (shop : Shop) (plan : Planned) (t : Search) → IsSearchAt shop plan.order (opening shop) t
+    → OnTheWay shop plan 0 t
+way_first shop plan t at = record {
+  stand = opening shop;
+  at = at;
+  covering = opens_covering shop;
+  goes = goes_first shop plan;
+  rounds = refl;
+}
+
+module _ (shop : Shop) (plan : Planned) (i : ℕ) (t : Search) (way : OnTheWay shop plan i t) where
+  s : Stand
+  s = way.stand
+
+  -- a run on its way is a standing of the instance, of so many rounds
+  pub way_search : IsSearchOf shop plan.order t
+  way_search = search_of shop plan.order way.stand t way.at way.covering.0
+
+  pub way_rounds : t.rounds ≡ i
+  way_rounds = ap (λ (x : Stand). x.rounds) way.at.stands_at ∙ way.rounds
+
+  many : length (open_list t.open) ≡ length way.stand.open_words
+  many =
+      let a = length-map (open_list t.open) (λ n. n.word)
+      in let b : length (words_of (open_list t.open)) ≡ length (in_order shop plan.order way.stand.open_words) =
+      ap (λ (x : Stand). length x.open_words) way.at.stands_at
+      in let c = length_order shop plan.order way.stand.open_words
+      in omega arith
+
+  pub way_closed : length (open_list t.open) ≡ 0 → IsSearchAt shop plan.order (answer shop plan) t
+  way_closed e =
+      subst (λ x. IsSearchAt shop plan.order x t)
+      (goes_closed shop plan i way.stand way.goes (none_from way.stand.open_words (let m = many in omega arith))) way.at
+
+  pub way_last : plan.rounds ≤ i → IsSearchAt shop plan.order (answer shop plan) t
+  way_last h = subst (λ x. IsSearchAt shop plan.order x t) (goes_last shop plan i way.stand way.goes h) way.at
+
+  -- what is cut is what the definition cuts
+  same_cut : cut_of shop plan (stand_of t) ≡ cut_of shop plan way.stand
+  same_cut = ap (cut_of shop plan) way.at.stands_at ∙ ap (λ ws. record {
+    shop = shop;
+    word = way.stand.word;
+    best = lb shop way.stand.word;
+    bound = least_bound shop (lb shop way.stand.word) ws;
+    budget = plan.budget;
+    pieces = pieces_of plan ws;
+    rest = rest_of plan ws;
+    rounds = way.stand.rounds;
+    nodes = way.stand.nodes;
+  }) (ordered_twice shop plan.order way.stand.open_words)
+
+  -- one more round brings it to where the definition's next round ends
+  pub way_next : (v : Search) → i < plan.rounds → 0 < length (open_list t.open)
+      → IsSearchAt shop plan.order (round shop plan (stand_of t)) v → OnTheWay shop plan (i + 1) v
+  way_next v h some at = record {
+    stand = round shop plan way.stand;
+    at = subst (λ x. IsSearchAt shop plan.order (gathered x) v) same_cut at;
+    covering = round_covers shop plan way.stand way.covering;
+    goes = goes_on shop plan i way.stand way.goes h (let m = many in omega arith);
+    rounds = (counts_small (cut_of shop plan way.stand)).0 ∙ ap (λ k. k + 1) way.rounds;
+  }
+
+-- the answer that is made of a run says what stands
+module _ (shop : Shop) (o : Order) (s : Stand) (t : Search) (at : IsSearchAt shop o s t) where
+  pub word_same : t.word ≡ s.word
+  word_same = ap (λ (x : Stand). x.word) at.stands_at
+
+  words_same : words_of (open_list t.open) ≡ in_order shop o s.open_words
+  words_same = ap (λ (x : Stand). x.open_words) at.stands_at
+
+  pub says_search : (a : Answer) → a.word ≡ t.word → a.table ≡ rows_of shop (placed shop t.word)
+      → a.makespan ≡ t.makespan → a.bound ≡ least_of_bounds t.makespan (open_list t.open)
+      → a.open_nodes ≡ length (open_list t.open) → a.rounds ≡ t.rounds → a.nodes ≡ t.nodes → Says shop s a
+  says_search a word table makespan lower many rounds nodes = record {
+    word = word ∙ word_same;
+    table = table ∙ ap (λ w. rows_of shop (placed shop w)) word_same;
+    makespan = makespan ∙ at.makespan;
+    bound = lower ∙ (least_is shop t.makespan (open_list t.open) at.bounds
+        ∙ ((λ i. least_bound shop (at.makespan i) (words_same i))
+        ∙ least_order shop o (makespan_of shop s) s.open_words));
+    open_nodes = (let x = length-map (open_list t.open) (λ n. n.word) in let y = ap length words_same
+        in let z = length_order shop o s.open_words in omega arith);
+    rounds = rounds ∙ ap (λ (x : Stand). x.rounds) at.stands_at;
+    nodes = nodes ∙ ap (λ (x : Stand). x.nodes) at.stands_at;
+  }
+
+-- what an answer that says what stands tells of all tables is so
+pub trust_says : (shop : Shop) (plan : Planned) (a : Answer) → Says shop (answer shop plan) a
+    → IsTrustworthy shop a.word a.makespan a.bound a.open_nodes
+trust_says shop plan a says =
+    subst (λ w. IsTrustworthy shop w a.makespan a.bound a.open_nodes) (sym says.word)
+    (subst (λ m. IsTrustworthy shop (answer shop plan).word m a.bound a.open_nodes) (sym says.makespan)
+    (subst (λ l. IsTrustworthy shop (answer shop plan).word (makespan_of shop (answer shop plan)) l a.open_nodes)
+    (sym says.bound)
+    (subst (λ k. IsTrustworthy shop (answer shop plan).word (makespan_of shop (answer shop plan))
+    (bound_of shop (answer shop plan)) k) (sym says.open_nodes) (trustworthy shop plan))))

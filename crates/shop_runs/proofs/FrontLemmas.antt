@@ -1,0 +1,289 @@
+-- A run whose open nodes stand in order: the front that is cut, and what joins it again.
+use Rattle.std.proofs.Common.{◌≡◌, ℕ, zero, suc, ◌+◌, ◌≤◌, ◌<◌, Bool, inl, inr, Option, Some, None, List}
+use Rattle.std.proofs.Common.{[], ◌∷◌, ◌++◌, length, drop, filter, refl, sym, ◌∙◌, ap, subst, arith, leb, ltb}
+use Rattle.std.proofs.Common.{append-nil, min}
+use Rattle.std.specs.Prelude.{unwrap_or, Contains}
+use Rattle.std.specs.List.{AllByRecursion, flat_map}
+use Rattle.std.proofs.lemmas.Bool.{cases_Bool, le-leb, le-ltb}
+use Rattle.std.proofs.lemmas.List.Elements.{filter-append, recursion_from_All, All-from_recursion, All-filter}
+use Rattle.shop_model.specs.Shop.{Shop}
+use Rattle.shop_model.specs.Word.{IsWord}
+use Rattle.shop_heads.specs.Bound.{lb}
+use Rattle.one_machine.proofs.Lists.{all_append, all_filter}
+use Rattle.shop_nodes.specs.Branching.{insert_by, sort_by}
+use Rattle.shop_nodes.specs.Walking.{Walk}
+use Rattle.shop_nodes.specs.declared.nodes.Node.{Node}
+use Rattle.shop_nodes.specs.Nodes.{words_of, IsNode, AreNodes}
+use Rattle.shop_nodes.proofs.Members.{all_contains, contains_all, all_insert, in_all}
+use Rattle.shop_plans.specs.declared.plans.Order.{Order}
+use Rattle.shop_plans.specs.declared.plans.Order.TheVariants.{Kept, Bound}
+use Rattle.shop_crews.specs.declared.standings.Standing.{Standing}
+use Rattle.shop_runs.specs.declared.open_nodes.OpenNodes.{OpenNodes}
+use Rattle.shop_runs.specs.declared.runs.Search.{Search}
+use Rattle.shop_crews.specs.Round.{Stand, Told, in_order, words_below, words_of_round, sheets_of, up_to_hit}
+use Rattle.shop_crews.specs.Round.{after_round, gathered, best_word, makespan_of, least_bound}
+use Rattle.shop_crews.specs.Laws.{IsRound, IsStanding}
+use Rattle.shop_crews.specs.inner.OpenNodes.{nodes_below}
+use Rattle.shop_runs.specs.inner.Searches.{IsSearchAt, IsSearchOf, IsJoined, front_of}
+use Rattle.shop_runs.specs.inner.Stacks.{put_before, put_all_before}
+use Rattle.shop_runs.specs.inner.Stores.{open_list, order_of}
+use Rattle.shop_crews.proofs.Cutting.{all_front, all_back}
+use Rattle.shop_crews.proofs.NodeLemmas.{insert_words, below_is}
+use Rattle.shop_crews.proofs.OpenLemmas.{ordered_all}
+use Rattle.shop_crews.proofs.SheetLemmas.{IsOfRound, hit_in, found_is}
+use Rattle.shop_crews.proofs.SortLemmas.{Rises, sort_rises}
+use Rattle.shop_crews.proofs.StandingLemmas.{known}
+
+-- a list in order stays as it is, and so do its parts
+module _ {A : Type 0} (key : A → ℕ) where
+  insert_low : (x : A) (ys : List A) → AllByRecursion (λ y. key x ≤ key y) ys → insert_by key x ys ≡ x ∷ ys
+  insert_low x [] a = refl
+  insert_low x (y ∷ ys) a = rw (le-leb (key x) (key y) a.0) refl
+
+  sort_fixed : (xs : List A) → Rises key xs → sort_by key xs ≡ xs
+  sort_fixed [] r = refl
+  sort_fixed (x ∷ xs) r = ap (insert_by key x) (sort_fixed xs r.1) ∙ insert_low x xs r.0
+
+  rises_drop : (n : ℕ) (xs : List A) → Rises key xs → Rises key (drop n xs)
+  rises_drop zero xs r = r
+  rises_drop (suc n) [] r = tt
+  rises_drop (suc n) (x ∷ xs) r = rises_drop n xs r.1
+
+  rises_filter : (p : A → Bool) (xs : List A) → Rises key xs → Rises key (filter p xs)
+  rises_filter p [] r = tt
+  rises_filter p (x ∷ xs) r = elim (cases_Bool (p x)) [
+    | inl t ↦ rw t (
+      all_filter p (λ y. key x ≤ key y) (λ y. key x ≤ key y) (λ y h e. h) xs r.0,
+      rises_filter p xs r.1,
+    )
+    | inr f ↦ rw f (rises_filter p xs r.1)
+  ]
+
+module _ (shop : Shop) where
+  -- words in the plan's order
+  abbrev pub IsInOrder : Order → List (List ℕ) → Type 0
+  IsInOrder Kept ws = Unit {0}
+  IsInOrder Bound ws = Rises (lb shop) ws
+
+  pub none_in_order : (o : Order) → IsInOrder o []
+  none_in_order Kept = tt
+  none_in_order Bound = tt
+
+  order_fixed : (o : Order) (ws : List (List ℕ)) → IsInOrder o ws → in_order shop o ws ≡ ws
+  order_fixed Kept ws r = refl
+  order_fixed Bound ws r = sort_fixed (lb shop) ws r
+
+  pub in_order_is : (o : Order) (ws : List (List ℕ)) → IsInOrder o (in_order shop o ws)
+  in_order_is Kept ws = tt
+  in_order_is Bound ws = sort_rises (lb shop) ws
+
+  pub order_drop : (o : Order) (n : ℕ) (ws : List (List ℕ)) → IsInOrder o ws → IsInOrder o (drop n ws)
+  order_drop Kept n ws r = tt
+  order_drop Bound n ws r = rises_drop (lb shop) n ws r
+
+  order_below : (o : Order) (c : ℕ) (ws : List (List ℕ)) → IsInOrder o ws → IsInOrder o (words_below shop c ws)
+  order_below Kept c ws r = tt
+  order_below Bound c ws r = rises_filter (lb shop) (λ w. ltb (lb shop w) c) ws r
+
+  pub ordered_twice : (o : Order) (ws : List (List ℕ)) → in_order shop o (in_order shop o ws) ≡ in_order shop o ws
+  ordered_twice o ws = order_fixed o (in_order shop o ws) (in_order_is o ws)
+
+  -- what is put before words in order comes to the whole in order
+  put_word : Order → List ℕ → List (List ℕ) → List (List ℕ)
+  put_word Kept w ws = w ∷ ws
+  put_word Bound w ws = insert_by (lb shop) w ws
+
+  put_in_order : (o : Order) (w : List ℕ) (ws vs : List (List ℕ))
+      → put_word o w (in_order shop o (ws ++ vs)) ≡ in_order shop o (w ∷ ws ++ vs)
+  unfolding put_word
+  put_in_order Kept w ws vs = refl
+  put_in_order Bound w ws vs = refl
+
+  put_words : (o : Order) (n : Node) (ns : List Node) → IsNode shop n → AllByRecursion (IsNode shop) ns
+      → words_of (put_before o n ns) ≡ put_word o n.word (words_of ns)
+  unfolding put_word
+  put_words Kept n ns p a = refl
+  put_words Bound n ns p a = insert_words shop n ns p a
+
+  put_nodes : (o : Order) (n : Node) (ns : List Node) → IsNode shop n → AllByRecursion (IsNode shop) ns
+      → AllByRecursion (IsNode shop) (put_before o n ns)
+  put_nodes Kept n ns p a = (p, a)
+  put_nodes Bound n ns p a = all_insert (λ m. m.bound) (IsNode shop) n ns p a
+
+  put_all_nodes : (o : Order) (ns others : List Node) → AllByRecursion (IsNode shop) ns
+      → AllByRecursion (IsNode shop) others → AllByRecursion (IsNode shop) (put_all_before o ns others)
+  put_all_nodes o [] others a b = b
+  put_all_nodes o (n ∷ ns) others a b =
+      put_nodes o n (put_all_before o ns others) a.0 (put_all_nodes o ns others a.1 b)
+
+  put_all_words : (o : Order) (ns others : List Node) → AllByRecursion (IsNode shop) ns
+      → AllByRecursion (IsNode shop) others → IsInOrder o (words_of others)
+      → words_of (put_all_before o ns others) ≡ in_order shop o (words_of ns ++ words_of others)
+  put_all_words o [] others a b r = sym (order_fixed o (words_of others) r)
+  put_all_words o (n ∷ ns) others a b r =
+      put_words o n (put_all_before o ns others) a.0 (put_all_nodes o ns others a.1 b)
+      ∙ (ap (put_word o n.word) (put_all_words o ns others a.1 b r)
+      ∙ put_in_order o n.word (words_of ns) (words_of others))
+
+  -- of words in order there are as many, with the same least bound
+  insert_least : (c : ℕ) (w : List ℕ) (ws : List (List ℕ))
+      → least_bound shop c (insert_by (lb shop) w ws) ≡ least_bound shop c (w ∷ ws)
+  insert_least c w [] = refl
+  insert_least c w (v ∷ ws) = elim (cases_Bool (leb (lb shop w) (lb shop v))) [
+    | inl e ↦ rw e refl
+    | inr e ↦ (let same : min (min c (lb shop v)) (lb shop w) ≡ min (min c (lb shop w)) (lb shop v) = omega arith
+        in rw e (insert_least (min c (lb shop v)) w ws ∙ ap (λ k. least_bound shop k ws) same))
+  ]
+
+  sort_least : (c : ℕ) (ws : List (List ℕ)) → least_bound shop c (sort_by (lb shop) ws) ≡ least_bound shop c ws
+  sort_least c [] = refl
+  sort_least c (w ∷ ws) = insert_least c w (sort_by (lb shop) ws) ∙ sort_least (min c (lb shop w)) ws
+
+  pub least_order : (o : Order) (c : ℕ) (ws : List (List ℕ))
+      → least_bound shop c (in_order shop o ws) ≡ least_bound shop c ws
+  least_order Kept c ws = refl
+  least_order Bound c ws = sort_least c ws
+
+  insert_length : (w : List ℕ) (ws : List (List ℕ)) → length (insert_by (lb shop) w ws) ≡ suc (length ws)
+  insert_length w [] = refl
+  insert_length w (v ∷ ws) = elim (cases_Bool (leb (lb shop w) (lb shop v))) [
+    | inl e ↦ rw e refl
+    | inr e ↦ rw e (ap suc (insert_length w ws))
+  ]
+
+  sort_length : (ws : List (List ℕ)) → length (sort_by (lb shop) ws) ≡ length ws
+  sort_length [] = refl
+  sort_length (w ∷ ws) = insert_length w (sort_by (lb shop) ws) ∙ ap suc (sort_length ws)
+
+  pub length_order : (o : Order) (ws : List (List ℕ)) → length (in_order shop o ws) ≡ length ws
+  length_order Kept ws = refl
+  length_order Bound ws = sort_length ws
+
+-- the front of a round is a round
+part_of_words : (P : List ℕ → Type 0) (xs ys : List (List ℕ)) → ((w : List ℕ) → Contains (xs ++ ys) w → P w)
+    → (w : List ℕ) → Contains (xs ++ []) w → P w
+part_of_words P xs ys h = contains_all P (xs ++ [])
+    (all_append P xs [] (all_front P xs ys (all_contains P (xs ++ ys) h)) tt)
+
+pub front_is_round : (r : Told) → IsRound r → IsRound (front_of r)
+front_is_round r is = record {
+  full = is.full;
+  best = is.best;
+  words = part_of_words (IsWord r.shop) (flat_map (λ p. p) r.pieces) r.rest is.words;
+  most = is.most;
+  bound = part_of_words (λ w. r.bound ≤ lb r.shop w) (flat_map (λ p. p) r.pieces) r.rest is.bound;
+}
+
+-- none is below a bound that all have
+none_below : (shop : Shop) (c : ℕ) (ws : List (List ℕ)) → AllByRecursion (λ w. c ≤ lb shop w) ws
+    → words_below shop c ws ≡ []
+none_below shop c [] a = refl
+none_below shop c (w ∷ ws) a = rw (le-ltb (lb shop w) c a.0) (none_below shop c ws a.1)
+
+-- what stands after a round is what stands after its front, with those of its rest that are below the makespan
+abbrev pub rejoined : Told → Stand → Stand
+rejoined r s = record s { open_words = s.open_words ++ words_below r.shop (lb r.shop s.word) r.rest }
+
+module _ (r : Told) (is : IsRound r) where
+  after_front : (o : Option (Walk × List Walk)) → up_to_hit r.bound (sheets_of r) ≡ o
+      → after_round r (sheets_of r) o ≡ rejoined r (after_round (front_of r) (sheets_of r) o)
+  after_front None e =
+      let better = best_word r.best r.word (sheets_of r)
+      in let c = lb r.shop better
+      in let left = flat_map (λ t. t.left) (sheets_of r)
+      in let words : words_below r.shop c (left ++ r.rest)
+      ≡ words_below r.shop c (left ++ []) ++ words_below r.shop c r.rest =
+      filter-append (λ w. ltb (lb r.shop w) c) left r.rest
+      ∙ ap (λ ws. words_below r.shop c ws ++ words_below r.shop c r.rest) (sym (append-nil left))
+      in (λ i. record {
+        word = better;
+        open_words = words i;
+        rounds = r.rounds + 1;
+        nodes = (after_round r (sheets_of r) None).nodes;
+      })
+  after_front (Some (h, counted)) e =
+      let m = hit_in r.bound (sheets_of r) h counted e
+      in let k = in_all (IsOfRound r.shop r.best) h (sheets_of r) m.0 (known r is)
+      in let f = found_is r.shop r.word r.best r.bound h.found h.best is.best is.full k.found m.1
+      in let low = all_back (λ w. r.bound ≤ lb r.shop w) (flat_map (λ p. p) r.pieces) r.rest
+      (all_contains (λ w. r.bound ≤ lb r.shop w) (words_of_round r) is.bound)
+      in let none : [] ≡ words_below r.shop (lb r.shop (unwrap_or h.found r.word)) r.rest =
+      sym (ap (λ c. words_below r.shop c r.rest) f.1 ∙ none_below r.shop r.bound r.rest low)
+      in (λ i. record {
+        word = unwrap_or h.found r.word;
+        open_words = none i;
+        rounds = r.rounds + 1;
+        nodes = (after_round r (sheets_of r) (Some (h, counted))).nodes;
+      })
+
+  pub gathered_front : gathered r ≡ rejoined r (gathered (front_of r))
+  gathered_front = after_front (up_to_hit r.bound (sheets_of r)) refl
+
+-- where a run stands once the others have joined
+module _ (shop : Shop) (o : Order) (s : Stand) (standing : Standing) (others : OpenNodes) (t : Search)
+    (words : s.open_words
+    ≡ words_of standing.open.items ++ words_below shop standing.makespan (words_of (open_list others)))
+    (best : standing.word ≡ s.word) (makespan : standing.makespan ≡ makespan_of shop s)
+    (rounds : standing.rounds ≡ s.rounds) (counted : standing.nodes ≡ s.nodes)
+    (left : AreNodes shop standing.open.items) (rest : AreNodes shop (open_list others)) (kept : order_of others ≡ o)
+    (rises : IsInOrder shop o (words_of (open_list others))) (joined : IsJoined standing others t) where
+  low : List Node
+  low = nodes_below standing.makespan (open_list others)
+
+  low_nodes : AreNodes shop low
+  unfolding low
+  low_nodes = All-filter (λ n. ltb n.bound standing.makespan) (IsNode shop) (open_list others) rest
+
+  low_words : words_of low ≡ words_below shop standing.makespan (words_of (open_list others))
+  unfolding low
+  low_words = below_is shop standing.makespan (open_list others) rest
+
+  open_is : open_list t.open ≡ put_all_before o standing.open.items low
+  unfolding low
+  open_is = joined.open_nodes ∙ ap (λ q. put_all_before q standing.open.items low) kept
+
+  open_words_are : words_of (open_list t.open) ≡ in_order shop o s.open_words
+  open_words_are = ap words_of open_is
+      ∙ (put_all_words shop o standing.open.items low
+      (recursion_from_All (IsNode shop) standing.open.items left) (recursion_from_All (IsNode shop) low low_nodes)
+      (subst (IsInOrder shop o) (sym low_words)
+      (order_below shop o standing.makespan (words_of (open_list others)) rises))
+      ∙ ap (in_order shop o) (ap (λ ws. words_of standing.open.items ++ ws) low_words ∙ sym words))
+
+  pub joined_at : IsSearchAt shop o s t
+  joined_at = record {
+    stands_at = (λ i. record {
+      word = (joined.best ∙ best) i;
+      open_words = open_words_are i;
+      rounds = (joined.rounds_done ∙ rounds) i;
+      nodes = (joined.nodes_counted ∙ counted) i;
+    });
+    makespan = joined.makespan ∙ makespan;
+    bounds = subst (AreNodes shop) (sym open_is) (All-from_recursion (IsNode shop)
+        (put_all_before o standing.open.items low) (put_all_nodes shop o standing.open.items low
+        (recursion_from_All (IsNode shop) standing.open.items left)
+        (recursion_from_All (IsNode shop) low low_nodes)));
+    kept = joined.kept ∙ kept;
+  }
+
+-- a run that stands there is a standing of the instance
+pub search_of : (shop : Shop) (o : Order) (s : Stand) (t : Search) → IsSearchAt shop o s t → IsStanding shop s
+    → IsSearchOf shop o t
+search_of shop o s t at is =
+    let words : words_of (open_list t.open) ≡ in_order shop o s.open_words =
+    ap (λ (x : Stand). x.open_words) at.stands_at
+    in let all : (P : List ℕ → Type 0) → ((w : List ℕ) → Contains s.open_words w → P w) → (w : List ℕ)
+    → Contains (in_order shop o s.open_words) w → P w =
+    (λ P h. contains_all P (in_order shop o s.open_words)
+    (ordered_all shop o P s.open_words (all_contains P s.open_words h)))
+    in record {
+      standing = subst (IsStanding shop) (sym at.stands_at) (record {
+        full = is.full;
+        words = all (IsWord shop) is.words;
+        below = all (λ w. lb shop w < makespan_of shop s) is.below;
+      });
+      makespan = at.makespan ∙ ap (λ (x : Stand). lb shop x.word) (sym at.stands_at);
+      bounds = at.bounds;
+      kept = at.kept;
+      ordered = ap (in_order shop o) words ∙ (ordered_twice shop o s.open_words ∙ sym words);
+    }

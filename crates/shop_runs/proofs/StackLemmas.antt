@@ -1,0 +1,193 @@
+-- Stacks of words by bound: what is put among them, taken from them, and let go.
+use Rattle.std.proofs.Common.{◌≡◌, ℕ, ◌≤◌, ◌<◌, min, inl, inr, cond, Option, Some, None, List, [], ◌∷◌, ◌++◌}
+use Rattle.std.specs.Prelude.{slice_get}
+use Rattle.std.proofs.Common.{refl, sym, ◌∙◌, ap, subst, arith, ltb, flat_map, reverse}
+use Rattle.std.specs.List.{AllByRecursion, All}
+use Rattle.std.specs.List.Sorted.{IsStrictlySortedBy}
+use Rattle.std.specs.Map.{keys_of, lookup}
+use Rattle.std.specs.BTreeMap.{is_at, insert_entry}
+use Rattle.std.specs.BTreeMap.Range.{IsLtBy, IsLeBy, entries_below}
+use Rattle.std.specs.Ordering.{nat_cmp, is_gt}
+use Rattle.std.specs.declared.cmp.Ordering.TheVariants.{Less, Equal, Greater}
+use Rattle.std.proofs.lemmas.Bool.{cases_Bool, cases_lt, cases_eq, eq-eqb, ne_eqb}
+use Rattle.std.proofs.lemmas.Bool.{lt-ltb, le-ltb, le-leb, lt-leb, ltb-false}
+use Rattle.std.proofs.lemmas.List.Elements.{recursion_from_All, filter-append}
+use Rattle.shop_nodes.specs.declared.nodes.Node.{Node}
+use Rattle.shop_nodes.specs.Branching.{insert_by}
+use Rattle.shop_runs.specs.declared.stacks.Stack.{Stack}
+use Rattle.shop_crews.specs.inner.OpenNodes.{nodes_below, least_of_bounds}
+use Rattle.shop_runs.specs.inner.Stacks.{words_in, words_on, words_left, nodes_of_bound, nodes_by_bound}
+
+cmp_less : (a b : ℕ) → a < b → nat_cmp a b ≡ Less
+cmp_less a b h = rw (lt-ltb a b h) refl
+
+cmp_equal : (a b : ℕ) → a ≡ b → nat_cmp a b ≡ Equal
+cmp_equal a b e = rw (le-ltb a b (omega arith), eq-eqb a b e) refl
+
+cmp_greater : (a b : ℕ) → b < a → nat_cmp a b ≡ Greater
+cmp_greater a b h = (let ne : a ≡ b → ⊥ = (λ e. absurd (omega arith))
+    in rw (le-ltb a b (omega arith), ne_eqb a b ne) refl)
+
+less_from : (a b : ℕ) → nat_cmp a b ≡ Less → a < b
+less_from a b e = elim (cases_lt a b) [
+  | inl h ↦ h
+  | inr h ↦ elim (cases_eq a b) [
+    | inl same ↦ (let f : Equal ≡ Less = sym (cmp_equal a b same) ∙ e in absurd (cc))
+    | inr other ↦ (let f : Greater ≡ Less = sym (cmp_greater a b (omega arith)) ∙ e in absurd (cc))
+  ]
+]
+
+-- no key above k is k
+none_at : (k : ℕ) (es : List (ℕ × Stack)) → AllByRecursion (λ y. k < y) (keys_of es)
+    → lookup (is_at (nat_cmp k)) es ≡ None
+none_at k [] a = refl
+none_at k (e ∷ es) a = rw (cmp_less k e.0 a.0) (none_at k es a.1)
+
+all_above : (k b : ℕ) (ks : List ℕ) → k < b → AllByRecursion (λ y. nat_cmp b y ≡ Less) ks
+    → AllByRecursion (λ y. k < y) ks
+all_above k b [] h a = tt
+all_above k b (y ∷ ks) h a = ((let l = less_from b y a.0 in omega arith), all_above k b ks h a.1)
+
+-- a node goes past those of lower bounds
+insert_past : (n : Node) (b : ℕ) (ws : List (List ℕ)) (rest : List Node) → b < n.bound
+    → insert_by (λ m. m.bound) n (nodes_of_bound b ws ++ rest)
+    ≡ nodes_of_bound b ws ++ insert_by (λ m. m.bound) n rest
+insert_past n b [] rest h = refl
+insert_past n b (w ∷ ws) rest h = rw (lt-leb n.bound b h) (ap (λ ns. record { word = w; bound = b } ∷ ns)
+    (insert_past n b ws rest h))
+
+-- and before those of its own
+insert_here : (n : Node) (b : ℕ) (s : Stack) (rest : List Node) → n.bound ≤ b
+    → insert_by (λ m. m.bound) n (nodes_of_bound b (words_on s) ++ rest) ≡ n ∷ nodes_of_bound b (words_on s) ++ rest
+insert_here n b s rest h = rw (le-leb n.bound b h) refl
+
+-- a word put on the stack of its bound, which is made where there is none
+pub put_is : (es : List (ℕ × Stack)) (w : List ℕ) (k : ℕ) (s : Stack) → IsStrictlySortedBy nat_cmp (keys_of es)
+    → words_on s ≡ w ∷ words_left (lookup (is_at (nat_cmp k)) es)
+    → nodes_by_bound (insert_entry nat_cmp es k s)
+    ≡ insert_by (λ m. m.bound) (record { word = w; bound = k }) (nodes_by_bound es)
+unfolding IsStrictlySortedBy
+put_is [] w k s sorted e = ap (λ ws. nodes_of_bound k ws ++ []) e
+put_is (x ∷ es) w k s sorted e = elim (cases_lt k x.0) [
+  | inl less ↦ (let lost : lookup (is_at (nat_cmp k)) (x ∷ es) ≡ None =
+      none_at k (x ∷ es) (less, all_above k x.0 (keys_of es) less sorted.0)
+      in let words : words_on s ≡ w ∷ [] = e ∙ ap (λ o. w ∷ words_left o) lost
+      in rw (cmp_less k x.0 less) (ap (λ ws. nodes_of_bound k ws ++ nodes_by_bound (x ∷ es)) words
+      ∙ sym (insert_here (record { word = w; bound = k }) x.0 x.1 (nodes_by_bound es) (omega arith))))
+  | inr more ↦ elim (cases_eq k x.0) [
+    | inl same ↦ (let found : lookup (is_at (nat_cmp k)) (x ∷ es) ≡ Some x.1 = rw (cmp_equal k x.0 same) refl
+        in let words : words_on s ≡ w ∷ words_on x.1 = e ∙ ap (λ o. w ∷ words_left o) found
+        in rw (cmp_equal k x.0 same) (ap (λ ws. nodes_of_bound x.0 ws ++ nodes_by_bound es) words
+        ∙ (ap (λ b. record { word = w; bound = b } ∷ nodes_by_bound (x ∷ es)) (sym same)
+        ∙ sym (insert_here (record { word = w; bound = k }) x.0 x.1 (nodes_by_bound es) (omega arith)))))
+    | inr other ↦ (let below : x.0 < k = omega arith
+        in let missed : lookup (is_at (nat_cmp k)) (x ∷ es) ≡ lookup (is_at (nat_cmp k)) es =
+        rw (cmp_greater k x.0 below) refl
+        in let words : words_on s ≡ w ∷ words_left (lookup (is_at (nat_cmp k)) es) =
+        e ∙ ap (λ o. w ∷ words_left o) missed
+        in rw (cmp_greater k x.0 below) (ap (λ ns. nodes_of_bound x.0 (words_on x.1) ++ ns)
+        (put_is es w k s sorted.1 words)
+        ∙ sym (insert_past (record { word = w; bound = k }) x.0 (words_on x.1) (nodes_by_bound es) below)))
+  ]
+]
+
+-- the stack put back, if there is one
+abbrev pub IsPutBack : ℕ → List (ℕ × Stack) → Option Stack → List (ℕ × Stack) → Type 0
+IsPutBack k rest None after = after ≡ rest
+IsPutBack k rest (Some s) after = after ≡ insert_entry nat_cmp rest k s
+
+-- what is put before all keys stands first
+put_first : (es : List (ℕ × Stack)) (k : ℕ) (s : Stack) → AllByRecursion (λ y. nat_cmp k y ≡ Less) (keys_of es)
+    → insert_entry nat_cmp es k s ≡ (k, s) ∷ es
+put_first [] k s a = refl
+put_first (e ∷ es) k s a = rw (a.0) refl
+
+-- the first node of the first stack, whose other words are put back, if there are any
+pub next_is : (before after rest : List (ℕ × Stack)) (k : ℕ) (s : Stack) (w : List ℕ) (left : Option Stack)
+    → before ≡ (k, s) ∷ rest → All (IsLtBy nat_cmp k) (keys_of rest) → words_on s ≡ w ∷ words_left left
+    → IsPutBack k rest left after
+    → nodes_by_bound before ≡ record { word = w; bound = k } ∷ nodes_by_bound after
+next_is before after rest k s w None is above words back =
+    ap nodes_by_bound is ∙ (ap (λ ws. nodes_of_bound k ws ++ nodes_by_bound rest) words
+    ∙ ap (λ es. record { word = w; bound = k } ∷ nodes_by_bound es) (sym back))
+next_is before after rest k s w (Some t) is above words back =
+    ap nodes_by_bound is ∙ (ap (λ ws. nodes_of_bound k ws ++ nodes_by_bound rest) words
+    ∙ ap (λ es. record { word = w; bound = k } ∷ nodes_by_bound es)
+    (sym (back ∙ put_first rest k t (recursion_from_All (IsLtBy nat_cmp k) (keys_of rest) above))))
+
+-- nodes of one bound are below a makespan or not together
+below_one : (c b : ℕ) (ws : List (List ℕ))
+    → nodes_below c (nodes_of_bound b ws) ≡ cond (ltb b c) (nodes_of_bound b ws) []
+below_one c b [] = elim (cases_Bool (ltb b c)) [ inl e ↦ rw e refl | inr e ↦ rw e refl ]
+below_one c b (w ∷ ws) = elim (cases_Bool (ltb b c)) [
+  | inl e ↦ rw (e, below_one c b ws) (rw e refl)
+  | inr e ↦ rw (e, below_one c b ws) (rw e refl)
+]
+
+gt_of_cmp : (a b : ℕ) → is_gt (nat_cmp a b) ≡ ltb b a
+gt_of_cmp a b = elim (cases_lt a b) [
+  | inl h ↦ rw (cmp_less a b h, le-ltb b a (omega arith)) refl
+  | inr h ↦ elim (cases_eq a b) [
+    | inl same ↦ rw (cmp_equal a b same, le-ltb b a (omega arith)) refl
+    | inr other ↦ (let below : b < a = omega arith in rw (cmp_greater a b below, lt-ltb b a below) refl)
+  ]
+]
+
+pub below_is : (c : ℕ) (es : List (ℕ × Stack))
+    → nodes_by_bound (entries_below (nat_cmp c) es) ≡ nodes_below c (nodes_by_bound es)
+below_is c [] = refl
+below_is c (e ∷ es) =
+    let rest = below_is c es
+    in let all = filter-append (λ n. ltb n.bound c) (nodes_of_bound e.0 (words_on e.1)) (nodes_by_bound es)
+    in let one = below_one c e.0 (words_on e.1)
+    in elim (cases_Bool (ltb e.0 c)) [
+      | inl t ↦ rw (gt_of_cmp c e.0 ∙ t) (sym (all
+          ∙ (λ i. (one ∙ ap (λ b. cond b (nodes_of_bound e.0 (words_on e.1)) []) t) i ++ sym rest i)))
+      | inr f ↦ rw (gt_of_cmp c e.0 ∙ f) (sym (all
+          ∙ (λ i. (one ∙ ap (λ b. cond b (nodes_of_bound e.0 (words_on e.1)) []) f) i ++ sym rest i)))
+    ]
+
+-- the least bound of nodes whose bounds are c or more
+least_all : (c : ℕ) (ns : List Node) → AllByRecursion (λ n. c ≤ n.bound) ns → least_of_bounds c ns ≡ c
+least_all c [] a = refl
+least_all c (n ∷ ns) a = (let e : min c n.bound ≡ c = (let h = a.0 in omega arith)
+    in ap (λ b. least_of_bounds b ns) e ∙ least_all c ns a.1)
+
+bounds_all : (c b : ℕ) (ws : List (List ℕ)) (rest : List Node) → c ≤ b → AllByRecursion (λ n. c ≤ n.bound) rest
+    → AllByRecursion (λ n. c ≤ n.bound) (nodes_of_bound b ws ++ rest)
+bounds_all c b [] rest h a = a
+bounds_all c b (w ∷ ws) rest h a = (h, bounds_all c b ws rest h a)
+
+entries_all : (c : ℕ) (es : List (ℕ × Stack)) → AllByRecursion (λ y. c ≤ y) (keys_of es)
+    → AllByRecursion (λ n. c ≤ n.bound) (nodes_by_bound es)
+entries_all c [] a = tt
+entries_all c (e ∷ es) a = bounds_all c e.0 (words_on e.1) (nodes_by_bound es) a.0 (entries_all c es a.1)
+
+at_least : (b : ℕ) (ks : List ℕ) → AllByRecursion (IsLeBy nat_cmp b) ks → AllByRecursion (λ y. b ≤ y) ks
+at_least b [] a = tt
+at_least b (k ∷ ks) a = (ltb-false k b (sym (gt_of_cmp b k) ∙ a.0), at_least b ks a.1)
+
+lower_keys : (c b : ℕ) (ks : List ℕ) → c ≤ b → AllByRecursion (λ y. b ≤ y) ks → AllByRecursion (λ y. c ≤ y) ks
+lower_keys c b [] h a = tt
+lower_keys c b (k ∷ ks) h a = ((let l = a.0 in omega arith), lower_keys c b ks h a.1)
+
+-- the words of a stack below its top
+abbrev words_under : Stack → List (List ℕ)
+words_under s = reverse s.topmost.below.items ++ flat_map words_in (reverse s.covered.items)
+
+-- the least bound is that of the first stack
+least_first : (c : ℕ) (e : ℕ × Stack) (es : List (ℕ × Stack)) → AllByRecursion (λ y. e.0 ≤ y) (keys_of es)
+    → least_of_bounds c (nodes_by_bound (e ∷ es)) ≡ min c e.0
+least_first c e es all =
+    let rest = entries_all (min c e.0) es (lower_keys (min c e.0) e.0 (keys_of es) (omega arith) all)
+    in least_all (min c e.0) (nodes_of_bound e.0 (words_under e.1) ++ nodes_by_bound es)
+    (bounds_all (min c e.0) e.0 (words_under e.1) (nodes_by_bound es) (omega arith) rest)
+
+pub least_is : (c k : ℕ) (s : Stack) (es : List (ℕ × Stack)) → slice_get es 0 ≡ Some (k, s)
+    → All (IsLeBy nat_cmp k) (keys_of es) → least_of_bounds c (nodes_by_bound es) ≡ min c k
+least_is c k s [] first all = absurd (let e : None ≡ Some (k, s) = first in cc)
+least_is c k s (e ∷ es) first all =
+    let same : e ≡ (k, s) = (let f : Some e ≡ Some (k, s) = first in cc)
+    in let key : e.0 ≡ k = ap (λ x. x.0) same
+    in let at = at_least k (keys_of (e ∷ es)) (recursion_from_All (IsLeBy nat_cmp k) (keys_of (e ∷ es)) all)
+    in least_first c e es (subst (λ b. AllByRecursion (λ y. b ≤ y) (keys_of es)) (sym key) at.1) ∙ ap (min c) key

@@ -1,0 +1,65 @@
+-- Rounds keep the cover up to the answer, so it can be trusted.
+use Rattle.std.proofs.Common.{◌≡◌, ℕ, zero, suc, ◌≤◌, inl, inr, List, [], ◌∷◌, length, refl, sym, ap, arith}
+use Rattle.std.proofs.lemmas.List.{append-nil}
+use Rattle.shop_model.specs.Shop.{Shop, Starts, IsFeasible, end_of}
+use Rattle.shop_model.specs.Word.{placed}
+use Rattle.shop_heads.specs.Bound.{lb}
+use Rattle.shop_heads.proofs.BoundLaw.{lb-le-end, full_word}
+use Rattle.shop_nodes.proofs.Members.{in_contains}
+use Rattle.shop_plans.specs.Plans.{Planned}
+use Rattle.shop_crews.specs.Round.{Stand, least_bound, round, opening, makespan_of}
+use Rattle.shop_crews.specs.Laws.{StandsCovering}
+use Rattle.shop_crews.proofs.Covering.{opens_covering, round_covers}
+use Rattle.shop_crews.proofs.OpenLemmas.{least_bound-le}
+use Rattle.shop_runs.specs.Answers.{unless_closed, rounds_from, answer, bound_of}
+use Rattle.shop_runs.specs.Trust.{IsTrustworthy, AnswersAreTrustworthy}
+
+unless_covers : (shop : Shop) (s : Stand) (go : Stand → Stand) (ws : List (List ℕ)) → StandsCovering shop s
+    → StandsCovering shop (go s) → StandsCovering shop (unless_closed ws s go)
+unless_covers shop s go [] k h = k
+unless_covers shop s go (w ∷ ws) k h = h
+
+pub rounds_cover : (shop : Shop) (plan : Planned) (n : ℕ) (s : Stand) → StandsCovering shop s
+    → StandsCovering shop (rounds_from shop plan n s)
+rounds_cover shop plan zero s k = k
+rounds_cover shop plan (suc n) s k =
+    unless_covers shop s (λ t. rounds_from shop plan n (round shop plan t)) s.open_words k
+    (rounds_cover shop plan n (round shop plan s) (round_covers shop plan s k))
+
+pub none_from : {A : Type 0} (xs : List A) → length xs ≡ 0 → xs ≡ []
+none_from [] e = refl
+none_from (x ∷ xs) e = absurd (let a : suc (length xs) ≡ 0 = e in omega arith)
+
+-- a standing that covers can be trusted
+pub trust : (shop : Shop) (s : Stand) → StandsCovering shop s
+    → IsTrustworthy shop s.word (makespan_of shop s) (bound_of shop s) (length s.open_words)
+trust shop s k =
+    let standing = k.0
+    in let p = full_word shop s.word standing.full
+    in let low = least_bound-le shop (lb shop s.word) s.open_words
+    in let feasible : IsFeasible shop (placed shop s.word) = (p.under s.word [] (sym (append-nil s.word))).feasible
+    in let bound : (starts : Starts) → IsFeasible shop starts
+    → bound_of shop s ≤ end_of shop starts = (λ starts f. elim (k.1 starts f) [
+      | inl h ↦ (let a = low.0 in omega arith)
+      | inr h ↦ (let member = in_contains h.word s.open_words h.member in let b = low.1 h.word member
+          in let d = lb-le-end shop h.word h.better (standing.words h.word h.member) h.under in let e = h.ends
+          in omega arith)
+    ])
+    in record {
+      full = standing.full;
+      feasible = feasible;
+      ends = p.ends;
+      bound = bound;
+      least = λ none. record {
+        table = placed shop s.word;
+        feasible = feasible;
+        ends = p.ends;
+        least = λ starts f. let same : bound_of shop s ≡ makespan_of shop s =
+            ap (λ ws. least_bound shop (lb shop s.word) ws) (none_from s.open_words none) in let b = bound starts f
+            in omega arith;
+      };
+    }
+
+pub trustworthy : AnswersAreTrustworthy
+trustworthy shop plan = trust shop (answer shop plan)
+    (rounds_cover shop plan plan.rounds (opening shop) (opens_covering shop))

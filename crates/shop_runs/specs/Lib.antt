@@ -1,0 +1,11 @@
+pub use Rattle.shop_crews.specs.Round
+pub use Rattle.shop_crews.specs.Nodes
+pub use Rattle.shop_crews.specs.Laws
+pub use Rattle.shop_crews.specs.Entries
+pub use Rattle.shop_crews.specs.Crews
+pub use Rattle.shop_crews.specs.Standings
+pub mod Answers
+pub mod Trust
+pub mod Exact
+pub mod Runs
+pub mod inner

@@ -1,0 +1,5 @@
+pub mod Closing
+pub mod OpenNodes
+pub mod Searches
+pub mod Stacks
+pub mod Stores

@@ -1,0 +1,68 @@
+-- Open nodes in the order in which the next cut takes them.
+--     words_in block                  the words of a block, from its top on
+--     words_in_rest block             the same, of a block if there is one
+--     words_on stack                  the words of a stack, from its top on
+--     words_left stack                the same, of a stack if there is one
+--     nodes_of_bound bound words      nodes of these words, of one bound
+--     nodes_by_bound entries          the nodes of stacks by bound, in order
+--     put_before order node nodes     the node before those that the order has behind it
+--     put_all_before order ns nodes   the same of some nodes, the last one first
+--     IsNextOf node before after      the first node is taken from the list, if there is one
+use Rattle.std.specs.Prelude.{◌≡◌, ℕ, Option, Some, None, List, [], ◌∷◌, ◌++◌}
+use Rattle.std.specs.Prelude.{map, flat_map, reverse}
+use Rattle.std.specs.BTreeMap.{BTreeMap}
+use Rattle.shop_nodes.specs.Branching.{insert_by}
+use Rattle.shop_nodes.specs.declared.nodes.Node.{Node}
+use Rattle.shop_runs.specs.declared.stacks.Block.{Block}
+use Rattle.shop_runs.specs.declared.stacks.Stack.{Stack}
+use Rattle.shop_crews.specs.inner.OpenNodes.{nodes_below}
+use Rattle.shop_plans.specs.declared.plans.Order.{Order}
+use Rattle.shop_plans.specs.declared.plans.Order.TheVariants.{Kept, Bound}
+
+abbrev pub words_in : Block → List (List ℕ)
+words_in b = b.top ∷ reverse b.below.items
+
+abbrev pub words_in_rest : Option Block → List (List ℕ)
+words_in_rest None = []
+words_in_rest (Some b) = words_in b
+
+abbrev pub words_on : Stack → List (List ℕ)
+words_on s = words_in s.topmost ++ flat_map words_in (reverse s.covered.items)
+
+abbrev pub words_left : Option Stack → List (List ℕ)
+words_left None = []
+words_left (Some s) = words_on s
+
+abbrev pub nodes_of_bound : ℕ → List (List ℕ) → List Node
+nodes_of_bound bound words = map (λ w. record { word = w; bound = bound }) words
+
+abbrev pub nodes_by_bound : List (ℕ × Stack) → List Node
+nodes_by_bound [] = []
+nodes_by_bound (e ∷ es) = nodes_of_bound e.0 (words_on e.1) ++ nodes_by_bound es
+
+abbrev pub nodes_in_stacks : BTreeMap ℕ Stack → List Node
+nodes_in_stacks stacks = nodes_by_bound stacks.entries
+
+abbrev pub put_before : Order → Node → List Node → List Node
+put_before Kept node nodes = node ∷ nodes
+put_before Bound node nodes = insert_by (λ n. n.bound) node nodes
+
+abbrev pub put_all_before : Order → List Node → List Node → List Node
+put_all_before order [] nodes = nodes
+put_all_before order (n ∷ ns) nodes = put_before order n (put_all_before order ns nodes)
+
+abbrev pub IsNextOf : Option Node → List Node → List Node → Type 0
+IsNextOf None before after = (before ≡ []) × (after ≡ [])
+IsNextOf (Some node) before after = before ≡ node ∷ after
+
+-- of stacks by bound: a node is put, one is taken, those below a makespan are kept
+abbrev pub IsPutByBound : Node → BTreeMap ℕ Stack → BTreeMap ℕ Stack → Type 0
+IsPutByBound node before after =
+    nodes_in_stacks after ≡ insert_by (λ n. n.bound) node (nodes_in_stacks before)
+
+abbrev pub IsNextByBound : Option Node → BTreeMap ℕ Stack → BTreeMap ℕ Stack → Type 0
+IsNextByBound node before after = IsNextOf node (nodes_in_stacks before) (nodes_in_stacks after)
+
+abbrev pub KeepsBelow : ℕ → BTreeMap ℕ Stack → BTreeMap ℕ Stack → Type 0
+KeepsBelow makespan before after =
+    nodes_in_stacks after ≡ nodes_below makespan (nodes_in_stacks before)
