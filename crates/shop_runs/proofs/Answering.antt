@@ -130,7 +130,7 @@ module _ (shop : Shop) (plan : Planned) (i : ℕ) (t : Search) (way : OnTheWay s
   pub way_search : IsSearchOf shop plan.order t
   way_search = search_of shop plan.order way.stand t way.at way.covering.0
 
-  pub way_rounds : t.rounds ≡ i
+  pub way_rounds : t.standing.rounds ≡ i
   way_rounds = ap (λ (x : Stand). x.rounds) way.at.stands_at ∙ way.rounds
 
   many : length (open_list t.open) ≡ length way.stand.open_words
@@ -176,20 +176,20 @@ module _ (shop : Shop) (plan : Planned) (i : ℕ) (t : Search) (way : OnTheWay s
 
 -- the answer that is made of a run says what stands
 module _ (shop : Shop) (o : Order) (s : Stand) (t : Search) (at : IsSearchAt shop o s t) where
-  pub word_same : t.word ≡ s.word
+  pub word_same : t.standing.word ≡ s.word
   word_same = ap (λ (x : Stand). x.word) at.stands_at
 
   words_same : words_of (open_list t.open) ≡ in_order shop o s.open_words
   words_same = ap (λ (x : Stand). x.open_words) at.stands_at
 
-  pub says_search : (a : Answer) → a.word ≡ t.word → a.table ≡ rows_of shop (placed shop t.word)
-      → a.makespan ≡ t.makespan → a.bound ≡ least_of_bounds t.makespan (open_list t.open)
-      → a.open_nodes ≡ length (open_list t.open) → a.rounds ≡ t.rounds → a.nodes ≡ t.nodes → Says shop s a
+  pub says_search : (a : Answer) → a.word ≡ t.standing.word → a.table ≡ rows_of shop (placed shop t.standing.word)
+      → a.makespan ≡ t.standing.makespan → a.bound ≡ least_of_bounds t.standing.makespan (open_list t.open)
+      → a.open_nodes ≡ length (open_list t.open) → a.rounds ≡ t.standing.rounds → a.nodes ≡ t.standing.nodes → Says shop s a
   says_search a word table makespan lower many rounds nodes = record {
     word = word ∙ word_same;
     table = table ∙ ap (λ w. rows_of shop (placed shop w)) word_same;
     makespan = makespan ∙ at.makespan;
-    bound = lower ∙ (least_is shop t.makespan (open_list t.open) at.bounds
+    bound = lower ∙ (least_is shop t.standing.makespan (open_list t.open) at.bounds
         ∙ ((λ i. least_bound shop (at.makespan i) (words_same i))
         ∙ least_order shop o (makespan_of shop s) s.open_words));
     open_nodes = (let x = length-map (open_list t.open) (λ n. n.word) in let y = ap length words_same

@@ -253,12 +253,12 @@ module _ (shop : Shop) (o : Order) (s : Stand) (standing : Standing) (others : O
   pub joined_at : IsSearchAt shop o s t
   joined_at = record {
     stands_at = (λ i. record {
-      word = (joined.best ∙ best) i;
+      word = (ap (λ (x : Standing). x.word) joined.standing_is ∙ best) i;
       open_words = open_words_are i;
-      rounds = (joined.rounds_done ∙ rounds) i;
-      nodes = (joined.nodes_counted ∙ counted) i;
+      rounds = (ap (λ (x : Standing). x.rounds) joined.standing_is ∙ rounds) i;
+      nodes = (ap (λ (x : Standing). x.nodes) joined.standing_is ∙ counted) i;
     });
-    makespan = joined.makespan ∙ makespan;
+    makespan = ap (λ (x : Standing). x.makespan) joined.standing_is ∙ makespan;
     bounds = subst (AreNodes shop) (sym open_is) (All-from_recursion (IsNode shop)
         (put_all_before o standing.open.items low) (put_all_nodes shop o standing.open.items low
         (recursion_from_All (IsNode shop) standing.open.items left)

@@ -56,11 +56,7 @@ impl KeptNode {
 pub(crate) fn least_kept(makespan: u64, nodes: &[KeptNode]) -> u64
     ensures { result ≡ least_of_bounds makespan nodes.now }
 {
-    let mut bound = makespan;
-    for node in nodes {
-        if node.bound() < bound {
-            bound = node.bound();
-        }
-    }
-    bound
+    nodes
+        .iter()
+        .fold(makespan, |bound, node| bound.min(node.bound()))
 }

@@ -73,11 +73,12 @@ impl OpenNodes {
         }
     }
 
-    /// Puts nodes before those that the order has behind them, the last one first.
+    /// Moves nodes out of a list, the last one first, and puts them before those that the order has behind them.
     /// Fails with `AllocError` if memory runs out.
-    pub(crate) fn put_all(&mut self, alloc: Global, mut nodes: Vec<Node>) -> Result<(), AllocError>
-        requires { AreSharable nodes.items }
-        ensures { OnOk result (ArePut nodes.items self.old self.new) }
+    pub(crate) fn put_all(&mut self, alloc: Global, nodes: &mut Vec<Node>) -> Result<(), AllocError>
+        requires { AreSharable nodes.old.items }
+        ensures put { OnOk result (ArePut nodes.old.items self.old self.new) }
+        ensures moved { OnOk result (nodes.new.items ≡ []) }
     {
         while let Some(node) = nodes.pop() {
             self.put(alloc, node)?;

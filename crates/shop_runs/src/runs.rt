@@ -1,7 +1,6 @@
 // Runs: where one stands between two rounds, and the answer of a plan.
 ghost use Rattle.std.specs.Prelude.{◌^◌, ◌<◌, IfOk, IfSome};
 ghost use Rattle.shop_layout.specs.Layouts.{IsLayoutOf};
-ghost use Rattle.shop_plans.specs.Limits.{IsCountWithin};
 ghost use Rattle.shop_runs.specs.Runs.{SaysAnswer, IsTrusted};
 
 use crate::open_nodes::OpenNodes;
@@ -11,16 +10,12 @@ use shop_model::{Instance, Table, Word, place};
 use shop_plans::{MAX_PIECES, Order, Plan};
 use std::alloc::{AllocError, Global};
 
-/// Where a run stands: the best word and its makespan, the open nodes in the order of the next cut, the rounds done and
-/// the nodes counted.
+/// Where a run stands: a standing whose own list of open nodes is empty, and the open nodes in the order of the next
+/// cut.
 #[derive(Drop)]
 pub(crate) struct Search {
-    pub(crate) word: Word,
-    pub(crate) makespan: u64,
+    pub(crate) standing: Standing,
     pub(crate) open: OpenNodes,
-    pub(crate) rounds: u64,
-    pub(crate) nodes: u64,
-    pub ghost within: { IsCountWithin rounds nodes },
 }
 
 impl Search {
@@ -49,7 +44,7 @@ impl Search {
     /// below the opening makespan. Fails with `AllocError` if memory runs out.
     pub(crate) fn joined(
         alloc: Global,
-        standing: Standing,
+        mut standing: Standing,
         mut others: OpenNodes,
         opening: u64,
     ) -> Result<Search, AllocError>
@@ -57,21 +52,11 @@ impl Search {
         requires left { AreSharable standing.open.items }
         ensures { IfOk result (λ t. IsJoined standing others t) }
     {
-        let Standing {
-            word,
-            makespan,
-            open: left,
-            rounds,
-            nodes,
-        } = standing;
-        others.keep_below(opening, makespan)?;
-        others.put_all(alloc, left)?;
+        others.keep_below(opening, standing.makespan)?;
+        others.put_all(alloc, &mut standing.open)?;
         Ok(Search {
-            word,
-            makespan,
+            standing,
             open: others,
-            rounds,
-            nodes,
         })
     }
 
@@ -85,27 +70,26 @@ impl Search {
         plan: &Plan,
     ) -> Result<(Round<'r>, OpenNodes), AllocError>
         requires layout { IsLayoutOf instance.now layout }
-        requires rounds { self.rounds < plan.now.rounds }
+        requires rounds { self.standing.rounds < plan.now.rounds }
         requires search { IsSearchOf instance.now plan.now.order self }
         ensures { IfOk result (λ p. IsFront instance.now plan.now self p.0 p.1) }
     {
         let Search {
-            word,
-            makespan,
+            mut standing,
             mut open,
-            rounds,
-            nodes,
         } = self;
-        let bound = open.least_bound(makespan);
+        let bound = open.least_bound(standing.makespan);
         let front = open.take(alloc, MAX_PIECES * plan.piece)?;
-        let front = Standing {
-            word,
-            makespan,
-            open: front,
-            rounds,
-            nodes,
-        };
-        let round = Round::of(alloc, instance, plan, front, Vec::new(alloc), bound, layout)?;
+        standing.open = front;
+        let round = Round::of(
+            alloc,
+            instance,
+            plan,
+            standing,
+            Vec::new(alloc),
+            bound,
+            layout,
+        )?;
         Ok((round, open))
     }
 
@@ -122,13 +106,13 @@ impl Search {
     ) -> Result<(Search, Layout<'r>), AllocError>
         requires ready { C.ready }
         requires layout { IfSome kept (IsLayoutOf instance.now) }
-        requires rounds { self.rounds < plan.now.rounds }
+        requires rounds { self.standing.rounds < plan.now.rounds }
         requires search { IsSearchOf instance.now plan.now.order self }
         ensures next { IfOk result (λ p. IsNextSearch instance.now plan.now self p.0) }
         ensures layout { IfOk result (λ p. IsLayoutOf instance.now p.1) }
     {
         instance.keeps_limits();
-        let opening = self.makespan;
+        let opening = self.standing.makespan;
         let layout = kept_or_new(alloc, instance, kept)?;
         let (round, others) = self.cut(alloc, instance, layout, plan)?;
         let entries = crew.search(rt, alloc, &round)?;
@@ -208,23 +192,17 @@ pub fn run<R, C: Crew<R>>(
     ensures trust { IfOk result (λ a. IsTrusted instance.now a) }
     ensures nodes { IfOk result (λ a. a.nodes < 2 ^ 50) }
 {
-    let Search {
-        word,
-        makespan,
-        open,
-        rounds,
-        nodes,
-    } = Search::at_end(rt, alloc, instance, plan, crew)?;
-    let bound = open.least_bound(makespan);
+    let Search { standing, open } = Search::at_end(rt, alloc, instance, plan, crew)?;
+    let bound = open.least_bound(standing.makespan);
     let open_nodes = open.count()?;
-    let table = place(alloc, instance, &word)?;
+    let table = place(alloc, instance, &standing.word)?;
     Ok(Answer {
-        word,
+        word: standing.word,
         table,
-        makespan,
+        makespan: standing.makespan,
         bound,
         open_nodes,
-        rounds,
-        nodes,
+        rounds: standing.rounds,
+        nodes: standing.nodes,
     })
 }

@@ -13,6 +13,7 @@ use Rattle.shop_nodes.specs.Nodes.{words_of, AreNodes}
 use Rattle.shop_crews.specs.Round.{Stand, Told, in_order, makespan_of, cut_of}
 use Rattle.shop_crews.specs.Laws.{IsStanding}
 use Rattle.shop_crews.specs.Entries.{told}
+use Rattle.shop_crews.specs.Standings.{stands}
 use Rattle.shop_plans.specs.Plans.{planned}
 use Rattle.shop_crews.specs.inner.OpenNodes.{nodes_below}
 use Rattle.shop_runs.specs.inner.OpenNodes.{AreBelow}
@@ -26,31 +27,24 @@ use Rattle.shop_runs.specs.declared.runs.Search.{Search}
 use Rattle.shop_crews.specs.declared.standings.Standing.{Standing}
 
 abbrev pub stand_of : Search → Stand
-stand_of t = record {
-  word = t.word;
-  open_words = words_of (open_list t.open);
-  rounds = t.rounds;
-  nodes = t.nodes;
-}
+stand_of t = record (stands t.standing) { open_words = words_of (open_list t.open) }
 
 pub record IsSearchAt (shop : Shop) (order : Order) (s : Stand) (t : Search) : Type 0 where
   pub stands_at : stand_of t ≡ record s { open_words = in_order shop order s.open_words }
-  pub makespan : t.makespan ≡ makespan_of shop s
+  pub makespan : t.standing.makespan ≡ makespan_of shop s
   pub bounds : AreNodes shop (open_list t.open)
   pub kept : order_of t.open ≡ order
 
 pub record IsSearchOf (shop : Shop) (order : Order) (t : Search) : Type 0 where
   pub standing : IsStanding shop (stand_of t)
-  pub makespan : t.makespan ≡ makespan_of shop (stand_of t)
+  pub makespan : t.standing.makespan ≡ makespan_of shop (stand_of t)
   pub bounds : AreNodes shop (open_list t.open)
   pub kept : order_of t.open ≡ order
   pub ordered : in_order shop order (words_of (open_list t.open)) ≡ words_of (open_list t.open)
 
 pub record IsJoined (standing : Standing) (others : OpenNodes) (t : Search) : Type 0 where
-  pub best : t.word ≡ standing.word
-  pub makespan : t.makespan ≡ standing.makespan
-  pub rounds_done : t.rounds ≡ standing.rounds
-  pub nodes_counted : t.nodes ≡ standing.nodes
+  pub standing_is : t.standing ≡ record standing { «open» = t.standing.open }
+  pub moved : t.standing.open.items ≡ []
   pub kept : order_of t.open ≡ order_of others
   pub open_nodes : open_list t.open ≡ put_all_before (order_of others) standing.open.items
       (nodes_below standing.makespan (open_list others))
@@ -63,5 +57,5 @@ pub record IsFront (shop : Shop) (plan : Plan) (t : Search) (r : Round) (others 
   pub round : told r ≡ front_of (cut_of shop (planned plan) (stand_of t))
   pub rest : words_of (open_list others) ≡ (cut_of shop (planned plan) (stand_of t)).rest
   pub bounds : AreNodes shop (open_list others)
-  pub below : AreBelow t.makespan (open_list others)
+  pub below : AreBelow t.standing.makespan (open_list others)
   pub kept : order_of others ≡ order_of t.open

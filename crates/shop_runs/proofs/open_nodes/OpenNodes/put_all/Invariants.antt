@@ -9,7 +9,7 @@ invariant-loop-node l = record {
   sharable : AreSharable l.nodes.items;
   order : order_of l.self ≡ order_of l.fn.self;
   put : put_all_before (order_of l.fn.self) l.nodes.items (open_list l.self)
-      ≡ put_all_before (order_of l.fn.self) l.fn.nodes.items (open_list l.fn.self);
+      ≡ put_all_before (order_of l.fn.self) l.initial.nodes.items (open_list l.fn.self);
 }
 
 abbrev pub decreases-loop-node : goal.decreases-loop-node

@@ -42,9 +42,9 @@ returns c =
       rest = others_are shop plan c.args.self (open_list c.take.new.self) c.requires.search others;
       bounds = subst (AreNodes shop) (sym others)
           (All-drop (IsNode shop) (256 * plan.piece) (open_list c.args.self.open) c.requires.search.bounds);
-      below = subst (AreBelow c.args.self.makespan) (sym others)
-          (All-drop (λ n. n.bound < c.args.self.makespan) (256 * plan.piece) (open_list c.args.self.open)
-          (all_below shop c.args.self.makespan (open_list c.args.self.open) c.requires.search.bounds
+      below = subst (AreBelow c.args.self.standing.makespan) (sym others)
+          (All-drop (λ n. n.bound < c.args.self.standing.makespan) (256 * plan.piece) (open_list c.args.self.open)
+          (all_below shop c.args.self.standing.makespan (open_list c.args.self.open) c.requires.search.bounds
           (λ w h. let a = c.requires.search.standing.below w h in let b = c.requires.search.makespan in omega arith)));
       kept = c.in_ok-front.ensures.0;
     }
