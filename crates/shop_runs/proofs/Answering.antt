@@ -1,6 +1,6 @@
 -- Rounds up to the answer.
 use Rattle.std.proofs.Common.{◌≡◌, ℕ, zero, suc, ◌+◌, ◌-◌, ◌*◌, ◌≤◌, ◌<◌, List, [], ◌∷◌, ◌++◌, length, refl, sym}
-use Rattle.std.proofs.Common.{◌∙◌, ap, subst, arith, false, eqb}
+use Rattle.std.proofs.Common.{◌∙◌, ap, subst, arith}
 use Rattle.shop_model.specs.Shop.{Shop}
 use Rattle.std.proofs.lemmas.List.{length-map}
 use Rattle.shop_plans.specs.Plans.{Planned}
@@ -90,18 +90,17 @@ module _ (shop : Shop) (plan : Planned) (t : Search) (of : IsSearchOf shop plan.
       subst (λ (q : Told). StandsAt q.shop (gathered q) u) front at
       in let first = gathered (front_of whole)
       in let split : round shop plan (stand_of t) ≡ rejoined whole first = gathered_front whole is
-      in let word : u.word ≡ first.word = ap (λ (x : Stand). x.word) stands_at.stands_at
-      in let words : (rejoined whole first).open_words
-      ≡ words_of u.open.items ++ words_below shop u.makespan (words_of (open_list others)) =
-      (λ j. ap (λ (x : Stand). x.open_words) (sym stands_at.stands_at) j
-      ++ words_below shop (sym stands_at.makespan j) (sym rest j))
+      in let stood : rejoined whole first ≡ record (stands u) {
+        open_words = words_of u.open.items ++ words_below shop u.makespan (words_of (open_list others));
+      } = (λ j. record (sym stands_at.stands_at j) {
+        open_words = (sym stands_at.stands_at j).open_words ++ words_below shop (sym stands_at.makespan j) (sym rest j);
+      })
       in let rises : IsInOrder shop plan.order (words_of (open_list others)) =
       subst (IsInOrder shop plan.order) (sym rest) (order_drop shop plan.order (256 * plan.piece)
       (in_order shop plan.order (stand_of t).open_words) (in_order_is shop plan.order (stand_of t).open_words))
       in let landed : IsSearchAt shop plan.order (rejoined whole first) v =
-      joined_at shop plan.order (rejoined whole first) u others v words word stands_at.makespan
-      (ap (λ (x : Stand). x.rounds) stands_at.stands_at) (ap (λ (x : Stand). x.nodes) stands_at.stands_at)
-      stands_at.bounds bounds (kept ∙ of.kept) rises joined
+      joined_at shop plan.order (rejoined whole first) u others v stood
+      (stands_at.makespan ∙ ap (λ (x : Stand). lb shop x.word) (sym stands_at.stands_at)) stands_at.bounds bounds (kept ∙ of.kept) rises joined
       in subst (λ x. IsSearchAt shop plan.order x v) (sym split) landed
 
 -- a run on its way: it stands where the definition does, which covers the instance, and goes to the answer

@@ -23,6 +23,7 @@ use Rattle.shop_runs.specs.declared.runs.Search.{Search}
 use Rattle.shop_crews.specs.Round.{Stand, Told, in_order, words_below, words_of_round, sheets_of, up_to_hit}
 use Rattle.shop_crews.specs.Round.{after_round, gathered, best_word, makespan_of, least_bound}
 use Rattle.shop_crews.specs.Laws.{IsRound, IsStanding}
+use Rattle.shop_crews.specs.Standings.{stands}
 use Rattle.shop_crews.specs.inner.OpenNodes.{nodes_below}
 use Rattle.shop_runs.specs.inner.Searches.{IsSearchAt, IsSearchOf, IsJoined, front_of}
 use Rattle.shop_runs.specs.inner.Stacks.{put_before, put_all_before}
@@ -221,11 +222,10 @@ module _ (r : Told) (is : IsRound r) where
 
 -- where a run stands once the others have joined
 module _ (shop : Shop) (o : Order) (s : Stand) (standing : Standing) (others : OpenNodes) (t : Search)
-    (words : s.open_words
-    ≡ words_of standing.open.items ++ words_below shop standing.makespan (words_of (open_list others)))
-    (best : standing.word ≡ s.word) (makespan : standing.makespan ≡ makespan_of shop s)
-    (rounds : standing.rounds ≡ s.rounds) (counted : standing.nodes ≡ s.nodes)
-    (left : AreNodes shop standing.open.items) (rest : AreNodes shop (open_list others)) (kept : order_of others ≡ o)
+    (whole : s ≡ record (stands standing) {
+      open_words = words_of standing.open.items ++ words_below shop standing.makespan (words_of (open_list others));
+    })
+    (makespan : standing.makespan ≡ lb shop standing.word) (left : AreNodes shop standing.open.items) (rest : AreNodes shop (open_list others)) (kept : order_of others ≡ o)
     (rises : IsInOrder shop o (words_of (open_list others))) (joined : IsJoined standing others t) where
   low : List Node
   low = nodes_below standing.makespan (open_list others)
@@ -248,17 +248,15 @@ module _ (shop : Shop) (o : Order) (s : Stand) (standing : Standing) (others : O
       (recursion_from_All (IsNode shop) standing.open.items left) (recursion_from_All (IsNode shop) low low_nodes)
       (subst (IsInOrder shop o) (sym low_words)
       (order_below shop o standing.makespan (words_of (open_list others)) rises))
-      ∙ ap (in_order shop o) (ap (λ ws. words_of standing.open.items ++ ws) low_words ∙ sym words))
+      ∙ ap (in_order shop o) (ap (λ ws. words_of standing.open.items ++ ws) low_words
+      ∙ ap (λ (x : Stand). x.open_words) (sym whole)))
 
   pub joined_at : IsSearchAt shop o s t
   joined_at = record {
-    stands_at = (λ i. record {
-      word = (ap (λ (x : Standing). x.word) joined.standing_is ∙ best) i;
-      open_words = open_words_are i;
-      rounds = (ap (λ (x : Standing). x.rounds) joined.standing_is ∙ rounds) i;
-      nodes = (ap (λ (x : Standing). x.nodes) joined.standing_is ∙ counted) i;
-    });
-    makespan = ap (λ (x : Standing). x.makespan) joined.standing_is ∙ makespan;
+    stands_at = (λ i. record (stands (joined.standing_is i)) { open_words = open_words_are i })
+        ∙ (λ i. record (sym whole i) { open_words = in_order shop o s.open_words });
+    makespan = ap (λ (x : Standing). x.makespan) joined.standing_is
+        ∙ (makespan ∙ ap (λ (x : Stand). lb shop x.word) (sym whole));
     bounds = subst (AreNodes shop) (sym open_is) (All-from_recursion (IsNode shop)
         (put_all_before o standing.open.items low) (put_all_nodes shop o standing.open.items low
         (recursion_from_All (IsNode shop) standing.open.items left)

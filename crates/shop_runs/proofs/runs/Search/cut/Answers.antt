@@ -1,11 +1,10 @@
-use Rattle.std.proofs.Common.{◌≡◌, ◌*◌, ◌<◌, [], refl, sym, ◌∙◌, subst, arith}
-use Rattle.std.specs.declared.alloc.AllocError.{AllocError}
+use Rattle.std.proofs.Common.{◌*◌, ◌<◌, [], refl, sym, ◌∙◌, subst, arith}
 use Rattle.std.proofs.lemmas.List.Elements.{All-drop}
 use Rattle.shop_nodes.specs.Nodes.{IsNode, AreNodes}
 use Rattle.shop_plans.specs.Plans.{planned}
 use Rattle.shop_runs.specs.inner.OpenNodes.{AreBelow}
 use Rattle.shop_runs.specs.inner.Stores.{open_list}
-use Rattle.shop_runs.proofs.FrontCuts.{IsFrontCut, is_front_cut, front_told, front_round, front_nodes, others_are}
+use Rattle.shop_runs.proofs.FrontCuts.{is_front_cut, front_told, front_round, front_nodes, others_are}
 use Rattle.shop_runs.proofs.KeptBelow.{all_below}
 use Rattle.shop_runs.proofs.runs.Search.cut.Goals as goal
 

@@ -1,5 +1,4 @@
 use Rattle.std.proofs.Common.{ap, subst}
-use Rattle.std.proofs.lemmas.Result.{IfOk-weaker}
 use Rattle.shop_layout.specs.Layouts.{IsLayoutOf}
 use Rattle.shop_nodes.specs.Nodes.{AreNodes}
 use Rattle.shop_plans.specs.Plans.{planned}
