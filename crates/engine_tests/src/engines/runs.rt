@@ -1,4 +1,5 @@
 // The engines over memory.
+use crate::told::assert_told;
 use shop_engine::{
     CheckArgs, Fault, Format, ListArgs, Memory, Reading, SolveArgs, check_text, list_text,
     solve_text,
@@ -20,8 +21,12 @@ fn assert_list(rt: &impl Abort, alloc: Global, format: Format, row: Listed) {
     let mut sink = room(rt, alloc, 1024);
     let args = ListArgs { format };
     let answer = list_text(alloc, &mut Reading::new(text), &mut sink, &args);
-    assert_eq!(rt; answer, expected, "a text of {} bytes", text.len());
-    assert_eq!(rt; sink.bytes(), lines, "a text of {} bytes", text.len());
+    assert_told(
+        rt,
+        text.len() as u64,
+        (answer, sink.bytes()),
+        (expected, lines),
+    );
 }
 
 /// Asserts what `list` makes of texts of a format.
@@ -46,8 +51,12 @@ fn assert_check(rt: &impl Abort, alloc: Global, format: Format, row: Checked) {
     let args = CheckArgs { format, name: None };
     let mut source = Reading::new(text);
     let answer = check_text(alloc, &mut source, &mut second, &mut sink, &args);
-    assert_eq!(rt; answer, expected, "a text of {} bytes", text.len());
-    assert_eq!(rt; sink.bytes(), line, "a text of {} bytes", text.len());
+    assert_told(
+        rt,
+        text.len() as u64,
+        (answer, sink.bytes()),
+        (expected, line),
+    );
 }
 
 /// Asserts what `check` makes of texts of a format.
