@@ -17,3 +17,14 @@ pub(crate) fn assert_told<T: Copy + Debug + PartialEq>(
 pub(crate) fn assert_calls(rt: &impl Abort, at: u64, calls: u64, expected: u64) {
     assert_eq!(rt; calls, expected, "at {at}");
 }
+
+/// Asserts what a report is.
+pub(crate) fn assert_report(rt: &impl Abort, report: &[u8], expected: &[u8]) {
+    assert_eq!(rt; report, expected);
+}
+
+/// Asserts how a report begins and ends.
+pub(crate) fn assert_ends(rt: &impl Abort, report: &[u8], head: &[u8], last: &[u8]) {
+    assert!(rt; report.starts_with(head));
+    assert!(rt; report.ends_with(last));
+}

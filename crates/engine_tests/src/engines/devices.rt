@@ -137,21 +137,28 @@ fn a_report_is_one_search_and_one_write(rt: HostRuntime) {
     }
 }
 
+fn assert_one_list(rt: &impl Abort, alloc: Global, sink: &mut Counted) {
+    let answer = list_text(alloc, &mut Reading::new(FIRST), sink, &ORLIB);
+    assert_told(rt, 1, (answer, sink.memory.bytes()), (Ok(()), FIRST_SIZE));
+    assert_calls(rt, 1, sink.calls, 1);
+}
+
+fn assert_one_verdict(rt: &impl Abort, alloc: Global, sink: &mut Counted) {
+    let text = b"2 2\n0 3 1 2\n1 2 0 4\njob 0: 0 3\njob 1: 0 3\n".as_slice();
+    let mut none: Option<Endless> = None;
+    let mut source = Reading::new(text);
+    let answer = check_text(alloc, &mut source, &mut none, sink, &without_name());
+    let both = b"1 2 2\nfeasible 7\n".as_slice();
+    assert_told(rt, 2, (answer, sink.memory.bytes()), (Ok(true), both));
+    assert_calls(rt, 2, sink.calls, 2);
+}
+
 #[test]
 fn lists_and_verdicts_are_one_write(rt: HostRuntime) {
     let mut sink = Counted {
         memory: room(&rt, rt.alloc(), 64),
         calls: 0,
     };
-    let answer = list_text(rt.alloc(), &mut Reading::new(FIRST), &mut sink, &ORLIB);
-    assert_told(&rt, 1, (answer, sink.memory.bytes()), (Ok(()), FIRST_SIZE));
-    assert_calls(&rt, 1, sink.calls, 1);
-    let text = b"2 2\n0 3 1 2\n1 2 0 4\njob 0: 0 3\njob 1: 0 3\n".as_slice();
-    let mut schedule: Option<Reading<&[u8]>> = None;
-    let mut source = Reading::new(text);
-    let args = without_name();
-    let answer = check_text(rt.alloc(), &mut source, &mut schedule, &mut sink, &args);
-    let both = b"1 2 2\nfeasible 7\n".as_slice();
-    assert_told(&rt, 2, (answer, sink.memory.bytes()), (Ok(true), both));
-    assert_calls(&rt, 2, sink.calls, 2);
+    assert_one_list(&rt, rt.alloc(), &mut sink);
+    assert_one_verdict(&rt, rt.alloc(), &mut sink);
 }

@@ -1,5 +1,5 @@
 // The engines over memory.
-use crate::told::assert_told;
+use crate::told::{assert_report, assert_told};
 use shop_engine::{
     CheckArgs, Fault, Format, ListArgs, Memory, Reading, SolveArgs, check_text, list_text,
     solve_text,
@@ -36,18 +36,27 @@ pub(super) fn assert_listed(rt: &impl Abort, alloc: Global, format: Format, rows
     }
 }
 
-/// A text and, where there is one, a schedule beside it; what `check` answers, and what it writes.
+/// A text, and the schedule beside it, or nothing where the schedule stands in the text; what `check` answers, and what
+/// it writes.
 pub(super) type Checked = (
     &'static [u8],
-    Option<&'static [u8]>,
+    &'static [u8],
     Result<bool, Fault>,
     &'static [u8],
 );
 
+/// The source of a schedule beside a text, if there is one.
+fn beside(schedule: &[u8]) -> Option<Reading<&[u8]>> {
+    if schedule.is_empty() {
+        return None;
+    }
+    Some(Reading::new(schedule))
+}
+
 fn assert_check(rt: &impl Abort, alloc: Global, format: Format, row: Checked) {
     let (text, schedule, expected, line) = row;
     let mut sink = room(rt, alloc, 1024);
-    let mut second = schedule.map(Reading::new);
+    let mut second = beside(schedule);
     let args = CheckArgs { format, name: None };
     let mut source = Reading::new(text);
     let answer = check_text(alloc, &mut source, &mut second, &mut sink, &args);
@@ -102,16 +111,12 @@ pub(super) fn with_plan(rt: &impl Abort, rounds: u64, budget: u64, gantt: bool) 
 /// its report.
 pub(super) type Solved = ((u64, u64, Order, bool), &'static [u8], &'static [u8]);
 
-fn assert_report(rt: &impl Abort, alloc: Global, args: &SolveArgs, text: &[u8], report: &[u8]) {
-    let sink = solve(rt, alloc, args, text);
-    assert_eq!(rt; sink.bytes(), report);
-}
-
 fn assert_solve(rt: &impl Abort, alloc: Global, format: Format, row: Solved) {
     let ((rounds, budget, order, gantt), text, report) = row;
     let plan = Plan::ordered(rounds, budget, 1, order).expect(rt, "a plan");
     let args = solve_args(format, plan, gantt);
-    assert_report(rt, alloc, &args, text, report);
+    let sink = solve(rt, alloc, &args, text);
+    assert_report(rt, sink.bytes(), report);
 }
 
 /// Asserts the reports of texts of a format.
