@@ -5,3 +5,5 @@
 mod engines;
 #[cfg(test)]
 mod streams;
+#[cfg(test)]
+mod told;

@@ -1,6 +1,8 @@
 // Sources and sinks over std's readers and writers: a call that fails is a failure at once, and a long write goes out.
+use crate::engines::runs::room;
+use crate::told::{assert_calls, assert_told};
 use shop_engine::{
-    CheckArgs, Fault, Format, ListArgs, Memory, Reading, Writing, check_text, list_text, write_all,
+    CheckArgs, Fault, Format, ListArgs, Reading, Writing, check_text, list_text, write_all,
 };
 use std::alloc::Global;
 use std::io;
@@ -66,6 +68,19 @@ impl Write for FailingWriter {
     }
 }
 
+/// Asserts what `list` answers and writes of a reader, at this call or of a text of so many bytes.
+fn assert_list(
+    rt: &impl Abort,
+    alloc: Global,
+    at: u64,
+    reader: &mut FailingReader,
+    expected: (Result<(), Fault>, &[u8]),
+) {
+    let mut sink = room(rt, alloc, 64);
+    let answer = list_text(alloc, &mut Reading::new(reader), &mut sink, &ORLIB);
+    assert_told(rt, at, (answer, sink.bytes()), expected);
+}
+
 #[test]
 fn failed_reads_are_not_tried_again(rt: HostRuntime) {
     for k in 1..23 {
@@ -75,44 +90,43 @@ fn failed_reads_are_not_tried_again(rt: HostRuntime) {
             calls: 0,
             fails_at: k,
         };
-        let mut sink = Memory::with_room(rt.alloc(), 64).expect(&rt, "memory");
-        let answer = list_text(
-            rt.alloc(),
-            &mut Reading::new(&mut reader),
-            &mut sink,
-            &ORLIB,
-        );
-        let (expected, listed) = if k <= 21 {
+        let expected = if k <= 21 {
             (Err(Fault::ReadFailed), b"".as_slice())
         } else {
             (Ok(()), LISTED)
         };
-        assert_eq!(rt; answer, expected, "at call {k}");
-        assert_eq!(rt; sink.bytes(), listed, "at call {k}");
-        assert_eq!(rt; reader.calls, k.min(21));
+        assert_list(&rt, rt.alloc(), k, &mut reader, expected);
+        assert_calls(&rt, k, reader.calls, k.min(21));
     }
+}
+
+/// Asserts what is answered and what is taken where a writer of single bytes fails at call k.
+fn assert_writes(
+    rt: &impl Abort,
+    alloc: Global,
+    k: u64,
+    expected: Result<(), Fault>,
+    taken: &[u8],
+) {
+    let mut writer = FailingWriter {
+        held: Vec::new(alloc),
+        most: 1,
+        calls: 0,
+        fails_at: k,
+    };
+    let answer = write_all(&mut Writing::new(&mut writer), LISTED);
+    assert_told(rt, k, (answer, writer.held.as_slice()), (expected, taken));
+    assert_calls(rt, k, writer.calls, k.min(6));
 }
 
 #[test]
 fn failed_writes_are_not_tried_again(rt: HostRuntime) {
-    for k in 1..8 {
-        let mut writer = FailingWriter {
-            held: Vec::new(rt.alloc()),
-            most: 1,
-            calls: 0,
-            fails_at: k,
-        };
-        let answer = write_all(&mut Writing::new(&mut writer), LISTED);
-        let expected = if k <= 6 {
-            Err(Fault::WriteFailed)
-        } else {
-            Ok(())
-        };
-        let taken = (k - 1) as usize;
-        assert_eq!(rt; answer, expected, "at call {k}");
-        assert_eq!(rt; writer.held.as_slice(), &LISTED[..taken], "at call {k}");
-        assert_eq!(rt; writer.calls, k.min(6));
+    for taken in 0..6 {
+        let k = taken as u64 + 1;
+        let lines = &LISTED[..taken];
+        assert_writes(&rt, rt.alloc(), k, Err(Fault::WriteFailed), lines);
     }
+    assert_writes(&rt, rt.alloc(), 7, Ok(()), LISTED);
 }
 
 /// A reader of these bytes that gives what the buffer takes, and never fails.
@@ -134,6 +148,11 @@ fn padded(rt: &impl Abort, alloc: Global, text: &[u8], blanks: usize) -> Vec<u8>
     padded
 }
 
+/// Asserts that a text of so many bytes was read by whole buffers.
+fn assert_whole(rt: &impl Abort, bytes: u64, calls: u64) {
+    assert!(rt; calls <= bytes / 4_096 + 2, "{bytes} bytes");
+}
+
 /// The lengths of the texts are around those of whole buffers.
 const BLANKS: [usize; 7] = [0, 4_074, 4_075, 4_076, 4_077, 8_170, 100_000];
 
@@ -142,44 +161,38 @@ fn instances_are_read_by_whole_buffers(rt: HostRuntime) {
     for blanks in BLANKS {
         let text = padded(&rt, rt.alloc(), TEXT, blanks);
         let mut reader = whole(text.as_slice());
-        let mut sink = Memory::with_room(rt.alloc(), 64).expect(&rt, "memory");
-        let answer = list_text(
-            rt.alloc(),
-            &mut Reading::new(&mut reader),
-            &mut sink,
-            &ORLIB,
-        );
-        assert_eq!(rt; answer, Ok(()), "{blanks} blanks");
-        assert_eq!(rt; sink.bytes(), LISTED, "{blanks} blanks");
-        assert!(rt;
-            reader.calls <= text.len() as u64 / 4_096 + 2,
-            "{blanks} blanks"
-        );
+        let bytes = text.len() as u64;
+        assert_list(&rt, rt.alloc(), bytes, &mut reader, (Ok(()), LISTED));
+        assert_whole(&rt, bytes, reader.calls);
     }
 }
 
-#[test]
-fn schedules_are_read_by_whole_buffers(rt: HostRuntime) {
+/// Asserts that the schedule is read out of a longer text.
+fn assert_schedule(rt: &impl Abort, alloc: Global, text: &[u8]) {
+    let bytes = text.len() as u64;
     let args = CheckArgs {
         format: Format::Orlib,
         name: None,
     };
+    let mut reader = whole(text);
+    let mut sink = room(rt, alloc, 64);
+    let answer = check_text(
+        alloc,
+        &mut Reading::new(TEXT),
+        &mut Some(Reading::new(&mut reader)),
+        &mut sink,
+        &args,
+    );
+    let expected = (Ok(true), b"feasible 7\n".as_slice());
+    assert_told(rt, bytes, (answer, sink.bytes()), expected);
+    assert_whole(rt, bytes, reader.calls);
+}
+
+#[test]
+fn schedules_are_read_by_whole_buffers(rt: HostRuntime) {
     for blanks in BLANKS {
-        let schedule = padded(&rt, rt.alloc(), SCHEDULE, blanks);
-        let mut reader = whole(schedule.as_slice());
-        let mut sink = Memory::with_room(rt.alloc(), 64).expect(&rt, "memory");
-        let answer = check_text(
-            rt.alloc(),
-            &mut Reading::new(TEXT),
-            &mut Some(Reading::new(&mut reader)),
-            &mut sink,
-            &args,
-        );
-        assert_eq!(rt; answer, Ok(true), "{blanks} blanks");
-        assert!(rt;
-            reader.calls <= schedule.len() as u64 / 4_096 + 2,
-            "{blanks} blanks"
-        );
+        let text = padded(&rt, rt.alloc(), SCHEDULE, blanks);
+        assert_schedule(&rt, rt.alloc(), text.as_slice());
     }
 }
 
@@ -193,7 +206,7 @@ fn long_texts_go_out_in_one_call(rt: HostRuntime) {
         fails_at: 0,
     };
     let answer = write_all(&mut Writing::new(&mut writer), text.as_slice());
-    assert_eq!(rt; answer, Ok(()));
-    assert_eq!(rt; writer.held.as_slice(), text.as_slice());
-    assert_eq!(rt; writer.calls, 1);
+    let expected = (Ok(()), text.as_slice());
+    assert_told(&rt, 0, (answer, writer.held.as_slice()), expected);
+    assert_calls(&rt, 0, writer.calls, 1);
 }

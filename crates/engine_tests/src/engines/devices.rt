@@ -1,7 +1,8 @@
 // Failing, slow and endless devices.
-use crate::engines::fakes::{Counted, CountedAlone, Dripping, Endless, Trickling};
+use crate::engines::fakes::{Counted, CountedAlone, Dripping, Endless, Trickling, assert_left};
 use crate::engines::runs::{room, with_plan, without_name};
 use crate::engines::solves::{FIRST, SOLVED};
+use crate::told::{assert_calls, assert_told};
 use shop_engine::{Fault, Format, ListArgs, Reading, SolveArgs, check_text, list_text, solve_text};
 use shop_round::Alone;
 use shop_text::ReadFault;
@@ -25,9 +26,8 @@ fn assert_list_from(
     let mut source = Dripping::new(FIRST, k);
     let mut sink = room(rt, alloc, 64);
     let answer = list_text(alloc, &mut source, &mut sink, &ORLIB);
-    assert_eq!(rt; answer, expected, "at call {k}");
-    assert_eq!(rt; sink.bytes(), lines, "at call {k}");
-    assert_eq!(rt; source.calls, k.min(21), "at call {k}");
+    assert_told(rt, k, (answer, sink.bytes()), (expected, lines));
+    assert_calls(rt, k, source.calls, k.min(21));
 }
 
 #[test]
@@ -49,8 +49,7 @@ fn assert_list_to(
     let mut sink = Trickling::new(room(rt, alloc, 64), k);
     let mut source = Reading::new(FIRST);
     let answer = list_text(alloc, &mut source, &mut sink, &ORLIB);
-    assert_eq!(rt; answer, expected, "at call {k}");
-    assert_eq!(rt; sink.memory.bytes(), lines, "at call {k}");
+    assert_told(rt, k, (answer, sink.memory.bytes()), (expected, lines));
 }
 
 #[test]
@@ -68,34 +67,32 @@ fn source_without_end_is_left(rt: HostRuntime) {
     let mut source = Endless::new();
     let mut sink = room(&rt, rt.alloc(), 64);
     let answer = list_text(rt.alloc(), &mut source, &mut sink, &ORLIB);
-    assert_eq!(rt; answer, Err(Fault::Text(ReadFault::TooLong)));
-    assert_eq!(rt; source.given, 16_777_217);
-    assert!(rt; source.calls <= 16_777_217 / 4_096 + 2, "by whole buffers");
+    let expected = (Err(Fault::Text(ReadFault::TooLong)), b"".as_slice());
+    assert_told(&rt, 0, (answer, sink.bytes()), expected);
+    assert_left(&rt, &source);
 }
 
-/// What `check` answers of a source that fails at a call, and how much it reads of a schedule without end.
-fn read_of_schedule(
-    rt: &impl Abort,
-    alloc: Global,
-    text: &[u8],
-    fails_at: u64,
-) -> (Result<bool, Fault>, Option<u64>) {
+/// Asserts that `check` refuses a text whose source fails at a call, with nothing read of the schedule.
+fn assert_unread(rt: &impl Abort, alloc: Global, text: &[u8], fails_at: u64, fault: Fault) {
     let mut schedule = Some(Endless::new());
     let mut sink = room(rt, alloc, 64);
     let mut source = Dripping::new(text, fails_at);
     let args = without_name();
     let answer = check_text(alloc, &mut source, &mut schedule, &mut sink, &args);
-    (answer, schedule.map(|endless| endless.given))
+    let expected = (Err(fault), b"".as_slice());
+    assert_told(rt, fails_at, (answer, sink.bytes()), expected);
+    let calls = match &schedule {
+        Some(endless) => endless.calls,
+        None => u64::MAX,
+    };
+    assert_calls(rt, fails_at, calls, 0);
 }
 
 #[test]
 fn schedule_is_not_read_where_the_instance_is_refused(rt: HostRuntime) {
-    let (answer, read) = read_of_schedule(&rt, rt.alloc(), b"2", 9);
-    assert_eq!(rt; answer, Err(Fault::Text(ReadFault::BadShape { line: 1 })));
-    assert_eq!(rt; read, Some(0));
-    let (answer, read) = read_of_schedule(&rt, rt.alloc(), FIRST, 5);
-    assert_eq!(rt; answer, Err(Fault::ReadFailed));
-    assert_eq!(rt; read, Some(0));
+    let fault = Fault::Text(ReadFault::BadShape { line: 1 });
+    assert_unread(&rt, rt.alloc(), b"2", 9, fault);
+    assert_unread(&rt, rt.alloc(), FIRST, 5, Fault::ReadFailed);
 }
 
 #[test]
@@ -104,15 +101,14 @@ fn slow_devices_give_the_same_report(rt: HostRuntime) {
     let mut slow = Trickling::new(room(&rt, rt.alloc(), 1024), 0);
     let mut source = Dripping::new(FIRST, 0);
     let answer = solve_text(&(), rt.alloc(), &mut source, &mut slow, &args, &mut Alone);
-    assert_eq!(rt; answer, Ok(()));
-    assert_eq!(rt; slow.memory.bytes(), SOLVED);
-    assert_eq!(rt; slow.calls, SOLVED.len() as u64);
+    assert_told(&rt, 0, (answer, slow.memory.bytes()), (Ok(()), SOLVED));
+    assert_calls(&rt, 0, slow.calls, SOLVED.len() as u64);
 }
 
 const GAP: &[u8] = b"2 3\n0 5 1 3 2 0\n1 1 0 1 2 6\n";
 
-/// What `solve` answers, and how many rounds its crew searches and how often its sink is called.
-fn counted(rt: &impl Abort, alloc: Global, args: &SolveArgs) -> (Result<(), Fault>, [u64; 2]) {
+/// Asserts that `solve` searches so many rounds and writes once.
+fn assert_counted(rt: &impl Abort, alloc: Global, args: &SolveArgs, rounds: u64) {
     let mut source = Reading::new(GAP);
     let mut sink = Counted {
         memory: room(rt, alloc, 1024),
@@ -120,17 +116,38 @@ fn counted(rt: &impl Abort, alloc: Global, args: &SolveArgs) -> (Result<(), Faul
     };
     let mut crew = CountedAlone { rounds: 0 };
     let answer = solve_text(&(), alloc, &mut source, &mut sink, args, &mut crew);
-    (answer, [crew.rounds, sink.calls])
+    assert_told(
+        rt,
+        rounds,
+        (answer, b"".as_slice()),
+        (Ok(()), b"".as_slice()),
+    );
+    assert_calls(rt, rounds, crew.rounds, rounds);
+    assert_calls(rt, rounds, sink.calls, 1);
 }
 
 #[test]
 fn a_report_is_one_search_and_one_write(rt: HostRuntime) {
     for rounds in 1..4 {
         let args = with_plan(&rt, rounds, 3, true);
-        let (answer, counts) = counted(&rt, rt.alloc(), &args);
-        assert_eq!(rt; answer, Ok(()));
-        assert_eq!(rt; counts, [rounds, 1]);
+        assert_counted(&rt, rt.alloc(), &args, rounds);
     }
+}
+
+fn assert_one_list(rt: &impl Abort, alloc: Global, sink: &mut Counted) {
+    let answer = list_text(alloc, &mut Reading::new(FIRST), sink, &ORLIB);
+    assert_told(rt, 1, (answer, sink.memory.bytes()), (Ok(()), FIRST_SIZE));
+    assert_calls(rt, 1, sink.calls, 1);
+}
+
+fn assert_one_verdict(rt: &impl Abort, alloc: Global, sink: &mut Counted) {
+    let text = b"2 2\n0 3 1 2\n1 2 0 4\njob 0: 0 3\njob 1: 0 3\n".as_slice();
+    let mut none: Option<Endless> = None;
+    let mut source = Reading::new(text);
+    let answer = check_text(alloc, &mut source, &mut none, sink, &without_name());
+    let both = b"1 2 2\nfeasible 7\n".as_slice();
+    assert_told(rt, 2, (answer, sink.memory.bytes()), (Ok(true), both));
+    assert_calls(rt, 2, sink.calls, 2);
 }
 
 #[test]
@@ -139,14 +156,6 @@ fn lists_and_verdicts_are_one_write(rt: HostRuntime) {
         memory: room(&rt, rt.alloc(), 64),
         calls: 0,
     };
-    let answer = list_text(rt.alloc(), &mut Reading::new(FIRST), &mut sink, &ORLIB);
-    assert_eq!(rt; answer, Ok(()));
-    assert_eq!(rt; sink.calls, 1);
-    let text = b"2 2\n0 3 1 2\n1 2 0 4\njob 0: 0 3\njob 1: 0 3\n".as_slice();
-    let mut schedule: Option<Reading<&[u8]>> = None;
-    let mut source = Reading::new(text);
-    let args = without_name();
-    let answer = check_text(rt.alloc(), &mut source, &mut schedule, &mut sink, &args);
-    assert_eq!(rt; answer, Ok(true));
-    assert_eq!(rt; sink.calls, 2);
+    assert_one_list(&rt, rt.alloc(), &mut sink);
+    assert_one_verdict(&rt, rt.alloc(), &mut sink);
 }

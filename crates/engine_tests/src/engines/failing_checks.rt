@@ -1,6 +1,7 @@
 // Verdicts with devices that move one byte a call and fail at one of the calls, and with sources that never end.
-use crate::engines::fakes::{Dripping, Endless, Trickling};
+use crate::engines::fakes::{Dripping, Endless, Trickling, assert_left};
 use crate::engines::runs::{room, without_name};
+use crate::told::{assert_calls, assert_told};
 use shop_engine::{Fault, Reading, Sink, Source, check_text};
 use shop_text::ReadFault;
 use std::alloc::Global;
@@ -37,10 +38,8 @@ fn assert_check_from(rt: &impl Abort, alloc: Global, k: u64) {
     let mut source = Dripping::new(BOTH, k);
     let mut sink = room(rt, alloc, 64);
     let answer = check_one(alloc, &mut source, &mut sink);
-    let (expected, line) = read_answer(k, 43);
-    assert_eq!(rt; answer, expected, "at call {k}");
-    assert_eq!(rt; sink.bytes(), line, "at call {k}");
-    assert_eq!(rt; source.calls, k.min(43), "at call {k}");
+    assert_told(rt, k, (answer, sink.bytes()), read_answer(k, 43));
+    assert_calls(rt, k, source.calls, k.min(43));
 }
 
 #[test]
@@ -56,10 +55,8 @@ fn assert_check_beside(rt: &impl Abort, alloc: Global, k: u64) {
     let mut sink = room(rt, alloc, 64);
     let args = without_name();
     let answer = check_text(alloc, &mut source, &mut second, &mut sink, &args);
-    let (expected, line) = read_answer(k, 21);
-    assert_eq!(rt; answer, expected, "at call {k}");
-    assert_eq!(rt; sink.bytes(), line, "at call {k}");
-    assert_eq!(rt; source.calls, k.min(21), "at call {k}");
+    assert_told(rt, k, (answer, sink.bytes()), read_answer(k, 21));
+    assert_calls(rt, k, source.calls, k.min(21));
 }
 
 #[test]
@@ -75,11 +72,12 @@ fn assert_schedule_from(rt: &impl Abort, alloc: Global, k: u64) {
     let mut sink = room(rt, alloc, 64);
     let args = without_name();
     let answer = check_text(alloc, &mut source, &mut second, &mut sink, &args);
-    let (expected, line) = read_answer(k, 23);
-    assert_eq!(rt; answer, expected, "at call {k}");
-    assert_eq!(rt; sink.bytes(), line, "at call {k}");
-    let calls = second.map(|schedule| schedule.calls);
-    assert_eq!(rt; calls, Some(k.min(23)), "at call {k}");
+    assert_told(rt, k, (answer, sink.bytes()), read_answer(k, 23));
+    let calls = match &second {
+        Some(schedule) => schedule.calls,
+        None => 0,
+    };
+    assert_calls(rt, k, calls, k.min(23));
 }
 
 #[test]
@@ -98,8 +96,7 @@ fn assert_check_to(
 ) {
     let mut sink = Trickling::new(room(rt, alloc, 64), k);
     let answer = check_one(alloc, &mut Reading::new(BOTH), &mut sink);
-    assert_eq!(rt; answer, expected, "at call {k}");
-    assert_eq!(rt; sink.memory.bytes(), line, "at call {k}");
+    assert_told(rt, k, (answer, sink.memory.bytes()), (expected, line));
 }
 
 #[test]
@@ -117,9 +114,9 @@ fn instance_without_end_is_left(rt: HostRuntime) {
     let mut source = Endless::new();
     let mut sink = room(&rt, rt.alloc(), 64);
     let answer = check_one(rt.alloc(), &mut source, &mut sink);
-    assert_eq!(rt; answer, Err(Fault::Text(ReadFault::TooLong)));
-    assert_eq!(rt; source.given, 16_777_217);
-    assert_eq!(rt; sink.bytes(), b"".as_slice());
+    let expected = (Err(Fault::Text(ReadFault::TooLong)), b"".as_slice());
+    assert_told(&rt, 0, (answer, sink.bytes()), expected);
+    assert_left(&rt, &source);
 }
 
 #[test]
@@ -133,10 +130,10 @@ fn schedule_without_end_is_left(rt: HostRuntime) {
         &mut sink,
         &without_name(),
     );
-    assert_eq!(rt; answer, Err(Fault::Text(ReadFault::TooLong)));
-    assert_eq!(rt; sink.bytes(), b"".as_slice());
-    if let Some(schedule) = second {
-        assert_eq!(rt; schedule.given, 16_777_217);
+    let expected = (Err(Fault::Text(ReadFault::TooLong)), b"".as_slice());
+    assert_told(&rt, 0, (answer, sink.bytes()), expected);
+    if let Some(schedule) = &second {
+        assert_left(&rt, schedule);
     }
 }
 
@@ -152,7 +149,6 @@ fn slow_devices_give_the_same_verdict(rt: HostRuntime) {
         &mut sink,
         &without_name(),
     );
-    assert_eq!(rt; answer, Ok(true));
-    assert_eq!(rt; sink.memory.bytes(), LINE);
-    assert_eq!(rt; sink.calls, 11);
+    assert_told(&rt, 0, (answer, sink.memory.bytes()), (Ok(true), LINE));
+    assert_calls(&rt, 0, sink.calls, 11);
 }

@@ -1,7 +1,8 @@
 // Reports with devices that move one byte a call and fail at one of the calls, and with a source that never ends.
-use crate::engines::fakes::{Dripping, Endless, Trickling};
+use crate::engines::fakes::{Dripping, Endless, Trickling, assert_left};
 use crate::engines::runs::{room, with_plan};
 use crate::engines::solves::{FIRST, SOLVED};
+use crate::told::{assert_calls, assert_told};
 use shop_engine::{Fault, Reading, SolveArgs, solve_text};
 use shop_round::Alone;
 use shop_text::ReadFault;
@@ -20,9 +21,8 @@ fn assert_solve_from(
     let mut source = Dripping::new(FIRST, k);
     let mut sink = room(rt, alloc, 1024);
     let answer = solve_text(&(), alloc, &mut source, &mut sink, args, &mut Alone);
-    assert_eq!(rt; answer, expected, "at call {k}");
-    assert_eq!(rt; sink.bytes(), report, "at call {k}");
-    assert_eq!(rt; source.calls, k.min(21), "at call {k}");
+    assert_told(rt, k, (answer, sink.bytes()), (expected, report));
+    assert_calls(rt, k, source.calls, k.min(21));
 }
 
 #[test]
@@ -46,8 +46,7 @@ fn assert_solve_to(
     let mut sink = Trickling::new(room(rt, alloc, 1024), k);
     let mut source = Reading::new(FIRST);
     let answer = solve_text(&(), alloc, &mut source, &mut sink, args, &mut Alone);
-    assert_eq!(rt; answer, expected, "at call {k}");
-    assert_eq!(rt; sink.memory.bytes(), report, "at call {k}");
+    assert_told(rt, k, (answer, sink.memory.bytes()), (expected, report));
 }
 
 #[test]
@@ -68,7 +67,7 @@ fn instance_without_end_is_not_solved(rt: HostRuntime) {
     let mut source = Endless::new();
     let mut sink = room(&rt, rt.alloc(), 1024);
     let answer = solve_text(&(), rt.alloc(), &mut source, &mut sink, &args, &mut Alone);
-    assert_eq!(rt; answer, Err(Fault::Text(ReadFault::TooLong)));
-    assert_eq!(rt; source.given, 16_777_217);
-    assert_eq!(rt; sink.bytes(), b"".as_slice());
+    let expected = (Err(Fault::Text(ReadFault::TooLong)), b"".as_slice());
+    assert_told(&rt, 0, (answer, sink.bytes()), expected);
+    assert_left(&rt, &source);
 }

@@ -5,6 +5,7 @@ ghost use Rattle.shop_engine.specs.Devices.{Device};
 use shop_engine::{DeviceFailed, Memory, Sink, Source};
 use shop_round::{Alone, Crew, Entry, Round};
 use std::alloc::{AllocError, Global};
+use std::process::Abort;
 
 /// Gives one byte a call, and fails at the call of this number, counted from 1 on.
 #[derive(Drop)]
@@ -113,6 +114,12 @@ impl Source for Endless {
         self.given = self.given.saturating_add(buffer.len() as u64);
         Ok(buffer.len())
     }
+}
+
+/// Asserts that a source without end is left behind the first byte that is too many, and was read by whole buffers.
+pub(super) fn assert_left(rt: &impl Abort, source: &Endless) {
+    assert_eq!(rt; source.given, 16_777_217);
+    assert!(rt; source.calls <= 16_777_217 / 4_096 + 2, "by whole buffers");
 }
 
 /// Takes what there is room for, and counts the calls.

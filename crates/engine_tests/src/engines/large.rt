@@ -1,5 +1,6 @@
 // A classical benchmark, and the greatest numbers of jobs.
 use crate::engines::runs::{Solved, assert_solved, solve, with_plan};
+use crate::told::assert_ends;
 use shop_engine::Format;
 use shop_round::Order;
 use std::alloc::Global;
@@ -23,17 +24,16 @@ fn benchmark_without_rounds_is_open(rt: HostRuntime) {
 }
 
 /// Asserts how the report of a text begins and ends, by as many rounds as it takes.
-fn assert_ends(rt: &impl Abort, alloc: Global, text: &[u8], head: &[u8], last: &[u8]) {
+fn assert_solved_so(rt: &impl Abort, alloc: Global, text: &[u8], head: &[u8], last: &[u8]) {
     let args = with_plan(rt, 1_000, 100_000, false);
     let sink = solve(rt, alloc, &args, text);
-    assert!(rt; sink.bytes().starts_with(head));
-    assert!(rt; sink.bytes().ends_with(last));
+    assert_ends(rt, sink.bytes(), head, last);
 }
 
 #[test]
 fn benchmark_is_solved(rt: HostRuntime) {
     let head = b"instance ft06\nsize 6 6\nmakespan 55\nbound 55\nstatus optimal\nopen 0\n";
-    assert_ends(&rt, rt.alloc(), FT06, head, b"\n");
+    assert_solved_so(&rt, rt.alloc(), FT06, head, b"\n");
 }
 
 /// A size line with so many rows behind it, all alike.
@@ -51,10 +51,10 @@ fn many_jobs_of_one_machine_are_solved(rt: HostRuntime) {
     let two_hundred = alike(&rt, alloc, b"200 1\n", 200, b"0 1000000\n");
     let head =
         b"instance 1\nsize 200 1\nmakespan 200000000\nbound 200000000\nstatus optimal\nopen 0\nrounds 0\nnodes 0\n";
-    assert_ends(&rt, alloc, &two_hundred, head, b"job 199: 199000000\n");
+    assert_solved_so(&rt, alloc, &two_hundred, head, b"job 199: 199000000\n");
     let thousand = alike(&rt, alloc, b"1000 1\n", 1_000, b"0 1000000000\n");
     let head =
         b"instance 1\nsize 1000 1\nmakespan 1000000000000\nbound 1000000000000\nstatus optimal\n\
         open 0\nrounds 0\nnodes 0\n";
-    assert_ends(&rt, alloc, &thousand, head, b"job 999: 999000000000\n");
+    assert_solved_so(&rt, alloc, &thousand, head, b"job 999: 999000000000\n");
 }

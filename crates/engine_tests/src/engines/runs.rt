@@ -1,14 +1,16 @@
 // The engines over memory.
+use crate::told::{assert_report, assert_told};
 use shop_engine::{
     CheckArgs, Fault, Format, ListArgs, Memory, Reading, SolveArgs, check_text, list_text,
     solve_text,
 };
 use shop_round::{Alone, Order, Plan};
+use shop_text::ReadFault;
 use std::alloc::Global;
 use std::process::Abort;
 
 /// Memory for this many bytes.
-pub(super) fn room(rt: &impl Abort, alloc: Global, bytes: usize) -> Memory {
+pub(crate) fn room(rt: &impl Abort, alloc: Global, bytes: usize) -> Memory {
     Memory::with_room(alloc, bytes).expect(rt, "memory")
 }
 
@@ -20,8 +22,12 @@ fn assert_list(rt: &impl Abort, alloc: Global, format: Format, row: Listed) {
     let mut sink = room(rt, alloc, 1024);
     let args = ListArgs { format };
     let answer = list_text(alloc, &mut Reading::new(text), &mut sink, &args);
-    assert_eq!(rt; answer, expected, "a text of {} bytes", text.len());
-    assert_eq!(rt; sink.bytes(), lines, "a text of {} bytes", text.len());
+    assert_told(
+        rt,
+        text.len() as u64,
+        (answer, sink.bytes()),
+        (expected, lines),
+    );
 }
 
 /// Asserts what `list` makes of texts of a format.
@@ -31,10 +37,21 @@ pub(super) fn assert_listed(rt: &impl Abort, alloc: Global, format: Format, rows
     }
 }
 
-/// A text and, where there is one, a schedule beside it; what `check` answers, and what it writes.
+/// A text, and the fault that `list` refuses it for.
+pub(super) type Refused = (&'static [u8], ReadFault);
+
+/// Asserts what texts of a format are refused for, with nothing written.
+pub(super) fn assert_refused(rt: &impl Abort, alloc: Global, format: Format, rows: &[Refused]) {
+    for row in rows {
+        assert_list(rt, alloc, format, (row.0, Err(Fault::Text(row.1)), b""));
+    }
+}
+
+/// A text, and the schedule beside it, or nothing where the schedule stands in the text; what `check` answers, and what
+/// it writes.
 pub(super) type Checked = (
     &'static [u8],
-    Option<&'static [u8]>,
+    &'static [u8],
     Result<bool, Fault>,
     &'static [u8],
 );
@@ -42,12 +59,20 @@ pub(super) type Checked = (
 fn assert_check(rt: &impl Abort, alloc: Global, format: Format, row: Checked) {
     let (text, schedule, expected, line) = row;
     let mut sink = room(rt, alloc, 1024);
-    let mut second = schedule.map(Reading::new);
+    let mut second = if schedule.is_empty() {
+        None
+    } else {
+        Some(Reading::new(schedule))
+    };
     let args = CheckArgs { format, name: None };
     let mut source = Reading::new(text);
     let answer = check_text(alloc, &mut source, &mut second, &mut sink, &args);
-    assert_eq!(rt; answer, expected, "a text of {} bytes", text.len());
-    assert_eq!(rt; sink.bytes(), line, "a text of {} bytes", text.len());
+    assert_told(
+        rt,
+        text.len() as u64,
+        (answer, sink.bytes()),
+        (expected, line),
+    );
 }
 
 /// Asserts what `check` makes of texts of a format.
@@ -93,16 +118,12 @@ pub(super) fn with_plan(rt: &impl Abort, rounds: u64, budget: u64, gantt: bool) 
 /// its report.
 pub(super) type Solved = ((u64, u64, Order, bool), &'static [u8], &'static [u8]);
 
-fn assert_report(rt: &impl Abort, alloc: Global, args: &SolveArgs, text: &[u8], report: &[u8]) {
-    let sink = solve(rt, alloc, args, text);
-    assert_eq!(rt; sink.bytes(), report);
-}
-
 fn assert_solve(rt: &impl Abort, alloc: Global, format: Format, row: Solved) {
     let ((rounds, budget, order, gantt), text, report) = row;
     let plan = Plan::ordered(rounds, budget, 1, order).expect(rt, "a plan");
     let args = solve_args(format, plan, gantt);
-    assert_report(rt, alloc, &args, text, report);
+    let sink = solve(rt, alloc, &args, text);
+    assert_report(rt, sink.bytes(), report);
 }
 
 /// Asserts the reports of texts of a format.

@@ -1,5 +1,6 @@
 // Reports of small instances, by hand.
 use crate::engines::runs::{Solved, assert_solved, room, solve};
+use crate::told::{assert_ends, assert_told};
 use shop_engine::{Fault, Format, Reading, SolveArgs, solve_text};
 use shop_round::{Alone, Order, Plan};
 use shop_text::ReadFault;
@@ -145,18 +146,20 @@ fn names_are_looked_for(rt: HostRuntime) {
     let args = with_name(&rt, rt.alloc(), "gap");
     let sink = solve(&rt, rt.alloc(), &args, NAMED);
     let head = b"instance gap\nsize 2 3\nmakespan 10\n";
-    assert!(rt; sink.bytes().starts_with(head.as_slice()));
+    assert_ends(&rt, sink.bytes(), head, b"\n");
 }
 
-fn answer_to(rt: &impl Abort, alloc: Global, args: &SolveArgs) -> Result<(), Fault> {
+/// Asserts what a report is refused for, with nothing written.
+fn assert_refused(rt: &impl Abort, alloc: Global, args: &SolveArgs, fault: ReadFault) {
     let mut sink = room(rt, alloc, 64);
     let mut source = Reading::new(NAMED);
-    solve_text(&(), alloc, &mut source, &mut sink, args, &mut Alone)
+    let answer = solve_text(&(), alloc, &mut source, &mut sink, args, &mut Alone);
+    let expected = (Err(Fault::Text(fault)), b"".as_slice());
+    assert_told(rt, 0, (answer, sink.bytes()), expected);
 }
 
 #[test]
 fn a_name_that_is_not_there_is_refused(rt: HostRuntime) {
     let args = with_name(&rt, rt.alloc(), "beta");
-    let answer = answer_to(&rt, rt.alloc(), &args);
-    assert_eq!(rt; answer, Err(Fault::Text(ReadFault::NoSuchName)));
+    assert_refused(&rt, rt.alloc(), &args, ReadFault::NoSuchName);
 }
