@@ -3,7 +3,6 @@ ghost use Rattle.std.specs.Prelude.{◌≡◌, ◌≤◌, ◌<◌, ◌^◌, IfOk
 ghost use Rattle.shop_layout.specs.LaidOuts.{IsReady};
 
 use crate::advances::{advance_below, strike};
-use crate::dispatching::{Candidate, Dispatching};
 use crate::fills::fill_state;
 use crate::gathering::gather;
 use crate::placing::place_word;
@@ -12,6 +11,7 @@ use crate::steps::{BOUNDS, step};
 use shop_lanes::StateLanes;
 use shop_layout::LaidOut;
 use shop_raises::MachineRaises;
+use shop_states::{Candidate, Dispatching};
 use std::alloc::{AllocError, Global};
 
 impl<'a, L: StateLanes> Dispatching for LaidOut<'a, L> {

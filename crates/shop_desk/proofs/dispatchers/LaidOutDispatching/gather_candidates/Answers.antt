@@ -2,7 +2,7 @@ use Rattle.std.proofs.Common.{◌≡◌, ℕ, List, subst}
 use Rattle.shop_model.specs.Shop.{Shop}
 use Rattle.shop_layout.specs.Lanes.{rows_of}
 use Rattle.shop_layout.specs.Positions.{LayoutState}
-use Rattle.shop_desk.specs.declared.dispatching.Candidate.{Candidate}
+use Rattle.shop_states.specs.declared.dispatching.Candidate.{Candidate}
 use Rattle.shop_desk.specs.inner.Candidates.{AreCandidatesOf}
 use Rattle.shop_desk.specs.inner.LaneStates.{IsKeptInLanes}
 use Rattle.shop_desk.proofs.ReadStates.{kept_read}
