@@ -14,14 +14,12 @@ use shop_raises::MachineRaises;
 use shop_states::{Candidate, Dispatching};
 use std::alloc::{AllocError, Global};
 
-impl<'a, L: StateLanes> Dispatching for LaidOut<'a, L> {
+impl<'a, L: StateLanes> Dispatching<State<L>> for LaidOut<'a, L> {
     ghost use Rattle.std.specs.Prelude.{◌∷◌, ◌++◌, [], vec_capacity};
     ghost use Rattle.shop_desk.specs.inner.Candidates.{IsCandidateOf};
     ghost use Rattle.shop_desk.specs.inner.Scratches.{IsScratchOf};
     ghost use Rattle.shop_desk.specs.inner.LaneStates.{HasRoom, IsKeptInLanes};
     ghost use Rattle.shop_layout.specs.Lanes.{rows_of};
-
-    type State = State<L>;
 
     type Scratch = Scratch<L>;
 

@@ -19,22 +19,19 @@ pub struct Candidate {
     pub own: u64,
 }
 
-/// Dispatches operations of one instance in states of its words. It never changes: it is made once for a run and shared
-/// by all that search.
-pub trait Dispatching {
-    /// What a word leaves, or room for it.
-    type State: Drop;
-
+/// Dispatches operations of one instance in states of its words. A state is what a word leaves, or room for it. The
+/// dispatcher never changes: it is made once for a run and shared by all that search.
+pub trait Dispatching<S: Drop> {
     /// What a dispatch needs beside a state.
     type Scratch: Drop;
 
     ghost shop: { Self → Shop };
 
     /// It is room for a state.
-    ghost IsSlot: { Self → Self.State → Type 0 };
+    ghost IsSlot: { Self → S → Type 0 };
 
     /// It is the state of this word.
-    ghost IsStateOf: { Self → List ℕ → Self.State → Type 0 };
+    ghost IsStateOf: { Self → List ℕ → S → Type 0 };
 
     ghost IsScratch: { Self → Self.Scratch → Type 0 };
 
@@ -46,11 +43,11 @@ pub trait Dispatching {
         ensures { IfOk result (λ s. IsScratch self.now s) };
 
     /// Room for a state. Fails with `AllocError` if memory runs out.
-    fn slot(&self, alloc: Global) -> Result<Self::State, AllocError>
+    fn slot(&self, alloc: Global) -> Result<S, AllocError>
         ensures { IfOk result (λ s. IsSlot self.now s) };
 
     /// Sets a state to that of the word of a path.
-    fn fill(&self, scratch: &mut Self::Scratch, path: &[u16], state: &mut Self::State)
+    fn fill(&self, scratch: &mut Self::Scratch, path: &[u16], state: &mut S)
         requires scratch { IsScratch self.now scratch.old }
         requires slot { IsSlot self.now state.old }
         requires word { IsWord (shop self.now) path.now }
@@ -58,7 +55,7 @@ pub trait Dispatching {
         ensures scratch { IsScratch self.now scratch.new };
 
     /// Sets a state to another.
-    fn copy(&self, from: &Self::State, to: &mut Self::State)
+    fn copy(&self, from: &S, to: &mut S)
         requires from { IsSlot self.now from.now }
         requires to { IsSlot self.now to.old }
         ensures state { (w : List ℕ) → IsStateOf self.now w from.now → IsStateOf self.now w to.new }
@@ -70,7 +67,7 @@ pub trait Dispatching {
     fn gather_candidates(
         &self,
         scratch: &mut Self::Scratch,
-        state: &Self::State,
+        state: &S,
         limit: u64,
         candidates: &mut Vec<Candidate>,
     ) -> usize
@@ -84,7 +81,7 @@ pub trait Dispatching {
         ensures scratch { IsScratch self.now scratch.new };
 
     /// Dispatches the one job of a conflict set.
-    fn strike(&self, state: &mut Self::State, job: u16)
+    fn strike(&self, state: &mut S, job: u16)
         requires { HasSoleCandidate (shop self.now) (λ w. IsStateOf self.now w state.old) job }
         ensures { (w : List ℕ) → IsStateOf self.now w state.old
             → conflict (shop self.now) w ≡ job ∷ []
@@ -95,7 +92,7 @@ pub trait Dispatching {
     fn dispatch_below(
         &self,
         scratch: &mut Self::Scratch,
-        state: &mut Self::State,
+        state: &mut S,
         candidate: Candidate,
         bound: u64,
         limit: u64,
@@ -115,13 +112,7 @@ pub trait Dispatching {
 
     /// Dispatches the next operation of any job, which has one left, and tells the bound of the word then. The bound of
     /// the word before is at hand.
-    fn dispatch(
-        &self,
-        scratch: &mut Self::Scratch,
-        state: &mut Self::State,
-        job: u16,
-        bound: u64,
-    ) -> u64
+    fn dispatch(&self, scratch: &mut Self::Scratch, state: &mut S, job: u16, bound: u64) -> u64
         requires scratch { IsScratch self.now scratch.old }
         requires can { CanDispatch (shop self.now) (λ w. IsStateOf self.now w state.old) job bound }
         ensures bound { (w : List ℕ) → IsStateOf self.now w state.old
@@ -133,18 +124,18 @@ pub trait Dispatching {
         ensures scratch { IsScratch self.now scratch.new };
 
     /// The state of a word is room for one.
-    ghost state_is_slot: { (d : Self) (w : List ℕ) (s : Self.State) → IsStateOf d w s
+    ghost state_is_slot: { (d : Self) (w : List ℕ) (s : S) → IsStateOf d w s
         → IsSlot d s };
 
     /// The word of a state is one of the instance.
-    ghost state_is_of_word: { (d : Self) (w : List ℕ) (s : Self.State) → IsStateOf d w s
+    ghost state_is_of_word: { (d : Self) (w : List ℕ) (s : S) → IsStateOf d w s
         → IsWord (shop d) w };
 
     /// The instance of a state is within its limits.
-    ghost state_is_within_limits: { (d : Self) (w : List ℕ) (s : Self.State) → IsStateOf d w s
+    ghost state_is_within_limits: { (d : Self) (w : List ℕ) (s : S) → IsStateOf d w s
         → IsWithinLimits (shop d) };
 
     /// The one job of a conflict set leaves the bound as it is.
-    ghost sole_keeps_bound: { (d : Self) (w : List ℕ) (s : Self.State) → IsStateOf d w s
+    ghost sole_keeps_bound: { (d : Self) (w : List ℕ) (s : S) → IsStateOf d w s
         → SoleCandidateKeepsBound (shop d) w };
 }

@@ -16,7 +16,7 @@ use shop_model::{SharedWord, Word};
 use shop_states::Dispatching;
 use std::alloc::{AllocError, Global};
 
-impl<'l, 'a, D: Dispatching> Walker<'l, 'a, D> {
+impl<'l, 'a, D: Dispatching<S>, S: Drop> Walker<'l, 'a, D, S> {
     /// Gathers the candidates of the word, which isn't full, and tells how many others are closed.
     #[inline(always)]
     fn gather(&mut self) -> usize

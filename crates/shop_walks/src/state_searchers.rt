@@ -12,14 +12,14 @@ use std::marker::Model;
 
 /// Searches pieces of an instance, one after the other, by one dispatcher. What a search needs is kept from one to the
 /// next. To contracts it is the instance.
-pub struct StateSearcher<'l, 'a, D: Dispatching> {
-    walker: Walker<'l, 'a, D>,
+pub struct StateSearcher<'l, 'a, D: Dispatching<S>, S: Drop> {
+    walker: Walker<'l, 'a, D, S>,
     /// no search of it failed for want of memory
     is_whole: bool,
 }
 
 // Written out, so that the code that lets go of a searcher stands once, and not in each function that has one.
-impl<D: Dispatching> Drop for StateSearcher<'_, '_, D> {
+impl<D: Dispatching<S>, S: Drop> Drop for StateSearcher<'_, '_, D, S> {
     fn drop(self) {
         let StateSearcher {
             walker: _,
@@ -28,7 +28,7 @@ impl<D: Dispatching> Drop for StateSearcher<'_, '_, D> {
     }
 }
 
-impl<'l, 'a, D: Dispatching> Model for StateSearcher<'l, 'a, D> {
+impl<'l, 'a, D: Dispatching<S>, S: Drop> Model for StateSearcher<'l, 'a, D, S> {
     ghost use Rattle.std.specs.Prelude.{IsTrue};
     ghost use Rattle.shop_model.specs.Shop.{Shop};
     ghost use Rattle.shop_walks.specs.inner.StateWalkers.{HasStates};
@@ -40,7 +40,7 @@ impl<'l, 'a, D: Dispatching> Model for StateSearcher<'l, 'a, D> {
     ghost invariant = { λ s. IsTrue s.is_whole → HasStates s.walker };
 }
 
-impl<'l, 'a, D: Dispatching> StateSearcher<'l, 'a, D> {
+impl<'l, 'a, D: Dispatching<S>, S: Drop> StateSearcher<'l, 'a, D, S> {
     /// For pieces of this instance, which is the dispatcher's, with at most so many states for children that wait. Fails
     /// with `AllocError` if memory runs out.
     pub fn new(
@@ -48,7 +48,7 @@ impl<'l, 'a, D: Dispatching> StateSearcher<'l, 'a, D> {
         instance: &'a Instance,
         dispatcher: &'l D,
         most: usize,
-    ) -> Result<StateSearcher<'l, 'a, D>, AllocError>
+    ) -> Result<StateSearcher<'l, 'a, D, S>, AllocError>
         requires { D.shop dispatcher.now ≡ instance.now }
         ensures { IfOk result (λ s. s ≡ instance.now) }
     {

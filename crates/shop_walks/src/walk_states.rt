@@ -21,23 +21,23 @@ use std::mem;
 /// The states of a walk: that of the word that it came to, one in which a child is tried, and spare ones for children
 /// that wait.
 #[derive(Drop)]
-pub(crate) struct WalkStates<'l, D: Dispatching> {
+pub(crate) struct WalkStates<'l, D: Dispatching<S>, S: Drop> {
     pub(crate) dispatcher: &'l D,
     scratch: D::Scratch,
-    pub(crate) current: Box<D::State>,
-    trial: Box<D::State>,
-    spare: Vec<Box<D::State>>,
+    pub(crate) current: Box<S>,
+    trial: Box<S>,
+    spare: Vec<Box<S>>,
     /// how many more may be made
     unmade: usize,
 }
 
-impl<'l, D: Dispatching> WalkStates<'l, D> {
+impl<'l, D: Dispatching<S>, S: Drop> WalkStates<'l, D, S> {
     /// With at most so many states for children that wait. Fails with `AllocError` if memory runs out.
     pub(crate) fn new(
         alloc: Global,
         dispatcher: &'l D,
         most: usize,
-    ) -> Result<WalkStates<'l, D>, AllocError>
+    ) -> Result<WalkStates<'l, D, S>, AllocError>
         ensures sound { IfOk result (HoldSlots D.IsSlot D.IsScratch) }
         ensures dispatcher { IfOk result (λ s. s.dispatcher.now ≡ dispatcher.now) }
     {
@@ -130,7 +130,7 @@ impl<'l, D: Dispatching> WalkStates<'l, D> {
     }
 
     /// Takes a state back that is wanted no more.
-    pub(crate) fn give_back(&mut self, state: Option<Box<D::State>>) -> Result<(), AllocError>
+    pub(crate) fn give_back(&mut self, state: Option<Box<S>>) -> Result<(), AllocError>
         requires sound { HoldSlots D.IsSlot D.IsScratch self.old }
         requires slot { IsHeldOf (λ _ s. D.IsSlot self.old.dispatcher.now s) [] state }
         ensures sound { OnOk result (HoldSlots D.IsSlot D.IsScratch self.new) }
@@ -145,11 +145,7 @@ impl<'l, D: Dispatching> WalkStates<'l, D> {
     }
 
     /// Makes the state of a word the current one: this one, where there is one, else it is filled from the word.
-    pub(crate) fn go_on_in(
-        &mut self,
-        state: Option<Box<D::State>>,
-        word: &[u16],
-    ) -> Result<(), AllocError>
+    pub(crate) fn go_on_in(&mut self, state: Option<Box<S>>, word: &[u16]) -> Result<(), AllocError>
         requires sound { HoldSlots D.IsSlot D.IsScratch self.old }
         requires word { IsWord (D.shop self.old.dispatcher.now) word.now }
         requires state { IsHeldOf (D.IsStateOf self.old.dispatcher.now) word.now state }
@@ -169,7 +165,7 @@ impl<'l, D: Dispatching> WalkStates<'l, D> {
 
     /// A spare state, or a new one where one more may be made.
     #[inline(always)]
-    fn spare_state(&mut self, alloc: Global) -> Result<Option<Box<D::State>>, AllocError>
+    fn spare_state(&mut self, alloc: Global) -> Result<Option<Box<S>>, AllocError>
         requires sound { HoldSlots D.IsSlot D.IsScratch self.old }
         ensures sound { OnOk result (HoldSlots D.IsSlot D.IsScratch self.new) }
         ensures slot { IfOk result (IsHeldOf (λ _ s. D.IsSlot self.old.dispatcher.now s) []) }
@@ -185,7 +181,7 @@ impl<'l, D: Dispatching> WalkStates<'l, D> {
 
     /// A new state, where one more may be made.
     #[inline(never)]
-    fn new_state(&mut self, alloc: Global) -> Result<Option<Box<D::State>>, AllocError>
+    fn new_state(&mut self, alloc: Global) -> Result<Option<Box<S>>, AllocError>
         requires sound { HoldSlots D.IsSlot D.IsScratch self.old }
         ensures sound { OnOk result (HoldSlots D.IsSlot D.IsScratch self.new) }
         ensures slot { IfOk result (IsHeldOf (λ _ s. D.IsSlot self.old.dispatcher.now s) []) }
@@ -201,7 +197,7 @@ impl<'l, D: Dispatching> WalkStates<'l, D> {
     }
 
     /// The state of the trial, where there is a spare one to take its place.
-    fn take_trial(&mut self, alloc: Global) -> Result<Option<Box<D::State>>, AllocError>
+    fn take_trial(&mut self, alloc: Global) -> Result<Option<Box<S>>, AllocError>
         requires sound { HoldSlots D.IsSlot D.IsScratch self.old }
         ensures sound { OnOk result (HoldSlots D.IsSlot D.IsScratch self.new) }
         ensures taken { IfOk result (IsHeldOf (λ _ s. s ≡ self.old.trial.value) []) }
@@ -266,7 +262,7 @@ impl<'l, D: Dispatching> WalkStates<'l, D> {
     pub(crate) fn try_candidates(
         &mut self,
         alloc: Global,
-        stack: &mut Vec<Held<D::State>>,
+        stack: &mut Vec<Held<S>>,
         candidates: &[Candidate],
         closed: usize,
         word: &[u16],

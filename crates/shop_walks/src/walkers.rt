@@ -16,11 +16,11 @@ use std::sync::ArcSlice;
 /// A walk with its states and the lists that it takes: the word that it came to, what waits, and room for the candidates
 /// of a word.
 #[derive(Drop)]
-pub(crate) struct Walker<'l, 'a, D: Dispatching> {
+pub(crate) struct Walker<'l, 'a, D: Dispatching<S>, S: Drop> {
     pub(crate) progress: Progress<'a>,
-    pub(crate) states: WalkStates<'l, D>,
+    pub(crate) states: WalkStates<'l, D, S>,
     pub(crate) path: Vec<u16>,
-    pub(crate) stack: Vec<Held<D::State>>,
+    pub(crate) stack: Vec<Held<S>>,
     pub(crate) candidates: Vec<Candidate>,
     /// what waits below this place of the stack has no state
     pub(crate) stripped: usize,
@@ -29,7 +29,7 @@ pub(crate) struct Walker<'l, 'a, D: Dispatching> {
     pub ghost path_room: { operation_count progress.instance.now ≤ vec_capacity path },
 }
 
-impl<'l, 'a, D: Dispatching> Walker<'l, 'a, D> {
+impl<'l, 'a, D: Dispatching<S>, S: Drop> Walker<'l, 'a, D, S> {
     ghost use Rattle.shop_nodes.specs.declared.halts.Waiting.TheVariants.{Child, Rest};
     ghost use Rattle.shop_walks.specs.inner.Held.{IsHeldOf};
     ghost use Rattle.shop_nodes.specs.Halts.{halted_words, AreHalted};
@@ -45,7 +45,7 @@ impl<'l, 'a, D: Dispatching> Walker<'l, 'a, D> {
         instance: &'a Instance,
         dispatcher: &'l D,
         most: usize,
-    ) -> Result<Walker<'l, 'a, D>, AllocError>
+    ) -> Result<Walker<'l, 'a, D, S>, AllocError>
         requires shop { D.shop dispatcher.now ≡ instance.now }
         ensures instance { IfOk result (λ w. w.progress.instance.now ≡ instance.now) }
         ensures states { IfOk result HasStates }
@@ -65,7 +65,7 @@ impl<'l, 'a, D: Dispatching> Walker<'l, 'a, D> {
         &mut self,
         alloc: Global,
         child: Open,
-        state: Option<Box<D::State>>,
+        state: Option<Box<S>>,
     ) -> Result<(), AllocError>
         requires some { 0 < self.old.progress.budget }
         requires on { IsInOrder (on_top (stage_of self.old) (Child child)) }

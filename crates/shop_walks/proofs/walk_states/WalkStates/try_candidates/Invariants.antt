@@ -5,7 +5,7 @@ use Rattle.shop_walks.proofs.walk_states.WalkStates.try_candidates.Given as goal
 
 abbrev pub invariant-loop-index : goal.invariant-loop-index
 invariant-loop-index g l = record {
-  kids : List (Kept g.row.D-State.Denot);
+  kids : List (Kept g.row.S.Denot);
   stack : l.stack.items ≡ l.fn.stack.items ++ map held kids;
   trying : IsTrying (g.D.Dispatching.IsStateOf l.fn.self.dispatcher.now)
       (g.D.Dispatching.IsCandidate l.fn.self.dispatcher.now l.word) (g.D.Dispatching.shop l.fn.self.dispatcher.now)

@@ -40,9 +40,9 @@ pub raise_rest-requires-clause-place : goal.raise_rest-requires-clause-place
 raise_rest-requires-clause-place g c =
     let old = c.args.self.now.stack.items
     in let put = c.in_ok-all.ensures.children
-    in let a = ap (λ (hs : List (Held g.row.D-State.Denot)). length hs) put.stack
+    in let a = ap (λ (hs : List (Held g.row.S.Denot)). length hs) put.stack
     in let b = length-append c.put_rest.new.stack.items (map held put.kids)
-    in let e = ap (λ (hs : List (Held g.row.D-State.Denot)). length hs) c.in_ok-put_rest.ensures
+    in let e = ap (λ (hs : List (Held g.row.S.Denot)). length hs) c.in_ok-put_rest.ensures
     in let f = rest_long old c.len-depth.result c.args.closed
     in let h = c.len-below.ensures in let i = c.args.self.now.stack.ok.0 in omega arith
 
@@ -88,7 +88,7 @@ returns-clause-branched g c =
     in omega arith)
     in let place : c.len-below.result ≡ length self.stack.items = (let a = c.len-below.ensures
     in let b = self.stack.ok.0 in omega arith)
-    in let before = put.stack ∙ ap (λ (hs : List (Held g.row.D-State.Denot)). hs ++ map held put.kids)
+    in let before = put.stack ∙ ap (λ (hs : List (Held g.row.S.Denot)). hs ++ map held put.kids)
     c.in_ok-put_rest.ensures
     in let stack = c.raise_rest.new.stack.items
     in on_ok _ (HasBranched (stage_of self) (record (stage_of self) { stack = waiting_in stack }))
@@ -107,7 +107,7 @@ returns-clause-states g c =
     in let n = c.in_ok-all.all
     in let place : c.len-below.result ≡ length self.stack.items = (let a = c.len-below.ensures
     in let b = self.stack.ok.0 in omega arith)
-    in let before = put.stack ∙ ap (λ (hs : List (Held g.row.D-State.Denot)). hs ++ map held put.kids)
+    in let before = put.stack ∙ ap (λ (hs : List (Held g.row.S.Denot)). hs ++ map held put.kids)
     c.in_ok-put_rest.ensures
     in let stack = c.raise_rest.new.stack.items
     in on_ok _ (KeepsStates g.D.Dispatching word stack c.try_candidates.new.self) (λ e. record {
