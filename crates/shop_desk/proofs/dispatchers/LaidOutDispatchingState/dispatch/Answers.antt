@@ -1,7 +1,7 @@
 use Rattle.std.proofs.Common.{◌++◌, ◌∷◌, [], drop, length, sym, take}
 use Rattle.shop_layout.proofs.Written.{written_vec}
 use Rattle.shop_desk.proofs.ReadStates.{kept_read}
-use Rattle.shop_desk.proofs.dispatchers.LaidOutDispatching.dispatch.Goals as goal
+use Rattle.shop_desk.proofs.dispatchers.LaidOutDispatchingState.dispatch.Goals as goal
 
 pub returns-clause-bound : goal.returns-clause-bound
 returns-clause-bound g c = λ w kept fits is.

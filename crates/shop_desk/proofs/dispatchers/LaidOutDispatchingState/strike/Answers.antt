@@ -1,7 +1,7 @@
 use Rattle.std.proofs.Common.{◌++◌, ◌∙◌, ◌∷◌, [], drop, length, sym, take}
 use Rattle.shop_layout.proofs.Written.{written_vec}
 use Rattle.shop_desk.proofs.ReadStates.{kept_read}
-use Rattle.shop_desk.proofs.dispatchers.LaidOutDispatching.strike.Goals as goal
+use Rattle.shop_desk.proofs.dispatchers.LaidOutDispatchingState.strike.Goals as goal
 
 pub returns : goal.returns
 returns g c = λ w kept alone.

@@ -1,7 +1,7 @@
 use Rattle.std.proofs.Common.{◌++◌, ◌∙◌, ap, drop, length, refl, sym, take}
 use Rattle.shop_layout.proofs.Written.{written_vec}
 use Rattle.shop_desk.proofs.ReadStates.{kept_read}
-use Rattle.shop_desk.proofs.dispatchers.LaidOutDispatching.fill.Goals as goal
+use Rattle.shop_desk.proofs.dispatchers.LaidOutDispatchingState.fill.Goals as goal
 
 pub returns-clause-state : goal.returns-clause-state
 returns-clause-state g c =

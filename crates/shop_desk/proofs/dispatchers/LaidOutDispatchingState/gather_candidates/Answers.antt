@@ -6,7 +6,7 @@ use Rattle.shop_states.specs.declared.dispatching.Candidate.{Candidate}
 use Rattle.shop_desk.specs.inner.Candidates.{AreCandidatesOf}
 use Rattle.shop_desk.specs.inner.LaneStates.{IsKeptInLanes}
 use Rattle.shop_desk.proofs.ReadStates.{kept_read}
-use Rattle.shop_desk.proofs.dispatchers.LaidOutDispatching.gather_candidates.Goals as goal
+use Rattle.shop_desk.proofs.dispatchers.LaidOutDispatchingState.gather_candidates.Goals as goal
 
 gathered : (greatest : ℕ) (shop : Shop) (l read : LayoutState) → read ≡ l → (heads ends nexts given : List ℕ)
     → given ≡ nexts → (limit : ℕ) (cs : List Candidate) (others : ℕ)

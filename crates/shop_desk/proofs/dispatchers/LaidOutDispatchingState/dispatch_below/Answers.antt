@@ -2,7 +2,7 @@ use Rattle.std.proofs.Common.{◌++◌, ◌∷◌, [], refl}
 use Rattle.shop_desk.proofs.Candidates.{tells_below}
 use Rattle.shop_desk.proofs.OwnSpans.{candidate_advancing}
 use Rattle.shop_desk.proofs.ReadStates.{candidate_read, kept_read}
-use Rattle.shop_desk.proofs.dispatchers.LaidOutDispatching.dispatch_below.Goals as goal
+use Rattle.shop_desk.proofs.dispatchers.LaidOutDispatchingState.dispatch_below.Goals as goal
 
 pub advance_below-requires-clause-can : goal.advance_below-requires-clause-can
 advance_below-requires-clause-can g c = record {
