@@ -6,16 +6,16 @@ ghost use Rattle.shop_bound.specs.Desks.{IsUndone, IsWordOfShop, goes_on, nothin
 ghost use Rattle.shop_bound.specs.inner.LaneRings.{kept_in};
 
 use crate::rings::Ring;
-use shop_desk::{LaidOut, Layout};
+use shop_desk::{LaidOut, Layout, State};
 use shop_lanes::{NarrowLanes, PlainLanes, WideLanes};
 use shop_model::Instance;
 use std::alloc::{AllocError, Global};
 
 /// A ring in lanes of 16, 32 or 64 bits.
 pub(crate) enum LaneRing<'a> {
-    Narrow(Ring<LaidOut<'a, NarrowLanes>>),
-    Wide(Ring<LaidOut<'a, WideLanes>>),
-    Plain(Ring<LaidOut<'a, PlainLanes>>),
+    Narrow(Ring<LaidOut<'a, NarrowLanes>, State<NarrowLanes>>),
+    Wide(Ring<LaidOut<'a, WideLanes>, State<WideLanes>>),
+    Plain(Ring<LaidOut<'a, PlainLanes>, State<PlainLanes>>),
 }
 
 impl Drop for LaneRing<'_> {

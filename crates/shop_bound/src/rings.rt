@@ -15,21 +15,21 @@ const KEPT_OPERATIONS: usize = 1 << 20;
 
 /// A word of an instance, with its state, those of its last beginnings, and the bounds of all. It takes memory in `new`
 /// alone.
-pub(crate) struct Ring<D: Dispatching + Drop> {
+pub(crate) struct Ring<D: Dispatching<S> + Drop, S: Drop> {
     dispatcher: D,
     scratch: D::Scratch,
     /// with room for all operations
     word: Vec<u16>,
     /// bounds[n]: that of the first n entries
     bounds: Vec<u64>,
-    state: D::State,
+    state: S,
     /// the first `kept` are those of the word without its last entry, without its last two, and so on
-    earlier: VecDeque<D::State>,
+    earlier: VecDeque<S>,
     kept: usize,
 }
 
 // Written out, so that the code that lets go of a ring stands once, and not in each function that has one.
-impl<D: Dispatching + Drop> Drop for Ring<D> {
+impl<D: Dispatching<S> + Drop, S: Drop> Drop for Ring<D, S> {
     fn drop(self) {
         let Ring {
             dispatcher: _,
@@ -43,7 +43,7 @@ impl<D: Dispatching + Drop> Drop for Ring<D> {
     }
 }
 
-impl<D: Dispatching + Drop> Model for Ring<D> {
+impl<D: Dispatching<S> + Drop, S: Drop> Model for Ring<D, S> {
     ghost use Rattle.std.specs.Prelude.{vec_capacity, ◌≤◌, ◌+◌};
     ghost use Rattle.shop_model.specs.Shop.{operation_count};
     ghost use Rattle.shop_bound.specs.Desks.{DeskState};
@@ -71,11 +71,11 @@ fn kept_states(operations: usize) -> usize
 }
 
 /// Room for so many states. Fails with `AllocError` if memory runs out.
-fn slots<D: Dispatching>(
+fn slots<D: Dispatching<S>, S: Drop>(
     alloc: Global,
     dispatcher: &D,
     count: usize,
-) -> Result<VecDeque<D::State>, AllocError>
+) -> Result<VecDeque<S>, AllocError>
     ensures { IfOk result (λ q. (length q.items ≡ count) × All (D.IsSlot dispatcher.now) q.items) }
 {
     let mut states = VecDeque::with_capacity(alloc, count)?;
@@ -86,7 +86,7 @@ fn slots<D: Dispatching>(
 }
 
 /// Puts a copy of a state before the others, and drops the last of these.
-fn keep<D: Dispatching>(dispatcher: &D, state: &D::State, states: &mut VecDeque<D::State>)
+fn keep<D: Dispatching<S>, S: Drop>(dispatcher: &D, state: &S, states: &mut VecDeque<S>)
     requires state { D.IsSlot dispatcher.now state.now }
     requires slots { All (D.IsSlot dispatcher.now) states.old.items }
     requires some { 0 < length states.old.items }
@@ -108,7 +108,7 @@ fn step_back<S>(state: &mut S, states: &mut VecDeque<S>)
     states.push_back_reserved(mem::replace(state, first));
 }
 
-impl<D: Dispatching + Drop> Ring<D> {
+impl<D: Dispatching<S> + Drop, S: Drop> Ring<D, S> {
     ghost use Rattle.shop_model.specs.Word.{IsWord};
     ghost use Rattle.shop_heads.specs.Bound.{lb};
     ghost use Rattle.shop_bound.specs.Desks.{IsUndone, IsWordOfShop, goes_on, nothing_dispatched};
@@ -118,7 +118,7 @@ impl<D: Dispatching + Drop> Ring<D> {
         alloc: Global,
         instance: &Instance,
         dispatcher: D,
-    ) -> Result<Ring<D>, AllocError>
+    ) -> Result<Ring<D, S>, AllocError>
         requires { D.shop dispatcher ≡ instance.now }
         ensures { IfOk result (λ r. r ≡ nothing_dispatched instance.now) }
     {

@@ -8,7 +8,7 @@ use Rattle.shop_model.specs.Word.{Placing, IsWord, place_next, placing}
 use Rattle.shop_model.proofs.Unders.{after_word}
 use Rattle.shop_heads.specs.Bound.{lb}
 use Rattle.std.specs.Prelude.{Option, Some, None}
-use Rattle.shop_desk.specs.States.{TellsBoundBelow}
+use Rattle.shop_states.specs.States.{TellsBoundBelow}
 use Rattle.shop_heads.proofs.SmallSums.{sums_small}
 use Rattle.shop_heads.specs.Conflicts.{chosen_of, conflict, conflict_among, conflicts_with}
 use Rattle.shop_heads.specs.Conflicts.{open_jobs}

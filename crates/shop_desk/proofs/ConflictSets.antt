@@ -9,7 +9,7 @@ use Rattle.shop_model.specs.Word.{placing}
 use Rattle.shop_heads.specs.Conflicts.{conflict}
 use Rattle.shop_layout.specs.Lanes.{rows_of}
 use Rattle.shop_layout.specs.Positions.{LayoutState}
-use Rattle.shop_desk.specs.declared.dispatching.Candidate.{Candidate}
+use Rattle.shop_states.specs.declared.dispatching.Candidate.{Candidate}
 use Rattle.shop_desk.specs.inner.Candidates.{AreCandidatesOf, CanList, IsChosenBy, ListsGathered}
 use Rattle.shop_desk.specs.inner.Candidates.{told_at}
 use Rattle.shop_raises.specs.inner.LaneChoices.{AreNextPlaced, IsJobBelow}

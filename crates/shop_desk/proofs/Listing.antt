@@ -2,7 +2,7 @@
 use Rattle.std.proofs.Common.{◌≡◌, ℕ, zero, suc, ◌+◌, ◌≤◌, List, [], ◌∷◌, ◌++◌, refl, sym, ◌∙◌, ap, subst}
 use Rattle.std.proofs.Common.{append_assoc, arith}
 use Rattle.std.proofs.lemmas.List.{append-nil}
-use Rattle.shop_desk.specs.declared.dispatching.Candidate.{Candidate}
+use Rattle.shop_states.specs.declared.dispatching.Candidate.{Candidate}
 use Rattle.shop_desk.specs.inner.Candidates.{ListsOwn, empty, left_out, taken}
 
 module _ (limit : ℕ) (own : ℕ → ℕ) where

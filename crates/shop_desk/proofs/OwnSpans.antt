@@ -17,7 +17,7 @@ use Rattle.shop_heads.specs.Bound.{lb}
 use Rattle.shop_heads.specs.Conflicts.{chosen_of, conflict, conflict_among, conflicts_with}
 use Rattle.shop_heads.specs.Conflicts.{next_machine, open_jobs}
 use Rattle.shop_desk.specs.inner.Advances.{IsAdvancing, foreseen}
-use Rattle.shop_desk.specs.States.{ListsBelow, none, listed, closed}
+use Rattle.shop_states.specs.States.{ListsBelow, none, listed, closed}
 use Rattle.shop_desk.specs.inner.Candidates.{AreCandidatesOf, IsCandidateOf, IsTold, ListsOwn, own_at}
 use Rattle.shop_desk.specs.inner.Candidates.{empty, left_out, taken, told_at}
 use Rattle.shop_layout.specs.HeadLimits.{latest_end}
@@ -27,7 +27,7 @@ use Rattle.shop_raises.specs.inner.LaneHeads.{AreHeadsAt}
 use Rattle.shop_desk.specs.inner.LaneStates.{IsKeptInLanes}
 use Rattle.shop_layout.specs.Positions.{IsLaidOut, LayoutState, first_position, place}
 use Rattle.shop_raises.specs.inner.RisingLists.{IsIn}
-use Rattle.shop_desk.specs.declared.dispatching.Candidate.{Candidate}
+use Rattle.shop_states.specs.declared.dispatching.Candidate.{Candidate}
 use Rattle.shop_desk.proofs.Candidates.{advancing, candidate_fits, foreseen_least}
 use Rattle.shop_desk.proofs.ChildRaises.{heads_small}
 use Rattle.shop_desk.proofs.ChildReads.{head_here, is_operation, machine_here}

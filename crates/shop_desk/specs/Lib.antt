@@ -1,3 +1,3 @@
 pub use Rattle.shop_layout.specs.Layouts
-pub mod States
+pub use Rattle.shop_states.specs.States
 pub mod inner

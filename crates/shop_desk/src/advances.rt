@@ -5,7 +5,7 @@ ghost use Rattle.shop_model.specs.Shop.{Shop};
 ghost use Rattle.shop_model.specs.Word.{IsWord};
 ghost use Rattle.shop_heads.specs.Bound.{lb};
 ghost use Rattle.shop_heads.specs.Conflicts.{conflict};
-ghost use Rattle.shop_desk.specs.States.{TellsBoundBelow};
+ghost use Rattle.shop_states.specs.States.{TellsBoundBelow};
 ghost use Rattle.shop_desk.specs.inner.Advances.{CanAdvance, CanStrike, HasSameRoom, IsAdvancing};
 ghost use Rattle.shop_raises.specs.inner.LaneEnds.{CanKeepEnds};
 ghost use Rattle.shop_desk.specs.inner.LaneStates.{GoesOn, IsKeptInLanes};

@@ -3,7 +3,6 @@ ghost use Rattle.std.specs.Prelude.{◌≡◌, ◌≤◌, ◌<◌, ◌^◌, IfOk
 ghost use Rattle.shop_layout.specs.LaidOuts.{IsReady};
 
 use crate::advances::{advance_below, strike};
-use crate::dispatching::{Candidate, Dispatching};
 use crate::fills::fill_state;
 use crate::gathering::gather;
 use crate::placing::place_word;
@@ -12,16 +11,15 @@ use crate::steps::{BOUNDS, step};
 use shop_lanes::StateLanes;
 use shop_layout::LaidOut;
 use shop_raises::MachineRaises;
+use shop_states::{Candidate, Dispatching};
 use std::alloc::{AllocError, Global};
 
-impl<'a, L: StateLanes> Dispatching for LaidOut<'a, L> {
+impl<'a, L: StateLanes> Dispatching<State<L>> for LaidOut<'a, L> {
     ghost use Rattle.std.specs.Prelude.{◌∷◌, ◌++◌, [], vec_capacity};
     ghost use Rattle.shop_desk.specs.inner.Candidates.{IsCandidateOf};
     ghost use Rattle.shop_desk.specs.inner.Scratches.{IsScratchOf};
     ghost use Rattle.shop_desk.specs.inner.LaneStates.{HasRoom, IsKeptInLanes};
     ghost use Rattle.shop_layout.specs.Lanes.{rows_of};
-
-    type State = State<L>;
 
     type Scratch = Scratch<L>;
 

@@ -12,11 +12,11 @@ ghost use Rattle.shop_raises.specs.inner.Raises.{IsInBlocks};
 ghost use Rattle.shop_raises.specs.inner.RisingLists.{IsGatheredWith, IsIn};
 ghost use Rattle.shop_layout.specs.Lanes.{rows_of};
 
-use crate::dispatching::Candidate;
 use crate::job_sets::BITS;
 use crate::lane_choices::conflict_set;
 use shop_lanes::{Marks, StateLanes};
 use shop_layout::Grid;
+use shop_states::Candidate;
 
 /// The own span that was written at a place.
 #[inline(always)]

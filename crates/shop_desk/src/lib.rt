@@ -3,7 +3,6 @@
 
 mod advances;
 mod dispatchers;
-mod dispatching;
 mod fills;
 mod gathering;
 mod job_sets;
@@ -14,6 +13,6 @@ mod placing;
 mod states;
 mod steps;
 
-pub use dispatching::{Candidate, Dispatching};
 pub use shop_layout::{LaidOut, Layout};
+pub use shop_states::{Candidate, Dispatching};
 pub use states::{Scratch, State};

@@ -1,16 +1,9 @@
-// The search of one piece: a walk over states of words.
+// The search of one piece, over a layout: states stand in lanes of its width.
 #![tactic(auto)]
 
-mod expanding;
-mod held;
-mod progress;
-mod pushing;
-mod putting;
 mod searchers;
 mod searching;
-mod walk_states;
-mod walkers;
-mod width_searchers;
+mod widths;
 
 pub use searchers::Searcher;
 pub use searching::search;

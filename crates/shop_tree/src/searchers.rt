@@ -4,10 +4,11 @@ ghost use Rattle.shop_desk.specs.Layouts.{IsLayoutOf};
 ghost use Rattle.shop_nodes.specs.Nodes.{AreNodes};
 ghost use Rattle.shop_nodes.specs.Sheets.{IsSheetOf, KeepsTables};
 
-use crate::width_searchers::{WidthSearcher, Widths};
+use crate::widths::Widths;
 use shop_desk::Layout;
 use shop_model::Instance;
 use shop_nodes::{Piece, Sheet};
+use shop_walks::StateSearcher;
 use std::alloc::{AllocError, Global};
 use std::marker::Model;
 
@@ -82,13 +83,13 @@ impl<'l, 'a> Searcher<'l, 'a> {
     {
         let widths = match layout {
             Layout::Narrow(dispatcher) => {
-                Widths::Narrow(WidthSearcher::new(alloc, instance, dispatcher, most)?)
+                Widths::Narrow(StateSearcher::new(alloc, instance, dispatcher, most)?)
             }
             Layout::Wide(dispatcher) => {
-                Widths::Wide(WidthSearcher::new(alloc, instance, dispatcher, most)?)
+                Widths::Wide(StateSearcher::new(alloc, instance, dispatcher, most)?)
             }
             Layout::Plain(dispatcher) => {
-                Widths::Plain(WidthSearcher::new(alloc, instance, dispatcher, most)?)
+                Widths::Plain(StateSearcher::new(alloc, instance, dispatcher, most)?)
             }
         };
         Ok(Searcher { widths })

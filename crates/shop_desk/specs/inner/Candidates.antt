@@ -23,14 +23,14 @@ use Rattle.shop_model.specs.Shop.{Shop}
 use Rattle.shop_model.specs.Word.{IsWord, placing}
 use Rattle.shop_heads.specs.Bound.{lb}
 use Rattle.shop_heads.specs.Conflicts.{conflict}
-use Rattle.shop_desk.specs.States.{ListsBelow}
+use Rattle.shop_states.specs.States.{ListsBelow}
 use Rattle.shop_raises.specs.inner.LaneChoices.{AreNextPlaced, IsJobBelow}
 use Rattle.shop_raises.specs.inner.LaneHeads.{AreHeadsAt}
 use Rattle.shop_desk.specs.inner.LaneStates.{IsKeptInLanes}
 use Rattle.shop_raises.specs.inner.Raises.{HasBlocks, IsInBlocks, IsOnMachine}
 use Rattle.shop_raises.specs.inner.RisingLists.{IsGatheredWith, IsIn}
 use Rattle.shop_layout.specs.Positions.{LayoutState, place}
-use Rattle.shop_desk.specs.declared.dispatching.Candidate.{Candidate}
+use Rattle.shop_states.specs.declared.dispatching.Candidate.{Candidate}
 
 abbrev pub own_at : LayoutState → List ℕ → ℕ → ℕ
 own_at l heads q =

@@ -1,7 +1,7 @@
 -- The instance of a searcher, whatever its width.
 use Rattle.shop_model.specs.Shop.{Shop}
-use Rattle.shop_tree.specs.declared.width_searchers.Widths.{Widths}
-use Rattle.shop_tree.specs.declared.width_searchers.Widths.TheVariants.{Narrow, Wide, Plain}
+use Rattle.shop_tree.specs.declared.widths.Widths.{Widths}
+use Rattle.shop_tree.specs.declared.widths.Widths.TheVariants.{Narrow, Wide, Plain}
 
 abbrev pub shop_searched : Widths → Shop
 shop_searched (Narrow s) = s

@@ -1,0 +1,43 @@
+-- What a state of a word is known by.
+--     IsOfSomeWord P                 P holds of some word
+--     HasSoleCandidate shop P job    P holds of some word whose conflict set is one job
+--     CanDispatch shop P job bound   P holds of some word, which can go on with the job and has this
+--                                    bound
+--     TellsBoundBelow limit bound    the bound where it is below the limit, and else nothing
+--     ListsBelow shop w limit is     the candidates are those of a conflict set, in order, but for n
+--                                    after which the bound is not below the limit
+use Rattle.std.specs.Prelude.{◌≡◌, ◌≤◌, ◌<◌, ℕ, zero, suc, Option, Some, None, List, [], ◌∷◌, ◌++◌}
+use Rattle.shop_model.specs.Shop.{Shop}
+use Rattle.shop_model.specs.Word.{IsWord}
+use Rattle.shop_heads.specs.Bound.{lb}
+use Rattle.shop_heads.specs.Conflicts.{conflict}
+use Rattle.shop_states.specs.declared.dispatching.Candidate.{Candidate}
+
+pub record IsOfSomeWord (P : List ℕ → Type 0) : Type 0 where
+  pub word : List ℕ
+  pub is : P word
+
+pub record HasSoleCandidate (shop : Shop) (P : List ℕ → Type 0) (job : ℕ) : Type 0 where
+  pub word : List ℕ
+  pub is : P word
+  pub sole : conflict shop word ≡ job ∷ []
+
+pub record CanDispatch (shop : Shop) (P : List ℕ → Type 0) (job bound : ℕ) : Type 0 where
+  pub word : List ℕ
+  pub is : P word
+  pub fits : IsWord shop (word ++ job ∷ [])
+  pub bound_is : bound ≡ lb shop word
+
+-- the bound if it is below the limit
+abbrev pub TellsBoundBelow : ℕ → ℕ → Option ℕ → Type 0
+TellsBoundBelow limit bound (Some b) = (b ≡ bound) × (b < limit)
+TellsBoundBelow limit bound None = limit ≤ bound
+
+-- each of the conflict set is listed, or the bound after it is not below the limit
+pub data ListsBelow (shop : Shop) (word : List ℕ) (limit : ℕ) (is : Candidate → Type 0)
+    : List ℕ → List Candidate → ℕ → Type 0 where
+  none : ListsBelow shop word limit is [] [] zero
+  listed : {js : List ℕ} {cs : List Candidate} {n : ℕ} (j : ℕ) (c : Candidate) → c.job ≡ j → is c
+      → ListsBelow shop word limit is js cs n → ListsBelow shop word limit is (j ∷ js) (c ∷ cs) n
+  closed : {js : List ℕ} {cs : List Candidate} {n : ℕ} (j : ℕ) → limit ≤ lb shop (word ++ j ∷ [])
+      → ListsBelow shop word limit is js cs n → ListsBelow shop word limit is (j ∷ js) cs (suc n)
