@@ -3,23 +3,25 @@ ghost use Rattle.std.specs.Prelude.{◌≡◌, ℕ, ◌<◌, List, length};
 ghost use Rattle.shop_model.specs.Word.{IsWord, placing};
 ghost use Rattle.shop_desk.specs.inner.Fills.{CanFill, HasFilled, HasFilledJob};
 ghost use Rattle.shop_desk.specs.inner.LaneStates.{HasRoom, IsKeptInLanes};
-ghost use Rattle.shop_desk.specs.inner.PlacedNexts.{IsFirstAt, IsPlacedAt, IsWordAt, placement_at};
+ghost use Rattle.shop_desk.specs.inner.PlacedNexts.{IsPlacedAt, IsWordAt, placement_at, step_at};
 ghost use Rattle.shop_layout.specs.Lanes.{rows_of};
 
 use crate::lane_ends::set_ends;
 use shop_lanes::StateLanes;
-use shop_layout::LaidOut;
+use shop_layout::{Grid, LaidOut};
 
-/// How many operations of a job are placed, by where its operations stand and where the next one does, if there is one.
-fn placed_steps(places: &[u32], next: u32) -> usize
-    ensures { IsFirstAt places.now next result }
+/// How many operations of a job are placed, by where its next one stands, if there is one.
+#[inline(always)]
+fn placed_steps<L: StateLanes>(grid: &Grid<L>, job: usize, next: u32) -> usize
+    requires job { job < length grid.now.places }
+    requires steps { length grid.now.steps ≡ length grid.now.following }
+    ensures { result ≡ step_at grid.now job next }
 {
-    for step in 0..places.len() {
-        if places[step] == next {
-            return step;
-        }
+    let position = next as usize;
+    if position < grid.positions() {
+        return grid.step(position);
     }
-    places.len()
+    grid.places(job).len()
 }
 
 /// Sets the heads of a job's operations that aren't placed. These are read by step, as they lie in memory: each stands at
@@ -42,9 +44,11 @@ fn fill_job<L: StateLanes>(
         (rows_of laid_out.now.layout (L.heads lanes.new) (L.ends lanes.new)) }
 {
     let route = laid_out.instance().route(job);
-    let places = laid_out.grid().places(job);
+    let grid = laid_out.grid();
+    let places = grid.places(job);
+    let placed = placed_steps(grid, job, next[job]);
     let mut begin = ready[job];
-    for step in placed_steps(places, next[job])..route.len() {
+    for step in placed..route.len() {
         let op = route[step];
         let head = begin.max(free[op.machine]);
         lanes.set_head(places[step] as usize, head + 1);
