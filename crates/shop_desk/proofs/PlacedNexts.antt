@@ -1,5 +1,5 @@
 -- Next operations, and when jobs are ready and machines free, while a word is placed.
-use Rattle.std.proofs.Common.{◌≡◌, ℕ, ◌+◌, ◌<◌, ◌^◌, max, inl, inr, List, [], length, map, take}
+use Rattle.std.proofs.Common.{◌≡◌, ℕ, ◌+◌, ◌<◌, ◌^◌, max, inl, inr, List, length, map, take}
 use Rattle.std.proofs.Common.{get_or, set, refl, sym, ◌∙◌, ap, subst, arith}
 use Rattle.std.proofs.lemmas.Bool.{cases_eq, cases_lt, lt-ltb, le-ltb}
 use Rattle.std.proofs.lemmas.Grind.{get_or-set_at}
@@ -79,7 +79,7 @@ module _ (shop : Shop) (limits : IsWithinLimits shop) (l : LayoutState) (laid : 
       pub machine_known : m < shop.machines
       machine_known = let a = here in let b = limits.on_machines j (p.steps j) in omega arith
 
-      finish : e ≡ max (p.ready j) (p.free (machine_of shop j (p.steps j))) + time_of shop j (p.steps j)
+      pub finish : e ≡ max (p.ready j) (p.free (machine_of shop j (p.steps j))) + time_of shop j (p.steps j)
       finish =
           let a = at.ready_at j job_known in let b = at.free_at m machine_known in let c = ap p.free here
           in let d = stands_for in omega arith
