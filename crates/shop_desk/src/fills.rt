@@ -124,6 +124,7 @@ pub(crate) fn fill_state<L: StateLanes>(
         → IsKeptInLanes L.GREATEST laid_out.now.shop w laid_out.now.layout
         (rows_of laid_out.now.layout (L.heads lanes.new) (L.ends lanes.new)) next.now }
 {
+    // With the grid comes what holds of the layout.
     let _grid = laid_out.grid();
     lanes.clear();
     fill_jobs(lanes, laid_out, next, ready, free);
