@@ -13,6 +13,7 @@ use Rattle.shop_heads.specs.Heads.{ready_after, head_of}
 use Rattle.shop_model.specs.Placements.{PlacementState, IsPlacement}
 use Rattle.shop_desk.specs.inner.Fills.{IsStored, CanFill, AreSameBeside}
 use Rattle.shop_desk.specs.inner.Fills.{HasFilledJob, HasFilled}
+use Rattle.shop_layout.specs.Lanes.{rows_of}
 use Rattle.shop_layout.specs.Positions.{IsFree, LayoutState, place, first_position}
 use Rattle.shop_heads.specs.inner.PlacedWords.{IsOfWord}
 use Rattle.shop_layout.proofs.LaidPlaces.{place_of}
@@ -194,6 +195,48 @@ module _ (greatest : ℕ) (shop : Shop) (l : LayoutState) (s : PlacementState) (
       padding = λ q none. so_far.free q none ∙ rested q;
     };
   }
+
+-- whatever the ends are
+module _ (greatest : ℕ) (shop : Shop) (l : LayoutState) (hs : List ℕ) where
+  pub can_beside : (es es' : List ℕ) → CanFill greatest shop l (rows_of l hs es) → CanFill greatest shop l (rows_of l hs es')
+  can_beside es es' can = record {
+    limits = can.limits;
+    laid = can.laid;
+    fits = can.fits;
+    computable = can.computable;
+    positions = can.positions;
+  }
+
+  module _ (s : PlacementState) where
+    filled_beside : (n : ℕ) (now a b es : List ℕ) → AreFilledUpTo shop l s n (rows_of l hs a) (rows_of l now b)
+        → AreFilledUpTo shop l s n (rows_of l hs es) (rows_of l now es)
+    filled_beside n now a b es filled = record {
+      beside = record { times = refl; tails = refl; ends = refl; positions = filled.beside.positions };
+      filled = filled.filled;
+      later = filled.later;
+      free = filled.free;
+    }
+
+    -- an end was set, and then the heads of its job
+    pub ended_more : (n : ℕ) (now es set_hs set_es new new_es : List ℕ) → CanFill greatest shop l (rows_of l hs es)
+        → AreFilledUpTo shop l s n (rows_of l hs es) (rows_of l now es) → set_hs ≡ now
+        → HasFilledJob shop l s n (rows_of l set_hs set_es) (rows_of l new new_es)
+        → AreFilledUpTo shop l s (n + 1) (rows_of l hs new_es) (rows_of l new new_es)
+    ended_more n now es set_hs set_es new new_es can so_far same job = filled_beside (n + 1) new set_es new_es new_es
+        (jobs_more greatest shop l s (rows_of l hs set_es) (can_beside es set_es can) n (rows_of l set_hs set_es)
+        (rows_of l new new_es) (subst (λ (xs : List ℕ). AreFilledUpTo shop l s n (rows_of l hs set_es)
+        (rows_of l xs set_es)) (sym same) (filled_beside n now es es set_es so_far)) job)
+
+-- one more of a list's numbers was set
+pub ends_more : (f : ℕ → ℕ) (n : ℕ) (es : List ℕ) → n < length es
+    → ((j : ℕ) → j < n → get_or es j 0 ≡ f j) → (v : ℕ) → v ≡ f n → (new : List ℕ) → new ≡ set es n v
+    → (j : ℕ) → j < n + 1 → get_or new j 0 ≡ f j
+ends_more f n es known so_far v is new wrote j below =
+    let read : get_or new j 0 ≡ get_or (set es n v) j 0 = ap (λ (xs : List ℕ). get_or xs j 0) wrote
+    in elim (cases_eq j n) [
+      | inl e ↦ read ∙ (get_or-set_at es n j v 0 e known ∙ (is ∙ ap f (sym e)))
+      | inr ne ↦ read ∙ (get_or-set_other es n j v 0 ne ∙ so_far j (omega arith))
+    ]
 
 -- what is read of a job's places and of its route
 pub places_read : (l : LayoutState) (j : ℕ) (places : List ℕ) → places ≡ get_or l.places j [] → (k : ℕ)

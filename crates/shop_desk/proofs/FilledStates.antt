@@ -8,18 +8,16 @@ use Rattle.shop_model.specs.Shop.{Shop}
 use Rattle.shop_model.specs.Word.{IsWord, placing}
 use Rattle.shop_layout.specs.LaidOuts.{IsReady}
 use Rattle.shop_desk.specs.inner.Fills.{AreNextsPlaced, CanFill, HasFilled, IsRested}
-use Rattle.shop_raises.specs.inner.LaneChoices.{AreNextsOf}
-use Rattle.shop_raises.specs.inner.LaneEnds.{AreEndsOf, CanKeepEnds, HasEnds}
+use Rattle.shop_raises.specs.inner.LaneChoices.{AreEndsAt, AreNextsOf}
 use Rattle.shop_desk.specs.inner.LaneStates.{AreHeadsInLanes, HasRoom, IsKeptInLanes}
 use Rattle.shop_layout.specs.Lanes.{rows_of}
 use Rattle.shop_layout.specs.Positions.{place_or, LayoutState, first_position}
 use Rattle.shop_desk.proofs.HeadsFit.{heads_fit}
-use Rattle.shop_desk.proofs.LaneEnds.{can_keep, ends_at, with_ends}
 use Rattle.shop_desk.proofs.SoleCandidates.{sole_keeps_bound}
 
 module _ (greatest : ℕ) (shop : Shop) (l : LayoutState) (ready : IsReady greatest shop l) (hs es nexts : List ℕ)
     (room : HasRoom shop l hs es nexts) (s : PlacementState) (hs' es' : List ℕ)
-    (heads : hs' ≡ replicate (length hs) 0) (ends : es' ≡ replicate (length es) greatest) where
+    (heads : hs' ≡ replicate (length hs) 0) where
   pub can_fill : CanFill greatest shop l (rows_of l hs' es')
   can_fill = record {
     limits = ready.limits;
@@ -37,14 +35,6 @@ module _ (greatest : ℕ) (shop : Shop) (l : LayoutState) (ready : IsReady great
   ]
 
   module _ (filled : Rows) (has : HasFilled shop l s (rows_of l hs' es') filled) where
-    pub times_long : length l.times ≡ length filled.heads
-    times_long = let a = has.beside.positions in let b = can_fill.positions in let c = ready.laid.positions.times
-        in omega arith
-
-    as_many : length filled.ends ≡ length shop.jobs
-    as_many = ap length has.beside.ends ∙ (ap length ends ∙ (length-replicate (length es) greatest
-        ∙ room.jobs_with_ends))
-
     module _ (after : List ℕ) (long : length after ≡ length nexts) (are : AreNextsPlaced l s (length nexts) after)
         (w : List ℕ) (word : IsWord shop w) (placed : IsPlacement shop (placing shop w) s) where
       now : AreHeadsInLanes greatest shop w l filled
@@ -67,17 +57,11 @@ module _ (greatest : ℕ) (shop : Shop) (l : LayoutState) (ready : IsReady great
             ∙ ap (place_or (first_position l shop.machines) l.places j) (placed.steps j known));
       }
 
-      pub filled_keep : CanKeepEnds greatest l after filled
-      filled_keep = can_keep greatest shop w l filled now after next_are as_many
-
-      pub filled_kept : (ended : Rows) → HasEnds filled ended → AreEndsOf greatest after ended
-          → IsKeptInLanes greatest shop w l ended after
-      filled_kept ended beside ends_are =
-          let heads = with_ends greatest shop w l filled ended beside now
-          in record {
-            kept = heads;
-            are_next = next_are;
-            ends = ends_at greatest shop w l ended heads after next_are (beside.ends ∙ as_many) ready.holds ends_are;
-            holds = ready.holds;
-            sole = sole_keeps_bound shop now.limits now.laid.slots now.laid.are w now.word;
-          }
+      pub filled_kept : AreEndsAt greatest shop (placing shop w) filled.ends → IsKeptInLanes greatest shop w l filled after
+      filled_kept ends = record {
+        kept = now;
+        are_next = next_are;
+        ends = ends;
+        holds = ready.holds;
+        sole = sole_keeps_bound shop now.limits now.laid.slots now.laid.are w now.word;
+      }

@@ -9,6 +9,7 @@ pub mod ChildReads
 pub mod ChildTurns
 pub mod ConflictSets
 pub mod FillTurns
+pub mod FilledEnds
 pub mod FilledStates
 pub mod HeadsFit
 pub mod LaneChoices

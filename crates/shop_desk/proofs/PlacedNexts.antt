@@ -1,5 +1,5 @@
 -- Next operations, and when jobs are ready and machines free, while a word is placed.
-use Rattle.std.proofs.Common.{◌≡◌, ℕ, ◌+◌, ◌<◌, ◌^◌, max, inl, inr, List, [], length, map, take}
+use Rattle.std.proofs.Common.{◌≡◌, ℕ, ◌+◌, ◌<◌, ◌^◌, max, inl, inr, List, length, map, take}
 use Rattle.std.proofs.Common.{get_or, set, refl, sym, ◌∙◌, ap, subst, arith}
 use Rattle.std.proofs.lemmas.Bool.{cases_eq, cases_lt, lt-ltb, le-ltb}
 use Rattle.std.proofs.lemmas.Grind.{get_or-set_at}
@@ -19,7 +19,7 @@ use Rattle.shop_heads.specs.inner.PlacedWords.{IsOfWord}
 use Rattle.shop_layout.specs.Positions.{IsLaidOut, LayoutState, first_position, place, place_or}
 use Rattle.shop_layout.proofs.LaidPlaces.{place_of}
 use Rattle.shop_desk.specs.inner.Fills.{AreNextsPlaced}
-use Rattle.shop_desk.specs.inner.PlacedNexts.{AreBegun, IsFirstAt, IsPlacedAt, IsWordAt, placement_at, step_at}
+use Rattle.shop_desk.specs.inner.PlacedNexts.{AreBegun, IsPlacedAt, IsWordAt, placement_at, step_at}
 use Rattle.shop_raises.proofs.Followed.{place_past, place_there}
 use Rattle.shop_desk.proofs.RaisedHeads.{followed}
 
@@ -79,7 +79,7 @@ module _ (shop : Shop) (limits : IsWithinLimits shop) (l : LayoutState) (laid : 
       pub machine_known : m < shop.machines
       machine_known = let a = here in let b = limits.on_machines j (p.steps j) in omega arith
 
-      finish : e ≡ max (p.ready j) (p.free (machine_of shop j (p.steps j))) + time_of shop j (p.steps j)
+      pub finish : e ≡ max (p.ready j) (p.free (machine_of shop j (p.steps j))) + time_of shop j (p.steps j)
       finish =
           let a = at.ready_at j job_known in let b = at.free_at m machine_known in let c = ap p.free here
           in let d = stands_for in omega arith
@@ -254,37 +254,11 @@ module _ (shop : Shop) (limits : IsWithinLimits shop) (l : LayoutState) (laid : 
       ∙ (ap (λ (n : ℕ). place_or n l.places j (p.steps j)) (sym laid.positions.following)
       ∙ ap (place_or (length l.following) l.places j) (sym (steps_are j there)))
 
-  -- the first place of the next operation of a job among its places is how many of its steps are placed
-  pub first_is : (j : ℕ) → j < length shop.jobs → (places : List ℕ) → places ≡ get_or l.places j [] → (q k : ℕ)
-      → q ≡ get_or nexts j 0 → IsFirstAt places q k → k ≡ get_or (placement_at l nexts ready free).steps j 0
-  first_is j known places are q k is first =
-      let next = is ∙ at.are_next.are j known
-      in let route = laid.routes j
-      in let count = (after_word shop w word).steps j
-      in let most = word j
-      in let many : length places ≡ length (get_or l.places j []) = ap length are
-      in let read : (i : ℕ) → get_or places i 0 ≡ place l j i = (λ i. ap (λ (xs : List ℕ). get_or xs i 0) are)
-      in let steps = steps_are j known
-      in elim (cases_lt (p.steps j) (length (route_of shop j))) [
-        | inl op ↦ (let there = next ∙ place_there l (first_position l shop.machines) j (p.steps j) (omega arith)
-            in elim (cases_lt k (p.steps j)) [
-              | inl less ↦ absurd (let a = (place_of shop limits l laid j k (omega arith)).step
-                  in let b = (place_of shop limits l laid j (p.steps j) op).step
-                  in let same = ap (λ (x : ℕ). get_or l.steps x 0) (sym (read k) ∙ (first.here (omega arith) ∙ there))
-                  in omega arith)
-              | inr not_less ↦ elim (cases_lt (p.steps j) k) [
-                | inl more ↦ absurd (first.before (p.steps j) more (read (p.steps j) ∙ sym there))
-                | inr not_more ↦ omega arith
-              ]
-            ])
-        | inr past ↦ (let there = next ∙ place_past l (first_position l shop.machines) j (p.steps j) (omega arith)
-            in elim (cases_lt k (length places)) [
-              | inl less ↦ absurd (let within = (place_of shop limits l laid j k (omega arith)).within
-                  in let here = first.here less
-                  in let same = read k in omega arith)
-              | inr all ↦ (let within = first.within in omega arith)
-            ])
-      ]
+-- how many of its steps a job has placed
+pub step_placed : (l : LayoutState) (nexts ready free : List ℕ) (j : ℕ) → j < length nexts
+    → step_at l j (get_or nexts j 0) ≡ get_or (placement_at l nexts ready free).steps j 0
+step_placed l nexts ready free j known = sym (get_or-map-range_with_len (λ i. step_at l i (get_or nexts i 0)) 0
+    (length nexts) j j 0 known (omega arith))
 
 pub of_word_at : (shop : Shop) → IsWithinLimits shop → (l : LayoutState) → IsLaidOut shop l
     → (nexts ready free : List ℕ) → IsWordAt shop l nexts ready free

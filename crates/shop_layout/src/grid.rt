@@ -86,6 +86,15 @@ impl<L: StateLanes> Grid<L> {
         self.positions.job(position)
     }
 
+    /// The step of its job's route that stands at a position.
+    #[inline(always)]
+    pub fn step(&self, position: usize) -> usize
+        requires { position < length self.now.steps }
+        ensures { result ≡ slice_index self.now.steps position }
+    {
+        self.positions.step(position)
+    }
+
     /// The time of the operation at a position.
     #[inline(always)]
     pub fn time(&self, position: usize) -> u64

@@ -17,7 +17,7 @@ use std::marker::Model;
 pub(crate) struct Positions {
     /// jobs[position], 0 at padding
     jobs: Vec<u32>,
-    /// steps[position], 0 at padding; proofs alone read it
+    /// steps[position], 0 at padding
     steps: Vec<u32>,
     /// times[position], 0 at padding
     times: Vec<u64>,
@@ -98,6 +98,15 @@ impl Positions {
         ensures { result ≡ slice_index self.now.jobs position }
     {
         self.jobs[position] as usize
+    }
+
+    /// The step of its job's route that stands at a position.
+    #[inline(always)]
+    pub(crate) fn step(&self, position: usize) -> usize
+        requires { position < length self.now.steps }
+        ensures { result ≡ slice_index self.now.steps position }
+    {
+        self.steps[position] as usize
     }
 
     /// The time of the operation at a position.

@@ -4,7 +4,10 @@
 --     IsRested heads                 nothing waits anywhere
 --     CanFill greatest shop l rows   all heads of what was placed can be set
 --     HasFilledJob, HasFilled        those of a job, or of all jobs, were set
-use Rattle.std.specs.Prelude.{◌≡◌, ℕ, ◌+◌, ◌≤◌, ◌<◌, ◌^◌, List, length, slice_index}
+--     filled_end_at greatest l ..    one more than when the next operation of job j ends, by when
+--                                    jobs are ready and machines free, or the greatest number
+use Rattle.std.specs.Prelude.{◌≡◌, ℕ, ◌+◌, ◌≤◌, ◌<◌, ◌^◌, List, length, max}
+use Rattle.std.specs.Prelude.{slice_index, if◌then◌else◌, nat_lt}
 use Rattle.shop_lanes.specs.Rows.{Rows}
 use Rattle.shop_model.specs.Limits.{IsWithinLimits}
 use Rattle.shop_model.specs.Shop.{Shop, IsOperation}
@@ -54,3 +57,10 @@ pub record HasFilled (shop : Shop) (l : LayoutState) (s : PlacementState)
 abbrev pub AreNextsPlaced : LayoutState → PlacementState → ℕ → List ℕ → Type 0
 AreNextsPlaced l s n nexts = (j : ℕ) → j < n
     → slice_index nexts j ≡ place_or (length l.following) l.places j (slice_index s.steps j)
+
+abbrev pub filled_end_at : ℕ → LayoutState → List ℕ → List ℕ → List ℕ → ℕ → ℕ
+filled_end_at greatest l nexts ready free j =
+    if nat_lt (slice_index nexts j) (length l.following)
+    then max (slice_index ready j) (slice_index free (slice_index l.machines (slice_index nexts j)))
+    + slice_index l.times (slice_index nexts j) + 1
+    else greatest

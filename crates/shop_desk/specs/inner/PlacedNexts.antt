@@ -3,8 +3,8 @@
 --     AreBegun shop l n nexts ..     of the first n jobs, of which nothing is placed
 --     IsWordAt shop l nexts ..       they are those of some word
 --     placement_at l nexts ready ..  the placement that they stand for
---     IsFirstAt places q k           place k is the first at which q stands, or behind all of them
-use Rattle.std.specs.Prelude.{◌≡◌, ℕ, ◌≤◌, ◌<◌, List, [], length, map, slice_index, slice_index_or}
+--     step_at l j q                  the step of job j at position q, or the number of its steps
+use Rattle.std.specs.Prelude.{◌≡◌, ℕ, ◌<◌, List, [], length, map, slice_index, slice_index_or}
 use Rattle.std.specs.Prelude.{if◌then◌else◌, nat_lt}
 use Rattle.std.specs.List.{range_with_len}
 use Rattle.shop_model.specs.Placements.{PlacementState}
@@ -44,8 +44,3 @@ placement_at l nexts ready free = record {
   ready = ready;
   free = free;
 }
-
-pub record IsFirstAt (places : List ℕ) (q k : ℕ) : Type 0 where
-  pub within : k ≤ length places
-  pub here : k < length places → slice_index places k ≡ q
-  pub before : (i : ℕ) → i < k → slice_index places i ≡ q → ⊥
