@@ -8,6 +8,6 @@ mod fakes;
 mod large;
 mod lists;
 mod routes;
-mod runs;
+pub(crate) mod runs;
 mod schedules;
 mod solves;

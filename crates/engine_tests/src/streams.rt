@@ -1,7 +1,8 @@
 // Sources and sinks over std's readers and writers: a call that fails is a failure at once, and a long write goes out.
+use crate::engines::runs::room;
 use crate::told::{assert_calls, assert_told};
 use shop_engine::{
-    CheckArgs, Fault, Format, ListArgs, Memory, Reading, Writing, check_text, list_text, write_all,
+    CheckArgs, Fault, Format, ListArgs, Reading, Writing, check_text, list_text, write_all,
 };
 use std::alloc::Global;
 use std::io;
@@ -67,11 +68,6 @@ impl Write for FailingWriter {
     }
 }
 
-/// Memory for a line.
-fn room(rt: &impl Abort, alloc: Global) -> Memory {
-    Memory::with_room(alloc, 64).expect(rt, "memory")
-}
-
 /// Asserts what `list` answers and writes of a reader, at this call or of a text of so many bytes.
 fn assert_list(
     rt: &impl Abort,
@@ -80,7 +76,7 @@ fn assert_list(
     reader: &mut FailingReader,
     expected: (Result<(), Fault>, &[u8]),
 ) {
-    let mut sink = room(rt, alloc);
+    let mut sink = room(rt, alloc, 64);
     let answer = list_text(alloc, &mut Reading::new(reader), &mut sink, &ORLIB);
     assert_told(rt, at, (answer, sink.bytes()), expected);
 }
@@ -160,19 +156,14 @@ fn assert_whole(rt: &impl Abort, bytes: u64, calls: u64) {
 /// The lengths of the texts are around those of whole buffers.
 const BLANKS: [usize; 7] = [0, 4_074, 4_075, 4_076, 4_077, 8_170, 100_000];
 
-/// Asserts that the instance is read out of a longer text.
-fn assert_instance(rt: &impl Abort, alloc: Global, text: &[u8]) {
-    let bytes = text.len() as u64;
-    let mut reader = whole(text);
-    assert_list(rt, alloc, bytes, &mut reader, (Ok(()), LISTED));
-    assert_whole(rt, bytes, reader.calls);
-}
-
 #[test]
 fn instances_are_read_by_whole_buffers(rt: HostRuntime) {
     for blanks in BLANKS {
         let text = padded(&rt, rt.alloc(), TEXT, blanks);
-        assert_instance(&rt, rt.alloc(), text.as_slice());
+        let mut reader = whole(text.as_slice());
+        let bytes = text.len() as u64;
+        assert_list(&rt, rt.alloc(), bytes, &mut reader, (Ok(()), LISTED));
+        assert_whole(&rt, bytes, reader.calls);
     }
 }
 
@@ -184,7 +175,7 @@ fn assert_schedule(rt: &impl Abort, alloc: Global, text: &[u8]) {
         name: None,
     };
     let mut reader = whole(text);
-    let mut sink = room(rt, alloc);
+    let mut sink = room(rt, alloc, 64);
     let answer = check_text(
         alloc,
         &mut Reading::new(TEXT),

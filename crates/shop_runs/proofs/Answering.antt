@@ -100,7 +100,8 @@ module _ (shop : Shop) (plan : Planned) (t : Search) (of : IsSearchOf shop plan.
       (in_order shop plan.order (stand_of t).open_words) (in_order_is shop plan.order (stand_of t).open_words))
       in let landed : IsSearchAt shop plan.order (rejoined whole first) v =
       joined_at shop plan.order (rejoined whole first) u others v stood
-      (stands_at.makespan ∙ ap (λ (x : Stand). lb shop x.word) (sym stands_at.stands_at)) stands_at.bounds bounds (kept ∙ of.kept) rises joined
+      (stands_at.makespan ∙ ap (λ (x : Stand). lb shop x.word) (sym stands_at.stands_at)) stands_at.bounds bounds
+      (kept ∙ of.kept) rises joined
       in subst (λ x. IsSearchAt shop plan.order x v) (sym split) landed
 
 -- a run on its way: it stands where the definition does, which covers the instance, and goes to the answer
@@ -183,7 +184,8 @@ module _ (shop : Shop) (o : Order) (s : Stand) (t : Search) (at : IsSearchAt sho
 
   pub says_search : (a : Answer) → a.word ≡ t.standing.word → a.table ≡ rows_of shop (placed shop t.standing.word)
       → a.makespan ≡ t.standing.makespan → a.bound ≡ least_of_bounds t.standing.makespan (open_list t.open)
-      → a.open_nodes ≡ length (open_list t.open) → a.rounds ≡ t.standing.rounds → a.nodes ≡ t.standing.nodes → Says shop s a
+      → a.open_nodes ≡ length (open_list t.open) → a.rounds ≡ t.standing.rounds → a.nodes ≡ t.standing.nodes
+      → Says shop s a
   says_search a word table makespan lower many rounds nodes = record {
     word = word ∙ word_same;
     table = table ∙ ap (λ w. rows_of shop (placed shop w)) word_same;

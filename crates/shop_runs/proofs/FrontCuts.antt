@@ -9,7 +9,7 @@ use Rattle.shop_plans.specs.Plans.{Planned, planned}
 use Rattle.shop_plans.specs.declared.plans.Plan.{Plan}
 use Rattle.shop_crews.specs.Round.{cut_into, in_order, least_bound, cut_of}
 use Rattle.shop_crews.specs.Laws.{IsRound}
-use Rattle.shop_crews.specs.Standings.{round_of}
+use Rattle.shop_crews.specs.Standings.{stands, round_of}
 use Rattle.shop_crews.specs.inner.OpenNodes.{least_of_bounds}
 use Rattle.shop_crews.proofs.Covering.{cut_is_round}
 use Rattle.shop_crews.proofs.NodeLemmas.{least_is}
@@ -26,7 +26,8 @@ pub record IsFrontCut (plan : Planned) (t : Search) (bound : ℕ) (front : List 
   pub first : front ≡ take (256 * plan.piece) (open_list t.open)
 
 pub is_front_cut : (plan : Plan) (t : Search) (bound : ℕ) (front : List Node)
-    → bound ≡ least_of_bounds t.standing.makespan (open_list t.open) → front ≡ take (256 * plan.piece) (open_list t.open)
+    → bound ≡ least_of_bounds t.standing.makespan (open_list t.open)
+    → front ≡ take (256 * plan.piece) (open_list t.open)
     → IsFrontCut (planned plan) t bound front
 is_front_cut plan t bound front least first = record {
   some = (let size = plan.within.3 in omega arith);
@@ -40,7 +41,7 @@ module _ (shop : Shop) (plan : Planned) (t : Search) (bound : ℕ) (front : List
   nodes = open_list t.open
 
   pub front_told : round_of shop plan
-      (record { word = t.standing.word; open_words = words_of front; rounds = t.standing.rounds; nodes = t.standing.nodes }) bound (words_of rest)
+      (record (stands t.standing) { open_words = words_of front }) bound (words_of rest)
       ≡ front_of (cut_of shop plan (stand_of t))
   unfolding nodes
   front_told =
@@ -64,7 +65,7 @@ module _ (shop : Shop) (plan : Planned) (t : Search) (bound : ℕ) (front : List
       })
 
   pub front_round : IsRound (round_of shop plan
-      (record { word = t.standing.word; open_words = words_of front; rounds = t.standing.rounds; nodes = t.standing.nodes }) bound (words_of rest))
+      (record (stands t.standing) { open_words = words_of front }) bound (words_of rest))
   front_round = subst IsRound (sym front_told) (front_is_round (cut_of shop plan (stand_of t))
       (cut_is_round shop plan (stand_of t) of.standing))
 

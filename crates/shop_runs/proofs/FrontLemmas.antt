@@ -225,7 +225,8 @@ module _ (shop : Shop) (o : Order) (s : Stand) (standing : Standing) (others : O
     (whole : s ≡ record (stands standing) {
       open_words = words_of standing.open.items ++ words_below shop standing.makespan (words_of (open_list others));
     })
-    (makespan : standing.makespan ≡ lb shop standing.word) (left : AreNodes shop standing.open.items) (rest : AreNodes shop (open_list others)) (kept : order_of others ≡ o)
+    (makespan : standing.makespan ≡ lb shop standing.word) (left : AreNodes shop standing.open.items)
+    (rest : AreNodes shop (open_list others)) (kept : order_of others ≡ o)
     (rises : IsInOrder shop o (words_of (open_list others))) (joined : IsJoined standing others t) where
   low : List Node
   low = nodes_below standing.makespan (open_list others)

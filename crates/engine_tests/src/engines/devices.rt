@@ -72,32 +72,27 @@ fn source_without_end_is_left(rt: HostRuntime) {
     assert_left(&rt, &source);
 }
 
-/// What `check` answers of a source that fails at a call, and how much it reads of a schedule without end.
-fn read_of_schedule(
-    rt: &impl Abort,
-    alloc: Global,
-    text: &[u8],
-    fails_at: u64,
-) -> (Result<bool, Fault>, Option<u64>) {
+/// Asserts that `check` refuses a text whose source fails at a call, with nothing read of the schedule.
+fn assert_unread(rt: &impl Abort, alloc: Global, text: &[u8], fails_at: u64, fault: Fault) {
     let mut schedule = Some(Endless::new());
     let mut sink = room(rt, alloc, 64);
     let mut source = Dripping::new(text, fails_at);
     let args = without_name();
     let answer = check_text(alloc, &mut source, &mut schedule, &mut sink, &args);
-    (answer, schedule.map(|endless| endless.given))
-}
-
-/// Asserts that `check` is refused so, with nothing read of its schedule.
-fn assert_unread(rt: &impl Abort, told: (Result<bool, Fault>, Option<u64>), fault: Fault) {
-    assert_eq!(rt; told, (Err(fault), Some(0)));
+    let expected = (Err(fault), b"".as_slice());
+    assert_told(rt, fails_at, (answer, sink.bytes()), expected);
+    let calls = match &schedule {
+        Some(endless) => endless.calls,
+        None => u64::MAX,
+    };
+    assert_calls(rt, fails_at, calls, 0);
 }
 
 #[test]
 fn schedule_is_not_read_where_the_instance_is_refused(rt: HostRuntime) {
-    let told = read_of_schedule(&rt, rt.alloc(), b"2", 9);
-    assert_unread(&rt, told, Fault::Text(ReadFault::BadShape { line: 1 }));
-    let told = read_of_schedule(&rt, rt.alloc(), FIRST, 5);
-    assert_unread(&rt, told, Fault::ReadFailed);
+    let fault = Fault::Text(ReadFault::BadShape { line: 1 });
+    assert_unread(&rt, rt.alloc(), b"2", 9, fault);
+    assert_unread(&rt, rt.alloc(), FIRST, 5, Fault::ReadFailed);
 }
 
 #[test]
@@ -112,8 +107,8 @@ fn slow_devices_give_the_same_report(rt: HostRuntime) {
 
 const GAP: &[u8] = b"2 3\n0 5 1 3 2 0\n1 1 0 1 2 6\n";
 
-/// What `solve` answers, and how many rounds its crew searches and how often its sink is called.
-fn counted(rt: &impl Abort, alloc: Global, args: &SolveArgs) -> (Result<(), Fault>, [u64; 2]) {
+/// Asserts that `solve` searches so many rounds and writes once.
+fn assert_counted(rt: &impl Abort, alloc: Global, args: &SolveArgs, rounds: u64) {
     let mut source = Reading::new(GAP);
     let mut sink = Counted {
         memory: room(rt, alloc, 1024),
@@ -121,19 +116,21 @@ fn counted(rt: &impl Abort, alloc: Global, args: &SolveArgs) -> (Result<(), Faul
     };
     let mut crew = CountedAlone { rounds: 0 };
     let answer = solve_text(&(), alloc, &mut source, &mut sink, args, &mut crew);
-    (answer, [crew.rounds, sink.calls])
-}
-
-/// Asserts so many rounds that are searched, and one write.
-fn assert_one_write(rt: &impl Abort, told: (Result<(), Fault>, [u64; 2]), rounds: u64) {
-    assert_eq!(rt; told, (Ok(()), [rounds, 1]));
+    assert_told(
+        rt,
+        rounds,
+        (answer, b"".as_slice()),
+        (Ok(()), b"".as_slice()),
+    );
+    assert_calls(rt, rounds, crew.rounds, rounds);
+    assert_calls(rt, rounds, sink.calls, 1);
 }
 
 #[test]
 fn a_report_is_one_search_and_one_write(rt: HostRuntime) {
     for rounds in 1..4 {
         let args = with_plan(&rt, rounds, 3, true);
-        assert_one_write(&rt, counted(&rt, rt.alloc(), &args), rounds);
+        assert_counted(&rt, rt.alloc(), &args, rounds);
     }
 }
 

@@ -66,14 +66,6 @@ fn instance_beside_a_schedule_is_never_at_its_end(rt: HostRuntime) {
     }
 }
 
-/// How often a schedule was read, if there is one.
-fn calls_of(schedule: &Option<Dripping>) -> u64 {
-    match schedule {
-        Some(source) => source.calls,
-        None => 0,
-    }
-}
-
 fn assert_schedule_from(rt: &impl Abort, alloc: Global, k: u64) {
     let mut second = Some(Dripping::new(SCHEDULE, k));
     let mut source = Reading::new(INSTANCE);
@@ -81,7 +73,11 @@ fn assert_schedule_from(rt: &impl Abort, alloc: Global, k: u64) {
     let args = without_name();
     let answer = check_text(alloc, &mut source, &mut second, &mut sink, &args);
     assert_told(rt, k, (answer, sink.bytes()), read_answer(k, 23));
-    assert_calls(rt, k, calls_of(&second), k.min(23));
+    let calls = match &second {
+        Some(schedule) => schedule.calls,
+        None => 0,
+    };
+    assert_calls(rt, k, calls, k.min(23));
 }
 
 #[test]

@@ -25,17 +25,13 @@ fn assert_solve_from(
     assert_calls(rt, k, source.calls, k.min(21));
 }
 
-fn assert_all_from(rt: &impl Abort, alloc: Global, args: &SolveArgs) {
-    for k in 1..22 {
-        assert_solve_from(rt, alloc, args, k, Err(Fault::ReadFailed), b"");
-    }
-    assert_solve_from(rt, alloc, args, 22, Ok(()), SOLVED);
-}
-
 #[test]
 fn instance_that_fails_is_not_solved(rt: HostRuntime) {
     let args = with_plan(&rt, 1, 100, false);
-    assert_all_from(&rt, rt.alloc(), &args);
+    for k in 1..22 {
+        assert_solve_from(&rt, rt.alloc(), &args, k, Err(Fault::ReadFailed), b"");
+    }
+    assert_solve_from(&rt, rt.alloc(), &args, 22, Ok(()), SOLVED);
 }
 
 /// Asserts what `solve` answers where its sink fails at call k, and what the sink holds.
@@ -53,20 +49,16 @@ fn assert_solve_to(
     assert_told(rt, k, (answer, sink.memory.bytes()), (expected, report));
 }
 
-fn assert_all_to(rt: &impl Abort, alloc: Global, args: &SolveArgs) {
-    for taken in 0..SOLVED.len() {
-        let k = taken as u64 + 1;
-        let report = &SOLVED[..taken];
-        assert_solve_to(rt, alloc, args, k, Err(Fault::WriteFailed), report);
-    }
-    let calls = SOLVED.len() as u64;
-    assert_solve_to(rt, alloc, args, calls + 1, Ok(()), SOLVED);
-}
-
 #[test]
 fn sink_of_a_report_holds_a_beginning(rt: HostRuntime) {
     let args = with_plan(&rt, 1, 100, false);
-    assert_all_to(&rt, rt.alloc(), &args);
+    for taken in 0..SOLVED.len() {
+        let k = taken as u64 + 1;
+        let report = &SOLVED[..taken];
+        assert_solve_to(&rt, rt.alloc(), &args, k, Err(Fault::WriteFailed), report);
+    }
+    let calls = SOLVED.len() as u64;
+    assert_solve_to(&rt, rt.alloc(), &args, calls + 1, Ok(()), SOLVED);
 }
 
 #[test]

@@ -5,11 +5,12 @@ use shop_engine::{
     solve_text,
 };
 use shop_round::{Alone, Order, Plan};
+use shop_text::ReadFault;
 use std::alloc::Global;
 use std::process::Abort;
 
 /// Memory for this many bytes.
-pub(super) fn room(rt: &impl Abort, alloc: Global, bytes: usize) -> Memory {
+pub(crate) fn room(rt: &impl Abort, alloc: Global, bytes: usize) -> Memory {
     Memory::with_room(alloc, bytes).expect(rt, "memory")
 }
 
@@ -36,6 +37,16 @@ pub(super) fn assert_listed(rt: &impl Abort, alloc: Global, format: Format, rows
     }
 }
 
+/// A text, and the fault that `list` refuses it for.
+pub(super) type Refused = (&'static [u8], ReadFault);
+
+/// Asserts what texts of a format are refused for, with nothing written.
+pub(super) fn assert_refused(rt: &impl Abort, alloc: Global, format: Format, rows: &[Refused]) {
+    for row in rows {
+        assert_list(rt, alloc, format, (row.0, Err(Fault::Text(row.1)), b""));
+    }
+}
+
 /// A text, and the schedule beside it, or nothing where the schedule stands in the text; what `check` answers, and what
 /// it writes.
 pub(super) type Checked = (
@@ -45,18 +56,14 @@ pub(super) type Checked = (
     &'static [u8],
 );
 
-/// The source of a schedule beside a text, if there is one.
-fn beside(schedule: &[u8]) -> Option<Reading<&[u8]>> {
-    if schedule.is_empty() {
-        return None;
-    }
-    Some(Reading::new(schedule))
-}
-
 fn assert_check(rt: &impl Abort, alloc: Global, format: Format, row: Checked) {
     let (text, schedule, expected, line) = row;
     let mut sink = room(rt, alloc, 1024);
-    let mut second = beside(schedule);
+    let mut second = if schedule.is_empty() {
+        None
+    } else {
+        Some(Reading::new(schedule))
+    };
     let args = CheckArgs { format, name: None };
     let mut source = Reading::new(text);
     let answer = check_text(alloc, &mut source, &mut second, &mut sink, &args);
