@@ -1,34 +1,39 @@
 // A board by hand: three pieces, of which the first ends at the opening bound.
-ghost use Rattle.std.specs.Prelude.{◌≡◌, All, IfOk, IfSome};
-ghost use Rattle.shop_board.specs.Hits.{hits_of_round};
+ghost use Rattle.std.specs.Prelude.{◌≡◌, All, length, true};
+ghost use Rattle.shop_board.specs.Hits.{hits_of_round, is_hit_in};
 ghost use Rattle.shop_board.specs.Seats.{hits_of, IsSeatOf};
 ghost use Rattle.crew_tests.specs.inner.Served.{HasServedOf};
 
-use crate::crews::{Became, what_became};
-use crate::worked_rounds::third_round;
+use crate::crews::{Became, assert_became};
+use crate::worked_rounds::in_third_round;
 use shop_board::{Board, OpenGate, Seat, has_all, work};
 use shop_round::{Round, search_piece};
-use std::alloc::{AllocError, Global};
+use std::alloc::Global;
+use std::process::Abort;
 use std::thread;
 use std::thread::Threads;
-use worked_instances::with_a_gap;
 
-#[test]
-fn two_seats_on_one_thread(rt: HostRuntime) {
-    let alloc = rt.alloc();
-    let instance = with_a_gap(alloc).expect(&rt, "an instance");
-    let round = third_round(&rt, alloc, &instance);
-    let (board, seat) = Board::open(alloc, &round).expect(&rt, "memory");
+// There are three pieces, and the first ends at the opening bound.
+fn assert_first_hits<'r>(rt: &impl Abort, alloc: Global, round: &'r Round<'r>)
+    ensures pieces { length round.now.pieces.items ≡ 3 }
+    ensures hit { is_hit_in (hits_of_round round.now) 0 ≡ true }
+{
+    assert_eq!(rt; round.pieces.len(), 3);
+    let sheet = search_piece(alloc, round, 0).expect(rt, "memory");
+    assert_eq!(rt; sheet.makespan, 10);
+    assert_eq!(rt; sheet.taken, 1);
+    assert_eq!(rt; round.bound, 10);
+}
+
+fn assert_two_seats<'r>(rt: &impl Abort, alloc: Global, round: &'r Round<'r>) {
+    assert_first_hits(rt, alloc, round);
+    let (board, seat) = Board::open(alloc, round).expect(rt, "memory");
     assert_eq!(rt; board.pieces(), 3);
     let (mut a, mut b) = board.split(seat);
     assert!(rt; board.claim(&mut a, 0));
     assert!(rt; !board.claim(&mut b, 0));
     assert!(rt; board.claim(&mut b, 1));
     assert!(rt; board.claim(&mut a, 2));
-    let sheet = search_piece(alloc, &round, 0).expect(&rt, "memory");
-    assert_eq!(rt; sheet.makespan, 10);
-    assert_eq!(rt; sheet.taken, 1);
-    assert_eq!(rt; round.bound, 10);
     assert_eq!(rt; board.look(&mut b), 3);
     board.mark(&mut a, 0);
     assert_eq!(rt; board.look(&mut b), 0);
@@ -39,84 +44,94 @@ fn two_seats_on_one_thread(rt: HostRuntime) {
 }
 
 #[test]
-fn a_worker_passes_behind_the_mark_of_another_seat(rt: HostRuntime) {
+fn two_seats_on_one_thread(rt: HostRuntime) {
     let alloc = rt.alloc();
-    let instance = with_a_gap(alloc).expect(&rt, "an instance");
-    let round = third_round(&rt, alloc, &instance);
-    let (board, seat) = Board::open(alloc, &round).expect(&rt, "memory");
-    assert_eq!(rt; board.pieces(), 3);
+    in_third_round(
+        &rt,
+        alloc,
+        &|round: &Round| assert_two_seats(&rt, alloc, round),
+    );
+}
+
+fn assert_passes<'r>(rt: &impl Abort, alloc: Global, round: &'r Round<'r>) {
+    assert_first_hits(rt, alloc, round);
+    let (board, seat) = Board::open(alloc, round).expect(rt, "memory");
     let (mut a, b) = board.split(seat);
     assert!(rt; board.claim(&mut a, 0));
-    let sheet = search_piece(alloc, &round, 0).expect(&rt, "memory");
-    assert_eq!(rt; sheet.makespan, 10);
-    assert_eq!(rt; round.bound, 10);
     board.mark(&mut a, 0);
-    let (_b, entries) = work(alloc, &board, b, &round, 1, &OpenGate);
-    let passed = [Became::Passed(0), Became::Passed(0)];
-    assert_eq!(rt;
-        what_became(&rt, alloc, &entries.expect(&rt, "memory")).as_slice(),
-        passed.as_slice()
+    let (_b, entries) = work(alloc, &board, b, round, 1, &OpenGate);
+    let entries = entries.expect(rt, "memory");
+    assert_became(rt, alloc, &entries, &[Became::Passed(0), Became::Passed(0)]);
+}
+
+#[test]
+fn a_worker_passes_behind_the_mark_of_another_seat(rt: HostRuntime) {
+    let alloc = rt.alloc();
+    in_third_round(
+        &rt,
+        alloc,
+        &|round: &Round| assert_passes(&rt, alloc, round),
     );
 }
 
 // Three seats for one that has won nothing.
-fn three_seats(alloc: Global, board: &Board, seat: Seat) -> Result<Vec<Seat>, AllocError>
+fn three_seats(rt: &impl Abort, alloc: Global, board: &Board, seat: Seat) -> Vec<Seat>
     requires { HasServedOf board.now seat 0 }
-    ensures { IfOk result (λ v. All (λ s. HasServedOf board.now s 0) v.items) }
+    ensures { All (λ s. HasServedOf board.now s 0) result.items }
 {
     let (first, second) = board.split(seat);
     let (second, third) = board.split(second);
-    let mut seats = Vec::new(alloc);
-    seats.push(first)?;
-    seats.push(second)?;
-    seats.push(third)?;
-    Ok(seats)
+    vec![in alloc; first, second, third].expect(rt, "memory")
 }
 
-// Claims each piece, and gives those that were won.
-fn claim_all(alloc: Global, board: &Board, seat: Seat) -> Result<Vec<usize>, AllocError>
+// Claims each of three pieces, and says which were won.
+fn claim_all(board: &Board, mut seat: Seat) -> [bool; 3]
     requires { IsSeatOf board.now seat }
 {
-    let mut seat = seat;
-    let mut won = Vec::new(alloc);
-    for number in 0..board.pieces() {
-        if board.claim(&mut seat, number) {
-            won.push(number)?;
-        }
+    let mut won = [false; 3];
+    for number in 0..board.pieces().min(3) {
+        won[number] = board.claim(&mut seat, number);
     }
-    Ok(won)
+    won
 }
 
 // The same by a thread for each seat.
-fn claim_by_threads<R: Threads + Sync>(
+fn claim_by_threads<R: Abort + Threads + Sync>(
     rt: &R,
-    alloc: Global,
     board: &Board,
     seats: Vec<Seat>,
-) -> Result<Vec<Result<Vec<usize>, AllocError>>, AllocError>
+) -> Vec<[bool; 3]>
     requires { All (λ s. IsSeatOf board.now s) seats.items }
 {
-    let worker = move |seat: Seat| -> Result<Vec<usize>, AllocError>
+    let worker = move |seat: Seat| -> [bool; 3]
         requires { IsSeatOf board.now seat }
-    { claim_all(alloc, board, seat) };
-    thread::map_vec(rt, seats, &worker)
+    { claim_all(board, seat) };
+    thread::map_vec(rt, seats, &worker).expect(rt, "memory")
+}
+
+fn assert_each_is_won_once<'r, R: Abort + Threads + Sync>(
+    rt: &R,
+    alloc: Global,
+    round: &'r Round<'r>,
+) {
+    let (board, seat) = Board::open(alloc, round).expect(rt, "memory");
+    assert_eq!(rt; board.pieces(), 3);
+    let seats = three_seats(rt, alloc, &board, seat);
+    let lists = claim_by_threads(rt, &board, seats);
+    for number in 0..3 {
+        let winners = lists.iter().filter(|won| won[number]).count();
+        assert_eq!(rt; winners, 1, "winners of piece {number}");
+    }
 }
 
 #[test]
 fn each_piece_is_won_once(rt: HostRuntime) {
     let alloc = rt.alloc();
-    let instance = with_a_gap(alloc).expect(&rt, "an instance");
-    let round = third_round(&rt, alloc, &instance);
-    let (board, seat) = Board::open(alloc, &round).expect(&rt, "memory");
-    let seats = three_seats(alloc, &board, seat).expect(&rt, "memory");
-    let mut numbers = Vec::new(alloc);
-    for won in claim_by_threads(&rt, alloc, &board, seats).expect(&rt, "memory") {
-        numbers
-            .append(&mut won.expect(&rt, "memory"))
-            .expect(&rt, "memory");
-    }
-    numbers.sort().expect(&rt, "memory");
-    assert_eq!(rt; numbers.as_slice(), [0, 1, 2].as_slice());
+    in_third_round(
+        &rt,
+        alloc,
+        &|round: &Round| assert_each_is_won_once(&rt, alloc, round),
+    );
 }
 
 // A seat that has worked, and how many pieces it won.
@@ -126,78 +141,83 @@ struct Worked {
     won: usize,
 }
 
-fn work_one<'r>(alloc: Global, board: &Board, seat: Seat, round: &'r Round<'r>) -> Option<Worked>
+fn work_one<'r, R: Abort>(
+    rt: &R,
+    alloc: Global,
+    board: &Board,
+    seat: Seat,
+    round: &'r Round<'r>,
+) -> Worked
     requires seat { HasServedOf board.now seat 0 }
     requires round { hits_of board.now ≡ hits_of_round round.now }
-    ensures { IfSome result (λ w. HasServedOf board.now w.seat w.won) }
+    ensures { HasServedOf board.now result.seat result.won }
 {
     let (seat, entries) = work(alloc, board, seat, round, 0, &OpenGate);
-    match entries {
-        Ok(entries) => Some(Worked {
-            seat,
-            won: entries.len(),
-        }),
-        Err(AllocError) => None,
-    }
+    let won = entries.expect(rt, "memory").len();
+    Worked { seat, won }
 }
 
 // By a thread for each seat.
-fn work_by_threads<'r, R: Threads + Sync>(
+fn work_by_threads<'r, R: Abort + Threads + Sync>(
     rt: &R,
     alloc: Global,
     board: &Board,
     seats: Vec<Seat>,
     round: &'r Round<'r>,
-) -> Result<Vec<Option<Worked>>, AllocError>
+) -> Vec<Worked>
     requires seats { All (λ s. HasServedOf board.now s 0) seats.items }
     requires round { hits_of board.now ≡ hits_of_round round.now }
-    ensures { IfOk result
-        (λ v. All (λ o. IfSome o (λ w. HasServedOf board.now w.seat w.won)) v.items) }
+    ensures { All (λ w. HasServedOf board.now w.seat w.won) result.items }
 {
-    let worker = move |seat: Seat| -> Option<Worked>
+    let worker = move |seat: Seat| -> Worked
         requires { HasServedOf board.now seat 0 × (hits_of board.now ≡ hits_of_round round.now) }
-        ensures { IfSome result (λ w. HasServedOf board.entry.now w.seat w.won) }
-    { work_one(alloc, board, seat, round) };
-    thread::map_vec(rt, seats, &worker)
+        ensures { HasServedOf board.entry.now result.seat result.won }
+    { work_one(rt, alloc, board, seat, round) };
+    thread::map_vec(rt, seats, &worker).expect(rt, "memory")
 }
 
-fn join_two(board: &Board, first: Worked, second: Worked) -> Option<Worked>
+fn join_two(rt: &impl Abort, board: &Board, first: Worked, second: Worked) -> Worked
     requires first { HasServedOf board.now first.seat first.won }
     requires second { HasServedOf board.now second.seat second.won }
-    ensures { IfSome result (λ w. HasServedOf board.now w.seat w.won) }
+    ensures { HasServedOf board.now result.seat result.won }
 {
-    let won = first.won.checked_add(second.won)?;
-    Some(Worked {
+    Worked {
+        won: first.won.checked_add(second.won).expect(rt, "few pieces"),
         seat: board.join(first.seat, second.seat),
-        won,
-    })
+    }
 }
 
-fn join_worked(board: &Board, mut all: Vec<Option<Worked>>) -> Option<Worked>
-    requires { All (λ o. IfSome o (λ w. HasServedOf board.now w.seat w.won)) all.items }
-    ensures { IfSome result (λ w. HasServedOf board.now w.seat w.won) }
+fn join_worked(rt: &impl Abort, board: &Board, mut all: Vec<Worked>) -> Worked
+    requires { All (λ w. HasServedOf board.now w.seat w.won) all.items }
+    ensures { HasServedOf board.now result.seat result.won }
 {
-    let mut joined = None;
+    let mut joined = all.pop().expect(rt, "a seat");
     while let Some(worked) = all.pop() {
-        let worked = worked?;
-        joined = match joined {
-            Some(before) => Some(join_two(board, before, worked)?),
-            None => Some(worked),
-        };
+        joined = join_two(rt, board, joined, worked);
     }
     joined
+}
+
+fn assert_three_seats_close<'r, R: Abort + Threads + Sync>(
+    rt: &R,
+    alloc: Global,
+    round: &'r Round<'r>,
+) {
+    let (board, seat) = Board::open(alloc, round).expect(rt, "memory");
+    let seats = three_seats(rt, alloc, &board, seat);
+    let worked = work_by_threads(rt, alloc, &board, seats, round);
+    let all = join_worked(rt, &board, worked);
+    assert_eq!(rt; all.won, board.pieces(), "each piece was won");
+    has_all(&all.seat);
+    assert_eq!(rt; board.close(all.seat), 0);
 }
 
 #[test]
 fn three_seats_work_and_close(rt: HostRuntime) {
     let alloc = rt.alloc();
-    let instance = with_a_gap(alloc).expect(&rt, "an instance");
-    let round = third_round(&rt, alloc, &instance);
-    let (board, seat) = Board::open(alloc, &round).expect(&rt, "memory");
-    let seats = three_seats(alloc, &board, seat).expect(&rt, "memory");
-    let worked = work_by_threads(&rt, alloc, &board, seats, &round).expect(&rt, "memory");
-    let all = join_worked(&board, worked).expect(&rt, "memory");
-    assert_eq!(rt; all.won, board.pieces(), "each piece was won");
-    has_all(&all.seat);
-    assert_eq!(rt; board.close(all.seat), 0);
+    in_third_round(
+        &rt,
+        alloc,
+        &|round: &Round| assert_three_seats_close(&rt, alloc, round),
+    );
 }

@@ -4,11 +4,12 @@ ghost use Rattle.std.specs.Prelude.{IfOk};
 ghost use Rattle.shop_round.specs.Entries.{told};
 ghost use Rattle.shop_round.specs.Crews.{OneForEach};
 
-use crate::crews::{Became, what_became};
-use crate::worked_rounds::{second_round, third_round};
+use crate::crews::{Became, OF_SECOND_ROUND, assert_alone, assert_became};
+use crate::worked_rounds::{in_second_round, in_third_round};
 use shop_board::{BoardCrew, Gate, LockCrew, Seat, SeatGate};
 use shop_round::{Alone, Crew, Entry, Kind, Plan, Round, run};
 use std::alloc::{AllocError, Global};
+use std::process::Abort;
 use std::sync::Wait;
 use std::sync::atomic::{AtomicBool, AtomicUsize, Ordering};
 use std::thread;
@@ -16,7 +17,7 @@ use std::thread::Threads;
 use worked_instances::with_a_gap;
 
 // How many workers met, and which worker searched piece 0 and which piece 1.
-#[derive(Clone, Copy, Debug, PartialEq)]
+#[derive(Clone, Copy)]
 struct Met {
     count: usize,
     workers: [usize; 2],
@@ -87,15 +88,16 @@ fn by_lock<'r, R: Threads + Wait + Sync>(
     rt: &R,
     alloc: Global,
     round: &'r Round<'r>,
-) -> Result<(Vec<Entry<'r>>, Met), AllocError>
-    ensures { IfOk result (λ p. OneForEach (told round.now) p.0.items) }
+    met: &mut Met,
+) -> Result<Vec<Entry<'r>>, AllocError>
+    ensures { IfOk result (λ v. OneForEach (told round.now) v.items) }
 {
     let Some(crew) = LockCrew::new(2, Meeting::new()) else {
         return Err(AllocError);
     };
-    let entries = crew.search_round(rt, alloc, round)?;
-    let met = crew.gate().met();
-    Ok((entries, met))
+    let entries = crew.search_round(rt, alloc, round);
+    *met = crew.gate().met();
+    entries
 }
 
 // The same, of a crew that claims pieces on a board.
@@ -103,19 +105,34 @@ fn by_board<'r, R: Threads + Sync>(
     rt: &R,
     alloc: Global,
     round: &'r Round<'r>,
-) -> Result<(Vec<Entry<'r>>, Met), AllocError>
-    ensures { IfOk result (λ p. OneForEach (told round.now) p.0.items) }
+    met: &mut Met,
+) -> Result<Vec<Entry<'r>>, AllocError>
+    ensures { IfOk result (λ v. OneForEach (told round.now) v.items) }
 {
     let Some(crew) = BoardCrew::new(2, Meeting::new()) else {
         return Err(AllocError);
     };
-    let entries = crew.search_round(rt, alloc, round)?;
-    let met = crew.gate().met();
-    Ok((entries, met))
+    let entries = crew.search_round(rt, alloc, round);
+    *met = crew.gate().met();
+    entries
 }
 
-// Searches a round of two pieces by two workers that meet, and any other alone. Of the sheets of the two pieces that
-// took 3 nodes and found no makespan below 16 it notes how many nodes they left.
+// How many nodes the sheets of the two pieces left that took 3 nodes and found no makespan below 16.
+fn note_left(alloc: Global, entries: &[Entry], all: &mut [Option<usize>; 2]) {
+    for (entry, left) in entries.iter().zip(all) {
+        if let Kind::Done(sheet) = &entry.kind
+            && sheet.makespan == 16
+            && sheet.taken == 3
+        {
+            *left = match sheet.left.nodes(alloc) {
+                Ok(nodes) => Some(nodes.len()),
+                Err(AllocError) => None,
+            };
+        }
+    }
+}
+
+// Searches a round of two pieces by two workers that meet, and any other alone. It notes who met, and what was left.
 #[derive(Drop)]
 struct MeetingCrew {
     on_a_board: bool,
@@ -135,21 +152,15 @@ impl<R: Threads + Wait + Sync> Crew<R> for MeetingCrew {
         if round.pieces.len() != 2 {
             return Alone.search(rt, alloc, round);
         }
-        let (entries, met) = if self.on_a_board {
-            by_board(rt, alloc, round)?
+        let searched = if self.on_a_board {
+            by_board(rt, alloc, round, &mut self.met)
         } else {
-            by_lock(rt, alloc, round)?
+            by_lock(rt, alloc, round, &mut self.met)
         };
-        self.met = met;
-        for (entry, left) in entries.iter().zip(&mut self.left) {
-            if let Kind::Done(sheet) = &entry.kind
-                && sheet.makespan == 16
-                && sheet.taken == 3
-            {
-                *left = Some(sheet.left.nodes(alloc)?.len());
-            }
+        if let Ok(entries) = &searched {
+            note_left(alloc, entries, &mut self.left);
         }
-        Ok(entries)
+        searched
     }
 }
 
@@ -214,48 +225,54 @@ impl SeatGate for Tally {
     }
 }
 
+// What one worker of each crew brings, and how many pieces its gate hears of, all of them of worker 0.
+fn assert_one_worker<'r, R: Abort + Threads + Wait + Sync>(
+    rt: &R,
+    alloc: Global,
+    round: &'r Round<'r>,
+    became: &[Became],
+    searched: usize,
+) {
+    let lock = LockCrew::new(1, Tally::new()).expect(rt, "1 to 64 workers");
+    let by_lock = lock.search_round(rt, alloc, round).expect(rt, "memory");
+    assert_became(rt, alloc, &by_lock, became);
+    assert_eq!(rt; lock.gate().counts(), (searched, 0));
+    let board = BoardCrew::new(1, Tally::new()).expect(rt, "1 to 64 workers");
+    let by_board = board.search_round(rt, alloc, round).expect(rt, "memory");
+    assert_became(rt, alloc, &by_board, became);
+    assert_eq!(rt; board.gate().counts(), (searched, 0));
+}
+
 #[test]
 fn one_worker_is_worker_0(rt: HostRuntime) {
     let alloc = rt.alloc();
-    let instance = with_a_gap(alloc).expect(&rt, "an instance");
-    let round = second_round(&rt, alloc, &instance);
-    let lock = LockCrew::new(1, Tally::new()).expect(&rt, "1 to 64 workers");
-    lock.search_round(&rt, alloc, &round).expect(&rt, "memory");
-    assert_eq!(rt; lock.gate().counts(), (2, 0));
-    let board = BoardCrew::new(1, Tally::new()).expect(&rt, "1 to 64 workers");
-    board.search_round(&rt, alloc, &round).expect(&rt, "memory");
-    assert_eq!(rt; board.gate().counts(), (2, 0));
+    in_second_round(
+        &rt,
+        alloc,
+        &|round: &Round| assert_one_worker(&rt, alloc, round, &OF_SECOND_ROUND, 2),
+    );
 }
+
+// The third round, of which the last two pieces are passed.
+const PASSED_BEHIND_THE_FIRST: [Became; 3] = [
+    Became::Searched(10, 1, 0),
+    Became::Passed(0),
+    Became::Passed(0),
+];
 
 // One worker keeps what it searched, and passes what stands behind a piece that ends at the opening bound. Its gate
 // hears of the piece that is searched, and of no other.
 #[test]
 fn one_worker_passes_what_stands_behind_a_hit(rt: HostRuntime) {
     let alloc = rt.alloc();
-    let instance = with_a_gap(alloc).expect(&rt, "an instance");
-    let round = third_round(&rt, alloc, &instance);
-    let kinds = [
-        Became::Searched(10, 1, 0),
-        Became::Passed(0),
-        Became::Passed(0),
-    ];
-    let alone = Alone.search(&rt, alloc, &round).expect(&rt, "memory");
-    assert_eq!(rt;
-        what_became(&rt, alloc, &alone).as_slice(),
-        kinds.as_slice()
+    in_third_round(
+        &rt,
+        alloc,
+        &|round: &Round| assert_one_worker(&rt, alloc, round, &PASSED_BEHIND_THE_FIRST, 1),
     );
-    let lock = LockCrew::new(1, Tally::new()).expect(&rt, "1 to 64 workers");
-    let by_lock = lock.search_round(&rt, alloc, &round).expect(&rt, "memory");
-    assert_eq!(rt;
-        what_became(&rt, alloc, &by_lock).as_slice(),
-        kinds.as_slice()
+    in_third_round(
+        &rt,
+        alloc,
+        &|round: &Round| assert_alone(&rt, alloc, round, &PASSED_BEHIND_THE_FIRST),
     );
-    assert_eq!(rt; lock.gate().counts(), (1, 0));
-    let board = BoardCrew::new(1, Tally::new()).expect(&rt, "1 to 64 workers");
-    let by_board = board.search_round(&rt, alloc, &round).expect(&rt, "memory");
-    assert_eq!(rt;
-        what_became(&rt, alloc, &by_board).as_slice(),
-        kinds.as_slice()
-    );
-    assert_eq!(rt; board.gate().counts(), (1, 0));
 }
