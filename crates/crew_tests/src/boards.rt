@@ -5,73 +5,76 @@ ghost use Rattle.shop_board.specs.Seats.{hits_of, IsSeatOf};
 ghost use Rattle.crew_tests.specs.inner.Served.{HasServedOf};
 
 use crate::crews::{Became, assert_became};
-use crate::worked_rounds::in_third_round;
+use crate::worked_rounds::{RoundTest, in_third_round};
 use shop_board::{Board, OpenGate, Seat, has_all, work};
 use shop_round::{Round, search_piece};
 use std::alloc::Global;
 use std::process::Abort;
 use std::thread;
 use std::thread::Threads;
+use worked_instances::{assert_count, assert_number};
 
 // There are three pieces, and the first ends at the opening bound.
 fn assert_first_hits<'r>(rt: &impl Abort, alloc: Global, round: &'r Round<'r>)
     ensures pieces { length round.now.pieces.items ≡ 3 }
     ensures hit { is_hit_in (hits_of_round round.now) 0 ≡ true }
 {
-    assert_eq!(rt; round.pieces.len(), 3);
+    assert_count(rt, round.pieces.len(), 3);
+    assert_number(rt, round.bound, 10);
     let sheet = search_piece(alloc, round, 0).expect(rt, "memory");
-    assert_eq!(rt; sheet.makespan, 10);
-    assert_eq!(rt; sheet.taken, 1);
-    assert_eq!(rt; round.bound, 10);
+    assert_number(rt, sheet.makespan, 10);
+    assert_number(rt, sheet.taken, 1);
 }
 
-fn assert_two_seats<'r>(rt: &impl Abort, alloc: Global, round: &'r Round<'r>) {
-    assert_first_hits(rt, alloc, round);
-    let (board, seat) = Board::open(alloc, round).expect(rt, "memory");
-    assert_eq!(rt; board.pieces(), 3);
-    let (mut a, mut b) = board.split(seat);
-    assert!(rt; board.claim(&mut a, 0));
-    assert!(rt; !board.claim(&mut b, 0));
-    assert!(rt; board.claim(&mut b, 1));
-    assert!(rt; board.claim(&mut a, 2));
-    assert_eq!(rt; board.look(&mut b), 3);
-    board.mark(&mut a, 0);
-    assert_eq!(rt; board.look(&mut b), 0);
-    assert_eq!(rt; board.look(&mut b), 0);
-    let seat = board.join(a, b);
-    has_all(&seat);
-    assert_eq!(rt; board.close(seat), 0);
+struct TwoSeats;
+
+impl<R: Abort> RoundTest<R> for TwoSeats {
+    fn run<'r>(&self, rt: &R, alloc: Global, round: &'r Round<'r>) {
+        assert_first_hits(rt, alloc, round);
+        let (board, seat) = Board::open(alloc, round).expect(rt, "memory");
+        assert_count(rt, board.pieces(), 3);
+        let (mut a, mut b) = board.split(seat);
+        assert!(rt; board.claim(&mut a, 0));
+        assert!(rt; !board.claim(&mut b, 0));
+        assert!(rt; board.claim(&mut b, 1));
+        assert!(rt; board.claim(&mut a, 2));
+        assert_count(rt, board.look(&mut b), 3);
+        board.mark(&mut a, 0);
+        assert_count(rt, board.look(&mut b), 0);
+        assert_count(rt, board.look(&mut b), 0);
+        let seat = board.join(a, b);
+        has_all(&seat);
+        assert_count(rt, board.close(seat), 0);
+    }
 }
 
 #[test]
 fn two_seats_on_one_thread(rt: HostRuntime) {
-    let alloc = rt.alloc();
-    in_third_round(
-        &rt,
-        alloc,
-        &|round: &Round| assert_two_seats(&rt, alloc, round),
-    );
+    in_third_round(&rt, rt.alloc(), &TwoSeats);
 }
 
-fn assert_passes<'r>(rt: &impl Abort, alloc: Global, round: &'r Round<'r>) {
-    assert_first_hits(rt, alloc, round);
-    let (board, seat) = Board::open(alloc, round).expect(rt, "memory");
-    let (mut a, b) = board.split(seat);
-    assert!(rt; board.claim(&mut a, 0));
-    board.mark(&mut a, 0);
-    let (_b, entries) = work(alloc, &board, b, round, 1, &OpenGate);
-    let entries = entries.expect(rt, "memory");
-    assert_became(rt, alloc, &entries, &[Became::Passed(0), Became::Passed(0)]);
+struct Marked;
+
+impl<R: Abort> RoundTest<R> for Marked {
+    fn run<'r>(&self, rt: &R, alloc: Global, round: &'r Round<'r>) {
+        assert_first_hits(rt, alloc, round);
+        let (board, seat) = Board::open(alloc, round).expect(rt, "memory");
+        let (mut a, b) = board.split(seat);
+        assert!(rt; board.claim(&mut a, 0));
+        board.mark(&mut a, 0);
+        let (_b, entries) = work(alloc, &board, b, round, 1, &OpenGate);
+        assert_became(
+            rt,
+            alloc,
+            entries.expect(rt, "memory"),
+            &[Became::Passed(0), Became::Passed(0)],
+        );
+    }
 }
 
 #[test]
 fn a_worker_passes_behind_the_mark_of_another_seat(rt: HostRuntime) {
-    let alloc = rt.alloc();
-    in_third_round(
-        &rt,
-        alloc,
-        &|round: &Round| assert_passes(&rt, alloc, round),
-    );
+    in_third_round(&rt, rt.alloc(), &Marked);
 }
 
 // Three seats for one that has won nothing.
@@ -84,7 +87,7 @@ fn three_seats(rt: &impl Abort, alloc: Global, board: &Board, seat: Seat) -> Vec
     vec![in alloc; first, second, third].expect(rt, "memory")
 }
 
-// Claims each of three pieces, and says which were won.
+// Claims each of three pieces, and says of each whether it was won.
 fn claim_all(board: &Board, mut seat: Seat) -> [bool; 3]
     requires { IsSeatOf board.now seat }
 {
@@ -109,29 +112,34 @@ fn claim_by_threads<R: Abort + Threads + Sync>(
     thread::map_vec(rt, seats, &worker).expect(rt, "memory")
 }
 
-fn assert_each_is_won_once<'r, R: Abort + Threads + Sync>(
-    rt: &R,
-    alloc: Global,
-    round: &'r Round<'r>,
-) {
-    let (board, seat) = Board::open(alloc, round).expect(rt, "memory");
-    assert_eq!(rt; board.pieces(), 3);
-    let seats = three_seats(rt, alloc, &board, seat);
-    let lists = claim_by_threads(rt, &board, seats);
-    for number in 0..3 {
-        let winners = lists.iter().filter(|won| won[number]).count();
-        assert_eq!(rt; winners, 1, "winners of piece {number}");
+// How many seats won a piece.
+fn winners(lists: &[[bool; 3]], number: usize) -> usize {
+    let mut count: usize = 0;
+    for won in lists {
+        if won.get(number) == Some(&true) {
+            count = count.saturating_add(1);
+        }
+    }
+    count
+}
+
+struct Claims;
+
+impl<R: Abort + Threads + Sync> RoundTest<R> for Claims {
+    fn run<'r>(&self, rt: &R, alloc: Global, round: &'r Round<'r>) {
+        let (board, seat) = Board::open(alloc, round).expect(rt, "memory");
+        assert_count(rt, board.pieces(), 3);
+        let seats = three_seats(rt, alloc, &board, seat);
+        let lists = claim_by_threads(rt, &board, seats);
+        assert_count(rt, winners(&lists, 0), 1);
+        assert_count(rt, winners(&lists, 1), 1);
+        assert_count(rt, winners(&lists, 2), 1);
     }
 }
 
 #[test]
 fn each_piece_is_won_once(rt: HostRuntime) {
-    let alloc = rt.alloc();
-    in_third_round(
-        &rt,
-        alloc,
-        &|round: &Round| assert_each_is_won_once(&rt, alloc, round),
-    );
+    in_third_round(&rt, rt.alloc(), &Claims);
 }
 
 // A seat that has worked, and how many pieces it won.
@@ -141,8 +149,8 @@ struct Worked {
     won: usize,
 }
 
-fn work_one<'r, R: Abort>(
-    rt: &R,
+fn work_one<'r>(
+    rt: &impl Abort,
     alloc: Global,
     board: &Board,
     seat: Seat,
@@ -198,26 +206,21 @@ fn join_worked(rt: &impl Abort, board: &Board, mut all: Vec<Worked>) -> Worked
     joined
 }
 
-fn assert_three_seats_close<'r, R: Abort + Threads + Sync>(
-    rt: &R,
-    alloc: Global,
-    round: &'r Round<'r>,
-) {
-    let (board, seat) = Board::open(alloc, round).expect(rt, "memory");
-    let seats = three_seats(rt, alloc, &board, seat);
-    let worked = work_by_threads(rt, alloc, &board, seats, round);
-    let all = join_worked(rt, &board, worked);
-    assert_eq!(rt; all.won, board.pieces(), "each piece was won");
-    has_all(&all.seat);
-    assert_eq!(rt; board.close(all.seat), 0);
+struct ThreeSeats;
+
+impl<R: Abort + Threads + Sync> RoundTest<R> for ThreeSeats {
+    fn run<'r>(&self, rt: &R, alloc: Global, round: &'r Round<'r>) {
+        let (board, seat) = Board::open(alloc, round).expect(rt, "memory");
+        let seats = three_seats(rt, alloc, &board, seat);
+        let worked = work_by_threads(rt, alloc, &board, seats, round);
+        let all = join_worked(rt, &board, worked);
+        assert_count(rt, all.won, board.pieces());
+        has_all(&all.seat);
+        assert_count(rt, board.close(all.seat), 0);
+    }
 }
 
 #[test]
 fn three_seats_work_and_close(rt: HostRuntime) {
-    let alloc = rt.alloc();
-    in_third_round(
-        &rt,
-        alloc,
-        &|round: &Round| assert_three_seats_close(&rt, alloc, round),
-    );
+    in_third_round(&rt, rt.alloc(), &ThreeSeats);
 }

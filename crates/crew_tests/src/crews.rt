@@ -4,37 +4,40 @@ ghost use Rattle.std.specs.Thread.{IsSync};
 ghost use Rattle.shop_round.specs.Entries.{told};
 ghost use Rattle.shop_round.specs.Crews.{OneForEach};
 
-use crate::worked_rounds::{in_second_round, in_third_round};
+use crate::worked_rounds::{RoundTest, in_second_round, in_third_round};
 use shop_board::{BoardCrew, LockCrew, OpenGate};
 use shop_model::Instance;
-use shop_round::{Alone, Crew, Entry, Kind, Plan, Round, gather, run, search_piece};
+use shop_round::{Alone, Answer, Crew, Entry, Kind, Plan, Round, gather, run, search_piece};
 use std::alloc::Global;
 use std::process::Abort;
 use std::sync::Wait;
 use std::thread::Threads;
-use worked_instances::with_a_gap;
+use worked_instances::{assert_count, assert_number, with_a_gap};
 
 // The makespan and the bound of an answer, and how many nodes are open, rounds were done and nodes counted.
 type Numbers = (u64, u64, usize, u64, u64);
+
+fn assert_numbers(rt: &impl Abort, answer: &Answer, numbers: Numbers) {
+    let (makespan, bound, open, rounds, nodes) = numbers;
+    assert_number(rt, answer.makespan, makespan);
+    assert_number(rt, answer.bound, bound);
+    assert_count(rt, answer.open_nodes, open);
+    assert_number(rt, answer.rounds, rounds);
+    assert_number(rt, answer.nodes, nodes);
+}
 
 fn assert_answer<R: Abort, C: Crew<R>>(
     rt: &R,
     alloc: Global,
     instance: &Instance,
-    rounds: u64,
+    plan: &Plan,
     crew: &mut C,
     numbers: Numbers,
 )
     requires { C.ready }
 {
-    let (makespan, bound, open, done, nodes) = numbers;
-    let plan = Plan::new(rounds, 3, 1).expect(rt, "a plan within the limits");
-    let answer = run(rt, alloc, instance, &plan, crew).expect(rt, "memory");
-    assert_eq!(rt; answer.makespan, makespan);
-    assert_eq!(rt; answer.bound, bound);
-    assert_eq!(rt; answer.open_nodes, open);
-    assert_eq!(rt; answer.rounds, done);
-    assert_eq!(rt; answer.nodes, nodes);
+    let answer = run(rt, alloc, instance, plan, crew).expect(rt, "memory");
+    assert_numbers(rt, &answer, numbers);
 }
 
 fn assert_answers<R: Abort + Threads + Wait + Sync>(
@@ -47,10 +50,11 @@ fn assert_answers<R: Abort + Threads + Wait + Sync>(
 )
     requires { IsSync R.row }
 {
+    let plan = Plan::new(rounds, 3, 1).expect(rt, "a plan within the limits");
     let mut lock = LockCrew::new(workers, OpenGate).expect(rt, "1 to 64 workers");
-    assert_answer(rt, alloc, instance, rounds, &mut lock, numbers);
+    assert_answer(rt, alloc, instance, &plan, &mut lock, numbers);
     let mut board = BoardCrew::new(workers, OpenGate).expect(rt, "1 to 64 workers");
-    assert_answer(rt, alloc, instance, rounds, &mut board, numbers);
+    assert_answer(rt, alloc, instance, &plan, &mut board, numbers);
 }
 
 #[test]
@@ -90,66 +94,72 @@ pub enum Became {
 fn assert_one_became(rt: &impl Abort, alloc: Global, entry: &Entry, became: &Became) {
     match (&entry.kind, became) {
         (Kind::Done(sheet), Became::Searched(makespan, taken, left)) => {
-            assert_eq!(rt; sheet.makespan, *makespan);
-            assert_eq!(rt; sheet.taken, *taken);
+            assert_number(rt, sheet.makespan, *makespan);
+            assert_number(rt, sheet.taken, *taken);
             let nodes = sheet.left.nodes(alloc).expect(rt, "memory");
-            assert_eq!(rt; nodes.len(), *left);
+            assert_count(rt, nodes.len(), *left);
         }
-        (Kind::Passed { number: _, by }, Became::Passed(lower)) => {
-            assert_eq!(rt; *by, *lower);
-        }
-        _ => {
-            assert!(rt;
-                false,
-                "a piece was searched that is to be passed, or the other way round"
-            );
-        }
+        (Kind::Passed { number: _, by }, Became::Passed(lower)) => assert_count(rt, *by, *lower),
+        _ => panic!(rt;
+            "a piece was searched that is to be passed, or passed that is to be searched"
+        ),
     }
 }
 
-pub fn assert_became(rt: &impl Abort, alloc: Global, entries: &[Entry], became: &[Became]) {
-    assert_eq!(rt; entries.len(), became.len());
+pub fn assert_all_became(rt: &impl Abort, alloc: Global, entries: &[Entry], became: &[Became]) {
+    assert_count(rt, entries.len(), became.len());
     for (entry, became) in entries.iter().zip(became) {
         assert_one_became(rt, alloc, entry, became);
     }
 }
 
-pub fn assert_alone<'r>(rt: &impl Abort, alloc: Global, round: &'r Round<'r>, became: &[Became]) {
-    let alone = Alone.search(&(), alloc, round).expect(rt, "memory");
-    assert_became(rt, alloc, &alone, became);
+// The same, of entries that are let go then.
+pub fn assert_became(rt: &impl Abort, alloc: Global, entries: Vec<Entry>, became: &[Became]) {
+    assert_all_became(rt, alloc, &entries, became);
+}
+
+// What one thread alone brings.
+#[derive(Drop)]
+pub struct ByAlone {
+    pub became: &'static [Became],
+}
+
+impl<R: Abort> RoundTest<R> for ByAlone {
+    fn run<'r>(&self, rt: &R, alloc: Global, round: &'r Round<'r>) {
+        let entries = Alone.search(&(), alloc, round).expect(rt, "memory");
+        assert_became(rt, alloc, entries, self.became);
+    }
 }
 
 // The sheets of the second round.
 pub const OF_SECOND_ROUND: [Became; 2] = [Became::Searched(16, 3, 1), Became::Searched(16, 3, 2)];
 
-fn assert_second_round<'r, R: Abort + Threads + Wait + Sync>(
-    rt: &R,
-    alloc: Global,
-    round: &'r Round<'r>,
+// What so many workers of either crew bring in the second round.
+#[derive(Drop)]
+struct ByWorkers {
     workers: usize,
-) {
-    let lock = LockCrew::new(workers, OpenGate).expect(rt, "1 to 64 workers");
-    let by_lock = lock.search_round(rt, alloc, round).expect(rt, "memory");
-    assert_became(rt, alloc, &by_lock, &OF_SECOND_ROUND);
-    let board = BoardCrew::new(workers, OpenGate).expect(rt, "1 to 64 workers");
-    let by_board = board.search_round(rt, alloc, round).expect(rt, "memory");
-    assert_became(rt, alloc, &by_board, &OF_SECOND_ROUND);
+}
+
+impl<R: Abort + Threads + Wait + Sync> RoundTest<R> for ByWorkers {
+    fn run<'r>(&self, rt: &R, alloc: Global, round: &'r Round<'r>) {
+        let lock = LockCrew::new(self.workers, OpenGate).expect(rt, "1 to 64 workers");
+        let by_lock = lock.search_round(rt, alloc, round).expect(rt, "memory");
+        assert_became(rt, alloc, by_lock, &OF_SECOND_ROUND);
+        let board = BoardCrew::new(self.workers, OpenGate).expect(rt, "1 to 64 workers");
+        let by_board = board.search_round(rt, alloc, round).expect(rt, "memory");
+        assert_became(rt, alloc, by_board, &OF_SECOND_ROUND);
+    }
 }
 
 #[test]
 fn same_entries_by_each_crew(rt: HostRuntime) {
     let alloc = rt.alloc();
-    in_second_round(
-        &rt,
-        alloc,
-        &|round: &Round| assert_alone(&rt, alloc, round, &OF_SECOND_ROUND),
-    );
+    let alone = ByAlone {
+        became: &OF_SECOND_ROUND,
+    };
+    in_second_round(&rt, alloc, &alone);
     for workers in [1, 2, 64] {
-        in_second_round(
-            &rt,
-            alloc,
-            &|round: &Round| assert_second_round(&rt, alloc, round, workers),
-        );
+        in_second_round(&rt, alloc, &ByWorkers { workers });
     }
 }
 
@@ -157,9 +167,9 @@ fn assert_closes<'r>(rt: &impl Abort, alloc: Global, round: &'r Round<'r>, entri
     requires { OneForEach (told round.now) entries.items }
 {
     let standing = gather(alloc, round, entries).expect(rt, "memory");
-    assert_eq!(rt; standing.makespan, 10);
-    assert_eq!(rt; standing.open.len(), 0);
-    assert_eq!(rt; standing.nodes, 10);
+    assert_number(rt, standing.makespan, 10);
+    assert_count(rt, standing.open.len(), 0);
+    assert_number(rt, standing.nodes, 10);
 }
 
 // The sheet of each piece, also behind one that ends at the opening bound.
@@ -174,35 +184,27 @@ fn all_searched<'r>(rt: &impl Abort, alloc: Global, round: &'r Round<'r>) -> Vec
     entries
 }
 
-// Those of the third round, if none is passed.
+// Those of the third round.
 const OF_THIRD_ROUND: [Became; 3] = [
     Became::Searched(10, 1, 0),
     Became::Searched(12, 2, 0),
     Became::Searched(14, 2, 0),
 ];
 
-fn assert_all_searched_close<'r>(rt: &impl Abort, alloc: Global, round: &'r Round<'r>) {
-    let searched = all_searched(rt, alloc, round);
-    assert_became(rt, alloc, &searched, &OF_THIRD_ROUND);
-    assert_closes(rt, alloc, round, searched);
-}
+// The third round, closed by what is passed behind a hit and by sheets of all pieces.
+struct Closing;
 
-fn assert_passed_close<'r>(rt: &impl Abort, alloc: Global, round: &'r Round<'r>) {
-    let passed = Alone.search(&(), alloc, round).expect(rt, "memory");
-    assert_closes(rt, alloc, round, passed);
+impl<R: Abort> RoundTest<R> for Closing {
+    fn run<'r>(&self, rt: &R, alloc: Global, round: &'r Round<'r>) {
+        let passed = Alone.search(&(), alloc, round).expect(rt, "memory");
+        assert_closes(rt, alloc, round, passed);
+        let searched = all_searched(rt, alloc, round);
+        assert_all_became(rt, alloc, &searched, &OF_THIRD_ROUND);
+        assert_closes(rt, alloc, round, searched);
+    }
 }
 
 #[test]
 fn entries_after_a_hit_do_not_count(rt: HostRuntime) {
-    let alloc = rt.alloc();
-    in_third_round(
-        &rt,
-        alloc,
-        &|round: &Round| assert_all_searched_close(&rt, alloc, round),
-    );
-    in_third_round(
-        &rt,
-        alloc,
-        &|round: &Round| assert_passed_close(&rt, alloc, round),
-    );
+    in_third_round(&rt, rt.alloc(), &Closing);
 }

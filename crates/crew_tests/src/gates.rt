@@ -4,9 +4,10 @@ ghost use Rattle.std.specs.Prelude.{IfOk};
 ghost use Rattle.shop_round.specs.Entries.{told};
 ghost use Rattle.shop_round.specs.Crews.{OneForEach};
 
-use crate::crews::{Became, OF_SECOND_ROUND, assert_alone, assert_became};
-use crate::worked_rounds::{in_second_round, in_third_round};
+use crate::crews::{Became, ByAlone, OF_SECOND_ROUND, assert_became};
+use crate::worked_rounds::{RoundTest, in_second_round, in_third_round};
 use shop_board::{BoardCrew, Gate, LockCrew, Seat, SeatGate};
+use shop_model::Instance;
 use shop_round::{Alone, Crew, Entry, Kind, Plan, Round, run};
 use std::alloc::{AllocError, Global};
 use std::process::Abort;
@@ -14,7 +15,7 @@ use std::sync::Wait;
 use std::sync::atomic::{AtomicBool, AtomicUsize, Ordering};
 use std::thread;
 use std::thread::Threads;
-use worked_instances::with_a_gap;
+use worked_instances::{assert_count, assert_number, with_a_gap};
 
 // How many workers met, and which worker searched piece 0 and which piece 1.
 #[derive(Clone, Copy)]
@@ -164,22 +165,36 @@ impl<R: Threads + Wait + Sync> Crew<R> for MeetingCrew {
     }
 }
 
+fn assert_met(rt: &impl Abort, crew: &MeetingCrew) {
+    assert_count(rt, crew.met.count, 2);
+    assert!(rt; [[0, 1], [1, 0]].contains(&crew.met.workers));
+    assert_eq!(rt; crew.left, [Some(1), Some(2)]);
+}
+
+fn assert_meeting<R: Abort + Threads + Wait + Sync>(
+    rt: &R,
+    alloc: Global,
+    instance: &Instance,
+    on_a_board: bool,
+)
+    requires { IsSync R.row }
+{
+    let plan = Plan::new(2, 3, 1).expect(rt, "a plan within the limits");
+    let mut crew = MeetingCrew {
+        on_a_board,
+        met: NOBODY,
+        left: [None, None],
+    };
+    let answer = run(rt, alloc, instance, &plan, &mut crew).expect(rt, "memory");
+    assert_met(rt, &crew);
+    assert_number(rt, answer.nodes, 9);
+}
+
 #[test]
 fn two_workers_meet_at_the_gate(rt: HostRuntime) {
-    let alloc = rt.alloc();
-    let instance = with_a_gap(alloc).expect(&rt, "an instance");
-    let plan = Plan::new(2, 3, 1).expect(&rt, "a plan within the limits");
+    let instance = with_a_gap(rt.alloc()).expect(&rt, "an instance");
     for on_a_board in [false, true] {
-        let mut crew = MeetingCrew {
-            on_a_board,
-            met: NOBODY,
-            left: [None, None],
-        };
-        let answer = run(&rt, alloc, &instance, &plan, &mut crew).expect(&rt, "memory");
-        assert_eq!(rt; crew.met.count, 2);
-        assert!(rt; [[0, 1], [1, 0]].contains(&crew.met.workers));
-        assert_eq!(rt; crew.left, [Some(1), Some(2)]);
-        assert_eq!(rt; answer.nodes, 9);
+        assert_meeting(&rt, rt.alloc(), &instance, on_a_board);
     }
 }
 
@@ -225,32 +240,39 @@ impl SeatGate for Tally {
     }
 }
 
-// What one worker of each crew brings, and how many pieces its gate hears of, all of them of worker 0.
-fn assert_one_worker<'r, R: Abort + Threads + Wait + Sync>(
-    rt: &R,
-    alloc: Global,
-    round: &'r Round<'r>,
-    became: &[Became],
+// What one worker of either crew brings, and of how many pieces its gate hears, all of them of worker 0.
+#[derive(Drop)]
+struct OneWorker {
+    became: &'static [Became],
     searched: usize,
-) {
-    let lock = LockCrew::new(1, Tally::new()).expect(rt, "1 to 64 workers");
-    let by_lock = lock.search_round(rt, alloc, round).expect(rt, "memory");
-    assert_became(rt, alloc, &by_lock, became);
-    assert_eq!(rt; lock.gate().counts(), (searched, 0));
-    let board = BoardCrew::new(1, Tally::new()).expect(rt, "1 to 64 workers");
-    let by_board = board.search_round(rt, alloc, round).expect(rt, "memory");
-    assert_became(rt, alloc, &by_board, became);
-    assert_eq!(rt; board.gate().counts(), (searched, 0));
+}
+
+fn assert_counts(rt: &impl Abort, tally: &Tally, searched: usize) {
+    let (pieces, by_others) = tally.counts();
+    assert_count(rt, pieces, searched);
+    assert_count(rt, by_others, 0);
+}
+
+impl<R: Abort + Threads + Wait + Sync> RoundTest<R> for OneWorker {
+    fn run<'r>(&self, rt: &R, alloc: Global, round: &'r Round<'r>) {
+        let lock = LockCrew::new(1, Tally::new()).expect(rt, "1 to 64 workers");
+        let by_lock = lock.search_round(rt, alloc, round).expect(rt, "memory");
+        assert_became(rt, alloc, by_lock, self.became);
+        assert_counts(rt, lock.gate(), self.searched);
+        let board = BoardCrew::new(1, Tally::new()).expect(rt, "1 to 64 workers");
+        let by_board = board.search_round(rt, alloc, round).expect(rt, "memory");
+        assert_became(rt, alloc, by_board, self.became);
+        assert_counts(rt, board.gate(), self.searched);
+    }
 }
 
 #[test]
 fn one_worker_is_worker_0(rt: HostRuntime) {
-    let alloc = rt.alloc();
-    in_second_round(
-        &rt,
-        alloc,
-        &|round: &Round| assert_one_worker(&rt, alloc, round, &OF_SECOND_ROUND, 2),
-    );
+    let one = OneWorker {
+        became: &OF_SECOND_ROUND,
+        searched: 2,
+    };
+    in_second_round(&rt, rt.alloc(), &one);
 }
 
 // The third round, of which the last two pieces are passed.
@@ -264,15 +286,11 @@ const PASSED_BEHIND_THE_FIRST: [Became; 3] = [
 // hears of the piece that is searched, and of no other.
 #[test]
 fn one_worker_passes_what_stands_behind_a_hit(rt: HostRuntime) {
-    let alloc = rt.alloc();
-    in_third_round(
-        &rt,
-        alloc,
-        &|round: &Round| assert_one_worker(&rt, alloc, round, &PASSED_BEHIND_THE_FIRST, 1),
-    );
-    in_third_round(
-        &rt,
-        alloc,
-        &|round: &Round| assert_alone(&rt, alloc, round, &PASSED_BEHIND_THE_FIRST),
-    );
+    let became = &PASSED_BEHIND_THE_FIRST;
+    in_third_round(&rt, rt.alloc(), &ByAlone { became });
+    let one = OneWorker {
+        became,
+        searched: 1,
+    };
+    in_third_round(&rt, rt.alloc(), &one);
 }

@@ -38,27 +38,29 @@ fn after_round(
     gather(alloc, &round, entries).expect(rt, "memory")
 }
 
+// What a test does in a round.
+pub trait RoundTest<R> {
+    fn run<'r>(&self, rt: &R, alloc: Global, round: &'r Round<'r>);
+}
+
 // Lends the next round, of opening best 16 and opening bound 10, to a test.
-fn lend_next_round<F: Fn(&Round)>(
-    rt: &impl Abort,
+fn lend_next_round<R: Abort, T: RoundTest<R>>(
+    rt: &R,
     alloc: Global,
     instance: &Instance,
     plan: &Plan,
     standing: Standing,
-    test: &F,
+    test: &T,
 )
-    requires standing { IsStandingOf instance.now standing }
-    requires test { F.IsAlwaysCallable test.now }
+    requires { IsStandingOf instance.now standing }
 {
     let round = next_round(rt, alloc, instance, plan, standing);
     assert!(rt; round.best == 16 && round.bound == 10);
-    test(&round);
+    test.run(rt, alloc, &round);
 }
 
 // Lends the second round to a test: two pieces of one node each.
-pub fn in_second_round<F: Fn(&Round)>(rt: &impl Abort, alloc: Global, test: &F)
-    requires { F.IsAlwaysCallable test.now }
-{
+pub fn in_second_round<R: Abort, T: RoundTest<R>>(rt: &R, alloc: Global, test: &T) {
     let instance = with_a_gap(alloc).expect(rt, "an instance");
     let plan = Plan::new(2, 3, 1).expect(rt, "plan");
     let start = Standing::start(alloc, &instance).expect(rt, "memory");
@@ -67,9 +69,7 @@ pub fn in_second_round<F: Fn(&Round)>(rt: &impl Abort, alloc: Global, test: &F)
 }
 
 // Lends the third round to a test: three pieces of one node each.
-pub fn in_third_round<F: Fn(&Round)>(rt: &impl Abort, alloc: Global, test: &F)
-    requires { F.IsAlwaysCallable test.now }
-{
+pub fn in_third_round<R: Abort, T: RoundTest<R>>(rt: &R, alloc: Global, test: &T) {
     let instance = with_a_gap(alloc).expect(rt, "an instance");
     let plan = Plan::new(3, 3, 1).expect(rt, "plan");
     let start = Standing::start(alloc, &instance).expect(rt, "memory");
