@@ -1,5 +1,6 @@
 // A board by hand: three pieces, of which the first ends at the opening bound.
-ghost use Rattle.std.specs.Prelude.{◌≡◌, All, length, true};
+ghost use Rattle.std.specs.Prelude.{◌≡◌, All, IfOk, IfSome, length, true};
+ghost use Rattle.std.specs.Thread.{IsSync};
 ghost use Rattle.shop_board.specs.Hits.{hits_of_round, is_hit_in};
 ghost use Rattle.shop_board.specs.Seats.{hits_of, IsSeatOf};
 ghost use Rattle.crew_tests.specs.inner.Served.{HasServedOf};
@@ -8,7 +9,7 @@ use crate::crews::{Became, assert_became};
 use crate::worked_rounds::{RoundTest, in_third_round};
 use shop_board::{Board, OpenGate, Seat, has_all, work};
 use shop_round::{Round, search_piece};
-use std::alloc::Global;
+use std::alloc::{AllocError, Global};
 use std::process::Abort;
 use std::thread;
 use std::thread::Threads;
@@ -29,6 +30,8 @@ fn assert_first_hits<'r>(rt: &impl Abort, alloc: Global, round: &'r Round<'r>)
 struct TwoSeats;
 
 impl<R: Abort> RoundTest<R> for TwoSeats {
+    ghost ready = { Unit {0} };
+
     fn run<'r>(&self, rt: &R, alloc: Global, round: &'r Round<'r>) {
         assert_first_hits(rt, alloc, round);
         let (board, seat) = Board::open(alloc, round).expect(rt, "memory");
@@ -56,6 +59,8 @@ fn two_seats_on_one_thread(rt: HostRuntime) {
 struct Marked;
 
 impl<R: Abort> RoundTest<R> for Marked {
+    ghost ready = { Unit {0} };
+
     fn run<'r>(&self, rt: &R, alloc: Global, round: &'r Round<'r>) {
         assert_first_hits(rt, alloc, round);
         let (board, seat) = Board::open(alloc, round).expect(rt, "memory");
@@ -99,17 +104,17 @@ fn claim_all(board: &Board, mut seat: Seat) -> [bool; 3]
 }
 
 // The same by a thread for each seat.
-fn claim_by_threads<R: Abort + Threads + Sync>(
+fn claim_by_threads<R: Threads + Sync>(
     rt: &R,
     board: &Board,
     seats: Vec<Seat>,
-) -> Vec<[bool; 3]>
+) -> Result<Vec<[bool; 3]>, AllocError>
     requires { All (λ s. IsSeatOf board.now s) seats.items }
 {
     let worker = move |seat: Seat| -> [bool; 3]
         requires { IsSeatOf board.now seat }
     { claim_all(board, seat) };
-    thread::map_vec(rt, seats, &worker).expect(rt, "memory")
+    thread::map_vec(rt, seats, &worker)
 }
 
 // How many seats won a piece.
@@ -126,11 +131,13 @@ fn winners(lists: &[[bool; 3]], number: usize) -> usize {
 struct Claims;
 
 impl<R: Abort + Threads + Sync> RoundTest<R> for Claims {
+    ghost ready = { IsSync R.row };
+
     fn run<'r>(&self, rt: &R, alloc: Global, round: &'r Round<'r>) {
         let (board, seat) = Board::open(alloc, round).expect(rt, "memory");
         assert_count(rt, board.pieces(), 3);
         let seats = three_seats(rt, alloc, &board, seat);
-        let lists = claim_by_threads(rt, &board, seats);
+        let lists = claim_by_threads(rt, &board, seats).expect(rt, "memory");
         assert_count(rt, winners(&lists, 0), 1);
         assert_count(rt, winners(&lists, 1), 1);
         assert_count(rt, winners(&lists, 2), 1);
@@ -149,39 +156,39 @@ struct Worked {
     won: usize,
 }
 
-fn work_one<'r>(
-    rt: &impl Abort,
-    alloc: Global,
-    board: &Board,
-    seat: Seat,
-    round: &'r Round<'r>,
-) -> Worked
+fn work_one<'r>(alloc: Global, board: &Board, seat: Seat, round: &'r Round<'r>) -> Option<Worked>
     requires seat { HasServedOf board.now seat 0 }
     requires round { hits_of board.now ≡ hits_of_round round.now }
-    ensures { HasServedOf board.now result.seat result.won }
+    ensures { IfSome result (λ w. HasServedOf board.now w.seat w.won) }
 {
     let (seat, entries) = work(alloc, board, seat, round, 0, &OpenGate);
-    let won = entries.expect(rt, "memory").len();
-    Worked { seat, won }
+    match entries {
+        Ok(entries) => Some(Worked {
+            seat,
+            won: entries.len(),
+        }),
+        Err(AllocError) => None,
+    }
 }
 
 // By a thread for each seat.
-fn work_by_threads<'r, R: Abort + Threads + Sync>(
+fn work_by_threads<'r, R: Threads + Sync>(
     rt: &R,
     alloc: Global,
     board: &Board,
     seats: Vec<Seat>,
     round: &'r Round<'r>,
-) -> Vec<Worked>
+) -> Result<Vec<Option<Worked>>, AllocError>
     requires seats { All (λ s. HasServedOf board.now s 0) seats.items }
     requires round { hits_of board.now ≡ hits_of_round round.now }
-    ensures { All (λ w. HasServedOf board.now w.seat w.won) result.items }
+    ensures { IfOk result
+        (λ v. All (λ o. IfSome o (λ w. HasServedOf board.now w.seat w.won)) v.items) }
 {
-    let worker = move |seat: Seat| -> Worked
+    let worker = move |seat: Seat| -> Option<Worked>
         requires { HasServedOf board.now seat 0 × (hits_of board.now ≡ hits_of_round round.now) }
-        ensures { HasServedOf board.entry.now result.seat result.won }
-    { work_one(rt, alloc, board, seat, round) };
-    thread::map_vec(rt, seats, &worker).expect(rt, "memory")
+        ensures { IfSome result (λ w. HasServedOf board.entry.now w.seat w.won) }
+    { work_one(alloc, board, seat, round) };
+    thread::map_vec(rt, seats, &worker)
 }
 
 fn join_two(rt: &impl Abort, board: &Board, first: Worked, second: Worked) -> Worked
@@ -195,13 +202,13 @@ fn join_two(rt: &impl Abort, board: &Board, first: Worked, second: Worked) -> Wo
     }
 }
 
-fn join_worked(rt: &impl Abort, board: &Board, mut all: Vec<Worked>) -> Worked
-    requires { All (λ w. HasServedOf board.now w.seat w.won) all.items }
+fn join_worked(rt: &impl Abort, board: &Board, mut all: Vec<Option<Worked>>) -> Worked
+    requires { All (λ o. IfSome o (λ w. HasServedOf board.now w.seat w.won)) all.items }
     ensures { HasServedOf board.now result.seat result.won }
 {
-    let mut joined = all.pop().expect(rt, "a seat");
+    let mut joined = all.pop().flatten().expect(rt, "memory");
     while let Some(worked) = all.pop() {
-        joined = join_two(rt, board, joined, worked);
+        joined = join_two(rt, board, joined, worked.expect(rt, "memory"));
     }
     joined
 }
@@ -209,10 +216,12 @@ fn join_worked(rt: &impl Abort, board: &Board, mut all: Vec<Worked>) -> Worked
 struct ThreeSeats;
 
 impl<R: Abort + Threads + Sync> RoundTest<R> for ThreeSeats {
+    ghost ready = { IsSync R.row };
+
     fn run<'r>(&self, rt: &R, alloc: Global, round: &'r Round<'r>) {
         let (board, seat) = Board::open(alloc, round).expect(rt, "memory");
         let seats = three_seats(rt, alloc, &board, seat);
-        let worked = work_by_threads(rt, alloc, &board, seats, round);
+        let worked = work_by_threads(rt, alloc, &board, seats, round).expect(rt, "memory");
         let all = join_worked(rt, &board, worked);
         assert_count(rt, all.won, board.pieces());
         has_all(&all.seat);

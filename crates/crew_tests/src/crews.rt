@@ -1,5 +1,4 @@
 // The same answer and the same entries by any number of workers of either crew.
-ghost use Rattle.std.specs.Prelude.{◌≡◌, length};
 ghost use Rattle.std.specs.Thread.{IsSync};
 ghost use Rattle.shop_round.specs.Entries.{told};
 ghost use Rattle.shop_round.specs.Crews.{OneForEach};
@@ -125,6 +124,8 @@ pub struct ByAlone {
 }
 
 impl<R: Abort> RoundTest<R> for ByAlone {
+    ghost ready = { Unit {0} };
+
     fn run<'r>(&self, rt: &R, alloc: Global, round: &'r Round<'r>) {
         let entries = Alone.search(&(), alloc, round).expect(rt, "memory");
         assert_became(rt, alloc, entries, self.became);
@@ -141,6 +142,8 @@ struct ByWorkers {
 }
 
 impl<R: Abort + Threads + Wait + Sync> RoundTest<R> for ByWorkers {
+    ghost ready = { IsSync R.row };
+
     fn run<'r>(&self, rt: &R, alloc: Global, round: &'r Round<'r>) {
         let lock = LockCrew::new(self.workers, OpenGate).expect(rt, "1 to 64 workers");
         let by_lock = lock.search_round(rt, alloc, round).expect(rt, "memory");
@@ -195,6 +198,8 @@ const OF_THIRD_ROUND: [Became; 3] = [
 struct Closing;
 
 impl<R: Abort> RoundTest<R> for Closing {
+    ghost ready = { Unit {0} };
+
     fn run<'r>(&self, rt: &R, alloc: Global, round: &'r Round<'r>) {
         let passed = Alone.search(&(), alloc, round).expect(rt, "memory");
         assert_closes(rt, alloc, round, passed);

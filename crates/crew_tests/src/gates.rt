@@ -254,6 +254,8 @@ fn assert_counts(rt: &impl Abort, tally: &Tally, searched: usize) {
 }
 
 impl<R: Abort + Threads + Wait + Sync> RoundTest<R> for OneWorker {
+    ghost ready = { IsSync R.row };
+
     fn run<'r>(&self, rt: &R, alloc: Global, round: &'r Round<'r>) {
         let lock = LockCrew::new(1, Tally::new()).expect(rt, "1 to 64 workers");
         let by_lock = lock.search_round(rt, alloc, round).expect(rt, "memory");

@@ -40,7 +40,10 @@ fn after_round(
 
 // What a test does in a round.
 pub trait RoundTest<R> {
-    fn run<'r>(&self, rt: &R, alloc: Global, round: &'r Round<'r>);
+    ghost ready: { Type 0 };
+
+    fn run<'r>(&self, rt: &R, alloc: Global, round: &'r Round<'r>)
+        requires { ready };
 }
 
 // Lends the next round, of opening best 16 and opening bound 10, to a test.
@@ -52,7 +55,8 @@ fn lend_next_round<R: Abort, T: RoundTest<R>>(
     standing: Standing,
     test: &T,
 )
-    requires { IsStandingOf instance.now standing }
+    requires standing { IsStandingOf instance.now standing }
+    requires test { T.ready }
 {
     let round = next_round(rt, alloc, instance, plan, standing);
     assert!(rt; round.best == 16 && round.bound == 10);
@@ -60,7 +64,9 @@ fn lend_next_round<R: Abort, T: RoundTest<R>>(
 }
 
 // Lends the second round to a test: two pieces of one node each.
-pub fn in_second_round<R: Abort, T: RoundTest<R>>(rt: &R, alloc: Global, test: &T) {
+pub fn in_second_round<R: Abort, T: RoundTest<R>>(rt: &R, alloc: Global, test: &T)
+    requires { T.ready }
+{
     let instance = with_a_gap(alloc).expect(rt, "an instance");
     let plan = Plan::new(2, 3, 1).expect(rt, "plan");
     let start = Standing::start(alloc, &instance).expect(rt, "memory");
@@ -69,7 +75,9 @@ pub fn in_second_round<R: Abort, T: RoundTest<R>>(rt: &R, alloc: Global, test: &
 }
 
 // Lends the third round to a test: three pieces of one node each.
-pub fn in_third_round<R: Abort, T: RoundTest<R>>(rt: &R, alloc: Global, test: &T) {
+pub fn in_third_round<R: Abort, T: RoundTest<R>>(rt: &R, alloc: Global, test: &T)
+    requires { T.ready }
+{
     let instance = with_a_gap(alloc).expect(rt, "an instance");
     let plan = Plan::new(3, 3, 1).expect(rt, "plan");
     let start = Standing::start(alloc, &instance).expect(rt, "memory");
