@@ -37,10 +37,10 @@ impl<R: Abort> RoundTest<R> for TwoSeats {
         let (board, seat) = Board::open(alloc, round).expect(rt, "memory");
         assert_count(rt, board.pieces(), 3);
         let (mut a, mut b) = board.split(seat);
-        assert!(rt; board.claim(&mut a, 0));
-        assert!(rt; !board.claim(&mut b, 0));
-        assert!(rt; board.claim(&mut b, 1));
-        assert!(rt; board.claim(&mut a, 2));
+        let is_won = board.claim(&mut a, 0);
+        let is_won_twice = board.claim(&mut b, 0);
+        let are_others_won = board.claim(&mut b, 1) && board.claim(&mut a, 2);
+        assert!(rt; is_won && !is_won_twice && are_others_won);
         assert_count(rt, board.look(&mut b), 3);
         board.mark(&mut a, 0);
         assert_count(rt, board.look(&mut b), 0);

@@ -73,13 +73,18 @@ fn same_answer_by_any_number_of_workers(rt: HostRuntime) {
     }
 }
 
+// Whether there is a crew of each kind of so many workers.
+fn are_crews(workers: usize) -> [bool; 2] {
+    [
+        LockCrew::new(workers, OpenGate).is_some(),
+        BoardCrew::new(workers, OpenGate).is_some(),
+    ]
+}
+
 #[test]
 fn crews_have_1_to_64_workers(rt: HostRuntime) {
     for (workers, within) in [(0, false), (1, true), (64, true), (65, false)] {
-        let lock = LockCrew::new(workers, OpenGate);
-        assert_eq!(rt; lock.is_some(), within, "{workers} workers");
-        let board = BoardCrew::new(workers, OpenGate);
-        assert_eq!(rt; board.is_some(), within, "{workers} workers");
+        assert_eq!(rt; are_crews(workers), [within, within], "{workers} workers");
     }
 }
 
