@@ -1,122 +1,152 @@
 // A board by hand: three pieces, of which the first ends at the opening bound.
-ghost use Rattle.std.specs.Prelude.{◌≡◌, All, IfOk, IfSome};
-ghost use Rattle.shop_board.specs.Hits.{hits_of_round};
+ghost use Rattle.std.specs.Prelude.{◌≡◌, All, IfOk, IfSome, length, true};
+ghost use Rattle.std.specs.Thread.{IsSync};
+ghost use Rattle.shop_board.specs.Hits.{hits_of_round, is_hit_in};
 ghost use Rattle.shop_board.specs.Seats.{hits_of, IsSeatOf};
 ghost use Rattle.crew_tests.specs.inner.Served.{HasServedOf};
 
-use crate::crews::{Became, what_became};
-use crate::worked_rounds::third_round;
+use crate::crews::{Became, assert_became};
+use crate::worked_rounds::{RoundTest, in_third_round};
 use shop_board::{Board, OpenGate, Seat, has_all, work};
 use shop_round::{Round, search_piece};
 use std::alloc::{AllocError, Global};
+use std::process::Abort;
 use std::thread;
 use std::thread::Threads;
-use worked_instances::with_a_gap;
+use worked_instances::{assert_count, assert_number};
+
+// There are three pieces, and the first ends at the opening bound.
+fn assert_first_hits<'r>(rt: &impl Abort, alloc: Global, round: &'r Round<'r>)
+    ensures pieces { length round.now.pieces.items ≡ 3 }
+    ensures hit { is_hit_in (hits_of_round round.now) 0 ≡ true }
+{
+    assert_count(rt, round.pieces.len(), 3);
+    assert_number(rt, round.bound, 10);
+    let sheet = search_piece(alloc, round, 0).expect(rt, "memory");
+    assert_number(rt, sheet.makespan, 10);
+    assert_number(rt, sheet.taken, 1);
+}
+
+struct TwoSeats;
+
+impl<R: Abort> RoundTest<R> for TwoSeats {
+    ghost ready = { Unit {0} };
+
+    fn run<'r>(&self, rt: &R, alloc: Global, round: &'r Round<'r>) {
+        assert_first_hits(rt, alloc, round);
+        let (board, seat) = Board::open(alloc, round).expect(rt, "memory");
+        assert_count(rt, board.pieces(), 3);
+        let (mut a, mut b) = board.split(seat);
+        let is_won = board.claim(&mut a, 0);
+        let is_won_twice = board.claim(&mut b, 0);
+        let are_others_won = board.claim(&mut b, 1) && board.claim(&mut a, 2);
+        assert!(rt; is_won && !is_won_twice && are_others_won);
+        assert_count(rt, board.look(&mut b), 3);
+        board.mark(&mut a, 0);
+        assert_count(rt, board.look(&mut b), 0);
+        assert_count(rt, board.look(&mut b), 0);
+        let seat = board.join(a, b);
+        has_all(&seat);
+        assert_count(rt, board.close(seat), 0);
+    }
+}
 
 #[test]
 fn two_seats_on_one_thread(rt: HostRuntime) {
-    let alloc = rt.alloc();
-    let instance = with_a_gap(alloc).expect(&rt, "an instance");
-    let round = third_round(&rt, alloc, &instance);
-    let (board, seat) = Board::open(alloc, &round).expect(&rt, "memory");
-    assert_eq!(rt; board.pieces(), 3);
-    let (mut a, mut b) = board.split(seat);
-    assert!(rt; board.claim(&mut a, 0));
-    assert!(rt; !board.claim(&mut b, 0));
-    assert!(rt; board.claim(&mut b, 1));
-    assert!(rt; board.claim(&mut a, 2));
-    let sheet = search_piece(alloc, &round, 0).expect(&rt, "memory");
-    assert_eq!(rt; sheet.makespan, 10);
-    assert_eq!(rt; sheet.taken, 1);
-    assert_eq!(rt; round.bound, 10);
-    assert_eq!(rt; board.look(&mut b), 3);
-    board.mark(&mut a, 0);
-    assert_eq!(rt; board.look(&mut b), 0);
-    assert_eq!(rt; board.look(&mut b), 0);
-    let seat = board.join(a, b);
-    has_all(&seat);
-    assert_eq!(rt; board.close(seat), 0);
+    in_third_round(&rt, rt.alloc(), &TwoSeats);
+}
+
+struct Marked;
+
+impl<R: Abort> RoundTest<R> for Marked {
+    ghost ready = { Unit {0} };
+
+    fn run<'r>(&self, rt: &R, alloc: Global, round: &'r Round<'r>) {
+        assert_first_hits(rt, alloc, round);
+        let (board, seat) = Board::open(alloc, round).expect(rt, "memory");
+        let (mut a, b) = board.split(seat);
+        assert!(rt; board.claim(&mut a, 0));
+        board.mark(&mut a, 0);
+        let (_b, entries) = work(alloc, &board, b, round, 1, &OpenGate);
+        assert_became(
+            rt,
+            alloc,
+            entries.expect(rt, "memory"),
+            &[Became::Passed(0), Became::Passed(0)],
+        );
+    }
 }
 
 #[test]
 fn a_worker_passes_behind_the_mark_of_another_seat(rt: HostRuntime) {
-    let alloc = rt.alloc();
-    let instance = with_a_gap(alloc).expect(&rt, "an instance");
-    let round = third_round(&rt, alloc, &instance);
-    let (board, seat) = Board::open(alloc, &round).expect(&rt, "memory");
-    assert_eq!(rt; board.pieces(), 3);
-    let (mut a, b) = board.split(seat);
-    assert!(rt; board.claim(&mut a, 0));
-    let sheet = search_piece(alloc, &round, 0).expect(&rt, "memory");
-    assert_eq!(rt; sheet.makespan, 10);
-    assert_eq!(rt; round.bound, 10);
-    board.mark(&mut a, 0);
-    let (_b, entries) = work(alloc, &board, b, &round, 1, &OpenGate);
-    let passed = [Became::Passed(0), Became::Passed(0)];
-    assert_eq!(rt;
-        what_became(&rt, alloc, &entries.expect(&rt, "memory")).as_slice(),
-        passed.as_slice()
-    );
+    in_third_round(&rt, rt.alloc(), &Marked);
 }
 
 // Three seats for one that has won nothing.
-fn three_seats(alloc: Global, board: &Board, seat: Seat) -> Result<Vec<Seat>, AllocError>
+fn three_seats(rt: &impl Abort, alloc: Global, board: &Board, seat: Seat) -> Vec<Seat>
     requires { HasServedOf board.now seat 0 }
-    ensures { IfOk result (λ v. All (λ s. HasServedOf board.now s 0) v.items) }
+    ensures { All (λ s. HasServedOf board.now s 0) result.items }
 {
     let (first, second) = board.split(seat);
     let (second, third) = board.split(second);
-    let mut seats = Vec::new(alloc);
-    seats.push(first)?;
-    seats.push(second)?;
-    seats.push(third)?;
-    Ok(seats)
+    vec![in alloc; first, second, third].expect(rt, "memory")
 }
 
-// Claims each piece, and gives those that were won.
-fn claim_all(alloc: Global, board: &Board, seat: Seat) -> Result<Vec<usize>, AllocError>
+// Claims each of three pieces, and says of each whether it was won.
+fn claim_all(board: &Board, mut seat: Seat) -> [bool; 3]
     requires { IsSeatOf board.now seat }
 {
-    let mut seat = seat;
-    let mut won = Vec::new(alloc);
-    for number in 0..board.pieces() {
-        if board.claim(&mut seat, number) {
-            won.push(number)?;
-        }
+    let mut won = [false; 3];
+    for number in 0..board.pieces().min(3) {
+        won[number] = board.claim(&mut seat, number);
     }
-    Ok(won)
+    won
 }
 
 // The same by a thread for each seat.
 fn claim_by_threads<R: Threads + Sync>(
     rt: &R,
-    alloc: Global,
     board: &Board,
     seats: Vec<Seat>,
-) -> Result<Vec<Result<Vec<usize>, AllocError>>, AllocError>
+) -> Result<Vec<[bool; 3]>, AllocError>
     requires { All (λ s. IsSeatOf board.now s) seats.items }
 {
-    let worker = move |seat: Seat| -> Result<Vec<usize>, AllocError>
+    let worker = move |seat: Seat| -> [bool; 3]
         requires { IsSeatOf board.now seat }
-    { claim_all(alloc, board, seat) };
+    { claim_all(board, seat) };
     thread::map_vec(rt, seats, &worker)
+}
+
+// How many seats won a piece.
+fn winners(lists: &[[bool; 3]], number: usize) -> usize {
+    let mut count: usize = 0;
+    for won in lists {
+        if won.get(number) == Some(&true) {
+            count = count.saturating_add(1);
+        }
+    }
+    count
+}
+
+struct Claims;
+
+impl<R: Abort + Threads + Sync> RoundTest<R> for Claims {
+    ghost ready = { IsSync R.row };
+
+    fn run<'r>(&self, rt: &R, alloc: Global, round: &'r Round<'r>) {
+        let (board, seat) = Board::open(alloc, round).expect(rt, "memory");
+        assert_count(rt, board.pieces(), 3);
+        let seats = three_seats(rt, alloc, &board, seat);
+        let lists = claim_by_threads(rt, &board, seats).expect(rt, "memory");
+        assert_count(rt, winners(&lists, 0), 1);
+        assert_count(rt, winners(&lists, 1), 1);
+        assert_count(rt, winners(&lists, 2), 1);
+    }
 }
 
 #[test]
 fn each_piece_is_won_once(rt: HostRuntime) {
-    let alloc = rt.alloc();
-    let instance = with_a_gap(alloc).expect(&rt, "an instance");
-    let round = third_round(&rt, alloc, &instance);
-    let (board, seat) = Board::open(alloc, &round).expect(&rt, "memory");
-    let seats = three_seats(alloc, &board, seat).expect(&rt, "memory");
-    let mut numbers = Vec::new(alloc);
-    for won in claim_by_threads(&rt, alloc, &board, seats).expect(&rt, "memory") {
-        numbers
-            .append(&mut won.expect(&rt, "memory"))
-            .expect(&rt, "memory");
-    }
-    numbers.sort().expect(&rt, "memory");
-    assert_eq!(rt; numbers.as_slice(), [0, 1, 2].as_slice());
+    in_third_round(&rt, rt.alloc(), &Claims);
 }
 
 // A seat that has worked, and how many pieces it won.
@@ -161,43 +191,45 @@ fn work_by_threads<'r, R: Threads + Sync>(
     thread::map_vec(rt, seats, &worker)
 }
 
-fn join_two(board: &Board, first: Worked, second: Worked) -> Option<Worked>
+fn join_two(rt: &impl Abort, board: &Board, first: Worked, second: Worked) -> Worked
     requires first { HasServedOf board.now first.seat first.won }
     requires second { HasServedOf board.now second.seat second.won }
-    ensures { IfSome result (λ w. HasServedOf board.now w.seat w.won) }
+    ensures { HasServedOf board.now result.seat result.won }
 {
-    let won = first.won.checked_add(second.won)?;
-    Some(Worked {
+    Worked {
+        won: first.won.checked_add(second.won).expect(rt, "few pieces"),
         seat: board.join(first.seat, second.seat),
-        won,
-    })
+    }
 }
 
-fn join_worked(board: &Board, mut all: Vec<Option<Worked>>) -> Option<Worked>
+fn join_worked(rt: &impl Abort, board: &Board, mut all: Vec<Option<Worked>>) -> Worked
     requires { All (λ o. IfSome o (λ w. HasServedOf board.now w.seat w.won)) all.items }
-    ensures { IfSome result (λ w. HasServedOf board.now w.seat w.won) }
+    ensures { HasServedOf board.now result.seat result.won }
 {
-    let mut joined = None;
+    let mut joined = all.pop().flatten().expect(rt, "memory");
     while let Some(worked) = all.pop() {
-        let worked = worked?;
-        joined = match joined {
-            Some(before) => Some(join_two(board, before, worked)?),
-            None => Some(worked),
-        };
+        joined = join_two(rt, board, joined, worked.expect(rt, "memory"));
     }
     joined
 }
 
+struct ThreeSeats;
+
+impl<R: Abort + Threads + Sync> RoundTest<R> for ThreeSeats {
+    ghost ready = { IsSync R.row };
+
+    fn run<'r>(&self, rt: &R, alloc: Global, round: &'r Round<'r>) {
+        let (board, seat) = Board::open(alloc, round).expect(rt, "memory");
+        let seats = three_seats(rt, alloc, &board, seat);
+        let worked = work_by_threads(rt, alloc, &board, seats, round).expect(rt, "memory");
+        let all = join_worked(rt, &board, worked);
+        assert_count(rt, all.won, board.pieces());
+        has_all(&all.seat);
+        assert_count(rt, board.close(all.seat), 0);
+    }
+}
+
 #[test]
 fn three_seats_work_and_close(rt: HostRuntime) {
-    let alloc = rt.alloc();
-    let instance = with_a_gap(alloc).expect(&rt, "an instance");
-    let round = third_round(&rt, alloc, &instance);
-    let (board, seat) = Board::open(alloc, &round).expect(&rt, "memory");
-    let seats = three_seats(alloc, &board, seat).expect(&rt, "memory");
-    let worked = work_by_threads(&rt, alloc, &board, seats, &round).expect(&rt, "memory");
-    let all = join_worked(&board, worked).expect(&rt, "memory");
-    assert_eq!(rt; all.won, board.pieces(), "each piece was won");
-    has_all(&all.seat);
-    assert_eq!(rt; board.close(all.seat), 0);
+    in_third_round(&rt, rt.alloc(), &ThreeSeats);
 }

@@ -1,30 +1,59 @@
 // The same answer and the same entries by any number of workers of either crew.
-ghost use Rattle.std.specs.Prelude.{IfOk};
+ghost use Rattle.std.specs.Thread.{IsSync};
 ghost use Rattle.shop_round.specs.Entries.{told};
 ghost use Rattle.shop_round.specs.Crews.{OneForEach};
 
-use crate::worked_rounds::{second_round, third_round};
+use crate::worked_rounds::{RoundTest, in_second_round, in_third_round};
 use shop_board::{BoardCrew, LockCrew, OpenGate};
-use shop_round::{
-    Alone, Answer, Crew, Entry, Kind, Plan, Round, Standing, gather, run, search_piece,
-};
-use std::alloc::{AllocError, Global};
+use shop_model::Instance;
+use shop_round::{Alone, Answer, Crew, Entry, Kind, Plan, Round, gather, run, search_piece};
+use std::alloc::Global;
 use std::process::Abort;
-use worked_instances::with_a_gap;
+use std::sync::Wait;
+use std::thread::Threads;
+use worked_instances::{assert_count, assert_number, with_a_gap};
 
-// The makespan, the bound, and how many nodes are open, rounds were done and nodes counted.
-fn assert_answer(
-    rt: &impl Abort,
-    answer: &Answer,
-    numbers: (u64, u64, usize, u64, u64),
-    crew: &str,
-) {
+// The makespan and the bound of an answer, and how many nodes are open, rounds were done and nodes counted.
+type Numbers = (u64, u64, usize, u64, u64);
+
+fn assert_numbers(rt: &impl Abort, answer: &Answer, numbers: Numbers) {
     let (makespan, bound, open, rounds, nodes) = numbers;
-    assert_eq!(rt; answer.makespan, makespan, "{crew}");
-    assert_eq!(rt; answer.bound, bound, "{crew}");
-    assert_eq!(rt; answer.open_nodes, open, "{crew}");
-    assert_eq!(rt; answer.rounds, rounds, "{crew}");
-    assert_eq!(rt; answer.nodes, nodes, "{crew}");
+    assert_number(rt, answer.makespan, makespan);
+    assert_number(rt, answer.bound, bound);
+    assert_count(rt, answer.open_nodes, open);
+    assert_number(rt, answer.rounds, rounds);
+    assert_number(rt, answer.nodes, nodes);
+}
+
+fn assert_answer<R: Abort, C: Crew<R>>(
+    rt: &R,
+    alloc: Global,
+    instance: &Instance,
+    plan: &Plan,
+    crew: &mut C,
+    numbers: Numbers,
+)
+    requires { C.ready }
+{
+    let answer = run(rt, alloc, instance, plan, crew).expect(rt, "memory");
+    assert_numbers(rt, &answer, numbers);
+}
+
+fn assert_answers<R: Abort + Threads + Wait + Sync>(
+    rt: &R,
+    alloc: Global,
+    instance: &Instance,
+    rounds: u64,
+    workers: usize,
+    numbers: Numbers,
+)
+    requires { IsSync R.row }
+{
+    let plan = Plan::new(rounds, 3, 1).expect(rt, "a plan within the limits");
+    let mut lock = LockCrew::new(workers, OpenGate).expect(rt, "1 to 64 workers");
+    assert_answer(rt, alloc, instance, &plan, &mut lock, numbers);
+    let mut board = BoardCrew::new(workers, OpenGate).expect(rt, "1 to 64 workers");
+    assert_answer(rt, alloc, instance, &plan, &mut board, numbers);
 }
 
 #[test]
@@ -39,122 +68,153 @@ fn same_answer_by_any_number_of_workers(rt: HostRuntime) {
     ];
     for workers in [1, 2, 3, 64] {
         for (rounds, numbers) in rows {
-            let plan = Plan::new(rounds, 3, 1).expect(&rt, "a plan within the limits");
-            let mut lock = LockCrew::new(workers, OpenGate).expect(&rt, "1 to 64 workers");
-            let mut board = BoardCrew::new(workers, OpenGate).expect(&rt, "1 to 64 workers");
-            assert_answer(
-                &rt,
-                &run(&rt, alloc, &instance, &plan, &mut lock).expect(&rt, "memory"),
-                numbers,
-                "lock",
-            );
-            assert_answer(
-                &rt,
-                &run(&rt, alloc, &instance, &plan, &mut board).expect(&rt, "memory"),
-                numbers,
-                "board",
-            );
+            assert_answers(&rt, alloc, &instance, rounds, workers, numbers);
         }
     }
+}
+
+// Whether there is a crew of each kind of so many workers.
+fn are_crews(workers: usize) -> [bool; 2] {
+    [
+        LockCrew::new(workers, OpenGate).is_some(),
+        BoardCrew::new(workers, OpenGate).is_some(),
+    ]
 }
 
 #[test]
 fn crews_have_1_to_64_workers(rt: HostRuntime) {
     for (workers, within) in [(0, false), (1, true), (64, true), (65, false)] {
-        let lock = LockCrew::new(workers, OpenGate);
-        assert_eq!(rt; lock.is_some(), within, "{workers} workers");
-        let board = BoardCrew::new(workers, OpenGate);
-        assert_eq!(rt; board.is_some(), within, "{workers} workers");
+        assert_eq!(rt; are_crews(workers), [within, within], "{workers} workers");
     }
 }
 
-// What became of a piece: the makespan of its sheet, the nodes taken and the nodes left; or the number that it was
+// What becomes of a piece: the makespan of its sheet, the nodes taken and the nodes left; or the number that it is
 // passed by.
-#[derive(Clone, Copy, Debug, PartialEq)]
 pub enum Became {
     Searched(u64, u64, usize),
     Passed(usize),
 }
 
-fn what_one_became(rt: &impl Abort, alloc: Global, entry: &Entry) -> Became {
-    match &entry.kind {
-        Kind::Done(sheet) => {
-            let left = sheet.left.nodes(alloc).expect(rt, "memory");
-            Became::Searched(sheet.makespan, sheet.taken, left.len())
+fn assert_one_became(rt: &impl Abort, alloc: Global, entry: &Entry, became: &Became) {
+    match (&entry.kind, became) {
+        (Kind::Done(sheet), Became::Searched(makespan, taken, left)) => {
+            assert_number(rt, sheet.makespan, *makespan);
+            assert_number(rt, sheet.taken, *taken);
+            let nodes = sheet.left.nodes(alloc).expect(rt, "memory");
+            assert_count(rt, nodes.len(), *left);
         }
-        Kind::Passed { number: _, by } => Became::Passed(*by),
+        (Kind::Passed { number: _, by }, Became::Passed(lower)) => assert_count(rt, *by, *lower),
+        _ => panic!(rt;
+            "a piece was searched that is to be passed, or passed that is to be searched"
+        ),
     }
 }
 
-pub fn what_became(rt: &impl Abort, alloc: Global, entries: &[Entry]) -> Vec<Became> {
-    let mut all = Vec::new(alloc);
-    for entry in entries {
-        all.push(what_one_became(rt, alloc, entry))
-            .expect(rt, "memory");
+pub fn assert_all_became(rt: &impl Abort, alloc: Global, entries: &[Entry], became: &[Became]) {
+    assert_count(rt, entries.len(), became.len());
+    for (entry, became) in entries.iter().zip(became) {
+        assert_one_became(rt, alloc, entry, became);
     }
-    all
+}
+
+// The same, of entries that are let go then.
+pub fn assert_became(rt: &impl Abort, alloc: Global, entries: Vec<Entry>, became: &[Became]) {
+    assert_all_became(rt, alloc, &entries, became);
+}
+
+// What one thread alone brings.
+#[derive(Drop)]
+pub struct ByAlone {
+    pub became: &'static [Became],
+}
+
+impl<R: Abort> RoundTest<R> for ByAlone {
+    ghost ready = { Unit {0} };
+
+    fn run<'r>(&self, rt: &R, alloc: Global, round: &'r Round<'r>) {
+        let entries = Alone.search(&(), alloc, round).expect(rt, "memory");
+        assert_became(rt, alloc, entries, self.became);
+    }
+}
+
+// The sheets of the second round.
+pub const OF_SECOND_ROUND: [Became; 2] = [Became::Searched(16, 3, 1), Became::Searched(16, 3, 2)];
+
+// What so many workers of either crew bring in the second round.
+#[derive(Drop)]
+struct ByWorkers {
+    workers: usize,
+}
+
+impl<R: Abort + Threads + Wait + Sync> RoundTest<R> for ByWorkers {
+    ghost ready = { IsSync R.row };
+
+    fn run<'r>(&self, rt: &R, alloc: Global, round: &'r Round<'r>) {
+        let lock = LockCrew::new(self.workers, OpenGate).expect(rt, "1 to 64 workers");
+        let by_lock = lock.search_round(rt, alloc, round).expect(rt, "memory");
+        assert_became(rt, alloc, by_lock, &OF_SECOND_ROUND);
+        let board = BoardCrew::new(self.workers, OpenGate).expect(rt, "1 to 64 workers");
+        let by_board = board.search_round(rt, alloc, round).expect(rt, "memory");
+        assert_became(rt, alloc, by_board, &OF_SECOND_ROUND);
+    }
 }
 
 #[test]
 fn same_entries_by_each_crew(rt: HostRuntime) {
     let alloc = rt.alloc();
-    let instance = with_a_gap(alloc).expect(&rt, "an instance");
-    let round = second_round(&rt, alloc, &instance);
-    let sheets = [Became::Searched(16, 3, 1), Became::Searched(16, 3, 2)];
-    let alone = Alone.search(&rt, alloc, &round).expect(&rt, "memory");
-    assert_eq!(rt;
-        what_became(&rt, alloc, &alone).as_slice(),
-        sheets.as_slice()
-    );
+    let alone = ByAlone {
+        became: &OF_SECOND_ROUND,
+    };
+    in_second_round(&rt, alloc, &alone);
     for workers in [1, 2, 64] {
-        let lock = LockCrew::new(workers, OpenGate).expect(&rt, "1 to 64 workers");
-        let entries = lock.search_round(&rt, alloc, &round).expect(&rt, "memory");
-        assert_eq!(rt;
-            what_became(&rt, alloc, &entries).as_slice(),
-            sheets.as_slice()
-        );
-        let board = BoardCrew::new(workers, OpenGate).expect(&rt, "1 to 64 workers");
-        let entries = board.search_round(&rt, alloc, &round).expect(&rt, "memory");
-        assert_eq!(rt;
-            what_became(&rt, alloc, &entries).as_slice(),
-            sheets.as_slice()
-        );
+        in_second_round(&rt, alloc, &ByWorkers { workers });
     }
 }
 
-fn assert_closed(rt: &impl Abort, standing: &Standing) {
-    assert_eq!(rt; standing.makespan, 10);
-    assert_eq!(rt; standing.open.len(), 0);
-    assert_eq!(rt; standing.nodes, 10);
+fn assert_closes<'r>(rt: &impl Abort, alloc: Global, round: &'r Round<'r>, entries: Vec<Entry<'r>>)
+    requires { OneForEach (told round.now) entries.items }
+{
+    let standing = gather(alloc, round, entries).expect(rt, "memory");
+    assert_number(rt, standing.makespan, 10);
+    assert_count(rt, standing.open.len(), 0);
+    assert_number(rt, standing.nodes, 10);
 }
 
 // The sheet of each piece, also behind one that ends at the opening bound.
-fn all_searched<'r>(alloc: Global, round: &'r Round<'r>) -> Result<Vec<Entry<'r>>, AllocError>
-    ensures { IfOk result (λ v. OneForEach (told round.now) v.items) }
+fn all_searched<'r>(rt: &impl Abort, alloc: Global, round: &'r Round<'r>) -> Vec<Entry<'r>>
+    ensures { OneForEach (told round.now) result.items }
 {
-    let mut entries = Vec::with_capacity(alloc, round.pieces.len())?;
+    let mut entries = Vec::new(alloc);
     for number in 0..round.pieces.len() {
-        entries.push(Entry::done(round, search_piece(alloc, round, number)?))?;
+        let sheet = search_piece(alloc, round, number).expect(rt, "memory");
+        entries.push(Entry::done(round, sheet)).expect(rt, "memory");
     }
-    Ok(entries)
+    entries
+}
+
+// Those of the third round.
+const OF_THIRD_ROUND: [Became; 3] = [
+    Became::Searched(10, 1, 0),
+    Became::Searched(12, 2, 0),
+    Became::Searched(14, 2, 0),
+];
+
+// The third round, closed by what is passed behind a hit and by sheets of all pieces.
+struct Closing;
+
+impl<R: Abort> RoundTest<R> for Closing {
+    ghost ready = { Unit {0} };
+
+    fn run<'r>(&self, rt: &R, alloc: Global, round: &'r Round<'r>) {
+        let passed = Alone.search(&(), alloc, round).expect(rt, "memory");
+        assert_closes(rt, alloc, round, passed);
+        let searched = all_searched(rt, alloc, round);
+        assert_all_became(rt, alloc, &searched, &OF_THIRD_ROUND);
+        assert_closes(rt, alloc, round, searched);
+    }
 }
 
 #[test]
 fn entries_after_a_hit_do_not_count(rt: HostRuntime) {
-    let alloc = rt.alloc();
-    let instance = with_a_gap(alloc).expect(&rt, "an instance");
-    let round = third_round(&rt, alloc, &instance);
-    let passed = Alone.search(&rt, alloc, &round).expect(&rt, "memory");
-    let searched = all_searched(alloc, &round).expect(&rt, "memory");
-    let sheets = [
-        Became::Searched(10, 1, 0),
-        Became::Searched(12, 2, 0),
-        Became::Searched(14, 2, 0),
-    ];
-    assert_eq!(rt;
-        what_became(&rt, alloc, &searched).as_slice(),
-        sheets.as_slice()
-    );
-    assert_closed(&rt, &gather(alloc, &round, passed).expect(&rt, "memory"));
-    assert_closed(&rt, &gather(alloc, &round, searched).expect(&rt, "memory"));
+    in_third_round(&rt, rt.alloc(), &Closing);
 }

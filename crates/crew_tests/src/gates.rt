@@ -4,19 +4,21 @@ ghost use Rattle.std.specs.Prelude.{IfOk};
 ghost use Rattle.shop_round.specs.Entries.{told};
 ghost use Rattle.shop_round.specs.Crews.{OneForEach};
 
-use crate::crews::{Became, what_became};
-use crate::worked_rounds::{second_round, third_round};
+use crate::crews::{Became, ByAlone, OF_SECOND_ROUND, assert_became};
+use crate::worked_rounds::{RoundTest, in_second_round, in_third_round};
 use shop_board::{BoardCrew, Gate, LockCrew, Seat, SeatGate};
+use shop_model::Instance;
 use shop_round::{Alone, Crew, Entry, Kind, Plan, Round, run};
 use std::alloc::{AllocError, Global};
+use std::process::Abort;
 use std::sync::Wait;
 use std::sync::atomic::{AtomicBool, AtomicUsize, Ordering};
 use std::thread;
 use std::thread::Threads;
-use worked_instances::with_a_gap;
+use worked_instances::{assert_count, assert_number, with_a_gap};
 
 // How many workers met, and which worker searched piece 0 and which piece 1.
-#[derive(Clone, Copy, Debug, PartialEq)]
+#[derive(Clone, Copy)]
 struct Met {
     count: usize,
     workers: [usize; 2],
@@ -87,15 +89,16 @@ fn by_lock<'r, R: Threads + Wait + Sync>(
     rt: &R,
     alloc: Global,
     round: &'r Round<'r>,
-) -> Result<(Vec<Entry<'r>>, Met), AllocError>
-    ensures { IfOk result (λ p. OneForEach (told round.now) p.0.items) }
+    met: &mut Met,
+) -> Result<Vec<Entry<'r>>, AllocError>
+    ensures { IfOk result (λ v. OneForEach (told round.now) v.items) }
 {
     let Some(crew) = LockCrew::new(2, Meeting::new()) else {
         return Err(AllocError);
     };
-    let entries = crew.search_round(rt, alloc, round)?;
-    let met = crew.gate().met();
-    Ok((entries, met))
+    let entries = crew.search_round(rt, alloc, round);
+    *met = crew.gate().met();
+    entries
 }
 
 // The same, of a crew that claims pieces on a board.
@@ -103,19 +106,34 @@ fn by_board<'r, R: Threads + Sync>(
     rt: &R,
     alloc: Global,
     round: &'r Round<'r>,
-) -> Result<(Vec<Entry<'r>>, Met), AllocError>
-    ensures { IfOk result (λ p. OneForEach (told round.now) p.0.items) }
+    met: &mut Met,
+) -> Result<Vec<Entry<'r>>, AllocError>
+    ensures { IfOk result (λ v. OneForEach (told round.now) v.items) }
 {
     let Some(crew) = BoardCrew::new(2, Meeting::new()) else {
         return Err(AllocError);
     };
-    let entries = crew.search_round(rt, alloc, round)?;
-    let met = crew.gate().met();
-    Ok((entries, met))
+    let entries = crew.search_round(rt, alloc, round);
+    *met = crew.gate().met();
+    entries
 }
 
-// Searches a round of two pieces by two workers that meet, and any other alone. Of the sheets of the two pieces that
-// took 3 nodes and found no makespan below 16 it notes how many nodes they left.
+// How many nodes the sheets of the two pieces left that took 3 nodes and found no makespan below 16.
+fn note_left(alloc: Global, entries: &[Entry], all: &mut [Option<usize>; 2]) {
+    for (entry, left) in entries.iter().zip(all) {
+        if let Kind::Done(sheet) = &entry.kind
+            && sheet.makespan == 16
+            && sheet.taken == 3
+        {
+            *left = match sheet.left.nodes(alloc) {
+                Ok(nodes) => Some(nodes.len()),
+                Err(AllocError) => None,
+            };
+        }
+    }
+}
+
+// Searches a round of two pieces by two workers that meet, and any other alone. It notes who met, and what was left.
 #[derive(Drop)]
 struct MeetingCrew {
     on_a_board: bool,
@@ -135,40 +153,48 @@ impl<R: Threads + Wait + Sync> Crew<R> for MeetingCrew {
         if round.pieces.len() != 2 {
             return Alone.search(rt, alloc, round);
         }
-        let (entries, met) = if self.on_a_board {
-            by_board(rt, alloc, round)?
+        let searched = if self.on_a_board {
+            by_board(rt, alloc, round, &mut self.met)
         } else {
-            by_lock(rt, alloc, round)?
+            by_lock(rt, alloc, round, &mut self.met)
         };
-        self.met = met;
-        for (entry, left) in entries.iter().zip(&mut self.left) {
-            if let Kind::Done(sheet) = &entry.kind
-                && sheet.makespan == 16
-                && sheet.taken == 3
-            {
-                *left = Some(sheet.left.nodes(alloc)?.len());
-            }
+        if let Ok(entries) = &searched {
+            note_left(alloc, entries, &mut self.left);
         }
-        Ok(entries)
+        searched
     }
+}
+
+fn assert_met(rt: &impl Abort, crew: &MeetingCrew) {
+    assert_count(rt, crew.met.count, 2);
+    assert!(rt; [[0, 1], [1, 0]].contains(&crew.met.workers));
+    assert_eq!(rt; crew.left, [Some(1), Some(2)]);
+}
+
+fn assert_meeting<R: Abort + Threads + Wait + Sync>(
+    rt: &R,
+    alloc: Global,
+    instance: &Instance,
+    on_a_board: bool,
+)
+    requires { IsSync R.row }
+{
+    let plan = Plan::new(2, 3, 1).expect(rt, "a plan within the limits");
+    let mut crew = MeetingCrew {
+        on_a_board,
+        met: NOBODY,
+        left: [None, None],
+    };
+    let answer = run(rt, alloc, instance, &plan, &mut crew).expect(rt, "memory");
+    assert_met(rt, &crew);
+    assert_number(rt, answer.nodes, 9);
 }
 
 #[test]
 fn two_workers_meet_at_the_gate(rt: HostRuntime) {
-    let alloc = rt.alloc();
-    let instance = with_a_gap(alloc).expect(&rt, "an instance");
-    let plan = Plan::new(2, 3, 1).expect(&rt, "a plan within the limits");
+    let instance = with_a_gap(rt.alloc()).expect(&rt, "an instance");
     for on_a_board in [false, true] {
-        let mut crew = MeetingCrew {
-            on_a_board,
-            met: NOBODY,
-            left: [None, None],
-        };
-        let answer = run(&rt, alloc, &instance, &plan, &mut crew).expect(&rt, "memory");
-        assert_eq!(rt; crew.met.count, 2);
-        assert!(rt; [[0, 1], [1, 0]].contains(&crew.met.workers));
-        assert_eq!(rt; crew.left, [Some(1), Some(2)]);
-        assert_eq!(rt; answer.nodes, 9);
+        assert_meeting(&rt, rt.alloc(), &instance, on_a_board);
     }
 }
 
@@ -214,48 +240,59 @@ impl SeatGate for Tally {
     }
 }
 
+// What one worker of either crew brings, and of how many pieces its gate hears, all of them of worker 0.
+#[derive(Drop)]
+struct OneWorker {
+    became: &'static [Became],
+    searched: usize,
+}
+
+fn assert_counts(rt: &impl Abort, tally: &Tally, searched: usize) {
+    let (pieces, by_others) = tally.counts();
+    assert_count(rt, pieces, searched);
+    assert_count(rt, by_others, 0);
+}
+
+impl<R: Abort + Threads + Wait + Sync> RoundTest<R> for OneWorker {
+    ghost ready = { IsSync R.row };
+
+    fn run<'r>(&self, rt: &R, alloc: Global, round: &'r Round<'r>) {
+        let lock = LockCrew::new(1, Tally::new()).expect(rt, "1 to 64 workers");
+        let by_lock = lock.search_round(rt, alloc, round).expect(rt, "memory");
+        assert_became(rt, alloc, by_lock, self.became);
+        assert_counts(rt, lock.gate(), self.searched);
+        let board = BoardCrew::new(1, Tally::new()).expect(rt, "1 to 64 workers");
+        let by_board = board.search_round(rt, alloc, round).expect(rt, "memory");
+        assert_became(rt, alloc, by_board, self.became);
+        assert_counts(rt, board.gate(), self.searched);
+    }
+}
+
 #[test]
 fn one_worker_is_worker_0(rt: HostRuntime) {
-    let alloc = rt.alloc();
-    let instance = with_a_gap(alloc).expect(&rt, "an instance");
-    let round = second_round(&rt, alloc, &instance);
-    let lock = LockCrew::new(1, Tally::new()).expect(&rt, "1 to 64 workers");
-    lock.search_round(&rt, alloc, &round).expect(&rt, "memory");
-    assert_eq!(rt; lock.gate().counts(), (2, 0));
-    let board = BoardCrew::new(1, Tally::new()).expect(&rt, "1 to 64 workers");
-    board.search_round(&rt, alloc, &round).expect(&rt, "memory");
-    assert_eq!(rt; board.gate().counts(), (2, 0));
+    let one = OneWorker {
+        became: &OF_SECOND_ROUND,
+        searched: 2,
+    };
+    in_second_round(&rt, rt.alloc(), &one);
 }
+
+// The third round, of which the last two pieces are passed.
+const PASSED_BEHIND_THE_FIRST: [Became; 3] = [
+    Became::Searched(10, 1, 0),
+    Became::Passed(0),
+    Became::Passed(0),
+];
 
 // One worker keeps what it searched, and passes what stands behind a piece that ends at the opening bound. Its gate
 // hears of the piece that is searched, and of no other.
 #[test]
 fn one_worker_passes_what_stands_behind_a_hit(rt: HostRuntime) {
-    let alloc = rt.alloc();
-    let instance = with_a_gap(alloc).expect(&rt, "an instance");
-    let round = third_round(&rt, alloc, &instance);
-    let kinds = [
-        Became::Searched(10, 1, 0),
-        Became::Passed(0),
-        Became::Passed(0),
-    ];
-    let alone = Alone.search(&rt, alloc, &round).expect(&rt, "memory");
-    assert_eq!(rt;
-        what_became(&rt, alloc, &alone).as_slice(),
-        kinds.as_slice()
-    );
-    let lock = LockCrew::new(1, Tally::new()).expect(&rt, "1 to 64 workers");
-    let by_lock = lock.search_round(&rt, alloc, &round).expect(&rt, "memory");
-    assert_eq!(rt;
-        what_became(&rt, alloc, &by_lock).as_slice(),
-        kinds.as_slice()
-    );
-    assert_eq!(rt; lock.gate().counts(), (1, 0));
-    let board = BoardCrew::new(1, Tally::new()).expect(&rt, "1 to 64 workers");
-    let by_board = board.search_round(&rt, alloc, &round).expect(&rt, "memory");
-    assert_eq!(rt;
-        what_became(&rt, alloc, &by_board).as_slice(),
-        kinds.as_slice()
-    );
-    assert_eq!(rt; board.gate().counts(), (1, 0));
+    let became = &PASSED_BEHIND_THE_FIRST;
+    in_third_round(&rt, rt.alloc(), &ByAlone { became });
+    let one = OneWorker {
+        became,
+        searched: 1,
+    };
+    in_third_round(&rt, rt.alloc(), &one);
 }

@@ -1,4 +1,4 @@
-// Rounds of the worked instance whose first bound is below the optimum.
+// Rounds of the worked instance whose first bound is below the optimum, each lent to a test.
 ghost use Rattle.std.specs.Prelude.{◌≡◌};
 ghost use Rattle.shop_round.specs.Standings.{IsStandingOf};
 
@@ -6,6 +6,7 @@ use shop_model::Instance;
 use shop_round::{Alone, Crew, Plan, Round, Standing, gather};
 use std::alloc::Global;
 use std::process::Abort;
+use worked_instances::with_a_gap;
 
 // One round, from a standing that has an open node and a round left.
 fn next_round<'r>(
@@ -37,23 +38,50 @@ fn after_round(
     gather(alloc, &round, entries).expect(rt, "memory")
 }
 
-// The second round: two pieces of one node each, opening best 16, opening bound 10.
-pub fn second_round<'r>(rt: &impl Abort, alloc: Global, instance: &'r Instance) -> Round<'r> {
-    let plan = Plan::new(2, 3, 1).expect(rt, "plan");
-    let start = Standing::start(alloc, instance).expect(rt, "memory");
-    let first = after_round(rt, alloc, instance, &plan, start);
-    let round = next_round(rt, alloc, instance, &plan, first);
-    assert!(rt; round.best == 16 && round.bound == 10);
-    round
+// What a test does in a round.
+pub trait RoundTest<R> {
+    ghost ready: { Type 0 };
+
+    fn run<'r>(&self, rt: &R, alloc: Global, round: &'r Round<'r>)
+        requires { ready };
 }
 
-// The third round: three pieces of one node each, opening best 16, opening bound 10.
-pub fn third_round<'r>(rt: &impl Abort, alloc: Global, instance: &'r Instance) -> Round<'r> {
-    let plan = Plan::new(3, 3, 1).expect(rt, "plan");
-    let start = Standing::start(alloc, instance).expect(rt, "memory");
-    let first = after_round(rt, alloc, instance, &plan, start);
-    let second = after_round(rt, alloc, instance, &plan, first);
-    let round = next_round(rt, alloc, instance, &plan, second);
+// Lends the next round, of opening best 16 and opening bound 10, to a test.
+fn lend_next_round<R: Abort, T: RoundTest<R>>(
+    rt: &R,
+    alloc: Global,
+    instance: &Instance,
+    plan: &Plan,
+    standing: Standing,
+    test: &T,
+)
+    requires standing { IsStandingOf instance.now standing }
+    requires test { T.ready }
+{
+    let round = next_round(rt, alloc, instance, plan, standing);
     assert!(rt; round.best == 16 && round.bound == 10);
-    round
+    test.run(rt, alloc, &round);
+}
+
+// Lends the second round to a test: two pieces of one node each.
+pub fn in_second_round<R: Abort, T: RoundTest<R>>(rt: &R, alloc: Global, test: &T)
+    requires { T.ready }
+{
+    let instance = with_a_gap(alloc).expect(rt, "an instance");
+    let plan = Plan::new(2, 3, 1).expect(rt, "plan");
+    let start = Standing::start(alloc, &instance).expect(rt, "memory");
+    let first = after_round(rt, alloc, &instance, &plan, start);
+    lend_next_round(rt, alloc, &instance, &plan, first, test);
+}
+
+// Lends the third round to a test: three pieces of one node each.
+pub fn in_third_round<R: Abort, T: RoundTest<R>>(rt: &R, alloc: Global, test: &T)
+    requires { T.ready }
+{
+    let instance = with_a_gap(alloc).expect(rt, "an instance");
+    let plan = Plan::new(3, 3, 1).expect(rt, "plan");
+    let start = Standing::start(alloc, &instance).expect(rt, "memory");
+    let first = after_round(rt, alloc, &instance, &plan, start);
+    let second = after_round(rt, alloc, &instance, &plan, first);
+    lend_next_round(rt, alloc, &instance, &plan, second, test);
 }

@@ -5,11 +5,11 @@ use Rattle.crew_tests.specs.declared.boards.Worked.{Worked}
 use Rattle.crew_tests.specs.inner.Served.{HasServedOf}
 use Rattle.crew_tests.proofs.boards.join_worked.Given as goal
 
-abbrev HasWorked : Board → Option Worked → Type 0
-HasWorked b o = IfSome o (λ (w : Worked). HasServedOf b w.seat w.won)
+abbrev HasWorked : Board → Worked → Type 0
+HasWorked b w = HasServedOf b w.seat w.won
 
 abbrev pub invariant-loop-worked : goal.invariant-loop-worked
-invariant-loop-worked l = HasWorked l.board l.joined × All (HasWorked l.board) l.all.items
+invariant-loop-worked g l = HasWorked l.board l.joined × All (λ (o : Option Worked). IfSome o (HasWorked l.board)) l.all.items
 
 abbrev pub decreases-loop-worked : goal.decreases-loop-worked
-decreases-loop-worked l = vec_len l.all
+decreases-loop-worked g l = vec_len l.all
