@@ -59,7 +59,7 @@ fn place_all<L: StateLanes>(
         let position = next[job] as usize;
         let machine = routes.machine(position) as usize;
         let end = ready[job].max(free[machine]) + routes.time(position);
-        next[job] = routes.next_behind(position);
+        next[job] = grid.next_behind(position);
         ready[job] = end;
         free[machine] = end;
     }

@@ -100,16 +100,6 @@ impl<'a> Routes<'a> {
         following[position] as usize
     }
 
-    /// The same as a number of 32 bits.
-    #[inline(always)]
-    pub fn next_behind(&self, position: usize) -> u32
-        requires { position < length self.now.following }
-        ensures { result ≡ slice_index self.now.following position }
-    {
-        let following = self.following;
-        following[position]
-    }
-
     /// How many positions there are.
     #[inline(always)]
     pub fn positions(&self) -> usize

@@ -71,8 +71,8 @@ pub next_behind-requires : goal.next_behind-requires
 next_behind-requires g c = (can_place_entry c.args.laid_out.now.shop c.grid-grid.ensures.ready.limits
     c.args.laid_out.now.layout
     c.grid-grid.ensures.ready.laid c.args.path.now c.requires.word c.loop-entry.entry-index c.loop-entry-test.true
-    c.loop-entry.next c.loop-entry.ready c.loop-entry.free c.loop-entry.invariant c.routes-routes.result
-    (c.routes-routes.ensures ∙ c.grid-grid.ensures.grid)).following
+    c.loop-entry.next c.loop-entry.ready c.loop-entry.free c.loop-entry.invariant c.grid-grid.result.now
+    c.grid-grid.ensures.grid).following
 
 pub loop-entry-preserved : goal.loop-entry-preserved
 loop-entry-preserved g c = entry_placed c.args.laid_out.now.shop c.grid-grid.ensures.ready.limits
@@ -82,5 +82,4 @@ loop-entry-preserved g c = entry_placed c.args.laid_out.now.shop c.grid-grid.ens
     (c.routes-routes.ensures ∙ c.grid-grid.ensures.grid) c.machine-machine.result c.time.result
     c.max.result c.next_behind.result c.machine-machine.ensures c.time.ensures c.max.ensures
     (c.next_behind.ensures ∙ ap (λ (l : LayoutState). get_or l.following
-    (get_or c.loop-entry.next (get_or c.args.path.now c.loop-entry.entry-index 0) 0) 0)
-    (c.routes-routes.ensures ∙ c.grid-grid.ensures.grid))
+    (get_or c.loop-entry.next (get_or c.args.path.now c.loop-entry.entry-index 0) 0) 0) c.grid-grid.ensures.grid)
