@@ -3,7 +3,7 @@ use Rattle.shop_model.specs.Shop.{Shop}
 use Rattle.shop_nodes.specs.Nodes.{AreNodes}
 use Rattle.shop_crews.specs.Entries.{told}
 use Rattle.shop_crews.proofs.EntryLemmas.{sheets_at, sheets_of_piece, sheets_tell}
-use Rattle.shop_workers.proofs.piece_searchers.search_piece_with.Goals as goal
+use Rattle.shop_searchers.proofs.piece_searchers.search_piece_with.Goals as goal
 
 pub search-requires-clause-nodes : goal.search-requires-clause-nodes
 search-requires-clause-nodes c =

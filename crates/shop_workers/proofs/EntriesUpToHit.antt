@@ -1,4 +1,4 @@
--- The entries of one thread, up to and with the first piece that ends at the opening bound.
+-- Entries of pieces in order, up to and with the first that ends at the opening bound.
 use Rattle.std.proofs.Common.{◌≡◌, ℕ, ◌<◌, ◌+◌, ◌++◌, true, false, Some, List, [], ◌∷◌, length, get_or, sym, ◌∙◌, ap}
 use Rattle.std.proofs.Common.{subst, arith, inl, inr}
 use Rattle.std.specs.Prelude.{slice_index_or}
@@ -10,7 +10,7 @@ use Rattle.shop_crews.specs.declared.entries.Entry.{Entry}
 use Rattle.shop_crews.specs.Round.{Told}
 use Rattle.shop_crews.specs.Entries.{is_hit}
 use Rattle.shop_crews.specs.Crews.{OneForEach, IsEntryOf, NoHitBelow, IsUpToHit}
-use Rattle.shop_round.specs.inner.Hits.{IsEntryUpToHit, IsFirstHitBelow}
+use Rattle.shop_workers.specs.inner.Hits.{IsEntryUpToHit, IsFirstHitBelow}
 
 pub record AreEntriesUpTo (r : Told) (es : List Entry) (n : ℕ) : Type 0 where
   pub count : length es ≡ n
