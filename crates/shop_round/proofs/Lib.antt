@@ -2,7 +2,6 @@ pub mod Rows
 pub mod Trusting
 pub mod Answering
 pub mod KeptBelow
-pub mod AloneEntries
 pub mod TreeSizes
 pub mod Ending
 pub mod CoverRows

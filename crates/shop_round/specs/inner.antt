@@ -1,5 +1,4 @@
 pub mod Closing
-pub mod Hits
 pub mod OpenNodes
 pub mod Searches
 pub mod Stacks

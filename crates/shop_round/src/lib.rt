@@ -1,14 +1,12 @@
 // Runs: rounds up to the answer of a plan.
 #![tactic(auto)]
 
-mod alone;
 mod kept_nodes;
 mod laws;
 mod open_nodes;
 mod runs;
 mod stacks;
 
-pub use alone::Alone;
 pub use laws::{answers_are_trustworthy, more_rounds_are_no_worse, searches_end, solved_stays};
 pub use runs::{Answer, run, run_alone};
 pub use shop_crews::{
@@ -16,4 +14,4 @@ pub use shop_crews::{
     opening_covers, pieces_are_all, rounds_keep_the_cover,
 };
 pub use shop_plans::{MAX_BUDGET, MAX_PIECE, MAX_PIECES, MAX_ROUNDS, Order, Plan};
-pub use shop_workers::{search_piece, search_piece_with};
+pub use shop_searchers::{Alone, search_piece, search_piece_with};

@@ -4,12 +4,12 @@ ghost use Rattle.shop_layout.specs.Layouts.{IsLayoutOf};
 ghost use Rattle.shop_plans.specs.Limits.{IsCountWithin};
 ghost use Rattle.shop_round.specs.Runs.{SaysAnswer, IsTrusted};
 
-use crate::alone::Alone;
 use crate::open_nodes::OpenNodes;
 use shop_crews::{Crew, Round, Standing, outcome_of};
 use shop_layout::Layout;
 use shop_model::{Instance, Table, Word, place};
 use shop_plans::{MAX_PIECES, Order, Plan};
+use shop_searchers::Alone;
 use std::alloc::{AllocError, Global};
 
 /// Where a run stands: the best word and its makespan, the open nodes in the order of the next cut, the rounds done and

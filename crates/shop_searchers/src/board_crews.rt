@@ -1,14 +1,15 @@
 // A crew whose workers claim pieces on a board.
 ghost use Rattle.std.specs.Thread.{IsSync};
 ghost use Rattle.std.specs.Prelude.{◌≡◌, ◌<◌, ◌≤◌, ◌↔◌, IsSome, IfSome, IfOk};
+ghost use Rattle.shop_plans.specs.declared.plans.TheConstants.{MAX_WORKERS};
 ghost use Rattle.shop_crews.specs.Entries.{told};
 ghost use Rattle.shop_crews.specs.Crews.{OneForEach};
 
 use crate::board_search::search_claimed;
-use crate::gates::SeatGate;
+use shop_claims::SeatGate;
 use shop_crews::{Crew, Entry, Round};
-use shop_plans::MAX_WORKERS;
-use shop_workers::{OpenGate, Workers};
+use shop_plans::Workers;
+use shop_workers::OpenGate;
 use std::alloc::{AllocError, Global};
 use std::thread::Threads;
 
@@ -16,26 +17,35 @@ use std::thread::Threads;
 /// workers to end, and has joined all of them when it returns.
 #[derive(Drop)]
 pub struct BoardCrew<G> {
-    workers: Workers<G>,
+    workers: Workers,
+    gate: G,
 }
 
 impl<G: Drop> BoardCrew<G> {
     /// Makes a crew of 1 to 64 workers; for any other number it is `None`.
     pub fn new(workers: usize, gate: G) -> Option<BoardCrew<G>>
         ensures within { IsSome result ↔ ((0 < workers) × (workers ≤ MAX_WORKERS)) }
-        ensures keeps { IfSome result (λ c. (c.workers.count ≡ workers) × (c.workers.gate ≡ gate)) }
+        ensures keeps { IfSome result (λ c. (c.workers.count ≡ workers) × (c.gate ≡ gate)) }
     {
-        let workers = Workers::new(workers, gate)?;
-        Some(BoardCrew { workers })
+        let workers = Workers::new(workers)?;
+        Some(BoardCrew::of(workers, gate))
     }
 }
 
 impl<G> BoardCrew<G> {
+    /// Makes a crew of so many workers.
+    pub fn of(workers: Workers, gate: G) -> BoardCrew<G>
+        ensures count { result.workers.count ≡ workers.count }
+        ensures gate { result.gate ≡ gate }
+    {
+        BoardCrew { workers, gate }
+    }
+
     /// Gives the gate, with what it may have noted. For library callers: the program doesn't use it.
     pub fn gate(&self) -> &G
-        ensures { result.now ≡ self.now.workers.gate }
+        ensures { result.now ≡ self.now.gate }
     {
-        &self.workers.gate
+        &self.gate
     }
 }
 
@@ -50,7 +60,7 @@ impl<G: SeatGate + Sync> BoardCrew<G> {
     ) -> Result<Vec<Entry<'r>>, AllocError>
         ensures { IfOk result (λ v. OneForEach (told round.now) v.items) }
     {
-        search_claimed(rt, alloc, round, self.workers.count, &self.workers.gate)
+        search_claimed(rt, alloc, round, self.workers.count, &self.gate)
     }
 }
 

@@ -1,10 +1,11 @@
 // The search of single pieces of a round.
-ghost use Rattle.std.specs.Prelude.{◌≡◌, ◌<◌, length, IfOk, OnOk};
+ghost use Rattle.std.specs.Prelude.{◌≡◌, ◌<◌, length, IfOk, OnOk, IfSome};
 ghost use Rattle.shop_crews.specs.Entries.{told, IsOf, TellsHit};
 
 use shop_crews::Round;
 use shop_nodes::Sheet;
 use shop_tree::{Searcher, search};
+use shop_workers::PieceSearch;
 use std::alloc::{AllocError, Global};
 use std::marker::Model;
 
@@ -39,6 +40,29 @@ pub fn search_piece<'r>(
     search(alloc, round.instance, piece, round.best, round.budget)
 }
 
+// The same, by the searcher that is kept from the piece before, or else by a new one over the round's layout, which is
+// kept then.
+fn search_kept<'r>(
+    alloc: Global,
+    kept: &mut Option<Searcher<'r, 'r>>,
+    round: &'r Round<'r>,
+    number: usize,
+) -> Result<Sheet<'r>, AllocError>
+    requires piece { number < length round.now.pieces.items }
+    requires kept { IfSome kept.old (λ shop. shop ≡ round.now.instance.now) }
+    ensures of { IfOk result (λ s. IsOf (told round.now) s × (s.number ≡ number)) }
+    ensures hit { IfOk result (λ s. TellsHit (told round.now) number s) }
+    ensures kept { OnOk result (IfSome kept.new (λ shop. shop ≡ round.now.instance.now)) }
+{
+    if let Some(searcher) = kept {
+        return search_piece_with(alloc, searcher, round, number);
+    }
+    let mut searcher = Searcher::over(alloc, round.instance, round.layout())?;
+    let sheet = search_piece_with(alloc, &mut searcher, round, number)?;
+    *kept = Some(searcher);
+    Ok(sheet)
+}
+
 /// Searches pieces of a round, one after the other, over the round's layout. What a search needs beside it is made for
 /// the first piece, and kept. To contracts it is the round.
 #[derive(Drop)]
@@ -58,37 +82,25 @@ impl<'r> Model for PieceSearcher<'r> {
     ghost invariant = { λ s. IfSome s.searcher (λ shop. shop ≡ s.round.now.instance.now) };
 }
 
-impl<'r> PieceSearcher<'r> {
-    /// Makes a searcher for pieces of this round, which takes no memory yet.
-    pub fn new(round: &'r Round<'r>) -> PieceSearcher<'r>
-        ensures { result ≡ round.now }
-    {
+impl<'r> PieceSearch<'r> for PieceSearcher<'r> {
+    ghost searched = { λ round. round };
+
+    fn over(round: &'r Round<'r>) -> PieceSearcher<'r> {
         PieceSearcher {
             round,
             searcher: None,
         }
     }
 
-    /// Gives the round.
-    pub fn round(&self) -> &'r Round<'r>
-        ensures { result.now ≡ self.now }
-    {
+    fn round(&self) -> &'r Round<'r> {
         self.round
     }
 
-    /// Gives the sheet of a piece of the round. Fails with `AllocError` if memory runs out.
-    pub fn search(&mut self, alloc: Global, number: usize) -> Result<Sheet<'r>, AllocError>
-        requires { number < length self.old.pieces.items }
-        ensures of { IfOk result (λ s. IsOf (told self.old) s × (s.number ≡ number)) }
-        ensures hit { IfOk result (TellsHit (told self.old) number) }
-        ensures round { self.new ≡ self.old }
-    {
-        let mut searcher = match self.searcher.take() {
-            Some(kept) => kept,
-            None => Searcher::over(alloc, self.round.instance, self.round.layout())?,
-        };
-        let sheet = search_piece_with(alloc, &mut searcher, self.round, number)?;
-        self.searcher = Some(searcher);
-        Ok(sheet)
+    fn search(&mut self, alloc: Global, number: usize) -> Result<Sheet<'r>, AllocError> {
+        let sheet = search_kept(alloc, &mut self.searcher, self.round, number);
+        if sheet.is_err() {
+            self.searcher = None;
+        }
+        sheet
     }
 }

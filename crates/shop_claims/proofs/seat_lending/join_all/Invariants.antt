@@ -4,8 +4,8 @@ use Rattle.shop_crews.specs.Entries.{told}
 use Rattle.shop_workers.specs.inner.Gathered.{AllOfRound}
 use Rattle.shop_seats.specs.Seats.{IsSeatOf}
 use Rattle.shop_claims.specs.inner.Returns.{IsReturned}
-use Rattle.shop_claims.specs.declared.board_search.Returned.{Returned}
-use Rattle.shop_claims.proofs.board_search.join_all.Given as goal
+use Rattle.shop_claims.specs.declared.seat_lending.Returned.{Returned}
+use Rattle.shop_claims.proofs.seat_lending.join_all.Given as goal
 
 abbrev pub invariant-loop-seat : goal.invariant-loop-seat
 invariant-loop-seat l =

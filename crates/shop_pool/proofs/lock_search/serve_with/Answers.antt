@@ -4,12 +4,13 @@ use Rattle.shop_crews.specs.Crews.{IsEntryOf}
 use Rattle.shop_crews.specs.Hits.{hits_of_round}
 use Rattle.shop_crews.specs.Hits.{IsHitOrEnd}
 use Rattle.shop_pool.proofs.TakenEntries.{AreTaken, one_taken}
-use Rattle.shop_pool.proofs.lock_crews.serve_with.Goals as goal
+use Rattle.shop_pool.proofs.lock_search.serve_with.Goals as goal
 
 pub loop-preserved : goal.loop-preserved
 loop-preserved g c =
-    let round = c.args.searcher.now in
-    let same : c.loop.searcher ≡ round = c.loop.invariant.2 in
+    let searched = g.P.PieceSearch.searched in
+    let round = searched c.args.searcher.now in
+    let same : searched c.loop.searcher ≡ round = c.loop.invariant.2 in
     let before = c.loop.low in
     let low = c.turn.new.low in
     let number = c.in-Some-next_piece.number in

@@ -1,8 +1,7 @@
-// A round searched by workers who claim its pieces on a board.
+// Seats of a board are lent to workers, and what these bring back is completed.
 ghost use Rattle.std.specs.Prelude.{◌≡◌, ◌<◌, length, vec_len, All, IfOk, IfSome, IfNone};
 ghost use Rattle.shop_crews.specs.Entries.{told};
 ghost use Rattle.shop_crews.specs.Crews.{OneForEach};
-ghost use Rattle.shop_workers.specs.Entries.{OfRound};
 ghost use Rattle.shop_workers.specs.inner.Gathered.{AllOfRound};
 ghost use Rattle.shop_claims.specs.inner.Returns.{IsReturned, AreReturned};
 ghost use Rattle.shop_crews.specs.Hits.{hits_of_round};
@@ -10,31 +9,32 @@ ghost use Rattle.shop_seats.specs.Seats.{knows, hits_of, IsSeatOf};
 ghost use Rattle.shop_claims.specs.Works.{Grows, IsKnown};
 ghost use Rattle.shop_claims.specs.inner.Turns.{IsRestKnown};
 
-use crate::gates::SeatGate;
-use crate::working::work;
 use shop_crews::{Entry, Round};
 use shop_seats::{Board, Seat};
-use shop_workers::{complete, in_places};
+use shop_workers::{PieceSearch, complete, in_places};
 use std::alloc::{AllocError, Global};
-use std::thread;
-use std::thread::Threads;
 
-// A worker's number, with the seat that it is lent.
+/// A worker's number, with the seat that it is lent.
 #[derive(Drop)]
-struct Lent {
-    worker: usize,
-    seat: Seat,
+pub struct Lent {
+    pub worker: usize,
+    pub seat: Seat,
 }
 
-// What a worker brings back.
+/// What a worker brings back.
 #[derive(Drop)]
-struct Returned<'r> {
-    seat: Seat,
-    entries: Result<Vec<Entry<'r>>, AllocError>,
+pub struct Returned<'r> {
+    pub seat: Seat,
+    pub entries: Result<Vec<Entry<'r>>, AllocError>,
 }
 
-// A seat for each worker, that of the calling thread last.
-fn lend(alloc: Global, board: &Board, seat: Seat, workers: usize) -> Result<Vec<Lent>, AllocError>
+/// A seat for each worker, that of the calling thread last. Fails with `AllocError` if memory runs out.
+pub fn lend(
+    alloc: Global,
+    board: &Board,
+    seat: Seat,
+    workers: usize,
+) -> Result<Vec<Lent>, AllocError>
     requires { IsSeatOf board.now seat }
     ensures { IfOk result (λ v. All (λ l. IsSeatOf board.now l.seat) v.items) }
 {
@@ -50,30 +50,6 @@ fn lend(alloc: Global, board: &Board, seat: Seat, workers: usize) -> Result<Vec<
         seat: mine,
     })?;
     Ok(lent)
-}
-
-// Each worker on a thread of its own where one can be started, and the last on the calling thread.
-fn work_all<'r, R: Threads + Sync, G: SeatGate + Sync>(
-    rt: &R,
-    alloc: Global,
-    board: &Board,
-    lent: Vec<Lent>,
-    round: &'r Round<'r>,
-    gate: &G,
-) -> Result<Vec<Returned<'r>>, AllocError>
-    requires seats { All (λ l. IsSeatOf board.now l.seat) lent.items }
-    requires round { hits_of board.now ≡ hits_of_round round.now }
-    ensures len { IfOk result (λ v. vec_len v ≡ vec_len lent) }
-    ensures each { IfOk result (λ v. AreReturned board.now (told round.now) v.items) }
-{
-    let worker = move |lent: Lent| -> Returned
-        requires { IsSeatOf board.now lent.seat × (hits_of board.now ≡ hits_of_round round.now) }
-        ensures { IsReturned board.entry.now (told round.entry.now) result.seat result.entries }
-    {
-        let (seat, entries) = work(alloc, board, lent.seat, round, lent.worker, gate);
-        Returned { seat, entries }
-    };
-    thread::map_vec(rt, lent, &worker)
 }
 
 // Joins the workers' seats, and gathers what they brought.
@@ -124,25 +100,22 @@ fn claim_rest(board: &Board, seat: &mut Seat, places: &[Option<Entry>])
     }
 }
 
-/// Gives the entries of a round by this many workers at most, who claim its pieces on a board. No more are started than
-/// there are pieces; what a thread that can't be started would have done, the others do. A piece that nobody brought is
-/// claimed and searched by the calling thread. Fails with `AllocError` if memory runs out.
-pub fn search_claimed<'r, R: Threads + Sync, G: SeatGate + Sync>(
-    rt: &R,
+/// Gives the entries of a round, of what its workers brought back. A piece that nobody brought is claimed and searched by
+/// the calling thread. Fails with `AllocError` if memory runs out.
+pub fn complete_returned<'r, P: PieceSearch<'r>>(
     alloc: Global,
+    board: &Board,
     round: &'r Round<'r>,
-    workers: usize,
-    gate: &G,
+    returned: Vec<Returned<'r>>,
 ) -> Result<Vec<Entry<'r>>, AllocError>
+    requires round { hits_of board.now ≡ hits_of_round round.now }
+    requires returned { AreReturned board.now (told round.now) returned.items }
     ensures { IfOk result (λ v. OneForEach (told round.now) v.items) }
 {
-    let (board, seat) = Board::open(alloc, round)?;
-    let lent = lend(alloc, &board, seat, workers.min(round.pieces.len()))?;
-    let returned = work_all(rt, alloc, &board, lent, round, gate)?;
-    let (joined, lists) = join_all(alloc, &board, round, returned)?;
+    let (joined, lists) = join_all(alloc, board, round, returned)?;
     let places = in_places(alloc, round, lists)?;
     if let Some(mut seat) = joined {
-        claim_rest(&board, &mut seat, &places);
+        claim_rest(board, &mut seat, &places);
     }
-    complete(alloc, round, places)
+    complete::<P>(alloc, round, places)
 }

@@ -5,7 +5,7 @@ use Rattle.shop_seats.specs.Seats.{knows, hits_of}
 use Rattle.shop_seats.specs.Views.{HasServed}
 use Rattle.shop_claims.specs.Works.{AreWon}
 use Rattle.shop_claims.proofs.ServedEntries.{all_served, on_brought}
-use Rattle.shop_claims.proofs.working.work.Goals as goal
+use Rattle.shop_claims.proofs.working.work_by.Goals as goal
 
 pub returns-clause-served : goal.returns-clause-served
 returns-clause-served g c =
@@ -17,4 +17,4 @@ returns-clause-served g c =
     on_brought (AreWon (told round) before after) (HasServed before → HasServed after) c.work_through-entries.result
     (λ es won. all_served round hits before after es c.requires.round done.seat.1 done.grows won)
     (subst (λ r. IfOk c.work_through-entries.result (λ v. AreWon (told r) before after v.items))
-    c.new-searcher.ensures done.entries)
+    c.over-searcher.ensures done.entries)
