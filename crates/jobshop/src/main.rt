@@ -3,6 +3,7 @@
 
 use shop_engine::{Reading, Writing};
 use shop_program::start;
+use shop_searchers::ByWorkers;
 use std::io;
 use std::process::ExitCode;
 
@@ -10,5 +11,5 @@ fn main(rt: HostRuntime) -> ExitCode {
     let mut source = Reading::new(rt.reader());
     let mut out = Writing::new(io::writer(&rt));
     let mut err = Writing::new(rt.stderr());
-    ExitCode::from(start(&rt, &mut source, &mut out, &mut err))
+    ExitCode::from(start(&rt, &ByWorkers, &mut source, &mut out, &mut err))
 }

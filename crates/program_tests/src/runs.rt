@@ -3,6 +3,7 @@ ghost use Rattle.std.specs.Thread.{IsSync};
 
 use shop_engine::{Memory, Reading};
 use shop_program::program;
+use shop_searchers::ByWorkers;
 use std::process::Abort;
 use std::rt::Files;
 use std::thread::Threads;
@@ -47,7 +48,14 @@ pub fn run<R: Files + Threads + Sync + AllocGlobal + Abort>(
     let mut source = Reading::new(text.as_bytes());
     let mut out = sink(rt);
     let mut err = sink(rt);
-    let status = program(rt, line.as_slice(), &mut source, &mut out, &mut err);
+    let status = program(
+        rt,
+        &ByWorkers,
+        line.as_slice(),
+        &mut source,
+        &mut out,
+        &mut err,
+    );
     Ended { status, out, err }
 }
 

@@ -1,12 +1,11 @@
-// A crew whose workers claim the pieces of a round on a board.
+// What the workers of a crew do who claim the pieces of a round on a board, whoever searches them.
 #![tactic(auto)]
 
-mod board_crews;
-mod board_search;
 mod gates;
+mod seat_lending;
 mod working;
 
-pub use board_crews::BoardCrew;
 pub use gates::SeatGate;
+pub use seat_lending::{Lent, Returned, complete_returned, lend};
 pub use shop_workers::OpenGate;
-pub use working::work;
+pub use working::work_by;

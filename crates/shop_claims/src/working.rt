@@ -10,28 +10,28 @@ ghost use Rattle.shop_claims.specs.inner.Turns.{IsServedEntry, BringsTurn};
 use crate::gates::SeatGate;
 use shop_crews::{Entry, Round};
 use shop_seats::{Board, Seat};
-use shop_workers::PieceSearcher;
+use shop_workers::PieceSearch;
 use std::alloc::{AllocError, Global};
 
 // Searches a piece that the seat won, and marks it where it ends at the opening bound.
-fn search_won<'r, G: SeatGate>(
+fn search_won<'r, P: PieceSearch<'r>, G: SeatGate>(
     alloc: Global,
     board: &Board,
     seat: &mut Seat,
-    searcher: &mut PieceSearcher<'r>,
+    searcher: &mut P,
     number: usize,
     worker: usize,
     gate: &G,
 ) -> Result<Entry<'r>, AllocError>
     requires seat { IsSeatOf board.now seat.old }
-    requires round { hits_of board.now ≡ hits_of_round searcher.old }
-    requires piece { number < length searcher.old.pieces.items }
+    requires round { hits_of board.now ≡ hits_of_round (P.searched searcher.old) }
+    requires piece { number < length (P.searched searcher.old).pieces.items }
     requires won { has (knows seat.old).mine number ≡ true }
     ensures seat { IsSeatOf board.now seat.new }
     ensures grows { Grows (knows seat.old) (knows seat.new) }
-    ensures round { searcher.new ≡ searcher.old }
+    ensures round { P.searched searcher.new ≡ P.searched searcher.old }
     ensures mine { (knows seat.new).mine ≡ (knows seat.old).mine }
-    ensures entry { IfOk result (IsServedEntry (told searcher.old) number (knows seat.new)) }
+    ensures entry { IfOk result (IsServedEntry (told (P.searched searcher.old)) number (knows seat.new)) }
 {
     gate.won(worker, seat, number);
     let sheet = searcher.search(alloc, number)?;
@@ -43,23 +43,23 @@ fn search_won<'r, G: SeatGate>(
 }
 
 // Looks, claims a piece, and where the seat wins it searches it or passes it.
-fn turn<'r, G: SeatGate>(
+fn turn<'r, P: PieceSearch<'r>, G: SeatGate>(
     alloc: Global,
     board: &Board,
     seat: &mut Seat,
-    searcher: &mut PieceSearcher<'r>,
+    searcher: &mut P,
     number: usize,
     worker: usize,
     gate: &G,
 ) -> Result<Option<Entry<'r>>, AllocError>
     requires seat { IsSeatOf board.now seat.old }
-    requires round { hits_of board.now ≡ hits_of_round searcher.old }
-    requires piece { number < length searcher.old.pieces.items }
+    requires round { hits_of board.now ≡ hits_of_round (P.searched searcher.old) }
+    requires piece { number < length (P.searched searcher.old).pieces.items }
     ensures seat { IsSeatOf board.now seat.new }
     ensures grows { Grows (knows seat.old) (knows seat.new) }
-    ensures round { searcher.new ≡ searcher.old }
+    ensures round { P.searched searcher.new ≡ P.searched searcher.old }
     ensures claimed { IsKnown (knows seat.new) number }
-    ensures entry { BringsTurn (told searcher.old) number (knows seat.old) (knows seat.new) result }
+    ensures entry { BringsTurn (told (P.searched searcher.old)) number (knows seat.old) (knows seat.new) result }
 {
     let low = board.look(seat);
     if !board.claim(seat, number) {
@@ -73,21 +73,21 @@ fn turn<'r, G: SeatGate>(
 }
 
 // Takes a turn at each piece, in order.
-fn work_through<'r, G: SeatGate>(
+fn work_through<'r, P: PieceSearch<'r>, G: SeatGate>(
     alloc: Global,
     board: &Board,
     seat: &mut Seat,
-    searcher: &mut PieceSearcher<'r>,
+    searcher: &mut P,
     worker: usize,
     gate: &G,
 ) -> Result<Vec<Entry<'r>>, AllocError>
     requires seat { IsSeatOf board.now seat.old }
-    requires round { hits_of board.now ≡ hits_of_round searcher.old }
+    requires round { hits_of board.now ≡ hits_of_round (P.searched searcher.old) }
     ensures seat { IsSeatOf board.now seat.new }
     ensures grows { Grows (knows seat.old) (knows seat.new) }
-    ensures round { searcher.new ≡ searcher.old }
-    ensures claimed { OnOk result (IsAllKnown (length searcher.old.pieces.items) (knows seat.new)) }
-    ensures entries { BringsWon (told searcher.old) (knows seat.old) (knows seat.new) result }
+    ensures round { P.searched searcher.new ≡ P.searched searcher.old }
+    ensures claimed { OnOk result (IsAllKnown (length (P.searched searcher.old).pieces.items) (knows seat.new)) }
+    ensures entries { BringsWon (told (P.searched searcher.old)) (knows seat.old) (knows seat.new) result }
 {
     let mut entries = Vec::new(alloc);
     for number in 0..searcher.round().pieces.len() {
@@ -102,7 +102,7 @@ fn work_through<'r, G: SeatGate>(
 /// the seat has read a lower number that was marked; one that was searched and ends at the opening bound is marked.
 /// The seat comes back with all that it knew and had won before, and with the entries of the pieces that it won in this
 /// call, in number order; or with `AllocError` if memory runs out. It waits for nobody but the gate.
-pub fn work<'r, G: SeatGate>(
+pub fn work_by<'r, P: PieceSearch<'r>, G: SeatGate>(
     alloc: Global,
     board: &Board,
     seat: Seat,
@@ -119,7 +119,7 @@ pub fn work<'r, G: SeatGate>(
     ensures served { OnOk result.1 (HasServed (knows seat) → HasServed (knows result.0)) }
 {
     let mut seat = seat;
-    let mut searcher = PieceSearcher::new(round);
+    let mut searcher = P::over(round);
     let entries = work_through(alloc, board, &mut seat, &mut searcher, worker, gate);
     (seat, entries)
 }

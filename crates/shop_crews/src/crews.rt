@@ -1,10 +1,11 @@
-// Crews, who search the pieces of a round.
+// Crews, who search the pieces of a round, and who makes them.
 ghost use Rattle.std.specs.Prelude.{IfOk};
 ghost use Rattle.shop_crews.specs.Entries.{told};
 ghost use Rattle.shop_crews.specs.Crews.{OneForEach};
 
 use crate::entries::Entry;
 use crate::rounds::Round;
+use shop_plans::Workers;
 use std::alloc::{AllocError, Global};
 
 /// Who searches the pieces of a round.
@@ -21,4 +22,12 @@ pub trait Crew<R> {
     ) -> Result<Vec<Entry<'r>>, AllocError>
         requires { ready }
         ensures { IfOk result (λ v. OneForEach (told round.now) v.items) };
+}
+
+/// Who makes crews, by how many workers they have.
+pub trait Crews<R> {
+    type Crew: Crew<R> + Drop;
+
+    /// A crew of so many workers.
+    fn of(&self, workers: Workers) -> Self::Crew;
 }

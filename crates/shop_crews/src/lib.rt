@@ -8,7 +8,7 @@ mod outcomes;
 mod rounds;
 mod standings;
 
-pub use crews::Crew;
+pub use crews::{Crew, Crews};
 pub use entries::{Entry, Kind};
 pub use laws::{
     counts_stay_small, cuts_cover, gathering_covers, opening_covers, pieces_are_all,

@@ -8,6 +8,7 @@ mod line_faults;
 mod matches;
 mod reading_args;
 
-pub use arguments::{Args, Workers};
+pub use arguments::Args;
 pub use line_faults::LineFault;
 pub use reading_args::args_of;
+pub use shop_plans::Workers;

@@ -6,13 +6,13 @@ ghost use Rattle.shop_line.specs.CommandLine.{UnlessNoMemory};
 ghost use Rattle.shop_line.specs.declared.arguments.Args.{Args};
 ghost use Rattle.shop_plans.specs.declared.plans.Plan.{Plan};
 
-use crate::arguments::{Args, Workers};
+use crate::arguments::Args;
 use crate::command_line::command;
 use crate::line_faults::{LineFault, misread};
 use crate::matches::{flag_in, format_in, number_in, order_in, text_in};
 use clap::ArgMatches;
 use shop_args::{CheckArgs, ListArgs, SolveArgs};
-use shop_plans::Plan;
+use shop_plans::{Plan, Workers};
 use std::alloc::Global;
 
 /// The arguments of `list`.

@@ -1,12 +1,12 @@
-// A crew whose workers take the pieces of a round from a pool behind a lock. For library callers: the program doesn't
-// use it.
+// What the workers of a crew do who take the pieces of a round from a pool behind a lock, whoever searches them. For
+// library callers: the program doesn't use it.
 #![tactic(auto)]
 
 mod gates;
-mod lock_crews;
+mod lock_search;
 mod pools;
 
 pub use gates::Gate;
-pub use lock_crews::LockCrew;
+pub use lock_search::serve;
 pub use pools::Pool;
 pub use shop_workers::OpenGate;

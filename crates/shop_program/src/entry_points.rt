@@ -1,28 +1,28 @@
 // Entry points: the program over its words and its streams.
 ghost use Rattle.std.specs.Prelude.{map, string_bytes};
-ghost use Rattle.std.specs.Thread.{IsSync};
 ghost use Rattle.shop_program.specs.Running.{Streams, IsEnd, IsStart};
 
 use crate::running::run_args;
 use crate::saying::{say_fault, say_line_fault, say_no_memory, say_no_text};
+use shop_crews::Crews;
 use shop_engine::{Sink, Source};
 use shop_line::args_of;
 use std::env::args;
 use std::io::ErrorKind;
 use std::rt::{Env, Files};
-use std::thread::Threads;
 
 /// Runs the program on the words of a command line, the program's name first: it reads files or the source, writes to
-/// `out`, and says faults on `err`. The exit status: 0 done, 1 infeasible, 2 a faulty command line, 3 a text refused,
-/// 4 a read or write that failed, 5 no memory.
-pub fn program<R: Files + Threads + Sync + AllocGlobal, S: Source, K: Sink, E: Sink>(
+/// `out`, and says faults on `err`; `crews` makes who searches, by the number of workers that is asked for. The exit
+/// status: 0 done, 1 infeasible, 2 a faulty command line, 3 a text refused, 4 a read or write that failed, 5 no memory.
+pub fn program<R: Files + AllocGlobal, C: Crews<R>, S: Source, K: Sink, E: Sink>(
     rt: &R,
+    crews: &C,
     words: &[String],
     source: &mut S,
     out: &mut K,
     err: &mut E,
 ) -> u8
-    requires { IsSync R.row }
+    requires { C.Crew.ready }
     ensures { IsEnd (map string_bytes words.now)
         (record { source = S.device source.old; sink = K.device out.old })
         (record { source = S.device source.new; sink = K.device out.new }) result }
@@ -31,20 +31,21 @@ pub fn program<R: Files + Threads + Sync + AllocGlobal, S: Source, K: Sink, E: S
         Ok(args) => args,
         Err(fault) => return say_line_fault(err, fault),
     };
-    match run_args(rt, &args, source, out) {
+    match run_args(rt, crews, &args, source, out) {
         Ok(status) => status,
         Err(fault) => say_fault(err, fault),
     }
 }
 
 /// Runs the program on the words of the process. Words that aren't UTF-8 are a fault of the command line.
-pub fn start<R: Env + Files + Threads + Sync + AllocGlobal, S: Source, K: Sink, E: Sink>(
+pub fn start<R: Env + Files + AllocGlobal, C: Crews<R>, S: Source, K: Sink, E: Sink>(
     rt: &R,
+    crews: &C,
     source: &mut S,
     out: &mut K,
     err: &mut E,
 ) -> u8
-    requires { IsSync R.row }
+    requires { C.Crew.ready }
     ensures { IsStart
         (record { source = S.device source.old; sink = K.device out.old })
         (record { source = S.device source.new; sink = K.device out.new }) result }
@@ -55,7 +56,7 @@ pub fn start<R: Env + Files + Threads + Sync + AllocGlobal, S: Source, K: Sink, 
         Err(_) => return say_no_text(err),
     };
     match words.collect::<Vec<String>>(rt.alloc()) {
-        Ok(words) => program(rt, words.as_slice(), source, out, err),
+        Ok(words) => program(rt, crews, words.as_slice(), source, out, err),
         Err(_) => say_no_memory(err),
     }
 }

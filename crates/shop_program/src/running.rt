@@ -1,21 +1,19 @@
 // Runs of the commands, on files or on the source that they are given.
 ghost use Rattle.std.specs.Prelude.{◌≡◌, true, IfOk, IfErr, is_some};
-ghost use Rattle.std.specs.Thread.{IsSync};
 ghost use Rattle.shop_engine.specs.declared.faults.Fault.TheVariants.{ReadFailed};
 ghost use Rattle.shop_program.specs.Running.{Streams, IsRunOn, IsCommandRun};
 ghost use Rattle.shop_program.specs.Running.{ListsFrom, ChecksFrom, HasSolved, SolvesFrom};
 
 use crate::statuses::{DONE, status_of_check};
-use shop_claims::{BoardCrew, OpenGate};
+use shop_crews::Crews;
 use shop_engine::{
     CheckArgs, Fault, ListArgs, Reading, Sink, SolveArgs, Source, check_text, list_text, solve_text,
 };
-use shop_line::{Args, Workers};
-use shop_round::Alone;
+use shop_line::Args;
+use shop_plans::Workers;
 use std::alloc::Global;
 use std::fs::File;
 use std::rt::Files;
-use std::thread::Threads;
 
 /// Opens a file, if a path is given; one that can't be opened is a failed read.
 fn open_given<R: Files>(rt: &R, path: &Option<String>) -> Result<Option<Reading<R::File>>, Fault>
@@ -101,79 +99,72 @@ fn run_check<R: Files + AllocGlobal, S: Source, K: Sink>(
     }
 }
 
-/// The crew of so many threads.
-fn crew_of(workers: Workers) -> BoardCrew<OpenGate>
-    ensures { result.workers.count ≡ workers.count }
-{
-    BoardCrew::new(workers.count, OpenGate).unwrap()
-}
-
-/// Solves with one worker, the calling thread, or with a crew of threads: the report is the same for every number of
-/// workers.
-fn solve_by<R: Threads + Sync + AllocGlobal, S: Source, K: Sink>(
+/// Solves by the crew of so many workers: the report is the same for every crew.
+fn solve_by<R: AllocGlobal, C: Crews<R>, S: Source, K: Sink>(
     rt: &R,
+    crews: &C,
     args: &SolveArgs,
     workers: Workers,
     source: &mut S,
     out: &mut K,
 ) -> Result<(), Fault>
-    requires { IsSync R.row }
+    requires { C.Crew.ready }
     ensures { HasSolved args.now (K.device out.old) (K.device out.new) result
         (S.device source.old) (S.device source.new) }
 {
-    if workers.count == 1 {
-        return solve_text(rt, rt.alloc(), source, out, args, &mut Alone);
-    }
-    let mut crew = crew_of(workers);
+    let mut crew = crews.of(workers);
     solve_text(rt, rt.alloc(), source, out, args, &mut crew)
 }
 
 /// Solves an instance of a source. The exit status.
-fn solve_from<R: Threads + Sync + AllocGlobal, S: Source, K: Sink>(
+fn solve_from<R: AllocGlobal, C: Crews<R>, S: Source, K: Sink>(
     rt: &R,
+    crews: &C,
     args: &SolveArgs,
     workers: Workers,
     source: &mut S,
     out: &mut K,
 ) -> Result<u8, Fault>
-    requires { IsSync R.row }
+    requires { C.Crew.ready }
     ensures { SolvesFrom args.now (K.device out.old) (K.device out.new) result
         (S.device source.old) (S.device source.new) }
 {
-    solve_by(rt, args, workers, source, out)?;
+    solve_by(rt, crews, args, workers, source, out)?;
     Ok(DONE)
 }
 
 /// Runs `solve`. The exit status.
-fn run_solve<R: Files + Threads + Sync + AllocGlobal, S: Source, K: Sink>(
+fn run_solve<R: Files + AllocGlobal, C: Crews<R>, S: Source, K: Sink>(
     rt: &R,
+    crews: &C,
     args: &SolveArgs,
     workers: Workers,
     file: &Option<String>,
     source: &mut S,
     out: &mut K,
 ) -> Result<u8, Fault>
-    requires { IsSync R.row }
+    requires { C.Crew.ready }
     ensures { IsRunOn file.now
         (record { source = S.device source.old; sink = K.device out.old })
         (record { source = S.device source.new; sink = K.device out.new }) result
         (SolvesFrom args.now (K.device out.old) (K.device out.new) result) }
 {
     match open_given(rt, file)? {
-        Some(mut first) => solve_from(rt, args, workers, &mut first, out),
-        None => solve_from(rt, args, workers, source, out),
+        Some(mut first) => solve_from(rt, crews, args, workers, &mut first, out),
+        None => solve_from(rt, crews, args, workers, source, out),
     }
 }
 
-/// Runs what a command line asks for, on the files that it names or on the source, and writes to `out`. The exit status:
-/// 1 where `check` finds the schedule infeasible, else 0; or why it was refused.
-pub fn run_args<R: Files + Threads + Sync + AllocGlobal, S: Source, K: Sink>(
+/// Runs what a command line asks for, on the files that it names or on the source, and writes to `out`; `crews` makes
+/// who searches. The exit status: 1 where `check` finds the schedule infeasible, else 0; or why it was refused.
+pub fn run_args<R: Files + AllocGlobal, C: Crews<R>, S: Source, K: Sink>(
     rt: &R,
+    crews: &C,
     args: &Args,
     source: &mut S,
     out: &mut K,
 ) -> Result<u8, Fault>
-    requires { IsSync R.row }
+    requires { C.Crew.ready }
     ensures { IsCommandRun args.now
         (record { source = S.device source.old; sink = K.device out.old })
         (record { source = S.device source.new; sink = K.device out.new }) result }
@@ -189,6 +180,6 @@ pub fn run_args<R: Files + Threads + Sync + AllocGlobal, S: Source, K: Sink>(
             args,
             workers,
             file,
-        } => run_solve(rt, args, *workers, file, source, out),
+        } => run_solve(rt, crews, args, *workers, file, source, out),
     }
 }

@@ -8,4 +8,3 @@ pub use Rattle.shop_runs.specs.Answers
 pub use Rattle.shop_runs.specs.Trust
 pub use Rattle.shop_runs.specs.Exact
 pub use Rattle.shop_runs.specs.Runs
-pub mod inner

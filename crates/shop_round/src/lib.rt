@@ -1,10 +1,8 @@
-// The crew of one thread, and runs by it; runs by any crew are passed on.
+// Runs by the calling thread alone; runs by any crew, and that of one thread, are passed on.
 #![tactic(auto)]
 
-mod alone;
 mod runs;
 
-pub use alone::Alone;
 pub use runs::run_alone;
 pub use shop_runs::{
     Answer, Crew, Entry, Kind, MAX_BUDGET, MAX_PIECE, MAX_PIECES, MAX_ROUNDS, Order, Plan, Round,
@@ -12,4 +10,4 @@ pub use shop_runs::{
     more_rounds_are_no_worse, opening_covers, pieces_are_all, rounds_keep_the_cover, run,
     searches_end, solved_stays,
 };
-pub use shop_workers::{search_piece, search_piece_with};
+pub use shop_searchers::{Alone, search_piece, search_piece_with};

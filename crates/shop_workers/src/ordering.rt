@@ -7,7 +7,7 @@ ghost use Rattle.shop_workers.specs.Entries.{OfRound};
 ghost use Rattle.shop_workers.specs.inner.Gathered.{AllOfRound, Placed, AreFilled, AreKept, Fills};
 ghost use Rattle.shop_workers.specs.inner.Gathered.{StayFilled};
 
-use crate::piece_searchers::PieceSearcher;
+use crate::piece_search::PieceSearch;
 use shop_crews::{Entry, Round};
 use std::alloc::{AllocError, Global};
 
@@ -62,16 +62,16 @@ fn take<'r>(slots: &mut Vec<Option<Entry<'r>>>, number: usize) -> Option<Entry<'
 }
 
 // The entry that a worker brought, or else the piece's sheet.
-fn or_search<'r>(
+fn or_search<'r, P: PieceSearch<'r>>(
     alloc: Global,
-    searcher: &mut PieceSearcher<'r>,
+    searcher: &mut P,
     number: usize,
     brought: Option<Entry<'r>>,
 ) -> Result<Entry<'r>, AllocError>
-    requires number { number < length searcher.old.pieces.items }
-    requires brought { IfSome brought (λ e. IsEntryOf (told searcher.old) number e) }
-    ensures round { searcher.new ≡ searcher.old }
-    ensures entry { IfOk result (λ e. IsEntryOf (told searcher.old) number e) }
+    requires number { number < length (P.searched searcher.old).pieces.items }
+    requires brought { IfSome brought (λ e. IsEntryOf (told (P.searched searcher.old)) number e) }
+    ensures round { P.searched searcher.new ≡ P.searched searcher.old }
+    ensures entry { IfOk result (λ e. IsEntryOf (told (P.searched searcher.old)) number e) }
     ensures kept { IfOk result (λ e. IfSome brought.entry (λ kept. e ≡ kept)) }
 {
     match brought {
@@ -84,14 +84,14 @@ fn or_search<'r>(
 }
 
 // The entries of a round, one for each piece and in number order; a piece whose place is empty is searched.
-fn complete_with<'r>(
+fn complete_with<'r, P: PieceSearch<'r>>(
     alloc: Global,
-    searcher: &mut PieceSearcher<'r>,
+    searcher: &mut P,
     slots: &mut Vec<Option<Entry<'r>>>,
 ) -> Result<Vec<Entry<'r>>, AllocError>
-    requires len { vec_len slots.old ≡ length searcher.old.pieces.items }
-    requires slots { Placed (told searcher.old) slots.old.items }
-    ensures each { IfOk result (λ v. OneForEach (told searcher.old) v.items) }
+    requires len { vec_len slots.old ≡ length (P.searched searcher.old).pieces.items }
+    requires slots { Placed (told (P.searched searcher.old)) slots.old.items }
+    ensures each { IfOk result (λ v. OneForEach (told (P.searched searcher.old)) v.items) }
     ensures kept { IfOk result (λ v. AreKept slots.old.items v.items) }
 {
     let mut entries = Vec::with_capacity(alloc, slots.len())?;
@@ -104,7 +104,7 @@ fn complete_with<'r>(
 
 /// Gives the entries of a round, one for each piece and in number order; a piece whose place is empty is searched.
 /// Fails with `AllocError` if memory runs out.
-pub fn complete<'r>(
+pub fn complete<'r, P: PieceSearch<'r>>(
     alloc: Global,
     round: &'r Round<'r>,
     mut slots: Vec<Option<Entry<'r>>>,
@@ -114,7 +114,7 @@ pub fn complete<'r>(
     ensures each { IfOk result (λ v. OneForEach (told round.now) v.items) }
     ensures kept { IfOk result (λ v. AreKept slots.entry.items v.items) }
 {
-    let mut searcher = PieceSearcher::new(round);
+    let mut searcher = P::over(round);
     complete_with(alloc, &mut searcher, &mut slots)
 }
 
@@ -139,7 +139,7 @@ pub fn in_places<'r>(
 
 /// Gives the entries of a round, one for each piece and in number order, of what its workers brought: doubles are
 /// dropped, and pieces that nobody brought are searched. Fails with `AllocError` if memory runs out.
-pub fn in_order<'r>(
+pub fn in_order<'r, P: PieceSearch<'r>>(
     alloc: Global,
     round: &'r Round<'r>,
     lists: Vec<Result<Vec<Entry<'r>>, AllocError>>,
@@ -148,5 +148,5 @@ pub fn in_order<'r>(
     ensures { IfOk result (λ v. OneForEach (told round.now) v.items) }
 {
     let slots = in_places(alloc, round, lists)?;
-    complete(alloc, round, slots)
+    complete::<P>(alloc, round, slots)
 }

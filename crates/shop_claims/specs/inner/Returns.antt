@@ -8,7 +8,7 @@ use Rattle.shop_workers.specs.Entries.{OfRound, Brought}
 use Rattle.shop_seats.specs.Seats.{IsSeatOf}
 use Rattle.shop_seats.specs.declared.boards.Board.{Board}
 use Rattle.shop_seats.specs.declared.boards.Seat.{Seat}
-use Rattle.shop_claims.specs.declared.board_search.Returned.{Returned}
+use Rattle.shop_claims.specs.declared.seat_lending.Returned.{Returned}
 
 abbrev pub IsReturned : Board → Told → Seat → Brought → Type 0
 IsReturned b r s entries = IsSeatOf b s × IfOk entries (λ v. OfRound r v.items)

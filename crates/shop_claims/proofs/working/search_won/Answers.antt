@@ -6,5 +6,6 @@ use Rattle.shop_claims.proofs.working.search_won.Goals as goal
 
 pub mark-requires-clause-hit : goal.mark-requires-clause-hit
 mark-requires-clause-hit g c =
-    same_hit c.args.searcher.now (hits_of c.args.board.now) c.args.number c.requires.round c.requires.piece
-    ∙ (c.in_ok-sheet.ensures.hit ∙ eq-eqb c.in_ok-sheet.sheet.makespan c.args.searcher.now.bound (search rules))
+    let round = g.P.PieceSearch.searched c.args.searcher.now in
+    same_hit round (hits_of c.args.board.now) c.args.number c.requires.round c.requires.piece
+    ∙ (c.in_ok-sheet.ensures.hit ∙ eq-eqb c.in_ok-sheet.sheet.makespan round.bound (search rules))

@@ -7,7 +7,7 @@ use Rattle.shop_claims.proofs.working.turn.Goals as goal
 
 pub passed-requires : goal.passed-requires
 passed-requires g c =
-    let round = c.args.searcher.now in
+    let round = g.P.PieceSearch.searched c.args.searcher.now in
     let below = c.if-low-number.true in
     let piece : c.args.number < length (told round).pieces =
     subst (λ k. c.args.number < k) (sym (length-map round.pieces.items _)) c.requires.piece in

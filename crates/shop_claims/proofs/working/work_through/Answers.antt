@@ -10,7 +10,7 @@ use Rattle.shop_claims.proofs.working.work_through.Goals.{in-Some+in_ok-push, in
 
 pub loop-number-preserved : goal.loop-number-preserved
 loop-number-preserved g c =
-    let r = told c.args.searcher.now in
+    let r = told (g.P.PieceSearch.searched c.args.searcher.now) in
     let i = c.loop-number.invariant in
     let number = c.loop-number.number in
     let first = knows c.args.seat.now in

@@ -6,11 +6,12 @@ use Rattle.shop_claims.specs.Works.{Grows, IsAllKnown, AreWon, numbers_of}
 use Rattle.shop_claims.proofs.working.work_through.Given as goal
 
 abbrev pub invariant-loop-number : goal.invariant-loop-number
-invariant-loop-number g l = record {
-  round : l.searcher ≡ l.initial.searcher;
-  seat : IsSeatOf l.board l.seat;
-  grows : Grows (knows l.initial.seat) (knows l.seat);
-  claimed : IsAllKnown l.number (knows l.seat);
-  entries : AreWon (told l.initial.searcher) (knows l.initial.seat) (knows l.seat) l.entries.items;
-  below : All (λ n. n < l.number) (numbers_of l.entries.items);
-}
+invariant-loop-number g l =
+    let searched = g.P.PieceSearch.searched in record {
+      round : searched l.searcher ≡ searched l.initial.searcher;
+      seat : IsSeatOf l.board l.seat;
+      grows : Grows (knows l.initial.seat) (knows l.seat);
+      claimed : IsAllKnown l.number (knows l.seat);
+      entries : AreWon (told (searched l.initial.searcher)) (knows l.initial.seat) (knows l.seat) l.entries.items;
+      below : All (λ n. n < l.number) (numbers_of l.entries.items);
+    }

@@ -8,8 +8,9 @@ use Rattle.shop_workers.specs.inner.Gathered.{Placed}
 use Rattle.shop_workers.proofs.ordering.complete_with.Goals as goal
 
 pub loop-number-preserved : goal.loop-number-preserved
-loop-number-preserved c =
-    let r = told c.args.searcher.now in
+loop-number-preserved g c =
+    let round = g.P.PieceSearch.searched c.args.searcher.now in
+    let r = told round in
     let placed : Placed r c.loop-number.slots.items = c.loop-number.invariant.1 in
     let so_far : EntriesUpTo r c.loop-number.entries.items c.loop-number.number = c.loop-number.invariant.3 in
     let entry = c.in_ok-or_search.field-0 in
@@ -31,13 +32,14 @@ loop-number-preserved c =
     )
 
 pub returns-clause-each : goal.returns-clause-each
-returns-clause-each c =
-    let r = told c.args.searcher.now in
+returns-clause-each g c =
+    let round = g.P.PieceSearch.searched c.args.searcher.now in
+    let r = told round in
     let so_far : EntriesUpTo r c.loop-number.entries.items c.loop-number.number = c.loop-number.invariant.3 in
-    let pieces : length r.pieces ≡ c.loop-number.number = length-map c.args.searcher.now.pieces.items _ ∙ search rules in
+    let pieces : length r.pieces ≡ c.loop-number.number = length-map round.pieces.items _ ∙ search rules in
     all_entries r c.loop-number.entries.items c.loop-number.number (search rules) pieces so_far
 
 pub returns-clause-kept : goal.returns-clause-kept
-returns-clause-kept c =
+returns-clause-kept g c =
     let number : c.loop-number.number ≡ length c.args.slots.now.items = search rules in
     λ n e below there. c.loop-number.invariant.5.kept n e (subst (λ k. n < k) (sym number) below) there

@@ -1,0 +1,116 @@
+// A crew whose workers take numbers of pieces from one locked pool.
+ghost use Rattle.std.specs.Thread.{IsSync};
+ghost use Rattle.std.specs.Prelude.{◌≡◌, ◌<◌, ◌≤◌, ◌↔◌, IsSome, IfSome, IfOk};
+ghost use Rattle.shop_plans.specs.declared.plans.TheConstants.{MAX_WORKERS};
+ghost use Rattle.shop_crews.specs.Entries.{told};
+ghost use Rattle.shop_crews.specs.Crews.{OneForEach};
+ghost use Rattle.shop_workers.specs.Entries.{OfRound};
+
+use shop_crews::{Crew, Entry, Round};
+use shop_plans::Workers;
+use shop_pool::{Gate, Pool, serve};
+use shop_searchers::PieceSearcher;
+use shop_workers::{OpenGate, in_order};
+use std::alloc::{AllocError, Global};
+use std::sync::{Mutex, Wait};
+use std::thread;
+use std::thread::Threads;
+
+/// Workers that take numbers of pieces from one locked pool. Worker 0 is the calling thread. A search
+/// may wait for its workers, and has joined all of them when it returns. For library callers: the
+/// program doesn't use it.
+#[derive(Drop)]
+pub struct LockCrew<G> {
+    workers: Workers,
+    gate: G,
+}
+
+impl<G: Drop> LockCrew<G> {
+    /// Makes a crew of 1 to 64 workers; for any other number it is `None`.
+    pub fn new(workers: usize, gate: G) -> Option<LockCrew<G>>
+        ensures within { IsSome result ↔ ((0 < workers) × (workers ≤ MAX_WORKERS)) }
+        ensures keeps { IfSome result (λ c. (c.workers.count ≡ workers) × (c.gate ≡ gate)) }
+    {
+        let workers = Workers::new(workers)?;
+        Some(LockCrew { workers, gate })
+    }
+}
+
+impl<G> LockCrew<G> {
+    /// Gives the gate, with what it may have noted.
+    pub fn gate(&self) -> &G
+        ensures { result.now ≡ self.now.gate }
+    {
+        &self.gate
+    }
+}
+
+impl<G: Gate + Sync> LockCrew<G> {
+    /// Gives one entry for each piece of the round, in number order, as `Crew::search` does, past any gate. Fails with
+    /// `AllocError` if memory runs out, after all workers have been joined.
+    pub fn search_round<'r, R: Threads + Wait + Sync>(
+        &self,
+        rt: &R,
+        alloc: Global,
+        round: &'r Round<'r>,
+    ) -> Result<Vec<Entry<'r>>, AllocError>
+        ensures { IfOk result (λ v. OneForEach (told round.now) v.items) }
+    {
+        search_shared(rt, alloc, round, self.workers.count, &self.gate)
+    }
+}
+
+impl<R: Threads + Wait + Sync> Crew<R> for LockCrew<OpenGate> {
+    ghost ready = { IsSync R.row };
+
+    fn search<'r>(
+        &mut self,
+        rt: &R,
+        alloc: Global,
+        round: &'r Round<'r>,
+    ) -> Result<Vec<Entry<'r>>, AllocError> {
+        self.search_round(rt, alloc, round)
+    }
+}
+
+// The entries of the pieces that a worker takes and searches.
+fn serve_by_search<'r, R: Wait, G: Gate>(
+    rt: &R,
+    alloc: Global,
+    round: &'r Round<'r>,
+    pool: &Mutex<Pool>,
+    gate: &G,
+    worker: usize,
+) -> Result<Vec<Entry<'r>>, AllocError>
+    ensures { IfOk result (λ v. OfRound (told round.now) v.items) }
+{
+    serve::<PieceSearcher<'r>, R, G>(rt, alloc, round, pool, gate, worker)
+}
+
+// The entries of a round by this many workers at most, of which the calling thread is one. No more are started than
+// there are pieces; what a thread that can't be started would have done, the others do.
+fn search_shared<'r, R: Threads + Wait + Sync, G: Gate + Sync>(
+    rt: &R,
+    alloc: Global,
+    round: &'r Round<'r>,
+    workers: usize,
+    gate: &G,
+) -> Result<Vec<Entry<'r>>, AllocError>
+    ensures { IfOk result (λ v. OneForEach (told round.now) v.items) }
+{
+    let pieces = round.pieces.len();
+    let pool = Mutex::new(Pool::open(pieces));
+    let lock = &pool;
+    let count = workers.min(pieces);
+    // The last index runs on the calling thread.
+    let lists = thread::map_indices(
+        rt,
+        alloc,
+        count,
+        &|index: usize|
+            requires { index < count }
+            ensures { IfOk result (λ v. OfRound (told round.entry.now) v.items) }
+        { serve_by_search(rt, alloc, round, lock, gate, count - 1 - index) },
+    )?;
+    in_order::<PieceSearcher<'r>>(alloc, round, lists)
+}

@@ -1,0 +1,53 @@
+// The pieces of a round searched in order, up to the first that ends at the opening bound.
+ghost use Rattle.std.specs.Prelude.{◌≡◌, ◌+◌, ◌<◌, length, IfOk, OnOk};
+ghost use Rattle.shop_crews.specs.Entries.{told};
+ghost use Rattle.shop_crews.specs.Crews.{OneForEach, StopsAtHit};
+ghost use Rattle.shop_workers.specs.inner.Hits.{IsEntryUpToHit, IsFirstHitBelow};
+
+use crate::piece_search::PieceSearch;
+use shop_crews::Entry;
+use std::alloc::{AllocError, Global};
+
+// The entry of the next piece. Where an earlier one, `hit`, ends at the opening bound, the piece is passed; else it is
+// searched, and becomes `hit` if it ends there. Fails with `AllocError` if memory runs out.
+fn entry_up_to_hit<'r, P: PieceSearch<'r>>(
+    alloc: Global,
+    searcher: &mut P,
+    number: usize,
+    hit: &mut Option<usize>,
+) -> Result<Entry<'r>, AllocError>
+    requires piece { number < length (P.searched searcher.old).pieces.items }
+    requires hit { IsFirstHitBelow (told (P.searched searcher.old)) number hit.old }
+    ensures entry { IfOk result (IsEntryUpToHit (told (P.searched searcher.old)) number) }
+    ensures hit { OnOk result (IsFirstHitBelow (told (P.searched searcher.old)) (number + 1) hit.new) }
+    ensures round { P.searched searcher.new ≡ P.searched searcher.old }
+{
+    if let Some(by) = *hit {
+        return Ok(Entry::passed(searcher.round(), number, by));
+    }
+    let sheet = searcher.search(alloc, number)?;
+    let round = searcher.round();
+    if sheet.makespan == round.bound {
+        *hit = Some(number);
+    }
+    Ok(Entry::done(round, sheet))
+}
+
+/// One entry for each piece, in number order: the pieces are searched up to and with the first that ends at the opening
+/// bound, and the others are passed. Fails with `AllocError` if memory runs out.
+pub fn search_up_to_hit<'r, P: PieceSearch<'r>>(
+    alloc: Global,
+    searcher: &mut P,
+) -> Result<Vec<Entry<'r>>, AllocError>
+    ensures entries { IfOk result (λ v. OneForEach (told (P.searched searcher.old)) v.items) }
+    ensures stops { IfOk result (λ v. StopsAtHit (told (P.searched searcher.old)) v.items) }
+{
+    let pieces = searcher.round().pieces.len();
+    let mut entries = Vec::with_capacity(alloc, pieces)?;
+    let mut hit = None;
+    for number in 0..pieces {
+        let entry = entry_up_to_hit(alloc, searcher, number, &mut hit)?;
+        entries.push(entry)?;
+    }
+    Ok(entries)
+}
