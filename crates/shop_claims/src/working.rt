@@ -31,7 +31,8 @@ fn search_won<'r, P: PieceSearch<'r>, G: SeatGate>(
     ensures grows { Grows (knows seat.old) (knows seat.new) }
     ensures round { P.searched searcher.new ≡ P.searched searcher.old }
     ensures mine { (knows seat.new).mine ≡ (knows seat.old).mine }
-    ensures entry { IfOk result (IsServedEntry (told (P.searched searcher.old)) number (knows seat.new)) }
+    ensures entry { IfOk result
+        (IsServedEntry (told (P.searched searcher.old)) number (knows seat.new)) }
 {
     gate.won(worker, seat, number);
     let sheet = searcher.search(alloc, number)?;
@@ -59,7 +60,8 @@ fn turn<'r, P: PieceSearch<'r>, G: SeatGate>(
     ensures grows { Grows (knows seat.old) (knows seat.new) }
     ensures round { P.searched searcher.new ≡ P.searched searcher.old }
     ensures claimed { IsKnown (knows seat.new) number }
-    ensures entry { BringsTurn (told (P.searched searcher.old)) number (knows seat.old) (knows seat.new) result }
+    ensures entry { BringsTurn (told (P.searched searcher.old)) number (knows seat.old)
+        (knows seat.new) result }
 {
     let low = board.look(seat);
     if !board.claim(seat, number) {
@@ -86,8 +88,10 @@ fn work_through<'r, P: PieceSearch<'r>, G: SeatGate>(
     ensures seat { IsSeatOf board.now seat.new }
     ensures grows { Grows (knows seat.old) (knows seat.new) }
     ensures round { P.searched searcher.new ≡ P.searched searcher.old }
-    ensures claimed { OnOk result (IsAllKnown (length (P.searched searcher.old).pieces.items) (knows seat.new)) }
-    ensures entries { BringsWon (told (P.searched searcher.old)) (knows seat.old) (knows seat.new) result }
+    ensures claimed { OnOk result
+        (IsAllKnown (length (P.searched searcher.old).pieces.items) (knows seat.new)) }
+    ensures entries { BringsWon (told (P.searched searcher.old)) (knows seat.old) (knows seat.new)
+        result }
 {
     let mut entries = Vec::new(alloc);
     for number in 0..searcher.round().pieces.len() {

@@ -30,7 +30,8 @@ fn turn<'r, P: PieceSearch<'r>, G: Gate>(
     ensures lower { low.new ≤ low.old }
     ensures entry { IfOk result (λ e. IsEntryOf (told (P.searched searcher.old)) number e) }
     ensures passed { IfOk result (λ e. low.old < number → IsPassed e.kind) }
-    ensures hit { OnOk result (is_hit (told (P.searched searcher.old)) number ≡ true → low.new ≤ number) }
+    ensures hit { OnOk result
+        (is_hit (told (P.searched searcher.old)) number ≡ true → low.new ≤ number) }
 {
     if *low < number {
         return Ok(Entry::passed(searcher.round(), number, *low));
@@ -62,7 +63,8 @@ fn serve_with<'r, P: PieceSearch<'r>, R: Wait, G: Gate>(
     worker: usize,
 ) -> Result<Vec<Entry<'r>>, AllocError>
     ensures of { IfOk result (λ v. OfRound (told (P.searched searcher.old)) v.items) }
-    ensures passes { IfOk result (λ v. AllPairs (LetsPass (told (P.searched searcher.old))) v.items) }
+    ensures passes { IfOk result
+        (λ v. AllPairs (LetsPass (told (P.searched searcher.old))) v.items) }
 {
     let mut entries = Vec::new(alloc);
     let pieces = searcher.round().pieces.len();

@@ -19,7 +19,8 @@ fn entry_up_to_hit<'r, P: PieceSearch<'r>>(
     requires piece { number < length (P.searched searcher.old).pieces.items }
     requires hit { IsFirstHitBelow (told (P.searched searcher.old)) number hit.old }
     ensures entry { IfOk result (IsEntryUpToHit (told (P.searched searcher.old)) number) }
-    ensures hit { OnOk result (IsFirstHitBelow (told (P.searched searcher.old)) (number + 1) hit.new) }
+    ensures hit { OnOk result
+        (IsFirstHitBelow (told (P.searched searcher.old)) (number + 1) hit.new) }
     ensures round { P.searched searcher.new ≡ P.searched searcher.old }
 {
     if let Some(by) = *hit {
