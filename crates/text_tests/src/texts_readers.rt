@@ -62,7 +62,14 @@ pub fn assert_read(rt: &impl Abort, alloc: Global, format: Format, text: &[u8], 
     assert_text_of(rt, told.as_str(), want, text.len());
 }
 
-const ORLIB: [(&str, &str); 27] = [
+/// Asserts what is read of each text in this format.
+fn assert_each_read(rt: &impl Abort, alloc: Global, format: Format, rows: &[(&str, &str)]) {
+    for (text, want) in rows {
+        assert_read(rt, alloc, format, text.as_bytes(), want);
+    }
+}
+
+static ORLIB: [(&str, &str); 27] = [
     ("", "error 4: no instance"),
     ("words alone\n\n", "error 4: no instance"),
     ("2", "error 5: line 1: bad shape of size line"),
@@ -133,12 +140,10 @@ const ORLIB: [(&str, &str); 27] = [
 
 #[test]
 fn texts_of_orlib(rt: HostRuntime) {
-    for (text, want) in ORLIB {
-        assert_read(&rt, rt.alloc(), Format::Orlib, text.as_bytes(), want);
-    }
+    assert_each_read(&rt, rt.alloc(), Format::Orlib, &ORLIB);
 }
 
-const TAILLARD: [(&str, &str); 10] = [
+static TAILLARD: [(&str, &str); 10] = [
     ("2 2 1 2 3 4 5", "error 5: line 1: bad shape of size line"),
     ("2", "error 5: line 1: bad shape of size line"),
     ("2 2\nTimes\n3 2\nwords\n2 4\n", "error 7: line 4: bad row"),
@@ -168,12 +173,10 @@ const TAILLARD: [(&str, &str); 10] = [
 
 #[test]
 fn texts_of_taillard(rt: HostRuntime) {
-    for (text, want) in TAILLARD {
-        assert_read(&rt, rt.alloc(), Format::Taillard, text.as_bytes(), want);
-    }
+    assert_each_read(&rt, rt.alloc(), Format::Taillard, &TAILLARD);
 }
 
-const ROUTES: [(&str, &str); 7] = [
+static ROUTES: [(&str, &str); 7] = [
     (
         "3 2\n0 0 3 1 2\n4 1 2 0 4\n7\n",
         "[1 2 | 0 0:3 1:2 | 4 1:2 0:4 | 7]",
@@ -191,9 +194,7 @@ const ROUTES: [(&str, &str); 7] = [
 
 #[test]
 fn texts_of_routes(rt: HostRuntime) {
-    for (text, want) in ROUTES {
-        assert_read(&rt, rt.alloc(), Format::Routes, text.as_bytes(), want);
-    }
+    assert_each_read(&rt, rt.alloc(), Format::Routes, &ROUTES);
 }
 
 /// Two instances with names, their lines ended by CR LF.
