@@ -1,7 +1,7 @@
 // Command lines that are faulty.
 use crate::runs::{CROSSING, Ended, run};
 
-const FAULTS: [[&str; 3]; 10] = [
+static FAULTS: [[&str; 3]; 10] = [
     ["solve", "--workers", "0"],
     ["solve", "--workers", "65"],
     ["solve", "--rounds", "100001"],
@@ -21,7 +21,7 @@ fn is_refused(ended: &Ended) -> bool {
 
 #[test]
 fn faults_of_the_command_line(rt: HostRuntime) {
-    for words in FAULTS {
+    for words in &FAULTS {
         let ended = run(&rt, words.as_slice(), CROSSING);
         assert!(&rt; is_refused(&ended), "{words:?}");
     }
