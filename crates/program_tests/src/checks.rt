@@ -3,7 +3,7 @@ use crate::lists::TWO_EXAMPLES;
 use crate::runs::{CROSSING, prints, refuses};
 
 /// A format, a text, its verdict, and the status.
-const VERDICTS: [(&str, &str, &str, u8); 6] = [
+static VERDICTS: [(&str, &str, &str, u8); 6] = [
     (
         "orlib",
         "2 2\n0 3 1 2\n1 2 0 4\njob 0: 0 3\njob 1: 0 3\n",
@@ -44,13 +44,13 @@ const VERDICTS: [(&str, &str, &str, u8); 6] = [
 
 #[test]
 fn verdicts(rt: HostRuntime) {
-    for (format, text, line, status) in VERDICTS {
-        prints(&rt, &["check", "--format", format], text, line, status);
+    for (format, text, line, status) in &VERDICTS {
+        prints(&rt, &["check", "--format", *format], text, line, *status);
     }
 }
 
 /// The lines of schedules of two jobs that cross, and the verdicts on them.
-const READ: [(&str, &str); 3] = [
+static READ: [(&str, &str); 3] = [
     (
         "job 0: 0 3\njob 1: 0 1000000000000000\n",
         "feasible 1000000000000004\n",
@@ -61,14 +61,14 @@ const READ: [(&str, &str); 3] = [
 
 #[test]
 fn schedule_lines_that_are_read(rt: HostRuntime) {
-    for (lines, line) in READ {
+    for (lines, line) in &READ {
         let text = format!(in rt.alloc(); "{CROSSING}{lines}").expect(&rt, "memory");
         prints(&rt, &["check"], text.as_str(), line, 0);
     }
 }
 
 /// The lines of schedules of two jobs that cross, and what is said of them.
-const REFUSED: [(&str, &str); 7] = [
+static REFUSED: [(&str, &str); 7] = [
     (
         "job 0: 0 3\njob 1: 0 1000000000000001\n",
         "error 12: line 5: bad schedule\n",
@@ -95,7 +95,7 @@ const REFUSED: [(&str, &str); 7] = [
 
 #[test]
 fn schedule_lines_that_are_refused(rt: HostRuntime) {
-    for (lines, line) in REFUSED {
+    for (lines, line) in &REFUSED {
         let text = format!(in rt.alloc(); "{CROSSING}{lines}").expect(&rt, "memory");
         refuses(&rt, &["check"], text.as_str(), line, 3);
     }

@@ -75,6 +75,5 @@ fn a_thousand_jobs_on_one_machine(rt: HostRuntime) {
     report_begins(&rt, words.as_slice(), text.as_str(), report.as_str());
     let ended = run(&rt, words.as_slice(), text.as_str());
     let bytes = ended.out.bytes();
-    assert!(&rt; bytes.len() == report.len() + 72 + 2);
-    assert!(&rt; bytes.ends_with(b"|\n".as_slice()));
+    assert!(&rt; bytes.len() == report.len() + 72 + 2 && bytes.ends_with(b"|\n".as_slice()));
 }

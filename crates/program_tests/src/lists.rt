@@ -7,7 +7,7 @@ pub const TWO_EXAMPLES: &str =
     0 3 1 2\r\n 1 2 0 4\r\n +++++\r\n \
     instance gap\r\n +++++\r\n Second, 2x3\r\n 2 3\r\n 0 5 1 3 2 0\r\n 1 1 0 1 2 6\r\n";
 
-const LISTS: [Report; 2] = [
+static LISTS: [Report; 2] = [
     (&["list"], TWO_EXAMPLES, "alpha 2 2\ngap 2 3\n"),
     (
         &["list", "--format", "routes"],
@@ -22,7 +22,7 @@ fn instances_with_names_and_one_without(rt: HostRuntime) {
 }
 
 /// Texts that are no instances, and what is said of them.
-const REFUSED: [(&str, &str); 11] = [
+static REFUSED: [(&str, &str); 11] = [
     ("", "error 4: no instance\n"),
     ("2", "error 5: line 1: bad shape of size line\n"),
     ("1001 2", "error 6: line 1: size out of range\n"),
@@ -53,7 +53,7 @@ const REFUSED: [(&str, &str); 11] = [
 
 #[test]
 fn refused_texts(rt: HostRuntime) {
-    for (text, line) in REFUSED {
+    for (text, line) in &REFUSED {
         refuses(&rt, &["list"], text, line, 3);
     }
 }

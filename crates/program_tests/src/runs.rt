@@ -86,6 +86,23 @@ pub fn reports_all<R: Files + Threads + Sync + AllocGlobal + Abort>(rt: &R, rows
     }
 }
 
+/// Sees what a run on these words and this text printed, what it said on standard error, and its status.
+fn ended_so(
+    rt: &impl Abort,
+    ended: &Ended,
+    words: &[&str],
+    text: &str,
+    out: &str,
+    err: &str,
+    status: u8,
+) {
+    assert!(rt;
+        ended.out.bytes() == out.as_bytes() && ended.err.bytes() == err.as_bytes(),
+        "{words:?}, {text}"
+    );
+    assert_eq!(rt; ended.status, status);
+}
+
 /// Runs the program, and sees what it says on standard error, that it prints nothing, and its status.
 pub fn refuses<R: Files + Threads + Sync + AllocGlobal + Abort>(
     rt: &R,
@@ -97,9 +114,7 @@ pub fn refuses<R: Files + Threads + Sync + AllocGlobal + Abort>(
     requires { IsSync R.row }
 {
     let ended = run(rt, words, text);
-    assert!(rt; ended.err.bytes() == wanted.as_bytes(), "{words:?}, {text}");
-    assert!(rt; ended.out.bytes().is_empty());
-    assert_eq!(rt; ended.status, status);
+    ended_so(rt, &ended, words, text, "", wanted, status);
 }
 
 /// Runs the program, and sees what it prints, that it says nothing, and its status.
@@ -113,9 +128,7 @@ pub fn prints<R: Files + Threads + Sync + AllocGlobal + Abort>(
     requires { IsSync R.row }
 {
     let ended = run(rt, words, text);
-    assert!(rt; ended.out.bytes() == wanted.as_bytes(), "{words:?}, {text}");
-    assert!(rt; ended.err.bytes().is_empty());
-    assert_eq!(rt; ended.status, status);
+    ended_so(rt, &ended, words, text, wanted, "", status);
 }
 
 /// The words of a `check` in the same format of the same instance.
@@ -164,6 +177,21 @@ fn is_judged_feasible<R: Files + Threads + Sync + AllocGlobal + Abort>(
     prints(rt, check.as_slice(), schedule.as_str(), verdict.as_str(), 0);
 }
 
+/// The report of a run that succeeded, which begins so.
+fn report_of<R: AllocGlobal + Abort>(
+    rt: &R,
+    ended: &Ended,
+    words: &[&str],
+    wanted: &str,
+) -> String {
+    assert!(rt;
+        ended.out.bytes().starts_with(wanted.as_bytes()),
+        "{words:?}"
+    );
+    assert_eq!(rt; ended.status, 0);
+    String::from_utf8_lossy(rt.alloc(), ended.out.bytes()).expect(rt, "memory")
+}
+
 /// Runs `solve`, sees that its report begins so, and that `check` judges its schedule feasible with its makespan.
 pub fn report_begins<R: Files + Threads + Sync + AllocGlobal + Abort>(
     rt: &R,
@@ -174,11 +202,6 @@ pub fn report_begins<R: Files + Threads + Sync + AllocGlobal + Abort>(
     requires { IsSync R.row }
 {
     let ended = run(rt, words, text);
-    assert!(rt;
-        ended.out.bytes().starts_with(wanted.as_bytes()),
-        "{words:?}"
-    );
-    assert_eq!(rt; ended.status, 0);
-    let report = String::from_utf8_lossy(rt.alloc(), ended.out.bytes()).expect(rt, "memory");
+    let report = report_of(rt, &ended, words, wanted);
     is_judged_feasible(rt, words, text, report.as_str());
 }

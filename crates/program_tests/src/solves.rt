@@ -2,7 +2,7 @@
 use crate::lists::TWO_EXAMPLES;
 use crate::runs::{CROSSING, Report, refuses, report_begins, reports, reports_all};
 
-const CROSSED: [Report; 4] = [
+static CROSSED: [Report; 4] = [
     (
         &["solve", "--rounds", "1", "--budget", "100", "--gantt"],
         CROSSING,
@@ -39,7 +39,7 @@ const THREE_MACHINES: &str = "2 3\n0 5 1 3 2 0\n1 1 0 1 2 6\n";
 
 /// Operations of time 0 at the beginning, where the chosen operation begins where the conflict set is cut off; an
 /// optimum shown by exhaustion.
-const TIMES_OF_0: [Report; 2] = [
+static TIMES_OF_0: [Report; 2] = [
     (
         &["solve", "--rounds", "1", "--budget", "100"],
         "2 3\n0 4 1 1 2 0\n1 0 2 5 0 0\n",
@@ -61,7 +61,7 @@ fn operations_of_time_0_and_an_optimum_shown_by_exhaustion(rt: HostRuntime) {
 }
 
 /// A number of rounds, and the report after them.
-const ROUNDS: [(&str, &str); 4] = [
+static ROUNDS: [(&str, &str); 4] = [
     (
         "1",
         "instance 1\nsize 2 3\nmakespan 16\nbound 10\nstatus open\nopen 2\nrounds 1\nnodes 3\njob 0: 0 5 8\n\
@@ -87,7 +87,7 @@ const ROUNDS: [(&str, &str); 4] = [
 #[test]
 fn rounds_of_small_budgets_with_any_workers(rt: HostRuntime) {
     for workers in ["1", "2", "3", "64"] {
-        for (rounds, report) in ROUNDS {
+        for (rounds, report) in &ROUNDS {
             let words = [
                 "solve",
                 "--piece",
@@ -104,7 +104,7 @@ fn rounds_of_small_budgets_with_any_workers(rt: HostRuntime) {
     }
 }
 
-const START_SCHEDULES: [Report; 3] = [
+static START_SCHEDULES: [Report; 3] = [
     (
         &["solve"],
         "2 1\n0 5\n0 0\n",
@@ -129,7 +129,7 @@ fn start_schedules_that_are_optimal(rt: HostRuntime) {
 }
 
 /// A text of Taillard's whose bounds are false, and an instance by its name.
-const OTHER_TEXTS: [Report; 2] = [
+static OTHER_TEXTS: [Report; 2] = [
     (
         &[
             "solve", "--format", "taillard", "--rounds", "1", "--budget", "100",
@@ -161,7 +161,7 @@ fn a_name_that_is_not_there(rt: HostRuntime) {
 /// Jobs with a release, and one without operations.
 const RELEASES: &str = "3 2\n0 0 3 1 2\n4 1 2 0 4\n7\n";
 
-const RELEASED: [Report; 4] = [
+static RELEASED: [Report; 4] = [
     (
         &[
             "solve", "--format", "routes", "--rounds", "1", "--budget", "100", "--gantt",
@@ -216,7 +216,7 @@ fn small_pieces<'w>(rounds: &'w str, order: &'w str, workers: &'w str) -> [&'w s
 }
 
 /// A number of rounds, and how the report after them begins, by either order.
-const FIRST_ROUNDS: [(&str, &str); 3] = [
+static FIRST_ROUNDS: [(&str, &str); 3] = [
     (
         "1",
         "instance 1\nsize 4 3\nmakespan 12\nbound 9\nstatus open\nopen 2\nrounds 1\nnodes 2\n",
@@ -235,7 +235,7 @@ const FIRST_ROUNDS: [(&str, &str); 3] = [
 fn the_first_rounds_of_both_orders(rt: HostRuntime) {
     for order in ["kept", "bound"] {
         for workers in ["1", "2", "3"] {
-            for (rounds, open) in FIRST_ROUNDS {
+            for (rounds, open) in &FIRST_ROUNDS {
                 let words = small_pieces(rounds, order, workers);
                 report_begins(&rt, words.as_slice(), SHORT_JOBS, open);
             }
@@ -244,7 +244,7 @@ fn the_first_rounds_of_both_orders(rt: HostRuntime) {
 }
 
 /// An order, and the report at the end.
-const ENDS: [(&str, &str); 2] = [
+static ENDS: [(&str, &str); 2] = [
     (
         "kept",
         "instance 1\nsize 4 3\nmakespan 10\nbound 10\nstatus optimal\nopen 0\nrounds 4\nnodes 11\n\
@@ -261,7 +261,7 @@ const ENDS: [(&str, &str); 2] = [
 fn the_ends_of_both_orders(rt: HostRuntime) {
     for workers in ["1", "2", "3"] {
         for rounds in ["4", "1000"] {
-            for (order, report) in ENDS {
+            for (order, report) in &ENDS {
                 let words = small_pieces(rounds, order, workers);
                 reports(&rt, words.as_slice(), SHORT_JOBS, report);
             }

@@ -38,10 +38,15 @@ fn drawn(rt: &impl Abort, alloc: Global, instance: &Instance, table: &Table) -> 
     }
 }
 
+/// Asserts a text that is printed.
+fn assert_printed(rt: &impl Abort, text: &[u8], want: &[u8]) {
+    assert_eq!(rt; text, want);
+}
+
 /// Asserts the Gantt text of a table that is feasible.
 fn assert_drawn(rt: &impl Abort, alloc: Global, instance: &Instance, table: &Table, want: &[u8]) {
     let text = drawn(rt, alloc, instance, table);
-    assert_eq!(rt; text.as_slice(), want);
+    assert_printed(rt, text.as_slice(), want);
 }
 
 /// The answer of a search that a report tells beside the table.
@@ -90,7 +95,7 @@ fn assert_told(
     want: &[u8],
 ) {
     let text = told(rt, alloc, instance, table, search);
-    assert_eq!(rt; text.as_slice(), want);
+    assert_printed(rt, text.as_slice(), want);
 }
 
 /// What a search of instance 1 tells that proved its table optimal.
@@ -210,14 +215,13 @@ fn a_thousand_long_jobs_fit_72_columns(rt: HostRuntime) {
     let (instance, table) = row_of_jobs(&rt, alloc, 1000, 1_000_000_000);
     let text = drawn(&rt, alloc, &instance, &table);
     let head = b"unit 13888888889\nmachine 0 |".as_slice();
-    assert!(rt; text.as_slice().starts_with(head));
-    assert_eq!(rt; text.len(), head.len() + 72 + 2);
+    assert!(rt; text.as_slice().starts_with(head) && text.len() == head.len() + 72 + 2);
 }
 
 /// Asserts the line of a verdict.
 fn assert_line(rt: &impl Abort, alloc: Global, verdict: &Verdict, want: &[u8]) {
     let line = verdict_line(alloc, verdict).expect(rt, "memory");
-    assert_eq!(rt; line.as_slice(), want);
+    assert_printed(rt, line.as_slice(), want);
 }
 
 const VERDICTS: [(Verdict, &[u8]); 4] = [
@@ -274,5 +278,5 @@ fn instances_are_listed(rt: HostRuntime) {
     );
     list.push(gap).expect(&rt, "memory");
     let text = listing(alloc, list.as_slice()).expect(&rt, "memory");
-    assert_eq!(rt; text.as_slice(), b"alpha 2 2\ngap 2 3\n".as_slice());
+    assert_printed(&rt, text.as_slice(), b"alpha 2 2\ngap 2 3\n");
 }

@@ -1,4 +1,5 @@
 // Instance texts read and refused, with the answers of the formats' description.
+use shop_model::Op;
 use shop_text::{
     FORMATS, Format, Named, ReadFault, pick, read, read_orlib, read_routes, read_taillard,
 };
@@ -6,41 +7,69 @@ use std::alloc::Global;
 use std::fmt::Write;
 use std::process::Abort;
 
-/// NAME MACHINES, then for each job its release and its operations, or the fault.
-fn told(rt: &impl Abort, alloc: Global, answer: &Result<Vec<Named>, ReadFault>) -> String {
-    let mut text = String::new(alloc);
+/// Adds a job: its release and its operations.
+fn tell_job(rt: &impl Abort, text: &mut String, release: u64, route: &[Op]) {
+    write!(text, " | {release}").expect(rt, "memory");
+    for op in route {
+        write!(text, " {}:{}", op.machine, op.time).expect(rt, "memory");
+    }
+}
+
+/// Adds NAME MACHINES, then each job.
+fn tell_named(rt: &impl Abort, text: &mut String, named: &Named) {
+    let instance = &named.instance;
+    write!(text, "[{} {}", named.name, instance.machines()).expect(rt, "memory");
+    for j in 0..instance.jobs() {
+        tell_job(rt, text, instance.release(j), instance.route(j));
+    }
+    text.push_str("]").expect(rt, "memory");
+}
+
+/// Adds each instance, or the fault.
+fn tell(rt: &impl Abort, text: &mut String, answer: &Result<Vec<Named>, ReadFault>) {
     match answer {
         Err(fault) => write!(text, "{fault}").expect(rt, "memory"),
-        Ok(named) => {
-            for n in named {
-                write!(text, "[{} {}", n.name, n.instance.machines()).expect(rt, "memory");
-                for j in 0..n.instance.jobs() {
-                    write!(text, " | {}", n.instance.release(j)).expect(rt, "memory");
-                    for op in n.instance.route(j) {
-                        write!(text, " {}:{}", op.machine, op.time).expect(rt, "memory");
-                    }
-                }
-                text.push_str("]").expect(rt, "memory");
+        Ok(all) => {
+            for named in all {
+                tell_named(rt, text, named);
             }
         }
     }
-    text
 }
 
-/// Asserts an answer, as `told` writes it.
+/// Asserts a text that is told.
+fn assert_text(rt: &impl Abort, text: &str, want: &str) {
+    assert_eq!(rt; text, want);
+}
+
+/// Asserts what is told of a text of so many bytes.
+fn assert_text_of(rt: &impl Abort, told: &str, want: &str, bytes: usize) {
+    assert_eq!(rt; told, want, "a text of {bytes} bytes");
+}
+
+/// Asserts an answer, as `tell` writes it.
 fn assert_told(rt: &impl Abort, alloc: Global, answer: &Result<Vec<Named>, ReadFault>, want: &str) {
-    let text = told(rt, alloc, answer);
-    assert_eq!(rt; text.as_str(), want);
+    let mut text = String::new(alloc);
+    tell(rt, &mut text, answer);
+    assert_text(rt, text.as_str(), want);
 }
 
 /// Asserts what is read of a text in this format.
 pub fn assert_read(rt: &impl Abort, alloc: Global, format: Format, text: &[u8], want: &str) {
     let answer = read(alloc, format, text);
-    let told = told(rt, alloc, &answer);
-    assert_eq!(rt; told.as_str(), want, "a text of {} bytes", text.len());
+    let mut told = String::new(alloc);
+    tell(rt, &mut told, &answer);
+    assert_text_of(rt, told.as_str(), want, text.len());
 }
 
-const ORLIB: [(&str, &str); 27] = [
+/// Asserts what is read of each text in this format.
+fn assert_each_read(rt: &impl Abort, alloc: Global, format: Format, rows: &[(&str, &str)]) {
+    for (text, want) in rows {
+        assert_read(rt, alloc, format, text.as_bytes(), want);
+    }
+}
+
+static ORLIB: [(&str, &str); 27] = [
     ("", "error 4: no instance"),
     ("words alone\n\n", "error 4: no instance"),
     ("2", "error 5: line 1: bad shape of size line"),
@@ -111,12 +140,10 @@ const ORLIB: [(&str, &str); 27] = [
 
 #[test]
 fn texts_of_orlib(rt: HostRuntime) {
-    for (text, want) in ORLIB {
-        assert_read(&rt, rt.alloc(), Format::Orlib, text.as_bytes(), want);
-    }
+    assert_each_read(&rt, rt.alloc(), Format::Orlib, &ORLIB);
 }
 
-const TAILLARD: [(&str, &str); 10] = [
+static TAILLARD: [(&str, &str); 10] = [
     ("2 2 1 2 3 4 5", "error 5: line 1: bad shape of size line"),
     ("2", "error 5: line 1: bad shape of size line"),
     ("2 2\nTimes\n3 2\nwords\n2 4\n", "error 7: line 4: bad row"),
@@ -146,12 +173,10 @@ const TAILLARD: [(&str, &str); 10] = [
 
 #[test]
 fn texts_of_taillard(rt: HostRuntime) {
-    for (text, want) in TAILLARD {
-        assert_read(&rt, rt.alloc(), Format::Taillard, text.as_bytes(), want);
-    }
+    assert_each_read(&rt, rt.alloc(), Format::Taillard, &TAILLARD);
 }
 
-const ROUTES: [(&str, &str); 7] = [
+static ROUTES: [(&str, &str); 7] = [
     (
         "3 2\n0 0 3 1 2\n4 1 2 0 4\n7\n",
         "[1 2 | 0 0:3 1:2 | 4 1:2 0:4 | 7]",
@@ -169,9 +194,7 @@ const ROUTES: [(&str, &str); 7] = [
 
 #[test]
 fn texts_of_routes(rt: HostRuntime) {
-    for (text, want) in ROUTES {
-        assert_read(&rt, rt.alloc(), Format::Routes, text.as_bytes(), want);
-    }
+    assert_each_read(&rt, rt.alloc(), Format::Routes, &ROUTES);
 }
 
 /// Two instances with names, their lines ended by CR LF.
@@ -286,11 +309,11 @@ fn texts_at_the_limit_of_bytes(rt: HostRuntime) {
 #[test]
 fn words_of_formats(rt: HostRuntime) {
     assert_eq!(rt; FORMATS.len(), 3);
-    assert_eq!(rt; Format::Orlib.word(), "orlib");
-    assert_eq!(rt; Format::Taillard.word(), "taillard");
-    assert_eq!(rt; Format::Routes.word(), "routes");
-    assert_eq!(rt; Format::of_word("taillard"), Some(Format::Taillard));
-    assert_eq!(rt; Format::of_word("Orlib"), None);
+    assert_text(&rt, Format::Orlib.word(), "orlib");
+    assert_text(&rt, Format::Taillard.word(), "taillard");
+    assert_text(&rt, Format::Routes.word(), "routes");
+    assert!(rt; Format::of_word("taillard") == Some(Format::Taillard));
+    assert!(rt; Format::of_word("Orlib") == None);
 }
 
 #[test]
@@ -321,7 +344,7 @@ fn each_reader_reads_its_format(rt: HostRuntime) {
 /// Asserts the words of a fault.
 fn assert_said(rt: &impl Abort, alloc: Global, fault: ReadFault, want: &str) {
     let said = format!(in alloc; "{fault}").expect(rt, "memory");
-    assert_eq!(rt; said.as_str(), want);
+    assert_text(rt, said.as_str(), want);
 }
 
 const FAULTS: [(ReadFault, &str); 11] = [

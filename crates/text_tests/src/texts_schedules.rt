@@ -9,7 +9,7 @@ use worked_instances::crossing;
 fn assert_feasible(rt: &impl Abort, alloc: Global, text: &[u8], makespan: u64) {
     let instance = crossing(alloc).expect(rt, "an instance");
     let table = read_table(alloc, &instance, text).expect(rt, "a table");
-    assert_eq!(rt; check(&instance, &table), Verdict::Feasible { makespan });
+    assert!(rt; check(&instance, &table) == Verdict::Feasible { makespan });
 }
 
 #[test]

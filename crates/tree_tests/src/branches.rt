@@ -54,12 +54,12 @@ fn assert_conflict(
 }
 
 /// The first entries of a word, and the jobs of which one may be next.
-const CONFLICTS: [(&[usize], &[usize]); 2] = [(&[], &[1]), (&[1], &[0, 1])];
+static CONFLICTS: [(&[usize], &[usize]); 2] = [(&[], &[1]), (&[1], &[0, 1])];
 
 #[test]
 fn conflict_sets_of_two_jobs_that_cross(rt: HostRuntime) {
     let instance = crossing(rt.alloc()).expect(&rt, "an instance");
-    for (jobs, expected) in CONFLICTS {
+    for (jobs, expected) in &CONFLICTS {
         let word = word_of(rt.alloc(), jobs).expect(&rt, "memory");
         assert_conflict(&rt, rt.alloc(), &instance, &word, expected);
     }

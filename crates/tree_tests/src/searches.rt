@@ -74,7 +74,7 @@ fn assert_searches(rt: &impl Abort, alloc: Global, instance: Option<Instance>, r
     }
 }
 
-const OF_THE_EMPTY_WORD: [Search; 3] = [
+static OF_THE_EMPTY_WORD: [Search; 3] = [
     Search {
         words: &[&[]],
         best: 11,
@@ -109,7 +109,7 @@ fn sheets_of_the_empty_word(rt: HostRuntime) {
     assert_searches(&rt, rt.alloc(), crossing(rt.alloc()), &OF_THE_EMPTY_WORD);
 }
 
-const FIRST_ROUNDS: [Search; 2] = [
+static FIRST_ROUNDS: [Search; 2] = [
     Search {
         words: &[&[]],
         best: 16,
@@ -135,7 +135,7 @@ fn an_optimum_above_the_first_bound_and_a_first_round(rt: HostRuntime) {
     assert_searches(&rt, rt.alloc(), with_a_gap(rt.alloc()), &FIRST_ROUNDS);
 }
 
-const LATER_ROUNDS: [Search; 5] = [
+static LATER_ROUNDS: [Search; 5] = [
     Search {
         words: &[&[1, 1, 0]],
         best: 16,
@@ -188,7 +188,7 @@ fn sheets_of_later_rounds(rt: HostRuntime) {
     assert_searches(&rt, rt.alloc(), with_a_gap(rt.alloc()), &LATER_ROUNDS);
 }
 
-const TWO_NODES: [Search; 4] = [
+static TWO_NODES: [Search; 4] = [
     Search {
         words: &[&[1, 1, 0], &[1, 0]],
         best: 16,
@@ -238,7 +238,7 @@ fn nodes_of_a_piece_in_order(rt: HostRuntime) {
 
 /// The children of [1] have bounds of 10 and 12, so none is below a best of 10. The bound of [1, 0] reaches the
 /// makespan found, whether or not it is below the opening best.
-const THAT_ONLY_COUNT: [Search; 5] = [
+static THAT_ONLY_COUNT: [Search; 5] = [
     Search {
         words: &[&[]],
         best: 10,
@@ -291,7 +291,7 @@ fn a_budget_that_ends_among_children_that_only_count(rt: HostRuntime) {
     assert_searches(&rt, rt.alloc(), with_a_gap(rt.alloc()), &THAT_ONLY_COUNT);
 }
 
-const WITH_ZEROS: [Search; 1] = [Search {
+static WITH_ZEROS: [Search; 1] = [Search {
     words: &[&[]],
     best: 10,
     budget: 100,
