@@ -1,9 +1,9 @@
 // Seats of a board are lent to workers, and what these bring back is completed.
-ghost use Rattle.std.specs.Prelude.{◌≡◌, ◌<◌, length, vec_len, All, IfOk, IfSome, IfNone};
+ghost use Rattle.std.specs.Prelude.{◌≡◌, ◌<◌, length, All, IfOk, IfSome, IfNone};
 ghost use Rattle.shop_crews.specs.Entries.{told};
 ghost use Rattle.shop_crews.specs.Crews.{OneForEach};
 ghost use Rattle.shop_workers.specs.inner.Gathered.{AllOfRound};
-ghost use Rattle.shop_claims.specs.inner.Returns.{IsReturned, AreReturned};
+ghost use Rattle.shop_claims.specs.inner.Returns.{AreReturned};
 ghost use Rattle.shop_crews.specs.Hits.{hits_of_round};
 ghost use Rattle.shop_seats.specs.Seats.{knows, hits_of, IsSeatOf};
 ghost use Rattle.shop_claims.specs.Works.{Grows, IsKnown};
