@@ -4,7 +4,7 @@ use Rattle.std.proofs.Common.{cond, inl, inr, ◌==◌, List, [], ◌∷◌, ◌
 use Rattle.std.proofs.Common.{refl, ap, sym, ◌∙◌, arith, pow-suc, take-append-drop, length-drop}
 use Rattle.std.proofs.lemmas.Bool.{cases_lt}
 use Rattle.std.proofs.lemmas.Bool.Decides.{nat_tests}
-use Rattle.std.proofs.lemmas.List.{drop_all, drop-drop, map-append, length-map, length-take}
+use Rattle.std.proofs.lemmas.List.{drop_all, drop-drop, map-append, length-map, length-take, take_all}
 use Rattle.std.proofs.lemmas.Simd.{mask_l-lt, none_from_empty_mask, get_or-chunk, length-zip2}
 use Rattle.std.proofs.Math.Pow.{pow_mono}
 use lib.Count.{count_trailing_zeros}
@@ -137,6 +137,12 @@ first_passed p (suc k) (x ∷ xs) le some =
         earlier_one_on r e zero lt = e
         earlier_one_on r e (suc i) lt = r.earlier i (omega arith)
 
+equal_if : (number x : ℕ) → (x == number) ≡ true → x ≡ number
+equal_if number x e = grind (arith, nat_tests)
+
+different_if : (number x : ℕ) → (x == number) ≡ false → x ≢ number
+different_if number x e = grind (arith, nat_tests)
+
 -- the first number of block b that is `number`, where none before the block is
 pub position_in_block : (number b : ℕ) (xs : List ℕ) → 8 * (b + 1) ≤ length xs
     → ((k : ℕ) → k < 8 * b → get_or xs k 0 ≢ number)
@@ -154,7 +160,7 @@ position_in_block number b xs le before bits is some =
       within = omega arith;
       found = λ lt.
           let here : get_or block z 0 ≡ get_or xs (8 * b + z) 0 = get_or-chunk (8 * b) 8 xs z 0 below_8
-          in let same : get_or block z 0 ≡ number = equal_if (get_or block z 0) r.passes
+          in let same : get_or block z 0 ≡ number = equal_if number (get_or block z 0) r.passes
           in sym here ∙ same;
       first = λ k lt. elim (cases_lt k (8 * b)) [
         | inl early ↦ before k early
@@ -164,15 +170,9 @@ position_in_block number b xs le before bits is some =
             in let at : 8 * b + i ≡ k = omega arith
             in let here : get_or block i 0 ≡ get_or xs k 0 =
             get_or-chunk (8 * b) 8 xs i 0 (omega arith) ∙ ap (λ n. get_or xs n 0) at
-            in λ e. different_if (get_or block i 0) (r.earlier i small) (here ∙ e)
+            in λ e. different_if number (get_or block i 0) (r.earlier i small) (here ∙ e)
       ];
     })
-  where
-    equal_if : (x : ℕ) → (x == number) ≡ true → x ≡ number
-    equal_if x e = grind (arith, nat_tests)
-
-    different_if : (x : ℕ) → (x == number) ≡ false → x ≢ number
-    different_if x e = grind (arith, nat_tests)
 
 pub none_in_block : (number b : ℕ) (xs : List ℕ) → 8 * (b + 1) ≤ length xs
     → ((k : ℕ) → k < 8 * b → get_or xs k 0 ≢ number)
@@ -181,12 +181,9 @@ pub none_in_block : (number b : ℕ) (xs : List ℕ) → 8 * (b + 1) ≤ length 
 none_in_block number b xs le before bits is none k lt =
     elim (cases_lt k (8 * b)) [
       | inl early ↦ before k early
-      | inr late ↦ different_if (get_or xs k 0)
+      | inr late ↦ different_if number (get_or xs k 0)
           (none_from_empty_mask (λ x. x == number) xs (8 * b) 8 0 (omega arith) (sym is ∙ none) k late (omega arith))
     ]
-  where
-    different_if : (x : ℕ) → (x == number) ≡ false → x ≢ number
-    different_if x e = grind (arith, nat_tests)
 
 -- the least is at most each number, and one of them
 least_le : (top : ℕ) (xs : List ℕ) (k : ℕ) → k < length xs → least_up_to top xs ≤ get_or xs k 0
@@ -223,3 +220,30 @@ first_of_least top (x ∷ xs) least i some small is h =
           in let b = h.first k lt
           in omega arith;
     }
+
+-- of the bits of those that are the least, the lowest
+pub least_by_mask : (top : ℕ) (xs : List ℕ) (least bits : ℕ) → 0 < length xs → length xs ≤ 64
+    → ((k : ℕ) → get_or xs k 0 ≤ top) → least ≡ least_up_to top xs → bits ≡ mask_l (map (λ x. x == least) xs)
+    → IsFirstLeast xs (count_trailing_zeros 64 bits) × (least ≡ get_or xs (count_trailing_zeros 64 bits) 0)
+least_by_mask top [] least bits some few small is e = absurd (omega arith)
+least_by_mask top (x ∷ xs) least bits some few small is e =
+    let all = x ∷ xs
+    in let r = least_reached top x xs small
+    in let set : bits ≢ 0 = λ none. some_bit all (sym e ∙ none) r.0 r.1 (r.2 ∙ sym is)
+    in let f = first_passed (λ y. y == least) 64 all few (omega (arith, e, set))
+    in let z = count_trailing_zeros 64 (mask_l (map (λ y. y == least) all))
+    in let here = equal_if least (get_or all z 0) f.passes
+    in let first : IsFirstOf all least z = record {
+      within = let a = f.within in omega arith;
+      found = λ lt. here;
+      first = λ k lt. different_if least (get_or all k 0) (f.earlier k lt);
+    }
+    in rw e (first_of_least top all least z some small is first, sym here)
+  where
+    some_bit : (ys : List ℕ) → mask_l (map (λ y. y == least) ys) ≡ 0 → (k : ℕ) → k < length ys
+        → get_or ys k 0 ≢ least
+    some_bit ys none k lt =
+        let whole : mask_l (map (λ y. y == least) (take (length ys) (drop 0 ys))) ≡ 0 =
+        ap (λ l. mask_l (map (λ y. y == least) l)) (take_all (length ys) ys (omega arith)) ∙ none
+        in different_if least (get_or ys k 0)
+        (none_from_empty_mask (λ y. y == least) ys 0 (length ys) 0 (omega arith) whole k (omega arith) (omega arith))

@@ -1,5 +1,5 @@
 // Passes over rows of numbers, a block of eight at a time.
-ghost use Rattle.std.specs.Prelude.{◌≡◌, ℕ, ◌+◌, ◌*◌, ◌/◌, ◌%◌, ◌^◌, ◌<◌, ◌≤◌, length, map};
+ghost use Rattle.std.specs.Prelude.{◌≡◌, ℕ, ◌+◌, ◌*◌, ◌/◌, ◌%◌, ◌^◌, ◌<◌, ◌≤◌, ◌==◌, length, map};
 ghost use Rattle.std.specs.Prelude.{slice_index};
 ghost use Rattle.std.specs.Simd.Lanes.{mask_l};
 ghost use Rattle.shop_lanes.specs.Spans.{FitsSpan};
@@ -173,14 +173,33 @@ pub(crate) fn bits_up_to<B: Block>(heads: &[B::Number], upto: u64) -> u64
     }
 }
 
-/// The least number.
+/// A bit for each of so many numbers, the first the lowest, that says whether it is this one.
 #[inline(always)]
-fn least_number<B: Block>(numbers: &[B::Number]) -> u64
-    requires { length numbers.now % 8 ≡ 0 }
+fn bits_equal<B: Block>(count: usize, numbers: &[B::Number], number: u64) -> u64
+    requires count { length numbers.now ≡ count }
+    requires whole_blocks { count % 8 ≡ 0 }
+    requires few { count ≤ 64 }
+    requires fits { number ≤ B.GREATEST }
+    ensures { result ≡ mask_l (map (λ x. x == number) (map B.value numbers.now)) }
+{
+    let mut bits = 0;
+    let mut block = count / 8;
+    while block > 0 {
+        block -= 1;
+        bits = B::bits_equal(B::load(numbers, block), number) + 256 * bits;
+    }
+    bits
+}
+
+/// The least of so many numbers.
+#[inline(always)]
+fn least_number<B: Block>(count: usize, numbers: &[B::Number]) -> u64
+    requires count { length numbers.now ≡ count }
+    requires whole_blocks { count % 8 ≡ 0 }
     ensures { result ≡ least_up_to B.GREATEST (map B.value numbers.now) }
 {
     let mut least = B::splat(B::GREATEST);
-    for block in 0..numbers.len() / 8 {
+    for block in 0..count / 8 {
         least = B::lesser(least, B::load(numbers, block));
     }
     least_of(least)
@@ -203,6 +222,56 @@ fn position_of<B: Block>(numbers: &[B::Number], number: u64) -> usize
     numbers.len()
 }
 
+/// The position of the first of the least of so many numbers, and this number; laid out by how many there are.
+#[inline(always)]
+fn first_least_of<B: Block>(count: usize, numbers: &[B::Number]) -> (usize, u64)
+    requires count { length numbers.now ≡ count }
+    requires whole_blocks { count % 8 ≡ 0 }
+    requires few { count ≤ 64 }
+    requires some { 0 < count }
+    requires fits { (k : ℕ) → slice_index (map B.value numbers.now) k ≤ B.GREATEST }
+    ensures first { IsFirstLeast (map B.value numbers.now) result.0 }
+    ensures least { result.1 ≡ slice_index (map B.value numbers.now) result.0 }
+{
+    let least = least_number::<B>(count, numbers);
+    let bits = bits_equal::<B>(count, numbers, least);
+    (bits.trailing_zeros() as usize, least)
+}
+
+/// The same for any number of blocks, block by block.
+#[inline(always)]
+fn first_least_of_any<B: Block>(numbers: &[B::Number]) -> (usize, u64)
+    requires whole_blocks { length numbers.now % 8 ≡ 0 }
+    requires room { length numbers.now + 8 ≤ 2 ^ 64 }
+    requires some { 0 < length numbers.now }
+    requires fits { (k : ℕ) → slice_index (map B.value numbers.now) k ≤ B.GREATEST }
+    ensures first { IsFirstLeast (map B.value numbers.now) result.0 }
+    ensures least { result.1 ≡ slice_index (map B.value numbers.now) result.0 }
+{
+    let least = least_number::<B>(numbers.len(), numbers);
+    (position_of::<B>(numbers, least), least)
+}
+
+/// The same for four blocks and more, in a function of its own.
+#[inline(never)]
+fn first_least_of_longer<B: Block>(numbers: &[B::Number]) -> (usize, u64)
+    requires whole_blocks { length numbers.now % 8 ≡ 0 }
+    requires room { length numbers.now + 8 ≤ 2 ^ 64 }
+    requires some { 0 < length numbers.now }
+    requires fits { (k : ℕ) → slice_index (map B.value numbers.now) k ≤ B.GREATEST }
+    ensures first { IsFirstLeast (map B.value numbers.now) result.0 }
+    ensures least { result.1 ≡ slice_index (map B.value numbers.now) result.0 }
+{
+    match numbers.len() {
+        32 => first_least_of::<B>(32, numbers),
+        40 => first_least_of::<B>(40, numbers),
+        48 => first_least_of::<B>(48, numbers),
+        56 => first_least_of::<B>(56, numbers),
+        64 => first_least_of::<B>(64, numbers),
+        _ => first_least_of_any::<B>(numbers),
+    }
+}
+
 /// The position of the first of the least numbers, and this number.
 #[inline(always)]
 pub(crate) fn first_least<B: Block>(numbers: &[B::Number]) -> (usize, u64)
@@ -213,6 +282,10 @@ pub(crate) fn first_least<B: Block>(numbers: &[B::Number]) -> (usize, u64)
     ensures first { IsFirstLeast (map B.value numbers.now) result.0 }
     ensures least { result.1 ≡ slice_index (map B.value numbers.now) result.0 }
 {
-    let least = least_number::<B>(numbers);
-    (position_of::<B>(numbers, least), least)
+    match numbers.len() {
+        8 => first_least_of::<B>(8, numbers),
+        16 => first_least_of::<B>(16, numbers),
+        24 => first_least_of::<B>(24, numbers),
+        _ => first_least_of_longer::<B>(numbers),
+    }
 }

@@ -37,7 +37,8 @@ pub returns : goal.returns
 returns g c =
     let row = map g.B.Block.value c.args.numbers.now
     in let test = c.loop-block-test.false
-    in let whole = c.requires
+    in let whole = c.requires.whole_blocks
+    in let count = c.requires.count
     in c.least_of.ensures
     ∙ least_ends g.B.Block.GREATEST c.loop-block.block row (g.B.Block.numbers c.loop-block.least)
     (omega (arith, length-map c.args.numbers.now g.B.Block.value)) c.loop-block.invariant.1

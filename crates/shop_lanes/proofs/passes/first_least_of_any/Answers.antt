@@ -1,8 +1,8 @@
-use Rattle.std.proofs.Common.{◌≡◌, ℕ, List, arith, map, sym}
+use Rattle.std.proofs.Common.{arith, map, sym}
 use Rattle.std.proofs.lemmas.List.{length-map}
 use Rattle.shop_blocks.proofs.Extremes.{least_le_top}
 use Rattle.shop_lanes.proofs.BlockMasks.{first_of_least}
-use Rattle.shop_lanes.proofs.passes.first_least.Goals as goal
+use Rattle.shop_lanes.proofs.passes.first_least_of_any.Goals as goal
 
 pub position_of-requires-clause-fits : goal.position_of-requires-clause-fits
 position_of-requires-clause-fits g c =

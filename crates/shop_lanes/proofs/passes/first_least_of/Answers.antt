@@ -1,0 +1,28 @@
+use Rattle.std.proofs.Common.{arith, map}
+use Rattle.std.proofs.lemmas.List.{length-map}
+use Rattle.shop_blocks.proofs.Extremes.{least_le_top}
+use Rattle.shop_lanes.proofs.BlockMasks.{least_by_mask}
+use Rattle.shop_lanes.proofs.passes.first_least_of.Goals as goal
+
+pub bits_equal-bits-requires-clause-fits : goal.bits_equal-bits-requires-clause-fits
+bits_equal-bits-requires-clause-fits g c =
+    let top = least_le_top g.B.Block.GREATEST (map g.B.Block.value c.args.numbers.now)
+    in omega (arith, c.least_number-least.ensures, top)
+
+pub returns-clause-first : goal.returns-clause-first
+returns-clause-first g c =
+    let row = map g.B.Block.value c.args.numbers.now
+    in let long = length-map c.args.numbers.now g.B.Block.value
+    in let q = c.requires
+    in (least_by_mask g.B.Block.GREATEST row c.least_number-least.result c.bits_equal-bits.result
+    (omega (arith, long, q.count, q.some)) (omega (arith, long, q.count, q.few)) q.fits
+    c.least_number-least.ensures c.bits_equal-bits.ensures).0
+
+pub returns-clause-least : goal.returns-clause-least
+returns-clause-least g c =
+    let row = map g.B.Block.value c.args.numbers.now
+    in let long = length-map c.args.numbers.now g.B.Block.value
+    in let q = c.requires
+    in (least_by_mask g.B.Block.GREATEST row c.least_number-least.result c.bits_equal-bits.result
+    (omega (arith, long, q.count, q.some)) (omega (arith, long, q.count, q.few)) q.fits
+    c.least_number-least.ensures c.bits_equal-bits.ensures).1
