@@ -6,6 +6,7 @@ ghost use Rattle.shop_board.specs.Seats.{hits_of, IsSeatOf};
 ghost use Rattle.crew_tests.specs.inner.Served.{HasServedOf};
 
 use crate::crews::{Became, assert_became};
+use crate::numbers::{assert_count, assert_number};
 use crate::worked_rounds::{RoundTest, in_third_round};
 use shop_board::{Board, OpenGate, Seat, has_all, work};
 use shop_round::{Round, search_piece};
@@ -13,7 +14,6 @@ use std::alloc::{AllocError, Global};
 use std::process::Abort;
 use std::thread;
 use std::thread::Threads;
-use worked_instances::{assert_count, assert_number};
 
 // There are three pieces, and the first ends at the opening bound.
 fn assert_first_hits<'r>(rt: &impl Abort, alloc: Global, round: &'r Round<'r>)

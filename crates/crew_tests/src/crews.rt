@@ -3,6 +3,7 @@ ghost use Rattle.std.specs.Thread.{IsSync};
 ghost use Rattle.shop_round.specs.Entries.{told};
 ghost use Rattle.shop_round.specs.Crews.{OneForEach};
 
+use crate::numbers::{assert_count, assert_number};
 use crate::worked_rounds::{RoundTest, in_second_round, in_third_round};
 use shop_board::{BoardCrew, LockCrew, OpenGate};
 use shop_model::Instance;
@@ -11,7 +12,7 @@ use std::alloc::Global;
 use std::process::Abort;
 use std::sync::Wait;
 use std::thread::Threads;
-use worked_instances::{assert_count, assert_number, with_a_gap};
+use worked_instances::with_a_gap;
 
 // The makespan and the bound of an answer, and how many nodes are open, rounds were done and nodes counted.
 type Numbers = (u64, u64, usize, u64, u64);

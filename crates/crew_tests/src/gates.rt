@@ -5,6 +5,7 @@ ghost use Rattle.shop_round.specs.Entries.{told};
 ghost use Rattle.shop_round.specs.Crews.{OneForEach};
 
 use crate::crews::{Became, ByAlone, OF_SECOND_ROUND, assert_became};
+use crate::numbers::{assert_count, assert_number};
 use crate::worked_rounds::{RoundTest, in_second_round, in_third_round};
 use shop_board::{BoardCrew, Gate, LockCrew, Seat, SeatGate};
 use shop_model::Instance;
@@ -15,7 +16,7 @@ use std::sync::Wait;
 use std::sync::atomic::{AtomicBool, AtomicUsize, Ordering};
 use std::thread;
 use std::thread::Threads;
-use worked_instances::{assert_count, assert_number, with_a_gap};
+use worked_instances::with_a_gap;
 
 // How many workers met, and which worker searched piece 0 and which piece 1.
 #[derive(Clone, Copy)]

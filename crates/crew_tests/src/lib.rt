@@ -8,4 +8,6 @@ mod crews;
 #[cfg(test)]
 mod gates;
 #[cfg(test)]
+mod numbers;
+#[cfg(test)]
 mod worked_rounds;
