@@ -101,8 +101,8 @@ work_more least xs x = work-append least xs (x ∷ []) ∙ ap (λ m. clock_after
 
 pub load_more : (least : ℕ) (xs : List Lane) (x : Lane)
     → span least 0 (xs ++ (x ∷ []))
-    ≡ max (span least 0 xs) (cond (leb least x.head) (clock_after least 0 xs + cond (leb least x.head) x.time 0 + x.tail)
-    0)
+    ≡ max (span least 0 xs)
+    (cond (leb least x.head) (clock_after least 0 xs + cond (leb least x.head) x.time 0 + x.tail) 0)
 load_more least xs x =
     load-append least xs (x ∷ []) ∙ by_test (leb least x.head) (work_le_load least xs)
   where

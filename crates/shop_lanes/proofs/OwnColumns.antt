@@ -211,8 +211,8 @@ module _ (count : ℕ) (hs ts qs : List ℕ) (whole : length hs ≡ 8 * count) (
         × (get_or hs (8 * j + k) 0 + get_or ts (8 * j + k) 0
         + max (get_or owns (8 * j + k) 0) (get_or behind k 0 - get_or ts (8 * j + k) 0) ≤ limit)
     here_fits k lt =
-        own_fits_at count hs ts qs whole a b rows rows_are (8 * j + k) (omega (arith, lt, j_lt)) (get_or owns (8 * j + k) 0)
-        (get_or behind k 0) (noted_here k lt) (behind_here k lt) limit fits
+        own_fits_at count hs ts qs whole a b rows rows_are (8 * j + k) (omega (arith, lt, j_lt))
+        (get_or owns (8 * j + k) 0) (get_or behind k 0) (noted_here k lt) (behind_here k lt) limit fits
 
     pub begins_fit : AddsFit limit heads times
     begins_fit =
@@ -372,8 +372,9 @@ module _ (count : ℕ) (hs ts qs : List ℕ) (whole : length hs ≡ 8 * count) (
                   let k : ℕ = p - 8 * j
                   in let is : 8 * j + k ≡ p = omega (arith, from)
                   in let k_lt : k < 8 = omega (arith, from, within)
-                  in let own_here = own_is_at count hs ts qs whole a b rows rows_are (8 * j + k) (omega (arith, k_lt, j_lt))
-                  (get_or owns (8 * j + k) 0) (get_or behind k 0) (noted_here k k_lt) (behind_here k k_lt)
+                  in let own_here = own_is_at count hs ts qs whole a b rows rows_are (8 * j + k)
+                  (omega (arith, k_lt, j_lt)) (get_or owns (8 * j + k) 0) (get_or behind k 0)
+                  (noted_here k k_lt) (behind_here k k_lt)
                   (subst (λ n. 0 < get_or hs n 0) (sym is) waits)
                   in ap (λ n. get_or new n 0) (sym is)
                   ∙ stored_at j owns own new own_long room new_is k k_lt

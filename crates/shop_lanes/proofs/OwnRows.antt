@@ -1,7 +1,6 @@
 -- Own spans in blocks that were sliced out of rows are those of the rows.
-use Rattle.std.proofs.Common.{◌≡◌, ℕ, zero, suc, ◌+◌, ◌-◌, ◌*◌, ◌/◌, ◌<◌, ◌≤◌, max, List, [], ◌∷◌, length, map, take, drop}
-use Rattle.std.proofs.Common.{set}
-use Rattle.std.proofs.Common.{get_or, refl, ap, sym, ◌∙◌, arith, length-set}
+use Rattle.std.proofs.Common.{◌≡◌, ℕ, zero, suc, ◌+◌, ◌-◌, ◌*◌, ◌/◌, ◌<◌, ◌≤◌, max, List, [], ◌∷◌, length, map, take}
+use Rattle.std.proofs.Common.{drop, set, get_or, refl, ap, sym, ◌∙◌, arith, length-set}
 use Rattle.std.proofs.lemmas.List.{length-map}
 use Rattle.std.proofs.lemmas.Simd.{get_or-chunk}
 use Rattle.shop_lanes.specs.Rows.{lanes, blocks, by_columns}

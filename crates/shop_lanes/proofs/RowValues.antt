@@ -1,6 +1,7 @@
 -- Rows of numbers of some width, seen as numbers.
-use Rattle.std.proofs.Common.{◌≡◌, ℕ, ◌-◌, ◌*◌, ◌/◌, ◌++◌, min, List, length, map, take, drop, replicate, ap, sym, ◌∙◌, arith}
-use Rattle.std.proofs.lemmas.List.{length-map, length-take, length-replicate, take-map, drop-map}
+use Rattle.std.proofs.Common.{◌≡◌, ℕ, ◌-◌, ◌*◌, ◌/◌, ◌++◌, min, List, length, map, take, drop, ap, sym, ◌∙◌, arith}
+use Rattle.std.proofs.lemmas.List.{length-map, length-take}
+use Rattle.std.proofs.lemmas.List.{take-map, drop-map}
 use Rattle.std.proofs.Math.Seq.{take-append_seam}
 use Rattle.std.proofs.Common.{length-drop}
 use Rattle.shop_lanes.specs.Rows.{lanes, blocks, by_columns, lanes_of, AreBlocksOf}
@@ -52,10 +53,9 @@ module _ {A : Type 0} (f : A → ℕ) where
       let long = as_short row heads a
       in rw (e, eh) (simp (length-take, length-drop) (ap (λ n. min (8 * to - 8 * from) (n - 8 * from)) long))
 
-  -- a row in which one number was written everywhere
-  pub row_written : (n m number : ℕ) (new rest : List A) → map f new ≡ replicate m number → m ≡ n
-      → map f (take n (new ++ rest)) ≡ replicate m number
-  row_written n m number new rest e h =
-      let long : n ≡ length new =
-      sym h ∙ sym (length-replicate m number) ∙ sym (ap length e) ∙ length-map new f
+  -- a row that was lent as a slice, in which these numbers were written
+  pub row_written : (n : ℕ) (numbers : List ℕ) (new rest : List A) → map f new ≡ numbers → length numbers ≡ n
+      → map f (take n (new ++ rest)) ≡ numbers
+  row_written n numbers new rest e h =
+      let long : n ≡ length new = sym h ∙ sym (ap length e) ∙ length-map new f
       in ap (λ k. map f (take k (new ++ rest))) long ∙ ap (map f) (take-append_seam new rest) ∙ e

@@ -91,8 +91,8 @@ pub two_columns :
     ≡ 0 ∷ 8 ∷ 1 ∷ 9 ∷ 2 ∷ 10 ∷ 3 ∷ 11 ∷ 4 ∷ 12 ∷ 5 ∷ 13 ∷ 6 ∷ 14 ∷ 7 ∷ 15 ∷ []
 two_columns = refl
 
--- both blocks by columns from 0 on, positions 0, 1, 9, 2 and 15: at 4, 6, 13, 16 and 17, with their tails at 13, 11, 21,
--- 17 and 19
+-- both blocks by columns from 0 on, positions 0, 1, 9, 2 and 15: at 4, 6, 13, 16 and 17, with their tails at 13, 11,
+-- 21, 17 and 19
 pub both_blocks : span 1 0 (lanes_between two_blocks 0 2) ≡ 21
 both_blocks = refl
 

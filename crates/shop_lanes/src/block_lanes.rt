@@ -1,6 +1,6 @@
 // Rows of numbers of one width, eight of them read at once.
-ghost use Rattle.std.specs.Prelude.{◌≡◌, ℕ, ◌+◌, ◌-◌, ◌*◌, ◌/◌, ◌^◌, ◌<◌, ◌≤◌, length, map, take};
-ghost use Rattle.std.specs.Prelude.{replicate, All, IfOk};
+ghost use Rattle.std.specs.Prelude.{◌≡◌, ℕ, ◌+◌, ◌-◌, ◌*◌, ◌/◌, ◌^◌, ◌<◌, ◌≤◌, ◌++◌, ◌∷◌, [], length};
+ghost use Rattle.std.specs.Prelude.{map, take, replicate, slice_index, All, IfOk};
 ghost use Rattle.shop_lanes.specs.inner.Passes.{IsPadded};
 
 use crate::leaps::{leap, leap_over};
@@ -21,10 +21,14 @@ pub struct FixedBlocks<B: Block> {
 /// Heads and ends that blocks of eight are read from.
 #[derive(Drop)]
 pub struct BlockLanes<B: Block> {
+    /// by position, and behind the last one the greatest number
     heads: Vec<B::Number>,
+    positions: usize,
     ends: Vec<B::Number>,
     jobs: usize,
-    ghost room_for_heads: { length heads.items + 64 ≤ 2 ^ 64 },
+    ghost one_head_more: { length heads.items ≡ positions + 1 },
+    ghost last_is_greatest: { slice_index (map B.value heads.items) positions ≡ B.GREATEST },
+    ghost room_for_heads: { positions + 64 ≤ 2 ^ 64 },
     ghost room_for_ends: { length ends.items + 64 ≤ 2 ^ 64 },
     ghost whole_blocks: { length ends.items ≡ 8 * (jobs / 8 + 1) },
     ghost ends_are_padded: { IsPadded B.GREATEST jobs (map B.value ends.items) },
@@ -51,15 +55,26 @@ fn set_all<B: Block>(row: &mut [B::Number], number: u64)
     }
 }
 
-/// A head of 0 at each position.
+/// Writes a head of 0 at each position, and the greatest number behind the last one.
+fn clear_heads<B: Block>(row: &mut [B::Number], positions: usize)
+    requires { length row.old ≡ positions + 1 }
+    ensures { map B.value row.new ≡ replicate positions 0 ++ B.GREATEST ∷ [] }
+{
+    set_all::<B>(row, 0);
+    row[positions] = B::narrowed(B::GREATEST);
+}
+
+/// A head of 0 at each position, and the greatest number behind the last one.
 fn no_heads<B: Block>(alloc: Global, positions: usize) -> Result<Vec<B::Number>, AllocError>
-    ensures room { IfOk result (λ v. length v.items + 64 ≤ 2 ^ 64) }
-    ensures none { IfOk result (λ v. map B.value v.items ≡ replicate positions 0) }
+    ensures room { IfOk result (λ _. positions + 64 ≤ 2 ^ 64) }
+    ensures none { IfOk result (λ v. map B.value v.items ≡ replicate positions 0 ++ B.GREATEST ∷ []) }
 {
     if positions > usize::MAX - 128 {
         return Err(AllocError);
     }
-    Ok(B::row_of(alloc, 0, positions)?)
+    let mut heads = B::row_of(alloc, 0, positions + 1)?;
+    heads[positions] = B::narrowed(B::GREATEST);
+    Ok(heads)
 }
 
 /// The greatest number for each job, and for as many more as fill whole blocks.
@@ -73,6 +88,16 @@ fn no_ends<B: Block>(alloc: Global, jobs: usize) -> Result<Vec<B::Number>, Alloc
         return Err(AllocError);
     }
     Ok(B::row_of(alloc, B::GREATEST, 8 * (jobs / 8 + 1))?)
+}
+
+impl<B: Block> BlockLanes<B> {
+    /// The heads by position.
+    #[inline(always)]
+    fn heads(&self) -> &[B::Number]
+        ensures { result.now ≡ take self.now.positions self.now.heads.items }
+    {
+        &self.heads[..self.positions]
+    }
 }
 
 impl<B: Block> StateLanes for BlockLanes<B> {
@@ -90,7 +115,7 @@ impl<B: Block> StateLanes for BlockLanes<B> {
 
     ghost tails = { λ fixed. map B.value fixed.tails.items };
 
-    ghost heads = { λ s. map B.value s.heads.items };
+    ghost heads = { λ s. map B.value (take s.positions s.heads.items) };
 
     ghost ends = { λ s. take s.jobs (map B.value s.ends.items) };
 
@@ -108,13 +133,14 @@ impl<B: Block> StateLanes for BlockLanes<B> {
     fn new(alloc: Global, positions: usize, jobs: usize) -> Result<Self, AllocError> {
         Ok(BlockLanes {
             heads: no_heads::<B>(alloc, positions)?,
+            positions,
             ends: no_ends::<B>(alloc, jobs)?,
             jobs,
         })
     }
 
     fn clear(&mut self) {
-        set_all::<B>(&mut self.heads, 0);
+        clear_heads::<B>(&mut self.heads, self.positions);
         set_all::<B>(&mut self.ends, B::GREATEST);
     }
 
@@ -131,6 +157,11 @@ impl<B: Block> StateLanes for BlockLanes<B> {
 
     #[inline(always)]
     fn head(&self, position: usize) -> u64 {
+        B::widened(self.heads[position])
+    }
+
+    #[inline(always)]
+    fn head_or_greatest(&self, position: usize) -> u64 {
         B::widened(self.heads[position])
     }
 
@@ -154,14 +185,14 @@ impl<B: Block> StateLanes for BlockLanes<B> {
         let (first, end) = (8 * from, 8 * to);
         Marks::new(
             first,
-            bits_up_to::<B>(&self.heads[first..end], limit.saturating_sub(1)),
+            bits_up_to::<B>(&self.heads()[first..end], limit.saturating_sub(1)),
         )
     }
 
     #[inline(always)]
     fn load(&self, fixed: &FixedBlocks<B>, from: usize, to: usize, least: u64) -> u64 {
         let (first, end) = (8 * from, 8 * to);
-        let heads = &self.heads[first..end];
+        let heads = &self.heads()[first..end];
         let times = &fixed.times[first..end];
         let tails = &fixed.tails[first..end];
         load::<B>(heads, times, tails, least)
@@ -180,7 +211,7 @@ impl<B: Block> StateLanes for BlockLanes<B> {
         limit: u64,
     ) -> u64 {
         let (first, end) = (8 * from, 8 * to);
-        let heads = &self.heads[first..end];
+        let heads = &self.heads()[first..end];
         let times = &fixed.times[first..end];
         let tails = &fixed.tails[first..end];
         if count == 0 {
@@ -202,7 +233,7 @@ impl<B: Block> StateLanes for BlockLanes<B> {
     #[inline(always)]
     fn own_spans(&self, fixed: &FixedBlocks<B>, from: usize, to: usize, owns: &mut [B::Number]) {
         let (first, end) = (8 * from, 8 * to);
-        let heads = &self.heads[first..end];
+        let heads = &self.heads()[first..end];
         let times = &fixed.times[first..end];
         let tails = &fixed.tails[first..end];
         own_spans::<B>(heads, times, tails, owns)

@@ -1,5 +1,5 @@
-// The greatest span over a range of heads. The load of what waits from a head on bounds the spans of all heads up to the
-// bound less that load, so most heads are leapt over.
+// The greatest span over a range of heads. The load of what waits from a head on bounds the spans of all heads up to
+// the bound less that load, so most heads are leapt over.
 ghost use Rattle.std.specs.Prelude.{◌≡◌, ℕ, ◌%◌, ◌<◌, ◌≤◌, max, length, map};
 ghost use Rattle.shop_lanes.specs.Spans.{spans_between, FitsSpan, IsRaisedBelow};
 ghost use Rattle.shop_lanes.specs.inner.Passes.{lanes_by};

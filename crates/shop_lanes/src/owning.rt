@@ -12,8 +12,8 @@ use crate::passes::serve_columns;
 use crate::served_blocks::tailed_ends;
 use shop_blocks::{Block, greatest_before, greatest_behind, sums_before};
 
-/// Notes for each position when the last of what waits before it ends, its tail included, if it is served by rank from 0
-/// on; from when each column begins, and the greatest end before each.
+/// Notes for each position when the last of what waits before it ends, its tail included, if it is served by rank from
+/// 0 on; from when each column begins, and the greatest end before each.
 #[inline(always)]
 fn note<B: Block>(
     count: usize,

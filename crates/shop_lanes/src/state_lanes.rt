@@ -1,6 +1,6 @@
 // What the lanes of a state can do, whatever their width.
 ghost use Rattle.std.specs.Prelude.{◌≡◌, ℕ, ◌+◌, ◌-◌, ◌*◌, ◌<◌, ◌≤◌, max, List, All, IfOk, length, map};
-ghost use Rattle.std.specs.Prelude.{replicate, slice_index, slice_set};
+ghost use Rattle.std.specs.Prelude.{replicate, slice_index, slice_index_or, slice_set};
 ghost use Rattle.shop_lanes.specs.Rows.{lanes_of, AreBlocksOf};
 ghost use Rattle.shop_lanes.specs.Spans.{span, spans_between, FitsSpan, FitOwnSpans, AreOwnSpans};
 ghost use Rattle.shop_lanes.specs.Spans.{IsRaisedBelow};
@@ -65,6 +65,11 @@ pub trait StateLanes: Drop {
     fn head(&self, position: usize) -> u64
         requires { position < length (heads self.now) }
         ensures { result ≡ slice_index (heads self.now) position };
+
+    /// The head at a position; behind the last one the greatest number, so that no head is greater there.
+    fn head_or_greatest(&self, position: usize) -> u64
+        requires { position ≤ length (heads self.now) }
+        ensures { result ≡ slice_index_or (heads self.now) position GREATEST };
 
     fn set_head(&mut self, position: usize, head: u64)
         requires in_range { position < length (heads self.old) }

@@ -190,8 +190,8 @@ impl<L: StateLanes> Grid<L> {
         self.positions.positions()
     }
 
-    /// The greatest of `most` and the spans from each head above `above` and up to `upto` on, in these blocks; once that
-    /// reaches the limit, any number between the limit and it. `count` is the number of these blocks, or 0.
+    /// The greatest of `most` and the spans from each head above `above` and up to `upto` on, in these blocks; once
+    /// that reaches the limit, any number between the limit and it. `count` is the number of these blocks, or 0.
     #[inline(always)]
     pub fn bound_raised(
         &self,

@@ -99,12 +99,4 @@ impl<'a> Routes<'a> {
         let following = self.following;
         following[position] as usize
     }
-
-    /// How many positions there are.
-    #[inline(always)]
-    pub fn positions(&self) -> usize
-        ensures { result ≡ length self.now.following }
-    {
-        self.following.len()
-    }
 }

@@ -18,6 +18,13 @@ module _ (l : LayoutState) (n j k : ℕ) where
     | inr past ↦ absurd (let a = place_past past in omega arith)
   ]
 
+  -- it is one of all, or the one behind the last
+  pub place_up_to : IsIndexed l n → place_or n l.places j k ≤ n
+  place_up_to ix = elim (cases_lt k (steps_of l j)) [
+    | inl here ↦ (let a = place_there here in let b = (ix.step j k here).within in let c = ix.jobs in omega arith)
+    | inr past ↦ (let a = place_past past in omega arith)
+  ]
+
 -- how many steps are left of a route from a position on
 abbrev pub left_from : LayoutState → ℕ → ℕ → ℕ → ℕ
 left_from l n i next = cond {A = ℕ} (ltb next n) (steps_of l i - get_or l.steps next 0) 0

@@ -1,12 +1,13 @@
 -- A raise over rows, head by head.
 use Rattle.std.proofs.Common.{◌≡◌, ℕ, zero, suc, ◌+◌, ◌≤◌, ◌<◌, List, [], ◌∷◌, length, get_or, set}
-use Rattle.std.proofs.Common.{refl, sym, ◌∙◌, ap, subst, arith}
-use Rattle.std.proofs.lemmas.List.{set-get_or}
+use Rattle.std.proofs.Common.{refl, sym, ◌∙◌, ap, subst, arith, inl, inr}
+use Rattle.std.proofs.lemmas.Bool.{cases_lt}
+use Rattle.std.proofs.lemmas.List.{get_or_default, get_or_past, set-get_or}
 use Rattle.shop_lanes.specs.Rows.{Rows, with_end, with_head}
 use Rattle.shop_layout.specs.Positions.{place_or, LayoutState, place}
 use Rattle.shop_layout.specs.Lanes.{rows_of}
 use Rattle.shop_raises.specs.inner.Raises.{steps_of, IsPosition, IsRaisable, Raises}
-use Rattle.shop_raises.proofs.Followed.{place_there, step_there, left_from, left_less}
+use Rattle.shop_raises.proofs.Followed.{place_there, place_up_to, step_there, left_from, left_less}
 use Rattle.shop_raises.proofs.RaiseWalks.{IsRaisedUpTo, walk_begins, next_least, walk_on, walk_ends}
 
 -- what is written twice
@@ -129,58 +130,84 @@ module _ (greatest : ℕ) (l : LayoutState) (p e : ℕ) (old : Rows)
         walking = begun greatest l p e old can some below new wrote (t + 1) ready time refl read sum;
       }
 
+  pub first_up_to : (next : ℕ) → next ≡ get_or l.following p 0 → next ≤ length old.heads
+  first_up_to next at =
+      let here = can.places p some
+      in let i = get_or l.jobs p 0 in let t = get_or l.steps p 0
+      in let a = place_up_to l (length old.heads) i (t + 1) can.indexed
+      in let b = at ∙ (ap (λ (x : ℕ). get_or l.following x 0) (sym here.is) ∙ can.followed.follows i t here.step)
+      in omega arith
+
   module _ (next ready : ℕ) (now : Rows)
-      (so_far : IsFollowing greatest l p e next ready old now) (n : ℕ) (many : n ≡ length l.following) where
-    whole : n ≡ length old.heads
-    whole = many ∙ can.followed.following
+      (so_far : IsFollowing greatest l p e next ready old now) where
+    -- what is ready next fits, since no raised head is above the least of those that do
+    fitting : ready ≤ greatest
+    fitting =
+        let so = so_far.walking.up_to
+        in let q = place l (get_or l.jobs p 0) so.before
+        in let most = so.least can.other can.raised q in let waits = so.waits in let is = so.ready_is
+        in let fits = can.fits q (omega arith) in omega arith
 
-    -- it ends behind the route's last step
-    pub ended_behind : n ≤ next → Raises greatest l [] (IsPosition p) e old now
-    ended_behind past = ended greatest l p e old can some so_far.step ready now so_far.walking (λ there.
-        absurd (let i = get_or l.jobs p 0 in let a = place_there l (length old.heads) i so_far.step there
-        in let b = (can.indexed.step i so_far.step there).within
-        in let c = can.indexed.jobs in let d = whole in let f = so_far.next_is in omega arith))
+    module _ (head : ℕ) (read : head ≡ get_or now.heads next greatest) where
+      -- it ends where the head is great enough, or behind the route's last step
+      pub ended_at : ready ≤ head → Raises greatest l [] (IsPosition p) e old now
+      ended_at enough = ended greatest l p e old can some so_far.step ready now so_far.walking (λ there.
+          let i = get_or l.jobs p 0 in let long = so_far.walking.up_to.positions
+          in let b = (can.indexed.step i so_far.step there).within in let c = can.indexed.jobs
+          in let at = so_far.next_is ∙ place_there l (length old.heads) i so_far.step there
+          in let same : get_or now.heads next 0 ≡ get_or now.heads (place l i so_far.step) 0 =
+          ap (λ (x : ℕ). get_or now.heads x 0) at
+          in let one = get_or_default now.heads next greatest 0 (omega arith) in omega arith)
 
-    module _ (below : next < n) where
-      pub more : so_far.step < steps_of l (get_or l.jobs p 0)
-      more = let a = whole in let b = so_far.next_is
-          in step_there l (length old.heads) (get_or l.jobs p 0) so_far.step (omega arith)
+      module _ (below : head < ready) where
+        -- the head behind the last position isn't below what is ready
+        pub is_there : next < length old.heads
+        is_there = elim (cases_lt next (length old.heads)) [
+          | inl here ↦ here
+          | inr past ↦ absurd (let long = so_far.walking.up_to.positions in let fits = fitting
+              in let b = get_or_past now.heads next greatest (omega arith) in omega arith)
+        ]
 
-      pub here : next ≡ place l (get_or l.jobs p 0) so_far.step
-      here = so_far.next_is ∙ place_there l (length old.heads) (get_or l.jobs p 0) so_far.step more
+        pub read_there : head ≡ get_or now.heads next 0
+        read_there = let a = is_there in let long = so_far.walking.up_to.positions
+            in read ∙ get_or_default now.heads next greatest 0 (omega arith)
 
-      -- it ends before a head that is great enough
-      pub ended_before : (head : ℕ) → head ≡ get_or now.heads next 0 → ready ≤ head
-          → Raises greatest l [] (IsPosition p) e old now
-      ended_before head read enough = ended greatest l p e old can some so_far.step ready now so_far.walking (λ there.
-          let same : get_or now.heads next 0 ≡ get_or now.heads (place l (get_or l.jobs p 0) so_far.step) 0 =
-          ap (λ (x : ℕ). get_or now.heads x 0) here in omega arith)
+        more : so_far.step < steps_of l (get_or l.jobs p 0)
+        more = let a = is_there in let b = so_far.next_is
+            in step_there l (length old.heads) (get_or l.jobs p 0) so_far.step (omega arith)
 
-      pub following_fits : (ready ≤ greatest) × (ready + get_or now.times next 0 ≤ greatest)
-      following_fits = next_fits greatest l p e old can some so_far.step ready now so_far.walking more next
-          here
+        here : next ≡ place l (get_or l.jobs p 0) so_far.step
+        here = so_far.next_is ∙ place_there l (length old.heads) (get_or l.jobs p 0) so_far.step more
 
-      pub follows_next : (after : ℕ) → after ≡ get_or l.following next 0
-          → after ≡ place_or (length old.heads) l.places (get_or l.jobs p 0) (so_far.step + 1)
-      follows_next after at = at ∙ (ap (λ (x : ℕ). get_or l.following x 0) here
-          ∙ can.followed.follows (get_or l.jobs p 0) so_far.step more)
+        pub following_fits : (ready ≤ greatest) × (ready + get_or now.times next 0 ≤ greatest)
+        following_fits = next_fits greatest l p e old can some so_far.step ready now so_far.walking more next
+            here
 
-      pub following_less : (after : ℕ) → after ≡ get_or l.following next 0
-          → left_from l (length l.following) (get_or l.jobs p 0) after
-          < left_from l (length l.following) (get_or l.jobs p 0) next
-      following_less after at =
-          subst (λ (m : ℕ). left_from l m (get_or l.jobs p 0) after < left_from l m (get_or l.jobs p 0) next)
-          (sym can.followed.following)
-          (left_less l (length old.heads) can.indexed (get_or l.jobs p 0) so_far.step next after more here
-          (follows_next after at))
+        follows_next : (after : ℕ) → after ≡ get_or l.following next 0
+            → after ≡ place_or (length old.heads) l.places (get_or l.jobs p 0) (so_far.step + 1)
+        follows_next after at = at ∙ (ap (λ (x : ℕ). get_or l.following x 0) here
+            ∙ can.followed.follows (get_or l.jobs p 0) so_far.step more)
 
-      pub followed : get_or now.heads next 0 < ready → (new : Rows)
-          → new ≡ with_head now next ready
-          → (h time after : ℕ) → time ≡ get_or new.times next 0 → h ≡ ready + time → after ≡ get_or l.following next 0
-          → IsFollowing greatest l p e after h old new
-      followed low new wrote h time after read sum at = record {
-        step = so_far.step + 1;
-        next_is = follows_next after at;
-        walking = on greatest l p e old can some so_far.step ready now so_far.walking more next here low new
-            wrote h time (so_far.step + 1) refl read sum;
-      }
+        pub next_up_to : (after : ℕ) → after ≡ get_or l.following next 0 → after ≤ length old.heads
+        next_up_to after at =
+            let a = place_up_to l (length old.heads) (get_or l.jobs p 0) (so_far.step + 1) can.indexed
+            in let b = follows_next after at in omega arith
+
+        pub following_less : (after : ℕ) → after ≡ get_or l.following next 0
+            → left_from l (length l.following) (get_or l.jobs p 0) after
+            < left_from l (length l.following) (get_or l.jobs p 0) next
+        following_less after at =
+            subst (λ (m : ℕ). left_from l m (get_or l.jobs p 0) after < left_from l m (get_or l.jobs p 0) next)
+            (sym can.followed.following)
+            (left_less l (length old.heads) can.indexed (get_or l.jobs p 0) so_far.step next after more here
+            (follows_next after at))
+
+        pub followed : (new : Rows) → new ≡ with_head now next ready
+            → (h time after : ℕ) → time ≡ get_or new.times next 0 → h ≡ ready + time
+            → after ≡ get_or l.following next 0 → IsFollowing greatest l p e after h old new
+        followed new wrote h time after read sum at = record {
+          step = so_far.step + 1;
+          next_is = follows_next after at;
+          walking = on greatest l p e old can some so_far.step ready now so_far.walking more next here
+              (let a = read_there in omega arith) new wrote h time (so_far.step + 1) refl read sum;
+        }

@@ -13,7 +13,7 @@ use shop_lanes::StateLanes;
 use shop_layout::Grid;
 
 /// The greatest of `least` and the spans of a machine from its raised heads on; once that reaches the limit, any number
-/// between the limit and it. Each machine has so many blocks, or this is 0.
+/// between the limit and it. `each` is how many blocks every machine has, or 0.
 #[inline(always)]
 fn span_by_raise<L: StateLanes>(
     each: usize,
@@ -48,7 +48,7 @@ fn span_by_raise<L: StateLanes>(
     grid.bound_raised(lanes, each, from, to, above, upto, least, limit)
 }
 
-/// The same as `take_spans`, where each machine has so many blocks, or this is 0. With a literal number the passes over
+/// The same as `take_spans`; `each` is how many blocks every machine has, or 0. With a literal number the passes over
 /// them are unrolled.
 #[inline(always)]
 fn take_spans_of<L: StateLanes>(
@@ -75,7 +75,8 @@ fn take_spans_of<L: StateLanes>(
     most
 }
 
-/// The same as `take_spans`, for machines of four blocks and more, or not all of as many, in a function of its own.
+/// The same as `take_spans` for machines of four blocks and more, or of different numbers of blocks, in a function of
+/// its own.
 #[inline(never)]
 fn take_longer_spans<L: StateLanes>(
     raises: &mut [LaneRaise<L::Number>],

@@ -40,15 +40,13 @@ fn raise_route<L: StateLanes>(
     lanes.set_head(position, end);
     let mut ready = end + routes.time(position);
     let mut next = routes.following(position);
-    while next < routes.positions() {
-        let head = lanes.head(next);
-        if head >= ready {
-            return;
-        }
+    let mut head = lanes.head_or_greatest(next);
+    while head < ready {
         lanes.set_head(next, ready);
         see::<L>(raises, raised, routes.machine(next), head, ready);
         ready += routes.time(next);
         next = routes.following(next);
+        head = lanes.head_or_greatest(next);
     }
 }
 

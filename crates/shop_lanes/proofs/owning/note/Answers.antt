@@ -26,14 +26,14 @@ tailed_ends-after-requires-clause-fits g c =
       tails_are = c.load-tail.ensures;
     }
     in record {
-      clocks_fit = clocks_fit blocks hs ts qs all cols (front_of blocks all) more within 1 c.loop-block.block c.loop-block-test.true
-          (n c.load-head.result) (n c.load-time.result) (n c.load-tail.result) (n c.splat-one.result)
-          (n c.loop-block.clocks) (n c.loop-block.most) read c.splat-one.ensures c.loop-block.invariant.served
-          g.B.Block.GREATEST c.requires.fits;
-      ends_fit = ends_fit blocks hs ts qs all cols (front_of blocks all) more within 1 c.loop-block.block c.loop-block-test.true
-          (n c.load-head.result) (n c.load-time.result) (n c.load-tail.result) (n c.splat-one.result)
-          (n c.loop-block.clocks) (n c.loop-block.most) read c.splat-one.ensures c.loop-block.invariant.served
-          g.B.Block.GREATEST c.requires.fits;
+      clocks_fit = clocks_fit blocks hs ts qs all cols (front_of blocks all) more within 1 c.loop-block.block
+          c.loop-block-test.true (n c.load-head.result) (n c.load-time.result) (n c.load-tail.result)
+          (n c.splat-one.result) (n c.loop-block.clocks) (n c.loop-block.most) read
+          c.splat-one.ensures c.loop-block.invariant.served g.B.Block.GREATEST c.requires.fits;
+      ends_fit = ends_fit blocks hs ts qs all cols (front_of blocks all) more within 1 c.loop-block.block
+          c.loop-block-test.true (n c.load-head.result) (n c.load-time.result) (n c.load-tail.result)
+          (n c.splat-one.result) (n c.loop-block.clocks) (n c.loop-block.most) read
+          c.splat-one.ensures c.loop-block.invariant.served g.B.Block.GREATEST c.requires.fits;
     }
 
 pub greater-most-requires : goal.greater-most-requires
@@ -57,8 +57,8 @@ greater-most-requires g c =
     }
     in ap length c.loop-block.invariant.served.most_are
     ∙ sym (ap length (c.tailed_ends-after.ensures.ends_are
-    ∙ late_eight blocks hs ts qs all cols (front_of blocks all) more within 1 c.loop-block.block c.loop-block-test.true
-    (n c.load-head.result) (n c.load-time.result) (n c.load-tail.result) (n c.splat-one.result)
+    ∙ late_eight blocks hs ts qs all cols (front_of blocks all) more within 1 c.loop-block.block
+    c.loop-block-test.true (n c.load-head.result) (n c.load-time.result) (n c.load-tail.result) (n c.splat-one.result)
     (n c.loop-block.clocks) (n c.loop-block.most) read c.splat-one.ensures c.loop-block.invariant.served
     (n c.tailed_ends-after.result.0) c.tailed_ends-after.ensures.clocks_are))
 
@@ -81,8 +81,8 @@ loop-block-preserved g c =
       times_are = c.load-time.ensures;
       tails_are = c.load-tail.ensures;
     }
-    in let served = served_more blocks hs ts qs all cols (front_of blocks all) more within 1 c.loop-block.block c.loop-block-test.true
-    (n c.load-head.result) (n c.load-time.result) (n c.load-tail.result) (n c.splat-one.result)
+    in let served = served_more blocks hs ts qs all cols (front_of blocks all) more within 1 c.loop-block.block
+    c.loop-block-test.true (n c.load-head.result) (n c.load-time.result) (n c.load-tail.result) (n c.splat-one.result)
     (n c.loop-block.clocks) (n c.loop-block.most) read c.splat-one.ensures c.loop-block.invariant.served
     (n c.tailed_ends-after.result.0) c.tailed_ends-after.ensures.clocks_are (n c.greater-most.result)
     (c.greater-most.ensures ∙ ap (zip2 max (n c.loop-block.most)) c.tailed_ends-after.ensures.ends_are)

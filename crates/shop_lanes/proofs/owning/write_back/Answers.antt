@@ -211,6 +211,6 @@ loop-block-preserved g c =
     cols g.B.Block.GREATEST c.requires.fits j (n c.loop-block.clocks) (n c.loop-block.behind) (row c.loop-block.owns)
     so_far (n c.load-head.result) (n c.load-time.result) (n c.load-tail.result) (n c.load-before.result)
     (n c.splat-one.result) read c.load-before.ensures c.splat-one.ensures
-    (n c.own_ends.result) c.own_ends.ensures (n c.sum.result) (n c.waiting-late.result) c.sum.ensures c.waiting-late.ensures
-    (n c.waiting.result) c.waiting.ensures (row c.store.new.row) (n c.greater-behind.result)
+    (n c.own_ends.result) c.own_ends.ensures (n c.sum.result) (n c.waiting-late.result) c.sum.ensures
+    c.waiting-late.ensures (n c.waiting.result) c.waiting.ensures (row c.store.new.row) (n c.greater-behind.result)
     (n c.less-clocks.result) c.store.ensures c.greater-behind.ensures c.less-clocks.ensures

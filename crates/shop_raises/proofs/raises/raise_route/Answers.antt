@@ -1,10 +1,10 @@
-use Rattle.std.proofs.Common.{◌+◌, refl, arith, []}
+use Rattle.std.proofs.Common.{◌+◌, ◌∙◌, ap, refl, arith, length, length-set, []}
 use Rattle.std.proofs.lemmas.List.{length-map}
 use Rattle.shop_layout.specs.Lanes.{rows_of}
 use Rattle.shop_raises.specs.inner.HeadRaises.{raise_in, raises_in}
 use Rattle.shop_raises.proofs.RaisedMachines.{lengths_in}
-use Rattle.shop_raises.proofs.RaiseSteps.{begun_following, ended_before, ended_behind, followed, following_fits}
-use Rattle.shop_raises.proofs.RaiseSteps.{following_less, put_is}
+use Rattle.shop_raises.proofs.RaiseSteps.{begun_following, ended_at, followed, following_fits, following_less}
+use Rattle.shop_raises.proofs.RaiseSteps.{first_up_to, is_there, next_up_to, put_is, read_there}
 use Rattle.shop_raises.proofs.RaisedEnds.{raised_within}
 use Rattle.shop_raises.proofs.Watching.{sees_first, sees_long, sees_next}
 use Rattle.shop_raises.proofs.raises.raise_route.Goals as goal
@@ -16,8 +16,8 @@ time-requires g c =
     (g.L.StateLanes.ends c.args.lanes.now)) c.requires.raisable c.requires.waits
     in let timed = c.requires.raisable.timed in omega arith
 
-pub loop-next-init : goal.loop-next-init
-loop-next-init g c =
+pub loop-head-init : goal.loop-head-init
+loop-head-init g c =
     let within = raised_within g.L.StateLanes.GREATEST c.args.routes.now [] c.args.position c.args.end
     (rows_of c.args.routes.now (g.L.StateLanes.heads c.args.lanes.now)
     (g.L.StateLanes.ends c.args.lanes.now)) c.requires.raisable c.requires.waits
@@ -36,128 +36,194 @@ loop-next-init g c =
       seen = sees_first c.args.routes.now.machines c.args.position c.args.end
           (g.L.StateLanes.heads c.args.lanes.now) (g.L.StateLanes.heads c.set_head.new.self)
           (raises_in g.L.StateLanes.value c.args.raises.now) c.set_head.ensures.heads within;
+      read = c.head_or_greatest-head.ensures;
       listed = c.requires.listed;
     }
 
 pub see-requires-clause-known : goal.see-requires-clause-known
 see-requires-clause-known g c =
-    let long = lengths_in g.L.StateLanes.value c.args.raises.now c.loop-next.raises
+    let long = lengths_in g.L.StateLanes.value c.args.raises.now c.loop-head.raises
     (sees_long c.args.routes.now.machines c.args.position c.args.end
-    (g.L.StateLanes.heads c.args.lanes.now) (g.L.StateLanes.heads c.loop-next.lanes)
+    (g.L.StateLanes.heads c.args.lanes.now) (g.L.StateLanes.heads c.loop-head.lanes)
     (raises_in g.L.StateLanes.value c.args.raises.now)
-    (raises_in g.L.StateLanes.value c.loop-next.raises) c.loop-next.invariant.seen)
-    in let many = c.positions.ensures in let there = c.loop-next-test.true
+    (raises_in g.L.StateLanes.value c.loop-head.raises) c.loop-head.invariant.seen)
+    in let there = is_there g.L.StateLanes.GREATEST c.args.routes.now c.args.position c.args.end
+    (rows_of c.args.routes.now (g.L.StateLanes.heads c.args.lanes.now)
+    (g.L.StateLanes.ends c.args.lanes.now))
+    c.requires.raisable c.requires.waits c.loop-head.next c.loop-head.ready
+    (rows_of c.args.routes.now (g.L.StateLanes.heads c.loop-head.lanes)
+    (g.L.StateLanes.ends c.loop-head.lanes))
+    c.loop-head.invariant.following c.loop-head.head c.loop-head.invariant.read c.loop-head-test.true
     in let machines = c.requires.raisable.machines in let following = c.requires.raisable.followed.following
     in let read = c.machine.ensures
-    in let known = c.requires.known c.loop-next.next (omega arith)
+    in let known = c.requires.known c.loop-head.next (omega arith)
     in omega arith
 
 pub machine-requires : goal.machine-requires
 machine-requires g c =
-    let many = c.positions.ensures in let there = c.loop-next-test.true
+    let there = is_there g.L.StateLanes.GREATEST c.args.routes.now c.args.position c.args.end
+    (rows_of c.args.routes.now (g.L.StateLanes.heads c.args.lanes.now)
+    (g.L.StateLanes.ends c.args.lanes.now))
+    c.requires.raisable c.requires.waits c.loop-head.next c.loop-head.ready
+    (rows_of c.args.routes.now (g.L.StateLanes.heads c.loop-head.lanes)
+    (g.L.StateLanes.ends c.loop-head.lanes))
+    c.loop-head.invariant.following c.loop-head.head c.loop-head.invariant.read c.loop-head-test.true
     in let machines = c.requires.raisable.machines in let following = c.requires.raisable.followed.following
     in omega arith
 
-pub set_head-requires-in-loop-next-clause-fits : goal.set_head-requires-in-loop-next-clause-fits
-set_head-requires-in-loop-next-clause-fits g c =
+pub set_head-requires-in-loop-head-clause-fits : goal.set_head-requires-in-loop-head-clause-fits
+set_head-requires-in-loop-head-clause-fits g c =
     (following_fits g.L.StateLanes.GREATEST c.args.routes.now c.args.position c.args.end
     (rows_of c.args.routes.now (g.L.StateLanes.heads c.args.lanes.now)
     (g.L.StateLanes.ends c.args.lanes.now))
-    c.requires.raisable c.requires.waits c.loop-next.next c.loop-next.ready
-    (rows_of c.args.routes.now (g.L.StateLanes.heads c.loop-next.lanes)
-    (g.L.StateLanes.ends c.loop-next.lanes))
-    c.loop-next.invariant.following c.positions.result c.positions.ensures
-    c.loop-next-test.true).0
+    c.requires.raisable c.requires.waits c.loop-head.next c.loop-head.ready
+    (rows_of c.args.routes.now (g.L.StateLanes.heads c.loop-head.lanes)
+    (g.L.StateLanes.ends c.loop-head.lanes))
+    c.loop-head.invariant.following c.loop-head.head c.loop-head.invariant.read c.loop-head-test.true).0
 
 pub see-requires-clause-fits : goal.see-requires-clause-fits
 see-requires-clause-fits g c = (following_fits g.L.StateLanes.GREATEST c.args.routes.now c.args.position c.args.end
     (rows_of c.args.routes.now (g.L.StateLanes.heads c.args.lanes.now)
     (g.L.StateLanes.ends c.args.lanes.now))
-    c.requires.raisable c.requires.waits c.loop-next.next c.loop-next.ready
-    (rows_of c.args.routes.now (g.L.StateLanes.heads c.loop-next.lanes)
-    (g.L.StateLanes.ends c.loop-next.lanes))
-    c.loop-next.invariant.following c.positions.result c.positions.ensures
-    c.loop-next-test.true).0
+    c.requires.raisable c.requires.waits c.loop-head.next c.loop-head.ready
+    (rows_of c.args.routes.now (g.L.StateLanes.heads c.loop-head.lanes)
+    (g.L.StateLanes.ends c.loop-head.lanes))
+    c.loop-head.invariant.following c.loop-head.head c.loop-head.invariant.read c.loop-head-test.true).0
 
 pub time-ready-requires : goal.time-ready-requires
 time-ready-requires g c =
-    let many = c.positions.ensures in let there = c.loop-next-test.true
+    let there = is_there g.L.StateLanes.GREATEST c.args.routes.now c.args.position c.args.end
+    (rows_of c.args.routes.now (g.L.StateLanes.heads c.args.lanes.now)
+    (g.L.StateLanes.ends c.args.lanes.now))
+    c.requires.raisable c.requires.waits c.loop-head.next c.loop-head.ready
+    (rows_of c.args.routes.now (g.L.StateLanes.heads c.loop-head.lanes)
+    (g.L.StateLanes.ends c.loop-head.lanes))
+    c.loop-head.invariant.following c.loop-head.head c.loop-head.invariant.read c.loop-head-test.true
     in let following = c.requires.raisable.followed.following in let timed = c.requires.raisable.timed
     in omega arith
 
-pub overflow_add-ready-in-loop-next : goal.overflow_add-ready-in-loop-next
-overflow_add-ready-in-loop-next g c =
+pub overflow_add-ready-in-loop-head : goal.overflow_add-ready-in-loop-head
+overflow_add-ready-in-loop-head g c =
     let fits = (following_fits g.L.StateLanes.GREATEST c.args.routes.now c.args.position c.args.end
     (rows_of c.args.routes.now (g.L.StateLanes.heads c.args.lanes.now)
     (g.L.StateLanes.ends c.args.lanes.now))
-    c.requires.raisable c.requires.waits c.loop-next.next c.loop-next.ready
-    (rows_of c.args.routes.now (g.L.StateLanes.heads c.loop-next.lanes)
-    (g.L.StateLanes.ends c.loop-next.lanes))
-    c.loop-next.invariant.following c.positions.result c.positions.ensures c.loop-next-test.true).1
+    c.requires.raisable c.requires.waits c.loop-head.next c.loop-head.ready
+    (rows_of c.args.routes.now (g.L.StateLanes.heads c.loop-head.lanes)
+    (g.L.StateLanes.ends c.loop-head.lanes))
+    c.loop-head.invariant.following c.loop-head.head c.loop-head.invariant.read c.loop-head-test.true).1
     in let computable = c.requires.raisable.computable
     in let time = c.time-ready.ensures in omega arith
 
-pub loop-next-smaller : goal.loop-next-smaller
-loop-next-smaller g c = following_less g.L.StateLanes.GREATEST c.args.routes.now c.args.position c.args.end
+pub loop-head-smaller : goal.loop-head-smaller
+loop-head-smaller g c = following_less g.L.StateLanes.GREATEST c.args.routes.now c.args.position c.args.end
     (rows_of c.args.routes.now (g.L.StateLanes.heads c.args.lanes.now)
     (g.L.StateLanes.ends c.args.lanes.now))
-    c.requires.raisable c.requires.waits c.loop-next.next c.loop-next.ready
-    (rows_of c.args.routes.now (g.L.StateLanes.heads c.loop-next.lanes)
-    (g.L.StateLanes.ends c.loop-next.lanes))
-    c.loop-next.invariant.following c.positions.result c.positions.ensures
-    c.loop-next-test.true c.following-next-in-loop-next.result c.following-next-in-loop-next.ensures
+    c.requires.raisable c.requires.waits c.loop-head.next c.loop-head.ready
+    (rows_of c.args.routes.now (g.L.StateLanes.heads c.loop-head.lanes)
+    (g.L.StateLanes.ends c.loop-head.lanes))
+    c.loop-head.invariant.following c.loop-head.head c.loop-head.invariant.read c.loop-head-test.true
+    c.following-next-in-loop-head.result c.following-next-in-loop-head.ensures
 
-pub loop-next-preserved : goal.loop-next-preserved
-loop-next-preserved g c =
-    let many = c.positions.ensures in let there = c.loop-next-test.true
-    in let head = c.head-head.ensures
-    in let below = c.if-head-ready.false
+pub loop-head-preserved : goal.loop-head-preserved
+loop-head-preserved g c =
+    let there = is_there g.L.StateLanes.GREATEST c.args.routes.now c.args.position c.args.end
+    (rows_of c.args.routes.now (g.L.StateLanes.heads c.args.lanes.now)
+    (g.L.StateLanes.ends c.args.lanes.now))
+    c.requires.raisable c.requires.waits c.loop-head.next c.loop-head.ready
+    (rows_of c.args.routes.now (g.L.StateLanes.heads c.loop-head.lanes)
+    (g.L.StateLanes.ends c.loop-head.lanes))
+    c.loop-head.invariant.following c.loop-head.head c.loop-head.invariant.read c.loop-head-test.true
+    in let below = c.loop-head-test.true
     in let machines = c.requires.raisable.machines in let following = c.requires.raisable.followed.following
-    in let long = c.loop-next.invariant.following.walking.up_to.positions
+    in let long = c.loop-head.invariant.following.walking.up_to.positions
     in let read = c.machine.ensures
-    in let known = c.requires.known c.loop-next.next (omega arith)
+    in let known = c.requires.known c.loop-head.next (omega arith)
     in let many = length-map c.args.raises.now (raise_in g.L.StateLanes.value)
     in record {
       following = followed g.L.StateLanes.GREATEST c.args.routes.now c.args.position c.args.end
           (rows_of c.args.routes.now (g.L.StateLanes.heads c.args.lanes.now)
           (g.L.StateLanes.ends c.args.lanes.now))
-          c.requires.raisable c.requires.waits c.loop-next.next c.loop-next.ready
-          (rows_of c.args.routes.now (g.L.StateLanes.heads c.loop-next.lanes)
-          (g.L.StateLanes.ends c.loop-next.lanes))
-          c.loop-next.invariant.following c.positions.result c.positions.ensures
-          c.loop-next-test.true (omega arith) (rows_of c.args.routes.now
-          (g.L.StateLanes.heads c.set_head-in-loop-next.new.self)
-          (g.L.StateLanes.ends c.set_head-in-loop-next.new.self))
-          (put_is c.args.routes.now (g.L.StateLanes.heads c.loop-next.lanes) (g.L.StateLanes.ends c.loop-next.lanes)
-          (g.L.StateLanes.heads c.set_head-in-loop-next.new.self)
-          (g.L.StateLanes.ends c.set_head-in-loop-next.new.self)
-          c.loop-next.next c.loop-next.ready c.set_head-in-loop-next.ensures.heads
-          c.set_head-in-loop-next.ensures.ends)
-          (c.loop-next.ready + c.time-ready.result) c.time-ready.result c.following-next-in-loop-next.result
-          c.time-ready.ensures refl c.following-next-in-loop-next.ensures;
+          c.requires.raisable c.requires.waits c.loop-head.next c.loop-head.ready
+          (rows_of c.args.routes.now (g.L.StateLanes.heads c.loop-head.lanes)
+          (g.L.StateLanes.ends c.loop-head.lanes))
+          c.loop-head.invariant.following c.loop-head.head c.loop-head.invariant.read c.loop-head-test.true
+          (rows_of c.args.routes.now (g.L.StateLanes.heads c.set_head-in-loop-head.new.self)
+          (g.L.StateLanes.ends c.set_head-in-loop-head.new.self))
+          (put_is c.args.routes.now (g.L.StateLanes.heads c.loop-head.lanes) (g.L.StateLanes.ends c.loop-head.lanes)
+          (g.L.StateLanes.heads c.set_head-in-loop-head.new.self)
+          (g.L.StateLanes.ends c.set_head-in-loop-head.new.self)
+          c.loop-head.next c.loop-head.ready c.set_head-in-loop-head.ensures.heads
+          c.set_head-in-loop-head.ensures.ends)
+          (c.loop-head.ready + c.time-ready.result) c.time-ready.result c.following-next-in-loop-head.result
+          c.time-ready.ensures refl c.following-next-in-loop-head.ensures;
       seen = sees_next c.args.routes.now.machines c.args.position c.args.end
-          (g.L.StateLanes.heads c.args.lanes.now) (g.L.StateLanes.heads c.loop-next.lanes)
+          (g.L.StateLanes.heads c.args.lanes.now) (g.L.StateLanes.heads c.loop-head.lanes)
           (raises_in g.L.StateLanes.value c.args.raises.now)
-          (raises_in g.L.StateLanes.value c.loop-next.raises) c.loop-next.invariant.seen
-          (g.L.StateLanes.heads c.set_head-in-loop-next.new.self)
-          (raises_in g.L.StateLanes.value c.see.new.raises) c.loop-next.next
-          c.loop-next.ready c.head-head.result c.machine.result
-          c.set_head-in-loop-next.ensures.heads (omega arith) c.head-head.ensures
-          c.if-head-ready.false read (omega arith) c.see.ensures.raises;
+          (raises_in g.L.StateLanes.value c.loop-head.raises) c.loop-head.invariant.seen
+          (g.L.StateLanes.heads c.set_head-in-loop-head.new.self)
+          (raises_in g.L.StateLanes.value c.see.new.raises) c.loop-head.next
+          c.loop-head.ready c.loop-head.head c.machine.result
+          c.set_head-in-loop-head.ensures.heads (omega arith)
+          (read_there g.L.StateLanes.GREATEST c.args.routes.now c.args.position c.args.end
+          (rows_of c.args.routes.now (g.L.StateLanes.heads c.args.lanes.now)
+          (g.L.StateLanes.ends c.args.lanes.now))
+          c.requires.raisable c.requires.waits c.loop-head.next c.loop-head.ready
+          (rows_of c.args.routes.now (g.L.StateLanes.heads c.loop-head.lanes)
+          (g.L.StateLanes.ends c.loop-head.lanes))
+          c.loop-head.invariant.following c.loop-head.head c.loop-head.invariant.read c.loop-head-test.true)
+          c.loop-head-test.true read (omega arith) c.see.ensures.raises;
+      read = c.head_or_greatest-head-in-loop-head.ensures;
       listed = c.see.ensures.listed;
     }
 
-pub returns-then-head-ready-clause-raises : goal.returns-then-head-ready-clause-raises
-returns-then-head-ready-clause-raises g c = ended_before g.L.StateLanes.GREATEST c.args.routes.now c.args.position
-    c.args.end (rows_of c.args.routes.now (g.L.StateLanes.heads c.args.lanes.now)
-    (g.L.StateLanes.ends c.args.lanes.now)) c.requires.raisable c.requires.waits c.loop-next.next c.loop-next.ready
-    (rows_of c.args.routes.now (g.L.StateLanes.heads c.loop-next.lanes) (g.L.StateLanes.ends c.loop-next.lanes))
-    c.loop-next.invariant.following c.positions.result c.positions.ensures c.loop-next-test.true c.head-head.result
-    c.head-head.ensures c.if-head-ready.true
-
 pub returns-clause-raises : goal.returns-clause-raises
-returns-clause-raises g c = ended_behind g.L.StateLanes.GREATEST c.args.routes.now c.args.position c.args.end
+returns-clause-raises g c = ended_at g.L.StateLanes.GREATEST c.args.routes.now c.args.position c.args.end
     (rows_of c.args.routes.now (g.L.StateLanes.heads c.args.lanes.now)
-    (g.L.StateLanes.ends c.args.lanes.now)) c.requires.raisable c.requires.waits c.loop-next.next c.loop-next.ready
-    (rows_of c.args.routes.now (g.L.StateLanes.heads c.loop-next.lanes) (g.L.StateLanes.ends c.loop-next.lanes))
-    c.loop-next.invariant.following c.positions.result c.positions.ensures c.loop-next-test.false
+    (g.L.StateLanes.ends c.args.lanes.now)) c.requires.raisable c.requires.waits c.loop-head.next c.loop-head.ready
+    (rows_of c.args.routes.now (g.L.StateLanes.heads c.loop-head.lanes) (g.L.StateLanes.ends c.loop-head.lanes))
+    c.loop-head.invariant.following c.loop-head.head c.loop-head.invariant.read c.loop-head-test.false
+
+pub set_head-requires-in-loop-head-clause-in_range : goal.set_head-requires-in-loop-head-clause-in_range
+set_head-requires-in-loop-head-clause-in_range g c =
+    let there = is_there g.L.StateLanes.GREATEST c.args.routes.now c.args.position c.args.end
+    (rows_of c.args.routes.now (g.L.StateLanes.heads c.args.lanes.now)
+    (g.L.StateLanes.ends c.args.lanes.now))
+    c.requires.raisable c.requires.waits c.loop-head.next c.loop-head.ready
+    (rows_of c.args.routes.now (g.L.StateLanes.heads c.loop-head.lanes)
+    (g.L.StateLanes.ends c.loop-head.lanes))
+    c.loop-head.invariant.following c.loop-head.head c.loop-head.invariant.read c.loop-head-test.true
+    in let long = c.loop-head.invariant.following.walking.up_to.positions in omega arith
+
+pub following-next-requires-in-loop-head : goal.following-next-requires-in-loop-head
+following-next-requires-in-loop-head g c =
+    let there = is_there g.L.StateLanes.GREATEST c.args.routes.now c.args.position c.args.end
+    (rows_of c.args.routes.now (g.L.StateLanes.heads c.args.lanes.now)
+    (g.L.StateLanes.ends c.args.lanes.now))
+    c.requires.raisable c.requires.waits c.loop-head.next c.loop-head.ready
+    (rows_of c.args.routes.now (g.L.StateLanes.heads c.loop-head.lanes)
+    (g.L.StateLanes.ends c.loop-head.lanes))
+    c.loop-head.invariant.following c.loop-head.head c.loop-head.invariant.read c.loop-head-test.true
+    in let following = c.requires.raisable.followed.following in omega arith
+
+pub head_or_greatest-head-requires : goal.head_or_greatest-head-requires
+head_or_greatest-head-requires g c =
+    let known = first_up_to g.L.StateLanes.GREATEST c.args.routes.now c.args.position c.args.end
+    (rows_of c.args.routes.now (g.L.StateLanes.heads c.args.lanes.now)
+    (g.L.StateLanes.ends c.args.lanes.now))
+    c.requires.raisable c.requires.waits c.following-next.result c.following-next.ensures
+    in let long = ap length c.set_head.ensures.heads
+    ∙ length-set (g.L.StateLanes.heads c.args.lanes.now) c.args.position c.args.end in omega arith
+
+pub head_or_greatest-head-requires-in-loop-head : goal.head_or_greatest-head-requires-in-loop-head
+head_or_greatest-head-requires-in-loop-head g c =
+    let known = next_up_to g.L.StateLanes.GREATEST c.args.routes.now c.args.position c.args.end
+    (rows_of c.args.routes.now (g.L.StateLanes.heads c.args.lanes.now)
+    (g.L.StateLanes.ends c.args.lanes.now))
+    c.requires.raisable c.requires.waits c.loop-head.next c.loop-head.ready
+    (rows_of c.args.routes.now (g.L.StateLanes.heads c.loop-head.lanes)
+    (g.L.StateLanes.ends c.loop-head.lanes))
+    c.loop-head.invariant.following c.loop-head.head c.loop-head.invariant.read c.loop-head-test.true
+    c.following-next-in-loop-head.result c.following-next-in-loop-head.ensures
+    in let before = c.loop-head.invariant.following.walking.up_to.positions
+    in let long = ap length c.set_head-in-loop-head.ensures.heads
+    ∙ length-set (g.L.StateLanes.heads c.loop-head.lanes) c.loop-head.next c.loop-head.ready in omega arith

@@ -5,48 +5,48 @@ use Rattle.shop_lanes.proofs.block_lanes.BlockLanesStateLanes.bound_raised.Goals
 
 pub leap_over-requires-clause-fits : goal.leap_over-requires-clause-fits
 leap_over-requires-clause-fits g c = subst (FitsSpan g.B.Block.GREATEST c.args.upto) (sym (
-    lanes_of_rows g.B.Block.value c.deref.result.now c.deref-2.result.now c.deref-3.result.now c.args.from c.args.to
-    c.deref.ensures.value c.deref-2.ensures.value c.deref-3.ensures.value c.requires.blocks
+    lanes_of_rows g.B.Block.value c.heads.result.now c.deref.result.now c.deref-2.result.now c.args.from c.args.to
+    c.heads.ensures c.deref.ensures.value c.deref-2.ensures.value c.requires.blocks
     )) c.requires.fits
 
 pub leap_over-requires-clause-times : goal.leap_over-requires-clause-times
 leap_over-requires-clause-times g c =
-    blocks_as_long g.B.Block.value c.deref-2.result.now c.deref.result.now c.args.from c.args.to c.deref-2.ensures.value
-    c.deref.ensures.value c.requires.blocks.times_are_as_many
+    blocks_as_long g.B.Block.value c.deref.result.now c.heads.result.now c.args.from c.args.to c.deref.ensures.value
+    c.heads.ensures c.requires.blocks.times_are_as_many
 
 pub leap_over-requires-clause-tails : goal.leap_over-requires-clause-tails
 leap_over-requires-clause-tails g c =
-    blocks_as_long g.B.Block.value c.deref-3.result.now c.deref.result.now c.args.from c.args.to c.deref-3.ensures.value
-    c.deref.ensures.value c.requires.blocks.tails_are_as_many
+    blocks_as_long g.B.Block.value c.deref-2.result.now c.heads.result.now c.args.from c.args.to c.deref-2.ensures.value
+    c.heads.ensures c.requires.blocks.tails_are_as_many
 
 pub returns-then-count-eq0 : goal.returns-then-count-eq0
 returns-then-count-eq0 g c =
     subst (λ l. IsRaisedBelow c.args.limit (max c.args.most (spans_between c.args.above c.args.upto l))
     c.leap_over.result) (
-    lanes_of_rows g.B.Block.value c.deref.result.now c.deref-2.result.now c.deref-3.result.now c.args.from c.args.to
-    c.deref.ensures.value c.deref-2.ensures.value c.deref-3.ensures.value c.requires.blocks
+    lanes_of_rows g.B.Block.value c.heads.result.now c.deref.result.now c.deref-2.result.now c.args.from c.args.to
+    c.heads.ensures c.deref.ensures.value c.deref-2.ensures.value c.requires.blocks
     ) c.leap_over.ensures
 
 pub leap-requires-clause-fits : goal.leap-requires-clause-fits
 leap-requires-clause-fits g c = subst (FitsSpan g.B.Block.GREATEST c.args.upto) (sym (
-    lanes_of_rows g.B.Block.value c.deref.result.now c.deref-2.result.now c.deref-3.result.now c.args.from c.args.to
-    c.deref.ensures.value c.deref-2.ensures.value c.deref-3.ensures.value c.requires.blocks
+    lanes_of_rows g.B.Block.value c.heads.result.now c.deref.result.now c.deref-2.result.now c.args.from c.args.to
+    c.heads.ensures c.deref.ensures.value c.deref-2.ensures.value c.requires.blocks
     )) c.requires.fits
 
 pub leap-requires-clause-times : goal.leap-requires-clause-times
 leap-requires-clause-times g c =
-    blocks_as_long g.B.Block.value c.deref-2.result.now c.deref.result.now c.args.from c.args.to c.deref-2.ensures.value
-    c.deref.ensures.value c.requires.blocks.times_are_as_many
+    blocks_as_long g.B.Block.value c.deref.result.now c.heads.result.now c.args.from c.args.to c.deref.ensures.value
+    c.heads.ensures c.requires.blocks.times_are_as_many
 
 pub leap-requires-clause-tails : goal.leap-requires-clause-tails
 leap-requires-clause-tails g c =
-    blocks_as_long g.B.Block.value c.deref-3.result.now c.deref.result.now c.args.from c.args.to c.deref-3.ensures.value
-    c.deref.ensures.value c.requires.blocks.tails_are_as_many
+    blocks_as_long g.B.Block.value c.deref-2.result.now c.heads.result.now c.args.from c.args.to c.deref-2.ensures.value
+    c.heads.ensures c.requires.blocks.tails_are_as_many
 
 pub returns : goal.returns
 returns g c =
     subst (λ l. IsRaisedBelow c.args.limit (max c.args.most (spans_between c.args.above c.args.upto l))
     c.leap.result) (
-    lanes_of_rows g.B.Block.value c.deref.result.now c.deref-2.result.now c.deref-3.result.now c.args.from c.args.to
-    c.deref.ensures.value c.deref-2.ensures.value c.deref-3.ensures.value c.requires.blocks
+    lanes_of_rows g.B.Block.value c.heads.result.now c.deref.result.now c.deref-2.result.now c.args.from c.args.to
+    c.heads.ensures c.deref.ensures.value c.deref-2.ensures.value c.requires.blocks
     ) c.leap.ensures

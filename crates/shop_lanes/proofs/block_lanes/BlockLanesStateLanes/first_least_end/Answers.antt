@@ -1,4 +1,4 @@
-use Rattle.std.proofs.Common.{◌≡◌, ℕ, List, get_or, take, arith, ap, sym, ◌∙◌, subst, map}
+use Rattle.std.proofs.Common.{get_or, arith, ap, sym, ◌∙◌, subst, map}
 use Rattle.std.proofs.lemmas.List.{get_or-take, length-take}
 use Rattle.shop_lanes.specs.Ends.{IsFirstLeast}
 use Rattle.shop_lanes.proofs.Padding.{first_least_seen}

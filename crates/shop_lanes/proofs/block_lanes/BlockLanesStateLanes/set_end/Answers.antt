@@ -11,6 +11,8 @@ invariant_of-self g c =
     ≡ set ends c.args.job c.args.end =
     map-set g.B.Block.value self.ends.items c.args.job c.narrowed.result ∙ ap (set ends c.args.job) c.narrowed.ensures
     in record {
+      one_head_more = self.one_head_more;
+      last_is_greatest = self.last_is_greatest;
       room_for_heads = self.room_for_heads;
       room_for_ends = rw (length-set self.ends.items c.args.job c.narrowed.result) self.room_for_ends;
       whole_blocks = rw (length-set self.ends.items c.args.job c.narrowed.result) self.whole_blocks;
