@@ -13,11 +13,11 @@ use Rattle.shop_layout.specs.Lanes.{rows_of}
 use Rattle.shop_layout.specs.Positions.{LayoutState}
 
 -- each bound is told
-pub some_told : (shop : Shop) → IsWithinLimits shop → (w : List ℕ) → IsWord shop w → (told : Option ℕ)
+pub some_told : {shop : Shop} → IsWithinLimits shop → (w : List ℕ) → IsWord shop w → (told : Option ℕ)
     → TellsBoundBelow (2 ^ 50) (lb shop w) told → IsSome told
-some_told shop limits w word None reached =
+some_told {shop} limits w word None reached =
     let small = (sums_small shop limits w word).bound in absurd (omega arith)
-some_told shop limits w word (Some b) tells = refl
+some_told {shop} limits w word (Some b) tells = refl
 
 -- and it is the bound
 pub told_bound : (limit bound : ℕ) (told : Option ℕ) (b : ℕ) → told ≡ Some b → TellsBoundBelow limit bound told
@@ -25,7 +25,7 @@ pub told_bound : (limit bound : ℕ) (told : Option ℕ) (b : ℕ) → told ≡ 
 told_bound limit bound told b is tells = (subst (TellsBoundBelow limit bound) is tells).0
 
 -- where heads and ends are as they were
-pub same_kept : (greatest : ℕ) (shop : Shop) (w : List ℕ) (l : LayoutState) (heads ends nexts heads' ends' : List ℕ)
+pub same_kept : {greatest : ℕ} {shop : Shop} {w : List ℕ} {l : LayoutState} {heads ends nexts heads' ends' : List ℕ}
     → heads' ≡ heads → ends' ≡ ends → IsKeptInLanes greatest shop w l (rows_of l heads ends) nexts
     → IsKeptInLanes greatest shop w l (rows_of l heads' ends') nexts
-same_kept greatest shop w l heads ends nexts heads' ends' same_heads same_ends kept = rw (same_heads, same_ends) kept
+same_kept same_heads same_ends kept = rw (same_heads, same_ends) kept

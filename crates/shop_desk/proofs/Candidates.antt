@@ -1,6 +1,6 @@
 -- The candidates of a word, and what is foreseen of the bound after one.
 use Rattle.std.proofs.Common.{◌≡◌, ℕ, ◌+◌, ◌-◌, ◌<◌, ◌^◌, max, min, List}
-use Rattle.std.proofs.Common.{[], ◌∷◌, ◌++◌, length, get_or, refl, ◌∙◌, ap, subst, arith}
+use Rattle.std.proofs.Common.{[], ◌∷◌, ◌++◌, length, get_or, refl, ◌∙◌, ap, arith}
 use Rattle.shop_lanes.specs.Rows.{Rows}
 use Rattle.shop_model.specs.Limits.{IsWithinLimits}
 use Rattle.shop_model.specs.Shop.{Shop, IsOperation, machine_of}
@@ -18,20 +18,16 @@ use Rattle.shop_raises.specs.inner.LaneChoices.{AreChoosable}
 use Rattle.shop_desk.specs.inner.LaneStates.{IsKeptInLanes}
 use Rattle.shop_layout.specs.Lanes.{rows_of}
 use Rattle.shop_layout.specs.Positions.{LayoutState, place}
-use Rattle.shop_raises.specs.inner.RisingLists.{IsIn, Rises}
+use Rattle.shop_raises.specs.inner.RisingLists.{IsIn}
 use Rattle.shop_desk.proofs.ChildReads.{after_look, end_here, end_latest, end_small, head_here}
 use Rattle.shop_desk.proofs.ChildReads.{left_fits, machine_here, time_here}
-use Rattle.shop_desk.proofs.LaneConflicts.{filter_rises, in_filter, open_is}
+use Rattle.shop_desk.proofs.LaneConflicts.{in_filter, open_is}
 use Rattle.shop_desk.proofs.StateSteps.{next_at, next_known, within}
 
 -- a conflict set is a part of the open jobs
 conflict_in : (shop : Shop) (p : Placing) (js : List ℕ) (q : ℕ) → IsIn (conflict_among shop p js) q → IsIn js q
 conflict_in shop p [] q h = h
 conflict_in shop p (j ∷ js) q h = (in_filter (conflicts_with shop p (chosen_of shop p j js)) (j ∷ js) q h).0
-
-conflict_rises : (shop : Shop) (p : Placing) (js : List ℕ) → Rises js → Rises (conflict_among shop p js)
-conflict_rises shop p [] r = r
-conflict_rises shop p (j ∷ js) r = filter_rises (conflicts_with shop p (chosen_of shop p j js)) (j ∷ js) r
 
 module _ (shop : Shop) (w : List ℕ) (word : IsWord shop w) where
   known : (q : ℕ) → IsIn (conflict shop w) q → (q < length shop.jobs) × IsOperation shop q ((placing shop w).steps q)
@@ -42,7 +38,7 @@ module _ (shop : Shop) (w : List ℕ) (word : IsWord shop w) where
   candidate_fits q h = let op = (known q h).1 in let count = (after_word shop w word).steps q
       in IsWord-snoc shop w q word (omega arith)
 
-module _ (greatest : ℕ) (shop : Shop) (w : List ℕ) (l : LayoutState) (heads ends nexts : List ℕ) (j : ℕ)
+module _ {greatest : ℕ} {shop : Shop} {w : List ℕ} {l : LayoutState} {heads ends nexts : List ℕ} (j : ℕ)
     (kept : IsKeptInLanes greatest shop w l (rows_of l heads ends) nexts) (fits : IsWord shop (w ++ j ∷ [])) where
   abbrev rows : Rows
   rows = rows_of l heads ends
@@ -107,17 +103,14 @@ module _ (greatest : ℕ) (shop : Shop) (w : List ℕ) (l : LayoutState) (heads 
         (get_or heads x 0 + get_or l.times x 0) its_place its_machine head_is least least_is
 
   -- where heads, ends and next operations are as they were
-  pub advancing : (heads' ends' nexts' : List ℕ) → heads' ≡ heads → ends' ≡ ends → nexts' ≡ nexts
-      → (x : ℕ) → x ≡ get_or nexts j 0 → (bound : ℕ) → bound ≡ lb shop w → (least : ℕ)
-      → least ≡ foreseen l heads ends x bound
-      → IsAdvancing greatest shop w l (rows_of l heads' ends') nexts' j least
-  advancing heads' ends' nexts' same_heads same_ends same_nexts x x_is bound is least least_is =
-      rw (same_heads, same_ends, same_nexts) (record {
-        kept = kept;
-        fits = fits;
-        foreseen = subst (λ (q : ℕ). IsLeastAt shop w l (rows_of l heads ends) j q least) x_is
-            (foreseen_least x x_is bound is least least_is);
-      })
+  pub advancing : {heads' ends' : List ℕ} → heads' ≡ heads → ends' ≡ ends → {bound : ℕ} → bound ≡ lb shop w
+      → {least : ℕ} → least ≡ foreseen l heads ends (get_or nexts j 0) bound
+      → IsAdvancing greatest shop w l (rows_of l heads' ends') nexts j least
+  advancing same_heads same_ends {bound} is {least} least_is = rw (same_heads, same_ends) (record {
+    kept = kept;
+    fits = fits;
+    foreseen = foreseen_least (get_or nexts j 0) refl bound is least least_is;
+  })
 
   pub job_known : j < length nexts
   job_known = next_known greatest shop w j l rows nexts kept fits
@@ -137,9 +130,6 @@ module _ (greatest : ℕ) (shop : Shop) (w : List ℕ) (l : LayoutState) (heads 
     ends = kept.ends;
     computable = kept.kept.computable;
   }
-
-  pub few_jobs : length nexts < 1024
-  few_jobs = let few = kept.kept.limits.jobs in let many = kept.are_next.jobs in omega arith
 
 -- the limit is beyond all bounds, or is not
 pub tells_below : (shop : Shop) → IsWithinLimits shop → (w : List ℕ) → IsWord shop w → (limit least : ℕ)

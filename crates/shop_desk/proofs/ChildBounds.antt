@@ -33,9 +33,6 @@ left-le-lb shop limits slots are w word m known =
 
 module _ (shop : Shop) (limits : IsWithinLimits shop) (slots : List (List Slot)) (are : AreMachineSlots shop slots)
     (w : List ℕ) (j : ℕ) (fits : IsWord shop (w ++ j ∷ [])) where
-  was : Placing
-  was = placing shop w
-
   abbrev pub next : Placing
   next = place_next shop (placing shop w) j
 

@@ -6,7 +6,7 @@ use Rattle.shop_lanes.specs.Rows.{Rows, lanes_of}
 use Rattle.shop_lanes.specs.Spans.{spans_between}
 use Rattle.shop_model.specs.Limits.{IsWithinLimits}
 use Rattle.shop_model.specs.Shop.{Shop, machine_of, IsOperation}
-use Rattle.shop_model.specs.Word.{Placing, IsWord, placing, place_next}
+use Rattle.shop_model.specs.Word.{IsWord, placing, place_next}
 use Rattle.shop_heads.specs.Bound.{lb}
 use Rattle.shop_desk.specs.inner.BoundsUpTo.{IsBoundUpTo}
 use Rattle.shop_heads.specs.Heads.{head_of}
@@ -39,9 +39,6 @@ heads_small shop limits l laid w word hs heads q = elim (each_position shop limi
 module _ (shop : Shop) (limits : IsWithinLimits shop) (l : LayoutState) (laid : IsLaidOut shop l) (w : List ℕ) (j : ℕ)
     (fits : IsWord shop (w ++ j ∷ [])) (was now : List ℕ) (old : AreHeadsAt shop (placing shop w) l was)
     (new : AreHeadsAt shop (place_next shop (placing shop w) j) l now) where
-  its_next : Placing
-  its_next = place_next shop (placing shop w) j
-
   -- each head stayed, or is within the raise
   abbrev pub IsCovered : Raise → ℕ → Type 0
   IsCovered raise m = (i k : ℕ) → IsOperation shop i k → machine_of shop i k ≡ m

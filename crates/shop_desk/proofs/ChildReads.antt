@@ -4,7 +4,7 @@ use Rattle.std.proofs.Common.{get_or, refl, sym, ◌∙◌, ap, subst, arith}
 use Rattle.shop_lanes.specs.Rows.{Rows, Lane, with_head, lanes_of}
 use Rattle.shop_lanes.specs.Spans.{span}
 use Rattle.shop_model.specs.Shop.{Shop, machine_of, time_of, IsOperation}
-use Rattle.shop_model.specs.Word.{Placing, IsWord, placing, place_next}
+use Rattle.shop_model.specs.Word.{IsWord, placing, place_next}
 use Rattle.shop_model.proofs.Placings.{place_next-is}
 use Rattle.shop_model.proofs.Unders.{after_word, next_operation}
 use Rattle.shop_model.proofs.WordLemmas.{IsWord-init}
@@ -16,7 +16,7 @@ use Rattle.shop_raises.specs.inner.LaneBounds.{AreSpansFit}
 use Rattle.shop_layout.specs.Lanes.{lanes_on}
 use Rattle.shop_raises.specs.inner.LaneHeads.{AreStored}
 use Rattle.shop_desk.specs.inner.LaneStates.{AreHeadsInLanes}
-use Rattle.shop_layout.specs.Positions.{AreMachinesOf, LayoutState, first_position, place}
+use Rattle.shop_layout.specs.Positions.{AreMachinesOf, LayoutState, place}
 use Rattle.shop_desk.proofs.ChildBounds.{child-ge-before}
 use Rattle.shop_desk.proofs.ChildExits.{open_span-le}
 use Rattle.shop_heads.proofs.HeadTurns.{ready_first}
@@ -28,15 +28,9 @@ use Rattle.std.proofs.lemmas.List.{length-set}
 
 module _ (greatest : ℕ) (shop : Shop) (w : List ℕ) (l : LayoutState) (rows : Rows)
     (kept : AreHeadsInLanes greatest shop w l rows) (j : ℕ) (fits : IsWord shop (w ++ j ∷ [])) where
-  its_next : Placing
-  its_next = place_next shop (placing shop w) j
-
   pub is_operation : IsOperation shop j ((placing shop w).steps j)
   is_operation = let a = next_operation shop w j fits
       in let b = (after_word shop w (IsWord-init shop w j fits)).steps j in omega arith
-
-  pub place_within : place l j ((placing shop w).steps j) < first_position l shop.machines
-  place_within = (place_of shop kept.limits l kept.laid j ((placing shop w).steps j) is_operation).within
 
   pub head_here : get_or rows.heads (place l j ((placing shop w).steps j)) 0
       ≡ head_of shop (placing shop w) j ((placing shop w).steps j) + 1
@@ -88,9 +82,6 @@ module _ (greatest : ℕ) (shop : Shop) (w : List ℕ) (l : LayoutState) (rows :
     module _ (x m e : ℕ) (x_is : x ≡ place l j ((placing shop w).steps j))
         (m_is : m ≡ machine_of shop j ((placing shop w).steps j))
         (e_is : e ≡ (place_next shop (placing shop w) j).free (machine_of shop j ((placing shop w).steps j)) + 1) where
-      its_end : ℕ
-      its_end = (place_next shop (placing shop w) j).free (machine_of shop j ((placing shop w).steps j))
-
       stored : AreStored shop (place_next shop (placing shop w) j).steps (head_of shop (placing shop w)) l
           (set rows.heads x 0)
       stored = subst (λ (y : ℕ). AreStored shop (place_next shop (placing shop w) j).steps

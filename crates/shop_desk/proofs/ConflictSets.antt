@@ -16,19 +16,19 @@ use Rattle.shop_raises.specs.inner.LaneChoices.{AreNextPlaced, IsJobBelow}
 use Rattle.shop_desk.specs.inner.LaneStates.{IsKeptInLanes}
 use Rattle.shop_raises.specs.inner.Raises.{IsInBlocks}
 use Rattle.shop_raises.specs.inner.RisingLists.{IsGatheredWith}
-use Rattle.shop_desk.proofs.Candidates.{choosable, few_jobs}
+use Rattle.shop_desk.proofs.Candidates.{choosable}
 use Rattle.shop_desk.proofs.LaneChoices.{alone_with}
 use Rattle.shop_desk.proofs.NextOperations.{next_placed}
 use Rattle.shop_desk.proofs.OwnSpans.{CanTell, alone, can_tell, told, told_all}
 
-module _ (greatest : ℕ) (shop : Shop) (w : List ℕ) (l : LayoutState) (heads ends nexts : List ℕ)
+module _ {greatest : ℕ} {shop : Shop} {w : List ℕ} {l : LayoutState} {heads ends nexts : List ℕ}
     (kept : IsKeptInLanes greatest shop w l (rows_of l heads ends) nexts) where
   pub placed : AreNextPlaced l heads nexts
   placed = next_placed shop (placing shop w) l nexts (rows_of l heads ends)
       (choosable greatest shop w l heads ends nexts kept).at
 
-  module _ (job machine end : ℕ) (chosen : IsChosenBy greatest shop w l heads nexts job machine end)
-      (from behind : ℕ) (from_is : from ≡ get_or l.blocks machine 0)
+  module _ {job machine end : ℕ} (chosen : IsChosenBy greatest shop w l heads nexts job machine end)
+      {from behind : ℕ} (from_is : from ≡ get_or l.blocks machine 0)
       (behind_is : behind ≡ get_or l.blocks (machine + 1) 0) where
     set_is : (js : List ℕ) → IsGatheredWith job (IsJobBelow l heads (IsInBlocks from behind) end) js
         → js ≡ conflict shop w
@@ -38,11 +38,11 @@ module _ (greatest : ℕ) (shop : Shop) (w : List ℕ) (l : LayoutState) (heads 
         (subst (λ (x : ℕ). IsGatheredWith job (IsJobBelow l heads (IsInBlocks x behind) end) js) from_is is))
 
     -- nothing else waits there
-    pub sole : (to : ℕ) → to ≡ behind
+    pub sole : {to : ℕ} → to ≡ behind
         → All (λ p. p ≡ get_or nexts job 0) (positions_below (rows_of l heads ends) from to end)
-        → (limit : ℕ) (cs : List Candidate) → cs ≡ record { job = job; own = 0 } ∷ []
+        → (limit : ℕ) {cs : List Candidate} → cs ≡ record { job = job; own = 0 } ∷ []
         → AreCandidatesOf shop w l limit cs 0
-    sole to whole nothing limit cs are =
+    sole {to} whole nothing limit {cs} are =
         let ordered = chosen.blocks.ordered
         in let within = chosen.blocks.within
         in let is = alone_with l nexts (rows_of l heads ends) placed from to end job (omega arith) (omega arith)
@@ -56,9 +56,9 @@ module _ (greatest : ℕ) (shop : Shop) (w : List ℕ) (l : LayoutState) (heads 
         chosen.machine_is from behind from_is behind_is
 
     -- it can be listed
-    pub can_list : (to : ℕ) → from ≤ to → to ≤ behind → get_or nexts job 0 < 2 ^ 64 → (count : ℕ)
+    pub can_list : {to : ℕ} → from ≤ to → to ≤ behind → get_or nexts job 0 < 2 ^ 64 → {count : ℕ}
         → count ≡ length heads → CanList greatest l heads nexts job from to behind end count
-    can_list to ordered last small count many =
+    can_list {to} ordered last small {count} many =
         let low = tells.low
         in let within = tells.blocks.within
         in record {
@@ -68,17 +68,17 @@ module _ (greatest : ℕ) (shop : Shop) (w : List ℕ) (l : LayoutState) (heads 
           computable = omega arith;
           fits = chosen.fits;
           placed = placed;
-          few = few_jobs greatest shop w l heads ends nexts kept;
+          few = (let few = kept.kept.limits.jobs in let jobs = kept.are_next.jobs in omega arith);
           known = chosen.known;
           told = λ js is. told_all greatest shop w l heads ends nexts kept js (set_is js is) job chosen.has machine
               chosen.machine_is from behind from_is behind_is count many;
         }
 
     pub all_told : (owns : List ℕ) → AreOwnSpans heads l.times l.tails from behind owns
-        → (limit : ℕ) (cs : List Candidate) (others : ℕ)
+        → {limit : ℕ} {cs : List Candidate} {others : ℕ}
         → ListsGathered limit (told_at nexts (8 * from) owns)
         (IsGatheredWith job (IsJobBelow l heads (IsInBlocks from behind) end)) cs others
         → AreCandidatesOf shop w l limit cs others
-    all_told owns spans limit cs others are =
+    all_told owns spans {limit} {cs} {others} are =
         told greatest shop w l heads ends nexts kept are.jobs (set_is are.jobs are.gathered) job chosen.has machine
         chosen.machine_is from behind from_is behind_is owns spans limit cs others are.listed

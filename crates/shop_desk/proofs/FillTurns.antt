@@ -13,8 +13,7 @@ use Rattle.shop_heads.specs.Heads.{ready_after, head_of}
 use Rattle.shop_model.specs.Placements.{PlacementState, IsPlacement}
 use Rattle.shop_desk.specs.inner.Fills.{IsStored, CanFill, AreSameBeside}
 use Rattle.shop_desk.specs.inner.Fills.{HasFilledJob, HasFilled}
-use Rattle.shop_layout.specs.Lanes.{rows_of}
-use Rattle.shop_layout.specs.Positions.{IsFree, LayoutState, place, first_position}
+use Rattle.shop_layout.specs.Positions.{IsFree, LayoutState, place}
 use Rattle.shop_heads.specs.inner.PlacedWords.{IsOfWord}
 use Rattle.shop_layout.proofs.LaidPlaces.{place_of}
 use Rattle.shop_desk.proofs.RowTurns.{open_turn}
@@ -45,23 +44,35 @@ pub record IsFilledUpTo (shop : Shop) (l : LayoutState) (s : PlacementState) (j 
       → get_or now.heads q 0 ≡ get_or old.heads q 0
   pub ready_is : (p : Placing) → IsPlacement shop p s → ready ≡ ready_after shop p j (k - p.steps j)
 
-module _ (greatest : ℕ) (shop : Shop) (l : LayoutState) (s : PlacementState) (rows : Rows)
-    (can : CanFill greatest shop l rows) (j : ℕ) (job : j < length shop.jobs) where
-  module _ (k : ℕ) (ready : ℕ) (now : Rows) (so_far : IsFilledUpTo shop l s j k ready rows now)
-      (op : IsOperation shop j k) (q : ℕ) (at : q ≡ place l j k) where
-    here : place l j k < first_position l shop.machines
-    here = (place_of shop can.limits l can.laid j k op).within
+module _ {greatest : ℕ} {shop : Shop} {l : LayoutState} {s : PlacementState} {rows : Rows}
+    (can : CanFill greatest shop l rows) {j : ℕ} (job : j < length shop.jobs) where
+  -- a step is read of the job's route, and its position of the job's places
+  module _ {k ready : ℕ} {now : Rows} (so_far : IsFilledUpTo shop l s j k ready rows now) {read : Shop}
+      (of_shop : read ≡ shop) {route : List Op} (is_route : route ≡ route_of read j) (known : k < length route)
+      {rows_read : LayoutState} (of_layout : rows_read ≡ l) {places : List ℕ}
+      (are : places ≡ get_or rows_read.places j []) where
+    same_route : route ≡ route_of shop j
+    same_route = is_route ∙ ap (λ (x : Shop). route_of x j) of_shop
 
-    pub position_known : q < length now.heads
-    position_known = let a = here in let b = can.positions in let c = so_far.beside.positions in omega arith
+    op : IsOperation shop j k
+    op = let a = ap (λ (xs : List Op). length xs) same_route in omega arith
+
+    at : get_or places k 0 ≡ place l j k
+    at = ap (λ (xs : List ℕ). get_or xs k 0) (are ∙ ap (λ (x : LayoutState). get_or x.places j []) of_layout)
+
+    pub position_known : get_or places k 0 < length now.heads
+    position_known =
+        let within = (place_of shop can.limits l can.laid j k op).within
+        in let b = can.positions in let c = so_far.beside.positions in let d = at in omega arith
 
     -- the head of one step is written
-    pub filled_more : (new : Rows) (v h : ℕ) → new ≡ with_head now q v
+    filled_more : (new : Rows) (v h : ℕ) → new ≡ with_head now (get_or places k 0) v
         → ((p : Placing) → IsPlacement shop p s → (p.steps j ≤ k) × (v ≡ head_of shop p j k + 1)
         × (h ≡ ready_after shop p j (k + 1 - p.steps j)))
         → IsFilledUpTo shop l s j (k + 1) h rows new
     filled_more new v h wrote value =
-        let heads : new.heads ≡ set now.heads q v = ap (λ (r : Rows). r.heads) wrote
+        let q = get_or places k 0
+        in let heads : new.heads ≡ set now.heads q v = ap (λ (r : Rows). r.heads) wrote
         in let mine : get_or new.heads (place l j k) 0 ≡ v =
         ap (λ (xs : List ℕ). get_or xs (place l j k) 0) heads
         ∙ get_or-set_at now.heads q (place l j k) v 0 (sym at) position_known
@@ -94,13 +105,11 @@ module _ (greatest : ℕ) (shop : Shop) (l : LayoutState) (s : PlacementState) (
           ready_is = λ p is. (value p is).2;
         }
 
-    module _ (placed : ℕ) (read : placed ≡ get_or s.steps j 0) (opened : placed ≤ k) (route : List Op)
-        (is_route : route ≡ route_of shop j) (head : ℕ)
+    module _ (opened : get_or s.steps j 0 ≤ k) {head : ℕ}
         (greater : head ≡ max ready (get_or s.free (get_or route k no_op).machine 0)) where
       turn : (p : Placing) → IsPlacement shop p s → (head ≡ head_of shop p j k)
           × (head + (get_or route k no_op).time ≡ ready_after shop p j (k + 1 - p.steps j))
-      turn p is = open_turn shop can.limits s j job route is_route k ready head so_far.ready_is (omega arith)
-          greater p is
+      turn p is = open_turn shop can.limits s j job route same_route k ready head so_far.ready_is opened greater p is
 
       -- it waits, and its head and its end fit
       pub open_fits : IsOfWord shop s → (head + 1 ≤ greatest) × (head + (get_or route k no_op).time < greatest)
@@ -111,21 +120,21 @@ module _ (greatest : ℕ) (shop : Shop) (l : LayoutState) (s : PlacementState) (
           in let steps = is.steps j job
           in let f = can.fits of.word of.fits j k op (omega arith)
           in let time : (get_or route k no_op).time ≡ time_of shop j k =
-          ap (λ (xs : List Op). (get_or xs k no_op).time) is_route
+          ap (λ (xs : List Op). (get_or xs k no_op).time) same_route
           in let h = t.0
           in (omega arith, omega arith)
 
-      pub filled_open : (new : Rows) → new ≡ with_head now q (head + 1) → (h : ℕ)
-          → h ≡ head + (get_or route k no_op).time → IsFilledUpTo shop l s j (k + 1) h rows new
-      filled_open new wrote h sum = filled_more new (head + 1) h wrote (λ p is.
+      pub filled_open : (new : Rows) → new ≡ with_head now (get_or places k 0) (head + 1)
+          → IsFilledUpTo shop l s j (k + 1) (head + (get_or route k no_op).time) rows new
+      filled_open new wrote = filled_more new (head + 1) (head + (get_or route k no_op).time) wrote (λ p is.
           let t = turn p is
           in let steps = is.steps j job
-          in (omega arith, (let a = t.0 in omega arith), sum ∙ t.1))
+          in (omega arith, (let a = t.0 in omega arith), t.1))
 
   -- what is placed stays as it was
-  pub filled_begins : (placed ready : ℕ) → placed ≡ get_or s.steps j 0 → ready ≡ get_or s.ready j 0
+  pub filled_begins : {placed ready : ℕ} → placed ≡ get_or s.steps j 0 → ready ≡ get_or s.ready j 0
       → IsFilledUpTo shop l s j placed ready rows rows
-  filled_begins placed ready read is_ready = record {
+  filled_begins {placed} {ready} read is_ready = record {
     beside = record { times = refl; tails = refl; ends = refl; positions = refl };
     filled = λ p is t op below. (let steps = is.steps j job
         in record { waiting = λ opened. absurd (omega arith); placed = λ done. refl });
@@ -143,20 +152,10 @@ pub record AreFilledUpTo (shop : Shop) (l : LayoutState) (s : PlacementState) (n
       → get_or now.heads (place l j k) 0 ≡ get_or old.heads (place l j k) 0
   pub free : (q : ℕ) → IsFree shop l q → get_or now.heads q 0 ≡ get_or old.heads q 0
 
-module _ (greatest : ℕ) (shop : Shop) (l : LayoutState) (s : PlacementState) (rows : Rows)
-    (can : CanFill greatest shop l rows) where
-  pub jobs_can : (n : ℕ) (now : Rows) → AreFilledUpTo shop l s n rows now → CanFill greatest shop l now
-  jobs_can n now so_far = record {
-    limits = can.limits;
-    laid = can.laid;
-    fits = can.fits;
-    computable = can.computable;
-    positions = so_far.beside.positions ∙ can.positions;
-  }
-
-  pub jobs_more : (n : ℕ) (now new : Rows) → AreFilledUpTo shop l s n rows now → HasFilledJob shop l s n now new
-      → AreFilledUpTo shop l s (n + 1) rows new
-  jobs_more n now new so_far job =
+module _ {greatest : ℕ} {shop : Shop} {l : LayoutState} {s : PlacementState} {rows : Rows}
+    (can : CanFill greatest shop l rows) {n : ℕ} {now : Rows} (so_far : AreFilledUpTo shop l s n rows now) where
+  pub jobs_more : {new : Rows} → HasFilledJob shop l s n now new → AreFilledUpTo shop l s (n + 1) rows new
+  jobs_more {new} job =
       let same : (j k : ℕ) → IsOperation shop j k → (j ≡ n → ⊥)
       → get_or new.heads (place l j k) 0 ≡ get_or now.heads (place l j k) 0 = (λ j k op ne.
       job.others (place l j k) (λ t op_t f. ne (
@@ -182,9 +181,8 @@ module _ (greatest : ℕ) (shop : Shop) (l : LayoutState) (s : PlacementState) (
         free = λ q none. job.others q (λ t op f. none n t op f) ∙ so_far.free q none;
       }
 
-  pub jobs_all : (n : ℕ) (now : Rows) → length shop.jobs ≤ n → AreFilledUpTo shop l s n rows now
-      → HasFilled shop l s rows now
-  jobs_all n now all so_far = record {
+  pub jobs_all : length shop.jobs ≤ n → HasFilled shop l s rows now
+  jobs_all all = record {
     beside = so_far.beside;
     filled = λ rested p is. record {
       positions = so_far.beside.positions ∙ can.positions;
@@ -195,54 +193,3 @@ module _ (greatest : ℕ) (shop : Shop) (l : LayoutState) (s : PlacementState) (
       padding = λ q none. so_far.free q none ∙ rested q;
     };
   }
-
--- whatever the ends are
-module _ (greatest : ℕ) (shop : Shop) (l : LayoutState) (hs : List ℕ) where
-  pub can_beside : (es es' : List ℕ) → CanFill greatest shop l (rows_of l hs es) → CanFill greatest shop l (rows_of l hs es')
-  can_beside es es' can = record {
-    limits = can.limits;
-    laid = can.laid;
-    fits = can.fits;
-    computable = can.computable;
-    positions = can.positions;
-  }
-
-  module _ (s : PlacementState) where
-    filled_beside : (n : ℕ) (now a b es : List ℕ) → AreFilledUpTo shop l s n (rows_of l hs a) (rows_of l now b)
-        → AreFilledUpTo shop l s n (rows_of l hs es) (rows_of l now es)
-    filled_beside n now a b es filled = record {
-      beside = record { times = refl; tails = refl; ends = refl; positions = filled.beside.positions };
-      filled = filled.filled;
-      later = filled.later;
-      free = filled.free;
-    }
-
-    -- an end was set, and then the heads of its job
-    pub ended_more : (n : ℕ) (now es set_hs set_es new new_es : List ℕ) → CanFill greatest shop l (rows_of l hs es)
-        → AreFilledUpTo shop l s n (rows_of l hs es) (rows_of l now es) → set_hs ≡ now
-        → HasFilledJob shop l s n (rows_of l set_hs set_es) (rows_of l new new_es)
-        → AreFilledUpTo shop l s (n + 1) (rows_of l hs new_es) (rows_of l new new_es)
-    ended_more n now es set_hs set_es new new_es can so_far same job = filled_beside (n + 1) new set_es new_es new_es
-        (jobs_more greatest shop l s (rows_of l hs set_es) (can_beside es set_es can) n (rows_of l set_hs set_es)
-        (rows_of l new new_es) (subst (λ (xs : List ℕ). AreFilledUpTo shop l s n (rows_of l hs set_es)
-        (rows_of l xs set_es)) (sym same) (filled_beside n now es es set_es so_far)) job)
-
--- one more of a list's numbers was set
-pub ends_more : (f : ℕ → ℕ) (n : ℕ) (es : List ℕ) → n < length es
-    → ((j : ℕ) → j < n → get_or es j 0 ≡ f j) → (v : ℕ) → v ≡ f n → (new : List ℕ) → new ≡ set es n v
-    → (j : ℕ) → j < n + 1 → get_or new j 0 ≡ f j
-ends_more f n es known so_far v is new wrote j below =
-    let read : get_or new j 0 ≡ get_or (set es n v) j 0 = ap (λ (xs : List ℕ). get_or xs j 0) wrote
-    in elim (cases_eq j n) [
-      | inl e ↦ read ∙ (get_or-set_at es n j v 0 e known ∙ (is ∙ ap f (sym e)))
-      | inr ne ↦ read ∙ (get_or-set_other es n j v 0 ne ∙ so_far j (omega arith))
-    ]
-
--- what is read of a job's places and of its route
-pub places_read : (l : LayoutState) (j : ℕ) (places : List ℕ) → places ≡ get_or l.places j [] → (k : ℕ)
-    → get_or places k 0 ≡ place l j k
-places_read l j places is k = ap (λ (xs : List ℕ). get_or xs k 0) is
-
-pub step_read : (shop : Shop) (j : ℕ) (route : List Op) → route ≡ route_of shop j → (k : ℕ) → k < length route
-    → IsOperation shop j k
-step_read shop j route is k below = let a : length route ≡ length (route_of shop j) = ap length is in omega arith

@@ -1,29 +1,29 @@
 -- A state that was set by a placement.
-use Rattle.std.proofs.Common.{◌≡◌, ℕ, inl, inr, List, length, replicate, get_or, ◌∙◌, ap, arith}
+use Rattle.std.proofs.Common.{◌≡◌, ℕ, inl, inr, List, length, replicate, get_or, sym, ◌∙◌, ap, subst, arith}
 use Rattle.std.proofs.lemmas.Bool.{cases_lt}
 use Rattle.std.proofs.lemmas.List.{get_or_past, get_or-replicate, length-replicate}
-use Rattle.shop_lanes.specs.Rows.{Rows}
-use Rattle.shop_model.specs.Placements.{IsPlacement, PlacementState}
 use Rattle.shop_model.specs.Shop.{Shop}
 use Rattle.shop_model.specs.Word.{IsWord, placing}
 use Rattle.shop_layout.specs.LaidOuts.{IsReady}
-use Rattle.shop_desk.specs.inner.Fills.{AreNextsPlaced, CanFill, HasFilled, IsRested}
-use Rattle.shop_raises.specs.inner.LaneChoices.{AreEndsAt, AreNextsOf}
-use Rattle.shop_desk.specs.inner.LaneStates.{AreHeadsInLanes, HasRoom, IsKeptInLanes}
 use Rattle.shop_layout.specs.Lanes.{rows_of}
-use Rattle.shop_layout.specs.Positions.{place_or, LayoutState, first_position}
+use Rattle.shop_layout.specs.Positions.{LayoutState}
+use Rattle.shop_raises.specs.inner.LaneEnds.{AreEndsOf, CanKeepEnds, HasEnds}
+use Rattle.shop_desk.specs.inner.Fills.{CanFill, HasFilled, IsRested}
+use Rattle.shop_desk.specs.inner.LaneStates.{AreHeadsInLanes, HasRoom, IsKeptInLanes}
+use Rattle.shop_desk.specs.inner.PlacedNexts.{IsPlacedAt, placement_at}
 use Rattle.shop_desk.proofs.HeadsFit.{heads_fit}
+use Rattle.shop_desk.proofs.LaneEnds.{can_keep, ends_at, with_ends}
+use Rattle.shop_desk.proofs.PlacedNexts.{placement_is}
 use Rattle.shop_desk.proofs.SoleCandidates.{sole_keeps_bound}
 
-module _ (greatest : ℕ) (shop : Shop) (l : LayoutState) (ready : IsReady greatest shop l) (hs es nexts : List ℕ)
-    (room : HasRoom shop l hs es nexts) (s : PlacementState) (hs' es' : List ℕ)
-    (heads : hs' ≡ replicate (length hs) 0) where
-  pub can_fill : CanFill greatest shop l (rows_of l hs' es')
+module _ {greatest : ℕ} {shop : Shop} {l : LayoutState} (is : IsReady greatest shop l) {hs es nexts : List ℕ}
+    (room : HasRoom shop l hs es nexts) {hs' : List ℕ} (heads : hs' ≡ replicate (length hs) 0) where
+  pub can_fill : {es' : List ℕ} → CanFill greatest shop l (rows_of l hs' es')
   can_fill = record {
-    limits = ready.limits;
-    laid = ready.laid;
-    fits = heads_fit greatest shop l ready.limits ready.holds;
-    computable = ready.computable;
+    limits = is.limits;
+    laid = is.laid;
+    fits = heads_fit greatest shop l is.limits is.holds;
+    computable = is.computable;
     positions = ap length heads ∙ (length-replicate (length hs) 0 ∙ room.positions);
   }
 
@@ -34,34 +34,49 @@ module _ (greatest : ℕ) (shop : Shop) (l : LayoutState) (ready : IsReady great
         (omega (arith, length-replicate {A = ℕ} (length hs) 0))
   ]
 
-  module _ (filled : Rows) (has : HasFilled shop l s (rows_of l hs' es') filled) where
-    module _ (after : List ℕ) (long : length after ≡ length nexts) (are : AreNextsPlaced l s (length nexts) after)
-        (w : List ℕ) (word : IsWord shop w) (placed : IsPlacement shop (placing shop w) s) where
-      now : AreHeadsInLanes greatest shop w l filled
-      now = record {
-        limits = ready.limits;
-        word = word;
-        laid = ready.laid;
-        times = has.beside.times;
-        tails = has.beside.tails;
-        fits = heads_fit greatest shop l ready.limits ready.holds;
-        computable = ready.computable;
-        heads = has.filled rested (placing shop w) placed;
-      }
+  module _ {es' : List ℕ} (long : es' ≡ replicate (length es) greatest) {ready free hs'' es'' : List ℕ}
+      (has : HasFilled shop l (placement_at l nexts ready free) (rows_of l hs' es') (rows_of l hs'' es''))
+      (w : List ℕ) (word : IsWord shop w) (at : IsPlacedAt shop (placing shop w) l nexts ready free)
+      {read : LayoutState} (same : read ≡ l) where
+    now : AreHeadsInLanes greatest shop w l (rows_of l hs'' es'')
+    now = record {
+      limits = is.limits;
+      word = word;
+      laid = is.laid;
+      times = has.beside.times;
+      tails = has.beside.tails;
+      fits = heads_fit greatest shop l is.limits is.holds;
+      computable = is.computable;
+      heads = has.filled rested (placing shop w)
+          (placement_is shop is.limits l is.laid w word nexts ready free at);
+    }
 
-      next_are : AreNextsOf shop (placing shop w) l after
-      next_are = record {
-        jobs = long ∙ room.jobs_with_nexts;
-        are = λ j known. are j (let a = room.jobs_with_nexts in omega arith)
-            ∙ (ap (λ (n : ℕ). place_or n l.places j (get_or s.steps j 0)) ready.laid.positions.following
-            ∙ ap (place_or (first_position l shop.machines) l.places j) (placed.steps j known));
-      }
+    as_many : length es'' ≡ length shop.jobs
+    as_many = ap length has.beside.ends
+        ∙ (ap length long ∙ (length-replicate (length es) greatest ∙ room.jobs_with_ends))
 
-      pub filled_kept : AreEndsAt greatest shop (placing shop w) filled.ends → IsKeptInLanes greatest shop w l filled after
-      filled_kept ends = record {
-        kept = now;
-        are_next = next_are;
-        ends = ends;
-        holds = ready.holds;
-        sole = sole_keeps_bound shop now.limits now.laid.slots now.laid.are w now.word;
+    pub filled_times : length read.times ≡ length hs''
+    filled_times = ap (λ (x : LayoutState). length x.times) same
+        ∙ (is.laid.positions.times ∙ sym now.heads.positions)
+
+    pub filled_keep : CanKeepEnds greatest read nexts (rows_of read hs'' es'')
+    filled_keep = subst (λ (x : LayoutState). CanKeepEnds greatest x nexts (rows_of x hs'' es'')) (sym same)
+        (can_keep greatest shop w l (rows_of l hs'' es'') now nexts at.are_next as_many)
+
+    module _ {hs3 es3 : List ℕ} (beside : HasEnds (rows_of read hs'' es'') (rows_of read hs3 es3))
+        (ends : AreEndsOf greatest nexts (rows_of read hs3 es3)) where
+      ended : HasEnds (rows_of l hs'' es'') (rows_of l hs3 es3)
+      ended = subst (λ (x : LayoutState). HasEnds (rows_of x hs'' es'') (rows_of x hs3 es3)) same beside
+
+      kept : AreHeadsInLanes greatest shop w l (rows_of l hs3 es3)
+      kept = with_ends greatest shop w l (rows_of l hs'' es'') (rows_of l hs3 es3) ended now
+
+      pub filled_kept : IsKeptInLanes greatest shop w l (rows_of l hs3 es3) nexts
+      filled_kept = record {
+        kept = kept;
+        are_next = at.are_next;
+        ends = ends_at greatest shop w l (rows_of l hs3 es3) kept nexts at.are_next (ended.ends ∙ as_many)
+            is.holds (subst (λ (x : LayoutState). AreEndsOf greatest nexts (rows_of x hs3 es3)) same ends);
+        holds = is.holds;
+        sole = sole_keeps_bound shop is.limits is.laid.slots is.laid.are w word;
       }

@@ -374,7 +374,8 @@ module _ (greatest : ℕ) (shop : Shop) (p : Placing) (l : LayoutState) (nexts :
           → js ≡ conflict_among shop p (open_jobs shop p)
       is_conflict m limit on end js is =
           let least : (i : ℕ) → IsOperation shop i (p.steps i) → limit ≤ next_end shop p i + 1 = (λ i o.
-          let a = least_end.least i (let b = can.ends.jobs in let d = IsOperation-job shop i (p.steps i) o in omega arith)
+          let known = IsOperation-job shop i (p.steps i) o
+          in let a = least_end.least i (let b = can.ends.jobs in omega arith)
           in let b = can.ends.next i o in let d = can.ends.next r op in omega arith)
           in are_conflicting shop p l nexts rows can.at r op m limit on end js
           (gathered_as r (IsJobBelow l rows.heads (IsOnMachine l m) limit)

@@ -103,8 +103,8 @@ module _ (greatest : ℕ) (shop : Shop) (w : List ℕ) (l : LayoutState) (rows :
           let here : j < length shop.jobs = (let a = are.jobs in omega arith)
           in elim (cases_lt (p.steps j) (length (route_of shop j))) [
             | inl op ↦ ends.next j op
-                ∙ sym (rw (lt-ltb (get_or nexts j 0) (length rows.heads) (next_within shop p l nexts rows nexts_at j op))
-                (stored_end shop p l nexts rows nexts_at j op))
+                ∙ sym (rw (lt-ltb (get_or nexts j 0) (length rows.heads)
+                (next_within shop p l nexts rows nexts_at j op)) (stored_end shop p l nexts rows nexts_at j op))
             | inr past ↦ ends.none j here past
                 ∙ sym (rw (le-ltb (get_or nexts j 0) (length rows.heads)
                 (next_past shop p l nexts rows nexts_at j here past)) refl)

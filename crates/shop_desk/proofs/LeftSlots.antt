@@ -108,7 +108,8 @@ module _ (shop : Shop) (p : Placing) (m : ℕ) where
       filter_swap (leb (p.steps j)) on (range_with_len 0 n)
       ∙ ap (filter on) (range_from (p.steps j) 0 n
       ∙ ap (λ x. range_with_len x (n - (p.steps j - 0))) zero_more ∙ ap (range_with_len (p.steps j)) zero_less)
-      in ap (map (triple_of shop p)) (filter_mapped (is_left p) slot (filter on (range_with_len 0 n)) ∙ ap (map slot) steps)
+      in ap (map (triple_of shop p))
+      (filter_mapped (is_left p) slot (filter on (range_with_len 0 n)) ∙ ap (map slot) steps)
       ∙ map-map (triple_of shop p) slot left
       ∙ sym (map-map (λ (x : Waiting). x.triple) (waiting_at shop p j) left)
       ∙ ap (map (λ x. x.triple)) (sym (filter_mapped (λ x. eqb x.machine m) (waiting_at shop p j)

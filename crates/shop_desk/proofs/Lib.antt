@@ -9,7 +9,6 @@ pub mod ChildReads
 pub mod ChildTurns
 pub mod ConflictSets
 pub mod FillTurns
-pub mod FilledEnds
 pub mod FilledStates
 pub mod HeadsFit
 pub mod LaneChoices
@@ -19,6 +18,7 @@ pub mod LaneFits
 pub mod LaneSpans
 pub mod LeftSlots
 pub mod Listing
+pub mod LongerBeginnings
 pub mod LookAheads
 pub mod MachineLanes
 pub mod NextOperations

@@ -1,7 +1,11 @@
 -- Candidates listed one after the other.
-use Rattle.std.proofs.Common.{◌≡◌, ℕ, zero, suc, ◌+◌, ◌≤◌, List, [], ◌∷◌, ◌++◌, refl, sym, ◌∙◌, ap, subst}
-use Rattle.std.proofs.Common.{append_assoc, arith}
+use Rattle.std.proofs.Common.{◌≡◌, ℕ, zero, suc, ◌+◌, ◌-◌, ◌≤◌, inl, inr, List, [], ◌∷◌, ◌++◌, length, take, refl, sym}
+use Rattle.std.proofs.Common.{◌∙◌, ap, subst, append_assoc, arith}
+use Rattle.std.proofs.lemmas.Bool.{cases_lt, le-leb, lt-leb}
 use Rattle.std.proofs.lemmas.List.{append-nil}
+use Rattle.std.proofs.Math.Seq.{take-append-add}
+use lib.Dec.{leb}
+use mir.Val.{bool_byte}
 use Rattle.shop_states.specs.declared.dispatching.Candidate.{Candidate}
 use Rattle.shop_desk.specs.inner.Candidates.{ListsOwn, empty, left_out, taken}
 
@@ -20,17 +24,26 @@ module _ (limit : ℕ) (own : ℕ → ℕ) where
       counted (suc (n + m)) (suc n + m) (omega arith) (left_out j low (listed_append m behind rest))
 
   -- one candidate more, listed or not
-  pub one_kept : (js : List ℕ) (cs new : List Candidate) (n : ℕ) (c : Candidate) → new ≡ cs ++ c ∷ []
-      → c.own ≡ own c.job → ListsOwn limit own js cs n → ListsOwn limit own (js ++ c.job ∷ []) new (n + 0)
-  one_kept js cs new n c put is list =
-      subst (λ (ds : List Candidate). ListsOwn limit own (js ++ c.job ∷ []) ds (n + 0)) (sym put)
-      (listed_append 0 (taken c.job c refl is empty) list)
+  one_listed : (c : Candidate) (others : ℕ) → others ≡ bool_byte (leb limit c.own) → c.own ≡ own c.job
+      → (others ≤ 1) × ListsOwn limit own (c.job ∷ []) (take (1 - others) (c ∷ [])) others
+  one_listed c others told is = elim (cases_lt c.own limit) [
+    | inl below ↦ subst (λ (k : ℕ). (k ≤ 1) × ListsOwn limit own (c.job ∷ []) (take (1 - k) (c ∷ [])) k)
+        (sym (told ∙ ap bool_byte (lt-leb limit c.own below))) (omega arith, taken c.job c refl is empty)
+    | inr low ↦ subst (λ (k : ℕ). (k ≤ 1) × ListsOwn limit own (c.job ∷ []) (take (1 - k) (c ∷ [])) k)
+        (sym (told ∙ ap bool_byte (le-leb limit c.own low))) (omega arith, left_out c.job (omega arith) empty)
+  ]
 
-  pub one_left_out : (js : List ℕ) (cs : List Candidate) (n : ℕ) (c : Candidate) → limit ≤ c.own
-      → c.own ≡ own c.job → ListsOwn limit own js cs n → ListsOwn limit own (js ++ c.job ∷ []) cs (n + 1)
-  one_left_out js cs n c low is list =
-      subst (λ (ds : List Candidate). ListsOwn limit own (js ++ c.job ∷ []) ds (n + 1)) (append-nil cs)
-      (listed_append 1 (left_out c.job (omega arith) empty) list)
+  pub one_more : (js : List ℕ) (cs pushed new : List Candidate) (n len others : ℕ) (c : Candidate)
+      → others ≡ bool_byte (leb limit c.own) → pushed ≡ cs ++ c ∷ [] → len ≡ length cs + 1
+      → new ≡ take (len - others) pushed → c.own ≡ own c.job → ListsOwn limit own js cs n
+      → ListsOwn limit own (js ++ c.job ∷ []) new (n + others)
+  one_more js cs pushed new n len others c told put long cut is list =
+      let one = one_listed c others told is
+      in let left : len - others ≡ length cs + (1 - others) = (let few = one.0 in omega arith)
+      in subst (λ (ds : List Candidate). ListsOwn limit own (js ++ c.job ∷ []) ds (n + others))
+      (sym (cut ∙ (ap (λ (k : ℕ). take k pushed) left ∙ (ap (take (length cs + (1 - others))) put
+      ∙ take-append-add cs (c ∷ []) (1 - others)))))
+      (listed_append others one.1 list)
 
   -- what was done before, and more
   pub regrouped : (js done more : List ℕ) (cs : List Candidate) (n a b : ℕ)

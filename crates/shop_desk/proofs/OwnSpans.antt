@@ -137,7 +137,7 @@ module _ (greatest : ℕ) (shop : Shop) (w : List ℕ) (l : LayoutState) (heads 
     own_low : max (lb shop w) (own_at l heads x - 1) ≤ lb shop (w ++ j ∷ [])
     own_low =
         let b = foreseen l heads ends x (lb shop w)
-        in let a = foreseen_least greatest shop w l heads ends nexts j kept fits x refl (lb shop w) refl b refl
+        in let a = foreseen_least j kept fits x refl (lb shop w) refl b refl
         in let most = a.most in omega arith
 
     own_of : (own : ℕ) → max (lb shop w) own ≡ max (lb shop w) (own_at l heads x - 1) → IsCandidateOf shop w l j own
@@ -156,8 +156,8 @@ module _ (greatest : ℕ) (shop : Shop) (w : List ℕ) (l : LayoutState) (heads 
     candidate_advancing own is given same bound bound_is least least_is =
         let a = is.adds heads kept.kept.heads
         in let b = ap (λ (q : ℕ). own_at l heads q) its_place
-        in advancing greatest shop w l heads ends nexts j kept fits heads ends given refl refl same x refl bound
-        bound_is least (omega arith)
+        in subst (λ (ns : List ℕ). IsAdvancing greatest shop w l (rows_of l heads ends) ns j least) (sym same)
+        (advancing j kept fits refl refl bound_is (omega arith))
 
     its_head : 0 < get_or heads x 0
     its_head =

@@ -18,7 +18,6 @@ use Rattle.shop_model.proofs.WordLengths.{ready_word, word_length}
 use Rattle.shop_heads.specs.inner.PlacedWords.{IsOfWord}
 use Rattle.shop_layout.specs.Positions.{IsLaidOut, LayoutState, first_position, place, place_or}
 use Rattle.shop_layout.proofs.LaidPlaces.{place_of}
-use Rattle.shop_desk.specs.inner.Fills.{AreNextsPlaced}
 use Rattle.shop_desk.specs.inner.PlacedNexts.{AreBegun, IsPlacedAt, IsWordAt, placement_at, step_at}
 use Rattle.shop_raises.proofs.Followed.{place_past, place_there}
 use Rattle.shop_desk.proofs.RaisedHeads.{followed}
@@ -134,8 +133,8 @@ pub record CanPlaceEntry (l : LayoutState) (j : ℕ) (nexts ready free : List �
   pub small : (m : ℕ) → m ≡ get_or l.machines (get_or nexts j 0) 0
       → max (get_or ready j 0) (get_or free m 0) + get_or l.times (get_or nexts j 0) 0 < 2 ^ 64
 
-module _ (shop : Shop) (limits : IsWithinLimits shop) (l : LayoutState) (laid : IsLaidOut shop l) (w : List ℕ)
-    (word : IsWord shop w) (i : ℕ) (below : i < length w) (nexts ready free : List ℕ)
+module _ {shop : Shop} (limits : IsWithinLimits shop) {l : LayoutState} (laid : IsLaidOut shop l) (w : List ℕ)
+    (word : IsWord shop w) (i : ℕ) (below : i < length w) {nexts ready free : List ℕ}
     (at : IsPlacedAt shop (placing shop (take i w)) l nexts ready free) where
   abbrev before : Placing
   before = placing shop (take i w)
@@ -189,16 +188,16 @@ module _ (shop : Shop) (limits : IsWithinLimits shop) (l : LayoutState) (laid : 
       }
 
   -- by rows that are those of the layout
-  module _ (rows : LayoutState) (same : rows ≡ l) where
+  module _ {rows : LayoutState} (same : rows ≡ l) where
     pub can_place_entry : CanPlaceEntry rows j nexts ready free
     can_place_entry = subst (λ (x : LayoutState). CanPlaceEntry x j nexts ready free) (sym same) can_place
 
-    pub entry_placed : (m t e x : ℕ) → m ≡ get_or rows.machines (get_or nexts j 0) 0
+    pub entry_placed : {m t e x : ℕ} → m ≡ get_or rows.machines (get_or nexts j 0) 0
         → t ≡ get_or rows.times (get_or nexts j 0) 0
         → e ≡ max (get_or ready j 0) (get_or free m 0) → x ≡ get_or l.following (get_or nexts j 0) 0
         → IsPlacedAt shop (placing shop (take (i + 1) w)) l (set nexts j x) (set ready j (e + t))
         (set free m (e + t))
-    entry_placed m t e x on for ends next =
+    entry_placed {m} {t} {e} {x} on for ends next =
         let q = get_or nexts j 0
         in let time : t ≡ get_or l.times q 0 = for ∙ ap (λ (r : LayoutState). get_or r.times q 0) same
         in subst (λ (p : Placing). IsPlacedAt shop p l (set nexts j x) (set ready j (e + t)) (set free m (e + t)))
@@ -247,23 +246,19 @@ module _ (shop : Shop) (limits : IsWithinLimits shop) (l : LayoutState) (laid : 
     free = at.free_at;
   }
 
-  pub nexts_placed : AreNextsPlaced l (placement_at l nexts ready free) (length nexts) nexts
-  nexts_placed j known =
-      let there : j < length shop.jobs = (let a = at.are_next.jobs in omega arith)
-      in at.are_next.are j there
-      ∙ (ap (λ (n : ℕ). place_or n l.places j (p.steps j)) (sym laid.positions.following)
-      ∙ ap (place_or (length l.following) l.places j) (sym (steps_are j there)))
+-- how many of its steps a job has placed, as it is read
+pub step_placed : {shop : Shop} {l : LayoutState} {nexts ready free : List ℕ} → IsWordAt shop l nexts ready free
+    → {j : ℕ} → j < length shop.jobs → {read : LayoutState} → read ≡ l → {placed : ℕ}
+    → placed ≡ step_at read j (get_or nexts j 0) → placed ≡ get_or (placement_at l nexts ready free).steps j 0
+step_placed {shop} {l} {nexts} {ready} {free} is {j} known same steps =
+    let jobs = is.placed.are_next.jobs
+    in steps ∙ (ap (λ (x : LayoutState). step_at x j (get_or nexts j 0)) same
+    ∙ sym (get_or-map-range_with_len (λ i. step_at l i (get_or nexts i 0)) 0 (length nexts) j j 0 (omega arith)
+    (omega arith)))
 
--- how many of its steps a job has placed
-pub step_placed : (l : LayoutState) (nexts ready free : List ℕ) (j : ℕ) → j < length nexts
-    → step_at l j (get_or nexts j 0) ≡ get_or (placement_at l nexts ready free).steps j 0
-step_placed l nexts ready free j known = sym (get_or-map-range_with_len (λ i. step_at l i (get_or nexts i 0)) 0
-    (length nexts) j j 0 known (omega arith))
-
-pub of_word_at : (shop : Shop) → IsWithinLimits shop → (l : LayoutState) → IsLaidOut shop l
-    → (nexts ready free : List ℕ) → IsWordAt shop l nexts ready free
-    → IsOfWord shop (placement_at l nexts ready free)
-of_word_at shop limits l laid nexts ready free is = record {
+pub of_word_at : {shop : Shop} {l : LayoutState} {nexts ready free : List ℕ} → IsWithinLimits shop → IsLaidOut shop l
+    → IsWordAt shop l nexts ready free → IsOfWord shop (placement_at l nexts ready free)
+of_word_at {shop} {l} {nexts} {ready} {free} limits laid is = record {
   word = is.word;
   fits = is.fits;
   placed = placement_is shop limits l laid is.word is.fits nexts ready free is.placed;

@@ -16,7 +16,7 @@ use Rattle.shop_desk.proofs.ChildReads.{left_stored}
 use Rattle.shop_desk.proofs.SoleCandidates.{sole_fits, sole_heads}
 use Rattle.shop_desk.proofs.StateSteps.{ends_more, kept_more, next_at, next_known, within}
 
-module _ (greatest : ℕ) (shop : Shop) (w : List ℕ) (l : LayoutState) (rows : Rows) (nexts : List ℕ) (j : ℕ)
+module _ {greatest : ℕ} {shop : Shop} {w : List ℕ} {l : LayoutState} {rows : Rows} {nexts : List ℕ} {j : ℕ}
     (kept : IsKeptInLanes greatest shop w l rows nexts) (alone : conflict shop w ≡ j ∷ []) where
   abbrev x : ℕ
   x = get_or nexts j 0
@@ -36,7 +36,7 @@ module _ (greatest : ℕ) (shop : Shop) (w : List ℕ) (l : LayoutState) (rows :
     kept.kept.laid.positions.following ∙ sym kept.kept.heads.positions,
   )
 
-  module _ (lifted : Rows) (wrote : lifted ≡ with_head rows (get_or nexts j 0) 0) where
+  module _ {lifted : Rows} (wrote : lifted ≡ with_head rows (get_or nexts j 0) 0) where
     its_place : get_or nexts j 0 ≡ place l j ((placing shop w).steps j)
     its_place = next_at greatest shop w j l rows nexts kept fits x refl
 
@@ -85,16 +85,16 @@ module _ (greatest : ℕ) (shop : Shop) (w : List ℕ) (l : LayoutState) (rows :
     ends_long : length lifted.ends ≡ length rows.ends
     ends_long = ap (λ (r : Rows). length r.ends) wrote
 
-    pub struck_keep : (length l.times ≡ length lifted.heads) × ((after : List ℕ)
-        → after ≡ set nexts j (get_or l.following (get_or nexts j 0) 0) → CanKeepEnds greatest l after lifted)
-    struck_keep = (
-      lists_long.0 ∙ sym long,
-      λ after followed. ends_more greatest shop w j l rows nexts kept fits x refl (get_or l.following x 0) refl after
-          followed lifted now ends_long others,
-    )
+    pub struck_times : length l.times ≡ length lifted.heads
+    struck_times = lists_long.0 ∙ sym long
 
-    pub struck_kept : (after : List ℕ) → after ≡ set nexts j (get_or l.following (get_or nexts j 0) 0)
-        → (ended : Rows) → ended ≡ with_end lifted j (end_at greatest after lifted j)
+    pub struck_keep : {after : List ℕ} → after ≡ set nexts j (get_or l.following (get_or nexts j 0) 0)
+        → CanKeepEnds greatest l after lifted
+    struck_keep {after} followed = ends_more greatest shop w j l rows nexts kept fits x refl
+        (get_or l.following x 0) refl after followed lifted now ends_long others
+
+    pub struck_kept : {after : List ℕ} → after ≡ set nexts j (get_or l.following (get_or nexts j 0) 0)
+        → {ended : Rows} → ended ≡ with_end lifted j (end_at greatest after lifted j)
         → IsKeptInLanes greatest shop (w ++ j ∷ []) l ended after
-    struck_kept after followed ended ends = kept_more greatest shop w j l rows nexts kept fits x refl
+    struck_kept {after} followed {ended} ends = kept_more greatest shop w j l rows nexts kept fits x refl
         (get_or l.following x 0) refl after followed lifted now ends_long others ended ends

@@ -1,4 +1,5 @@
 pub mod Advances
+pub mod Beginnings
 pub mod BoundsUpTo
 pub mod Candidates
 pub mod ChildBounds

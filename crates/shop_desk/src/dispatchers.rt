@@ -3,9 +3,9 @@ ghost use Rattle.std.specs.Prelude.{◌≡◌, ◌≤◌, ◌<◌, ◌^◌, IfOk
 ghost use Rattle.shop_layout.specs.LaidOuts.{IsReady};
 
 use crate::advances::{advance_below, strike};
+use crate::beginnings::Beginning;
 use crate::fills::fill_state;
 use crate::gathering::gather;
-use crate::placing::place_word;
 use crate::states::{Scratch, State};
 use crate::steps::{BOUNDS, step};
 use shop_lanes::StateLanes;
@@ -32,7 +32,7 @@ impl<'a, L: StateLanes> Dispatching<State<L>> for LaidOut<'a, L> {
         (rows_of d.layout (L.heads s.lanes) (L.ends s.lanes)) s.next.items };
 
     ghost IsScratch = { λ d s. IsScratchOf d.shop d.layout (length s.ready.items)
-        (length s.free.items) s.raises (length s.owns.items) };
+        (length s.free.items) s.beginning s.raises (length s.owns.items) };
 
     ghost IsCandidate = { λ d w c. IsCandidateOf d.shop w d.layout c.job c.own };
 
@@ -41,11 +41,13 @@ impl<'a, L: StateLanes> Dispatching<State<L>> for LaidOut<'a, L> {
         instance.keeps_limits();
         let ready = vec![in alloc; 0; instance.jobs()]?;
         let free = vec![in alloc; 0; instance.machines()]?;
+        let beginning = Beginning::new(alloc, self)?;
         let raises = MachineRaises::new(alloc, instance.machines())?;
         let owns = vec![in alloc; L::narrowed(0); self.grid().positions()]?;
         Ok(Scratch {
             ready,
             free,
+            beginning,
             raises,
             owns,
         })
@@ -62,7 +64,7 @@ impl<'a, L: StateLanes> Dispatching<State<L>> for LaidOut<'a, L> {
         let next = state.next.as_mut_slice();
         let ready = scratch.ready.as_mut_slice();
         let free = scratch.free.as_mut_slice();
-        place_word(self, next, ready, free, path);
+        scratch.beginning.place_word(self, next, ready, free, path);
         fill_state(&mut state.lanes, self, next, ready, free);
     }
 

@@ -58,11 +58,11 @@ fn list_below(candidates: &mut Vec<Candidate>, candidate: Candidate, limit: u64)
     ensures count { length candidates.new.items + result ≡ length candidates.old.items + 1 }
     ensures room { vec_capacity candidates.new ≡ vec_capacity candidates.old }
 {
-    if candidate.own >= limit {
-        return 1;
-    }
+    let others = usize::from(candidate.own >= limit);
     candidates.push_reserved(candidate);
-    0
+    // without a branch, since which candidates stay is hard to foresee
+    candidates.truncate(candidates.len() - others);
+    others
 }
 
 /// Appends those candidates for these jobs whose own numbers are below the limit, and tells how many others there are.

@@ -2,6 +2,7 @@
 #![tactic(auto)]
 
 mod advances;
+mod beginnings;
 mod dispatchers;
 mod fills;
 mod gathering;

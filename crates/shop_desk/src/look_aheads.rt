@@ -5,8 +5,8 @@ ghost use Rattle.shop_desk.specs.inner.Advances.{CanForesee, foreseen};
 use shop_lanes::StateLanes;
 use shop_layout::Grid;
 
-/// The greatest of a number, of the end of the operation at a position, and of what else waits on its machine, from that
-/// end on.
+/// The greatest of a number, of the end of the operation at a position, and of what else waits on its machine, from
+/// that end on.
 #[inline(always)]
 pub(crate) fn foresee<L: StateLanes>(
     lanes: &mut L,

@@ -1,5 +1,5 @@
 // The operations of a word are placed, position by position.
-ghost use Rattle.std.specs.Prelude.{◌≡◌, ℕ, ◌<◌, length, slice_index};
+ghost use Rattle.std.specs.Prelude.{◌≡◌, ℕ, ◌<◌, ◌≤◌, length, slice_index, take};
 ghost use Rattle.shop_model.specs.Word.{IsWord, none_placed, placing};
 ghost use Rattle.shop_layout.specs.Positions.{IsLaidOut};
 ghost use Rattle.shop_desk.specs.inner.PlacedNexts.{AreBegun, IsPlacedAt};
@@ -38,24 +38,43 @@ fn free_machines(free: &mut [u64])
     }
 }
 
-/// Places the operations of a word, where nothing is placed.
-fn place_all<L: StateLanes>(
+/// Nothing is placed.
+pub(crate) fn place_none<L: StateLanes>(
+    laid_out: &LaidOut<L>,
+    next: &mut [u32],
+    ready: &mut [u64],
+    free: &mut [u64],
+)
+    requires next { length next.old ≡ length laid_out.now.shop.jobs }
+    requires ready { length ready.old ≡ length laid_out.now.shop.jobs }
+    requires free { length free.old ≡ laid_out.now.shop.machines }
+    ensures { IsPlacedAt laid_out.now.shop (none_placed laid_out.now.shop) laid_out.now.layout
+        next.new ready.new free.new }
+{
+    begin_jobs(laid_out, next, ready);
+    free_machines(free);
+}
+
+/// Places the operations of a word from an entry on, where those before it are placed.
+pub(crate) fn place_from<L: StateLanes>(
     laid_out: &LaidOut<L>,
     next: &mut [u32],
     ready: &mut [u64],
     free: &mut [u64],
     path: &[u16],
+    from: usize,
 )
-    requires none { IsPlacedAt laid_out.now.shop (none_placed laid_out.now.shop) laid_out.now.layout
-        next.old ready.old free.old }
+    requires before { IsPlacedAt laid_out.now.shop (placing laid_out.now.shop (take from path.now))
+        laid_out.now.layout next.old ready.old free.old }
+    requires within { from ≤ length path.now }
     requires word { IsWord laid_out.now.shop path.now }
     ensures { IsPlacedAt laid_out.now.shop (placing laid_out.now.shop path.now) laid_out.now.layout
         next.new ready.new free.new }
 {
     let grid = laid_out.grid();
     let routes = grid.routes();
-    for &entry in path {
-        let job = entry as usize;
+    for index in from..path.len() {
+        let job = path[index] as usize;
         let position = next[job] as usize;
         let machine = routes.machine(position) as usize;
         let end = ready[job].max(free[machine]) + routes.time(position);
@@ -63,24 +82,4 @@ fn place_all<L: StateLanes>(
         ready[job] = end;
         free[machine] = end;
     }
-}
-
-/// Sets next operations, and when jobs are ready and machines free, to those of a word.
-pub(crate) fn place_word<L: StateLanes>(
-    laid_out: &LaidOut<L>,
-    next: &mut [u32],
-    ready: &mut [u64],
-    free: &mut [u64],
-    path: &[u16],
-)
-    requires next { length next.old ≡ length laid_out.now.shop.jobs }
-    requires ready { length ready.old ≡ length laid_out.now.shop.jobs }
-    requires free { length free.old ≡ laid_out.now.shop.machines }
-    requires word { IsWord laid_out.now.shop path.now }
-    ensures { IsPlacedAt laid_out.now.shop (placing laid_out.now.shop path.now) laid_out.now.layout
-        next.new ready.new free.new }
-{
-    begin_jobs(laid_out, next, ready);
-    free_machines(free);
-    place_all(laid_out, next, ready, free, path);
 }

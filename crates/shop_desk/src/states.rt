@@ -1,4 +1,5 @@
 // A state of a word, and what a dispatch needs beside it.
+use crate::beginnings::Beginning;
 use shop_lanes::StateLanes;
 use shop_raises::MachineRaises;
 
@@ -17,6 +18,8 @@ pub struct Scratch<L: StateLanes> {
     pub(crate) ready: Vec<u64>,
     /// free[machine]: of some word, when the machine is free
     pub(crate) free: Vec<u64>,
+    /// of the word that was filled last, or of one before
+    pub(crate) beginning: Beginning,
     /// at rest
     pub(crate) raises: MachineRaises<L>,
     /// owns[i]: the own span at the position that is i behind the first one of some machine

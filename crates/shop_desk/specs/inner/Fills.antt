@@ -4,10 +4,8 @@
 --     IsRested heads                 nothing waits anywhere
 --     CanFill greatest shop l rows   all heads of what was placed can be set
 --     HasFilledJob, HasFilled        those of a job, or of all jobs, were set
---     filled_end_at greatest l ..    one more than when the next operation of job j ends, by when
---                                    jobs are ready and machines free, or the greatest number
-use Rattle.std.specs.Prelude.{◌≡◌, ℕ, ◌+◌, ◌≤◌, ◌<◌, ◌^◌, List, length, max}
-use Rattle.std.specs.Prelude.{slice_index, if◌then◌else◌, nat_lt}
+use Rattle.std.specs.Prelude.{◌≡◌, ℕ, ◌+◌, ◌≤◌, ◌<◌, ◌^◌, List, length}
+use Rattle.std.specs.Prelude.{slice_index}
 use Rattle.shop_lanes.specs.Rows.{Rows}
 use Rattle.shop_model.specs.Limits.{IsWithinLimits}
 use Rattle.shop_model.specs.Shop.{Shop, IsOperation}
@@ -15,7 +13,7 @@ use Rattle.shop_model.specs.Word.{Placing}
 use Rattle.shop_heads.specs.Heads.{head_of}
 use Rattle.shop_model.specs.Placements.{PlacementState, IsPlacement}
 use Rattle.shop_raises.specs.inner.LaneHeads.{AreHeadsAt, AreHeadsFit}
-use Rattle.shop_layout.specs.Positions.{place_or, LayoutState, place, first_position, IsLaidOut}
+use Rattle.shop_layout.specs.Positions.{LayoutState, place, first_position, IsLaidOut}
 
 pub record IsStored (shop : Shop) (p : Placing) (l : LayoutState) (old new : List ℕ)
     (j k : ℕ) : Type 0 where
@@ -52,15 +50,3 @@ pub record HasFilled (shop : Shop) (l : LayoutState) (s : PlacementState)
   pub beside : AreSameBeside old new
   pub filled : IsRested old.heads → (p : Placing) → IsPlacement shop p s
       → AreHeadsAt shop p l new.heads
-
--- the next operations of the first n jobs
-abbrev pub AreNextsPlaced : LayoutState → PlacementState → ℕ → List ℕ → Type 0
-AreNextsPlaced l s n nexts = (j : ℕ) → j < n
-    → slice_index nexts j ≡ place_or (length l.following) l.places j (slice_index s.steps j)
-
-abbrev pub filled_end_at : ℕ → LayoutState → List ℕ → List ℕ → List ℕ → ℕ → ℕ
-filled_end_at greatest l nexts ready free j =
-    if nat_lt (slice_index nexts j) (length l.following)
-    then max (slice_index ready j) (slice_index free (slice_index l.machines (slice_index nexts j)))
-    + slice_index l.times (slice_index nexts j) + 1
-    else greatest

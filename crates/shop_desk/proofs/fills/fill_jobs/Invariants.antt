@@ -1,6 +1,4 @@
-use Rattle.std.proofs.Common.{◌≡◌, ℕ, ◌<◌, get_or, length}
 use Rattle.shop_layout.specs.Lanes.{rows_of}
-use Rattle.shop_desk.specs.inner.Fills.{filled_end_at}
 use Rattle.shop_desk.specs.inner.PlacedNexts.{placement_at}
 use Rattle.shop_desk.proofs.FillTurns.{AreFilledUpTo}
 use Rattle.shop_desk.proofs.fills.fill_jobs.Given as goal
@@ -9,9 +7,6 @@ abbrev pub invariant-loop-job : goal.invariant-loop-job
 invariant-loop-job g l = record {
   filled : AreFilledUpTo l.laid_out.shop l.laid_out.layout
       (placement_at l.laid_out.layout l.next l.ready l.free) l.job
-      (rows_of l.laid_out.layout (g.L.StateLanes.heads l.fn.lanes) (g.L.StateLanes.ends l.lanes))
+      (rows_of l.laid_out.layout (g.L.StateLanes.heads l.fn.lanes) (g.L.StateLanes.ends l.fn.lanes))
       (rows_of l.laid_out.layout (g.L.StateLanes.heads l.lanes) (g.L.StateLanes.ends l.lanes));
-  many : length (g.L.StateLanes.ends l.lanes) ≡ length l.next;
-  ends : (j : ℕ) → j < l.job → get_or (g.L.StateLanes.ends l.lanes) j 0
-      ≡ filled_end_at g.L.StateLanes.GREATEST l.laid_out.layout l.next l.ready l.free j;
 }

@@ -10,58 +10,36 @@ use Rattle.shop_desk.proofs.steps.step.Goals as goal
 
 pub offset_bounds-next-job : goal.offset_bounds-next-job
 offset_bounds-next-job g c =
-    let known = job_known g.L.StateLanes.GREATEST c.requires.can.shop c.requires.can.word c.args.grid.now
-    (g.L.StateLanes.heads c.args.lanes.now) (g.L.StateLanes.ends c.args.lanes.now) c.args.next.now c.args.job
-    c.requires.can.kept c.requires.can.fits
-    in omega arith
+    let known = job_known c.args.job c.requires.can.kept c.requires.can.fits in omega arith
 
 pub bounds-next-job : goal.bounds-next-job
-bounds-next-job g c = job_known g.L.StateLanes.GREATEST c.requires.can.shop c.requires.can.word c.args.grid.now
-    (g.L.StateLanes.heads c.args.lanes.now) (g.L.StateLanes.ends c.args.lanes.now) c.args.next.now c.args.job
-    c.requires.can.kept c.requires.can.fits
+bounds-next-job g c = job_known c.args.job c.requires.can.kept c.requires.can.fits
 
 pub foresee-least-requires : goal.foresee-least-requires
-foresee-least-requires g c = can_foresee g.L.StateLanes.GREATEST c.requires.can.shop c.requires.can.word c.args.grid.now
-    (g.L.StateLanes.heads c.args.lanes.now) (g.L.StateLanes.ends c.args.lanes.now) c.args.next.now c.args.job
-    c.requires.can.kept c.requires.can.fits (get_or c.args.next.now c.args.job 0) refl
+foresee-least-requires g c = can_foresee c.args.job c.requires.can.kept c.requires.can.fits
+    (get_or c.args.next.now c.args.job 0) refl
 
 pub advance_below-requires-clause-can : goal.advance_below-requires-clause-can
 advance_below-requires-clause-can g c = record {
   shop = c.requires.can.shop;
   word = c.requires.can.word;
-  is = advancing g.L.StateLanes.GREATEST c.requires.can.shop c.requires.can.word c.args.grid.now
-      (g.L.StateLanes.heads c.args.lanes.now) (g.L.StateLanes.ends c.args.lanes.now) c.args.next.now c.args.job
-      c.requires.can.kept c.requires.can.fits
-      (g.L.StateLanes.heads c.foresee-least.new.lanes) (g.L.StateLanes.ends c.foresee-least.new.lanes)
-      c.args.next.now c.foresee-least.ensures.heads c.foresee-least.ensures.ends refl
-      (get_or c.args.next.now c.args.job 0) refl c.args.bound c.requires.can.bound_is
-      c.foresee-least.result c.foresee-least.ensures.least;
+  is = advancing c.args.job c.requires.can.kept c.requires.can.fits c.foresee-least.ensures.heads
+      c.foresee-least.ensures.ends c.requires.can.bound_is c.foresee-least.ensures.least;
   machines_are = c.requires.can.machines_are;
 }
 
 pub unwrap-requires : goal.unwrap-requires
-unwrap-requires g c = some_told c.requires.can.shop c.requires.can.kept.kept.limits
-    (c.requires.can.word ++ c.args.job ∷ []) c.requires.can.fits c.advance_below.result
+unwrap-requires g c = some_told c.requires.can.kept.kept.limits (c.requires.can.word ++ c.args.job ∷ [])
+    c.requires.can.fits c.advance_below.result
     (c.advance_below.ensures.told c.requires.can.shop c.requires.can.word
-    (advancing g.L.StateLanes.GREATEST c.requires.can.shop c.requires.can.word c.args.grid.now
-    (g.L.StateLanes.heads c.args.lanes.now) (g.L.StateLanes.ends c.args.lanes.now) c.args.next.now c.args.job
-    c.requires.can.kept c.requires.can.fits
-    (g.L.StateLanes.heads c.foresee-least.new.lanes) (g.L.StateLanes.ends c.foresee-least.new.lanes)
-    c.args.next.now c.foresee-least.ensures.heads c.foresee-least.ensures.ends refl
-    (get_or c.args.next.now c.args.job 0) refl c.args.bound c.requires.can.bound_is
-    c.foresee-least.result c.foresee-least.ensures.least))
+    (advancing c.args.job c.requires.can.kept c.requires.can.fits c.foresee-least.ensures.heads
+    c.foresee-least.ensures.ends c.requires.can.bound_is c.foresee-least.ensures.least))
 
 pub returns-clause-bound : goal.returns-clause-bound
 returns-clause-bound g c = λ shop w kept fits is.
     told_bound (2 ^ 50) (lb shop (w ++ c.args.job ∷ [])) c.advance_below.result c.unwrap.result c.unwrap.ensures
-    (c.advance_below.ensures.told shop w
-    (advancing g.L.StateLanes.GREATEST shop w c.args.grid.now
-    (g.L.StateLanes.heads c.args.lanes.now) (g.L.StateLanes.ends c.args.lanes.now) c.args.next.now c.args.job
-    kept fits
-    (g.L.StateLanes.heads c.foresee-least.new.lanes) (g.L.StateLanes.ends c.foresee-least.new.lanes)
-    c.args.next.now c.foresee-least.ensures.heads c.foresee-least.ensures.ends refl
-    (get_or c.args.next.now c.args.job 0) refl c.args.bound is
-    c.foresee-least.result c.foresee-least.ensures.least))
+    (c.advance_below.ensures.told shop w (advancing c.args.job kept fits c.foresee-least.ensures.heads
+    c.foresee-least.ensures.ends is c.foresee-least.ensures.least))
 
 pub returns-clause-state : goal.returns-clause-state
 returns-clause-state g c = λ shop w kept fits.
@@ -69,7 +47,4 @@ returns-clause-state g c = λ shop w kept fits.
     c.args.grid.now (rows_of c.args.grid.now (g.L.StateLanes.heads c.advance_below.new.lanes)
     (g.L.StateLanes.ends c.advance_below.new.lanes)) c.advance_below.new.next)) c.unwrap.ensures
     (c.advance_below.ensures.state shop w
-    (same_kept g.L.StateLanes.GREATEST shop w c.args.grid.now (g.L.StateLanes.heads c.args.lanes.now)
-    (g.L.StateLanes.ends c.args.lanes.now) c.args.next.now
-    (g.L.StateLanes.heads c.foresee-least.new.lanes) (g.L.StateLanes.ends c.foresee-least.new.lanes)
-    c.foresee-least.ensures.heads c.foresee-least.ensures.ends kept) fits)
+    (same_kept c.foresee-least.ensures.heads c.foresee-least.ensures.ends kept) fits)

@@ -1,7 +1,7 @@
 use Rattle.shop_desk.proofs.PlacedNexts.{none_at}
-use Rattle.shop_desk.proofs.placing.place_word.Goals as goal
+use Rattle.shop_desk.proofs.placing.place_none.Goals as goal
 
-pub place_all-requires-clause-none : goal.place_all-requires-clause-none
-place_all-requires-clause-none g c = none_at c.args.laid_out.now.shop c.args.laid_out.now.layout
+pub returns : goal.returns
+returns g c = none_at c.args.laid_out.now.shop c.args.laid_out.now.layout
     c.begin_jobs.ensures.laid c.begin_jobs.new.next c.begin_jobs.new.ready c.free_machines.new.free c.args.free.now
     c.begin_jobs.ensures.begun c.free_machines.ensures.long c.free_machines.ensures.none c.requires.free
