@@ -7,5 +7,6 @@ pub mod Ending
 pub mod CoverRows
 pub mod StackLemmas
 pub mod StoreLemmas
+pub mod KeptLemmas
 pub mod FrontLemmas
 pub mod FrontCuts

@@ -4,7 +4,6 @@ use Rattle.std.proofs.Common.{append-nil, ltb, reverse, refl, sym, ◌∙◌, ap
 use Rattle.std.specs.Prelude.{IsTrue, ◌↔◌}
 use Rattle.std.proofs.lemmas.Bool.{cases_Bool, ne_eqb}
 use Rattle.std.proofs.lemmas.List.Elements.{filter-append}
-use Rattle.std.proofs.lemmas.List.Sums.{fold-append}
 use Rattle.std.proofs.lemmas.List.{length-append, length-map, reverse-append}
 use Rattle.shop_nodes.specs.declared.nodes.Node.{Node}
 use Rattle.shop_runs.specs.declared.stacks.Stack.{Stack}
@@ -12,7 +11,7 @@ use Rattle.shop_plans.specs.declared.plans.Order.{Order}
 use Rattle.shop_crews.specs.inner.OpenNodes.{least_of_bounds, nodes_below}
 use Rattle.shop_runs.specs.inner.Stacks.{words_on, nodes_of_bound, nodes_by_bound, put_before, put_all_before}
 
-reverse-cons : {A : Type 0} (x : A) (xs : List A) → reverse (x ∷ xs) ≡ reverse xs ++ x ∷ []
+pub reverse-cons : {A : Type 0} (x : A) (xs : List A) → reverse (x ∷ xs) ≡ reverse xs ++ x ∷ []
 reverse-cons x xs = reverse-append (x ∷ []) xs
 
 -- none is open just where there is no stack
@@ -23,18 +22,12 @@ empty_is false [] h = h.1 refl
 empty_is true (e ∷ es) h = absurd (let x : suc (length es) ≡ 0 = h.0 refl in omega arith)
 empty_is false (e ∷ es) h = sym (ne_eqb (length (nodes_by_bound (e ∷ es))) 0 (λ z. absurd (omega arith)))
 
--- the least bound, whatever the order
-least_min : (c b : ℕ) (ns : List Node) → least_of_bounds (min c b) ns ≡ min (least_of_bounds c ns) b
+-- the least bound, with one more
+pub least_min : (c b : ℕ) (ns : List Node) → least_of_bounds (min c b) ns ≡ min (least_of_bounds c ns) b
 least_min c b [] = refl
 least_min c b (n ∷ ns) =
     let e : min (min c b) n.bound ≡ min (min c n.bound) b = omega arith
     in ap (λ k. least_of_bounds k ns) e ∙ least_min (min c n.bound) b ns
-
-pub least_reverse : (c : ℕ) (ns : List Node) → least_of_bounds c ns ≡ least_of_bounds c (reverse ns)
-least_reverse c [] = refl
-least_reverse c (n ∷ ns) = sym (ap (least_of_bounds c) (reverse-cons n ns)
-    ∙ (fold-append (λ b (m : Node). min b m.bound) c (reverse ns) (n ∷ [])
-    ∙ (ap (λ k. min k n.bound) (sym (least_reverse c ns)) ∙ sym (least_min c n.bound ns))))
 
 -- what is kept, in reverse
 filter_last : (p : Node → Bool) (x : Node) → filter p (x ∷ []) ≡ cond (p x) (x ∷ []) []

@@ -1,4 +1,5 @@
 pub mod Closing
+pub mod KeptStacks
 pub mod OpenNodes
 pub mod Searches
 pub mod Stacks

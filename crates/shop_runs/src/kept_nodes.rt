@@ -1,14 +1,13 @@
 // Nodes as a run keeps them.
 ghost use Rattle.std.specs.Prelude.{◌≡◌, IfOk};
 ghost use Rattle.shop_model.specs.SharedWords.{CanBeShared};
-ghost use Rattle.shop_crews.specs.inner.OpenNodes.{least_of_bounds};
 
 use shop_model::{SharedWord, Word};
 use shop_nodes::Node;
 use std::alloc::{AllocError, Global};
 use std::marker::Model;
 
-/// An open node in 24 bytes: its word shares its jobs.
+/// An open node in 24 bytes, 32 on its stack: its word shares its jobs.
 #[derive(Drop)]
 pub(crate) struct KeptNode {
     word: SharedWord,
@@ -50,13 +49,4 @@ impl KeptNode {
         let word = Word::of_shared(word);
         Node { word, bound }
     }
-}
-
-/// The least of a makespan and the bounds of nodes.
-pub(crate) fn least_kept(makespan: u64, nodes: &[KeptNode]) -> u64
-    ensures { result ≡ least_of_bounds makespan nodes.now }
-{
-    nodes
-        .iter()
-        .fold(makespan, |bound, node| bound.min(node.bound()))
 }

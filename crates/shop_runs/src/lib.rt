@@ -2,6 +2,7 @@
 #![tactic(auto)]
 
 mod kept_nodes;
+mod kept_stacks;
 mod laws;
 mod open_nodes;
 mod runs;

@@ -1,12 +1,11 @@
 // The open nodes of a run, in the order in which the next cut takes them.
-ghost use Rattle.std.specs.Prelude.{◌≡◌, ◌==◌, ◌^◌, ◌≤◌, ◌++◌, ◌∷◌, [], length, IfOk, OnOk, OnErr};
-ghost use Rattle.std.specs.Prelude.{reverse};
-ghost use Rattle.shop_runs.specs.inner.Stacks.{IsNextOf};
+ghost use Rattle.std.specs.Prelude.{◌≡◌, ◌==◌, ◌^◌, ◌≤◌, [], length, IfOk, OnOk, OnErr};
 ghost use Rattle.shop_model.specs.SharedWords.{CanBeShared};
 ghost use Rattle.shop_crews.specs.inner.OpenNodes.{least_of_bounds};
 ghost use Rattle.shop_runs.specs.inner.OpenNodes.{AreBelow, AreSharable};
 
-use crate::kept_nodes::{KeptNode, least_kept};
+use crate::kept_nodes::KeptNode;
+use crate::kept_stacks::KeptStack;
 use crate::stacks::{
     Stack, count_by_bound, keep_by_bound, least_by_bound, pop_by_bound, put_by_bound,
 };
@@ -20,30 +19,8 @@ use std::collections::BTreeMap;
 /// many are open.
 #[derive(Drop)]
 pub(crate) enum OpenNodes {
-    AsKept(Vec<KeptNode>),
+    AsKept(KeptStack),
     ByBound(BTreeMap<u64, Stack>),
-}
-
-/// Puts a node at the end of a list. A full list grows by a quarter alone, since the open nodes are what takes most
-/// memory. Fails with `AllocError` if memory runs out.
-fn push_sparingly(nodes: &mut Vec<KeptNode>, node: KeptNode) -> Result<(), AllocError>
-    ensures { OnOk result (nodes.new.items ≡ nodes.old.items ++ node ∷ []) }
-{
-    if nodes.len() == nodes.capacity() {
-        nodes.reserve_exact(nodes.len() / 4 + 4)?;
-    }
-    nodes.push(node)?;
-    Ok(())
-}
-
-/// Takes the last node of a list, if there is one.
-fn pop_kept(nodes: &mut Vec<KeptNode>) -> Option<Node>
-    ensures { IsNextOf result (reverse nodes.old.items) (reverse nodes.new.items) }
-{
-    match nodes.pop() {
-        Some(node) => Some(node.into_node()),
-        None => None,
-    }
 }
 
 impl OpenNodes {
@@ -56,7 +33,7 @@ impl OpenNodes {
         ensures order { order_of result ≡ order }
     {
         match order {
-            Order::Kept => OpenNodes::AsKept(Vec::new(alloc)),
+            Order::Kept => OpenNodes::AsKept(KeptStack::new(alloc)),
             Order::Bound => OpenNodes::ByBound(BTreeMap::new(alloc)),
         }
     }
@@ -68,7 +45,7 @@ impl OpenNodes {
         ensures { OnOk result (IsPut node self.old self.new) }
     {
         match self {
-            OpenNodes::AsKept(nodes) => push_sparingly(nodes, KeptNode::of(alloc, node)?),
+            OpenNodes::AsKept(nodes) => nodes.push(KeptNode::of(alloc, node)?),
             OpenNodes::ByBound(stacks) => put_by_bound(alloc, stacks, node),
         }
     }
@@ -91,8 +68,18 @@ impl OpenNodes {
         ensures { IfOk result (λ n. HasPopped n self.old self.new) }
     {
         match self {
-            OpenNodes::AsKept(nodes) => Ok(pop_kept(nodes)),
+            OpenNodes::AsKept(nodes) => Ok(nodes.pop()),
             OpenNodes::ByBound(stacks) => pop_by_bound(stacks),
+        }
+    }
+
+    /// Room for the nodes that are taken where so many are asked for: by bound none, since they aren't counted there.
+    fn room_for(&self, most: usize) -> usize
+        ensures { result ≤ most }
+    {
+        match self {
+            OpenNodes::AsKept(nodes) => most.min(nodes.len()),
+            OpenNodes::ByBound(_) => 0,
         }
     }
 
@@ -100,7 +87,7 @@ impl OpenNodes {
     pub(crate) fn take(&mut self, alloc: Global, most: usize) -> Result<Vec<Node>, AllocError>
         ensures { IfOk result (λ v. IsTaken most v.items self.old self.new) }
     {
-        let mut taken = Vec::new(alloc);
+        let mut taken = Vec::with_capacity(alloc, self.room_for(most))?;
         for _ in 0..most {
             let Some(node) = self.pop()? else {
                 break;
@@ -121,7 +108,7 @@ impl OpenNodes {
         }
         match self {
             OpenNodes::AsKept(nodes) => {
-                nodes.retain(|node| node.bound() < makespan);
+                nodes.keep_below(makespan);
                 Ok(())
             }
             OpenNodes::ByBound(stacks) => keep_by_bound(stacks, makespan),
@@ -133,7 +120,7 @@ impl OpenNodes {
         ensures { result ≡ least_of_bounds makespan (open_list self.now) }
     {
         match self {
-            OpenNodes::AsKept(nodes) => least_kept(makespan, nodes.as_slice()),
+            OpenNodes::AsKept(nodes) => nodes.least_bound(makespan),
             OpenNodes::ByBound(stacks) => least_by_bound(stacks, makespan),
         }
     }

@@ -40,8 +40,8 @@ impl Search {
         Search::joined(alloc, Standing::start(alloc, instance)?, open, 0)
     }
 
-    /// What stands after a round, joined by those of the other open nodes whose bounds are below the makespan; all are
-    /// below the opening makespan. Fails with `AllocError` if memory runs out.
+    /// What stands after a round: the nodes that it left are put among the other open ones, of which those that reach
+    /// the new makespan are let go; all are below the opening makespan. Fails with `AllocError` if memory runs out.
     pub(crate) fn joined(
         alloc: Global,
         mut standing: Standing,

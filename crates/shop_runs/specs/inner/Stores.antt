@@ -6,7 +6,7 @@
 --     HasPopped node before after     the first one was taken, if there is one
 --     IsTaken n nodes before after    the first n were taken
 --     IsKeptBelow c before after      those of bounds below c were kept
-use Rattle.std.specs.Prelude.{◌≡◌, ℕ, Option, List, take, drop, reverse}
+use Rattle.std.specs.Prelude.{◌≡◌, ℕ, Option, List, take, drop}
 use Rattle.shop_nodes.specs.declared.nodes.Node.{Node}
 use Rattle.shop_runs.specs.declared.open_nodes.OpenNodes.{OpenNodes}
 use Rattle.shop_runs.specs.declared.open_nodes.OpenNodes.TheVariants.{AsKept, ByBound}
@@ -16,7 +16,7 @@ use Rattle.shop_crews.specs.inner.OpenNodes.{nodes_below}
 use Rattle.shop_runs.specs.inner.Stacks.{nodes_in_stacks, put_before, put_all_before, IsNextOf}
 
 abbrev pub open_list : OpenNodes → List Node
-open_list (AsKept nodes) = reverse nodes.items
+open_list (AsKept nodes) = nodes
 open_list (ByBound stacks) = nodes_in_stacks stacks
 
 abbrev pub order_of : OpenNodes → Order

@@ -1,0 +1,113 @@
+// Open nodes in the kept order, with the least of their bounds at hand.
+ghost use Rattle.std.specs.Prelude.{◌≡◌, ◌==◌, ◌∷◌, [], length, OnOk};
+ghost use Rattle.shop_crews.specs.inner.OpenNodes.{least_of_bounds, nodes_below};
+ghost use Rattle.shop_runs.specs.inner.KeptStacks.{AreLeasts, nodes_of};
+ghost use Rattle.shop_runs.specs.inner.Stacks.{IsNextOf};
+
+use crate::kept_nodes::KeptNode;
+use shop_nodes::Node;
+use std::alloc::{AllocError, Global};
+use std::marker::Model;
+
+/// A node on a stack, and the least of its bound and the bounds of those below it: 32 bytes.
+#[derive(Drop)]
+pub(crate) struct StackedNode {
+    pub(crate) node: KeptNode,
+    pub(crate) least: u64,
+}
+
+/// Tells the least bounds anew, from the bottom up.
+fn tell_leasts(nodes: &mut [StackedNode])
+    ensures leasts { AreLeasts nodes.new }
+    ensures nodes { nodes_of nodes.new ≡ nodes_of nodes.old }
+{
+    let mut least = u64::MAX;
+    for stacked in nodes.iter_mut() {
+        least = least.min(stacked.node.bound());
+        stacked.least = least;
+    }
+}
+
+/// Open nodes on a stack. To contracts they are their list, the one on top first, which is taken next.
+#[derive(Drop)]
+pub(crate) struct KeptStack {
+    nodes: Vec<StackedNode>,
+}
+
+impl Model for KeptStack {
+    ghost use Rattle.std.specs.Prelude.{List};
+    ghost use Rattle.shop_nodes.specs.declared.nodes.Node.{Node};
+    ghost use Rattle.shop_runs.specs.inner.KeptStacks.{AreLeasts, nodes_from_top};
+
+    ghost Value = { List Node };
+
+    ghost view = { λ s. nodes_from_top s.nodes.items };
+
+    ghost invariant = { λ s. AreLeasts s.nodes.items };
+}
+
+impl KeptStack {
+    /// No nodes. Takes no memory.
+    pub(crate) fn new(alloc: Global) -> KeptStack
+        ensures { result ≡ [] }
+    {
+        KeptStack {
+            nodes: Vec::new(alloc),
+        }
+    }
+
+    /// Puts a node on top. A full stack grows by a quarter alone, since the open nodes are what takes most memory.
+    /// Fails with `AllocError` if memory runs out.
+    pub(crate) fn push(&mut self, node: KeptNode) -> Result<(), AllocError>
+        ensures { OnOk result (self.new ≡ node ∷ self.old) }
+    {
+        let least = self.least_bound(node.bound());
+        if self.nodes.len() == self.nodes.capacity() {
+            self.nodes.reserve_exact(self.nodes.len() / 4 + 4)?;
+        }
+        self.nodes.push(StackedNode { node, least })?;
+        Ok(())
+    }
+
+    /// Takes the node on top, if there is one.
+    pub(crate) fn pop(&mut self) -> Option<Node>
+        ensures { IsNextOf result self.old self.new }
+    {
+        match self.nodes.pop() {
+            Some(stacked) => Some(stacked.node.into_node()),
+            None => None,
+        }
+    }
+
+    /// Lets go of the nodes whose bounds reach a makespan.
+    pub(crate) fn keep_below(&mut self, makespan: u64)
+        ensures { self.new ≡ nodes_below makespan self.old }
+    {
+        self.nodes.retain(|stacked| stacked.node.bound() < makespan);
+        tell_leasts(self.nodes.as_mut_slice());
+    }
+
+    /// The least of a makespan and the bounds of the nodes.
+    pub(crate) fn least_bound(&self, makespan: u64) -> u64
+        ensures { result ≡ least_of_bounds makespan self.now }
+    {
+        match self.nodes.last() {
+            Some(top) => makespan.min(top.least),
+            None => makespan,
+        }
+    }
+
+    /// How many nodes there are.
+    pub(crate) fn len(&self) -> usize
+        ensures { result ≡ length self.now }
+    {
+        self.nodes.len()
+    }
+
+    /// Whether there is none.
+    pub(crate) fn is_empty(&self) -> bool
+        ensures { result ≡ (length self.now == 0) }
+    {
+        self.nodes.is_empty()
+    }
+}
