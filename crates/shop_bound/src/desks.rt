@@ -60,14 +60,14 @@ impl<'a> Desk<'a> {
     pub fn bound(&self) -> u64
         ensures { result ≡ lb self.now.shop self.now.word }
     {
-        (*self.ring).bound()
+        (*self.ring).read().1
     }
 
     /// The jobs of what is dispatched, in order. Takes no memory.
     pub fn jobs(&self) -> &[u16]
         ensures { result.now ≡ self.now.word }
     {
-        (*self.ring).jobs()
+        (*self.ring).read().0
     }
 
     /// What is dispatched is a word of the instance, which is within its limits. (A fact for proofs; the call does
@@ -75,6 +75,6 @@ impl<'a> Desk<'a> {
     pub fn keeps_word(&self)
         ensures { IsWordOfShop self.now }
     {
-        (*self.ring).keeps_word();
+        let _read = (*self.ring).read();
     }
 }

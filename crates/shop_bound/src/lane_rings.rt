@@ -5,17 +5,17 @@ ghost use Rattle.shop_heads.specs.Bound.{lb};
 ghost use Rattle.shop_bound.specs.Desks.{IsUndone, IsWordOfShop, goes_on, nothing_dispatched};
 ghost use Rattle.shop_bound.specs.inner.LaneRings.{kept_in};
 
-use crate::rings::Ring;
-use shop_desk::{LaidOut, Layout, State};
+use crate::laid_rings::LaidRing;
+use shop_desk::Layout;
 use shop_lanes::{NarrowLanes, PlainLanes, WideLanes};
 use shop_model::Instance;
 use std::alloc::{AllocError, Global};
 
 /// A ring in lanes of 16, 32 or 64 bits.
 pub(crate) enum LaneRing<'a> {
-    Narrow(Ring<LaidOut<'a, NarrowLanes>, State<NarrowLanes>>),
-    Wide(Ring<LaidOut<'a, WideLanes>, State<WideLanes>>),
-    Plain(Ring<LaidOut<'a, PlainLanes>, State<PlainLanes>>),
+    Narrow(LaidRing<'a, NarrowLanes>),
+    Wide(LaidRing<'a, WideLanes>),
+    Plain(LaidRing<'a, PlainLanes>),
 }
 
 impl Drop for LaneRing<'_> {
@@ -35,10 +35,12 @@ impl<'a> LaneRing<'a> {
     {
         match Layout::of(alloc, instance)? {
             Layout::Narrow(laid_out) => {
-                Ok(LaneRing::Narrow(Ring::new(alloc, instance, laid_out)?))
+                Ok(LaneRing::Narrow(LaidRing::new(alloc, instance, laid_out)?))
             }
-            Layout::Wide(laid_out) => Ok(LaneRing::Wide(Ring::new(alloc, instance, laid_out)?)),
-            Layout::Plain(laid_out) => Ok(LaneRing::Plain(Ring::new(alloc, instance, laid_out)?)),
+            Layout::Wide(laid_out) => Ok(LaneRing::Wide(LaidRing::new(alloc, instance, laid_out)?)),
+            Layout::Plain(laid_out) => Ok(LaneRing::Plain(LaidRing::new(
+                alloc, instance, laid_out,
+            )?)),
         }
     }
 
@@ -66,36 +68,16 @@ impl<'a> LaneRing<'a> {
         }
     }
 
-    /// The lower bound of the word.
-    pub(crate) fn bound(&self) -> u64
-        ensures { result ≡ lb (kept_in self.now).shop (kept_in self.now).word }
+    /// The jobs of the word, in order, and its lower bound. It is a word of the instance, which is within its limits.
+    pub(crate) fn read(&self) -> (&[u16], u64)
+        ensures jobs { result.0.now ≡ (kept_in self.now).word }
+        ensures bound { result.1 ≡ lb (kept_in self.now).shop (kept_in self.now).word }
+        ensures kept { IsWordOfShop (kept_in self.now) }
     {
         match self {
-            LaneRing::Narrow(ring) => ring.bound(),
-            LaneRing::Wide(ring) => ring.bound(),
-            LaneRing::Plain(ring) => ring.bound(),
-        }
-    }
-
-    /// The jobs of the word, in order.
-    pub(crate) fn jobs(&self) -> &[u16]
-        ensures { result.now ≡ (kept_in self.now).word }
-    {
-        match self {
-            LaneRing::Narrow(ring) => ring.jobs(),
-            LaneRing::Wide(ring) => ring.jobs(),
-            LaneRing::Plain(ring) => ring.jobs(),
-        }
-    }
-
-    /// It is a word of the instance, which is within its limits. (A fact for proofs; the call does nothing.)
-    pub(crate) fn keeps_word(&self)
-        ensures { IsWordOfShop (kept_in self.now) }
-    {
-        match self {
-            LaneRing::Narrow(ring) => ring.keeps_word(),
-            LaneRing::Wide(ring) => ring.keeps_word(),
-            LaneRing::Plain(ring) => ring.keeps_word(),
+            LaneRing::Narrow(ring) => ring.read(),
+            LaneRing::Wide(ring) => ring.read(),
+            LaneRing::Plain(ring) => ring.read(),
         }
     }
 }

@@ -2,6 +2,7 @@
 #![tactic(auto)]
 
 mod desks;
+mod laid_rings;
 mod lane_rings;
 mod rings;
 

@@ -173,24 +173,13 @@ impl<D: Dispatching<S> + Drop, S: Drop> Ring<D, S> {
         self.kept -= 1;
     }
 
-    /// The lower bound of the word.
-    pub(crate) fn bound(&self) -> u64
-        ensures { result ≡ lb self.now.shop self.now.word }
+    /// The jobs of the word, in order, and its lower bound. It is a word of the instance, which is within its limits.
+    pub(crate) fn read(&self) -> (&[u16], u64)
+        ensures jobs { result.0.now ≡ self.now.word }
+        ensures bound { result.1 ≡ lb self.now.shop self.now.word }
+        ensures kept { IsWordOfShop self.now }
     {
-        self.bounds[self.word.len()]
-    }
-
-    /// The jobs of the word, in order.
-    pub(crate) fn jobs(&self) -> &[u16]
-        ensures { result.now ≡ self.now.word }
-    {
-        self.word.as_slice()
-    }
-
-    /// It is a word of the instance, which is within its limits. (A fact for proofs; the call does nothing.)
-    pub(crate) fn keeps_word(&self)
-        ensures { IsWordOfShop self.now }
-    {
-        let _state = &self.state;
+        let bound = self.bounds[self.word.len()];
+        (self.word.as_slice(), bound)
     }
 }

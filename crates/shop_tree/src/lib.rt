@@ -1,6 +1,7 @@
 // The search of one piece, over a layout: states stand in lanes of its width.
 #![tactic(auto)]
 
+mod laid_searchers;
 mod searchers;
 mod searching;
 mod widths;

@@ -4,11 +4,11 @@ ghost use Rattle.shop_desk.specs.Layouts.{IsLayoutOf};
 ghost use Rattle.shop_nodes.specs.Nodes.{AreNodes};
 ghost use Rattle.shop_nodes.specs.Sheets.{IsSheetOf, KeepsTables};
 
+use crate::laid_searchers::LaidSearcher;
 use crate::widths::Widths;
 use shop_desk::Layout;
 use shop_model::Instance;
 use shop_nodes::{Piece, Sheet};
-use shop_walks::StateSearcher;
 use std::alloc::{AllocError, Global};
 use std::marker::Model;
 
@@ -71,7 +71,8 @@ impl<'l, 'a> Searcher<'l, 'a> {
     }
 
     /// The same with at most so many states for children that wait: the state of any other child is made anew from its
-    /// word when its turn comes. What a search gives doesn't depend on that. Fails with `AllocError` if memory runs out.
+    /// word when its turn comes. What a search gives doesn't depend on that. Fails with `AllocError` if memory runs
+    /// out.
     pub fn with_states(
         alloc: Global,
         instance: &'a Instance,
@@ -82,14 +83,14 @@ impl<'l, 'a> Searcher<'l, 'a> {
         ensures { IfOk result (λ s. s ≡ instance.now) }
     {
         let widths = match layout {
-            Layout::Narrow(dispatcher) => {
-                Widths::Narrow(StateSearcher::new(alloc, instance, dispatcher, most)?)
+            Layout::Narrow(laid_out) => {
+                Widths::Narrow(LaidSearcher::new(alloc, instance, laid_out, most)?)
             }
-            Layout::Wide(dispatcher) => {
-                Widths::Wide(StateSearcher::new(alloc, instance, dispatcher, most)?)
+            Layout::Wide(laid_out) => {
+                Widths::Wide(LaidSearcher::new(alloc, instance, laid_out, most)?)
             }
-            Layout::Plain(dispatcher) => {
-                Widths::Plain(StateSearcher::new(alloc, instance, dispatcher, most)?)
+            Layout::Plain(laid_out) => {
+                Widths::Plain(LaidSearcher::new(alloc, instance, laid_out, most)?)
             }
         };
         Ok(Searcher { widths })
@@ -97,8 +98,8 @@ impl<'l, 'a> Searcher<'l, 'a> {
 
     /// The search of a piece by branch and bound: its nodes in order, depth first, the children of each by bound.
     /// `best` is the makespan to beat, `budget` how many nodes may be taken; what isn't taken is left, in order. No
-    /// table under a node of the piece is lost: it ends at the sheet's makespan or later, or no earlier than one under a
-    /// node left. Fails with `AllocError` if memory runs out; the searcher is of no use then.
+    /// table under a node of the piece is lost: it ends at the sheet's makespan or later, or no earlier than one under
+    /// a node left. Fails with `AllocError` if memory runs out; the searcher is of no use then.
     pub fn search(
         &mut self,
         alloc: Global,

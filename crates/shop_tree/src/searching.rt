@@ -9,7 +9,8 @@ use shop_model::Instance;
 use shop_nodes::{Piece, Sheet};
 use std::alloc::{AllocError, Global};
 
-/// The search of one piece, as `Searcher::search`, over a layout of its own. Fails with `AllocError` if memory runs out.
+/// The search of one piece, as `Searcher::search`, over a layout of its own. Fails with `AllocError` if memory runs
+/// out.
 pub fn search<'r>(
     alloc: Global,
     instance: &'r Instance,

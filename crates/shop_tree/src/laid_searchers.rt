@@ -1,0 +1,67 @@
+// The search of pieces over instances laid out in lanes of one width.
+ghost use Rattle.std.specs.Prelude.{◌≡◌, ◌<◌, ◌^◌, OnOk, IfOk};
+ghost use Rattle.shop_nodes.specs.Nodes.{AreNodes};
+ghost use Rattle.shop_nodes.specs.Sheets.{IsSheetOf, KeepsTables};
+
+use shop_desk::{LaidOut, State};
+use shop_lanes::StateLanes;
+use shop_model::Instance;
+use shop_nodes::{Piece, Sheet};
+use shop_walks::StateSearcher;
+use std::alloc::{AllocError, Global};
+use std::marker::Model;
+
+/// A searcher over a layout, so that who calls it names the lanes alone, and no dispatcher. To contracts it is the
+/// instance.
+pub(crate) struct LaidSearcher<'l, 'a, L: StateLanes> {
+    searcher: StateSearcher<'l, 'a, LaidOut<'a, L>, State<L>>,
+}
+
+impl<L: StateLanes> Drop for LaidSearcher<'_, '_, L> {
+    fn drop(self) {
+        let LaidSearcher { searcher: _ } = self;
+    }
+}
+
+impl<'l, 'a, L: StateLanes> Model for LaidSearcher<'l, 'a, L> {
+    ghost use Rattle.shop_model.specs.Shop.{Shop};
+
+    ghost Value = { Shop };
+
+    ghost view = { λ s. s.searcher };
+}
+
+impl<'l, 'a, L: StateLanes> LaidSearcher<'l, 'a, L> {
+    /// For pieces of this instance, which is the layout's, with at most so many states for children that wait. Fails
+    /// with `AllocError` if memory runs out.
+    pub(crate) fn new(
+        alloc: Global,
+        instance: &'a Instance,
+        laid_out: &'l LaidOut<'a, L>,
+        most: usize,
+    ) -> Result<LaidSearcher<'l, 'a, L>, AllocError>
+        requires { laid_out.now.shop ≡ instance.now }
+        ensures { IfOk result (λ s. s ≡ instance.now) }
+    {
+        let searcher = StateSearcher::new(alloc, instance, laid_out, most)?;
+        Ok(LaidSearcher { searcher })
+    }
+
+    /// The search of a piece.
+    #[inline(always)]
+    pub(crate) fn search(
+        &mut self,
+        alloc: Global,
+        piece: &'a Piece,
+        best: u64,
+        budget: u64,
+    ) -> Result<Sheet<'a>, AllocError>
+        requires nodes { AreNodes self.old piece.now.nodes.items }
+        requires small { budget < 2 ^ 50 }
+        ensures of { IfOk result (λ s. IsSheetOf s self.old piece.now best budget) }
+        ensures keeps { IfOk result (λ s. KeepsTables self.old piece.now best s) }
+        ensures instance { OnOk result (self.new ≡ self.old) }
+    {
+        self.searcher.search(alloc, piece, best, budget)
+    }
+}
