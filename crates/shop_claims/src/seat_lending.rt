@@ -100,8 +100,8 @@ fn claim_rest(board: &Board, seat: &mut Seat, places: &[Option<Entry>])
     }
 }
 
-/// Gives the entries of a round, of what its workers brought back. A piece that nobody brought is claimed and searched
-/// by the calling thread. Fails with `AllocError` if memory runs out.
+/// Gives one entry for each piece of a round, from what its workers brought back. A piece for which none brought one is
+/// claimed and searched by the calling thread. Fails with `AllocError` if memory runs out.
 pub fn complete_returned<'r, P: PieceSearch<'r>>(
     alloc: Global,
     board: &Board,

@@ -10,7 +10,7 @@ use std::alloc::{AllocError, Global};
 
 /// Who searches the pieces of a round.
 pub trait Crew<R> {
-    /// What has to hold of what it shares among threads.
+    /// What the caller has to know so that the crew may share values among threads; nothing for a crew without threads.
     ghost ready: { Type 0 };
 
     /// One entry for each piece, in number order. Fails with `AllocError` if memory runs out.

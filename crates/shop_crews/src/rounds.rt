@@ -148,16 +148,12 @@ impl<'r> Round<'r> {
 pub fn least_bound(makespan: u64, nodes: &[Node]) -> u64
     ensures { result ≡ least_of_bounds makespan nodes.now }
 {
-    let mut bound = makespan;
-    for node in nodes {
-        if node.bound < bound {
-            bound = node.bound;
-        }
-    }
-    bound
+    nodes
+        .iter()
+        .fold(makespan, |bound, node| bound.min(node.bound))
 }
 
-/// The same nodes once more, in order. Fails with `AllocError` if memory runs out.
+/// A copy of these nodes, in order. Fails with `AllocError` if memory runs out.
 pub fn copies_of(alloc: Global, nodes: &[Node]) -> Result<Vec<Node>, AllocError>
     ensures { IfOk result (λ v. v.items ≡ nodes.now) }
 {
@@ -178,7 +174,7 @@ pub fn put_in_order(nodes: &mut Vec<Node>, order: Order) -> Result<(), AllocErro
     }
 }
 
-/// The next nodes, as many as the size says if so many are left.
+/// The next `size` nodes, or all that are left if they are fewer. Fails with `AllocError` if memory runs out.
 fn next_piece(
     alloc: Global,
     nodes: &mut IntoIter<Node, Global>,
@@ -197,7 +193,8 @@ fn next_piece(
     Ok(piece)
 }
 
-/// Cuts nodes into at most 256 pieces of this size, in order; the last may be shorter, and what goes beyond is let go.
+/// Cuts nodes into at most 256 pieces of this size, in order; the last may be shorter, and nodes behind it are dropped.
+/// Fails with `AllocError` if memory runs out.
 pub fn cut_pieces(alloc: Global, nodes: Vec<Node>, size: usize) -> Result<Vec<Piece>, AllocError>
     requires { 0 < size }
     ensures nodes { IfOk result (λ v. nodes_in v.items ≡ cut_into MAX_PIECES size nodes.items) }

@@ -13,8 +13,8 @@ use shop_workers::PieceSearch;
 use std::alloc::{AllocError, Global};
 use std::sync::{Mutex, Wait};
 
-// Searches a piece, or passes it where `low` is lower: the least number of a piece that the worker searched and that
-// ends at the opening bound, or how many pieces there are.
+// Searches a piece, or passes it where `low` is lower: the least number among the worker's own pieces that end at the
+// opening bound, and the number of pieces while there is none.
 fn turn<'r, P: PieceSearch<'r>, G: Gate>(
     alloc: Global,
     searcher: &mut P,

@@ -40,8 +40,7 @@ pub fn search_piece<'r>(
     search(alloc, round.instance, piece, round.best, round.budget)
 }
 
-// The same, by the searcher that is kept from the piece before, or else by a new one over the round's layout, which is
-// kept then.
+// The same by the searcher that is kept. Where there is none, a new one over the round's layout is made and kept.
 fn search_kept<'r>(
     alloc: Global,
     kept: &mut Option<Searcher<'r, 'r>>,

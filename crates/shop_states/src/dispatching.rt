@@ -12,15 +12,17 @@ ghost use Rattle.shop_states.specs.States.{CanDispatch, HasSoleCandidate, IsOfSo
 
 use std::alloc::{AllocError, Global};
 
-/// A job of the conflict set, and what the bound after its next operation is at least by what else waits on its machine.
+/// A job of the conflict set, and a number that the bound reaches at least once the job's next operation is dispatched,
+/// since all else waits on its machine.
 #[derive(Clone, Copy, Debug)]
 pub struct Candidate {
     pub job: u16,
     pub own: u64,
 }
 
-/// Dispatches operations of one instance in states of its words. A state is what a word leaves, or room for it. The
-/// dispatcher never changes: it is made once for a run and shared by all that search.
+/// What a walk asks of states of words: one is filled, copied, or an operation is dispatched in it. A state is what a
+/// word of one instance leaves, or room for it. The dispatcher never changes: it is made once for a run and shared by
+/// all that search.
 pub trait Dispatching<S: Drop> {
     /// What a dispatch needs beside a state.
     type Scratch: Drop;
@@ -61,9 +63,9 @@ pub trait Dispatching<S: Drop> {
         ensures state { (w : List ℕ) → IsStateOf self.now w from.now → IsStateOf self.now w to.new }
         ensures slot { IsSlot self.now to.new };
 
-    /// Replaces the list with those of the conflict set of a word, in ascending order, whose bounds by their own
-    /// machine are below the limit, and tells how many others there are. A sole candidate is listed in any case. The
-    /// list has room for all jobs.
+    /// Lists the jobs of the conflict set, in ascending order, whose own numbers are below the limit, and tells how
+    /// many are left out. A job that is alone in the set is always listed. What the list held is lost; it has room for
+    /// all jobs.
     fn gather_candidates(
         &self,
         scratch: &mut Self::Scratch,
@@ -80,7 +82,7 @@ pub trait Dispatching<S: Drop> {
         ensures room { vec_capacity candidates.old ≤ vec_capacity candidates.new }
         ensures scratch { IsScratch self.now scratch.new };
 
-    /// Dispatches the one job of a conflict set.
+    /// Dispatches the next operation of a job that is alone in the conflict set; the bound stays as it was.
     fn strike(&self, state: &mut S, job: u16)
         requires { HasSoleCandidate (shop self.now) (λ w. IsStateOf self.now w state.old) job }
         ensures { (w : List ℕ) → IsStateOf self.now w state.old
@@ -88,7 +90,7 @@ pub trait Dispatching<S: Drop> {
             → IsStateOf self.now (w ++ job ∷ []) state.new };
 
     /// Dispatches a candidate, and tells the bound of the word then if it is below the limit. Where it isn't, the state
-    /// is room for a state alone. The bound of the word before is at hand.
+    /// is room for a state alone. `bound` is that of the word before.
     fn dispatch_below(
         &self,
         scratch: &mut Self::Scratch,
@@ -110,8 +112,8 @@ pub trait Dispatching<S: Drop> {
         ensures slot { IsSlot self.now state.new }
         ensures scratch { IsScratch self.now scratch.new };
 
-    /// Dispatches the next operation of any job, which has one left, and tells the bound of the word then. The bound of
-    /// the word before is at hand.
+    /// Dispatches the next operation of any job, which has one left, and tells the bound of the word then. `bound` is
+    /// that of the word before.
     fn dispatch(&self, scratch: &mut Self::Scratch, state: &mut S, job: u16, bound: u64) -> u64
         requires scratch { IsScratch self.now scratch.old }
         requires can { CanDispatch (shop self.now) (λ w. IsStateOf self.now w state.old) job bound }

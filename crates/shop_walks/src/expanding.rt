@@ -93,8 +93,9 @@ impl<'l, 'a, D: Dispatching<S>, S: Drop> Walker<'l, 'a, D, S> {
         put_rest(&mut self.stack, self.path.len(), count)
     }
 
-    /// Goes on from the word to the child by the one candidate, and tells its bound, while so many others are closed,
-    /// and wait as such. Where this one is closed too, the walk has nowhere to go.
+    /// Dispatches the one candidate in the current state, and tells its child's bound: the walk goes on there, and the
+    /// `closed` other children are put on the stack as closed. Where this child is closed too, all are, and the answer
+    /// is `None`.
     #[inline(always)]
     fn follow_kept(&mut self, bound: u64, closed: usize) -> Result<Option<u64>, AllocError>
         requires one { length self.old.candidates.items ≡ 1 }
@@ -145,7 +146,8 @@ impl<'l, 'a, D: Dispatching<S>, S: Drop> Walker<'l, 'a, D, S> {
         self.states.give_back(state)
     }
 
-    /// Takes states back from what waits longest until there is one for each candidate, whose turns come first.
+    /// Takes states from the entries that wait longest, until there is a spare one for each candidate or none is left
+    /// to take.
     #[inline(always)]
     fn reclaim(&mut self) -> Result<(), AllocError>
         requires states { HasStates self.old }
@@ -157,8 +159,8 @@ impl<'l, 'a, D: Dispatching<S>, S: Drop> Walker<'l, 'a, D, S> {
         Ok(())
     }
 
-    /// Puts the children of the word on the stack, the first one on top; the word's bound and its candidates are at
-    /// hand, beside which so many others are closed.
+    /// Puts the children of the word on the stack, the first one on top. `bound` is the word's, and `closed` of its
+    /// children are none of the candidates.
     fn push_children(&mut self, alloc: Global, bound: u64, closed: usize) -> Result<(), AllocError>
         requires bound { bound ≡ lb self.old.progress.instance.now self.old.path.items }
         requires short { length self.old.path.items < self.old.progress.operations }
@@ -213,8 +215,8 @@ impl<'l, 'a, D: Dispatching<S>, S: Drop> Walker<'l, 'a, D, S> {
         Ok(())
     }
 
-    /// Goes on from the word, which was taken and whose bound is below the best: as far as there is one way alone, then
-    /// a full word is found, and the children of another one are put on the stack.
+    /// Goes on from the word, which was taken and whose bound is below the best, as long as one child alone is open: up
+    /// to a full word, which is found, or to one whose children are put on the stack.
     pub(crate) fn expand(&mut self, alloc: Global, bound: u64) -> Result<(), AllocError>
         requires bound { bound ≡ lb self.old.progress.instance.now self.old.path.items }
         requires below { bound < self.old.progress.best }

@@ -6,7 +6,7 @@ use crate::held::Held;
 use shop_nodes::Waiting;
 use std::alloc::AllocError;
 
-/// Puts so many closed children of what these entries make on the stack, if there are any.
+/// Puts one entry on the stack for `count` closed children of the word of so many entries, if there are any.
 #[inline(always)]
 pub(crate) fn put_rest<S: Drop>(
     stack: &mut Vec<Held<S>>,

@@ -41,8 +41,8 @@ impl<'l, 'a, D: Dispatching<S>, S: Drop> Model for StateSearcher<'l, 'a, D, S> {
 }
 
 impl<'l, 'a, D: Dispatching<S>, S: Drop> StateSearcher<'l, 'a, D, S> {
-    /// For pieces of this instance, which is the dispatcher's, with at most so many states for children that wait. Fails
-    /// with `AllocError` if memory runs out.
+    /// For pieces of this instance, which is the dispatcher's, with at most so many states for children that wait.
+    /// Fails with `AllocError` if memory runs out.
     pub fn new(
         alloc: Global,
         instance: &'a Instance,

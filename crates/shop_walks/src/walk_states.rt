@@ -63,8 +63,8 @@ impl<'l, D: Dispatching<S>, S: Drop> WalkStates<'l, D, S> {
             .fill(&mut self.scratch, path, &mut self.current);
     }
 
-    /// Replaces the list with those of the conflict set of the current state's word, in ascending order, whose bounds by
-    /// their own machine are below the limit, and tells how many others there are. It has room for all jobs.
+    /// Lists the jobs of the conflict set of the current state's word, in ascending order, whose own numbers are below
+    /// the limit, and tells how many are left out. What the list held is lost; it has room for all jobs.
     #[inline(always)]
     pub(crate) fn gather(&mut self, limit: u64, candidates: &mut Vec<Candidate>) -> usize
         requires sound { HoldSlots D.IsSlot D.IsScratch self.old }
@@ -83,7 +83,7 @@ impl<'l, D: Dispatching<S>, S: Drop> WalkStates<'l, D, S> {
             .gather_candidates(&mut self.scratch, &self.current, limit, candidates)
     }
 
-    /// Dispatches the one job of the conflict set in the current state.
+    /// Dispatches the next operation of the one job of the conflict set in the current state.
     pub(crate) fn strike(&mut self, job: u16)
         requires sound { HoldSlots D.IsSlot D.IsScratch self.old }
         requires sole { HasSoleCandidate (D.shop self.old.dispatcher.now)
@@ -98,7 +98,7 @@ impl<'l, D: Dispatching<S>, S: Drop> WalkStates<'l, D, S> {
     }
 
     /// Dispatches a candidate in the current state, and tells the bound of its child if that is below the limit; else
-    /// the current state is that of no word. The bound of the current state's word is at hand.
+    /// the current state is that of no word. `bound` is that of the current state's word.
     #[inline(always)]
     pub(crate) fn advance(&mut self, candidate: Candidate, bound: u64, limit: u64) -> Option<u64>
         requires sound { HoldSlots D.IsSlot D.IsScratch self.old }
@@ -129,7 +129,7 @@ impl<'l, D: Dispatching<S>, S: Drop> WalkStates<'l, D, S> {
         self.spare.len().saturating_add(self.unmade)
     }
 
-    /// Takes a state back that is wanted no more.
+    /// Keeps a state that nobody wants any more as a spare one.
     pub(crate) fn give_back(&mut self, state: Option<Box<S>>) -> Result<(), AllocError>
         requires sound { HoldSlots D.IsSlot D.IsScratch self.old }
         requires slot { IsHeldOf (λ _ s. D.IsSlot self.old.dispatcher.now s) [] state }
@@ -144,7 +144,8 @@ impl<'l, D: Dispatching<S>, S: Drop> WalkStates<'l, D, S> {
         Ok(())
     }
 
-    /// Makes the state of a word the current one: this one, where there is one, else it is filled from the word.
+    /// The given state becomes the current one, and the one before it a spare one; where none is given, the current one
+    /// is filled from the word.
     pub(crate) fn go_on_in(&mut self, state: Option<Box<S>>, word: &[u16]) -> Result<(), AllocError>
         requires sound { HoldSlots D.IsSlot D.IsScratch self.old }
         requires word { IsWord (D.shop self.old.dispatcher.now) word.now }
@@ -227,8 +228,8 @@ impl<'l, D: Dispatching<S>, S: Drop> WalkStates<'l, D, S> {
         self.dispatcher.copy(&self.current, &mut self.trial);
     }
 
-    /// Dispatches a candidate in the trial's state, and tells the bound of its child if that is below the limit. The
-    /// bound of the current state's word is at hand. After the last trial the current state is that of no word.
+    /// Dispatches a candidate in the trial's state, and tells the bound of its child if that is below the limit.
+    /// `bound` is that of the current state's word, and after the last trial the current state is that of no word.
     fn try_candidate(
         &mut self,
         candidate: Candidate,
@@ -255,10 +256,9 @@ impl<'l, D: Dispatching<S>, S: Drop> WalkStates<'l, D, S> {
         self.dispatcher.dispatch_below(&mut self.scratch, &mut self.trial, candidate, bound, limit)
     }
 
-    /// Puts the children of the current state's word with bounds below the limit on the stack, by bound, then by job,
-    /// the first one on top, each with its state where there is room for one; and tells how many others there are. The
-    /// word's bound and its candidates are at hand, beside which so many others are closed. Fails with `AllocError` if
-    /// memory runs out.
+    /// Tries each candidate of the word, and puts the children of bounds below the limit on the stack, by bound, then
+    /// by job, the first on top, each with its state while there is room. Tells how many children are closed; `closed`
+    /// of them are none of the candidates. Fails with `AllocError` if memory runs out.
     pub(crate) fn try_candidates(
         &mut self,
         alloc: Global,

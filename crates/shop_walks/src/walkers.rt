@@ -13,8 +13,8 @@ use shop_states::{Candidate, Dispatching};
 use std::alloc::{AllocError, Global};
 use std::sync::ArcSlice;
 
-/// A walk with its states and the lists that it takes: the word that it came to, what waits, and room for the candidates
-/// of a word.
+/// A walk: what it carries, its states, the word that it has come to, the stack of what waits, and room for the
+/// candidates of a word.
 #[derive(Drop)]
 pub(crate) struct Walker<'l, 'a, D: Dispatching<S>, S: Drop> {
     pub(crate) progress: Progress<'a>,

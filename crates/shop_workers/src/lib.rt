@@ -1,5 +1,5 @@
-// What crews have in common: who searches single pieces of a round, its pieces up to the first that ends at the opening
-// bound, and what workers brought put in the order of the pieces.
+// What crews have in common: the trait of who searches single pieces; the pieces of a round searched in order up to the
+// first whose makespan is the opening bound; the entries of several workers put in the order of the pieces.
 #![tactic(auto)]
 
 mod hit_search;
