@@ -13,7 +13,7 @@ use std::alloc::{AllocError, Global};
 use std::marker::Model;
 
 /// How many bytes the states of all children that wait may hold together.
-const ROOM: usize = 7 << 17;
+const ROOM: usize = 1 << 19;
 
 /// How many bytes a number of a state takes.
 fn bytes_of_number(layout: &Layout) -> usize
