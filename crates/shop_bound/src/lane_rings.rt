@@ -6,7 +6,7 @@ ghost use Rattle.shop_bound.specs.Desks.{IsUndone, IsWordOfShop, goes_on, nothin
 ghost use Rattle.shop_bound.specs.inner.LaneRings.{kept_in};
 
 use crate::laid_rings::LaidRing;
-use shop_desk::Layout;
+use shop_desk::{LaneLayout, Layout};
 use shop_lanes::{NarrowLanes, PlainLanes, WideLanes};
 use shop_model::Instance;
 use std::alloc::{AllocError, Global};
@@ -33,12 +33,14 @@ impl<'a> LaneRing<'a> {
     pub(crate) fn new(alloc: Global, instance: &'a Instance) -> Result<LaneRing<'a>, AllocError>
         ensures { IfOk result (λ r. kept_in r ≡ nothing_dispatched instance.now) }
     {
-        match Layout::of(alloc, instance)? {
-            Layout::Narrow(laid_out) => {
+        match Layout::of(alloc, instance)?.into_lanes() {
+            LaneLayout::Narrow(laid_out) => {
                 Ok(LaneRing::Narrow(LaidRing::new(alloc, instance, laid_out)?))
             }
-            Layout::Wide(laid_out) => Ok(LaneRing::Wide(LaidRing::new(alloc, instance, laid_out)?)),
-            Layout::Plain(laid_out) => Ok(LaneRing::Plain(LaidRing::new(
+            LaneLayout::Wide(laid_out) => Ok(LaneRing::Wide(LaidRing::new(
+                alloc, instance, laid_out,
+            )?)),
+            LaneLayout::Plain(laid_out) => Ok(LaneRing::Plain(LaidRing::new(
                 alloc, instance, laid_out,
             )?)),
         }

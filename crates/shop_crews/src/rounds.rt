@@ -1,7 +1,6 @@
 // Rounds: cut from a standing, in an order and into pieces, and closed to the next standing.
 ghost use Rattle.std.specs.Prelude.{◌≡◌, ◌≤◌, ◌<◌, length, take, drop, true, IfOk, OnOk};
 ghost use Rattle.std.specs.Vec.Iter.{into_iter_items};
-ghost use Rattle.shop_layout.specs.Layouts.{IsLayoutOf};
 ghost use Rattle.shop_nodes.specs.Nodes.{words_of, AreNodes};
 ghost use Rattle.shop_plans.specs.Limits.{IsCountWithin};
 ghost use Rattle.shop_crews.specs.Round.{cut_into};
@@ -33,7 +32,7 @@ pub struct Round<'r> {
     pub rounds: u64,
     pub nodes: u64,
     pub(crate) layout: Layout<'r>,
-    pub ghost layout_of: { IsLayoutOf instance.now layout },
+    pub ghost layout_of: { layout ≡ instance.now },
     pub ghost numbered: { numbered 0 pieces.items ≡ true },
     pub ghost nodes_of_pieces: { ArePieces instance.now pieces.items },
     pub ghost nodes_of_rest: { AreNodes instance.now rest.items },
@@ -88,7 +87,7 @@ impl<'r> Round<'r> {
         requires rounds { front.rounds < plan.now.rounds }
         requires standing { StandsAt instance.now (stands front) front }
         requires rest { AreNodes instance.now rest.items }
-        requires layout { IsLayoutOf instance.now layout }
+        requires layout { layout ≡ instance.now }
         requires round { IsRound (round_of instance.now (planned plan.now) (stands front) bound
             (words_of rest.items)) }
         ensures { IfOk result (λ r. told r ≡ round_of instance.now (planned plan.now)
@@ -118,7 +117,7 @@ impl<'r> Round<'r> {
 
     /// The instance's layout, which all who search its pieces share.
     pub fn layout(&self) -> &Layout<'r>
-        ensures { IsLayoutOf self.now.instance.now result.now }
+        ensures { result.now ≡ self.now.instance.now }
     {
         &self.layout
     }
@@ -130,7 +129,7 @@ impl<'r> Round<'r> {
         ensures gathered { IfOk result (λ p. IsGatheredOf self.entry p.0) }
         ensures standing { IfOk result (λ p. IsStandingOf self.entry.instance.now p.0) }
         ensures covers { IfOk result (λ p. GatheredCovers self.entry p.0) }
-        ensures layout { IfOk result (λ p. IsLayoutOf self.entry.instance.now p.1) }
+        ensures layout { IfOk result (λ p. p.1 ≡ self.entry.instance.now) }
     {
         let Round {
             word,

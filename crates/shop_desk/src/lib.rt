@@ -14,6 +14,6 @@ mod placing;
 mod states;
 mod steps;
 
-pub use shop_layout::{LaidOut, Layout};
+pub use shop_layout::{LaidOut, LaneLayout, Layout};
 pub use shop_states::{Candidate, Dispatching};
 pub use states::{Scratch, State};

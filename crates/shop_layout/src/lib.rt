@@ -12,6 +12,6 @@ mod slots;
 
 pub use grid::Grid;
 pub use laid_outs::LaidOut;
-pub use layouts::Layout;
+pub use layouts::{LaneLayout, Layout};
 pub use routes::Routes;
 pub use slots::Slot;

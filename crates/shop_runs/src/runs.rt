@@ -1,6 +1,5 @@
 // Runs: where one stands between two rounds, and the answer of a plan.
-ghost use Rattle.std.specs.Prelude.{◌^◌, ◌<◌, IfOk, IfSome};
-ghost use Rattle.shop_layout.specs.Layouts.{IsLayoutOf};
+ghost use Rattle.std.specs.Prelude.{◌≡◌, ◌^◌, ◌<◌, IfOk, IfSome};
 ghost use Rattle.shop_runs.specs.Runs.{SaysAnswer, IsTrusted};
 
 use crate::open_nodes::OpenNodes;
@@ -69,7 +68,7 @@ impl Search {
         layout: Layout<'r>,
         plan: &Plan,
     ) -> Result<(Round<'r>, OpenNodes), AllocError>
-        requires layout { IsLayoutOf instance.now layout }
+        requires layout { layout ≡ instance.now }
         requires rounds { self.standing.rounds < plan.now.rounds }
         requires search { IsSearchOf instance.now plan.now.order self }
         ensures { IfOk result (λ p. IsFront instance.now plan.now self p.0 p.1) }
@@ -105,11 +104,11 @@ impl Search {
         crew: &mut C,
     ) -> Result<(Search, Layout<'r>), AllocError>
         requires ready { C.ready }
-        requires layout { IfSome kept (IsLayoutOf instance.now) }
+        requires layout { IfSome kept (λ l. l ≡ instance.now) }
         requires rounds { self.standing.rounds < plan.now.rounds }
         requires search { IsSearchOf instance.now plan.now.order self }
         ensures next { IfOk result (λ p. IsNextSearch instance.now plan.now self p.0) }
-        ensures layout { IfOk result (λ p. IsLayoutOf instance.now p.1) }
+        ensures layout { IfOk result (λ p. p.1 ≡ instance.now) }
     {
         instance.keeps_limits();
         let opening = self.standing.makespan;
@@ -154,8 +153,8 @@ fn kept_or_new<'r>(
     instance: &'r Instance,
     kept: Option<Layout<'r>>,
 ) -> Result<Layout<'r>, AllocError>
-    requires { IfSome kept (IsLayoutOf instance.now) }
-    ensures { IfOk result (IsLayoutOf instance.now) }
+    requires { IfSome kept (λ l. l ≡ instance.now) }
+    ensures { IfOk result (λ l. l ≡ instance.now) }
 {
     match kept {
         Some(layout) => Ok(layout),

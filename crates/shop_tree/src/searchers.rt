@@ -1,12 +1,11 @@
 // The search of pieces, over what is kept from one to the next.
 ghost use Rattle.std.specs.Prelude.{◌≡◌, ◌≤◌, ◌<◌, ◌^◌, OnOk, IfOk};
-ghost use Rattle.shop_desk.specs.Layouts.{IsLayoutOf};
 ghost use Rattle.shop_nodes.specs.Nodes.{AreNodes};
 ghost use Rattle.shop_nodes.specs.Sheets.{IsSheetOf, KeepsTables};
 
 use crate::laid_searchers::LaidSearcher;
 use crate::widths::Widths;
-use shop_desk::Layout;
+use shop_desk::{LaneLayout, Layout};
 use shop_model::Instance;
 use shop_nodes::{Piece, Sheet};
 use std::alloc::{AllocError, Global};
@@ -20,10 +19,10 @@ fn bytes_of_number(layout: &Layout) -> usize
     ensures few { result ≤ 8 }
     ensures some { 0 < result }
 {
-    match layout {
-        Layout::Narrow(_) => 2,
-        Layout::Wide(_) => 4,
-        Layout::Plain(_) => 8,
+    match layout.lanes() {
+        LaneLayout::Narrow(_) => 2,
+        LaneLayout::Wide(_) => 4,
+        LaneLayout::Plain(_) => 8,
     }
 }
 
@@ -57,7 +56,7 @@ impl<'l, 'a> Searcher<'l, 'a> {
         instance: &'a Instance,
         layout: &'l Layout<'a>,
     ) -> Result<Searcher<'l, 'a>, AllocError>
-        requires { IsLayoutOf instance.now layout.now }
+        requires { layout.now ≡ instance.now }
         ensures { IfOk result (λ s. s ≡ instance.now) }
     {
         instance.keeps_limits();
@@ -79,17 +78,17 @@ impl<'l, 'a> Searcher<'l, 'a> {
         layout: &'l Layout<'a>,
         most: usize,
     ) -> Result<Searcher<'l, 'a>, AllocError>
-        requires { IsLayoutOf instance.now layout.now }
+        requires { layout.now ≡ instance.now }
         ensures { IfOk result (λ s. s ≡ instance.now) }
     {
-        let widths = match layout {
-            Layout::Narrow(laid_out) => {
+        let widths = match layout.lanes() {
+            LaneLayout::Narrow(laid_out) => {
                 Widths::Narrow(LaidSearcher::new(alloc, instance, laid_out, most)?)
             }
-            Layout::Wide(laid_out) => {
+            LaneLayout::Wide(laid_out) => {
                 Widths::Wide(LaidSearcher::new(alloc, instance, laid_out, most)?)
             }
-            Layout::Plain(laid_out) => {
+            LaneLayout::Plain(laid_out) => {
                 Widths::Plain(LaidSearcher::new(alloc, instance, laid_out, most)?)
             }
         };

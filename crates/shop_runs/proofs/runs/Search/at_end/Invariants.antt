@@ -1,5 +1,4 @@
-use Rattle.std.specs.Prelude.{IfSome}
-use Rattle.shop_layout.specs.Layouts.{IsLayoutOf}
+use Rattle.std.specs.Prelude.{◌≡◌, IfSome}
 use Rattle.shop_plans.specs.Plans.{planned}
 use Rattle.shop_runs.proofs.Answering.{OnTheWay}
 use Rattle.shop_runs.proofs.runs.Search.at_end.Given as goal
@@ -7,5 +6,5 @@ use Rattle.shop_runs.proofs.runs.Search.at_end.Given as goal
 abbrev pub invariant-loop-done : goal.invariant-loop-done
 invariant-loop-done g l = record {
   way : OnTheWay l.instance (planned l.plan) l.done l.search;
-  layout : IfSome l.layout (IsLayoutOf l.instance);
+  layout : IfSome l.layout (λ laid. laid ≡ l.instance);
 }

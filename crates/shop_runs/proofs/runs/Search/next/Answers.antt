@@ -1,5 +1,4 @@
-use Rattle.std.proofs.Common.{ap, subst}
-use Rattle.shop_layout.specs.Layouts.{IsLayoutOf}
+use Rattle.std.proofs.Common.{◌∙◌, ap, subst}
 use Rattle.shop_nodes.specs.Nodes.{AreNodes}
 use Rattle.shop_plans.specs.Plans.{planned}
 use Rattle.shop_crews.specs.Round.{Told}
@@ -22,5 +21,4 @@ returns-clause-next g c =
     c.in_ok-standing.ensures.gathered c.in_ok-search.ensures
 
 pub returns-clause-layout : goal.returns-clause-layout
-returns-clause-layout g c = subst (λ shop. IsLayoutOf shop c.in_ok-standing.layout)
-    (ap (λ (t : Told). t.shop) c.in_ok-round.ensures.round) c.in_ok-standing.ensures.layout
+returns-clause-layout g c = c.in_ok-standing.ensures.layout ∙ ap (λ (t : Told). t.shop) c.in_ok-round.ensures.round
