@@ -95,6 +95,7 @@ pub fn solve_instance<R, C: Crew<R>>(
     ensures schedule { IfOk result (λ out. GivesSchedule (shop_of_named asked.now) out.items) }
 {
     let answer = run(rt, alloc, &asked.instance, plan, crew)?;
+    answer.table.keeps_limits();
     text_of(alloc, asked, &answer, with_gantt)
 }
 

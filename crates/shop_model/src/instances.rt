@@ -81,10 +81,18 @@ fn are_jobs_within(machines: usize, jobs: &[Job]) -> bool
 /// An instance of the job shop (disjunctive model): a number of machines, and jobs with a release and a route each. It
 /// is within the limits of `MAX_JOBS` and the other constants. It keeps the list that it was given, so making it takes
 /// no memory.
-#[derive(Drop)]
 pub struct Instance {
     machine_count: usize,
     given: Given,
+}
+
+impl Drop for Instance {
+    fn drop(self) {
+        let Instance {
+            machine_count: _,
+            given: _,
+        } = self;
+    }
 }
 
 impl Model for Instance {

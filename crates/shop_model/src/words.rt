@@ -19,9 +19,15 @@ enum Entries {
 
 /// A job sequence, the order in which operations are dispatched (permutation with repetition, Bierwirth 1995): each
 /// entry is a job, and stands for the job's next step.
-#[derive(Drop)]
 pub struct Word {
     entries: Entries,
+}
+
+// Written out, so that the code that lets go of a word stands once, and not in each function that has one.
+impl Drop for Word {
+    fn drop(self) {
+        let Word { entries: _ } = self;
+    }
 }
 
 impl Model for Word {
@@ -86,7 +92,8 @@ impl Word {
         requires { CanBeShared self }
         ensures { IfOk result (λ w. w ≡ self) }
     {
-        match self.entries {
+        let Word { entries } = self;
+        match entries {
             Entries::Listed(jobs) => SharedWord::of_jobs(alloc, jobs.as_slice()),
             Entries::Shared(word) => Ok(word),
         }

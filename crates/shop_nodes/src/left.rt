@@ -17,12 +17,22 @@ use std::sync::ArcSlice;
 
 /// What the search of a piece left, in order: what waited where its budget ended, if anything did, and the nodes of the
 /// piece that weren't taken. To contracts it is the list of all these words.
-#[derive(Drop)]
 pub struct Left<'r> {
     instance: &'r Instance,
     makespan: u64,
     halt: Option<Halt>,
     untaken: &'r [Node],
+}
+
+impl Drop for Left<'_> {
+    fn drop(self) {
+        let Left {
+            instance: _,
+            makespan: _,
+            halt: _,
+            untaken: _,
+        } = self;
+    }
 }
 
 impl<'r> Model for Left<'r> {

@@ -1,6 +1,5 @@
-use Rattle.std.proofs.Common.{◌≡◌, ℕ, List, subst}
+use Rattle.std.proofs.Common.{◌≡◌}
 use Rattle.std.proofs.lemmas.Result.{IfOk-weaker}
-use Rattle.shop_model.specs.Limits.{AreStarts}
 use Rattle.shop_text.specs.Names.{shop_of_named}
 use Rattle.shop_runs.specs.Runs.{planned}
 use Rattle.shop_engine.specs.inner.Told.{told_by}
@@ -17,11 +16,10 @@ returns-clause-right g c =
     in let a = c.in_ok-answer
     in let gantt = c.args.with_gantt
     in let words = c.text_of.ensures.words
-    in let small = subst (λ (rows : List (List ℕ)). AreStarts rows) c.drop-3.view_is c.drop-3.invariant
     in IfOk-weaker c.text_of.result (λ out. out.items ≡ text_with_gantt (told_by asked a.answer) gantt)
     (λ out. IsRight asked gantt out.items)
     (λ out e. right asked a.answer gantt out.items a.ensures.trust (record {
-      starts = small;
+      starts = c.keeps_limits.ensures;
       makespan = words.makespan;
       bound = words.bound;
       open_nodes = words.open_nodes;
@@ -44,7 +42,6 @@ returns-clause-schedule g c =
     let asked = shop_of_named c.args.asked.now
     in let a = c.in_ok-answer
     in let gantt = c.args.with_gantt
-    in let small = subst (λ (rows : List (List ℕ)). AreStarts rows) c.drop-3.view_is c.drop-3.invariant
     in IfOk-weaker c.text_of.result (λ out. out.items ≡ text_with_gantt (told_by asked a.answer) gantt)
     (λ out. GivesSchedule asked out.items)
-    (λ out e. gives_schedule asked a.answer gantt out.items a.ensures.trust small e) c.text_of.ensures.written
+    (λ out e. gives_schedule asked a.answer gantt out.items a.ensures.trust c.keeps_limits.ensures e) c.text_of.ensures.written
