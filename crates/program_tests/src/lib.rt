@@ -1,6 +1,8 @@
-// Tests of the program over memory: worked instances with their reports, lists, verdicts and refusals.
+// Tests of the program and the checker over memory: worked instances with their reports, lists, verdicts, refusals.
 #![tactic(auto)]
 
+#[cfg(test)]
+mod checker;
 #[cfg(test)]
 mod checks;
 #[cfg(test)]

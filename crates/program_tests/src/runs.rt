@@ -20,7 +20,7 @@ pub struct Ended {
 }
 
 /// The words of a command line, the program's name first.
-fn line_of<R: AllocGlobal + Abort>(rt: &R, words: &[&str]) -> Vec<String> {
+pub fn line_of<R: AllocGlobal + Abort>(rt: &R, words: &[&str]) -> Vec<String> {
     let alloc = rt.alloc();
     let name = "jobshop".to_string(alloc).expect(rt, "memory");
     let mut line = vec![in alloc; name].expect(rt, "memory");
@@ -32,7 +32,7 @@ fn line_of<R: AllocGlobal + Abort>(rt: &R, words: &[&str]) -> Vec<String> {
 }
 
 /// A sink with room for what a run writes.
-fn sink<R: AllocGlobal + Abort>(rt: &R) -> Memory {
+pub fn sink<R: AllocGlobal + Abort>(rt: &R) -> Memory {
     Memory::with_room(rt.alloc(), 65_536).expect(rt, "memory")
 }
 
@@ -87,7 +87,7 @@ pub fn reports_all<R: Files + Threads + Sync + AllocGlobal + Abort>(rt: &R, rows
 }
 
 /// Sees what a run on these words and this text printed, what it said on standard error, and its status.
-fn ended_so(
+pub fn ended_so(
     rt: &impl Abort,
     ended: &Ended,
     words: &[&str],

@@ -1,5 +1,3 @@
-pub mod Picks
-pub mod Verdicts
 pub mod Reported
 pub mod Headline
 pub mod RefusedTexts

@@ -1,7 +1,3 @@
-pub mod Devices
-pub mod Asking
-pub mod Listing
-pub mod Checking
 pub mod Answers
 pub mod Headline
 pub mod OneReport

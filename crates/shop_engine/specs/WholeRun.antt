@@ -7,7 +7,7 @@ use Rattle.shop_runs.specs.Round.{Planned}
 use Rattle.shop_runs.specs.Runs.{planned}
 use Rattle.shop_plans.specs.declared.plans.Order.TheVariants.{Kept}
 use Rattle.shop_args.specs.declared.SolveArgs.{SolveArgs}
-use Rattle.shop_engine.specs.Asking.{OfAsked}
+use Rattle.shop_verdicts.specs.Asking.{OfAsked}
 use Rattle.shop_engine.specs.Headline.{IsDetermined, IsDeterminedOf}
 
 abbrev pub crossing_text : List ℕ

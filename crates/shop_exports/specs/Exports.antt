@@ -7,9 +7,9 @@ use Rattle.shop_text.specs.Formats.{grammar_of}
 use Rattle.shop_text.specs.Texts.{IsTextFault}
 use Rattle.shop_text.specs.declared.formats.Format.{Format}
 use Rattle.shop_text.specs.declared.faults.ReadFault.{ReadFault}
-use Rattle.shop_engine.specs.Asking.{name_in, IsAskFault, OrNoMemory}
-use Rattle.shop_engine.specs.Listing.{IsListOf}
-use Rattle.shop_engine.specs.Checking.{schedule_in, IsCheckOf, IsCheckFault}
+use Rattle.shop_verdicts.specs.Asking.{name_in, IsAskFault, OrNoMemory}
+use Rattle.shop_verdicts.specs.Listing.{IsListOf}
+use Rattle.shop_verdicts.specs.Checking.{schedule_in, IsCheckOf, IsCheckFault}
 use Rattle.shop_engine.specs.Solving.{IsSolution}
 use Rattle.shop_engine.specs.SolvedSchedules.{PassesCheck}
 use Rattle.shop_args.specs.declared.CheckArgs.{CheckArgs}

@@ -15,7 +15,7 @@ use Rattle.shop_plans.specs.Limits.{IsPlanWithin}
 use Rattle.shop_plans.specs.declared.plans.Plan.{Plan}
 use Rattle.shop_plans.specs.declared.plans.Order.{Order}
 use Rattle.shop_plans.specs.declared.plans.Order.TheVariants.{Kept, Bound}
-use Rattle.shop_engine.specs.Asking.{name_in}
+use Rattle.shop_verdicts.specs.Asking.{name_in}
 use Rattle.shop_args.specs.declared.CheckArgs.{CheckArgs}
 use Rattle.shop_args.specs.declared.SolveArgs.{SolveArgs}
 use Rattle.shop_exports.specs.Outcomes.{is_refused, is_faulty}

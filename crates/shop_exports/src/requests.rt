@@ -1,7 +1,7 @@
 // What a caller asks for, in numbers and bytes, and the arguments that it makes.
 ghost use Rattle.std.specs.Prelude.{◌≡◌, IfOk, IfErr, MatchOption};
 ghost use Rattle.std.specs.Option.{option_copied};
-ghost use Rattle.shop_engine.specs.Asking.{name_in};
+ghost use Rattle.shop_verdicts.specs.Asking.{name_in};
 ghost use Rattle.shop_exports.specs.Requests.{format_code, order_code, IsNoFormat, IsNoOrder};
 ghost use Rattle.shop_exports.specs.Requests.{IsNoName, bytes_given, IsUnasked, AsksCheck};
 ghost use Rattle.shop_exports.specs.Requests.{IsFaultyCheck, AsksSolve, IsFaultySolve, IsPlanOf};

@@ -1,14 +1,13 @@
 // Entry points: the program over its words and its streams.
 ghost use Rattle.std.specs.Prelude.{map, string_bytes};
-ghost use Rattle.shop_program.specs.Running.{Streams, IsEnd, IsStart};
+ghost use Rattle.shop_checker.specs.Running.{Streams};
+ghost use Rattle.shop_program.specs.Running.{IsEnd, IsStart};
 
 use crate::running::run_args;
-use crate::saying::{say_fault, say_line_fault, say_no_memory, say_no_text};
+use shop_checker::{say_fault, say_line_fault, words_of};
 use shop_crews::Crews;
 use shop_engine::{Sink, Source};
 use shop_line::args_of;
-use std::env::args;
-use std::io::ErrorKind;
 use std::rt::{Env, Files};
 
 /// Runs the program on the words of a command line, the program's name first: it reads files or the source, writes to
@@ -50,13 +49,8 @@ pub fn start<R: Env + Files + AllocGlobal, C: Crews<R>, S: Source, K: Sink, E: S
         (record { source = S.device source.old; sink = K.device out.old })
         (record { source = S.device source.new; sink = K.device out.new }) result }
 {
-    let words = match args(rt) {
-        Ok(words) => words,
-        Err(fault) if fault.kind() == ErrorKind::OutOfMemory => return say_no_memory(err),
-        Err(_) => return say_no_text(err),
-    };
-    match words.collect::<Vec<String>>(rt.alloc()) {
+    match words_of(rt, err) {
         Ok(words) => program(rt, crews, words.as_slice(), source, out, err),
-        Err(_) => say_no_memory(err),
+        Err(status) => status,
     }
 }

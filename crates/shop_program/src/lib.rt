@@ -4,10 +4,8 @@
 
 mod entry_points;
 mod running;
-mod saying;
-mod statuses;
 
 pub use entry_points::{program, start};
 pub use running::run_args;
+pub use shop_checker::{COMMAND_LINE, DONE, FAILED, INFEASIBLE, NO_MEMORY, REFUSED};
 pub use shop_line::{Args, LineFault, Workers, args_of};
-pub use statuses::{COMMAND_LINE, DONE, FAILED, INFEASIBLE, NO_MEMORY, REFUSED};

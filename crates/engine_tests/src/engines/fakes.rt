@@ -1,6 +1,6 @@
 // Devices that move one byte a call and fail at one of the calls, a source that never ends, and a sink and a crew that
 // count their calls.
-ghost use Rattle.shop_engine.specs.Devices.{Device};
+ghost use Rattle.shop_verdicts.specs.Devices.{Device};
 
 use shop_engine::{DeviceFailed, Memory, Sink, Source};
 use shop_round::{Alone, Crew, Entry, Round};
@@ -130,7 +130,7 @@ pub(super) struct Counted {
 }
 
 impl Sink for Counted {
-    ghost use Rattle.shop_engine.specs.Devices.{device_of};
+    ghost use Rattle.shop_verdicts.specs.Devices.{device_of};
 
     ghost device = { λ s. device_of s.memory };
 

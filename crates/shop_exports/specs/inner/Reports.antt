@@ -1,6 +1,6 @@
 -- What a search with given arguments does.
 use Rattle.std.specs.Prelude.{ℕ, List}
-use Rattle.shop_engine.specs.Asking.{name_in, IsAskFault, OrNoMemory}
+use Rattle.shop_verdicts.specs.Asking.{name_in, IsAskFault, OrNoMemory}
 use Rattle.shop_args.specs.declared.SolveArgs.{SolveArgs}
 use Rattle.shop_exports.specs.Exports.{Serves, IsReport}
 use Rattle.shop_exports.specs.declared.outcomes.Outcome.{Outcome}

@@ -1,0 +1,3 @@
+pub mod Statuses
+pub mod Running
+pub mod Checker

@@ -1,0 +1,118 @@
+-- What `list` and `check` do to standard input and output, and how a program ends, whatever its
+-- commands do.
+--     Streams                               standard input and output
+--     IsRunOn file old new result Runs      a command was run on the text of FILE
+--     ListsFrom, ChecksFrom                 what a command did to a source and a sink, with its
+--                                           status
+--     status_of_run result                  the status of a run
+--     IsLineRefused words old new status    the words are faulty or ask for help, or memory ran out
+--     IsEndBy Runs words old new status     a program ended on these words, of which RUNS says what
+--                                           was done
+--     IsStartBy Runs old new status         it ended on some words
+use Rattle.std.specs.Prelude.{◌≡◌, ℕ, ◌⊎◌, Bool, true, List, Option, Some, None, is_some}
+use Rattle.std.specs.Prelude.{Result, Ok, Err}
+use Rattle.std.specs.declared.string.String.{String}
+use Rattle.std.specs.declared.alloc.Global.{Global}
+use Rattle.clap.specs.Words.{Text}
+use Rattle.shop_args.specs.declared.ListArgs.{ListArgs}
+use Rattle.shop_args.specs.declared.CheckArgs.{CheckArgs}
+use Rattle.shop_verdicts.specs.declared.faults.Fault.{Fault}
+use Rattle.shop_verdicts.specs.declared.faults.Fault.TheVariants.{ReadFailed}
+use Rattle.shop_verdicts.specs.Devices.{Device}
+use Rattle.shop_verdicts.specs.Listing.{IsListing}
+use Rattle.shop_verdicts.specs.Checking.{IsChecking}
+use Rattle.shop_line.specs.CommandLine.{IsLineOf, IsUnread}
+use Rattle.shop_line.specs.declared.arguments.Args.{Args}
+use Rattle.shop_checker.specs.Statuses.{status_of, status_of_verdict}
+
+-- standard input and standard output
+pub record Streams : Type 0 where
+  pub source : Device
+  pub sink : Device
+
+-- a path of the command line, which may be missing
+abbrev pub Path : Type 0
+Path = Option (String Global)
+
+-- a file that was given couldn't be opened: a failed read, before anything was read or written
+pub record IsUnopened (old new : Streams) (result : Result ℕ Fault) : Type 0 where
+  pub failed : result ≡ Err ReadFailed
+  pub same : new ≡ old
+
+-- The command was run on the text of FILE: without a path on that of standard input. Where a path
+-- is given it was run on that of a file, of which nothing is known, or the file couldn't be opened;
+-- and standard input is as it was.
+abbrev pub IsRunOn : Path → Streams → Streams → Result ℕ Fault → (Device → Device → Type 0) → Type 0
+IsRunOn None old new result Runs = Runs old.source new.source
+IsRunOn (Some path) old new result Runs =
+    IsUnopened old new result
+    ⊎ ((new.source ≡ old.source) × (file file' : Device) × Runs file file')
+
+-- ---- what each command does to a source and the sink, and its status
+
+-- 0 for a list
+abbrev pub ListsFrom : ListArgs → Device → Device → Result ℕ Fault → Device → Device → Type 0
+ListsFrom args sink sink' (Ok status) source source' =
+    (status ≡ 0) × IsListing args source source' sink sink' (Ok tt)
+ListsFrom args sink sink' (Err fault) source source' =
+    IsListing args source source' sink sink' (Err fault)
+
+-- the schedule is that of a file just where a path is given
+abbrev pub HasChecked : CheckArgs → Path → Device → Device → Result Bool Fault
+    → Device → Device → Type 0
+HasChecked args schedule sink sink' result source source' = (second second' : Option Device)
+    × (is_some second ≡ is_some schedule)
+    × IsChecking args source source' second second' sink sink' result
+
+-- 0 for a feasible schedule, 1 for an infeasible one; or the schedule's file couldn't be opened
+abbrev pub ChecksFrom : CheckArgs → Path → Device → Device → Result ℕ Fault
+    → Device → Device → Type 0
+ChecksFrom args schedule sink sink' (Ok status) source source' = (feasible : Bool)
+    × (status ≡ status_of_verdict feasible)
+    × HasChecked args schedule sink sink' (Ok feasible) source source'
+ChecksFrom args schedule sink sink' (Err fault) source source' =
+    ((is_some schedule ≡ true) × (fault ≡ ReadFailed) × (source' ≡ source) × (sink' ≡ sink))
+    ⊎ HasChecked args schedule sink sink' (Err fault) source source'
+
+-- ---- how a program ends
+
+-- the status of a run
+abbrev pub status_of_run : Result ℕ Fault → ℕ
+status_of_run (Ok status) = status
+status_of_run (Err fault) = status_of fault
+
+-- The words of the command line are faulty or ask for help (2), or memory ran out (5): nothing was
+-- read or written.
+pub record IsLineRefused (words : List Text) (old new : Streams) (status : ℕ) : Type 0 where
+  pub said : ((status ≡ 2) × IsUnread words) ⊎ (status ≡ 5)
+  pub same : new ≡ old
+
+-- what is done of arguments
+abbrev pub Running : Type 1
+Running = Args → Streams → Streams → Result ℕ Fault → Type 0
+
+-- what the words ask for was done, with this status
+pub record IsDoneBy (Runs : Running) (words : List Text) (old new : Streams) (status : ℕ)
+    : Type 0 where
+  pub args : Args
+  pub asked : IsLineOf words args
+  pub result : Result ℕ Fault
+  pub run : Runs args old new result
+  pub is_status : status ≡ status_of_run result
+
+abbrev pub IsEndBy : Running → List Text → Streams → Streams → ℕ → Type 0
+IsEndBy Runs words old new status =
+    IsLineRefused words old new status ⊎ IsDoneBy Runs words old new status
+
+-- why there are no words: they aren't text (2), or memory ran out (5)
+abbrev pub IsNoWords : ℕ → Type 0
+IsNoWords status = (status ≡ 2) ⊎ (status ≡ 5)
+
+-- there were none: nothing was read or written
+pub record IsWordless (old new : Streams) (status : ℕ) : Type 0 where
+  pub said : IsNoWords status
+  pub same : new ≡ old
+
+abbrev pub IsStartBy : Running → Streams → Streams → ℕ → Type 0
+IsStartBy Runs old new status =
+    IsWordless old new status ⊎ ((words : List Text) × IsEndBy Runs words old new status)

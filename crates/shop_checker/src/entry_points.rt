@@ -1,0 +1,70 @@
+// Entry points: the checker over its words and its streams.
+ghost use Rattle.std.specs.Prelude.{map, string_bytes, IfErr};
+ghost use Rattle.shop_checker.specs.Running.{Streams, IsNoWords};
+ghost use Rattle.shop_checker.specs.Checker.{IsCheckerEnd, IsCheckerStart};
+
+use crate::running::run_checks;
+use crate::saying::{say_fault, say_line_fault, say_no_memory, say_no_text};
+use shop_line::args_of;
+use shop_verdicts::{Sink, Source};
+use std::env::args;
+use std::io::ErrorKind;
+use std::rt::{Env, Files};
+
+/// The words of the process, the program's name first. Where there are none, `err` is told why, and the exit status is 2
+/// (a word isn't UTF-8) or 5 (memory ran out).
+pub fn words_of<R: Env + AllocGlobal, E: Sink>(rt: &R, err: &mut E) -> Result<Vec<String>, u8>
+    ensures { IfErr result IsNoWords }
+{
+    let words = match args(rt) {
+        Ok(words) => words,
+        Err(fault) if fault.kind() == ErrorKind::OutOfMemory => return Err(say_no_memory(err)),
+        Err(_) => return Err(say_no_text(err)),
+    };
+    match words.collect::<Vec<String>>(rt.alloc()) {
+        Ok(words) => Ok(words),
+        Err(_) => Err(say_no_memory(err)),
+    }
+}
+
+/// Runs the checker on the words of a command line, the program's name first: it does what `list` and `check` ask for;
+/// where the words ask to solve, it says that it doesn't. It reads files or the source, writes to `out`, and says faults
+/// on `err`. The exit status: 0 done, 1 infeasible, 2 a faulty command line or `solve`, 3 a text refused, 4 a read or
+/// write that failed, 5 no memory.
+pub fn checker<R: Files + AllocGlobal, S: Source, K: Sink, E: Sink>(
+    rt: &R,
+    words: &[String],
+    source: &mut S,
+    out: &mut K,
+    err: &mut E,
+) -> u8
+    ensures { IsCheckerEnd (map string_bytes words.now)
+        (record { source = S.device source.old; sink = K.device out.old })
+        (record { source = S.device source.new; sink = K.device out.new }) result }
+{
+    let args = match args_of(rt.alloc(), words) {
+        Ok(args) => args,
+        Err(fault) => return say_line_fault(err, fault),
+    };
+    match run_checks(rt, &args, source, out, err) {
+        Ok(status) => status,
+        Err(fault) => say_fault(err, fault),
+    }
+}
+
+/// Runs the checker on the words of the process.
+pub fn start_checker<R: Env + Files + AllocGlobal, S: Source, K: Sink, E: Sink>(
+    rt: &R,
+    source: &mut S,
+    out: &mut K,
+    err: &mut E,
+) -> u8
+    ensures { IsCheckerStart
+        (record { source = S.device source.old; sink = K.device out.old })
+        (record { source = S.device source.new; sink = K.device out.new }) result }
+{
+    match words_of(rt, err) {
+        Ok(words) => checker(rt, words.as_slice(), source, out, err),
+        Err(status) => status,
+    }
+}

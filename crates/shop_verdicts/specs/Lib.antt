@@ -1,0 +1,4 @@
+pub mod Devices
+pub mod Asking
+pub mod Listing
+pub mod Checking
