@@ -1,37 +1,41 @@
-"""Counts the floor of an instance: what every bound, and so every makespan, is at least.
+"""Adds up the floor of an instance: no schedule ends before it, and no bound is less.
 
     python3 show_instance.py FORMAT TEXT [NAME] | python3 floor.py
 
-Of each machine it adds the least head, all times and the least tail, and of each job its release and all times. The
-head of a step is the release of its job and the times before it, its tail the times behind it.
+The head of a step is its job's release and the times of the steps before it; its tail is the times of the steps behind
+it. For a machine the least head, all times and the least tail are added; for a job its release and all times. The floor
+is the greatest sum.
 """
 
+import re
 import sys
 
-steps, releases = {}, {}
-for words in map(str.split, sys.stdin):
-    steps.setdefault(int(words[1]), [])
-    if words[2] == "release":
-        releases[int(words[1])] = int(words[3])
-    else:
-        steps[int(words[1])].append((int(words[5]), int(words[7])))
+LINE = re.compile(rb"job (\d+) (?:release (\d+)|step \d+ machine (\d+) time (\d+))\n")
 
-if not steps:
+jobs, machines, sums = {}, {}, {}
+for line in sys.stdin.buffer:
+    found = LINE.fullmatch(line)
+    if not found:
+        sys.exit(f"no line of show_instance.py: {line[:60]!r}")
+    job, release, machine, time = (int(number or 0) for number in found.groups())
+    _, route = jobs.setdefault(job, (release, []))
+    if found[4]:
+        route.append((machine, time))
+if not jobs:
     sys.exit("no instance was given")
-waits = {}
-for job, route in steps.items():
-    times = [time for _, time in route]
-    for step, (machine, time) in enumerate(route):
-        head = releases.get(job, 0) + sum(times[:step])
-        waits.setdefault(machine, []).append((head, time, sum(times[step + 1 :])))
-floors = []
-for machine, operations in sorted(waits.items()):
-    heads, times, tails = zip(*operations)
-    floors.append(min(heads) + sum(times) + min(tails))
-    print(f"machine {machine}: {min(heads)} + {sum(times)} + {min(tails)} = {floors[-1]}")
-for job, route in steps.items():
+
+for head, route in jobs.values():
+    tail = sum(time for _, time in route)
+    for machine, time in route:
+        tail -= time
+        machines.setdefault(machine, []).append((head, time, tail))
+        head += time
+for machine, steps in sorted(machines.items()):
+    heads, times, tails = zip(*steps)
+    sums[f"machine {machine}"] = [min(heads), sum(times), min(tails)]
+for job, (release, route) in jobs.items():
     if route:
-        release, time = releases.get(job, 0), sum(time for _, time in route)
-        floors.append(release + time)
-        print(f"job {job}: {release} + {time} = {floors[-1]}")
-print("floor", max(floors, default=0))
+        sums[f"job {job}"] = [release, sum(time for _, time in route)]
+for title, parts in sums.items():
+    print(f"{title}: {' + '.join(map(str, parts))} = {sum(parts)}")
+print("floor", max(map(sum, sums.values()), default=0))

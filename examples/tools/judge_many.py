@@ -1,9 +1,9 @@
-"""A heuristic in a script: makes many schedules of an instance at random, and has each judged by the library.
+"""A heuristic in a script: makes schedules of an instance at random, and has each judged by the library.
 
     python3 judge_many.py TEXT COUNT
 
-TEXT is in the format `orlib`, with one instance. Prints how many schedules are feasible and the best makespan; the time
-goes to standard error.
+TEXT is in the format `orlib`; its first instance is taken. Prints how many of COUNT schedules are feasible and the best
+makespan; the time goes to standard error.
 """
 
 import random
@@ -11,17 +11,16 @@ import sys
 import time
 from pathlib import Path
 
-sys.path.insert(0, str(Path(__file__).resolve().parents[2] / "library"))
-import jobshop
+from texts import instance
 
 
-def schedule_of(routes, numbers):
+def schedule_of(jobs, numbers):
     """Steps one by one in a random order of jobs, each as early as its job and its machine are free."""
-    order = [job for job, route in enumerate(routes) for _ in route]
+    order = [job for job, (_, route) in enumerate(jobs) for _ in route]
     numbers.shuffle(order)
-    ready, free, starts = [0] * len(routes), {}, [[] for _ in routes]
+    ready, free, starts = [release for release, _ in jobs], {}, [[] for _ in jobs]
     for job in order:
-        machine, duration = routes[job][len(starts[job])]
+        machine, duration = jobs[job][1][len(starts[job])]
         start = max(ready[job], free.get(machine, 0))
         starts[job].append(start)
         ready[job] = free[machine] = start + duration
@@ -30,13 +29,21 @@ def schedule_of(routes, numbers):
 
 if len(sys.argv) != 3:
     sys.exit(__doc__)
-text = Path(sys.argv[1]).read_text()
-rows = [line.split() for line in text.splitlines() if line[:1].isdigit()]
-routes = [[(int(m), int(t)) for m, t in zip(row[::2], row[1::2])] for row in rows[1:]]
-numbers = random.Random(1)
-schedules = [schedule_of(routes, numbers) for _ in range(int(sys.argv[2]))]
-begin = time.perf_counter()
-verdicts = [jobshop.check(text, schedule) for schedule in schedules]
-seconds = time.perf_counter() - begin
-print(sum(verdict.is_feasible for verdict in verdicts), "feasible, the best ends at", min(v.makespan for v in verdicts))
+path, count = sys.argv[1:]
+if not count.isdecimal() or int(count) == 0:
+    sys.exit(f"COUNT is {count!r} and not a number from 1 on")
+try:
+    sys.path.insert(0, str(Path(__file__).resolve().parents[2] / "library"))
+    import jobshop
+
+    text, numbers = Path(path).read_bytes(), random.Random(1)
+    jobs = instance("orlib", text)
+    schedules = [schedule_of(jobs, numbers) for _ in range(int(count))]
+    begin = time.perf_counter()
+    verdicts = [jobshop.check(text, schedule) for schedule in schedules]
+    seconds = time.perf_counter() - begin
+except (ImportError, OSError, ValueError) as fault:
+    sys.exit(str(fault))
+ends = [verdict.makespan for verdict in verdicts if verdict.is_feasible]
+print(len(ends), "feasible, the best ends at", min(ends, default="no time"))
 print(f"{1e6 * seconds / len(verdicts):.0f} millionths of a second each", file=sys.stderr)

@@ -1,96 +1,116 @@
 """From a spreadsheet to an instance, and from a report back to a list.
 
-    python3 spreadsheet.py routes JOBS.csv           the instance, in the format `routes`
-    python3 spreadsheet.py list JOBS.csv REPORT      each step of the report's schedule, as CSV
+    python3 spreadsheet.py routes SHEET.csv          the instance, in the format `routes`
+    python3 spreadsheet.py names SHEET.csv           the names of its machines and jobs, beside their numbers
+    python3 spreadsheet.py list SHEET.csv REPORT     each step of the report's schedule, as CSV
 
-JOBS.csv, in UTF-8, has a row for each step, in the order of the steps: job, machine, hours, and in the first row of a
-job its release, the hour before which it can't begin, or nothing. The program knows whole numbers alone: here one unit
-is half an hour. Jobs and machines are numbered as they come; their names stay in JOBS.csv, which `list` reads again.
-Fields may be parted by semicolons too, and hours may then have a comma.
+The sheet is UTF-8, with commas or semicolons between fields. Below a line with the names of its columns it has a row
+for each step, the steps of a job in order: job, machine, hours, and in the first row of a job its release (the hour
+before which it can't begin) or nothing. Hours are written 2, 1.5, 1,25 or 1:30. The program knows whole numbers alone:
+here a unit is half an hour. Jobs and machines are numbered as they come.
 """
 
 import csv
+import re
 import sys
 from fractions import Fraction
+from pathlib import Path
+
+from texts import lines_of, value
 
 UNITS_AN_HOUR = 2
+COLUMNS = ("job", "machine", "hours")
+# three digits behind a mark might be meant as thousands
+HOURS = re.compile(r"([0-9]{1,9})(?:[.,]([0-9]{1,2})|:([0-5][0-9]))?")
 
 
-def units(row, column):
-    """The hours in a column of a row, as a number of units."""
-    hours = row.get(column) or "0"
-    try:
-        count = Fraction(hours.replace(",", ".")) * UNITS_AN_HOUR
-    except (ValueError, ZeroDivisionError):
-        sys.exit(f"line {row['line']}: {column} is {hours!r} and not a number")
+def units(hours):
+    """The units in a number of hours; an empty field is 0."""
+    found = HOURS.fullmatch(hours or "0")
+    if not found:
+        raise ValueError(f"{hours!r} is no number of hours: write 1000, 1.5, 1,25 or 1:30")
+    whole, part, minutes = found.groups(default="0")
+    count = (Fraction(f"{whole}.{part}") + Fraction(int(minutes), 60)) * UNITS_AN_HOUR
     if count.denominator != 1:
-        sys.exit(f"line {row['line']}: {hours} hours are no whole number of units: raise UNITS_AN_HOUR")
-    if count < 0:
-        sys.exit(f"line {row['line']}: {column} is below 0")
+        needed = UNITS_AN_HOUR * count.denominator
+        raise ValueError(f"{hours} hours are no whole number of units: set UNITS_AN_HOUR = {needed} in spreadsheet.py")
     return count.numerator
 
 
-def rows_of(path):
-    """The rows of a sheet but for blank ones, each with its line."""
-    with open(path, newline="", encoding="utf-8-sig") as file:
-        first = file.readline()
-        mark = ";" if ";" in first else ","
-        names = [name.strip() for name in first.split(mark)]
-        reader = csv.reader(file, delimiter=mark)
-        rows = [dict(zip(names, map(str.strip, row)), line=reader.line_num + 1) for row in reader if any(row)]
-    for column in ("job", "machine", "hours"):
-        if column not in names:
-            sys.exit(f"{path}: no column is named {column} in its first line")
-        for row in rows:
-            if not row.get(column):
-                sys.exit(f"line {row['line']}: {column} is empty")
-    return rows
+def fields_of(line, mark):
+    try:
+        [fields] = csv.reader([line], delimiter=mark, skipinitialspace=True, strict=True)
+    except csv.Error as fault:
+        raise ValueError(f"a quote is missing, or one too many ({fault})") from None
+    return [field.strip() for field in fields]
 
 
-def release_of(steps):
-    """The release of a job: that of its first row, which its other rows may repeat."""
-    for row in steps:
-        if row.get("release") and units(row, "release") != units(steps[0], "release"):
-            sys.exit(f"line {row['line']}: job {row['job']} has another release in its first row")
-    return units(steps[0], "release")
+def add_step(jobs, machines, row):
+    """Adds the step of a row to its job: a release, and the machine and the units of each step."""
+    for column in COLUMNS:
+        if not row.get(column):
+            raise ValueError(f"{column} is empty")
+    release = units(row.get("release"))
+    first, steps = jobs.setdefault(row["job"], (release, []))
+    if row.get("release") and release != first:
+        raise ValueError(f"job {row['job']} has another release in its first row")
+    steps.append((row["machine"], units(row["hours"])))
+    machines.setdefault(row["machine"], len(machines))
+
+
+def read(path):
+    """The jobs of a sheet by name, and the number of each machine."""
+    with open(path, encoding="utf-8-sig") as file:
+        lines = file.readlines() or [""]
+    mark, columns, jobs, machines = ";" if ";" in lines[0] else ",", [], {}, {}
+    for number, line in enumerate(lines, 1):
+        try:
+            fields = fields_of(line, mark)
+            if number == 1:
+                columns = fields
+                if missing := [column for column in COLUMNS if column not in columns]:
+                    raise ValueError(f"no column is named {missing[0]}")
+            elif len(fields) > len(columns):
+                raise ValueError("more fields than line 1 has")
+            elif any(fields):
+                add_step(jobs, machines, dict(zip(columns, fields)))
+        except ValueError as fault:
+            raise ValueError(f"line {number}: {fault}") from None
+    if not jobs:
+        raise ValueError("no row stands below the first line")
+    return jobs, machines
 
 
 def routes(jobs, machines):
     yield f"{len(jobs)} {len(machines)}"
-    for steps in jobs.values():
-        pairs = [f"{machines.index(row['machine'])} {units(row, 'hours')}" for row in steps]
-        yield " ".join([str(release_of(steps)), *pairs])
+    for release, steps in jobs.values():
+        yield " ".join([str(release), *(f"{machines[machine]} {time}" for machine, time in steps)])
 
 
-def in_hours(count):
-    return float(Fraction(count, UNITS_AN_HOUR))
+def names(jobs, machines):
+    yield from (f"machine {number}: {name}" for number, name in enumerate(machines))
+    yield from (f"job {number}: {name}" for number, name in enumerate(jobs))
 
 
 def listed(jobs, report):
-    with open(report) as file:
-        starts = [[int(start) for start in line.split()[2:]] for line in file if line.startswith("job ")]
-    if [len(row) for row in starts] != [len(steps) for steps in jobs.values()]:
-        sys.exit(f"{report}: no report on the jobs of this sheet")
+    starts = [list(map(value, line[2:])) for line in lines_of(report) if line[0] == b"job"]
+    if [len(row) for row in starts] != [len(steps) for _, steps in jobs.values()]:
+        raise ValueError("no report on the jobs of this sheet")
     yield ["job", "step", "machine", "start", "end"]
-    for (job, steps), row in zip(jobs.items(), starts):
-        for step, (of_step, start) in enumerate(zip(steps, row)):
-            yield [job, step, of_step["machine"], in_hours(start), in_hours(start + units(of_step, "hours"))]
+    for (job, (_, steps)), row in zip(jobs.items(), starts):
+        for step, ((machine, time), start) in enumerate(zip(steps, row)):
+            yield [job, step, machine, start / UNITS_AN_HOUR, (start + time) / UNITS_AN_HOUR]
 
 
-def main():
-    words = sys.argv[1:]
-    if [*words[:1], len(words)] not in [["routes", 2], ["list", 3]]:
-        sys.exit(__doc__)
-    try:
-        rows, jobs = rows_of(words[1]), {}
-        for row in rows:
-            jobs.setdefault(row["job"], []).append(row)
-        if words[0] == "routes":
-            print(*list(routes(jobs, list(dict.fromkeys(row["machine"] for row in rows)))), sep="\n")
-        else:
-            csv.writer(sys.stdout, lineterminator="\n").writerows(list(listed(jobs, words[2])))
-    except (OSError, ValueError) as fault:
-        sys.exit(f"{' '.join(words[1:])}: {fault}")
-
-
-main()
+words = sys.argv[1:]
+if [*words[:1], len(words)] not in [["routes", 2], ["names", 2], ["list", 3]]:
+    sys.exit(__doc__)
+try:
+    jobs, machines = read(words[1])
+    if words[0] == "list":
+        rows = list(listed(jobs, Path(words[2]).read_bytes()))
+        csv.writer(sys.stdout, lineterminator="\n").writerows(rows)
+    else:
+        print(*(routes if words[0] == "routes" else names)(jobs, machines), sep="\n")
+except (OSError, ValueError) as fault:
+    sys.exit(f"{' '.join(words[1:])}: {fault}")
