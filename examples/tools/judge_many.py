@@ -30,7 +30,7 @@ def schedule_of(jobs, numbers):
 if len(sys.argv) != 3:
     sys.exit(__doc__)
 path, count = sys.argv[1:]
-if not count.isdecimal() or int(count) == 0:
+if not count.strip("0").isdecimal():
     sys.exit(f"COUNT is {count!r} and not a number from 1 on")
 try:
     sys.path.insert(0, str(Path(__file__).resolve().parents[2] / "library"))

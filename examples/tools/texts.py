@@ -17,7 +17,7 @@ def lines_of(text):
 
 
 def value(token):
-    """The value of a number, which may begin with zeros. Behind them, 16 digits are over every limit."""
+    """The value of a number, which may begin with zeros. Of more than 16 digits behind them it is over every limit."""
     digits = token.lstrip(b"0") or b"0"
     if not token.isdigit() or len(digits) > 16:
         raise ValueError(f"{token[:40]!r} is no number, or over every limit")
