@@ -1,8 +1,6 @@
-// Tests of the program and the checker over memory: worked instances with their reports, lists, verdicts, refusals.
+// Tests of the program over memory: worked instances with their reports, lists, verdicts, refusals.
 #![tactic(auto)]
 
-#[cfg(test)]
-mod checker;
 #[cfg(test)]
 mod checks;
 #[cfg(test)]

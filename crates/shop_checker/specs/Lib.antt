@@ -1,3 +1,2 @@
 pub mod Statuses
-pub mod Running
-pub mod Checker
+pub mod Commands

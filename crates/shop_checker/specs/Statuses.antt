@@ -1,5 +1,5 @@
--- Exit statuses: 0 done, 1 an infeasible schedule, 2 a faulty command line, a call for help or a
--- checker that is asked to solve, 3 a text that is refused, 4 a device that failed, 5 want of memory.
+-- Exit statuses: 0 done, 1 an infeasible schedule, 2 a faulty command line or a call for help, 3 a
+-- text that is refused, 4 a device that failed, 5 want of memory.
 use Rattle.std.specs.Prelude.{ℕ, Bool, true, false}
 use Rattle.shop_text.specs.declared.faults.ReadFault.TheVariants as read
 use Rattle.shop_verdicts.specs.declared.faults.Fault.{Fault}

@@ -1,13 +1,11 @@
-// The checker, a program that lists and checks, over its words and its streams: it runs an engine on files or on the
-// source that it is given, and ends with a status. Nothing of it knows of a search.
+// What `list` and `check` do on files or on the source that they are given, what is said of faults, and exit statuses.
+// Nothing of it knows of a search.
 #![tactic(auto)]
 
-mod entry_points;
-mod running;
+mod checking_runs;
 mod saying;
 mod statuses;
 
-pub use entry_points::{checker, start_checker, words_of};
-pub use running::{open_given, run_check, run_checks, run_list};
-pub use saying::{say_fault, say_line_fault};
+pub use checking_runs::{open_given, run_check, run_list};
+pub use saying::{say_fault, say_line_fault, say_no_memory, say_no_text};
 pub use statuses::{COMMAND_LINE, DONE, FAILED, INFEASIBLE, NO_MEMORY, REFUSED};

@@ -54,17 +54,6 @@ pub fn say_no_text<K: Sink>(err: &mut K) -> u8
     COMMAND_LINE
 }
 
-/// Says that this program doesn't solve. The exit status.
-pub fn say_no_solver<K: Sink>(err: &mut K) -> u8
-    ensures { result ≡ 2 }
-{
-    say(
-        err,
-        "error: this program lists and checks, and doesn't solve\n",
-    );
-    COMMAND_LINE
-}
-
 /// Says clap's text of a fault of the command line, or that memory ran out. The exit status.
 pub fn say_line_fault<K: Sink>(err: &mut K, fault: LineFault) -> u8
     ensures { result ≡ status_of_line fault }

@@ -11,7 +11,7 @@ pub const DONE: u8 = 0;
 /// The schedule is infeasible.
 pub const INFEASIBLE: u8 = 1;
 
-/// The command line is faulty, or asks for help, or asks the checker to solve.
+/// The command line is faulty, or asks for help.
 pub const COMMAND_LINE: u8 = 2;
 
 /// A text is refused.

@@ -2,9 +2,10 @@
 --     SolvesFrom                            what `solve` did to a source and a sink
 --     IsCommandRun args old new result      what the command line asks for was done, or ended by a
 --                                           fault
+--     IsLineRefused words old new status    the words are faulty or ask for help, or memory ran out
 --     IsEnd words old new status            the program ended on these words
 --     IsStart old new status                it ended on some words
-use Rattle.std.specs.Prelude.{◌≡◌, ℕ, List, Result, Ok, Err}
+use Rattle.std.specs.Prelude.{◌≡◌, ℕ, ◌⊎◌, List, Result, Ok, Err}
 use Rattle.clap.specs.Words.{Text}
 use Rattle.shop_args.specs.declared.SolveArgs.{SolveArgs}
 use Rattle.shop_verdicts.specs.declared.faults.Fault.{Fault}
@@ -12,9 +13,11 @@ use Rattle.shop_verdicts.specs.Devices.{Device}
 use Rattle.shop_verdicts.specs.Asking.{name_in}
 use Rattle.shop_engine.specs.Headline.{IsRightOf, IsDeterminedOf, WhereKnown}
 use Rattle.shop_engine.specs.Solving.{IsSolving}
+use Rattle.shop_line.specs.CommandLine.{IsLineOf, IsUnread}
+use Rattle.shop_line.specs.declared.arguments.Args.{Args}
 use Rattle.shop_line.specs.declared.arguments.Args.TheVariants.{List as ListNames, Check, Solve}
-use Rattle.shop_checker.specs.Running.{Streams, Running, IsRunOn, ListsFrom, ChecksFrom}
-use Rattle.shop_checker.specs.Running.{IsEndBy, IsStartBy}
+use Rattle.shop_checker.specs.Statuses.{status_of}
+use Rattle.shop_checker.specs.Commands.{Streams, IsRunOn, ListsFrom, ChecksFrom}
 
 pub record HasSolved (args : SolveArgs) (sink sink' : Device) (result : Result (Unit {0}) Fault)
     (source source' : Device) : Type 0 where
@@ -32,7 +35,7 @@ SolvesFrom args sink sink' (Err fault) source source' =
 
 -- ---- the program
 
-abbrev pub IsCommandRun : Running
+abbrev pub IsCommandRun : Args → Streams → Streams → Result ℕ Fault → Type 0
 IsCommandRun (ListNames args file) old new result =
     IsRunOn file old new result (ListsFrom args old.sink new.sink result)
 IsCommandRun (Check args file schedule) old new result =
@@ -40,8 +43,37 @@ IsCommandRun (Check args file schedule) old new result =
 IsCommandRun (Solve args workers file) old new result =
     IsRunOn file old new result (SolvesFrom args old.sink new.sink result)
 
+-- the status of a run
+abbrev pub status_of_run : Result ℕ Fault → ℕ
+status_of_run (Ok status) = status
+status_of_run (Err fault) = status_of fault
+
+-- The words of the command line are faulty or ask for help (2), or memory ran out (5): nothing was
+-- read or written.
+pub record IsLineRefused (words : List Text) (old new : Streams) (status : ℕ) : Type 0 where
+  pub said : ((status ≡ 2) × IsUnread words) ⊎ (status ≡ 5)
+  pub same : new ≡ old
+
+-- what the words ask for was done, with this status
+pub record IsDone (words : List Text) (old new : Streams) (status : ℕ) : Type 0 where
+  pub args : Args
+  pub asked : IsLineOf words args
+  pub result : Result ℕ Fault
+  pub run : IsCommandRun args old new result
+  pub is_status : status ≡ status_of_run result
+
 abbrev pub IsEnd : List Text → Streams → Streams → ℕ → Type 0
-IsEnd = IsEndBy IsCommandRun
+IsEnd words old new status = IsLineRefused words old new status ⊎ IsDone words old new status
+
+-- why there are no words: they aren't text (2), or memory ran out (5)
+abbrev pub IsNoWords : ℕ → Type 0
+IsNoWords status = (status ≡ 2) ⊎ (status ≡ 5)
+
+-- there were none: nothing was read or written
+pub record IsWordless (old new : Streams) (status : ℕ) : Type 0 where
+  pub said : IsNoWords status
+  pub same : new ≡ old
 
 abbrev pub IsStart : Streams → Streams → ℕ → Type 0
-IsStart = IsStartBy IsCommandRun
+IsStart old new status =
+    IsWordless old new status ⊎ ((words : List Text) × IsEnd words old new status)

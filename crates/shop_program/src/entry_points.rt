@@ -1,14 +1,32 @@
 // Entry points: the program over its words and its streams.
-ghost use Rattle.std.specs.Prelude.{map, string_bytes};
-ghost use Rattle.shop_checker.specs.Running.{Streams};
-ghost use Rattle.shop_program.specs.Running.{IsEnd, IsStart};
+ghost use Rattle.std.specs.Prelude.{map, string_bytes, IfErr};
+ghost use Rattle.shop_checker.specs.Commands.{Streams};
+ghost use Rattle.shop_program.specs.Running.{IsNoWords, IsEnd, IsStart};
 
 use crate::running::run_args;
-use shop_checker::{say_fault, say_line_fault, words_of};
+use shop_checker::{say_fault, say_line_fault, say_no_memory, say_no_text};
 use shop_crews::Crews;
 use shop_engine::{Sink, Source};
 use shop_line::args_of;
+use std::env::args;
+use std::io::ErrorKind;
 use std::rt::{Env, Files};
+
+/// The words of the process, the program's name first. Where there are none, `err` is told why, and the exit status is 2
+/// (a word isn't UTF-8) or 5 (memory ran out).
+fn words_of<R: Env + AllocGlobal, E: Sink>(rt: &R, err: &mut E) -> Result<Vec<String>, u8>
+    ensures { IfErr result IsNoWords }
+{
+    let words = match args(rt) {
+        Ok(words) => words,
+        Err(fault) if fault.kind() == ErrorKind::OutOfMemory => return Err(say_no_memory(err)),
+        Err(_) => return Err(say_no_text(err)),
+    };
+    match words.collect::<Vec<String>>(rt.alloc()) {
+        Ok(words) => Ok(words),
+        Err(_) => Err(say_no_memory(err)),
+    }
+}
 
 /// Runs the program on the words of a command line, the program's name first: it reads files or the source, writes to
 /// `out`, and says faults on `err`; `crews` makes who searches, by the number of workers that is asked for. The exit

@@ -1,5 +1,5 @@
 // Runs of the commands, on files or on the source that they are given.
-ghost use Rattle.shop_checker.specs.Running.{Streams, IsRunOn};
+ghost use Rattle.shop_checker.specs.Commands.{Streams, IsRunOn};
 ghost use Rattle.shop_program.specs.Running.{IsCommandRun, HasSolved, SolvesFrom};
 
 use shop_checker::{DONE, open_given, run_check, run_list};

@@ -1,19 +1,12 @@
--- What `list` and `check` do to standard input and output, and how a program ends, whatever its
--- commands do.
+-- What `list` and `check` do to standard input and output.
 --     Streams                               standard input and output
 --     IsRunOn file old new result Runs      a command was run on the text of FILE
 --     ListsFrom, ChecksFrom                 what a command did to a source and a sink, with its
 --                                           status
---     status_of_run result                  the status of a run
---     IsLineRefused words old new status    the words are faulty or ask for help, or memory ran out
---     IsEndBy Runs words old new status     a program ended on these words, of which RUNS says what
---                                           was done
---     IsStartBy Runs old new status         it ended on some words
-use Rattle.std.specs.Prelude.{◌≡◌, ℕ, ◌⊎◌, Bool, true, List, Option, Some, None, is_some}
+use Rattle.std.specs.Prelude.{◌≡◌, ℕ, ◌⊎◌, Bool, true, Option, Some, None, is_some}
 use Rattle.std.specs.Prelude.{Result, Ok, Err}
 use Rattle.std.specs.declared.string.String.{String}
 use Rattle.std.specs.declared.alloc.Global.{Global}
-use Rattle.clap.specs.Words.{Text}
 use Rattle.shop_args.specs.declared.ListArgs.{ListArgs}
 use Rattle.shop_args.specs.declared.CheckArgs.{CheckArgs}
 use Rattle.shop_verdicts.specs.declared.faults.Fault.{Fault}
@@ -21,9 +14,7 @@ use Rattle.shop_verdicts.specs.declared.faults.Fault.TheVariants.{ReadFailed}
 use Rattle.shop_verdicts.specs.Devices.{Device}
 use Rattle.shop_verdicts.specs.Listing.{IsListing}
 use Rattle.shop_verdicts.specs.Checking.{IsChecking}
-use Rattle.shop_line.specs.CommandLine.{IsLineOf, IsUnread}
-use Rattle.shop_line.specs.declared.arguments.Args.{Args}
-use Rattle.shop_checker.specs.Statuses.{status_of, status_of_verdict}
+use Rattle.shop_checker.specs.Statuses.{status_of_verdict}
 
 -- standard input and standard output
 pub record Streams : Type 0 where
@@ -73,46 +64,3 @@ ChecksFrom args schedule sink sink' (Ok status) source source' = (feasible : Boo
 ChecksFrom args schedule sink sink' (Err fault) source source' =
     ((is_some schedule ≡ true) × (fault ≡ ReadFailed) × (source' ≡ source) × (sink' ≡ sink))
     ⊎ HasChecked args schedule sink sink' (Err fault) source source'
-
--- ---- how a program ends
-
--- the status of a run
-abbrev pub status_of_run : Result ℕ Fault → ℕ
-status_of_run (Ok status) = status
-status_of_run (Err fault) = status_of fault
-
--- The words of the command line are faulty or ask for help (2), or memory ran out (5): nothing was
--- read or written.
-pub record IsLineRefused (words : List Text) (old new : Streams) (status : ℕ) : Type 0 where
-  pub said : ((status ≡ 2) × IsUnread words) ⊎ (status ≡ 5)
-  pub same : new ≡ old
-
--- what is done of arguments
-abbrev pub Running : Type 1
-Running = Args → Streams → Streams → Result ℕ Fault → Type 0
-
--- what the words ask for was done, with this status
-pub record IsDoneBy (Runs : Running) (words : List Text) (old new : Streams) (status : ℕ)
-    : Type 0 where
-  pub args : Args
-  pub asked : IsLineOf words args
-  pub result : Result ℕ Fault
-  pub run : Runs args old new result
-  pub is_status : status ≡ status_of_run result
-
-abbrev pub IsEndBy : Running → List Text → Streams → Streams → ℕ → Type 0
-IsEndBy Runs words old new status =
-    IsLineRefused words old new status ⊎ IsDoneBy Runs words old new status
-
--- why there are no words: they aren't text (2), or memory ran out (5)
-abbrev pub IsNoWords : ℕ → Type 0
-IsNoWords status = (status ≡ 2) ⊎ (status ≡ 5)
-
--- there were none: nothing was read or written
-pub record IsWordless (old new : Streams) (status : ℕ) : Type 0 where
-  pub said : IsNoWords status
-  pub same : new ≡ old
-
-abbrev pub IsStartBy : Running → Streams → Streams → ℕ → Type 0
-IsStartBy Runs old new status =
-    IsWordless old new status ⊎ ((words : List Text) × IsEndBy Runs words old new status)

@@ -1,12 +1,9 @@
 // Runs of `list` and `check`, on files or on the source that they are given.
 ghost use Rattle.std.specs.Prelude.{◌≡◌, true, IfOk, IfErr, is_some};
 ghost use Rattle.shop_verdicts.specs.declared.faults.Fault.TheVariants.{ReadFailed};
-ghost use Rattle.shop_checker.specs.Running.{Streams, IsRunOn, ListsFrom, ChecksFrom};
-ghost use Rattle.shop_checker.specs.Checker.{IsCheckerRun};
+ghost use Rattle.shop_checker.specs.Commands.{Streams, IsRunOn, ListsFrom, ChecksFrom};
 
-use crate::saying::say_no_solver;
 use crate::statuses::{DONE, status_of_check};
-use shop_line::Args;
 use shop_verdicts::{CheckArgs, Fault, ListArgs, Reading, Sink, Source, check_text, list_text};
 use std::alloc::Global;
 use std::fs::File;
@@ -96,29 +93,5 @@ pub fn run_check<R: Files + AllocGlobal, S: Source, K: Sink>(
     match open_given(rt, file)? {
         Some(mut first) => check_from(rt, args, schedule, &mut first, out),
         None => check_from(rt, args, schedule, source, out),
-    }
-}
-
-/// Runs what a command line asks for, if that is to list or to check; else it says on `err` that it doesn't solve. The
-/// exit status: 1 where `check` finds the schedule infeasible, 2 where nothing is done, else 0; or why it was refused.
-pub fn run_checks<R: Files + AllocGlobal, S: Source, K: Sink, E: Sink>(
-    rt: &R,
-    args: &Args,
-    source: &mut S,
-    out: &mut K,
-    err: &mut E,
-) -> Result<u8, Fault>
-    ensures { IsCheckerRun args.now
-        (record { source = S.device source.old; sink = K.device out.old })
-        (record { source = S.device source.new; sink = K.device out.new }) result }
-{
-    match args {
-        Args::List { args, file } => run_list(rt, args, file, source, out),
-        Args::Check {
-            args,
-            file,
-            schedule,
-        } => run_check(rt, args, file, schedule, source, out),
-        Args::Solve { .. } => Ok(say_no_solver(err)),
     }
 }
