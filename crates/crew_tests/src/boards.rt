@@ -5,9 +5,8 @@ ghost use Rattle.shop_board.specs.Hits.{hits_of_round, is_hit_in};
 ghost use Rattle.shop_board.specs.Seats.{hits_of, IsSeatOf};
 ghost use Rattle.crew_tests.specs.inner.Served.{HasServedOf};
 
-use crate::crews::{Became, assert_became};
-use crate::numbers::{assert_count, assert_number};
-use crate::worked_rounds::{RoundTest, in_third_round};
+use crate::rounds::{RoundTest, in_third_round};
+use crate::telling::{assert_entries, assert_number};
 use shop_board::{Board, OpenGate, Seat, has_all, work};
 use shop_round::{Round, search_piece};
 use std::alloc::{AllocError, Global};
@@ -20,11 +19,10 @@ fn assert_first_hits<'r>(rt: &impl Abort, alloc: Global, round: &'r Round<'r>)
     ensures pieces { length round.now.pieces.items ≡ 3 }
     ensures hit { is_hit_in (hits_of_round round.now) 0 ≡ true }
 {
-    assert_count(rt, round.pieces.len(), 3);
-    assert_number(rt, round.bound, 10);
+    assert_number(rt, round.pieces.len(), 3);
+    assert!(rt; round.bound == 10);
     let sheet = search_piece(alloc, round, 0).expect(rt, "memory");
-    assert_number(rt, sheet.makespan, 10);
-    assert_number(rt, sheet.taken, 1);
+    assert!(rt; sheet.makespan == 10);
 }
 
 struct TwoSeats;
@@ -35,19 +33,19 @@ impl<R: Abort> RoundTest<R> for TwoSeats {
     fn run<'r>(&self, rt: &R, alloc: Global, round: &'r Round<'r>) {
         assert_first_hits(rt, alloc, round);
         let (board, seat) = Board::open(alloc, round).expect(rt, "memory");
-        assert_count(rt, board.pieces(), 3);
+        assert_number(rt, board.pieces(), 3);
         let (mut a, mut b) = board.split(seat);
         let is_won = board.claim(&mut a, 0);
         let is_won_twice = board.claim(&mut b, 0);
         let are_others_won = board.claim(&mut b, 1) && board.claim(&mut a, 2);
         assert!(rt; is_won && !is_won_twice && are_others_won);
-        assert_count(rt, board.look(&mut b), 3);
+        assert_number(rt, board.look(&mut b), 3);
         board.mark(&mut a, 0);
-        assert_count(rt, board.look(&mut b), 0);
-        assert_count(rt, board.look(&mut b), 0);
+        assert_number(rt, board.look(&mut b), 0);
+        assert_number(rt, board.look(&mut b), 0);
         let seat = board.join(a, b);
         has_all(&seat);
-        assert_count(rt, board.close(seat), 0);
+        assert_number(rt, board.close(seat), 0);
     }
 }
 
@@ -68,12 +66,7 @@ impl<R: Abort> RoundTest<R> for Marked {
         assert!(rt; board.claim(&mut a, 0));
         board.mark(&mut a, 0);
         let (_b, entries) = work(alloc, &board, b, round, 1, &OpenGate);
-        assert_became(
-            rt,
-            alloc,
-            entries.expect(rt, "memory"),
-            &[Became::Passed(0), Became::Passed(0)],
-        );
+        assert_entries(rt, alloc, &entries.expect(rt, "memory"), "by 0, by 0, ");
     }
 }
 
@@ -135,12 +128,12 @@ impl<R: Abort + Threads + Sync> RoundTest<R> for Claims {
 
     fn run<'r>(&self, rt: &R, alloc: Global, round: &'r Round<'r>) {
         let (board, seat) = Board::open(alloc, round).expect(rt, "memory");
-        assert_count(rt, board.pieces(), 3);
+        assert_number(rt, board.pieces(), 3);
         let seats = three_seats(rt, alloc, &board, seat);
         let lists = claim_by_threads(rt, &board, seats).expect(rt, "memory");
-        assert_count(rt, winners(&lists, 0), 1);
-        assert_count(rt, winners(&lists, 1), 1);
-        assert_count(rt, winners(&lists, 2), 1);
+        assert_number(rt, winners(&lists, 0), 1);
+        assert_number(rt, winners(&lists, 1), 1);
+        assert_number(rt, winners(&lists, 2), 1);
     }
 }
 
@@ -223,9 +216,9 @@ impl<R: Abort + Threads + Sync> RoundTest<R> for ThreeSeats {
         let seats = three_seats(rt, alloc, &board, seat);
         let worked = work_by_threads(rt, alloc, &board, seats, round).expect(rt, "memory");
         let all = join_worked(rt, &board, worked);
-        assert_count(rt, all.won, board.pieces());
+        assert_number(rt, all.won, board.pieces());
         has_all(&all.seat);
-        assert_count(rt, board.close(all.seat), 0);
+        assert_number(rt, board.close(all.seat), 0);
     }
 }
 

@@ -1,13 +1,17 @@
-// Tests of both crews, of their gates and of the claim board.
+// Tests of rounds, of runs, of both crews and of the claim board.
 #![tactic(auto)]
 
 #[cfg(test)]
 mod boards;
 #[cfg(test)]
+mod closing;
+#[cfg(test)]
 mod crews;
 #[cfg(test)]
-mod gates;
+mod instances;
 #[cfg(test)]
-mod numbers;
+mod rounds;
 #[cfg(test)]
-mod worked_rounds;
+mod runs;
+#[cfg(test)]
+mod telling;

@@ -1,17 +1,17 @@
 // Command lines that are faulty.
 use crate::runs::{CROSSING, Ended, run};
 
-static FAULTS: [[&str; 3]; 10] = [
-    ["solve", "--workers", "0"],
-    ["solve", "--workers", "65"],
-    ["solve", "--rounds", "100001"],
-    ["solve", "--budget", "0"],
-    ["solve", "--piece", "1001"],
-    ["solve", "--order", "random"],
-    ["list", "--format", "lekin"],
-    ["list", "--name", "alpha"],
-    ["check", "--gantt", "file"],
-    ["draw", "file", "file"],
+static FAULTS: [&str; 10] = [
+    "solve --workers 0",
+    "solve --workers 65",
+    "solve --rounds 100001",
+    "solve --budget 0",
+    "solve --piece 1001",
+    "solve --order random",
+    "list --format lekin",
+    "list --name alpha",
+    "check --gantt file",
+    "draw file file",
 ];
 
 /// Whether a run ended with status 2, printed nothing and said why.
@@ -21,15 +21,15 @@ fn is_refused(ended: &Ended) -> bool {
 
 #[test]
 fn faults_of_the_command_line(rt: HostRuntime) {
-    for words in &FAULTS {
-        let ended = run(&rt, words.as_slice(), CROSSING);
-        assert!(&rt; is_refused(&ended), "{words:?}");
+    for line in &FAULTS {
+        let ended = run(&rt, line, CROSSING);
+        assert!(&rt; is_refused(&ended), "{line}");
     }
 }
 
 #[test]
 fn a_call_for_help(rt: HostRuntime) {
-    let ended = run(&rt, &["--help"], "");
+    let ended = run(&rt, "--help", "");
     let said = b"An exact solver of the job shop whose answers are proved\n";
     assert!(&rt; is_refused(&ended) && ended.err.bytes().starts_with(said));
 }

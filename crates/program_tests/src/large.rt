@@ -1,5 +1,5 @@
 // The classical instance of six jobs, and instances of many jobs.
-use crate::runs::{report_begins, reports, run};
+use crate::runs::{report_begins, reports};
 use std::alloc::Global;
 use std::fmt::Write;
 use std::process::Abort;
@@ -15,25 +15,23 @@ fn six_jobs_of_fisher_and_thompson(rt: HostRuntime) {
         "instance ft06\nsize 6 6\nmakespan 152\nbound 52\nstatus open\nopen 1\nrounds 0\nnodes 0\n\
         job 0: 0 1 4 10 17 20\njob 1: 10 18 26 36 46 56\njob 2: 23 60 64 72 81 82\njob 3: 82 87 92 97 100 108\n\
         job 4: 97 106 109 117 121 124\njob 5: 109 125 128 137 147 151\n";
-    reports(&rt, &["solve", "--rounds", "0"], FT06, start);
+    reports(&rt, "solve --rounds 0", FT06, start);
     let optimal = "instance ft06\nsize 6 6\nmakespan 55\nbound 55\nstatus optimal\nopen 0\n";
-    report_begins(&rt, &["solve"], FT06, optimal);
+    report_begins(&rt, "solve", FT06, optimal);
 }
 
 /// Jobs of one operation each, all of this time on machine 0.
-fn one_machine(rt: &impl Abort, alloc: Global, jobs: u64, time: u64) -> String {
-    let mut text = format!(in alloc; "{jobs} 1\n").expect(rt, "memory");
-    for _ in 0..jobs {
-        write!(text, "0 {time}\n").expect(rt, "memory");
-    }
-    text
+fn one_machine(rt: &impl Abort, alloc: Global, jobs: usize, time: u64) -> String {
+    let rows = format!(in alloc; "0 {time}\n").expect(rt, "memory");
+    let rows = rows.as_str().repeat(alloc, jobs).expect(rt, "memory");
+    format!(in alloc; "{jobs} 1\n{rows}").expect(rt, "memory")
 }
 
 /// The report on them up to its chart: they stand one behind the other.
 fn one_behind_the_other(
     rt: &impl Abort,
     alloc: Global,
-    jobs: u64,
+    jobs: usize,
     time: u64,
     makespan: u64,
 ) -> String {
@@ -60,20 +58,16 @@ fn two_hundred_jobs_on_one_machine(rt: HostRuntime) {
         "#".repeat(rt.alloc(), 49).expect(&rt, "memory")
     )
     .expect(&rt, "memory");
-    reports(&rt, &["solve", "--gantt"], text.as_str(), report.as_str());
+    reports(&rt, "solve --gantt", text.as_str(), report.as_str());
 }
 
 #[test]
 fn a_thousand_jobs_on_one_machine(rt: HostRuntime) {
     let text = one_machine(&rt, rt.alloc(), 1_000, 1_000_000_000);
-    let mut report = one_behind_the_other(&rt, rt.alloc(), 1_000, 1_000_000_000, 1_000_000_000_000);
-    assert!(&rt; report.ends_with("job 999: 999000000000\n"));
-    report
-        .push_str("unit 13888888889\nmachine 0 |")
-        .expect(&rt, "memory");
-    let words = ["solve", "--gantt"];
-    report_begins(&rt, words.as_slice(), text.as_str(), report.as_str());
-    let ended = run(&rt, words.as_slice(), text.as_str());
-    let bytes = ended.out.bytes();
-    assert!(&rt; bytes.len() == report.len() + 72 + 2 && bytes.ends_with(b"|\n".as_slice()));
+    let starts = one_behind_the_other(&rt, rt.alloc(), 1_000, 1_000_000_000, 1_000_000_000_000);
+    assert!(&rt; starts.ends_with("job 999: 999000000000\n"));
+    let report = format!(in rt.alloc(); "{starts}unit 13888888889\nmachine 0 |");
+    let report = report.expect(&rt, "memory");
+    let length = report_begins(&rt, "solve --gantt", text.as_str(), report.as_str());
+    assert!(&rt; length == report.len() + 72 + 2);
 }

@@ -1,4 +1,4 @@
-// Tests of the program over memory: worked instances with their reports, lists, verdicts, refusals.
+// Tests of texts, of the engines over devices that fail, and of the program over memory.
 #![tactic(auto)]
 
 #[cfg(test)]
@@ -6,9 +6,13 @@ mod checks;
 #[cfg(test)]
 mod command_lines;
 #[cfg(test)]
+mod cuts;
+#[cfg(test)]
+mod devices;
+#[cfg(test)]
 mod large;
 #[cfg(test)]
-mod lists;
+mod readers;
 #[cfg(test)]
 mod runs;
 #[cfg(test)]

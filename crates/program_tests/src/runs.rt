@@ -11,6 +11,25 @@ use std::thread::Threads;
 /// Two jobs that cross two machines.
 pub const CROSSING: &str = "2 2\n0 3 1 2\n1 2 0 4\n";
 
+/// The first bound is below the least makespan; a last step takes no time.
+pub const GAP: &str = "2 3\n0 5 1 3 2 0\n1 1 0 1 2 6\n";
+
+/// Two jobs with several steps of time 0.
+pub const ZEROS: &str = "2 3\n0 4 1 1 2 0\n1 0 2 5 0 0\n";
+
+/// Jobs with a release, and one without operations, in the format `routes`.
+pub const RELEASED: &str = "3 2\n0 0 3 1 2\n4 1 2 0 4\n7\n";
+
+/// The first instance in Taillard's form, with false bounds.
+pub const TAILLARD: &str =
+    "a heading in words\n2 2 11 22 6 6\nTimes\n3 2\n2 4\nMachines\n1 2\n2 1\n";
+
+/// Two instances with headers and prose, in lines that end with CR LF.
+pub const TWO_EXAMPLES: &str =
+    "Two small examples\r\n82\r\n+++++\r\n instance alpha\r\n +++++\r\n First, 2x2\r\n 2 2\r\n \
+    0 3 1 2\r\n 1 2 0 4\r\n +++++\r\n \
+    instance gap\r\n +++++\r\n Second, 2x3\r\n 2 3\r\n 0 5 1 3 2 0\r\n 1 1 0 1 2 6\r\n";
+
 /// What a run of the program left.
 #[derive(Drop)]
 pub struct Ended {
@@ -20,38 +39,29 @@ pub struct Ended {
 }
 
 /// The words of a command line, the program's name first.
-pub fn line_of<R: AllocGlobal + Abort>(rt: &R, words: &[&str]) -> Vec<String> {
+fn words_of<R: AllocGlobal + Abort>(rt: &R, line: &str) -> Vec<String> {
     let alloc = rt.alloc();
     let name = "jobshop".to_string(alloc).expect(rt, "memory");
-    let mut line = vec![in alloc; name].expect(rt, "memory");
-    for word in words {
+    let mut words = vec![in alloc; name].expect(rt, "memory");
+    for word in line.split_whitespace() {
         let word = word.to_string(alloc).expect(rt, "memory");
-        line.push(word).expect(rt, "memory");
+        words.push(word).expect(rt, "memory");
     }
-    line
+    words
 }
 
-/// A sink with room for what a run writes.
-pub fn sink<R: AllocGlobal + Abort>(rt: &R) -> Memory {
-    Memory::with_room(rt.alloc(), 65_536).expect(rt, "memory")
-}
-
-/// Runs the program on these words after its name.
-pub fn run<R: Files + Threads + Sync + AllocGlobal + Abort>(
-    rt: &R,
-    words: &[&str],
-    text: &str,
-) -> Ended
+/// Runs the program on a command line and a text.
+pub fn run<R: Files + Threads + Sync + AllocGlobal + Abort>(rt: &R, line: &str, text: &str) -> Ended
     requires { IsSync R.row }
 {
-    let line = line_of(rt, words);
+    let words = words_of(rt, line);
     let mut source = Reading::new(text.as_bytes());
-    let mut out = sink(rt);
-    let mut err = sink(rt);
+    let mut out = Memory::with_room(rt.alloc(), 65_536).expect(rt, "memory");
+    let mut err = Memory::with_room(rt.alloc(), 65_536).expect(rt, "memory");
     let status = program(
         rt,
         &ByWorkers,
-        line.as_slice(),
+        words.as_slice(),
         &mut source,
         &mut out,
         &mut err,
@@ -59,84 +69,50 @@ pub fn run<R: Files + Threads + Sync + AllocGlobal + Abort>(
     Ended { status, out, err }
 }
 
-/// The words of a command line behind the program's name, what stands on standard input, and what the program prints.
-pub type Report = (&'static [&'static str], &'static str, &'static str);
-
-/// Runs the program and sees that it prints this text, says nothing and ends with status 0.
-pub fn reports<R: Files + Threads + Sync + AllocGlobal + Abort>(
-    rt: &R,
-    words: &[&str],
-    text: &str,
-    wanted: &str,
-)
-    requires { IsSync R.row }
-{
-    prints(rt, words, text, wanted, 0);
-    if words.first() == Some(&"solve") {
-        is_judged_feasible(rt, words, text, wanted);
+/// The status of a run that says this.
+fn status_of(said: &str) -> u8 {
+    if said.starts_with("error ") {
+        3
+    } else if said.starts_with("infeasible: ") {
+        1
+    } else {
+        0
     }
 }
 
-/// Sees that the program prints each of these reports.
-pub fn reports_all<R: Files + Threads + Sync + AllocGlobal + Abort>(rt: &R, rows: &[Report])
-    requires { IsSync R.row }
-{
-    for (words, text, wanted) in rows {
-        reports(rt, words, text, wanted);
-    }
-}
-
-/// Sees what a run on these words and this text printed, what it said on standard error, and its status.
-pub fn ended_so(
-    rt: &impl Abort,
-    ended: &Ended,
-    words: &[&str],
-    text: &str,
-    out: &str,
-    err: &str,
-    status: u8,
-) {
+/// Asserts what a run said, faults on standard error and all else on standard output, and its status.
+fn assert_said(rt: &impl Abort, ended: &Ended, line: &str, said: &str) {
+    let status = status_of(said);
+    let (out, err) = if status < 2 { (said, "") } else { ("", said) };
     assert!(rt;
         ended.out.bytes() == out.as_bytes() && ended.err.bytes() == err.as_bytes(),
-        "{words:?}, {text}"
+        "{line}"
     );
-    assert_eq!(rt; ended.status, status);
+    assert_eq!(rt; ended.status, status, "{line}");
 }
 
-/// Runs the program, and sees what it says on standard error, that it prints nothing, and its status.
-pub fn refuses<R: Files + Threads + Sync + AllocGlobal + Abort>(
+/// Asserts what a run says.
+pub fn says<R: Files + Threads + Sync + AllocGlobal + Abort>(
     rt: &R,
-    words: &[&str],
+    line: &str,
     text: &str,
-    wanted: &str,
-    status: u8,
+    said: &str,
 )
     requires { IsSync R.row }
 {
-    let ended = run(rt, words, text);
-    ended_so(rt, &ended, words, text, "", wanted, status);
+    let ended = run(rt, line, text);
+    assert_said(rt, &ended, line, said);
 }
 
-/// Runs the program, and sees what it prints, that it says nothing, and its status.
-pub fn prints<R: Files + Threads + Sync + AllocGlobal + Abort>(
-    rt: &R,
-    words: &[&str],
-    text: &str,
-    wanted: &str,
-    status: u8,
-)
-    requires { IsSync R.row }
-{
-    let ended = run(rt, words, text);
-    ended_so(rt, &ended, words, text, wanted, "", status);
-}
-
-/// The words of a `check` in the same format of the same instance.
-fn check_words<'w, R: AllocGlobal + Abort>(rt: &R, words: &[&'w str]) -> Vec<&'w str> {
-    let mut check = vec![in rt.alloc(); "check"].expect(rt, "memory");
-    for pair in words.windows(2) {
-        if pair[0] == "--format" || pair[0] == "--name" {
-            check.extend_from_slice(pair).expect(rt, "memory");
+/// The `check` in the same format of the same instance as a `solve`.
+fn check_of<R: AllocGlobal + Abort>(rt: &R, solve: &str) -> String {
+    let mut check = "check".to_string(rt.alloc()).expect(rt, "memory");
+    let mut is_kept = false;
+    for word in solve.split_whitespace() {
+        if is_kept || word == "--format" || word == "--name" {
+            check.push_str(" ").expect(rt, "memory");
+            check.push_str(word).expect(rt, "memory");
+            is_kept = !is_kept;
         }
     }
     check
@@ -162,46 +138,55 @@ fn verdict_of<R: AllocGlobal + Abort>(rt: &R, report: &str) -> String {
     format!(in rt.alloc(); "feasible {}\n", makespan.unwrap_or("")).expect(rt, "memory")
 }
 
-/// Sees that `check` judges the schedule of a report behind its instance feasible, with the makespan of the report.
+/// Asserts that `check` judges the schedule of a report behind its instance feasible, with the makespan of the report.
 fn is_judged_feasible<R: Files + Threads + Sync + AllocGlobal + Abort>(
     rt: &R,
-    words: &[&str],
+    solve: &str,
     text: &str,
     report: &str,
 )
     requires { IsSync R.row }
 {
-    let check = check_words(rt, words);
+    let check = check_of(rt, solve);
     let schedule = with_schedule(rt, text, report);
     let verdict = verdict_of(rt, report);
-    prints(rt, check.as_slice(), schedule.as_str(), verdict.as_str(), 0);
+    says(rt, check.as_str(), schedule.as_str(), verdict.as_str());
+}
+
+/// Asserts the report of a `solve`, and that `check` judges its schedule feasible.
+pub fn reports<R: Files + Threads + Sync + AllocGlobal + Abort>(
+    rt: &R,
+    line: &str,
+    text: &str,
+    report: &str,
+)
+    requires { IsSync R.row }
+{
+    says(rt, line, text, report);
+    is_judged_feasible(rt, line, text, report);
 }
 
 /// The report of a run that succeeded, which begins so.
-fn report_of<R: AllocGlobal + Abort>(
-    rt: &R,
-    ended: &Ended,
-    words: &[&str],
-    wanted: &str,
-) -> String {
+fn report_of<R: AllocGlobal + Abort>(rt: &R, ended: &Ended, wanted: &str) -> String {
     assert!(rt;
         ended.out.bytes().starts_with(wanted.as_bytes()),
-        "{words:?}"
+        "{wanted}"
     );
     assert_eq!(rt; ended.status, 0);
     String::from_utf8_lossy(rt.alloc(), ended.out.bytes()).expect(rt, "memory")
 }
 
-/// Runs `solve`, sees that its report begins so, and that `check` judges its schedule feasible with its makespan.
+/// Asserts that the report of a `solve` begins so, and that `check` judges its schedule feasible. Returns its length.
 pub fn report_begins<R: Files + Threads + Sync + AllocGlobal + Abort>(
     rt: &R,
-    words: &[&str],
+    line: &str,
     text: &str,
     wanted: &str,
-)
+) -> usize
     requires { IsSync R.row }
 {
-    let ended = run(rt, words, text);
-    let report = report_of(rt, &ended, words, wanted);
-    is_judged_feasible(rt, words, text, report.as_str());
+    let ended = run(rt, line, text);
+    let report = report_of(rt, &ended, wanted);
+    is_judged_feasible(rt, line, text, report.as_str());
+    report.len()
 }

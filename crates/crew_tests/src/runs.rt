@@ -1,0 +1,89 @@
+// Answers by one thread alone, and by the workers of a crew behind a lock.
+use crate::instances::{CROSSING, GAP, ZEROS, instance_of};
+use crate::telling::{assert_told, told_of};
+use shop_board::{LockCrew, OpenGate};
+use shop_model::Instance;
+use shop_round::{Alone, Crew, Entry, Plan, Round, run, run_alone};
+use std::alloc::{AllocError, Global};
+use std::process::Abort;
+
+/// An instance, the rounds and the budget of a plan with pieces of one node, and the answer: makespan, bound, open
+/// nodes, rounds, nodes, and the schedule.
+type Run = (&'static str, u64, u64, &'static str);
+
+static RUNS: [Run; 10] = [
+    (CROSSING, 1, 100, "7 7 0 1 6 [0, 3] [0, 3]"),
+    (CROSSING, 0, 100, "11 7 1 0 0 [0, 3] [5, 7]"),
+    (CROSSING, 1, 5, "7 7 0 1 5 [0, 3] [0, 3]"),
+    (CROSSING, 1, 1, "11 7 1 1 1 [0, 3] [5, 7]"),
+    (ZEROS, 1, 100, "5 5 0 1 8 [0, 4, 5] [0, 0, 5]"),
+    (GAP, 1, 100, "10 10 0 1 8 [2, 7, 10] [0, 1, 2]"),
+    (GAP, 1, 3, "16 10 2 1 3 [0, 5, 8] [8, 9, 10]"),
+    (GAP, 2, 3, "16 10 3 2 9 [0, 5, 8] [8, 9, 10]"),
+    (GAP, 3, 3, "10 10 0 3 10 [2, 7, 10] [0, 1, 2]"),
+    (GAP, 1000, 3, "10 10 0 3 10 [2, 7, 10] [0, 1, 2]"),
+];
+
+fn assert_alone(rt: &impl Abort, alloc: Global, instance: &Instance, plan: &Plan, wanted: &str) {
+    let answer = run_alone(alloc, instance, plan).expect(rt, "memory");
+    assert_told(rt, "alone", told_of(rt, alloc, &answer).as_str(), wanted);
+}
+
+#[test]
+fn answers_by_one_thread(rt: HostRuntime) {
+    for (text, rounds, budget, wanted) in &RUNS {
+        let instance = instance_of(&rt, rt.alloc(), text);
+        let plan = Plan::new(*rounds, *budget, 1).expect(&rt, "a plan");
+        assert_alone(&rt, rt.alloc(), &instance, &plan, wanted);
+    }
+}
+
+fn assert_run<R: Abort, C: Crew<R>>(rt: &R, alloc: Global, row: &Run, crew: &mut C)
+    requires { C.ready }
+{
+    let (text, rounds, budget, wanted) = *row;
+    let instance = instance_of(rt, alloc, text);
+    let plan = Plan::new(rounds, budget, 1).expect(rt, "a plan");
+    let answer = run(rt, alloc, &instance, &plan, crew).expect(rt, "memory");
+    assert_told(rt, text, told_of(rt, alloc, &answer).as_str(), wanted);
+}
+
+#[test]
+fn answers_by_any_number_of_workers(rt: HostRuntime) {
+    for row in &RUNS {
+        for workers in [1, 2, 3, 64] {
+            let mut crew = LockCrew::new(workers, OpenGate).expect(&rt, "1 to 64 workers");
+            assert_run(&rt, rt.alloc(), row, &mut crew);
+        }
+    }
+}
+
+// A crew of a caller: it searches on the calling thread, and counts the rounds.
+#[derive(Drop)]
+struct Counting {
+    rounds: u64,
+}
+
+impl<R> Crew<R> for Counting {
+    ghost ready = { Unit {0} };
+
+    fn search<'r>(
+        &mut self,
+        _rt: &R,
+        alloc: Global,
+        round: &'r Round<'r>,
+    ) -> Result<Vec<Entry<'r>>, AllocError> {
+        self.rounds = self.rounds.saturating_add(1);
+        Alone.search_round(alloc, round)
+    }
+}
+
+// No search takes more than three rounds.
+#[test]
+fn each_round_is_searched_once(rt: HostRuntime) {
+    for row in &RUNS {
+        let mut crew = Counting { rounds: 0 };
+        assert_run(&rt, rt.alloc(), row, &mut crew);
+        assert!(rt; crew.rounds == row.1.min(3));
+    }
+}

@@ -1,5 +1,0 @@
-// Tests of desks.
-#![tactic(auto)]
-
-#[cfg(test)]
-mod desks;

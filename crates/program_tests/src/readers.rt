@@ -1,0 +1,231 @@
+// Instance texts read and refused, and the words of faults.
+use shop_engine::Fault;
+use shop_model::Op;
+use shop_text::{Format, Named, ReadFault, read_orlib, read_routes, read_taillard};
+use std::alloc::Global;
+use std::fmt::Write;
+use std::process::Abort;
+
+/// Adds a job: its release and its operations.
+fn tell_job(rt: &impl Abort, told: &mut String, release: u64, route: &[Op]) {
+    write!(told, " | {release}").expect(rt, "memory");
+    for op in route {
+        write!(told, " {}:{}", op.machine, op.time).expect(rt, "memory");
+    }
+}
+
+/// Adds NAME MACHINES, then each job.
+fn tell_named(rt: &impl Abort, told: &mut String, named: &Named) {
+    let instance = &named.instance;
+    write!(told, "[{} {}", named.name, instance.machines()).expect(rt, "memory");
+    for j in 0..instance.jobs() {
+        tell_job(rt, told, instance.release(j), instance.route(j));
+    }
+    told.push_str("]").expect(rt, "memory");
+}
+
+/// Each instance, or the fault.
+fn told_of(rt: &impl Abort, alloc: Global, answer: &Result<Vec<Named>, ReadFault>) -> String {
+    let mut told = String::new(alloc);
+    match answer {
+        Err(fault) => write!(told, "{fault:?}").expect(rt, "memory"),
+        Ok(all) => {
+            for named in all {
+                tell_named(rt, &mut told, named);
+            }
+        }
+    }
+    told
+}
+
+fn assert_told(rt: &impl Abort, told: &str, wanted: &str, bytes: usize) {
+    assert_eq!(rt; told, wanted, "a text of {bytes} bytes");
+}
+
+/// Asserts what is read of a text in this format.
+pub fn assert_read(rt: &impl Abort, alloc: Global, format: Format, text: &[u8], wanted: &str) {
+    let answer = match format {
+        Format::Orlib => read_orlib(alloc, text),
+        Format::Taillard => read_taillard(alloc, text),
+        Format::Routes => read_routes(alloc, text),
+    };
+    let told = told_of(rt, alloc, &answer);
+    assert_told(rt, told.as_str(), wanted, text.len());
+}
+
+/// Asserts what is read of each text in this format.
+fn assert_each_read(rt: &impl Abort, alloc: Global, format: Format, rows: &[(&[u8], &str)]) {
+    for (text, wanted) in rows {
+        assert_read(rt, alloc, format, text, wanted);
+    }
+}
+
+static ORLIB: [(&[u8], &str); 32] = [
+    (b"", "NoInstance"),
+    (b"words alone\n\n", "NoInstance"),
+    (b"2", "BadShape { line: 1 }"),
+    (b"2 2 2\n", "BadShape { line: 1 }"),
+    (b"201 2", "Truncated { line: 2 }"),
+    (b"1001 2", "BadSize { line: 1 }"),
+    (b"1 101", "BadSize { line: 1 }"),
+    (b"0 2", "BadSize { line: 1 }"),
+    (b"18446744073709551617 1\n", "BadSize { line: 1 }"),
+    (b"2 2\n0 3 1 2\n", "Truncated { line: 3 }"),
+    (b"2 2\n0 3 1 2\n\n \n", "Truncated { line: 5 }"),
+    (b"2 2\n0 3 9\n1 2 0 4\n", "BadRow { line: 2 }"),
+    (b"2 2\n0 3 1 -2\n1 2 0 4\n", "BadRow { line: 2 }"),
+    (
+        b"instance a\n2 2\n0 3 1 2\ninstance b\n1 2 0 4\n",
+        "BadRow { line: 4 }",
+    ),
+    (b"2 2\n0 3 2 2\n1 2 0 4\n", "BadMachine { line: 2 }"),
+    (b"2 2\n0 3 1 1000000001\n1 2 0 4\n", "BadTime { line: 2 }"),
+    (b"2 2\n0 1000000001 5 1\n1 2 0 4\n", "BadTime { line: 2 }"),
+    (b"2 2\n0 1000001 5 1\n1 2 0 4\n", "BadMachine { line: 2 }"),
+    (
+        b"2 2\n0 3 1 1000001\n1 2 0 4\n",
+        "[1 2 | 0 0:3 1:1000001 | 0 1:2 0:4]",
+    ),
+    (b"2 2\n0 3 1 2\n\n1 2 0 4", "[1 2 | 0 0:3 1:2 | 0 1:2 0:4]"),
+    (b"1 1\n0 18446744073709551616\n", "BadTime { line: 2 }"),
+    (b"1 1\n\x0b0 7\n", "BadRow { line: 2 }"),
+    (b"1 1\n0\x0c7\n", "BadRow { line: 2 }"),
+    (b"1 1\n\xff\x00\n0 7\n", "BadRow { line: 2 }"),
+    (b"\xff\x00\n1 1\n0 7\n", "[1 1 | 0 0:7]"),
+    (b"instance \xff\n1 1\n0 7\n", "[1 1 | 0 0:7]"),
+    (b"instance \x7f\n1 1\n0 7\n", "[1 1 | 0 0:7]"),
+    (b"INSTANCE x\n1 1\n0 7\n", "[1 1 | 0 0:7]"),
+    (b"instance a b\n1 1\n0 7\n", "[1 1 | 0 0:7]"),
+    (b"2 2\n0 3 1 2\ninstance b\n1 1\n0 4\n", "[b 1 | 0 0:4]"),
+    (
+        b"82\ninstance a\ninstance b\n1 1\n0 7\n1 1\n0 8\n",
+        "[b 1 | 0 0:7][2 1 | 0 0:8]",
+    ),
+    (
+        b"2 2\n0 3 1 2\n1 2 0 4\ninstance 1\nsize 2 2\n",
+        "NoInstance",
+    ),
+];
+
+static TAILLARDS: [(&[u8], &str); 10] = [
+    (b"2 2 1 2 3 4 5", "BadShape { line: 1 }"),
+    (b"2", "BadShape { line: 1 }"),
+    (b"2 2\nTimes\n3 2\nwords\n2 4\n", "BadRow { line: 4 }"),
+    (
+        b"1 2\nTimes\n3 2\nMachines\n0 1\n",
+        "BadMachine { line: 5 }",
+    ),
+    (
+        b"2 2 11 22 6 6\nTimes\n3 2\n2 4\nMachines\n1 3\n2 1\n",
+        "BadMachine { line: 6 }",
+    ),
+    (b"1 1\n4\n", "Truncated { line: 3 }"),
+    (b"1 1 99999999999999999999999\n7\n1\n", "[1 1 | 0 0:7]"),
+    (
+        b"1 1\n7\n1\ninstance 1\nsize 1 1\nmakespan 3\njob 0: 0\n",
+        "[1 1 | 0 0:7]",
+    ),
+    (
+        b"instance a\n1 1\n7\n1\nand\n1 1\n8\n1\n",
+        "[1 1 | 0 0:7][2 1 | 0 0:8]",
+    ),
+    (b"1 1\n0 7\n", "BadRow { line: 2 }"),
+];
+
+static ROUTES: [(&[u8], &str); 8] = [
+    (
+        b"3 2\n0 0 3 1 2\n4 1 2 0 4\n7\n",
+        "[1 2 | 0 0:3 1:2 | 4 1:2 0:4 | 7]",
+    ),
+    (b"2 1\n0\n5\n", "[1 1 | 0 | 5]"),
+    (b"1 1\n1000001\n", "[1 1 | 1000001]"),
+    (b"1 1\n0 0\n", "BadRow { line: 2 }"),
+    (b"1 1\n1000000001\n", "BadTime { line: 2 }"),
+    (b"1 1\n1000000001 1 0\n", "BadTime { line: 2 }"),
+    (b"1 1\n0 1 5\n", "BadMachine { line: 2 }"),
+    (b"1 1\n0 7\n", "BadRow { line: 2 }"),
+];
+
+#[test]
+fn texts_of_each_format(rt: HostRuntime) {
+    assert_each_read(&rt, rt.alloc(), Format::Orlib, &ORLIB);
+    assert_each_read(&rt, rt.alloc(), Format::Taillard, &TAILLARDS);
+    assert_each_read(&rt, rt.alloc(), Format::Routes, &ROUTES);
+}
+
+/// An instance of one operation, whose time is 9,999 of one digit and then another.
+fn assert_long(rt: &impl Abort, alloc: Global, digit: &str, last: &str, wanted: &str) {
+    let digits = digit.repeat(alloc, 9_999).expect(rt, "memory");
+    let text = format!(in alloc; "1 1\n0 {digits}{last}\n").expect(rt, "memory");
+    assert_read(rt, alloc, Format::Orlib, text.as_bytes(), wanted);
+}
+
+/// Asserts what is read of so many blanks.
+fn assert_blanks(rt: &impl Abort, alloc: Global, bytes: usize, wanted: &str) {
+    let text = vec![in alloc; b' '; bytes].expect(rt, "memory");
+    assert_read(rt, alloc, Format::Orlib, text.as_slice(), wanted);
+}
+
+#[test]
+fn long_numbers(rt: HostRuntime) {
+    assert_long(&rt, rt.alloc(), "0", "7", "[1 1 | 0 0:7]");
+    assert_long(&rt, rt.alloc(), "9", "9", "BadTime { line: 2 }");
+}
+
+#[test]
+fn texts_at_the_limit_of_bytes(rt: HostRuntime) {
+    assert_blanks(&rt, rt.alloc(), 16_777_216, "NoInstance");
+    assert_blanks(&rt, rt.alloc(), 16_777_217, "TooLong");
+}
+
+fn assert_said(rt: &impl Abort, alloc: Global, fault: &Fault, wanted: &str) {
+    let said = format!(in alloc; "{fault}").expect(rt, "memory");
+    assert_told(rt, said.as_str(), wanted, 0);
+}
+
+static FAULTS: [(Fault, &str); 13] = [
+    (Fault::Text(ReadFault::NoMemory), "error 1: out of memory"),
+    (Fault::Text(ReadFault::TooLong), "error 3: text too long"),
+    (Fault::Text(ReadFault::NoInstance), "error 4: no instance"),
+    (
+        Fault::Text(ReadFault::BadShape { line: 5 }),
+        "error 5: line 5: bad shape of size line",
+    ),
+    (
+        Fault::Text(ReadFault::BadSize { line: 6 }),
+        "error 6: line 6: size out of range",
+    ),
+    (
+        Fault::Text(ReadFault::BadRow { line: 7 }),
+        "error 7: line 7: bad row",
+    ),
+    (
+        Fault::Text(ReadFault::Truncated { line: 8 }),
+        "error 8: line 8: text ends inside an instance",
+    ),
+    (
+        Fault::Text(ReadFault::BadMachine { line: 9 }),
+        "error 9: line 9: no such machine",
+    ),
+    (
+        Fault::Text(ReadFault::BadTime { line: 10 }),
+        "error 10: line 10: time out of range",
+    ),
+    (
+        Fault::Text(ReadFault::NoSuchName),
+        "error 11: no instance of that name",
+    ),
+    (
+        Fault::Text(ReadFault::BadTable { line: 12 }),
+        "error 12: line 12: bad schedule",
+    ),
+    (Fault::ReadFailed, "error 13: read failed"),
+    (Fault::WriteFailed, "error 14: write failed"),
+];
+
+#[test]
+fn words_of_faults(rt: HostRuntime) {
+    for (fault, said) in &FAULTS {
+        assert_said(&rt, rt.alloc(), fault, said);
+    }
+}
