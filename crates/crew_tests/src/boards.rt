@@ -1,14 +1,16 @@
 // A board by hand: three pieces, of which the first ends at the opening bound.
 ghost use Rattle.std.specs.Prelude.{◌≡◌, All, IfOk, IfSome, length, true};
 ghost use Rattle.std.specs.Thread.{IsSync};
-ghost use Rattle.shop_board.specs.Hits.{hits_of_round, is_hit_in};
-ghost use Rattle.shop_board.specs.Seats.{hits_of, IsSeatOf};
+ghost use Rattle.shop_runs.specs.Hits.{hits_of_round, is_hit_in};
+ghost use Rattle.shop_workers.specs.Seats.{hits_of, IsSeatOf};
 ghost use Rattle.crew_tests.specs.inner.Served.{HasServedOf};
 
 use crate::rounds::{RoundTest, in_third_round};
 use crate::telling::{assert_entries, assert_number};
-use shop_board::{Board, OpenGate, Seat, has_all, work};
-use shop_round::{Round, search_piece};
+use shop_board::work;
+use shop_round::search_piece;
+use shop_runs::Round;
+use shop_workers::{Board, OpenGate, Seat, has_all};
 use std::alloc::{AllocError, Global};
 use std::process::Abort;
 use std::thread;

@@ -1,10 +1,11 @@
 // The third round gathered: entries behind a hit don't count.
-ghost use Rattle.shop_round.specs.Entries.{told};
-ghost use Rattle.shop_round.specs.Crews.{OneForEach};
+ghost use Rattle.shop_runs.specs.Entries.{told};
+ghost use Rattle.shop_runs.specs.Crews.{OneForEach};
 
 use crate::rounds::{RoundTest, in_third_round};
 use crate::telling::assert_entries;
-use shop_round::{Alone, Crew, Entry, Round, gather, search_piece};
+use shop_round::{Alone, search_piece};
+use shop_runs::{Crew, Entry, Round, gather};
 use std::alloc::Global;
 use std::process::Abort;
 

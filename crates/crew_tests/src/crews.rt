@@ -3,8 +3,9 @@ ghost use Rattle.std.specs.Thread.{IsSync};
 
 use crate::rounds::{RoundTest, in_second_round, in_third_round};
 use crate::telling::assert_entries;
-use shop_board::{BoardCrew, Gate, LockCrew, Seat, SeatGate};
-use shop_round::Round;
+use shop_board::{BoardCrew, LockCrew};
+use shop_runs::Round;
+use shop_workers::{Gate, Seat, SeatGate};
 use std::alloc::Global;
 use std::process::Abort;
 use std::sync::Wait;

@@ -1,12 +1,13 @@
 // Rounds cut and gathered one by one, each lent to a test.
 ghost use Rattle.std.specs.Prelude.{◌≡◌};
-ghost use Rattle.shop_round.specs.Standings.{IsStandingOf};
+ghost use Rattle.shop_runs.specs.Standings.{IsStandingOf};
 
 use crate::instances::{GAP, SHORT_JOBS, instance_of};
 use crate::telling::{assert_told, told_of_nodes};
 use shop_model::Instance;
 use shop_nodes::Piece;
-use shop_round::{Alone, Crew, Order, Plan, Round, Standing, gather};
+use shop_round::Alone;
+use shop_runs::{Crew, Order, Plan, Round, Standing, gather};
 use std::alloc::Global;
 use std::process::Abort;
 

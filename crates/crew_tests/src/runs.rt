@@ -1,9 +1,11 @@
 // Answers by one thread alone, and by the workers of a crew behind a lock.
 use crate::instances::{CROSSING, GAP, ZEROS, instance_of};
 use crate::telling::{assert_told, told_of};
-use shop_board::{LockCrew, OpenGate};
+use shop_board::LockCrew;
 use shop_model::Instance;
-use shop_round::{Alone, Crew, Entry, Plan, Round, run, run_alone};
+use shop_round::{Alone, run_alone};
+use shop_runs::{Crew, Entry, Plan, Round, run};
+use shop_workers::OpenGate;
 use std::alloc::{AllocError, Global};
 use std::process::Abort;
 

@@ -3,7 +3,7 @@ ghost use Rattle.std.specs.Prelude.{◌≡◌};
 
 use shop_model::Table;
 use shop_nodes::Node;
-use shop_round::{Answer, Entry, Kind};
+use shop_runs::{Answer, Entry, Kind};
 use std::alloc::Global;
 use std::fmt::Write;
 use std::process::Abort;

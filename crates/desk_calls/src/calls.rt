@@ -2,7 +2,7 @@
 ghost use Rattle.std.specs.Prelude.{◌≡◌, ◌↔◌, ◌++◌, ◌∷◌, [], IsTrue};
 ghost use Rattle.shop_model.specs.Word.{count_of, IsWord};
 
-use shop_bound::Desk;
+use shop_desk::Desk;
 use shop_model::Instance;
 use std::alloc::AllocError;
 use std::fmt::{self, Display, Formatter, Write};

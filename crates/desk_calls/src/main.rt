@@ -7,7 +7,7 @@ mod input;
 
 use calls::make_calls;
 use input::parts;
-use shop_bound::Desk;
+use shop_desk::Desk;
 use shop_text::read_routes;
 use std::io::Read;
 

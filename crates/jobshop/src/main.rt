@@ -1,9 +1,9 @@
 // The program `jobshop`: the words of the process, its standard streams and its status.
 #![tactic(auto)]
 
+use shop_board::ByWorkers;
 use shop_engine::{Reading, Writing};
 use shop_program::start;
-use shop_searchers::ByWorkers;
 use std::io;
 use std::process::ExitCode;
 

@@ -2,11 +2,12 @@
 use crate::checks::CHANGED;
 use crate::runs::CROSSING;
 use shop_engine::{
-    CheckArgs, Fault, Format, ListArgs, Memory, Reading, Sink, SolveArgs, Source, Writing,
-    check_text, list_text, solve_text,
+    CheckArgs, Fault, ListArgs, Memory, Reading, Sink, SolveArgs, Source, Writing, check_text,
+    list_text, solve_text,
 };
-use shop_round::{Alone, Plan};
-use shop_text::ReadFault;
+use shop_round::Alone;
+use shop_runs::Plan;
+use shop_text::{Format, ReadFault};
 use std::alloc::Global;
 use std::io;
 use std::io::{ErrorKind, Read, Write};

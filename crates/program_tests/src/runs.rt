@@ -1,9 +1,9 @@
 // Runs of the program over memory.
 ghost use Rattle.std.specs.Thread.{IsSync};
 
+use shop_board::ByWorkers;
 use shop_engine::{Memory, Reading};
 use shop_program::program;
-use shop_searchers::ByWorkers;
 use std::process::Abort;
 use std::rt::Files;
 use std::thread::Threads;

@@ -1,7 +1,7 @@
 // Heads and tails of operations, lower bounds of words, and the schedule of the start word.
 use crate::instances::{CROSSING, FT06, GAP, RELEASED, instance_of};
 use crate::words::{assert_told, tell_word, word_of};
-use shop_heads::{Heads, lower_bound, tails};
+use shop_bound::{Heads, lower_bound, tails};
 use shop_model::{Instance, Table, Verdict, Word, check, fits, is_full, place, start_word};
 use std::alloc::Global;
 use std::process::Abort;

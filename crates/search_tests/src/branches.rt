@@ -5,7 +5,7 @@ ghost use Rattle.shop_nodes.specs.Nodes.{IsNode};
 use crate::instances::{CROSSING, GAP, ZEROS, instance_of};
 use crate::words::{assert_told, tell_nodes, word_of};
 use shop_model::{Instance, fits, is_full};
-use shop_tree::{Node, children, conflict};
+use shop_nodes::{Node, children, conflict};
 use std::alloc::Global;
 use std::fmt::Write;
 use std::process::Abort;

@@ -1,11 +1,10 @@
 // Bounds of one machine, by thresholds and by Jackson's schedule.
 ghost use Rattle.std.specs.Prelude.{◌≡◌, sum_by, IsTrue, IfSome};
-ghost use Rattle.one_machine.specs.OneMachine.{greatest_of, IsSmall};
+ghost use Rattle.shop_bound.specs.OneMachine.{greatest_of, IsSmall};
 
 use crate::instances::{FT06, instance_of};
 use crate::words::word_of;
-use one_machine::{Jackson, Triple, one_machine};
-use shop_heads::{Heads, tails};
+use shop_bound::{Heads, Jackson, Triple, one_machine, tails};
 use shop_model::{Instance, Op, fits};
 use std::alloc::Global;
 use std::process::Abort;

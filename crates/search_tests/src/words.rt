@@ -1,6 +1,6 @@
 // Words whose jobs are digits, and what is told of words and nodes.
 use shop_model::Word;
-use shop_tree::Node;
+use shop_nodes::Node;
 use std::alloc::Global;
 use std::fmt::Write;
 use std::process::Abort;

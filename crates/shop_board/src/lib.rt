@@ -1,12 +1,13 @@
-// Crews whose workers share a round: they take its pieces from a pool behind a lock, or claim them on a board.
+// Crews whose workers share a round: on a board of atomic flags, or over a pool behind a lock.
 #![tactic(auto)]
 
+mod board_crews;
+mod board_search;
 mod lock_crews;
+mod worker_crews;
 
+pub use board_crews::BoardCrew;
+pub use board_search::work;
 pub use lock_crews::LockCrew;
-pub use shop_claims::SeatGate;
-pub use shop_plans::MAX_WORKERS;
-pub use shop_pool::{Gate, Pool};
-pub use shop_searchers::{BoardCrew, work};
-pub use shop_seats::{Board, Seat, has_all};
-pub use shop_workers::OpenGate;
+pub use shop_workers::{Board, Gate, OpenGate, Pool, Seat, SeatGate};
+pub use worker_crews::{ByWorkers, WorkerCrew};

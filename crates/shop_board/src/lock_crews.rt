@@ -1,16 +1,14 @@
 // A crew whose workers take numbers of pieces from one locked pool.
 ghost use Rattle.std.specs.Thread.{IsSync};
 ghost use Rattle.std.specs.Prelude.{◌≡◌, ◌<◌, ◌≤◌, ◌↔◌, IsSome, IfSome, IfOk};
-ghost use Rattle.shop_plans.specs.declared.plans.TheConstants.{MAX_WORKERS};
-ghost use Rattle.shop_crews.specs.Entries.{told};
-ghost use Rattle.shop_crews.specs.Crews.{OneForEach};
+ghost use Rattle.shop_runs.specs.declared.plans.TheConstants.{MAX_WORKERS};
+ghost use Rattle.shop_runs.specs.Entries.{told};
+ghost use Rattle.shop_runs.specs.Crews.{OneForEach};
 ghost use Rattle.shop_workers.specs.Entries.{OfRound};
 
-use shop_crews::{Crew, Entry, Round};
-use shop_plans::Workers;
-use shop_pool::{Gate, Pool, serve};
-use shop_searchers::PieceSearcher;
-use shop_workers::{OpenGate, in_order};
+use shop_round::PieceSearcher;
+use shop_runs::{Crew, Entry, Round, Workers};
+use shop_workers::{Gate, OpenGate, Pool, in_order, serve};
 use std::alloc::{AllocError, Global};
 use std::sync::{Mutex, Wait};
 use std::thread;

@@ -1,3 +1,7 @@
--- What only the inside of the crate is told by.
-pub mod Rings
-pub mod LaneRings
+pub mod NonincreasingTails
+pub mod Profiles
+pub mod Serving
+pub mod Thresholds
+pub mod HeadRows
+pub mod PlacedWords
+pub mod Unplaced

@@ -1,14 +1,25 @@
-// Heads, tails, one-machine bounds, lower bounds and the desk.
+// Heads and tails of the operations that a word leaves, the one-machine bound, the lower bound of a word, and their
+// laws.
 #![tactic(auto)]
 
-mod desks;
-mod laid_rings;
-mod lane_rings;
-mod rings;
+mod head_rows;
+mod laws;
+mod lower;
+mod profiles;
+mod schedules;
+mod tail_rows;
+mod thresholds;
+mod triples;
+mod unplaced;
 
-pub use desks::Desk;
-pub use one_machine::{Jackson, Triple, one_machine};
-pub use shop_heads::{
-    Heads, bounds_are_lower, bounds_never_fall, full_words_end_at_their_bound, lower_bound,
-    sums_stay_small, tails, what_waits_is_left,
+pub use head_rows::Heads;
+pub use laws::{
+    bounds_are_lower, bounds_never_fall, full_words_end_at_their_bound, sums_stay_small,
+    what_waits_is_left,
 };
+pub use lower::lower_bound;
+pub use profiles::bound_by_profile;
+pub use schedules::Jackson;
+pub use tail_rows::{tails, total_time};
+pub use thresholds::one_machine;
+pub use triples::Triple;

@@ -1,3 +1,2 @@
-pub use Rattle.shop_layout.specs.Layouts
-pub use Rattle.shop_states.specs.States
+pub mod Desks
 pub mod inner

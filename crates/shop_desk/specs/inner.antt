@@ -1,10 +1,3 @@
-pub mod Advances
-pub mod Beginnings
-pub mod BoundsUpTo
-pub mod Candidates
-pub mod ChildBounds
-pub mod Fills
-pub mod LaneStates
-pub mod PlacedNexts
-pub mod Scratches
-pub mod Steps
+-- What only the inside of the crate is told by.
+pub mod Rings
+pub mod LaneRings

@@ -4,9 +4,9 @@ use Rattle.std.proofs.Common.{subst, rules, arith}
 use Rattle.std.proofs.lemmas.Grind.{common_steps}
 use Rattle.std.specs.Io.KnownBytes.{Consumes, Appends, IsAtEnd}
 use Rattle.shop_text.specs.declared.faults.ReadFault.{ReadFault}
-use Rattle.shop_verdicts.specs.declared.faults.Fault.{Fault}
-use Rattle.shop_verdicts.specs.declared.faults.Fault.TheVariants.{Text, ReadFailed, WriteFailed}
-use Rattle.shop_verdicts.specs.Devices.{Device, IsReadToEnd, IsWritten, IsCutOff, IsUnwritten, Passes, IsTransfer}
+use Rattle.shop_engine.specs.declared.faults.Fault.{Fault}
+use Rattle.shop_engine.specs.declared.faults.Fault.TheVariants.{Text, ReadFailed, WriteFailed}
+use Rattle.shop_engine.specs.Devices.{Device, IsReadToEnd, IsWritten, IsCutOff, IsUnwritten, Passes, IsTransfer}
 use Rattle.shop_engine.specs.Headline.{WhereKnown}
 
 -- what was made of a text goes out

@@ -1,6 +1,15 @@
+pub mod Picks
+pub mod Verdicts
 pub mod Reported
 pub mod Headline
 pub mod RefusedTexts
 pub mod SolvedSchedules
 pub mod OneReport
 pub mod WholeRun
+pub mod Relaxing
+pub mod Scaling
+pub mod Renaming
+pub mod LeastOnes
+pub mod WalksAbove
+pub mod LaterBounds
+pub mod Floors

@@ -12,11 +12,11 @@ use Rattle.shop_text.proofs.ReaderTurns.{is_grammar}
 use Rattle.shop_text.specs.declared.faults.ReadFault.{ReadFault}
 use Rattle.shop_text.specs.declared.faults.ReadFault.TheVariants as fault
 use Rattle.shop_text.specs.declared.formats.Format.{Format}
-use Rattle.shop_verdicts.specs.declared.faults.Fault.TheVariants.{Text, ReadFailed, WriteFailed}
-use Rattle.shop_args.specs.declared.CheckArgs.{CheckArgs}
-use Rattle.shop_verdicts.specs.Devices.{Device, IsReadToEnd, IsRefusedWhole, IsTextRefused}
-use Rattle.shop_verdicts.specs.Asking.{name_in, IsAsked, IsMissing, IsAskFault}
-use Rattle.shop_verdicts.specs.Checking.{IsPicked}
+use Rattle.shop_engine.specs.declared.faults.Fault.TheVariants.{Text, ReadFailed, WriteFailed}
+use Rattle.shop_engine.specs.declared.args.CheckArgs.{CheckArgs}
+use Rattle.shop_engine.specs.Devices.{Device, IsReadToEnd, IsRefusedWhole, IsTextRefused}
+use Rattle.shop_engine.specs.Asking.{name_in, IsAsked, IsMissing, IsAskFault}
+use Rattle.shop_engine.specs.Checking.{IsPicked}
 use Rattle.shop_engine.specs.Refusing.{IsRefusal}
 use Rattle.shop_engine.specs.Refusing.{ListingRefuses, CheckingRefuses, SolvingRefuses}
 use Rattle.shop_engine.proofs.Headline.{known_read}

@@ -23,8 +23,8 @@ use Rattle.shop_runs.specs.Runs.{IsTrusted}
 use Rattle.shop_runs.specs.declared.runs.Answer.{Answer}
 use Rattle.shop_engine.specs.inner.Told.{told_by}
 use Rattle.shop_engine.specs.Answers.{text_with_gantt}
-use Rattle.shop_verdicts.specs.Asking.{IsAsked}
-use Rattle.shop_verdicts.specs.Checking.{IsVerdictOn}
+use Rattle.shop_engine.specs.Asking.{IsAsked}
+use Rattle.shop_engine.specs.Checking.{IsVerdictOn}
 use Rattle.shop_engine.specs.SolvedSchedules.{GivesSchedule, PassesCheck}
 use Rattle.shop_engine.proofs.Reported.{chart_of}
 use Rattle.shop_engine.proofs.RefusedTexts.{one_reading, not_had}

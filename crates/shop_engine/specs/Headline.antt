@@ -30,10 +30,10 @@ use Rattle.shop_text.specs.Writing.{Reported}
 use Rattle.shop_runs.specs.Round.{Planned}
 use Rattle.shop_runs.specs.Runs.{planned}
 use Rattle.shop_text.specs.declared.formats.Format.{Format}
-use Rattle.shop_args.specs.declared.SolveArgs.{SolveArgs}
-use Rattle.shop_verdicts.specs.declared.faults.Fault.{Fault}
-use Rattle.shop_verdicts.specs.Asking.{name_in, OfAsked}
-use Rattle.shop_verdicts.specs.Devices.{Device}
+use Rattle.shop_engine.specs.declared.args.SolveArgs.{SolveArgs}
+use Rattle.shop_engine.specs.declared.faults.Fault.{Fault}
+use Rattle.shop_engine.specs.Asking.{name_in, OfAsked}
+use Rattle.shop_engine.specs.Devices.{Device}
 use Rattle.shop_engine.specs.Answers.{answer_of, text_with_gantt}
 
 -- Its numbers are those that are printed: `decimal` prints each number below this limit in full.

@@ -1,3 +1,7 @@
+pub mod Devices
+pub mod Asking
+pub mod Listing
+pub mod Checking
 pub mod Answers
 pub mod Headline
 pub mod OneReport
@@ -5,4 +9,10 @@ pub mod Solving
 pub mod SolvedSchedules
 pub mod Refusing
 pub mod WholeRun
+pub mod LeastMakespans
+pub mod Relaxations
+pub mod Scaling
+pub mod Renaming
+pub mod Floors
+pub mod LaterBounds
 pub mod inner

@@ -6,16 +6,16 @@ use Rattle.std.specs.Prelude.{◌≡◌, ℕ, List, Bool, Some, Result, Ok, Err}
 use Rattle.shop_text.specs.Texts.{IsTextFault}
 use Rattle.shop_text.specs.declared.faults.ReadFault.{ReadFault}
 use Rattle.shop_text.specs.declared.faults.ReadFault.TheVariants.{NoMemory}
-use Rattle.shop_args.specs.declared.ListArgs.{ListArgs}
-use Rattle.shop_args.specs.declared.CheckArgs.{CheckArgs}
-use Rattle.shop_args.specs.declared.SolveArgs.{SolveArgs}
-use Rattle.shop_verdicts.specs.declared.faults.Fault.{Fault}
-use Rattle.shop_verdicts.specs.declared.faults.Fault.TheVariants.{Text, ReadFailed, WriteFailed}
-use Rattle.shop_verdicts.specs.Devices.{Device}
+use Rattle.shop_engine.specs.declared.args.ListArgs.{ListArgs}
+use Rattle.shop_engine.specs.declared.args.CheckArgs.{CheckArgs}
+use Rattle.shop_engine.specs.declared.args.SolveArgs.{SolveArgs}
+use Rattle.shop_engine.specs.declared.faults.Fault.{Fault}
+use Rattle.shop_engine.specs.declared.faults.Fault.TheVariants.{Text, ReadFailed, WriteFailed}
+use Rattle.shop_engine.specs.Devices.{Device}
 use Rattle.shop_text.specs.Formats.{grammar_of}
-use Rattle.shop_verdicts.specs.Asking.{name_in, IsAskFault}
-use Rattle.shop_verdicts.specs.Listing.{IsListing}
-use Rattle.shop_verdicts.specs.Checking.{Second, IsChecking}
+use Rattle.shop_engine.specs.Asking.{name_in, IsAskFault}
+use Rattle.shop_engine.specs.Listing.{IsListing}
+use Rattle.shop_engine.specs.Checking.{Second, IsChecking}
 use Rattle.shop_engine.specs.Solving.{IsSolving}
 
 -- the text is refused by this fault, or else memory ran out or a read failed

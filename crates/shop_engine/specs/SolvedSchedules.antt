@@ -16,7 +16,7 @@ use Rattle.shop_text.specs.Writing.{Reported, report_text, verdict_text}
 use Rattle.shop_text.specs.declared.limits.TheConstants.{MAX_TEXT}
 use Rattle.shop_text.specs.declared.faults.ReadFault.{ReadFault}
 use Rattle.shop_text.specs.declared.formats.Format.{Format}
-use Rattle.shop_verdicts.specs.Checking.{IsCheckOf, IsCheckFault}
+use Rattle.shop_engine.specs.Checking.{IsCheckOf, IsCheckFault}
 
 -- It begins with a report; read as a schedule of the instance it gives the report's table, which is
 -- feasible and ends at the report's makespan.

@@ -2,10 +2,10 @@
 --     IsSolution args text written                           the report that is written for a text
 --     IsSolving args source source' sink sink' result        what is answered
 use Rattle.std.specs.Prelude.{ℕ, List, Result}
-use Rattle.shop_args.specs.declared.SolveArgs.{SolveArgs}
-use Rattle.shop_verdicts.specs.declared.faults.Fault.{Fault}
-use Rattle.shop_verdicts.specs.Asking.{name_in, IsAskFault}
-use Rattle.shop_verdicts.specs.Devices.{Device, IsTransfer}
+use Rattle.shop_engine.specs.declared.args.SolveArgs.{SolveArgs}
+use Rattle.shop_engine.specs.declared.faults.Fault.{Fault}
+use Rattle.shop_engine.specs.Asking.{name_in, IsAskFault}
+use Rattle.shop_engine.specs.Devices.{Device, IsTransfer}
 use Rattle.shop_engine.specs.Headline.{IsRightOf, IsDeterminedOf}
 
 pub record IsSolution (args : SolveArgs) (text written : List ℕ) : Type 0 where

@@ -5,9 +5,9 @@ use Rattle.std.specs.Prelude.{◌≡◌, ℕ, true, List, ◌++◌, None, codes}
 use Rattle.shop_text.specs.declared.formats.Format.TheVariants.{Orlib}
 use Rattle.shop_runs.specs.Round.{Planned}
 use Rattle.shop_runs.specs.Runs.{planned}
-use Rattle.shop_plans.specs.declared.plans.Order.TheVariants.{Kept}
-use Rattle.shop_args.specs.declared.SolveArgs.{SolveArgs}
-use Rattle.shop_verdicts.specs.Asking.{OfAsked}
+use Rattle.shop_runs.specs.declared.plans.Order.TheVariants.{Kept}
+use Rattle.shop_engine.specs.declared.args.SolveArgs.{SolveArgs}
+use Rattle.shop_engine.specs.Asking.{OfAsked}
 use Rattle.shop_engine.specs.Headline.{IsDetermined, IsDeterminedOf}
 
 abbrev pub crossing_text : List ℕ

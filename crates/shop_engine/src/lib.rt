@@ -1,14 +1,35 @@
-// The engine that solves: from the bytes of a text, or of a source, to those of a report. Those that list and check are
-// passed on.
+// Engines: from the bytes of a text, or of a source, to a list, a verdict or a report; and the laws of what they say.
 #![tactic(auto)]
 
+mod answer_laws;
+mod args;
+mod asking;
+mod checking;
+mod devices;
+mod faults;
+mod instance_laws;
 mod laws;
+mod listing;
+mod memory;
 mod solving;
+mod streams;
+mod transfers;
 
-pub use laws::{one_report, one_whole_run, refused_texts_are_answered};
-pub use shop_args::SolveArgs;
-pub use shop_verdicts::{
-    CheckArgs, DeviceFailed, Fault, Format, ListArgs, Memory, Reading, Sink, Source, Writing,
-    check_bytes, check_text, list_bytes, list_text, write_all,
+pub use answer_laws::{bounds_reach_the_floor, more_rounds_lower_no_bound};
+pub use args::{CheckArgs, ListArgs, SolveArgs};
+pub use asking::ask;
+pub use checking::{check_bytes, check_text};
+pub use devices::{DeviceFailed, Sink, Source};
+pub use faults::Fault;
+pub use instance_laws::{
+    each_instance_has_one_least, relaxations_are_no_later, renaming_keeps_the_least,
+    scaling_keeps_the_least,
 };
+pub use laws::{one_report, one_whole_run, refused_texts_are_answered};
+pub use listing::{list_bytes, list_text};
+pub use memory::Memory;
+pub use shop_runs::{Order, Plan};
+pub use shop_text::Format;
 pub use solving::{solve_bytes, solve_instance, solve_text};
+pub use streams::{Reading, Writing};
+pub use transfers::{read_all, write_all};

@@ -5,7 +5,7 @@ ghost use Rattle.shop_model.specs.Checking.{HasShape, starts_of};
 ghost use Rattle.shop_text.specs.Writing.{report_text};
 ghost use Rattle.shop_text.specs.Names.{shop_of_named};
 ghost use Rattle.shop_runs.specs.Runs.{planned};
-ghost use Rattle.shop_verdicts.specs.Asking.{name_in, IsAskFault, OrNoMemory};
+ghost use Rattle.shop_engine.specs.Asking.{name_in, IsAskFault, OrNoMemory};
 ghost use Rattle.shop_engine.specs.Answers.{text_with_gantt};
 ghost use Rattle.shop_engine.specs.Headline.{IsRight, IsDetermined, IsRightOf, IsDeterminedOf};
 ghost use Rattle.shop_engine.specs.Headline.{WhereKnown};
@@ -13,10 +13,13 @@ ghost use Rattle.shop_engine.specs.Solving.{IsSolving};
 ghost use Rattle.shop_engine.specs.SolvedSchedules.{GivesSchedule, PassesCheck};
 ghost use Rattle.shop_engine.specs.inner.Told.{told_by, HasWords};
 
-use shop_args::SolveArgs;
+use crate::args::SolveArgs;
+use crate::asking::ask;
+use crate::devices::{Sink, Source};
+use crate::faults::Fault;
+use crate::transfers::{read_all, write_all};
 use shop_runs::{Answer, Crew, Plan, run};
 use shop_text::{Named, ReadFault, Report, gantt, read, report};
-use shop_verdicts::{Fault, Sink, Source, ask, read_all, write_all};
 use std::alloc::{AllocError, Global};
 
 /// A `u64` is below 2^64. (A fact for proofs; the call does nothing.)

@@ -10,7 +10,7 @@ use Rattle.shop_text.specs.declared.faults.ReadFault.TheVariants.{NoMemory, TooL
 use Rattle.shop_text.specs.declared.faults.ReadFault.TheVariants.{BadShape, BadSize, BadRow}
 use Rattle.shop_text.specs.declared.faults.ReadFault.TheVariants.{Truncated, BadMachine, BadTime}
 use Rattle.shop_text.specs.declared.faults.ReadFault.TheVariants.{NoSuchName, BadTable}
-use Rattle.shop_exports.specs.declared.outcomes.Outcome.{Outcome}
+use Rattle.shop_exports.specs.declared.outcomes.CallResult.{CallResult}
 use Rattle.shop_exports.specs.declared.outcomes.TheConstants.{DONE, TOO_SMALL, BAD_ARGUMENT}
 
 -- the number that the program prints of it, as `error 7`
@@ -41,16 +41,16 @@ line_of (BadTime n) = n
 line_of NoSuchName = 0
 line_of (BadTable n) = n
 
-abbrev pub is_refused : ReadFault → Outcome
+abbrev pub is_refused : ReadFault → CallResult
 is_refused fault =
     record { status = status_of fault; feasible = false; line = line_of fault; length = 0 }
 
-abbrev pub is_faulty : Outcome
+abbrev pub is_faulty : CallResult
 is_faulty = record { status = BAD_ARGUMENT; feasible = false; line = 0; length = 0 }
 
 -- A text is given: it stands at the front of the room, and the rest of the room is as it was; or it
 -- is longer than the room, and all of the room is as it was.
-pub record IsGiven (feasible : Bool) (text room room' : List ℕ) (outcome : Outcome) : Type 0 where
+pub record IsGiven (feasible : Bool) (text room room' : List ℕ) (outcome : CallResult) : Type 0 where
   pub is_feasible : outcome.feasible ≡ feasible
   pub no_line : outcome.line ≡ 0
   pub long : outcome.length ≡ length text

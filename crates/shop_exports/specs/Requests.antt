@@ -11,15 +11,15 @@ use Rattle.std.specs.Str.{IsUtf8}
 use Rattle.shop_text.specs.declared.formats.Format.{Format}
 use Rattle.shop_text.specs.declared.formats.Format.TheVariants.{Orlib, Taillard, Routes}
 use Rattle.shop_text.specs.declared.faults.ReadFault.TheVariants.{NoMemory}
-use Rattle.shop_plans.specs.Limits.{IsPlanWithin}
-use Rattle.shop_plans.specs.declared.plans.Plan.{Plan}
-use Rattle.shop_plans.specs.declared.plans.Order.{Order}
-use Rattle.shop_plans.specs.declared.plans.Order.TheVariants.{Kept, Bound}
-use Rattle.shop_verdicts.specs.Asking.{name_in}
-use Rattle.shop_args.specs.declared.CheckArgs.{CheckArgs}
-use Rattle.shop_args.specs.declared.SolveArgs.{SolveArgs}
+use Rattle.shop_runs.specs.Limits.{IsPlanWithin}
+use Rattle.shop_runs.specs.declared.plans.Plan.{Plan}
+use Rattle.shop_runs.specs.declared.plans.Order.{Order}
+use Rattle.shop_runs.specs.declared.plans.Order.TheVariants.{Kept, Bound}
+use Rattle.shop_engine.specs.Asking.{name_in}
+use Rattle.shop_engine.specs.declared.args.CheckArgs.{CheckArgs}
+use Rattle.shop_engine.specs.declared.args.SolveArgs.{SolveArgs}
 use Rattle.shop_exports.specs.Outcomes.{is_refused, is_faulty}
-use Rattle.shop_exports.specs.declared.outcomes.Outcome.{Outcome}
+use Rattle.shop_exports.specs.declared.outcomes.CallResult.{CallResult}
 use Rattle.shop_exports.specs.declared.requests.Options.{Options}
 
 abbrev pub format_code : Format → ℕ
@@ -77,5 +77,5 @@ IsFaultySolve code is_named name options =
     IsFaultyCheck code is_named name ⊎ IsFaultyPlan options
 
 -- what is asked for is faulty, or memory for the arguments ran out
-abbrev pub IsUnasked : Type 0 → Outcome → Type 0
+abbrev pub IsUnasked : Type 0 → CallResult → Type 0
 IsUnasked IsFaulty outcome = (IsFaulty × (outcome ≡ is_faulty)) ⊎ (outcome ≡ is_refused NoMemory)

@@ -6,7 +6,7 @@ ghost use Rattle.shop_exports.specs.Exports.{ListsFor, ChecksWith, ChecksFor, So
 ghost use Rattle.shop_exports.specs.Requests.{bytes_given};
 ghost use Rattle.shop_exports.specs.inner.Reports.{SolvesWith};
 
-use crate::outcomes::{Outcome, faulty, give, refused};
+use crate::outcomes::{CallResult, faulty, give, refused};
 use crate::requests::{Options, check_args, format_of, given, solve_args};
 use shop_engine::{CheckArgs, ListArgs, SolveArgs, check_bytes, list_bytes, solve_bytes};
 use shop_round::Alone;
@@ -19,7 +19,7 @@ pub extern "C" fn shop_exports_list(
     format: u32,
     text: &[u8],
     room: &mut [u8],
-) -> Outcome
+) -> CallResult
     ensures { ListsFor format text.now room.old room.new result }
 {
     let Some(format) = format_of(format) else {
@@ -38,7 +38,7 @@ fn give_verdict(
     text: &[u8],
     schedule: Option<&[u8]>,
     room: &mut [u8],
-) -> Outcome
+) -> CallResult
     ensures { ChecksWith args.now text.now room.old room.new (option_copied schedule.entry)
         result }
 {
@@ -59,7 +59,7 @@ pub extern "C" fn shop_exports_check(
     is_apart: bool,
     schedule: &[u8],
     room: &mut [u8],
-) -> Outcome
+) -> CallResult
     ensures { ChecksFor format is_named name.now text.now (bytes_given is_apart schedule.now)
         room.old room.new result }
 {
@@ -70,7 +70,7 @@ pub extern "C" fn shop_exports_check(
 }
 
 /// Gives the report of the best schedule that a plan finds.
-fn give_report(alloc: Global, args: &SolveArgs, text: &[u8], room: &mut [u8]) -> Outcome
+fn give_report(alloc: Global, args: &SolveArgs, text: &[u8], room: &mut [u8]) -> CallResult
     ensures { SolvesWith args.now text.now room.old room.new result }
 {
     match solve_bytes(&(), alloc, text, args, &mut Alone) {
@@ -89,7 +89,7 @@ pub extern "C" fn shop_exports_solve(
     options: &Options,
     text: &[u8],
     room: &mut [u8],
-) -> Outcome
+) -> CallResult
     ensures { SolvesFor format is_named name.now options.now text.now room.old room.new result }
 {
     match solve_args(alloc, format, is_named, name, options) {

@@ -6,5 +6,5 @@ mod outcomes;
 mod requests;
 
 pub use exports::{shop_exports_check, shop_exports_list, shop_exports_solve};
-pub use outcomes::{BAD_ARGUMENT, DONE, Outcome, TOO_SMALL};
+pub use outcomes::{BAD_ARGUMENT, CallResult, DONE, TOO_SMALL};
 pub use requests::Options;

@@ -17,7 +17,7 @@ pub const BAD_ARGUMENT: u32 = 101;
 /// feasible; the line of the refusal, or 0 where it has none; the length of the text, whether it fits or not.
 #[repr(C)]
 #[derive(Clone, Copy)]
-pub struct Outcome {
+pub struct CallResult {
     pub status: u32,
     pub feasible: bool,
     pub line: usize,
@@ -61,10 +61,10 @@ fn line_of(fault: ReadFault) -> usize
 }
 
 /// The outcome of a refusal.
-pub(crate) fn refused(fault: ReadFault) -> Outcome
+pub(crate) fn refused(fault: ReadFault) -> CallResult
     ensures { result ≡ is_refused fault }
 {
-    Outcome {
+    CallResult {
         status: status_of(fault),
         feasible: false,
         line: line_of(fault),
@@ -73,10 +73,10 @@ pub(crate) fn refused(fault: ReadFault) -> Outcome
 }
 
 /// The outcome where an argument is faulty.
-pub(crate) fn faulty() -> Outcome
+pub(crate) fn faulty() -> CallResult
     ensures { result ≡ is_faulty }
 {
-    Outcome {
+    CallResult {
         status: BAD_ARGUMENT,
         feasible: false,
         line: 0,
@@ -85,7 +85,7 @@ pub(crate) fn faulty() -> Outcome
 }
 
 /// Puts a text at the front of the room, if it fits.
-pub(crate) fn give(room: &mut [u8], text: &[u8], feasible: bool) -> Outcome
+pub(crate) fn give(room: &mut [u8], text: &[u8], feasible: bool) -> CallResult
     ensures { IsGiven feasible text.now room.old room.new result }
 {
     let fits = text.len() <= room.len();
@@ -93,7 +93,7 @@ pub(crate) fn give(room: &mut [u8], text: &[u8], feasible: bool) -> Outcome
         let (front, _) = room.split_at_mut(text.len());
         front.copy_from_slice(text);
     }
-    Outcome {
+    CallResult {
         status: if fits { DONE } else { TOO_SMALL },
         feasible,
         line: 0,

@@ -1,15 +1,15 @@
 // What a caller asks for, in numbers and bytes, and the arguments that it makes.
 ghost use Rattle.std.specs.Prelude.{◌≡◌, IfOk, IfErr, MatchOption};
 ghost use Rattle.std.specs.Option.{option_copied};
-ghost use Rattle.shop_verdicts.specs.Asking.{name_in};
+ghost use Rattle.shop_engine.specs.Asking.{name_in};
 ghost use Rattle.shop_exports.specs.Requests.{format_code, order_code, IsNoFormat, IsNoOrder};
 ghost use Rattle.shop_exports.specs.Requests.{IsNoName, bytes_given, IsUnasked, AsksCheck};
 ghost use Rattle.shop_exports.specs.Requests.{IsFaultyCheck, AsksSolve, IsFaultySolve, IsPlanOf};
 ghost use Rattle.shop_exports.specs.Requests.{IsFaultyPlan};
 
-use crate::outcomes::{Outcome, faulty, refused};
+use crate::outcomes::{CallResult, faulty, refused};
 use shop_engine::{CheckArgs, SolveArgs};
-use shop_round::{Order, Plan};
+use shop_runs::{Order, Plan};
 use shop_text::{Format, ReadFault};
 use std::alloc::Global;
 use std::str::from_utf8;
@@ -65,7 +65,7 @@ pub(crate) fn given<'b>(is_given: bool, bytes: &'b [u8]) -> Option<&'b [u8]>
 }
 
 /// The name that is given, if one is.
-fn name_of(alloc: Global, is_named: bool, name: &[u8]) -> Result<Option<String>, Outcome>
+fn name_of(alloc: Global, is_named: bool, name: &[u8]) -> Result<Option<String>, CallResult>
     ensures named { IfOk result (λ own. name_in own ≡ bytes_given is_named name.now) }
     ensures unnamed { IfErr result (IsUnasked (IsNoName is_named name.now)) }
 {
@@ -87,7 +87,7 @@ pub(crate) fn check_args(
     format: u32,
     is_named: bool,
     name: &[u8],
-) -> Result<CheckArgs, Outcome>
+) -> Result<CheckArgs, CallResult>
     ensures asked { IfOk result (AsksCheck format is_named name.now) }
     ensures unasked { IfErr result (IsUnasked (IsFaultyCheck format is_named name.now)) }
 {
@@ -105,7 +105,7 @@ pub(crate) fn solve_args(
     is_named: bool,
     name: &[u8],
     options: &Options,
-) -> Result<SolveArgs, Outcome>
+) -> Result<SolveArgs, CallResult>
     ensures asked { IfOk result (AsksSolve format is_named name.now options.now) }
     ensures unasked { IfErr result
         (IsUnasked (IsFaultySolve format is_named name.now options.now)) }

@@ -3,7 +3,7 @@ use Rattle.std.proofs.Common.{◌≡◌, ℕ, zero, suc, ◌*◌, ◌/◌, ◌%�
 use Rattle.std.proofs.Common.{get_or, sym, ◌∙◌, arith}
 use Rattle.std.specs.List.{All}
 use Rattle.std.proofs.lemmas.List.{length-map}
-use Rattle.shop_blocks.specs.Eights.{later_head}
+use Rattle.shop_lanes.specs.Eights.{later_head}
 use Rattle.shop_lanes.specs.Rows.{Lane, lanes, by_columns}
 use Rattle.shop_lanes.specs.Spans.{greatest_by}
 use Rattle.shop_lanes.specs.inner.LaterHeads.{least_later}

@@ -10,9 +10,9 @@ use Rattle.std.proofs.Math.Pow.{pow_mono}
 use lib.Count.{count_trailing_zeros}
 use lib.Lanes.{mask_l, zip2}
 use Rattle.shop_lanes.specs.Ends.{IsFirstLeast}
-use Rattle.shop_blocks.specs.Folds.{least_up_to}
+use Rattle.shop_lanes.specs.Folds.{least_up_to}
 use Rattle.shop_lanes.specs.inner.Passes.{IsFirstOf}
-use Rattle.shop_blocks.proofs.Extremes.{least-append, least-lesser, least_le_top}
+use Rattle.shop_lanes.proofs.Extremes.{least-append, least-lesser, least_le_top}
 use Rattle.shop_lanes.proofs.MarkLemmas.{odd_lowest, even_lowest}
 
 -- the elements from block b on are those of block b and those behind it

@@ -4,9 +4,9 @@ use Rattle.std.proofs.Common.{take, drop, get_or, refl, ap, sym, ◌∙◌, arit
 use Rattle.std.proofs.Math.Seq.{take-suc, take-add}
 use Rattle.std.proofs.lemmas.List.{drop-drop, drop_all}
 use lib.Lanes.{sum_l}
-use Rattle.shop_blocks.specs.Eights.{added, AddsFit}
-use Rattle.shop_blocks.specs.Folds.{greatest, sums_before}
-use Rattle.shop_blocks.proofs.Extremes.{greatest-append}
+use Rattle.shop_lanes.specs.Eights.{added, AddsFit}
+use Rattle.shop_lanes.specs.Folds.{greatest, sums_before}
+use Rattle.shop_lanes.proofs.Extremes.{greatest-append}
 use Rattle.shop_lanes.specs.Rows.{Lane}
 use Rattle.shop_lanes.specs.Spans.{span, FitsSpan}
 use Rattle.shop_lanes.specs.inner.Passes.{clock_after, column, eight}

@@ -5,8 +5,8 @@ use Rattle.std.proofs.Math.Seq.{take-suc}
 use Rattle.std.proofs.lemmas.List.{get_or-drop, length-drop, length-map}
 use Rattle.std.proofs.lemmas.Simd.{get_or-chunk}
 use lib.Lanes.{zip2}
-use Rattle.shop_blocks.specs.Eights.{added, waiting, AddsFit}
-use Rattle.shop_blocks.proofs.Eights.{on_eight, same_eight}
+use Rattle.shop_lanes.specs.Eights.{added, waiting, AddsFit}
+use Rattle.shop_lanes.proofs.Eights.{on_eight, same_eight}
 use Rattle.shop_lanes.specs.Rows.{Lane, lanes, by_columns}
 use Rattle.shop_lanes.specs.Spans.{span, greatest_by, FitsSpan}
 use Rattle.shop_lanes.specs.inner.Passes.{clock_after, eight, lanes_by}

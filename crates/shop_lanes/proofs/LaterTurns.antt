@@ -2,7 +2,7 @@
 use Rattle.std.proofs.Common.{◌≡◌, ℕ, ◌*◌, List, map}
 use Rattle.std.proofs.Common.{take, drop, ap, sym, ◌∙◌}
 use Rattle.std.proofs.lemmas.List.{take-map, drop-map}
-use Rattle.shop_blocks.specs.Eights.{later_head}
+use Rattle.shop_lanes.specs.Eights.{later_head}
 
 -- a block of a row, where the numbers from `from` on are kept
 pub later_block : (top from top' from' b : ℕ) (row block later : List ℕ) → top' ≡ top → from' ≡ from

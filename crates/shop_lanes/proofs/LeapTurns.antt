@@ -6,7 +6,7 @@ use Rattle.std.proofs.lemmas.Bool.Decides.{nat_tests}
 use Rattle.std.proofs.lemmas.Bool.{cases_lt}
 use Rattle.shop_lanes.specs.Rows.{Lane, lanes}
 use Rattle.shop_lanes.specs.Spans.{span, spans_from, spans_between}
-use Rattle.shop_blocks.specs.Eights.{later_head}
+use Rattle.shop_lanes.specs.Eights.{later_head}
 use Rattle.shop_lanes.specs.inner.LaterHeads.{least_later}
 use Rattle.shop_lanes.proofs.Loads.{span_from_start}
 

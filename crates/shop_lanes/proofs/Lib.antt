@@ -1,3 +1,8 @@
+pub mod Eights
+pub mod Extremes
+pub mod Comparisons
+pub mod VectorBits
+pub mod Maxima
 pub mod LaneLists
 pub mod Columns
 pub mod SpanParts

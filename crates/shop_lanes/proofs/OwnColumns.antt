@@ -7,7 +7,7 @@ use Rattle.std.proofs.lemmas.Bool.{cases_lt}
 use Rattle.std.proofs.lemmas.Simd.{get_or-zip2, length-zip2, length-put_chunk, get_or-put_chunk_below}
 use Rattle.std.proofs.lemmas.Simd.{get_or-put_chunk_at, get_or-put_chunk_above}
 use lib.Lanes.{zip2, put_chunk}
-use Rattle.shop_blocks.specs.Eights.{added, lessened, waiting, AddsFit}
+use Rattle.shop_lanes.specs.Eights.{added, lessened, waiting, AddsFit}
 use Rattle.shop_lanes.specs.Rows.{Lane, lanes, by_columns}
 use Rattle.shop_lanes.specs.Spans.{span, FitOwnSpans}
 use Rattle.shop_lanes.specs.inner.OwnSpans.{rank_of, IsLoadBehind, own_span_at}

@@ -1,9 +1,9 @@
 -- Where the passes for own spans begin, down the columns and back.
 use Rattle.std.proofs.Common.{◌≡◌, ℕ, ◌+◌, ◌*◌, ◌<◌, List, length, take, get_or, refl, ap, sym}
 use Rattle.std.proofs.Common.{◌∙◌, arith, subst}
-use Rattle.shop_blocks.specs.Eights.{added}
-use Rattle.shop_blocks.specs.Folds.{maxima_before, maxima_behind, sums_before}
-use Rattle.shop_blocks.proofs.Maxima.{maxima_before-get, maxima_behind-get}
+use Rattle.shop_lanes.specs.Eights.{added}
+use Rattle.shop_lanes.specs.Folds.{greatest_before, maxima_behind, sums_before}
+use Rattle.shop_lanes.proofs.Maxima.{greatest_before-get, maxima_behind-get}
 use Rattle.shop_lanes.specs.Rows.{Lane}
 use Rattle.shop_lanes.specs.Spans.{span}
 use Rattle.shop_lanes.specs.inner.OwnSpans.{IsLoadBehind}
@@ -27,17 +27,17 @@ module _ (count : ℕ) (all : List Lane) (whole : length all ≡ 8 * count) (wor
       ∙ eight_same (begin 1 count all whole) (λ k. clock_after 1 0 (take (k * count + 0) all))
       (λ k lt. ap (λ n. clock_after 1 0 (take n all)) (omega arith))
 
-  pub first_loads : (before : List ℕ) → before ≡ maxima_before 0 ends
+  pub first_loads : (before : List ℕ) → before ≡ greatest_before 0 ends
       → before ≡ eight (λ k. span 1 0 (take (k * count + 0) all))
   first_loads before before_is =
-      let is : before ≡ maxima_before 0 (eight (finish 1 count all whole)) =
-      before_is ∙ ap (maxima_before 0) ends_eight
+      let is : before ≡ greatest_before 0 (eight (finish 1 count all whole)) =
+      before_is ∙ ap (greatest_before 0) ends_eight
       in is
-      ∙ as_eight (maxima_before 0 (eight (finish 1 count all whole))) refl
-      ∙ eight_same (λ k. get_or (maxima_before 0 (eight (finish 1 count all whole))) k 0)
+      ∙ as_eight (greatest_before 0 (eight (finish 1 count all whole))) refl
+      ∙ eight_same (λ k. get_or (greatest_before 0 (eight (finish 1 count all whole))) k 0)
       (λ k. span 1 0 (take (k * count + 0) all))
       (λ k lt.
-      let got = maxima_before-get 0 (eight (finish 1 count all whole)) k (omega (arith, lt))
+      let got = greatest_before-get 0 (eight (finish 1 count all whole)) k (omega (arith, lt))
       in let before_k = ends_before 1 count all whole k (omega (arith, lt))
       in let place : span 1 0 (take (k * count + 0) all) ≡ span 1 0 (take (k * count) all) =
       ap (λ n. span 1 0 (take n all)) (omega arith)

@@ -11,7 +11,7 @@ use Rattle.shop_lanes.specs.Rows.{blocks}
 use Rattle.shop_lanes.specs.Marks.{marked, waits_below}
 use Rattle.shop_lanes.specs.SetBits.{set_bits}
 use Rattle.shop_lanes.specs.Ends.{IsFirstLeast}
-use Rattle.shop_blocks.specs.Eights.{is_between}
+use Rattle.shop_lanes.specs.Eights.{is_between}
 use Rattle.shop_lanes.specs.inner.Passes.{IsPadded}
 use Rattle.shop_lanes.proofs.LaneLists.{length-blocks}
 use Rattle.shop_lanes.proofs.MarkLemmas.{set_bits-mask}

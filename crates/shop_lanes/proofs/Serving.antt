@@ -1,7 +1,7 @@
 -- How many numbers serving a block gives.
 use Rattle.std.proofs.Common.{◌≡◌, ℕ, ◌+◌, List, [], ◌∷◌, length, ap, sym, ◌∙◌, arith, refl}
 use Rattle.std.proofs.lemmas.Simd.{length-zip2}
-use Rattle.shop_blocks.specs.Eights.{added, waiting}
+use Rattle.shop_lanes.specs.Eights.{added, waiting}
 
 pub length-waiting : (least : ℕ) (hs ts : List ℕ) → length ts ≡ length hs
     → length (waiting least hs ts) ≡ length hs

@@ -1,3 +1,5 @@
+pub mod Eights
+pub mod Folds
 pub mod Rows
 pub mod Spans
 pub mod Marks

@@ -3,12 +3,12 @@ ghost use Rattle.std.specs.Prelude.{◌≡◌, ℕ, ◌+◌, ◌-◌, ◌*◌, �
 ghost use Rattle.std.specs.Prelude.{map, take, replicate, slice_index, All, IfOk};
 ghost use Rattle.shop_lanes.specs.inner.Passes.{IsPadded};
 
+use crate::blocks::Block;
 use crate::leaps::{leap, leap_over};
 use crate::marking::Marks;
 use crate::owning::own_spans;
 use crate::passes::{bits_up_to, first_least, load};
 use crate::state_lanes::StateLanes;
-use shop_blocks::Block;
 use std::alloc::{AllocError, Global};
 
 /// Times and tails that blocks of eight are read from.

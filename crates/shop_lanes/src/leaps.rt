@@ -5,8 +5,9 @@ ghost use Rattle.shop_lanes.specs.Spans.{spans_between, FitsSpan, IsRaisedBelow}
 ghost use Rattle.shop_lanes.specs.inner.Passes.{lanes_by};
 ghost use Rattle.shop_lanes.specs.inner.LaterHeads.{least_later};
 
+use crate::blocks::Block;
+use crate::folds::least_of;
 use crate::passes::load_of;
-use shop_blocks::{Block, least_of};
 
 /// The least head of at least `from`; the greatest number if there is none.
 #[inline(always)]

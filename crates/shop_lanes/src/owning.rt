@@ -2,15 +2,16 @@
 // The first of three passes sums up the columns, the others go down the columns and back.
 ghost use Rattle.std.specs.Prelude.{◌≡◌, ◌%◌, ◌/◌, length, max};
 ghost use Rattle.std.specs.Simd.Lanes.{zip2};
-ghost use Rattle.shop_blocks.specs.Eights.{added, lessened, AddsFit};
+ghost use Rattle.shop_lanes.specs.Eights.{added, lessened, AddsFit};
 ghost use Rattle.shop_lanes.specs.Spans.{FitsSpan, FitOwnSpans};
 ghost use Rattle.shop_lanes.specs.inner.Passes.{lanes_by};
 ghost use Rattle.shop_lanes.specs.inner.OwnSpans.{AreNoted, AreOwnSpansOf, AreClocks, AreLoadsBefore};
 ghost use Rattle.shop_lanes.specs.inner.OwnSpans.{AreLoadsBehind};
 
+use crate::blocks::Block;
+use crate::folds::{greatest_before, greatest_behind, sums_before};
 use crate::passes::serve_columns;
 use crate::served_blocks::tailed_ends;
-use shop_blocks::{Block, greatest_before, greatest_behind, sums_before};
 
 /// Notes for each position when the last of what waits before it ends, its tail included, if it is served by rank from
 /// 0 on; from when each column begins, and the greatest end before each.

@@ -4,12 +4,13 @@ ghost use Rattle.std.specs.Prelude.{slice_index};
 ghost use Rattle.std.specs.Simd.Lanes.{mask_l};
 ghost use Rattle.shop_lanes.specs.Spans.{FitsSpan};
 ghost use Rattle.shop_lanes.specs.Ends.{IsFirstLeast};
-ghost use Rattle.shop_blocks.specs.Eights.{is_between};
-ghost use Rattle.shop_blocks.specs.Folds.{least_up_to};
+ghost use Rattle.shop_lanes.specs.Eights.{is_between};
+ghost use Rattle.shop_lanes.specs.Folds.{least_up_to};
 ghost use Rattle.shop_lanes.specs.inner.Passes.{lanes_by, span_by, AreColumns, IsFirstOf};
 
+use crate::blocks::Block;
+use crate::folds::{greatest_of, least_of, sums_before};
 use crate::served_blocks::serve;
-use shop_blocks::{Block, greatest_of, least_of, sums_before};
 
 /// The columns of all blocks served side by side, each from 0 on: when each one ends, and the greatest end of each one,
 /// tails included. With a literal `count` the loop over blocks is unrolled.

@@ -1,9 +1,9 @@
 // A block of eight columns served, each column from a clock of its own on.
 ghost use Rattle.std.specs.Prelude.{◌≡◌, length};
-ghost use Rattle.shop_blocks.specs.Eights.{IsSplat};
+ghost use Rattle.shop_lanes.specs.Eights.{IsSplat};
 ghost use Rattle.shop_lanes.specs.inner.Passes.{FitServed, AreTailed, AreServed};
 
-use shop_blocks::Block;
+use crate::blocks::Block;
 
 /// The clock of each column afterwards, and when each lane that waits ends, its tail included, with 0 for the others.
 #[inline(always)]

@@ -13,7 +13,7 @@ use Rattle.shop_model.proofs.SwappedPairs.{AllPairs-permutation}
 use Rattle.shop_layout.specs.declared.slots.Slot.{Slot}
 use Rattle.shop_layout.specs.Slots.{AreSlotsOf, operations_in, operations_on, slot_at}
 use Rattle.shop_layout.specs.inner.Layings.{AreApart}
-use Rattle.one_machine.proofs.Lists.{Pairwise, all_map, pairwise_append, pairwise_filter}
+use Rattle.shop_bound.proofs.Lists.{Pairwise, all_map, pairwise_append, pairwise_filter}
 use Rattle.shop_layout.proofs.FlatLists.{all_flat, all_mapped, range_within}
 
 -- not the same step of a job

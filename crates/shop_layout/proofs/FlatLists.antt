@@ -1,7 +1,7 @@
 -- What holds of each element of a mapped list, of joined lists, and of a range.
 use Rattle.std.proofs.Common.{map, ℕ, zero, suc, ◌+◌, ◌≤◌, ◌<◌, List, [], ◌∷◌, arith}
 use Rattle.std.specs.List.{AllByRecursion, flat_map, range_with_len}
-use Rattle.one_machine.proofs.Lists.{all_map, all_append}
+use Rattle.shop_bound.proofs.Lists.{all_map, all_append}
 
 pub all_mapped : {A B : Type 0} (P : B → Type 0) (g : A → B) (xs : List A) → AllByRecursion (λ x. P (g x)) xs
     → AllByRecursion P (map g xs)

@@ -5,7 +5,7 @@ use Rattle.std.proofs.lemmas.Bool.{cases_eq, cases_lt}
 use Rattle.shop_model.specs.Limits.{IsWithinLimits}
 use Rattle.shop_model.specs.Shop.{Shop, IsOperation, route_of, machine_of, time_of}
 use Rattle.shop_model.proofs.Ends.{IsOperation-job}
-use Rattle.shop_heads.specs.Heads.{tail_of}
+use Rattle.shop_bound.specs.Heads.{tail_of}
 use Rattle.shop_layout.specs.Slots.{slot_at}
 use Rattle.shop_layout.specs.Positions.{IsFree, LayoutState, place, first_position, IsAt, IsLaidOut}
 use Rattle.shop_layout.specs.Positions.{IsPadding, position_at_rank}

@@ -9,7 +9,7 @@ use Rattle.shop_model.specs.Shop.{Shop}
 use Rattle.shop_model.specs.Word.{IsWord}
 use Rattle.shop_layout.specs.HeadLimits.{FitsLanes}
 use Rattle.shop_layout.proofs.LatestEnds.{latest_end_is}
-use Rattle.one_machine.proofs.Lists.{get_or-le-greatest_of}
+use Rattle.shop_bound.proofs.Lists.{get_or-le-greatest_of}
 use Rattle.shop_layout.specs.Positions.{LayoutState, place, first_position, IsLaidOut}
 use Rattle.shop_layout.proofs.LaidPlaces.{place_of, cell_at, machine_at, machines_rise}
 

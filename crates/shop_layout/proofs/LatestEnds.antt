@@ -14,9 +14,9 @@ use Rattle.shop_model.proofs.Greatest.{le-greatest_below}
 use Rattle.shop_model.proofs.Placings.{IsNext, place_next-is}
 use Rattle.shop_model.proofs.Unders.{placing-snoc, next_operation, after_word}
 use Rattle.shop_model.proofs.WordLemmas.{snoc_induct, IsWord-init}
-use Rattle.shop_heads.specs.Heads.{head_of, ready_after}
+use Rattle.shop_bound.specs.Heads.{head_of, ready_after}
 use Rattle.shop_layout.specs.HeadLimits.{total_before, latest_release, latest_end}
-use Rattle.shop_heads.proofs.HeadTurns.{ready_first, ready_more}
+use Rattle.shop_bound.proofs.HeadTurns.{ready_first, ready_more}
 
 -- the times of the first k steps of job i
 abbrev begun : Shop → ℕ → ℕ → ℕ

@@ -11,8 +11,8 @@ use Rattle.shop_lanes.proofs.LaneLists.{length-blocks}
 use Rattle.shop_model.specs.declared.ops.Op.{Op}
 use Rattle.shop_model.specs.Limits.{IsWithinLimits}
 use Rattle.shop_model.specs.Shop.{Shop, route_of, time_of}
-use Rattle.one_machine.specs.OneMachine.{greatest_of}
-use Rattle.shop_heads.specs.Heads.{tail_in}
+use Rattle.shop_bound.specs.OneMachine.{greatest_of}
+use Rattle.shop_bound.specs.Heads.{tail_in}
 use Rattle.shop_layout.specs.HeadLimits.{total_before, load_on}
 use Rattle.shop_layout.specs.Positions.{LayoutState, IsLaidOut, first_position, position_at_rank}
 use Rattle.shop_layout.specs.declared.slots.Slot.{Slot}
@@ -21,7 +21,7 @@ use Rattle.shop_layout.proofs.ColumnSums.{sum_by_columns}
 use Rattle.shop_layout.proofs.LaidPlaces.{machines_rise}
 use Rattle.shop_layout.proofs.Ranks.{rank_at}
 use Rattle.shop_layout.proofs.SlotFacts.{slots_are_operations}
-use Rattle.shop_heads.proofs.TimeSums.{route_times}
+use Rattle.shop_bound.proofs.TimeSums.{route_times}
 
 pub total_small : (shop : Shop) → IsWithinLimits shop → (n : ℕ) → total_before shop n ≤ n * 100000000000
 total_small shop limits zero = omega arith

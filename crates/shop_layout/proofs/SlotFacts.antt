@@ -11,7 +11,7 @@ use Rattle.std.proofs.lemmas.List.Sorted.{All-permutation, Contains-permutation}
 use Rattle.shop_model.specs.Shop.{Shop, route_of, machine_of, IsOperation}
 use Rattle.shop_layout.specs.declared.slots.Slot.{Slot}
 use Rattle.shop_layout.specs.Slots.{slot_at, operations_in, operations_on, AreSlotsOf}
-use Rattle.one_machine.proofs.Lists.{all_map, all_filter}
+use Rattle.shop_bound.proofs.Lists.{all_map, all_filter}
 use Rattle.shop_layout.proofs.FlatLists.{all_flat, all_mapped, range_within}
 
 -- an operation of machine m

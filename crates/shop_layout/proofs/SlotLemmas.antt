@@ -9,9 +9,9 @@ use Rattle.std.proofs.lemmas.List.Elements.{filter-append}
 use Rattle.shop_model.specs.declared.ops.Op.{Op}
 use Rattle.shop_model.specs.Shop.{no_op}
 use Rattle.shop_layout.specs.declared.slots.Slot.{Slot}
-use Rattle.shop_heads.specs.Heads.{tail_in}
+use Rattle.shop_bound.specs.Heads.{tail_in}
 use Rattle.shop_layout.specs.Slots.{slot_at}
-use Rattle.shop_heads.proofs.UnplacedTurns.{range_more}
+use Rattle.shop_bound.proofs.UnplacedTurns.{range_more}
 
 -- one more step of a route: it is on the machine
 pub added_in : (route : List Op) (m j k tail : ℕ) (old now new : List Slot)

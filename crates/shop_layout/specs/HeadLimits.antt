@@ -8,7 +8,7 @@
 use Rattle.std.specs.Prelude.{ℕ, zero, suc, ◌+◌, ◌<◌, List, length, slice_index, sum_by}
 use Rattle.shop_lanes.specs.Rows.{blocks}
 use Rattle.shop_model.specs.Shop.{Shop, route_of, release_of, greatest_below}
-use Rattle.one_machine.specs.OneMachine.{greatest_of}
+use Rattle.shop_bound.specs.OneMachine.{greatest_of}
 use Rattle.shop_layout.specs.Positions.{LayoutState}
 
 abbrev pub total_before : Shop → ℕ → ℕ

@@ -6,8 +6,8 @@ use Rattle.std.specs.Prelude.{slice_index_or, IsPermutation}
 use Rattle.std.specs.List.{range_with_len}
 use Rattle.shop_model.specs.declared.ops.Op.{Op}
 use Rattle.shop_model.specs.Shop.{Shop, no_op, route_of}
-use Rattle.shop_heads.specs.Heads.{tail_in}
-use Rattle.one_machine.specs.inner.NonincreasingTails.{IsNonincreasing}
+use Rattle.shop_bound.specs.Heads.{tail_in}
+use Rattle.shop_bound.specs.inner.NonincreasingTails.{IsNonincreasing}
 use Rattle.shop_layout.specs.declared.slots.Slot.{Slot}
 
 -- step k of job j, which has this route, as its machine sees it

@@ -5,7 +5,7 @@ ghost use Rattle.shop_layout.specs.HeadLimits.{latest_end, load_of, load_on};
 ghost use Rattle.shop_layout.specs.Positions.{IsLaidOut};
 
 use crate::positions::Positions;
-use shop_heads::total_time;
+use shop_bound::total_time;
 use shop_model::Instance;
 
 /// The latest release and all times together: no operation ends later if each is placed as soon as its job and its

@@ -2,12 +2,12 @@
 ghost use Rattle.std.specs.Prelude.{◌≡◌, ℕ, ◌<◌, [], slice_index_or, IfOk, OnOk, length, map};
 ghost use Rattle.std.specs.Prelude.{replicate};
 ghost use Rattle.shop_model.specs.Shop.{no_op};
-ghost use Rattle.shop_heads.specs.Heads.{AreTimesSmall};
+ghost use Rattle.shop_bound.specs.Heads.{AreTimesSmall};
 ghost use Rattle.shop_layout.specs.Slots.{AreMachineSlots};
 ghost use Rattle.shop_layout.specs.inner.MachineLists.{AddsOperations, AreOperations};
 ghost use Rattle.shop_layout.specs.inner.Vectors.{items_in};
 
-use shop_heads::total_time;
+use shop_bound::total_time;
 use shop_model::{Instance, Op};
 use std::alloc::{AllocError, Global};
 use std::cmp::Reverse;

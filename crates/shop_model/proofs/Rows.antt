@@ -1,7 +1,7 @@
 -- Worked rows, computed from the definitions.
 use Rattle.std.proofs.Common.{◌≡◌, ℕ, inl, List, [], ◌∷◌, refl, arith, lit<}
 use Rattle.shop_model.specs.declared.ops.Op.{Op}
-use Rattle.shop_model.specs.declared.ops.Position.{Position}
+use Rattle.shop_model.specs.declared.ops.OperationId.{OperationId}
 use Rattle.shop_model.specs.declared.checking.Verdict.TheVariants.{Feasible, WrongSize, Unreleased, Early, Overlap}
 use Rattle.shop_model.specs.Shop.{Shop, ShopJob, end_of, IsFeasible}
 use Rattle.shop_model.specs.Word.{placed, rows_of, start_jobs}
@@ -15,7 +15,7 @@ op m p = record { machine = m; time = p }
 abbrev pub job : List Op → ShopJob
 job r = record { release = 0; route = r }
 
-abbrev pub at : ℕ → ℕ → Position
+abbrev pub at : ℕ → ℕ → OperationId
 at j k = record { job = j; step = k }
 
 -- A: two jobs that cross, `2 2` / `0 3 1 2` / `1 2 0 4`

@@ -9,7 +9,7 @@ use Rattle.std.proofs.lemmas.List.Elements.{All-from_recursion}
 use Rattle.std.proofs.lemmas.List.FromFn.{length-range_with_len, get_or-range_with_len, length-map-range_with_len}
 use Rattle.std.proofs.lemmas.List.FromFn.{get_or-map-range_with_len}
 use Rattle.std.proofs.lemmas.List.Sums.{sum_by-take-le, sum_by_more}
-use Rattle.shop_model.specs.declared.spans.Span.{Span}
+use Rattle.shop_model.specs.declared.spans.Occupied.{Occupied}
 use Rattle.shop_model.specs.Shop.{Shop, route_of, IsOperation}
 use Rattle.shop_model.specs.Checking.{starts_of, IsBefore}
 use Rattle.shop_model.specs.inner.FirstFaults.{AllApart}
@@ -17,14 +17,14 @@ use Rattle.shop_model.specs.inner.Spans.{span_at, spans_at, spans_of, IsInTurn, 
 use Rattle.shop_model.proofs.Ends.{IsOperation-job}
 
 -- two spans on one machine don't overlap
-abbrev pub ArePartedSpans : Span → Span → Type 0
+abbrev pub ArePartedSpans : Occupied → Occupied → Type 0
 ArePartedSpans a b = a.machine ≡ b.machine → (a.finish ≤ b.start) ⊎ (b.finish ≤ a.start)
 
 -- no span ends before it begins
-abbrev pub IsForward : Span → Type 0
+abbrev pub IsForward : Occupied → Type 0
 IsForward a = a.start ≤ a.finish
 
-in_turn_through : (a b c : Span) → IsForward b → IsInTurn a b → IsInTurn b c → IsInTurn a c
+in_turn_through : (a b c : Occupied) → IsForward b → IsInTurn a b → IsInTurn b c → IsInTurn a c
 in_turn_through a b c forward one two = elim one [
   | inl h ↦ elim two [ inl g ↦ inl (omega arith) | inr g ↦ inl (let e = g.0 in omega arith) ]
   | inr h ↦ elim two [
@@ -33,7 +33,7 @@ in_turn_through a b c forward one two = elim one [
   ]
 ]
 
-in_turn_far : (xs : List Span) → AreInTurn xs → All IsForward xs → (k l : ℕ) (d : Span) → k < l → l < length xs
+in_turn_far : (xs : List Occupied) → AreInTurn xs → All IsForward xs → (k l : ℕ) (d : Occupied) → k < l → l < length xs
     → IsInTurn (get_or xs k d) (get_or xs l d)
 in_turn_far xs turns forward k zero d before below = absurd (omega arith)
 in_turn_far xs turns forward k (suc l) d before below =
@@ -46,34 +46,34 @@ in_turn_far xs turns forward k (suc l) d before below =
           (in_turn_far xs turns forward k l d (omega arith) (omega arith)) next
     ]
 
-in_turn_parted : (a b : Span) → IsInTurn a b → ArePartedSpans a b
+in_turn_parted : (a b : Occupied) → IsInTurn a b → ArePartedSpans a b
 in_turn_parted a b turn same = elim turn [ inl h ↦ absurd (omega arith) | inr h ↦ inl h.1 ]
 
-pub parted_pairs : (xs : List Span) → AreInTurn xs → All IsForward xs → AllPairs ArePartedSpans xs
+pub parted_pairs : (xs : List Occupied) → AreInTurn xs → All IsForward xs → AllPairs ArePartedSpans xs
 parted_pairs xs turns forward k l d before below =
     in_turn_parted (get_or xs k d) (get_or xs l d) (in_turn_far xs turns forward k l d before below)
 
-pub parted_both_ways : (a b : Span) → ArePartedSpans a b → ArePartedSpans b a
+pub parted_both_ways : (a b : Occupied) → ArePartedSpans a b → ArePartedSpans b a
 parted_both_ways a b parted same = elim (parted (sym same)) [ inl h ↦ inr h | inr h ↦ inl h ]
 
 -- lists of spans that are all forward
-forward_map : (f : ℕ → Span) → ((n : ℕ) → IsForward (f n)) → (ns : List ℕ) → AllByRecursion IsForward (map f ns)
+forward_map : (f : ℕ → Occupied) → ((n : ℕ) → IsForward (f n)) → (ns : List ℕ) → AllByRecursion IsForward (map f ns)
 forward_map f h [] = tt
 forward_map f h (n ∷ ns) = (h n, forward_map f h ns)
 
-forward_append : (xs ys : List Span) → AllByRecursion IsForward xs → AllByRecursion IsForward ys
+forward_append : (xs ys : List Occupied) → AllByRecursion IsForward xs → AllByRecursion IsForward ys
     → AllByRecursion IsForward (xs ++ ys)
 forward_append [] ys h g = g
 forward_append (x ∷ xs) ys h g = (h.0, forward_append xs ys h.1 g)
 
-forward_parts : (f : ℕ → List Span) → ((n : ℕ) → AllByRecursion IsForward (f n)) → (ns : List ℕ)
+forward_parts : (f : ℕ → List Occupied) → ((n : ℕ) → AllByRecursion IsForward (f n)) → (ns : List ℕ)
     → AllByRecursion IsForward (flat_map f ns)
 forward_parts f h [] = tt
 forward_parts f h (n ∷ ns) = forward_append (f n) (flat_map f ns) (h n) (forward_parts f h ns)
 
 -- where the span of step k of job j stands
 module _ (shop : Shop) (rows : List (List ℕ)) where
-  abbrev part : ℕ → List Span
+  abbrev part : ℕ → List Occupied
   part j = spans_at (route_of shop j) (slice_index_or rows j [])
 
   abbrev numbers : List ℕ
@@ -82,7 +82,7 @@ module _ (shop : Shop) (rows : List (List ℕ)) where
   abbrev place : ℕ → ℕ → ℕ
   place j k = length (flat_map part (take j numbers)) + k
 
-  abbrev span : ℕ → ℕ → Span
+  abbrev span : ℕ → ℕ → Occupied
   span j k = span_at (route_of shop j) (slice_index_or rows j []) k
 
   part_length : (j : ℕ) → length (part j) ≡ length (route_of shop j)
@@ -92,7 +92,7 @@ module _ (shop : Shop) (rows : List (List ℕ)) where
   number_at : (j : ℕ) → j < length shop.jobs → get_or numbers j 0 ≡ j
   number_at j h = get_or-range_with_len 0 (length shop.jobs) j 0 h ∙ omega arith
 
-  span_in_place : (j k : ℕ) (d : Span) → IsOperation shop j k → get_or (spans_of shop rows) (place j k) d ≡ span j k
+  span_in_place : (j k : ℕ) (d : Occupied) → IsOperation shop j k → get_or (spans_of shop rows) (place j k) d ≡ span j k
   span_in_place j k d op =
       let job = IsOperation-job shop j k op
       in let many = length-range_with_len 0 (length shop.jobs)
@@ -140,7 +140,7 @@ module _ (shop : Shop) (rows : List (List ℕ)) where
 
   pub apart_from_pairs : AllPairs ArePartedSpans (spans_of shop rows) → AllApart shop (starts_of rows)
   apart_from_pairs all j k i l op other before same =
-      let d : Span = record { machine = 0; start = 0; finish = 0 }
+      let d : Occupied = record { machine = 0; start = 0; finish = 0 }
       in (rw (span_in_place j k d op, span_in_place i l d other)
       at (all (place j k) (place i l) d (place_before j k i l op other before) (place_below i l other))) same
 

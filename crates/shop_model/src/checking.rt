@@ -5,7 +5,7 @@ ghost use Rattle.shop_model.specs.Checking.{HasShape, starts_of, EndsAt, IsVerdi
 ghost use Rattle.shop_model.specs.inner.FirstFaults.{TellsFirstEarly};
 
 use crate::instances::Instance;
-use crate::ops::Position;
+use crate::ops::OperationId;
 use crate::overlaps::first_overlap;
 use crate::spans::are_in_turn_sorted;
 use crate::steps::{early_step, last_finish};
@@ -34,8 +34,8 @@ pub enum Verdict {
     /// step. An operation of time 0 may not stand strictly inside another.
     Overlap {
         machine: usize,
-        first: Position,
-        second: Position,
+        first: OperationId,
+        second: OperationId,
     },
 }
 
@@ -55,13 +55,13 @@ fn has_shape(instance: &Instance, table: &Table) -> bool
 }
 
 /// The first operation that begins too early.
-fn first_early(instance: &Instance, table: &Table) -> Option<Position>
+fn first_early(instance: &Instance, table: &Table) -> Option<OperationId>
     requires { HasShape instance.now table.now }
     ensures { TellsFirstEarly instance.now (starts_of table.now) result }
 {
     for j in 0..instance.jobs() {
         if let Some(k) = early_step(instance.release(j), instance.route(j), table.row(j)) {
-            return Some(Position { job: j, step: k });
+            return Some(OperationId { job: j, step: k });
         }
     }
     None

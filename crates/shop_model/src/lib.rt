@@ -20,7 +20,7 @@ pub use checking::{Verdict, check, check_quickly, makespan};
 pub use instances::{Instance, JobsFault, SizeFault};
 pub use laws::operations_begin_as_soon_as_they_can;
 pub use limits::{MAX_JOBS, MAX_MACHINES, MAX_START, MAX_STEPS, MAX_TIME};
-pub use ops::{Job, Op, Position};
+pub use ops::{Job, Op, OperationId};
 pub use placements::Placement;
 pub use placing::place;
 pub use shared_words::SharedWord;

@@ -16,7 +16,7 @@ pub struct Job {
 
 /// The place of an operation: step `step` of job `job`, both counted from 0.
 #[derive(Clone, Copy, Debug, PartialEq, Eq)]
-pub struct Position {
+pub struct OperationId {
     pub job: usize,
     pub step: usize,
 }

@@ -7,12 +7,12 @@ ghost use Rattle.shop_model.specs.inner.FirstFaults.{TellsFirstAfter, TellsFirst
 ghost use Rattle.shop_model.specs.inner.FirstFaults.{TellsFirstOverlap};
 
 use crate::instances::Instance;
-use crate::ops::Position;
+use crate::ops::OperationId;
 use crate::steps::{are_clear, clash_from};
 use crate::tables::Table;
 
 /// The first operation after (j, k) that it overlaps with.
-fn first_overlap_with(instance: &Instance, table: &Table, j: usize, k: usize) -> Option<Position>
+fn first_overlap_with(instance: &Instance, table: &Table, j: usize, k: usize) -> Option<OperationId>
     requires shape { HasShape instance.now table.now }
     requires operation { IsOperation instance.now j k }
     ensures { TellsFirstAfter instance.now (starts_of table.now) j k result }
@@ -30,7 +30,7 @@ fn first_overlap_with(instance: &Instance, table: &Table, j: usize, k: usize) ->
             table.row(i),
             from,
         ) {
-            return Some(Position { job: i, step: l });
+            return Some(OperationId { job: i, step: l });
         }
     }
     None
@@ -54,7 +54,7 @@ fn is_job_apart(instance: &Instance, table: &Table, j: usize) -> bool
 }
 
 /// The first step of job j that overlaps with a later operation, and the first such operation.
-fn first_overlap_of(instance: &Instance, table: &Table, j: usize) -> Option<(usize, Position)>
+fn first_overlap_of(instance: &Instance, table: &Table, j: usize) -> Option<(usize, OperationId)>
     requires shape { HasShape instance.now table.now }
     requires job { j < length instance.now.jobs }
     ensures { TellsFirstOverlapOf instance.now (starts_of table.now) j result }
@@ -68,7 +68,10 @@ fn first_overlap_of(instance: &Instance, table: &Table, j: usize) -> Option<(usi
 }
 
 /// The first pair of operations that overlap.
-pub(crate) fn first_overlap(instance: &Instance, table: &Table) -> Option<(Position, Position)>
+pub(crate) fn first_overlap(
+    instance: &Instance,
+    table: &Table,
+) -> Option<(OperationId, OperationId)>
     requires shape { HasShape instance.now table.now }
     requires in_time { NoneEarly instance.now (starts_of table.now) }
     ensures { TellsFirstOverlap instance.now (starts_of table.now) result }
@@ -78,7 +81,7 @@ pub(crate) fn first_overlap(instance: &Instance, table: &Table) -> Option<(Posit
             continue;
         }
         if let Some((k, second)) = first_overlap_of(instance, table, j) {
-            return Some((Position { job: j, step: k }, second));
+            return Some((OperationId { job: j, step: k }, second));
         }
     }
     None

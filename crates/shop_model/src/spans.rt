@@ -12,19 +12,19 @@ use std::alloc::{AllocError, Global};
 
 /// An operation in a table: from when to when it takes its machine.
 #[derive(Clone, Copy, PartialEq, Eq, PartialOrd, Ord)]
-pub(crate) struct Span {
+pub(crate) struct Occupied {
     machine: usize,
     start: u64,
     finish: u64,
 }
 
 /// Adds the spans of one job.
-fn push_spans(spans: &mut Vec<Span>, route: &[Op], row: &[u64]) -> Result<(), AllocError>
+fn push_spans(spans: &mut Vec<Occupied>, route: &[Op], row: &[u64]) -> Result<(), AllocError>
     requires { AreSmall route.now row.now }
     ensures { OnOk result (spans.new.items ≡ spans.old.items ++ spans_at route.now row.now) }
 {
     for k in 0..route.len() {
-        spans.push(Span {
+        spans.push(Occupied {
             machine: route[k].machine,
             start: row[k],
             finish: row[k] + route[k].time,
@@ -34,7 +34,7 @@ fn push_spans(spans: &mut Vec<Span>, route: &[Op], row: &[u64]) -> Result<(), Al
 }
 
 /// The spans of all operations, job by job.
-fn spans(alloc: Global, instance: &Instance, table: &Table) -> Result<Vec<Span>, AllocError>
+fn spans(alloc: Global, instance: &Instance, table: &Table) -> Result<Vec<Occupied>, AllocError>
     requires { HasShape instance.now table.now }
     ensures { IfOk result (λ v. v.items ≡ spans_of instance.now table.now) }
 {
@@ -46,7 +46,7 @@ fn spans(alloc: Global, instance: &Instance, table: &Table) -> Result<Vec<Span>,
 }
 
 /// Whether each span is on a lower machine than the next, or on the same one and ends before the next begins.
-fn are_in_turn(spans: &[Span]) -> bool
+fn are_in_turn(spans: &[Occupied]) -> bool
     ensures { IsTrue result ↔ AreInTurn spans.now }
 {
     for k in 1..spans.len() {

@@ -14,9 +14,9 @@ use Rattle.shop_model.proofs.WordLemmas.{count_of-snoc_same, count_of-snoc_other
 use Rattle.shop_model.proofs.Ends.{IsOperation-job}
 use Rattle.shop_model.proofs.Placings.{IsNext, place_next-is, Follows, follows_next, steps_grow, merged, merged_ends}
 use Rattle.shop_model.proofs.Unders.{AfterWord, after_word, follows_word, merged_under, under-snoc, placing-snoc}
-use Rattle.shop_heads.specs.Bound.{lb}
-use Rattle.shop_heads.proofs.Entries.{IsWord-snoc}
-use Rattle.one_machine.proofs.Lists.{all_filter}
+use Rattle.shop_bound.specs.Bound.{lb}
+use Rattle.shop_bound.proofs.Entries.{IsWord-snoc}
+use Rattle.shop_bound.proofs.Lists.{all_filter}
 use Rattle.shop_nodes.specs.Branching.{open_jobs, next_machine, next_head, next_end, chosen_of, conflicts_with}
 use Rattle.shop_nodes.specs.Branching.{conflict_among, conflict, branch}
 use Rattle.shop_nodes.proofs.FirstOn.{IsFirstOn, first_on}

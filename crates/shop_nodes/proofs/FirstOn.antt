@@ -9,9 +9,9 @@ use Rattle.shop_model.specs.Shop.{AreDifferent}
 use Rattle.shop_model.specs.Word.{Placing}
 use Rattle.shop_model.proofs.Ends.{IsOperation-job}
 use Rattle.shop_model.proofs.Placings.{Follows}
-use Rattle.shop_heads.specs.Bound.{Waiting, waiting_from, waiting_of, waiting}
-use Rattle.one_machine.proofs.Lists.{all_map, all_append, all_filter, all_both}
-use Rattle.shop_heads.proofs.BoundLaw.{Fits, waiting-fits, from_step, front_of}
+use Rattle.shop_bound.specs.Bound.{Waiting, waiting_from, waiting_of, waiting}
+use Rattle.shop_bound.proofs.Lists.{all_map, all_append, all_filter, all_both}
+use Rattle.shop_bound.proofs.BoundLaw.{Fits, waiting-fits, from_step, front_of}
 use Rattle.shop_nodes.proofs.Members.{In, in_all, in_filter, in_flat_map, in_range, best_of-least}
 
 -- what waits stands behind the placed steps

@@ -7,9 +7,9 @@ use Rattle.std.proofs.lemmas.List.{length-append}
 use Rattle.shop_model.specs.Shop.{Shop, route_of}
 use Rattle.shop_model.specs.Word.{placing, IsWord}
 use Rattle.shop_model.proofs.Unders.{after_word}
-use Rattle.shop_heads.specs.Bound.{lb}
-use Rattle.shop_heads.proofs.Entries.{IsWord-snoc}
-use Rattle.one_machine.proofs.Lists.{all_append, all_filter}
+use Rattle.shop_bound.specs.Bound.{lb}
+use Rattle.shop_bound.proofs.Entries.{IsWord-snoc}
+use Rattle.shop_bound.proofs.Lists.{all_append, all_filter}
 use Rattle.shop_nodes.specs.Branching.{open_jobs, chosen_of, conflicts_with, conflict_among, conflict, branch}
 use Rattle.shop_nodes.specs.Walking.{Walk, walk, walk_within, operations_left, taking, unless_cut, sheet}
 use Rattle.shop_nodes.specs.Laws.{IsBestOf, SearchesLoseNoTable}

@@ -4,7 +4,7 @@ use Rattle.std.proofs.Common.{refl, sym, ◌∙◌, ap, arith, ltb, append_assoc
 use Rattle.std.specs.List.{AllByRecursion, fold}
 use Rattle.std.proofs.lemmas.Bool.{cases_Bool, le-ltb, lt-ltb, ltb-true}
 use Rattle.shop_model.specs.Shop.{Shop}
-use Rattle.shop_heads.specs.Bound.{lb}
+use Rattle.shop_bound.specs.Bound.{lb}
 use Rattle.shop_nodes.specs.Pieces.{words_below}
 use Rattle.shop_nodes.specs.Walking.{Walk, walk}
 use Rattle.shop_nodes.proofs.WalkSteps.{walk-cut, walk-left}

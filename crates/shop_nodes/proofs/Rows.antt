@@ -2,7 +2,7 @@
 use Rattle.std.proofs.Common.{◌≡◌, [], ◌∷◌, refl, Some, None, map}
 use Rattle.shop_model.proofs.Rows.{shop_a, shop_g}
 pub use Rattle.shop_model.proofs.Rows.{shop_z}
-use Rattle.shop_heads.specs.Bound.{lb}
+use Rattle.shop_bound.specs.Bound.{lb}
 use Rattle.shop_nodes.specs.Branching.{conflict, branch}
 use Rattle.shop_nodes.specs.Walking.{sheet}
 

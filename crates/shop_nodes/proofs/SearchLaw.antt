@@ -6,8 +6,8 @@ use Rattle.std.specs.List.{fold}
 use Rattle.std.proofs.lemmas.Bool.{leb-true, leb-false}
 use Rattle.shop_model.specs.Shop.{Shop, Starts, end_of}
 use Rattle.shop_model.specs.Word.{IsWord, IsUnder}
-use Rattle.shop_heads.specs.Bound.{lb}
-use Rattle.shop_heads.proofs.BoundLaw.{lb-le-end}
+use Rattle.shop_bound.specs.Bound.{lb}
+use Rattle.shop_bound.proofs.BoundLaw.{lb-le-end}
 use Rattle.shop_nodes.specs.Branching.{branch}
 use Rattle.shop_nodes.specs.Walking.{Walk, walk_within, operations_left, taking, unless_cut}
 use Rattle.shop_nodes.proofs.Members.{In, in_left, in_right}

@@ -8,7 +8,7 @@ use Rattle.std.proofs.lemmas.List.FromFn.{length-range_with_len}
 use Rattle.std.proofs.lemmas.List.Sums.{length-filter, count_by-le-length}
 use Rattle.std.specs.Prelude.{nat_lt}
 use Rattle.shop_model.specs.Shop.{Shop, route_of}
-use Rattle.shop_heads.specs.Bound.{lb}
+use Rattle.shop_bound.specs.Bound.{lb}
 use Rattle.shop_model.specs.Word.{placing}
 use Rattle.shop_nodes.specs.Branching.{branch, conflict, conflict_among, open_jobs, sort_by, insert_by, conflicts_with}
 use Rattle.shop_nodes.specs.Branching.{chosen_of}

@@ -20,7 +20,7 @@ use Rattle.std.specs.Arc.{arc_slice_items}
 use Rattle.std.specs.List.{AllByRecursion}
 use Rattle.shop_model.specs.Shop.{Shop, operation_count}
 use Rattle.shop_model.specs.Word.{IsWord}
-use Rattle.shop_heads.specs.Bound.{lb}
+use Rattle.shop_bound.specs.Bound.{lb}
 use Rattle.shop_nodes.specs.Branching.{branch}
 use Rattle.shop_nodes.specs.declared.halts.Halt.{Halt}
 use Rattle.shop_nodes.specs.declared.halts.Open.{Open}

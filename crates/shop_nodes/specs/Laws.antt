@@ -8,7 +8,7 @@
 use Rattle.std.specs.Prelude.{◌≡◌, ℕ, ◌≤◌, ◌⊎◌, Option, Some, None, List, Contains}
 use Rattle.shop_model.specs.Shop.{Shop, Starts, end_of}
 use Rattle.shop_model.specs.Word.{IsWord, IsFull, IsUnder}
-use Rattle.shop_heads.specs.Bound.{lb}
+use Rattle.shop_bound.specs.Bound.{lb}
 use Rattle.shop_nodes.specs.Branching.{branch}
 use Rattle.shop_nodes.specs.Walking.{Walk, sheet}
 

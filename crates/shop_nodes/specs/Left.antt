@@ -5,7 +5,7 @@
 --     open_nodes shop c ws      the words of bounds below c as nodes, in order
 use Rattle.std.specs.Prelude.{ℕ, Option, List, ◌++◌, map}
 use Rattle.shop_model.specs.Shop.{Shop}
-use Rattle.shop_heads.specs.Bound.{lb}
+use Rattle.shop_bound.specs.Bound.{lb}
 use Rattle.shop_nodes.specs.Halts.{halted_words, AreHalted}
 use Rattle.shop_nodes.specs.Nodes.{words_of, AreNodes}
 use Rattle.shop_nodes.specs.Pieces.{words_below}

@@ -7,7 +7,7 @@
 --                                                                  of the piece's words
 use Rattle.std.specs.Prelude.{◌≡◌, ℕ, ◌-◌, Option, List, filter, nat_lt}
 use Rattle.shop_model.specs.Shop.{Shop}
-use Rattle.shop_heads.specs.Bound.{lb}
+use Rattle.shop_bound.specs.Bound.{lb}
 use Rattle.shop_nodes.specs.Nodes.{words_of}
 use Rattle.shop_nodes.specs.Walking.{Walk, sheet}
 use Rattle.shop_nodes.specs.declared.pieces.Piece.{Piece}

@@ -1,9 +1,9 @@
 // A word with its lower bound.
 ghost use Rattle.std.specs.Prelude.{◌≡◌, IfOk};
 ghost use Rattle.shop_model.specs.Word.{IsWord};
-ghost use Rattle.shop_heads.specs.Bound.{lb};
+ghost use Rattle.shop_bound.specs.Bound.{lb};
 
-use shop_heads::lower_bound;
+use shop_bound::lower_bound;
 use shop_model::{Instance, Word};
 use std::alloc::{AllocError, Global};
 

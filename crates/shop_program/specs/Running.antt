@@ -7,17 +7,17 @@
 --     IsStart old new status                it ended on some words
 use Rattle.std.specs.Prelude.{◌≡◌, ℕ, ◌⊎◌, List, Result, Ok, Err}
 use Rattle.clap.specs.Words.{Text}
-use Rattle.shop_args.specs.declared.SolveArgs.{SolveArgs}
-use Rattle.shop_verdicts.specs.declared.faults.Fault.{Fault}
-use Rattle.shop_verdicts.specs.Devices.{Device}
-use Rattle.shop_verdicts.specs.Asking.{name_in}
+use Rattle.shop_engine.specs.declared.args.SolveArgs.{SolveArgs}
+use Rattle.shop_engine.specs.declared.faults.Fault.{Fault}
+use Rattle.shop_engine.specs.Devices.{Device}
+use Rattle.shop_engine.specs.Asking.{name_in}
 use Rattle.shop_engine.specs.Headline.{IsRightOf, IsDeterminedOf, WhereKnown}
 use Rattle.shop_engine.specs.Solving.{IsSolving}
-use Rattle.shop_line.specs.CommandLine.{IsLineOf, IsUnread}
-use Rattle.shop_line.specs.declared.arguments.Args.{Args}
-use Rattle.shop_line.specs.declared.arguments.Args.TheVariants.{List as ListNames, Check, Solve}
-use Rattle.shop_checker.specs.Statuses.{status_of}
-use Rattle.shop_checker.specs.Commands.{Streams, IsRunOn, ListsFrom, ChecksFrom}
+use Rattle.shop_program.specs.CommandLine.{IsLineOf, IsUnread}
+use Rattle.shop_program.specs.declared.arguments.Args.{Args}
+use Rattle.shop_program.specs.declared.arguments.Args.TheVariants.{List as ListNames, Check, Solve}
+use Rattle.shop_program.specs.Statuses.{status_of}
+use Rattle.shop_program.specs.Commands.{Streams, IsRunOn, ListsFrom, ChecksFrom}
 
 pub record HasSolved (args : SolveArgs) (sink sink' : Device) (result : Result (Unit {0}) Fault)
     (source source' : Device) : Type 0 where

@@ -1,13 +1,13 @@
 // Entry points: the program over its words and its streams.
 ghost use Rattle.std.specs.Prelude.{map, string_bytes, IfErr};
-ghost use Rattle.shop_checker.specs.Commands.{Streams};
+ghost use Rattle.shop_program.specs.Commands.{Streams};
 ghost use Rattle.shop_program.specs.Running.{IsNoWords, IsEnd, IsStart};
 
+use crate::reading_args::args_of;
 use crate::running::run_args;
-use shop_checker::{say_fault, say_line_fault, say_no_memory, say_no_text};
-use shop_crews::Crews;
+use crate::saying::{say_fault, say_line_fault, say_no_memory, say_no_text};
 use shop_engine::{Sink, Source};
-use shop_line::args_of;
+use shop_runs::MakesCrew;
 use std::env::args;
 use std::io::ErrorKind;
 use std::rt::{Env, Files};
@@ -31,7 +31,7 @@ fn words_of<R: Env + AllocGlobal, E: Sink>(rt: &R, err: &mut E) -> Result<Vec<St
 /// Runs the program on the words of a command line, the program's name first: it reads files or the source, writes to
 /// `out`, and says faults on `err`; `crews` makes who searches, by the number of workers that is asked for. The exit
 /// status: 0 done, 1 infeasible, 2 a faulty command line, 3 a text refused, 4 a read or write that failed, 5 no memory.
-pub fn program<R: Files + AllocGlobal, C: Crews<R>, S: Source, K: Sink, E: Sink>(
+pub fn program<R: Files + AllocGlobal, C: MakesCrew<R>, S: Source, K: Sink, E: Sink>(
     rt: &R,
     crews: &C,
     words: &[String],
@@ -55,7 +55,7 @@ pub fn program<R: Files + AllocGlobal, C: Crews<R>, S: Source, K: Sink, E: Sink>
 }
 
 /// Runs the program on the words of the process. Words that aren't UTF-8 are a fault of the command line.
-pub fn start<R: Env + Files + AllocGlobal, C: Crews<R>, S: Source, K: Sink, E: Sink>(
+pub fn start<R: Env + Files + AllocGlobal, C: MakesCrew<R>, S: Source, K: Sink, E: Sink>(
     rt: &R,
     crews: &C,
     source: &mut S,

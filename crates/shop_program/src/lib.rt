@@ -1,11 +1,23 @@
-// The program over its words and its streams: it runs an engine on files or on the source that it is given, and ends
-// with a status.
+// The program: its command line, its files, what it says of faults, and its exit statuses.
 #![tactic(auto)]
 
+mod arguments;
+mod checking_runs;
+mod command_line;
 mod entry_points;
+mod help;
+mod line_faults;
+mod matches;
+mod reading_args;
 mod running;
+mod saying;
+mod statuses;
 
+pub use arguments::Args;
+pub use checking_runs::{open_given, run_check, run_list};
 pub use entry_points::{program, start};
+pub use line_faults::LineFault;
+pub use reading_args::args_of;
 pub use running::run_args;
-pub use shop_checker::{COMMAND_LINE, DONE, FAILED, INFEASIBLE, NO_MEMORY, REFUSED};
-pub use shop_line::{Args, LineFault, Workers, args_of};
+pub use saying::{say_fault, say_line_fault, say_no_memory, say_no_text};
+pub use statuses::{COMMAND_LINE, DONE, FAILED, INFEASIBLE, NO_MEMORY, REFUSED};

@@ -1,16 +1,16 @@
 // Runs of the commands, on files or on the source that they are given.
-ghost use Rattle.shop_checker.specs.Commands.{Streams, IsRunOn};
+ghost use Rattle.shop_program.specs.Commands.{Streams, IsRunOn};
 ghost use Rattle.shop_program.specs.Running.{IsCommandRun, HasSolved, SolvesFrom};
 
-use shop_checker::{DONE, open_given, run_check, run_list};
-use shop_crews::Crews;
+use crate::arguments::Args;
+use crate::checking_runs::{open_given, run_check, run_list};
+use crate::statuses::DONE;
 use shop_engine::{Fault, Sink, SolveArgs, Source, solve_text};
-use shop_line::Args;
-use shop_plans::Workers;
+use shop_runs::{MakesCrew, Workers};
 use std::rt::Files;
 
 /// Solves by the crew of so many workers: the report is the same for every crew.
-fn solve_by<R: AllocGlobal, C: Crews<R>, S: Source, K: Sink>(
+fn solve_by<R: AllocGlobal, C: MakesCrew<R>, S: Source, K: Sink>(
     rt: &R,
     crews: &C,
     args: &SolveArgs,
@@ -27,7 +27,7 @@ fn solve_by<R: AllocGlobal, C: Crews<R>, S: Source, K: Sink>(
 }
 
 /// Solves an instance of a source. The exit status.
-fn solve_from<R: AllocGlobal, C: Crews<R>, S: Source, K: Sink>(
+fn solve_from<R: AllocGlobal, C: MakesCrew<R>, S: Source, K: Sink>(
     rt: &R,
     crews: &C,
     args: &SolveArgs,
@@ -44,7 +44,7 @@ fn solve_from<R: AllocGlobal, C: Crews<R>, S: Source, K: Sink>(
 }
 
 /// Runs `solve`. The exit status.
-fn run_solve<R: Files + AllocGlobal, C: Crews<R>, S: Source, K: Sink>(
+fn run_solve<R: Files + AllocGlobal, C: MakesCrew<R>, S: Source, K: Sink>(
     rt: &R,
     crews: &C,
     args: &SolveArgs,
@@ -67,7 +67,7 @@ fn run_solve<R: Files + AllocGlobal, C: Crews<R>, S: Source, K: Sink>(
 
 /// Runs what a command line asks for, on the files that it names or on the source, and writes to `out`; `crews` makes
 /// who searches. The exit status: 1 where `check` finds the schedule infeasible, else 0; or why it was refused.
-pub fn run_args<R: Files + AllocGlobal, C: Crews<R>, S: Source, K: Sink>(
+pub fn run_args<R: Files + AllocGlobal, C: MakesCrew<R>, S: Source, K: Sink>(
     rt: &R,
     crews: &C,
     args: &Args,

@@ -2,9 +2,9 @@
 ghost use Rattle.std.specs.Prelude.{◌<◌, ◌^◌, IfOk};
 ghost use Rattle.shop_runs.specs.Runs.{SaysAnswer, IsTrusted};
 
+use crate::alone::Alone;
 use shop_model::Instance;
 use shop_runs::{Answer, Plan, run};
-use shop_searchers::Alone;
 use std::alloc::{AllocError, Global};
 
 /// The answer of a plan on an instance, by the calling thread alone. Fails with

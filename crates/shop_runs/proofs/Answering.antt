@@ -3,36 +3,36 @@ use Rattle.std.proofs.Common.{◌≡◌, ℕ, zero, suc, ◌+◌, ◌-◌, ◌*�
 use Rattle.std.proofs.Common.{◌∙◌, ap, subst, arith}
 use Rattle.shop_model.specs.Shop.{Shop}
 use Rattle.std.proofs.lemmas.List.{length-map}
-use Rattle.shop_plans.specs.Plans.{Planned}
-use Rattle.shop_crews.specs.Round.{Stand, Told, cut_of, gathered, round}
+use Rattle.shop_runs.specs.Plans.{Planned}
+use Rattle.shop_runs.specs.Round.{Stand, Told, cut_of, gathered, round}
 use Rattle.shop_runs.specs.Answers.{rounds_from, unless_closed, answer}
-use Rattle.shop_crews.specs.Round.{opening, least_bound, makespan_of}
+use Rattle.shop_runs.specs.Round.{opening, least_bound, makespan_of}
 use Rattle.shop_runs.specs.Answers.{bound_of}
-use Rattle.shop_crews.specs.Laws.{StandsCovering}
+use Rattle.shop_runs.specs.Laws.{StandsCovering}
 use Rattle.shop_runs.specs.Trust.{IsTrustworthy}
 use Rattle.shop_nodes.specs.Nodes.{words_of}
-use Rattle.shop_heads.specs.Bound.{lb}
+use Rattle.shop_bound.specs.Bound.{lb}
 use Rattle.shop_nodes.specs.Nodes.{AreNodes}
-use Rattle.shop_crews.specs.Entries.{told}
-use Rattle.shop_crews.specs.Round.{in_order, words_below, pieces_of, rest_of}
-use Rattle.shop_crews.specs.Standings.{stands, StandsAt}
+use Rattle.shop_runs.specs.Entries.{told}
+use Rattle.shop_runs.specs.Round.{in_order, words_below, pieces_of, rest_of}
+use Rattle.shop_runs.specs.Standings.{stands, StandsAt}
 use Rattle.shop_runs.specs.Runs.{Says}
 use Rattle.shop_runs.specs.declared.open_nodes.OpenNodes.{OpenNodes}
-use Rattle.shop_plans.specs.declared.plans.Order.{Order}
-use Rattle.shop_crews.specs.declared.rounds.Round.{Round}
-use Rattle.shop_runs.specs.declared.runs.Search.{Search}
-use Rattle.shop_crews.specs.inner.OpenNodes.{least_of_bounds}
+use Rattle.shop_runs.specs.declared.plans.Order.{Order}
+use Rattle.shop_runs.specs.declared.rounds.Round.{Round}
+use Rattle.shop_runs.specs.declared.runs.OpenRun.{OpenRun}
+use Rattle.shop_runs.specs.inner.NodeLists.{least_of_bounds}
 use Rattle.shop_runs.specs.inner.Searches.{IsSearchAt, IsSearchOf, IsJoined, front_of, stand_of}
 use Rattle.shop_runs.specs.inner.Stores.{open_list, order_of}
 use Rattle.shop_runs.proofs.FrontLemmas.{IsInOrder, in_order_is, order_drop, ordered_twice, gathered_front, rejoined}
 use Rattle.shop_runs.proofs.FrontLemmas.{joined_at, search_of, least_order, length_order}
-use Rattle.shop_crews.proofs.NodeLemmas.{least_is}
+use Rattle.shop_runs.proofs.NodeLemmas.{least_is}
 use Rattle.shop_runs.specs.declared.runs.Answer.{Answer}
 use Rattle.shop_model.specs.Word.{placed, rows_of}
-use Rattle.shop_crews.specs.declared.standings.Standing.{Standing}
-use Rattle.shop_crews.proofs.Covering.{opens_covering, round_covers, cut_is_round}
+use Rattle.shop_runs.specs.declared.standings.Standing.{Standing}
+use Rattle.shop_runs.proofs.Covering.{opens_covering, round_covers, cut_is_round}
 use Rattle.shop_runs.proofs.Trusting.{trustworthy, none_from}
-use Rattle.shop_crews.proofs.Counting.{counts_small}
+use Rattle.shop_runs.proofs.Counting.{counts_small}
 
 -- what a run that has done i rounds of its plan has still to come to
 pub record GoesTo (shop : Shop) (plan : Planned) (i : ℕ) (s : Stand) : Type 0 where
@@ -74,11 +74,11 @@ goes_last shop plan i s g h = let e : plan.rounds - i ≡ 0 = omega arith
     in sym (ap (λ n. rounds_from shop plan n s) e) ∙ g.goes_to
 
 -- a round of a run: its front is cut off and searched, what stands after that is joined by the others
-module _ (shop : Shop) (plan : Planned) (t : Search) (of : IsSearchOf shop plan.order t) where
+module _ (shop : Shop) (plan : Planned) (t : OpenRun) (of : IsSearchOf shop plan.order t) where
   whole : Told
   whole = cut_of shop plan (stand_of t)
 
-  pub next_round : (r : Round) (others : OpenNodes) (u : Standing) (v : Search)
+  pub next_round : (r : Round) (others : OpenNodes) (u : Standing) (v : OpenRun)
       → told r ≡ front_of (cut_of shop plan (stand_of t))
       → words_of (open_list others) ≡ (cut_of shop plan (stand_of t)).rest → AreNodes shop (open_list others)
       → order_of others ≡ order_of t.open → StandsAt r.instance.now (gathered (told r)) u → IsJoined u others v
@@ -105,14 +105,14 @@ module _ (shop : Shop) (plan : Planned) (t : Search) (of : IsSearchOf shop plan.
       in subst (λ x. IsSearchAt shop plan.order x v) (sym split) landed
 
 -- a run on its way: it stands where the definition does, which covers the instance, and goes to the answer
-pub record OnTheWay (shop : Shop) (plan : Planned) (i : ℕ) (t : Search) : Type 0 where
+pub record OnTheWay (shop : Shop) (plan : Planned) (i : ℕ) (t : OpenRun) : Type 0 where
   pub stand : Stand
   pub at : IsSearchAt shop plan.order stand t
   pub covering : StandsCovering shop stand
   pub goes : GoesTo shop plan i stand
   pub rounds : stand.rounds ≡ i
 
-pub way_first : (shop : Shop) (plan : Planned) (t : Search) → IsSearchAt shop plan.order (opening shop) t
+pub way_first : (shop : Shop) (plan : Planned) (t : OpenRun) → IsSearchAt shop plan.order (opening shop) t
     → OnTheWay shop plan 0 t
 way_first shop plan t at = record {
   stand = opening shop;
@@ -122,7 +122,7 @@ way_first shop plan t at = record {
   rounds = refl;
 }
 
-module _ (shop : Shop) (plan : Planned) (i : ℕ) (t : Search) (way : OnTheWay shop plan i t) where
+module _ (shop : Shop) (plan : Planned) (i : ℕ) (t : OpenRun) (way : OnTheWay shop plan i t) where
   s : Stand
   s = way.stand
 
@@ -164,7 +164,7 @@ module _ (shop : Shop) (plan : Planned) (i : ℕ) (t : Search) (way : OnTheWay s
   }) (ordered_twice shop plan.order way.stand.open_words)
 
   -- one more round brings it to where the definition's next round ends
-  pub way_next : (v : Search) → i < plan.rounds → 0 < length (open_list t.open)
+  pub way_next : (v : OpenRun) → i < plan.rounds → 0 < length (open_list t.open)
       → IsSearchAt shop plan.order (round shop plan (stand_of t)) v → OnTheWay shop plan (i + 1) v
   way_next v h some at = record {
     stand = round shop plan way.stand;
@@ -175,7 +175,7 @@ module _ (shop : Shop) (plan : Planned) (i : ℕ) (t : Search) (way : OnTheWay s
   }
 
 -- the answer that is made of a run says what stands
-module _ (shop : Shop) (o : Order) (s : Stand) (t : Search) (at : IsSearchAt shop o s t) where
+module _ (shop : Shop) (o : Order) (s : Stand) (t : OpenRun) (at : IsSearchAt shop o s t) where
   pub word_same : t.standing.word ≡ s.word
   word_same = ap (λ (x : Stand). x.word) at.stands_at
 

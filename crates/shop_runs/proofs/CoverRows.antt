@@ -6,8 +6,8 @@ use Rattle.shop_model.specs.Word.{count_of, IsUnder}
 use Rattle.shop_model.specs.Checking.{starts_of}
 use Rattle.shop_model.proofs.Rows.{shop_a}
 use Rattle.shop_model.proofs.Deciding.{feasible_by_test}
-use Rattle.shop_crews.specs.Round.{Covers}
-use Rattle.shop_crews.proofs.Covering.{opens_covering}
+use Rattle.shop_runs.specs.Round.{Covers}
+use Rattle.shop_runs.proofs.Covering.{opens_covering}
 use Rattle.shop_runs.proofs.Trusting.{trustworthy}
 use Rattle.shop_runs.proofs.Rows.{plan}
 

@@ -4,25 +4,25 @@ use Rattle.std.proofs.Common.{◌++◌, length, map, refl, sym, ◌∙◌, ap, s
 use Rattle.std.specs.List.{filter, flat_map}
 use Rattle.std.proofs.lemmas.Bool.{cases_Bool}
 use Rattle.shop_model.specs.Shop.{Shop}
-use Rattle.shop_heads.specs.Bound.{lb}
+use Rattle.shop_bound.specs.Bound.{lb}
 use Rattle.shop_nodes.specs.Branching.{insert_by, sort_by}
 use Rattle.shop_nodes.specs.Walking.{Walk}
 use Rattle.shop_nodes.proofs.Members.{in_all}
-use Rattle.shop_plans.specs.declared.plans.Order.{Order}
-use Rattle.shop_plans.specs.declared.plans.Order.TheVariants.{Kept, Bound}
-use Rattle.shop_plans.specs.Plans.{Planned}
-use Rattle.shop_crews.specs.Round.{Stand, Told, cut_into, in_order, up_to_hit, after_round}
-use Rattle.shop_crews.specs.Round.{words_of_round, sheet_in, sheets_of, cut_of, round}
-use Rattle.shop_crews.specs.Round.{opening, makespan_of}
+use Rattle.shop_runs.specs.declared.plans.Order.{Order}
+use Rattle.shop_runs.specs.declared.plans.Order.TheVariants.{Kept, Bound}
+use Rattle.shop_runs.specs.Plans.{Planned}
+use Rattle.shop_runs.specs.Round.{Stand, Told, cut_into, in_order, up_to_hit, after_round}
+use Rattle.shop_runs.specs.Round.{words_of_round, sheet_in, sheets_of, cut_of, round}
+use Rattle.shop_runs.specs.Round.{opening, makespan_of}
 use Rattle.shop_runs.specs.Answers.{unless_closed, rounds_from, answer}
-use Rattle.shop_crews.specs.Laws.{IsStanding, IsRound}
+use Rattle.shop_runs.specs.Laws.{IsStanding, IsRound}
 use Rattle.shop_runs.specs.Exact.{with_rounds, SearchesEnd, MoreRoundsAreNoWorse, SolvedStays}
 use Rattle.shop_runs.proofs.Answering.{closed}
-use Rattle.shop_crews.proofs.Covering.{opens_covering, cut_is_round}
+use Rattle.shop_runs.proofs.Covering.{opens_covering, cut_is_round}
 use Rattle.shop_runs.proofs.Trusting.{trustworthy}
-use Rattle.shop_crews.proofs.Cutting.{pieces_all}
-use Rattle.shop_crews.proofs.SheetLemmas.{IsOfRound, hit_in, found_is}
-use Rattle.shop_crews.proofs.StandingLemmas.{known, best_of_round, gathered_is_standing}
+use Rattle.shop_runs.proofs.Cutting.{pieces_all}
+use Rattle.shop_runs.proofs.SheetLemmas.{IsOfRound, hit_in, found_is}
+use Rattle.shop_runs.proofs.StandingLemmas.{known, best_of_round, gathered_is_standing}
 use Rattle.shop_runs.proofs.TreeSizes.{size_of, size_all, size_none, size_cons, size_append, size_some}
 use Rattle.shop_runs.proofs.TreeSizes.{sheet_leaves, sheet_leaves_less}
 

@@ -2,30 +2,30 @@
 use Rattle.std.proofs.Common.{◌≡◌, ℕ, ◌*◌, ◌<◌, List, [], take, drop, sym, ◌∙◌, ap, subst, arith}
 use Rattle.std.proofs.lemmas.List.Elements.{All-take}
 use Rattle.shop_model.specs.Shop.{Shop}
-use Rattle.shop_heads.specs.Bound.{lb}
+use Rattle.shop_bound.specs.Bound.{lb}
 use Rattle.shop_nodes.specs.declared.nodes.Node.{Node}
 use Rattle.shop_nodes.specs.Nodes.{words_of, IsNode, AreNodes}
-use Rattle.shop_plans.specs.Plans.{Planned, planned}
-use Rattle.shop_plans.specs.declared.plans.Plan.{Plan}
-use Rattle.shop_crews.specs.Round.{cut_into, in_order, least_bound, cut_of}
-use Rattle.shop_crews.specs.Laws.{IsRound}
-use Rattle.shop_crews.specs.Standings.{stands, round_of}
-use Rattle.shop_crews.specs.inner.OpenNodes.{least_of_bounds}
-use Rattle.shop_crews.proofs.Covering.{cut_is_round}
-use Rattle.shop_crews.proofs.NodeLemmas.{least_is}
-use Rattle.shop_crews.proofs.PieceLemmas.{map_drop, cut_words_of, cut_front}
-use Rattle.shop_runs.specs.declared.runs.Search.{Search}
+use Rattle.shop_runs.specs.Plans.{Planned, planned}
+use Rattle.shop_runs.specs.declared.plans.Plan.{Plan}
+use Rattle.shop_runs.specs.Round.{cut_into, in_order, least_bound, cut_of}
+use Rattle.shop_runs.specs.Laws.{IsRound}
+use Rattle.shop_runs.specs.Standings.{stands, round_of}
+use Rattle.shop_runs.specs.inner.NodeLists.{least_of_bounds}
+use Rattle.shop_runs.proofs.Covering.{cut_is_round}
+use Rattle.shop_runs.proofs.NodeLemmas.{least_is}
+use Rattle.shop_runs.proofs.PieceLemmas.{map_drop, cut_words_of, cut_front}
+use Rattle.shop_runs.specs.declared.runs.OpenRun.{OpenRun}
 use Rattle.shop_runs.specs.inner.Searches.{IsSearchOf, front_of, stand_of}
 use Rattle.shop_runs.specs.inner.Stores.{open_list}
 use Rattle.shop_runs.proofs.FrontLemmas.{front_is_round}
 
 -- the least bound, and the first nodes
-pub record IsFrontCut (plan : Planned) (t : Search) (bound : ℕ) (front : List Node) : Type 0 where
+pub record IsFrontCut (plan : Planned) (t : OpenRun) (bound : ℕ) (front : List Node) : Type 0 where
   pub some : 0 < plan.piece
   pub least : bound ≡ least_of_bounds t.standing.makespan (open_list t.open)
   pub first : front ≡ take (256 * plan.piece) (open_list t.open)
 
-pub is_front_cut : (plan : Plan) (t : Search) (bound : ℕ) (front : List Node)
+pub is_front_cut : (plan : Plan) (t : OpenRun) (bound : ℕ) (front : List Node)
     → bound ≡ least_of_bounds t.standing.makespan (open_list t.open)
     → front ≡ take (256 * plan.piece) (open_list t.open)
     → IsFrontCut (planned plan) t bound front
@@ -35,7 +35,7 @@ is_front_cut plan t bound front least first = record {
   first = first;
 }
 
-module _ (shop : Shop) (plan : Planned) (t : Search) (bound : ℕ) (front : List Node) (rest : List Node)
+module _ (shop : Shop) (plan : Planned) (t : OpenRun) (bound : ℕ) (front : List Node) (rest : List Node)
     (none : rest ≡ []) (of : IsSearchOf shop plan.order t) (cut : IsFrontCut plan t bound front) where
   nodes : List Node
   nodes = open_list t.open
@@ -74,7 +74,7 @@ module _ (shop : Shop) (plan : Planned) (t : Search) (bound : ℕ) (front : List
       (All-take (IsNode shop) (256 * plan.piece) (open_list t.open) of.bounds)
 
 -- the others are the rest of what is cut
-pub others_are : (shop : Shop) (plan : Planned) (t : Search) (others : List Node) → IsSearchOf shop plan.order t
+pub others_are : (shop : Shop) (plan : Planned) (t : OpenRun) (others : List Node) → IsSearchOf shop plan.order t
     → others ≡ drop (256 * plan.piece) (open_list t.open) → words_of others ≡ (cut_of shop plan (stand_of t)).rest
 others_are shop plan t others of e = ap words_of e ∙ (map_drop (λ (x : Node). x.word) (256 * plan.piece)
     (open_list t.open) ∙ ap (drop (256 * plan.piece)) (sym of.ordered))

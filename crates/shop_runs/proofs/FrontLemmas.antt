@@ -8,32 +8,32 @@ use Rattle.std.proofs.lemmas.Bool.{cases_Bool, le-leb, le-ltb}
 use Rattle.std.proofs.lemmas.List.Elements.{filter-append, recursion_from_All, All-from_recursion, All-filter}
 use Rattle.shop_model.specs.Shop.{Shop}
 use Rattle.shop_model.specs.Word.{IsWord}
-use Rattle.shop_heads.specs.Bound.{lb}
-use Rattle.one_machine.proofs.Lists.{all_append, all_filter}
+use Rattle.shop_bound.specs.Bound.{lb}
+use Rattle.shop_bound.proofs.Lists.{all_append, all_filter}
 use Rattle.shop_nodes.specs.Branching.{insert_by, sort_by}
 use Rattle.shop_nodes.specs.Walking.{Walk}
 use Rattle.shop_nodes.specs.declared.nodes.Node.{Node}
 use Rattle.shop_nodes.specs.Nodes.{words_of, IsNode, AreNodes}
 use Rattle.shop_nodes.proofs.Members.{all_contains, contains_all, all_insert, in_all}
-use Rattle.shop_plans.specs.declared.plans.Order.{Order}
-use Rattle.shop_plans.specs.declared.plans.Order.TheVariants.{Kept, Bound}
-use Rattle.shop_crews.specs.declared.standings.Standing.{Standing}
+use Rattle.shop_runs.specs.declared.plans.Order.{Order}
+use Rattle.shop_runs.specs.declared.plans.Order.TheVariants.{Kept, Bound}
+use Rattle.shop_runs.specs.declared.standings.Standing.{Standing}
 use Rattle.shop_runs.specs.declared.open_nodes.OpenNodes.{OpenNodes}
-use Rattle.shop_runs.specs.declared.runs.Search.{Search}
-use Rattle.shop_crews.specs.Round.{Stand, Told, in_order, words_below, words_of_round, sheets_of, up_to_hit}
-use Rattle.shop_crews.specs.Round.{after_round, gathered, best_word, makespan_of, least_bound}
-use Rattle.shop_crews.specs.Laws.{IsRound, IsStanding}
-use Rattle.shop_crews.specs.Standings.{stands}
-use Rattle.shop_crews.specs.inner.OpenNodes.{nodes_below}
+use Rattle.shop_runs.specs.declared.runs.OpenRun.{OpenRun}
+use Rattle.shop_runs.specs.Round.{Stand, Told, in_order, words_below, words_of_round, sheets_of, up_to_hit}
+use Rattle.shop_runs.specs.Round.{after_round, gathered, best_word, makespan_of, least_bound}
+use Rattle.shop_runs.specs.Laws.{IsRound, IsStanding}
+use Rattle.shop_runs.specs.Standings.{stands}
+use Rattle.shop_runs.specs.inner.NodeLists.{nodes_below}
 use Rattle.shop_runs.specs.inner.Searches.{IsSearchAt, IsSearchOf, IsJoined, front_of}
 use Rattle.shop_runs.specs.inner.Stacks.{put_before, put_all_before}
 use Rattle.shop_runs.specs.inner.Stores.{open_list, order_of}
-use Rattle.shop_crews.proofs.Cutting.{all_front, all_back}
-use Rattle.shop_crews.proofs.NodeLemmas.{insert_words, below_is}
-use Rattle.shop_crews.proofs.OpenLemmas.{ordered_all}
-use Rattle.shop_crews.proofs.SheetLemmas.{IsOfRound, hit_in, found_is}
-use Rattle.shop_crews.proofs.SortLemmas.{Rises, sort_rises}
-use Rattle.shop_crews.proofs.StandingLemmas.{known}
+use Rattle.shop_runs.proofs.Cutting.{all_front, all_back}
+use Rattle.shop_runs.proofs.NodeLemmas.{insert_words, below_is}
+use Rattle.shop_runs.proofs.OpenLemmas.{ordered_all}
+use Rattle.shop_runs.proofs.SheetLemmas.{IsOfRound, hit_in, found_is}
+use Rattle.shop_runs.proofs.SortLemmas.{Rises, sort_rises}
+use Rattle.shop_runs.proofs.StandingLemmas.{known}
 
 -- a list in order stays as it is, and so do its parts
 module _ {A : Type 0} (key : A → ℕ) where
@@ -221,7 +221,7 @@ module _ (r : Told) (is : IsRound r) where
   gathered_front = after_front (up_to_hit r.bound (sheets_of r)) refl
 
 -- where a run stands once the others have joined
-module _ (shop : Shop) (o : Order) (s : Stand) (standing : Standing) (others : OpenNodes) (t : Search)
+module _ (shop : Shop) (o : Order) (s : Stand) (standing : Standing) (others : OpenNodes) (t : OpenRun)
     (whole : s ≡ record (stands standing) {
       open_words = words_of standing.open.items ++ words_below shop standing.makespan (words_of (open_list others));
     })
@@ -266,7 +266,7 @@ module _ (shop : Shop) (o : Order) (s : Stand) (standing : Standing) (others : O
   }
 
 -- a run that stands there is a standing of the instance
-pub search_of : (shop : Shop) (o : Order) (s : Stand) (t : Search) → IsSearchAt shop o s t → IsStanding shop s
+pub search_of : (shop : Shop) (o : Order) (s : Stand) (t : OpenRun) → IsSearchAt shop o s t → IsStanding shop s
     → IsSearchOf shop o t
 search_of shop o s t at is =
     let words : words_of (open_list t.open) ≡ in_order shop o s.open_words =

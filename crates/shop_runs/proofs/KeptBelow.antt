@@ -7,11 +7,11 @@ use Rattle.shop_model.specs.Shop.{Shop}
 use Rattle.shop_model.specs.Limits.{IsWithinLimits}
 use Rattle.shop_model.specs.SharedWords.{CanBeShared}
 use Rattle.shop_model.proofs.WordLengths.{word_shared}
-use Rattle.shop_heads.specs.Bound.{lb}
+use Rattle.shop_bound.specs.Bound.{lb}
 use Rattle.shop_nodes.specs.declared.nodes.Node.{Node}
 use Rattle.shop_nodes.specs.Nodes.{words_of, IsNode, AreNodes}
 use Rattle.shop_nodes.proofs.Members.{all_contains}
-use Rattle.shop_crews.specs.inner.OpenNodes.{nodes_below}
+use Rattle.shop_runs.specs.inner.NodeLists.{nodes_below}
 use Rattle.shop_runs.specs.inner.OpenNodes.{AreBelow, AreSharable}
 
 -- where all are below a makespan, those below a greater one are all

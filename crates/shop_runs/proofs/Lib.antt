@@ -1,3 +1,21 @@
+pub mod Opening
+pub mod Cutting
+pub mod OpenLemmas
+pub mod SheetLemmas
+pub mod StandingLemmas
+pub mod Covering
+pub mod Counting
+pub mod SortLemmas
+pub mod NodeLemmas
+pub mod StartLemmas
+pub mod PieceLemmas
+pub mod CutLemmas
+pub mod GatherLemmas
+pub mod OutcomeLemmas
+pub mod EntryLemmas
+pub mod RoundPieces
+pub mod GatheredLemmas
+mod OpenWords
 pub mod Rows
 pub mod Trusting
 pub mod Answering

@@ -6,9 +6,9 @@ use Rattle.shop_model.specs.Shop.{Shop, ShopJob}
 use Rattle.shop_model.specs.Word.{placed, rows_of}
 use Rattle.shop_model.specs.declared.ops.Op.{Op}
 use Rattle.shop_runs.specs.Answers.{answer, bound_of}
-use Rattle.shop_plans.specs.Plans.{Planned}
-use Rattle.shop_crews.specs.Round.{makespan_of}
-use Rattle.shop_plans.specs.declared.plans.Order.TheVariants.{Kept, Bound}
+use Rattle.shop_runs.specs.Plans.{Planned}
+use Rattle.shop_runs.specs.Round.{makespan_of}
+use Rattle.shop_runs.specs.declared.plans.Order.TheVariants.{Kept, Bound}
 
 abbrev pub plan : ℕ → ℕ → Planned
 plan rounds budget = record { rounds = rounds; budget = budget; piece = 1; order = Kept }

@@ -7,8 +7,8 @@ use Rattle.std.proofs.lemmas.List.Elements.{filter-append}
 use Rattle.std.proofs.lemmas.List.{length-append, length-map, reverse-append}
 use Rattle.shop_nodes.specs.declared.nodes.Node.{Node}
 use Rattle.shop_runs.specs.declared.stacks.Stack.{Stack}
-use Rattle.shop_plans.specs.declared.plans.Order.{Order}
-use Rattle.shop_crews.specs.inner.OpenNodes.{least_of_bounds, nodes_below}
+use Rattle.shop_runs.specs.declared.plans.Order.{Order}
+use Rattle.shop_runs.specs.inner.NodeLists.{least_of_bounds, nodes_below}
 use Rattle.shop_runs.specs.inner.Stacks.{words_on, nodes_of_bound, nodes_by_bound, put_before, put_all_before}
 
 pub reverse-cons : {A : Type 0} (x : A) (xs : List A) → reverse (x ∷ xs) ≡ reverse xs ++ x ∷ []

@@ -5,7 +5,7 @@ use Rattle.std.specs.List.{AllByRecursion, fold, sum_by}
 use Rattle.std.proofs.lemmas.List.{length-append}
 use Rattle.std.proofs.lemmas.List.Sums.{sum_by-append, sum_by-cons}
 use Rattle.shop_model.specs.Shop.{Shop}
-use Rattle.shop_heads.specs.Bound.{lb}
+use Rattle.shop_bound.specs.Bound.{lb}
 use Rattle.shop_nodes.specs.Branching.{conflict, branch}
 use Rattle.shop_nodes.specs.Walking.{Walk, walk, walk_within, operations_left, taking, unless_cut, sheet}
 use Rattle.shop_nodes.proofs.Members.{all_sort}

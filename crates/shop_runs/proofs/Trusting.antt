@@ -3,14 +3,14 @@ use Rattle.std.proofs.Common.{◌≡◌, ℕ, zero, suc, ◌≤◌, inl, inr, Li
 use Rattle.std.proofs.lemmas.List.{append-nil}
 use Rattle.shop_model.specs.Shop.{Shop, Starts, IsFeasible, end_of}
 use Rattle.shop_model.specs.Word.{placed}
-use Rattle.shop_heads.specs.Bound.{lb}
-use Rattle.shop_heads.proofs.BoundLaw.{lb-le-end, full_word}
+use Rattle.shop_bound.specs.Bound.{lb}
+use Rattle.shop_bound.proofs.BoundLaw.{lb-le-end, full_word}
 use Rattle.shop_nodes.proofs.Members.{in_contains}
-use Rattle.shop_plans.specs.Plans.{Planned}
-use Rattle.shop_crews.specs.Round.{Stand, least_bound, round, opening, makespan_of}
-use Rattle.shop_crews.specs.Laws.{StandsCovering}
-use Rattle.shop_crews.proofs.Covering.{opens_covering, round_covers}
-use Rattle.shop_crews.proofs.OpenLemmas.{least_bound-le}
+use Rattle.shop_runs.specs.Plans.{Planned}
+use Rattle.shop_runs.specs.Round.{Stand, least_bound, round, opening, makespan_of}
+use Rattle.shop_runs.specs.Laws.{StandsCovering}
+use Rattle.shop_runs.proofs.Covering.{opens_covering, round_covers}
+use Rattle.shop_runs.proofs.OpenLemmas.{least_bound-le}
 use Rattle.shop_runs.specs.Answers.{unless_closed, rounds_from, answer, bound_of}
 use Rattle.shop_runs.specs.Trust.{IsTrustworthy, AnswersAreTrustworthy}
 

@@ -4,8 +4,8 @@
 --     SearchesEnd, MoreRoundsAreNoWorse, SolvedStays      the laws
 use Rattle.std.specs.Prelude.{◌≡◌, ℕ, ◌≤◌, []}
 use Rattle.shop_model.specs.Shop.{Shop, IsLeast}
-use Rattle.shop_plans.specs.Plans.{Planned}
-use Rattle.shop_crews.specs.Round.{Stand, makespan_of}
+use Rattle.shop_runs.specs.Plans.{Planned}
+use Rattle.shop_runs.specs.Round.{Stand, makespan_of}
 use Rattle.shop_runs.specs.Answers.{answer}
 
 -- the plan, with n rounds

@@ -3,9 +3,9 @@ use Rattle.std.specs.Prelude.{◌≡◌, length}
 use Rattle.shop_model.specs.Shop.{Shop, IsFeasible, end_of}
 use Rattle.shop_model.specs.Checking.{HasShape, starts_of}
 use Rattle.shop_model.specs.Word.{placed, rows_of}
-pub use Rattle.shop_plans.specs.Plans.{planned, IsPlanMadeOf}
-use Rattle.shop_plans.specs.declared.plans.Plan.{Plan}
-use Rattle.shop_crews.specs.Round.{Stand, makespan_of}
+pub use Rattle.shop_runs.specs.Plans.{planned, IsPlanMadeOf}
+use Rattle.shop_runs.specs.declared.plans.Plan.{Plan}
+use Rattle.shop_runs.specs.Round.{Stand, makespan_of}
 use Rattle.shop_runs.specs.Answers.{answer, bound_of}
 use Rattle.shop_runs.specs.Trust.{IsTrustworthy}
 use Rattle.shop_runs.specs.declared.runs.Answer.{Answer}

@@ -4,8 +4,8 @@
 use Rattle.std.specs.Prelude.{◌≡◌, ℕ, ◌≤◌, List, length}
 use Rattle.shop_model.specs.Shop.{Shop, Starts, IsFeasible, end_of, IsLeast}
 use Rattle.shop_model.specs.Word.{placed, IsFull}
-use Rattle.shop_plans.specs.Plans.{Planned}
-use Rattle.shop_crews.specs.Round.{makespan_of}
+use Rattle.shop_runs.specs.Plans.{Planned}
+use Rattle.shop_runs.specs.Round.{makespan_of}
 use Rattle.shop_runs.specs.Answers.{answer, bound_of}
 
 -- what an answer says of all tables is so

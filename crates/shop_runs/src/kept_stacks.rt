@@ -1,6 +1,6 @@
 // Open nodes in the kept order, with the least of their bounds at hand.
 ghost use Rattle.std.specs.Prelude.{◌≡◌, ◌==◌, ◌∷◌, [], length, OnOk};
-ghost use Rattle.shop_crews.specs.inner.OpenNodes.{least_of_bounds, nodes_below};
+ghost use Rattle.shop_runs.specs.inner.NodeLists.{least_of_bounds, nodes_below};
 ghost use Rattle.shop_runs.specs.inner.KeptStacks.{AreLeasts, nodes_of};
 ghost use Rattle.shop_runs.specs.inner.Stacks.{IsNextOf};
 

@@ -1,17 +1,31 @@
-// Runs: rounds by any crew up to the answer of a plan.
+// Plans, rounds, the contract of a crew, what is gathered of a round, and runs by any crew.
 #![tactic(auto)]
 
+mod crews;
+mod entries;
 mod kept_nodes;
 mod kept_stacks;
-mod laws;
 mod open_nodes;
+mod outcomes;
+mod plans;
+mod round_laws;
+mod rounds;
+mod run_laws;
 mod runs;
 mod stacks;
+mod standings;
+mod workers;
 
-pub use laws::{answers_are_trustworthy, more_rounds_are_no_worse, searches_end, solved_stays};
-pub use runs::{Answer, run};
-pub use shop_crews::{
-    Crew, Entry, Kind, Round, Standing, counts_stay_small, cuts_cover, gather, gathering_covers,
-    opening_covers, pieces_are_all, rounds_keep_the_cover,
+pub use crews::{Crew, MakesCrew};
+pub use entries::{Entry, Kind};
+pub use outcomes::gather;
+pub use plans::{MAX_BUDGET, MAX_PIECE, MAX_ROUNDS, MAX_WORKERS, Order, Plan};
+pub use round_laws::{
+    counts_stay_small, cuts_cover, gathering_covers, opening_covers, pieces_are_all,
+    rounds_keep_the_cover,
 };
-pub use shop_plans::{MAX_BUDGET, MAX_PIECE, MAX_PIECES, MAX_ROUNDS, Order, Plan};
+pub use rounds::Round;
+pub use run_laws::{answers_are_trustworthy, more_rounds_are_no_worse, searches_end, solved_stays};
+pub use runs::{Answer, run};
+pub use standings::Standing;
+pub use workers::Workers;

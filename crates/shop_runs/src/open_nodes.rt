@@ -1,16 +1,16 @@
 // The open nodes of a run, in the order in which the next cut takes them.
 ghost use Rattle.std.specs.Prelude.{◌≡◌, ◌==◌, ◌^◌, ◌≤◌, [], length, IfOk, OnOk, OnErr};
 ghost use Rattle.shop_model.specs.SharedWords.{CanBeShared};
-ghost use Rattle.shop_crews.specs.inner.OpenNodes.{least_of_bounds};
+ghost use Rattle.shop_runs.specs.inner.NodeLists.{least_of_bounds};
 ghost use Rattle.shop_runs.specs.inner.OpenNodes.{AreBelow, AreSharable};
 
 use crate::kept_nodes::KeptNode;
 use crate::kept_stacks::KeptStack;
+use crate::plans::Order;
 use crate::stacks::{
     Stack, count_by_bound, keep_by_bound, least_by_bound, pop_by_bound, put_by_bound,
 };
 use shop_nodes::Node;
-use shop_plans::Order;
 use std::alloc::{AllocError, Global};
 use std::collections::BTreeMap;
 

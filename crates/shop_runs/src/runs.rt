@@ -2,24 +2,27 @@
 ghost use Rattle.std.specs.Prelude.{◌≡◌, ◌^◌, ◌<◌, IfOk, IfSome};
 ghost use Rattle.shop_runs.specs.Runs.{SaysAnswer, IsTrusted};
 
+use crate::crews::Crew;
 use crate::open_nodes::OpenNodes;
-use shop_crews::{Crew, Round, Standing, outcome_of};
+use crate::outcomes::outcome_of;
+use crate::plans::{MAX_PIECES, Order, Plan};
+use crate::rounds::Round;
+use crate::standings::Standing;
 use shop_layout::Layout;
 use shop_model::{Instance, Table, Word, place};
-use shop_plans::{MAX_PIECES, Order, Plan};
 use std::alloc::{AllocError, Global};
 
 /// Where a run stands: a standing whose own list of open nodes is empty, and the open nodes in the order of the next
 /// cut.
 #[derive(Drop)]
-pub(crate) struct Search {
+pub(crate) struct OpenRun {
     pub(crate) standing: Standing,
     pub(crate) open: OpenNodes,
 }
 
-impl Search {
+impl OpenRun {
     ghost use Rattle.std.specs.Prelude.{length};
-    ghost use Rattle.shop_crews.specs.Round.{opening};
+    ghost use Rattle.shop_runs.specs.Round.{opening};
     ghost use Rattle.shop_runs.specs.inner.OpenNodes.{AreBelow, AreSharable};
     ghost use Rattle.shop_runs.specs.inner.Stores.{open_list};
     ghost use Rattle.shop_runs.specs.inner.Searches.{IsSearchAt, IsSearchOf, IsJoined, IsFront};
@@ -31,12 +34,12 @@ impl Search {
         alloc: Global,
         instance: &Instance,
         order: Order,
-    ) -> Result<Search, AllocError>
+    ) -> Result<OpenRun, AllocError>
         ensures { IfOk result (λ t. IsSearchAt instance.now order (opening instance.now) t) }
     {
         instance.keeps_limits();
         let open = OpenNodes::new(alloc, order);
-        Search::joined(alloc, Standing::start(alloc, instance)?, open, 0)
+        OpenRun::joined(alloc, Standing::start(alloc, instance)?, open, 0)
     }
 
     /// What stands after a round: the nodes that it left are put among the other open ones, of which those that reach
@@ -46,14 +49,14 @@ impl Search {
         mut standing: Standing,
         mut others: OpenNodes,
         opening: u64,
-    ) -> Result<Search, AllocError>
+    ) -> Result<OpenRun, AllocError>
         requires below { AreBelow opening (open_list others) }
         requires left { AreSharable standing.open.items }
         ensures { IfOk result (λ t. IsJoined standing others t) }
     {
         others.keep_below(opening, standing.makespan)?;
         others.put_all(alloc, &mut standing.open)?;
-        Ok(Search {
+        Ok(OpenRun {
             standing,
             open: others,
         })
@@ -73,7 +76,7 @@ impl Search {
         requires search { IsSearchOf instance.now plan.now.order self }
         ensures { IfOk result (λ p. IsFront instance.now plan.now self p.0 p.1) }
     {
-        let Search {
+        let OpenRun {
             mut standing,
             mut open,
         } = self;
@@ -102,7 +105,7 @@ impl Search {
         plan: &Plan,
         kept: Option<Layout<'r>>,
         crew: &mut C,
-    ) -> Result<(Search, Layout<'r>), AllocError>
+    ) -> Result<(OpenRun, Layout<'r>), AllocError>
         requires ready { C.ready }
         requires layout { IfSome kept (λ l. l ≡ instance.now) }
         requires rounds { self.standing.rounds < plan.now.rounds }
@@ -117,7 +120,7 @@ impl Search {
         let entries = crew.search(rt, alloc, &round)?;
         let outcome = outcome_of(alloc, &round, entries)?;
         let (standing, layout) = round.closed(outcome)?;
-        let search = Search::joined(alloc, standing, others, opening)?;
+        let search = OpenRun::joined(alloc, standing, others, opening)?;
         Ok((search, layout))
     }
 
@@ -129,11 +132,11 @@ impl Search {
         instance: &Instance,
         plan: &Plan,
         crew: &mut C,
-    ) -> Result<Search, AllocError>
+    ) -> Result<OpenRun, AllocError>
         requires { C.ready }
         ensures { IfOk result (λ t. IsAtAnswer instance.now plan.now t) }
     {
-        let mut search = Search::start(alloc, instance, plan.order)?;
+        let mut search = OpenRun::start(alloc, instance, plan.order)?;
         let mut layout = None;
         for done in 0..plan.rounds {
             if search.open.is_empty() {
@@ -191,7 +194,7 @@ pub fn run<R, C: Crew<R>>(
     ensures trust { IfOk result (λ a. IsTrusted instance.now a) }
     ensures nodes { IfOk result (λ a. a.nodes < 2 ^ 50) }
 {
-    let Search { standing, open } = Search::at_end(rt, alloc, instance, plan, crew)?;
+    let OpenRun { standing, open } = OpenRun::at_end(rt, alloc, instance, plan, crew)?;
     let bound = open.least_bound(standing.makespan);
     let open_nodes = open.count()?;
     let table = place(alloc, instance, &standing.word)?;

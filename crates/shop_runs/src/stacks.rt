@@ -1,7 +1,7 @@
 // Open nodes by bound: for each bound a stack of their words.
 ghost use Rattle.std.specs.Prelude.{◌≡◌, ◌^◌, ◌≤◌, ◌∷◌, [], length, IfOk, OnOk, OnErr};
 ghost use Rattle.shop_model.specs.SharedWords.{CanBeShared};
-ghost use Rattle.shop_crews.specs.inner.OpenNodes.{least_of_bounds};
+ghost use Rattle.shop_runs.specs.inner.NodeLists.{least_of_bounds};
 ghost use Rattle.shop_runs.specs.inner.Stacks.{words_in, words_in_rest, words_on, words_left};
 ghost use Rattle.shop_runs.specs.inner.Stacks.{nodes_in_stacks, IsPutByBound, IsNextByBound};
 ghost use Rattle.shop_runs.specs.inner.Stacks.{KeepsBelow};
@@ -18,17 +18,17 @@ const BLOCK: usize = 256;
 
 /// At least one word, and no more than a full block has; the one on top is taken next.
 #[derive(Drop)]
-pub(crate) struct Block {
+pub(crate) struct Chunk {
     pub(crate) top: SharedWord,
     pub(crate) below: Vec<SharedWord>,
 }
 
-impl Block {
+impl Chunk {
     /// One word. Takes no memory.
-    fn of(alloc: Global, word: SharedWord) -> Block
+    fn of(alloc: Global, word: SharedWord) -> Chunk
         ensures { words_in result ≡ word ∷ [] }
     {
-        Block {
+        Chunk {
             top: word,
             below: Vec::new(alloc),
         }
@@ -51,12 +51,12 @@ impl Block {
     }
 
     /// The word on top, and the others, if there are any.
-    fn pop(self) -> (SharedWord, Option<Block>)
+    fn pop(self) -> (SharedWord, Option<Chunk>)
         ensures { words_in self ≡ result.0 ∷ words_in_rest result.1 }
     {
-        let Block { top, mut below } = self;
+        let Chunk { top, mut below } = self;
         match below.pop() {
-            Some(next) => (top, Some(Block { top: next, below })),
+            Some(next) => (top, Some(Chunk { top: next, below })),
             None => (top, None),
         }
     }
@@ -66,8 +66,8 @@ impl Block {
 /// topmost and taken from it, and a full one that another covers is never copied.
 #[derive(Drop)]
 pub(crate) struct Stack {
-    pub(crate) topmost: Block,
-    pub(crate) covered: Vec<Block>,
+    pub(crate) topmost: Chunk,
+    pub(crate) covered: Vec<Chunk>,
 }
 
 impl Stack {
@@ -76,7 +76,7 @@ impl Stack {
         ensures { words_on result ≡ word ∷ [] }
     {
         Stack {
-            topmost: Block::of(alloc, word),
+            topmost: Chunk::of(alloc, word),
             covered: Vec::new(alloc),
         }
     }
@@ -88,7 +88,7 @@ impl Stack {
         if self.topmost.below.len() < BLOCK {
             return self.topmost.push(word);
         }
-        let full = mem::replace(&mut self.topmost, Block::of(alloc, word));
+        let full = mem::replace(&mut self.topmost, Chunk::of(alloc, word));
         self.covered.push(full)?;
         Ok(())
     }

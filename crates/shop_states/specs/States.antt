@@ -9,8 +9,8 @@
 use Rattle.std.specs.Prelude.{◌≡◌, ◌≤◌, ◌<◌, ℕ, zero, suc, Option, Some, None, List, [], ◌∷◌, ◌++◌}
 use Rattle.shop_model.specs.Shop.{Shop}
 use Rattle.shop_model.specs.Word.{IsWord}
-use Rattle.shop_heads.specs.Bound.{lb}
-use Rattle.shop_heads.specs.Conflicts.{conflict}
+use Rattle.shop_bound.specs.Bound.{lb}
+use Rattle.shop_bound.specs.Conflicts.{conflict}
 use Rattle.shop_states.specs.declared.dispatching.Candidate.{Candidate}
 
 pub record IsOfSomeWord (P : List ℕ → Type 0) : Type 0 where

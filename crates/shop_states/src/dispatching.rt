@@ -4,8 +4,8 @@ ghost use Rattle.std.specs.Prelude.{vec_capacity};
 ghost use Rattle.shop_model.specs.Limits.{IsWithinLimits};
 ghost use Rattle.shop_model.specs.Shop.{Shop};
 ghost use Rattle.shop_model.specs.Word.{IsWord};
-ghost use Rattle.shop_heads.specs.Bound.{lb};
-ghost use Rattle.shop_heads.specs.Conflicts.{conflict, SoleCandidateKeepsBound};
+ghost use Rattle.shop_bound.specs.Bound.{lb};
+ghost use Rattle.shop_bound.specs.Conflicts.{conflict, SoleCandidateKeepsBound};
 ghost use Rattle.shop_states.specs.States.{TellsBoundBelow};
 ghost use Rattle.shop_states.specs.declared.dispatching.Candidate.{Candidate};
 ghost use Rattle.shop_states.specs.States.{CanDispatch, HasSoleCandidate, IsOfSomeWord, ListsBelow};
@@ -66,7 +66,7 @@ pub trait Dispatching<S: Drop> {
     /// Lists the jobs of the conflict set, in ascending order, whose own numbers are below the limit, and tells how
     /// many are left out. A job that is alone in the set is always listed. What the list held is lost; it has room for
     /// all jobs.
-    fn gather_candidates(
+    fn list_candidates(
         &self,
         scratch: &mut Self::Scratch,
         state: &S,

@@ -3,7 +3,7 @@ use Rattle.std.proofs.Common.{◌≡◌, ℕ, List, [], ◌∷◌, ◌++◌, map
 use Rattle.std.specs.Prelude.{codes}
 use Rattle.std.specs.Fmt.{digits}
 use Rattle.shop_model.specs.declared.ops.Op.{Op}
-use Rattle.shop_model.specs.declared.ops.Position.{Position}
+use Rattle.shop_model.specs.declared.ops.OperationId.{OperationId}
 use Rattle.shop_model.specs.declared.checking.Verdict.TheVariants.{Feasible, Unreleased, Early, Overlap}
 use Rattle.shop_model.specs.Shop.{Shop, ShopJob}
 use Rattle.shop_model.specs.Checking.{starts_of}
@@ -145,7 +145,7 @@ feasible_text : verdict_text (Feasible 7) ≡ codes "feasible 7\n"
 unfolding digits
 feasible_text = refl
 
-abbrev at : ℕ → ℕ → Position
+abbrev at : ℕ → ℕ → OperationId
 at j k = record { job = j; step = k }
 
 overlap_text : verdict_text (Overlap 0 (at 0 0) (at 1 1))

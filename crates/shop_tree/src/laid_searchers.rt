@@ -3,11 +3,12 @@ ghost use Rattle.std.specs.Prelude.{◌≡◌, ◌<◌, ◌^◌, OnOk, IfOk};
 ghost use Rattle.shop_nodes.specs.Nodes.{AreNodes};
 ghost use Rattle.shop_nodes.specs.Sheets.{IsSheetOf, KeepsTables};
 
-use shop_desk::{LaidOut, State};
+use crate::state_searchers::StateSearcher;
 use shop_lanes::StateLanes;
+use shop_layout::LaidOut;
 use shop_model::Instance;
 use shop_nodes::{Piece, Sheet};
-use shop_walks::StateSearcher;
+use shop_states::State;
 use std::alloc::{AllocError, Global};
 use std::marker::Model;
 

@@ -1,14 +1,19 @@
-// The search of one piece, over a layout: states stand in lanes of its width.
+// The search of one piece: a walk over states of words, in lanes of the width of the layout.
 #![tactic(auto)]
 
+mod closed_children;
+mod expanding;
+mod held;
 mod laid_searchers;
+mod open_children;
+mod progress;
 mod searchers;
 mod searching;
+mod state_searchers;
+mod walk_states;
+mod walkers;
 mod widths;
 
 pub use searchers::Searcher;
 pub use searching::search;
-pub use shop_desk::Layout;
-pub use shop_nodes::{
-    Left, Node, Piece, Sheet, branching_loses_no_table, children, conflict, searches_lose_no_table,
-};
+pub use shop_nodes::{Node, Piece, Sheet, children, conflict};

@@ -5,7 +5,7 @@ ghost use Rattle.shop_nodes.specs.Sheets.{IsSheetOf, KeepsTables};
 
 use crate::laid_searchers::LaidSearcher;
 use crate::widths::Widths;
-use shop_desk::{LaneLayout, Layout};
+use shop_layout::{LaneLayout, Layout};
 use shop_model::Instance;
 use shop_nodes::{Piece, Sheet};
 use std::alloc::{AllocError, Global};

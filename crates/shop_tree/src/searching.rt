@@ -4,7 +4,7 @@ ghost use Rattle.shop_nodes.specs.Nodes.{AreNodes};
 ghost use Rattle.shop_nodes.specs.Sheets.{IsSheetOf, KeepsTables};
 
 use crate::searchers::Searcher;
-use shop_desk::Layout;
+use shop_layout::Layout;
 use shop_model::Instance;
 use shop_nodes::{Piece, Sheet};
 use std::alloc::{AllocError, Global};

@@ -6,10 +6,10 @@ use Rattle.std.proofs.Math.ListN.{get_or-append}
 use Rattle.std.proofs.Math.Seq.{get_or-append_seam}
 use Rattle.std.proofs.lemmas.Bool.{cases_eq}
 use Rattle.std.proofs.lemmas.List.{length_push}
-use Rattle.shop_crews.specs.declared.entries.Entry.{Entry}
-use Rattle.shop_crews.specs.Round.{Told}
-use Rattle.shop_crews.specs.Entries.{is_hit}
-use Rattle.shop_crews.specs.Crews.{OneForEach, IsEntryOf, NoHitBelow, IsUpToHit}
+use Rattle.shop_runs.specs.declared.entries.Entry.{Entry}
+use Rattle.shop_runs.specs.Round.{Told}
+use Rattle.shop_runs.specs.Entries.{is_hit}
+use Rattle.shop_runs.specs.Crews.{OneForEach, IsEntryOf, NoHitBelow, IsUpToHit}
 use Rattle.shop_workers.specs.inner.Hits.{IsEntryUpToHit, IsFirstHitBelow}
 
 pub record AreEntriesUpTo (r : Told) (es : List Entry) (n : ℕ) : Type 0 where

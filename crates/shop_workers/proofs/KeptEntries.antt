@@ -8,8 +8,8 @@ use Rattle.std.proofs.lemmas.List.Elements.{All-nil, All-cons, All-weaker}
 use Rattle.std.specs.Prelude.{All, IsSome, IfSome, Ok, Err, slice_index_or, slice_set}
 use native.Mathlib.Decide.{ℕ_discrete}
 use mathlib.Core.Logic.{dite}
-use Rattle.shop_crews.specs.Entries.{number_of}
-use Rattle.shop_crews.specs.declared.entries.Entry.{Entry}
+use Rattle.shop_runs.specs.Entries.{number_of}
+use Rattle.shop_runs.specs.declared.entries.Entry.{Entry}
 use Rattle.shop_workers.specs.Entries.{Brought}
 use Rattle.shop_workers.specs.inner.Gathered.{Fills, FillsAll, StayFilled}
 

@@ -1,3 +1,15 @@
 pub mod EntriesUpToHit
 pub mod KeptEntries
 pub mod Places
+pub mod ClaimSteps
+pub mod ClosedBoards
+pub mod HitSteps
+pub mod JoinedSeats
+pub mod LawfulSteps
+pub mod Numbers
+pub mod SeatCounts
+pub mod Words
+pub mod MomentRows
+pub mod ServedEntries
+pub mod WonEntries
+pub mod TakenEntries

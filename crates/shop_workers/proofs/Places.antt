@@ -7,9 +7,9 @@ use Rattle.std.proofs.lemmas.List.{length-set, get_or-set_same, get_or-set_other
 use Rattle.std.specs.Prelude.{IfSome, slice_index_or, slice_set}
 use native.Mathlib.Decide.{ℕ_discrete}
 use mathlib.Core.Logic.{dite}
-use Rattle.shop_crews.specs.Round.{Told}
-use Rattle.shop_crews.specs.Crews.{OneForEach, IsEntryOf}
-use Rattle.shop_crews.specs.declared.entries.Entry.{Entry}
+use Rattle.shop_runs.specs.Round.{Told}
+use Rattle.shop_runs.specs.Crews.{OneForEach, IsEntryOf}
+use Rattle.shop_runs.specs.declared.entries.Entry.{Entry}
 use Rattle.shop_workers.specs.inner.Gathered.{Placed}
 
 -- an entry that stands in place n is that of piece n

@@ -7,11 +7,11 @@ use Rattle.std.specs.Prelude.{◌≡◌, ◌<◌, List, All, true, Result}
 use Rattle.std.specs.declared.vec.Vec.{Vec}
 use Rattle.std.specs.declared.alloc.Global.{Global}
 use Rattle.std.specs.declared.alloc.AllocError.{AllocError}
-use Rattle.shop_crews.specs.Round.{Told}
-use Rattle.shop_crews.specs.Entries.{told, number_of, is_hit}
-use Rattle.shop_crews.specs.declared.entries.Entry.{Entry}
-use Rattle.shop_crews.specs.declared.entries.Kind.{Kind}
-use Rattle.shop_crews.specs.declared.entries.Kind.TheVariants.{Done, Passed}
+use Rattle.shop_runs.specs.Round.{Told}
+use Rattle.shop_runs.specs.Entries.{told, number_of, is_hit}
+use Rattle.shop_runs.specs.declared.entries.Entry.{Entry}
+use Rattle.shop_runs.specs.declared.entries.Kind.{Kind}
+use Rattle.shop_runs.specs.declared.entries.Kind.TheVariants.{Done, Passed}
 
 abbrev pub OfRound : Told → List Entry → Type 0
 OfRound r es = All (λ (e : Entry). told e.round.now ≡ r) es

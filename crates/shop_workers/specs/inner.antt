@@ -1,2 +1,5 @@
 pub mod Gathered
 pub mod Hits
+pub mod Steps
+pub mod Turns
+pub mod Returns

@@ -1,11 +1,11 @@
 // The pieces of a round searched in order, up to the first that ends at the opening bound.
 ghost use Rattle.std.specs.Prelude.{◌≡◌, ◌+◌, ◌<◌, length, IfOk, OnOk};
-ghost use Rattle.shop_crews.specs.Entries.{told};
-ghost use Rattle.shop_crews.specs.Crews.{OneForEach, StopsAtHit};
+ghost use Rattle.shop_runs.specs.Entries.{told};
+ghost use Rattle.shop_runs.specs.Crews.{OneForEach, StopsAtHit};
 ghost use Rattle.shop_workers.specs.inner.Hits.{IsEntryUpToHit, IsFirstHitBelow};
 
 use crate::piece_search::PieceSearch;
-use shop_crews::Entry;
+use shop_runs::Entry;
 use std::alloc::{AllocError, Global};
 
 // The entry of the next piece. Where an earlier one, `hit`, ends at the opening bound, the piece is passed; else it is

@@ -1,13 +1,31 @@
-// What crews have in common: the trait of who searches single pieces; the pieces of a round searched in order up to the
-// first whose makespan is the opening bound; the entries of several workers put in the order of the pieces.
+// What workers do who share a round: they claim its pieces on a board, or take them from a pool behind a lock.
 #![tactic(auto)]
 
+mod boards;
 mod hit_search;
+mod lock_search;
 mod open_gates;
 mod ordering;
 mod piece_search;
+mod pool_gates;
+mod pools;
+mod round_hits;
+mod rules;
+mod seat_gates;
+mod seat_laws;
+mod seat_lending;
+mod views;
+mod working;
 
+pub use boards::{Board, Seat};
 pub use hit_search::search_up_to_hit;
+pub use lock_search::serve;
 pub use open_gates::OpenGate;
-pub use ordering::{complete, in_order, in_places};
+pub use ordering::in_order;
 pub use piece_search::PieceSearch;
+pub use pool_gates::Gate;
+pub use pools::Pool;
+pub use seat_gates::SeatGate;
+pub use seat_laws::has_all;
+pub use seat_lending::{Lent, Returned, complete_returned, lend};
+pub use working::work_by;

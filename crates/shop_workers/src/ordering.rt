@@ -1,14 +1,14 @@
 // Entries that workers brought, put in the order of their pieces.
 ghost use Rattle.std.specs.Prelude.{◌≡◌, ◌<◌, length, All, IfOk, IfSome, None, slice_set};
 ghost use Rattle.std.specs.Prelude.{slice_index_or, vec_len};
-ghost use Rattle.shop_crews.specs.Entries.{told};
-ghost use Rattle.shop_crews.specs.Crews.{OneForEach, IsEntryOf};
+ghost use Rattle.shop_runs.specs.Entries.{told};
+ghost use Rattle.shop_runs.specs.Crews.{OneForEach, IsEntryOf};
 ghost use Rattle.shop_workers.specs.Entries.{OfRound};
 ghost use Rattle.shop_workers.specs.inner.Gathered.{AllOfRound, Placed, AreFilled, AreKept, Fills};
 ghost use Rattle.shop_workers.specs.inner.Gathered.{StayFilled};
 
 use crate::piece_search::PieceSearch;
-use shop_crews::{Entry, Round};
+use shop_runs::{Entry, Round};
 use std::alloc::{AllocError, Global};
 
 // A place for each piece.

@@ -1,10 +1,10 @@
 // Who searches single pieces of a round.
 ghost use Rattle.std.specs.Prelude.{◌≡◌, ◌<◌, length, IfOk};
-ghost use Rattle.shop_crews.specs.Entries.{told, IsOf, TellsHit};
-ghost use Rattle.shop_crews.specs.declared.rounds.Round.{Round};
+ghost use Rattle.shop_runs.specs.Entries.{told, IsOf, TellsHit};
+ghost use Rattle.shop_runs.specs.declared.rounds.Round.{Round};
 
-use shop_crews::Round;
 use shop_nodes::Sheet;
+use shop_runs::Round;
 use std::alloc::{AllocError, Global};
 
 /// Searches pieces of one round, one after the other. All that crews do is proved for whoever does so.

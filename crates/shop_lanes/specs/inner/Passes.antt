@@ -6,7 +6,7 @@ use Rattle.std.specs.Prelude.{◌≡◌, ◌≢◌, ℕ, ◌+◌, ◌*◌, ◌-�
 use Rattle.std.specs.Prelude.{length, max, List, [], ◌∷◌, if◌then◌else◌, nat_le}
 use Rattle.std.specs.Prelude.{get_or, map}
 use Rattle.std.specs.Simd.Lanes.{zip2}
-use Rattle.shop_blocks.specs.Eights.{first_of, added, waiting, AddsFit}
+use Rattle.shop_lanes.specs.Eights.{first_of, added, waiting, AddsFit}
 use Rattle.shop_lanes.specs.Rows.{Lane, lanes, by_columns}
 use Rattle.shop_lanes.specs.Spans.{span}
 

@@ -5,10 +5,10 @@ use Rattle.std.specs.Prelude.{ℕ, ◌<◌, Option, Some, None}
 use Rattle.shop_model.specs.Shop.{Shop, Starts, IsOperation}
 use Rattle.shop_model.specs.Checking.{IsBefore, NoneEarly, IsFirstEarly, AreApart, IsFirstAfter}
 use Rattle.shop_model.specs.Checking.{IsFirstOverlap}
-use Rattle.shop_model.specs.declared.ops.Position.{Position}
+use Rattle.shop_model.specs.declared.ops.OperationId.{OperationId}
 
 -- the first operation that begins too early, if one does
-abbrev pub TellsFirstEarly : Shop → Starts → Option Position → Type 0
+abbrev pub TellsFirstEarly : Shop → Starts → Option OperationId → Type 0
 TellsFirstEarly shop starts None = NoneEarly shop starts
 TellsFirstEarly shop starts (Some p) = IsFirstEarly shop starts p.job p.step
 
@@ -18,7 +18,7 @@ IsApartAfter shop starts j k = (i l : ℕ) → IsOperation shop i l → IsBefore
     → AreApart shop starts j k i l
 
 -- the first operation after (j, k) that isn't apart from it, if there is one
-abbrev pub TellsFirstAfter : Shop → Starts → ℕ → ℕ → Option Position → Type 0
+abbrev pub TellsFirstAfter : Shop → Starts → ℕ → ℕ → Option OperationId → Type 0
 TellsFirstAfter shop starts j k None = IsApartAfter shop starts j k
 TellsFirstAfter shop starts j k (Some p) = IsFirstAfter shop starts j k p.job p.step
 
@@ -44,12 +44,12 @@ pub record IsFirstOverlapOf (shop : Shop) (starts : Starts) (j k i l : ℕ) : Ty
 
 -- the first step of job j that isn't apart from a later operation, with the first such operation,
 -- if there is one
-abbrev pub TellsFirstOverlapOf : Shop → Starts → ℕ → Option (ℕ × Position) → Type 0
+abbrev pub TellsFirstOverlapOf : Shop → Starts → ℕ → Option (ℕ × OperationId) → Type 0
 TellsFirstOverlapOf shop starts j None = IsJobApart shop starts j
 TellsFirstOverlapOf shop starts j (Some p) = IsFirstOverlapOf shop starts j p.0 p.1.job p.1.step
 
 -- the first pair of operations that aren't apart, if there is one
-abbrev pub TellsFirstOverlap : Shop → Starts → Option (Position × Position) → Type 0
+abbrev pub TellsFirstOverlap : Shop → Starts → Option (OperationId × OperationId) → Type 0
 TellsFirstOverlap shop starts None = AllApart shop starts
 TellsFirstOverlap shop starts (Some p) =
     IsFirstOverlap shop starts p.0.job p.0.step p.1.job p.1.step

@@ -3,12 +3,12 @@ use Rattle.std.specs.Prelude.{◌≡◌, ℕ, ◌+◌, ◌≤◌, ◌<◌, ◌�
 use Rattle.std.specs.Prelude.{slice_index, slice_index_or}
 use Rattle.std.specs.List.{range_with_len}
 use Rattle.shop_model.specs.declared.ops.Op.{Op}
-use Rattle.shop_model.specs.declared.spans.Span.{Span}
+use Rattle.shop_model.specs.declared.spans.Occupied.{Occupied}
 use Rattle.shop_model.specs.Shop.{Shop, route_of}
 use Rattle.shop_model.specs.inner.Steps.{machine_at, finish_at}
 
 -- step k of a job
-abbrev pub span_at : List Op → List ℕ → ℕ → Span
+abbrev pub span_at : List Op → List ℕ → ℕ → Occupied
 span_at route row k = record {
   machine = machine_at route k;
   start = slice_index row k;
@@ -17,18 +17,18 @@ span_at route row k = record {
 }
 
 -- those of a job, and those of all jobs
-abbrev pub spans_at : List Op → List ℕ → List Span
+abbrev pub spans_at : List Op → List ℕ → List Occupied
 spans_at route row = map (span_at route row) (range_with_len 0 (length route))
 
-abbrev pub spans_of : Shop → List (List ℕ) → List Span
+abbrev pub spans_of : Shop → List (List ℕ) → List Occupied
 spans_of shop rows = flat_map (λ j. spans_at (route_of shop j) (slice_index_or rows j []))
     (range_with_len 0 (length shop.jobs))
 
 -- one span is on a lower machine, or ends before the other begins
-abbrev pub IsInTurn : Span → Span → Type 0
+abbrev pub IsInTurn : Occupied → Occupied → Type 0
 IsInTurn a b = (a.machine < b.machine) ⊎ ((a.machine ≡ b.machine) × (a.finish ≤ b.start))
 
 -- so each is with the next
-abbrev pub AreInTurn : List Span → Type 0
-AreInTurn spans = (k : ℕ) (d : Span) → k + 1 < length spans
+abbrev pub AreInTurn : List Occupied → Type 0
+AreInTurn spans = (k : ℕ) (d : Occupied) → k + 1 < length spans
     → IsInTurn (slice_index_or spans k d) (slice_index_or spans (k + 1) d)

@@ -6,7 +6,7 @@
 --     AreLeasts stacked          the same of a stack, whose top is its end
 use Rattle.std.specs.Prelude.{◌≡◌, ℕ, List, [], ◌∷◌, map, reverse}
 use Rattle.shop_nodes.specs.declared.nodes.Node.{Node}
-use Rattle.shop_crews.specs.inner.OpenNodes.{least_of_bounds}
+use Rattle.shop_runs.specs.inner.NodeLists.{least_of_bounds}
 use Rattle.shop_runs.specs.declared.kept_stacks.StackedNode.{StackedNode}
 
 abbrev pub nodes_of : List StackedNode → List Node

@@ -10,39 +10,39 @@
 use Rattle.std.specs.Prelude.{◌≡◌, []}
 use Rattle.shop_model.specs.Shop.{Shop}
 use Rattle.shop_nodes.specs.Nodes.{words_of, AreNodes}
-use Rattle.shop_crews.specs.Round.{Stand, Told, in_order, makespan_of, cut_of}
-use Rattle.shop_crews.specs.Laws.{IsStanding}
-use Rattle.shop_crews.specs.Entries.{told}
-use Rattle.shop_crews.specs.Standings.{stands}
-use Rattle.shop_plans.specs.Plans.{planned}
-use Rattle.shop_crews.specs.inner.OpenNodes.{nodes_below}
+use Rattle.shop_runs.specs.Round.{Stand, Told, in_order, makespan_of, cut_of}
+use Rattle.shop_runs.specs.Laws.{IsStanding}
+use Rattle.shop_runs.specs.Entries.{told}
+use Rattle.shop_runs.specs.Standings.{stands}
+use Rattle.shop_runs.specs.Plans.{planned}
+use Rattle.shop_runs.specs.inner.NodeLists.{nodes_below}
 use Rattle.shop_runs.specs.inner.OpenNodes.{AreBelow}
 use Rattle.shop_runs.specs.inner.Stacks.{put_all_before}
 use Rattle.shop_runs.specs.inner.Stores.{open_list, order_of}
 use Rattle.shop_runs.specs.declared.open_nodes.OpenNodes.{OpenNodes}
-use Rattle.shop_plans.specs.declared.plans.Order.{Order}
-use Rattle.shop_plans.specs.declared.plans.Plan.{Plan}
-use Rattle.shop_crews.specs.declared.rounds.Round.{Round}
-use Rattle.shop_runs.specs.declared.runs.Search.{Search}
-use Rattle.shop_crews.specs.declared.standings.Standing.{Standing}
+use Rattle.shop_runs.specs.declared.plans.Order.{Order}
+use Rattle.shop_runs.specs.declared.plans.Plan.{Plan}
+use Rattle.shop_runs.specs.declared.rounds.Round.{Round}
+use Rattle.shop_runs.specs.declared.runs.OpenRun.{OpenRun}
+use Rattle.shop_runs.specs.declared.standings.Standing.{Standing}
 
-abbrev pub stand_of : Search → Stand
+abbrev pub stand_of : OpenRun → Stand
 stand_of t = record (stands t.standing) { open_words = words_of (open_list t.open) }
 
-pub record IsSearchAt (shop : Shop) (order : Order) (s : Stand) (t : Search) : Type 0 where
+pub record IsSearchAt (shop : Shop) (order : Order) (s : Stand) (t : OpenRun) : Type 0 where
   pub stands_at : stand_of t ≡ record s { open_words = in_order shop order s.open_words }
   pub makespan : t.standing.makespan ≡ makespan_of shop s
   pub bounds : AreNodes shop (open_list t.open)
   pub kept : order_of t.open ≡ order
 
-pub record IsSearchOf (shop : Shop) (order : Order) (t : Search) : Type 0 where
+pub record IsSearchOf (shop : Shop) (order : Order) (t : OpenRun) : Type 0 where
   pub standing : IsStanding shop (stand_of t)
   pub makespan : t.standing.makespan ≡ makespan_of shop (stand_of t)
   pub bounds : AreNodes shop (open_list t.open)
   pub kept : order_of t.open ≡ order
   pub ordered : in_order shop order (words_of (open_list t.open)) ≡ words_of (open_list t.open)
 
-pub record IsJoined (standing : Standing) (others : OpenNodes) (t : Search) : Type 0 where
+pub record IsJoined (standing : Standing) (others : OpenNodes) (t : OpenRun) : Type 0 where
   pub standing_is : t.standing ≡ record standing { «open» = t.standing.open }
   pub moved : t.standing.open.items ≡ []
   pub kept : order_of t.open ≡ order_of others
@@ -52,7 +52,7 @@ pub record IsJoined (standing : Standing) (others : OpenNodes) (t : Search) : Ty
 abbrev pub front_of : Told → Told
 front_of r = record r { rest = [] }
 
-pub record IsFront (shop : Shop) (plan : Plan) (t : Search) (r : Round) (others : OpenNodes)
+pub record IsFront (shop : Shop) (plan : Plan) (t : OpenRun) (r : Round) (others : OpenNodes)
     : Type 0 where
   pub round : told r ≡ front_of (cut_of shop (planned plan) (stand_of t))
   pub rest : words_of (open_list others) ≡ (cut_of shop (planned plan) (stand_of t)).rest

@@ -13,16 +13,16 @@ use Rattle.std.specs.Prelude.{map, flat_map, reverse}
 use Rattle.std.specs.BTreeMap.{BTreeMap}
 use Rattle.shop_nodes.specs.Branching.{insert_by}
 use Rattle.shop_nodes.specs.declared.nodes.Node.{Node}
-use Rattle.shop_runs.specs.declared.stacks.Block.{Block}
+use Rattle.shop_runs.specs.declared.stacks.Chunk.{Chunk}
 use Rattle.shop_runs.specs.declared.stacks.Stack.{Stack}
-use Rattle.shop_crews.specs.inner.OpenNodes.{nodes_below}
-use Rattle.shop_plans.specs.declared.plans.Order.{Order}
-use Rattle.shop_plans.specs.declared.plans.Order.TheVariants.{Kept, Bound}
+use Rattle.shop_runs.specs.inner.NodeLists.{nodes_below}
+use Rattle.shop_runs.specs.declared.plans.Order.{Order}
+use Rattle.shop_runs.specs.declared.plans.Order.TheVariants.{Kept, Bound}
 
-abbrev pub words_in : Block → List (List ℕ)
+abbrev pub words_in : Chunk → List (List ℕ)
 words_in b = b.top ∷ reverse b.below.items
 
-abbrev pub words_in_rest : Option Block → List (List ℕ)
+abbrev pub words_in_rest : Option Chunk → List (List ℕ)
 words_in_rest None = []
 words_in_rest (Some b) = words_in b
 

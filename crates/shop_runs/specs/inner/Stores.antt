@@ -10,9 +10,9 @@ use Rattle.std.specs.Prelude.{◌≡◌, ℕ, Option, List, take, drop}
 use Rattle.shop_nodes.specs.declared.nodes.Node.{Node}
 use Rattle.shop_runs.specs.declared.open_nodes.OpenNodes.{OpenNodes}
 use Rattle.shop_runs.specs.declared.open_nodes.OpenNodes.TheVariants.{AsKept, ByBound}
-use Rattle.shop_plans.specs.declared.plans.Order.{Order}
-use Rattle.shop_plans.specs.declared.plans.Order.TheVariants.{Kept, Bound}
-use Rattle.shop_crews.specs.inner.OpenNodes.{nodes_below}
+use Rattle.shop_runs.specs.declared.plans.Order.{Order}
+use Rattle.shop_runs.specs.declared.plans.Order.TheVariants.{Kept, Bound}
+use Rattle.shop_runs.specs.inner.NodeLists.{nodes_below}
 use Rattle.shop_runs.specs.inner.Stacks.{nodes_in_stacks, put_before, put_all_before, IsNextOf}
 
 abbrev pub open_list : OpenNodes → List Node

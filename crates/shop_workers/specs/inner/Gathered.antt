@@ -9,10 +9,10 @@
 --     AreKept places entries        an entry that stands in a place is kept
 use Rattle.std.specs.Prelude.{◌≡◌, ℕ, ◌<◌, List, length, All, Option, Some, None, IsSome, IfSome}
 use Rattle.std.specs.Prelude.{IfOk, slice_index_or}
-use Rattle.shop_crews.specs.Round.{Told}
-use Rattle.shop_crews.specs.Crews.{IsEntryOf}
-use Rattle.shop_crews.specs.Entries.{number_of}
-use Rattle.shop_crews.specs.declared.entries.Entry.{Entry}
+use Rattle.shop_runs.specs.Round.{Told}
+use Rattle.shop_runs.specs.Crews.{IsEntryOf}
+use Rattle.shop_runs.specs.Entries.{number_of}
+use Rattle.shop_runs.specs.declared.entries.Entry.{Entry}
 use Rattle.shop_workers.specs.Entries.{OfRound, Brought}
 
 abbrev pub AllOfRound : Told → List Brought → Type 0

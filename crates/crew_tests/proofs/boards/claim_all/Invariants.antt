@@ -1,4 +1,4 @@
-use Rattle.shop_board.specs.Seats.{IsSeatOf}
+use Rattle.shop_workers.specs.Seats.{IsSeatOf}
 use Rattle.crew_tests.proofs.boards.claim_all.Given as goal
 
 abbrev pub invariant-loop-number : goal.invariant-loop-number

@@ -1,6 +1,6 @@
 use Rattle.std.proofs.Common.{vec_len, Option}
 use Rattle.std.specs.Prelude.{All, IfSome}
-use Rattle.shop_seats.specs.declared.boards.Board.{Board}
+use Rattle.shop_workers.specs.declared.boards.Board.{Board}
 use Rattle.crew_tests.specs.declared.boards.Worked.{Worked}
 use Rattle.crew_tests.specs.inner.Served.{HasServedOf}
 use Rattle.crew_tests.proofs.boards.join_worked.Given as goal

@@ -1,7 +1,7 @@
 use Rattle.std.proofs.Common.{◌≡◌, ℕ, ◌<◌, length}
 use Rattle.std.specs.Prelude.{slice_index_or}
-use Rattle.shop_round.specs.Entries.{told}
-use Rattle.shop_round.specs.Crews.{IsEntryOf}
+use Rattle.shop_runs.specs.Entries.{told}
+use Rattle.shop_runs.specs.Crews.{IsEntryOf}
 use Rattle.crew_tests.proofs.closing.all_searched.Given as goal
 
 abbrev pub invariant-loop-number : goal.invariant-loop-number

@@ -1,6 +1,6 @@
 use Rattle.shop_text.specs.Names.{shop_of_named}
-use Rattle.shop_verdicts.specs.Asking.{name_in}
-use Rattle.shop_verdicts.proofs.Picks.{is_asked}
+use Rattle.shop_engine.specs.Asking.{name_in}
+use Rattle.shop_engine.proofs.Picks.{is_asked}
 use Rattle.shop_engine.proofs.SolvedSchedules.{passes_check}
 use Rattle.shop_engine.proofs.solving.solve_bytes.Goals as goal
 

@@ -1,8 +1,8 @@
 use Rattle.std.proofs.Common.{◌∙◌, ◌≡◌, ◌*◌, ◌+◌, ◌≤◌, min, ap, arith, map, length, take, drop, replicate, get_or}
 use Rattle.std.proofs.lemmas.List.{length-map}
 use lib.Lanes.{zip2}
-use Rattle.shop_blocks.specs.Eights.{later_head}
-use Rattle.shop_blocks.specs.Folds.{least_up_to}
+use Rattle.shop_lanes.specs.Eights.{later_head}
+use Rattle.shop_lanes.specs.Folds.{least_up_to}
 use Rattle.shop_lanes.proofs.BlockMasks.{least_begins, least_more, least_ends, length-lesser}
 use Rattle.shop_lanes.proofs.LaterTurns.{later_block}
 use Rattle.shop_lanes.proofs.leaps.least_head_of.Goals as goal

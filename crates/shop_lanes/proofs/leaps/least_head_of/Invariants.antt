@@ -1,6 +1,6 @@
 use Rattle.std.proofs.Common.{◌≡◌, ◌*◌, min, drop, map, length}
-use Rattle.shop_blocks.specs.Eights.{later_head}
-use Rattle.shop_blocks.specs.Folds.{least_up_to}
+use Rattle.shop_lanes.specs.Eights.{later_head}
+use Rattle.shop_lanes.specs.Folds.{least_up_to}
 use Rattle.shop_lanes.proofs.leaps.least_head_of.Given as goal
 
 abbrev pub invariant-loop-block : goal.invariant-loop-block

@@ -1,7 +1,7 @@
 use Rattle.std.proofs.Common.{◌≡◌, ◌∙◌, ◌/◌, ◌≤◌, ap, sym, subst}
 use lib.Lanes.{sum_l}
-use Rattle.shop_blocks.specs.Eights.{AddsFit}
-use Rattle.shop_blocks.specs.Folds.{sums_before}
+use Rattle.shop_lanes.specs.Eights.{AddsFit}
+use Rattle.shop_lanes.specs.Folds.{sums_before}
 use Rattle.shop_lanes.specs.inner.Passes.{lanes_by, eight}
 use Rattle.shop_lanes.proofs.ColumnTurns.{columns_by}
 use Rattle.shop_lanes.proofs.ColumnScan.{begin, begins_are, all_fits, begins_fit, ends_fit}

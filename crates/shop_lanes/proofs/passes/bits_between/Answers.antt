@@ -1,7 +1,7 @@
 use Rattle.std.proofs.Common.{◌-◌, ◌*◌, map, ap, ◌∙◌, arith}
 use Rattle.std.proofs.lemmas.List.{length-map}
 use lib.Lanes.{mask_l}
-use Rattle.shop_blocks.specs.Eights.{is_between}
+use Rattle.shop_lanes.specs.Eights.{is_between}
 use Rattle.shop_lanes.proofs.BlockMasks.{mask_back, mask_small}
 use Rattle.shop_lanes.proofs.passes.bits_between.Goals as goal
 

@@ -1,6 +1,6 @@
 use Rattle.std.proofs.Common.{◌≡◌, ◌≤◌, ◌*◌, length, map, drop}
 use lib.Lanes.{mask_l}
-use Rattle.shop_blocks.specs.Eights.{is_between}
+use Rattle.shop_lanes.specs.Eights.{is_between}
 use Rattle.shop_lanes.proofs.passes.bits_between.Given as goal
 
 abbrev pub invariant-loop-block : goal.invariant-loop-block

@@ -1,6 +1,6 @@
 use Rattle.std.proofs.Common.{arith, map}
 use Rattle.std.proofs.lemmas.List.{length-map}
-use Rattle.shop_blocks.proofs.Extremes.{least_le_top}
+use Rattle.shop_lanes.proofs.Extremes.{least_le_top}
 use Rattle.shop_lanes.proofs.BlockMasks.{least_by_mask}
 use Rattle.shop_lanes.proofs.passes.first_least_of.Goals as goal
 

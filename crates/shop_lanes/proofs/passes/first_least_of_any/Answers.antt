@@ -1,6 +1,6 @@
 use Rattle.std.proofs.Common.{arith, map, sym}
 use Rattle.std.proofs.lemmas.List.{length-map}
-use Rattle.shop_blocks.proofs.Extremes.{least_le_top}
+use Rattle.shop_lanes.proofs.Extremes.{least_le_top}
 use Rattle.shop_lanes.proofs.BlockMasks.{first_of_least}
 use Rattle.shop_lanes.proofs.passes.first_least_of_any.Goals as goal
 

@@ -1,7 +1,7 @@
 use Rattle.std.proofs.Common.{◌∙◌, ◌≡◌, ◌*◌, ◌+◌, ◌≤◌, min, ap, arith, map, length, take, drop, replicate}
 use Rattle.std.proofs.lemmas.List.{length-map}
 use lib.Lanes.{zip2}
-use Rattle.shop_blocks.specs.Folds.{least_up_to}
+use Rattle.shop_lanes.specs.Folds.{least_up_to}
 use Rattle.shop_lanes.proofs.BlockMasks.{least_begins, least_more, least_ends, length-lesser}
 use Rattle.shop_lanes.proofs.passes.least_number.Goals as goal
 

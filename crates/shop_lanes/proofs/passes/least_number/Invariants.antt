@@ -1,5 +1,5 @@
 use Rattle.std.proofs.Common.{◌≡◌, ◌*◌, min, drop, map, length}
-use Rattle.shop_blocks.specs.Folds.{least_up_to}
+use Rattle.shop_lanes.specs.Folds.{least_up_to}
 use Rattle.shop_lanes.proofs.passes.least_number.Given as goal
 
 abbrev pub invariant-loop-block : goal.invariant-loop-block

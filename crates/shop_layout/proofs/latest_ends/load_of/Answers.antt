@@ -1,7 +1,7 @@
 use Rattle.std.proofs.Common.{ℕ, List, [], ◌∷◌, take, ap, get_or, arith}
 use Rattle.std.proofs.lemmas.List.{take_more}
-use Rattle.one_machine.specs.OneMachine.{greatest_of}
-use Rattle.one_machine.proofs.ThresholdLemmas.{greatest_of-append}
+use Rattle.shop_bound.specs.OneMachine.{greatest_of}
+use Rattle.shop_bound.proofs.ThresholdLemmas.{greatest_of-append}
 use Rattle.shop_layout.proofs.latest_ends.load_of.Goals as goal
 
 pub loop-tail-preserved : goal.loop-tail-preserved

@@ -1,6 +1,6 @@
 use Rattle.std.proofs.Common.{◌≡◌, take}
 use Rattle.std.specs.List.{sum_by}
-use Rattle.one_machine.specs.OneMachine.{greatest_of}
+use Rattle.shop_bound.specs.OneMachine.{greatest_of}
 use Rattle.shop_layout.proofs.latest_ends.load_of.Given as goal
 
 abbrev pub invariant-loop-time : goal.invariant-loop-time

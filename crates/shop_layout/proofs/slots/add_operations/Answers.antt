@@ -3,9 +3,9 @@ use Rattle.std.proofs.Common.{sym, subst, ap}
 use Rattle.std.proofs.lemmas.List.{length-map, length-set}
 use Rattle.shop_model.specs.Shop.{no_op}
 use Rattle.shop_layout.specs.declared.slots.Slot.{Slot}
-use Rattle.shop_heads.specs.Heads.{tail_in}
+use Rattle.shop_bound.specs.Heads.{tail_in}
 use Rattle.shop_layout.proofs.SlotLists.{IsAddedTo, added_set, items_written, items_read}
-use Rattle.shop_heads.proofs.TimeSums.{times_from}
+use Rattle.shop_bound.proofs.TimeSums.{times_from}
 use Rattle.shop_layout.proofs.slots.add_operations.Goals as goal
 
 pub loop-k-preserved : goal.loop-k-preserved

@@ -3,7 +3,7 @@ use Rattle.std.specs.Prelude.{IsPermutation}
 use Rattle.std.proofs.lemmas.Fn.{always_returns_same}
 use Rattle.std.proofs.lemmas.List.{length-map}
 use Rattle.shop_layout.specs.declared.slots.Slot.{Slot}
-use Rattle.one_machine.proofs.SortedTails.{falls_from_sort}
+use Rattle.shop_bound.proofs.SortedTails.{falls_from_sort}
 use Rattle.shop_layout.proofs.SlotLists.{IsSortedUpTo, sorted_more, items_written, items_read}
 use Rattle.shop_layout.proofs.slots.machine_slots.Goals as goal
 

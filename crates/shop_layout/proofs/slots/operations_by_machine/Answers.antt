@@ -1,5 +1,5 @@
 use Rattle.shop_layout.proofs.SlotLists.{jobs_written}
-use Rattle.shop_heads.proofs.TimeSums.{times_small}
+use Rattle.shop_bound.proofs.TimeSums.{times_small}
 use Rattle.shop_layout.proofs.slots.operations_by_machine.Goals as goal
 
 pub add_operations-requires-clause-times : goal.add_operations-requires-clause-times

@@ -1,7 +1,7 @@
 use Rattle.std.proofs.Common.{refl, sym, ◌∙◌, subst}
 use Rattle.shop_model.specs.Word.{IsFull}
 use Rattle.shop_runs.specs.Answers.{answer}
-use Rattle.shop_plans.specs.Plans.{planned}
+use Rattle.shop_runs.specs.Plans.{planned}
 use Rattle.shop_runs.proofs.Answering.{word_same, says_search, trust_says}
 use Rattle.shop_runs.proofs.Trusting.{trustworthy}
 use Rattle.shop_runs.proofs.runs.run.Goals as goal

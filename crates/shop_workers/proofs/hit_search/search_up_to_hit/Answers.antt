@@ -1,6 +1,6 @@
 use Rattle.std.proofs.Common.{◌≡◌, ◌∙◌, ◌+◌, length, rules, subst, sym}
 use Rattle.std.proofs.lemmas.List.{length-map}
-use Rattle.shop_crews.specs.Entries.{told}
+use Rattle.shop_runs.specs.Entries.{told}
 use Rattle.shop_workers.specs.inner.Hits.{IsEntryUpToHit, IsFirstHitBelow}
 use Rattle.shop_workers.proofs.EntriesUpToHit.{one_entry_more, all_entries}
 use Rattle.shop_workers.proofs.hit_search.search_up_to_hit.Goals as goal

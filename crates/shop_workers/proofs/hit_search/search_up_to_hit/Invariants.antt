@@ -1,5 +1,5 @@
 use Rattle.std.proofs.Common.{◌≡◌}
-use Rattle.shop_crews.specs.Entries.{told}
+use Rattle.shop_runs.specs.Entries.{told}
 use Rattle.shop_workers.specs.inner.Hits.{IsFirstHitBelow}
 use Rattle.shop_workers.proofs.EntriesUpToHit.{AreEntriesUpTo}
 use Rattle.shop_workers.proofs.hit_search.search_up_to_hit.Given as goal

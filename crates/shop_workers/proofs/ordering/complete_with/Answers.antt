@@ -1,7 +1,7 @@
 use Rattle.std.proofs.Common.{rules, ◌≡◌, ◌∙◌, sym, subst, length, None, ◌+◌, ◌<◌}
 use Rattle.std.specs.Prelude.{slice_set}
 use Rattle.std.proofs.lemmas.List.{length-map}
-use Rattle.shop_crews.specs.Entries.{told}
+use Rattle.shop_runs.specs.Entries.{told}
 use Rattle.shop_workers.proofs.KeptEntries.{AreKeptUpTo, one_kept}
 use Rattle.shop_workers.proofs.Places.{EntriesUpTo, placed_set, one_more, all_entries}
 use Rattle.shop_workers.specs.inner.Gathered.{Placed}

@@ -1,5 +1,5 @@
 use Rattle.std.proofs.Common.{◌≡◌, vec_len}
-use Rattle.shop_crews.specs.Entries.{told}
+use Rattle.shop_runs.specs.Entries.{told}
 use Rattle.shop_workers.specs.inner.Gathered.{Placed}
 use Rattle.shop_workers.proofs.KeptEntries.{AreKeptUpTo}
 use Rattle.shop_workers.proofs.Places.{EntriesUpTo}

@@ -1,7 +1,7 @@
 use Rattle.std.proofs.Common.{rules, ◌≡◌, ◌∙◌, [], ◌∷◌, ◌++◌}
 use Rattle.std.proofs.lemmas.List.Elements.{All-pop}
 use Rattle.std.specs.Prelude.{Ok, IfOk}
-use Rattle.shop_crews.specs.Entries.{told}
+use Rattle.shop_runs.specs.Entries.{told}
 use Rattle.shop_workers.specs.Entries.{OfRound, Brought}
 use Rattle.shop_workers.specs.inner.Gathered.{FillsAll}
 use Rattle.shop_workers.proofs.KeptEntries.{through_one, still_filled}

@@ -1,5 +1,5 @@
 use Rattle.std.proofs.Common.{◌≡◌, vec_len, length}
-use Rattle.shop_crews.specs.Entries.{told}
+use Rattle.shop_runs.specs.Entries.{told}
 use Rattle.shop_workers.specs.inner.Gathered.{Placed, AllOfRound, FillsAll}
 use Rattle.shop_workers.proofs.KeptEntries.{AreThrough}
 use Rattle.shop_workers.proofs.ordering.in_places.Given as goal

@@ -1,5 +1,5 @@
 use Rattle.std.proofs.Common.{◌≡◌, ◌∷◌, [], ◌++◌, ◌∙◌, ap, sym, subst, min, arith, ◌<◌}
-use Rattle.shop_crews.specs.inner.OpenNodes.{least_of_bounds}
+use Rattle.shop_runs.specs.inner.NodeLists.{least_of_bounds}
 use Rattle.shop_runs.specs.inner.KeptStacks.{AreLeasts, least_in, nodes_from_top}
 use Rattle.shop_runs.specs.declared.kept_stacks.StackedNode.{StackedNode}
 use Rattle.shop_runs.proofs.KeptLemmas.{least_from, leasts_with}

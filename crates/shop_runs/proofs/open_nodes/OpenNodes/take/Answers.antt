@@ -1,6 +1,6 @@
 use Rattle.std.proofs.Common.{◌∙◌, subst}
 use Rattle.shop_runs.specs.inner.Stores.{open_list, HasPopped}
-use Rattle.shop_crews.proofs.PieceLemmas.{take_next}
+use Rattle.shop_runs.proofs.PieceLemmas.{take_next}
 use Rattle.shop_runs.proofs.open_nodes.OpenNodes.take.Goals as goal
 
 pub loop-preserved : goal.loop-preserved

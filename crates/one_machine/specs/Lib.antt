@@ -1,3 +1,0 @@
-pub mod OneMachine
-pub mod Schedules
-pub mod inner

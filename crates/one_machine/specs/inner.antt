@@ -1,4 +1,0 @@
-pub mod NonincreasingTails
-pub mod Profiles
-pub mod Serving
-pub mod Thresholds

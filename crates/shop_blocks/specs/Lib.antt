@@ -1,2 +1,0 @@
-pub mod Eights
-pub mod Folds

@@ -1,0 +1,76 @@
+// A crew whose workers claim pieces on a board.
+ghost use Rattle.std.specs.Thread.{IsSync};
+ghost use Rattle.std.specs.Prelude.{◌≡◌, ◌<◌, ◌≤◌, ◌↔◌, IsSome, IfSome, IfOk};
+ghost use Rattle.shop_runs.specs.declared.plans.TheConstants.{MAX_WORKERS};
+ghost use Rattle.shop_runs.specs.Entries.{told};
+ghost use Rattle.shop_runs.specs.Crews.{OneForEach};
+
+use crate::board_search::search_claimed;
+use shop_runs::{Crew, Entry, Round, Workers};
+use shop_workers::{OpenGate, SeatGate};
+use std::alloc::{AllocError, Global};
+use std::thread::Threads;
+
+/// Workers that claim pieces on a board. Worker 0 is the calling thread. A search may wait for its
+/// workers to end, and has joined all of them when it returns.
+#[derive(Drop)]
+pub struct BoardCrew<G> {
+    workers: Workers,
+    gate: G,
+}
+
+impl<G: Drop> BoardCrew<G> {
+    /// Makes a crew of 1 to 64 workers; for any other number it is `None`.
+    pub fn new(workers: usize, gate: G) -> Option<BoardCrew<G>>
+        ensures within { IsSome result ↔ ((0 < workers) × (workers ≤ MAX_WORKERS)) }
+        ensures keeps { IfSome result (λ c. (c.workers.count ≡ workers) × (c.gate ≡ gate)) }
+    {
+        let workers = Workers::new(workers)?;
+        Some(BoardCrew::of(workers, gate))
+    }
+}
+
+impl<G> BoardCrew<G> {
+    /// Makes a crew of so many workers.
+    pub fn of(workers: Workers, gate: G) -> BoardCrew<G>
+        ensures count { result.workers.count ≡ workers.count }
+        ensures gate { result.gate ≡ gate }
+    {
+        BoardCrew { workers, gate }
+    }
+
+    /// Gives the gate, with what it may have noted. For library callers: the program doesn't use it.
+    pub fn gate(&self) -> &G
+        ensures { result.now ≡ self.now.gate }
+    {
+        &self.gate
+    }
+}
+
+impl<G: SeatGate + Sync> BoardCrew<G> {
+    /// Gives one entry for each piece of the round, in number order, as `Crew::search` does, past any gate. Fails with
+    /// `AllocError` if memory runs out, after all workers have been joined.
+    pub fn search_round<'r, R: Threads + Sync>(
+        &self,
+        rt: &R,
+        alloc: Global,
+        round: &'r Round<'r>,
+    ) -> Result<Vec<Entry<'r>>, AllocError>
+        ensures { IfOk result (λ v. OneForEach (told round.now) v.items) }
+    {
+        search_claimed(rt, alloc, round, self.workers.count, &self.gate)
+    }
+}
+
+impl<R: Threads + Sync> Crew<R> for BoardCrew<OpenGate> {
+    ghost ready = { IsSync R.row };
+
+    fn search<'r>(
+        &mut self,
+        rt: &R,
+        alloc: Global,
+        round: &'r Round<'r>,
+    ) -> Result<Vec<Entry<'r>>, AllocError> {
+        self.search_round(rt, alloc, round)
+    }
+}

@@ -1,0 +1,81 @@
+// A round searched by workers who claim its pieces on a board.
+ghost use Rattle.std.specs.Prelude.{◌≡◌, length, vec_len, All, IfOk, OnOk};
+ghost use Rattle.shop_runs.specs.Entries.{told};
+ghost use Rattle.shop_runs.specs.Crews.{OneForEach};
+ghost use Rattle.shop_runs.specs.Hits.{hits_of_round};
+ghost use Rattle.shop_workers.specs.Views.{HasServed};
+ghost use Rattle.shop_workers.specs.Seats.{knows, hits_of, IsSeatOf};
+ghost use Rattle.shop_workers.specs.Works.{Grows, IsAllKnown, BringsWon};
+ghost use Rattle.shop_workers.specs.inner.Returns.{IsReturned, AreReturned};
+
+use shop_round::PieceSearcher;
+use shop_runs::{Entry, Round};
+use shop_workers::{Board, Lent, Returned, Seat, SeatGate, complete_returned, lend, work_by};
+use std::alloc::{AllocError, Global};
+use std::thread;
+use std::thread::Threads;
+
+/// Claims each piece of the board in order, and searches or passes those that the seat wins. A piece is passed where
+/// the seat has read a lower number that was marked; one that was searched and ends at the opening bound is marked.
+/// The seat comes back with all that it knew and had won before, and with the entries of the pieces that it won in this
+/// call, in number order; or with `AllocError` if memory runs out. It waits for nobody but the gate.
+pub fn work<'r, G: SeatGate>(
+    alloc: Global,
+    board: &Board,
+    seat: Seat,
+    round: &'r Round<'r>,
+    worker: usize,
+    gate: &G,
+) -> (Seat, Result<Vec<Entry<'r>>, AllocError>)
+    requires seat { IsSeatOf board.now seat }
+    requires round { hits_of board.now ≡ hits_of_round round.now }
+    ensures seat { IsSeatOf board.now result.0 }
+    ensures grows { Grows (knows seat) (knows result.0) }
+    ensures claimed { OnOk result.1 (IsAllKnown (length round.now.pieces.items) (knows result.0)) }
+    ensures entries { BringsWon (told round.now) (knows seat) (knows result.0) result.1 }
+    ensures served { OnOk result.1 (HasServed (knows seat) → HasServed (knows result.0)) }
+{
+    work_by::<PieceSearcher<'r>, G>(alloc, board, seat, round, worker, gate)
+}
+
+// Each worker on a thread of its own where one can be started, and the last on the calling thread.
+fn work_all<'r, R: Threads + Sync, G: SeatGate + Sync>(
+    rt: &R,
+    alloc: Global,
+    board: &Board,
+    lent: Vec<Lent>,
+    round: &'r Round<'r>,
+    gate: &G,
+) -> Result<Vec<Returned<'r>>, AllocError>
+    requires seats { All (λ l. IsSeatOf board.now l.seat) lent.items }
+    requires round { hits_of board.now ≡ hits_of_round round.now }
+    ensures len { IfOk result (λ v. vec_len v ≡ vec_len lent) }
+    ensures each { IfOk result (λ v. AreReturned board.now (told round.now) v.items) }
+{
+    let worker = move |lent: Lent| -> Returned
+        requires { IsSeatOf board.now lent.seat × (hits_of board.now ≡ hits_of_round round.now) }
+        ensures { IsReturned board.entry.now (told round.entry.now) result.seat result.entries }
+    {
+        let (seat, entries) = work(alloc, board, lent.seat, round, lent.worker, gate);
+        Returned { seat, entries }
+    };
+    thread::map_vec(rt, lent, &worker)
+}
+
+/// Gives the entries of a round by this many workers at most, who claim its pieces on a board. No more are started than
+/// there are pieces; what a thread that can't be started would have done, the others do. A piece that nobody brought is
+/// claimed and searched by the calling thread. Fails with `AllocError` if memory runs out.
+pub fn search_claimed<'r, R: Threads + Sync, G: SeatGate + Sync>(
+    rt: &R,
+    alloc: Global,
+    round: &'r Round<'r>,
+    workers: usize,
+    gate: &G,
+) -> Result<Vec<Entry<'r>>, AllocError>
+    ensures { IfOk result (λ v. OneForEach (told round.now) v.items) }
+{
+    let (board, seat) = Board::open(alloc, round)?;
+    let lent = lend(alloc, &board, seat, workers.min(round.pieces.len()))?;
+    let returned = work_all(rt, alloc, &board, lent, round, gate)?;
+    complete_returned::<PieceSearcher<'r>>(alloc, &board, round, returned)
+}

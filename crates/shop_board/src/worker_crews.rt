@@ -1,0 +1,48 @@
+// The crew of a program that is told how many workers search.
+ghost use Rattle.std.specs.Thread.{IsSync};
+
+use crate::board_crews::BoardCrew;
+use shop_round::Alone;
+use shop_runs::{Crew, Entry, MakesCrew, Round, Workers};
+use shop_workers::OpenGate;
+use std::alloc::{AllocError, Global};
+use std::thread::Threads;
+
+/// One worker is the calling thread alone, and more claim pieces on a board.
+#[derive(Drop)]
+pub enum WorkerCrew {
+    One(Alone),
+    Several(BoardCrew<OpenGate>),
+}
+
+impl<R: Threads + Sync> Crew<R> for WorkerCrew {
+    ghost ready = { IsSync R.row };
+
+    fn search<'r>(
+        &mut self,
+        rt: &R,
+        alloc: Global,
+        round: &'r Round<'r>,
+    ) -> Result<Vec<Entry<'r>>, AllocError> {
+        match self {
+            WorkerCrew::One(alone) => alone.search_round(alloc, round),
+            WorkerCrew::Several(crew) => crew.search_round(rt, alloc, round),
+        }
+    }
+}
+
+/// Makes the crew of so many workers.
+#[derive(Clone, Copy)]
+pub struct ByWorkers;
+
+impl<R: Threads + Sync> MakesCrew<R> for ByWorkers {
+    type Crew = WorkerCrew;
+
+    fn of(&self, workers: Workers) -> WorkerCrew {
+        if workers.count == 1 {
+            WorkerCrew::One(Alone)
+        } else {
+            WorkerCrew::Several(BoardCrew::of(workers, OpenGate))
+        }
+    }
+}

@@ -1,0 +1,141 @@
+-- Heads, as a walk along a route finds them.
+use Rattle.std.proofs.Common.{◌≡◌, ℕ, suc, ◌+◌, ◌*◌, ◌-◌, ◌≤◌, ◌<◌, max, inl, inr, List, [], length, map, get_or}
+use Rattle.std.proofs.Common.{Option, Some, None, Bool, cond, refl, sym, ◌∙◌, ap, arith, leb}
+use Rattle.std.proofs.Common.{ltb}
+use Rattle.std.specs.List.{range_with_len}
+use Rattle.std.proofs.lemmas.Bool.{cases_lt, lt-leb, lt-ltb, le-ltb, le-leb, and_from, and_left, and_right}
+use Rattle.std.proofs.lemmas.List.{get_or_past}
+use Rattle.std.proofs.lemmas.List.FromFn.{get_or-map-range_with_len, length-map-range_with_len}
+use Rattle.shop_model.specs.declared.ops.Op.{Op}
+use Rattle.shop_model.specs.Limits.{IsWithinLimits}
+use Rattle.shop_model.specs.Shop.{Shop, ShopJob, no_job, no_op, route_of, machine_of, time_of}
+use Rattle.shop_model.specs.Word.{Placing}
+use Rattle.shop_bound.specs.Heads.{ready_after, head_of, head_if_left, heads_at}
+use Rattle.shop_bound.specs.inner.HeadRows.{heads_of}
+use Rattle.shop_model.specs.Placements.{PlacementState, IsPlacement}
+use Rattle.shop_bound.specs.inner.PlacedWords.{IsOfWord}
+use Rattle.shop_model.proofs.WordLengths.{word_length, ready_word}
+
+-- the ends of what a word places are small
+pub record AreEndsSmall (shop : Shop) (s : PlacementState) : Type 0 where
+  pub ready : (j : ℕ) → j < length shop.jobs → get_or s.ready j 0 ≤ 1000000000000000
+  pub free : (m : ℕ) → m < shop.machines → get_or s.free m 0 ≤ 1000000000000000
+
+pub ends_of_word : (shop : Shop) → IsWithinLimits shop → (s : PlacementState) → IsOfWord shop s → AreEndsSmall shop s
+ends_of_word shop limits s of =
+    let few = word_length shop of.word limits of.fits
+    in let small = ready_word shop limits of.word
+    in record {
+      ready = λ j h. (let a = small.ready j in let b = of.placed.ready j h in omega arith);
+      free = λ m h. (let a = small.free m in let b = of.placed.free m h in omega arith);
+    }
+
+-- before the first step, and after one that isn't placed
+pub ready_first : (shop : Shop) (p : Placing) (j k : ℕ) → k ≤ p.steps j
+    → ready_after shop p j (k - p.steps j) ≡ p.ready j
+ready_first shop p j k h = let e : k - p.steps j ≡ 0 = omega arith in rw e refl
+
+pub ready_more : (shop : Shop) (p : Placing) (j k : ℕ) → p.steps j ≤ k
+    → ready_after shop p j (k + 1 - p.steps j) ≡ head_of shop p j k + time_of shop j k
+ready_more shop p j k h =
+    let n = k - p.steps j
+    in let e : k + 1 - p.steps j ≡ suc n = omega arith
+    in let f : p.steps j + n ≡ k = omega arith
+    in ap (ready_after shop p j) e
+    ∙ ap (λ (x : ℕ). max (ready_after shop p j n) (p.free (machine_of shop j x)) + time_of shop j x) f
+
+-- a head is there just where the operation is one that isn't placed
+tested : Shop → Placing → ℕ → ℕ → Bool → Option ℕ
+tested shop p j k b = cond b (Some (head_of shop p j k)) None
+
+pub head_none : (shop : Shop) (p : Placing) (j k : ℕ) → k < p.steps j → head_if_left shop p j k ≡ None
+unfolding tested
+head_none shop p j k h =
+    ap (tested shop p j k) (and_left (leb (p.steps j) k) (ltb k (length (route_of shop j))) (lt-leb (p.steps j) k h))
+
+pub head_some : (shop : Shop) (p : Placing) (j k : ℕ) → p.steps j ≤ k → k < length (route_of shop j)
+    → head_if_left shop p j k ≡ Some (head_of shop p j k)
+unfolding tested
+head_some shop p j k h below =
+    ap (tested shop p j k) (and_from (leb (p.steps j) k) (ltb k (length (route_of shop j)))
+    (le-leb (p.steps j) k h) (lt-ltb k (length (route_of shop j)) below))
+
+pub head_past : (shop : Shop) (p : Placing) (j k : ℕ) → length (route_of shop j) ≤ k → head_if_left shop p j k ≡ None
+unfolding tested
+head_past shop p j k past =
+    ap (tested shop p j k) (and_right (leb (p.steps j) k) (ltb k (length (route_of shop j)))
+    (le-ltb k (length (route_of shop j)) past))
+
+-- one step of the walk
+module _ (shop : Shop) (s : PlacementState) (j : ℕ) (job : j < length shop.jobs) (placed : ℕ)
+    (placed_is : placed ≡ get_or s.steps j 0)
+    (k ready : ℕ) where
+  abbrev pub IsReady : Type 0
+  IsReady = (p : Placing) → IsPlacement shop p s → ready ≡ ready_after shop p j (k - p.steps j)
+
+  pub placed_turn : IsReady → k < placed → (p : Placing) → IsPlacement shop p s
+      → (None ≡ head_if_left shop p j k) × (ready ≡ ready_after shop p j (k + 1 - p.steps j))
+  placed_turn known h p is =
+      let a = is.steps j job
+      in let b = ready_first shop p j k (omega arith)
+      in let c = ready_first shop p j (k + 1) (omega arith)
+      in let d = known p is
+      in (sym (head_none shop p j k (omega arith)), omega arith)
+
+  pub left_turn : IsReady → placed ≤ k → (limits : IsWithinLimits shop) → (route : List Op) → route ≡ route_of shop j
+      → k < length route
+      → (f head : ℕ) → f ≡ get_or s.free (get_or route k no_op).machine 0 → head ≡ max ready f → (p : Placing)
+      → IsPlacement shop p s
+      → (Some head ≡ head_if_left shop p j k) × (head + (get_or route k no_op).time
+      ≡ ready_after shop p j (k + 1 - p.steps j))
+  left_turn known h limits route e below f head read greater p is =
+      let a = is.steps j job
+      in let m : (get_or route k no_op).machine ≡ machine_of shop j k =
+      ap (λ (xs : List Op). (get_or xs k no_op).machine) e
+      in let t : (get_or route k no_op).time ≡ time_of shop j k = ap (λ (xs : List Op). (get_or xs k no_op).time) e
+      in let n : length route ≡ length (route_of shop j) = ap (λ (xs : List Op). length xs) e
+      in let free : get_or s.free (get_or route k no_op).machine 0 ≡ p.free (machine_of shop j k) =
+      ap (λ (i : ℕ). get_or s.free i 0) m ∙ is.free (machine_of shop j k) (limits.on_machines j k)
+      in let d = known p is
+      in let is_head : head ≡ head_of shop p j k = omega arith
+      in let more = ready_more shop p j k (omega arith)
+      in (ap (λ (x : ℕ). Some x) is_head ∙ sym (head_some shop p j k (omega arith) (omega arith)), omega arith)
+
+-- and its sum is small
+pub left_small : (shop : Shop) → IsWithinLimits shop → (s : PlacementState) → AreEndsSmall shop s
+    → (j : ℕ) (route : List Op)
+    → route ≡ route_of shop j → (k ready f head : ℕ) → f ≡ get_or s.free (get_or route k no_op).machine 0
+    → head ≡ max ready f
+    → ready ≤ 1000000000000000 + k * 1000000000
+    → head + (get_or route k no_op).time ≤ 1000000000000000 + (k + 1) * 1000000000
+left_small shop limits s small j route e k ready f head read greater so_far =
+    let m : (get_or route k no_op).machine ≡ machine_of shop j k = ap (λ (xs : List Op). (get_or xs k no_op).machine) e
+    in let t : (get_or route k no_op).time ≡ time_of shop j k = ap (λ (xs : List Op). (get_or xs k no_op).time) e
+    in let a = limits.times j k
+    in let on : (get_or route k no_op).machine < shop.machines = rw m (limits.on_machines j k)
+    in let b = small.free (get_or route k no_op).machine on
+    in omega arith
+
+-- the rows of the heads, one a job, tell each head
+pub rows_tell : (shop : Shop) (p : Placing) (rows : List (List (Option ℕ)))
+    → rows ≡ map (heads_of shop p) (range_with_len 0 (length shop.jobs))
+    → (j k : ℕ) → heads_at rows j k ≡ head_if_left shop p j k
+rows_tell shop p rows e j k = elim (cases_lt j (length shop.jobs)) [
+  | inl h ↦ (let row : get_or rows j [] ≡ heads_of shop p j =
+      ap (λ (xs : List (List (Option ℕ))). get_or xs j []) e
+      ∙ get_or-map-range_with_len (heads_of shop p) 0 (length shop.jobs) j j [] h (omega arith)
+      in ap (λ (xs : List (Option ℕ)). get_or xs k None) row ∙ in_row j k)
+  | inr h ↦ (let row : get_or rows j [] ≡ [] = get_or_past rows j []
+      (let a : length rows ≡ length shop.jobs = ap (λ (xs : List (List (Option ℕ))). length xs) e
+      ∙ length-map-range_with_len (heads_of shop p) 0 (length shop.jobs) in omega arith)
+      in let none : length (route_of shop j) ≡ 0 =
+      ap (λ (x : ShopJob). length x.route) (get_or_past shop.jobs j no_job h)
+      in ap (λ (xs : List (Option ℕ)). get_or xs k None) row ∙ sym (head_past shop p j k (omega arith)))
+]
+  where
+    in_row : (j k : ℕ) → get_or (heads_of shop p j) k None ≡ head_if_left shop p j k
+    in_row j k = elim (cases_lt k (length (route_of shop j))) [
+      | inl h ↦ get_or-map-range_with_len (head_if_left shop p j) 0 (length (route_of shop j)) k k None h (omega arith)
+      | inr h ↦ (let long = length-map-range_with_len (head_if_left shop p j) 0 (length (route_of shop j))
+          in get_or_past (heads_of shop p j) k None (omega arith) ∙ sym (head_past shop p j k h))
+    ]

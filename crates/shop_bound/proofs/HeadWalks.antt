@@ -1,0 +1,69 @@
+-- The operations that wait, as the walk along the routes lists them, have the heads and the tails of their
+-- definitions.
+use Rattle.std.proofs.Common.{◌≡◌, ℕ, ◌+◌, ◌-◌, ◌≤◌, max, List, [], ◌∷◌, ◌++◌, length, map}
+use Rattle.std.proofs.Common.{drop, get_or, refl, sym, ◌∙◌, ap, arith}
+use Rattle.std.specs.List.{flat_map, range_with_len, sum_by}
+use Rattle.std.proofs.lemmas.List.{length-drop}
+use Rattle.shop_model.specs.declared.ops.Op.{Op}
+use Rattle.shop_model.specs.Shop.{Shop, no_op, route_of}
+use Rattle.shop_model.specs.Word.{Placing}
+use Rattle.shop_bound.specs.Bound.{Waiting, waiting_from, waiting_of, waiting}
+use Rattle.shop_bound.specs.Heads.{ready_after, waiting_at, steps_left}
+use Rattle.shop_bound.proofs.HeadTurns.{ready_first, ready_more}
+use Rattle.shop_bound.proofs.BoundLaw.{front_of}
+
+module _ (shop : Shop) (p : Placing) (j : ℕ) where
+  -- step k, if it is this operation and these follow, and what waits then
+  first : ℕ → Op → List Op → Waiting
+  first k o os = record {
+    job = j;
+    step = k;
+    machine = o.machine;
+    triple = record {
+      head = max (ready_after shop p j (k - p.steps j)) (p.free o.machine);
+      time = o.time;
+      tail = sum_by (λ p. p.time) os;
+    };
+  }
+
+  next : ℕ → Op → List Op → List Waiting
+  next k o os =
+      waiting_from p.free j (k + 1) (max (ready_after shop p j (k - p.steps j)) (p.free o.machine) + o.time) os
+
+  -- from step k on
+  walk_from : (k : ℕ) (os : List Op) → drop k (route_of shop j) ≡ os → p.steps j ≤ k
+      → waiting_from p.free j k (ready_after shop p j (k - p.steps j)) os
+      ≡ map (waiting_at shop p j) (range_with_len k (length os))
+  unfolding first next
+  walk_from k [] e h = refl
+  walk_from k (o ∷ os) e h =
+      let front = front_of (route_of shop j) k o os e
+      in let more = ready_more shop p j k h
+      in let rest = walk_from (k + 1) os front.2 (omega arith)
+      in let here = get_or (route_of shop j) k no_op
+      in ap (λ (x : Op). first k x os ∷ next k x os) (sym front.1)
+      ∙ (ap (λ (xs : List Op). first k here xs ∷ next k here os) (sym front.2)
+      ∙ ap (λ (xs : List Waiting). waiting_at shop p j k ∷ xs)
+      (ap (λ (r : ℕ). waiting_from p.free j (k + 1) r os) (sym more) ∙ rest))
+
+  waiting_of-is : waiting_of shop p j ≡ map (waiting_at shop p j) (steps_left shop p j)
+  waiting_of-is =
+      let first = ready_first shop p j (p.steps j) (omega arith)
+      in let walk = walk_from (p.steps j) (drop (p.steps j) (route_of shop j)) refl (omega arith)
+      in ap (λ (r : ℕ). waiting_from p.free j (p.steps j) r (drop (p.steps j) (route_of shop j))) (sym first)
+      ∙ (walk ∙ ap (λ (n : ℕ). map (waiting_at shop p j) (range_with_len (p.steps j) n))
+      (length-drop (p.steps j) (route_of shop j)))
+
+flat_map-same : {A : Type 0} (f g : ℕ → List A) (h : (j : ℕ) → f j ≡ g j) → (js : List ℕ)
+    → flat_map f js ≡ flat_map g js
+flat_map-same f g h [] = refl
+flat_map-same f g h (j ∷ js) =
+    ap (λ xs. xs ++ flat_map f js) (h j) ∙ ap (λ xs. g j ++ xs) (flat_map-same f g h js)
+
+pub waiting_is : (shop : Shop) (p : Placing)
+    → waiting shop p ≡ flat_map (λ j. map (waiting_at shop p j) (steps_left shop p j))
+    (range_with_len 0 (length shop.jobs))
+waiting_is shop p =
+    flat_map-same (λ j. waiting_of shop p j) (λ j. map (waiting_at shop p j) (steps_left shop p j))
+    (waiting_of-is shop p)
+    (range_with_len 0 (length shop.jobs))

@@ -1,0 +1,248 @@
+-- One-machine bounds of operations by nonincreasing tails.
+use Rattle.std.proofs.Common.{◌≡◌, ℕ, suc, ◌+◌, ◌^◌, ◌≤◌, ◌<◌, max, inl, inr, Bool, true, List, [], ◌∷◌}
+use Rattle.std.proofs.Common.{◌++◌, length, length-append, if◌then◌else◌, ◌==◌, take, drop, get_or}
+use Rattle.std.proofs.Common.{refl, sym, ◌∙◌, ap, subst, arith, leb}
+use Rattle.std.specs.List.{AllByRecursion, filter, sum_by}
+use Rattle.std.proofs.lemmas.Bool.{cases_Bool, leb-true, le-leb, and_parts}
+use Rattle.std.proofs.lemmas.List.{append-nil, take-append-drop, take_more}
+use Rattle.std.proofs.lemmas.List.Elements.{filter-append}
+use Rattle.std.proofs.lemmas.List.Sums.{sum_by-cons, sum_by_push, sum_by-append}
+use Rattle.std.proofs.Math.Seq.{drop-cons}
+use Rattle.shop_bound.specs.declared.triples.Triple.{Triple}
+use Rattle.shop_bound.specs.OneMachine.{sublists, least_of, span_of, one}
+use Rattle.shop_bound.specs.inner.Thresholds.{is_above, span_above, head_at, no_triple}
+use Rattle.shop_bound.specs.inner.NonincreasingTails.{IsNonincreasing}
+use Rattle.shop_bound.specs.inner.NonincreasingTails.{begins_between, one_between}
+use Rattle.shop_bound.proofs.Lists.{IsSublist, all_map, all_both, all_filter, greatest_of-le, least_of-is}
+use Rattle.shop_bound.proofs.Lists.{least_of-le}
+use Rattle.shop_bound.proofs.ThresholdLemmas.{sublists-are, sublist_of_filter, sublist_length}
+use Rattle.shop_bound.proofs.ThresholdLemmas.{sublist_at, sublist_sum}
+use Rattle.shop_bound.proofs.ThresholdLemmas.{span_above-some, span_above-le, is_above-from, is_above-true}
+
+-- the head is at least this
+abbrev pub begins_from : ℕ → Triple → Bool
+begins_from head t = leb head t.head
+
+-- the times of those
+unfoldable pub times_from : ℕ → List Triple → ℕ
+times_from head ts = sum_by (λ t. t.time) (filter (begins_from head) ts)
+
+-- those that are above both thresholds take no longer than those above one
+above_le_from : (head tail : ℕ) (ts : List Triple)
+    → sum_by (λ t. t.time) (filter (is_above head tail) ts) ≤ times_from head ts
+unfolding times_from
+above_le_from head tail [] = omega arith
+above_le_from head tail (t ∷ ts) =
+    let rest = above_le_from head tail ts
+    in let a = sum_by-cons (λ (t : Triple). t.time) t (filter (is_above head tail) ts)
+    in let b = sum_by-cons (λ (t : Triple). t.time) t (filter (begins_from head) ts)
+    in elim (cases_Bool (leb head t.head)) [
+      | inl e ↦ elim (cases_Bool (leb tail t.tail)) [
+        | inl f ↦ rw (e, f) (omega arith)
+        | inr f ↦ rw (e, f) (omega arith)
+      ]
+      | inr e ↦ rw e (omega arith)
+    ]
+
+-- one more operation that begins from the threshold on
+pub times_from-more : (head : ℕ) (us : List Triple) (x : Triple) → head ≤ x.head
+    → times_from head (us ++ x ∷ []) ≡ times_from head us + x.time
+unfolding times_from
+times_from-more head us x h =
+    let e : filter (begins_from head) (us ++ x ∷ []) ≡ filter (begins_from head) us ++ x ∷ [] =
+    filter-append (begins_from head) us (x ∷ []) ∙ rw (le-leb head x.head h) refl
+    in ap (λ (ys : List Triple). sum_by (λ t. t.time) ys) e
+    ∙ sum_by_push (λ (t : Triple). t.time) (filter (begins_from head) us) x
+
+pub times_from-less : (head : ℕ) (us : List Triple) (x : Triple) → x.head < head
+    → times_from head (us ++ x ∷ []) ≡ times_from head us
+unfolding times_from
+times_from-less head us x h = elim (cases_Bool (leb head x.head)) [
+  | inl e ↦ absurd (let a = leb-true head x.head e in omega arith)
+  | inr e ↦ (let f : filter (begins_from head) (us ++ x ∷ []) ≡ filter (begins_from head) us =
+      filter-append (begins_from head) us (x ∷ []) ∙ rw e (append-nil (filter (begins_from head) us))
+      in ap (λ (ys : List Triple). sum_by (λ t. t.time) ys) f)
+]
+
+-- what is known of the operations so far also holds with one more that begins from the threshold on
+covers_in : (us : List Triple) (x : Triple) (head most : ℕ)
+    → ((tail : ℕ) → span_above us head tail ≤ head + most) → head ≤ x.head → (tail : ℕ)
+    → span_above (us ++ x ∷ []) head tail ≤ head + max most (times_from head us + x.time + x.tail)
+covers_in us x head most covers le tail = elim (cases_Bool (is_above head tail x)) [
+  | inl a ↦ (let t = (is_above-true head tail x a).1
+      in let f : filter (is_above head tail) (us ++ x ∷ []) ≡ filter (is_above head tail) us ++ x ∷ [] =
+      filter-append (is_above head tail) us (x ∷ []) ∙ rw a refl
+      in let some = span_above-some (us ++ x ∷ []) head tail (subst (λ (ys : List Triple). 0 < length ys) (sym f)
+      (omega (arith, length-append (filter (is_above head tail) us) (x ∷ []))))
+      in let s : sum_by (λ (t : Triple). t.time) (filter (is_above head tail) (us ++ x ∷ []))
+      ≡ sum_by (λ (t : Triple). t.time) (filter (is_above head tail) us) + x.time =
+      ap (λ (ys : List Triple). sum_by (λ t. t.time) ys) f
+      ∙ sum_by_push (λ (t : Triple). t.time) (filter (is_above head tail) us) x
+      in let below = above_le_from head tail us in omega arith)
+  | inr a ↦ (let f : filter (is_above head tail) (us ++ x ∷ []) ≡ filter (is_above head tail) us =
+      filter-append (is_above head tail) us (x ∷ []) ∙ rw a (append-nil (filter (is_above head tail) us))
+      in let same : span_above (us ++ x ∷ []) head tail ≡ span_above us head tail =
+      ap (λ (ys : List Triple). if length ys == 0 then 0 else head + sum_by (λ t. t.time) ys + tail) f
+      in let b = covers tail in omega arith)
+]
+
+-- or with one that begins before it
+covers_out : (us : List Triple) (x : Triple) (head : ℕ) → x.head < head → (tail : ℕ)
+    → span_above (us ++ x ∷ []) head tail ≡ span_above us head tail
+covers_out us x head less tail = elim (cases_Bool (is_above head tail x)) [
+  | inl a ↦ absurd (let b = (is_above-true head tail x a).0 in omega arith)
+  | inr a ↦ (let f : filter (is_above head tail) (us ++ x ∷ []) ≡ filter (is_above head tail) us =
+      filter-append (is_above head tail) us (x ∷ []) ∙ rw a (append-nil (filter (is_above head tail) us))
+      in ap (λ (ys : List Triple). if length ys == 0 then 0 else head + sum_by (λ t. t.time) ys + tail) f)
+]
+
+module _ {A : Type 0} (f : A → ℕ) where
+  -- in a nonincreasing list all before an element have at least its value
+  pub falls_before : (us : List A) (x : A) (vs : List A) → IsNonincreasing f (us ++ x ∷ vs)
+      → AllByRecursion (λ y. f x ≤ f y) us
+  falls_before [] x vs h = tt
+  falls_before (u ∷ us) x vs h = (all_middle us x vs h.0, falls_before us x vs h.1)
+    where
+      all_middle : (us : List A) (x : A) (vs : List A) → AllByRecursion (λ y. f y ≤ f u) (us ++ x ∷ vs) → f x ≤ f u
+      all_middle [] x vs h = h.0
+      all_middle (w ∷ us) x vs h = all_middle us x vs h.1
+
+-- where all tails are at least this, only the heads matter
+only_heads : (head tail : ℕ) (us : List Triple) → AllByRecursion (λ y. tail ≤ y.tail) us
+    → sum_by (λ t. t.time) (filter (is_above head tail) us) ≡ times_from head us
+unfolding times_from
+only_heads head tail us h = ap (λ (ys : List Triple). sum_by (λ t. t.time) ys) (same us h) where
+  same : (us : List Triple) → AllByRecursion (λ y. tail ≤ y.tail) us
+      → filter (is_above head tail) us ≡ filter (begins_from head) us
+  same [] h = refl
+  same (u ∷ us) h = elim (cases_Bool (leb head u.head)) [
+    | inl e ↦ rw (e, le-leb tail u.tail h.0, same us h.1) refl
+    | inr e ↦ rw (e, same us h.1) refl
+  ]
+
+-- what is done up to an operation, and its tail, follow no earlier than the bound says
+pub within_in : (us : List Triple) (x : Triple) (vs : List Triple) (head : ℕ)
+    → IsNonincreasing (λ t. t.tail) (us ++ x ∷ vs)
+    → head ≤ x.head → head + (times_from head us + x.time + x.tail) ≤ one (us ++ x ∷ vs)
+within_in us x vs head nonincreasing h =
+    let test = is_above head x.tail
+    in let here : test x ≡ true = is_above-from head x.tail x h (omega arith)
+    in let f : filter test (us ++ x ∷ vs) ≡ filter test us ++ x ∷ filter test vs =
+    filter-append test us (x ∷ vs) ∙ rw here refl
+    in let some = span_above-some (us ++ x ∷ vs) head x.tail (subst (λ (ys : List Triple). 0 < length ys) (sym f)
+    (omega (arith, length-append (filter test us) (x ∷ filter test vs))))
+    in let le = span_above-le (us ++ x ∷ vs) head x.tail
+    in let s : sum_by (λ (t : Triple). t.time) (filter test (us ++ x ∷ vs))
+    ≡ sum_by (λ (t : Triple). t.time) (filter test us) + sum_by (λ (t : Triple). t.time) (x ∷ filter test vs) =
+    ap (λ (ys : List Triple). sum_by (λ t. t.time) ys) f
+    ∙ sum_by-append (λ (t : Triple). t.time) (filter test us) (x ∷ filter test vs)
+    in let more = sum_by-cons (λ (t : Triple). t.time) x (filter test vs)
+    in let front = only_heads head x.tail us (falls_before (λ (t : Triple). t.tail) us x vs nonincreasing)
+    in omega arith
+
+-- what the walk for one threshold knows of the first n operations: how long they take, and what follows at most
+pub record IsReach (ts : List Triple) (head n sum most : ℕ) : Type 0 where
+  pub times : sum ≡ times_from head (take n ts)
+  pub covers : (tail : ℕ) → span_above (take n ts) head tail ≤ head + most
+  pub within : head + most ≤ max head (one ts)
+
+pub reach_none : (ts : List Triple) (head : ℕ) → IsReach ts head 0 0 0
+unfolding times_from
+reach_none ts head = record { times = refl; covers = λ t. omega arith; within = omega arith }
+
+pub split_at : {A : Type 0} (ts : List A) (n : ℕ) (d : A) → n < length ts
+    → ts ≡ take n ts ++ get_or ts n d ∷ drop (suc n) ts
+split_at ts n d h = sym (take-append-drop n ts) ∙ ap (λ ys. take n ts ++ ys) (drop-cons ts n d h)
+
+pub reach_in : (ts : List Triple) (head n sum most more : ℕ) → IsNonincreasing (λ t. t.tail) ts → n < length ts
+    → IsReach ts head n sum most → head ≤ (get_or ts n no_triple).head
+    → more ≡ max most (sum + (get_or ts n no_triple).time + (get_or ts n no_triple).tail)
+    → IsReach ts head (n + 1) (sum + (get_or ts n no_triple).time) more
+reach_in ts head n sum most more nonincreasing here r le is =
+    let x = get_or ts n no_triple
+    in let e = take_more ts n no_triple here
+    in let w = within_in (take n ts) x (drop (suc n) ts) head
+    (subst (λ (ys : List Triple). IsNonincreasing (λ t. t.tail) ys) (split_at ts n no_triple here) nonincreasing) le
+    in let same : one (take n ts ++ x ∷ drop (suc n) ts) ≡ one ts = ap one (sym (split_at ts n no_triple here))
+    in let times = r.times
+    in let within = r.within
+    in record {
+      times = ap (λ s. s + x.time) times ∙ sym (times_from-more head (take n ts) x le)
+          ∙ ap (times_from head) (sym e);
+      covers = λ tail. (let c = covers_in (take n ts) x head most r.covers le tail
+          in let d : span_above (take (n + 1) ts) head tail ≡ span_above (take n ts ++ x ∷ []) head tail =
+          ap (λ (ys : List Triple). span_above ys head tail) e in omega arith);
+      within = omega arith;
+    }
+
+pub reach_out : (ts : List Triple) (head n sum most : ℕ) → n < length ts
+    → IsReach ts head n sum most → (get_or ts n no_triple).head < head
+    → IsReach ts head (n + 1) sum most
+reach_out ts head n sum most here r less =
+    let x = get_or ts n no_triple
+    in let e = take_more ts n no_triple here
+    in record {
+      times = r.times ∙ sym (times_from-less head (take n ts) x less) ∙ ap (times_from head) (sym e);
+      covers = λ tail. (let c = r.covers tail in let a = covers_out (take n ts) x head less tail
+          in let d : span_above (take (n + 1) ts) head tail ≡ span_above (take n ts ++ x ∷ []) head tail =
+          ap (λ (ys : List Triple). span_above ys head tail) e in omega arith);
+      within = r.within;
+    }
+
+-- a sublist's span is at most that of all above its least head and tail
+pub span_of-le-above : (ts : List Triple) (y : Triple) (ys : List Triple) → IsSublist (y ∷ ys) ts
+    → span_of (y ∷ ys) ≤ span_above ts (least_of (λ t. t.head) (y ∷ ys)) (least_of (λ t. t.tail) (y ∷ ys))
+span_of-le-above ts y ys s =
+    let head = least_of (λ (t : Triple). t.head) (y ∷ ys)
+    in let tail = least_of (λ (t : Triple). t.tail) (y ∷ ys)
+    in let passes : AllByRecursion (λ t. is_above head tail t ≡ true) (y ∷ ys) =
+    all_map (λ u. (head ≤ u.head) × (tail ≤ u.tail)) (λ t. is_above head tail t ≡ true)
+    (λ u p. is_above-from head tail u p.0 p.1) (y ∷ ys)
+    (all_both (λ u. head ≤ u.head) (λ u. tail ≤ u.tail) (y ∷ ys)
+    (least_of-le (λ (t : Triple). t.head) (y ∷ ys)) (least_of-le (λ (t : Triple). t.tail) (y ∷ ys)))
+    in let sub = sublist_of_filter (is_above head tail) s passes
+    in let sum = sublist_sum (λ (t : Triple). t.time) sub
+    in let longer = sublist_length sub
+    in let above = span_above-some ts head tail (omega arith)
+    in omega arith
+
+-- the bound is at least each head
+pub head-le-one : (ts : List Triple) (n : ℕ) → IsNonincreasing (λ t. t.tail) ts → n < length ts → head_at ts n ≤ one ts
+head-le-one ts n nonincreasing here =
+    let x = get_or ts n no_triple
+    in let w = within_in (take n ts) x (drop (suc n) ts) x.head
+    (subst (λ (ys : List Triple). IsNonincreasing (λ t. t.tail) ys) (split_at ts n no_triple here) nonincreasing)
+    (omega arith)
+    in let same : one (take n ts ++ x ∷ drop (suc n) ts) ≡ one ts = ap one (sym (split_at ts n no_triple here))
+    in omega arith
+
+-- what the walk over the thresholds knows after the first n: that `best` covers those between, and the last one tried
+pub record IsTried (ts : List Triple) (from to n best last : ℕ) : Type 0 where
+  pub covers : (i : ℕ) → i < n → from ≤ head_at ts i → head_at ts i ≤ to
+      → (tail : ℕ) → span_above ts (head_at ts i) tail ≤ best
+  pub within : best ≤ one ts
+  pub again : last < 2 ^ 50 → (tail : ℕ) → span_above ts last tail ≤ best
+
+-- all thresholds that occur cover all sublists that begin between
+pub tried_all : (ts : List Triple) (from to n best last : ℕ) → IsTried ts from to n best last → length ts ≤ n
+    → one_between from to ts ≤ best
+tried_all ts from to n best last r all =
+    greatest_of-le span_of best (filter (begins_between from to) (sublists ts))
+    (all_filter (begins_between from to) (λ ys. IsSublist ys ts) (λ ys. span_of ys ≤ best) of_sublist (sublists ts)
+    (sublists-are ts))
+  where
+    of_sublist : (ys : List Triple) → IsSublist ys ts → begins_between from to ys ≡ true → span_of ys ≤ best
+    of_sublist [] s e = omega arith
+    of_sublist (y ∷ ys) s e =
+        let h = least_of-is (λ (t : Triple). t.head) y ys
+        in let i = sublist_at s h.0 h.1
+        in let head : head_at ts i.0 ≡ least_of (λ (t : Triple). t.head) (y ∷ ys) =
+        ap (λ (t : Triple). t.head) (i.2 no_triple) ∙ h.2 no_triple
+        in let both = and_parts (leb from (least_of (λ (t : Triple). t.head) (y ∷ ys)))
+        (leb (least_of (λ (t : Triple). t.head) (y ∷ ys)) to) e
+        in let low = leb-true from (least_of (λ (t : Triple). t.head) (y ∷ ys)) both.0
+        in let high = leb-true (least_of (λ (t : Triple). t.head) (y ∷ ys)) to both.1
+        in let c = r.covers i.0 (let k = i.1 in omega arith) (omega arith) (omega arith)
+        (least_of (λ (t : Triple). t.tail) (y ∷ ys))
+        in let same = ap (λ (k : ℕ). span_above ts k (least_of (λ (t : Triple). t.tail) (y ∷ ys))) head
+        in let le = span_of-le-above ts y ys s in omega arith

@@ -1,0 +1,119 @@
+-- How many turns are left, and how many works are not done.
+use Rattle.std.proofs.Common.{◌≡◌, ℕ, zero, suc, ◌+◌, ◌≤◌, ◌<◌, inl, inr, Bool, true, false}
+use Rattle.std.proofs.Common.{cond, List, [], ◌∷◌, length, refl, ap, arith, leb}
+use Rattle.std.proofs.Math.ListN.{set}
+use Rattle.std.proofs.lemmas.Bool.{cases_Bool, cases_lt, le-leb, lt-leb}
+use Rattle.std.proofs.lemmas.List.Sums.{sum_by-cons, sum_by-set}
+use Rattle.shop_bound.specs.declared.schedules.Work.{Work}
+use Rattle.shop_bound.specs.inner.Serving.{no_work, work_at, IsFresh}
+use Rattle.shop_bound.specs.inner.Serving.{IsReady, turns_of, turns_left, undone_of}
+use Rattle.shop_bound.specs.inner.Serving.{undone}
+
+-- the turns left
+turn_of-le : (a b : ℕ) (w : Work) → a ≤ b → turns_of b w ≤ turns_of a w
+turn_of-le a b w h = elim (cases_lt a w.triple.head) [
+  | inl l ↦ (let e : turns_of a w ≡ cond w.done 0 1 + 1 =
+      ap (λ (t : Bool). cond w.done 0 1 + cond t 0 1) (lt-leb w.triple.head a l) in
+      elim (cases_Bool (leb w.triple.head b)) [
+        | inl y ↦ (let f : turns_of b w ≡ cond w.done 0 1 + 0 =
+            ap (λ (t : Bool). cond w.done 0 1 + cond t 0 1) y in omega arith)
+        | inr n ↦ (let f : turns_of b w ≡ cond w.done 0 1 + 1 =
+            ap (λ (t : Bool). cond w.done 0 1 + cond t 0 1) n in omega arith)
+      ])
+  | inr l ↦ (let f : turns_of b w ≡ cond w.done 0 1 + 0 =
+      ap (λ (t : Bool). cond w.done 0 1 + cond t 0 1) (le-leb w.triple.head b (omega arith)) in omega arith)
+]
+
+turn_of-release : (a b : ℕ) (w : Work) → a < w.triple.head → w.triple.head ≤ b → turns_of b w + 1 ≡ turns_of a w
+turn_of-release a b w l h =
+    let e : turns_of a w ≡ cond w.done 0 1 + 1 =
+    ap (λ (t : Bool). cond w.done 0 1 + cond t 0 1) (lt-leb w.triple.head a l)
+    in let f : turns_of b w ≡ cond w.done 0 1 + 0 =
+    ap (λ (t : Bool). cond w.done 0 1 + cond t 0 1) (le-leb w.triple.head b h) in omega arith
+
+turn_of-two : (a : ℕ) (w : Work) → turns_of a w ≤ 2
+turn_of-two a w = elim (cases_Bool w.done) [
+  | inl d ↦ elim (cases_Bool (leb w.triple.head a)) [
+    | inl y ↦ (let f : turns_of a w ≡ 0 = rw (d, y) refl in omega arith)
+    | inr n ↦ (let f : turns_of a w ≡ 1 = rw (d, n) refl in omega arith)
+  ]
+  | inr d ↦ elim (cases_Bool (leb w.triple.head a)) [
+    | inl y ↦ (let f : turns_of a w ≡ 1 = rw (d, y) refl in omega arith)
+    | inr n ↦ (let f : turns_of a w ≡ 2 = rw (d, n) refl in omega arith)
+  ]
+]
+
+pub turns_left-le : (ws : List Work) (a b : ℕ) → a ≤ b → turns_left ws b ≤ turns_left ws a
+unfolding turns_left
+turns_left-le [] a b h = omega arith
+turns_left-le (w ∷ ws) a b h =
+    let r = turns_left-le ws a b h in let x = sum_by-cons (turns_of a) w ws in let y = sum_by-cons (turns_of b) w ws
+    in let z = turn_of-le a b w h in omega arith
+
+pub turns_left-release : (ws : List Work) (a b i : ℕ) → i < length ws → a < (work_at ws i).triple.head
+    → (work_at ws i).triple.head ≤ b → turns_left ws b < turns_left ws a
+unfolding turns_left
+turns_left-release [] a b i lt l h = absurd (omega arith)
+turns_left-release (w ∷ ws) a b zero lt l h =
+    let r = turns_left-le ws a b (omega arith) in let x = sum_by-cons (turns_of a) w ws in let y =
+    sum_by-cons (turns_of b) w ws in let z = turn_of-release a b w l h in omega arith
+turns_left-release (w ∷ ws) a b (suc i) lt l h =
+    let r = turns_left-release ws a b i (omega arith) l h in let x = sum_by-cons (turns_of a) w ws in let y =
+    sum_by-cons (turns_of b) w ws in let z = turn_of-le a b w (omega arith) in omega arith
+
+pub turns_left-two : (ws : List Work) (a : ℕ) → turns_left ws a ≤ length ws + length ws
+unfolding turns_left
+turns_left-two [] a = omega arith
+turns_left-two (w ∷ ws) a =
+    let r = turns_left-two ws a in let x = sum_by-cons (turns_of a) w ws in let z = turn_of-two a w in omega arith
+
+pub turns_left-same : (ws : List Work) (i a : ℕ) (v : Work) → i < length ws → v.triple ≡ (work_at ws i).triple
+    → v.done ≡ (work_at ws i).done → turns_left (set ws i v) a ≡ turns_left ws a
+unfolding turns_left
+turns_left-same ws i a v lt same done =
+    let x = sum_by-set (turns_of a) ws i v no_work lt
+    in let e : turns_of a v ≡ turns_of a (work_at ws i) = rw (same, done) refl in omega arith
+
+pub turns_left-done : (ws : List Work) (i a : ℕ) (v : Work) → i < length ws → v.triple ≡ (work_at ws i).triple
+    → v.done ≡ true → (work_at ws i).done ≡ false → turns_left (set ws i v) a < turns_left ws a
+unfolding turns_left
+turns_left-done ws i a v lt same done undone =
+    let x = sum_by-set (turns_of a) ws i v no_work lt
+    in let e : turns_of a v ≡ 0 + cond (leb (work_at ws i).triple.head a) 0 1 = rw (same, done) refl
+    in let f : turns_of a (work_at ws i) ≡ 1 + cond (leb (work_at ws i).triple.head a) 0 1 =
+    rw undone refl in omega arith
+
+pub ready_turns : (ws : List Work) (clock ready : ℕ) → IsReady ws clock ready
+    → turns_left ws ready ≤ turns_left ws clock
+ready_turns ws clock ready (inl w) = turns_left-le ws clock ready (let e = w.1 in omega arith)
+ready_turns ws clock ready (inr (inl r)) = turns_left-le ws clock ready (let e = r.later in omega arith)
+ready_turns ws clock ready (inr (inr d)) = turns_left-le ws clock ready (let e = d.1 in omega arith)
+
+-- a turn ends one operation at most, so that each takes a turn
+undone_of-one : (w : Work) → undone_of w ≤ 1
+undone_of-one w = elim (cases_Bool w.done) [
+  | inl d ↦ (let f : undone_of w ≡ 0 = rw d refl in omega arith)
+  | inr d ↦ (let f : undone_of w ≡ 1 = rw d refl in omega arith)
+]
+
+pub undone-set : (ws : List Work) (i : ℕ) (v : Work) → i < length ws → undone ws ≤ undone (set ws i v) + 1
+unfolding undone
+undone-set ws i v lt =
+    let x = sum_by-set undone_of ws i v no_work lt in let a = undone_of-one (work_at ws i) in omega arith
+
+pub undone-none : (ws : List Work) → ((k : ℕ) → k < length ws → (work_at ws k).done ≡ true) → undone ws ≡ 0
+unfolding undone
+undone-none [] h = refl
+undone-none (w ∷ ws) h =
+    let r = undone-none ws (λ k lt. h (suc k) (omega arith)) in let a = sum_by-cons undone_of w ws
+    in let f : undone_of w ≡ 0 = rw (h 0 (omega arith)) refl in omega arith
+
+undone-each : (ws : List Work) → ((k : ℕ) → k < length ws → (work_at ws k).done ≡ false) → undone ws ≡ length ws
+unfolding undone
+undone-each [] h = refl
+undone-each (w ∷ ws) h =
+    let r = undone-each ws (λ k lt. h (suc k) (omega arith)) in let a = sum_by-cons undone_of w ws
+    in let f : undone_of w ≡ 1 = rw (h 0 (omega arith)) refl in omega arith
+
+pub undone-fresh : (ws : List Work) → IsFresh ws → undone ws ≡ length ws
+undone-fresh ws f = undone-each ws f.undone

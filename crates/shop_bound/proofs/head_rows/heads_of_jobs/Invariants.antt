@@ -1,0 +1,14 @@
+use Rattle.std.proofs.Common.{◌≡◌, ◌≤◌, length, map, vec_len, vec_capacity}
+use Rattle.std.specs.List.{range_with_len}
+use Rattle.shop_model.specs.Word.{Placing}
+use Rattle.shop_bound.specs.inner.HeadRows.{heads_of}
+use Rattle.shop_model.specs.Placements.{IsPlacement}
+use Rattle.shop_bound.proofs.head_rows.heads_of_jobs.Given as goal
+
+abbrev pub invariant-loop-j : goal.invariant-loop-j
+invariant-loop-j l = record {
+  filled : (p : Placing) → IsPlacement l.instance p l.placement
+      → map (λ row. row.items) l.rows.items ≡ map (heads_of l.instance p) (range_with_len 0 l.j);
+  long : vec_len l.rows ≡ l.j;
+  room : length l.instance.jobs ≤ vec_capacity l.rows;
+}

@@ -1,0 +1,95 @@
+// Heads: when an operation that a word leaves could begin.
+ghost use Rattle.std.specs.Prelude.{◌≡◌, ◌<◌, IfOk, length, map};
+ghost use Rattle.std.specs.List.{range_with_len};
+ghost use Rattle.shop_model.specs.Shop.{route_of};
+ghost use Rattle.shop_model.specs.Word.{IsWord, Placing, placing};
+ghost use Rattle.shop_bound.specs.Heads.{head_if_left, heads_at, TellsHeads};
+ghost use Rattle.shop_bound.specs.inner.HeadRows.{AreHeadsOfJob, AreHeadsOf};
+ghost use Rattle.shop_model.specs.Placements.{IsPlacement};
+ghost use Rattle.shop_bound.specs.inner.PlacedWords.{IsOfWord};
+
+use shop_model::{Instance, Placement, Word};
+use std::alloc::{AllocError, Global};
+use std::marker::Model;
+
+/// The heads of the operations of job j, none for those that are placed.
+fn heads_of_job(
+    alloc: Global,
+    instance: &Instance,
+    placement: &Placement,
+    j: usize,
+) -> Result<Vec<Option<u64>>, AllocError>
+    requires job { j < length instance.now.jobs }
+    requires word { IsOfWord instance.now placement.now }
+    ensures { IfOk result (λ v. AreHeadsOfJob instance.now placement.now j v.items) }
+{
+    let route = instance.route(j);
+    let placed = placement.steps(j);
+    let mut ready = placement.ready(j);
+    let mut heads = Vec::with_capacity(alloc, route.len())?;
+    for k in 0..route.len() {
+        if k < placed {
+            heads.push(None).unwrap();
+            continue;
+        }
+        let head = ready.max(placement.free(route[k].machine));
+        heads.push(Some(head)).unwrap();
+        ready = head + route[k].time;
+    }
+    Ok(heads)
+}
+
+/// The heads of the operations of each job.
+fn heads_of_jobs(
+    alloc: Global,
+    instance: &Instance,
+    placement: &Placement,
+) -> Result<Vec<Vec<Option<u64>>>, AllocError>
+    requires { IsOfWord instance.now placement.now }
+    ensures { IfOk result (λ v. AreHeadsOf instance.now placement.now (map (λ row. row.items) v.items)) }
+{
+    let mut rows = Vec::with_capacity(alloc, instance.jobs())?;
+    for j in 0..instance.jobs() {
+        rows.push(heads_of_job(alloc, instance, placement, j)?)
+            .unwrap();
+    }
+    Ok(rows)
+}
+
+/// The heads of the operations that a word leaves: the longest paths to them in the disjunctive model. For library
+/// callers: the program doesn't use it.
+#[derive(Drop)]
+pub struct Heads {
+    rows: Vec<Vec<Option<u64>>>,
+}
+
+impl Model for Heads {
+    ghost use Rattle.std.specs.Prelude.{List, Option, ℕ, map};
+
+    ghost Value = { List (List (Option ℕ)) };
+
+    ghost view = { λ a. map (λ row. row.items) a.rows.items };
+}
+
+impl Heads {
+    /// The heads once the word, which fits the instance, is placed. Fails with `AllocError` if memory runs out.
+    pub fn of(alloc: Global, instance: &Instance, word: &Word) -> Result<Heads, AllocError>
+        requires { IsWord instance.now word.now }
+        ensures { IfOk result (λ h. TellsHeads instance.now word.now h) }
+    {
+        let placement = Placement::of(alloc, instance, word)?;
+        let rows = heads_of_jobs(alloc, instance, &placement)?;
+        Ok(Heads { rows })
+    }
+
+    /// The head of step k of job j; none where it is in the word, or no operation.
+    pub fn head(&self, j: usize, k: usize) -> Option<u64>
+        ensures { result ≡ heads_at self.now j k }
+    {
+        if j < self.rows.len() && k < self.rows[j].len() {
+            self.rows[j][k]
+        } else {
+            None
+        }
+    }
+}

@@ -1,0 +1,47 @@
+// Tails: what must follow an operation in its route.
+ghost use Rattle.std.specs.Prelude.{◌≡◌, ◌<◌, IfOk, map, sum_by};
+ghost use Rattle.shop_bound.specs.Heads.{AreTails};
+ghost use Rattle.shop_bound.specs.inner.HeadRows.{tails_in};
+ghost use Rattle.shop_bound.specs.Heads.{AreTimesSmall};
+
+use shop_model::{Instance, Op};
+use std::alloc::{AllocError, Global};
+
+/// The sum of the times of a route, which is below 2^50.
+pub fn total_time(route: &[Op]) -> u64
+    requires { AreTimesSmall route.now }
+    ensures { result ≡ sum_by (λ o. o.time) route.now }
+{
+    let mut total = 0;
+    for op in route {
+        total += op.time;
+    }
+    total
+}
+
+/// The tails of the operations of a route.
+fn tails_of_route(alloc: Global, route: &[Op]) -> Result<Vec<u64>, AllocError>
+    requires { AreTimesSmall route.now }
+    ensures { IfOk result (λ v. v.items ≡ tails_in route.now) }
+{
+    let mut tails = Vec::with_capacity(alloc, route.len())?;
+    let mut tail = total_time(route);
+    for op in route {
+        tail -= op.time;
+        tails.push(tail).unwrap();
+    }
+    Ok(tails)
+}
+
+/// The tail of each operation, one row a job: the sum of the times of the later steps of its route. Fails with
+/// `AllocError` if memory runs out. For library callers: the program doesn't use it.
+pub fn tails(alloc: Global, instance: &Instance) -> Result<Vec<Vec<u64>>, AllocError>
+    ensures { IfOk result (λ v. AreTails instance.now (map (λ row. row.items) v.items)) }
+{
+    let mut rows = Vec::with_capacity(alloc, instance.jobs())?;
+    for j in 0..instance.jobs() {
+        rows.push(tails_of_route(alloc, instance.route(j))?)
+            .unwrap();
+    }
+    Ok(rows)
+}

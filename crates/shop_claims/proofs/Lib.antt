@@ -1,2 +1,0 @@
-pub mod ServedEntries
-pub mod WonEntries

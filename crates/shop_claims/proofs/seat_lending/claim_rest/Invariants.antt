@@ -1,6 +1,0 @@
-use Rattle.shop_seats.specs.Seats.{knows, IsSeatOf}
-use Rattle.shop_claims.specs.inner.Turns.{IsRestKnown}
-use Rattle.shop_claims.proofs.seat_lending.claim_rest.Given as goal
-
-abbrev pub invariant-loop-number : goal.invariant-loop-number
-invariant-loop-number l = IsSeatOf l.board l.seat × IsRestKnown l.number (knows l.seat) l.places

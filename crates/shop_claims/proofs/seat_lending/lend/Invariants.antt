@@ -1,7 +1,0 @@
-use Rattle.std.specs.Prelude.{All}
-use Rattle.shop_seats.specs.Seats.{IsSeatOf}
-use Rattle.shop_claims.specs.declared.seat_lending.Lent.{Lent}
-use Rattle.shop_claims.proofs.seat_lending.lend.Given as goal
-
-abbrev pub invariant-loop-worker : goal.invariant-loop-worker
-invariant-loop-worker l = IsSeatOf l.board l.mine × All (λ (x : Lent). IsSeatOf l.board x.seat) l.lent.items

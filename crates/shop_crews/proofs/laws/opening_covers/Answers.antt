@@ -1,5 +1,0 @@
-use Rattle.shop_crews.proofs.Covering.{opens_covering}
-use Rattle.shop_crews.proofs.laws.opening_covers.Goals as goal
-
-pub returns : goal.returns
-returns c = opens_covering

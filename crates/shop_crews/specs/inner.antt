@@ -1,2 +1,0 @@
-pub mod OpenNodes
-pub mod Outcomes

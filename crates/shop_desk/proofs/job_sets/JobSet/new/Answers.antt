@@ -1,5 +1,0 @@
-use Rattle.shop_raises.proofs.JobSets.{no_members}
-use Rattle.shop_desk.proofs.job_sets.JobSet.new.Goals as goal
-
-pub returns : goal.returns
-returns g c = no_members g.row.WORDS 0

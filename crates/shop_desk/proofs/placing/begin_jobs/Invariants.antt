@@ -1,5 +1,0 @@
-use Rattle.shop_desk.specs.inner.PlacedNexts.{AreBegun}
-use Rattle.shop_desk.proofs.placing.begin_jobs.Given as goal
-
-abbrev pub invariant-loop-job : goal.invariant-loop-job
-invariant-loop-job g l = AreBegun l.laid_out.shop l.laid_out.layout l.job l.next l.ready

@@ -1,0 +1,28 @@
+-- The search ends, so there is a least makespan; and no other.
+use Rattle.std.proofs.Common.{◌≡◌, ℕ, arith}
+use Rattle.shop_model.specs.Shop.{Shop, IsLeast}
+use Rattle.shop_runs.specs.Round.{Planned, makespan_of}
+use Rattle.shop_runs.specs.Answers.{answer}
+use Rattle.shop_runs.specs.Exact.{with_rounds}
+use Rattle.shop_runs.specs.declared.plans.Order.TheVariants.{Kept}
+use Rattle.shop_runs.proofs.Ending.{searches_end}
+use Rattle.shop_engine.specs.LeastMakespans.{EachHasOneLeast}
+
+abbrev plan : Planned
+plan = record { rounds = 0; budget = 1; piece = 1; order = Kept }
+
+one : (shop : Shop) (c d : ℕ) → IsLeast shop c → IsLeast shop d → c ≡ d
+one shop c d first second =
+    let a = first.least second.table second.feasible
+    in let b = second.least first.table first.feasible
+    in let e = first.ends
+    in let g = second.ends
+    in omega arith
+
+pub each_has_one_least : EachHasOneLeast
+each_has_one_least shop = record {
+  some = (let enough = searches_end shop plan (omega arith) (omega arith)
+      in let n = enough.0
+      in (makespan_of shop (answer shop (with_rounds plan n)), (enough.1 n (omega arith)).1));
+  one = one shop;
+}

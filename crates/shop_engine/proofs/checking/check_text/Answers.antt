@@ -1,0 +1,72 @@
+use Rattle.std.specs.Option.{option_map}
+use Rattle.shop_engine.specs.declared.faults.Fault.TheVariants.{Text}
+use Rattle.shop_engine.specs.Devices.{IsWritten}
+use Rattle.shop_engine.specs.Asking.{name_in}
+use Rattle.shop_engine.specs.Checking.{IsChecking}
+use Rattle.shop_engine.proofs.Picks.{is_asked_in}
+use Rattle.shop_engine.proofs.Verdicts.{at_err, unread_after, faulty_after}
+use Rattle.shop_engine.proofs.Verdicts.{judged_before, goes_out, cut_off, table_fault}
+use Rattle.shop_engine.proofs.checking.check_text.Goals as goal
+
+pub returns-in_err-schedule : goal.returns-in_err-schedule
+returns-in_err-schedule g c =
+    let args = c.args.args.now
+    in let second = option_map g.T.Source.device c.args.schedule.now
+    in let second' = option_map g.T.Source.device c.schedule_of.new.second
+    in let sink = g.K.Sink.device c.args.sink.now
+    in let t = c.in_ok-text
+    in let picked = is_asked_in args.format (name_in args.name) c.in_ok-named.ensures.0
+    c.as_slice.ensures.value c.as_slice-2.ensures.value c.in_ok-asked.ensures
+    in let e = c.in_err-schedule
+    in at_err (IsChecking args (g.S.Source.device c.args.source.now)
+    (g.S.Source.device c.read_all.new.source) second second' sink sink)
+    c.from_residual-in_err-schedule.result e.field-0.0 c.from_residual-in_err-schedule.ensures.1
+    (unread_after args second second' sink t.ensures.read picked e.field-0.0 e.ensures.unread)
+
+pub returns-in_err-is_feasible : goal.returns-in_err-is_feasible
+returns-in_err-is_feasible g c =
+    let args = c.args.args.now
+    in let second = option_map g.T.Source.device c.args.schedule.now
+    in let second' = option_map g.T.Source.device c.schedule_of.new.second
+    in let sink = g.K.Sink.device c.args.sink.now
+    in let t = c.in_ok-text
+    in let picked = is_asked_in args.format (name_in args.name) c.in_ok-named.ensures.0
+    c.as_slice.ensures.value c.as_slice-2.ensures.value c.in_ok-asked.ensures
+    in let e = c.in_err-is_feasible
+    in at_err (IsChecking args (g.S.Source.device c.args.source.now)
+    (g.S.Source.device c.read_all.new.source) second second' sink sink)
+    c.from_residual-in_err-is_feasible.result (Text e.field-0.0) c.from_residual-in_err-is_feasible.ensures.1
+    (faulty_after args second second' sink t.ensures.read picked c.in_ok-schedule.ensures.read
+    c.as_slice-3.ensures.value e.field-0.0
+    (table_fault c.in_ok-asked.asked.now.instance c.as_slice-3.result.now e.field-0.0 e.ensures.refused))
+
+pub returns-in_err-write_all : goal.returns-in_err-write_all
+returns-in_err-write_all g c =
+    let args = c.args.args.now
+    in let second = option_map g.T.Source.device c.args.schedule.now
+    in let second' = option_map g.T.Source.device c.schedule_of.new.second
+    in let sink = g.K.Sink.device c.args.sink.now
+    in let sink' = g.K.Sink.device c.write_all.new.sink
+    in let t = c.in_ok-text
+    in let picked = is_asked_in args.format (name_in args.name) c.in_ok-named.ensures.0
+    c.as_slice.ensures.value c.as_slice-2.ensures.value c.in_ok-asked.ensures
+    in let judged = judged_before second second' t.ensures.read picked c.in_ok-schedule.ensures.read
+    c.as_slice-3.ensures.value c.in_ok-is_feasible.ensures.judges
+    in let e = c.in_err-write_all
+    in at_err (IsChecking args (g.S.Source.device c.args.source.now)
+    (g.S.Source.device c.read_all.new.source) second second' sink sink')
+    c.from_residual-in_err-write_all.result e.field-0.0 c.from_residual-in_err-write_all.ensures.1
+    (cut_off sink sink' judged c.as_slice-4.ensures.value e.field-0.0 e.ensures.unwritten)
+
+pub returns : goal.returns
+returns g c =
+    let args = c.args.args.now
+    in let second = option_map g.T.Source.device c.args.schedule.now
+    in let second' = option_map g.T.Source.device c.schedule_of.new.second
+    in let t = c.in_ok-text
+    in let picked = is_asked_in args.format (name_in args.name) c.in_ok-named.ensures.0
+    c.as_slice.ensures.value c.as_slice-2.ensures.value c.in_ok-asked.ensures
+    in let judged = judged_before second second' t.ensures.read picked c.in_ok-schedule.ensures.read
+    c.as_slice-3.ensures.value c.in_ok-is_feasible.ensures.judges
+    in goes_out (IsWritten (g.K.Sink.device c.args.sink.now) (g.K.Sink.device c.write_all.new.sink)) judged
+    c.as_slice-4.ensures.value c.in_ok-write_all.ensures.written

@@ -1,0 +1,24 @@
+use Rattle.std.proofs.Common.{◌≡◌, List, ℕ, ◌++◌, ◌-◌, length, take, drop, rules}
+use Rattle.std.proofs.Common.{take-append-drop, append_assoc, sym, ◌∙◌, ap}
+use Rattle.std.proofs.lemmas.List.{take_rest}
+use Rattle.std.proofs.KnownBytes.{Appends-trans}
+use Rattle.shop_engine.proofs.transfers.write_all.Goals as goal
+
+cut_more : (text gone rest : List ℕ) (n : ℕ) → text ≡ gone ++ rest
+    → text ≡ gone ++ take n rest ++ take (length rest - n) (drop n rest)
+cut_more text gone rest n cut =
+    rw (take_rest rest n)
+    (cut ∙ ap (λ xs. gone ++ xs) (sym (take-append-drop n rest)) ∙ sym (append_assoc gone (take n rest) (drop n rest)))
+
+-- what went out so far, and what the sink took now
+pub loop-rest-preserved : goal.loop-rest-preserved
+loop-rest-preserved g c =
+    let gone = c.loop-rest.invariant.gone
+    in let rest = c.loop-rest.rest.now
+    in let count = c.in-Ok.count
+    in record {
+      gone = gone ++ take count rest;
+      cut = cut_more c.args.text.now gone rest count c.loop-rest.invariant.cut;
+      took = Appends-trans _ _ _ gone (take count rest) c.loop-rest.invariant.took c.in-Ok.ensures.bytes;
+      worked = search rules;
+    }

@@ -1,0 +1,141 @@
+-- What `check_bytes` and `check_text` do.
+--     IsVerdictOn shop schedule feasible line     the table of a schedule text is judged, with
+--                                                 this line
+--     schedule_in text given                      the schedule text: what is given, or else the
+--                                                 instance text itself
+--     IsCheckFault format name text schedule fault     why a check is refused
+--     Second, IsScheduleRead                      the source of the schedule, which may be
+--                                                 missing; how it was had
+--     Checks args source source' second second' feasible goes          a table was judged, and the
+--                                                                      line goes out
+--     IsChecking args source source' second second' sink sink' result     what `check_text` answers
+use Rattle.std.specs.Prelude.{◌≡◌, ℕ, ◌⊎◌, ◌↔◌, Bool, IsTrue, List, Option, Some, None, Result, Ok}
+use Rattle.std.specs.Prelude.{Err}
+use Rattle.shop_model.specs.Shop.{Shop, IsFeasible}
+use Rattle.shop_model.specs.Checking.{HasShape, starts_of, IsVerdict}
+use Rattle.shop_model.specs.declared.checking.Verdict.{Verdict}
+use Rattle.shop_text.specs.Texts.{NamedShop}
+use Rattle.shop_text.specs.Schedules.{IsTableRead, IsTableFault}
+use Rattle.shop_text.specs.Writing.{verdict_text}
+use Rattle.shop_text.specs.declared.faults.ReadFault.{ReadFault}
+use Rattle.shop_text.specs.declared.faults.ReadFault.TheVariants.{NoMemory}
+use Rattle.shop_text.specs.declared.formats.Format.{Format}
+use Rattle.shop_engine.specs.declared.args.CheckArgs.{CheckArgs}
+use Rattle.shop_engine.specs.declared.faults.Fault.{Fault}
+use Rattle.shop_engine.specs.declared.faults.Fault.TheVariants.{Text, ReadFailed, WriteFailed}
+use Rattle.shop_engine.specs.Devices.{Device, HasReadOnce, HasReadFailed, IsReadToEnd, IsUnread}
+use Rattle.shop_engine.specs.Devices.{IsWritten, IsCutOff}
+use Rattle.shop_engine.specs.Devices.{IsTextRefused}
+use Rattle.shop_engine.specs.Asking.{name_in, IsAsked, OfAsked, IsAskFault}
+
+-- The schedule text has a table, and the line says what a check of it finds.
+pub record IsVerdictOn (shop : Shop) (schedule : List ℕ) (feasible : Bool) (line : List ℕ)
+    : Type 0 where
+  pub rows : List (List ℕ)
+  pub is_table : IsTableRead shop schedule (Ok rows)
+  pub verdict : Verdict
+  pub is_verdict : IsVerdict shop rows verdict
+  pub is_feasible : IsTrue feasible ↔ (HasShape shop rows × IsFeasible shop (starts_of rows))
+  pub says : line ≡ verdict_text verdict
+
+-- ---- over bytes
+
+abbrev pub schedule_in : List ℕ → Option (List ℕ) → List ℕ
+schedule_in text None = text
+schedule_in text (Some schedule) = schedule
+
+-- the verdict on the schedule, for the instance that is asked for
+abbrev pub IsCheckOf : Format → Option (List ℕ) → List ℕ → List ℕ → Bool → List ℕ → Type 0
+IsCheckOf format name text schedule feasible line =
+    OfAsked format name text (λ asked. IsVerdictOn asked.shop schedule feasible line)
+
+-- there is no such instance, or the schedule text has this fault
+abbrev pub IsCheckFault : Format → Option (List ℕ) → List ℕ → List ℕ → ReadFault → Type 0
+IsCheckFault format name text schedule fault = IsAskFault format name text fault
+    ⊎ OfAsked format name text (λ asked. IsTableFault asked.shop schedule fault)
+
+-- ---- on devices
+
+-- the source of the schedule, where there is one
+abbrev pub Second : Type 0
+Second = Option Device
+
+-- The schedule is all that the second source has. Without one it is the instance text itself.
+abbrev pub IsScheduleRead : List ℕ → Second → Second → List ℕ → Type 0
+IsScheduleRead text None None schedule = schedule ≡ text
+IsScheduleRead text None (Some new) schedule = ⊥
+IsScheduleRead text (Some old) None schedule = ⊥
+IsScheduleRead text (Some old) (Some new) schedule = IsReadToEnd old new schedule
+
+-- The instance was read and picked, and what came after it holds of it and of the text.
+pub record IsPicked (args : CheckArgs) (source source' : Device) (After : List ℕ → Shop → Type 0)
+    : Type 0 where
+  pub text : List ℕ
+  pub read : IsReadToEnd source source' text
+  pub asked : NamedShop
+  pub is_asked : IsAsked args.format (name_in args.name) text asked
+  pub after : After text asked.shop
+
+-- The schedule was had and judged, and the line goes out.
+pub record IsJudged (second second' : Second) (feasible : Bool) (Goes : List ℕ → Type 0)
+    (text : List ℕ)
+    (shop : Shop) : Type 0 where
+  pub schedule : List ℕ
+  pub schedule_read : IsScheduleRead text second second' schedule
+  pub line : List ℕ
+  pub judges : IsVerdictOn shop schedule feasible line
+  pub out : Goes line
+
+abbrev pub Checks : CheckArgs → Device → Device → Second → Second → Bool → (List ℕ → Type 0)
+    → Type 0
+Checks args source source' second second' feasible Goes =
+    IsPicked args source source' (IsJudged second second' feasible Goes)
+
+-- no read of it failed, and its end was told at most once
+abbrev pub IsSecondReadOnce : Second → Second → Type 0
+IsSecondReadOnce None None = Unit {0}
+IsSecondReadOnce None (Some new) = ⊥
+IsSecondReadOnce (Some old) None = ⊥
+IsSecondReadOnce (Some old) (Some new) = HasReadOnce old new
+
+-- it wasn't read to its end
+abbrev pub IsSecondUnread : Second → Second → Fault → Type 0
+IsSecondUnread None second' fault = ⊥
+IsSecondUnread (Some old) None fault = ⊥
+IsSecondUnread (Some old) (Some new) fault = IsUnread old new fault
+
+-- the schedule text has this fault
+pub record IsScheduleFaulty (second second' : Second) (fault : ReadFault) (text : List ℕ)
+    (shop : Shop)
+    : Type 0 where
+  pub schedule : List ℕ
+  pub schedule_read : IsScheduleRead text second second' schedule
+  pub is_fault : IsTableFault shop schedule fault
+
+abbrev pub IsScheduleRefused : Second → Second → ReadFault → List ℕ → Shop → Type 0
+IsScheduleRefused second second' fault text shop =
+    IsSecondUnread second second' (Text fault) ⊎ IsScheduleFaulty second second' fault text shop
+
+-- The second source is read only after an instance was picked. On success the sink took just the
+-- line, and no device failed. A refusal is that of all bytes of its source; it and a failed read
+-- leave the sink as it was, and so does a call that runs out of memory, where no device failed.
+-- After a failed write the sink holds a beginning of the line.
+abbrev pub IsChecking : CheckArgs → Device → Device → Second → Second → Device → Device
+    → Result Bool Fault → Type 0
+IsChecking args source source' second second' sink sink' (Ok feasible) =
+    Checks args source source' second second' feasible (IsWritten sink sink')
+IsChecking args source source' second second' sink sink' (Err (Text NoMemory)) =
+    ((HasReadOnce source source' × (second' ≡ second))
+    ⊎ IsPicked args source source' (λ text shop. IsSecondReadOnce second second'))
+    × (sink' ≡ sink)
+IsChecking args source source' second second' sink sink' (Err (Text fault)) =
+    ((IsTextRefused source source' (IsAskFault args.format (name_in args.name)) fault
+    × (second' ≡ second))
+    ⊎ IsPicked args source source' (IsScheduleRefused second second' fault))
+    × (sink' ≡ sink)
+IsChecking args source source' second second' sink sink' (Err ReadFailed) =
+    ((HasReadFailed source source' × (second' ≡ second))
+    ⊎ IsPicked args source source' (λ text shop. IsSecondUnread second second' ReadFailed))
+    × (sink' ≡ sink)
+IsChecking args source source' second second' sink sink' (Err WriteFailed) =
+    (feasible : Bool) × Checks args source source' second second' feasible (IsCutOff sink sink')

@@ -1,0 +1,42 @@
+// The list of the instances of a text.
+ghost use Rattle.std.specs.Prelude.{IfOk, IfErr};
+ghost use Rattle.shop_text.specs.Texts.{IsTextFault};
+ghost use Rattle.shop_text.specs.Formats.{grammar_of};
+ghost use Rattle.shop_engine.specs.Asking.{OrNoMemory};
+ghost use Rattle.shop_engine.specs.Listing.{IsListOf, IsListing};
+
+use crate::args::ListArgs;
+use crate::devices::{Sink, Source};
+use crate::faults::Fault;
+use crate::transfers::{read_all, write_all};
+use shop_text::{ReadFault, listing, read};
+use std::alloc::Global;
+
+/// The list of the instances of a text: a line for each, with its name, its jobs and its machines. Reads and writes no
+/// device.
+///
+/// Fails with the fault of the text. Fails with `NoMemory` if memory runs out.
+pub fn list_bytes(alloc: Global, text: &[u8], args: &ListArgs) -> Result<Vec<u8>, ReadFault>
+    ensures list { IfOk result (λ out. IsListOf args.now.format text.now out.items) }
+    ensures refused { IfErr result (λ fault.
+        OrNoMemory (IsTextFault (grammar_of args.now.format)) text.now fault) }
+{
+    let named = read(alloc, args.format, text)?;
+    Ok(listing(alloc, named.as_slice())?)
+}
+
+/// Writes the list of the instances of a source, as `list_bytes` makes it. Nothing is written before all lines are
+/// made.
+pub fn list_text<S: Source, K: Sink>(
+    alloc: Global,
+    source: &mut S,
+    sink: &mut K,
+    args: &ListArgs,
+) -> Result<(), Fault>
+    ensures { IsListing args.now (S.device source.old) (S.device source.new)
+        (K.device sink.old) (K.device sink.new) result }
+{
+    let text = read_all(alloc, source)?;
+    let lines = list_bytes(alloc, text.as_slice(), args)?;
+    write_all(sink, lines.as_slice())
+}

@@ -1,5 +1,0 @@
-use Rattle.shop_heads.proofs.BoundsRise.{bounds_rise}
-use Rattle.shop_heads.proofs.laws.bounds_never_fall.Goals as goal
-
-pub returns : goal.returns
-returns c = λ shop v later limits word. bounds_rise shop v later limits word

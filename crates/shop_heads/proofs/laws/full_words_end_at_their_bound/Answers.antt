@@ -1,5 +1,0 @@
-use Rattle.shop_heads.proofs.BoundLaw.{full_word}
-use Rattle.shop_heads.proofs.laws.full_words_end_at_their_bound.Goals as goal
-
-pub returns : goal.returns
-returns c = full_word

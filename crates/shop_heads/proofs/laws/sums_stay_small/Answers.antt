@@ -1,5 +1,0 @@
-use Rattle.shop_heads.proofs.SmallSums.{sums_small}
-use Rattle.shop_heads.proofs.laws.sums_stay_small.Goals as goal
-
-pub returns : goal.returns
-returns c = λ shop w limits word. sums_small shop limits w word

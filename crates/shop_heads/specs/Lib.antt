@@ -1,5 +1,0 @@
-pub mod Bound
-pub mod Heads
-pub mod Conflicts
-pub mod Laws
-pub mod inner

@@ -1,3 +1,0 @@
-pub mod HeadRows
-pub mod PlacedWords
-pub mod Unplaced

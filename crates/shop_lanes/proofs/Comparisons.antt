@@ -1,0 +1,93 @@
+-- What comparisons of vectors choose, as lists.
+use Rattle.std.proofs.Common.{◌≡◌, ℕ, zero, suc, ◌-◌, ◌^◌, min, max, Bool, cond, List, [], ◌∷◌, length, map, replicate}
+use Rattle.std.proofs.Common.{get_or, refl, ap, sym, ◌∙◌, arith, leb, ltb, ◌≤◌, subst}
+use Rattle.std.proofs.lemmas.Bool.Decides.{nat_tests}
+use Rattle.std.proofs.lemmas.Simd.{tops_compared, zip2_splat_left}
+use lib.Lanes.{zip2, sel_l, top, Each2}
+use mir.Syntax.{Width}
+use mir.Val.{bits, hbits}
+use Rattle.shop_lanes.specs.Eights.{waiting, later_head, lessened}
+
+-- which heads are at least `least`, as a comparison of two vectors tells it
+abbrev pub waits_told : Width → List ℕ → List ℕ → List Bool
+waits_told w least heads = map (top (hbits w)) (zip2 (λ a b. cond (leb a b) (2 ^ bits w - 1) 0) least heads)
+
+pub waits_told_is : (w : Width) (n least : ℕ) (heads : List ℕ) → length heads ≡ n
+    → waits_told w (replicate n least) heads ≡ map (leb least) heads
+waits_told_is w n least heads e =
+    tops_compared w leb (replicate n least) heads ∙ zip2_splat_left leb least n heads e
+
+pub waiting_told_is : (w : Width) (xs heads least : List ℕ) → length heads ≡ 8 → least ≡ replicate 8 (get_or least 0 0)
+    → sel_l (waits_told w least heads) xs (replicate 8 0) ≡ waiting (get_or least 0 0) heads xs
+waiting_told_is w xs heads least eight splat =
+    let from = get_or least 0 0
+    in ap (λ l. sel_l (waits_told w l heads) xs (replicate 8 0)) splat
+    ∙ ap (λ ms. sel_l ms xs (replicate 8 0)) (waits_told_is w 8 from heads eight)
+    ∙ ap (λ n. sel_l (map (leb from) heads) xs (replicate n 0)) (sym eight)
+
+sel-map : (p : ℕ → Bool) (top n : ℕ) (xs : List ℕ) → length xs ≡ n
+    → sel_l (map p xs) xs (replicate n top) ≡ map (λ x. cond (p x) x top) xs
+sel-map p top n [] e = refl
+sel-map p top zero (x ∷ xs) e = absurd (omega arith)
+sel-map p top (suc n) (x ∷ xs) e = ap (λ l. cond (p x) x top ∷ l) (sel-map p top n xs (omega arith))
+
+-- those at least `least`, as a comparison of two vectors tells them
+pub later_told_is : (w : Width) (xs least rest : List ℕ) → length xs ≡ 8 → least ≡ replicate 8 (get_or least 0 0)
+    → rest ≡ replicate 8 (get_or rest 0 0)
+    → sel_l (waits_told w least xs) xs rest ≡ map (later_head (get_or rest 0 0) (get_or least 0 0)) xs
+later_told_is w xs least rest eight splat splat' =
+    let from = get_or least 0 0
+    in let top = get_or rest 0 0
+    in ap (λ l. sel_l (waits_told w l xs) xs rest) splat
+    ∙ ap (λ ms. sel_l ms xs rest) (waits_told_is w 8 from xs eight)
+    ∙ ap (sel_l (map (leb from) xs) xs) splat'
+    ∙ sel-map (leb from) top 8 xs eight
+
+-- the greater of two vectors, as a comparison tells it
+pub greater_told_is : (w : Width) (xs ys : List ℕ) → length xs ≡ length ys
+    → sel_l (map (top (hbits w)) (zip2 (λ a b. cond (ltb a b) (2 ^ bits w - 1) 0) xs ys)) ys xs ≡ zip2 max xs ys
+greater_told_is w xs ys e = ap (λ ms. sel_l ms ys xs) (tops_compared w ltb xs ys) ∙ chosen xs ys e
+  where
+    chosen : (us vs : List ℕ) → length us ≡ length vs → sel_l (zip2 ltb us vs) vs us ≡ zip2 max us vs
+    chosen [] vs h = refl
+    chosen (x ∷ us) [] h = absurd (omega arith)
+    chosen (x ∷ us) (y ∷ vs) h =
+        let one : cond (ltb x y) y x ≡ max x y = grind (arith, nat_tests)
+        in ap (λ n. n ∷ sel_l (zip2 ltb us vs) vs us) one ∙ ap (λ l. max x y ∷ l) (chosen us vs (omega arith))
+
+-- the lesser of two vectors, as a comparison tells it
+pub lesser_told_is : (w : Width) (xs ys : List ℕ) → length xs ≡ length ys
+    → sel_l (map (top (hbits w)) (zip2 (λ a b. cond (ltb a b) (2 ^ bits w - 1) 0) xs ys)) xs ys ≡ zip2 min xs ys
+lesser_told_is w xs ys e = ap (λ ms. sel_l ms xs ys) (tops_compared w ltb xs ys) ∙ chosen xs ys e
+  where
+    chosen : (us vs : List ℕ) → length us ≡ length vs → sel_l (zip2 ltb us vs) us vs ≡ zip2 min us vs
+    chosen [] vs h = refl
+    chosen (x ∷ us) [] h = absurd (omega arith)
+    chosen (x ∷ us) (y ∷ vs) h =
+        let one : cond (ltb x y) x y ≡ min x y = grind (arith, nat_tests)
+        in ap (λ n. n ∷ sel_l (zip2 ltb us vs) us vs) one ∙ ap (λ l. min x y ∷ l) (chosen us vs (omega arith))
+
+-- what is taken away from the greater of two vectors, and what is left
+abbrev pub greater_told : Width → List ℕ → List ℕ → List ℕ
+greater_told w xs ys = sel_l (map (top (hbits w)) (zip2 (λ a b. cond (ltb a b) (2 ^ bits w - 1) 0) xs ys)) ys xs
+
+covered : (xs ys : List ℕ) → Each2 (λ a b. b ≤ a) (zip2 max xs ys) ys
+covered [] ys = tt
+covered (x ∷ xs) [] = tt
+covered (x ∷ xs) (y ∷ ys) = (omega arith, covered xs ys)
+
+left_of : (xs ys : List ℕ) → zip2 (λ a b. a - b) (zip2 max xs ys) ys ≡ lessened xs ys
+left_of [] ys = refl
+left_of (x ∷ xs) [] = refl
+left_of (x ∷ xs) (y ∷ ys) =
+    let one : max x y - y ≡ x - y = omega arith
+    in ap (λ n. n ∷ zip2 (λ a b. a - b) (zip2 max xs ys) ys) one ∙ ap (λ l. (x - y) ∷ l) (left_of xs ys)
+
+pub greater_covers : (w : Width) (xs ys : List ℕ) → length xs ≡ length ys
+    → Each2 (λ a b. b ≤ a) (greater_told w xs ys) ys
+greater_covers w xs ys e =
+    subst (λ l. Each2 (λ a b. b ≤ a) l ys) (sym (greater_told_is w xs ys e)) (covered xs ys)
+
+pub lessened_told_is : (w : Width) (xs ys : List ℕ) → length xs ≡ length ys
+    → zip2 (λ a b. a - b) (greater_told w xs ys) ys ≡ lessened xs ys
+lessened_told_is w xs ys e = ap (λ l. zip2 (λ a b. a - b) l ys) (greater_told_is w xs ys e) ∙ left_of xs ys

@@ -1,0 +1,171 @@
+-- Lists of eight, their sums by three shifted additions, and their greatest by three turns.
+use Rattle.std.proofs.Common.{◌≡◌, ℕ, suc, ◌+◌, ◌-◌, ◌≤◌, ◌^◌, List, [], ◌∷◌, ◌++◌, length, replicate, get_or, refl, ap}
+use Rattle.std.proofs.Common.{◌∙◌, arith}
+use lib.Lanes.{Each2, sum_l}
+use mir.Syntax.{Width}
+use mir.Val.{Fits, bits}
+use Rattle.std.proofs.lemmas.Nat.{pow_pos}
+use Rattle.shop_lanes.specs.Eights.{added, up_one, up_two, up_four, AddsFit}
+use Rattle.shop_lanes.specs.Folds.{running, sums_before}
+
+one_more : (P : List ℕ → Type 0) (n : ℕ) → ((x : ℕ) (xs : List ℕ) → length xs ≡ n → P (x ∷ xs))
+    → (v : List ℕ) → length v ≡ suc n → P v
+one_more P n each [] e = absurd (omega arith)
+one_more P n each (x ∷ xs) e = each x xs (omega arith)
+
+none_more : (P : List ℕ → Type 0) → P [] → (v : List ℕ) → length v ≡ 0 → P v
+none_more P none [] e = none
+none_more P none (x ∷ xs) e = absurd (omega arith)
+
+-- what is so of eight numbers is so of a list of that length
+pub on_eight : (P : List ℕ → Type 0)
+    → ((a b c d e f g h : ℕ) → P (a ∷ b ∷ c ∷ d ∷ e ∷ f ∷ g ∷ h ∷ []))
+    → (v : List ℕ) → length v ≡ 8 → P v
+on_eight P each =
+    one_more P 7 (λ a. one_more (λ v. P (a ∷ v)) 6 (λ b. one_more (λ v. P (a ∷ b ∷ v)) 5 (λ c.
+    one_more (λ v. P (a ∷ b ∷ c ∷ v)) 4 (λ d. one_more (λ v. P (a ∷ b ∷ c ∷ d ∷ v)) 3 (λ e.
+    one_more (λ v. P (a ∷ b ∷ c ∷ d ∷ e ∷ v)) 2 (λ f. one_more (λ v. P (a ∷ b ∷ c ∷ d ∷ e ∷ f ∷ v)) 1 (λ g.
+    one_more (λ v. P (a ∷ b ∷ c ∷ d ∷ e ∷ f ∷ g ∷ v)) 0 (λ h.
+    none_more (λ v. P (a ∷ b ∷ c ∷ d ∷ e ∷ f ∷ g ∷ h ∷ v)) (each a b c d e f g h)))))))))
+
+abbrev pub pairs : List ℕ → List ℕ
+pairs v = added v (up_one v)
+
+abbrev pub fours : List ℕ → List ℕ
+fours v = added (pairs v) (up_two (pairs v))
+
+abbrev pub eights : List ℕ → List ℕ
+eights v = added (fours v) (up_four (fours v))
+
+fit : (limit n most : ℕ) → most ≤ limit → n ≤ most → n ≤ limit
+fit limit n most small le = omega arith
+
+-- sums that fit a width are what its additions ask for
+pub lanes_fit : (w : Width) (xs ys : List ℕ) → AddsFit (2 ^ bits w - 1) xs ys → Each2 (λ a b. Fits w (a + b)) xs ys
+lanes_fit w [] ys h = tt
+lanes_fit w (x ∷ xs) [] h = tt
+lanes_fit w (x ∷ xs) (y ∷ ys) h =
+    (record { fits = let a = h.0 in omega (arith, pow_pos (bits w)) }, lanes_fit w xs ys h.1)
+
+-- the sums up to each one, moved by one
+pub sums_moved : (v : List ℕ) → length v ≡ 8 → up_one (running 0 v) ≡ sums_before 0 v
+sums_moved = on_eight (λ v. up_one (running 0 v) ≡ sums_before 0 v) (λ a b c d e f g h. refl)
+
+pub pairs_fit : (limit : ℕ) (v : List ℕ) → length v ≡ 8 → sum_l v ≤ limit → AddsFit limit v (up_one v)
+pairs_fit limit = on_eight (λ v. sum_l v ≤ limit → AddsFit limit v (up_one v)) (λ a b c d e f g h small.
+    let most = a + (b + (c + (d + (e + (f + (g + (h + 0)))))))
+    in let ok = fit limit
+    in (
+      ok (a + 0) most small (omega arith),
+      (
+        ok (b + a) most small (omega arith),
+        (
+          ok (c + b) most small (omega arith),
+          (
+            ok (d + c) most small (omega arith),
+            (
+              ok (e + d) most small (omega arith),
+              (
+                ok (f + e) most small (omega arith),
+                (ok (g + f) most small (omega arith), (ok (h + g) most small (omega arith), tt)),
+              ),
+            ),
+          ),
+        ),
+      ),
+    ))
+
+pub fours_fit : (limit : ℕ) (v : List ℕ) → length v ≡ 8 → sum_l v ≤ limit
+    → AddsFit limit (pairs v) (up_two (pairs v))
+fours_fit limit = on_eight (λ v. sum_l v ≤ limit → AddsFit limit (pairs v) (up_two (pairs v))) (λ a b c d e f g h small.
+    let most = a + (b + (c + (d + (e + (f + (g + (h + 0)))))))
+    in let ok = fit limit
+    in (
+      ok (a + 0 + 0) most small (omega arith),
+      (
+        ok (b + a + 0) most small (omega arith),
+        (
+          ok (c + b + (a + 0)) most small (omega arith),
+          (
+            ok (d + c + (b + a)) most small (omega arith),
+            (
+              ok (e + d + (c + b)) most small (omega arith),
+              (
+                ok (f + e + (d + c)) most small (omega arith),
+                (ok (g + f + (e + d)) most small (omega arith), (ok (h + g + (f + e)) most small (omega arith), tt)),
+              ),
+            ),
+          ),
+        ),
+      ),
+    ))
+
+pub eights_fit : (limit : ℕ) (v : List ℕ) → length v ≡ 8 → sum_l v ≤ limit
+    → AddsFit limit (fours v) (up_four (fours v))
+eights_fit limit =
+    on_eight (λ v. sum_l v ≤ limit → AddsFit limit (fours v) (up_four (fours v))) (λ a b c d e f g h small.
+    let most = a + (b + (c + (d + (e + (f + (g + (h + 0)))))))
+    in let ok = fit limit
+    in (
+      ok (a + 0 + 0 + 0) most small (omega arith),
+      (
+        ok (b + a + 0 + 0) most small (omega arith),
+        (
+          ok (c + b + (a + 0) + 0) most small (omega arith),
+          (
+            ok (d + c + (b + a) + 0) most small (omega arith),
+            (
+              ok (e + d + (c + b) + (a + 0 + 0)) most small (omega arith),
+              (
+                ok (f + e + (d + c) + (b + a + 0)) most small (omega arith),
+                (
+                  ok (g + f + (e + d) + (c + b + (a + 0))) most small (omega arith),
+                  (ok (h + g + (f + e) + (d + c + (b + a))) most small (omega arith), tt),
+                ),
+              ),
+            ),
+          ),
+        ),
+      ),
+    ))
+
+pub same_eight : {a b c d e f g h a' b' c' d' e' f' g' h' : ℕ} → a ≡ a' → b ≡ b' → c ≡ c' → d ≡ d' → e ≡ e' → f ≡ f'
+    → g ≡ g' → h ≡ h'
+    → a ∷ b ∷ c ∷ d ∷ e ∷ f ∷ g ∷ h ∷ [] ≡ a' ∷ b' ∷ c' ∷ d' ∷ e' ∷ f' ∷ g' ∷ h' ∷ []
+same_eight p q r s t u v w = cc
+
+-- three shifted additions give the running sums
+pub eights-running : (v : List ℕ) → length v ≡ 8 → eights v ≡ running 0 v
+eights-running = on_eight (λ v. eights v ≡ running 0 v) (λ a b c d e f g h.
+    same_eight (omega arith) (omega arith) (omega arith) (omega arith) (omega arith) (omega arith) (omega arith)
+    (omega arith))
+
+-- the three additions one by one
+module _ (limit : ℕ) (v ones : List ℕ) (eight : length v ≡ 8) (small : sum_l v ≤ limit)
+    (ones_are : ones ≡ up_one v) where
+  pub ones_fit : AddsFit limit v ones
+  ones_fit = rw ones_are (pairs_fit limit v eight small)
+
+  module _ (ps twos : List ℕ) (ps_are : ps ≡ added v ones) (twos_are : twos ≡ up_two ps) where
+    are_pairs : ps ≡ pairs v
+    are_pairs = ps_are ∙ ap (added v) ones_are
+
+    are_twos : twos ≡ up_two (pairs v)
+    are_twos = twos_are ∙ ap up_two are_pairs
+
+    pub twos_fit : AddsFit limit ps twos
+    twos_fit = rw (are_pairs, are_twos) (fours_fit limit v eight small)
+
+    module _ (fs four : List ℕ) (fs_are : fs ≡ added ps twos) (four_is : four ≡ up_four fs) where
+      are_fours : fs ≡ fours v
+      are_fours = fs_are ∙ ap (λ l. added l twos) are_pairs ∙ ap (added (pairs v)) are_twos
+
+      are_four : four ≡ up_four (fours v)
+      are_four = four_is ∙ ap up_four are_fours
+
+      pub four_fits : AddsFit limit fs four
+      four_fits = rw (are_fours, are_four) (eights_fit limit v eight small)
+
+      pub sums_run : (sums : List ℕ) → sums ≡ added fs four → sums ≡ running 0 v
+      sums_run sums e =
+          e ∙ ap (λ l. added l four) are_fours ∙ ap (added (fours v)) are_four ∙ eights-running v eight

@@ -1,0 +1,130 @@
+// Eight numbers of one width at once.
+ghost use Rattle.std.specs.Prelude.{◌≡◌, ℕ, ◌+◌, ◌*◌, ◌<◌, ◌≤◌, List, length, replicate, map, min, IfOk};
+ghost use Rattle.std.specs.Prelude.{max, ◌==◌, take, drop};
+ghost use Rattle.std.specs.Simd.Lanes.{mask_l, zip2, put_chunk};
+ghost use Rattle.shop_lanes.specs.Eights.{first_of, is_between, IsSplat, up_one, up_two, up_four};
+ghost use Rattle.shop_lanes.specs.Eights.{down_one, down_two, down_four, halves, quarters};
+ghost use Rattle.shop_lanes.specs.Eights.{neighbours, added, lessened, waiting, AddsFit, later_head};
+
+use std::alloc::{AllocError, Global};
+
+/// Eight numbers of a row at once.
+pub trait Block: Copy + Drop {
+    type Number: Copy + Drop;
+
+    ghost GREATEST: { ℕ };
+
+    /// The greatest number.
+    const GREATEST: u64;
+
+    ghost numbers: { Self → List ℕ };
+
+    ghost value: { Self.Number → ℕ };
+
+    fn narrowed(number: u64) -> Self::Number
+        requires { number ≤ GREATEST }
+        ensures { value result ≡ number };
+
+    fn widened(number: Self::Number) -> u64
+        ensures { result ≡ value number };
+
+    /// A row of so many times the same number. Fails with `AllocError` if memory runs out.
+    fn row_of(alloc: Global, number: u64, count: usize) -> Result<Vec<Self::Number>, AllocError>
+        requires { number ≤ GREATEST }
+        ensures { IfOk result (λ row. map value row.items ≡ replicate count number) };
+
+    fn splat(number: u64) -> Self
+        requires { number ≤ GREATEST }
+        ensures { numbers result ≡ replicate 8 number };
+
+    /// The numbers of a block of a row.
+    fn load(row: &[Self::Number], block: usize) -> Self
+        requires { 8 * (block + 1) ≤ length row.now }
+        ensures { numbers result ≡ take 8 (drop (8 * block) (map value row.now)) };
+
+    /// Writes the numbers over a block of a row.
+    fn store(written: Self, row: &mut [Self::Number], block: usize)
+        requires eight { length (numbers written) ≡ 8 }
+        requires within { 8 * (block + 1) ≤ length row.old }
+        ensures { map value row.new
+            ≡ put_chunk (8 * block) (map value row.old) (numbers written) };
+
+    /// The first number.
+    fn first(block: Self) -> u64
+        ensures first { result ≡ first_of (numbers block) }
+        ensures small { result ≤ GREATEST };
+
+    fn up_one(block: Self) -> Self
+        ensures { numbers result ≡ up_one (numbers block) };
+
+    fn up_two(block: Self) -> Self
+        ensures { numbers result ≡ up_two (numbers block) };
+
+    fn up_four(block: Self) -> Self
+        ensures { numbers result ≡ up_four (numbers block) };
+
+    fn down_one(block: Self) -> Self
+        ensures { numbers result ≡ down_one (numbers block) };
+
+    fn down_two(block: Self) -> Self
+        ensures { numbers result ≡ down_two (numbers block) };
+
+    fn down_four(block: Self) -> Self
+        ensures { numbers result ≡ down_four (numbers block) };
+
+    fn halves(block: Self) -> Self
+        ensures { numbers result ≡ halves (numbers block) };
+
+    fn quarters(block: Self) -> Self
+        ensures { numbers result ≡ quarters (numbers block) };
+
+    fn neighbours(block: Self) -> Self
+        ensures { numbers result ≡ neighbours (numbers block) };
+
+    fn sum(a: Self, b: Self) -> Self
+        requires { AddsFit GREATEST (numbers a) (numbers b) }
+        ensures { numbers result ≡ added (numbers a) (numbers b) };
+
+    /// The numbers of `a` less those of `b`, and 0 where these are greater.
+    fn less(a: Self, b: Self) -> Self
+        requires { length (numbers a) ≡ length (numbers b) }
+        ensures { numbers result ≡ lessened (numbers a) (numbers b) };
+
+    fn greater(a: Self, b: Self) -> Self
+        requires { length (numbers a) ≡ length (numbers b) }
+        ensures { numbers result ≡ zip2 max (numbers a) (numbers b) };
+
+    fn lesser(a: Self, b: Self) -> Self
+        requires { length (numbers a) ≡ length (numbers b) }
+        ensures { numbers result ≡ zip2 min (numbers a) (numbers b) };
+
+    /// The numbers of those whose head is at least `least`, and 0 for the others.
+    fn waiting(block: Self, heads: Self, least: Self) -> Self
+        requires heads { length (numbers heads) ≡ 8 }
+        requires least { IsSplat (numbers least) }
+        ensures { numbers result
+            ≡ waiting (first_of (numbers least)) (numbers heads) (numbers block) };
+
+    /// The numbers that are at least `least`, and `rest` for the others.
+    fn later(block: Self, least: Self, rest: Self) -> Self
+        requires eight { length (numbers block) ≡ 8 }
+        requires least { IsSplat (numbers least) }
+        requires rest { IsSplat (numbers rest) }
+        ensures { numbers result ≡ map (later_head (first_of (numbers rest))
+            (first_of (numbers least))) (numbers block) };
+
+    /// A bit for each lane, the first the lowest, that says whether it is above `above` and at most `upto`.
+    fn bits_between(block: Self, above: u64, upto: u64) -> u64
+        requires eight { length (numbers block) ≡ 8 }
+        requires above { above ≤ GREATEST }
+        requires upto { upto ≤ GREATEST }
+        ensures { result ≡ mask_l (map (is_between above upto) (numbers block)) };
+
+    /// A bit for each lane, the first the lowest, that says whether it is this number.
+    fn bits_equal(block: Self, number: u64) -> u64
+        requires eight { length (numbers block) ≡ 8 }
+        requires fits { number ≤ GREATEST }
+        ensures { result ≡ mask_l (map (λ x. x == number) (numbers block)) };
+
+    ghost has_numbers: { 0 < GREATEST };
+}

@@ -1,0 +1,75 @@
+// Sums and extremes of eight numbers, each by three turns.
+ghost use Rattle.std.specs.Prelude.{◌≡◌, ◌≤◌, length};
+ghost use Rattle.std.specs.Simd.Lanes.{sum_l};
+ghost use Rattle.shop_lanes.specs.Folds.{running, sums_before, greatest, least_up_to};
+ghost use Rattle.shop_lanes.specs.Folds.{greatest_before, maxima_behind};
+
+use crate::blocks::Block;
+
+/// The sum of the numbers up to each one.
+#[inline(always)]
+fn sums_up_to<B: Block>(block: B) -> B
+    requires eight { length (B.numbers block) ≡ 8 }
+    requires fits { sum_l (B.numbers block) ≤ B.GREATEST }
+    ensures { B.numbers result ≡ running 0 (B.numbers block) }
+{
+    let pairs = B::sum(block, B::up_one(block));
+    let fours = B::sum(pairs, B::up_two(pairs));
+    B::sum(fours, B::up_four(fours))
+}
+
+/// The sum of the numbers before each one.
+#[inline(always)]
+pub fn sums_before<B: Block>(block: B) -> B
+    requires eight { length (B.numbers block) ≡ 8 }
+    requires fits { sum_l (B.numbers block) ≤ B.GREATEST }
+    ensures { B.numbers result ≡ sums_before 0 (B.numbers block) }
+{
+    B::up_one(sums_up_to(block))
+}
+
+/// The greatest number before each one; 0 for the first.
+#[inline(always)]
+pub fn greatest_before<B: Block>(block: B) -> B
+    requires { length (B.numbers block) ≡ 8 }
+    ensures { B.numbers result ≡ greatest_before 0 (B.numbers block) }
+{
+    let ones = B::up_one(block);
+    let pairs = B::greater(ones, B::up_one(ones));
+    let fours = B::greater(pairs, B::up_two(pairs));
+    B::greater(fours, B::up_four(fours))
+}
+
+/// The greatest number behind each one; 0 for the last.
+#[inline(always)]
+pub fn greatest_behind<B: Block>(block: B) -> B
+    requires { length (B.numbers block) ≡ 8 }
+    ensures { B.numbers result ≡ maxima_behind 0 (B.numbers block) }
+{
+    let ones = B::down_one(block);
+    let pairs = B::greater(ones, B::down_one(ones));
+    let fours = B::greater(pairs, B::down_two(pairs));
+    B::greater(fours, B::down_four(fours))
+}
+
+/// The greatest number.
+#[inline(always)]
+pub fn greatest_of<B: Block>(block: B) -> u64
+    requires { length (B.numbers block) ≡ 8 }
+    ensures { result ≡ greatest (B.numbers block) }
+{
+    let fours = B::greater(block, B::halves(block));
+    let pairs = B::greater(fours, B::quarters(fours));
+    B::first(B::greater(pairs, B::neighbours(pairs)))
+}
+
+/// The least number.
+#[inline(always)]
+pub fn least_of<B: Block>(block: B) -> u64
+    requires { length (B.numbers block) ≡ 8 }
+    ensures { result ≡ least_up_to B.GREATEST (B.numbers block) }
+{
+    let fours = B::lesser(block, B::halves(block));
+    let pairs = B::lesser(fours, B::quarters(fours));
+    B::first(B::lesser(pairs, B::neighbours(pairs)))
+}

@@ -1,3 +1,0 @@
-pub mod LineFaults
-pub mod CommandLine
-pub mod inner

@@ -1,0 +1,69 @@
+-- What the getters of clap's matches read, by the rows of the matches.
+use Rattle.std.specs.Str.Parse.{IsNumeral, digits_value, without_leading_plus}
+use Rattle.std.proofs.Common.{arith, ◌<◌, ◌^◌}
+use Rattle.std.proofs.Common.{◌≡◌, ◌∙◌, ℕ, sym, ap, subst, Option, Some, None, Bool, true, false, refl, codes}
+use Rattle.std.proofs.Common.{Result, Ok, Err, IfErr}
+use Rattle.std.specs.Result.{IsErrAnd}
+use Rattle.clap.specs.Words.{Text, first_value, one_of, one_text, rows_of}
+use Rattle.clap.specs.declared.parser.matches.Found.{Found}
+use Rattle.clap.proofs.WalkLemmas.{first_value-rows, one_text-rows}
+use Rattle.shop_program.specs.CommandLine.{HasText, HasNumber, HasFlag, MayHave, NumberIs, UnlessNoMemory}
+use Rattle.shop_program.specs.declared.line_faults.LineFault.{LineFault}
+use Rattle.shop_program.specs.declared.line_faults.LineFault.TheVariants.{NoMemory, Usage}
+
+pub has_text : (f : Found) (id read text : Text) → Some read ≡ first_value f id → read ≡ text → HasText
+    (rows_of f) id text
+has_text f id read text given is = sym (first_value-rows f id) ∙ (sym given ∙ ap Some is)
+
+pub may_have : (f : Found) (id : Text) (text : Option Text) → text ≡ first_value f id → MayHave (rows_of f) id text
+may_have f id text given = sym (first_value-rows f id) ∙ sym given
+
+pub has_number : (f : Found) (id : Text) (n : ℕ) → (one_text f id ≡ None → Some n ≡ None)
+    → ((t : Text) → one_text f id ≡ Some t → NumberIs t n) → HasNumber (rows_of f) id n
+has_number f id n none some = go (one_text f id) (sym (one_text-rows f id)) none some
+  where
+    go : (o : Option Text) → one_of id (rows_of f) ≡ o → (o ≡ None → Some n ≡ None)
+        → ((t : Text) → o ≡ Some t → NumberIs t n) → HasNumber (rows_of f) id n
+    go None e none some = absurd (let bad : Some n ≡ None = none refl in cc)
+    go (Some t) e none some = (t, e, some t refl)
+
+pub has_flag : (f : Found) (id : Text) (flag : Bool) → (one_text f id ≡ Some (codes "true") → flag ≡ true)
+    → (one_text f id ≡ Some (codes "false") → flag ≡ false) → HasFlag (rows_of f) id flag
+has_flag f id flag given absent = record {
+  given = λ e. given (one_text-rows f id ∙ e);
+  absent = λ e. absent (one_text-rows f id ∙ e);
+}
+
+-- ---- what isn't there
+
+-- a fault is want of memory, or P holds
+pub unless : (P : Type 0) (fault : LineFault) → P → UnlessNoMemory P fault
+unless P NoMemory p = tt
+unless P (Usage error) p = p
+
+pub no_value : (f : Found) (id text : Text) → first_value f id ≡ None → HasText (rows_of f) id text → ⊥
+no_value f id text none has = let e = first_value-rows f id in absurd cc
+
+pub other_value : (f : Found) (id read text : Text) → first_value f id ≡ Some read → (read ≡ text → ⊥)
+    → HasText (rows_of f) id text → ⊥
+other_value f id read text is differ has = let e = first_value-rows f id in differ cc
+
+-- no number that fits is read
+pub no_number : (f : Found) (id : Text) (n : ℕ)
+    → ((t : Text) → one_text f id ≡ Some t
+    → IsNumeral 10 (without_leading_plus t) × (digits_value 10 (without_leading_plus t) < 2 ^ 64) → ⊥)
+    → n < 2 ^ 64 → HasNumber (rows_of f) id n → ⊥
+no_number f id n unread fits has =
+    let is = has.2.1
+    in unread has.0 (one_text-rows f id ∙ has.1) (has.2.0, omega arith)
+
+-- what follows where it isn't want of memory
+pub weaker : (P Q : Type 0) → (P → Q) → (fault : LineFault) → UnlessNoMemory P fault → UnlessNoMemory Q fault
+weaker P Q f NoMemory h = tt
+weaker P Q f (Usage error) h = f h
+
+-- a fault that is passed on
+pub passed_on : {T : Type 0} (P Q : Type 0) (r : Result T LineFault) (fault : LineFault) → (P → Q)
+    → UnlessNoMemory P fault → IsErrAnd r (λ e. e ≡ fault) → IfErr r (UnlessNoMemory Q)
+passed_on P Q (Ok t) fault h p is = tt
+passed_on P Q (Err e) fault h p is = subst (UnlessNoMemory Q) (sym is) (weaker P Q h fault p)

@@ -1,0 +1,121 @@
+-- A line is what its subcommand's matches say.
+use Rattle.std.proofs.Common.{◌≡◌, ◌∙◌, sym, ap, subst, refl, Option, Some, None, List, Bool, true, false, inl, inr}
+use Rattle.std.specs.Prelude.{option_map}
+use Rattle.clap.specs.Words.{HasMatchesOf, Row, Text, app_of, is_simple, subcommand_name_of}
+use Rattle.clap.specs.Words.{subcommand_of, subcommand_rows_of, takes}
+use Rattle.clap.specs.Values.{kind_of}
+use Rattle.clap.specs.declared.error.Error.{Error}
+use Rattle.clap.specs.declared.error.kind.ErrorKind.{ErrorKind}
+use Rattle.clap.specs.declared.error.kind.ErrorKind.TheVariants.{OutOfMemory}
+use Rattle.clap.specs.declared.builder.command.Command.{Command}
+use Rattle.clap.specs.declared.builder.value_parser.ValueParser.{ValueParser}
+use Rattle.clap.specs.declared.parser.matches.ArgMatches.{ArgMatches}
+use Rattle.clap.proofs.OnLiterals.{clap_on_literals}
+use Rattle.shop_program.specs.CommandLine.{IsArgs, IsCommandLine, IsLineOf, IsUnread, UnlessNoMemory, command_line}
+use Rattle.shop_program.specs.LineFaults.{line_fault_by, line_fault_of}
+use Rattle.shop_program.proofs.Getters.{unless}
+use Rattle.shop_program.proofs.Refusals.{NoArgs}
+use Rattle.shop_program.specs.declared.arguments.Args.{Args}
+
+line_simple : (formats orders : ValueParser) → is_simple (command_line formats orders) ≡ true
+unfolding clap_on_literals
+line_simple formats orders = refl
+
+pair : (n m : Text) (r t : List Row) → n ≡ m → r ≡ t → let p : Text × List Row = (n, r) in let q : Text × List
+    Row = (m, t) in p ≡ q
+pair n m r t e f = λ i. (e i, f i)
+
+-- a name beside rows
+abbrev beside : {B : Type 0} → (B → Text) → (B → List Row) → B → Text × List Row
+beside name_in rows_in b = (name_in b, rows_in b)
+
+-- a name and rows that are told apart are told together
+together : {B : Type 0} (name_in : B → Text) (rows_in : B → List Row) (sub : Option B) (name : Text) (rows : List Row)
+    → Some name ≡ option_map name_in sub → Some rows ≡ option_map (λ (p : Text × List Row). p.1) (option_map
+    (beside name_in rows_in) sub)
+    → option_map (beside name_in rows_in) sub ≡ Some (name, rows)
+together name_in rows_in None name rows is has = absurd (cc)
+together name_in rows_in (Some b) name rows is has =
+    let first : name_in b ≡ name = cc in
+    let second : rows_in b ≡ rows = cc in
+    ap Some (pair (name_in b) name (rows_in b) rows first second)
+
+-- a parse reads what the matches have
+read_of : (words : List Text) (matches : ArgMatches) (command : Command) (sub : Option (Text × List Row))
+    (line : IsCommandLine command) → HasMatchesOf (app_of command) words matches → subcommand_rows_of matches ≡ sub
+    → subcommand_of (command_line line.0 line.1) words ≡ sub
+read_of words matches command sub line has entered =
+    let simple : is_simple (app_of command) ≡ true = ap is_simple line.4.0 ∙ line_simple line.0 line.1 in
+    ap (λ a. subcommand_of a words) (sym line.4.0) ∙ (sym (has simple).1 ∙ entered)
+
+pub line_of : (words : List Text) (matches : ArgMatches) (command : Command) (args : Args) (name : Text) (rows
+    : List Row)
+    → IsCommandLine command → HasMatchesOf (app_of command) words matches
+    → Some name ≡ subcommand_name_of matches → Some rows ≡ option_map (λ (p : Text × List Row). p.1)
+    (subcommand_rows_of matches)
+    → IsArgs name rows args → IsLineOf words args
+line_of words matches command args name rows line has is of given =
+    let entered : subcommand_rows_of matches ≡ Some (name, rows) = together _ _ _ name rows is of in
+    let read : subcommand_of (command_line line.0 line.1) words ≡ Some (name, rows) =
+    read_of words matches command (Some (name, rows)) line has entered in
+    (line.0, line.1, line.2, line.3, ((name, rows), read, given))
+
+-- ---- lines that are refused
+
+unread_by : (words : List Text) (matches : ArgMatches) (command : Command) (sub : Option (Text × List Row))
+    → IsCommandLine command → HasMatchesOf (app_of command) words matches → subcommand_rows_of matches ≡ sub
+    → ((args : Args) (m : Text × List Row) → sub ≡ Some m → IsArgs m.0 m.1 args → ⊥) → IsUnread words
+unread_by words matches command sub line has entered none = record {
+  formats = line.0;
+  orders = line.1;
+  of_formats = line.2;
+  of_orders = line.3;
+  unread = inr (λ args by. none args by.0 (sym (read_of words matches command sub line has entered) ∙ by.1) by.2);
+}
+
+of_some : {A : Type 0} (x y : A) → Some x ≡ Some y → x ≡ y
+of_some x y e = cc
+
+-- the subcommand's matches are of no arguments
+pub unread_of : (words : List Text) (matches : ArgMatches) (command : Command) (name : Text) (rows : List Row)
+    → IsCommandLine command → HasMatchesOf (app_of command) words matches
+    → Some name ≡ subcommand_name_of matches → Some rows ≡ option_map (λ (p : Text × List Row). p.1)
+    (subcommand_rows_of matches)
+    → NoArgs name rows → IsUnread words
+unread_of words matches command name rows line has is of none =
+    let entered : subcommand_rows_of matches ≡ Some (name, rows) = together _ _ _ name rows is of in
+    unread_by words matches command (Some (name, rows)) line has entered
+    (λ args m e given. none args (subst (λ (p : Text × List Row). IsArgs p.0 p.1 args) (sym (of_some _ m e)) given))
+
+none_of : (sub : Option (Text × List Row)) → None ≡ option_map (λ (p : Text × List Row). p.1) sub → sub ≡ None
+none_of None e = refl
+none_of (Some p) e = absurd cc
+
+-- there is no subcommand
+pub unread_without : (words : List Text) (matches : ArgMatches) (command : Command)
+    → IsCommandLine command → HasMatchesOf (app_of command) words matches
+    → None ≡ option_map (λ (p : Text × List Row). p.1) (subcommand_rows_of matches) → IsUnread words
+unread_without words matches command line has none =
+    unread_by words matches command None line has (none_of (subcommand_rows_of matches) none)
+    (λ args m e given. absurd cc)
+
+by_kind : (P : Type 0) (fault : Error) (kind : ErrorKind) (taken : Bool) → (taken ≡ false → P)
+    → (taken ≡ true → kind ≡ OutOfMemory) → UnlessNoMemory P (line_fault_by kind fault)
+by_kind P fault kind false p memory = unless P (line_fault_by kind fault) (p refl)
+by_kind P fault kind true p memory =
+    subst (λ (k : ErrorKind). UnlessNoMemory P (line_fault_by k fault)) (sym (memory refl)) tt
+
+-- clap doesn't take the words
+pub untaken : (words : List Text) (command : Command) (fault : Error) → IsCommandLine command
+    → (takes (app_of command) words ≡ true → kind_of fault ≡ OutOfMemory)
+    → UnlessNoMemory (IsUnread words) (line_fault_of fault)
+untaken words command fault line passes =
+    by_kind (IsUnread words) fault (kind_of fault) (takes (app_of command) words)
+    (λ refused. record {
+      formats = line.0;
+      orders = line.1;
+      of_formats = line.2;
+      of_orders = line.3;
+      unread = inl (ap (λ a. takes a words) (sym line.4.0) ∙ refused);
+    })
+    passes

@@ -1,0 +1,244 @@
+// The command line as clap's builder makes it.
+ghost use Rattle.std.specs.Prelude.{◌≡◌, IfOk, codes, false};
+ghost use Rattle.clap.specs.Words.{app_of, new_app};
+ghost use Rattle.clap.specs.declared.builder.command.Command.TheViews.{out-Command};
+ghost use Rattle.clap.specs.declared.builder.value_parser.ValueParser.TheVariants.{Names};
+ghost use Rattle.shop_program.specs.CommandLine.{option_rule, choice_rule, format_rule, number_rule};
+ghost use Rattle.shop_program.specs.CommandLine.{flag_rule, path_rule};
+ghost use Rattle.shop_program.specs.CommandLine.{IsCommandOf, IsCommandLine};
+ghost use Rattle.shop_program.specs.inner.Arguments.{IsArgOf};
+ghost use Rattle.shop_program.specs.CommandLine.{list_command, check_command, solve_command};
+ghost use Rattle.shop_program.specs.CommandLine.{with_plan_rules, IsChoice, format_words, order_words};
+
+use crate::help::{CHECK, Help, LIST, PROGRAM, SOLVE};
+use clap::builder::ValueParser;
+use clap::{Arg, ArgAction, Command};
+use shop_runs::{MAX_BUDGET, MAX_PIECE, MAX_ROUNDS, MAX_WORKERS};
+use shop_text::FORMAT_WORDS;
+use std::alloc::{AllocError, Global};
+
+/// The orders in which a round takes the open nodes.
+static ORDERS: [&str; 2] = ["kept", "bound"];
+
+/// A command without arguments, of this name and with this help.
+fn described<'a>(alloc: Global, name: &'a str, help: &Help) -> Command<'a>
+    ensures { IsCommandOf (new_app name.entry.now) result }
+{
+    Command::new(alloc, name)
+        .about(help.about)
+        .after_help(help.end)
+}
+
+/// An option that takes a value.
+fn option<'a>(alloc: Global, id: &'a str, value: &'a str, help: &'a str) -> Arg<'a>
+    ensures { IsArgOf (option_rule id.entry.now) result }
+{
+    Arg::new(alloc, id).long(id).value_name(value).help(help)
+}
+
+/// An option that takes a number from `least` to `most`, by default this one.
+fn number<'a>(
+    alloc: Global,
+    id: &'a str,
+    help: &'a str,
+    least: u64,
+    most: u64,
+    default: &'a str,
+) -> Arg<'a>
+    ensures { IsArgOf (number_rule id.entry.now least most default.entry.now) result }
+{
+    option(alloc, id, "N", help)
+        .value_parser(ValueParser::unsigned(least, most))
+        .default_value(default)
+}
+
+/// An option that takes one of some words, by default this one.
+fn choice<'a>(
+    alloc: Global,
+    id: &'a str,
+    value: &'a str,
+    help: &'a str,
+    words: &'a [&'a str],
+    default: &'a str,
+) -> Arg<'a>
+    ensures { IsArgOf (choice_rule id.entry.now (Names words.entry) default.entry.now) result }
+{
+    option(alloc, id, value, help)
+        .value_parser(words)
+        .default_value(default)
+}
+
+/// A flag.
+fn flag<'a>(alloc: Global, id: &'a str, help: &'a str) -> Arg<'a>
+    ensures { IsArgOf (flag_rule id.entry.now) result }
+{
+    Arg::new(alloc, id)
+        .long(id)
+        .action(ArgAction::SetTrue)
+        .help(help)
+}
+
+/// A path that may be given.
+fn path<'a>(alloc: Global, id: &'a str, help: &'a str) -> Arg<'a>
+    ensures { IsArgOf (path_rule id.entry.now) result }
+{
+    Arg::new(alloc, id).value_name(id).help(help)
+}
+
+/// `--format`, which takes one of these words.
+fn format<'a>(alloc: Global, formats: &'a [&'a str]) -> Arg<'a>
+    ensures { IsArgOf (format_rule (Names formats.entry)) result }
+{
+    choice(
+        alloc,
+        "format",
+        "F",
+        "How the instance text is written: as OR-Library's jobshop1, as Taillard's texts, or as routes with releases",
+        formats,
+        "orlib",
+    )
+}
+
+fn name<'a>(alloc: Global) -> Arg<'a>
+    ensures { IsArgOf (option_rule (codes "name")) result }
+{
+    option(
+        alloc,
+        "name",
+        "N",
+        "The instance of this name; without it the first one",
+    )
+}
+
+fn file<'a>(alloc: Global) -> Arg<'a>
+    ensures { IsArgOf (path_rule (codes "FILE")) result }
+{
+    path(
+        alloc,
+        "FILE",
+        "The text of the instances; without it standard input",
+    )
+}
+
+/// `list`: the instances of a text.
+fn list<'a>(alloc: Global, formats: &'a [&'a str]) -> Result<Command<'a>, AllocError>
+    ensures { IfOk result (IsCommandOf (list_command (Names formats.entry))) }
+{
+    described(alloc, "list", &LIST)
+        .arg(format(alloc, formats))?
+        .arg(file(alloc))
+}
+
+/// `check`: judges a schedule.
+fn check<'a>(alloc: Global, formats: &'a [&'a str]) -> Result<Command<'a>, AllocError>
+    ensures { IfOk result (IsCommandOf (check_command (Names formats.entry))) }
+{
+    described(alloc, "check", &CHECK)
+        .arg(format(alloc, formats))?
+        .arg(name(alloc))?
+        .arg(file(alloc))?
+        .arg(path(
+            alloc,
+            "SCHEDULE",
+            "The schedule; without it the text of the instance has its lines",
+        ))
+}
+
+/// A command with the options of a plan: rounds, budget, piece and order.
+fn with_plan<'a>(
+    alloc: Global,
+    command: Command<'a>,
+    orders: &'a [&'a str],
+) -> Result<Command<'a>, AllocError>
+    requires { (out-Command command).has_globals ≡ false }
+    ensures { IfOk result (IsCommandOf
+        (with_plan_rules (Names orders.entry) (app_of command.entry))) }
+{
+    command
+        .arg(number(
+            alloc,
+            "rounds",
+            "At most so many rounds, 0 to 100000; more may end lower and take longer",
+            0,
+            MAX_ROUNDS,
+            "1000",
+        ))?
+        .arg(number(
+            alloc,
+            "budget",
+            "Nodes that the search of a piece takes before it leaves the rest open, 1 to 10000000",
+            1,
+            MAX_BUDGET,
+            "100000",
+        ))?
+        .arg(number(
+            alloc,
+            "piece",
+            "Open nodes in a piece, 1 to 1000; a round searches at most 256 pieces",
+            1,
+            MAX_PIECE as u64,
+            "1",
+        ))?
+        .arg(choice(
+            alloc,
+            "order",
+            "O",
+            "Which open nodes a round takes first: as they were kept, or those of least lower bound",
+            orders,
+            "kept",
+        ))
+}
+
+/// `solve`: searches a least makespan.
+fn solve<'a>(
+    alloc: Global,
+    formats: &'a [&'a str],
+    orders: &'a [&'a str],
+) -> Result<Command<'a>, AllocError>
+    ensures { IfOk result (IsCommandOf (solve_command (Names formats.entry) (Names orders.entry))) }
+{
+    let command = described(alloc, "solve", &SOLVE)
+        .arg(format(alloc, formats))?
+        .arg(name(alloc))?;
+    with_plan(alloc, command, orders)?
+        .arg(number(
+            alloc,
+            "workers",
+            "Threads that search side by side, 1 to 64; the report is the same for any number",
+            1,
+            MAX_WORKERS as u64,
+            "1",
+        ))?
+        .arg(flag(
+            alloc,
+            "gantt",
+            "Draws the schedule below the report: a line for each machine",
+        ))?
+        .arg(file(alloc))
+}
+
+/// The words of the formats.
+fn format_choices<'a>() -> &'a [&'a str]
+    ensures { IsChoice format_words (Names result) }
+{
+    FORMAT_WORDS.as_slice()
+}
+
+/// The words of the orders.
+fn order_choices<'a>() -> &'a [&'a str]
+    ensures { IsChoice order_words (Names result) }
+{
+    ORDERS.as_slice()
+}
+
+/// The whole command line. Fails with `AllocError` if memory runs out.
+pub fn command<'a>(alloc: Global) -> Result<Command<'a>, AllocError>
+    ensures { IfOk result IsCommandLine }
+{
+    let formats = format_choices();
+    described(alloc, "jobshop", &PROGRAM)
+        .subcommand_required(true)
+        .subcommand(list(alloc, formats)?)?
+        .subcommand(check(alloc, formats)?)?
+        .subcommand(solve(alloc, formats, order_choices())?)
+}

@@ -1,0 +1,78 @@
+// The values that clap's matches have.
+ghost use Rattle.std.specs.Prelude.{◌≡◌, ◌<◌, ◌^◌, ℕ, IfOk, IfErr, option_map, string_bytes};
+ghost use Rattle.clap.specs.Words.{found_of, rows_of};
+ghost use Rattle.shop_text.specs.Formats.{word_of};
+ghost use Rattle.shop_program.specs.CommandLine.{HasText, HasNumber, HasFlag, MayHave, order_word};
+ghost use Rattle.shop_program.specs.CommandLine.{UnlessNoMemory};
+ghost use Rattle.shop_text.specs.declared.formats.Format.{Format};
+ghost use Rattle.shop_runs.specs.declared.plans.Order.{Order};
+ghost use Rattle.std.specs.Prelude.{codes};
+
+use crate::line_faults::{LineFault, misread};
+use clap::ArgMatches;
+use shop_runs::Order;
+use shop_text::Format;
+use std::alloc::{AllocError, Global};
+
+/// The format.
+pub fn format_in(alloc: Global, found: &ArgMatches) -> Result<Format, LineFault>
+    ensures ok { IfOk result (λ format.
+        HasText (rows_of (found_of found.now)) (codes "format") (word_of format)) }
+    ensures err { IfErr result (UnlessNoMemory ((format : Format)
+        → HasText (rows_of (found_of found.now)) (codes "format") (word_of format) → ⊥)) }
+{
+    let Some(word) = found.get_str("format") else {
+        return Err(misread(alloc));
+    };
+    match Format::of_word(word) {
+        Some(format) => Ok(format),
+        None => Err(misread(alloc)),
+    }
+}
+
+/// The order.
+pub fn order_in(alloc: Global, found: &ArgMatches) -> Result<Order, LineFault>
+    ensures ok { IfOk result (λ order.
+        HasText (rows_of (found_of found.now)) (codes "order") (order_word order)) }
+    ensures err { IfErr result (UnlessNoMemory ((order : Order)
+        → HasText (rows_of (found_of found.now)) (codes "order") (order_word order) → ⊥)) }
+{
+    let Some(word) = found.get_str("order") else {
+        return Err(misread(alloc));
+    };
+    match word {
+        "kept" => Ok(Order::Kept),
+        "bound" => Ok(Order::Bound),
+        _ => Err(misread(alloc)),
+    }
+}
+
+/// A number.
+pub fn number_in(alloc: Global, found: &ArgMatches, id: &str) -> Result<u64, LineFault>
+    ensures ok { IfOk result (HasNumber (rows_of (found_of found.now)) id.now) }
+    ensures err { IfErr result (UnlessNoMemory ((n : ℕ) → n < 2 ^ 64
+        → HasNumber (rows_of (found_of found.now)) id.now n → ⊥)) }
+{
+    match found.get_one::<u64>(id) {
+        Some(number) => Ok(number),
+        None => Err(misread(alloc)),
+    }
+}
+
+/// A flag.
+pub fn flag_in(found: &ArgMatches, id: &str) -> bool
+    ensures { HasFlag (rows_of (found_of found.now)) id.now result }
+{
+    found.get_flag(id)
+}
+
+/// A text that may be missing. Fails with `AllocError` if memory runs out.
+pub fn text_in(alloc: Global, found: &ArgMatches, id: &str) -> Result<Option<String>, AllocError>
+    ensures { IfOk result (λ text.
+        MayHave (rows_of (found_of found.now)) id.now (option_map string_bytes text)) }
+{
+    match found.get_str(id) {
+        Some(text) => Ok(Some(text.to_string(alloc)?)),
+        None => Ok(None),
+    }
+}

@@ -1,0 +1,112 @@
+// From the words of a command line to its arguments.
+ghost use Rattle.std.specs.Prelude.{IfOk, IfErr, map, codes, string_bytes};
+ghost use Rattle.clap.specs.Words.{found_of, rows_of};
+ghost use Rattle.shop_program.specs.CommandLine.{IsArgs, IsLineOf, IsUnread, HasPlan};
+ghost use Rattle.shop_program.specs.CommandLine.{UnlessNoMemory};
+ghost use Rattle.shop_program.specs.declared.arguments.Args.{Args};
+ghost use Rattle.shop_runs.specs.declared.plans.Plan.{Plan};
+
+use crate::arguments::Args;
+use crate::command_line::command;
+use crate::line_faults::{LineFault, misread};
+use crate::matches::{flag_in, format_in, number_in, order_in, text_in};
+use clap::ArgMatches;
+use shop_engine::{CheckArgs, ListArgs, SolveArgs};
+use shop_runs::{Plan, Workers};
+use std::alloc::Global;
+
+/// The arguments of `list`.
+fn list_args(alloc: Global, found: &ArgMatches) -> Result<Args, LineFault>
+    ensures ok { IfOk result (IsArgs (codes "list") (rows_of (found_of found.now))) }
+    ensures err { IfErr result (UnlessNoMemory ((args : Args)
+        → IsArgs (codes "list") (rows_of (found_of found.now)) args → ⊥)) }
+{
+    let args = ListArgs {
+        format: format_in(alloc, found)?,
+    };
+    let file = text_in(alloc, found, "FILE")?;
+    Ok(Args::List { args, file })
+}
+
+/// The arguments of `check`.
+fn check_args(alloc: Global, found: &ArgMatches) -> Result<Args, LineFault>
+    ensures ok { IfOk result (IsArgs (codes "check") (rows_of (found_of found.now))) }
+    ensures err { IfErr result (UnlessNoMemory ((args : Args)
+        → IsArgs (codes "check") (rows_of (found_of found.now)) args → ⊥)) }
+{
+    let args = CheckArgs {
+        format: format_in(alloc, found)?,
+        name: text_in(alloc, found, "name")?,
+    };
+    let file = text_in(alloc, found, "FILE")?;
+    let schedule = text_in(alloc, found, "SCHEDULE")?;
+    Ok(Args::Check {
+        args,
+        file,
+        schedule,
+    })
+}
+
+/// The plan of `solve`.
+fn plan_in(alloc: Global, found: &ArgMatches) -> Result<Plan, LineFault>
+    ensures ok { IfOk result (HasPlan (rows_of (found_of found.now))) }
+    ensures err { IfErr result (UnlessNoMemory ((plan : Plan)
+        → HasPlan (rows_of (found_of found.now)) plan → ⊥)) }
+{
+    let rounds = number_in(alloc, found, "rounds")?;
+    let budget = number_in(alloc, found, "budget")?;
+    let piece = number_in(alloc, found, "piece")? as usize;
+    let order = order_in(alloc, found)?;
+    match Plan::ordered(rounds, budget, piece, order) {
+        Some(plan) => Ok(plan),
+        None => Err(misread(alloc)),
+    }
+}
+
+/// The arguments of `solve`.
+fn solve_args(alloc: Global, found: &ArgMatches) -> Result<Args, LineFault>
+    ensures ok { IfOk result (IsArgs (codes "solve") (rows_of (found_of found.now))) }
+    ensures err { IfErr result (UnlessNoMemory ((args : Args)
+        → IsArgs (codes "solve") (rows_of (found_of found.now)) args → ⊥)) }
+{
+    let format = format_in(alloc, found)?;
+    let plan = plan_in(alloc, found)?;
+    let workers = number_in(alloc, found, "workers")? as usize;
+    let gantt = flag_in(found, "gantt");
+    let name = text_in(alloc, found, "name")?;
+    let file = text_in(alloc, found, "FILE")?;
+    let Some(workers) = Workers::new(workers) else {
+        return Err(misread(alloc));
+    };
+    let args = SolveArgs {
+        format,
+        name,
+        plan,
+        gantt,
+    };
+    Ok(Args::Solve {
+        args,
+        workers,
+        file,
+    })
+}
+
+/// What a command line asks for, whose words begin with the program's name: the command, and the values that clap reads
+/// of the words, each number within its limits.
+///
+/// Refused as `NoMemory` if memory runs out, or as `Usage` with clap's fault; a call for help is one too.
+pub fn args_of(alloc: Global, words: &[String]) -> Result<Args, LineFault>
+    ensures ok { IfOk result (IsLineOf (map string_bytes words.now)) }
+    ensures err { IfErr result (UnlessNoMemory (IsUnread (map string_bytes words.now))) }
+{
+    let matches = command(alloc)?.try_get_matches_from(words)?;
+    let Some((name, found)) = matches.subcommand() else {
+        return Err(misread(alloc));
+    };
+    match name {
+        "list" => list_args(alloc, found),
+        "check" => check_args(alloc, found),
+        "solve" => solve_args(alloc, found),
+        _ => Err(misread(alloc)),
+    }
+}

@@ -1,0 +1,68 @@
+// What goes to standard error. Saying takes no memory, so a fault is said also where memory has run out.
+ghost use Rattle.std.specs.Prelude.{◌≡◌};
+ghost use Rattle.shop_program.specs.Statuses.{status_of, status_of_line};
+
+use crate::line_faults::LineFault;
+use crate::statuses::{COMMAND_LINE, NO_MEMORY, status_of_fault};
+use shop_engine::{Fault, Sink, write_all};
+use shop_text::ReadFault;
+use std::fmt;
+use std::fmt::{Display, Write};
+
+/// A sink that takes each piece of a text as it is formatted.
+#[derive(Drop)]
+struct Pieces<'s, K: Sink> {
+    sink: &'s mut K,
+}
+
+impl<K: Sink> Write for Pieces<'_, K> {
+    fn write_str(&mut self, piece: &str) -> fmt::Result {
+        match write_all(self.sink, piece.as_bytes()) {
+            Ok(()) => Ok(()),
+            Err(_) => Err(fmt::Error),
+        }
+    }
+}
+
+/// Says a text, as far as the sink takes it.
+fn say<K: Sink, D: Display + Drop>(err: &mut K, text: D) {
+    let mut pieces = Pieces { sink: err };
+    let _ = write!(pieces, "{text}");
+}
+
+/// Says a fault on one line. The exit status.
+pub fn say_fault<K: Sink>(err: &mut K, fault: Fault) -> u8
+    ensures { result ≡ status_of fault }
+{
+    say(err, fault);
+    say(err, "\n");
+    status_of_fault(&fault)
+}
+
+/// Says that memory ran out. The exit status.
+pub fn say_no_memory<K: Sink>(err: &mut K) -> u8
+    ensures { result ≡ 5 }
+{
+    say_fault(err, Fault::Text(ReadFault::NoMemory))
+}
+
+/// Says that a word of the command line isn't text. The exit status.
+pub fn say_no_text<K: Sink>(err: &mut K) -> u8
+    ensures { result ≡ 2 }
+{
+    say(err, "error: a word of the command line isn't UTF-8\n");
+    COMMAND_LINE
+}
+
+/// Says clap's text of a fault of the command line, or that memory ran out. The exit status.
+pub fn say_line_fault<K: Sink>(err: &mut K, fault: LineFault) -> u8
+    ensures { result ≡ status_of_line fault }
+{
+    match fault {
+        LineFault::NoMemory => say_no_memory(err),
+        LineFault::Usage(usage) => {
+            say(err, usage);
+            COMMAND_LINE
+        }
+    }
+}

@@ -1,0 +1,44 @@
+// The crew of the calling thread alone.
+ghost use Rattle.std.specs.Prelude.{IfOk};
+ghost use Rattle.shop_runs.specs.Entries.{told};
+ghost use Rattle.shop_runs.specs.Crews.{OneForEach, StopsAtHit};
+
+use crate::piece_searchers::PieceSearcher;
+use shop_runs::{Crew, Entry, Round};
+use shop_workers::{PieceSearch, search_up_to_hit};
+use std::alloc::{AllocError, Global};
+
+/// Searches the pieces in order, on the calling thread, and passes those behind the first that ends
+/// at the opening bound.
+#[derive(Clone, Copy)]
+pub struct Alone;
+
+impl Alone {
+    /// One entry for each piece, in number order: the pieces are searched up to and with the first
+    /// that ends at the opening bound, and each behind it is passed by that one. Fails with
+    /// `AllocError` if memory runs out.
+    pub fn search_round<'r>(
+        self,
+        alloc: Global,
+        round: &'r Round<'r>,
+    ) -> Result<Vec<Entry<'r>>, AllocError>
+        ensures entries { IfOk result (λ v. OneForEach (told round.now) v.items) }
+        ensures stops { IfOk result (λ v. StopsAtHit (told round.now) v.items) }
+    {
+        let mut searcher = PieceSearcher::over(round);
+        search_up_to_hit(alloc, &mut searcher)
+    }
+}
+
+impl<R> Crew<R> for Alone {
+    ghost ready = { Unit {0} };
+
+    fn search<'r>(
+        &mut self,
+        _rt: &R,
+        alloc: Global,
+        round: &'r Round<'r>,
+    ) -> Result<Vec<Entry<'r>>, AllocError> {
+        self.search_round(alloc, round)
+    }
+}

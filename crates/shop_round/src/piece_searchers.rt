@@ -1,0 +1,105 @@
+// The search of single pieces of a round.
+ghost use Rattle.std.specs.Prelude.{◌≡◌, ◌<◌, length, IfOk, OnOk, IfSome};
+ghost use Rattle.shop_runs.specs.Entries.{told, IsOf, TellsHit};
+
+use shop_nodes::Sheet;
+use shop_runs::Round;
+use shop_tree::{Searcher, search};
+use shop_workers::PieceSearch;
+use std::alloc::{AllocError, Global};
+use std::marker::Model;
+
+/// The sheet of a piece of the round, by a searcher for its instance. Fails with `AllocError` if memory runs out.
+pub fn search_piece_with<'r>(
+    alloc: Global,
+    searcher: &mut Searcher<'_, 'r>,
+    round: &'r Round<'r>,
+    number: usize,
+) -> Result<Sheet<'r>, AllocError>
+    requires piece { number < length round.now.pieces.items }
+    requires instance { searcher.old ≡ round.now.instance.now }
+    ensures of { IfOk result (λ s. IsOf (told round.now) s × (s.number ≡ number)) }
+    ensures hit { IfOk result (λ s. TellsHit (told round.now) number s) }
+    ensures instance { OnOk result (searcher.new ≡ round.now.instance.now) }
+{
+    searcher.search(alloc, &round.pieces[number], round.best, round.budget)
+}
+
+/// The sheet of a piece of the round, by a search and a layout of its own. Who searches several pieces keeps a searcher
+/// over the round's layout (`PieceSearcher`). Fails with `AllocError` if memory runs out.
+pub fn search_piece<'r>(
+    alloc: Global,
+    round: &'r Round<'r>,
+    number: usize,
+) -> Result<Sheet<'r>, AllocError>
+    requires { number < length round.now.pieces.items }
+    ensures of { IfOk result (λ s. IsOf (told round.now) s × (s.number ≡ number)) }
+    ensures hit { IfOk result (λ s. TellsHit (told round.now) number s) }
+{
+    let piece = &round.pieces[number];
+    search(alloc, round.instance, piece, round.best, round.budget)
+}
+
+// The same by the searcher that is kept. Where there is none, a new one over the round's layout is made and kept.
+fn search_kept<'r>(
+    alloc: Global,
+    kept: &mut Option<Searcher<'r, 'r>>,
+    round: &'r Round<'r>,
+    number: usize,
+) -> Result<Sheet<'r>, AllocError>
+    requires piece { number < length round.now.pieces.items }
+    requires kept { IfSome kept.old (λ shop. shop ≡ round.now.instance.now) }
+    ensures of { IfOk result (λ s. IsOf (told round.now) s × (s.number ≡ number)) }
+    ensures hit { IfOk result (λ s. TellsHit (told round.now) number s) }
+    ensures kept { OnOk result (IfSome kept.new (λ shop. shop ≡ round.now.instance.now)) }
+{
+    if let Some(searcher) = kept {
+        return search_piece_with(alloc, searcher, round, number);
+    }
+    let mut searcher = Searcher::over(alloc, round.instance, round.layout())?;
+    let sheet = search_piece_with(alloc, &mut searcher, round, number)?;
+    *kept = Some(searcher);
+    Ok(sheet)
+}
+
+/// Searches pieces of a round, one after the other, over the round's layout. What a search needs beside it is made for
+/// the first piece, and kept. To contracts it is the round.
+#[derive(Drop)]
+pub struct PieceSearcher<'r> {
+    round: &'r Round<'r>,
+    searcher: Option<Searcher<'r, 'r>>,
+}
+
+impl<'r> Model for PieceSearcher<'r> {
+    ghost use Rattle.std.specs.Prelude.{◌≡◌, IfSome};
+    ghost use Rattle.shop_runs.specs.declared.rounds.Round.{Round};
+
+    ghost Value = { Round };
+
+    ghost view = { λ s. s.round.now };
+
+    ghost invariant = { λ s. IfSome s.searcher (λ shop. shop ≡ s.round.now.instance.now) };
+}
+
+impl<'r> PieceSearch<'r> for PieceSearcher<'r> {
+    ghost searched = { λ round. round };
+
+    fn over(round: &'r Round<'r>) -> PieceSearcher<'r> {
+        PieceSearcher {
+            round,
+            searcher: None,
+        }
+    }
+
+    fn round(&self) -> &'r Round<'r> {
+        self.round
+    }
+
+    fn search(&mut self, alloc: Global, number: usize) -> Result<Sheet<'r>, AllocError> {
+        let sheet = search_kept(alloc, &mut self.searcher, self.round, number);
+        if sheet.is_err() {
+            self.searcher = None;
+        }
+        sheet
+    }
+}

@@ -1,0 +1,55 @@
+-- How far the rounds done and the nodes counted rise in a round.
+use Rattle.std.proofs.Common.{◌≡◌, ℕ, zero, suc, ◌+◌, ◌*◌, ◌≤◌, Bool, true, false, Option, Some, None, List, [], ◌∷◌}
+use Rattle.std.proofs.Common.{length, refl, ap, arith, eqb}
+use Rattle.std.specs.List.{sum_by}
+use Rattle.std.proofs.lemmas.List.{length-map}
+use Rattle.std.proofs.lemmas.List.Sums.{sum_by-cons}
+use Rattle.shop_nodes.specs.Walking.{Walk}
+use Rattle.shop_runs.specs.Round.{Told, taken_of, hit_or, up_to_hit, after_round, sheet_in, sheets_of}
+use Rattle.shop_runs.specs.Laws.{CountsStaySmall}
+
+taken-le : (budget : ℕ) (ss : List Walk) → sum_by (taken_of budget) ss ≤ length ss * budget
+taken-le budget [] = omega arith
+taken-le budget (s ∷ ss) =
+    let a = sum_by-cons (taken_of budget) s ss in let b = taken-le budget ss
+    in let e : suc (length ss) * budget ≡ budget + length ss * budget = omega arith in omega arith
+
+times-le : (m n b : ℕ) → m ≤ n → m * b ≤ n * b
+times-le zero n b h = omega arith
+times-le (suc m) zero b h = absurd (omega arith)
+times-le (suc m) (suc n) b h = let a = times-le m n b (omega arith) in let e : suc m * b ≡ b + m * b = omega arith
+    in let f : suc n * b ≡ b + n * b = omega arith in omega arith
+
+-- those counted up to a hit are no more than all
+few_counted : (c : ℕ) (n : ℕ) (ss : List Walk) (o : Option (Walk × List Walk)) → Type 0
+few_counted c n ss None = Unit {0}
+few_counted c n ss (Some (h, counted)) = length counted ≤ n
+
+module _ where
+  counted-le : (c : ℕ) (ss : List Walk) → few_counted c (length ss) ss (up_to_hit c ss)
+  unfolding few_counted
+  counted-le c [] = tt
+  counted-le c (s ∷ ss) = step (eqb s.best c) (up_to_hit c ss) (counted-le c ss)
+    where
+      step : (t : Bool) (o : Option (Walk × List Walk)) → few_counted c (length ss) ss o
+          → few_counted c (suc (length ss)) (s ∷ ss) (hit_or t s o)
+      step true o h = omega arith
+      step false None h = tt
+      step false (Some (k, counted)) h = omega arith
+
+  after_le : (r : Told) (ss : List Walk) (o : Option (Walk × List Walk)) → few_counted r.bound (length ss) ss o
+      → ((after_round r ss o).rounds ≡ r.rounds + 1) × ((after_round r ss o).nodes ≤ r.nodes + length ss * r.budget)
+  unfolding few_counted
+  after_le r ss None h = (refl, (let a = taken-le r.budget ss in omega arith))
+  after_le r ss (Some (k, counted)) h = (
+    refl,
+    (let a = taken-le r.budget counted in let b = times-le (length counted) (length ss) r.budget h
+        in omega arith),
+  )
+
+pub counts_small : CountsStaySmall
+counts_small r =
+    let a = after_le r (sheets_of r) (up_to_hit r.bound (sheets_of r)) (counted-le r.bound (sheets_of r))
+    in let b : length (sheets_of r) ≡ length r.pieces = length-map r.pieces (sheet_in r)
+    in let c : length (sheets_of r) * r.budget ≡ length r.pieces * r.budget = ap (λ n. n * r.budget) b
+    in (a.0, (let d = a.1 in omega arith))

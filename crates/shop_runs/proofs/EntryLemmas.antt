@@ -1,0 +1,106 @@
+-- The entries of a round, in number order.
+use Rattle.std.proofs.Common.{◌≡◌, ℕ, zero, suc, ◌<◌, true, false, Global, Vec, vec_len, Option, Some, None, List, []}
+use Rattle.std.proofs.Common.{◌∷◌, length, get_or, sym, ◌∙◌, ap, subst, arith, zero-add}
+use Rattle.std.proofs.Common.{◌+◌, ◌++◌, inl, inr}
+use Rattle.std.specs.Prelude.{slice_index_or, IfOk, Result}
+use Rattle.std.specs.declared.alloc.AllocError.{AllocError}
+use Rattle.std.proofs.lemmas.Result.{IfOk-weaker}
+use Rattle.shop_model.specs.Shop.{Shop}
+use Rattle.std.specs.Iterator.{Yields}
+use Rattle.std.specs.Vec.Iter.{into_iter_items, into_iter_len, into_iter_steps}
+use Rattle.std.specs.declared.vec.IntoIter.{IntoIter}
+use Rattle.std.proofs.lemmas.Iterator.{YieldsList}
+use Rattle.std.proofs.lemmas.Iterator.Adapters.{YieldsList-from_vec}
+use Rattle.std.proofs.lemmas.Iterator.Consumers.{YieldsList-turn, YieldsList-end}
+use Rattle.std.proofs.Math.ListN.{get_or-append}
+use Rattle.std.proofs.Math.Seq.{get_or-append_seam}
+use Rattle.std.proofs.lemmas.Bool.{cases_eq}
+use Rattle.std.proofs.lemmas.List.{length-map, length_push}
+use Rattle.shop_nodes.specs.Nodes.{words_of}
+use Rattle.shop_nodes.specs.Sheets.{IsSheetOf}
+use Rattle.shop_nodes.specs.declared.pieces.Piece.{Piece}
+use Rattle.shop_nodes.specs.declared.sheets.Sheet.{Sheet}
+use Rattle.shop_runs.specs.declared.entries.Entry.{Entry}
+use Rattle.shop_runs.specs.declared.entries.Kind.TheVariants.{Done, Passed}
+use Rattle.shop_runs.specs.declared.rounds.Round.{Round}
+use Rattle.shop_runs.specs.Nodes.{pieces_in}
+use Rattle.shop_runs.specs.Round.{Told}
+use Rattle.shop_runs.specs.Entries.{told, is_hit, IsOf, TellsHit, MayPass, Fits, number_of}
+use Rattle.shop_runs.specs.Crews.{OneForEach, IsEntryOf}
+use Rattle.shop_runs.proofs.PieceLemmas.{numbered_at}
+use Rattle.shop_runs.proofs.GatherLemmas.{IsSheetAt, hits_here}
+
+-- the entry at place n
+pub record IsEntryAt (es : List Entry) (n : ℕ) (e : Entry) : Type 0 where
+  pub inside : n < length es
+  pub is : e ≡ get_or es n e
+
+module _ (r : Told) (es : List Entry) (n : ℕ) (e : Entry) (all : OneForEach r es) (at : IsEntryAt es n e) where
+  entry_of : IsEntryOf r n e
+  entry_of = subst (IsEntryOf r n) (sym at.is) (all.1 n e at.inside)
+
+  -- of a piece that was searched it holds the sheet
+  pub entry_done : (s : Sheet) → e.kind ≡ Done s → IsSheetAt r n s
+  entry_done s k =
+      let f : Fits r e.kind = subst (λ q. Fits q e.kind) entry_of.0 e.fits
+      in record { of_round = subst (Fits r) k f; number = ap number_of (sym k) ∙ entry_of.1 }
+
+  -- it was passed only if a lower piece ends at the opening bound
+  pub entry_not_passed : (number by' : ℕ) → e.kind ≡ Passed number by' → ((k : ℕ) → k < n → is_hit r k ≡ false) → ⊥
+  entry_not_passed number by' k none =
+      let f : Fits r e.kind = subst (λ q. Fits q e.kind) entry_of.0 e.fits
+      in let may : MayPass r number by' = subst (Fits r) k f
+      in let same : number ≡ n = ap number_of (sym k) ∙ entry_of.1
+      in let lower = may.0
+      in let hit : true ≡ false = sym may.2 ∙ none by' (omega arith)
+      in absurd (cc)
+
+-- the entry of a turn of a loop over them, and all of them at its end
+module _ (s t u : IntoIter Entry Global) (es : Vec Entry Global) (items : into_iter_items s ≡ es.items)
+    (len : into_iter_len s ≡ vec_len es)
+    (xs : List Entry) (so_far : Yields (into_iter_steps {X = Entry} {Z = Global}) s xs t) (o : Option Entry)
+    (step : into_iter_steps t o u) where
+  from : YieldsList (into_iter_steps {X = Entry} {Z = Global}) (λ y. y) s es.items
+  from = YieldsList-from_vec es.items items (len ∙ es.ok.0)
+
+  pub entry_turn : (e : Entry) → o ≡ Some e → IsEntryAt es.items (length xs) e
+  entry_turn e is = let turn = YieldsList-turn from xs t so_far o u e is step in record { inside = turn.0; is = turn.1 }
+
+  pub entries_end : o ≡ None → length xs ≡ length es.items
+  entries_end is = (YieldsList-end from xs t so_far o u is step).1
+
+-- the words of the piece at place n
+words_at : (ps : List Piece) (n : ℕ) (q : Piece) → n < length ps → q ≡ get_or ps n q
+    → words_of q.nodes.items ≡ slice_index_or (pieces_in ps) n []
+words_at [] n q h e = absurd (omega arith)
+words_at (p ∷ ps) zero q h e = ap (λ (x : Piece). words_of x.nodes.items) e
+words_at (p ∷ ps) (suc n) q h e = words_at ps n q (omega arith) e
+
+-- the sheet of the n-th piece of a round is of the round
+pub searched : (r : Round) (n : ℕ) (q : Piece) (s : Sheet) → n < length r.pieces.items → q ≡ get_or r.pieces.items n q
+    → IsSheetOf s r.instance.now q r.best r.budget → IsSheetAt (told r) n s
+searched r n q s h at of =
+    let number : s.number ≡ n = s.of_piece
+    ∙ (ap (λ (p : Piece). p.number) (of.of_piece ∙ at)
+    ∙ (numbered_at 0 r.pieces.items n q r.numbered h ∙ zero-add n))
+    in let many = length-map r.pieces.items (λ p. words_of p.nodes.items)
+    in let words = ap (λ (p : Piece). words_of p.nodes.items) of.of_piece
+    ∙ (words_at r.pieces.items n q h at ∙ ap (λ k. slice_index_or (pieces_in r.pieces.items) k []) (sym number))
+    in record { of_round = (of.of_instance, of.of_best, of.of_budget, (omega arith), words); number = number }
+
+-- and so are those that a search of the n-th piece gives
+pub sheets_at : (r : Round) (n : ℕ) (q : Piece) (shop : Shop) (o : Result Sheet AllocError) → n < length r.pieces.items
+    → q ≡ get_or r.pieces.items n q → shop ≡ r.instance.now → IfOk o (λ s. IsSheetOf s shop q r.best r.budget)
+    → IfOk o (λ s. IsSheetAt (told r) n s)
+sheets_at r n q shop o h at same of = IfOk-weaker _ _ _ (λ s m. searched r n q s h at m)
+    (subst (λ (x : Shop). IfOk o (λ s. IsSheetOf s x q r.best r.budget)) same of)
+
+-- they are of their piece, and tell whether it ends at the opening bound
+pub sheets_of_piece : (r : Told) (n : ℕ) (o : Result Sheet AllocError) → IfOk o (λ s. IsSheetAt r n s)
+    → IfOk o (λ s. IsOf r s × (s.number ≡ n))
+sheets_of_piece r n o at = IfOk-weaker _ _ _
+    (λ s m. let both : IsOf r s × (s.number ≡ n) = (m.of_round, m.number) in both) at
+
+pub sheets_tell : (r : Told) (n : ℕ) (o : Result Sheet AllocError) → IfOk o (λ s. IsSheetAt r n s)
+    → IfOk o (λ s. TellsHit r n s)
+sheets_tell r n o at = IfOk-weaker _ _ _ (λ s m. hits_here r n s m) at

@@ -1,0 +1,89 @@
+-- Open words: their order, their least bound, and what is below a makespan.
+use Rattle.std.proofs.Common.{◌≡◌, ℕ, ◌≤◌, ◌<◌, min, ◌⊎◌, inl, inr, List, [], ◌∷◌, ◌++◌, ap, arith, ltb}
+use Rattle.std.specs.List.{AllByRecursion}
+use Rattle.std.proofs.lemmas.Bool.{cases_Bool, ltb-true, ltb-false}
+use Rattle.shop_model.specs.Shop.{Shop, Starts, IsFeasible, end_of}
+use Rattle.shop_model.specs.Word.{IsWord, IsFull, IsUnder}
+use Rattle.shop_bound.specs.Bound.{lb}
+use Rattle.shop_bound.proofs.BoundLaw.{lb-le-end}
+use Rattle.shop_bound.proofs.Lists.{all_filter}
+use Rattle.shop_nodes.specs.Laws.{HasBetter}
+use Rattle.shop_nodes.proofs.Members.{In, in_contains, contains_in, contains_all, in_all, all_sort, in_sort, in_filter}
+use Rattle.shop_runs.specs.declared.plans.Order.{Order}
+use Rattle.shop_runs.specs.declared.plans.Order.TheVariants.{Kept, Bound}
+use Rattle.shop_runs.specs.Round.{in_order, words_below, least_bound}
+use Rattle.shop_runs.specs.Laws.{IsStanding}
+
+-- the least bound is at most the makespan, and at most each bound
+pub least_bound-le : (shop : Shop) (c : ℕ) (ws : List (List ℕ))
+    → (least_bound shop c ws ≤ c) × ((w : List ℕ) → In w ws → least_bound shop c ws ≤ lb shop w)
+least_bound-le shop c [] = (omega arith, λ w h. absurd h)
+least_bound-le shop c (x ∷ ws) =
+    let r = least_bound-le shop (min c (lb shop x)) ws
+    in let a = r.0
+    in (
+      omega arith,
+      λ w h. elim h [
+        | inl e ↦ (let b : lb shop w ≡ lb shop x = ap (lb shop) e in omega arith)
+        | inr g ↦
+            r.1 w g
+      ],
+    )
+
+module _ (shop : Shop) where
+  -- in their order, the words are the same
+  pub ordered_in : (order : Order) (w : List ℕ) (ws : List (List ℕ)) → In w ws → In w (in_order shop order ws)
+  ordered_in Kept w ws h = h
+  ordered_in Bound w ws h = in_sort (lb shop) w ws h
+
+  pub ordered_all : (order : Order) (P : List ℕ → Type 0) (ws : List (List ℕ)) → AllByRecursion P ws
+      → AllByRecursion P (in_order shop order ws)
+  ordered_all Kept P ws a = a
+  ordered_all Bound P ws a = all_sort (lb shop) P ws a
+
+  -- a table under one of the words ends at c or later, or lies under one whose bound is below c
+  pub still_better : (c : ℕ) (ws : List (List ℕ)) (starts : Starts) → AllByRecursion (IsWord shop) ws
+      → HasBetter shop ws starts → (c ≤ end_of shop starts) ⊎ HasBetter shop (words_below shop c ws) starts
+  still_better c ws starts all h =
+      let member = in_contains h.word ws h.member
+      in elim (cases_Bool (ltb (lb shop h.word) c)) [
+        | inl e ↦ inr (record {
+          word = h.word;
+          member = contains_in h.word (words_below shop c ws) (in_filter (λ w. ltb (lb shop w) c) h.word ws member e);
+          better = h.better;
+          under = h.under;
+          ends = h.ends;
+        })
+        | inr e ↦ inl (let a = ltb-false (lb shop h.word) c e
+            in let b = lb-le-end shop h.word h.better (in_all (IsWord shop) h.word ws member all) h.under
+            in let d = h.ends in omega arith)
+      ]
+
+  -- a full word, with the words whose bounds are below its own
+  pub standing_from : (word : List ℕ) (ws : List (List ℕ)) (rounds nodes : ℕ) → IsFull shop word
+      → AllByRecursion (IsWord shop) ws
+      → IsStanding shop (record {
+        word = word;
+        open_words = words_below shop (lb shop word) ws;
+        rounds = rounds;
+        nodes =
+            nodes;
+      })
+  standing_from word ws rounds nodes full all =
+      let both = all_filter (λ w. ltb (lb shop w) (lb shop word)) (IsWord shop)
+      (λ w. IsWord shop w × (lb shop w < lb shop word)) (λ w a e. (a, ltb-true (lb shop w) (lb shop word) e)) ws all
+      in record {
+        full = full;
+        words = λ w h. (contains_all (λ w. IsWord shop w × (lb shop w < lb shop word))
+            (words_below shop (lb shop word) ws) both w h).0;
+        below = λ w h. (contains_all (λ w. IsWord shop w × (lb shop w < lb shop word))
+            (words_below shop (lb shop word) ws) both w h).1;
+      }
+
+  -- each feasible table lies under the empty word
+  pub under_empty : (starts : Starts) → IsFeasible shop starts → IsUnder shop [] starts
+  under_empty starts f = record { feasible = f; first = λ v j later e. absurd (none v j later e) }
+    where
+      none : (v : List ℕ) (j : ℕ) (later : List ℕ) → [] ≡ v ++ j ∷ later → ⊥
+      none [] j later e = cc
+      none (x ∷ v) j later e = cc

@@ -1,0 +1,43 @@
+-- The pieces of a round that end at its opening bound.
+use Rattle.std.proofs.Common.{◌≡◌, ℕ, zero, suc, ◌<◌, List, [], ◌∷◌, length, map, get_or, Bool, true, false, true≢false}
+use Rattle.std.proofs.Common.{refl, ap, sym, ◌∙◌, subst, ⊎_elim, arith}
+use Rattle.std.proofs.lemmas.List.{length-map}
+use Rattle.shop_runs.specs.Entries as entries
+use Rattle.shop_runs.specs.Entries.{told}
+use Rattle.shop_runs.specs.declared.rounds.Round.{Round}
+use Rattle.shop_runs.specs.Hits.{hits_of_round, is_hit_in, IsHitOrEnd}
+
+pub hits_length : (r : Round) → length (hits_of_round r) ≡ length r.pieces.items
+hits_length r = length-map _ _ ∙ length-map r.pieces.items _
+
+module _ {A : Type 0} (test : A → Bool) where
+  mapped_at : (xs : List A) (n : ℕ) (d : A) → n < length xs → get_or (map test xs) n false ≡ test (get_or xs n d)
+  mapped_at [] n d h = absurd (omega arith)
+  mapped_at (x ∷ xs) zero d h = refl
+  mapped_at (x ∷ xs) (suc n) d h = mapped_at xs n d (omega arith)
+
+  mapped_inside : (xs : List A) (n : ℕ) → get_or (map test xs) n false ≡ true → n < length xs
+  mapped_inside [] n h = absurd (true≢false (sym h))
+  mapped_inside (x ∷ xs) zero h = omega arith
+  mapped_inside (x ∷ xs) (suc n) h = let t = mapped_inside xs n h in omega arith
+
+-- the board's hits are the round's
+pub same_hit : (r : Round) (hits : List Bool) (n : ℕ) → hits ≡ hits_of_round r → n < length r.pieces.items
+    → is_hit_in hits n ≡ entries.is_hit (told r) n
+same_hit r hits n e below =
+    let inside : n < length (told r).pieces = subst (λ k. n < k) (sym (length-map r.pieces.items _)) below in
+    ap (λ l. get_or l n false) e ∙ mapped_at _ (told r).pieces n [] inside
+
+pub is_piece : (r : Round) (hits : List Bool) (n : ℕ) → hits ≡ hits_of_round r → is_hit_in hits n ≡ true
+    → n < length r.pieces.items
+is_piece r hits n e h =
+    subst (λ k. n < k) (length-map r.pieces.items _)
+    (mapped_inside _ (told r).pieces n (ap (λ l. get_or l n false) (sym e) ∙ h))
+
+-- a number that was read, and is below that of a piece, is that of a piece which ends at the opening bound
+pub read_hit : (r : Round) (hits : List Bool) (low n : ℕ) → hits ≡ hits_of_round r → IsHitOrEnd hits low → low < n
+    → n < length r.pieces.items → entries.is_hit (told r) low ≡ true
+read_hit r hits low n e found below inside = ⊎_elim
+    (λ (end : low ≡ length hits). let m = ap length e ∙ hits_length r in absurd (omega arith))
+    (λ (h : is_hit_in hits low ≡ true). sym (same_hit r hits low e (omega arith)) ∙ h)
+    found

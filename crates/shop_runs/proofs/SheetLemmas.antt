@@ -1,0 +1,163 @@
+-- The sheets of a round: the best word of them, and the first that ends at a bound.
+use Rattle.std.proofs.Common.{◌≡◌, ℕ, ◌≤◌, ◌<◌, inl, inr, false, cond, Option, Some, None, List, [], ◌∷◌, map, refl}
+use Rattle.std.proofs.Common.{sym, ◌∙◌, ap, subst, arith, ltb, eqb}
+use Rattle.std.specs.Prelude.{unwrap_or}
+use Rattle.std.specs.List.{AllByRecursion, flat_map, fold}
+use Rattle.std.proofs.lemmas.Bool.{cases_Bool, ltb-true, ltb-false, eqb-true}
+use Rattle.shop_model.specs.Shop.{Shop}
+use Rattle.shop_model.specs.Word.{IsWord, IsFull}
+use Rattle.shop_bound.specs.Bound.{lb}
+use Rattle.shop_bound.proofs.Lists.{all_append}
+use Rattle.shop_nodes.specs.Walking.{Walk}
+use Rattle.shop_nodes.specs.Laws.{IsBestOf}
+use Rattle.shop_nodes.proofs.Members.{In, all_contains, contains_all}
+use Rattle.shop_nodes.proofs.Found.{searches_keep}
+use Rattle.shop_runs.specs.Round.{Told, sheet_in, hit_or, up_to_hit, best_word}
+
+-- what is known of a sheet from the opening best
+pub record IsOfRound (shop : Shop) (best : ℕ) (s : Walk) : Type 0 where
+  pub found : IsBestOf shop best s.best s.found
+  pub left : AllByRecursion (IsWord shop) s.left
+
+pub sheets_known : (r : Told) (ps : List (List (List ℕ))) → AllByRecursion (AllByRecursion (IsWord r.shop)) ps
+    → AllByRecursion (IsOfRound r.shop r.best) (map (sheet_in r) ps)
+sheets_known r [] a = tt
+sheets_known r (p ∷ ps) a =
+    let k = searches_keep r.shop p r.best r.budget (contains_all (IsWord r.shop) p a.0)
+    in (
+      record {
+        found = k.found;
+        left =
+            all_contains (IsWord r.shop) (sheet_in r p).left k.left;
+      },
+      sheets_known r ps a.1,
+    )
+
+-- the words left by all sheets are words
+pub left_words : (shop : Shop) (best : ℕ) (ss : List Walk) → AllByRecursion (IsOfRound shop best) ss
+    → AllByRecursion (IsWord shop) (flat_map (λ t. t.left) ss)
+left_words shop best [] a = tt
+left_words shop best (s ∷ ss) a = let k = a.0
+    in all_append (IsWord shop) s.left (flat_map (λ t. t.left) ss) k.left (left_words shop best ss a.1)
+
+-- a walk that holds a full word, whose bound is its best and at most c
+pub record IsHeld (shop : Shop) (c : ℕ) (b : Walk) : Type 0 where
+  pub word : List ℕ
+  pub found : b.found ≡ Some word
+  pub full : IsFull shop word
+  pub best : b.best ≡ lb shop word
+  pub below : b.best ≤ c
+
+abbrev pub better_of : Walk → Walk → Walk
+better_of b s = cond (ltb s.best b.best) s b
+
+module _ (shop : Shop) (c : ℕ) where
+  held_from : (b s : Walk) (o : Option (List ℕ)) → s.found ≡ o → IsBestOf shop c s.best o → s.best < b.best → b.best ≤ c
+      → IsHeld shop c s
+  held_from b s None e i less below = absurd (omega arith)
+  held_from b s (Some w) e i less below = record { word = w; found = e; full = i.0; best = i.1; below = omega arith }
+
+  -- the first of the least best of the walks
+  pub record IsLeastHeld (b : Walk) (ss : List Walk) (r : Walk) : Type 0 where
+    pub held : IsHeld shop c r
+    pub first : r.best ≤ b.best
+    pub each : (s : Walk) → In s ss → r.best ≤ s.best
+
+  pub least_held : (b : Walk) (ss : List Walk) → IsHeld shop c b → AllByRecursion (IsOfRound shop c) ss
+      → IsLeastHeld b ss (fold better_of b ss)
+  least_held b [] held a = record { held = held; first = omega arith; each = λ s h. absurd h }
+  least_held b (s ∷ ss) held a = elim (cases_Bool (ltb s.best b.best)) [
+    | inl e ↦ (let less = ltb-true s.best b.best e in let low = held.below in let known = a.0
+        in let r = least_held s ss (held_from b s s.found refl known.found less low) a.1
+        in let same : better_of b s ≡ s = ap (λ t. cond t s b) e
+        in subst (λ t. IsLeastHeld b (s ∷ ss) (fold better_of t ss)) (sym same) (record {
+          held = r.held;
+          first = (let x = r.first in omega arith);
+          each = λ t h. elim h [
+            | inl f ↦
+                (let x = r.first in let y : t.best ≡ s.best = ap (λ (u : Walk). u.best) f in omega arith)
+            | inr g ↦
+                r.each t g
+          ];
+        }))
+    | inr e ↦ (let more = ltb-false s.best b.best e
+        in let r = least_held b ss held a.1
+        in let same : better_of b s ≡ b = ap (λ t. cond t s b) e
+        in subst (λ t. IsLeastHeld b (s ∷ ss) (fold better_of t ss)) (sym same) (record {
+          held = r.held;
+          first = r.first;
+          each = λ t h. elim h [
+            | inl f ↦
+                (let x = r.first in let y : t.best ≡ s.best = ap (λ (u : Walk). u.best) f in omega arith)
+            | inr g ↦
+                r.each t g
+          ];
+        }))
+  ]
+
+-- the best word of some sheets is full, and its bound is at most each makespan
+pub record IsBestWord (shop : Shop) (c : ℕ) (ss : List Walk) (w : List ℕ) : Type 0 where
+  pub full : IsFull shop w
+  pub below : lb shop w ≤ c
+  pub each : (s : Walk) → In s ss → lb shop w ≤ s.best
+
+abbrev pub first_of : ℕ → List ℕ → Walk
+first_of c word = record { found = Some word; best = c; left = []; budget = 0 }
+
+held_of : (shop : Shop) (c : ℕ) (word : List ℕ) (ss : List Walk) → c ≡ lb shop word → IsFull shop word
+    → AllByRecursion (IsOfRound shop c) ss
+    → IsLeastHeld shop c (first_of c word) ss (fold better_of (first_of c word) ss)
+held_of shop c word ss e full a =
+    least_held shop c (first_of c word) ss
+    (record { word = word; found = refl; full = full; best = e; below = omega arith }) a
+
+pub best_is : (shop : Shop) (c : ℕ) (word : List ℕ) (ss : List Walk) → c ≡ lb shop word → IsFull shop word
+    → AllByRecursion (IsOfRound shop c) ss → IsBestWord shop c ss (best_word c word ss)
+best_is shop c word ss e full a =
+    let r = held_of shop c word ss e full a
+    in let held = r.held
+    in let same : best_word c word ss ≡ held.word = ap (λ o. unwrap_or o word) held.found
+    in subst (IsBestWord shop c ss) (sym same) (record {
+      full = held.full;
+      below = (let x = held.best in let y = held.below in omega arith);
+      each = λ s h. let x = held.best in let y = r.each s h in omega arith;
+    })
+
+-- the least makespan of some sheets is the bound of their best word
+pub least_is_bound : (shop : Shop) (c : ℕ) (word : List ℕ) (ss : List Walk) → c ≡ lb shop word → IsFull shop word
+    → AllByRecursion (IsOfRound shop c) ss
+    → (fold better_of (first_of c word) ss).best ≡ lb shop (best_word c word ss)
+least_is_bound shop c word ss e full a =
+    let held = (held_of shop c word ss e full a).held
+    in let same : best_word c word ss ≡ held.word = ap (λ o. unwrap_or o word) held.found
+    in held.best ∙ ap (lb shop) (sym same)
+
+abbrev hit_of : Walk → Option (Walk × List Walk) → Walk
+hit_of s None = s
+hit_of s (Some (h, counted)) = h
+
+-- the sheet that hits is one of them, and ends there
+module _ (c : ℕ) where
+  pub hit_in : (ss : List Walk) (h : Walk) (counted : List Walk) → up_to_hit c ss ≡ Some (h, counted)
+      → In h ss × (h.best ≡ c)
+  hit_in [] h counted e = absurd (cc)
+  hit_in (s ∷ ss) h counted e = elim (cases_Bool (eqb s.best c)) [
+    | inl t ↦ (let f : Some (s, s ∷ []) ≡ Some (h, counted) = (sym (ap (λ x. hit_or x s (up_to_hit c ss)) t) ∙ e)
+        in let g : s ≡ h = ap (hit_of s) f in (inl (sym g), sym (ap (λ (u : Walk). u.best) g) ∙ eqb-true s.best c t))
+    | inr t ↦ later (up_to_hit c ss) (λ k more f. hit_in ss k more f)
+        (sym (ap (λ x. hit_or x s (up_to_hit c ss)) t) ∙ e)
+  ]
+    where
+      later : (o : Option (Walk × List Walk))
+          → ((k : Walk) (more : List Walk) → o ≡ Some (k, more) → In k ss × (k.best ≡ c))
+          → hit_or false s o ≡ Some (h, counted) → In h (s ∷ ss) × (h.best ≡ c)
+      later None f g = absurd (cc)
+      later (Some (k, more)) f g = (let same : k ≡ h = ap (hit_of k) g in let r = f k more refl
+          in (inr (subst (λ x. In x ss) same r.0), sym (ap (λ (u : Walk). u.best) same) ∙ r.1))
+
+-- what was found by a sheet that ends at c, or else the best word, is full and has the bound c
+pub found_is : (shop : Shop) (word : List ℕ) (start c : ℕ) (o : Option (List ℕ)) (best : ℕ) → start ≡ lb shop word
+    → IsFull shop word → IsBestOf shop start best o → best ≡ c
+    → IsFull shop (unwrap_or o word) × (lb shop (unwrap_or o word) ≡ c)
+found_is shop word start c None best s full i e = (full, omega arith)
+found_is shop word start c (Some w) best s full i e = (i.0, (let a = i.1 in omega arith))

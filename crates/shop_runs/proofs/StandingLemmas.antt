@@ -1,0 +1,51 @@
+-- What stands after a round is a standing.
+use Rattle.std.proofs.Common.{◌≡◌, Option, Some, None, List, ◌++◌, refl, arith}
+use Rattle.std.specs.List.{AllByRecursion, flat_map}
+use Rattle.shop_model.specs.Word.{IsWord}
+use Rattle.shop_bound.proofs.Lists.{all_append}
+use Rattle.shop_nodes.specs.Walking.{Walk}
+use Rattle.shop_nodes.proofs.Members.{all_contains, in_all}
+use Rattle.shop_runs.specs.Round.{Told, gathered, words_of_round, sheets_of, up_to_hit, best_word, after_round}
+use Rattle.shop_runs.specs.Laws.{IsStanding, IsRound}
+use Rattle.shop_runs.proofs.Cutting.{all_front, all_back, all_pieces}
+use Rattle.shop_runs.proofs.OpenLemmas.{standing_from}
+use Rattle.shop_runs.proofs.SheetLemmas.{IsOfRound, sheets_known, left_words, IsBestWord, best_is, hit_in, found_is}
+
+module _ (r : Told) (is : IsRound r) where
+  all : AllByRecursion (IsWord r.shop) (words_of_round r)
+  all = all_contains (IsWord r.shop) (words_of_round r) is.words
+
+  pub pieces_words : AllByRecursion (AllByRecursion (IsWord r.shop)) r.pieces
+  pieces_words = all_pieces (IsWord r.shop) r.pieces (all_front (IsWord r.shop) (flat_map (λ p. p) r.pieces) r.rest all)
+
+  rest_words : AllByRecursion (IsWord r.shop) r.rest
+  rest_words = all_back (IsWord r.shop) (flat_map (λ p. p) r.pieces) r.rest all
+
+  pub known : AllByRecursion (IsOfRound r.shop r.best) (sheets_of r)
+  known = sheets_known r r.pieces pieces_words
+
+  pub best_of_round : IsBestWord r.shop r.best (sheets_of r) (best_word r.best r.word (sheets_of r))
+  best_of_round = best_is r.shop r.best r.word (sheets_of r) is.best is.full known
+
+  pub open_all : AllByRecursion (IsWord r.shop) (flat_map (λ t. t.left) (sheets_of r) ++ r.rest)
+  open_all = all_append (IsWord r.shop) (flat_map (λ t. t.left) (sheets_of r)) r.rest
+      (left_words r.shop r.best (sheets_of r) known) rest_words
+
+  -- what stands after the round is a standing
+  pub after_is_standing : (o : Option (Walk × List Walk)) → up_to_hit r.bound (sheets_of r) ≡ o
+      → IsStanding r.shop (after_round r (sheets_of r) o)
+  after_is_standing None e = standing_from r.shop (best_word r.best r.word (sheets_of r))
+      (flat_map (λ t. t.left) (sheets_of r) ++ r.rest) _ _ best_of_round.full open_all
+  after_is_standing (Some (h, counted)) e =
+      let m = hit_in r.bound (sheets_of r) h counted e
+      in let k = in_all (IsOfRound r.shop r.best) h (sheets_of r) m.0 known
+      in let f = found_is r.shop r.word r.best r.bound h.found h.best is.best is.full k.found m.1
+      in record {
+        full = f.0;
+        words = λ w c. absurd (let x = c.1 in omega arith);
+        below =
+            λ w c. absurd (let x = c.1 in omega arith);
+      }
+
+pub gathered_is_standing : (r : Told) → IsRound r → IsStanding r.shop (gathered r)
+gathered_is_standing r is = after_is_standing r is (up_to_hit r.bound (sheets_of r)) refl

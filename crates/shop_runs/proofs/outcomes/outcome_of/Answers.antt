@@ -1,0 +1,80 @@
+use Rattle.std.proofs.Common.{rules, ◌≤◌, length, refl, sym, ◌∙◌, subst, arith}
+use Rattle.std.proofs.lemmas.Bool.{eq-eqb, ne_eqb}
+use Rattle.std.proofs.lemmas.Fn.{filter_same}
+use Rattle.std.proofs.lemmas.List.{length_push, length-map}
+use Rattle.shop_nodes.specs.Nodes.{words_of}
+use Rattle.shop_runs.specs.Entries.{told}
+use Rattle.shop_runs.specs.declared.rounds.Round.{Round}
+use Rattle.shop_runs.proofs.EntryLemmas.{IsEntryAt, entry_turn, entries_end, entry_done, entry_not_passed}
+use Rattle.shop_runs.proofs.GatherLemmas.{GatheredSoFar}
+use Rattle.shop_runs.proofs.OutcomeLemmas.{gathered_turn, closed_outcome, open_outcome}
+use Rattle.shop_runs.proofs.outcomes.outcome_of.Goals as goal
+
+length_pieces : (r : Round) → length (told r).pieces ≤ 256
+length_pieces r = let few = r.few_pieces in let same = length-map r.pieces.items (λ p. words_of p.nodes.items)
+    in omega arith
+
+pub unreachable-requires : goal.unreachable-requires
+unreachable-requires c =
+    let gives = c.into_iter-entry-iterator.ensures.into_iter_gives
+    in let at : IsEntryAt c.args.entries.items (length c.loop-entry.yielded) c.in-Some.entry =
+    entry_turn c.into_iter-entry-iterator.result c.loop-entry.entry-iterator c.next.new.self c.args.entries gives.0
+    gives.1 c.loop-entry.yielded c.loop-entry.yielded_by c.next.result c.next.ensures.steps
+    c.in-Some.entry c.in-Some.is
+    in entry_not_passed (told c.args.round.now) c.args.entries.items
+    (length c.loop-entry.yielded) c.in-Some.entry c.requires at
+    c.in_default.field-0 c.in_default.field-1 c.in_default.is c.loop-entry.invariant.so_far.none_hits
+
+pub returns-then-sheet-round : goal.returns-then-sheet-round
+returns-then-sheet-round c =
+    let gives = c.into_iter-entry-iterator.ensures.into_iter_gives
+    in let at : IsEntryAt c.args.entries.items (length c.loop-entry.yielded) c.in-Some.entry =
+    entry_turn c.into_iter-entry-iterator.result c.loop-entry.entry-iterator c.next.new.self c.args.entries gives.0
+    gives.1 c.loop-entry.yielded c.loop-entry.yielded_by c.next.result c.next.ensures.steps
+    c.in-Some.entry c.in-Some.is
+    in let r = told c.args.round.now
+    in let s = c.in-Done.sheet
+    in let is = entry_done r c.args.entries.items
+    (length c.loop-entry.yielded) c.in-Some.entry c.requires at s c.in-Done.is
+    in let closes = c.closed_by.ensures
+    in let pieces = length_pieces c.args.round.now
+    in closed_outcome r c.args.round.now.is_round
+    (length c.loop-entry.yielded) c.loop-entry.outcome c.loop-entry.invariant.so_far
+    c.args.round.now.small_budget pieces s c.closed_by.result is (eq-eqb s.makespan r.bound c.if-sheet-round.true)
+    closes.found closes.makespan closes.left closes.nodes closes.closed
+
+pub loop-entry-preserved : goal.loop-entry-preserved
+loop-entry-preserved c =
+    let gives = c.into_iter-entry-iterator.ensures.into_iter_gives
+    in let at : IsEntryAt c.args.entries.items (length c.loop-entry.yielded) c.in-Some.entry =
+    entry_turn c.into_iter-entry-iterator.result c.loop-entry.entry-iterator c.next.new.self c.args.entries gives.0
+    gives.1 c.loop-entry.yielded c.loop-entry.yielded_by c.next.result c.next.ensures.steps
+    c.in-Some.entry c.in-Some.is
+    in let r = told c.args.round.now
+    in let s = c.in-Done.sheet
+    in let is = entry_done r c.args.entries.items
+    (length c.loop-entry.yielded) c.in-Some.entry c.requires at s c.in-Done.is
+    in let takes = c.in_ok-take_in.ensures
+    in let turn = gathered_turn r (length c.loop-entry.yielded) s c.loop-entry.outcome c.take_in.new.self is
+    c.args.round.now.small_budget (ne_eqb s.makespan r.bound c.if-sheet-round.false) takes c.loop-entry.invariant.so_far
+    in record {
+      can_next = tt;
+      is_finite = tt;
+      so_far = subst (λ i. GatheredSoFar r i c.take_in.new.self.found c.take_in.new.self.makespan
+          c.take_in.new.self.left.items c.take_in.new.self.nodes)
+          (sym (length_push c.loop-entry.yielded c.in-Some.entry)) turn;
+      none_closed = takes.closed ∙ c.loop-entry.invariant.none_closed;
+    }
+
+pub returns : goal.returns
+returns c =
+    let gives = c.into_iter-entry-iterator.ensures.into_iter_gives
+    in let r = told c.args.round.now
+    in let all = entries_end c.into_iter-entry-iterator.result c.loop-entry.entry-iterator c.next.new.self
+    c.args.entries gives.0 gives.1
+    c.loop-entry.yielded c.loop-entry.yielded_by c.next.result c.next.ensures.steps c.in-None.is
+    in let kept = filter_same _ _ _ (λ x b f k. search rules) _ _ c.retain.ensures.filtered
+    in open_outcome r c.args.round.now.is_round
+    (length c.loop-entry.yielded) c.loop-entry.outcome c.loop-entry.invariant.so_far
+    c.args.round.now.small_budget (length_pieces c.args.round.now) _
+    (all ∙ c.requires.0) refl refl kept refl c.loop-entry.invariant.none_closed

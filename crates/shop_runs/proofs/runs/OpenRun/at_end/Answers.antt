@@ -1,0 +1,37 @@
+use Rattle.std.proofs.Common.{length, arith, refl, sym, eqb-true}
+use Rattle.shop_runs.specs.Plans.{planned}
+use Rattle.shop_runs.proofs.PieceLemmas.{some_open}
+use Rattle.shop_runs.specs.inner.Stores.{open_list}
+use Rattle.shop_runs.proofs.Answering.{way_first, way_search, way_next, way_closed, way_last}
+use Rattle.shop_runs.proofs.runs.OpenRun.at_end.Goals as goal
+
+pub loop-done-init : goal.loop-done-init
+loop-done-init g c = record {
+  way = way_first c.args.instance.now (planned c.args.plan.now) c.in_ok-search.search c.in_ok-search.ensures;
+  layout = tt;
+}
+
+pub returns-then-is_empty : goal.returns-then-is_empty
+returns-then-is_empty g c = way_closed c.args.instance.now
+    (planned c.args.plan.now) c.loop-done.done c.loop-done.search c.loop-done.invariant.way
+    (eqb-true (length (open_list c.loop-done.search.open)) 0 (sym c.if-is_empty.ensures))
+
+pub next-requires-clause-search : goal.next-requires-clause-search
+next-requires-clause-search g c = way_search c.args.instance.now
+    (planned c.args.plan.now) c.loop-done.done c.loop-done.search c.loop-done.invariant.way
+
+pub loop-done-preserved : goal.loop-done-preserved
+loop-done-preserved g c = record {
+  way = way_next c.args.instance.now
+      (planned c.args.plan.now) c.loop-done.done c.loop-done.search c.loop-done.invariant.way c.in_ok-next.next
+      c.loop-done-test.true
+      (some_open (length (open_list c.loop-done.search.open)) (length (open_list c.loop-done.search.open)) refl
+      c.if-is_empty.ensures) c.in_ok-next.ensures.next;
+  layout = c.in_ok-next.ensures.layout;
+}
+
+pub returns : goal.returns
+returns g c =
+    let h = c.loop-done-test.false
+    in way_last c.args.instance.now
+    (planned c.args.plan.now) c.loop-done.done c.loop-done.search c.loop-done.invariant.way (omega arith)

@@ -1,0 +1,212 @@
+// Rounds: cut from a standing, in an order and into pieces, and closed to the next standing.
+ghost use Rattle.std.specs.Prelude.{◌≡◌, ◌≤◌, ◌<◌, length, take, drop, true, IfOk, OnOk};
+ghost use Rattle.std.specs.Vec.Iter.{into_iter_items};
+ghost use Rattle.shop_nodes.specs.Nodes.{words_of, AreNodes};
+ghost use Rattle.shop_runs.specs.Limits.{IsCountWithin};
+ghost use Rattle.shop_runs.specs.Round.{cut_into};
+ghost use Rattle.shop_runs.specs.Nodes.{numbered, told_of, ArePieces};
+ghost use Rattle.shop_runs.specs.Laws.{IsRound};
+ghost use Rattle.shop_runs.specs.inner.NodeLists.{least_of_bounds, nodes_in_order, nodes_in};
+ghost use Rattle.shop_runs.specs.declared.plans.TheConstants.{MAX_BUDGET, MAX_PIECES, MAX_ROUNDS};
+
+use crate::outcomes::RoundResult;
+use crate::plans::{MAX_PIECES, Order, Plan};
+use crate::standings::Standing;
+use shop_layout::Layout;
+use shop_model::{Instance, Word};
+use shop_nodes::{Node, Piece};
+use std::alloc::{AllocError, Global};
+use std::vec::IntoIter;
+
+/// A round: the opening best with its makespan, the opening bound, the budget, the pieces and the
+/// rest, and the rounds done and nodes counted before it. All who search its pieces share its layout.
+#[derive(Drop)]
+pub struct Round<'r> {
+    pub instance: &'r Instance,
+    pub word: Word,
+    pub best: u64,
+    pub bound: u64,
+    pub budget: u64,
+    pub pieces: Vec<Piece>,
+    pub rest: Vec<Node>,
+    pub rounds: u64,
+    pub nodes: u64,
+    pub(crate) layout: Layout<'r>,
+    pub ghost layout_of: { layout ≡ instance.now },
+    pub ghost numbered: { numbered 0 pieces.items ≡ true },
+    pub ghost nodes_of_pieces: { ArePieces instance.now pieces.items },
+    pub ghost nodes_of_rest: { AreNodes instance.now rest.items },
+    pub ghost few_pieces: { length pieces.items ≤ MAX_PIECES },
+    pub ghost small_budget: { budget ≤ MAX_BUDGET },
+    pub ghost rounds_left: { rounds < MAX_ROUNDS },
+    pub ghost counted: { IsCountWithin rounds nodes },
+    pub ghost is_round: { IsRound (told_of instance.now word best bound budget pieces.items
+        rest.items rounds nodes) },
+}
+
+impl<'r> Round<'r> {
+    ghost use Rattle.shop_runs.specs.Entries.{told};
+    ghost use Rattle.shop_runs.specs.inner.Outcomes.{IsOutcome};
+    ghost use Rattle.shop_runs.specs.Standings.{IsCutOf, CutCovers, IsGatheredOf, GatheredCovers};
+    ghost use Rattle.shop_runs.specs.Standings.{IsStandingOf, StandsAt, stands, round_of, planned};
+
+    /// Cuts the open nodes, in the plan's order, into at most 256 pieces; the others are the rest.
+    /// Fails with `AllocError` if memory runs out. For library callers: a run cuts its own store of open nodes.
+    pub fn cut(
+        alloc: Global,
+        instance: &'r Instance,
+        plan: &Plan,
+        standing: Standing,
+    ) -> Result<Round<'r>, AllocError>
+        requires open { 0 < length standing.open.items }
+        requires rounds { standing.rounds < plan.now.rounds }
+        requires standing { IsStandingOf instance.now standing }
+        ensures cut { IfOk result (λ r. IsCutOf instance.now plan.now standing r) }
+        ensures covers { IfOk result (λ r. CutCovers instance.now standing r) }
+    {
+        let mut front = standing;
+        put_in_order(&mut front.open, plan.order)?;
+        let bound = least_bound(front.makespan, front.open.as_slice());
+        let taken = front.open.len().min(MAX_PIECES * plan.piece);
+        let rest = front.open.split_off(taken)?;
+        let layout = Layout::of(alloc, instance)?;
+        Round::of(alloc, instance, plan, front, rest, bound, layout)
+    }
+
+    /// Cuts all open nodes of a standing, which stand in order, into at most 256 pieces. The round has this rest, this
+    /// opening bound and this layout. Fails with `AllocError` if memory runs out.
+    pub fn of(
+        alloc: Global,
+        instance: &'r Instance,
+        plan: &Plan,
+        front: Standing,
+        rest: Vec<Node>,
+        bound: u64,
+        layout: Layout<'r>,
+    ) -> Result<Round<'r>, AllocError>
+        requires rounds { front.rounds < plan.now.rounds }
+        requires standing { StandsAt instance.now (stands front) front }
+        requires rest { AreNodes instance.now rest.items }
+        requires layout { layout ≡ instance.now }
+        requires round { IsRound (round_of instance.now (planned plan.now) (stands front) bound
+            (words_of rest.items)) }
+        ensures { IfOk result (λ r. told r ≡ round_of instance.now (planned plan.now)
+            (stands front) bound (words_of rest.items)) }
+    {
+        let Standing {
+            word,
+            makespan,
+            open,
+            rounds,
+            nodes,
+        } = front;
+        let pieces = cut_pieces(alloc, open, plan.piece)?;
+        Ok(Round {
+            instance,
+            word,
+            best: makespan,
+            bound,
+            budget: plan.budget,
+            pieces,
+            rest,
+            rounds,
+            nodes,
+            layout,
+        })
+    }
+
+    /// The instance's layout, which all who search its pieces share.
+    pub fn layout(&self) -> &Layout<'r>
+        ensures { result.now ≡ self.now.instance.now }
+    {
+        &self.layout
+    }
+
+    /// The standing after the round, by the outcome of its sheets, and the layout for the next round: as `gather`, but
+    /// the rest moves, so no word is copied.
+    pub fn closed(self, outcome: RoundResult) -> Result<(Standing, Layout<'r>), AllocError>
+        requires { IsOutcome (told self) outcome }
+        ensures gathered { IfOk result (λ p. IsGatheredOf self.entry p.0) }
+        ensures standing { IfOk result (λ p. IsStandingOf self.entry.instance.now p.0) }
+        ensures covers { IfOk result (λ p. GatheredCovers self.entry p.0) }
+        ensures layout { IfOk result (λ p. p.1 ≡ self.entry.instance.now) }
+    {
+        let Round {
+            word,
+            rest,
+            rounds,
+            layout,
+            ..
+        } = self;
+        let standing = outcome.standing_after(word, rest, rounds)?;
+        Ok((standing, layout))
+    }
+}
+
+/// The least of a makespan and the bounds of nodes.
+pub fn least_bound(makespan: u64, nodes: &[Node]) -> u64
+    ensures { result ≡ least_of_bounds makespan nodes.now }
+{
+    nodes
+        .iter()
+        .fold(makespan, |bound, node| bound.min(node.bound))
+}
+
+/// A copy of these nodes, in order. Fails with `AllocError` if memory runs out.
+pub fn copies_of(alloc: Global, nodes: &[Node]) -> Result<Vec<Node>, AllocError>
+    ensures { IfOk result (λ v. v.items ≡ nodes.now) }
+{
+    let mut copies = Vec::with_capacity(alloc, nodes.len())?;
+    for node in nodes {
+        copies.push(node.copied(alloc)?)?;
+    }
+    Ok(copies)
+}
+
+/// Puts nodes in an order; by bound, ties keep their places.
+pub fn put_in_order(nodes: &mut Vec<Node>, order: Order) -> Result<(), AllocError>
+    ensures { OnOk result (nodes.new.items ≡ nodes_in_order order nodes.old.items) }
+{
+    match order {
+        Order::Kept => Ok(()),
+        Order::Bound => nodes.sort_by_key(|node| node.bound),
+    }
+}
+
+/// The next `size` nodes, or all that are left if they are fewer. Fails with `AllocError` if memory runs out.
+fn next_piece(
+    alloc: Global,
+    nodes: &mut IntoIter<Node, Global>,
+    size: usize,
+) -> Result<Vec<Node>, AllocError>
+    ensures taken { IfOk result (λ v. v.items ≡ take size (into_iter_items nodes.old)) }
+    ensures left { OnOk result (into_iter_items nodes.new ≡ drop size (into_iter_items nodes.old)) }
+{
+    let mut piece = Vec::with_capacity(alloc, size.min(nodes.len()))?;
+    for _ in 0..size {
+        let Some(node) = nodes.next() else {
+            break;
+        };
+        piece.push(node)?;
+    }
+    Ok(piece)
+}
+
+/// Cuts nodes into at most 256 pieces of this size, in order; the last may be shorter, and nodes behind it are dropped.
+/// Fails with `AllocError` if memory runs out.
+pub fn cut_pieces(alloc: Global, nodes: Vec<Node>, size: usize) -> Result<Vec<Piece>, AllocError>
+    requires { 0 < size }
+    ensures nodes { IfOk result (λ v. nodes_in v.items ≡ cut_into MAX_PIECES size nodes.items) }
+    ensures numbers { IfOk result (λ v. numbered 0 v.items ≡ true) }
+{
+    let mut pieces = Vec::with_capacity(alloc, MAX_PIECES.min(nodes.len()))?;
+    let mut nodes = nodes.into_iter();
+    for number in 0..MAX_PIECES {
+        let piece = next_piece(alloc, &mut nodes, size)?;
+        if piece.is_empty() {
+            break;
+        }
+        pieces.push(Piece::new(number, piece))?;
+    }
+    Ok(pieces)
+}

@@ -1,0 +1,25 @@
+// How many workers search side by side.
+ghost use Rattle.std.specs.Prelude.{◌≡◌, ◌<◌, ◌≤◌, ◌↔◌, IsSome, IfSome};
+ghost use Rattle.shop_runs.specs.declared.plans.TheConstants.{MAX_WORKERS};
+
+use crate::plans::MAX_WORKERS;
+
+/// How many workers search side by side: 1 to 64.
+#[derive(Clone, Copy)]
+pub struct Workers {
+    pub count: usize,
+    pub ghost few: { (0 < count) × (count ≤ MAX_WORKERS) },
+}
+
+impl Workers {
+    /// Takes 1 to 64 workers; for any other number it is `None`.
+    pub fn new(count: usize) -> Option<Workers>
+        ensures within { IsSome result ↔ ((0 < count) × (count ≤ MAX_WORKERS)) }
+        ensures keeps { IfSome result (λ workers. workers.count ≡ count) }
+    {
+        if count == 0 || count > MAX_WORKERS {
+            return None;
+        }
+        Some(Workers { count })
+    }
+}

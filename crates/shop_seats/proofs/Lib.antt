@@ -1,9 +1,0 @@
-pub mod ClaimSteps
-pub mod ClosedBoards
-pub mod HitSteps
-pub mod JoinedSeats
-pub mod LawfulSteps
-pub mod Numbers
-pub mod SeatCounts
-pub mod Words
-pub mod MomentRows

@@ -1,8 +1,0 @@
-use Rattle.shop_seats.specs.Seats.{knows}
-use Rattle.shop_seats.proofs.ClosedBoards.{as_many_is_all}
-use Rattle.shop_seats.proofs.laws.has_all.Goals as goal
-
-pub returns : goal.returns
-returns c =
-    let seat = c.args.seat.now in
-    as_many_is_all (knows seat) seat.once seat.pieces c.requires

@@ -1,6 +1,0 @@
-pub mod Views
-pub mod Moments
-pub mod Moves
-pub mod Seats
-pub mod Winners
-pub mod inner

@@ -1,0 +1,37 @@
+-- Spans of lanes whose times and greatest tail fit.
+use Rattle.std.proofs.Common.{◌≡◌, ℕ, ◌+◌, ◌≤◌, inl, inr, List, [], ◌∷◌, refl, arith, sum_by}
+use Rattle.std.proofs.lemmas.Bool.{cases_lt}
+use Rattle.std.proofs.lemmas.List.Sums.{sum_by-cons}
+use Rattle.shop_lanes.specs.Rows.{Lane, Rows, lanes_between}
+use Rattle.shop_lanes.specs.Spans.{FitsSpan, greatest_by, span, spans_between, spans_from}
+use Rattle.shop_states.proofs.SpanTurns.{span_left, span_served, spans_counted, spans_high, spans_low}
+
+span_within : (least start : ℕ) (xs : List Lane)
+    → span least start xs ≤ start + sum_by (λ x. x.time) xs + greatest_by (λ x. x.tail) xs
+span_within least start [] = omega arith
+span_within least start (x ∷ xs) =
+    let sum = sum_by-cons (λ (l : Lane). l.time) x xs
+    in elim (cases_lt x.head least) [
+      | inl left ↦ (let e = span_left least start x xs left in let rest = span_within least start xs in omega arith)
+      | inr served ↦ (let e = span_served least start x xs served
+          in let rest = span_within least (start + x.time) xs in omega arith)
+    ]
+
+pub spans_within : (limit above upto : ℕ) (all : List Lane) → FitsSpan limit upto all → (xs : List Lane)
+    → spans_from above upto all xs ≤ limit
+spans_within limit above upto all fits [] = omega arith
+spans_within limit above upto all fits (x ∷ xs) =
+    let rest = spans_within limit above upto all fits xs
+    in elim (cases_lt above x.head) [
+      | inl after ↦ elim (cases_lt upto x.head) [
+        | inl high ↦ (let e = spans_high above upto all x xs high in omega arith)
+        | inr here ↦ (let e = spans_counted above upto all x xs after here
+            in let own = span_within x.head x.head all in omega arith)
+      ]
+      | inr low ↦ (let e = spans_low above upto all x xs low in omega arith)
+    ]
+
+-- in the same blocks
+pub spans_same : (above upto : ℕ) (rows : Rows) (from to a b : ℕ) → from ≡ a → to ≡ b
+    → spans_between above upto (lanes_between rows from to) ≡ spans_between above upto (lanes_between rows a b)
+spans_same above upto rows from to a b e f = rw (e, f) refl

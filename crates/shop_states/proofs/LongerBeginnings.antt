@@ -1,0 +1,33 @@
+-- A beginning that goes on along a word.
+use Rattle.std.proofs.Common.{◌≡◌, ℕ, ◌≤◌, ◌∙◌, List, length, take, ap, sym, arith}
+use Rattle.std.proofs.lemmas.List.{with_items_is}
+use Rattle.std.specs.Vec.{with_items}
+use Rattle.shop_model.specs.Shop.{Shop, operation_count}
+use Rattle.shop_model.specs.Word.{placing}
+use Rattle.shop_layout.specs.Positions.{LayoutState}
+use Rattle.shop_states.specs.declared.beginnings.Beginning.{Beginning}
+use Rattle.shop_states.specs.inner.Beginnings.{IsBeginningOf}
+use Rattle.shop_states.specs.inner.PlacedNexts.{IsPlacedAt}
+
+pub gone_on : (shop : Shop) (l : LayoutState) (b : Beginning) → IsBeginningOf shop l b → (w row : List ℕ) (n : ℕ)
+    → n ≤ operation_count shop → length row ≡ length b.path.items → take n row ≡ take n w
+    → (nexts ready free : List ℕ) → IsPlacedAt shop (placing shop (take n w)) l nexts ready free
+    → IsBeginningOf shop l (record {
+      path = with_items b.path row;
+      len = n;
+      next = with_items b.next nexts;
+      ready = with_items b.ready ready;
+      free = with_items b.free free;
+    })
+gone_on shop l b is w row n fits long same nexts ready free at =
+    let before = is.placed
+    in let path = with_items_is b.path row (long ∙ sym b.path.ok.0)
+    in let next = with_items_is b.next nexts (at.are_next.jobs ∙ (sym before.are_next.jobs ∙ sym b.next.ok.0))
+    in let readies = with_items_is b.ready ready (at.jobs ∙ (sym before.jobs ∙ sym b.ready.ok.0))
+    in let frees = with_items_is b.free free (at.machines ∙ (sym before.machines ∙ sym b.free.ok.0))
+    in let most : length (with_items b.path row).items ≡ operation_count shop = ap length path ∙ (long ∙ is.room)
+    in record {
+      room = most;
+      within = omega (arith, most, fits);
+      placed = rw (path, next, readies, frees, same) at;
+    }

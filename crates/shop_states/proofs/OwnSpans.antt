@@ -1,0 +1,295 @@
+-- Own spans tell the bound after each candidate of a word.
+use Rattle.std.proofs.Common.{◌≡◌, ℕ, zero, suc, ◌+◌, ◌-◌, ◌*◌, ◌≤◌, ◌<◌, max, inl, inr, true, List}
+use Rattle.std.proofs.Common.{[], ◌∷◌, ◌++◌, length, get_or, drop, refl, sym, ◌∙◌, ap, subst, arith}
+use Rattle.std.proofs.Common.{eqb}
+use Rattle.std.specs.List.{All}
+use Rattle.std.proofs.lemmas.Bool.{and_parts, cases_Bool, cases_lt, eqb-true}
+use Rattle.std.proofs.lemmas.Grind.{same_number_lists}
+use Rattle.std.proofs.lemmas.List.Elements.{All-drop, All-take}
+use Rattle.shop_lanes.specs.Rows.{AreBlocks, Lane, Rows, lanes, lanes_between, lanes_of, blocks}
+use Rattle.shop_lanes.proofs.Columns.{All-by_columns}
+use Rattle.shop_lanes.proofs.LaneLists.{length-blocks, length-lanes}
+use Rattle.shop_lanes.specs.Spans.{AreOwnSpans, FitOwnSpans, own_span}
+use Rattle.shop_model.specs.Limits.{IsWithinLimits}
+use Rattle.shop_model.specs.Shop.{Shop, machine_of}
+use Rattle.shop_model.specs.Word.{Placing, IsWord, placing}
+use Rattle.shop_bound.specs.Bound.{lb}
+use Rattle.shop_bound.specs.Conflicts.{chosen_of, conflict, conflict_among, conflicts_with}
+use Rattle.shop_bound.specs.Conflicts.{next_machine, open_jobs}
+use Rattle.shop_states.specs.inner.Advances.{IsAdvancing, foreseen}
+use Rattle.shop_states.specs.States.{ListsBelow, none, listed, closed}
+use Rattle.shop_states.specs.inner.Candidates.{AreCandidatesOf, IsCandidateOf, IsTold, ListsOwn, own_at}
+use Rattle.shop_states.specs.inner.Candidates.{empty, left_out, taken, told_at}
+use Rattle.shop_layout.specs.HeadLimits.{latest_end}
+use Rattle.shop_states.specs.inner.LaneBounds.{AreSpansFit}
+use Rattle.shop_layout.specs.Lanes.{lanes_on, rows_of}
+use Rattle.shop_states.specs.inner.LaneHeads.{AreHeadsAt}
+use Rattle.shop_states.specs.inner.LaneStates.{IsKeptInLanes}
+use Rattle.shop_layout.specs.Positions.{IsLaidOut, LayoutState, first_position, place}
+use Rattle.shop_states.specs.inner.RisingLists.{IsIn}
+use Rattle.shop_states.specs.declared.dispatching.Candidate.{Candidate}
+use Rattle.shop_states.proofs.Candidates.{advancing, candidate_fits, foreseen_least}
+use Rattle.shop_states.proofs.ChildRaises.{heads_small}
+use Rattle.shop_states.proofs.ChildReads.{head_here, is_operation, machine_here}
+use Rattle.shop_layout.proofs.LaidPlaces.{each_position, place_of}
+use Rattle.shop_states.proofs.LaneConflicts.{in_filter}
+use Rattle.shop_states.proofs.LaneFits.{spans_fit}
+use Rattle.shop_states.proofs.StateSteps.{next_at, next_known, within}
+
+-- heads of one placing are one list
+module _ (shop : Shop) (limits : IsWithinLimits shop) (l : LayoutState) (laid : IsLaidOut shop l) (p : Placing)
+    (hs ks : List ℕ) (a : AreHeadsAt shop p l hs) (b : AreHeadsAt shop p l ks) where
+  head_same : (q : ℕ) → get_or hs q 0 ≡ get_or ks q 0
+  head_same q = elim (each_position shop limits l laid q) [
+    | inl o ↦ (let c = ap (λ (x : ℕ). get_or hs x 0) o.at in let d = ap (λ (x : ℕ). get_or ks x 0) o.at
+        in elim (cases_lt o.step (p.steps o.job)) [
+          | inl before ↦ (let e = a.placed o.job o.step o.is before in let f = b.placed o.job o.step o.is before
+              in omega arith)
+          | inr opened ↦ (let e = a.waiting o.job o.step o.is opened in let f = b.waiting o.job o.step o.is opened
+              in omega arith)
+        ])
+    | inr free ↦ (let e = a.padding q free in let f = b.padding q free in omega arith)
+  ]
+
+  pub same_heads : hs ≡ ks
+  same_heads = same_number_lists hs ks (a.positions ∙ sym b.positions) (λ q known. head_same q)
+
+-- a conflict set is on one machine
+on_its : (shop : Shop) (p : Placing) (c i : ℕ) → conflicts_with shop p c i ≡ true
+    → next_machine shop p i ≡ next_machine shop p c
+on_its shop p c i t = elim (cases_Bool (eqb i c)) [
+  | inl e ↦ ap (next_machine shop p) (eqb-true i c e)
+  | inr e ↦ eqb-true (next_machine shop p i) (next_machine shop p c) (and_parts _ _ (rw e at t)).0
+]
+
+on_one : (shop : Shop) (p : Placing) (js : List ℕ) (i k : ℕ) → IsIn (conflict_among shop p js) i
+    → IsIn (conflict_among shop p js) k → next_machine shop p i ≡ next_machine shop p k
+on_one shop p [] i k h g = absurd h
+on_one shop p (j ∷ js) i k h g =
+    let c = chosen_of shop p j js
+    in on_its shop p c i (in_filter (conflicts_with shop p c) (j ∷ js) i h).1
+    ∙ sym (on_its shop p c k (in_filter (conflicts_with shop p c) (j ∷ js) k g).1)
+
+-- the heads of lanes
+head_in : (hs ts qs : List ℕ) (top : ℕ) → ((q : ℕ) → get_or hs q 0 ≤ top)
+    → All (λ (x : Lane). x.head ≤ top) (lanes hs ts qs)
+head_in [] ts qs top small i d here = absurd (omega arith)
+head_in (h ∷ hs) [] qs top small i d here = absurd (omega arith)
+head_in (h ∷ hs) (t ∷ ts) [] top small i d here = absurd (omega arith)
+head_in (h ∷ hs) (t ∷ ts) (q ∷ qs) top small zero d here = small 0
+head_in (h ∷ hs) (t ∷ ts) (q ∷ qs) top small (suc i) d here =
+    head_in hs ts qs top (λ x. small (suc x)) i d (omega arith)
+
+heads_in : (hs ts qs : List ℕ) (top from to : ℕ) → length ts ≡ length hs → length qs ≡ length hs → 8 * to ≤ length hs
+    → ((q : ℕ) → get_or hs q 0 ≤ top) → All (λ (x : Lane). x.head ≤ top) (lanes_of hs ts qs from to)
+heads_in hs ts qs top from to a b within small =
+    let long = length-lanes hs ts qs a b
+    in All-by_columns (to - from) (blocks from to (lanes hs ts qs))
+    (length-blocks from to (lanes hs ts qs) (omega arith) ∙ omega arith) (λ (x : Lane). x.head ≤ top)
+    (All-take (λ (x : Lane). x.head ≤ top) (8 * to - 8 * from) (drop (8 * from) (lanes hs ts qs))
+    (All-drop (λ (x : Lane). x.head ≤ top) (8 * from) (lanes hs ts qs) (head_in hs ts qs top small)))
+
+-- the own spans of what waits where the next operation of a job does can be told
+pub record CanTell (greatest : ℕ) (rows : Rows) (nexts : List ℕ) (job from to : ℕ) : Type 0 where
+  pub blocks : AreBlocks rows from to
+  pub room : 8 * to - 8 * from ≤ length rows.heads
+  pub fits : FitOwnSpans greatest (lanes_between rows from to)
+  pub low : 8 * from ≤ get_or nexts job 0
+
+module _ (greatest : ℕ) (shop : Shop) (w : List ℕ) (l : LayoutState) (heads ends nexts : List ℕ)
+    (kept : IsKeptInLanes greatest shop w l (rows_of l heads ends) nexts) where
+  -- the own spans of a machine can be told
+  module _ (m : ℕ) (known : m < shop.machines) where
+    fit : AreSpansFit greatest (latest_end shop + 1) shop.machines l (rows_of l heads ends)
+    fit = spans_fit shop kept.kept.limits l kept.kept.laid greatest kept.holds (rows_of l heads ends) refl refl
+        kept.kept.heads.positions
+
+    pub its_blocks : AreBlocks (rows_of l heads ends) (get_or l.blocks m 0) (get_or l.blocks (m + 1) 0)
+    its_blocks = fit.blocks m known
+
+    pub owns_fit : FitOwnSpans greatest (lanes_on (rows_of l heads ends) l m)
+    owns_fit =
+        let all = fit.fits m known
+        in let small = heads_in heads l.times l.tails (latest_end shop + 1) (get_or l.blocks m 0)
+        (get_or l.blocks (m + 1) 0)
+        (kept.kept.laid.positions.times ∙ sym kept.kept.heads.positions)
+        (kept.kept.laid.positions.tails ∙ sym kept.kept.heads.positions) its_blocks.within
+        (heads_small shop kept.kept.limits l kept.kept.laid w kept.kept.word heads kept.kept.heads)
+        in record {
+          whole = omega arith;
+          each = λ i d here. let a = small i d here in omega arith;
+        }
+
+  -- one next operation
+  module _ (j : ℕ) (fits : IsWord shop (w ++ j ∷ [])) where
+    abbrev x : ℕ
+    x = get_or nexts j 0
+
+    its_place : x ≡ place l j ((placing shop w).steps j)
+    its_place = next_at greatest shop w j l (rows_of l heads ends) nexts kept fits x refl
+
+    pub its_machine : get_or l.machines (get_or nexts j 0) 0 ≡ next_machine shop (placing shop w) j
+    its_machine = ap (λ (q : ℕ). get_or l.machines q 0) its_place
+        ∙ machine_here greatest shop w l (rows_of l heads ends) kept.kept j fits l.machines
+        kept.kept.laid.machines_at
+
+    -- the bound after it is no less
+    own_low : max (lb shop w) (own_at l heads x - 1) ≤ lb shop (w ++ j ∷ [])
+    own_low =
+        let b = foreseen l heads ends x (lb shop w)
+        in let a = foreseen_least j kept fits x refl (lb shop w) refl b refl
+        in let most = a.most in omega arith
+
+    own_of : (own : ℕ) → max (lb shop w) own ≡ max (lb shop w) (own_at l heads x - 1) → IsCandidateOf shop w l j own
+    own_of own adds = record {
+      fits = fits;
+      adds = λ hs at.
+          let same = same_heads shop kept.kept.limits l kept.kept.laid (placing shop w) heads hs kept.kept.heads at
+          in adds ∙ (ap (λ (q : ℕ). max (lb shop w) (own_at l heads q - 1)) its_place
+          ∙ ap (λ (ks : List ℕ). max (lb shop w) (own_at l ks (place l j ((placing shop w).steps j)) - 1)) same);
+    }
+
+    -- what a candidate is known by is what is foreseen
+    pub candidate_advancing : (own : ℕ) → IsCandidateOf shop w l j own → (given : List ℕ) → given ≡ nexts
+        → (bound : ℕ) → bound ≡ lb shop w → (least : ℕ) → least ≡ max bound own
+        → IsAdvancing greatest shop w l (rows_of l heads ends) given j least
+    candidate_advancing own is given same bound bound_is least least_is =
+        let a = is.adds heads kept.kept.heads
+        in let b = ap (λ (q : ℕ). own_at l heads q) its_place
+        in subst (λ (ns : List ℕ). IsAdvancing greatest shop w l (rows_of l heads ends) ns j least) (sym same)
+        (advancing j kept fits refl refl bound_is (omega arith))
+
+    its_head : 0 < get_or heads x 0
+    its_head =
+        let a = head_here greatest shop w l (rows_of l heads ends) kept.kept j fits
+        in let b = ap (λ (q : ℕ). get_or heads q 0) its_place in omega arith
+
+    -- among the positions of its machine
+    module _ (m : ℕ) (m_is : get_or l.machines (get_or nexts j 0) 0 ≡ m) where
+      its_from : 8 * get_or l.blocks m 0 ≤ x
+      its_from =
+          let at = place_of shop kept.kept.limits l kept.kept.laid j ((placing shop w).steps j)
+          (is_operation greatest shop w l (rows_of l heads ends) kept.kept j fits)
+          in let a = at.from in let b = its_place
+          in let e : first_position l (machine_of shop j ((placing shop w).steps j)) ≡ first_position l m =
+          ap (first_position l) (sym its_machine ∙ m_is) in omega arith
+
+      its_to : x < 8 * get_or l.blocks (m + 1) 0
+      its_to =
+          let at = place_of shop kept.kept.limits l kept.kept.laid j ((placing shop w).steps j)
+          (is_operation greatest shop w l (rows_of l heads ends) kept.kept j fits)
+          in let a = at.to in let b = its_place
+          in let e : first_position l (machine_of shop j ((placing shop w).steps j) + 1) ≡ first_position l (m + 1) =
+          ap (λ (n : ℕ). first_position l (n + 1)) (sym its_machine ∙ m_is) in omega arith
+
+      pub is_told : (count : ℕ) → count ≡ length heads → IsTold nexts (8 * get_or l.blocks m 0) count j
+      is_told count many = record {
+        job = next_known greatest shop w j l (rows_of l heads ends) nexts kept fits;
+        from = its_from;
+        to = (let a = within greatest shop w j l (rows_of l heads ends) nexts kept fits x refl in omega arith);
+      }
+
+      told_is : (owns : List ℕ)
+          → AreOwnSpans heads l.times l.tails (get_or l.blocks m 0) (get_or l.blocks (m + 1) 0) owns
+          → told_at nexts (8 * get_or l.blocks m 0) owns j ≡ own_at l heads x - 1
+      told_is owns are =
+          ap (λ (n : ℕ). n - 1) (are x its_from its_to its_head
+          ∙ ap (λ (n : ℕ). own_span heads l.times l.tails (get_or l.blocks n 0) (get_or l.blocks (n + 1) 0) x)
+          (sym m_is))
+
+  -- the conflict set
+  module _ (jobs : List ℕ) (set_is : jobs ≡ conflict shop w) where
+    set_fits : (j : ℕ) → IsIn (conflict shop w) j → IsWord shop (w ++ j ∷ [])
+    set_fits j h = candidate_fits shop w kept.kept.word j h
+
+    -- one that adds what its own span does
+    is_one : (j : ℕ) → IsIn (conflict shop w) j → (c : Candidate) → c.job ≡ j
+        → max (lb shop w) c.own ≡ max (lb shop w) (own_at l heads (get_or nexts j 0) - 1)
+        → IsCandidateOf shop w l c.job c.own
+    is_one j h c same adds =
+        subst (λ (i : ℕ). IsCandidateOf shop w l i c.own) (sym same) (own_of j (set_fits j h) c.own adds)
+
+    listing : (limit : ℕ) (own : ℕ → ℕ)
+        → ((j : ℕ) → IsIn (conflict shop w) j → own j ≡ own_at l heads (get_or nexts j 0) - 1)
+        → {js : List ℕ} {cs : List Candidate} {n : ℕ} → ListsOwn limit own js cs n
+        → ((j : ℕ) → IsIn js j → IsIn (conflict shop w) j)
+        → ListsBelow shop w limit (λ c. IsCandidateOf shop w l c.job c.own) js cs n
+    listing limit own tells empty all = none
+    listing limit own tells (taken j c same own_is rest) all =
+        listed j c same
+        (is_one j (all j (inl refl)) c same (ap (max (lb shop w)) (own_is ∙ tells j (all j (inl refl)))))
+        (listing limit own tells rest (λ i h. all i (inr h)))
+    listing limit own tells (left_out j low rest) all =
+        closed j
+        (let a = own_low j (set_fits j (all j (inl refl))) in let b = tells j (all j (inl refl)) in omega arith)
+        (listing limit own tells rest (λ i h. all i (inr h)))
+
+    -- a sole one adds nothing
+    pub alone : (limit j : ℕ) → jobs ≡ j ∷ [] → (cs : List Candidate) → cs ≡ record { job = j; own = 0 } ∷ []
+        → AreCandidatesOf shop w l limit cs 0
+    alone limit j one cs is =
+        let sole : conflict shop w ≡ j ∷ [] = sym set_is ∙ one
+        in let here : IsIn (conflict shop w) j = subst (λ (js : List ℕ). IsIn js j) (sym sole) (inl refl)
+        in let keeps = kept.sole j sole
+        in let low = own_low j (set_fits j here)
+        in subst (λ (ds : List Candidate). AreCandidatesOf shop w l limit ds 0) (sym is)
+        (subst (λ (js : List ℕ). ListsBelow shop w limit (λ c. IsCandidateOf shop w l c.job c.own) js
+        (record { job = j; own = 0 } ∷ []) 0) (sym sole)
+        (listed j (record { job = j; own = 0 }) refl (is_one j here (record { job = j; own = 0 }) refl (omega arith))
+        none))
+
+    -- there is none
+    pub nobody : (limit : ℕ) → jobs ≡ [] → (cs : List Candidate) → cs ≡ [] → AreCandidatesOf shop w l limit cs 0
+    nobody limit no_jobs cs is =
+        subst (λ (ds : List Candidate). AreCandidatesOf shop w l limit ds 0) (sym is)
+        (subst (λ (js : List ℕ). ListsBelow shop w limit (λ c. IsCandidateOf shop w l c.job c.own) js [] 0)
+        (sym no_jobs ∙ set_is) none)
+
+    -- the machine of one of them, and its blocks
+    module _ (first : ℕ) (has : IsIn (conflict shop w) first) (m : ℕ)
+        (m_is : m ≡ get_or l.machines (get_or nexts first 0) 0) (from to : ℕ)
+        (from_is : from ≡ get_or l.blocks m 0) (to_is : to ≡ get_or l.blocks (m + 1) 0) where
+      abbrev first_fits : IsWord shop (w ++ first ∷ [])
+      first_fits = set_fits first has
+
+      on_its_machine : (j : ℕ) → IsIn (conflict shop w) j → get_or l.machines (get_or nexts j 0) 0 ≡ m
+      on_its_machine j h =
+          its_machine j (set_fits j h)
+          ∙ (on_one shop (placing shop w) (open_jobs shop (placing shop w)) j first h has
+          ∙ (sym (its_machine first first_fits) ∙ sym m_is))
+
+      m_known : m < shop.machines
+      m_known =
+          let a = its_machine first first_fits in let e = m_is
+          in let b = kept.kept.limits.on_machines first ((placing shop w).steps first) in omega arith
+
+      blocks_are : AreBlocks (rows_of l heads ends) from to
+      blocks_are = rw (from_is, to_is) (its_blocks m m_known)
+
+      pub can_tell : CanTell greatest (rows_of l heads ends) nexts first from to
+      can_tell =
+          let b = blocks_are in let b1 = b.ordered in let b2 = b.within
+          in let c = its_from first first_fits m (sym m_is)
+          in record {
+            blocks = b;
+            room = omega arith;
+            fits = rw (from_is, to_is) (owns_fit m m_known);
+            low = omega arith;
+          }
+
+      pub told_all : (count : ℕ) → count ≡ length heads → (j : ℕ) → IsIn jobs j → IsTold nexts (8 * from) count j
+      told_all count many j h =
+          let g = subst (λ (js : List ℕ). IsIn js j) set_is h
+          in subst (λ (n : ℕ). IsTold nexts (8 * n) count j) (sym from_is)
+          (is_told j (set_fits j g) m (on_its_machine j g) count many)
+
+      pub told : (owns : List ℕ) → AreOwnSpans heads l.times l.tails from to owns
+          → (limit : ℕ) (cs : List Candidate) (others : ℕ)
+          → ListsOwn limit (told_at nexts (8 * from) owns) jobs cs others
+          → AreCandidatesOf shop w l limit cs others
+      told owns spans limit cs others list =
+          subst (λ (js : List ℕ). ListsBelow shop w limit (λ c. IsCandidateOf shop w l c.job c.own) js cs others) set_is
+          (listing limit (told_at nexts (8 * from) owns) (λ j h.
+          ap (λ (n : ℕ). told_at nexts (8 * n) owns j) from_is
+          ∙ told_is j (set_fits j h) m (on_its_machine j h) owns (rw (from_is, to_is) at spans)) list
+          (λ j h. subst (λ (js : List ℕ). IsIn js j) set_is h))

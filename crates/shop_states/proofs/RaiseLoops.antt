@@ -1,0 +1,332 @@
+-- Raises one after another.
+use Rattle.std.proofs.Common.{◌≡◌, ℕ, zero, suc, ◌+◌, ◌*◌, ◌-◌, ◌≤◌, ◌<◌, ◌⊎◌, inl, inr, Bool, true}
+use Rattle.std.proofs.Common.{List, [], ◌∷◌, length, get_or, take, drop, refl, sym, ◌∙◌, ap, subst}
+use Rattle.std.proofs.Common.{arith, ltb}
+use Rattle.std.proofs.lemmas.Bool.{cases_Bool, cases_eq, cases_lt, and_from, and_parts, lt-ltb}
+use Rattle.std.proofs.lemmas.Bool.{ltb-true}
+use Rattle.std.proofs.lemmas.List.{get_or_past, get_or-take, get_or-drop, length-take-le}
+use Rattle.std.proofs.lemmas.List.{length-drop}
+use Rattle.shop_lanes.specs.Rows.{Rows}
+use Rattle.shop_lanes.specs.Marks.{marked, waits_below, positions_below}
+use Rattle.shop_layout.specs.Positions.{LayoutState, place}
+use Rattle.shop_states.specs.inner.RisingLists.{IsIn, Rises}
+use Rattle.shop_states.specs.inner.Raises.{at_in, AreInRouteOrder, IsRaised, IsLeastRaise, IsRaisable}
+use Rattle.shop_states.specs.inner.Raises.{Raises, IsFollowed, IsIndexed, IsPosition, IsInBlocks}
+
+weaker : (l : LayoutState) (A B : ℕ → Type 0) (e : ℕ) (old new : ℕ → ℕ) → ((q : ℕ) → B q → A q)
+    → IsRaised l A e old new → IsRaised l B e old new
+weaker l A B e old new part r = record {
+  rises = r.rises;
+  rests = r.rests;
+  order = r.order;
+  reach = λ q in_part waits. r.reach q (part q in_part) waits;
+}
+
+-- what was to come is still to come, and no less
+go_on : (l : LayoutState) (A B C : ℕ → Type 0) (e : ℕ) (a b : List ℕ) (other : ℕ → ℕ) → IsLeastRaise l A e a b
+    → ((q : ℕ) → A q → C q) → ((q : ℕ) → B q → C q) → IsRaised l C e (at_in a) other
+    → IsRaised l B e (at_in b) other
+go_on l A B C e a b other least in_a in_b raised = record {
+  rises = least.least other (weaker l C A e (at_in a) other in_a raised);
+  rests = λ q none. raised.rests q (let x = least.raised.rises q in omega arith);
+  order = raised.order;
+  reach = λ q part waits. raised.reach q (in_b q part) (elim (cases_eq (get_or a q 0) 0) [
+    | inl z ↦ (let x = least.raised.rests q z in absurd (omega arith))
+    | inr z ↦ omega arith
+  ]);
+}
+
+pub then_least : (l : LayoutState) (A B C : ℕ → Type 0) (e : ℕ) (a b c : List ℕ) → IsLeastRaise l A e a b
+    → IsLeastRaise l B e b c → ((q : ℕ) → C q → A q ⊎ B q) → ((q : ℕ) → A q → C q) → ((q : ℕ) → B q → C q)
+    → IsLeastRaise l C e a c
+then_least l A B C e a b c x y split in_a in_b = record {
+  positions = y.positions ∙ x.positions;
+  raised = record {
+    rises = λ q. let u = x.raised.rises q in let v = y.raised.rises q in omega arith;
+    rests = λ q none. y.raised.rests q (x.raised.rests q none);
+    order = y.raised.order;
+    reach = λ q here waits. elim (split q here) [
+      | inl f ↦ (let u = x.raised.reach q f waits in let v = y.raised.rises q in omega arith)
+      | inr f ↦ y.raised.reach q f (let u = x.raised.rises q in omega arith)
+    ];
+  };
+  least = λ other raised. y.least other (go_on l A B C e a b other x in_a in_b raised);
+}
+
+pub then_raises : (greatest : ℕ) (l : LayoutState) (nexts : List ℕ) (A B C : ℕ → Type 0) (e : ℕ) (a b c : Rows)
+    → Raises greatest l nexts A e a b → Raises greatest l nexts B e b c → ((q : ℕ) → C q → A q ⊎ B q)
+    → ((q : ℕ) → A q → C q)
+    → ((q : ℕ) → B q → C q) → Raises greatest l nexts C e a c
+then_raises greatest l nexts A B C e a b c x y split in_a in_b = record {
+  raised = then_least l A B C e a.heads b.heads c.heads x.raised y.raised split in_a in_b;
+  times = y.times ∙ x.times;
+  tails = y.tails ∙ x.tails;
+  ends = record {
+    long = y.ends.long ∙ x.ends.long;
+    none = λ f. y.ends.none f ∙ x.ends.none f;
+    each = λ j known is. y.ends.each j known (x.ends.each j known is);
+  };
+}
+
+-- what can be raised at more positions can be raised at those that are left
+pub still_raisable : (greatest : ℕ) (l : LayoutState) (nexts : List ℕ) (A B C : ℕ → Type 0) (e : ℕ) (a b : Rows)
+    → IsRaisable greatest l nexts a C e → Raises greatest l nexts A e a b → ((q : ℕ) → A q → C q)
+    → ((q : ℕ) → B q → C q)
+    → IsRaisable greatest l nexts b B e
+still_raisable greatest l nexts A B C e a b can x in_a in_b = record {
+  firsts = record {
+    own = λ j known here. can.firsts.own j known (let y = x.raised.positions in omega arith);
+    first = λ j i k known more at. x.raised.raised.rests (place l i k) (can.firsts.first j i k known more at);
+  };
+  ends = (let y = x.ends.long in let z = can.ends in omega arith);
+  indexed = subst (λ (k : ℕ). IsIndexed l k) (sym x.raised.positions) can.indexed;
+  followed = subst (λ (k : ℕ). IsFollowed l k) (sym x.raised.positions) can.followed;
+  machines = can.machines ∙ sym x.raised.positions;
+  times = x.times ∙ can.times;
+  timed = can.timed ∙ sym x.raised.positions;
+  places = λ q waits. can.places q (elim (cases_eq (get_or a.heads q 0) 0) [
+    | inl z ↦ (let y = x.raised.raised.rests q z in absurd (omega arith))
+    | inr z ↦ omega arith
+  ]);
+  order = x.raised.raised.order;
+  other = can.other;
+  raised = go_on l A B C e a.heads b.heads can.other x.raised in_a in_b can.raised;
+  fits = can.fits;
+  computable = can.computable;
+}
+
+-- at no position
+pub raises_none : (greatest : ℕ) (l : LayoutState) (nexts : List ℕ) (A : ℕ → Type 0) (e : ℕ) (a : Rows)
+    → AreInRouteOrder l (at_in a.heads) → ((q : ℕ) → A q → 0 < get_or a.heads q 0 → e ≤ get_or a.heads q 0)
+    → Raises greatest l nexts A e a a
+raises_none greatest l nexts A e a order enough = record {
+  raised = record {
+    positions = refl;
+    raised = record { rises = λ q. omega arith; rests = λ q z. z; order = order; reach = enough };
+    least = λ other raised q. raised.rises q;
+  };
+  times = refl;
+  tails = refl;
+  ends = record { long = refl; none = λ f. refl; each = λ j known is. is };
+}
+
+module _ (p : ℕ → Bool) where
+  pub marked_in : (at : ℕ) (xs : List ℕ) (i : ℕ) → i < length xs → p (get_or xs i 0) ≡ true
+      → IsIn (marked p at xs) (at + i)
+  marked_in at [] i below is = absurd (omega arith)
+  marked_in at (x ∷ xs) zero below is = rw is (inl (omega arith))
+  marked_in at (x ∷ xs) (suc i) below is =
+      let e : at + 1 + i ≡ at + suc i = omega arith
+      in let rest = subst (IsIn (marked p (at + 1) xs)) e (marked_in (at + 1) xs i (omega arith) is)
+      in elim (cases_Bool (p x)) [
+        | inl t ↦ rw t (inr rest)
+        | inr t ↦ rw t rest
+      ]
+
+  abbrev IsMarked : ℕ → List ℕ → ℕ → Type 0
+  IsMarked at xs q = (i : ℕ) × (i < length xs) × (q ≡ at + i) × (p (get_or xs i 0) ≡ true)
+
+  later : (at : ℕ) (x : ℕ) (xs : List ℕ) (q : ℕ) → IsMarked (at + 1) xs q → IsMarked at (x ∷ xs) q
+  later at x xs q m = (suc m.0, (let a = m.1 in omega arith), (let a = m.2 in omega arith), m.3)
+
+  pub marked_out : (at : ℕ) (xs : List ℕ) (q : ℕ) → IsIn (marked p at xs) q → IsMarked at xs q
+  marked_out at [] q h = absurd h
+  marked_out at (x ∷ xs) q h = elim (cases_Bool (p x)) [
+    | inl t ↦ elim (rw t at h) [
+      | inl e ↦ (zero, omega arith, omega arith, t)
+      | inr rest ↦ later at x xs q (marked_out (at + 1) xs q rest)
+    ]
+    | inr t ↦ later at x xs q (marked_out (at + 1) xs q (rw t at h))
+  ]
+
+  pub marked_rises : (at : ℕ) (xs : List ℕ) → Rises (marked p at xs)
+  marked_rises at [] = tt
+  marked_rises at (x ∷ xs) = elim (cases_Bool (p x)) [
+    | inl t ↦ rw t (
+      (λ q h. let m = marked_out (at + 1) xs q h in let a = m.2 in omega arith),
+      marked_rises (at + 1) xs,
+    )
+    | inr t ↦ rw t (marked_rises (at + 1) xs)
+  ]
+
+-- those in the blocks that are no longer to come
+abbrev pub IsDone : ℕ → ℕ → List ℕ → ℕ → Type 0
+IsDone from to todo q = IsInBlocks from to q × (IsIn todo q → ⊥)
+
+-- the positions to come, in order, at which something waits
+pub record AreToCome (from to : ℕ) (todo : List ℕ) (heads : List ℕ) : Type 0 where
+  pub waits : (q : ℕ) → IsIn todo q → IsInBlocks from to q × (0 < get_or heads q 0)
+  pub rises : Rises todo
+
+pub record AreBlocksRaised (greatest : ℕ) (l : LayoutState) (nexts : List ℕ) (from to e : ℕ) (todo : List ℕ)
+    (old now : Rows) : Type 0 where
+  pub raises : Raises greatest l nexts (IsDone from to todo) e old now
+  pub to_come : AreToCome from to todo old.heads
+
+module _ (greatest : ℕ) (l : LayoutState) (nexts : List ℕ) (from to e : ℕ) (old : Rows)
+    (can : IsRaisable greatest l nexts old (IsInBlocks from to) e) where
+  pub blocks_begin : from ≤ to → 8 * to ≤ length old.heads → (todo : List ℕ)
+      → todo ≡ positions_below old from to e → AreBlocksRaised greatest l nexts from to e todo old old
+  blocks_begin ordered within todo is =
+      let part : List ℕ = take (8 * to - 8 * from) (drop (8 * from) old.heads)
+      in let p : ℕ → Bool = waits_below e
+      in let long : length part ≡ 8 * to - 8 * from =
+      length-take-le (8 * to - 8 * from) (drop (8 * from) old.heads) (omega (arith, length-drop (8 * from) old.heads))
+      in let at : (i : ℕ) → i < 8 * to - 8 * from → get_or part i 0 ≡ get_or old.heads (8 * from + i) 0 =
+      (λ i below. get_or-take (8 * to - 8 * from) (drop (8 * from) old.heads) i 0 below
+      ∙ get_or-drop (8 * from) old.heads i 0)
+      in record {
+        raises = raises_none greatest l nexts (IsDone from to todo) e old can.order (λ q done waits.
+            elim (cases_lt (get_or old.heads q 0) e) [
+              | inl low ↦ (
+                  let i = q - 8 * from
+                  in let a = done.0.0
+                  in let b = done.0.1
+                  in let e_q : 8 * from + i ≡ q = omega arith
+                  in let same = at i (omega arith) ∙ ap (λ (x : ℕ). get_or old.heads x 0) e_q
+                  in absurd (done.1 (subst (λ (xs : List ℕ). IsIn xs q) (sym is)
+                  (subst (IsIn (marked p (8 * from) part)) e_q (marked_in p (8 * from) part i (omega arith)
+                  (and_from (ltb 0 (get_or part i 0)) (ltb (get_or part i 0) e)
+                  (lt-ltb 0 (get_or part i 0) (omega arith))
+                  (lt-ltb (get_or part i 0) e (omega arith))))))))
+              | inr enough ↦ enough
+            ]);
+        to_come = record {
+          waits = λ q h.
+              let m = marked_out p (8 * from) part q (subst (λ (xs : List ℕ). IsIn xs q) is h)
+              in let i = m.0
+              in let below = m.1
+              in let q_is = m.2
+              in let same = at i (omega arith) ∙ ap (λ (x : ℕ). get_or old.heads x 0) (sym q_is)
+              in let some : 0 < get_or part i 0 = ltb-true 0 (get_or part i 0)
+              (and_parts (ltb 0 (get_or part i 0)) (ltb (get_or part i 0) e) m.3).0
+              in ((omega arith, omega arith), omega arith);
+          rises = subst Rises (sym is) (marked_rises p (8 * from) part);
+        };
+      }
+
+  module _ (todo : List ℕ) (now : Rows)
+      (so_far : AreBlocksRaised greatest l nexts from to e todo old now) (q : ℕ) (rest : List ℕ)
+      (popped : todo ≡ q ∷ rest) where
+    is_in : IsIn todo q
+    is_in = subst (λ (xs : List ℕ). IsIn xs q) (sym popped) (inl refl)
+
+    pub popped_waits : 0 < get_or now.heads q 0
+    popped_waits = let a = so_far.to_come.waits q is_in in let b = a.1 in let c = so_far.raises.raised.raised.rises q
+        in omega arith
+
+    pub popped_within : q < length now.heads
+    popped_within = elim (cases_lt q (length now.heads)) [
+      | inl h ↦ h
+      | inr h ↦ (let a = get_or_past now.heads q 0 h in let b = popped_waits in absurd (omega arith))
+    ]
+
+    pub popped_here : IsInBlocks from to q
+    popped_here = (so_far.to_come.waits q is_in).0
+
+    popped_to_come : AreToCome from to rest old.heads
+    popped_to_come = record {
+      waits = λ r h. so_far.to_come.waits r (subst (λ (xs : List ℕ). IsIn xs r) (sym popped) (inr h));
+      rises = (subst Rises popped so_far.to_come.rises).1;
+    }
+
+    not_in_rest : IsIn rest q → ⊥
+    not_in_rest h = let a = (subst Rises popped so_far.to_come.rises).0 q h in omega arith
+
+    still_done : (r : ℕ) → IsDone from to todo r → IsDone from to rest r
+    still_done r d = (d.0, λ h. d.1 (subst (λ (xs : List ℕ). IsIn xs r) (sym popped) (inr h)))
+
+    more_done : (r : ℕ) → IsDone from to rest r → IsDone from to todo r ⊎ (r ≡ q)
+    more_done r d = elim (cases_eq r q) [
+      | inl f ↦ inr f
+      | inr ne ↦ inl (
+        d.0,
+        λ h. elim (subst (λ (xs : List ℕ). IsIn xs r) popped h) [
+          | inl f ↦ ne f
+          | inr g ↦ d.1 g
+        ],
+      )
+    ]
+
+    here_done : (r : ℕ) → r ≡ q → IsDone from to rest r
+    here_done r f = (
+      (subst (IsInBlocks from to) (sym f) (so_far.to_come.waits q is_in).0),
+      λ h. not_in_rest (subst (IsIn rest) f h),
+    )
+
+    pub popped_raisable : IsRaisable greatest l nexts now (IsPosition q) e
+    popped_raisable =
+        still_raisable greatest l nexts (IsDone from to todo) (IsPosition q) (IsInBlocks from to) e old now can
+        so_far.raises (λ r d. d.0) (λ r f. (here_done r f).0)
+
+    pub blocks_on : (new : Rows) → Raises greatest l nexts (IsPosition q) e now new
+        → AreBlocksRaised greatest l nexts from to e rest old new
+    blocks_on new raised = record {
+      raises = then_raises greatest l nexts (IsDone from to todo) (IsPosition q)
+          (IsDone from to rest) e old now new
+          so_far.raises raised more_done still_done here_done;
+      to_come = popped_to_come;
+    }
+
+    pub blocks_past : e ≤ get_or now.heads q 0 → AreBlocksRaised greatest l nexts from to e rest old now
+    blocks_past enough = blocks_on now
+        (raises_none greatest l nexts (IsPosition q) e now so_far.raises.raised.raised.order
+        (λ r f _. subst (λ (x : ℕ). e ≤ get_or now.heads x 0) (sym f) enough))
+
+  pub blocks_end : (todo : List ℕ) (now : Rows) → todo ≡ []
+      → AreBlocksRaised greatest l nexts from to e todo old now
+      → Raises greatest l nexts (IsInBlocks from to) e old now
+  blocks_end todo now none so_far = record {
+    raised = record {
+      positions = so_far.raises.raised.positions;
+      raised = record {
+        rises = so_far.raises.raised.raised.rises;
+        rests = so_far.raises.raised.raised.rests;
+        order = so_far.raises.raised.raised.order;
+        reach = λ q here waits. so_far.raises.raised.raised.reach q
+            (here, λ h. subst (λ (xs : List ℕ). IsIn xs q) none h) waits;
+      };
+      least = λ other raised. so_far.raises.raised.least other
+          (weaker l (IsInBlocks from to) (IsDone from to todo) e (at_in old.heads) other (λ q d. d.0) raised);
+    };
+    times = so_far.raises.times;
+    tails = so_far.raises.tails;
+    ends = so_far.raises.ends;
+  }
+
+-- blocks after blocks
+module _ (greatest : ℕ) (l : LayoutState) (nexts : List ℕ) (first from to behind e : ℕ) (old now : Rows)
+    (raises : Raises greatest l nexts (IsInBlocks first from) e old now) (ordered : first ≤ from)
+    (on : from ≤ to) (within : to ≤ behind) where
+  pub blocks_raisable : IsRaisable greatest l nexts old (IsInBlocks first behind) e
+      → IsRaisable greatest l nexts now (IsInBlocks from to) e
+  blocks_raisable can =
+      still_raisable greatest l nexts (IsInBlocks first from) (IsInBlocks from to) (IsInBlocks first behind) e old now
+      can raises (λ q h. let a = h.0 in let b = h.1 in (omega arith, omega arith))
+      (λ q h. let a = h.0 in let b = h.1 in (omega arith, omega arith))
+
+  pub more_blocks : (new : Rows) → Raises greatest l nexts (IsInBlocks from to) e now new
+      → Raises greatest l nexts (IsInBlocks first to) e old new
+  more_blocks new raised =
+      then_raises greatest l nexts (IsInBlocks first from) (IsInBlocks from to) (IsInBlocks first to) e old now new
+      raises raised
+      (λ q h. let a = h.0 in let b = h.1 in elim (cases_lt q (8 * from)) [
+        | inl low ↦ inl (a, low)
+        | inr high ↦ inr (high, b)
+      ])
+      (λ q h. let a = h.0 in let b = h.1 in (omega arith, omega arith))
+      (λ q h. let a = h.0 in let b = h.1 in (omega arith, omega arith))
+
+-- no blocks yet
+pub no_blocks : (greatest : ℕ) (l : LayoutState) (nexts : List ℕ) (first behind e : ℕ) (old : Rows)
+    → IsRaisable greatest l nexts old (IsInBlocks first behind) e
+    → Raises greatest l nexts (IsInBlocks first first) e old old
+no_blocks greatest l nexts first behind e old can =
+    raises_none greatest l nexts (IsInBlocks first first) e old can.order
+    (λ q h waits. let a = h.0 in let b = h.1 in absurd (omega arith))
+
+pub all_blocks : (greatest : ℕ) (l : LayoutState) (nexts : List ℕ) (first from behind e : ℕ) (old now : Rows)
+    → from ≡ behind → Raises greatest l nexts (IsInBlocks first from) e old now
+    → Raises greatest l nexts (IsInBlocks first behind) e old now
+all_blocks greatest l nexts first from behind e old now same raises =
+    subst (λ (x : ℕ). Raises greatest l nexts (IsInBlocks first x) e old now) same raises

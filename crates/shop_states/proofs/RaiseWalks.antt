@@ -1,0 +1,215 @@
+-- Heads are raised along a route while they are too small.
+use Rattle.std.proofs.Common.{◌≡◌, ℕ, ◌+◌, ◌≤◌, ◌<◌, inl, inr, List, length, get_or, set, refl, sym}
+use Rattle.std.proofs.Common.{◌∙◌, ap, subst, arith}
+use Rattle.std.proofs.lemmas.Bool.{cases_eq}
+use Rattle.std.proofs.lemmas.Grind.{get_or-set_at}
+use Rattle.std.proofs.lemmas.List.{get_or-set_other, length-set}
+use Rattle.shop_layout.specs.Positions.{LayoutState, place}
+use Rattle.shop_states.specs.inner.Raises.{steps_of, at_in, IsIndexed, IsPlace, AreInRouteOrder}
+use Rattle.shop_states.specs.inner.Raises.{IsRaised, IsLeastRaise, IsPosition}
+
+-- OperationId p was raised to e, and the route of job i from it on up to the step before t, which ends at `ready`.
+pub record IsRaisedUpTo (l : LayoutState) (p e i t ready : ℕ) (old new : List ℕ) : Type 0 where
+  pub before : ℕ
+  pub next : t ≡ before + 1
+  pub within : before < steps_of l i
+  pub positions : length new ≡ length old
+  pub rises : (q : ℕ) → get_or old q 0 ≤ get_or new q 0
+  pub rests : (q : ℕ) → get_or old q 0 ≡ 0 → get_or new q 0 ≡ 0
+  pub order : (j k : ℕ) → k + 1 < steps_of l j → ((j ≡ i) × (k ≡ before) → ⊥) → 0 < get_or new (place l j k) 0
+      → get_or new (place l j k) 0 + get_or l.times (place l j k) 0 ≤ get_or new (place l j (k + 1)) 0
+  pub waits : 0 < get_or new (place l i before) 0
+  pub ready_is : ready ≡ get_or new (place l i before) 0 + get_or l.times (place l i before) 0
+  pub reach : e ≤ get_or new p 0
+  pub least : (other : ℕ → ℕ) → IsRaised l (IsPosition p) e (at_in old) other → (q : ℕ) → get_or new q 0 ≤ other q
+
+module _ (l : LayoutState) (n : ℕ) (ix : IsIndexed l n) where
+  pub apart : (j k i t : ℕ) → k < steps_of l j → t < steps_of l i → place l j k ≡ place l i t → (j ≡ i) × (k ≡ t)
+  apart j k i t here there same =
+      let a = ix.step j k here
+      in let b = ix.step i t there
+      in (
+        sym a.job ∙ (ap (λ (x : ℕ). get_or l.jobs x 0) same ∙ b.job),
+        sym a.step ∙ (ap (λ (x : ℕ). get_or l.steps x 0) same ∙ b.step),
+      )
+
+  pub place_within : (j k : ℕ) → k < steps_of l j → place l j k < n
+  place_within j k here = let a = ix.step j k here in let b = a.within in let c = ix.jobs in omega arith
+
+  module _ (p e i : ℕ) (old : List ℕ) (long : length old ≡ n) where
+    pub walk_begins : (t ready : ℕ) → IsPlace l p → i ≡ get_or l.jobs p 0 → t ≡ get_or l.steps p 0 + 1
+        → ready ≡ e + get_or l.times p 0 → AreInRouteOrder l (at_in old) → 0 < get_or old p 0 → get_or old p 0 ≤ e
+        → IsRaisedUpTo l p e i t ready old (set old p e)
+    walk_begins t ready at job step sum order waits below =
+        let s = get_or l.steps p 0
+        in let in_row : s < steps_of l i = subst (λ (x : ℕ). s < steps_of l x) (sym job) at.step
+        in let here : place l i s ≡ p = subst (λ (x : ℕ). place l x s ≡ p) (sym job) at.is
+        in let within : p < length old = (let a = place_within i s in_row in omega arith)
+        in let now : get_or (set old p e) p 0 ≡ e = get_or-set_at old p p e 0 refl within
+        in let there : get_or (set old p e) (place l i s) 0 ≡ e = get_or-set_at old p (place l i s) e 0 here within
+        in record {
+          before = s;
+          next = step;
+          within = in_row;
+          positions = length-set old p e;
+          rises = λ q. elim (cases_eq q p) [
+            | inl f ↦ (let a = get_or-set_at old p q e 0 f within
+                in let b : get_or old q 0 ≡ get_or old p 0 = ap (λ (x : ℕ). get_or old x 0) f in omega arith)
+            | inr ne ↦ (let a = get_or-set_other old p q e 0 ne in omega arith)
+          ];
+          rests = λ q none. elim (cases_eq q p) [
+            | inl f ↦ (let b : get_or old q 0 ≡ get_or old p 0 = ap (λ (x : ℕ). get_or old x 0) f
+                in absurd (omega arith))
+            | inr ne ↦ get_or-set_other old p q e 0 ne ∙ none
+          ];
+          order = λ j k two not_here some.
+              let other : place l j k ≡ p → ⊥ = (λ f. not_here (apart j k i s (omega arith) in_row (f ∙ sym here)))
+              in let same = get_or-set_other old p (place l j k) e 0 other
+              in let was = order j k two (omega arith)
+              in elim (cases_eq (place l j (k + 1)) p) [
+                | inl f ↦ (let a = get_or-set_at old p (place l j (k + 1)) e 0 f within
+                    in let b : get_or old (place l j (k + 1)) 0 ≡ get_or old p 0 = ap (λ (x : ℕ). get_or old x 0) f
+                    in omega arith)
+                | inr ne ↦ (let a = get_or-set_other old p (place l j (k + 1)) e 0 ne in omega arith)
+              ];
+          waits = omega arith;
+          ready_is = (let a : get_or l.times (place l i s) 0 ≡ get_or l.times p 0 =
+              ap (λ (x : ℕ). get_or l.times x 0) here in omega arith);
+          reach = omega arith;
+          least = λ other raised q. elim (cases_eq q p) [
+            | inl f ↦ (let a = get_or-set_at old p q e 0 f within
+                in let b = raised.reach q f (let c : get_or old q 0 ≡ get_or old p 0 = ap (λ (x : ℕ). get_or old x 0) f
+                in omega arith)
+                in omega arith)
+            | inr ne ↦ (let a = get_or-set_other old p q e 0 ne in let b = raised.rises q in omega arith)
+          ];
+        }
+
+    module _ (t ready : ℕ) (new : List ℕ) (so_far : IsRaisedUpTo l p e i t ready old new) where
+      -- any raise has the next step wait until the one before it ends
+      pub next_least : (other : ℕ → ℕ) → IsRaised l (IsPosition p) e (at_in old) other → t < steps_of l i
+          → ready ≤ other (place l i t)
+      next_least other raised more =
+          let b = so_far.before
+          in let next : place l i t ≡ place l i (b + 1) = ap (place l i) so_far.next
+          in let below = so_far.least other raised (place l i b)
+          in let w = so_far.waits
+          in let r = so_far.ready_is
+          in let f = so_far.next
+          in let a = raised.order i b (omega arith) (omega arith)
+          in let c : other (place l i t) ≡ other (place l i (b + 1)) = ap other next
+          in omega arith
+
+      pub walk_on : (order : AreInRouteOrder l (at_in old)) → t < steps_of l i → (q h : ℕ) → q ≡ place l i t
+          → get_or new q 0 < ready → h ≡ ready + get_or l.times q 0
+          → IsRaisedUpTo l p e i (t + 1) h old (set new q ready)
+      walk_on order more q h at below sum =
+          let b = so_far.before
+          in let f = so_far.next
+          in let next : place l i t ≡ place l i (b + 1) = ap (place l i) so_far.next
+          in let within : q < length new = (let a = place_within i t more in let c = so_far.positions in omega arith)
+          in let now : get_or (set new q ready) q 0 ≡ ready = get_or-set_at new q q ready 0 refl within
+          in let at_t : get_or (set new q ready) (place l i t) 0 ≡ ready =
+          get_or-set_at new q (place l i t) ready 0 (sym at) within
+          in let time_t : get_or l.times (place l i t) 0 ≡ get_or l.times q 0 =
+          ap (λ (x : ℕ). get_or l.times x 0) (sym at)
+          in let some = so_far.waits
+          in let sums = so_far.ready_is
+          in let not_before : place l i b ≡ q → ⊥ =
+          (λ same. let z = (apart i b i t so_far.within more (same ∙ at)).1 in omega arith)
+          in record {
+            before = t;
+            next = refl;
+            within = more;
+            positions = length-set new q ready ∙ so_far.positions;
+            rises = λ r. elim (cases_eq r q) [
+              | inl g ↦ (let a = get_or-set_at new q r ready 0 g within
+                  in let c : get_or new r 0 ≡ get_or new q 0 = ap (λ (x : ℕ). get_or new x 0) g
+                  in let d = so_far.rises r in omega arith)
+              | inr ne ↦ (let a = get_or-set_other new q r ready 0 ne in let d = so_far.rises r in omega arith)
+            ];
+            rests = λ r none. elim (cases_eq r q) [
+              | inl g ↦ (
+                  let c : get_or old r 0 ≡ get_or old (place l i (b + 1)) 0 =
+                  ap (λ (x : ℕ). get_or old x 0) (g ∙ (at ∙ next))
+                  in let d : 0 < get_or old (place l i b) 0 = elim (cases_eq (get_or old (place l i b) 0) 0) [
+                    | inl z ↦ (let y = so_far.rests (place l i b) z in absurd (omega arith))
+                    | inr z ↦ omega arith
+                  ]
+                  in let y = order i b (omega arith) d
+                  in absurd (omega arith))
+              | inr ne ↦ get_or-set_other new q r ready 0 ne ∙ so_far.rests r none
+            ];
+            order = λ j k two not_here waiting.
+                let other : place l j k ≡ q → ⊥ =
+                (λ g. not_here (apart j k i t (omega arith) more (g ∙ at)))
+                in let same = get_or-set_other new q (place l j k) ready 0 other
+                in elim (cases_eq (place l j (k + 1)) q) [
+                  | inl g ↦ (let z = apart j (k + 1) i t two more (g ∙ at)
+                      in let a = get_or-set_at new q (place l j (k + 1)) ready 0 g within
+                      in let k_is : k ≡ b = (let y = z.1 in omega arith)
+                      in let c : place l j k ≡ place l i b = ap (λ (x : ℕ). place l x k) z.0 ∙ ap (place l i) k_is
+                      in let d : get_or new (place l j k) 0 ≡ get_or new (place l i b) 0 =
+                      ap (λ (x : ℕ). get_or new x 0) c
+                      in let u : get_or l.times (place l j k) 0 ≡ get_or l.times (place l i b) 0 =
+                      ap (λ (x : ℕ). get_or l.times x 0) c
+                      in omega arith)
+                  | inr ne ↦ (let a = get_or-set_other new q (place l j (k + 1)) ready 0 ne
+                      in let c = so_far.order j k two
+                      (λ z. ne (ap (λ (x : ℕ). place l x (k + 1)) z.0
+                      ∙ (ap (λ (x : ℕ). place l i (x + 1)) z.1 ∙ (sym next ∙ sym at))))
+                      (omega arith)
+                      in omega arith)
+                ];
+            waits = (let a = so_far.rises q in omega arith);
+            ready_is = omega arith;
+            reach = elim (cases_eq p q) [
+              | inl g ↦ (let a = get_or-set_at new q p ready 0 g within
+                  in let c : get_or new p 0 ≡ get_or new q 0 = ap (λ (x : ℕ). get_or new x 0) g
+                  in let d = so_far.reach in omega arith)
+              | inr ne ↦ (let a = get_or-set_other new q p ready 0 ne in let d = so_far.reach in omega arith)
+            ];
+            least = λ other raised r. elim (cases_eq r q) [
+              | inl g ↦ (let a = get_or-set_at new q r ready 0 g within
+                  in let c : other r ≡ other (place l i t) = ap other (g ∙ at)
+                  in let d = next_least other raised more in omega arith)
+              | inr ne ↦ (let a = get_or-set_other new q r ready 0 ne in let d = so_far.least other raised r
+                  in omega arith)
+            ];
+          }
+
+      -- the next head is late enough, or there is none
+      pub walk_ends : (t < steps_of l i → ready ≤ get_or new (place l i t) 0)
+          → IsLeastRaise l (IsPosition p) e old new
+      walk_ends enough = record {
+        positions = so_far.positions;
+        raised = record {
+          rises = so_far.rises;
+          rests = so_far.rests;
+          order = λ j k two waiting.
+              let b = so_far.before
+              in elim (cases_eq j i) [
+                | inl f ↦ elim (cases_eq k b) [
+                  | inl g ↦ (
+                      let c : place l j k ≡ place l i b = ap (λ (x : ℕ). place l x k) f ∙ ap (place l i) g
+                      in let d : place l j (k + 1) ≡ place l i t =
+                      ap (λ (x : ℕ). place l x (k + 1)) f ∙ ap (place l i) (let y = so_far.next in omega arith)
+                      in let u : get_or new (place l j k) 0 ≡ get_or new (place l i b) 0 =
+                      ap (λ (x : ℕ). get_or new x 0) c
+                      in let v : get_or l.times (place l j k) 0 ≡ get_or l.times (place l i b) 0 =
+                      ap (λ (x : ℕ). get_or l.times x 0) c
+                      in let w : get_or new (place l j (k + 1)) 0 ≡ get_or new (place l i t) 0 =
+                      ap (λ (x : ℕ). get_or new x 0) d
+                      in let long : steps_of l j ≡ steps_of l i = ap (steps_of l) f
+                      in let y = so_far.next
+                      in let z = enough (omega arith)
+                      in let r = so_far.ready_is
+                      in omega arith)
+                  | inr ne ↦ so_far.order j k two (λ z. ne z.1) waiting
+                ]
+                | inr ne ↦ so_far.order j k two (λ z. ne z.0) waiting
+              ];
+          reach = λ q is waits. subst (λ (x : ℕ). e ≤ get_or new x 0) (sym is) so_far.reach;
+        };
+        least = so_far.least;
+      }

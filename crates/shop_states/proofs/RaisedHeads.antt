@@ -1,0 +1,295 @@
+-- The least raise of the heads by position, once an operation is placed, has the heads of what is left.
+use Rattle.std.proofs.Common.{◌≡◌, ℕ, zero, suc, ◌+◌, ◌-◌, ◌≤◌, ◌<◌, ◌^◌, inl, inr, List, length}
+use Rattle.std.proofs.Common.{get_or, set, refl, sym, ◌∙◌, ap, subst, arith, cond, ltb}
+use Rattle.std.proofs.lemmas.Bool.{cases_eq, cases_lt, lt-ltb, le-ltb}
+use Rattle.std.proofs.lemmas.Grind.{get_or-set_at}
+use Rattle.std.proofs.lemmas.List.{get_or-set_other, length-set}
+use Rattle.shop_model.specs.Limits.{IsWithinLimits}
+use Rattle.shop_model.specs.Shop.{Shop, IsOperation, route_of, machine_of, time_of}
+use Rattle.shop_model.specs.Word.{Placing}
+use Rattle.shop_model.proofs.Ends.{IsOperation-job}
+use Rattle.shop_model.proofs.Placings.{IsNext}
+use Rattle.shop_lanes.specs.Rows.{Rows}
+use Rattle.shop_bound.specs.Heads.{head_of, ready_after}
+use Rattle.shop_states.specs.inner.LaneHeads.{AreHeadsAt, AreStored}
+use Rattle.shop_layout.specs.Positions.{place_or, LayoutState, place, first_position, IsLaidOut}
+use Rattle.shop_states.specs.inner.Raises.{steps_of, at_in, AreFirst, IsFollowed, IsIndexed, IsPlace}
+use Rattle.shop_states.specs.inner.Raises.{AreInRouteOrder, IsRaised, IsLeastRaise, IsRaisable}
+use Rattle.shop_states.specs.inner.Raises.{IsOnMachine, HasBlocks}
+use Rattle.shop_bound.proofs.HeadsRise.{heads_up}
+use Rattle.shop_bound.proofs.HeadsStay.{ready_first_same, steps_rise}
+use Rattle.shop_bound.proofs.HeadTurns.{ready_first, ready_more}
+use Rattle.shop_layout.proofs.LaidPlaces.{IsOperationAt, machines_rise, place_of}
+use Rattle.shop_layout.proofs.LaidPlaces.{each_position, on_machine}
+
+module _ (shop : Shop) (limits : IsWithinLimits shop) (l : LayoutState) (laid : IsLaidOut shop l) where
+  operation_in : (j k : ℕ) → k < steps_of l j → IsOperation shop j k
+  operation_in j k h = let a = laid.routes j in omega arith
+
+  pub indexed : (n : ℕ) → n ≡ first_position l shop.machines → IsIndexed l n
+  indexed n is = record {
+    jobs = laid.positions.jobs ∙ sym is;
+    steps = laid.positions.steps ∙ sym is;
+    step = λ j k h. (let a = place_of shop limits l laid j k (operation_in j k h) in record {
+      within = (let b = a.within in let c = laid.positions.jobs in omega arith);
+      job = a.job;
+      step = a.step;
+    });
+  }
+
+  pub followed : (n : ℕ) → n ≡ first_position l shop.machines → IsFollowed l n
+  followed n is = record {
+    following = laid.positions.following ∙ sym is;
+    follows = λ j k h. (let a = place_of shop limits l laid j k (operation_in j k h)
+        in laid.follows (place l j k) a.within
+        ∙ (ap (λ (i : ℕ). place_or (first_position l shop.machines) l.places i (get_or l.steps (place l j k) 0 + 1))
+        a.job
+        ∙ (ap (λ (t : ℕ). place_or (first_position l shop.machines) l.places j (t + 1)) a.step
+        ∙ ap (λ (x : ℕ). place_or x l.places j (k + 1)) (sym is))));
+  }
+
+  pub has_blocks : (n m : ℕ) → n ≡ first_position l shop.machines → m < shop.machines → HasBlocks l n m
+  has_blocks n m is known = record {
+    small = (let a = limits.machines in omega arith);
+    known = (let a = laid.machines in omega arith);
+    ordered = (let a = machines_rise shop limits l laid m (m + 1) (omega arith) (omega arith) in omega arith);
+    within = (let a = machines_rise shop limits l laid (m + 1) shop.machines (omega arith)
+        (omega arith) in omega arith);
+  }
+
+  pub is_place : (j k r : ℕ) → IsOperation shop j k → place l j k ≡ r → IsPlace l r
+  is_place j k r op at =
+      let a = place_of shop limits l laid j k op
+      in let job : get_or l.jobs r 0 ≡ j = ap (λ (x : ℕ). get_or l.jobs x 0) (sym at) ∙ a.job
+      in let step : get_or l.steps r 0 ≡ k = ap (λ (x : ℕ). get_or l.steps x 0) (sym at) ∙ a.step
+      in let known = IsOperation-job shop j k op
+      in let long = laid.routes (get_or l.jobs r 0)
+      in let same : length (route_of shop (get_or l.jobs r 0)) ≡ length (route_of shop j) =
+      ap (λ (x : ℕ). length (route_of shop x)) job
+      in record {
+        job = (let b = laid.jobs in omega arith);
+        step = omega arith;
+        is = ap (λ (x : ℕ). place l x (get_or l.steps r 0)) job ∙ (ap (place l j) step ∙ at);
+      }
+
+  module _ (p : Placing) (j : ℕ) (q : Placing) (n : IsNext shop p j q) (next : IsOperation shop j (p.steps j)) where
+    abbrev machine : ℕ
+    machine = machine_of shop j (p.steps j)
+
+    -- what is dispatched has no head any more
+    pub left : (old : List ℕ) → AreHeadsAt shop p l old
+        → AreStored shop q.steps (head_of shop p) l (set old (place l j (p.steps j)) 0)
+    left old are =
+        let x = place l j (p.steps j)
+        in let here = place_of shop limits l laid j (p.steps j) next
+        in let within : x < length old = (let a = are.positions in let b = here.within in omega arith)
+        in let same_step : (i k : ℕ) → IsOperation shop i k → place l i k ≡ x → (i ≡ j) × (k ≡ p.steps j) =
+        (λ i k op f. let a = place_of shop limits l laid i k op in (
+          sym a.job ∙ (ap (λ (y : ℕ). get_or l.jobs y 0) f ∙ here.job),
+          sym a.step ∙ (ap (λ (y : ℕ). get_or l.steps y 0) f ∙ here.step),
+        ))
+        in record {
+          positions = length-set old x 0 ∙ are.positions;
+          waiting = λ i k op opened. elim (cases_eq (place l i k) x) [
+            | inl f ↦ (let s = same_step i k op f in let a = n.steps_here
+                in let b : q.steps i ≡ q.steps j = ap q.steps s.0 in let c = s.1 in absurd (omega arith))
+            | inr ne ↦ get_or-set_other old x (place l i k) 0 0 ne
+                ∙ are.waiting i k op (let a = steps_rise shop p j q n i in omega arith)
+          ];
+          placed = λ i k op before. elim (cases_eq (place l i k) x) [
+            | inl f ↦ get_or-set_at old x (place l i k) 0 0 f within
+            | inr ne ↦ get_or-set_other old x (place l i k) 0 0 ne ∙ are.placed i k op (elim (cases_eq i j) [
+              | inl f ↦ elim (cases_eq k (p.steps j)) [
+                | inl g ↦ absurd (ne (ap (λ (y : ℕ). place l y k) f ∙ ap (place l j) g))
+                | inr ng ↦ (let a = n.steps_here in let b : q.steps i ≡ q.steps j = ap q.steps f
+                    in let c : p.steps i ≡ p.steps j = ap p.steps f in omega arith)
+              ]
+              | inr nf ↦ (let a = n.steps_other i nf in omega arith)
+            ])
+          ];
+          padding = λ r free. elim (cases_eq r x) [
+            | inl f ↦ get_or-set_at old x r 0 0 f within
+            | inr ne ↦ get_or-set_other old x r 0 0 ne ∙ are.padding r free
+          ];
+        }
+
+    module _ (old : List ℕ) (are : AreStored shop q.steps (head_of shop p) l old) where
+      -- what waits is an operation that isn't placed
+      waits_at : (r : ℕ) → 0 < get_or old r 0 → (o : IsOperationAt shop l r) × (q.steps o.job ≤ o.step)
+      waits_at r some = elim (each_position shop limits l laid r) [
+        | inl o ↦ elim (cases_lt o.step (q.steps o.job)) [
+          | inl before ↦ (let a = are.placed o.job o.step o.is before
+              in let b : get_or old (place l o.job o.step) 0 ≡ get_or old r 0 = ap (λ (x : ℕ). get_or old x 0) o.at
+              in absurd (omega arith))
+          | inr opened ↦ (o, opened)
+        ]
+        | inr free ↦ (let a = are.padding r free in absurd (omega arith))
+      ]
+
+      -- the new head of what waits, and one more
+      abbrev target : ℕ → ℕ
+      target r = cond {A = ℕ} (ltb 0 (get_or old r 0))
+          (head_of shop q (get_or l.jobs r 0) (get_or l.steps r 0) + 1) 0
+
+      target_none : (r : ℕ) → get_or old r 0 ≡ 0 → target r ≡ 0
+      target_none r none = rw (le-ltb 0 (get_or old r 0) (omega arith)) refl
+
+      target_at : (i k : ℕ) → IsOperation shop i k → q.steps i ≤ k → target (place l i k) ≡ head_of shop q i k + 1
+      target_at i k op opened =
+          let a = place_of shop limits l laid i k op
+          in let w = are.waiting i k op opened
+          in rw (lt-ltb 0 (get_or old (place l i k) 0) (omega arith))
+          (ap (λ (x : ℕ). head_of shop q x (get_or l.steps (place l i k) 0) + 1) a.job
+          ∙ ap (λ (x : ℕ). head_of shop q i x + 1) a.step)
+
+      in_order : AreInRouteOrder l (at_in old)
+      in_order i k two some =
+          let op = operation_in i (k + 1) two
+          in let op_k : IsOperation shop i k = omega arith
+          in let w = waits_at (place l i k) some
+          in let o = w.0
+          in let a = place_of shop limits l laid i k op_k
+          in let b = place_of shop limits l laid o.job o.step o.is
+          in let job : o.job ≡ i = sym b.job ∙ (ap (λ (x : ℕ). get_or l.jobs x 0) o.at ∙ a.job)
+          in let step : o.step ≡ k = sym b.step ∙ (ap (λ (x : ℕ). get_or l.steps x 0) o.at ∙ a.step)
+          in let opened : q.steps i ≤ k = (let c : q.steps o.job ≡ q.steps i = ap q.steps job in let d = w.1
+          in let e = step in omega arith)
+          in let rises = steps_rise shop p j q n i
+          in let x = are.waiting i k op_k opened
+          in let y = are.waiting i (k + 1) op (omega arith)
+          in let z = ready_more shop p i k (omega arith)
+          in let t = a.time
+          in omega arith
+
+      module _ (e : ℕ) (end : e ≡ q.free machine + 1) where
+        target_raised : IsRaised l (IsOnMachine l machine) e (at_in old) target
+        target_raised = record {
+          rises = λ r. elim (cases_eq (get_or old r 0) 0) [
+            | inl z ↦ omega arith
+            | inr nz ↦ (let w = waits_at r (omega arith) in let o = w.0
+                in let a = are.waiting o.job o.step o.is w.1
+                in let b = target_at o.job o.step o.is w.1
+                in let c = heads_up shop p j q n o.job o.step w.1
+                in let d : get_or old (place l o.job o.step) 0 ≡ get_or old r 0 = ap (λ (x : ℕ). get_or old x 0) o.at
+                in let f : target (place l o.job o.step) ≡ target r = ap target o.at
+                in omega arith)
+          ];
+          rests = target_none;
+          order = λ i k two some.
+              let op = operation_in i (k + 1) two
+              in let op_k : IsOperation shop i k = omega arith
+              in elim (cases_lt k (q.steps i)) [
+                | inl before ↦ (let z = target_none (place l i k) (are.placed i k op_k before) in absurd (omega arith))
+                | inr opened ↦ (let x = target_at i k op_k opened
+                    in let y = target_at i (k + 1) op (omega arith)
+                    in let z = ready_more shop q i k opened
+                    in let t = (place_of shop limits l laid i k op_k).time
+                    in omega arith)
+              ];
+          reach = λ r here some.
+              let w = waits_at r some in let o = w.0
+              in let low = here.0 in let high = here.1
+              in let at = o.at
+              in let m = on_machine shop limits l laid machine o.job o.step (limits.on_machines j (p.steps j)) o.is
+              (omega arith) (omega arith)
+              in let free : q.free (machine_of shop o.job o.step) ≡ q.free machine = ap q.free m
+              in let b = target_at o.job o.step o.is w.1
+              in let f : target (place l o.job o.step) ≡ target r = ap target o.at
+              in omega arith;
+        }
+
+        pub raisable : (greatest : ℕ) (nexts : List ℕ) (rows : Rows) → AreFirst l nexts rows.heads
+            → length nexts ≤ length rows.ends → rows.heads ≡ old → rows.times ≡ l.times → greatest < 2 ^ 64
+            → ((i k : ℕ) → IsOperation shop i k → q.steps i ≤ k → head_of shop q i k + time_of shop i k < greatest)
+            → IsRaisable greatest l nexts rows (IsOnMachine l machine) e
+        raisable greatest nexts rows firsts ends heads times computable fits =
+            let of : (hs : List ℕ) → hs ≡ old → IsRaised l (IsOnMachine l machine) e (at_in hs) target =
+            (λ hs is. subst (λ (xs : List ℕ). IsRaised l (IsOnMachine l machine) e (at_in xs) target) (sym is)
+            target_raised)
+            in record {
+              firsts = firsts;
+              ends = ends;
+              indexed = indexed (length rows.heads) (ap length heads ∙ are.positions);
+              followed = followed (length rows.heads) (ap length heads ∙ are.positions);
+              machines = laid.machines_at.positions ∙ sym (ap length heads ∙ are.positions);
+              times = times;
+              timed = laid.positions.times ∙ sym (ap length heads ∙ are.positions);
+              places = λ r some.
+                  let w = waits_at r (let a : get_or rows.heads r 0 ≡ get_or old r 0 =
+                  ap (λ (xs : List ℕ). get_or xs r 0) heads in omega arith)
+                  in is_place w.0.job w.0.step r w.0.is w.0.at;
+              order = subst (λ (xs : List ℕ). AreInRouteOrder l (at_in xs)) (sym heads) in_order;
+              other = target;
+              raised = of rows.heads heads;
+              fits = λ r some. elim (cases_eq (get_or old r 0) 0) [
+                | inl z ↦ (let a = target_none r z in absurd (omega arith))
+                | inr nz ↦ (let w = waits_at r (omega arith) in let o = w.0
+                    in let b = target_at o.job o.step o.is w.1
+                    in let f : target (place l o.job o.step) ≡ target r = ap target o.at
+                    in let t = (place_of shop limits l laid o.job o.step o.is).time
+                    in let u : get_or l.times (place l o.job o.step) 0 ≡ get_or l.times r 0 =
+                    ap (λ (x : ℕ). get_or l.times x 0) o.at
+                    in let h = fits o.job o.step o.is w.1
+                    in omega arith)
+              ];
+              computable = computable;
+            }
+
+        module _ (new : List ℕ) (least : IsLeastRaise l (IsOnMachine l machine) e old new) where
+          -- a head is enough, where its step is ready no later
+          free_enough : (i k : ℕ) → IsOperation shop i k → q.steps i ≤ k
+              → q.free (machine_of shop i k) + 1 ≤ get_or new (place l i k) 0
+          free_enough i k op opened =
+              let w = are.waiting i k op opened
+              in let rises = least.raised.rises (place l i k)
+              in let m = machine_of shop i k
+              in elim (cases_eq m machine) [
+                | inl f ↦ (let at = place_of shop limits l laid i k op
+                    in let low : first_position l m ≡ first_position l machine = ap (first_position l) f
+                    in let high : first_position l (m + 1) ≡ first_position l (machine + 1) = ap
+                    (λ (x : ℕ). first_position l (x + 1)) f
+                    in let a = at.from in let b = at.to
+                    in let c = least.raised.reach (place l i k) (omega arith, omega arith) (omega arith)
+                    in let same : q.free m ≡ q.free machine = ap q.free f
+                    in omega arith)
+                | inr ne ↦ (let a = n.free_other m ne in omega arith)
+              ]
+
+          -- step by step from the first that isn't placed
+          ready_enough : (i d k : ℕ) → q.steps i + d ≡ k → IsOperation shop i k
+              → ready_after shop q i (k - q.steps i) + 1 ≤ get_or new (place l i k) 0
+          ready_enough i zero k is op =
+              let w = are.waiting i k op (omega arith)
+              in let rises = least.raised.rises (place l i k)
+              in let first = ready_first shop q i k (omega arith)
+              in let a = ready_first_same shop p j q n i
+              in let f : q.steps i - p.steps i ≡ k - p.steps i = omega arith
+              in let g = ap (ready_after shop p i) f
+              in omega arith
+          ready_enough i (suc d) k is op =
+              let b = q.steps i + d
+              in let f : k ≡ b + 1 = omega arith
+              in let op_b : IsOperation shop i b = omega arith
+              in let before = ready_enough i d b refl op_b
+              in let free = free_enough i b op_b (omega arith)
+              in let long = laid.routes i
+              in let o = least.raised.order i b (omega arith) (omega arith)
+              in let t = (place_of shop limits l laid i b op_b).time
+              in let more = ready_more shop q i b (omega arith)
+              in let now = ap (λ (x : ℕ). ready_after shop q i (x - q.steps i)) f
+              in let at : get_or new (place l i k) 0 ≡ get_or new (place l i (b + 1)) 0 =
+              ap (λ (x : ℕ). get_or new (place l i x) 0) f
+              in omega arith
+
+          pub raised : AreHeadsAt shop q l new
+          raised = record {
+            positions = least.positions ∙ are.positions;
+            waiting = λ i k op opened.
+                let a = least.least target target_raised (place l i k)
+                in let b = target_at i k op opened
+                in let c = ready_enough i (k - q.steps i) k (omega arith) op
+                in let d = free_enough i k op opened
+                in omega arith;
+            placed = λ i k op before. least.raised.rests (place l i k) (are.placed i k op before);
+            padding = λ r free. least.raised.rests r (are.padding r free);
+          }

@@ -1,0 +1,174 @@
+-- Machines with a raise are listed: one more, and one less.
+use Rattle.std.proofs.Common.{◌≡◌, ℕ, zero, suc, ◌≤◌, ◌<◌, ◌⊎◌, inl, inr, List, [], ◌∷◌, length, get_or, set}
+use Rattle.std.proofs.Common.{replicate, refl, sym, ◌∙◌, ap, subst, arith}
+use Rattle.std.proofs.lemmas.Bool.{cases_eq, cases_lt}
+use Rattle.std.proofs.lemmas.List.{get_or-map, get_or-set_same, get_or-set_other, length-map, length-set, map-set}
+use Rattle.shop_lanes.specs.Rows.{Lane}
+use Rattle.shop_lanes.specs.Spans.{spans_between}
+use Rattle.shop_states.specs.declared.head_raises.LaneRaise.{LaneRaise}
+use Rattle.shop_states.specs.inner.HeadRaises.{Raise, no_raise, nothing_raised, raise_in, raise_of, raises_in, widened}
+use Rattle.shop_states.specs.inner.MachineRaises.{AreEmpty, AreListed, IsSpanByRaise}
+use Rattle.shop_states.specs.inner.JobSets.{HasPut}
+use Rattle.shop_states.specs.inner.RisingLists.{IsIn}
+use Rattle.shop_states.proofs.LaneBoundTurns.{spans-none}
+
+-- raises in lanes: one that is read, and one that is written
+module _ {N : Type 0} (value : N → ℕ) where
+  pub raise_there : (raises : List (LaneRaise N)) (m : ℕ) (r : LaneRaise N) → m < length raises
+      → r ≡ get_or raises m r → raise_in value r ≡ raise_of (raises_in value raises) m
+  raise_there raises m r here read = ap (raise_in value) read
+      ∙ sym (get_or-map (raise_in value) raises m r no_raise here)
+
+  pub widened_in : (raises : List (LaneRaise N)) (m a b : ℕ) (r w : LaneRaise N) → m < length raises
+      → r ≡ get_or raises m r → raise_in value w ≡ widened (raise_in value r) a b
+      → raises_in value (set raises m w)
+      ≡ set (raises_in value raises) m (widened (raise_of (raises_in value raises) m) a b)
+  widened_in raises m a b r w here read is = map-set (raise_in value) raises m w
+      ∙ ap (λ (x : Raise). set (raises_in value raises) m x)
+      (is ∙ ap (λ (x : Raise). widened x a b) (raise_there raises m r here read))
+
+  pub lengths_in : (before after : List (LaneRaise N))
+      → length (raises_in value after) ≡ length (raises_in value before) → length after ≡ length before
+  lengths_in before after same = sym (length-map after (raise_in value)) ∙ same ∙ length-map before (raise_in value)
+
+-- nothing is raised at first
+pub none_raised : (n greatest : ℕ) (raises : List Raise) → raises ≡ replicate n (nothing_raised greatest)
+    → AreEmpty raises
+none_raised n greatest raises is = subst AreEmpty (sym is) (empty n) where
+  empty : (k : ℕ) → AreEmpty (replicate k (nothing_raised greatest))
+  empty zero m = refl
+  empty (suc k) zero = refl
+  empty (suc k) (suc m) = empty k m
+
+-- a raise that was widened, and its machine put into the set
+pub listed_more : (raises : List Raise) (machines after : List ℕ) (m a b : ℕ) → AreListed raises machines
+    → m < length raises → HasPut m machines after
+    → AreListed (set raises m (widened (raise_of raises m) a b)) after
+listed_more raises machines after m a b are known put =
+    let long = length-set raises m (widened (raise_of raises m) a b)
+    in record {
+      few = (let f = are.few in omega arith);
+      known = λ n h. elim (put.only n h) [
+        | inl old ↦ (let k = are.known n old in omega arith)
+        | inr e ↦ omega arith
+      ];
+      listed = λ n some. elim (cases_eq n m) [
+        | inl e ↦ subst (IsIn after) (sym e) (put.gathered m refl)
+        | inr ne ↦ put.kept n (are.listed n (let f = ap (λ (r : Raise). r.to)
+            (get_or-set_other raises m n (widened (raise_of raises m) a b) no_raise ne) in omega arith))
+      ];
+    }
+
+-- the first of the list, whose raise is empty now
+module _ (raises : List Raise) (machines rest : List ℕ) (m : ℕ) (are : AreListed raises machines)
+    (popped : machines ≡ m ∷ rest) where
+  pub first_known : m < length raises
+  first_known = are.known m (subst (λ (xs : List ℕ). IsIn xs m) (sym popped) (inl refl))
+
+  module _ (empty : Raise) (none : empty.to ≡ 0) where
+    pub raise_elsewhere : (n : ℕ) → (n ≡ m → ⊥) → raise_of (set raises m empty) n ≡ raise_of raises n
+    raise_elsewhere n ne = get_or-set_other raises m n empty no_raise ne
+
+    pub raise_emptied : (n : ℕ) → n ≡ m → (raise_of (set raises m empty) n).to ≡ 0
+    raise_emptied n e =
+        let a = ap (λ (r : Raise). r.to) (get_or-set_same raises m empty no_raise first_known)
+        in let b = ap (λ (x : ℕ). (raise_of (set raises m empty) x).to) e in omega arith
+
+    pub listed_less : AreListed (set raises m empty) rest
+    listed_less =
+        let long = length-set raises m empty
+        in record {
+          few = (let f = are.few in omega arith);
+          known = λ n h. (let k = are.known n (subst (λ (xs : List ℕ). IsIn xs n) (sym popped) (inr h))
+              in omega arith);
+          listed = λ n some. elim (cases_eq n m) [
+            | inl e ↦ (let z = raise_emptied n e in absurd (omega arith))
+            | inr ne ↦ (let f = ap (λ (r : Raise). r.to) (raise_elsewhere n ne)
+                in elim (subst (λ (xs : List ℕ). IsIn xs n) popped (are.listed n (omega arith))) [
+                  | inl e ↦ absurd (ne e)
+                  | inr h ↦ h
+                ])
+          ];
+        }
+
+-- where nothing is listed, all raises are empty
+pub all_empty : (raises : List Raise) → AreListed raises [] → AreEmpty raises
+all_empty raises are m = elim (cases_lt 0 (raise_of raises m).to) [
+  | inl some ↦ absurd (are.listed m some)
+  | inr none ↦ omega arith
+]
+
+-- at rest nothing is listed
+pub none_listed : (raises : List Raise) → length raises ≤ 128 → AreEmpty raises → AreListed raises []
+none_listed raises few none = record {
+  few = few;
+  known = λ m h. absurd h;
+  listed = λ m some. absurd (let z = none m in omega arith);
+}
+
+-- what begins within the raises before, but for those that are left, is bounded
+pub record IsTakenSo (least limit : ℕ) (old : List Raise) (on : ℕ → List Lane) (raises : List Raise)
+    (machines : List ℕ) (bound : ℕ) : Type 0 where
+  pub are_listed : AreListed raises machines
+  pub long : length raises ≡ length old
+  pub smaller : (m : ℕ) → (raise_of raises m).to ≤ (raise_of old m).to
+  pub low : least ≤ bound
+  pub covers : bound < limit → (m : ℕ) → (raise_of old m ≡ raise_of raises m)
+      ⊎ (spans_between (raise_of old m).from (raise_of old m).to (on m) ≤ bound)
+  pub within : (c : ℕ) → least ≤ c
+      → ((m above upto : ℕ) → m < length old → spans_between above upto (on m) ≤ c) → bound ≤ c
+
+module _ (least limit : ℕ) (old : List Raise) (on : ℕ → List Lane) where
+  pub taken_none : (machines : List ℕ) → AreListed old machines → IsTakenSo least limit old on old machines least
+  taken_none machines are = record {
+    are_listed = are;
+    long = refl;
+    smaller = λ m. omega arith;
+    low = omega arith;
+    covers = λ under m. inl refl;
+    within = λ c low each. low;
+  }
+
+  pub taken_more : (raises : List Raise) (machines rest : List ℕ) (bound : ℕ)
+      → IsTakenSo least limit old on raises machines bound → (m : ℕ) → machines ≡ m ∷ rest
+      → (empty : Raise) → empty.to ≡ 0 → (b : ℕ) → IsSpanByRaise (raise_of raises m) (on m) limit bound b
+      → IsTakenSo least limit old on (set raises m empty) rest b
+  taken_more raises machines rest bound so m popped empty none b turn =
+      let are = so.are_listed in let low = so.low in let more = turn.low in let long = so.long
+      in let known = first_known raises machines rest m are popped
+      in record {
+        are_listed = listed_less raises machines rest m are popped empty none;
+        long = length-set raises m empty ∙ so.long;
+        smaller = λ n. elim (cases_eq n m) [
+          | inl e ↦ (let z = raise_emptied raises machines rest m are popped empty none n e in omega arith)
+          | inr ne ↦ (let f = ap (λ (r : Raise). r.to)
+              (raise_elsewhere raises machines rest m are popped empty none n ne)
+              in let s = so.smaller n in omega arith)
+        ];
+        low = omega arith;
+        covers = λ under n. elim (so.covers (omega arith) n) [
+          | inl same ↦ elim (cases_eq n m) [
+            | inl e ↦ inr (rw (same, e) (turn.covers under))
+            | inr ne ↦ inl (same ∙ sym (raise_elsewhere raises machines rest m are popped empty none n ne))
+          ]
+          | inr done ↦ inr (omega arith)
+        ];
+        within = λ c above each. turn.within c (so.within c above each) (λ x y. each m x y (omega arith));
+      }
+
+  pub taken_all : (raises : List Raise) (machines : List ℕ) (bound : ℕ) → machines ≡ []
+      → IsTakenSo least limit old on raises machines bound
+      → AreEmpty raises × (bound < limit → (m : ℕ)
+      → spans_between (raise_of old m).from (raise_of old m).to (on m) ≤ bound)
+  taken_all raises machines bound none so =
+      let empty = all_empty raises (subst (AreListed raises) none so.are_listed)
+      in (
+        empty,
+        λ under m. elim (so.covers under m) [
+          | inl same ↦ (let z = empty m
+              in let e = ap (λ (r : Raise). r.to) same
+              in let nothing = spans-none (raise_of old m).from (raise_of old m).to (on m) (on m) (omega arith)
+              in omega arith)
+          | inr done ↦ done
+        ],
+      )

@@ -1,0 +1,100 @@
+-- The one candidate of a word is dispatched: it is struck out, and no head rises.
+use Rattle.std.proofs.Common.{◌≡◌, ℕ, ◌<◌, inl, inr, List, [], ◌∷◌, ◌++◌, length, get_or, set, refl}
+use Rattle.std.proofs.Common.{sym, ◌∙◌, ap, subst, arith}
+use Rattle.std.proofs.lemmas.Bool.{cases_lt, le-ltb, lt-ltb}
+use Rattle.std.proofs.lemmas.List.{get_or-set_other, length-set}
+use Rattle.shop_lanes.specs.Rows.{Rows, with_end, with_head}
+use Rattle.shop_model.specs.Shop.{Shop}
+use Rattle.shop_model.specs.Word.{Placing, IsWord, placing, place_next}
+use Rattle.shop_model.proofs.Unders.{placing-snoc}
+use Rattle.shop_bound.specs.Conflicts.{conflict}
+use Rattle.shop_states.specs.inner.LaneEnds.{CanKeepEnds, IsEndOf, end_at}
+use Rattle.shop_states.specs.inner.LaneHeads.{AreHeadsAt}
+use Rattle.shop_states.specs.inner.LaneStates.{AreHeadsInLanes, IsKeptInLanes}
+use Rattle.shop_layout.specs.Positions.{LayoutState, place}
+use Rattle.shop_states.proofs.ChildReads.{left_stored}
+use Rattle.shop_states.proofs.SoleCandidates.{sole_fits, sole_heads}
+use Rattle.shop_states.proofs.StateSteps.{ends_more, kept_more, next_at, next_known, within}
+
+module _ {greatest : ℕ} {shop : Shop} {w : List ℕ} {l : LayoutState} {rows : Rows} {nexts : List ℕ} {j : ℕ}
+    (kept : IsKeptInLanes greatest shop w l rows nexts) (alone : conflict shop w ≡ j ∷ []) where
+  abbrev x : ℕ
+  x = get_or nexts j 0
+
+  fits : IsWord shop (w ++ j ∷ [])
+  fits = sole_fits shop w kept.kept.word j alone
+
+  pub its_job : j < length nexts
+  its_job = next_known greatest shop w j l rows nexts kept fits
+
+  pub its_position : get_or nexts j 0 < length rows.heads
+  its_position = within greatest shop w j l rows nexts kept fits x refl
+
+  pub lists_long : (length l.times ≡ length rows.heads) × (length l.following ≡ length rows.heads)
+  lists_long = (
+    kept.kept.laid.positions.times ∙ sym kept.kept.heads.positions,
+    kept.kept.laid.positions.following ∙ sym kept.kept.heads.positions,
+  )
+
+  module _ {lifted : Rows} (wrote : lifted ≡ with_head rows (get_or nexts j 0) 0) where
+    its_place : get_or nexts j 0 ≡ place l j ((placing shop w).steps j)
+    its_place = next_at greatest shop w j l rows nexts kept fits x refl
+
+    heads : lifted.heads ≡ set rows.heads (place l j ((placing shop w).steps j)) 0
+    heads = ap (λ (r : Rows). r.heads) wrote ∙ ap (λ (q : ℕ). set rows.heads q 0) its_place
+
+    long : length lifted.heads ≡ length rows.heads
+    long = ap length heads ∙ length-set rows.heads (place l j ((placing shop w).steps j)) 0
+
+    now_heads : AreHeadsAt shop (place_next shop (placing shop w) j) l lifted.heads
+    now_heads =
+        let stored = left_stored greatest shop w l rows kept.kept j fits
+        in subst (AreHeadsAt shop (place_next shop (placing shop w) j) l) (sym heads) (record {
+          positions = stored.positions;
+          waiting = λ i k op opened. (let a = stored.waiting i k op opened
+              in let b = sole_heads shop w kept.kept.word j alone i k op opened in omega arith);
+          placed = stored.placed;
+          padding = stored.padding;
+        })
+
+    now : AreHeadsInLanes greatest shop (w ++ j ∷ []) l lifted
+    now = record {
+      limits = kept.kept.limits;
+      word = fits;
+      laid = kept.kept.laid;
+      times = ap (λ (r : Rows). r.times) wrote ∙ kept.kept.times;
+      tails = ap (λ (r : Rows). r.tails) wrote ∙ kept.kept.tails;
+      fits = kept.kept.fits;
+      computable = kept.kept.computable;
+      heads = subst (λ (p : Placing). AreHeadsAt shop p l lifted.heads) (sym (placing-snoc shop w j)) now_heads;
+    }
+
+    others : (i : ℕ) → i < length nexts → (get_or nexts i 0 ≡ x → ⊥) → IsEndOf greatest nexts rows i
+        → IsEndOf greatest nexts lifted i
+    others i known ne was =
+        let q = get_or nexts i 0
+        in let head : get_or lifted.heads q 0 ≡ get_or rows.heads q 0 =
+        ap (λ (r : Rows). get_or r.heads q 0) wrote ∙ get_or-set_other rows.heads x q 0 0 ne
+        in let time : get_or lifted.times q 0 ≡ get_or rows.times q 0 = ap (λ (r : Rows). get_or r.times q 0) wrote
+        in let same = long
+        in ap (λ (r : Rows). get_or r.ends i 0) wrote ∙ (was ∙ (elim (cases_lt q (length rows.heads)) [
+          | inl lt ↦ rw (lt-ltb q (length rows.heads) lt, lt-ltb q (length lifted.heads) (omega arith)) (omega arith)
+          | inr ge ↦ rw (le-ltb q (length rows.heads) ge, le-ltb q (length lifted.heads) (omega arith)) refl
+        ]))
+
+    ends_long : length lifted.ends ≡ length rows.ends
+    ends_long = ap (λ (r : Rows). length r.ends) wrote
+
+    pub struck_times : length l.times ≡ length lifted.heads
+    struck_times = lists_long.0 ∙ sym long
+
+    pub struck_keep : {after : List ℕ} → after ≡ set nexts j (get_or l.following (get_or nexts j 0) 0)
+        → CanKeepEnds greatest l after lifted
+    struck_keep {after} followed = ends_more greatest shop w j l rows nexts kept fits x refl
+        (get_or l.following x 0) refl after followed lifted now ends_long others
+
+    pub struck_kept : {after : List ℕ} → after ≡ set nexts j (get_or l.following (get_or nexts j 0) 0)
+        → {ended : Rows} → ended ≡ with_end lifted j (end_at greatest after lifted j)
+        → IsKeptInLanes greatest shop (w ++ j ∷ []) l ended after
+    struck_kept {after} followed {ended} ends = kept_more greatest shop w j l rows nexts kept fits x refl
+        (get_or l.following x 0) refl after followed lifted now ends_long others ended ends

@@ -1,0 +1,169 @@
+-- An operation is struck out and its end raises heads: what is known of the bound then, and what is kept.
+use Rattle.std.proofs.Common.{◌≡◌, ℕ, ◌+◌, ◌≤◌, ◌<◌, inl, inr, List, [], ◌∷◌, ◌++◌, length}
+use Rattle.std.proofs.Common.{get_or, set, refl, sym, ◌∙◌, ap, subst, arith}
+use Rattle.std.proofs.lemmas.Bool.{cases_eq}
+use Rattle.std.proofs.lemmas.Grind.{get_or-set_at}
+use Rattle.std.proofs.lemmas.List.{get_or-set_other}
+use Rattle.shop_lanes.specs.Rows.{Rows, with_end, with_head}
+use Rattle.shop_lanes.specs.Spans.{spans_between}
+use Rattle.shop_model.specs.Shop.{Shop}
+use Rattle.shop_model.specs.Word.{IsWord, placing}
+use Rattle.shop_bound.specs.Bound.{lb}
+use Rattle.shop_states.specs.inner.Advances.{IsLeastAt}
+use Rattle.shop_states.specs.inner.ChildBounds.{IsLeastAfter}
+use Rattle.shop_states.specs.inner.BoundsUpTo.{IsBoundUpTo}
+use Rattle.shop_layout.specs.HeadLimits.{latest_end}
+use Rattle.shop_states.specs.inner.HeadRaises.{Raise, raise_of}
+use Rattle.shop_states.specs.inner.LaneBounds.{AreSpansFit}
+use Rattle.shop_layout.specs.Lanes.{lanes_on, rows_of}
+use Rattle.shop_states.specs.inner.LaneEnds.{CanKeepEnds, end_at}
+use Rattle.shop_states.specs.inner.LaneStates.{Advances, AreHeadsInLanes, HasNextAt, IsKeptInLanes}
+use Rattle.shop_layout.specs.Positions.{IsLaidOut, LayoutState, place}
+use Rattle.shop_states.specs.inner.MachineRaises.{AreEmpty, AreRaisesFit}
+use Rattle.shop_states.specs.inner.Raises.{HasBlocks, IsOnMachine, IsRaisable, Raises}
+use Rattle.shop_states.specs.inner.Watchers.{AreSeen, IsSeenAt, Sees, Watches, floor_on}
+use Rattle.shop_states.proofs.RaiseSteps.{put_is}
+use Rattle.shop_states.proofs.AdvanceSteps.{advances, end_small, struck_blocks, struck_raisable}
+use Rattle.shop_states.proofs.ChildTurns.{next_small, raised_is}
+use Rattle.shop_states.proofs.LaneFits.{spans_fit}
+use Rattle.shop_states.proofs.StateSteps.{ends_more, has_next, kept_more, next_at, next_known, within}
+
+-- instances with one layout have as many machines
+pub same_machines : {l : LayoutState} {shop other : Shop} → IsLaidOut shop l → IsLaidOut other l
+    → shop.machines ≡ other.machines
+same_machines a b = let x = a.machines in let y = b.machines in omega arith
+
+module _ {greatest : ℕ} {shop : Shop} {w : List ℕ} {l : LayoutState} {hs es nexts : List ℕ}
+    (kept : IsKeptInLanes greatest shop w l (rows_of l hs es) nexts) (j : ℕ) (fits : IsWord shop (w ++ j ∷ [])) where
+  abbrev rows : Rows
+  rows = rows_of l hs es
+
+  abbrev x : ℕ
+  x = get_or nexts j 0
+
+  its_next : HasNextAt greatest l nexts (get_or nexts j 0) rows
+  its_next = has_next greatest shop w j l rows nexts kept fits x refl
+
+  pub its_job : j < length nexts
+  its_job = next_known greatest shop w j l rows nexts kept fits
+
+  its_position : get_or nexts j 0 < length hs
+  its_position = within greatest shop w j l rows nexts kept fits x refl
+
+  its_place : get_or nexts j 0 ≡ place l j ((placing shop w).steps j)
+  its_place = next_at greatest shop w j l rows nexts kept fits x refl
+
+  -- what is read of it
+  module _ {read : LayoutState} (same : read ≡ l) {m : ℕ} (on : m ≡ get_or read.machines (get_or nexts j 0) 0)
+      {h t : ℕ} (head : h ≡ get_or hs (get_or nexts j 0) 0) (time : t ≡ get_or read.times (get_or nexts j 0) 0) where
+    here : m ≡ get_or l.machines x 0
+    here = on ∙ ap (λ (r : LayoutState). get_or r.machines x 0) same
+
+    timed : t ≡ get_or l.times x 0
+    timed = time ∙ ap (λ (r : LayoutState). get_or r.times x 0) same
+
+    pub its_end : h + t ≤ greatest
+    its_end = (end_small greatest shop l rows w j kept.kept fits x h t its_place head timed).1
+
+    machine_known : m < shop.machines
+    machine_known =
+        let a = its_position in let b = kept.kept.laid.machines_at.positions in let d = kept.kept.heads.positions
+        in let known = kept.kept.laid.machines_at.known x (omega arith) in let e = here in omega arith
+
+    module _ {hs' es' : List ℕ} (struck : hs' ≡ set hs (get_or nexts j 0) 0) (beside : es' ≡ es) where
+      abbrev lifted : Rows
+      lifted = rows_of l hs' es'
+
+      wrote : lifted ≡ with_head rows x 0
+      wrote = put_is l hs es hs' es' x 0 struck beside
+
+      pub trial_blocks : HasBlocks l (length hs') m
+      trial_blocks = struck_blocks greatest l nexts x m h t rows its_next here head timed lifted wrote
+
+      pub trial_raisable : IsRaisable greatest l nexts (rows_of l hs' es') (IsOnMachine l m) (h + t)
+      trial_raisable = struck_raisable greatest l nexts x m h t rows its_next here head timed lifted wrote
+
+      lifted_low : (q : ℕ) → get_or hs' q 0 ≤ get_or hs q 0
+      lifted_low q = elim (cases_eq q x) [
+        | inl eq ↦ (let a = ap (λ (xs : List ℕ). get_or xs q 0) struck
+            in let b = get_or-set_at hs x q 0 0 eq its_position in omega arith)
+        | inr ne ↦ (let a = ap (λ (xs : List ℕ). get_or xs q 0) struck
+            in let b = get_or-set_other hs x q 0 0 ne in omega arith)
+      ]
+
+      module _ {new : Rows} (raising : Raises greatest l nexts (IsOnMachine l m) (h + t) (rows_of l hs' es') new)
+        where
+          trial_advances : Advances greatest l nexts (get_or nexts j 0) rows new
+          trial_advances =
+              advances greatest l nexts x m h t rows its_next here head timed lifted wrote new raising
+
+          now_heads : AreHeadsInLanes greatest shop (w ++ j ∷ []) l new
+          now_heads = trial_advances.heads shop w j kept.kept fits its_place
+
+          small : (q : ℕ) → get_or new.heads q 0 ≤ latest_end shop + 1
+          small = next_small greatest shop l j x rows new nexts trial_advances (latest_end shop + 1) refl w kept.kept
+              fits its_place
+
+          -- the operation that follows is the next one
+          module _ {after : List ℕ} (followed : after ≡ set nexts j (get_or l.following (get_or nexts j 0) 0)) where
+            pub trial_keep : CanKeepEnds greatest l after new
+            trial_keep = ends_more greatest shop w j l rows nexts kept fits x refl (get_or l.following x 0) refl
+                after followed new now_heads trial_advances.long trial_advances.others
+
+            pub trial_kept : {ended : Rows} → ended ≡ with_end new j (end_at greatest after new j)
+                → IsKeptInLanes greatest shop (w ++ j ∷ []) l ended after
+            trial_kept {ended} ends = kept_more greatest shop w j l rows nexts kept fits x refl
+                (get_or l.following x 0) refl after followed new now_heads trial_advances.long trial_advances.others
+                ended ends
+
+          module _ {before after : List Raise} (empty : AreEmpty before) (many : length before ≡ shop.machines)
+              (sees : Sees l.machines (IsOnMachine l m) (h + t) hs' new.heads before after) where
+            watches : Watches m (h + t) l.machines hs' new.heads before after
+            watches = sees m (λ q there. kept.kept.laid.machines_at.at m q machine_known there.0 there.1)
+
+            pub trial_raises_fit : AreRaisesFit greatest after l new
+            trial_raises_fit =
+                let spans : AreSpansFit greatest (latest_end shop + 1) shop.machines l new =
+                spans_fit shop kept.kept.limits l kept.kept.laid greatest kept.holds new now_heads.times
+                now_heads.tails now_heads.heads.positions
+                in let known = spans.known in let long = watches.long
+                in record {
+                  known = omega arith;
+                  blocks = λ n there. spans.blocks n (omega arith);
+                  below = λ n there.
+                      let a = spans.below n (omega arith)
+                      in let b = watches.up_to (latest_end shop + 1) small
+                      (λ k known. let f = empty k in omega arith) n there
+                      in omega arith;
+                  fits = λ n there.
+                      let a = spans.fits n (omega arith)
+                      in let b = watches.up_to (latest_end shop + 1) small
+                      (λ k known. let f = empty k in omega arith) n there
+                      in omega arith;
+                }
+
+            seen : AreSeen m (h + t) l.machines after hs new.heads
+            seen = watches.seen hs (λ q. inl (let a = lifted_low q in omega arith))
+
+            pub trial_bound : {least : ℕ} → IsLeastAt shop w l rows j (get_or nexts j 0) least → {limit b : ℕ}
+                → least ≤ b
+                → (b < limit → (n : ℕ) → spans_between (raise_of after n).from (raise_of after n).to
+                (lanes_on new l n) ≤ b + 1)
+                → ((c : ℕ) → least ≤ c → ((n above upto : ℕ) → n < length after
+                → spans_between above upto (lanes_on new l n) ≤ c + 1) → b ≤ c)
+                → IsBoundUpTo limit (lb shop (w ++ j ∷ [])) b
+            trial_bound {least} foreseen {limit} {b} low covers inside =
+                let long = watches.long
+                in let sum : get_or hs x 0 + get_or l.times x 0 ≡ h + t = (let a = head in let d = timed in omega arith)
+                in raised_is greatest shop l j x rows new nexts trial_advances l.machines kept.kept.laid.machines_at
+                (latest_end shop + 1) refl m (h + t) least limit b
+                (λ under n known. record {
+                  raise = raise_of after n;
+                  covered = λ q lies some. subst (λ (k : ℕ). IsSeenAt (raise_of after k)
+                      (floor_on m (h + t) k) (get_or hs q 0) (get_or new.heads q 0)) lies (seen q);
+                  spans = covers under n;
+                }) low
+                (λ c above each. inside c above (λ n up to known. each n up to (omega arith)))
+                w kept.kept fits its_place
+                (subst (λ (k : ℕ). IsLeastAfter shop w l rows j x k (h + t) least) (sym here)
+                (subst (λ (k : ℕ). IsLeastAfter shop w l rows j x (get_or l.machines x 0) k least) sum foreseen))

@@ -1,0 +1,76 @@
+use Rattle.std.proofs.Common.{◌∙◌, refl, arith}
+use Rattle.shop_states.proofs.Trials.{its_end, its_job, trial_blocks, trial_bound, trial_keep}
+use Rattle.shop_states.proofs.Trials.{trial_kept, trial_raisable, same_machines, trial_raises_fit}
+use Rattle.shop_states.proofs.advances.advance_below.Goals as goal
+
+pub offset_bounds-next-job : goal.offset_bounds-next-job
+offset_bounds-next-job g c = let a = its_job c.requires.can.is.kept c.args.job c.requires.can.is.fits in omega arith
+
+pub bounds-next-job : goal.bounds-next-job
+bounds-next-job g c = its_job c.requires.can.is.kept c.args.job c.requires.can.is.fits
+
+pub raise-raised-requires-clause-machine : goal.raise-raised-requires-clause-machine
+raise-raised-requires-clause-machine g c = trial_blocks c.requires.can.is.kept c.args.job c.requires.can.is.fits
+    c.routes-routes.ensures c.machine-machine.ensures c.head.ensures c.time.ensures
+    c.set_head.ensures.heads c.set_head.ensures.ends
+
+pub raise-raised-requires-clause-fits : goal.raise-raised-requires-clause-fits
+raise-raised-requires-clause-fits g c = its_end c.requires.can.is.kept c.args.job c.requires.can.is.fits
+    c.routes-routes.ensures c.machine-machine.ensures c.head.ensures c.time.ensures
+
+pub raise-raised-requires-clause-raisable : goal.raise-raised-requires-clause-raisable
+raise-raised-requires-clause-raisable g c = trial_raisable c.requires.can.is.kept c.args.job c.requires.can.is.fits
+    c.routes-routes.ensures c.machine-machine.ensures c.head.ensures c.time.ensures
+    c.set_head.ensures.heads c.set_head.ensures.ends
+
+pub raise-raised-requires-clause-jobs : goal.raise-raised-requires-clause-jobs
+raise-raised-requires-clause-jobs g c =
+    let nexts = c.requires.can.is.kept.are_next.jobs in let routes = c.requires.can.is.kept.kept.laid.jobs in omega
+    arith
+
+pub raise-raised-requires-clause-known : goal.raise-raised-requires-clause-known
+raise-raised-requires-clause-known g c = λ q here.
+    let a = c.requires.can.is.kept.kept.laid.machines_at.known q here in let b = c.requires.can.machines_are in
+    omega arith
+
+pub take_bound-bound-requires-clause-fits : goal.take_bound-bound-requires-clause-fits
+take_bound-bound-requires-clause-fits g c = trial_raises_fit c.requires.can.is.kept c.args.job c.requires.can.is.fits
+    c.routes-routes.ensures c.machine-machine.ensures c.head.ensures c.time.ensures
+    c.set_head.ensures.heads c.set_head.ensures.ends c.raise-raised.ensures.raises c.requires.at_rest
+    c.requires.can.machines_are c.raise-raised.ensures.seen
+
+pub returns-then-limit-bound-clause-told : goal.returns-then-limit-bound-clause-told
+returns-then-limit-bound-clause-told g c = λ shop w is.
+    let many = c.requires.can.machines_are ∙ same_machines c.requires.can.is.kept.kept.laid is.kept.kept.laid
+    in let most = (trial_bound is.kept c.args.job is.fits c.routes-routes.ensures c.machine-machine.ensures
+    c.head.ensures c.time.ensures c.set_head.ensures.heads c.set_head.ensures.ends c.raise-raised.ensures.raises
+    c.requires.at_rest many
+    c.raise-raised.ensures.seen is.foreseen c.take_bound-bound.ensures.least c.take_bound-bound.ensures.covers
+    c.take_bound-bound.ensures.within).at_most
+    in let reached = c.if-limit-bound.true in omega arith
+
+pub go_on-requires-clause-job : goal.go_on-requires-clause-job
+go_on-requires-clause-job g c = its_job c.requires.can.is.kept c.args.job c.requires.can.is.fits
+
+pub go_on-requires-clause-keep : goal.go_on-requires-clause-keep
+go_on-requires-clause-keep g c = trial_keep c.requires.can.is.kept c.args.job c.requires.can.is.fits
+    c.routes-routes.ensures c.machine-machine.ensures c.head.ensures c.time.ensures
+    c.set_head.ensures.heads c.set_head.ensures.ends c.raise-raised.ensures.raises refl
+
+pub returns-clause-told : goal.returns-clause-told
+returns-clause-told g c = λ shop w is.
+    let many = c.requires.can.machines_are ∙ same_machines c.requires.can.is.kept.kept.laid is.kept.kept.laid
+    in (
+      (trial_bound is.kept c.args.job is.fits c.routes-routes.ensures c.machine-machine.ensures
+          c.head.ensures c.time.ensures c.set_head.ensures.heads c.set_head.ensures.ends
+          c.raise-raised.ensures.raises c.requires.at_rest many
+          c.raise-raised.ensures.seen is.foreseen c.take_bound-bound.ensures.least c.take_bound-bound.ensures.covers
+          c.take_bound-bound.ensures.within).exact c.if-limit-bound.false,
+      c.if-limit-bound.false,
+    )
+
+pub returns-clause-state : goal.returns-clause-state
+returns-clause-state g c = λ shop w kept fits. trial_kept kept c.args.job fits c.routes-routes.ensures
+    c.machine-machine.ensures c.head.ensures c.time.ensures c.set_head.ensures.heads c.set_head.ensures.ends
+    c.raise-raised.ensures.raises c.go_on.ensures.are_next
+    c.go_on.ensures.ends

@@ -1,0 +1,26 @@
+use Rattle.std.proofs.Common.{◌≡◌, ℕ, ◌∙◌, ap, length, take, arith, subst}
+use Rattle.std.proofs.lemmas.List.{length-take, length-take-le}
+use Rattle.shop_bound.proofs.WordLengths.{word_within}
+use Rattle.shop_states.proofs.LongerBeginnings.{gone_on}
+use Rattle.shop_states.proofs.beginnings.Beginning.go_on.Goals as goal
+
+pub write_front-requires : goal.write_front-requires
+write_front-requires g c =
+    let most = word_within c.args.laid_out.now.shop c.args.path.now c.requires.word
+    in let room = c.requires.is.room
+    in let long = ap length c.as_mut_slice-4.ensures.value
+    in let taken = length-take c.saturating_sub-to.result c.args.path.now
+    in omega arith
+
+pub returns-clause-is : goal.returns-clause-is
+returns-clause-is g c =
+    let to = c.saturating_sub-to.result
+    in let below = c.saturating_sub-to.ensures
+    in let most = word_within c.args.laid_out.now.shop c.args.path.now c.requires.word
+    in let same : take to c.write_front.new.row ≡ take to c.args.path.now =
+    subst (λ (n : ℕ). take n c.write_front.new.row ≡ take to c.args.path.now)
+    (length-take-le to c.args.path.now (omega arith)) c.write_front.ensures.front
+    in gone_on c.args.laid_out.now.shop c.args.laid_out.now.layout c.args.self.now c.requires.is c.args.path.now
+    c.write_front.new.row to (omega arith)
+    (c.write_front.ensures.long ∙ ap length c.as_mut_slice-4.ensures.value) same
+    c.place_from.new.next c.place_from.new.ready c.place_from.new.free c.place_from.ensures

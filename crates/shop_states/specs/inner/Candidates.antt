@@ -1,0 +1,99 @@
+-- The candidates of a word, with what each is known to bring the bound to.
+--     own_at l heads q               the own span of the operation at position q on its machine
+--     told_at nexts first owns j     the bound that own spans, told from position `first` on, tell
+--                                    for job j
+--     IsTold nexts first count j     the next operation of job j is among these positions
+--     IsCandidateOf shop w l job own the word can go on with the job, and to the bound before `own`
+--                                    adds what the own span does
+--     ListsOwn limit own js cs n     of these jobs in order the candidates, each with its own number,
+--                                    but for n whose own number is not below the limit
+--     ListsGathered limit own ..     the same of all jobs that are gathered
+--     CanList greatest l ..          they can be listed for the conflict set of some blocks
+--     AreCandidatesOf shop w l ..    those of the conflict set, but for so many after which the bound
+--                                    is not below the limit
+--     CanGather greatest l ..        they are kept for some word
+--     IsChosenBy .. job machine end  the next operation of the job can end first, before `end`, on this
+--                                    machine, and what waits there with a head below the end is in the
+--                                    conflict set
+use Rattle.std.specs.Prelude.{◌≡◌, ℕ, zero, suc, ◌+◌, ◌-◌, ◌*◌, ◌^◌, ◌≤◌, ◌<◌, max, List, []}
+use Rattle.std.specs.Prelude.{◌∷◌, ◌++◌, length, slice_index}
+use Rattle.shop_lanes.specs.Rows.{Rows}
+use Rattle.shop_lanes.specs.Spans.{own_span}
+use Rattle.shop_model.specs.Shop.{Shop}
+use Rattle.shop_model.specs.Word.{IsWord, placing}
+use Rattle.shop_bound.specs.Bound.{lb}
+use Rattle.shop_bound.specs.Conflicts.{conflict}
+use Rattle.shop_states.specs.States.{ListsBelow}
+use Rattle.shop_states.specs.inner.LaneChoices.{AreNextPlaced, IsJobBelow}
+use Rattle.shop_states.specs.inner.LaneHeads.{AreHeadsAt}
+use Rattle.shop_states.specs.inner.LaneStates.{IsKeptInLanes}
+use Rattle.shop_states.specs.inner.Raises.{HasBlocks, IsInBlocks, IsOnMachine}
+use Rattle.shop_states.specs.inner.RisingLists.{IsGatheredWith, IsIn}
+use Rattle.shop_layout.specs.Positions.{LayoutState, place}
+use Rattle.shop_states.specs.declared.dispatching.Candidate.{Candidate}
+
+abbrev pub own_at : LayoutState → List ℕ → ℕ → ℕ
+own_at l heads q =
+    let m = slice_index l.machines q
+    in own_span heads l.times l.tails (slice_index l.blocks m) (slice_index l.blocks (m + 1)) q
+
+abbrev pub told_at : List ℕ → ℕ → List ℕ → ℕ → ℕ
+told_at nexts first owns j = slice_index owns (slice_index nexts j - first) - 1
+
+pub record IsTold (nexts : List ℕ) (first count j : ℕ) : Type 0 where
+  pub job : j < length nexts
+  pub from : first ≤ slice_index nexts j
+  pub to : slice_index nexts j < first + count
+
+pub record IsCandidateOf (shop : Shop) (w : List ℕ) (l : LayoutState) (job own : ℕ) : Type 0 where
+  pub fits : IsWord shop (w ++ job ∷ [])
+  pub adds : (heads : List ℕ) → AreHeadsAt shop (placing shop w) l heads → max (lb shop w) own
+      ≡ max (lb shop w) (own_at l heads (place l job ((placing shop w).steps job)) - 1)
+
+pub data ListsOwn (limit : ℕ) (own : ℕ → ℕ) : List ℕ → List Candidate → ℕ → Type 0 where
+  empty : ListsOwn limit own [] [] zero
+  taken : {js : List ℕ} {cs : List Candidate} {n : ℕ} (j : ℕ) (c : Candidate) → c.job ≡ j
+      → c.own ≡ own j → ListsOwn limit own js cs n → ListsOwn limit own (j ∷ js) (c ∷ cs) n
+  left_out : {js : List ℕ} {cs : List Candidate} {n : ℕ} (j : ℕ) → limit ≤ own j
+      → ListsOwn limit own js cs n → ListsOwn limit own (j ∷ js) cs (suc n)
+
+-- jobs that are gathered so, and their candidates
+pub record ListsGathered (limit : ℕ) (own : ℕ → ℕ) (IsGathered : List ℕ → Type 0)
+    (cs : List Candidate) (others : ℕ) : Type 0 where
+  pub jobs : List ℕ
+  pub gathered : IsGathered jobs
+  pub listed : ListsOwn limit own jobs cs others
+
+-- the conflict set can be found from these blocks on, and own spans are told for each of it
+pub record CanList (greatest : ℕ) (l : LayoutState) (heads nexts : List ℕ)
+    (chosen from to behind end count : ℕ) : Type 0 where
+  pub ordered : from ≤ to
+  pub last : to ≤ behind
+  pub within : 8 * behind ≤ length heads
+  pub computable : 8 * from < 2 ^ 64
+  pub fits : end ≤ greatest
+  pub placed : AreNextPlaced l heads nexts
+  pub few : length nexts < 1024
+  pub known : chosen < length nexts
+  pub told : (js : List ℕ)
+      → IsGatheredWith chosen (IsJobBelow l heads (IsInBlocks from behind) end) js
+      → (j : ℕ) → IsIn js j → IsTold nexts (8 * from) count j
+
+abbrev pub AreCandidatesOf : Shop → List ℕ → LayoutState → ℕ → List Candidate → ℕ → Type 0
+AreCandidatesOf shop w l limit cs others =
+    ListsBelow shop w limit (λ c. IsCandidateOf shop w l c.job c.own) (conflict shop w) cs others
+
+pub record CanGather (greatest : ℕ) (l : LayoutState) (rows : Rows) (nexts : List ℕ) : Type 0 where
+  pub shop : Shop
+  pub word : List ℕ
+  pub kept : IsKeptInLanes greatest shop word l rows nexts
+
+pub record IsChosenBy (greatest : ℕ) (shop : Shop) (w : List ℕ) (l : LayoutState)
+    (heads nexts : List ℕ) (job machine end : ℕ) : Type 0 where
+  pub known : job < length nexts
+  pub machine_is : machine ≡ slice_index l.machines (slice_index nexts job)
+  pub blocks : HasBlocks l (length heads) machine
+  pub fits : end ≤ greatest
+  pub has : IsIn (conflict shop w) job
+  pub set : (js : List ℕ) → IsGatheredWith job (IsJobBelow l heads (IsOnMachine l machine) end) js
+      → js ≡ conflict shop w

@@ -1,0 +1,14 @@
+-- Numbers as the bits of words.
+--     members at words               the numbers whose bits are set, 64 to a word, in order; the
+--                                    lowest bit of the first word is that of `at`
+--     HasPut j old new               the new list is the old one with j
+use Rattle.std.specs.Prelude.{◌≡◌, ℕ, ◌+◌, List, [], ◌∷◌, ◌++◌}
+use Rattle.shop_lanes.specs.SetBits.{set_bits}
+use Rattle.shop_states.specs.inner.RisingLists.{HasGathered}
+
+abbrev pub members : ℕ → List ℕ → List ℕ
+members at [] = []
+members at (word ∷ words) = set_bits 64 at word ++ members (at + 64) words
+
+abbrev pub HasPut : ℕ → List ℕ → List ℕ → Type 0
+HasPut j old new = HasGathered (λ q. q ≡ j) old new

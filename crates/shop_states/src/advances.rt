@@ -1,0 +1,104 @@
+// One more operation in the state of a word.
+ghost use Rattle.std.specs.Prelude.{◌≡◌, ◌<◌, ◌^◌, ◌++◌, ◌∷◌, [], List, ℕ, OnSome, length};
+ghost use Rattle.std.specs.Prelude.{slice_index, slice_set};
+ghost use Rattle.shop_model.specs.Shop.{Shop};
+ghost use Rattle.shop_model.specs.Word.{IsWord};
+ghost use Rattle.shop_bound.specs.Bound.{lb};
+ghost use Rattle.shop_bound.specs.Conflicts.{conflict};
+ghost use Rattle.shop_states.specs.States.{TellsBoundBelow};
+ghost use Rattle.shop_states.specs.inner.Advances.{CanAdvance, CanStrike, HasSameRoom, IsAdvancing};
+ghost use Rattle.shop_states.specs.inner.LaneEnds.{CanKeepEnds};
+ghost use Rattle.shop_states.specs.inner.LaneStates.{GoesOn, IsKeptInLanes};
+ghost use Rattle.shop_layout.specs.Lanes.{rows_of};
+ghost use Rattle.shop_states.specs.inner.MachineRaises.{AreEmpty};
+
+use crate::lane_ends::set_end_of;
+use crate::machine_raises::MachineRaises;
+use shop_lanes::StateLanes;
+use shop_layout::Grid;
+
+/// The job's operation at this position was dispatched: the one that follows is its next one, with its end.
+#[inline(always)]
+pub(crate) fn go_on<L: StateLanes>(
+    lanes: &mut L,
+    next: &mut [u32],
+    grid: &Grid<L>,
+    job: usize,
+    position: usize,
+)
+    requires job { job < length next.old }
+    requires position { position < length grid.now.following }
+    requires times { length grid.now.times ≡ length (L.heads lanes.old) }
+    requires keep { CanKeepEnds L.GREATEST grid.now
+        (slice_set next.old job (slice_index grid.now.following position))
+        (rows_of grid.now (L.heads lanes.old) (L.ends lanes.old)) }
+    ensures { GoesOn L.GREATEST grid.now position job
+        (rows_of grid.now (L.heads lanes.old) (L.ends lanes.old))
+        (rows_of grid.now (L.heads lanes.new) (L.ends lanes.new)) next.old next.new }
+{
+    next[job] = grid.next_behind(position);
+    set_end_of(lanes, grid, next, job);
+}
+
+/// Dispatches the next operation of a job, and tells the new bound if it is below the limit. `least` is at most that,
+/// and at least the bound before and the own span of the operation.
+#[inline(always)]
+pub(crate) fn advance_below<L: StateLanes>(
+    lanes: &mut L,
+    next: &mut [u32],
+    raises: &mut MachineRaises<L>,
+    grid: &Grid<L>,
+    job: usize,
+    least: u64,
+    limit: u64,
+) -> Option<u64>
+    requires can { CanAdvance L.GREATEST grid.now
+        (rows_of grid.now (L.heads lanes.old) (L.ends lanes.old)) next.old job least
+        (length raises.old) }
+    requires at_rest { AreEmpty raises.old }
+    requires limit { limit < 2 ^ 63 }
+    ensures told { (shop : Shop) (w : List ℕ) → IsAdvancing L.GREATEST shop w grid.now
+        (rows_of grid.now (L.heads lanes.old) (L.ends lanes.old)) next.old job least
+        → TellsBoundBelow limit (lb shop (w ++ job ∷ [])) result }
+    ensures state { (shop : Shop) (w : List ℕ) → IsKeptInLanes L.GREATEST shop w grid.now
+        (rows_of grid.now (L.heads lanes.old) (L.ends lanes.old)) next.old
+        → IsWord shop (w ++ job ∷ [])
+        → OnSome result (IsKeptInLanes L.GREATEST shop (w ++ job ∷ []) grid.now
+        (rows_of grid.now (L.heads lanes.new) (L.ends lanes.new)) next.new) }
+    ensures room { HasSameRoom (rows_of grid.now (L.heads lanes.old) (L.ends lanes.old))
+        (rows_of grid.now (L.heads lanes.new) (L.ends lanes.new)) next.old next.new }
+    ensures machines { length raises.new ≡ length raises.old }
+    ensures rest { AreEmpty raises.new }
+{
+    if limit <= least {
+        return None;
+    }
+    let position = next[job] as usize;
+    let routes = grid.routes();
+    let machine = routes.machine(position) as usize;
+    let end = lanes.head(position) + routes.time(position);
+    lanes.set_head(position, 0);
+    let raised = raises.raise(lanes, grid, &routes, next, machine, end);
+    let bound = raises.take_bound(raised, lanes, grid, least, limit);
+    if limit <= bound {
+        return None;
+    }
+    go_on(lanes, next, grid, job, position);
+    Some(bound)
+}
+
+/// Dispatches the one job of a conflict set: no head rises.
+#[inline(always)]
+pub(crate) fn strike<L: StateLanes>(lanes: &mut L, next: &mut [u32], grid: &Grid<L>, job: usize)
+    requires { CanStrike L.GREATEST grid.now
+        (rows_of grid.now (L.heads lanes.old) (L.ends lanes.old)) next.old job }
+    ensures { (shop : Shop) (w : List ℕ) → IsKeptInLanes L.GREATEST shop w grid.now
+        (rows_of grid.now (L.heads lanes.old) (L.ends lanes.old)) next.old
+        → conflict shop w ≡ job ∷ []
+        → IsKeptInLanes L.GREATEST shop (w ++ job ∷ []) grid.now
+        (rows_of grid.now (L.heads lanes.new) (L.ends lanes.new)) next.new }
+{
+    let position = next[job] as usize;
+    lanes.set_head(position, 0);
+    go_on(lanes, next, grid, job, position);
+}

@@ -1,0 +1,134 @@
+// Words that are placed one after the other mostly begin alike: the placement of a beginning is kept.
+ghost use Rattle.std.specs.Prelude.{◌≡◌, ◌≤◌, IfOk, IsTrue, length, take};
+ghost use Rattle.shop_model.specs.Word.{IsWord, placing};
+ghost use Rattle.shop_layout.specs.Positions.{IsLaidOut};
+ghost use Rattle.shop_states.specs.inner.Beginnings.{HasRoomOf, IsBeginningOf, Begins};
+ghost use Rattle.shop_states.specs.inner.PlacedNexts.{IsPlacedAt};
+
+use crate::placing::{place_from, place_none};
+use shop_lanes::StateLanes;
+use shop_layout::LaidOut;
+use std::alloc::{AllocError, Global};
+
+/// So many of the last entries of a word are left out, since the next word often differs there.
+const LEFT_OUT: usize = 32;
+
+/// The beginning of a word, and what it leaves.
+#[derive(Drop)]
+pub struct Beginning {
+    /// of which the first `len` entries count
+    path: Vec<u16>,
+    len: usize,
+    next: Vec<u32>,
+    ready: Vec<u64>,
+    free: Vec<u64>,
+}
+
+/// The first entries of a row become these.
+fn write_front(row: &mut [u16], front: &[u16])
+    requires { length front.now ≤ length row.old }
+    ensures long { length row.new ≡ length row.old }
+    ensures front { take (length front.now) row.new ≡ front.now }
+{
+    row[..front.len()].copy_from_slice(front);
+}
+
+impl Beginning {
+    /// Of nothing placed, with room for any word. Fails with `AllocError` if memory runs out.
+    pub(crate) fn new<L: StateLanes>(
+        alloc: Global,
+        laid_out: &LaidOut<L>,
+    ) -> Result<Beginning, AllocError>
+        ensures { IfOk result (λ b. IsBeginningOf laid_out.now.shop laid_out.now.layout b) }
+    {
+        let instance = laid_out.instance();
+        let mut beginning = Beginning {
+            path: vec![in alloc; 0; instance.operations()]?,
+            len: 0,
+            next: vec![in alloc; 0; instance.jobs()]?,
+            ready: vec![in alloc; 0; instance.jobs()]?,
+            free: vec![in alloc; 0; instance.machines()]?,
+        };
+        beginning.clear(laid_out);
+        Ok(beginning)
+    }
+
+    /// Starts over: nothing is placed.
+    fn clear<L: StateLanes>(&mut self, laid_out: &LaidOut<L>)
+        requires room { HasRoomOf laid_out.now.shop self.old }
+        ensures is { IsBeginningOf laid_out.now.shop laid_out.now.layout self.new }
+        ensures none { self.new.len ≡ 0 }
+    {
+        place_none(
+            laid_out,
+            self.next.as_mut_slice(),
+            self.ready.as_mut_slice(),
+            self.free.as_mut_slice(),
+        );
+        self.len = 0;
+    }
+
+    /// Starts over if a word doesn't begin with it.
+    fn keep_for<L: StateLanes>(&mut self, laid_out: &LaidOut<L>, path: &[u16])
+        requires is { IsBeginningOf laid_out.now.shop laid_out.now.layout self.old }
+        ensures is { IsBeginningOf laid_out.now.shop laid_out.now.layout self.new }
+        ensures begins { Begins path.now self.new }
+    {
+        let kept = &self.path[..self.len];
+        if path.starts_with(kept) {
+            return;
+        }
+        self.clear(laid_out);
+    }
+
+    /// Goes on along a word that begins with it, but for the last entries of that.
+    fn go_on<L: StateLanes>(&mut self, laid_out: &LaidOut<L>, path: &[u16])
+        requires is { IsBeginningOf laid_out.now.shop laid_out.now.layout self.old }
+        requires begins { Begins path.now self.old }
+        requires word { IsWord laid_out.now.shop path.now }
+        ensures is { IsBeginningOf laid_out.now.shop laid_out.now.layout self.new }
+        ensures begins { Begins path.now self.new }
+    {
+        let to = path.len().saturating_sub(LEFT_OUT);
+        if to <= self.len {
+            return;
+        }
+        let ahead = &path[..to];
+        place_from(
+            laid_out,
+            self.next.as_mut_slice(),
+            self.ready.as_mut_slice(),
+            self.free.as_mut_slice(),
+            ahead,
+            self.len,
+        );
+        write_front(self.path.as_mut_slice(), ahead);
+        self.len = to;
+    }
+
+    /// Sets next operations, and when jobs are ready and machines free, to those of a word.
+    pub(crate) fn place_word<L: StateLanes>(
+        &mut self,
+        laid_out: &LaidOut<L>,
+        next: &mut [u32],
+        ready: &mut [u64],
+        free: &mut [u64],
+        path: &[u16],
+    )
+        requires is { IsBeginningOf laid_out.now.shop laid_out.now.layout self.old }
+        requires next { length next.old ≡ length laid_out.now.shop.jobs }
+        requires ready { length ready.old ≡ length laid_out.now.shop.jobs }
+        requires free { length free.old ≡ laid_out.now.shop.machines }
+        requires word { IsWord laid_out.now.shop path.now }
+        ensures is { IsBeginningOf laid_out.now.shop laid_out.now.layout self.new }
+        ensures placed { IsPlacedAt laid_out.now.shop (placing laid_out.now.shop path.now)
+            laid_out.now.layout next.new ready.new free.new }
+    {
+        self.keep_for(laid_out, path);
+        self.go_on(laid_out, path);
+        next.copy_from_slice(self.next.as_slice());
+        ready.copy_from_slice(self.ready.as_slice());
+        free.copy_from_slice(self.free.as_slice());
+        place_from(laid_out, next, ready, free, path, self.len);
+    }
+}

@@ -1,0 +1,151 @@
+// Operations are dispatched in lanes of one width.
+ghost use Rattle.std.specs.Prelude.{◌≡◌, ◌≤◌, ◌<◌, ◌^◌, IfOk, length};
+ghost use Rattle.shop_layout.specs.LaidOuts.{IsReady};
+
+use crate::advances::{advance_below, strike};
+use crate::beginnings::Beginning;
+use crate::dispatching::{Candidate, Dispatching};
+use crate::fills::fill_state;
+use crate::gathering::gather;
+use crate::machine_raises::MachineRaises;
+use crate::states::{Scratch, State};
+use crate::steps::{BOUNDS, step};
+use shop_lanes::StateLanes;
+use shop_layout::LaidOut;
+use std::alloc::{AllocError, Global};
+
+impl<'a, L: StateLanes> Dispatching<State<L>> for LaidOut<'a, L> {
+    ghost use Rattle.std.specs.Prelude.{◌∷◌, ◌++◌, [], vec_capacity};
+    ghost use Rattle.shop_states.specs.inner.Candidates.{IsCandidateOf};
+    ghost use Rattle.shop_states.specs.inner.Scratches.{IsScratchOf};
+    ghost use Rattle.shop_states.specs.inner.LaneStates.{HasRoom, IsKeptInLanes};
+    ghost use Rattle.shop_layout.specs.Lanes.{rows_of};
+
+    type Scratch = Scratch<L>;
+
+    ghost shop = { λ d. d.shop };
+
+    ghost IsSlot = { λ d s. HasRoom d.shop d.layout (L.heads s.lanes) (L.ends s.lanes)
+        s.next.items };
+
+    ghost IsStateOf = { λ d w s. IsKeptInLanes L.GREATEST d.shop w d.layout
+        (rows_of d.layout (L.heads s.lanes) (L.ends s.lanes)) s.next.items };
+
+    ghost IsScratch = { λ d s. IsScratchOf d.shop d.layout (length s.ready.items)
+        (length s.free.items) s.beginning s.raises (length s.owns.items) };
+
+    ghost IsCandidate = { λ d w c. IsCandidateOf d.shop w d.layout c.job c.own };
+
+    fn scratch(&self, alloc: Global) -> Result<Scratch<L>, AllocError> {
+        let instance = self.instance();
+        instance.keeps_limits();
+        let ready = vec![in alloc; 0; instance.jobs()]?;
+        let free = vec![in alloc; 0; instance.machines()]?;
+        let beginning = Beginning::new(alloc, self)?;
+        let raises = MachineRaises::new(alloc, instance.machines())?;
+        let owns = vec![in alloc; L::narrowed(0); self.grid().positions()]?;
+        Ok(Scratch {
+            ready,
+            free,
+            beginning,
+            raises,
+            owns,
+        })
+    }
+
+    fn slot(&self, alloc: Global) -> Result<State<L>, AllocError> {
+        let jobs = self.instance().jobs();
+        let lanes = L::new(alloc, self.grid().positions(), jobs)?;
+        let next = vec![in alloc; 0; jobs]?;
+        Ok(State { lanes, next })
+    }
+
+    fn fill(&self, scratch: &mut Scratch<L>, path: &[u16], state: &mut State<L>) {
+        let next = state.next.as_mut_slice();
+        let ready = scratch.ready.as_mut_slice();
+        let free = scratch.free.as_mut_slice();
+        scratch.beginning.place_word(self, next, ready, free, path);
+        fill_state(&mut state.lanes, self, next, ready, free);
+    }
+
+    fn copy(&self, from: &State<L>, to: &mut State<L>) {
+        to.lanes.copy_from(&from.lanes);
+        to.next.as_mut_slice().copy_from_slice(from.next.as_slice());
+    }
+
+    fn list_candidates(
+        &self,
+        scratch: &mut Scratch<L>,
+        state: &State<L>,
+        limit: u64,
+        candidates: &mut Vec<Candidate>,
+    ) -> usize {
+        gather(
+            candidates,
+            scratch.owns.as_mut_slice(),
+            &state.lanes,
+            self.grid(),
+            state.next.as_slice(),
+            limit,
+        )
+    }
+
+    #[inline(always)]
+    fn strike(&self, state: &mut State<L>, job: u16) {
+        strike(
+            &mut state.lanes,
+            state.next.as_mut_slice(),
+            self.grid(),
+            job as usize,
+        );
+    }
+
+    #[inline(always)]
+    fn dispatch_below(
+        &self,
+        scratch: &mut Scratch<L>,
+        state: &mut State<L>,
+        candidate: Candidate,
+        bound: u64,
+        limit: u64,
+    ) -> Option<u64> {
+        advance_below(
+            &mut state.lanes,
+            state.next.as_mut_slice(),
+            &mut scratch.raises,
+            self.grid(),
+            candidate.job as usize,
+            bound.max(candidate.own),
+            limit.min(BOUNDS),
+        )
+    }
+
+    fn dispatch(
+        &self,
+        scratch: &mut Scratch<L>,
+        state: &mut State<L>,
+        job: u16,
+        bound: u64,
+    ) -> u64 {
+        step(
+            &mut state.lanes,
+            state.next.as_mut_slice(),
+            &mut scratch.raises,
+            self.grid(),
+            job as usize,
+            bound,
+        )
+    }
+
+    ghost state_is_slot = { λ d w s is. record {
+      positions = is.kept.heads.positions;
+      jobs_with_ends = is.ends.jobs;
+      jobs_with_nexts = is.are_next.jobs;
+    } };
+
+    ghost state_is_of_word = { λ d w s is. is.kept.word };
+
+    ghost state_is_within_limits = { λ d w s is. is.kept.limits };
+
+    ghost sole_keeps_bound = { λ d w s is. is.sole };
+}

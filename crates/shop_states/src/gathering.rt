@@ -1,0 +1,273 @@
+// The candidates of a word: its conflict set, each job with what the bound after it is at least.
+ghost use Rattle.std.specs.Prelude.{◌≡◌, ℕ, ◌+◌, ◌*◌, ◌≤◌, ◌<◌, List, [], ◌∷◌, ◌++◌, length, map};
+ghost use Rattle.std.specs.Prelude.{slice_index, vec_capacity};
+ghost use Rattle.shop_lanes.specs.Marks.{positions_below};
+ghost use Rattle.shop_model.specs.Shop.{Shop};
+ghost use Rattle.shop_states.specs.inner.Candidates.{AreCandidatesOf, CanGather, CanList, IsChosenBy};
+ghost use Rattle.shop_states.specs.inner.Candidates.{IsTold, ListsGathered, ListsOwn, told_at};
+ghost use Rattle.shop_states.specs.inner.JobSets.{members};
+ghost use Rattle.shop_states.specs.inner.LaneChoices.{IsJobBelow};
+ghost use Rattle.shop_states.specs.inner.LaneStates.{IsKeptInLanes};
+ghost use Rattle.shop_states.specs.inner.Raises.{IsInBlocks};
+ghost use Rattle.shop_states.specs.inner.RisingLists.{IsGatheredWith, IsIn};
+ghost use Rattle.shop_layout.specs.Lanes.{rows_of};
+
+use crate::dispatching::Candidate;
+use crate::job_sets::BITS;
+use crate::lane_choices::conflict_set;
+use shop_lanes::{Marks, StateLanes};
+use shop_layout::Grid;
+
+/// The own span that was written at a place.
+#[inline(always)]
+fn own_at<L: StateLanes>(owns: &[L::Number], place: usize) -> u64
+    requires { place < length owns.now }
+    ensures { result ≡ slice_index (map L.value owns.now) place }
+{
+    L::widened(owns[place])
+}
+
+/// The candidate for a job, whose own span is told from position `first` on.
+#[inline(always)]
+fn candidate_for<L: StateLanes>(
+    job: usize,
+    next: &[u32],
+    first: usize,
+    owns: &[L::Number],
+) -> Candidate
+    requires small { length next.now < 1024 }
+    requires told { IsTold next.now first (length owns.now) job }
+    ensures job { result.job ≡ job }
+    ensures own { result.own ≡ told_at next.now first (map L.value owns.now) job }
+{
+    let place = next[job] as usize - first;
+    let own = own_at::<L>(owns, place);
+    Candidate {
+        job: job as u16,
+        own: own.saturating_sub(1),
+    }
+}
+
+/// Appends a candidate if its own number is below the limit, and tells how many are left out: none or this one.
+#[inline(always)]
+fn list_below(candidates: &mut Vec<Candidate>, candidate: Candidate, limit: u64) -> usize
+    requires room { length candidates.old.items < vec_capacity candidates.old }
+    ensures listed { (own : ℕ → ℕ) (js : List ℕ) (n : ℕ) → candidate.own ≡ own candidate.job
+        → ListsOwn limit own js candidates.old.items n
+        → ListsOwn limit own (js ++ candidate.job ∷ []) candidates.new.items (n + result) }
+    ensures count { length candidates.new.items + result ≡ length candidates.old.items + 1 }
+    ensures room { vec_capacity candidates.new ≡ vec_capacity candidates.old }
+{
+    let others = usize::from(candidate.own >= limit);
+    candidates.push_reserved(candidate);
+    // without a branch, since which candidates stay is hard to foresee
+    candidates.truncate(candidates.len() - others);
+    others
+}
+
+/// Appends those candidates for these jobs whose own numbers are below the limit, and tells how many others there are.
+/// The own spans are told from position `first` on.
+#[inline(always)]
+fn list_marked<L: StateLanes>(
+    candidates: &mut Vec<Candidate>,
+    jobs: Marks,
+    next: &[u32],
+    first: usize,
+    owns: &[L::Number],
+    limit: u64,
+) -> usize
+    requires small { length next.now < 1024 }
+    requires told { (j : ℕ) → IsIn jobs j → IsTold next.now first (length owns.now) j }
+    requires few { length jobs < 1024 }
+    requires room { length candidates.old.items + length jobs ≤ vec_capacity candidates.old }
+    ensures listed { (js : List ℕ) (n : ℕ)
+        → ListsOwn limit (told_at next.now first (map L.value owns.now)) js candidates.old.items n
+        → ListsOwn limit (told_at next.now first (map L.value owns.now)) (js ++ jobs)
+        candidates.new.items (n + result) }
+    ensures count { length candidates.new.items + result ≡ length candidates.old.items + length jobs }
+    ensures room { vec_capacity candidates.new ≡ vec_capacity candidates.old }
+{
+    let mut others = 0;
+    let mut left = jobs;
+    while let Some(job) = left.pop_first() {
+        let candidate = candidate_for::<L>(job, next, first, owns);
+        others += list_below(candidates, candidate, limit);
+    }
+    others
+}
+
+/// Fills the empty list with those candidates for the jobs of words whose own numbers are below the limit, and tells
+/// how many others there are. The own spans are told from position `first` on.
+#[inline(always)]
+fn list_words<L: StateLanes>(
+    candidates: &mut Vec<Candidate>,
+    words: &[u64],
+    next: &[u32],
+    first: usize,
+    owns: &[L::Number],
+    limit: u64,
+) -> usize
+    requires words { length words.now ≤ 16 }
+    requires small { length next.now < 1024 }
+    requires told { (j : ℕ) → IsIn (members 0 words.now) j → IsTold next.now first (length owns.now) j }
+    requires none { candidates.old.items ≡ [] }
+    requires room { length next.now ≤ vec_capacity candidates.old }
+    ensures listed { ListsOwn limit (told_at next.now first (map L.value owns.now)) (members 0 words.now)
+        candidates.new.items result }
+    ensures room { vec_capacity candidates.new ≡ vec_capacity candidates.old }
+{
+    let mut others = 0;
+    for word in 0..words.len() {
+        let jobs = Marks::new(BITS * word, words[word]);
+        others += list_marked::<L>(candidates, jobs, next, first, owns, limit);
+    }
+    others
+}
+
+/// The same for the conflict set, which has room in so many words. The chosen job's next operation can end first:
+/// before `end`, on the machine of these blocks, whose own spans are told. What waits in those before `to` with a head
+/// below the end is marked already.
+#[inline(always)]
+fn list_set<const WORDS: usize, L: StateLanes>(
+    candidates: &mut Vec<Candidate>,
+    below: Marks,
+    owns: &[L::Number],
+    lanes: &L,
+    grid: &Grid<L>,
+    next: &[u32],
+    chosen: usize,
+    from: usize,
+    to: usize,
+    behind: usize,
+    end: u64,
+    limit: u64,
+) -> usize
+    requires words { WORDS ≤ 16 }
+    requires many { length next.now ≤ 64 * WORDS }
+    requires can { CanList L.GREATEST grid.now (L.heads lanes.now) next.now chosen from to behind end
+        (length owns.now) }
+    requires marks { below
+        ≡ positions_below (rows_of grid.now (L.heads lanes.now) (L.ends lanes.now)) from to end }
+    requires none { candidates.old.items ≡ [] }
+    requires room { length next.now ≤ vec_capacity candidates.old }
+    ensures listed { ListsGathered limit (told_at next.now (8 * from) (map L.value owns.now))
+        (IsGatheredWith chosen (IsJobBelow grid.now (L.heads lanes.now) (IsInBlocks from behind) end))
+        candidates.new.items result }
+    ensures room { vec_capacity candidates.new ≡ vec_capacity candidates.old }
+{
+    let jobs = conflict_set::<WORDS, L>(below, lanes, grid, chosen, from, to, behind, end);
+    list_words::<L>(candidates, jobs.words(), next, 8 * from, owns, limit)
+}
+
+/// The same with the words that the jobs want.
+#[inline(always)]
+fn list_conflict_set<L: StateLanes>(
+    candidates: &mut Vec<Candidate>,
+    below: Marks,
+    owns: &[L::Number],
+    lanes: &L,
+    grid: &Grid<L>,
+    next: &[u32],
+    chosen: usize,
+    from: usize,
+    to: usize,
+    behind: usize,
+    end: u64,
+    limit: u64,
+) -> usize
+    requires can { CanList L.GREATEST grid.now (L.heads lanes.now) next.now chosen from to behind end
+        (length owns.now) }
+    requires marks { below
+        ≡ positions_below (rows_of grid.now (L.heads lanes.now) (L.ends lanes.now)) from to end }
+    requires none { candidates.old.items ≡ [] }
+    requires room { length next.now ≤ vec_capacity candidates.old }
+    ensures listed { ListsGathered limit (told_at next.now (8 * from) (map L.value owns.now))
+        (IsGatheredWith chosen (IsJobBelow grid.now (L.heads lanes.now) (IsInBlocks from behind) end))
+        candidates.new.items result }
+    ensures room { vec_capacity candidates.new ≡ vec_capacity candidates.old }
+{
+    if next.len() <= BITS {
+        return list_set::<1, L>(
+            candidates, below, owns, lanes, grid, next, chosen, from, to, behind, end, limit,
+        );
+    }
+    list_set::<16, L>(
+        candidates, below, owns, lanes, grid, next, chosen, from, to, behind, end, limit,
+    )
+}
+
+/// Fills the empty list with those candidates of what stands in lanes whose own numbers are below the limit, and tells
+/// how many others there are. The chosen job's next operation can end first: before `end`, on this machine.
+#[inline(always)]
+fn gather_on<L: StateLanes>(
+    candidates: &mut Vec<Candidate>,
+    owns: &mut [L::Number],
+    lanes: &L,
+    grid: &Grid<L>,
+    next: &[u32],
+    chosen: usize,
+    machine: usize,
+    end: u64,
+    limit: u64,
+) -> usize
+    requires can { CanGather L.GREATEST grid.now
+        (rows_of grid.now (L.heads lanes.now) (L.ends lanes.now)) next.now }
+    requires chosen { (shop : Shop) (w : List ℕ) → IsKeptInLanes L.GREATEST shop w grid.now
+        (rows_of grid.now (L.heads lanes.now) (L.ends lanes.now)) next.now
+        → IsChosenBy L.GREATEST shop w grid.now (L.heads lanes.now) next.now chosen machine end }
+    requires none { candidates.old.items ≡ [] }
+    requires owns { length owns.old ≡ length (L.heads lanes.now) }
+    requires room { length next.now ≤ vec_capacity candidates.old }
+    ensures are { (shop : Shop) (w : List ℕ) → IsKeptInLanes L.GREATEST shop w grid.now
+        (rows_of grid.now (L.heads lanes.now) (L.ends lanes.now)) next.now
+        → AreCandidatesOf shop w grid.now limit candidates.new.items result }
+    ensures long { length owns.new ≡ length owns.old }
+    ensures room { vec_capacity candidates.old ≤ vec_capacity candidates.new }
+{
+    let (from, behind) = (grid.block(machine), grid.block(machine + 1));
+    let to = from + (behind - from).min(8);
+    let below = lanes.below(from, to, end);
+    // a sole candidate leaves the bound as it is
+    if to == behind && below.has_no_other(next[chosen] as usize) {
+        let job = chosen as u16;
+        candidates.push_reserved(Candidate { job, own: 0 });
+        return 0;
+    }
+    grid.own_spans(lanes, from, behind, owns);
+    list_conflict_set(
+        candidates, below, owns, lanes, grid, next, chosen, from, to, behind, end, limit,
+    )
+}
+
+/// Replaces the list with those candidates of what stands in lanes whose own numbers are below the limit, and tells how
+/// many others there are.
+#[inline(always)]
+pub(crate) fn gather<L: StateLanes>(
+    candidates: &mut Vec<Candidate>,
+    owns: &mut [L::Number],
+    lanes: &L,
+    grid: &Grid<L>,
+    next: &[u32],
+    limit: u64,
+) -> usize
+    requires can { CanGather L.GREATEST grid.now
+        (rows_of grid.now (L.heads lanes.now) (L.ends lanes.now)) next.now }
+    requires owns { length owns.old ≡ length (L.heads lanes.now) }
+    requires room { length next.now ≤ vec_capacity candidates.old }
+    ensures are { (shop : Shop) (w : List ℕ) → IsKeptInLanes L.GREATEST shop w grid.now
+        (rows_of grid.now (L.heads lanes.now) (L.ends lanes.now)) next.now
+        → AreCandidatesOf shop w grid.now limit candidates.new.items result }
+    ensures long { length owns.new ≡ length owns.old }
+    ensures room { vec_capacity candidates.old ≤ vec_capacity candidates.new }
+{
+    candidates.clear();
+    let (chosen, end) = lanes.first_least_end();
+    let position = next[chosen] as usize;
+    if position >= grid.positions() {
+        return 0;
+    }
+    let machine = grid.machines()[position] as usize;
+    gather_on(
+        candidates, owns, lanes, grid, next, chosen, machine, end, limit,
+    )
+}

@@ -1,0 +1,127 @@
+// Bounds of machines by heads in lanes.
+ghost use Rattle.std.specs.Prelude.{◌≡◌, ◌+◌, ◌≤◌, ◌<◌, ◌^◌, length, slice_index};
+ghost use Rattle.shop_lanes.specs.Rows.{AreBlocks};
+ghost use Rattle.shop_lanes.specs.Spans.{FitsSpan};
+ghost use Rattle.shop_layout.specs.Lanes.{lanes_on, rows_of};
+ghost use Rattle.shop_layout.specs.Positions.{AreEven};
+ghost use Rattle.shop_states.specs.inner.HeadRaises.{raise_in, raises_in};
+ghost use Rattle.shop_states.specs.inner.MachineRaises.{CanTakeSpans, IsSpanByRaise, TakesSpans};
+
+use crate::head_raises::{LaneRaise, take_raise};
+use crate::machine_sets::MachineSet;
+use shop_lanes::StateLanes;
+use shop_layout::Grid;
+
+/// The greatest of `least` and the spans of a machine from its raised heads on; once that reaches the limit, any number
+/// between the limit and it. `each` is how many blocks every machine has, or 0.
+#[inline(always)]
+fn span_by_raise<L: StateLanes>(
+    each: usize,
+    lanes: &L,
+    grid: &Grid<L>,
+    machine: usize,
+    raise: LaneRaise<L::Number>,
+    least: u64,
+    limit: u64,
+) -> u64
+    requires even { AreEven grid.now.blocks each }
+    requires small { machine + 1 < 2 ^ 64 }
+    requires known { machine + 1 < length grid.now.blocks }
+    requires blocks { AreBlocks (rows_of grid.now (L.heads lanes.now) (L.ends lanes.now))
+        (slice_index grid.now.blocks machine) (slice_index grid.now.blocks (machine + 1)) }
+    requires times { length grid.now.times ≡ length (L.heads lanes.now) }
+    requires tails { length grid.now.tails ≡ length grid.now.times }
+    requires least { least ≤ L.GREATEST }
+    requires below { L.value raise.to < L.GREATEST }
+    requires fits { FitsSpan L.GREATEST (L.value raise.to)
+        (lanes_on (rows_of grid.now (L.heads lanes.now) (L.ends lanes.now)) grid.now machine) }
+    ensures spans { IsSpanByRaise (raise_in L.value raise)
+        (lanes_on (rows_of grid.now (L.heads lanes.now) (L.ends lanes.now)) grid.now machine)
+        limit least result }
+    ensures fits { result ≤ L.GREATEST }
+{
+    if limit <= least {
+        return least;
+    }
+    let (from, to) = grid.blocks_of(each, machine);
+    let (above, upto) = (L::widened(raise.from), L::widened(raise.to));
+    grid.bound_raised(lanes, each, from, to, above, upto, least, limit)
+}
+
+/// The same as `take_spans`; `each` is how many blocks every machine has, or 0. With a literal number the passes over
+/// them are unrolled.
+#[inline(always)]
+fn take_spans_of<L: StateLanes>(
+    each: usize,
+    raises: &mut [LaneRaise<L::Number>],
+    raised: MachineSet,
+    lanes: &L,
+    grid: &Grid<L>,
+    least: u64,
+    limit: u64,
+) -> u64
+    requires even { AreEven grid.now.blocks each }
+    requires can { CanTakeSpans L.GREATEST (raises_in L.value raises.old) raised grid.now
+        (rows_of grid.now (L.heads lanes.now) (L.ends lanes.now)) least }
+    ensures { TakesSpans grid.now (rows_of grid.now (L.heads lanes.now) (L.ends lanes.now))
+        (raises_in L.value raises.old) (raises_in L.value raises.new) least limit result }
+{
+    let mut most = least;
+    let mut left = raised;
+    while let Some(machine) = left.pop_first() {
+        let raise = take_raise::<L>(raises, machine);
+        most = span_by_raise(each, lanes, grid, machine, raise, most, limit);
+    }
+    most
+}
+
+/// The same as `take_spans` for machines of four blocks and more, or of different numbers of blocks, in a function of
+/// its own.
+#[inline(never)]
+fn take_longer_spans<L: StateLanes>(
+    raises: &mut [LaneRaise<L::Number>],
+    raised: MachineSet,
+    lanes: &L,
+    grid: &Grid<L>,
+    least: u64,
+    limit: u64,
+) -> u64
+    requires can { CanTakeSpans L.GREATEST (raises_in L.value raises.old) raised grid.now
+        (rows_of grid.now (L.heads lanes.now) (L.ends lanes.now)) least }
+    ensures { TakesSpans grid.now (rows_of grid.now (L.heads lanes.now) (L.ends lanes.now))
+        (raises_in L.value raises.old) (raises_in L.value raises.new) least limit result }
+{
+    match grid.blocks_each() {
+        4 => take_spans_of(4, raises, raised, lanes, grid, least, limit),
+        5 => take_spans_of(5, raises, raised, lanes, grid, least, limit),
+        6 => take_spans_of(6, raises, raised, lanes, grid, least, limit),
+        7 => take_spans_of(7, raises, raised, lanes, grid, least, limit),
+        8 => take_spans_of(8, raises, raised, lanes, grid, least, limit),
+        _ => take_spans_of(0, raises, raised, lanes, grid, least, limit),
+    }
+}
+
+/// The greatest of `least` and the spans of the listed machines from their raised heads on; once that reaches the
+/// limit, any number between the limit and it. These raises are empty afterwards. Heads and spans in lanes are one more
+/// than what they stand for, and so are these numbers.
+#[inline(always)]
+pub(crate) fn take_spans<L: StateLanes>(
+    raises: &mut [LaneRaise<L::Number>],
+    raised: MachineSet,
+    lanes: &L,
+    grid: &Grid<L>,
+    least: u64,
+    limit: u64,
+) -> u64
+    requires can { CanTakeSpans L.GREATEST (raises_in L.value raises.old) raised grid.now
+        (rows_of grid.now (L.heads lanes.now) (L.ends lanes.now)) least }
+    ensures { TakesSpans grid.now (rows_of grid.now (L.heads lanes.now) (L.ends lanes.now))
+        (raises_in L.value raises.old) (raises_in L.value raises.new) least limit result }
+{
+    match grid.blocks_each() {
+        1 => take_spans_of(1, raises, raised, lanes, grid, least, limit),
+        2 => take_spans_of(2, raises, raised, lanes, grid, least, limit),
+        3 => take_spans_of(3, raises, raised, lanes, grid, least, limit),
+        _ => take_longer_spans(raises, raised, lanes, grid, least, limit),
+    }
+}

@@ -1,0 +1,85 @@
+// The operations of a word are placed, position by position.
+ghost use Rattle.std.specs.Prelude.{◌≡◌, ℕ, ◌<◌, ◌≤◌, length, slice_index, take};
+ghost use Rattle.shop_model.specs.Word.{IsWord, none_placed, placing};
+ghost use Rattle.shop_layout.specs.Positions.{IsLaidOut};
+ghost use Rattle.shop_states.specs.inner.PlacedNexts.{AreBegun, IsPlacedAt};
+
+use shop_lanes::StateLanes;
+use shop_layout::LaidOut;
+
+/// Each job is at the first step of its route, ready at its release.
+fn begin_jobs<L: StateLanes>(laid_out: &LaidOut<L>, next: &mut [u32], ready: &mut [u64])
+    requires next { length next.old ≡ length laid_out.now.shop.jobs }
+    requires ready { length ready.old ≡ length laid_out.now.shop.jobs }
+    ensures laid { IsLaidOut laid_out.now.shop laid_out.now.layout }
+    ensures begun { AreBegun laid_out.now.shop laid_out.now.layout
+        (length laid_out.now.shop.jobs) next.new ready.new }
+{
+    let instance = laid_out.instance();
+    let grid = laid_out.grid();
+    for job in 0..next.len() {
+        let places = grid.places(job);
+        next[job] = if places.len() > 0 {
+            places[0]
+        } else {
+            grid.end()
+        };
+        ready[job] = instance.release(job);
+    }
+}
+
+/// Each machine is free from 0 on.
+fn free_machines(free: &mut [u64])
+    ensures long { length free.new ≡ length free.old }
+    ensures none { (m : ℕ) → m < length free.old → slice_index free.new m ≡ 0 }
+{
+    for machine in 0..free.len() {
+        free[machine] = 0;
+    }
+}
+
+/// Nothing is placed.
+pub(crate) fn place_none<L: StateLanes>(
+    laid_out: &LaidOut<L>,
+    next: &mut [u32],
+    ready: &mut [u64],
+    free: &mut [u64],
+)
+    requires next { length next.old ≡ length laid_out.now.shop.jobs }
+    requires ready { length ready.old ≡ length laid_out.now.shop.jobs }
+    requires free { length free.old ≡ laid_out.now.shop.machines }
+    ensures { IsPlacedAt laid_out.now.shop (none_placed laid_out.now.shop) laid_out.now.layout
+        next.new ready.new free.new }
+{
+    begin_jobs(laid_out, next, ready);
+    free_machines(free);
+}
+
+/// Places the operations of a word from an entry on, where those before it are placed.
+pub(crate) fn place_from<L: StateLanes>(
+    laid_out: &LaidOut<L>,
+    next: &mut [u32],
+    ready: &mut [u64],
+    free: &mut [u64],
+    path: &[u16],
+    from: usize,
+)
+    requires before { IsPlacedAt laid_out.now.shop (placing laid_out.now.shop (take from path.now))
+        laid_out.now.layout next.old ready.old free.old }
+    requires within { from ≤ length path.now }
+    requires word { IsWord laid_out.now.shop path.now }
+    ensures { IsPlacedAt laid_out.now.shop (placing laid_out.now.shop path.now) laid_out.now.layout
+        next.new ready.new free.new }
+{
+    let grid = laid_out.grid();
+    let routes = grid.routes();
+    for index in from..path.len() {
+        let job = path[index] as usize;
+        let position = next[job] as usize;
+        let machine = routes.machine(position) as usize;
+        let end = ready[job].max(free[machine]) + routes.time(position);
+        next[job] = grid.next_behind(position);
+        ready[job] = end;
+        free[machine] = end;
+    }
+}

@@ -1,0 +1,185 @@
+// Heads by position are raised once an operation is placed.
+ghost use Rattle.std.specs.Prelude.{◌≡◌, ◌+◌, ◌*◌, ◌≤◌, ◌<◌, ◌^◌, [], length, slice_index};
+ghost use Rattle.shop_layout.specs.Lanes.{rows_of};
+ghost use Rattle.shop_states.specs.inner.HeadRaises.{raises_in};
+ghost use Rattle.shop_states.specs.inner.Raises.{HasBlocks, IsInBlocks, IsPosition, IsRaisable};
+ghost use Rattle.shop_states.specs.inner.Raises.{IsOnMachine, Raises, SetsEndAt};
+ghost use Rattle.shop_states.specs.inner.Watchers.{AreKnown, Sees};
+ghost use Rattle.shop_states.specs.inner.MachineRaises.{AreListed};
+
+use crate::head_raises::{LaneRaise, see};
+use crate::machine_sets::MachineSet;
+use shop_lanes::StateLanes;
+use shop_layout::{Grid, Routes};
+
+/// Raises the head of what waits at a position to `end`, propagates it along its route as far as heads are too small
+/// then, and notes each change.
+#[inline(always)]
+fn raise_route<L: StateLanes>(
+    lanes: &mut L,
+    raises: &mut [LaneRaise<L::Number>],
+    raised: &mut MachineSet,
+    routes: &Routes,
+    position: usize,
+    end: u64,
+)
+    requires waits { 0 < slice_index (L.heads lanes.old) position }
+    requires below { slice_index (L.heads lanes.old) position ≤ end }
+    requires raisable { IsRaisable L.GREATEST routes.now []
+        (rows_of routes.now (L.heads lanes.old) (L.ends lanes.old)) (IsPosition position) end }
+    requires known { AreKnown routes.now.machines (length raises.old) }
+    requires listed { AreListed (raises_in L.value raises.old) raised.old }
+    ensures raises { Raises L.GREATEST routes.now [] (IsPosition position) end
+        (rows_of routes.now (L.heads lanes.old) (L.ends lanes.old))
+        (rows_of routes.now (L.heads lanes.new) (L.ends lanes.new)) }
+    ensures seen { Sees routes.now.machines (IsPosition position) end
+        (L.heads lanes.old) (L.heads lanes.new) (raises_in L.value raises.old)
+        (raises_in L.value raises.new) }
+    ensures listed { AreListed (raises_in L.value raises.new) raised.new }
+{
+    lanes.set_head(position, end);
+    let mut ready = end + routes.time(position);
+    let mut next = routes.following(position);
+    let mut head = lanes.head_or_greatest(next);
+    while head < ready {
+        lanes.set_head(next, ready);
+        see::<L>(raises, raised, routes.machine(next), head, ready);
+        ready += routes.time(next);
+        next = routes.following(next);
+        head = lanes.head_or_greatest(next);
+    }
+}
+
+/// Sets the end of what stands at a position, whose head is to be `begin`, if it is one of these next operations.
+#[inline(always)]
+fn set_end_at<L: StateLanes>(
+    lanes: &mut L,
+    routes: &Routes,
+    next: &[u32],
+    position: usize,
+    begin: u64,
+)
+    requires within { position < length routes.now.times }
+    requires job { position < length routes.now.jobs }
+    requires known { slice_index routes.now.jobs position < length next.now }
+    requires ends { length next.now ≤ length (L.ends lanes.old) }
+    requires fits { begin + slice_index routes.now.times position ≤ L.GREATEST }
+    requires computable { L.GREATEST < 2 ^ 64 }
+    ensures { SetsEndAt routes.now next.now position begin
+        (rows_of routes.now (L.heads lanes.old) (L.ends lanes.old))
+        (rows_of routes.now (L.heads lanes.new) (L.ends lanes.new)) }
+{
+    let job = routes.job(position);
+    if next[job] as usize == position {
+        lanes.set_end(job, begin + routes.time(position));
+    }
+}
+
+/// Raises the head of what waits at a position to `end`, those of its route behind it that are too small then, and its
+/// end if it is one of these next operations.
+#[inline(always)]
+fn raise_from<L: StateLanes>(
+    lanes: &mut L,
+    raises: &mut [LaneRaise<L::Number>],
+    raised: &mut MachineSet,
+    routes: &Routes,
+    next: &[u32],
+    position: usize,
+    end: u64,
+)
+    requires waits { 0 < slice_index (L.heads lanes.old) position }
+    requires below { slice_index (L.heads lanes.old) position ≤ end }
+    requires raisable { IsRaisable L.GREATEST routes.now next.now
+        (rows_of routes.now (L.heads lanes.old) (L.ends lanes.old)) (IsPosition position) end }
+    requires jobs { length routes.now.places ≤ length next.now }
+    requires known { AreKnown routes.now.machines (length raises.old) }
+    requires listed { AreListed (raises_in L.value raises.old) raised.old }
+    ensures raises { Raises L.GREATEST routes.now next.now (IsPosition position) end
+        (rows_of routes.now (L.heads lanes.old) (L.ends lanes.old))
+        (rows_of routes.now (L.heads lanes.new) (L.ends lanes.new)) }
+    ensures seen { Sees routes.now.machines (IsPosition position) end
+        (L.heads lanes.old) (L.heads lanes.new) (raises_in L.value raises.old)
+        (raises_in L.value raises.new) }
+    ensures listed { AreListed (raises_in L.value raises.new) raised.new }
+{
+    set_end_at(lanes, routes, next, position, end);
+    raise_route(lanes, raises, raised, routes, position, end);
+}
+
+/// Raises the heads of what waits in at most eight blocks below `end`.
+#[inline(always)]
+fn raise_blocks<L: StateLanes>(
+    lanes: &mut L,
+    raises: &mut [LaneRaise<L::Number>],
+    raised: &mut MachineSet,
+    routes: &Routes,
+    next: &[u32],
+    from: usize,
+    to: usize,
+    end: u64,
+)
+    requires few { to ≤ from + 8 }
+    requires ordered { from ≤ to }
+    requires within { 8 * to ≤ length (L.heads lanes.old) }
+    requires fits { end ≤ L.GREATEST }
+    requires raisable { IsRaisable L.GREATEST routes.now next.now
+        (rows_of routes.now (L.heads lanes.old) (L.ends lanes.old)) (IsInBlocks from to) end }
+    requires jobs { length routes.now.places ≤ length next.now }
+    requires known { AreKnown routes.now.machines (length raises.old) }
+    requires listed { AreListed (raises_in L.value raises.old) raised.old }
+    ensures raises { Raises L.GREATEST routes.now next.now (IsInBlocks from to) end
+        (rows_of routes.now (L.heads lanes.old) (L.ends lanes.old))
+        (rows_of routes.now (L.heads lanes.new) (L.ends lanes.new)) }
+    ensures seen { Sees routes.now.machines (IsInBlocks from to) end
+        (L.heads lanes.old) (L.heads lanes.new) (raises_in L.value raises.old)
+        (raises_in L.value raises.new) }
+    ensures listed { AreListed (raises_in L.value raises.new) raised.new }
+    ensures machines { length raises.new ≡ length raises.old }
+{
+    let mut below = lanes.below(from, to, end);
+    while let Some(position) = below.pop_first() {
+        if lanes.head(position) < end {
+            raise_from(lanes, raises, raised, routes, next, position, end);
+        }
+    }
+}
+
+/// Sets each head below `end` of what waits on a machine to `end`, propagates it along the routes as far as heads are
+/// too small then, notes each change in the raises, and keeps the ends of next operations up.
+#[inline(always)]
+pub(crate) fn raise<L: StateLanes>(
+    lanes: &mut L,
+    raises: &mut [LaneRaise<L::Number>],
+    raised: &mut MachineSet,
+    grid: &Grid<L>,
+    routes: &Routes,
+    next: &[u32],
+    machine: usize,
+    end: u64,
+)
+    requires routes { routes.now ≡ grid.now }
+    requires machine { HasBlocks grid.now (length (L.heads lanes.old)) machine }
+    requires fits { end ≤ L.GREATEST }
+    requires raisable { IsRaisable L.GREATEST grid.now next.now
+        (rows_of grid.now (L.heads lanes.old) (L.ends lanes.old)) (IsOnMachine grid.now machine)
+        end }
+    requires jobs { length grid.now.places ≤ length next.now }
+    requires known { AreKnown grid.now.machines (length raises.old) }
+    requires listed { AreListed (raises_in L.value raises.old) raised.old }
+    ensures raises { Raises L.GREATEST grid.now next.now (IsOnMachine grid.now machine) end
+        (rows_of grid.now (L.heads lanes.old) (L.ends lanes.old))
+        (rows_of grid.now (L.heads lanes.new) (L.ends lanes.new)) }
+    ensures seen { Sees grid.now.machines (IsOnMachine grid.now machine) end
+        (L.heads lanes.old) (L.heads lanes.new) (raises_in L.value raises.old)
+        (raises_in L.value raises.new) }
+    ensures listed { AreListed (raises_in L.value raises.new) raised.new }
+    ensures machines { length raises.new ≡ length raises.old }
+{
+    let behind = grid.block(machine + 1);
+    let mut from = grid.block(machine);
+    while from < behind {
+        let to = from + (behind - from).min(8);
+        raise_blocks(lanes, raises, raised, routes, next, from, to, end);
+        from = to;
+    }
+}

@@ -1,0 +1,100 @@
+-- Children that lie on the stack with their states, and closed ones below them.
+use Rattle.std.proofs.Common.{◌≡◌, ℕ, zero, suc, ◌+◌, ◌≤◌, ◌<◌, List, [], ◌∷◌, ◌++◌, length, drop, map, min, get_or, set}
+use Rattle.std.proofs.Common.{None, All, refl, sym, ◌∙◌, ap, subst, append_assoc, arith}
+use Rattle.std.specs.List.{insert}
+use Rattle.std.proofs.Math.Seq.{drop-append_seam, get_or-append_seam, set-append_seam, take-append_seam}
+use Rattle.std.proofs.lemmas.List.{length_push, map-append}
+use Rattle.std.proofs.lemmas.List.Elements.{All-append, All-map, All-from_recursion}
+use Rattle.shop_nodes.specs.declared.halts.Waiting.{Waiting}
+use Rattle.shop_nodes.specs.declared.halts.Waiting.TheVariants.{Child, Rest}
+use Rattle.shop_tree.specs.declared.held.Held.{Held}
+use Rattle.shop_tree.specs.inner.Held.{IsHeld, IsKept, Kept, held, opens_in, waiting_in, with_held_rest}
+use Rattle.shop_tree.specs.inner.Held.{HasRaisedRest}
+use Rattle.shop_tree.specs.inner.Pushing.{with_opens, with_rest}
+
+children_moved : {S : Type 0} (ks : List (Kept S)) → waiting_in (map held ks) ≡ map (λ o. Child o) (opens_in ks)
+children_moved [] = refl
+children_moved (k ∷ ks) = ap (λ ws. Child k.open ∷ ws) (children_moved ks)
+
+module _ {S : Type 0} (old : List (Held S)) (kids : List (Kept S)) where
+  -- what waits then, and the states
+  pub waiting_moved : (new : List (Held S)) → new ≡ old ++ map held kids
+      → waiting_in new ≡ with_opens (waiting_in old) (opens_in kids)
+  waiting_moved new is = ap waiting_in is
+      ∙ (map-append (λ h. h.waiting) old (map held kids) ∙ ap (λ ws. waiting_in old ++ ws) (children_moved kids))
+
+  pub states_moved : (is : List ℕ → S → Type 0) (word : List ℕ) (new : List (Held S)) → new ≡ old ++ map held kids
+      → All (IsHeld is word) old → All (IsKept is word) kids → All (IsHeld is word) new
+  states_moved is word new e below above = subst (All (IsHeld is word)) (sym e)
+      (All-append (IsHeld is word) old (map held kids) below (All-map (IsHeld is word) held kids above))
+
+-- closed ones come to be more
+pub none_raised : {S : Type 0} (place depth known count : ℕ) (stack : List (Held S)) → count ≡ known
+    → HasRaisedRest place depth known count stack stack
+none_raised place depth known count stack same below kids at is =
+    is ∙ ap (λ (n : ℕ). with_held_rest below depth n ++ kids) (sym same)
+
+pub some_raised : {S : Type 0} (place depth known count : ℕ) (stack : List (Held S)) (d h : Held S) → 0 < known
+    → known ≤ count → h ≡ get_or stack place d
+    → HasRaisedRest place depth known count stack
+    (set stack place (record { waiting = Rest depth count; state = h.state }))
+some_raised {S} place depth zero count stack d h some more read below kids at is = absurd (omega arith)
+some_raised {S} place depth (suc known) zero stack d h some more read below kids at is = absurd (omega arith)
+some_raised {S} place depth (suc known) (suc count) stack d h some more read below kids at is =
+    let old : Held S = record { waiting = Rest depth (suc known); state = None }
+    in let new : Held S = record { waiting = Rest depth (suc count); state = None }
+    in let parts : stack ≡ below ++ old ∷ kids = is ∙ append_assoc below (old ∷ []) kids
+    in let found : h ≡ old = read ∙ (ap (λ (xs : List (Held S)). get_or xs place d) parts
+    ∙ (ap (λ (i : ℕ). get_or (below ++ old ∷ kids) i d) at ∙ get_or-append_seam below old kids d))
+    in ap (λ (x : Held S). set stack place (record { waiting = Rest depth (suc count); state = x.state })) found
+    ∙ (ap (λ (xs : List (Held S)). set xs place new) parts
+    ∙ (ap (λ (i : ℕ). set (below ++ old ∷ kids) i new) at
+    ∙ (set-append_seam below old kids new ∙ sym (append_assoc below (new ∷ []) kids))))
+
+pub first_raised : {S : Type 0} (place depth known count : ℕ) (stack : List (Held S)) → known ≡ 0 → 0 < count
+    → HasRaisedRest place depth known count stack
+    (insert stack place (record { waiting = Rest depth count; state = None }))
+first_raised {S} place depth (suc known) count stack zero_known some below kids at is = absurd (omega arith)
+first_raised {S} place depth zero zero stack zero_known some below kids at is = absurd (omega arith)
+first_raised {S} place depth zero (suc count) stack zero_known some below kids at is =
+    let rest : Held S = record { waiting = Rest depth (suc count); state = None }
+    in ap (λ (hs : List (Held S)). insert hs place rest) is
+    ∙ (ap (λ (i : ℕ). insert (below ++ kids) i rest) at
+    ∙ (ap (λ (hs : List (Held S)). hs ++ rest ∷ drop (length below) (below ++ kids)) (take-append_seam below kids)
+    ∙ (ap (λ (hs : List (Held S)). below ++ rest ∷ hs) (drop-append_seam below kids)
+    ∙ sym (append_assoc below (rest ∷ []) kids))))
+
+pub waiting_rest : {S : Type 0} (old : List (Held S)) (depth n : ℕ)
+    → waiting_in (with_held_rest old depth n) ≡ with_rest (waiting_in old) depth n
+waiting_rest old depth zero = refl
+waiting_rest {S} old depth (suc n) = map-append (λ (h : Held S). h.waiting) old
+    (record { waiting = Rest depth (suc n); state = None } ∷ [])
+
+pub rest_long : {S : Type 0} (old : List (Held S)) (depth n : ℕ)
+    → length old + min n 1 ≤ length (with_held_rest old depth n)
+rest_long old depth zero = omega arith
+rest_long {S} old depth (suc n) =
+    let rest : Held S = record { waiting = Rest depth (suc n); state = None }
+    in let a = length_push old rest in omega arith
+
+-- what waits once closed ones are put on top
+pub rest_waits : {S : Type 0} (old new : List (Held S)) (word : List ℕ) (depth n : ℕ) → depth ≡ length word
+    → new ≡ with_held_rest old depth n → waiting_in new ≡ with_rest (waiting_in old) (length word) n
+rest_waits old new word depth n deep put = ap waiting_in put
+    ∙ (waiting_rest old depth n ∙ ap (λ (k : ℕ). with_rest (waiting_in old) k n) deep)
+
+-- so for closed ones
+module _ {S : Type 0} (old : List (Held S)) where
+  pub states_rest : (is : List ℕ → S → Type 0) (word : List ℕ) (depth n : ℕ) → All (IsHeld is word) old
+      → All (IsHeld is word) (with_held_rest old depth n)
+  states_rest is word depth zero below = below
+  states_rest is word depth (suc n) below = All-append (IsHeld is word) old
+      (record { waiting = Rest depth (suc n); state = None } ∷ []) below
+      (All-from_recursion (IsHeld is word) (record { waiting = Rest depth (suc n); state = None } ∷ []) (refl, tt))
+
+  -- what waits then
+  pub waiting_put : (kids : List (Kept S)) (new : List (Held S)) (depth n : ℕ)
+      → new ≡ with_held_rest old depth n ++ map held kids
+      → waiting_in new ≡ with_opens (with_rest (waiting_in old) depth n) (opens_in kids)
+  waiting_put kids new depth n is = waiting_moved (with_held_rest old depth n) kids new is
+      ∙ ap (λ (ws : List Waiting). with_opens ws (opens_in kids)) (waiting_rest old depth n)

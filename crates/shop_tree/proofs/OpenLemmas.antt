@@ -1,0 +1,212 @@
+-- What waits on a stack that is kept short, as the walk goes on to another word.
+use Rattle.std.proofs.Common.{◌≡◌, ℕ, ◌≤◌, List, [], ◌∷◌, ◌++◌, length, map, take, reverse, refl, sym, ◌∙◌}
+use Rattle.std.proofs.Common.{ap, subst, arith, append_assoc, append-nil}
+use Rattle.std.specs.List.{AllByRecursion, fold}
+use Rattle.std.proofs.lemmas.List.{take-append-le, length-take-le, take-take, length-append}
+use Rattle.std.proofs.lemmas.List.Sums.{fold-append}
+use Rattle.shop_model.specs.Shop.{Shop}
+use Rattle.shop_model.specs.Word.{IsWord}
+use Rattle.shop_bound.specs.Bound.{lb}
+use Rattle.shop_nodes.specs.Branching.{branch}
+use Rattle.shop_nodes.specs.Halts.{word_at, last_of, waiting_words, stack_words}
+use Rattle.shop_tree.specs.inner.Opens.{open_words, depth_of}
+use Rattle.shop_nodes.specs.Halts.{IsWaiting}
+use Rattle.shop_tree.specs.inner.Opens.{IsUpTo, IsFrom, IsAt, IsRising, AreWaiting}
+use Rattle.shop_tree.specs.inner.Searching.{walk_stack, Adds}
+use Rattle.shop_nodes.specs.Walking.{Walk, walk}
+use Rattle.shop_nodes.specs.declared.halts.Open.{Open}
+use Rattle.shop_nodes.specs.declared.halts.Waiting.{Waiting}
+use Rattle.shop_nodes.specs.declared.halts.Waiting.TheVariants.{Child, Rest}
+use Rattle.shop_tree.proofs.ListLemmas.{reverse-cons, all_append, all_front, all_back, all_weaker}
+
+pub begins_alike : (v w : List ℕ) (n : ℕ) → take n v ≡ take n w → (k : ℕ) → k ≤ n → take k v ≡ take k w
+begins_alike v w n alike k h = sym (take-take k n v h) ∙ (ap (take k) alike ∙ take-take k n w h)
+
+-- Words that begin alike up to n: what begins with n entries at most stands for the same words.
+module _ (shop : Shop) (v w : List ℕ) (n : ℕ) (alike : take n v ≡ take n w) where
+  entry-same : (x : Waiting) → IsUpTo n x → waiting_words shop v x ≡ waiting_words shop w x
+  entry-same (Child o) h = ap (λ (u : List ℕ). (u ++ o.job ∷ []) ∷ []) (begins_alike v w n alike o.depth h)
+  entry-same (Rest depth count) h = ap (λ (u : List ℕ). last_of count (branch shop u)) (begins_alike v w n alike depth h)
+
+  pub words-same : (stack : List Waiting) → AllByRecursion (IsUpTo n) stack
+      → stack_words shop v stack ≡ stack_words shop w stack
+  words-same [] low = refl
+  words-same (x ∷ stack) low =
+      ap (λ ws. ws ++ waiting_words shop v x) (words-same stack low.1)
+      ∙ ap (λ ws. stack_words shop w stack ++ ws) (entry-same x low.0)
+
+  waits-same : (best : ℕ) (x : Waiting) → n ≤ length v → IsUpTo n x → IsWaiting shop best w x
+      → IsWaiting shop best v x
+  waits-same best (Child o) long h own =
+      let same : word_at w o ≡ word_at v o = ap (λ (u : List ℕ). u ++ o.job ∷ []) (sym (begins_alike v w n alike o.depth h))
+      in record {
+        depth = omega arith;
+        is_word = subst (IsWord shop) same own.is_word;
+        bound = own.bound ∙ ap (lb shop) same;
+      }
+  waits-same best (Rest depth count) long h own =
+      let same : take depth w ≡ take depth v = sym (begins_alike v w n alike depth h)
+      in record {
+        depth = omega arith;
+        short = own.short;
+        is_word = subst (IsWord shop) same own.is_word;
+        few = subst (λ (u : List ℕ). count ≤ length (branch shop u)) same own.few;
+        high = subst (λ (u : List ℕ). AllByRecursion (λ x. best ≤ lb shop x) (last_of count (branch shop u))) same
+            own.high;
+      }
+
+  pub all-same : (best : ℕ) → n ≤ length v → (stack : List Waiting) → AllByRecursion (IsUpTo n) stack
+      → AllByRecursion (IsWaiting shop best w) stack → AllByRecursion (IsWaiting shop best v) stack
+  all-same best long [] low all = tt
+  all-same best long (x ∷ stack) low all = (
+    waits-same best x long low.0 all.0,
+    all-same best long stack low.1 all.1,
+  )
+
+pub deep : (shop : Shop) (best : ℕ) (w : List ℕ) (x : Waiting) → IsWaiting shop best w x → IsUpTo (length w) x
+deep shop best w (Child o) h = h.depth
+deep shop best w (Rest depth count) h = h.depth
+
+-- the words of parts, those of the upper one first
+pub stack_words-append : (shop : Shop) (w : List ℕ) (xs ys : List Waiting)
+    → stack_words shop w (xs ++ ys) ≡ stack_words shop w ys ++ stack_words shop w xs
+stack_words-append shop w [] ys = sym (append-nil (stack_words shop w ys))
+stack_words-append shop w (x ∷ xs) ys =
+    ap (λ ws. ws ++ waiting_words shop w x) (stack_words-append shop w xs ys)
+    ∙ append_assoc (stack_words shop w ys) (stack_words shop w xs) (waiting_words shop w x)
+
+-- and their walks
+pub stack-append : (shop : Shop) (w : List ℕ) (s : Walk) (xs ys : List Waiting)
+    → walk_stack shop w s (xs ++ ys) ≡ walk_stack shop w (walk_stack shop w s ys) xs
+stack-append shop w s xs ys = ap (fold (walk shop) s) (stack_words-append shop w xs ys)
+    ∙ fold-append (walk shop) s (stack_words shop w ys) (stack_words shop w xs)
+
+pub opens-words : (shop : Shop) (w : List ℕ) (os : List Open)
+    → stack_words shop w (map (λ o. Child o) os) ≡ reverse (open_words w os)
+opens-words shop w [] = refl
+opens-words shop w (o ∷ os) =
+    ap (λ ws. ws ++ word_at w o ∷ []) (opens-words shop w os) ∙ sym (reverse-cons (word_at w o) (open_words w os))
+
+pub all-opens : (P : Waiting → Type 0) (os : List Open) → AllByRecursion (λ o. P (Child o)) os
+    → AllByRecursion P (map (λ o. Child o) os)
+all-opens P [] h = tt
+all-opens P (o ∷ os) h = (h.0, all-opens P os h.1)
+
+-- the entry on top, and those below it
+rising-front : (rest : List Waiting) (x : Waiting) → IsRising (rest ++ x ∷ []) → IsRising rest
+rising-front [] x r = tt
+rising-front (y ∷ rest) x r = (all_front (IsFrom (depth_of y)) rest (x ∷ []) r.0, rising-front rest x r.1)
+
+pub rising-below : (rest : List Waiting) (x : Waiting) → IsRising (rest ++ x ∷ [])
+    → AllByRecursion (IsUpTo (depth_of x)) rest
+rising-below [] x r = tt
+rising-below (y ∷ rest) x r = (
+  (all_back (IsFrom (depth_of y)) rest (x ∷ []) r.0).0,
+  rising-below rest x r.1,
+)
+
+from-at : (n k : ℕ) → k ≤ n → (x : Waiting) → IsAt n x → IsFrom k x
+from-at n k le x h = omega arith
+
+rising-level : (added : List Waiting) (n : ℕ) → AllByRecursion (IsAt n) added → IsRising added
+rising-level [] n e = tt
+rising-level (x ∷ added) n e = (
+  all_weaker (IsAt n) (IsFrom (depth_of x)) (from-at n (depth_of x) (let a = e.0 in omega arith)) added e.1,
+  rising-level added n e.1,
+)
+
+rising-append : (rest added : List Waiting) (n : ℕ) → IsRising rest → AllByRecursion (IsUpTo n) rest
+    → AllByRecursion (IsAt n) added → IsRising (rest ++ added)
+rising-append [] added n r low e = rising-level added n e
+rising-append (x ∷ rest) added n r low e = (
+  all_append (IsFrom (depth_of x)) rest added r.0
+      (all_weaker (IsAt n) (IsFrom (depth_of x)) (from-at n (depth_of x) low.0) added e),
+  rising-append rest added n r.1 low.1 e,
+)
+
+pub record IsPopped (shop : Shop) (best : ℕ) (word : List ℕ) (rest : List Waiting) (x : Waiting) : Type 0 where
+  pub rest_waits : AreWaiting shop best word rest
+  pub own : IsWaiting shop best word x
+
+pub popped : (shop : Shop) (best : ℕ) (word : List ℕ) (rest : List Waiting) (x : Waiting)
+    → AreWaiting shop best word (rest ++ x ∷ []) → IsPopped shop best word rest x
+popped shop best word rest x all = record {
+  rest_waits = record {
+    each = all_front (IsWaiting shop best word) rest (x ∷ []) all.each;
+    rising = rising-front rest x all.rising;
+  };
+  own = (all_back (IsWaiting shop best word) rest (x ∷ []) all.each).0;
+}
+
+-- another entry of the same depth on top
+pub replaced : (shop : Shop) (best : ℕ) (word : List ℕ) (rest : List Waiting) (x y : Waiting)
+    → AreWaiting shop best word (rest ++ x ∷ []) → depth_of y ≡ depth_of x → IsWaiting shop best word y
+    → AreWaiting shop best word (rest ++ y ∷ [])
+replaced shop best word rest x y all same own =
+    let p = popped shop best word rest x all
+    in record {
+      each = all_append (IsWaiting shop best word) rest (y ∷ []) p.rest_waits.each (own, tt);
+      rising = rising-append rest (y ∷ []) (depth_of x) p.rest_waits.rising (rising-below rest x all.rising) (same, tt);
+    }
+
+-- entries put on a stack
+pub adds-waits : (shop : Shop) (best : ℕ) (word : List ℕ) (old new : List Waiting)
+    → AreWaiting shop best word old → Adds shop best word old new → AreWaiting shop best word new
+adds-waits shop best word old new all more = subst (AreWaiting shop best word) (sym more.stack) (record {
+  each = all_append (IsWaiting shop best word) old more.added all.each more.each;
+  rising = rising-append old more.added (length word) all.rising
+      (all_weaker (IsWaiting shop best word) (IsUpTo (length word)) (deep shop best word) old all.each) more.depth;
+})
+
+-- a lower best
+waits-lower : (shop : Shop) (best lower : ℕ) (word : List ℕ) (x : Waiting) → lower ≤ best
+    → IsWaiting shop best word x → IsWaiting shop lower word x
+waits-lower shop best lower word (Child o) le own = own
+waits-lower shop best lower word (Rest depth count) le own = record {
+  depth = own.depth;
+  short = own.short;
+  is_word = own.is_word;
+  few = own.few;
+  high = all_weaker (λ v. best ≤ lb shop v) (λ v. lower ≤ lb shop v) (λ v h. omega arith)
+      (last_of count (branch shop (take depth word))) own.high;
+}
+
+pub all-lower : (shop : Shop) (best lower : ℕ) (word : List ℕ) (stack : List Waiting) → lower ≤ best
+    → AreWaiting shop best word stack → AreWaiting shop lower word stack
+all-lower shop best lower word stack le all = record {
+  each = all_weaker (IsWaiting shop best word) (IsWaiting shop lower word) (λ x h. waits-lower shop best lower word x le h)
+      stack all.each;
+  rising = all.rising;
+}
+
+-- the entry on top is walked first
+pub walk-top : (shop : Shop) (s : Walk) (word : List ℕ) (rest : List Waiting) (x : Waiting)
+    → walk_stack shop word s (rest ++ x ∷ [])
+    ≡ walk_stack shop word (fold (walk shop) s (waiting_words shop word x)) rest
+walk-top shop s word rest x = stack-append shop word s rest (x ∷ [])
+
+-- what lies below a child, once the walk is at a word that begins as the child does
+module _ (shop : Shop) (best : ℕ) (word next : List ℕ) (rest : List Waiting) (o : Open)
+    (all : AreWaiting shop best word (rest ++ Child o ∷ [])) (alike : take o.depth next ≡ take o.depth word)
+    (long : o.depth ≤ length next) where
+  pub words-below : stack_words shop next rest ≡ stack_words shop word rest
+  words-below = words-same shop next word o.depth alike rest (rising-below rest (Child o) all.rising)
+
+  pub waits-below : AreWaiting shop best next rest
+  waits-below =
+      let p = popped shop best word rest (Child o) all
+      in record {
+        each = all-same shop next word o.depth alike best long rest (rising-below rest (Child o) all.rising)
+            p.rest_waits.each;
+        rising = p.rest_waits.rising;
+      }
+
+pub begins-child : (word : List ℕ) (o : Open) → o.depth ≤ length word
+    → take o.depth (word_at word o) ≡ take o.depth word
+begins-child word o h =
+    take-append-le o.depth (take o.depth word) (o.job ∷ []) (let a = length-take-le o.depth word h in omega arith)
+    ∙ take-take o.depth o.depth word (omega arith)
+
+pub long-child : (word : List ℕ) (o : Open) → o.depth ≤ length word → o.depth ≤ length (word_at word o)
+long-child word o h = let a = length-append (take o.depth word) (o.job ∷ []) in let b = length-take-le o.depth word h
+    in omega arith

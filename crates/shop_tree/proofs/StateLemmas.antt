@@ -1,0 +1,88 @@
+-- States that wait, as a walk goes on to another word.
+use Rattle.std.proofs.Common.{◌≡◌, ℕ, Option, None, List, [], ◌∷◌, ◌++◌, length, take}
+use Rattle.std.proofs.Common.{get_or, set, refl, sym, ◌∙◌, ap, subst}
+use Rattle.std.specs.Global.{Box}
+use Rattle.std.specs.List.{AllByRecursion}
+use Rattle.std.proofs.Math.Seq.{map-set_same, take-append_seam, take-length}
+use Rattle.std.proofs.lemmas.List.{map-append}
+use Rattle.std.proofs.lemmas.List.Elements.{All-append, All-set, All-from_recursion, recursion_from_All}
+use Rattle.shop_model.specs.Shop.{Shop}
+use Rattle.shop_states.specs.declared.dispatching.Dispatching.{Ghosts}
+use Rattle.shop_tree.specs.declared.held.Held.{Held}
+use Rattle.shop_nodes.specs.declared.halts.Open.{Open}
+use Rattle.shop_nodes.specs.declared.halts.Waiting.{Waiting}
+use Rattle.shop_nodes.specs.declared.halts.Waiting.TheVariants.{Child, Rest}
+use Rattle.shop_tree.specs.inner.Held.{IsHeld, IsHeldAs, IsHeldOf, waiting_in}
+use Rattle.shop_nodes.specs.Halts.{word_at, IsWaiting}
+use Rattle.shop_tree.specs.inner.Opens.{AreWaiting, IsUpTo}
+use Rattle.shop_tree.specs.inner.StateWalkers.{AreHeld}
+use Rattle.shop_tree.proofs.ListLemmas.{all_weaker}
+use Rattle.shop_tree.proofs.OpenLemmas.{begins_alike, begins-child, deep, popped, rising-below}
+
+module _ {S : Type 0} (is : List ℕ → S → Type 0) where
+  -- Words that begin alike up to n: what begins with n entries at most waits with the same states.
+  module _ (v w : List ℕ) (n : ℕ) (alike : take n v ≡ take n w) where
+    entry_held : (x : Waiting) (state : Option (Box S)) → IsUpTo n x → IsHeldAs is w x state → IsHeldAs is v x state
+    entry_held (Child o) state low h = subst (λ (u : List ℕ). IsHeldOf is (u ++ o.job ∷ []) state)
+        (sym (begins_alike v w n alike o.depth low)) h
+    entry_held (Rest depth count) state low h = h
+
+    entries_held : (hs : List (Held S)) → AllByRecursion (IsUpTo n) (waiting_in hs)
+        → AllByRecursion (IsHeld is w) hs → AllByRecursion (IsHeld is v) hs
+    entries_held [] low all = tt
+    entries_held (h ∷ hs) low all = (entry_held h.waiting h.state low.0 all.0, entries_held hs low.1 all.1)
+
+    pub held_same : (hs : List (Held S)) → AllByRecursion (IsUpTo n) (waiting_in hs) → AreHeld is w hs → AreHeld is v hs
+    held_same hs low all = All-from_recursion (IsHeld is v) hs
+        (entries_held hs low (recursion_from_All (IsHeld is w) hs all))
+
+  -- below a child, once the walk goes on to it
+  pub held_below : (shop : Shop) (best : ℕ) (word : List ℕ) (hs : List (Held S)) (o : Open)
+      → AreWaiting shop best word (waiting_in hs ++ Child o ∷ []) → AreHeld is word hs
+      → AreHeld is (word_at word o) hs
+  held_below shop best word hs o on all =
+      let own = (popped shop best word (waiting_in hs) (Child o) on).own
+      in held_same (word_at word o) word o.depth (begins-child word o own.depth) hs
+      (rising-below (waiting_in hs) (Child o) on.rising) all
+
+  -- once it goes on with one job more
+  pub held_on : (shop : Shop) (best : ℕ) (word : List ℕ) (j : ℕ) (hs : List (Held S))
+      → AreWaiting shop best word (waiting_in hs) → AreHeld is word hs → AreHeld is (word ++ j ∷ []) hs
+  held_on shop best word j hs ordered all =
+      held_same (word ++ j ∷ []) word (length word) (take-append_seam word (j ∷ []) ∙ sym (take-length word)) hs
+      (all_weaker (IsWaiting shop best word) (IsUpTo (length word)) (deep shop best word) (waiting_in hs) ordered.each)
+      all
+
+  -- one more on top, and the one on top
+  pub held_pushed : (word : List ℕ) (hs new : List (Held S)) (h : Held S) → new ≡ hs ++ h ∷ [] → IsHeld is word h
+      → AreHeld is word hs → AreHeld is word new
+  held_pushed word hs new h put own all = subst (AreHeld is word) (sym put)
+      (All-append (IsHeld is word) hs (h ∷ []) all (All-from_recursion (IsHeld is word) (h ∷ []) (own, tt)))
+
+  -- an entry that lost its state
+  entry_none : (word : List ℕ) (x : Waiting) → IsHeldAs is word x None
+  entry_none word (Child o) = tt
+  entry_none word (Rest depth count) = refl
+
+  pub held_stripped : (word : List ℕ) (hs : List (Held S)) (i : ℕ) (x : Waiting) (state : Option (Box S))
+      → state ≡ None → AreHeld is word hs → AreHeld is word (set hs i (record { waiting = x; state = state }))
+  held_stripped word hs i x state none all =
+      All-set (IsHeld is word) hs i (record { waiting = x; state = state })
+      (subst (λ (o : Option (Box S)). IsHeldAs is word x o) (sym none) (entry_none word x)) all
+
+-- what waits, without states, once there is one more
+pub waiting_pushed : {S : Type 0} (hs new : List (Held S)) (h : Held S) → new ≡ hs ++ h ∷ []
+    → waiting_in new ≡ waiting_in hs ++ h.waiting ∷ []
+waiting_pushed hs new h put = ap waiting_in put ∙ map-append (λ x. x.waiting) hs (h ∷ [])
+
+-- the same state at hand once more
+module _ {D S C : Type 0} (g : Ghosts D S C) (d e : D) (word : List ℕ) (now new : S) (same : e ≡ d) (copy : new ≡ now)
+    (state : g.IsStateOf d word now) where
+  pub same_state : g.IsStateOf e word new
+  same_state = subst (λ x. g.IsStateOf x word new) (sym same) (subst (λ x. g.IsStateOf d word x) (sym copy) state)
+
+-- what waits, without states, once an entry lost its own
+pub waiting_stripped : {S : Type 0} (hs : List (Held S)) (i : ℕ) (d h : Held S) (state : Option (Box S))
+    → h ≡ get_or hs i d → waiting_in (set hs i (record { waiting = h.waiting; state = state })) ≡ waiting_in hs
+waiting_stripped hs i d h state is =
+    map-set_same (λ x. x.waiting) hs i (record { waiting = h.waiting; state = state }) d (ap (λ x. x.waiting) is)

@@ -1,0 +1,106 @@
+-- Steps of a walk over states: where it stands before and after, and what waits.
+use Rattle.std.proofs.Common.{◌≡◌, ℕ, List, ◌++◌, All, map}
+use Rattle.std.proofs.Common.{◌∙◌, refl, sym, ap, subst, arith, Result, Ok, Err, Option, Some, None}
+use Rattle.shop_bound.specs.Bound.{lb}
+use Rattle.shop_tree.specs.declared.held.Held.{Held}
+use Rattle.shop_tree.specs.inner.Held.{IsKept, Kept, held, with_held_rest}
+use Rattle.shop_tree.specs.declared.walkers.Walker.{Walker}
+use Rattle.shop_tree.specs.inner.Slots.{HoldSlots}
+use Rattle.shop_tree.specs.inner.StateWalkers.{stage_of, AreHeld, HasCandidates, HasGoneOn, HasReached, HasStates}
+use Rattle.shop_tree.specs.inner.StateWalkers.{IsAtState, StandsAs, StandsAt}
+use Rattle.shop_states.specs.declared.dispatching.Dispatching.{Ghosts}
+use Rattle.std.specs.Result.{OnOk}
+use Rattle.shop_tree.specs.inner.Walkers.{Stage, HasExpanded, IsInOrder}
+use Rattle.shop_tree.proofs.ExpandLemmas.{HasGone}
+use Rattle.shop_tree.proofs.HeldLemmas.{states_moved, states_rest}
+
+-- with their states
+pub held_branched : {S : Type 0} (is : List ℕ → S → Type 0) (word : List ℕ) (old new : List (Held S))
+    (kids : List (Kept S)) (depth n : ℕ) → AreHeld is word old → All (IsKept is word) kids
+    → new ≡ with_held_rest old depth n ++ map held kids → AreHeld is word new
+held_branched is word old new kids depth n below above put =
+    states_moved (with_held_rest old depth n) kids is word new put (states_rest old is word depth n below) above
+
+-- the walk stands where it stood, whoever gave a state back
+pub stands_still : {D S C T E : Type 0} {g : Ghosts D S C} (v w : Walker D S C g) (r : Result T E)
+    → stage_of w ≡ stage_of v → w.candidates.items ≡ v.candidates.items
+    → w.states.dispatcher.now ≡ v.states.dispatcher.now
+    → AreHeld (g.IsStateOf v.states.dispatcher.now) w.path.items w.stack.items
+    → OnOk r (HoldSlots g.IsSlot g.IsScratch w.states)
+    → OnOk r (w.states.current.value ≡ v.states.current.value) → OnOk r (StandsAs v w)
+stands_still {g = g} v w (Ok x) stage candidates same held sound current = record {
+  stage = stage;
+  candidates = candidates;
+  dispatcher = same;
+  current = current;
+  states = record {
+    held = subst (λ d. AreHeld (g.IsStateOf d) w.path.items w.stack.items) (sym same) held;
+    states = sound;
+  };
+}
+stands_still v w (Err e) stage candidates same held sound current = tt
+
+pub stands_where : {D S C : Type 0} {g : Ghosts D S C} (v : Walker D S C g) → HasStates v → StandsAs v v
+stands_where v states = record { stage = refl; candidates = refl; dispatcher = refl; current = refl; states = states }
+
+pub stands_then : {D S C : Type 0} {g : Ghosts D S C} (u v w : Walker D S C g) → StandsAs u v → StandsAs v w
+    → StandsAs u w
+stands_then u v w a b = record {
+  stage = b.stage ∙ a.stage;
+  candidates = b.candidates ∙ a.candidates;
+  dispatcher = b.dispatcher ∙ a.dispatcher;
+  current = b.current ∙ a.current;
+  states = b.states;
+}
+
+-- so with what is at hand there
+module _ {D S C : Type 0} {g : Ghosts D S C} (v w : Walker D S C g) (s : StandsAs v w) where
+  path_same : w.path.items ≡ v.path.items
+  path_same = ap (λ (t : Stage). t.word) s.stage
+
+  best_same : w.progress.best ≡ v.progress.best
+  best_same = ap (λ (t : Stage). t.walk.best) s.stage
+
+  pub candidates_stand : (n : ℕ) → HasCandidates v n → HasCandidates w n
+  candidates_stand n h = rw (s.dispatcher, s.candidates, path_same, best_same) h
+
+  pub state_stands : IsAtState v → IsAtState w
+  state_stands h = subst (λ d. g.IsStateOf d w.path.items w.states.current.value) (sym s.dispatcher)
+      (subst (λ (p : List ℕ). g.IsStateOf v.states.dispatcher.now p w.states.current.value) (sym path_same)
+      (subst (λ x. g.IsStateOf v.states.dispatcher.now v.path.items x) (sym s.current) h))
+
+-- and where its candidates were gathered
+pub still_at : {D S C : Type 0} {g : Ghosts D S C} (v w : Walker D S C g) (b : ℕ) → StandsAt v b
+    → stage_of w ≡ stage_of v → HasStates w → IsAtState w → StandsAt w b
+still_at v w b at same states state = record {
+  bound = at.bound ∙ sym (ap (λ (t : Stage). lb t.shop t.word) same);
+  below = (let a = at.below in let e : w.progress.best ≡ v.progress.best = ap (λ (t : Stage). t.walk.best) same
+      in omega arith);
+  in_order = subst IsInOrder (sym same) at.in_order;
+  states = states;
+  state = state;
+}
+
+-- a walk that went on stands at the word that it took
+pub reached : {D S C : Type 0} {g : Ghosts D S C} (v w : Walker D S C g) (b : ℕ) → HasGone (stage_of v) (stage_of w) b
+    → HasStates w → IsAtState w → HasReached v w b
+reached v w b gone states state = record {
+  followed = gone.followed;
+  spent = gone.spent;
+  at = record {
+    bound = gone.bound;
+    below = gone.below;
+    in_order = gone.in_order;
+    states = states;
+    state = state;
+  };
+}
+
+-- what is told of a walk that went on, and of one that didn't
+pub gone : {D S C : Type 0} {g : Ghosts D S C} (v w : Walker D S C g) (told : Option ℕ) (b : ℕ) → told ≡ Some b
+    → HasGoneOn v w told → HasReached v w b
+gone v w told b is h = subst (λ (t : Option ℕ). HasGoneOn v w t) is h
+
+pub ended : {D S C : Type 0} {g : Ghosts D S C} (v w : Walker D S C g) (told : Option ℕ) → told ≡ None
+    → HasGoneOn v w told → HasExpanded (stage_of v) (stage_of w) × HasStates w
+ended v w told is h = subst (λ (t : Option ℕ). HasGoneOn v w t) is h

@@ -1,0 +1,55 @@
+use Rattle.std.proofs.Common.{◌≡◌, ◌<◌, [], length, sym, subst, arith}
+use Rattle.shop_model.specs.Shop.{operation_count}
+use Rattle.shop_model.proofs.WordLengths.{word_length}
+use Rattle.shop_tree.specs.inner.Held.{waiting_in}
+use Rattle.shop_tree.specs.inner.StateWalkers.{stage_of, AreHeld, KeepsStates}
+use Rattle.shop_tree.specs.inner.Walkers.{HasExpanded}
+use Rattle.shop_tree.proofs.AddLemmas.{few_open}
+use Rattle.shop_tree.proofs.ExpandLemmas.{ends_closed}
+use Rattle.shop_tree.proofs.HeldLemmas.{rest_waits, states_rest}
+use Rattle.shop_tree.proofs.ListLemmas.{on_ok}
+use Rattle.shop_tree.proofs.WalkerLemmas.{ends_counted}
+use Rattle.shop_tree.proofs.walkers.Walker.close.Goals as goal
+
+pub returns-then-self-count-clause-expanded : goal.returns-then-self-count-clause-expanded
+returns-then-self-count-clause-expanded g c =
+    let self = c.args.self.now
+    in let short : length self.path.items < operation_count self.progress.instance.now = (let a = c.requires.short
+    in let b = self.progress.counted in omega arith)
+    in ends_counted (stage_of self) c.args.count c.requires.word short c.requires.closed c.requires.in_order
+    c.if-self-count.true
+
+pub put_rest-requires-clause-depth : goal.put_rest-requires-clause-depth
+put_rest-requires-clause-depth g c =
+    let self = c.args.self.now
+    in let a = word_length self.progress.instance.now self.path.items c.requires.limits c.requires.word
+    in let b = c.len.ensures in let e = self.path.ok.0 in omega arith
+
+pub put_rest-requires-clause-count : goal.put_rest-requires-clause-count
+put_rest-requires-clause-count g c =
+    let self = c.args.self.now
+    in let a = few_open self.progress.instance.now self.progress.best self.path.items [] c.args.count c.requires.closed
+    in let b = c.requires.limits.jobs in omega arith
+
+pub returns-clause-expanded : goal.returns-clause-expanded
+returns-clause-expanded g c =
+    let self = c.args.self.now
+    in let new = c.put_rest.new.stack.items
+    in let short : length self.path.items < operation_count self.progress.instance.now = (let a = c.requires.short
+    in let b = self.progress.counted in omega arith)
+    in let depth : c.len.result ≡ length self.path.items = (let a = c.len.ensures in let b = self.path.ok.0
+    in omega arith)
+    in on_ok _ (HasExpanded (stage_of self) (record (stage_of self) { stack = waiting_in new }))
+    (λ e. ends_closed (stage_of self) c.args.count (waiting_in new) c.requires.word short c.requires.closed
+    c.requires.in_order (rest_waits self.stack.items new self.path.items c.len.result c.args.count depth e))
+    c.put_rest.result c.put_rest.ensures
+
+pub returns-clause-states : goal.returns-clause-states
+returns-clause-states g c =
+    let self = c.args.self.now
+    in let is = g.D.Dispatching.IsStateOf self.states.dispatcher.now
+    in on_ok _ (KeepsStates g.D.Dispatching self.path.items c.put_rest.new.stack.items self.states) (λ e. record {
+      held = subst (λ hs. AreHeld is self.path.items hs) (sym e)
+          (states_rest self.stack.items is self.path.items c.len.result c.args.count c.requires.states.held);
+      states = c.requires.states.states;
+    }) c.put_rest.result c.put_rest.ensures

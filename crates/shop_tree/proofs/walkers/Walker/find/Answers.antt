@@ -1,0 +1,29 @@
+use Rattle.std.proofs.Common.{◌≡◌, ◌≤◌, ◌<◌, length, sym, subst, arith, rules}
+use Rattle.shop_model.specs.Shop.{operation_count}
+use Rattle.shop_model.proofs.WordLengths.{word_length}
+use Rattle.shop_bound.specs.Bound.{lb}
+use Rattle.shop_tree.specs.inner.StateWalkers.{stage_of}
+use Rattle.shop_tree.specs.inner.Walkers.{HasExpanded}
+use Rattle.shop_tree.proofs.ExpandLemmas.{expands_found, found_at}
+use Rattle.shop_tree.proofs.walkers.Walker.find.Goals as goal
+
+pub of_path-requires : goal.of_path-requires
+of_path-requires g c =
+    let self = c.args.self.now
+    in let d = self.states.dispatcher.now
+    in let path = self.path.items
+    in let few = word_length (g.D.Dispatching.shop d) path
+    (g.met.D.Dispatching.state_is_within_limits d path self.states.current.value c.requires.at.state)
+    (g.met.D.Dispatching.state_is_of_word d path self.states.current.value c.requires.at.state)
+    in let same = c.as_slice.ensures in omega arith
+
+pub returns-clause-expanded : goal.returns-clause-expanded
+returns-clause-expanded g c =
+    let self = c.args.self.now
+    in let long : operation_count self.progress.instance.now ≤ length self.path.items = (let a = c.requires.full
+    in let b = self.progress.counted in omega arith)
+    in let below : lb self.progress.instance.now self.path.items < self.progress.best = (let a = c.requires.at.bound
+    in let b = c.requires.at.below in omega arith)
+    in let same : _ ≡ found_at (stage_of self) = search rules
+    in subst (HasExpanded (stage_of self)) (sym same)
+    (expands_found (stage_of self) long below c.requires.at.in_order)

@@ -1,0 +1,211 @@
+use Rattle.std.proofs.Common.{◌≡◌, ◌+◌, ◌<◌, ◌++◌, ◌∷◌, ◌∙◌, [], length, refl, sym, ap, subst, arith}
+use Rattle.shop_model.specs.Limits.{IsWithinLimits}
+use Rattle.shop_model.specs.Shop.{Shop, operation_count}
+use Rattle.shop_model.specs.Word.{IsWord}
+use Rattle.shop_model.proofs.WordLengths.{word_length}
+use Rattle.shop_bound.specs.Bound.{lb}
+use Rattle.shop_nodes.specs.declared.halts.Open.{Open}
+use Rattle.shop_tree.specs.inner.Held.{waiting_in}
+use Rattle.shop_tree.specs.inner.Opens.{AreChildren}
+use Rattle.shop_tree.specs.inner.StateWalkers.{stage_of, AreHeld}
+use Rattle.shop_tree.specs.inner.Walkers.{Stage}
+use Rattle.shop_tree.proofs.ExpandLemmas.{HasGone, follows_kept}
+use Rattle.shop_tree.proofs.HeldLemmas.{rest_waits, states_rest}
+use Rattle.shop_tree.proofs.ListedLemmas.{alone_closed, alone_fits, alone_kept, alone_own, few_closed, one_listed}
+use Rattle.shop_tree.proofs.StateLemmas.{held_on}
+use Rattle.shop_tree.proofs.StateSteps.{reached}
+use Rattle.shop_tree.proofs.TrialLemmas.{told_high, told_low, told_state}
+use Rattle.shop_tree.proofs.walkers.Walker.follow_kept.Goals as goal
+
+pub advance-requires-clause-can : goal.advance-requires-clause-can
+advance-requires-clause-can g c =
+    let self = c.args.self.now
+    in let d = self.states.dispatcher.now
+    in let shop = g.D.Dispatching.shop d
+    in let word = self.path.items
+    in let of = g.D.Dispatching.IsCandidate d word
+    in let cand = c.index-candidate.result.now
+    in let one = one_listed self.candidates.items cand _ c.requires.one c.index-candidate.ensures
+    in let at = c.requires.at
+    in record {
+      word = word;
+      is = (
+        at.state,
+        alone_own shop word self.progress.best of cand self.candidates.items c.args.closed one
+            c.requires.candidates,
+      );
+      fits = alone_fits shop word self.progress.best of cand self.candidates.items c.args.closed one
+          c.requires.candidates (g.met.D.Dispatching.state_is_of_word d word self.states.current.value at.state);
+      bound_is = at.bound ∙ ap (λ (x : Shop). lb x word) (sym self.same_shop);
+    }
+
+pub overflow_add-closed : goal.overflow_add-closed
+overflow_add-closed g c =
+    let self = c.args.self.now
+    in let d = self.states.dispatcher.now
+    in let shop = g.D.Dispatching.shop d
+    in let word = self.path.items
+    in let of = g.D.Dispatching.IsCandidate d word
+    in let cand = c.index-candidate.result.now
+    in let one = one_listed self.candidates.items cand _ c.requires.one c.index-candidate.ensures
+    in let at = c.requires.at
+    in let few = few_closed shop word self.progress.best of c.requires.candidates
+    in let limits = (g.met.D.Dispatching.state_is_within_limits d word self.states.current.value at.state).jobs
+    in omega arith
+
+pub close-requires-clause-word : goal.close-requires-clause-word
+close-requires-clause-word g c =
+    let self = c.args.self.now
+    in let d = self.states.dispatcher.now
+    in let shop = g.D.Dispatching.shop d
+    in let word = self.path.items
+    in let of = g.D.Dispatching.IsCandidate d word
+    in let cand = c.index-candidate.result.now
+    in let one = one_listed self.candidates.items cand _ c.requires.one c.index-candidate.ensures
+    in let at = c.requires.at
+    in subst (λ (x : Shop). IsWord x word) self.same_shop
+    (g.met.D.Dispatching.state_is_of_word d word self.states.current.value at.state)
+
+pub close-requires-clause-limits : goal.close-requires-clause-limits
+close-requires-clause-limits g c =
+    let self = c.args.self.now
+    in let d = self.states.dispatcher.now
+    in let shop = g.D.Dispatching.shop d
+    in let word = self.path.items
+    in let of = g.D.Dispatching.IsCandidate d word
+    in let cand = c.index-candidate.result.now
+    in let one = one_listed self.candidates.items cand _ c.requires.one c.index-candidate.ensures
+    in let at = c.requires.at
+    in subst IsWithinLimits self.same_shop
+    (g.met.D.Dispatching.state_is_within_limits d word self.states.current.value at.state)
+
+pub close-requires-clause-closed : goal.close-requires-clause-closed
+close-requires-clause-closed g c =
+    let self = c.args.self.now
+    in let d = self.states.dispatcher.now
+    in let shop = g.D.Dispatching.shop d
+    in let word = self.path.items
+    in let of = g.D.Dispatching.IsCandidate d word
+    in let cand = c.index-candidate.result.now
+    in let one = one_listed self.candidates.items cand _ c.requires.one c.index-candidate.ensures
+    in let at = c.requires.at
+    in let bound = at.bound ∙ ap (λ (x : Shop). lb x word) (sym self.same_shop)
+    in let own = alone_own shop word self.progress.best of cand self.candidates.items c.args.closed one
+    c.requires.candidates
+    in let high = told_high self.progress.best (lb shop (word ++ cand.job ∷ [])) c.advance.result c.in_default.is
+    (c.advance.ensures.told word at.state own bound)
+    in subst (λ (x : Shop). AreChildren x self.progress.best word [] (c.args.closed + 1)) self.same_shop
+    (alone_closed shop word self.progress.best of cand self.candidates.items c.args.closed one c.requires.candidates high)
+
+pub close-requires-clause-states : goal.close-requires-clause-states
+close-requires-clause-states g c =
+    let self = c.args.self.now
+    in let d = self.states.dispatcher.now
+    in let shop = g.D.Dispatching.shop d
+    in let word = self.path.items
+    in let of = g.D.Dispatching.IsCandidate d word
+    in let cand = c.index-candidate.result.now
+    in let one = one_listed self.candidates.items cand _ c.requires.one c.index-candidate.ensures
+    in let at = c.requires.at
+    in record {
+      held = subst (λ x. AreHeld (g.D.Dispatching.IsStateOf x) word self.stack.items) (sym c.advance.ensures.dispatcher)
+          at.states.held;
+      states = c.advance.ensures.sound;
+    }
+
+pub put_rest-requires-clause-depth : goal.put_rest-requires-clause-depth
+put_rest-requires-clause-depth g c =
+    let self = c.args.self.now
+    in let d = self.states.dispatcher.now
+    in let shop = g.D.Dispatching.shop d
+    in let word = self.path.items
+    in let of = g.D.Dispatching.IsCandidate d word
+    in let cand = c.index-candidate.result.now
+    in let one = one_listed self.candidates.items cand _ c.requires.one c.index-candidate.ensures
+    in let at = c.requires.at
+    in let a = word_length shop word
+    (g.met.D.Dispatching.state_is_within_limits d word self.states.current.value at.state)
+    (g.met.D.Dispatching.state_is_of_word d word self.states.current.value at.state)
+    in let b = c.len.ensures in let e = self.path.ok.0 in omega arith
+
+pub put_rest-requires-clause-count : goal.put_rest-requires-clause-count
+put_rest-requires-clause-count g c =
+    let self = c.args.self.now
+    in let d = self.states.dispatcher.now
+    in let shop = g.D.Dispatching.shop d
+    in let word = self.path.items
+    in let of = g.D.Dispatching.IsCandidate d word
+    in let cand = c.index-candidate.result.now
+    in let one = one_listed self.candidates.items cand _ c.requires.one c.index-candidate.ensures
+    in let at = c.requires.at
+    in let few = few_closed shop word self.progress.best of c.requires.candidates
+    in let limits = (g.met.D.Dispatching.state_is_within_limits d word self.states.current.value at.state).jobs
+    in omega arith
+
+pub take_job-requires-clause-held : goal.take_job-requires-clause-held
+take_job-requires-clause-held g c =
+    let self = c.args.self.now
+    in let d = self.states.dispatcher.now
+    in let shop = g.D.Dispatching.shop d
+    in let word = self.path.items
+    in let of = g.D.Dispatching.IsCandidate d word
+    in let cand = c.index-candidate.result.now
+    in let one = one_listed self.candidates.items cand _ c.requires.one c.index-candidate.ensures
+    in let at = c.requires.at
+    in let is = g.D.Dispatching.IsStateOf d
+    in let new = c.put_rest.new.stack.items
+    in let longer = held_on is self.progress.instance.now self.progress.best word cand.job self.stack.items at.in_order
+    at.states.held
+    in subst (λ x. AreHeld (g.D.Dispatching.IsStateOf x) (word ++ cand.job ∷ []) new) (sym c.advance.ensures.dispatcher)
+    (subst (λ hs. AreHeld is (word ++ cand.job ∷ []) hs) (sym c.in_ok-put_rest.ensures)
+    (states_rest self.stack.items is (word ++ cand.job ∷ []) c.len.result c.args.closed longer))
+
+pub take_job-requires-clause-state : goal.take_job-requires-clause-state
+take_job-requires-clause-state g c =
+    let self = c.args.self.now
+    in let d = self.states.dispatcher.now
+    in let shop = g.D.Dispatching.shop d
+    in let word = self.path.items
+    in let of = g.D.Dispatching.IsCandidate d word
+    in let cand = c.index-candidate.result.now
+    in let one = one_listed self.candidates.items cand _ c.requires.one c.index-candidate.ensures
+    in let at = c.requires.at
+    in let own = alone_own shop word self.progress.best of cand self.candidates.items c.args.closed one
+    c.requires.candidates
+    in let after = c.advance.new.self.current.value
+    in subst (λ x. g.D.Dispatching.IsStateOf x (word ++ cand.job ∷ []) after) (sym c.advance.ensures.dispatcher)
+    (told_state (g.D.Dispatching.IsStateOf d (word ++ cand.job ∷ []) after) c.in-Some.bound c.advance.result c.in-Some.is
+    (c.advance.ensures.state word at.state own))
+
+pub returns : goal.returns
+returns g c =
+    let self = c.args.self.now
+    in let d = self.states.dispatcher.now
+    in let shop = g.D.Dispatching.shop d
+    in let word = self.path.items
+    in let of = g.D.Dispatching.IsCandidate d word
+    in let cand = c.index-candidate.result.now
+    in let one = one_listed self.candidates.items cand _ c.requires.one c.index-candidate.ensures
+    in let at = c.requires.at
+    in let bound = at.bound ∙ ap (λ (x : Shop). lb x word) (sym self.same_shop)
+    in let own = alone_own shop word self.progress.best of cand self.candidates.items c.args.closed one
+    c.requires.candidates
+    in let is_word = g.met.D.Dispatching.state_is_of_word d word self.states.current.value at.state
+    in let low = told_low self.progress.best (lb shop (word ++ cand.job ∷ [])) c.in-Some.bound c.advance.result
+    c.in-Some.is (c.advance.ensures.told word at.state own bound)
+    in let o : Open = record { depth = length word; job = cand.job; bound = c.in-Some.bound }
+    in let kids : AreChildren self.progress.instance.now self.progress.best word (o ∷ []) c.args.closed =
+    subst (λ (x : Shop). AreChildren x self.progress.best word (o ∷ []) c.args.closed) self.same_shop
+    (alone_kept shop word self.progress.best of cand self.candidates.items c.args.closed one c.requires.candidates o
+    is_word refl refl low.0 low.1)
+    in let short : length word < operation_count self.progress.instance.now = (let a = c.requires.short
+    in let b = self.progress.counted in omega arith)
+    in let new = c.put_rest.new.stack.items
+    in let depth : c.len.result ≡ length word = (let a = c.len.ensures in let b = self.path.ok.0 in omega arith)
+    in let gone = follows_kept (stage_of self) o c.args.closed (waiting_in new)
+    (subst (λ (x : Shop). IsWord x word) self.same_shop is_word) short kids refl
+    (low.0 ∙ ap (λ (x : Shop). lb x (word ++ cand.job ∷ [])) self.same_shop) low.1 c.requires.some at.in_order
+    (rest_waits self.stack.items new word c.len.result c.args.closed depth c.in_ok-put_rest.ensures)
+    in reached self c.take_job.new.self c.in-Some.bound
+    (subst (λ (t : Stage). HasGone (stage_of self) t c.in-Some.bound) (sym c.take_job.ensures.stage) gone)
+    c.take_job.ensures.states c.take_job.ensures.state

@@ -1,0 +1,120 @@
+use Rattle.std.proofs.Common.{◌≡◌, ◌<◌, ◌++◌, ◌∙◌, ℕ, List, All, ap, length, map, sym, subst, arith}
+use Rattle.std.proofs.lemmas.List.{length-append}
+use Rattle.shop_model.specs.Shop.{Shop, operation_count}
+use Rattle.shop_model.specs.Word.{IsWord}
+use Rattle.shop_model.proofs.WordLengths.{word_length}
+use Rattle.shop_tree.specs.declared.held.Held.{Held}
+use Rattle.shop_tree.specs.inner.Held.{held, opens_in, waiting_in, IsKept}
+use Rattle.shop_tree.specs.inner.Opens.{AreChildren}
+use Rattle.shop_tree.specs.inner.StateWalkers.{stage_of, AreHeld, KeepsStates}
+use Rattle.shop_tree.specs.inner.Walkers.{HasBranched}
+use Rattle.shop_tree.proofs.ListLemmas.{on_ok}
+use Rattle.shop_tree.proofs.AddLemmas.{few_open}
+use Rattle.shop_tree.proofs.ExpandLemmas.{branched}
+use Rattle.shop_tree.proofs.HeldLemmas.{rest_long, waiting_put}
+use Rattle.shop_tree.proofs.ListedLemmas.{few_closed}
+use Rattle.shop_tree.proofs.StateSteps.{held_branched}
+use Rattle.shop_tree.proofs.walkers.Walker.push_children.Goals as goal
+
+pub put_rest-requires-clause-depth : goal.put_rest-requires-clause-depth
+put_rest-requires-clause-depth g c =
+    let self = c.args.self.now
+    in let d = self.states.dispatcher.now
+    in let word = self.path.items
+    in let a = word_length (g.D.Dispatching.shop d) word
+    (g.met.D.Dispatching.state_is_within_limits d word self.states.current.value c.requires.state)
+    (g.met.D.Dispatching.state_is_of_word d word self.states.current.value c.requires.state)
+    in let b = c.len-depth.ensures in let e = self.path.ok.0 in omega arith
+
+pub put_rest-requires-clause-count : goal.put_rest-requires-clause-count
+put_rest-requires-clause-count g c =
+    let self = c.args.self.now
+    in let d = self.states.dispatcher.now
+    in let word = self.path.items
+    in let few = few_closed (g.D.Dispatching.shop d) word self.progress.best (g.D.Dispatching.IsCandidate d word)
+    c.requires.candidates
+    in let limits = (g.met.D.Dispatching.state_is_within_limits d word self.states.current.value c.requires.state).jobs
+    in omega arith
+
+pub raise_rest-requires-clause-place : goal.raise_rest-requires-clause-place
+raise_rest-requires-clause-place g c =
+    let old = c.args.self.now.stack.items
+    in let put = c.in_ok-all.ensures.children
+    in let a = ap (λ (hs : List (Held g.row.S.Denot)). length hs) put.stack
+    in let b = length-append c.put_rest.new.stack.items (map held put.kids)
+    in let e = ap (λ (hs : List (Held g.row.S.Denot)). length hs) c.in_ok-put_rest.ensures
+    in let f = rest_long old c.len-depth.result c.args.closed
+    in let h = c.len-below.ensures in let i = c.args.self.now.stack.ok.0 in omega arith
+
+pub raise_rest-requires-clause-depth : goal.raise_rest-requires-clause-depth
+raise_rest-requires-clause-depth g c =
+    let self = c.args.self.now
+    in let d = self.states.dispatcher.now
+    in let word = self.path.items
+    in let a = word_length (g.D.Dispatching.shop d) word
+    (g.met.D.Dispatching.state_is_within_limits d word self.states.current.value c.requires.state)
+    (g.met.D.Dispatching.state_is_of_word d word self.states.current.value c.requires.state)
+    in let b = c.len-depth.ensures in let e = self.path.ok.0 in omega arith
+
+pub raise_rest-requires-clause-count : goal.raise_rest-requires-clause-count
+raise_rest-requires-clause-count g c =
+    let self = c.args.self.now
+    in let d = self.states.dispatcher.now
+    in let word = self.path.items
+    in let put = c.in_ok-all.ensures.children
+    in let limits = g.met.D.Dispatching.state_is_within_limits d word self.states.current.value c.requires.state
+    in let a = few_open (g.D.Dispatching.shop d) self.progress.best c.as_slice-2.result.now
+    (opens_in put.kids) c.in_ok-all.all put.children
+    in let b = limits.jobs in omega arith
+
+pub returns-clause-branched : goal.returns-clause-branched
+returns-clause-branched g c =
+    let self = c.args.self.now
+    in let d = self.states.dispatcher.now
+    in let word = self.path.items
+    in let best = self.progress.best
+    in let put = c.in_ok-all.ensures.children
+    in let opens = opens_in put.kids
+    in let n = c.in_ok-all.all
+    in let kids : AreChildren self.progress.instance.now best word opens n =
+    subst (λ (x : Shop). AreChildren x best word opens n) self.same_shop
+    (subst (λ (w : List ℕ). AreChildren (g.D.Dispatching.shop d) best w opens n) c.as_slice-2.ensures.value
+    put.children)
+    in let is : IsWord self.progress.instance.now word = subst (λ (x : Shop). IsWord x word) self.same_shop
+    (g.met.D.Dispatching.state_is_of_word d word self.states.current.value c.requires.state)
+    in let short : length word < operation_count self.progress.instance.now = (let a = c.requires.short
+    in let b = self.progress.counted in omega arith)
+    in let depth : c.len-depth.result ≡ length word = (let a = c.len-depth.ensures in let b = self.path.ok.0
+    in omega arith)
+    in let place : c.len-below.result ≡ length self.stack.items = (let a = c.len-below.ensures
+    in let b = self.stack.ok.0 in omega arith)
+    in let before = put.stack ∙ ap (λ (hs : List (Held g.row.S.Denot)). hs ++ map held put.kids)
+    c.in_ok-put_rest.ensures
+    in let stack = c.raise_rest.new.stack.items
+    in on_ok _ (HasBranched (stage_of self) (record (stage_of self) { stack = waiting_in stack }))
+    (λ e. branched (stage_of self) opens n c.len-depth.result (waiting_in stack) is short kids depth
+    (waiting_put self.stack.items put.kids stack c.len-depth.result n
+    (e self.stack.items (map held put.kids) place before)))
+    c.raise_rest.result c.raise_rest.ensures
+
+pub returns-clause-states : goal.returns-clause-states
+returns-clause-states g c =
+    let self = c.args.self.now
+    in let d = self.states.dispatcher.now
+    in let word = self.path.items
+    in let put = c.in_ok-all.ensures.children
+    in let is = g.D.Dispatching.IsStateOf d
+    in let n = c.in_ok-all.all
+    in let place : c.len-below.result ≡ length self.stack.items = (let a = c.len-below.ensures
+    in let b = self.stack.ok.0 in omega arith)
+    in let before = put.stack ∙ ap (λ (hs : List (Held g.row.S.Denot)). hs ++ map held put.kids)
+    c.in_ok-put_rest.ensures
+    in let stack = c.raise_rest.new.stack.items
+    in on_ok _ (KeepsStates g.D.Dispatching word stack c.try_candidates.new.self) (λ e. record {
+      held = subst (λ x. AreHeld (g.D.Dispatching.IsStateOf x) word stack)
+          (sym c.in_ok-all.ensures.dispatcher)
+          (held_branched is word self.stack.items stack put.kids c.len-depth.result n c.requires.states.held
+          (subst (λ (w : List ℕ). All (IsKept is w) put.kids) c.as_slice-2.ensures.value put.states)
+          (e self.stack.items (map held put.kids) place before));
+      states = c.in_ok-all.ensures.sound;
+    }) c.raise_rest.result c.raise_rest.ensures

@@ -1,0 +1,10 @@
+use Rattle.shop_tree.proofs.StateSteps.{stands_then, stands_where}
+use Rattle.shop_tree.proofs.walkers.Walker.reclaim.Goals as goal
+
+pub loop-self-init : goal.loop-self-init
+loop-self-init g c = stands_where c.args.self.now c.requires.states
+
+pub loop-self-preserved : goal.loop-self-preserved
+loop-self-preserved g c =
+    stands_then c.args.self.now c.loop-self.self c.strip_next.new.self c.loop-self.invariant
+    c.in_ok-strip_next.ensures.stands

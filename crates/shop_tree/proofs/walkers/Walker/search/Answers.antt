@@ -1,0 +1,69 @@
+use Rattle.std.proofs.Common.{◌≡◌, ◌∙◌, refl, sym, ap, subst, arith}
+use Rattle.std.proofs.lemmas.List.{take_rest}
+use Rattle.shop_model.specs.Shop.{Shop}
+use Rattle.shop_nodes.specs.Left.{Leaving}
+use Rattle.shop_nodes.specs.Laws.{AreWords, KeepsPiece}
+use Rattle.shop_nodes.specs.Nodes.{words_of, AreNodes}
+use Rattle.shop_nodes.specs.Walking.{Walk}
+use Rattle.shop_nodes.specs.Halts.{halted_words}
+use Rattle.shop_tree.specs.inner.Held.{waiting_in}
+use Rattle.shop_tree.specs.inner.Searching.{walked}
+use Rattle.shop_tree.specs.inner.StateWalkers.{stage_of}
+use Rattle.shop_tree.specs.inner.Walkers.{Stage}
+use Rattle.shop_nodes.proofs.NodeLemmas.{are_words}
+use Rattle.shop_nodes.proofs.Found.{searches_keep}
+use Rattle.shop_tree.proofs.WalkerLemmas.{sheet_told}
+use Rattle.shop_tree.proofs.walkers.Walker.search.Goals as goal
+
+pub returns-clause-keeps : goal.returns-clause-keeps
+returns-clause-keeps g c =
+    let shop = c.args.self.now.progress.instance.now
+    in let t = c.walk_nodes.new.self
+    in let nodes = c.args.piece.now.nodes.items
+    in let k = c.in_ok-index.index
+    in let halted = halted_words t.progress.instance.now c.in_ok-halt.halt
+    in let same : c.begin.new.self.instance.now ≡ shop = c.begin.ensures.instance ∙ c.in_ok-clear.ensures.instance
+    in let begun : Stage = record {
+      shop = c.begin.new.self.instance.now;
+      word = c.clear.new.self.path.items;
+      walk = walked c.begin.new.self;
+      stack = waiting_in c.clear.new.self.stack.items;
+    }
+    in let left = ap (λ (l : Leaving). l.words) c.new.ensures
+    in subst (KeepsPiece shop (words_of nodes) c.args.best)
+    (sym (sheet_told begun (stage_of t) c.as_slice-nodes.result.now nodes _ k shop c.args.best c.args.budget
+    c.take_found-found.result halted c.new.result.words same c.begin.ensures.walk refl c.in_ok-index.ensures.walked
+    c.in_ok-index.ensures.ended c.as_slice-nodes.ensures.value (take_rest c.as_slice-nodes.result.now k)
+    c.take_found-found.ensures.found c.in_ok-halt.ensures.words left))
+    (searches_keep shop (words_of nodes) c.args.best c.args.budget (are_words shop nodes c.requires.nodes))
+
+pub invariant_of-result : goal.invariant_of-result
+invariant_of-result g c =
+    let t = c.walk_nodes.new.self
+    in let shop = t.progress.instance.now
+    in let nodes = c.args.piece.now.nodes.items
+    in let k = c.in_ok-index.index
+    in let halted = halted_words shop c.in_ok-halt.halt
+    in let same : shop ≡ c.args.self.now.progress.instance.now = c.in_ok-index.ensures.walked.shop
+    ∙ (c.begin.ensures.instance ∙ c.in_ok-clear.ensures.instance)
+    in let begun : Stage = record {
+      shop = c.begin.new.self.instance.now;
+      word = c.clear.new.self.path.items;
+      walk = walked c.begin.new.self;
+      stack = waiting_in c.clear.new.self.stack.items;
+    }
+    in let left = ap (λ (l : Leaving). l.words) c.new.ensures
+    in let told = sheet_told begun (stage_of t) c.as_slice-nodes.result.now nodes _ k shop c.args.best c.args.budget
+    c.take_found-found.result halted c.new.result.words (sym c.in_ok-index.ensures.walked.shop) c.begin.ensures.walk
+    refl c.in_ok-index.ensures.walked c.in_ok-index.ensures.ended c.as_slice-nodes.ensures.value
+    (take_rest c.as_slice-nodes.result.now k) c.take_found-found.ensures.found c.in_ok-halt.ensures.words left
+    in record {
+      of_piece = refl;
+      spent = omega arith;
+      left_of = ap (λ (l : Leaving). l.shop) c.new.ensures;
+      left_below = ap (λ (l : Leaving). l.makespan) c.new.ensures;
+      words_left = subst (AreWords shop) (sym (ap (λ (w : Walk). w.left) told))
+          (searches_keep shop (words_of nodes) c.args.best c.args.budget
+          (are_words shop nodes (subst (λ (x : Shop). AreNodes x nodes) (sym same) c.requires.nodes))).left;
+      is_sheet = told;
+    }

@@ -1,0 +1,109 @@
+use Rattle.std.proofs.Common.{◌≡◌, ◌∙◌, ◌<◌, ℕ, List, sym, subst, arith}
+use Rattle.std.proofs.lemmas.List.{length-take-le}
+use Rattle.std.specs.Prelude.{take}
+use Rattle.shop_model.specs.Shop.{Shop}
+use Rattle.shop_model.specs.Word.{IsWord}
+use Rattle.shop_bound.specs.Bound.{lb}
+use Rattle.shop_bound.proofs.WordLengths.{room_left}
+use Rattle.shop_tree.specs.inner.Held.{waiting_in}
+use Rattle.shop_nodes.specs.Halts.{word_at}
+use Rattle.shop_tree.specs.inner.Searching.{walked}
+use Rattle.shop_tree.specs.inner.StateWalkers.{stage_of, AreHeld}
+use Rattle.shop_tree.specs.inner.Walkers.{HasExpanded, IsInOrder, IsTurn}
+use Rattle.shop_nodes.specs.declared.halts.Waiting.TheVariants.{Child}
+use Rattle.shop_tree.proofs.OpenLemmas.{popped}
+use Rattle.shop_tree.proofs.ListLemmas.{on_ok}
+use Rattle.shop_tree.specs.inner.Walkers.{spent_one}
+use Rattle.shop_tree.proofs.StateLemmas.{held_below}
+use Rattle.shop_tree.proofs.WalkerLemmas.{turn_cut, turn_expanded, went_in_order}
+use Rattle.shop_tree.proofs.walkers.Walker.walk_open.Goals as goal
+
+pub returns-then-child-self-clause-turn : goal.returns-then-child-self-clause-turn
+returns-then-child-self-clause-turn g c =
+    let s = stage_of c.args.self.now
+    in on_ok _ (IsTurn s (Child c.args.child) (record s { walk = spent_one s.walk }))
+    (λ e. turn_cut s c.args.child c.requires.on c.requires.some c.if-child-self.true)
+    c.give_back.result c.give_back.ensures.current
+
+pub unwrap-requires : goal.unwrap-requires
+unwrap-requires g c =
+    let self = c.args.self.now
+    in let o = c.args.child
+    in let word = self.path.items
+    in let own = (popped self.progress.instance.now self.progress.best word (waiting_in self.stack.items) (Child o)
+    c.requires.on).own
+    in let few = room_left self.progress.instance.now (take o.depth word) o.job own.is_word
+    in let depth = length-take-le o.depth word own.depth
+    in c.push.ensures.succeeds (let a = c.truncate.ensures.len in let b = c.truncate.ensures.capacity
+    in let d = self.path_room in omega arith)
+
+pub go_on_in-requires-clause-word : goal.go_on_in-requires-clause-word
+go_on_in-requires-clause-word g c =
+    let self = c.args.self.now
+    in let o = c.args.child
+    in let word = self.path.items
+    in let own = (popped self.progress.instance.now self.progress.best word (waiting_in self.stack.items) (Child o)
+    c.requires.on).own
+    in let went : c.as_slice.result.now ≡ word_at word o = c.as_slice.ensures.value
+    ∙ rw (c.unwrap.ensures, c.truncate.ensures.items) at c.push.ensures.items
+    in subst (λ (w : List ℕ). IsWord (g.D.Dispatching.shop self.states.dispatcher.now) w) (sym went)
+    (subst (λ (x : Shop). IsWord x (word_at word o)) (sym self.same_shop) own.is_word)
+
+pub expand-requires-clause-bound : goal.expand-requires-clause-bound
+expand-requires-clause-bound g c =
+    let self = c.args.self.now
+    in let o = c.args.child
+    in let word = self.path.items
+    in let own = (popped self.progress.instance.now self.progress.best word (waiting_in self.stack.items) (Child o)
+    c.requires.on).own
+    in let went : c.push.new.self.items ≡ word_at word o =
+    rw (c.unwrap.ensures, c.truncate.ensures.items) at c.push.ensures.items
+    in subst (λ (w : List ℕ). o.bound ≡ lb self.progress.instance.now w) (sym went) own.bound
+
+pub expand-requires-clause-in_order : goal.expand-requires-clause-in_order
+expand-requires-clause-in_order g c =
+    let self = c.args.self.now
+    in let o = c.args.child
+    in let went : c.push.new.self.items ≡ word_at self.path.items o =
+    rw (c.unwrap.ensures, c.truncate.ensures.items) at c.push.ensures.items
+    in subst (λ (w : List ℕ). IsInOrder (record {
+      shop = self.progress.instance.now;
+      word = w;
+      walk = spent_one (walked self.progress);
+      stack = waiting_in self.stack.items;
+    })) (sym went) (went_in_order (stage_of self) o c.requires.on)
+
+pub expand-requires-clause-states : goal.expand-requires-clause-states
+expand-requires-clause-states g c =
+    let self = c.args.self.now
+    in let o = c.args.child
+    in let d = self.states.dispatcher.now
+    in let hs = self.stack.items
+    in let went : c.push.new.self.items ≡ word_at self.path.items o =
+    rw (c.unwrap.ensures, c.truncate.ensures.items) at c.push.ensures.items
+    in record {
+      held = subst (λ x. AreHeld (g.D.Dispatching.IsStateOf x) c.push.new.self.items hs)
+          (sym c.in_ok-go_on_in.ensures.dispatcher)
+          (subst (λ (w : List ℕ). AreHeld (g.D.Dispatching.IsStateOf d) w hs) (sym went)
+          (held_below (g.D.Dispatching.IsStateOf d) self.progress.instance.now self.progress.best self.path.items hs o
+          c.requires.on c.requires.states.held));
+      states = c.in_ok-go_on_in.ensures.sound;
+    }
+
+pub returns-clause-turn : goal.returns-clause-turn
+returns-clause-turn g c =
+    let self = c.args.self.now
+    in let o = c.args.child
+    in let went : c.push.new.self.items ≡ word_at self.path.items o =
+    rw (c.unwrap.ensures, c.truncate.ensures.items) at c.push.ensures.items
+    in let below : o.bound < self.progress.best = (let a = c.if-child-self.false in omega arith)
+    in let t = stage_of c.expand.new.self
+    in on_ok _ (IsTurn (stage_of self) (Child o) t)
+    (λ e. turn_expanded (stage_of self) t o c.requires.on c.requires.some below
+    (subst (λ (w : List ℕ). HasExpanded (record {
+      shop = self.progress.instance.now;
+      word = w;
+      walk = spent_one (walked self.progress);
+      stack = waiting_in self.stack.items;
+    }) t) went e))
+    c.expand.result c.expand.ensures.expanded

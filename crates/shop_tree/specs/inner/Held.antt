@@ -1,0 +1,71 @@
+-- Children that wait with their states, whatever a state is: `is w s` says that s is the state of w.
+--     Kept S                         a child that was tried and is kept, with its state, if any
+--     IsHeldOf is w state            the state, where there is one, is that of w
+--     IsKept is word k               a child that was tried along the word has its own state, if any
+--     IsHeld is word h               so has one that waits; closed children have none
+--     opens_in ks, waiting_in hs     the children, and what waits, without their states
+--     held k                         the child as what waits, with its state
+--     bound_of x                     the bound of a child that waits, and 0 of closed ones
+--     with_held_rest stack depth n   the stack with n closed children of what so many entries make on
+--                                    top, if there are any
+--     HasRaisedRest i depth n m ..   where n closed children of what so many entries make lay at place
+--                                    i below what they call kids, m of them lie afterwards
+--     AreStates slot is_scratch ..   what the states of a walk hold is room for states, and what a
+--                                    dispatch needs
+use Rattle.std.specs.Prelude.{◌≡◌, ℕ, zero, suc, [], ◌∷◌, ◌++◌, Option, Some, None, List, length, map, All}
+use Rattle.std.specs.Global.{Box}
+use Rattle.shop_nodes.specs.declared.halts.Open.{Open}
+use Rattle.shop_nodes.specs.declared.halts.Waiting.{Waiting}
+use Rattle.shop_nodes.specs.declared.halts.Waiting.TheVariants.{Child, Rest}
+use Rattle.shop_tree.specs.declared.held.Held.{Held}
+use Rattle.shop_nodes.specs.Halts.{word_at}
+
+pub record Kept (S : Type 0) : Type 0 where
+  pub «open» : Open
+  pub state : Option (Box S)
+
+abbrev pub bound_of : Waiting → ℕ
+bound_of (Child o) = o.bound
+bound_of (Rest depth count) = 0
+
+module _ {S : Type 0} where
+  abbrev pub opens_in : List (Kept S) → List Open
+  opens_in ks = map (λ k. k.open) ks
+
+  abbrev pub waiting_in : List (Held S) → List Waiting
+  waiting_in hs = map (λ h. h.waiting) hs
+
+  abbrev pub held : Kept S → Held S
+  held k = record { waiting = Child k.open; state = k.state }
+
+  abbrev pub with_held_rest : List (Held S) → ℕ → ℕ → List (Held S)
+  with_held_rest stack depth zero = stack
+  with_held_rest stack depth (suc n) =
+      stack ++ record { waiting = Rest depth (suc n); state = None } ∷ []
+
+abbrev pub HasRaisedRest : {S : Type 0} → ℕ → ℕ → ℕ → ℕ → List (Held S) → List (Held S) → Type 0
+HasRaisedRest {S} place depth known count old new = (below kids : List (Held S))
+    → place ≡ length below → old ≡ with_held_rest below depth known ++ kids
+    → new ≡ with_held_rest below depth count ++ kids
+
+module _ {S : Type 0} (is : List ℕ → S → Type 0) where
+  abbrev pub IsHeldOf : List ℕ → Option (Box S) → Type 0
+  IsHeldOf w None = Unit {0}
+  IsHeldOf w (Some b) = is w b.value
+
+  abbrev pub IsKept : List ℕ → Kept S → Type 0
+  IsKept word k = IsHeldOf (word_at word k.open) k.state
+
+  abbrev pub IsHeldAs : List ℕ → Waiting → Option (Box S) → Type 0
+  IsHeldAs word (Child o) state = IsHeldOf (word_at word o) state
+  IsHeldAs word (Rest depth count) state = state ≡ None
+
+  abbrev pub IsHeld : List ℕ → Held S → Type 0
+  IsHeld word h = IsHeldAs word h.waiting h.state
+
+pub record AreStates {S C : Type 0} (slot : S → Type 0) (is_scratch : C → Type 0) (scratch : C)
+    (current trial : S) (spare : List (Box S)) : Type 0 where
+  pub scratch_is : is_scratch scratch
+  pub current_is : slot current
+  pub trial_is : slot trial
+  pub spare_are : All (λ b. slot b.value) spare

@@ -1,0 +1,83 @@
+-- Where a walk over states stands. D dispatches, S is a state, C what a dispatch needs beside, and g
+-- says what each of them is.
+--     AreHeld is word hs             each child that waits along the word has its own state, if any
+--     KeepsStates g word hs states   they have, and what the walk's states hold is room for states,
+--                                    and what a dispatch needs
+-- Of a walker:
+--     stage_of w                     where it stands: what waits is told without states
+--     HasStates w                    its states are kept so
+--     IsAtState w                    its current state is that of the word that it came to
+--     HasCandidates w n              the candidates of that word whose bounds by their own machine are
+--                                    below the best are at hand, and there are n others
+--     StandsAs v w                   w stands where v stood, with the same current state
+--     StandsAt w b                   its word has bound b, which is below the best, and all that waits
+--                                    and its states are in order
+--     HasReached v w b               the walk went on from v's word to one with bound b, and took it
+--     HasGoneOn v w told             the walk went on from v's word to a child with the bound that is
+--                                    told, or had nowhere to go
+use Rattle.std.specs.Prelude.{◌≡◌, ℕ, ◌<◌, Option, Some, None, List, All}
+use Rattle.shop_bound.specs.Bound.{lb}
+use Rattle.shop_states.specs.States.{ListsBelow}
+use Rattle.shop_states.specs.declared.dispatching.Dispatching.{Ghosts}
+use Rattle.shop_nodes.specs.Branching.{conflict}
+use Rattle.shop_tree.specs.declared.held.Held.{Held}
+use Rattle.shop_tree.specs.declared.walk_states.WalkStates.{WalkStates}
+use Rattle.shop_tree.specs.declared.walkers.Walker.{Walker}
+use Rattle.shop_tree.specs.inner.Held.{IsHeld, waiting_in}
+use Rattle.shop_tree.specs.inner.Searching.{walked}
+use Rattle.shop_tree.specs.inner.Slots.{HoldSlots}
+use Rattle.shop_tree.specs.inner.Walkers.{Stage, HasExpanded, HasFollowed, IsInOrder}
+
+abbrev pub AreHeld : {S : Type 0} → (List ℕ → S → Type 0) → List ℕ → List (Held S) → Type 0
+AreHeld is word hs = All (IsHeld is word) hs
+
+pub record KeepsStates {D S C : Type 0} (g : Ghosts D S C) (word : List ℕ) (hs : List (Held S))
+    (s : WalkStates D S C) : Type 0 where
+  pub held : AreHeld (g.IsStateOf s.dispatcher.now) word hs
+  pub states : HoldSlots g.IsSlot g.IsScratch s
+
+module _ {D S C : Type 0} {g : Ghosts D S C} where
+  abbrev pub stage_of : Walker D S C g → Stage
+  stage_of w = record {
+    shop = w.progress.instance.now;
+    word = w.path.items;
+    walk = walked w.progress;
+    stack = waiting_in w.stack.items;
+  }
+
+  abbrev pub HasCandidates : Walker D S C g → ℕ → Type 0
+  HasCandidates w n =
+      let d = w.states.dispatcher.now
+      in ListsBelow (g.shop d) w.path.items w.progress.best (g.IsCandidate d w.path.items)
+      (conflict (g.shop d) w.path.items) w.candidates.items n
+
+  abbrev pub IsAtState : Walker D S C g → Type 0
+  IsAtState w = g.IsStateOf w.states.dispatcher.now w.path.items w.states.current.value
+
+  abbrev pub HasStates : Walker D S C g → Type 0
+  HasStates w = KeepsStates g w.path.items w.stack.items w.states
+
+pub record StandsAs {D S C : Type 0} {g : Ghosts D S C} (v w : Walker D S C g) : Type 0 where
+  pub stage : stage_of w ≡ stage_of v
+  pub candidates : w.candidates.items ≡ v.candidates.items
+  pub dispatcher : w.states.dispatcher.now ≡ v.states.dispatcher.now
+  pub current : w.states.current.value ≡ v.states.current.value
+  pub states : HasStates w
+
+pub record StandsAt {D S C : Type 0} {g : Ghosts D S C} (w : Walker D S C g) (b : ℕ) : Type 0 where
+  pub bound : b ≡ lb w.progress.instance.now w.path.items
+  pub below : b < w.progress.best
+  pub in_order : IsInOrder (stage_of w)
+  pub states : HasStates w
+  pub state : IsAtState w
+
+pub record HasReached {D S C : Type 0} {g : Ghosts D S C} (v w : Walker D S C g) (b : ℕ)
+    : Type 0 where
+  pub followed : HasFollowed (stage_of v) (stage_of w)
+  pub spent : w.progress.budget < v.progress.budget
+  pub at : StandsAt w b
+
+abbrev pub HasGoneOn : {D S C : Type 0} {g : Ghosts D S C} → Walker D S C g → Walker D S C g
+    → Option ℕ → Type 0
+HasGoneOn v w (Some b) = HasReached v w b
+HasGoneOn v w None = HasExpanded (stage_of v) (stage_of w) × HasStates w

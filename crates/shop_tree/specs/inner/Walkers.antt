@@ -1,0 +1,101 @@
+-- Where a walk stands, and what its turns come to.
+--     Stage                        the instance, the word that the walk came to, what it carries,
+--                                  and what waits on its stack
+--     stack_walk s                 the walk of all that waits
+--     walk_on s                    the walk that goes on from the word, and then from what waits
+--     IsInOrder s                  all that waits is told rightly
+--     on_top s x                   the same with x on top of what waits
+--     spent_one t                  the walk t with one of its budget spent
+--     gone_on s job                the same with one job more, which was taken
+--     turns_left s                 more turns than this can't come
+--     HasFollowed s t              the walk went on along words that have one open child alone
+--     HasBranched s t              the children of the word lie on the stack
+--     HasExpanded s t              what waits afterwards comes to where the walk goes on from the
+--                                  word, and then from what waited before
+--     IsTurn s x t                 what waits afterwards comes to the same walk as x on top of what
+--                                  waited before, and there is less to do
+--     HasWalked s t whole          all that is left of this walk waits: nothing, unless the budget
+--                                  has ended
+use Rattle.std.specs.Prelude.{◌≡◌, ℕ, ◌+◌, ◌-◌, ◌*◌, ◌≤◌, ◌<◌, List, [], ◌∷◌, ◌++◌, length, drop}
+use Rattle.std.specs.Prelude.{fold}
+use Rattle.shop_model.specs.Shop.{Shop}
+use Rattle.shop_tree.specs.inner.Opens.{AreWaiting}
+use Rattle.shop_tree.specs.inner.Searching.{walk_stack, Adds, entered}
+use Rattle.shop_nodes.specs.Walking.{Walk, walk}
+use Rattle.shop_nodes.specs.Nodes.{words_of}
+use Rattle.shop_nodes.specs.declared.nodes.Node.{Node}
+use Rattle.shop_nodes.specs.declared.halts.Waiting.{Waiting}
+
+pub record Stage : Type 0 where
+  pub shop : Shop
+  pub word : List ℕ
+  pub walk : Walk
+  pub stack : List Waiting
+
+abbrev pub stack_walk : Stage → Walk
+stack_walk s = walk_stack s.shop s.word s.walk s.stack
+
+abbrev pub walk_on : Stage → Walk
+walk_on s = walk_stack s.shop s.word (entered s.shop s.walk s.word) s.stack
+
+abbrev pub node_walk : Stage → Node → Walk
+node_walk s node = walk s.shop s.walk node.word
+
+abbrev pub nodes_walk : Stage → List Node → Walk
+nodes_walk s nodes = fold (walk s.shop) s.walk (words_of nodes)
+
+abbrev pub IsInOrder : Stage → Type 0
+IsInOrder s = AreWaiting s.shop s.walk.best s.word s.stack
+
+abbrev pub on_top : Stage → Waiting → Stage
+on_top s x = record s { stack = s.stack ++ x ∷ [] }
+
+abbrev pub spent_one : Walk → Walk
+spent_one t = record t { budget = t.budget - 1 }
+
+abbrev pub gone_on : Stage → ℕ → Stage
+gone_on s job = record s { word = s.word ++ job ∷ []; walk = spent_one s.walk }
+
+abbrev pub turns_left : Stage → ℕ
+turns_left s = s.walk.budget * (length s.shop.jobs + 2) + length s.stack
+
+pub record HasFollowed (s t : Stage) : Type 0 where
+  pub walk : walk_on t ≡ walk_on s
+  pub shop : t.shop ≡ s.shop
+  pub spent : t.walk.budget ≤ s.walk.budget
+  pub fewer : turns_left t ≤ turns_left s
+
+pub record HasBranched (s t : Stage) : Type 0 where
+  pub stack : Adds s.shop s.walk.best s.word s.stack t.stack
+  pub few : length t.stack ≤ length s.stack + length s.shop.jobs + 1
+  pub same : t ≡ record s { stack = t.stack }
+
+pub record HasExpanded (s t : Stage) : Type 0 where
+  pub walk : stack_walk t ≡ walk_on s
+  pub in_order : IsInOrder t
+  pub fewer : turns_left t ≤ turns_left s + length s.shop.jobs + 1
+  pub shop : t.shop ≡ s.shop
+  pub spent : t.walk.budget ≤ s.walk.budget
+
+pub record IsTurn (s : Stage) (x : Waiting) (t : Stage) : Type 0 where
+  pub walk : stack_walk t ≡ stack_walk (on_top s x)
+  pub in_order : IsInOrder t
+  pub fewer : turns_left t < turns_left (on_top s x)
+  pub shop : t.shop ≡ s.shop
+  pub spent : t.walk.budget ≤ s.walk.budget
+
+pub record HasWalked (s t : Stage) (whole : Walk) : Type 0 where
+  pub walk : stack_walk t ≡ whole
+  pub in_order : IsInOrder t
+  pub shop : t.shop ≡ s.shop
+  pub spent : t.walk.budget ≤ s.walk.budget
+  pub done : 0 < t.walk.budget → t.stack ≡ []
+
+-- the first k nodes were walked, or no budget is left for the others
+pub record HasWalkedUpTo (s t : Stage) (nodes : List Node) (k : ℕ) : Type 0 where
+  pub within : k ≤ length nodes
+  pub walk : fold (walk t.shop) (stack_walk t) (words_of (drop k nodes)) ≡ nodes_walk s nodes
+  pub in_order : IsInOrder t
+  pub shop : t.shop ≡ s.shop
+  pub spent : t.walk.budget ≤ s.walk.budget
+  pub done : 0 < t.walk.budget → t.stack ≡ []

@@ -1,0 +1,62 @@
+// Closed children are put on the stack, below those that wait.
+ghost use Rattle.std.specs.Prelude.{◌≡◌, ◌+◌, ◌≤◌, ◌<◌, ◌^◌, length, min, OnOk};
+ghost use Rattle.shop_tree.specs.inner.Held.{with_held_rest, HasRaisedRest};
+
+use crate::held::Held;
+use shop_nodes::Waiting;
+use std::alloc::AllocError;
+
+/// Puts one entry on the stack for `count` closed children of the word of so many entries, if there are any.
+#[inline(always)]
+pub(crate) fn put_rest<S: Drop>(
+    stack: &mut Vec<Held<S>>,
+    depth: usize,
+    count: usize,
+) -> Result<(), AllocError>
+    requires depth { depth < 2 ^ 32 }
+    requires count { count < 2 ^ 32 }
+    ensures { OnOk result (stack.new.items ≡ with_held_rest stack.old.items depth count) }
+{
+    if count > 0 {
+        let (depth, count) = (depth as u32, count as u32);
+        stack.push(Held {
+            waiting: Waiting::Rest { depth, count },
+            state: None,
+        })?;
+    }
+    Ok(())
+}
+
+/// Below the open children of what these entries make lie `known` closed ones, at this place if there are any. They
+/// come to be `count`.
+pub(crate) fn raise_rest<S: Drop>(
+    stack: &mut Vec<Held<S>>,
+    place: usize,
+    depth: usize,
+    known: usize,
+    count: usize,
+) -> Result<(), AllocError>
+    requires place { place + min known 1 ≤ length stack.old.items }
+    requires depth { depth < 2 ^ 32 }
+    requires more { known ≤ count }
+    requires count { count < 2 ^ 32 }
+    ensures { OnOk result (HasRaisedRest place depth known count stack.old.items stack.new.items) }
+{
+    if count == known {
+        return Ok(());
+    }
+    let (depth, count) = (depth as u32, count as u32);
+    let waiting = Waiting::Rest { depth, count };
+    if known > 0 {
+        stack[place].waiting = waiting;
+        return Ok(());
+    }
+    stack.insert(
+        place,
+        Held {
+            waiting,
+            state: None,
+        },
+    )?;
+    Ok(())
+}

@@ -1,0 +1,242 @@
+// Where a walk goes on from the word that it came to.
+ghost use Rattle.std.specs.Prelude.{◌≡◌, ◌≤◌, ◌<◌, ◌+◌, length, [], ◌∷◌, ◌++◌, OnOk, IfOk, IsTrue};
+ghost use Rattle.shop_model.specs.Limits.{IsWithinLimits};
+ghost use Rattle.shop_model.specs.Word.{IsWord};
+ghost use Rattle.shop_bound.specs.Bound.{lb};
+ghost use Rattle.shop_tree.specs.inner.Opens.{AreChildren};
+ghost use Rattle.shop_tree.specs.inner.Slots.{HoldSlots};
+ghost use Rattle.shop_tree.specs.inner.StateWalkers.{stage_of, AreHeld, HasCandidates, HasStates};
+ghost use Rattle.shop_tree.specs.inner.StateWalkers.{HasGoneOn, HasReached, IsAtState, StandsAs};
+ghost use Rattle.shop_tree.specs.inner.StateWalkers.{StandsAt};
+ghost use Rattle.shop_tree.specs.inner.Walkers.{gone_on, HasBranched, HasExpanded, IsInOrder};
+
+use crate::closed_children::{put_rest, raise_rest};
+use crate::walkers::Walker;
+use shop_model::{SharedWord, Word};
+use shop_states::Dispatching;
+use std::alloc::{AllocError, Global};
+
+impl<'l, 'a, D: Dispatching<S>, S: Drop> Walker<'l, 'a, D, S> {
+    /// Gathers the candidates of the word, which isn't full, and tells how many others are closed.
+    #[inline(always)]
+    fn gather(&mut self) -> usize
+        requires states { HasStates self.old }
+        requires state { IsAtState self.old }
+        ensures stage { stage_of self.new ≡ stage_of self.old }
+        ensures candidates { HasCandidates self.new result }
+        ensures states { HasStates self.new }
+        ensures state { IsAtState self.new }
+    {
+        self.states.gather(self.progress.best, &mut self.candidates)
+    }
+
+    /// Whether there is one candidate alone, and the budget lasts for its child.
+    #[inline(always)]
+    fn goes_on(&self) -> bool
+        ensures { IsTrue result
+            → (length self.now.candidates.items ≡ 1) × (0 < self.now.progress.budget) }
+    {
+        self.candidates.len() == 1 && self.progress.budget > 0
+    }
+
+    /// The word that the walk came to takes a job more, and one of the budget is spent.
+    #[inline(always)]
+    fn take_job(&mut self, job: u16)
+        requires some { 0 < self.old.progress.budget }
+        requires short { length self.old.path.items < self.old.progress.operations }
+        requires held { AreHeld (D.IsStateOf self.old.states.dispatcher.now)
+            (self.old.path.items ++ job ∷ []) self.old.stack.items }
+        requires slots { HoldSlots D.IsSlot D.IsScratch self.old.states }
+        requires state { D.IsStateOf self.old.states.dispatcher.now (self.old.path.items ++ job ∷ [])
+            self.old.states.current.value }
+        ensures stage { stage_of self.new ≡ gone_on (stage_of self.old) job }
+        ensures states { HasStates self.new }
+        ensures state { IsAtState self.new }
+    {
+        let progress = &mut self.progress;
+        progress.budget -= 1;
+        self.path.push(job).unwrap();
+    }
+
+    /// Goes on from the word to its one child, which has the same bound. Its candidate is at hand.
+    #[inline(always)]
+    fn follow_sole(&mut self, bound: u64)
+        requires one { length self.old.candidates.items ≡ 1 }
+        requires some { 0 < self.old.progress.budget }
+        requires short { length self.old.path.items < self.old.progress.operations }
+        requires at { StandsAt self.old bound }
+        requires candidates { HasCandidates self.old 0 }
+        ensures { HasReached self.old self.new bound }
+    {
+        let job = self.candidates[0].job;
+        self.states.strike(job);
+        self.take_job(job);
+    }
+
+    /// All children of the word, so many, are closed: they are counted if the budget lasts for them, and else wait.
+    #[inline(always)]
+    fn close(&mut self, count: usize) -> Result<(), AllocError>
+        requires word { IsWord self.old.progress.instance.now self.old.path.items }
+        requires limits { IsWithinLimits self.old.progress.instance.now }
+        requires short { length self.old.path.items < self.old.progress.operations }
+        requires closed { AreChildren self.old.progress.instance.now self.old.progress.best self.old.path.items
+            [] count }
+        requires in_order { IsInOrder (stage_of self.old) }
+        requires states { HasStates self.old }
+        ensures expanded { OnOk result (HasExpanded (stage_of self.old) (stage_of self.new)) }
+        ensures states { OnOk result (HasStates self.new) }
+    {
+        if self.progress.budget >= count as u64 {
+            self.progress.budget -= count as u64;
+            return Ok(());
+        }
+        put_rest(&mut self.stack, self.path.len(), count)
+    }
+
+    /// Dispatches the one candidate in the current state, and tells its child's bound: the walk goes on there, and the
+    /// `closed` other children are put on the stack as closed. Where this child is closed too, all are, and the answer
+    /// is `None`.
+    #[inline(always)]
+    fn follow_kept(&mut self, bound: u64, closed: usize) -> Result<Option<u64>, AllocError>
+        requires one { length self.old.candidates.items ≡ 1 }
+        requires some { 0 < self.old.progress.budget }
+        requires short { length self.old.path.items < self.old.progress.operations }
+        requires at { StandsAt self.old bound }
+        requires candidates { HasCandidates self.old closed }
+        ensures { IfOk result (HasGoneOn self.old self.new) }
+    {
+        let candidate = self.candidates[0];
+        let Some(bound) = self.states.advance(candidate, bound, self.progress.best) else {
+            self.close(closed + 1)?;
+            return Ok(None);
+        };
+        put_rest(&mut self.stack, self.path.len(), closed)?;
+        self.take_job(candidate.job);
+        Ok(Some(bound))
+    }
+
+    /// The same, whether there are others or not: a sole candidate isn't bounded.
+    #[inline(always)]
+    fn go_on(&mut self, bound: u64, closed: usize) -> Result<Option<u64>, AllocError>
+        requires one { length self.old.candidates.items ≡ 1 }
+        requires some { 0 < self.old.progress.budget }
+        requires short { length self.old.path.items < self.old.progress.operations }
+        requires at { StandsAt self.old bound }
+        requires candidates { HasCandidates self.old closed }
+        ensures { IfOk result (HasGoneOn self.old self.new) }
+    {
+        if closed > 0 {
+            return self.follow_kept(bound, closed);
+        }
+        self.follow_sole(bound);
+        Ok(Some(bound))
+    }
+
+    /// Takes back the state of what waits longest of all that may have one.
+    #[inline(never)]
+    fn strip_next(&mut self) -> Result<(), AllocError>
+        requires within { self.old.stripped < length self.old.stack.items }
+        requires states { HasStates self.old }
+        ensures stands { OnOk result (StandsAs self.old self.new) }
+        ensures later { self.new.stripped ≡ self.old.stripped + 1 }
+        ensures length { length self.new.stack.items ≡ length self.old.stack.items }
+    {
+        let state = self.stack[self.stripped].state.take();
+        self.stripped += 1;
+        self.states.give_back(state)
+    }
+
+    /// Takes states from the entries that wait longest, until there is a spare one for each candidate or none is left
+    /// to take.
+    #[inline(always)]
+    fn reclaim(&mut self) -> Result<(), AllocError>
+        requires states { HasStates self.old }
+        ensures stands { OnOk result (StandsAs self.old self.new) }
+    {
+        while self.states.free() < self.candidates.len() && self.stripped < self.stack.len() {
+            self.strip_next()?;
+        }
+        Ok(())
+    }
+
+    /// Puts the children of the word on the stack, the first one on top. `bound` is the word's, and `closed` of its
+    /// children are none of the candidates.
+    fn push_children(&mut self, alloc: Global, bound: u64, closed: usize) -> Result<(), AllocError>
+        requires bound { bound ≡ lb self.old.progress.instance.now self.old.path.items }
+        requires short { length self.old.path.items < self.old.progress.operations }
+        requires candidates { HasCandidates self.old closed }
+        requires states { HasStates self.old }
+        requires state { IsAtState self.old }
+        ensures branched { OnOk result (HasBranched (stage_of self.old) (stage_of self.new)) }
+        ensures states { OnOk result (HasStates self.new) }
+    {
+        let (below, depth) = (self.stack.len(), self.path.len());
+        self.stripped = self.stripped.min(below);
+        put_rest(&mut self.stack, depth, closed)?;
+        let all = self.states.try_candidates(
+            alloc,
+            &mut self.stack,
+            self.candidates.as_slice(),
+            closed,
+            self.path.as_slice(),
+            bound,
+            self.progress.best,
+        )?;
+        raise_rest(&mut self.stack, below, depth, closed, all)
+    }
+
+    /// The same, with a state for each child as far as what waits longer has one; but where all are closed, nothing has
+    /// to wait.
+    fn branch(&mut self, alloc: Global, bound: u64, closed: usize) -> Result<(), AllocError>
+        requires short { length self.old.path.items < self.old.progress.operations }
+        requires at { StandsAt self.old bound }
+        requires candidates { HasCandidates self.old closed }
+        ensures expanded { OnOk result (HasExpanded (stage_of self.old) (stage_of self.new)) }
+        ensures states { OnOk result (HasStates self.new) }
+    {
+        if self.candidates.is_empty() {
+            return self.close(closed);
+        }
+        self.reclaim()?;
+        self.push_children(alloc, bound, closed)
+    }
+
+    /// The word is full: it is found, and is the best.
+    #[inline(never)]
+    fn find(&mut self, alloc: Global, bound: u64) -> Result<(), AllocError>
+        requires full { self.old.progress.operations ≤ length self.old.path.items }
+        requires at { StandsAt self.old bound }
+        ensures expanded { OnOk result (HasExpanded (stage_of self.old) (stage_of self.new)) }
+        ensures states { OnOk result (HasStates self.new) }
+    {
+        let word = SharedWord::of_path(alloc, self.path.as_slice())?;
+        self.progress.found = Some(Word::of_shared(word));
+        self.progress.best = bound;
+        Ok(())
+    }
+
+    /// Goes on from the word, which was taken and whose bound is below the best, as long as one child alone is open: up
+    /// to a full word, which is found, or to one whose children are put on the stack.
+    pub(crate) fn expand(&mut self, alloc: Global, bound: u64) -> Result<(), AllocError>
+        requires bound { bound ≡ lb self.old.progress.instance.now self.old.path.items }
+        requires below { bound < self.old.progress.best }
+        requires in_order { IsInOrder (stage_of self.old) }
+        requires states { HasStates self.old }
+        requires state { IsAtState self.old }
+        ensures expanded { OnOk result (HasExpanded (stage_of self.old) (stage_of self.new)) }
+        ensures states { OnOk result (HasStates self.new) }
+    {
+        let mut bound = bound;
+        while self.path.len() < self.progress.operations {
+            let closed = self.gather();
+            if !self.goes_on() {
+                return self.branch(alloc, bound, closed);
+            }
+            let Some(next) = self.go_on(bound, closed)? else {
+                return Ok(());
+            };
+            bound = next;
+        }
+        self.find(alloc, bound)
+    }
+}

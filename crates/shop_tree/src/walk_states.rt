@@ -1,0 +1,300 @@
+// The states of a walk.
+ghost use Rattle.std.specs.Prelude.{◌≡◌, ℕ, ◌≤◌, false, List, [], ◌∷◌, ◌++◌, IfOk, OnOk, OnSome};
+ghost use Rattle.std.specs.Prelude.{length, vec_capacity};
+ghost use Rattle.shop_model.specs.Word.{IsWord};
+ghost use Rattle.shop_bound.specs.Bound.{lb};
+ghost use Rattle.shop_states.specs.States.{ListsBelow};
+ghost use Rattle.shop_states.specs.States.{CanDispatch, HasSoleCandidate, IsOfSomeWord};
+ghost use Rattle.shop_states.specs.States.{TellsBoundBelow};
+ghost use Rattle.shop_nodes.specs.Branching.{conflict};
+ghost use Rattle.shop_tree.specs.inner.Held.{IsHeldOf};
+ghost use Rattle.shop_tree.specs.inner.Slots.{HoldSlots};
+ghost use Rattle.shop_tree.specs.inner.Tried.{HasPutChildren};
+
+use crate::held::Held;
+use crate::open_children::put;
+use shop_nodes::Open;
+use shop_states::{Candidate, Dispatching};
+use std::alloc::{AllocError, Global};
+use std::mem;
+
+/// The states of a walk: that of the word that it came to, one in which a child is tried, and spare ones for children
+/// that wait.
+#[derive(Drop)]
+pub(crate) struct WalkStates<'l, D: Dispatching<S>, S: Drop> {
+    pub(crate) dispatcher: &'l D,
+    scratch: D::Scratch,
+    pub(crate) current: Box<S>,
+    trial: Box<S>,
+    spare: Vec<Box<S>>,
+    /// how many more may be made
+    unmade: usize,
+}
+
+impl<'l, D: Dispatching<S>, S: Drop> WalkStates<'l, D, S> {
+    /// With at most so many states for children that wait. Fails with `AllocError` if memory runs out.
+    pub(crate) fn new(
+        alloc: Global,
+        dispatcher: &'l D,
+        most: usize,
+    ) -> Result<WalkStates<'l, D, S>, AllocError>
+        ensures sound { IfOk result (HoldSlots D.IsSlot D.IsScratch) }
+        ensures dispatcher { IfOk result (λ s. s.dispatcher.now ≡ dispatcher.now) }
+    {
+        Ok(WalkStates {
+            dispatcher,
+            scratch: dispatcher.scratch(alloc)?,
+            current: Box::new(alloc, dispatcher.slot(alloc)?)?,
+            trial: Box::new(alloc, dispatcher.slot(alloc)?)?,
+            spare: Vec::new(alloc),
+            unmade: most,
+        })
+    }
+
+    /// Makes the state of a word the current one.
+    pub(crate) fn fill(&mut self, path: &[u16])
+        requires sound { HoldSlots D.IsSlot D.IsScratch self.old }
+        requires word { IsWord (D.shop self.old.dispatcher.now) path.now }
+        ensures sound { HoldSlots D.IsSlot D.IsScratch self.new }
+        ensures state { D.IsStateOf self.old.dispatcher.now path.now self.new.current.value }
+        ensures dispatcher { self.new.dispatcher.now ≡ self.old.dispatcher.now }
+    {
+        self.dispatcher
+            .fill(&mut self.scratch, path, &mut self.current);
+    }
+
+    /// Lists the jobs of the conflict set of the current state's word, in ascending order, whose own numbers are below
+    /// the limit, and tells how many are left out. What the list held is lost; it has room for all jobs.
+    #[inline(always)]
+    pub(crate) fn gather(&mut self, limit: u64, candidates: &mut Vec<Candidate>) -> usize
+        requires sound { HoldSlots D.IsSlot D.IsScratch self.old }
+        requires state { IsOfSomeWord
+            (λ w. D.IsStateOf self.old.dispatcher.now w self.old.current.value) }
+        requires room { length (D.shop self.old.dispatcher.now).jobs ≤ vec_capacity candidates.old }
+        ensures sound { HoldSlots D.IsSlot D.IsScratch self.new }
+        ensures listed { (w : List ℕ) → D.IsStateOf self.old.dispatcher.now w self.old.current.value
+            → ListsBelow (D.shop self.old.dispatcher.now) w limit (D.IsCandidate self.old.dispatcher.now w)
+            (conflict (D.shop self.old.dispatcher.now) w) candidates.new.items result }
+        ensures room { vec_capacity candidates.old ≤ vec_capacity candidates.new }
+        ensures current { self.new.current.value ≡ self.old.current.value }
+        ensures dispatcher { self.new.dispatcher.now ≡ self.old.dispatcher.now }
+    {
+        self.dispatcher
+            .list_candidates(&mut self.scratch, &self.current, limit, candidates)
+    }
+
+    /// Dispatches the next operation of the one job of the conflict set in the current state.
+    pub(crate) fn strike(&mut self, job: u16)
+        requires sound { HoldSlots D.IsSlot D.IsScratch self.old }
+        requires sole { HasSoleCandidate (D.shop self.old.dispatcher.now)
+            (λ w. D.IsStateOf self.old.dispatcher.now w self.old.current.value) job }
+        ensures sound { HoldSlots D.IsSlot D.IsScratch self.new }
+        ensures state { (w : List ℕ) → D.IsStateOf self.old.dispatcher.now w self.old.current.value
+            → conflict (D.shop self.old.dispatcher.now) w ≡ job ∷ []
+            → D.IsStateOf self.old.dispatcher.now (w ++ job ∷ []) self.new.current.value }
+        ensures dispatcher { self.new.dispatcher.now ≡ self.old.dispatcher.now }
+    {
+        self.dispatcher.strike(&mut self.current, job);
+    }
+
+    /// Dispatches a candidate in the current state, and tells the bound of its child if that is below the limit; else
+    /// the current state is that of no word. `bound` is that of the current state's word.
+    #[inline(always)]
+    pub(crate) fn advance(&mut self, candidate: Candidate, bound: u64, limit: u64) -> Option<u64>
+        requires sound { HoldSlots D.IsSlot D.IsScratch self.old }
+        requires can { CanDispatch (D.shop self.old.dispatcher.now)
+            (λ w. D.IsStateOf self.old.dispatcher.now w self.old.current.value
+            × D.IsCandidate self.old.dispatcher.now w candidate) candidate.job bound }
+        ensures sound { HoldSlots D.IsSlot D.IsScratch self.new }
+        ensures told { (w : List ℕ) → D.IsStateOf self.old.dispatcher.now w self.old.current.value
+            → D.IsCandidate self.old.dispatcher.now w candidate → bound ≡ lb (D.shop self.old.dispatcher.now) w
+            → TellsBoundBelow limit (lb (D.shop self.old.dispatcher.now) (w ++ candidate.job ∷ [])) result }
+        ensures state { (w : List ℕ) → D.IsStateOf self.old.dispatcher.now w self.old.current.value
+            → D.IsCandidate self.old.dispatcher.now w candidate
+            → OnSome result (D.IsStateOf self.old.dispatcher.now (w ++ candidate.job ∷ [])
+            self.new.current.value) }
+        ensures dispatcher { self.new.dispatcher.now ≡ self.old.dispatcher.now }
+    {
+        self.dispatcher.dispatch_below(
+            &mut self.scratch,
+            &mut self.current,
+            candidate,
+            bound,
+            limit,
+        )
+    }
+
+    /// How many states are at hand for children.
+    pub(crate) fn free(&self) -> usize {
+        self.spare.len().saturating_add(self.unmade)
+    }
+
+    /// Keeps a state that nobody wants any more as a spare one.
+    pub(crate) fn give_back(&mut self, state: Option<Box<S>>) -> Result<(), AllocError>
+        requires sound { HoldSlots D.IsSlot D.IsScratch self.old }
+        requires slot { IsHeldOf (λ _ s. D.IsSlot self.old.dispatcher.now s) [] state }
+        ensures sound { OnOk result (HoldSlots D.IsSlot D.IsScratch self.new) }
+        ensures current { OnOk result (self.new.current.value ≡ self.old.current.value) }
+        ensures dispatcher { self.new.dispatcher.now ≡ self.old.dispatcher.now }
+    {
+        let Some(state) = state else {
+            return Ok(());
+        };
+        self.spare.push(state)?;
+        Ok(())
+    }
+
+    /// The given state becomes the current one, and the one before it a spare one; where none is given, the current one
+    /// is filled from the word.
+    pub(crate) fn go_on_in(&mut self, state: Option<Box<S>>, word: &[u16]) -> Result<(), AllocError>
+        requires sound { HoldSlots D.IsSlot D.IsScratch self.old }
+        requires word { IsWord (D.shop self.old.dispatcher.now) word.now }
+        requires state { IsHeldOf (D.IsStateOf self.old.dispatcher.now) word.now state }
+        ensures sound { OnOk result (HoldSlots D.IsSlot D.IsScratch self.new) }
+        ensures state { OnOk result
+            (D.IsStateOf self.old.dispatcher.now word.now self.new.current.value) }
+        ensures dispatcher { self.new.dispatcher.now ≡ self.old.dispatcher.now }
+    {
+        let Some(state) = state else {
+            self.fill(word);
+            return Ok(());
+        };
+        let before = mem::replace(&mut self.current, state);
+        self.spare.push(before)?;
+        Ok(())
+    }
+
+    /// A spare state, or a new one where one more may be made.
+    #[inline(always)]
+    fn spare_state(&mut self, alloc: Global) -> Result<Option<Box<S>>, AllocError>
+        requires sound { HoldSlots D.IsSlot D.IsScratch self.old }
+        ensures sound { OnOk result (HoldSlots D.IsSlot D.IsScratch self.new) }
+        ensures slot { IfOk result (IsHeldOf (λ _ s. D.IsSlot self.old.dispatcher.now s) []) }
+        ensures current { self.new.current.value ≡ self.old.current.value }
+        ensures trial { self.new.trial.value ≡ self.old.trial.value }
+        ensures dispatcher { self.new.dispatcher.now ≡ self.old.dispatcher.now }
+    {
+        if let Some(state) = self.spare.pop() {
+            return Ok(Some(state));
+        }
+        self.new_state(alloc)
+    }
+
+    /// A new state, where one more may be made.
+    #[inline(never)]
+    fn new_state(&mut self, alloc: Global) -> Result<Option<Box<S>>, AllocError>
+        requires sound { HoldSlots D.IsSlot D.IsScratch self.old }
+        ensures sound { OnOk result (HoldSlots D.IsSlot D.IsScratch self.new) }
+        ensures slot { IfOk result (IsHeldOf (λ _ s. D.IsSlot self.old.dispatcher.now s) []) }
+        ensures current { self.new.current.value ≡ self.old.current.value }
+        ensures trial { self.new.trial.value ≡ self.old.trial.value }
+        ensures dispatcher { self.new.dispatcher.now ≡ self.old.dispatcher.now }
+    {
+        if self.unmade == 0 {
+            return Ok(None);
+        }
+        self.unmade -= 1;
+        Ok(Some(Box::new(alloc, self.dispatcher.slot(alloc)?)?))
+    }
+
+    /// The state of the trial, where there is a spare one to take its place.
+    fn take_trial(&mut self, alloc: Global) -> Result<Option<Box<S>>, AllocError>
+        requires sound { HoldSlots D.IsSlot D.IsScratch self.old }
+        ensures sound { OnOk result (HoldSlots D.IsSlot D.IsScratch self.new) }
+        ensures taken { IfOk result (IsHeldOf (λ _ s. s ≡ self.old.trial.value) []) }
+        ensures current { self.new.current.value ≡ self.old.current.value }
+        ensures dispatcher { self.new.dispatcher.now ≡ self.old.dispatcher.now }
+    {
+        let Some(spare) = self.spare_state(alloc)? else {
+            return Ok(None);
+        };
+        Ok(Some(mem::replace(&mut self.trial, spare)))
+    }
+
+    /// Makes the trial's state that of the current word. The last trial takes the current state, which nobody wants
+    /// afterwards.
+    fn begin_trial(&mut self, is_last: bool)
+        requires sound { HoldSlots D.IsSlot D.IsScratch self.old }
+        ensures sound { HoldSlots D.IsSlot D.IsScratch self.new }
+        ensures trial { (w : List ℕ) → D.IsStateOf self.old.dispatcher.now w self.old.current.value
+            → D.IsStateOf self.old.dispatcher.now w self.new.trial.value }
+        ensures current { is_last ≡ false → self.new.current.value ≡ self.old.current.value }
+        ensures dispatcher { self.new.dispatcher.now ≡ self.old.dispatcher.now }
+    {
+        if is_last {
+            mem::swap(&mut self.current, &mut self.trial);
+            return;
+        }
+        self.dispatcher.copy(&self.current, &mut self.trial);
+    }
+
+    /// Dispatches a candidate in the trial's state, and tells the bound of its child if that is below the limit.
+    /// `bound` is that of the current state's word, and after the last trial the current state is that of no word.
+    fn try_candidate(
+        &mut self,
+        candidate: Candidate,
+        is_last: bool,
+        bound: u64,
+        limit: u64,
+    ) -> Option<u64>
+        requires sound { HoldSlots D.IsSlot D.IsScratch self.old }
+        requires can { CanDispatch (D.shop self.old.dispatcher.now)
+            (λ w. D.IsStateOf self.old.dispatcher.now w self.old.current.value
+            × D.IsCandidate self.old.dispatcher.now w candidate) candidate.job bound }
+        ensures sound { HoldSlots D.IsSlot D.IsScratch self.new }
+        ensures told { (w : List ℕ) → D.IsStateOf self.old.dispatcher.now w self.old.current.value
+            → D.IsCandidate self.old.dispatcher.now w candidate → bound ≡ lb (D.shop self.old.dispatcher.now) w
+            → TellsBoundBelow limit (lb (D.shop self.old.dispatcher.now) (w ++ candidate.job ∷ [])) result }
+        ensures state { (w : List ℕ) → D.IsStateOf self.old.dispatcher.now w self.old.current.value
+            → D.IsCandidate self.old.dispatcher.now w candidate
+            → OnSome result (D.IsStateOf self.old.dispatcher.now (w ++ candidate.job ∷ [])
+            self.new.trial.value) }
+        ensures current { is_last ≡ false → self.new.current.value ≡ self.old.current.value }
+        ensures dispatcher { self.new.dispatcher.now ≡ self.old.dispatcher.now }
+    {
+        self.begin_trial(is_last);
+        self.dispatcher.dispatch_below(&mut self.scratch, &mut self.trial, candidate, bound, limit)
+    }
+
+    /// Tries each candidate of the word, and puts the children of bounds below the limit on the stack, by bound, then
+    /// by job, the first on top, each with its state while there is room. Tells how many children are closed; `closed`
+    /// of them are none of the candidates. Fails with `AllocError` if memory runs out.
+    pub(crate) fn try_candidates(
+        &mut self,
+        alloc: Global,
+        stack: &mut Vec<Held<S>>,
+        candidates: &[Candidate],
+        closed: usize,
+        word: &[u16],
+        bound: u64,
+        limit: u64,
+    ) -> Result<usize, AllocError>
+        requires sound { HoldSlots D.IsSlot D.IsScratch self.old }
+        requires state { D.IsStateOf self.old.dispatcher.now word.now self.old.current.value }
+        requires bound { bound ≡ lb (D.shop self.old.dispatcher.now) word.now }
+        requires listed { ListsBelow (D.shop self.old.dispatcher.now) word.now limit
+            (D.IsCandidate self.old.dispatcher.now word.now)
+            (conflict (D.shop self.old.dispatcher.now) word.now) candidates.now closed }
+        ensures sound { OnOk result (HoldSlots D.IsSlot D.IsScratch self.new) }
+        ensures children { IfOk result (λ n. HasPutChildren (D.IsStateOf self.old.dispatcher.now)
+            (D.shop self.old.dispatcher.now) limit word.now stack.old.items stack.new.items n) }
+        ensures more { IfOk result (λ n. closed ≤ n) }
+        ensures dispatcher { self.new.dispatcher.now ≡ self.old.dispatcher.now }
+    {
+        let (from, depth) = (stack.len(), word.len() as u32);
+        let mut others = closed;
+        // The last job first: of equal bounds the lower job then comes to lie above.
+        for index in (0..candidates.len()).rev() {
+            let candidate = candidates[index];
+            let is_last = index == 0;
+            let Some(bound) = self.try_candidate(candidate, is_last, bound, limit) else {
+                others += 1;
+                continue;
+            };
+            let job = candidate.job;
+            let state = self.take_trial(alloc)?;
+            put(stack, from, Open { depth, job, bound }, state)?;
+        }
+        Ok(others)
+    }
+}

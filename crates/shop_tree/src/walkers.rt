@@ -1,0 +1,240 @@
+// The walk of the nodes of pieces, over states that are kept from one to the next.
+ghost use Rattle.std.specs.Prelude.{◌≡◌, ◌≤◌, ◌<◌, ◌^◌, length, vec_capacity, [], OnOk, IfOk};
+ghost use Rattle.shop_model.specs.Shop.{operation_count};
+ghost use Rattle.shop_nodes.specs.Nodes.{IsNode, AreNodes};
+ghost use Rattle.shop_nodes.specs.Sheets.{IsSheetOf, KeepsTables};
+
+use crate::held::{Held, copy_waiting};
+use crate::progress::Progress;
+use crate::walk_states::WalkStates;
+use shop_model::Instance;
+use shop_nodes::{Halt, Left, Node, Open, Piece, Sheet, Waiting};
+use shop_states::{Candidate, Dispatching};
+use std::alloc::{AllocError, Global};
+use std::sync::ArcSlice;
+
+/// A walk: what it carries, its states, the word that it has come to, the stack of what waits, and room for the
+/// candidates of a word.
+#[derive(Drop)]
+pub(crate) struct Walker<'l, 'a, D: Dispatching<S>, S: Drop> {
+    pub(crate) progress: Progress<'a>,
+    pub(crate) states: WalkStates<'l, D, S>,
+    pub(crate) path: Vec<u16>,
+    pub(crate) stack: Vec<Held<S>>,
+    pub(crate) candidates: Vec<Candidate>,
+    /// what waits below this place of the stack has no state
+    pub(crate) stripped: usize,
+    pub ghost same_shop: { D.shop states.dispatcher.now ≡ progress.instance.now },
+    pub ghost room: { length progress.instance.now.jobs ≤ vec_capacity candidates },
+    pub ghost path_room: { operation_count progress.instance.now ≤ vec_capacity path },
+}
+
+impl<'l, 'a, D: Dispatching<S>, S: Drop> Walker<'l, 'a, D, S> {
+    ghost use Rattle.shop_nodes.specs.declared.halts.Waiting.TheVariants.{Child, Rest};
+    ghost use Rattle.shop_tree.specs.inner.Held.{IsHeldOf};
+    ghost use Rattle.shop_nodes.specs.Halts.{halted_words, AreHalted};
+    ghost use Rattle.shop_nodes.specs.Halts.{stack_words, word_at};
+    ghost use Rattle.shop_tree.specs.inner.StateWalkers.{stage_of, HasStates};
+    ghost use Rattle.shop_tree.specs.inner.Walkers.{on_top, stack_walk, node_walk, IsInOrder};
+    ghost use Rattle.shop_tree.specs.inner.Walkers.{HasWalked, HasWalkedUpTo, IsTurn};
+
+    /// For pieces of this instance, the dispatcher's, with at most so many states for children that wait. Fails with
+    /// `AllocError` if memory runs out.
+    pub(crate) fn new(
+        alloc: Global,
+        instance: &'a Instance,
+        dispatcher: &'l D,
+        most: usize,
+    ) -> Result<Walker<'l, 'a, D, S>, AllocError>
+        requires shop { D.shop dispatcher.now ≡ instance.now }
+        ensures instance { IfOk result (λ w. w.progress.instance.now ≡ instance.now) }
+        ensures states { IfOk result HasStates }
+    {
+        Ok(Walker {
+            progress: Progress::new(instance),
+            states: WalkStates::new(alloc, dispatcher, most)?,
+            path: Vec::with_capacity(alloc, instance.operations())?,
+            stack: Vec::new(alloc),
+            candidates: Vec::with_capacity(alloc, instance.jobs())?,
+            stripped: 0,
+        })
+    }
+
+    /// Walks an open child, which lay on top of the stack, up to its own children: these are put on the stack.
+    fn walk_open(
+        &mut self,
+        alloc: Global,
+        child: Open,
+        state: Option<Box<S>>,
+    ) -> Result<(), AllocError>
+        requires some { 0 < self.old.progress.budget }
+        requires on { IsInOrder (on_top (stage_of self.old) (Child child)) }
+        requires state { IsHeldOf (D.IsStateOf self.old.states.dispatcher.now)
+            (word_at self.old.path.items child) state }
+        requires states { HasStates self.old }
+        ensures turn { OnOk result (IsTurn (stage_of self.old) (Child child) (stage_of self.new)) }
+        ensures states { OnOk result (HasStates self.new) }
+    {
+        self.progress.budget -= 1;
+        if child.bound >= self.progress.best {
+            return self.states.give_back(state);
+        }
+        self.path.truncate(child.depth as usize);
+        self.path.push(child.job).unwrap();
+        self.states.go_on_in(state, self.path.as_slice())?;
+        self.expand(alloc, child.bound)
+    }
+
+    /// Counts closed children, which lay on top of the stack, as far as the budget goes; the others wait on.
+    fn count_closed(&mut self, depth: u32, count: u32) -> Result<(), AllocError>
+        requires some { 0 < self.old.progress.budget }
+        requires on { IsInOrder (on_top (stage_of self.old) (Rest depth count)) }
+        requires states { HasStates self.old }
+        ensures turn { OnOk result
+            (IsTurn (stage_of self.old) (Rest depth count) (stage_of self.new)) }
+        ensures states { OnOk result (HasStates self.new) }
+    {
+        if self.progress.budget >= count as u64 {
+            self.progress.budget -= count as u64;
+            return Ok(());
+        }
+        let count = count - self.progress.budget as u32;
+        self.progress.budget = 0;
+        self.stack.push(Held {
+            waiting: Waiting::Rest { depth, count },
+            state: None,
+        })?;
+        Ok(())
+    }
+
+    /// Walks what waits on the stack from its top on, depth first, as far as the budget goes.
+    fn walk_stack(&mut self, alloc: Global) -> Result<(), AllocError>
+        requires in_order { IsInOrder (stage_of self.old) }
+        requires states { HasStates self.old }
+        ensures walked { OnOk result
+            (HasWalked (stage_of self.old) (stage_of self.new) (stack_walk (stage_of self.old))) }
+        ensures states { OnOk result (HasStates self.new) }
+    {
+        while self.progress.budget > 0 {
+            let Some(held) = self.stack.pop() else {
+                return Ok(());
+            };
+            match held.waiting {
+                Waiting::Child(child) => self.walk_open(alloc, child, held.state)?,
+                Waiting::Rest { depth, count } => self.count_closed(depth, count)?,
+            }
+        }
+        Ok(())
+    }
+
+    /// Takes a node, and walks on from it as far as the budget goes.
+    fn walk_node(&mut self, alloc: Global, node: &Node) -> Result<(), AllocError>
+        requires some { 0 < self.old.progress.budget }
+        requires node { IsNode self.old.progress.instance.now node.now }
+        requires empty { self.old.stack.items ≡ [] }
+        requires states { HasStates self.old }
+        ensures walked { OnOk result (HasWalked (stage_of self.old) (stage_of self.new)
+            (node_walk (stage_of self.old) node.now)) }
+        ensures states { OnOk result (HasStates self.new) }
+    {
+        self.progress.budget -= 1;
+        if node.bound >= self.progress.best {
+            return Ok(());
+        }
+        self.progress.instance.keeps_limits();
+        node.word.write_to(&mut self.path)?;
+        self.states.fill(self.path.as_slice());
+        self.expand(alloc, node.bound)?;
+        self.walk_stack(alloc)
+    }
+
+    /// Walks nodes in order, each depth first, as far as the budget goes, and tells how many were taken.
+    fn walk_nodes(&mut self, alloc: Global, nodes: &[Node]) -> Result<usize, AllocError>
+        requires nodes { AreNodes self.old.progress.instance.now nodes.now }
+        requires empty { self.old.stack.items ≡ [] }
+        requires states { HasStates self.old }
+        ensures walked { IfOk result
+            (λ k. HasWalkedUpTo (stage_of self.old) (stage_of self.new) nodes.now k) }
+        ensures ended { IfOk result (λ k. 0 < self.new.progress.budget → length nodes.now ≤ k) }
+        ensures states { OnOk result (HasStates self.new) }
+    {
+        let mut taken = 0;
+        while taken < nodes.len() && self.progress.budget > 0 {
+            self.walk_node(alloc, &nodes[taken])?;
+            taken += 1;
+        }
+        Ok(taken)
+    }
+
+    /// Takes all that waits off the stack, and keeps its states for later.
+    fn clear(&mut self) -> Result<(), AllocError>
+        requires states { HasStates self.old }
+        ensures empty { OnOk result (self.new.stack.items ≡ []) }
+        ensures instance { OnOk result
+            (self.new.progress.instance.now ≡ self.old.progress.instance.now) }
+        ensures states { OnOk result (HasStates self.new) }
+    {
+        while let Some(held) = self.stack.pop() {
+            self.states.give_back(held.state)?;
+        }
+        Ok(())
+    }
+
+    /// Where the walk halted, if anything waits.
+    fn halt(&self, alloc: Global) -> Result<Option<Halt>, AllocError>
+        requires in_order { IsInOrder (stage_of self.now) }
+        ensures words { IfOk result (λ h. halted_words self.now.progress.instance.now h
+            ≡ stack_words self.now.progress.instance.now self.now.path.items
+            (stage_of self.now).stack) }
+        ensures halt { IfOk result
+            (λ h. AreHalted self.now.progress.instance.now self.now.progress.best h) }
+    {
+        if self.stack.is_empty() {
+            return Ok(None);
+        }
+        let path = ArcSlice::from_slice(alloc, self.path.as_slice())?;
+        let waiting = copy_waiting(alloc, self.stack.as_slice())?;
+        Ok(Some(Halt { path, waiting }))
+    }
+
+    /// The search of a piece: its nodes in order.
+    pub(crate) fn search(
+        &mut self,
+        alloc: Global,
+        piece: &'a Piece,
+        best: u64,
+        budget: u64,
+    ) -> Result<Sheet<'a>, AllocError>
+        requires nodes { AreNodes self.old.progress.instance.now piece.now.nodes.items }
+        requires small { budget < 2 ^ 50 }
+        requires states { HasStates self.old }
+        ensures of { IfOk result
+            (λ s. IsSheetOf s self.old.progress.instance.now piece.now best budget) }
+        ensures keeps { IfOk result
+            (λ s. KeepsTables self.old.progress.instance.now piece.now best s) }
+        ensures instance { OnOk result
+            (self.new.progress.instance.now ≡ self.old.progress.instance.now) }
+        ensures states { OnOk result (HasStates self.new) }
+    {
+        self.clear()?;
+        self.progress.begin(best, budget);
+        let nodes = piece.nodes.as_slice();
+        let index = self.walk_nodes(alloc, nodes)?;
+        let halt = self.halt(alloc)?;
+        let instance = self.progress.instance;
+        let makespan = self.progress.best;
+        let taken = budget - self.progress.budget;
+        let found = self.progress.take_found();
+        Ok(Sheet {
+            number: piece.number,
+            found,
+            makespan,
+            left: Left::new(instance, makespan, halt, &nodes[index..]),
+            taken,
+            instance,
+            piece,
+            best,
+            budget,
+        })
+    }
+}

@@ -1,4 +1,0 @@
-pub mod Devices
-pub mod Asking
-pub mod Listing
-pub mod Checking

@@ -1,0 +1,66 @@
+-- Worked moments of a board of three pieces, of which the first ends at the opening bound.
+use Rattle.std.proofs.Common.{◌≡◌, ℕ, zero, suc, inl, inr, List, [], ◌∷◌, Bool, true, false, true≢false, refl, sym}
+use Rattle.std.proofs.Common.{subst, arith, lit<}
+use mathlib.Core.Option.{some-ne-none, some-injective}
+use Rattle.shop_workers.specs.declared.views.View.{View}
+use Rattle.shop_workers.specs.Views.{has}
+use Rattle.shop_workers.specs.Moments.{IsLive, IsLawful}
+use Rattle.shop_workers.specs.Moves.{newcomer, with_mine, with_done}
+use Rattle.shop_workers.proofs.ClaimSteps.{claim_won}
+use Rattle.shop_workers.proofs.HitSteps.{mark_step}
+use Rattle.shop_workers.proofs.LawfulSteps.{Moment, stepped_lawful}
+use Rattle.shop_workers.proofs.SeatCounts.{begins}
+
+abbrev hits : List Bool
+hits = true ∷ false ∷ false ∷ []
+
+abbrev moment : List ℕ → List View → Moment
+moment words views = record { words = words; homes = []; views = views }
+
+-- opened: no flag is set, the hit word is the number of pieces
+abbrev nobody : View
+nobody = newcomer hits
+
+pub opened : IsLawful hits (moment (0 ∷ 0 ∷ 0 ∷ 3 ∷ []) (nobody ∷ []))
+opened = begins hits 3 refl
+
+-- the seat claims piece 0
+abbrev winner : View
+winner = with_mine nobody 0
+
+pub claimed : IsLawful hits (moment (1 ∷ 0 ∷ 0 ∷ 3 ∷ []) (winner ∷ []))
+claimed =
+    stepped_lawful hits (moment (0 ∷ 0 ∷ 0 ∷ 3 ∷ []) (nobody ∷ [])) 0 nobody winner (1 ∷ 0 ∷ 0 ∷ 3 ∷ []) opened
+    (refl, refl)
+    (claim_won hits (moment (0 ∷ 0 ∷ 0 ∷ 3 ∷ []) (nobody ∷ [])) 0 nobody 0 opened (refl, refl) (lit< tt) refl)
+
+-- and marks it
+abbrev marker : View
+marker = with_done winner 0 0
+
+pub marked : IsLawful hits (moment (1 ∷ 0 ∷ 0 ∷ 0 ∷ []) (marker ∷ []))
+marked =
+    stepped_lawful hits (moment (1 ∷ 0 ∷ 0 ∷ 3 ∷ []) (winner ∷ [])) 0 winner marker (1 ∷ 0 ∷ 0 ∷ 0 ∷ []) claimed
+    (refl, refl)
+    (mark_step hits (moment (1 ∷ 0 ∷ 0 ∷ 3 ∷ []) (winner ∷ [])) 0 winner 0 claimed (refl, refl) refl refl)
+
+-- No moment has a hit word that is no piece which ends at the opening bound,
+pub no_such_hit : IsLawful hits (moment (0 ∷ 1 ∷ 0 ∷ 1 ∷ []) (with_mine nobody 1 ∷ [])) → ⊥
+no_such_hit law = elim law.hit [
+  | inl e ↦ absurd (let f : 1 ≡ 3 = e in omega arith)
+  | inr e ↦ absurd (true≢false (sym e))
+]
+
+-- or two seats that have won one piece,
+pub not_won_twice : IsLawful hits (moment (1 ∷ 0 ∷ 0 ∷ 3 ∷ []) (winner ∷ winner ∷ [])) → ⊥
+not_won_twice law =
+    absurd (let f : 0 ≡ 1 = law.apart 0 1 winner winner 0 (refl, refl) (refl, refl) refl refl in omega arith)
+
+-- or a flag that is set of a piece that nobody has won.
+only_nobody : (id : ℕ) (v : View) → IsLive (nobody ∷ []) id v → has v.mine 0 ≡ true → ⊥
+only_nobody zero v at m =
+    true≢false (sym (subst (λ (u : View). has u.mine 0 ≡ true) (sym (some-injective nobody v at.0)) m))
+only_nobody (suc id) v at m = some-ne-none v (sym at.0)
+
+pub not_won_by_nobody : IsLawful hits (moment (1 ∷ 0 ∷ 0 ∷ 3 ∷ []) (nobody ∷ [])) → ⊥
+not_won_by_nobody law = let w = law.won 0 (lit< tt, refl) in only_nobody w.0 w.1 w.2 w.3

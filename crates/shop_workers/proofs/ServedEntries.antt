@@ -1,0 +1,76 @@
+-- A seat that served what it had won has served all, where each entry of what it won since is served.
+use Rattle.std.proofs.Common.{◌≡◌, ◌⊎◌, ℕ, ◌<◌, List, [], ◌∷◌, ◌++◌, reverse, Bool, true}
+use Rattle.std.proofs.Common.{sym, ◌∙◌, subst, inl, inr, ⊎_elim, arith, true≢false}
+use Rattle.std.proofs.lemmas.List.{reverse-append}
+use Rattle.std.proofs.lemmas.List.Elements.{All-head, All-tail}
+use Rattle.std.specs.Prelude.{All, Ok, Err, IfOk, OnOk}
+use Rattle.shop_runs.specs.Round.{Told}
+use Rattle.shop_runs.specs.Entries as entries
+use Rattle.shop_runs.specs.Entries.{told, number_of, Fits}
+use Rattle.shop_runs.specs.declared.entries.Entry.{Entry}
+use Rattle.shop_runs.specs.declared.rounds.Round.{Round}
+use Rattle.shop_runs.specs.declared.entries.Kind.{Kind}
+use Rattle.shop_runs.specs.declared.entries.Kind.TheVariants.{Done, Passed}
+use Rattle.shop_workers.specs.declared.views.View.{View}
+use Rattle.shop_runs.specs.Hits.{hits_of_round}
+use Rattle.shop_workers.specs.Views.{has, HasServed}
+use Rattle.shop_runs.specs.Hits.{is_hit_in}
+use Rattle.shop_workers.specs.Entries.{OfRound, Brought}
+use Rattle.shop_workers.specs.Works.{Grows, numbers_of, IsServed, AreWon}
+use Rattle.shop_workers.proofs.Numbers.{has_append, has_cons, has_same, has_tail}
+use Rattle.shop_runs.proofs.RoundPieces.{same_hit, is_piece}
+
+has_reverse : (xs : List ℕ) (n : ℕ) → has (reverse xs) n ≡ true → has xs n ≡ true
+has_reverse [] n h = h
+has_reverse (x ∷ xs) n h =
+    let there : has (reverse xs ++ x ∷ []) n ≡ true = subst (λ l. has l n ≡ true) (reverse-append (x ∷ []) xs) h in
+    ⊎_elim
+    (λ a. has_tail x n xs (has_reverse xs n a))
+    (λ b. ⊎_elim (λ (e : x ≡ n). has_same x n xs e) (λ none. absurd (true≢false (sym none))) (has_cons x n [] b))
+    (has_append (reverse xs) (x ∷ []) n there)
+
+abbrev pub Served : View → ℕ → Type 0
+Served w n = (has w.done n ≡ true) ⊎ (w.low < n)
+
+pub by_kind : (r : Told) (w : View) (n : ℕ) (k : Kind) → Fits r k → IsServed r w k → number_of k ≡ n
+    → entries.is_hit r n ≡ true → Served w n
+by_kind r w n (Done s) fits served e hit =
+    inl (subst (λ m. has w.done m ≡ true) e (served (subst (λ m. entries.is_hit r m ≡ true) (sym e) hit)))
+by_kind r w n (Passed m by') fits served e hit = let l = fits.0 in inr (omega arith)
+
+-- the entry of a piece that the seat won
+by_entry : (r : Told) (w : View) (n : ℕ) (es : List Entry) → OfRound r es → All (λ (e : Entry). IsServed r w e.kind) es
+    → has (numbers_of es) n ≡ true → entries.is_hit r n ≡ true → Served w n
+by_entry r w n [] of served h hit = absurd (true≢false (sym h))
+by_entry r w n (e ∷ es) of served h hit = ⊎_elim
+    (λ (is : number_of e.kind ≡ n).
+    by_kind r w n e.kind (subst (λ t. Fits t e.kind) (All-head (λ (x : Entry). told x.round.now ≡ r) e es of) e.fits)
+    (All-head (λ (x : Entry). IsServed r w x.kind) e es served) is hit)
+    (λ (later : has (numbers_of es) n ≡ true).
+    by_entry r w n es (All-tail (λ (x : Entry). told x.round.now ≡ r) e es of)
+    (All-tail (λ (x : Entry). IsServed r w x.kind) e es served) later hit)
+    (has_cons (number_of e.kind) n (numbers_of es) h)
+
+pub all_served : (r : Round) (hits : List Bool) (v w : View) (es : List Entry) → hits ≡ hits_of_round r → w.hits ≡ hits
+    → Grows v w → AreWon (told r) v w es → HasServed v → HasServed w
+all_served r hits v w es e same g won served n mine hit = ⊎_elim new old split where
+  split : (has (reverse (numbers_of es)) n ≡ true) ⊎ (has v.mine n ≡ true)
+  split = has_append (reverse (numbers_of es)) v.mine n (subst (λ l. has l n ≡ true) won.mine mine)
+
+  new : has (reverse (numbers_of es)) n ≡ true → Served w n
+  new h =
+      let at_hits : w.hits ≡ hits_of_round r = same ∙ e in
+      let round_hit = sym (same_hit r w.hits n at_hits (is_piece r w.hits n at_hits hit)) ∙ hit in
+      by_entry (told r) w n es won.of_round won.served (has_reverse (numbers_of es) n h) round_hit
+
+  old : has v.mine n ≡ true → Served w n
+  old h = ⊎_elim
+      (λ d. inl (g.done n d))
+      (λ (l : v.low < n). let lower = g.low in inr (omega arith))
+      (served n h (subst (λ k. is_hit_in k n ≡ true) g.hits hit))
+
+-- a fact of the entries that were brought, if any were
+pub on_brought : (P : List Entry → Type 0) (Q : Type 0) (b : Brought) → ((es : List Entry) → P es → Q)
+    → IfOk b (λ v. P v.items) → OnOk b Q
+on_brought P Q (Ok v) follows h = follows v.items h
+on_brought P Q (Err e) follows h = tt

@@ -1,0 +1,6 @@
+use Rattle.shop_workers.specs.Seats.{knows, IsSeatOf}
+use Rattle.shop_workers.specs.inner.Turns.{IsRestKnown}
+use Rattle.shop_workers.proofs.seat_lending.claim_rest.Given as goal
+
+abbrev pub invariant-loop-number : goal.invariant-loop-number
+invariant-loop-number l = IsSeatOf l.board l.seat × IsRestKnown l.number (knows l.seat) l.places

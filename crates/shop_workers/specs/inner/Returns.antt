@@ -1,0 +1,17 @@
+-- What the workers of a board bring back.
+--     IsReturned b r s es    what a worker brings back: its seat of this board, and entries of this
+--                            round unless it was refused memory
+--     AreReturned b r all    each worker brings back such
+use Rattle.std.specs.Prelude.{List, All, IfOk}
+use Rattle.shop_runs.specs.Round.{Told}
+use Rattle.shop_workers.specs.Entries.{OfRound, Brought}
+use Rattle.shop_workers.specs.Seats.{IsSeatOf}
+use Rattle.shop_workers.specs.declared.boards.Board.{Board}
+use Rattle.shop_workers.specs.declared.boards.Seat.{Seat}
+use Rattle.shop_workers.specs.declared.seat_lending.Returned.{Returned}
+
+abbrev pub IsReturned : Board → Told → Seat → Brought → Type 0
+IsReturned b r s entries = IsSeatOf b s × IfOk entries (λ v. OfRound r v.items)
+
+abbrev pub AreReturned : Board → Told → List Returned → Type 0
+AreReturned b r all = All (λ (x : Returned). IsReturned b r x.seat x.entries) all

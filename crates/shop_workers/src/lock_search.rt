@@ -1,0 +1,97 @@
+// What a worker does that takes numbers of pieces from a locked pool, whoever searches them.
+ghost use Rattle.std.specs.Prelude.{◌≡◌, ◌<◌, ◌≤◌, length, true, IfSome, IfOk, OnOk};
+ghost use Rattle.std.specs.List.{AllPairs};
+ghost use Rattle.shop_runs.specs.Entries.{told, is_hit};
+ghost use Rattle.shop_runs.specs.Crews.{IsEntryOf};
+ghost use Rattle.shop_runs.specs.Hits.{hits_of_round, IsHitOrEnd};
+ghost use Rattle.shop_workers.specs.Entries.{OfRound, IsPassed, LetsPass};
+
+use crate::piece_search::PieceSearch;
+use crate::pool_gates::Gate;
+use crate::pools::Pool;
+use shop_runs::{Entry, Round};
+use std::alloc::{AllocError, Global};
+use std::sync::{Mutex, Wait};
+
+// Searches a piece, or passes it where `low` is lower: the least number among the worker's own pieces that end at the
+// opening bound, and the number of pieces while there is none.
+fn search_or_pass<'r, P: PieceSearch<'r>, G: Gate>(
+    alloc: Global,
+    searcher: &mut P,
+    low: &mut usize,
+    number: usize,
+    worker: usize,
+    gate: &G,
+) -> Result<Entry<'r>, AllocError>
+    requires piece { number < length (P.searched searcher.old).pieces.items }
+    requires low { IsHitOrEnd (hits_of_round (P.searched searcher.old)) low.old }
+    ensures round { P.searched searcher.new ≡ P.searched searcher.old }
+    ensures low { IsHitOrEnd (hits_of_round (P.searched searcher.old)) low.new }
+    ensures lower { low.new ≤ low.old }
+    ensures entry { IfOk result (λ e. IsEntryOf (told (P.searched searcher.old)) number e) }
+    ensures passed { IfOk result (λ e. low.old < number → IsPassed e.kind) }
+    ensures hit { OnOk result
+        (is_hit (told (P.searched searcher.old)) number ≡ true → low.new ≤ number) }
+{
+    if *low < number {
+        return Ok(Entry::passed(searcher.round(), number, *low));
+    }
+    gate.before(worker, number);
+    let sheet = searcher.search(alloc, number)?;
+    let round = searcher.round();
+    if sheet.makespan == round.bound {
+        *low = number;
+    }
+    Ok(Entry::done(round, sheet))
+}
+
+// The next number of the pool, if it is that of a piece.
+fn next_piece<R: Wait>(rt: &R, pool: &Mutex<Pool>, pieces: usize) -> Option<usize>
+    ensures { IfSome result (λ n. n < pieces) }
+{
+    let number = pool.lock(rt).take()?;
+    if number < pieces { Some(number) } else { None }
+}
+
+// The entries of the pieces that a worker takes.
+fn serve_with<'r, P: PieceSearch<'r>, R: Wait, G: Gate>(
+    rt: &R,
+    alloc: Global,
+    searcher: &mut P,
+    pool: &Mutex<Pool>,
+    gate: &G,
+    worker: usize,
+) -> Result<Vec<Entry<'r>>, AllocError>
+    ensures of { IfOk result (λ v. OfRound (told (P.searched searcher.old)) v.items) }
+    ensures passes { IfOk result
+        (λ v. AllPairs (LetsPass (told (P.searched searcher.old))) v.items) }
+{
+    let mut entries = Vec::new(alloc);
+    let pieces = searcher.round().pieces.len();
+    let mut low = pieces;
+    for _ in rt.forever() {
+        let Some(number) = next_piece(rt, pool, pieces) else {
+            break;
+        };
+        let entry = search_or_pass(alloc, searcher, &mut low, number, worker, gate)?;
+        entries.push(entry)?;
+    }
+    Ok(entries)
+}
+
+/// The entries of the pieces that a worker takes from a pool. Once one of its own ends at the opening bound, those of a
+/// higher number are passed. Fails with `AllocError` if memory runs out.
+pub fn serve<'r, P: PieceSearch<'r>, R: Wait, G: Gate>(
+    rt: &R,
+    alloc: Global,
+    round: &'r Round<'r>,
+    pool: &Mutex<Pool>,
+    gate: &G,
+    worker: usize,
+) -> Result<Vec<Entry<'r>>, AllocError>
+    ensures of { IfOk result (λ v. OfRound (told round.now) v.items) }
+    ensures passes { IfOk result (λ v. AllPairs (LetsPass (told round.now)) v.items) }
+{
+    let mut searcher = P::over(round);
+    serve_with(rt, alloc, &mut searcher, pool, gate, worker)
+}

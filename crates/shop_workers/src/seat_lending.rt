@@ -1,0 +1,122 @@
+// Seats of a board are lent to workers, and what these bring back is completed.
+ghost use Rattle.std.specs.Prelude.{◌≡◌, ◌<◌, length, All, IfOk, IfSome, IfNone};
+ghost use Rattle.shop_runs.specs.Entries.{told};
+ghost use Rattle.shop_runs.specs.Crews.{OneForEach};
+ghost use Rattle.shop_workers.specs.inner.Gathered.{AllOfRound};
+ghost use Rattle.shop_workers.specs.inner.Returns.{AreReturned};
+ghost use Rattle.shop_runs.specs.Hits.{hits_of_round};
+ghost use Rattle.shop_workers.specs.Seats.{knows, hits_of, IsSeatOf};
+ghost use Rattle.shop_workers.specs.Works.{Grows, IsKnown};
+ghost use Rattle.shop_workers.specs.inner.Turns.{IsRestKnown};
+
+use crate::boards::{Board, Seat};
+use crate::ordering::{complete, in_places};
+use crate::piece_search::PieceSearch;
+use shop_runs::{Entry, Round};
+use std::alloc::{AllocError, Global};
+
+/// A worker's number, with the seat that it is lent.
+#[derive(Drop)]
+pub struct Lent {
+    pub worker: usize,
+    pub seat: Seat,
+}
+
+/// What a worker brings back.
+#[derive(Drop)]
+pub struct Returned<'r> {
+    pub seat: Seat,
+    pub entries: Result<Vec<Entry<'r>>, AllocError>,
+}
+
+/// A seat for each worker, that of the calling thread last. Fails with `AllocError` if memory runs out.
+pub fn lend(
+    alloc: Global,
+    board: &Board,
+    seat: Seat,
+    workers: usize,
+) -> Result<Vec<Lent>, AllocError>
+    requires { IsSeatOf board.now seat }
+    ensures { IfOk result (λ v. All (λ l. IsSeatOf board.now l.seat) v.items) }
+{
+    let mut lent = Vec::with_capacity(alloc, workers)?;
+    let mut mine = seat;
+    for worker in 1..workers {
+        let (kept, seat) = board.split(mine);
+        mine = kept;
+        lent.push(Lent { worker, seat })?;
+    }
+    lent.push(Lent {
+        worker: 0,
+        seat: mine,
+    })?;
+    Ok(lent)
+}
+
+// Joins the workers' seats, and gathers what they brought.
+fn join_all<'r>(
+    alloc: Global,
+    board: &Board,
+    round: &'r Round<'r>,
+    mut returned: Vec<Returned<'r>>,
+) -> Result<(Option<Seat>, Vec<Result<Vec<Entry<'r>>, AllocError>>), AllocError>
+    requires { AreReturned board.now (told round.now) returned.items }
+    ensures seat { IfOk result (λ p. IfSome p.0 (IsSeatOf board.now)) }
+    ensures entries { IfOk result (λ p. AllOfRound (told round.now) p.1.items) }
+{
+    let mut lists = Vec::with_capacity(alloc, returned.len())?;
+    let mut joined = None;
+    while let Some(Returned { seat, entries }) = returned.pop() {
+        joined = match joined {
+            Some(mine) => Some(board.join(mine, seat)),
+            None => Some(seat),
+        };
+        lists.push(entries)?;
+    }
+    Ok((joined, lists))
+}
+
+// Claims the piece of this number where its place is empty.
+fn claim_missing(board: &Board, seat: &mut Seat, number: usize, place: &Option<Entry>)
+    requires seat { IsSeatOf board.now seat.old }
+    requires piece { number < length (hits_of board.now) }
+    ensures seat { IsSeatOf board.now seat.new }
+    ensures grows { Grows (knows seat.old) (knows seat.new) }
+    ensures claimed { IfNone place.now (IsKnown (knows seat.new) number) }
+{
+    if place.is_none() {
+        board.claim(seat, number);
+    }
+}
+
+// Claims the pieces that nobody brought.
+fn claim_rest(board: &Board, seat: &mut Seat, places: &[Option<Entry>])
+    requires seat { IsSeatOf board.now seat.old }
+    requires places { length places.now ≡ length (hits_of board.now) }
+    ensures seat { IsSeatOf board.now seat.new }
+    ensures claimed { IsRestKnown (length places.now) (knows seat.new) places.now }
+{
+    for number in 0..places.len() {
+        claim_missing(board, seat, number, &places[number]);
+    }
+}
+
+/// Gives one entry for each piece of a round, from what its workers brought back. A piece for which none brought one is
+/// claimed and searched by the calling thread. Fails with `AllocError` if memory runs out.
+pub fn complete_returned<'r, P: PieceSearch<'r>>(
+    alloc: Global,
+    board: &Board,
+    round: &'r Round<'r>,
+    returned: Vec<Returned<'r>>,
+) -> Result<Vec<Entry<'r>>, AllocError>
+    requires round { hits_of board.now ≡ hits_of_round round.now }
+    requires returned { AreReturned board.now (told round.now) returned.items }
+    ensures { IfOk result (λ v. OneForEach (told round.now) v.items) }
+{
+    let (joined, lists) = join_all(alloc, board, round, returned)?;
+    let places = in_places(alloc, round, lists)?;
+    if let Some(mut seat) = joined {
+        claim_rest(board, &mut seat, &places);
+    }
+    complete::<P>(alloc, round, places)
+}

@@ -1,0 +1,129 @@
+// What a worker does with its seat.
+ghost use Rattle.std.specs.Prelude.{◌≡◌, ◌<◌, length, true, IfOk, OnOk};
+ghost use Rattle.shop_runs.specs.Entries.{told};
+ghost use Rattle.shop_runs.specs.Hits.{hits_of_round};
+ghost use Rattle.shop_workers.specs.Views.{has, HasServed};
+ghost use Rattle.shop_workers.specs.Seats.{knows, hits_of, IsSeatOf};
+ghost use Rattle.shop_workers.specs.Works.{Grows, IsKnown, IsAllKnown, BringsWon};
+ghost use Rattle.shop_workers.specs.inner.Turns.{IsServedEntry, BringsTurn};
+
+use crate::boards::{Board, Seat};
+use crate::piece_search::PieceSearch;
+use crate::seat_gates::SeatGate;
+use shop_runs::{Entry, Round};
+use std::alloc::{AllocError, Global};
+
+// Searches a piece that the seat won, and marks it where it ends at the opening bound.
+fn search_won<'r, P: PieceSearch<'r>, G: SeatGate>(
+    alloc: Global,
+    board: &Board,
+    seat: &mut Seat,
+    searcher: &mut P,
+    number: usize,
+    worker: usize,
+    gate: &G,
+) -> Result<Entry<'r>, AllocError>
+    requires seat { IsSeatOf board.now seat.old }
+    requires round { hits_of board.now ≡ hits_of_round (P.searched searcher.old) }
+    requires piece { number < length (P.searched searcher.old).pieces.items }
+    requires won { has (knows seat.old).mine number ≡ true }
+    ensures seat { IsSeatOf board.now seat.new }
+    ensures grows { Grows (knows seat.old) (knows seat.new) }
+    ensures round { P.searched searcher.new ≡ P.searched searcher.old }
+    ensures mine { (knows seat.new).mine ≡ (knows seat.old).mine }
+    ensures entry { IfOk result
+        (IsServedEntry (told (P.searched searcher.old)) number (knows seat.new)) }
+{
+    gate.won(worker, seat, number);
+    let sheet = searcher.search(alloc, number)?;
+    let round = searcher.round();
+    if sheet.makespan == round.bound {
+        board.mark(seat, number);
+    }
+    Ok(Entry::done(round, sheet))
+}
+
+// Looks, claims a piece, and where the seat wins it searches it or passes it.
+fn claim_and_search<'r, P: PieceSearch<'r>, G: SeatGate>(
+    alloc: Global,
+    board: &Board,
+    seat: &mut Seat,
+    searcher: &mut P,
+    number: usize,
+    worker: usize,
+    gate: &G,
+) -> Result<Option<Entry<'r>>, AllocError>
+    requires seat { IsSeatOf board.now seat.old }
+    requires round { hits_of board.now ≡ hits_of_round (P.searched searcher.old) }
+    requires piece { number < length (P.searched searcher.old).pieces.items }
+    ensures seat { IsSeatOf board.now seat.new }
+    ensures grows { Grows (knows seat.old) (knows seat.new) }
+    ensures round { P.searched searcher.new ≡ P.searched searcher.old }
+    ensures claimed { IsKnown (knows seat.new) number }
+    ensures entry { BringsTurn (told (P.searched searcher.old)) number (knows seat.old)
+        (knows seat.new) result }
+{
+    let low = board.look(seat);
+    if !board.claim(seat, number) {
+        return Ok(None);
+    }
+    if low < number {
+        return Ok(Some(Entry::passed(searcher.round(), number, low)));
+    }
+    let entry = search_won(alloc, board, seat, searcher, number, worker, gate)?;
+    Ok(Some(entry))
+}
+
+// Takes a turn at each piece, in order.
+fn work_through<'r, P: PieceSearch<'r>, G: SeatGate>(
+    alloc: Global,
+    board: &Board,
+    seat: &mut Seat,
+    searcher: &mut P,
+    worker: usize,
+    gate: &G,
+) -> Result<Vec<Entry<'r>>, AllocError>
+    requires seat { IsSeatOf board.now seat.old }
+    requires round { hits_of board.now ≡ hits_of_round (P.searched searcher.old) }
+    ensures seat { IsSeatOf board.now seat.new }
+    ensures grows { Grows (knows seat.old) (knows seat.new) }
+    ensures round { P.searched searcher.new ≡ P.searched searcher.old }
+    ensures claimed { OnOk result
+        (IsAllKnown (length (P.searched searcher.old).pieces.items) (knows seat.new)) }
+    ensures entries { BringsWon (told (P.searched searcher.old)) (knows seat.old) (knows seat.new)
+        result }
+{
+    let mut entries = Vec::new(alloc);
+    for number in 0..searcher.round().pieces.len() {
+        if let Some(entry) = claim_and_search(alloc, board, seat, searcher, number, worker, gate)? {
+            entries.push(entry)?;
+        }
+    }
+    Ok(entries)
+}
+
+/// Claims each piece of the board in order, and searches or passes those that the seat wins. A piece is passed where
+/// the seat has read a lower number that was marked; one that was searched and ends at the opening bound is marked.
+/// The seat comes back with all that it knew and had won before, and with the entries of the pieces that it won in this
+/// call, in number order; or with `AllocError` if memory runs out. It waits for nobody but the gate.
+pub fn work_by<'r, P: PieceSearch<'r>, G: SeatGate>(
+    alloc: Global,
+    board: &Board,
+    seat: Seat,
+    round: &'r Round<'r>,
+    worker: usize,
+    gate: &G,
+) -> (Seat, Result<Vec<Entry<'r>>, AllocError>)
+    requires seat { IsSeatOf board.now seat }
+    requires round { hits_of board.now ≡ hits_of_round round.now }
+    ensures seat { IsSeatOf board.now result.0 }
+    ensures grows { Grows (knows seat) (knows result.0) }
+    ensures claimed { OnOk result.1 (IsAllKnown (length round.now.pieces.items) (knows result.0)) }
+    ensures entries { BringsWon (told round.now) (knows seat) (knows result.0) result.1 }
+    ensures served { OnOk result.1 (HasServed (knows seat) → HasServed (knows result.0)) }
+{
+    let mut seat = seat;
+    let mut searcher = P::over(round);
+    let entries = work_through(alloc, board, &mut seat, &mut searcher, worker, gate);
+    (seat, entries)
+}
