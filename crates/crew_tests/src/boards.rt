@@ -8,9 +8,9 @@ ghost use Rattle.crew_tests.specs.inner.Served.{HasServedOf};
 use crate::rounds::{RoundTest, in_third_round};
 use crate::telling::{assert_entries, assert_number};
 use shop_board::work;
-use shop_round::search_piece;
+use shop_round::PieceSearcher;
 use shop_runs::Round;
-use shop_workers::{Board, OpenGate, Seat, has_all};
+use shop_workers::{Board, OpenGate, PieceSearch, Seat, has_all};
 use std::alloc::{AllocError, Global};
 use std::process::Abort;
 use std::thread;
@@ -23,7 +23,8 @@ fn assert_first_hits<'r>(rt: &impl Abort, alloc: Global, round: &'r Round<'r>)
 {
     assert_number(rt, round.pieces.len(), 3);
     assert!(rt; round.bound == 10);
-    let sheet = search_piece(alloc, round, 0).expect(rt, "memory");
+    let mut searcher = PieceSearcher::over(round);
+    let sheet = searcher.search(alloc, 0).expect(rt, "memory");
     assert!(rt; sheet.makespan == 10);
 }
 

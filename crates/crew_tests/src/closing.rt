@@ -4,8 +4,9 @@ ghost use Rattle.shop_runs.specs.Crews.{OneForEach};
 
 use crate::rounds::{RoundTest, in_third_round};
 use crate::telling::assert_entries;
-use shop_round::{Alone, search_piece};
+use shop_round::{Alone, PieceSearcher};
 use shop_runs::{Crew, Entry, Round, gather};
+use shop_workers::PieceSearch;
 use std::alloc::Global;
 use std::process::Abort;
 
@@ -29,7 +30,8 @@ fn all_searched<'r>(rt: &impl Abort, alloc: Global, round: &'r Round<'r>) -> Vec
 {
     let mut entries = Vec::new(alloc);
     for number in 0..round.pieces.len() {
-        let sheet = search_piece(alloc, round, number).expect(rt, "memory");
+        let mut searcher = PieceSearcher::over(round);
+        let sheet = searcher.search(alloc, number).expect(rt, "memory");
         entries.push(Entry::done(round, sheet)).expect(rt, "memory");
     }
     entries

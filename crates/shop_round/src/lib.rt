@@ -6,6 +6,6 @@ mod piece_searchers;
 mod runs;
 
 pub use alone::Alone;
-pub use piece_searchers::{PieceSearcher, search_piece, search_piece_with};
+pub use piece_searchers::PieceSearcher;
 pub use runs::run_alone;
 pub use shop_runs::{Answer, Crew, Entry, Kind, Order, Plan, Round, Standing, gather, run};

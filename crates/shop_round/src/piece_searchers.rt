@@ -4,13 +4,13 @@ ghost use Rattle.shop_runs.specs.Entries.{told, IsOf, TellsHit};
 
 use shop_nodes::Sheet;
 use shop_runs::Round;
-use shop_tree::{Searcher, search};
+use shop_tree::Searcher;
 use shop_workers::PieceSearch;
 use std::alloc::{AllocError, Global};
 use std::marker::Model;
 
-/// The sheet of a piece of the round, by a searcher for its instance. Fails with `AllocError` if memory runs out.
-pub fn search_piece_with<'r>(
+// The sheet of a piece of the round, by a searcher for its instance.
+fn search_piece<'r>(
     alloc: Global,
     searcher: &mut Searcher<'_, 'r>,
     round: &'r Round<'r>,
@@ -25,22 +25,7 @@ pub fn search_piece_with<'r>(
     searcher.search(alloc, &round.pieces[number], round.best, round.budget)
 }
 
-/// The sheet of a piece of the round, by a search and a layout of its own. Who searches several pieces keeps a searcher
-/// over the round's layout (`PieceSearcher`). Fails with `AllocError` if memory runs out.
-pub fn search_piece<'r>(
-    alloc: Global,
-    round: &'r Round<'r>,
-    number: usize,
-) -> Result<Sheet<'r>, AllocError>
-    requires { number < length round.now.pieces.items }
-    ensures of { IfOk result (λ s. IsOf (told round.now) s × (s.number ≡ number)) }
-    ensures hit { IfOk result (λ s. TellsHit (told round.now) number s) }
-{
-    let piece = &round.pieces[number];
-    search(alloc, round.instance, piece, round.best, round.budget)
-}
-
-// The same by the searcher that is kept. Where there is none, a new one over the round's layout is made and kept.
+// The sheet of a piece of the round by the searcher that is kept. Where none is, one over the round's layout is made.
 fn search_kept<'r>(
     alloc: Global,
     kept: &mut Option<Searcher<'r, 'r>>,
@@ -54,10 +39,10 @@ fn search_kept<'r>(
     ensures kept { OnOk result (IfSome kept.new (λ shop. shop ≡ round.now.instance.now)) }
 {
     if let Some(searcher) = kept {
-        return search_piece_with(alloc, searcher, round, number);
+        return search_piece(alloc, searcher, round, number);
     }
     let mut searcher = Searcher::over(alloc, round.instance, round.layout())?;
-    let sheet = search_piece_with(alloc, &mut searcher, round, number)?;
+    let sheet = search_piece(alloc, &mut searcher, round, number)?;
     *kept = Some(searcher);
     Ok(sheet)
 }
