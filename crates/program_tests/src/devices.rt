@@ -216,7 +216,7 @@ fn assert_written(rt: &impl Abort, alloc: Global, row: &Run, call: u64) {
     let wanted = if call <= calls {
         (
             Err(Fault::WriteFailed),
-            &written.as_bytes()[..call as usize - 1],
+            &written.as_bytes()[..(call as usize).saturating_sub(1)],
         )
     } else {
         (Ok(()), written.as_bytes())

@@ -160,22 +160,12 @@ fn assert_long(rt: &impl Abort, alloc: Global, digit: &str, last: &str, wanted: 
     assert_read(rt, alloc, Format::Orlib, text.as_bytes(), wanted);
 }
 
-/// Asserts what is read of so many blanks.
-fn assert_blanks(rt: &impl Abort, alloc: Global, bytes: usize, wanted: &str) {
-    let text = vec![in alloc; b' '; bytes].expect(rt, "memory");
-    assert_read(rt, alloc, Format::Orlib, text.as_slice(), wanted);
-}
-
 #[test]
-fn long_numbers(rt: HostRuntime) {
+fn long_numbers_and_a_text_too_long(rt: HostRuntime) {
     assert_long(&rt, rt.alloc(), "0", "7", "[1 1 | 0 0:7]");
     assert_long(&rt, rt.alloc(), "9", "9", "BadTime { line: 2 }");
-}
-
-#[test]
-fn texts_at_the_limit_of_bytes(rt: HostRuntime) {
-    assert_blanks(&rt, rt.alloc(), 16_777_216, "NoInstance");
-    assert_blanks(&rt, rt.alloc(), 16_777_217, "TooLong");
+    let blanks = vec![in rt.alloc(); b' '; 16_777_217].expect(&rt, "memory");
+    assert_read(&rt, rt.alloc(), Format::Orlib, blanks.as_slice(), "TooLong");
 }
 
 fn assert_said(rt: &impl Abort, alloc: Global, fault: &Fault, wanted: &str) {

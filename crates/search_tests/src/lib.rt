@@ -6,6 +6,8 @@ mod bounds;
 #[cfg(test)]
 mod branches;
 #[cfg(test)]
+mod desks;
+#[cfg(test)]
 mod instances;
 #[cfg(test)]
 mod machines;

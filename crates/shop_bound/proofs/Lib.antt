@@ -3,12 +3,11 @@ pub mod Spans
 pub mod ThresholdLemmas
 pub mod SameSums
 pub mod NonincreasingTails
-pub mod MergedProfiles
-pub mod ProfileLemmas
 pub mod SortedTails
 pub mod WorkSums
 pub mod TurnCounts
 pub mod Turns
+pub mod QueueTurns
 pub mod MachineRows
 pub mod BoundLaw
 pub mod BoundsRise

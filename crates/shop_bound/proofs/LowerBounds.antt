@@ -1,7 +1,10 @@
 -- The lower bound of a word, machine by machine.
-use Rattle.std.proofs.Common.{◌≡◌, ℕ, ◌<◌, max, inl, inr, List, [], ◌∷◌, length, map, eqb}
+use Rattle.std.proofs.Common.{◌≡◌, ℕ, ◌≤◌, ◌<◌, max, inl, inr, List, [], ◌∷◌, length, map, eqb}
 use Rattle.std.proofs.Common.{refl, sym, ◌∙◌, ap, arith, get_or}
+use Rattle.std.specs.List.{filter}
 use Rattle.std.proofs.lemmas.Bool.{cases_Bool}
+use Rattle.std.proofs.lemmas.List.{length-map}
+use Rattle.std.proofs.lemmas.List.Sums.{length-filter, count_by-le-length}
 use Rattle.shop_model.specs.Limits.{IsWithinLimits}
 use Rattle.shop_model.specs.Shop.{Shop, greatest_below}
 use Rattle.shop_model.specs.Word.{IsWord, placing}
@@ -24,6 +27,13 @@ triples_among-is xs ws m e = ap (λ (ys : List Unplaced). triples_among ys m) e 
     | inl e ↦ rw e (ap (λ (ts : List Triple). x.triple ∷ ts) (of_waiting ws))
     | inr e ↦ rw e (of_waiting ws)
   ]
+
+-- and are no more than all
+pub triples_among-few : (xs : List Unplaced) (m : ℕ) → length (triples_among xs m) ≤ length xs
+triples_among-few xs m =
+    let on = filter (λ (x : Unplaced). eqb x.machine m) xs
+    in let a = length-map on (λ (x : Unplaced). x.triple) in let b = length-filter (λ (x : Unplaced). eqb x.machine m) xs
+    in let c = count_by-le-length (λ (x : Unplaced). eqb x.machine m) xs in omega arith
 
 pub lower_bound_is : (shop : Shop) (w : List ℕ) → IsWithinLimits shop → IsWord shop w
     → (s : PlacementState) → IsPlacement shop (placing shop w) s → (free : List ℕ) → free ≡ s.free

@@ -1,13 +1,12 @@
 -- One-machine bounds of operations by nonincreasing tails.
-use Rattle.std.proofs.Common.{◌≡◌, ℕ, suc, ◌+◌, ◌^◌, ◌≤◌, ◌<◌, max, inl, inr, Bool, true, List, [], ◌∷◌}
-use Rattle.std.proofs.Common.{◌++◌, length, length-append, if◌then◌else◌, ◌==◌, take, drop, get_or}
+use Rattle.std.proofs.Common.{◌≡◌, ℕ, ◌+◌, ◌^◌, ◌≤◌, ◌<◌, inl, inr, Bool, true, List, [], ◌∷◌}
+use Rattle.std.proofs.Common.{◌++◌, length, length-append}
 use Rattle.std.proofs.Common.{refl, sym, ◌∙◌, ap, subst, arith, leb}
 use Rattle.std.specs.List.{AllByRecursion, filter, sum_by}
 use Rattle.std.proofs.lemmas.Bool.{cases_Bool, leb-true, le-leb, and_parts}
-use Rattle.std.proofs.lemmas.List.{append-nil, take-append-drop, take_more}
+use Rattle.std.proofs.lemmas.List.{append-nil}
 use Rattle.std.proofs.lemmas.List.Elements.{filter-append}
 use Rattle.std.proofs.lemmas.List.Sums.{sum_by-cons, sum_by_push, sum_by-append}
-use Rattle.std.proofs.Math.Seq.{drop-cons}
 use Rattle.shop_bound.specs.declared.triples.Triple.{Triple}
 use Rattle.shop_bound.specs.OneMachine.{sublists, least_of, span_of, one}
 use Rattle.shop_bound.specs.inner.Thresholds.{is_above, span_above, head_at, no_triple}
@@ -17,7 +16,7 @@ use Rattle.shop_bound.proofs.Lists.{IsSublist, all_map, all_both, all_filter, gr
 use Rattle.shop_bound.proofs.Lists.{least_of-le}
 use Rattle.shop_bound.proofs.ThresholdLemmas.{sublists-are, sublist_of_filter, sublist_length}
 use Rattle.shop_bound.proofs.ThresholdLemmas.{sublist_at, sublist_sum}
-use Rattle.shop_bound.proofs.ThresholdLemmas.{span_above-some, span_above-le, is_above-from, is_above-true}
+use Rattle.shop_bound.proofs.ThresholdLemmas.{span_above-some, span_above-le, is_above-from}
 
 -- the head is at least this
 abbrev pub begins_from : ℕ → Triple → Bool
@@ -26,23 +25,6 @@ begins_from head t = leb head t.head
 -- the times of those
 unfoldable pub times_from : ℕ → List Triple → ℕ
 times_from head ts = sum_by (λ t. t.time) (filter (begins_from head) ts)
-
--- those that are above both thresholds take no longer than those above one
-above_le_from : (head tail : ℕ) (ts : List Triple)
-    → sum_by (λ t. t.time) (filter (is_above head tail) ts) ≤ times_from head ts
-unfolding times_from
-above_le_from head tail [] = omega arith
-above_le_from head tail (t ∷ ts) =
-    let rest = above_le_from head tail ts
-    in let a = sum_by-cons (λ (t : Triple). t.time) t (filter (is_above head tail) ts)
-    in let b = sum_by-cons (λ (t : Triple). t.time) t (filter (begins_from head) ts)
-    in elim (cases_Bool (leb head t.head)) [
-      | inl e ↦ elim (cases_Bool (leb tail t.tail)) [
-        | inl f ↦ rw (e, f) (omega arith)
-        | inr f ↦ rw (e, f) (omega arith)
-      ]
-      | inr e ↦ rw e (omega arith)
-    ]
 
 -- one more operation that begins from the threshold on
 pub times_from-more : (head : ℕ) (us : List Triple) (x : Triple) → head ≤ x.head
@@ -62,38 +44,6 @@ times_from-less head us x h = elim (cases_Bool (leb head x.head)) [
   | inr e ↦ (let f : filter (begins_from head) (us ++ x ∷ []) ≡ filter (begins_from head) us =
       filter-append (begins_from head) us (x ∷ []) ∙ rw e (append-nil (filter (begins_from head) us))
       in ap (λ (ys : List Triple). sum_by (λ t. t.time) ys) f)
-]
-
--- what is known of the operations so far also holds with one more that begins from the threshold on
-covers_in : (us : List Triple) (x : Triple) (head most : ℕ)
-    → ((tail : ℕ) → span_above us head tail ≤ head + most) → head ≤ x.head → (tail : ℕ)
-    → span_above (us ++ x ∷ []) head tail ≤ head + max most (times_from head us + x.time + x.tail)
-covers_in us x head most covers le tail = elim (cases_Bool (is_above head tail x)) [
-  | inl a ↦ (let t = (is_above-true head tail x a).1
-      in let f : filter (is_above head tail) (us ++ x ∷ []) ≡ filter (is_above head tail) us ++ x ∷ [] =
-      filter-append (is_above head tail) us (x ∷ []) ∙ rw a refl
-      in let some = span_above-some (us ++ x ∷ []) head tail (subst (λ (ys : List Triple). 0 < length ys) (sym f)
-      (omega (arith, length-append (filter (is_above head tail) us) (x ∷ []))))
-      in let s : sum_by (λ (t : Triple). t.time) (filter (is_above head tail) (us ++ x ∷ []))
-      ≡ sum_by (λ (t : Triple). t.time) (filter (is_above head tail) us) + x.time =
-      ap (λ (ys : List Triple). sum_by (λ t. t.time) ys) f
-      ∙ sum_by_push (λ (t : Triple). t.time) (filter (is_above head tail) us) x
-      in let below = above_le_from head tail us in omega arith)
-  | inr a ↦ (let f : filter (is_above head tail) (us ++ x ∷ []) ≡ filter (is_above head tail) us =
-      filter-append (is_above head tail) us (x ∷ []) ∙ rw a (append-nil (filter (is_above head tail) us))
-      in let same : span_above (us ++ x ∷ []) head tail ≡ span_above us head tail =
-      ap (λ (ys : List Triple). if length ys == 0 then 0 else head + sum_by (λ t. t.time) ys + tail) f
-      in let b = covers tail in omega arith)
-]
-
--- or with one that begins before it
-covers_out : (us : List Triple) (x : Triple) (head : ℕ) → x.head < head → (tail : ℕ)
-    → span_above (us ++ x ∷ []) head tail ≡ span_above us head tail
-covers_out us x head less tail = elim (cases_Bool (is_above head tail x)) [
-  | inl a ↦ absurd (let b = (is_above-true head tail x a).0 in omega arith)
-  | inr a ↦ (let f : filter (is_above head tail) (us ++ x ∷ []) ≡ filter (is_above head tail) us =
-      filter-append (is_above head tail) us (x ∷ []) ∙ rw a (append-nil (filter (is_above head tail) us))
-      in ap (λ (ys : List Triple). if length ys == 0 then 0 else head + sum_by (λ t. t.time) ys + tail) f)
 ]
 
 module _ {A : Type 0} (f : A → ℕ) where
@@ -140,55 +90,6 @@ within_in us x vs head nonincreasing h =
     in let front = only_heads head x.tail us (falls_before (λ (t : Triple). t.tail) us x vs nonincreasing)
     in omega arith
 
--- what the walk for one threshold knows of the first n operations: how long they take, and what follows at most
-pub record IsReach (ts : List Triple) (head n sum most : ℕ) : Type 0 where
-  pub times : sum ≡ times_from head (take n ts)
-  pub covers : (tail : ℕ) → span_above (take n ts) head tail ≤ head + most
-  pub within : head + most ≤ max head (one ts)
-
-pub reach_none : (ts : List Triple) (head : ℕ) → IsReach ts head 0 0 0
-unfolding times_from
-reach_none ts head = record { times = refl; covers = λ t. omega arith; within = omega arith }
-
-pub split_at : {A : Type 0} (ts : List A) (n : ℕ) (d : A) → n < length ts
-    → ts ≡ take n ts ++ get_or ts n d ∷ drop (suc n) ts
-split_at ts n d h = sym (take-append-drop n ts) ∙ ap (λ ys. take n ts ++ ys) (drop-cons ts n d h)
-
-pub reach_in : (ts : List Triple) (head n sum most more : ℕ) → IsNonincreasing (λ t. t.tail) ts → n < length ts
-    → IsReach ts head n sum most → head ≤ (get_or ts n no_triple).head
-    → more ≡ max most (sum + (get_or ts n no_triple).time + (get_or ts n no_triple).tail)
-    → IsReach ts head (n + 1) (sum + (get_or ts n no_triple).time) more
-reach_in ts head n sum most more nonincreasing here r le is =
-    let x = get_or ts n no_triple
-    in let e = take_more ts n no_triple here
-    in let w = within_in (take n ts) x (drop (suc n) ts) head
-    (subst (λ (ys : List Triple). IsNonincreasing (λ t. t.tail) ys) (split_at ts n no_triple here) nonincreasing) le
-    in let same : one (take n ts ++ x ∷ drop (suc n) ts) ≡ one ts = ap one (sym (split_at ts n no_triple here))
-    in let times = r.times
-    in let within = r.within
-    in record {
-      times = ap (λ s. s + x.time) times ∙ sym (times_from-more head (take n ts) x le)
-          ∙ ap (times_from head) (sym e);
-      covers = λ tail. (let c = covers_in (take n ts) x head most r.covers le tail
-          in let d : span_above (take (n + 1) ts) head tail ≡ span_above (take n ts ++ x ∷ []) head tail =
-          ap (λ (ys : List Triple). span_above ys head tail) e in omega arith);
-      within = omega arith;
-    }
-
-pub reach_out : (ts : List Triple) (head n sum most : ℕ) → n < length ts
-    → IsReach ts head n sum most → (get_or ts n no_triple).head < head
-    → IsReach ts head (n + 1) sum most
-reach_out ts head n sum most here r less =
-    let x = get_or ts n no_triple
-    in let e = take_more ts n no_triple here
-    in record {
-      times = r.times ∙ sym (times_from-less head (take n ts) x less) ∙ ap (times_from head) (sym e);
-      covers = λ tail. (let c = r.covers tail in let a = covers_out (take n ts) x head less tail
-          in let d : span_above (take (n + 1) ts) head tail ≡ span_above (take n ts ++ x ∷ []) head tail =
-          ap (λ (ys : List Triple). span_above ys head tail) e in omega arith);
-      within = r.within;
-    }
-
 -- a sublist's span is at most that of all above its least head and tail
 pub span_of-le-above : (ts : List Triple) (y : Triple) (ys : List Triple) → IsSublist (y ∷ ys) ts
     → span_of (y ∷ ys) ≤ span_above ts (least_of (λ t. t.head) (y ∷ ys)) (least_of (λ t. t.tail) (y ∷ ys))
@@ -204,16 +105,6 @@ span_of-le-above ts y ys s =
     in let sum = sublist_sum (λ (t : Triple). t.time) sub
     in let longer = sublist_length sub
     in let above = span_above-some ts head tail (omega arith)
-    in omega arith
-
--- the bound is at least each head
-pub head-le-one : (ts : List Triple) (n : ℕ) → IsNonincreasing (λ t. t.tail) ts → n < length ts → head_at ts n ≤ one ts
-head-le-one ts n nonincreasing here =
-    let x = get_or ts n no_triple
-    in let w = within_in (take n ts) x (drop (suc n) ts) x.head
-    (subst (λ (ys : List Triple). IsNonincreasing (λ t. t.tail) ys) (split_at ts n no_triple here) nonincreasing)
-    (omega arith)
-    in let same : one (take n ts ++ x ∷ drop (suc n) ts) ≡ one ts = ap one (sym (split_at ts n no_triple here))
     in omega arith
 
 -- what the walk over the thresholds knows after the first n: that `best` covers those between, and the last one tried

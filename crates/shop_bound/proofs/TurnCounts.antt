@@ -4,7 +4,7 @@ use Rattle.std.proofs.Common.{cond, List, [], ◌∷◌, length, refl, ap, arith
 use Rattle.std.proofs.Math.ListN.{set}
 use Rattle.std.proofs.lemmas.Bool.{cases_Bool, cases_lt, le-leb, lt-leb}
 use Rattle.std.proofs.lemmas.List.Sums.{sum_by-cons, sum_by-set}
-use Rattle.shop_bound.specs.declared.schedules.Work.{Work}
+use Rattle.shop_bound.specs.declared.works.Work.{Work}
 use Rattle.shop_bound.specs.inner.Serving.{no_work, work_at, IsFresh}
 use Rattle.shop_bound.specs.inner.Serving.{IsReady, turns_of, turns_left, undone_of}
 use Rattle.shop_bound.specs.inner.Serving.{undone}
@@ -90,7 +90,7 @@ ready_turns ws clock ready (inr (inl r)) = turns_left-le ws clock ready (let e =
 ready_turns ws clock ready (inr (inr d)) = turns_left-le ws clock ready (let e = d.1 in omega arith)
 
 -- a turn ends one operation at most, so that each takes a turn
-undone_of-one : (w : Work) → undone_of w ≤ 1
+pub undone_of-one : (w : Work) → undone_of w ≤ 1
 undone_of-one w = elim (cases_Bool w.done) [
   | inl d ↦ (let f : undone_of w ≡ 0 = rw d refl in omega arith)
   | inr d ↦ (let f : undone_of w ≡ 1 = rw d refl in omega arith)

@@ -6,7 +6,7 @@ use Rattle.std.proofs.Math.ListN.{set}
 use Rattle.std.proofs.lemmas.Bool.{cases_Bool, cases_lt, cases_eq, true≢false}
 use Rattle.std.proofs.lemmas.List.{get_or-set_same, get_or-set_other, length-set}
 use Rattle.shop_bound.specs.declared.triples.Triple.{Triple}
-use Rattle.shop_bound.specs.declared.schedules.Work.{Work}
+use Rattle.shop_bound.specs.declared.works.Work.{Work}
 use Rattle.shop_bound.specs.OneMachine.{one, greatest_of, IsSmall}
 use Rattle.shop_bound.specs.inner.Thresholds.{is_above, span_above, head_at, tail_at}
 use Rattle.shop_bound.specs.inner.Serving.{no_work, work_at, triples_of, Waits, IsFresh, fresh, IsServed, IsStop}

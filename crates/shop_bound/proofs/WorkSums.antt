@@ -8,7 +8,7 @@ use Rattle.std.proofs.lemmas.Bool.{cases_Bool, cases_lt, cases_eq, true≢false}
 use Rattle.std.proofs.lemmas.List.{get_or-set_same, get_or-set_other, length-set}
 use Rattle.std.proofs.lemmas.List.Sums.{sum_by-cons, sum_by-set}
 use Rattle.shop_bound.specs.declared.triples.Triple.{Triple}
-use Rattle.shop_bound.specs.declared.schedules.Work.{Work}
+use Rattle.shop_bound.specs.declared.works.Work.{Work}
 use Rattle.shop_bound.specs.inner.Thresholds.{is_above, span_above}
 use Rattle.shop_bound.specs.inner.Serving.{no_work, work_at, triples_of, IsFresh, fresh}
 use Rattle.shop_bound.specs.inner.Serving.{worked}

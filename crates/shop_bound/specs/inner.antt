@@ -1,5 +1,6 @@
+pub mod HeapOrders
 pub mod NonincreasingTails
-pub mod Profiles
+pub mod Queues
 pub mod Serving
 pub mod Thresholds
 pub mod HeadRows

@@ -5,12 +5,13 @@
 mod head_rows;
 mod laws;
 mod lower;
-mod profiles;
+mod queues;
 mod schedules;
 mod tail_rows;
 mod thresholds;
 mod triples;
 mod unplaced;
+mod works;
 
 pub use head_rows::Heads;
 pub use laws::{
@@ -18,7 +19,6 @@ pub use laws::{
     what_waits_is_left,
 };
 pub use lower::lower_bound;
-pub use profiles::bound_by_profile;
 pub use schedules::Jackson;
 pub use tail_rows::{tails, total_time};
 pub use thresholds::one_machine;

@@ -6,7 +6,7 @@ ghost use Rattle.shop_bound.specs.Laws.{IsLower, EndsThereIfFull};
 ghost use Rattle.shop_bound.specs.OneMachine.{IsSmall};
 ghost use Rattle.shop_bound.specs.inner.Unplaced.{greatest_among, triples_among};
 
-use crate::profiles::bound_by_profile;
+use crate::schedules::Jackson;
 use crate::unplaced::{Unplaced, gather, list_unplaced};
 use shop_model::{Instance, Placement, Word};
 use std::alloc::{AllocError, Global};
@@ -17,10 +17,11 @@ fn greatest_bound(alloc: Global, free: &[u64], unplaced: &[Unplaced]) -> Result<
     ensures { IfOk result (λ b. b ≡ greatest_among free.now unplaced.now) }
 {
     let mut triples = Vec::with_capacity(alloc, unplaced.len())?;
+    let mut jackson = Jackson::with_room(alloc, unplaced.len())?;
     let mut bound = 0;
     for machine in 0..free.len() {
         gather(&mut triples, unplaced, machine);
-        let left = bound_by_profile(alloc, &mut triples)?;
+        let left = jackson.bound(triples.as_slice());
         bound = bound.max(free[machine].max(left));
     }
     Ok(bound)

@@ -1,88 +1,60 @@
 // Jackson's preemptive schedule of one machine.
-ghost use Rattle.std.specs.Prelude.{◌≡◌, ℕ, ◌+◌, ◌*◌, ◌^◌, ◌<◌, ◌≤◌, length, map, vec_len, IfOk};
+ghost use Rattle.std.specs.Prelude.{◌≡◌, ℕ, ◌+◌, ◌*◌, ◌^◌, ◌<◌, ◌≤◌, List, length, map, vec_len, IfOk};
+ghost use Rattle.std.specs.BinaryHeap.{heap_items};
 ghost use Rattle.shop_bound.specs.OneMachine.{one, IsSmall};
 ghost use Rattle.shop_bound.specs.Schedules.{JacksonState};
-ghost use Rattle.shop_bound.specs.inner.Serving.{IsChoice, IsFresh, IsReady, IsRun, IsServed};
-ghost use Rattle.shop_bound.specs.inner.Serving.{IsStop, fresh};
+ghost use Rattle.shop_bound.specs.declared.works.Work.{Work};
+ghost use Rattle.shop_bound.specs.inner.Queues.{ComeLater, HasRoom, IsFirst, IsQueue, KeepsRoom};
+ghost use Rattle.shop_bound.specs.inner.Serving.{IsFresh, IsReady, IsRun, IsStop, fresh};
 ghost use Rattle.shop_bound.specs.inner.Serving.{triples_of, turns_left, undone};
 
+use crate::queues::Queue;
 use crate::triples::{NO_TRIPLE, Triple};
+use crate::works::Work;
 use std::alloc::{AllocError, Global};
 use std::marker::Model;
 
-/// An operation, how long it was served, and whether it has ended.
-#[derive(Clone, Copy)]
-pub(crate) struct Work {
-    triple: Triple,
-    spent: u64,
-    done: bool,
-}
-
-/// The operation to be served: released, not done, of greatest tail, and first of these.
-fn choose(works: &[Work], clock: u64) -> Option<usize>
-    ensures { IsChoice (length works.now) works.now clock result }
+/// When a turn that ends at `end` stops: then, or at the next release.
+fn stop_of_turn(queue: &Queue, end: u64) -> u64
+    ensures { (ws : List Work) (clock : ℕ) → IsQueue ws clock queue.now
+        → ComeLater clock (heap_items queue.now.coming) → clock ≤ end
+        → IsStop (length ws) ws clock end result }
 {
-    let mut chosen: Option<usize> = None;
-    for i in 0..works.len() {
-        if works[i].done || clock < works[i].triple.head {
-            continue;
-        }
-        if let Some(k) = chosen {
-            if works[i].triple.tail <= works[k].triple.tail {
-                continue;
-            }
-        }
-        chosen = Some(i);
+    match queue.next_release() {
+        Some(release) => release.min(end),
+        None => end,
     }
-    chosen
 }
 
-/// When a turn that ends at `end` stops: then, or at the next release after the clock.
-fn stop_of_turn(works: &[Work], clock: u64, end: u64) -> u64
-    requires { clock ≤ end }
-    ensures { IsStop (length works.now) works.now clock end result }
+/// The clock, or, where no operation waits then, the next release. All that are released by then wait.
+fn ready_at(works: &[Work], queue: &mut Queue, clock: u64) -> u64
+    requires { IsQueue works.now clock queue.old }
+    ensures ready { IsReady works.now clock result }
+    ensures queue { IsQueue works.now result queue.new }
+    ensures later { ComeLater result (heap_items queue.new.coming) }
+    ensures room { KeepsRoom queue.old queue.new }
 {
-    let mut stop = end;
-    for i in 0..works.len() {
-        let head = works[i].triple.head;
-        if clock < head && head < stop {
-            stop = head;
-        }
+    queue.release(works, clock);
+    if queue.first().is_some() {
+        return clock;
     }
-    stop
+    let Some(release) = queue.next_release() else {
+        return clock;
+    };
+    queue.release(works, release);
+    release
 }
 
-/// The clock, or, where no operation waits then, the next release of one that is not done.
-fn ready_at(works: &[Work], clock: u64) -> u64
-    ensures { IsReady works.now clock result }
-{
-    let mut next: Option<u64> = None;
-    for i in 0..works.len() {
-        if works[i].done {
-            continue;
-        }
-        let head = works[i].triple.head;
-        if head <= clock {
-            return clock;
-        }
-        if let Some(release) = next {
-            if release <= head {
-                continue;
-            }
-        }
-        next = Some(head);
-    }
-    match next {
-        Some(release) => release,
-        None => clock,
-    }
-}
-
-/// One turn: serves an operation from the clock until it ends or until the next release. Returns the clock then.
-fn serve(works: &mut [Work], clock: u64, chosen: usize, best: &mut u64) -> u64
-    requires chosen { IsServed (length works.old) works.old clock chosen }
+/// One turn: serves the first of those that wait from the clock until it ends or until the next release. Returns the
+/// clock then.
+fn serve(works: &mut [Work], queue: &mut Queue, clock: u64, chosen: usize, best: &mut u64) -> u64
+    requires queue { IsQueue works.old clock queue.old }
+    requires later { ComeLater clock (heap_items queue.old.coming) }
+    requires chosen { IsFirst (heap_items queue.old.waiting) (Some chosen) }
     requires run { IsRun works.old clock best.old }
     requires small { IsSmall (triples_of works.old) }
+    ensures queue { IsQueue works.new result queue.new }
+    ensures room { KeepsRoom queue.old queue.new }
     ensures run { IsRun works.new result best.new }
     ensures same { triples_of works.new ≡ triples_of works.old }
     ensures fewer { turns_left works.new result < turns_left works.old clock }
@@ -90,7 +62,7 @@ fn serve(works: &mut [Work], clock: u64, chosen: usize, best: &mut u64) -> u64
 {
     let work = works[chosen];
     let end = clock + (work.triple.time - work.spent);
-    let stop = stop_of_turn(works, clock, end);
+    let stop = stop_of_turn(queue, end);
     if stop < end {
         works[chosen] = Work {
             triple: work.triple,
@@ -104,6 +76,7 @@ fn serve(works: &mut [Work], clock: u64, chosen: usize, best: &mut u64) -> u64
         spent: work.triple.time,
         done: true,
     };
+    queue.finish();
     let reached = end + work.triple.tail;
     *best = reached.max(*best);
     end
@@ -116,21 +89,23 @@ struct Outcome {
     turns: u64,
 }
 
-/// The whole schedule, turn by turn.
-fn schedule(works: &mut [Work]) -> Outcome
+/// The whole schedule, turn by turn, where all operations are to come.
+fn schedule(works: &mut [Work], queue: &mut Queue) -> Outcome
     requires fresh { IsFresh works.old }
+    requires queue { IsQueue works.old 0 queue.old }
     requires small { IsSmall (triples_of works.old) }
     requires few { length works.old < 2 ^ 63 }
     ensures bound { result.bound ≡ one (triples_of works.old) }
     ensures turns { result.turns ≤ 2 * length works.old }
     ensures each { length works.old ≤ result.turns }
+    ensures room { KeepsRoom queue.old queue.new }
 {
     let mut best = 0;
     let mut turns = 0;
-    let mut clock = ready_at(works, 0);
-    while let Some(chosen) = choose(works, clock) {
-        let stop = serve(works, clock, chosen, &mut best);
-        clock = ready_at(works, stop);
+    let mut clock = ready_at(works, queue, 0);
+    while let Some(chosen) = queue.first() {
+        let stop = serve(works, queue, clock, chosen, &mut best);
+        clock = ready_at(works, queue, stop);
         turns += 1;
     }
     Outcome { bound: best, turns }
@@ -150,22 +125,42 @@ fn fill(works: &mut [Work], triples: &[Triple])
     }
 }
 
+/// The schedule of a list of operations, for which there is room.
+fn schedule_list(works: &mut [Work], queue: &mut Queue, triples: &[Triple]) -> Outcome
+    requires works { length triples.now ≤ length works.old }
+    requires queue { HasRoom (length triples.now) queue.old }
+    requires small { IsSmall triples.now }
+    ensures bound { result.bound ≡ one triples.now }
+    ensures turns { result.turns ≤ 2 * length triples.now }
+    ensures each { length triples.now ≤ result.turns }
+    ensures room { KeepsRoom queue.old queue.new }
+{
+    let works = &mut works[..triples.len()];
+    fill(works, triples);
+    queue.fill(triples);
+    schedule(works, queue)
+}
+
 /// Jackson's preemptive schedule of one machine (Carlier 1982): at each moment it serves the released operation of
-/// greatest tail, the first of these in the list, until it ends or until the next release. It has room for a number of
-/// operations, and takes no memory once it is made. For library callers: the program doesn't use it.
+/// greatest tail, the first of these in the list, until it ends or until the next release. Of n operations it takes
+/// n log n steps. It has room for a number of operations, and takes no memory once it is made.
 #[derive(Drop)]
 pub struct Jackson {
     works: Vec<Work>,
+    queue: Queue,
     last_turns: u64,
 }
 
 impl Model for Jackson {
     ghost use Rattle.std.specs.Prelude.{vec_len};
     ghost use Rattle.shop_bound.specs.Schedules.{JacksonState};
+    ghost use Rattle.shop_bound.specs.inner.Queues.{HasRoom};
 
     ghost Value = { JacksonState };
 
     ghost view = { λ j. record { room = vec_len j.works; turns = j.last_turns } };
+
+    ghost invariant = { λ j. HasRoom (vec_len j.works) j.queue };
 }
 
 impl Jackson {
@@ -173,6 +168,7 @@ impl Jackson {
     pub fn with_room(alloc: Global, n: usize) -> Result<Jackson, AllocError>
         ensures { IfOk result (λ j. j ≡ record { room = n; turns = 0 }) }
     {
+        let queue = Queue::with_room(alloc, n)?;
         let mut works = Vec::with_capacity(alloc, n)?;
         for _ in 0..n {
             works
@@ -185,6 +181,7 @@ impl Jackson {
         }
         Ok(Jackson {
             works,
+            queue,
             last_turns: 0,
         })
     }
@@ -199,9 +196,7 @@ impl Jackson {
         ensures each { length triples.now ≤ self.new.turns }
         ensures room { self.new.room ≡ self.old.room }
     {
-        let works = &mut self.works[..triples.len()];
-        fill(works, triples);
-        let outcome = schedule(works);
+        let outcome = schedule_list(self.works.as_mut_slice(), &mut self.queue, triples);
         self.last_turns = outcome.turns;
         outcome.bound
     }

@@ -1,9 +1,8 @@
 -- Operations served by Jackson's rule: what was spent on each, and what a turn does.
-use Rattle.std.specs.Prelude.{◌≡◌, ℕ, ◌+◌, ◌<◌, ◌≤◌, ◌⊎◌, max, true, false, nat_le, cond, Option}
-use Rattle.std.specs.Prelude.{Some, None, List}
+use Rattle.std.specs.Prelude.{◌≡◌, ℕ, ◌+◌, ◌<◌, ◌≤◌, ◌⊎◌, max, true, false, nat_le, cond, List}
 use Rattle.std.specs.Prelude.{length, map, sum_by, slice_index_or}
 use Rattle.shop_bound.specs.declared.triples.Triple.{Triple}
-use Rattle.shop_bound.specs.declared.schedules.Work.{Work}
+use Rattle.shop_bound.specs.declared.works.Work.{Work}
 use Rattle.shop_bound.specs.OneMachine.{one, greatest_of}
 use Rattle.shop_bound.specs.inner.Thresholds.{no_triple, is_above, span_above}
 
@@ -40,12 +39,6 @@ pub record IsServed (n : ℕ) (ws : List Work) (clock i : ℕ) : Type 0 where
   pub lowest : (k : ℕ) → k < i → (work_at ws k).done ≡ false → (work_at ws k).triple.head ≤ clock
       → (work_at ws k).triple.tail < (work_at ws i).triple.tail
 
--- the one that is served, or none where none waits
-abbrev pub IsChoice : ℕ → List Work → ℕ → Option ℕ → Type 0
-IsChoice n ws clock (Some i) = IsServed n ws clock i
-IsChoice n ws clock None =
-    (k : ℕ) → k < n → (work_at ws k).done ≡ false → clock < (work_at ws k).triple.head
-
 -- The turn from the clock on stops at its end, or at the next release (of the first n) if that
 -- comes first.
 pub record IsStop (n : ℕ) (ws : List Work) (clock end stop : ℕ) : Type 0 where
@@ -63,10 +56,6 @@ pub record IsRelease (n : ℕ) (ws : List Work) (clock ready : ℕ) : Type 0 whe
   pub least : (k : ℕ) → k < n → (work_at ws k).done ≡ false → ready ≤ (work_at ws k).triple.head
   pub reason : (k : ℕ) × (k < n) × ((work_at ws k).done ≡ false)
       × ((work_at ws k).triple.head ≡ ready)
-
-abbrev pub IsNextRelease : ℕ → List Work → ℕ → Option ℕ → Type 0
-IsNextRelease n ws clock (Some ready) = IsRelease n ws clock ready
-IsNextRelease n ws clock None = (k : ℕ) → k < n → (work_at ws k).done ≡ true
 
 -- the clock where one waits then or all are done, else the next release
 abbrev pub IsReady : List Work → ℕ → ℕ → Type 0

@@ -7,4 +7,5 @@ abbrev pub invariant-loop-machine : goal.invariant-loop-machine
 invariant-loop-machine l = record {
   bound : l.bound ≡ greatest_below l.machine (bound_among l.free l.unplaced);
   room : length l.unplaced ≤ vec_capacity l.triples;
+  schedule : l.jackson.room ≡ length l.unplaced;
 }

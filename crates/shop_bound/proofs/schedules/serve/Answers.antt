@@ -4,17 +4,18 @@ use Rattle.shop_bound.proofs.Turns.{held, finished, left_of, held_run, held_fewe
 use Rattle.shop_bound.proofs.Turns.{end_small}
 use Rattle.shop_bound.proofs.WorkSums.{triples-set}
 use Rattle.shop_bound.proofs.TurnCounts.{undone-set}
+use Rattle.shop_bound.proofs.QueueTurns.{first_served, queue_done, queue_held}
 use Rattle.shop_bound.proofs.schedules.serve.Goals as goal
 
 pub overflow_add-end : goal.overflow_add-end
 overflow_add-end c =
-    let h = end_small c.args.works.now c.args.clock c.args.best.now c.args.chosen c.requires.run c.requires.chosen
+    let h = end_small c.args.works.now c.args.clock c.args.best.now c.args.chosen c.requires.run (first_served _ _ _ _ c.requires.queue.are c.requires.later c.args.chosen c.requires.chosen)
     c.requires.small in omega arith
 
 pub returns-then-stop-end-clause-run : goal.returns-then-stop-end-clause-run
 returns-then-stop-end-clause-run c =
     held_run c.args.works.now c.args.clock c.args.best.now c.args.chosen c.stop_of_turn-stop.result c.requires.run
-    c.requires.chosen c.stop_of_turn-stop.ensures
+    (first_served _ _ _ _ c.requires.queue.are c.requires.later c.args.chosen c.requires.chosen) (c.stop_of_turn-stop.ensures c.args.works.now c.args.clock c.requires.queue c.requires.later (omega arith))
 
 pub returns-then-stop-end-clause-same : goal.returns-then-stop-end-clause-same
 returns-then-stop-end-clause-same c = triples-set c.args.works.now c.args.chosen
@@ -22,18 +23,18 @@ returns-then-stop-end-clause-same c = triples-set c.args.works.now c.args.chosen
 
 pub returns-then-stop-end-clause-fewer : goal.returns-then-stop-end-clause-fewer
 returns-then-stop-end-clause-fewer c =
-    held_fewer c.args.works.now c.args.clock c.args.chosen c.stop_of_turn-stop.result c.requires.chosen
-    c.stop_of_turn-stop.ensures c.if-stop-end.true
+    held_fewer c.args.works.now c.args.clock c.args.chosen c.stop_of_turn-stop.result (first_served _ _ _ _ c.requires.queue.are c.requires.later c.args.chosen c.requires.chosen)
+    (c.stop_of_turn-stop.ensures c.args.works.now c.args.clock c.requires.queue c.requires.later (omega arith)) c.if-stop-end.true
 
 pub overflow_add-reached : goal.overflow_add-reached
 overflow_add-reached c =
-    let h = end_small c.args.works.now c.args.clock c.args.best.now c.args.chosen c.requires.run c.requires.chosen
+    let h = end_small c.args.works.now c.args.clock c.args.best.now c.args.chosen c.requires.run (first_served _ _ _ _ c.requires.queue.are c.requires.later c.args.chosen c.requires.chosen)
     c.requires.small in omega arith
 
 pub returns-clause-run : goal.returns-clause-run
 returns-clause-run c =
     let h = finished_run c.args.works.now c.args.clock c.args.best.now c.args.chosen c.stop_of_turn-stop.result
-    c.requires.run c.requires.chosen c.stop_of_turn-stop.ensures c.if-stop-end.false
+    c.requires.run (first_served _ _ _ _ c.requires.queue.are c.requires.later c.args.chosen c.requires.chosen) (c.stop_of_turn-stop.ensures c.args.works.now c.args.clock c.requires.queue c.requires.later (omega arith)) c.if-stop-end.false
     in let m : c.max.result ≡ max (c.args.clock + left_of c.args.works.now
     c.args.chosen + (work_at c.args.works.now c.args.chosen).triple.tail) c.args.best.now = search rules
     in subst (λ (b : ℕ). IsRun (set c.args.works.now c.args.chosen (finished c.args.works.now c.args.chosen))
@@ -43,12 +44,31 @@ pub returns-clause-same : goal.returns-clause-same
 returns-clause-same c = triples-set c.args.works.now c.args.chosen (finished c.args.works.now c.args.chosen) refl
 
 pub returns-clause-fewer : goal.returns-clause-fewer
-returns-clause-fewer c = finished_fewer c.args.works.now c.args.clock c.args.chosen c.requires.chosen
+returns-clause-fewer c = finished_fewer c.args.works.now c.args.clock c.args.chosen (first_served _ _ _ _ c.requires.queue.are c.requires.later c.args.chosen c.requires.chosen)
 
 pub returns-then-stop-end-clause-single : goal.returns-then-stop-end-clause-single
 returns-then-stop-end-clause-single c = undone-set c.args.works.now c.args.chosen
-    (held c.args.works.now c.args.clock c.args.chosen c.stop_of_turn-stop.result) c.requires.chosen.seen
+    (held c.args.works.now c.args.clock c.args.chosen c.stop_of_turn-stop.result) (first_served _ _ _ _ c.requires.queue.are c.requires.later c.args.chosen c.requires.chosen).seen
 
 pub returns-clause-single : goal.returns-clause-single
 returns-clause-single c =
-    undone-set c.args.works.now c.args.chosen (finished c.args.works.now c.args.chosen) c.requires.chosen.seen
+    undone-set c.args.works.now c.args.chosen (finished c.args.works.now c.args.chosen) (first_served _ _ _ _ c.requires.queue.are c.requires.later c.args.chosen c.requires.chosen).seen
+
+pub overflow_sub-works : goal.overflow_sub-works
+overflow_sub-works c =
+    (c.stop_of_turn-stop.ensures c.args.works.now c.args.clock c.requires.queue c.requires.later (omega arith)).later
+
+pub returns-then-stop-end-clause-queue : goal.returns-then-stop-end-clause-queue
+returns-then-stop-end-clause-queue c =
+    queue_held c.args.works.now c.args.clock c.args.chosen c.stop_of_turn-stop.result
+    (held c.args.works.now c.args.clock c.args.chosen c.stop_of_turn-stop.result) c.args.queue.now c.requires.queue
+    (first_served _ _ _ _ c.requires.queue.are c.requires.later c.args.chosen c.requires.chosen) refl refl
+    (c.stop_of_turn-stop.ensures c.args.works.now c.args.clock c.requires.queue c.requires.later (omega arith)).later
+
+pub returns-clause-queue : goal.returns-clause-queue
+returns-clause-queue c =
+    queue_done c.args.works.now c.args.clock c.args.chosen (c.args.clock + left_of c.args.works.now c.args.chosen)
+    (finished c.args.works.now c.args.chosen) c.args.queue.now c.finish.new.self c.requires.queue
+    (first_served _ _ _ _ c.requires.queue.are c.requires.later c.args.chosen c.requires.chosen) refl refl
+    (omega arith) c.requires.chosen c.finish.ensures.first c.finish.ensures.fewer c.finish.ensures.room
+    c.finish.ensures.coming

@@ -1,0 +1,451 @@
+-- What a turn of a schedule does to the operations that are not done.
+use Rattle.std.proofs.Common.{◌≡◌, ◌≢◌, ℕ, zero, suc, ◌+◌, ◌≤◌, ◌<◌, min, ◌⊎◌, inl, inr, Bool, true, false, cond, ◌==◌, List, []}
+use Rattle.std.proofs.Common.{◌∷◌, length, get_or, map, Option, Some, None, refl, sym, ◌∙◌, ap, subst, arith, eq-eqb}
+use Rattle.std.specs.BinaryHeap.{heap_items, heap_len, heap_capacity}
+use Rattle.std.specs.List.{All, AllByRecursion}
+use Rattle.std.specs.Prelude.{IsPermutation}
+use Rattle.std.specs.Ordering.{nat_cmp, ordering_then, is_lt}
+use Rattle.std.proofs.Math.ListN.{set}
+use Rattle.std.specs.Option.{MatchOption, is_some}
+use Rattle.std.proofs.lemmas.Bool.{cases_Bool, cases_lt, cases_eq, cases_order, ne_eqb, lt-ltb, le-ltb, true≢false}
+use Rattle.std.proofs.lemmas.Map.Keys.{ge_from_not_lt}
+use Rattle.std.proofs.lemmas.List.{get_or-set_same, get_or-set_other, length-set, length-map}
+use Rattle.std.proofs.lemmas.List.Elements.{All-cons, All-head, All-tail}
+use Rattle.std.proofs.lemmas.List.Sums.{sum_by-cons}
+use Rattle.std.proofs.lemmas.List.Sorted.{All-permutation, sum_by-IsPermutation}
+use Rattle.shop_bound.specs.declared.triples.Triple.{Triple}
+use Rattle.shop_bound.specs.declared.works.Work.{Work}
+use Rattle.shop_bound.specs.inner.Thresholds.{no_triple}
+use Rattle.shop_bound.specs.inner.Serving.{no_work, work_at, fresh, undone_of, Waits, IsServed, IsStop, IsReady}
+use Rattle.shop_bound.specs.inner.HeapOrders.{Coming, Waiting, by_head, by_tail}
+use Rattle.shop_bound.specs.inner.Queues.{coming_place, waiting_place, times, IsToCome, IsInLine}
+use Rattle.shop_bound.specs.inner.Queues.{AreQueued, ComeLater, IsNextRelease, IsBehind, IsFirst, TakesReleased}
+use Rattle.shop_bound.specs.inner.Queues.{IsQueue, IsWithoutFirst, KeepsRoom}
+use Rattle.shop_bound.specs.declared.queues.Queue.{Queue}
+use Rattle.shop_bound.proofs.TurnCounts.{undone_of-one}
+use Rattle.shop_bound.proofs.WorkSums.{triple_at, fresh-undone}
+
+-- how often a position stands in a list
+module _ {A : Type 0} (place : A → ℕ) where
+  pub times-none : (k : ℕ) (xs : List A) → length xs ≡ 0 → times place k xs ≡ 0
+  unfolding times
+  times-none k [] none = refl
+  times-none k (x ∷ xs) none = absurd (omega arith)
+
+  pub times-here : (k : ℕ) (x : A) (xs : List A) → place x ≡ k → times place k (x ∷ xs) ≡ times place k xs + 1
+  unfolding times
+  times-here k x xs e =
+      let a = sum_by-cons (λ (y : A). cond {A = ℕ} (place y == k) 1 0) x xs
+      in let b : cond {A = ℕ} (place x == k) 1 0 ≡ 1 = rw (eq-eqb (place x) k e) refl in omega arith
+
+  pub times-other : (k : ℕ) (x : A) (xs : List A) → place x ≢ k → times place k (x ∷ xs) ≡ times place k xs
+  unfolding times
+  times-other k x xs ne =
+      let a = sum_by-cons (λ (y : A). cond {A = ℕ} (place y == k) 1 0) x xs
+      in let b : cond {A = ℕ} (place x == k) 1 0 ≡ 0 = rw (ne_eqb (place x) k ne) refl in omega arith
+
+  pub times-permutation : (k : ℕ) (xs ys : List A) → IsPermutation xs ys → times place k ys ≡ times place k xs
+  unfolding times
+  times-permutation k xs ys p = sum_by-IsPermutation (λ (y : A). cond {A = ℕ} (place y == k) 1 0) xs ys p
+
+  -- one that stands there, and what holds of all holds of it
+  pub some_time : (P : A → Type 0) (k : ℕ) (xs : List A) → All P xs → 0 < times place k xs
+      → (x : A) × (place x ≡ k) × P x
+  some_time P k [] all some = absurd (let z = times-none k [] refl in omega arith)
+  some_time P k (x ∷ xs) all some = elim (cases_eq (place x) k) [
+    | inl e ↦ (x, e, All-head P x xs all)
+    | inr ne ↦ (let a = times-other k x xs ne in some_time P k xs (All-tail P x xs all) (omega arith))
+  ]
+
+  pub times-top : (k : ℕ) (xs : List A) (x : A) → 0 < length xs → x ≡ get_or xs 0 x → place x ≡ k
+      → 0 < times place k xs
+  times-top k [] x some top e = absurd (omega arith)
+  times-top k (y ∷ ys) x some top e =
+      let a = times-here k y ys (ap place (sym top) ∙ e) in omega arith
+
+  pub all-top : (P : A → Type 0) (xs : List A) (x : A) → 0 < length xs → x ≡ get_or xs 0 x → All P xs → P x
+  all-top P xs x some top all = subst P (sym top) (all 0 x some)
+
+-- what a heap's order says of its top
+then_less : (a b c d : ℕ) → is_lt (ordering_then (nat_cmp a b) (nat_cmp c d)) ≡ false
+    → (b < a) ⊎ ((b ≡ a) × (d ≤ c))
+then_less a b c d h = elim (cases_order a b) [
+  | inl e ↦ inr (sym e, ge_from_not_lt c d (rw (le-ltb a b (omega arith), eq-eqb a b e) at h))
+  | inr r ↦ elim r [
+    | inl l ↦ absurd (true≢false (rw (lt-ltb a b l) at h))
+    | inr g ↦ inl g
+  ]
+]
+
+pub least_from : (c : Coming) (cs : List Coming)
+    → AllByRecursion (λ d. is_lt (by_head c d) ≡ false) cs
+    → All (λ d. c.0.0 ≤ d.0.0) cs
+least_from c [] h = λ k d l. absurd (omega arith)
+least_from c (x ∷ xs) h = All-cons (λ (d : Coming). c.0.0 ≤ d.0.0) x xs
+    (elim (then_less x.0.0 c.0.0 c.1 x.1 h.0) [ inl l ↦ omega arith | inr e ↦ (let f = e.0 in omega arith) ])
+    (least_from c xs h.1)
+
+pub behind_from : (w : Waiting) (hs : List Waiting)
+    → AllByRecursion (λ h. is_lt (by_tail w h) ≡ false) hs
+    → All (IsBehind w) hs
+behind_from w [] h = λ k d l. absurd (omega arith)
+behind_from w (x ∷ xs) h =
+    All-cons (IsBehind w) x xs (then_less w.0 x.0 x.1.0 w.1.0 h.0) (behind_from w xs h.1)
+
+-- how many of an operation that is done, and of one that isn't
+count_done : (w : Work) → w.done ≡ true → undone_of w ≡ 0
+count_done w d = rw d refl
+
+count_undone : (w : Work) → w.done ≡ false → undone_of w ≡ 1
+count_undone w d = rw d refl
+
+undone_since : (w : Work) → 0 < undone_of w → w.done ≡ false
+undone_since w some = elim (cases_Bool w.done) [
+  | inl d ↦ absurd (let e = count_done w d in omega arith)
+  | inr d ↦ d
+]
+
+done_since : (w : Work) → undone_of w ≡ 0 → w.done ≡ true
+done_since w none = elim (cases_Bool w.done) [
+  | inl d ↦ d
+  | inr d ↦ absurd (let e = count_undone w d in omega arith)
+]
+
+module _ (ws : List Work) (clock : ℕ) (cs : List Coming) (hs : List Waiting) (q : AreQueued ws clock cs hs) where
+  -- one that is not done and isn't to come is in line
+  in_line : (k : ℕ) → k < length ws → (work_at ws k).done ≡ false → times coming_place k cs ≡ 0
+      → (P : Waiting → Type 0) → All P hs → (h : Waiting) × (waiting_place h ≡ k) × (IsInLine ws clock h × P h)
+  in_line k here undone none P all =
+      let o = q.once k here in let u = count_undone (work_at ws k) undone
+      in some_time waiting_place (λ h. IsInLine ws clock h × P h) k hs (λ i d l. (q.waiting i d l, all i d l))
+      (omega arith)
+
+  -- one that is not done and doesn't wait is to come
+  to_come : (k : ℕ) → k < length ws → (work_at ws k).done ≡ false → times waiting_place k hs ≡ 0
+      → (P : Coming → Type 0) → All P cs → (c : Coming) × (coming_place c ≡ k) × (IsToCome ws c × P c)
+  to_come k here undone none P all =
+      let o = q.once k here in let u = count_undone (work_at ws k) undone
+      in some_time coming_place (λ c. IsToCome ws c × P c) k cs (λ i d l. (q.coming i d l, all i d l))
+      (omega arith)
+
+  -- what was not released by the clock doesn't wait, and is not done
+  not_waiting : (k : ℕ) → clock < (work_at ws k).triple.head → times waiting_place k hs ≡ 0
+  not_waiting k late = elim (cases_lt 0 (times waiting_place k hs)) [
+    | inl some ↦ absurd (let s = some_time waiting_place (IsInLine ws clock) k hs q.waiting some
+        in let e = ap (λ (j : ℕ). (work_at ws j).triple.head) s.1
+        in let r = s.2.released in omega arith)
+    | inr none ↦ omega arith
+  ]
+
+  not_done : (k : ℕ) → k < length ws → clock < (work_at ws k).triple.head → (work_at ws k).done ≡ false
+  not_done k here late = elim (cases_Bool (work_at ws k).done) [
+    | inl d ↦ absurd (let p = q.passed k here d in omega arith)
+    | inr d ↦ d
+  ]
+
+  -- those to come are not done
+  coming_undone : (c : Coming) → 0 < length cs → c ≡ get_or cs 0 c → (work_at ws c.1).done ≡ false
+  coming_undone c some top =
+      let here = (all-top coming_place (IsToCome ws) cs c some top q.coming).here
+      in let o = q.once c.1 here in let t = times-top coming_place c.1 cs c some top refl
+      in undone_since (work_at ws c.1) (omega arith)
+
+  module _ (later : ComeLater clock cs) where
+    -- what is released isn't to come
+    not_coming : (k : ℕ) → (work_at ws k).triple.head ≤ clock → times coming_place k cs ≡ 0
+    not_coming k released = elim (cases_lt 0 (times coming_place k cs)) [
+      | inl some ↦ absurd (let s = some_time coming_place (λ c. IsToCome ws c × (clock < c.0.0)) k cs
+          (λ i d l. (q.coming i d l, later i d l)) some
+          in let e = ap (λ (j : ℕ). (work_at ws j).triple.head) s.1
+          in let h = s.2.0.head in let l = s.2.1 in omega arith)
+      | inr none ↦ omega arith
+    ]
+
+    -- the first of those that wait is served
+    pub first_served : (i : ℕ) → IsFirst hs (Some i) → IsServed (length ws) ws clock i
+    first_served i (h, f) =
+        let a = all-top waiting_place (IsInLine ws clock) hs h f.some f.top q.waiting
+        in let e = f.is
+        in let here : i < length ws = subst (λ (j : ℕ). j < length ws) e a.here
+        in let tail : h.0 ≡ (work_at ws i).triple.tail =
+        subst (λ (j : ℕ). h.0 ≡ (work_at ws j).triple.tail) e a.tail
+        in record {
+          seen = here;
+          undone = (let o = q.once i here in let t = times-top waiting_place i hs h f.some f.top e
+              in undone_since (work_at ws i) (omega arith));
+          released = subst (λ (j : ℕ). (work_at ws j).triple.head ≤ clock) e a.released;
+          greatest = λ k seen undone released. let w = in_line k seen undone (not_coming k released) (IsBehind h) f.behind
+              in let t = ap (λ (j : ℕ). (work_at ws j).triple.tail) w.1
+              in let s = w.2.0.tail
+              in elim w.2.1 [ inl l ↦ omega arith | inr b ↦ (let x = b.0 in omega arith) ];
+          lowest = λ k before undone released.
+              let w = in_line k (omega arith) undone (not_coming k released) (IsBehind h) f.behind
+              in let t = ap (λ (j : ℕ). (work_at ws j).triple.tail) w.1
+              in let s = w.2.0.tail
+              in elim w.2.1 [
+                | inl l ↦ omega arith
+                | inr b ↦ absurd (let x = b.1 in let y = w.1 in omega arith)
+              ];
+        }
+
+    -- where none waits, none is released that is not done
+    pub none_waits : IsFirst hs None → (k : ℕ) → Waits ws clock k → ⊥
+    none_waits none k w = let e = in_line k w.here w.undone (not_coming k w.released) (λ h. Unit {0}) (λ i d l. tt)
+        in let z = times-none waiting_place k hs none
+        in let o = q.once k w.here in let u = count_undone (work_at ws k) w.undone
+        in let c = not_coming k w.released in omega arith
+
+    -- what is ready
+    pub ready_now : (r : Option ℕ) → IsFirst hs r → is_some r ≡ true → IsReady ws clock clock
+    ready_now None first some = absurd (true≢false (sym some))
+    ready_now (Some i) first some =
+        let s = first_served i first
+        in inl ((i, record { here = s.seen; undone = s.undone; released = s.released }), refl)
+
+    pub ready_later : IsFirst hs None → (head : ℕ) → IsNextRelease cs (Some head) → IsReady ws clock head
+    ready_later none head (c, n) = inr (inl (record {
+      later = (let l = all-top coming_place (λ d. clock < d.0.0) cs c n.some n.top later in let e = n.is in omega arith);
+      least = λ k here undone. (let s = to_come k here undone (times-none waiting_place k hs none) (λ d. head ≤ d.0.0)
+          n.least
+          in let h = s.2.0.head in let l = s.2.1
+          in let e = ap (λ (j : ℕ). (work_at ws j).triple.head) s.1 in omega arith);
+      reason = (let a = all-top coming_place (IsToCome ws) cs c n.some n.top q.coming
+          in (c.1, a.here, coming_undone c n.some n.top, sym a.head ∙ n.is));
+    }))
+
+    pub ready_done : IsFirst hs None → IsNextRelease cs None → IsReady ws clock clock
+    ready_done none over = inr (inr (
+      λ k here. (let o = q.once k here in let a = times-none waiting_place k hs none
+          in let b = times-none coming_place k cs over in done_since (work_at ws k) (omega arith)),
+      refl,
+    ))
+
+    -- when a turn stops
+    pub stops : (r : Option ℕ) (end stop : ℕ) → IsNextRelease cs r → clock ≤ end
+        → MatchOption r (stop ≡ end) (λ head. stop ≡ min head end) → IsStop (length ws) ws clock end stop
+    stops None end stop over after e = record {
+      later = omega arith;
+      by_end = omega arith;
+      by_release = λ k here late. absurd (let o = q.once k here
+          in let u = count_undone (work_at ws k) (not_done k here late)
+          in let a = not_waiting k late in let b = times-none coming_place k cs over in omega arith);
+      reason = inl e;
+    }
+    stops (Some head) end stop (c, n) after e =
+        let a = all-top coming_place (IsToCome ws) cs c n.some n.top q.coming
+        in let l = all-top coming_place (λ d. clock < d.0.0) cs c n.some n.top later
+        in let i = n.is in let h = a.head
+        in record {
+          later = omega arith;
+          by_end = omega arith;
+          by_release = λ k here late. (let s = to_come k here (not_done k here late) (not_waiting k late)
+              (λ d. head ≤ d.0.0) n.least
+              in let g = s.2.0.head in let m = s.2.1
+              in let t = ap (λ (j : ℕ). (work_at ws j).triple.head) s.1 in omega arith);
+          reason = elim (cases_lt end head) [
+            | inl less ↦ inl (omega arith)
+            | inr more ↦ inr (c.1, a.here, omega arith, omega arith)
+          ];
+        }
+
+pub first_none : (hs : List Waiting) (r : Option ℕ) → IsFirst hs r → is_some r ≡ false → IsFirst hs None
+first_none hs None first none = first
+first_none hs (Some i) first none = absurd (true≢false none)
+
+-- one that is released is an operation of the list
+pub taken_here : (ws : List Work) (clock : ℕ) (cs rest : List Coming) (hs : List Waiting) (k : ℕ)
+    → AreQueued ws clock cs hs → TakesReleased clock cs rest (Some k) → k < length ws
+taken_here ws clock cs rest hs k q t = subst (λ (j : ℕ). j < length ws) t.3
+    (All-head (IsToCome ws) t.0 rest (All-permutation (IsToCome ws) cs (t.0 ∷ rest) t.1 q.coming)).here
+
+-- a later clock, and a work that is served
+pub queued_later : (ws : List Work) (clock later : ℕ) (cs : List Coming) (hs : List Waiting)
+    → AreQueued ws clock cs hs → clock ≤ later → AreQueued ws later cs hs
+queued_later ws clock later cs hs q more = record {
+  coming = q.coming;
+  waiting = λ i d l. let a = q.waiting i d l in let r = a.released
+      in record { here = a.here; tail = a.tail; released = omega arith };
+  once = q.once;
+  passed = λ k here done. let a = q.passed k here done in omega arith;
+}
+
+module _ (ws : List Work) (i : ℕ) (v : Work) (lt : i < length ws) (same : v.triple ≡ (work_at ws i).triple) where
+  set_coming : (c : Coming) → IsToCome ws c → IsToCome (set ws i v) c
+  set_coming c a = record {
+    here = let h = a.here in omega (arith, length-set ws i v);
+    head = a.head ∙ sym (ap (λ (t : Triple). t.head) (triple_at ws i v lt same c.1));
+  }
+
+  set_waiting : (clock : ℕ) (h : Waiting) → IsInLine ws clock h → IsInLine (set ws i v) clock h
+  set_waiting clock h a = let e = triple_at ws i v lt same h.1.0 in record {
+    here = let l = a.here in omega (arith, length-set ws i v);
+    tail = a.tail ∙ sym (ap (λ (t : Triple). t.tail) e);
+    released = let r = a.released in let f = ap (λ (t : Triple). t.head) e in omega arith;
+  }
+
+  -- an operation that is held back
+  pub queued_held : (clock : ℕ) (cs : List Coming) (hs : List Waiting) → AreQueued ws clock cs hs
+      → v.done ≡ (work_at ws i).done → AreQueued (set ws i v) clock cs hs
+  queued_held clock cs hs q done = record {
+    coming = λ j d l. set_coming (get_or cs j d) (q.coming j d l);
+    waiting = λ j d l. set_waiting clock (get_or hs j d) (q.waiting j d l);
+    once = λ k here. let o = q.once k (omega (arith, length-set ws i v))
+        in o ∙ ap (λ (b : Bool). cond {A = ℕ} b 0 1) (sym (done_at k));
+    passed = λ k here was. let p = q.passed k (omega (arith, length-set ws i v)) (sym (done_at k) ∙ was)
+        in let f = ap (λ (t : Triple). t.head) (triple_at ws i v lt same k) in omega arith;
+  } where
+    done_at : (k : ℕ) → (work_at (set ws i v) k).done ≡ (work_at ws k).done
+    done_at k = elim (cases_eq k i) [
+      | inl e ↦ subst (λ (j : ℕ). (work_at (set ws i v) j).done ≡ (work_at ws j).done) (sym e)
+          (ap (λ (w : Work). w.done) (get_or-set_same ws i v no_work lt) ∙ done)
+      | inr ne ↦ ap (λ (w : Work). w.done) (get_or-set_other ws i k v no_work ne)
+    ]
+
+  -- the first, once it has ended
+  pub queued_done : (clock : ℕ) (cs : List Coming) (hs rest : List Waiting) → AreQueued ws clock cs hs
+      → v.done ≡ true → (work_at ws i).triple.head ≤ clock → (h : Waiting) → waiting_place h ≡ i
+      → IsPermutation hs (h ∷ rest) → AreQueued (set ws i v) clock cs rest
+  queued_done clock cs hs rest q done released h is p = record {
+    coming = λ j d l. set_coming (get_or cs j d) (q.coming j d l);
+    waiting = λ j d l. set_waiting clock (get_or rest j d)
+        (All-tail (IsInLine ws clock) h rest (All-permutation (IsInLine ws clock) hs (h ∷ rest) p q.waiting) j d l);
+    once = λ k here. once_after k (omega (arith, length-set ws i v));
+    passed = λ k here was. passed_after k (omega (arith, length-set ws i v)) was;
+  } where
+    once_after : (k : ℕ) → k < length ws
+        → times coming_place k cs + times waiting_place k rest ≡ undone_of (work_at (set ws i v) k)
+    once_after k here =
+        let o = q.once k here in let m = times-permutation waiting_place k hs (h ∷ rest) p
+        in elim (cases_eq k i) [
+          | inl e ↦ (let t = times-here waiting_place k h rest (is ∙ sym e)
+              in let w : work_at (set ws i v) k ≡ v =
+              ap (λ (j : ℕ). work_at (set ws i v) j) e ∙ get_or-set_same ws i v no_work lt
+              in let z = count_done (work_at (set ws i v) k) (ap (λ (x : Work). x.done) w ∙ done)
+              in let b = undone_of-one (work_at ws k) in omega arith)
+          | inr ne ↦ (let t = times-other waiting_place k h rest (λ f. ne (sym f ∙ is))
+              in let w = ap undone_of (get_or-set_other ws i k v no_work ne) in omega arith)
+        ]
+
+    passed_after : (k : ℕ) → k < length ws → (work_at (set ws i v) k).done ≡ true
+        → (work_at (set ws i v) k).triple.head ≤ clock
+    passed_after k here was =
+        let f = ap (λ (t : Triple). t.head) (triple_at ws i v lt same k)
+        in elim (cases_eq k i) [
+          | inl e ↦ (let g = ap (λ (j : ℕ). (work_at ws j).triple.head) e in omega arith)
+          | inr ne ↦ (let p = q.passed k here (sym (ap (λ (w : Work). w.done) (get_or-set_other ws i k v no_work ne)) ∙ was)
+              in omega arith)
+        ]
+
+-- a turn that is held back, and one that ends, for the whole queue
+pub queue_held : (ws : List Work) (clock i stop : ℕ) (v : Work) (q : Queue) → IsQueue ws clock q
+    → IsServed (length ws) ws clock i → v.triple ≡ (work_at ws i).triple → v.done ≡ false → clock ≤ stop
+    → IsQueue (set ws i v) stop q
+queue_held ws clock i stop v q is s same done later = record {
+  are = queued_held ws i v s.seen same stop _ _ (queued_later ws clock stop _ _ is.are later) (done ∙ sym s.undone);
+  room = is.room;
+}
+
+pub queue_done : (ws : List Work) (clock i end : ℕ) (v : Work) (q r : Queue) → IsQueue ws clock q
+    → IsServed (length ws) ws clock i → v.triple ≡ (work_at ws i).triple → v.done ≡ true → clock ≤ end
+    → IsFirst (heap_items q.waiting) (Some i) → IsWithoutFirst (heap_items q.waiting) (heap_items r.waiting)
+    → heap_len r.waiting + 1 ≡ heap_len q.waiting → heap_capacity r.waiting ≡ heap_capacity q.waiting
+    → r.coming ≡ q.coming → IsQueue (set ws i v) end r
+queue_done ws clock i end v q r is s same done later first without fewer room coming =
+    let f = first.1
+    in let released = s.released
+    in let all = queued_done ws i v s.seen same end (heap_items q.coming) (heap_items q.waiting) (heap_items r.waiting)
+    (queued_later ws clock end _ _ is.are later) done (omega arith) first.0 f.is (without first.0 f.top)
+    in let old = is.room
+    in record {
+      are = rw coming all;
+      room = rw coming (omega arith);
+    }
+
+-- one of those to come that waits from now on
+pub queued_more : (ws : List Work) (clock : ℕ) (cs rest : List Coming) (hs more : List Waiting) (c : Coming) (h : Waiting)
+    → AreQueued ws clock cs hs → IsPermutation cs (c ∷ rest) → c.0.0 ≤ clock → IsPermutation (h ∷ hs) more
+    → waiting_place h ≡ coming_place c → h.0 ≡ (work_at ws c.1).triple.tail → AreQueued ws clock rest more
+queued_more ws clock cs rest hs more c h q p released m is tail =
+    let all = All-permutation (IsToCome ws) cs (c ∷ rest) p q.coming
+    in let here = All-head (IsToCome ws) c rest all
+    in record {
+      coming = All-tail (IsToCome ws) c rest all;
+      waiting = All-permutation (IsInLine ws clock) (h ∷ hs) more m (All-cons (IsInLine ws clock) h hs (record {
+        here = subst (λ (j : ℕ). j < length ws) (sym is) here.here;
+        tail = tail ∙ ap (λ (j : ℕ). (work_at ws j).triple.tail) (sym is);
+        released = (let e = here.head in let f = ap (λ (j : ℕ). (work_at ws j).triple.head) is in omega arith);
+      }) q.waiting);
+      once = λ k lt. let o = q.once k lt in let a = times-permutation coming_place k cs (c ∷ rest) p
+          in let b = times-permutation waiting_place k (h ∷ hs) more m
+          in elim (cases_eq (coming_place c) k) [
+            | inl e ↦ (let x = times-here coming_place k c rest e
+                in let y = times-here waiting_place k h hs (is ∙ e) in omega arith)
+            | inr ne ↦ (let x = times-other coming_place k c rest ne
+                in let y = times-other waiting_place k h hs (λ f. ne (sym is ∙ f)) in omega arith)
+          ];
+      passed = q.passed;
+    }
+
+pub queue_more : (ws : List Work) (clock k : ℕ) (q p r : Queue) → IsQueue ws clock q
+    → TakesReleased clock (heap_items q.coming) (heap_items p.coming) (Some k)
+    → heap_len p.coming + 1 ≡ heap_len q.coming → p.waiting ≡ q.waiting → r.coming ≡ p.coming → (h : Waiting)
+    → IsPermutation (h ∷ heap_items p.waiting) (heap_items r.waiting) → waiting_place h ≡ k
+    → h.0 ≡ (work_at ws k).triple.tail → heap_len r.waiting ≡ heap_len p.waiting + 1
+    → heap_capacity p.waiting ≤ heap_capacity r.waiting → IsQueue ws clock r
+queue_more ws clock k q p r is taken fewer waits comes h more place tail longer room =
+    let all = queued_more ws clock (heap_items q.coming) (heap_items p.coming) (heap_items q.waiting) (heap_items r.waiting)
+    taken.0 h is.are taken.1 taken.2 (rw waits at more) (place ∙ sym taken.3)
+    (tail ∙ ap (λ (j : ℕ). (work_at ws j).triple.tail) (sym taken.3))
+    in let old = is.room in let a = rw waits at longer in let b = rw waits at room
+    in record { are = rw comes all; room = rw comes (omega arith) }
+
+-- all operations to come
+pub record AreListed (ts : List Triple) (n : ℕ) (cs : List Coming) : Type 0 where
+  pub each : All (λ c. (c.1 < n) × (c.0.0 ≡ (get_or ts c.1 no_triple).head)) cs
+  pub once : (k : ℕ) → k < n → times coming_place k cs ≡ 1
+
+pub listed_more : (ts : List Triple) (n : ℕ) (cs more : List Coming) (c : Coming) → AreListed ts n cs
+    → IsPermutation (c ∷ cs) more → c.1 ≡ n → c.0.0 ≡ (get_or ts n no_triple).head → AreListed ts (n + 1) more
+listed_more ts n cs more c a p is head = record {
+  each = All-permutation (Listed (n + 1)) (c ∷ cs) more p (All-cons (Listed (n + 1)) c cs
+      (omega arith, head ∙ ap (λ (j : ℕ). (get_or ts j no_triple).head) (sym is))
+      (λ k d l. let e = a.each k d l in let b = e.0 in (omega arith, e.1)));
+  once = λ k lt. let b = times-permutation coming_place k (c ∷ cs) more p
+      in elim (cases_eq (coming_place c) k) [
+        | inl e ↦ (let x = times-here coming_place k c cs e
+            in let none : times coming_place k cs ≡ 0 = never k (omega arith) in omega arith)
+        | inr ne ↦ (let x = times-other coming_place k c cs ne in let o = a.once k (omega arith) in omega arith)
+      ];
+} where
+  Listed : ℕ → Coming → Type 0
+  Listed m c = (c.1 < m) × (c.0.0 ≡ (get_or ts c.1 no_triple).head)
+
+  never : (k : ℕ) → n ≤ k → times coming_place k cs ≡ 0
+  never k past = elim (cases_lt 0 (times coming_place k cs)) [
+    | inl some ↦ absurd (let s = some_time coming_place (Listed n) k cs a.each some
+        in let b = s.2.0 in let e = s.1 in omega arith)
+    | inr none ↦ omega arith
+  ]
+
+pub queued_all : (ts : List Triple) (n : ℕ) (cs : List Coming) → n ≡ length ts → AreListed ts n cs
+    → AreQueued (map fresh ts) 0 cs []
+queued_all ts n cs whole a = record {
+  coming = λ k d l. let e = a.each k d l in let b = e.0 in record {
+    here = omega (arith, length-map ts fresh);
+    head = e.1 ∙ sym (ap (λ (t : Triple). t.head) (fresh_at ts (get_or cs k d).1));
+  };
+  waiting = λ k d l. absurd (omega arith);
+  once = λ k l. let o = a.once k (omega (arith, length-map ts fresh))
+      in let z = times-none waiting_place k [] refl
+      in let u = count_undone (work_at (map fresh ts) k) (fresh-undone ts k) in omega arith;
+  passed = λ k l done. absurd (true≢false (sym done ∙ fresh-undone ts k));
+} where
+  fresh_at : (ts : List Triple) (k : ℕ) → (work_at (map fresh ts) k).triple ≡ get_or ts k no_triple
+  fresh_at [] k = refl
+  fresh_at (t ∷ ts) zero = refl
+  fresh_at (t ∷ ts) (suc k) = fresh_at ts k
+
+pub room_kept : (a b c : Queue) → KeepsRoom a b → KeepsRoom b c → KeepsRoom a c
+room_kept a b c h k =
+    let x = h.coming in let y = k.coming in let u = h.waiting in let v = k.waiting
+    in record { coming = omega arith; waiting = omega arith }

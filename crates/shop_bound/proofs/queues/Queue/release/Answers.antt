@@ -1,0 +1,26 @@
+use Rattle.std.proofs.Common.{◌≡◌, ◌<◌, arith, length, refl, rules}
+use Rattle.std.specs.BinaryHeap.{heap_capacity}
+use Rattle.shop_bound.proofs.QueueTurns.{queue_more, taken_here}
+use Rattle.shop_bound.proofs.queues.Queue.release.Goals as goal
+
+pub offset_bounds-works-position : goal.offset_bounds-works-position
+offset_bounds-works-position c =
+    let here : c.in-Some.position < length c.args.works.now =
+    taken_here _ _ _ _ _ c.in-Some.position c.loop-position.invariant.queue.are c.in-Some.ensures.taken in search rules
+
+pub bounds-works-position : goal.bounds-works-position
+bounds-works-position c =
+    taken_here _ _ _ _ _ c.in-Some.position c.loop-position.invariant.queue.are c.in-Some.ensures.taken
+
+pub loop-position-preserved : goal.loop-position-preserved
+loop-position-preserved c =
+    let v = c.loop-position.invariant in let t = c.in-Some.ensures in let p = c.push.ensures
+    in let coming = v.room.coming in let waiting = v.room.waiting
+    in let same : heap_capacity c.pop_released.new.self.waiting ≡ heap_capacity c.loop-position.self.waiting =
+    rw t.waiting refl
+    in record {
+      queue = queue_more c.args.works.now c.args.clock c.in-Some.position c.loop-position.self c.pop_released.new.self _ v.queue
+          t.taken t.fewer t.waiting refl _ (rw c.unwrap.ensures at p.permutation) refl refl
+          (rw c.unwrap.ensures at p.len) p.capacity;
+      room = record { coming = omega arith; waiting = omega arith };
+    }

@@ -1,0 +1,93 @@
+-- The operations that are not done, by position.
+--     IsQueue ws clock q             each that is not done is to come or waits, once; those that
+--                                    wait are released by the clock
+--     IsNextRelease cs head          the least head of those to come; none where none is
+--     IsFirst hs i                   the one of those that wait that is served; none where none waits
+use Rattle.std.specs.Prelude.{◌≡◌, ℕ, ◌+◌, ◌<◌, ◌≤◌, ◌⊎◌, ◌==◌, true, cond, Option, Some, None}
+use Rattle.std.specs.Prelude.{List, ◌∷◌, length, sum_by, slice_index_or, All, IsPermutation}
+use Rattle.std.specs.BinaryHeap.{heap_items, heap_len, heap_capacity}
+use Rattle.shop_bound.specs.declared.queues.Queue.{Queue}
+use Rattle.shop_bound.specs.declared.works.Work.{Work}
+use Rattle.shop_bound.specs.inner.HeapOrders.{Coming, Waiting}
+use Rattle.shop_bound.specs.inner.Serving.{work_at, undone_of}
+
+-- the position of one to come, and of one that waits
+abbrev pub coming_place : Coming → ℕ
+coming_place c = c.1
+
+abbrev pub waiting_place : Waiting → ℕ
+waiting_place h = h.1.0
+
+-- how often position k stands in a list
+unfoldable pub times : {A : Type 0} → (A → ℕ) → ℕ → List A → ℕ
+times {A} place k xs = sum_by (λ (x : A). cond {A = ℕ} (place x == k) 1 0) xs
+
+pub record IsToCome (ws : List Work) (c : Coming) : Type 0 where
+  pub here : c.1 < length ws
+  pub head : c.0.0 ≡ (work_at ws c.1).triple.head
+
+pub record IsInLine (ws : List Work) (clock : ℕ) (h : Waiting) : Type 0 where
+  pub here : h.1.0 < length ws
+  pub tail : h.0 ≡ (work_at ws h.1.0).triple.tail
+  pub released : (work_at ws h.1.0).triple.head ≤ clock
+
+pub record AreQueued (ws : List Work) (clock : ℕ) (cs : List Coming) (hs : List Waiting) : Type 0 where
+  pub coming : All (IsToCome ws) cs
+  pub waiting : All (IsInLine ws clock) hs
+  pub once : (k : ℕ) → k < length ws
+      → times coming_place k cs + times waiting_place k hs ≡ undone_of (work_at ws k)
+  pub passed : (k : ℕ) → k < length ws → (work_at ws k).done ≡ true
+      → (work_at ws k).triple.head ≤ clock
+
+-- and there is room for all of them to wait
+pub record IsQueue (ws : List Work) (clock : ℕ) (q : Queue) : Type 0 where
+  pub are : AreQueued ws clock (heap_items q.coming) (heap_items q.waiting)
+  pub room : heap_len q.waiting + heap_len q.coming ≤ heap_capacity q.waiting
+
+-- those to come are released after the clock
+abbrev pub ComeLater : ℕ → List Coming → Type 0
+ComeLater clock cs = All (λ c. clock < c.0.0) cs
+
+-- c is on top, and no head is less than this one
+pub record IsNext (cs : List Coming) (head : ℕ) (c : Coming) : Type 0 where
+  pub some : 0 < length cs
+  pub top : c ≡ slice_index_or cs 0 c
+  pub is : c.0.0 ≡ head
+  pub least : All (λ d. head ≤ d.0.0) cs
+
+abbrev pub IsNextRelease : List Coming → Option ℕ → Type 0
+IsNextRelease cs None = length cs ≡ 0
+IsNextRelease cs (Some head) = (c : Coming) × IsNext cs head c
+
+-- one of less tail, or of the same tail and no lower position
+abbrev pub IsBehind : Waiting → Waiting → Type 0
+IsBehind first h = (h.0 < first.0) ⊎ ((h.0 ≡ first.0) × (first.1.0 ≤ h.1.0))
+
+pub record IsServedFirst (hs : List Waiting) (i : ℕ) (h : Waiting) : Type 0 where
+  pub some : 0 < length hs
+  pub top : h ≡ slice_index_or hs 0 h
+  pub is : h.1.0 ≡ i
+  pub behind : All (IsBehind h) hs
+
+abbrev pub IsFirst : List Waiting → Option ℕ → Type 0
+IsFirst hs None = length hs ≡ 0
+IsFirst hs (Some i) = (h : Waiting) × IsServedFirst hs i h
+
+-- without the one on top
+abbrev pub IsWithoutFirst : List Waiting → List Waiting → Type 0
+IsWithoutFirst hs rest = (h : Waiting) → h ≡ slice_index_or hs 0 h → IsPermutation hs (h ∷ rest)
+
+-- the one that is taken out is released by the clock; none where all come later
+abbrev pub TakesReleased : ℕ → List Coming → List Coming → Option ℕ → Type 0
+TakesReleased clock cs rest None = (rest ≡ cs) × ComeLater clock cs
+TakesReleased clock cs rest (Some k) =
+    (c : Coming) × IsPermutation cs (c ∷ rest) × (c.0.0 ≤ clock) × (c.1 ≡ k)
+
+-- for n operations
+pub record HasRoom (n : ℕ) (q : Queue) : Type 0 where
+  pub coming : n ≤ heap_capacity q.coming
+  pub waiting : n ≤ heap_capacity q.waiting
+
+pub record KeepsRoom (old new : Queue) : Type 0 where
+  pub coming : heap_capacity old.coming ≤ heap_capacity new.coming
+  pub waiting : heap_capacity old.waiting ≤ heap_capacity new.waiting

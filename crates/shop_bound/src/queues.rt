@@ -1,0 +1,109 @@
+// The operations of one machine that are not done: those to come, and those that wait.
+ghost use Rattle.std.specs.Prelude.{◌≡◌, ℕ, ◌+◌, ◌<◌, ◌≤◌, IfOk, OnSome, length, map};
+ghost use Rattle.std.specs.BinaryHeap.{IsHeap, heap_capacity, heap_items, heap_len};
+ghost use Rattle.std.proofs.Props.{props};
+ghost use Rattle.shop_bound.specs.inner.HeapOrders.{by_head, by_tail};
+
+use crate::triples::Triple;
+use crate::works::Work;
+use std::alloc::{AllocError, Global};
+use std::cmp::Reverse;
+use std::collections::BinaryHeap;
+
+/// Operations of a list, by their positions in it.
+#[derive(Drop)]
+pub(crate) struct Queue {
+    /// heads and positions of those to come, the least head on top
+    coming: BinaryHeap<(Reverse<u64>, usize)>,
+    /// tails and positions of those that wait, the greatest tail on top, the lowest position on ties
+    waiting: BinaryHeap<(u64, Reverse<usize>)>,
+    ghost least_first: { IsHeap by_head (heap_items coming) } by { Prim.hlevel props },
+    ghost greatest_first: { IsHeap by_tail (heap_items waiting) } by { Prim.hlevel props },
+}
+
+impl Queue {
+    ghost use Rattle.shop_bound.specs.inner.Serving.{fresh};
+    ghost use Rattle.shop_bound.specs.inner.Queues.{ComeLater, HasRoom, IsFirst, IsNextRelease};
+    ghost use Rattle.shop_bound.specs.inner.Queues.{IsQueue, IsWithoutFirst, KeepsRoom, TakesReleased};
+
+    /// Of no operation, with room for n. Fails with `AllocError` if memory runs out.
+    pub(crate) fn with_room(alloc: Global, n: usize) -> Result<Queue, AllocError>
+        ensures { IfOk result (λ q. HasRoom n q) }
+    {
+        let coming = BinaryHeap::with_capacity(alloc, n)?;
+        let waiting = BinaryHeap::with_capacity(alloc, n)?;
+        Ok(Queue { coming, waiting })
+    }
+
+    /// All operations of the list are to come, and none waits.
+    pub(crate) fn fill(&mut self, triples: &[Triple])
+        requires { HasRoom (length triples.now) self.old }
+        ensures queue { IsQueue (map fresh triples.now) 0 self.new }
+        ensures room { KeepsRoom self.old self.new }
+    {
+        self.coming.clear();
+        self.waiting.clear();
+        for i in 0..triples.len() {
+            self.coming.push((Reverse(triples[i].head), i)).unwrap();
+        }
+    }
+
+    /// The next release: the least head of those to come.
+    pub(crate) fn next_release(&self) -> Option<u64>
+        ensures { IsNextRelease (heap_items self.now.coming) result }
+    {
+        match self.coming.peek() {
+            Some(next) => Some(next.0.0),
+            None => None,
+        }
+    }
+
+    /// The operation to be served: of those that wait, that of greatest tail, and first of these in the list.
+    pub(crate) fn first(&self) -> Option<usize>
+        ensures { IsFirst (heap_items self.now.waiting) result }
+    {
+        match self.waiting.peek() {
+            Some(first) => Some(first.1.0),
+            None => None,
+        }
+    }
+
+    /// Takes out the next of those to come, if it is released by the clock.
+    fn pop_released(&mut self, clock: u64) -> Option<usize>
+        ensures taken { TakesReleased clock (heap_items self.old.coming) (heap_items self.new.coming) result }
+        ensures fewer { OnSome result (heap_len self.new.coming + 1 ≡ heap_len self.old.coming) }
+        ensures room { heap_capacity self.new.coming ≡ heap_capacity self.old.coming }
+        ensures waiting { self.new.waiting ≡ self.old.waiting }
+    {
+        let release = self.next_release()?;
+        if clock < release {
+            return None;
+        }
+        let (_head, position) = self.coming.pop()?;
+        Some(position)
+    }
+
+    /// Those that are released by the clock wait.
+    pub(crate) fn release(&mut self, works: &[Work], clock: u64)
+        requires { IsQueue works.now clock self.old }
+        ensures queue { IsQueue works.now clock self.new }
+        ensures later { ComeLater clock (heap_items self.new.coming) }
+        ensures room { KeepsRoom self.old self.new }
+    {
+        while let Some(position) = self.pop_released(clock) {
+            let tail = works[position].triple.tail;
+            self.waiting.push((tail, Reverse(position))).unwrap();
+        }
+    }
+
+    /// The operation that is served has ended; one waits.
+    pub(crate) fn finish(&mut self)
+        requires { 0 < heap_len self.old.waiting }
+        ensures first { IsWithoutFirst (heap_items self.old.waiting) (heap_items self.new.waiting) }
+        ensures fewer { heap_len self.new.waiting + 1 ≡ heap_len self.old.waiting }
+        ensures room { heap_capacity self.new.waiting ≡ heap_capacity self.old.waiting }
+        ensures coming { self.new.coming ≡ self.old.coming }
+    {
+        let _served = self.waiting.pop().unwrap();
+    }
+}
