@@ -4,8 +4,14 @@
  * says in its outcome how it ended. It opens no file, prints nothing, starts no thread and keeps nothing from one call
  * to the next, so calls may run side by side on different rooms. Texts need no zero byte at their end, and get none.
  *
- * A caller owes that each pointer leads to as many bytes as it says, and that nobody writes there while a call runs. A
- * null pointer counts as a text of no bytes, or as no name, no schedule, or the default options.
+ * A caller owes:
+ *   - each pointer leads to as many bytes as it says, and nobody writes there while a call runs;
+ *   - `gantt` is 0 or 1, since another byte passes the guard;
+ *   - a call has 24 KB of stack, whatever the instance; a thread of the least size, 16 KB, is too small for a search,
+ *     and a main thread is large enough unless its limit was lowered;
+ *   - no call is made in a signal handler, nor in the child of a fork of a process with threads: calls use malloc.
+ *
+ * A null pointer counts as a text of no bytes, or as no name, no schedule, or the default options.
  */
 #ifndef JOBSHOP_H
 #define JOBSHOP_H
@@ -13,6 +19,16 @@
 #include <stdbool.h>
 #include <stddef.h>
 #include <stdint.h>
+
+/* The version of this header; `jobshop_version` tells that of the library. The number is 10000 times the first part,
+ * 100 times the second, and the third. */
+#define JOBSHOP_VERSION "1.0.0"
+#define JOBSHOP_VERSION_NUMBER 10000
+
+/* Room for any report, to which the bytes of the instance's name are added: 100000 starts of at most 16 digits, each
+ * behind a blank; 9 bytes more for each of 1000 jobs; 86 for each of 100 lines of the Gantt text; and 9 other lines of
+ * at most 28. These make 1717852. */
+#define JOBSHOP_LONGEST_REPORT 1800000
 
 #ifdef __cplusplus
 extern "C" {
@@ -71,7 +87,7 @@ typedef struct {
 
 #define JOBSHOP_DEFAULTS {1000, 100000, 1, JOBSHOP_KEPT, false}
 
-/* The version, as "1.0.0". */
+/* The version of the library, as "1.0.0". */
 const char *jobshop_version(void);
 
 /* The instances of a text: a line for each, with name, jobs and machines. */
@@ -83,8 +99,8 @@ jobshop_outcome jobshop_check(uint32_t format, const char *name, size_t name_len
                               size_t text_length, const char *schedule, size_t schedule_length, char *room,
                               size_t room_length);
 
-/* Reports the best schedule that the plan finds, with a proved lower bound. A search whose answer doesn't fit has to be
- * run again: 1800000 bytes, and those of the name, are enough for any report. */
+/* Reports the best schedule that the plan finds, with a proved lower bound. A search whose report doesn't fit has to be
+ * run again, so give it JOBSHOP_LONGEST_REPORT bytes and those of the name. */
 jobshop_outcome jobshop_solve(uint32_t format, const char *name, size_t name_length, const jobshop_options *options,
                               const char *text, size_t text_length, char *room, size_t room_length);
 

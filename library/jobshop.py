@@ -1,26 +1,42 @@
 """An exact solver of the job shop whose answers are proved: the library behind the program `jobshop`, for Python.
 
     import jobshop
-    report = jobshop.solve(open("ft06.txt").read())
+    text = open("ft06.txt").read()
+    report = jobshop.solve(text)
     print(report.makespan, report.bound, report.is_optimal, report.starts)
-    verdict = jobshop.check(open("ft06.txt").read(), report.text)
-    print(verdict.is_feasible, verdict.line)
+    verdict = jobshop.check(text, report.starts)
+    print(verdict.makespan, verdict.fault)
 
-Texts are `str` or `bytes`, in the formats of the program; what is answered is what it prints, byte for byte. A refusal
-is a `Refused`, with the number and the line that the program says. A call keeps nothing, and lets other threads run.
+A text is `str` or bytes in a format of the program, and never a path. The text of a report and the line of a verdict
+are those that the program prints, byte for byte. A text that is refused raises `Refused`. A call keeps nothing, and
+lets other threads run.
+
+Ctrl-C ends the wait for `solve` with KeyboardInterrupt. The search itself can't be stopped: it goes on in a thread of
+its own until it is done or Python ends. To stop a search while Python goes on, run the program `jobshop` in its place.
+
 The shared library is looked for beside this file, in a folder lib above it, or where JOBSHOP_LIBRARY says.
 """
 
 import ctypes
+import operator
 import os
+from _thread import start_new_thread
+from collections.abc import Iterable
 from pathlib import Path
-from typing import NamedTuple, Optional
+from queue import SimpleQueue
+from threading import current_thread, main_thread
+from typing import NamedTuple, Optional, Union
 
+Text = Union[str, bytes, bytearray, memoryview]
+# the starts of each job
+Starts = Iterable[Iterable[int]]
+
+TEXTS = (str, bytes, bytearray, memoryview)
 FORMATS = ("orlib", "taillard", "routes")
 ORDERS = ("kept", "bound")
 TOO_SMALL = 100
 BAD_ARGUMENT = 101
-# but for its name no report is longer
+# JOBSHOP_LONGEST_REPORT of jobshop.h
 LONGEST_REPORT = 1_800_000
 WORDS = {
     1: "out of memory",
@@ -40,16 +56,31 @@ WORDS = {
 class Refused(ValueError):
     """A text is refused: `kind` is the number of the refusal and `line` its line, or None where it has none."""
 
-    def __init__(self, kind, line=None):
+    def __init__(self, kind: int, line: Optional[int] = None) -> None:
         self.kind = kind
         self.line = line or None
-        super().__init__(f"error {kind}: " + (f"line {line}: " if line else "") + WORDS[kind])
+        super().__init__(kind, line)
+
+    def __str__(self) -> str:
+        return f"error {self.kind}: " + (f"line {self.line}: " if self.line else "") + WORDS[self.kind]
 
 
 class Instance(NamedTuple):
     name: str
     jobs: int
     machines: int
+
+
+class Fault(NamedTuple):
+    """The first fault of a schedule: the step of the job begins before the job's release ("unreleased") or before the
+    step before it ends ("early"), or shares the machine with the other step for a while ("overlap")."""
+
+    kind: str
+    job: int
+    step: int
+    machine: Optional[int] = None
+    other_job: Optional[int] = None
+    other_step: Optional[int] = None
 
 
 class Verdict(NamedTuple):
@@ -59,9 +90,20 @@ class Verdict(NamedTuple):
     line: str
 
     @property
-    def makespan(self):
+    def makespan(self) -> Optional[int]:
         """The makespan of a feasible schedule; None where it isn't."""
         return int(self.line.split()[1]) if self.is_feasible else None
+
+    @property
+    def fault(self) -> Optional[Fault]:
+        """The first fault of an infeasible schedule; None where it is feasible."""
+        if self.is_feasible:
+            return None
+        numbers = [int(word) for word in self.line.split() if word.isdigit()]
+        if " overlap " in self.line:
+            machine, job, step, *other = numbers
+            return Fault("overlap", job, step, machine, *other)
+        return Fault("unreleased" if self.line.endswith("release") else "early", *numbers[:2])
 
 
 class Report(NamedTuple):
@@ -75,7 +117,7 @@ class Report(NamedTuple):
     open_nodes: int
     rounds: int
     nodes: int
-    starts: list
+    starts: list[list[int]]
 
 
 class _Outcome(ctypes.Structure):
@@ -103,7 +145,7 @@ def _load():
     named = os.environ.get("JOBSHOP_LIBRARY")
     found = named or next((place for place in places if place.exists()), None)
     if not found:
-        raise ImportError("libjobshop.so.1 isn't beside jobshop.py, nor in a folder lib above it: set JOBSHOP_LIBRARY")
+        raise ImportError(f"libjobshop.so.1 is neither in {here} nor in a folder lib above it: set JOBSHOP_LIBRARY")
     library = ctypes.CDLL(os.fspath(found))
     text = [ctypes.c_char_p, ctypes.c_size_t]
     calls = {
@@ -119,15 +161,37 @@ def _load():
 
 
 _library = _load()
-__version__ = _library.jobshop_version().decode()
+__version__: str = _library.jobshop_version().decode()
 
 
 def _bytes(text):
-    """A text and its length as a call takes them; None is no text."""
-    if text is None:
-        return None, 0
+    """A text and its length as a call takes them."""
+    if not isinstance(text, TEXTS):
+        raise TypeError(f"a text is str or bytes, not {type(text).__name__}")
     text = text.encode() if isinstance(text, str) else bytes(text)
     return text, len(text)
+
+
+def _name(name):
+    """A name and its length as a call takes them; None is no name."""
+    if name is None:
+        return None, 0
+    try:
+        name, length = _bytes(name)
+        name.decode()
+    except UnicodeError:
+        raise ValueError("the name isn't UTF-8") from None
+    return name, length
+
+
+def _schedule(schedule):
+    """A schedule's text and its length as a call takes them; None is no schedule."""
+    if schedule is None:
+        return None, 0
+    if isinstance(schedule, Iterable) and not isinstance(schedule, TEXTS):
+        rows = (" ".join(str(operator.index(start)) for start in row) for row in schedule)
+        schedule = "".join(f"job {job}: {row}\n" for job, row in enumerate(rows))
+    return _bytes(schedule)
 
 
 def _number_of(word, words):
@@ -137,54 +201,74 @@ def _number_of(word, words):
 
 
 def _answer(length, call, *arguments):
-    """The outcome and the bytes that a call answers, in a room of this length or of as much as it takes."""
-    while True:
-        room = ctypes.create_string_buffer(length)
-        outcome = call(*arguments, room, length)
-        if outcome.status == 0:
-            return outcome, room.raw[: outcome.length].decode()
-        if outcome.status == BAD_ARGUMENT:
-            raise ValueError("an option is out of range")
-        if outcome.status != TOO_SMALL:
-            raise Refused(outcome.status, outcome.line)
-        length = outcome.length
+    """The outcome and the text that a call answers, for which a room of this length is enough."""
+    room = ctypes.create_string_buffer(length)
+    outcome = call(*arguments, room, length)
+    if outcome.status == BAD_ARGUMENT:
+        raise ValueError("an option is out of range")
+    if outcome.status == TOO_SMALL:
+        raise RuntimeError(f"the answer has {outcome.length} bytes, and its room {length}")
+    if outcome.status:
+        raise Refused(outcome.status, outcome.line)
+    return outcome, ctypes.string_at(room, outcome.length).decode()
 
 
-def instances(text, format="orlib"):
+def _apart(call):
+    """The call, which a thread of its own makes where it would keep Ctrl-C from the main thread."""
+
+    def begin(*arguments):
+        outcomes = SimpleQueue()
+        start_new_thread(lambda: outcomes.put(call(*arguments)), ())
+        return outcomes.get()
+
+    return begin if current_thread() is main_thread() else call
+
+
+def instances(text: Text, format: str = "orlib") -> list[Instance]:
     """The instances of a text, as `list` prints them."""
     text, length = _bytes(text)
-    outcome, lines = _answer(length + 4096, _library.jobshop_list, _number_of(format, FORMATS), text, length)
+    # an instance has at least 6 bytes, as "1 1\n0\n", and then a line of at most 12, as "2000000 1 1\n"
+    room = 2 * length + 64
+    _, lines = _answer(room, _library.jobshop_list, _number_of(format, FORMATS), text, length)
     rows = (line.split(" ") for line in lines.splitlines())
     return [Instance(name, int(jobs), int(machines)) for name, jobs, machines in rows]
 
 
-def check(text, schedule: Optional[str] = None, *, name: Optional[str] = None, format="orlib"):
-    """Judges a schedule of the first instance of a text, or of that of a name. Without one it stands in the text."""
-    arguments = [_number_of(format, FORMATS), *_bytes(name), *_bytes(text), *_bytes(schedule)]
+def check(
+    text: Text,
+    schedule: Union[Text, Starts, None] = None,
+    *,
+    name: Optional[Text] = None,
+    format: str = "orlib",
+) -> Verdict:
+    """Judges a schedule of the first instance of a text, or of that of a name. The schedule is a text, or a list with
+    the starts of each job; without one it stands in the text of the instance."""
+    arguments = [_number_of(format, FORMATS), *_name(name), *_bytes(text), *_schedule(schedule)]
     outcome, line = _answer(256, _library.jobshop_check, *arguments)
     return Verdict(outcome.feasible, line.rstrip("\n"))
 
 
 def solve(
-    text,
-    rounds=1000,
-    budget=100_000,
-    piece=1,
-    order="kept",
+    text: Text,
+    rounds: int = 1000,
+    budget: int = 100_000,
+    piece: int = 1,
+    order: str = "kept",
     *,
-    gantt=False,
-    name: Optional[str] = None,
-    format="orlib",
-):
+    gantt: bool = False,
+    name: Optional[Text] = None,
+    format: str = "orlib",
+) -> Report:
     """Searches a schedule of least makespan by a plan, with one worker, and reports it with a proved lower bound."""
     numbers = (rounds, 100_000), (budget, 10_000_000), (piece, 1_000)
     if any(not 0 <= number <= most for number, most in numbers):
         raise ValueError("an option is out of range")
     options = _Options(rounds, budget, piece, _number_of(order, ORDERS), gantt)
     text, length = _bytes(text)
-    arguments = [_number_of(format, FORMATS), *_bytes(name), ctypes.byref(options), text, length]
-    outcome, report = _answer(min(5 * length + 65536, LONGEST_REPORT) + length, _library.jobshop_solve, *arguments)
-    return _read(report)
+    arguments = [_number_of(format, FORMATS), *_name(name), ctypes.byref(options), text, length]
+    # a step has at least 4 bytes in the text and at most 17 in the report, a name is part of the text
+    room = min(5 * length + 65_536, LONGEST_REPORT) + length
+    return _read(_answer(room, _apart(_library.jobshop_solve), *arguments)[1])
 
 
 def _read(report):
