@@ -1,4 +1,5 @@
 // Who searches which piece, by either crew: workers that meet at the gate, and one worker.
+ghost use Rattle.std.specs.Prelude.{◌<◌};
 ghost use Rattle.std.specs.Thread.{IsSync};
 
 use crate::rounds::{RoundTest, in_second_round, in_third_round};

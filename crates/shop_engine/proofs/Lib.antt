@@ -6,10 +6,17 @@ pub mod RefusedTexts
 pub mod SolvedSchedules
 pub mod OneReport
 pub mod WholeRun
+pub mod TextLimits
+pub mod Comparing
 pub mod Relaxing
 pub mod Scaling
 pub mod Renaming
+pub mod Reversing
 pub mod LeastOnes
 pub mod WalksAbove
 pub mod LaterBounds
 pub mod Floors
+pub mod Optima
+pub mod MetBounds
+pub mod ReportedAnswers
+pub mod Rows

@@ -77,7 +77,7 @@ chart_of : Reported → Bool → List ℕ
 chart_of r gantt = if gantt then gantt_text r.shop (starts_of r.table) else []
 
 -- the lines of a report and of what is drawn behind it
-lines_are : (r : Reported) (chart written : List ℕ) → list_all is_visible r.name ≡ true
+pub lines_are : (r : Reported) (chart written : List ℕ) → list_all is_visible r.name ≡ true
     → written ≡ text_of (report_lines r) ++ chart
     → lines_of written ≡ map (join_with_byte 32) (report_lines r) ++ lines_of chart
 lines_are r chart written visible e = ap lines_of e ∙ front (report_lines r) chart

@@ -1,102 +1,18 @@
--- Tables of an instance and of a renamed one.
-use Rattle.std.proofs.Common.{◌≡◌, ℕ, zero, suc, ◌+◌, ◌≤◌, ◌<◌, inl, inr, List, [], ◌∷◌, length, get_or, map, refl, sym}
-use Rattle.std.proofs.Common.{ap, ◌∙◌, subst, arith}
+-- Machines under other names, and jobs in another order.
+use Rattle.std.proofs.Common.{◌≡◌, ℕ, zero, suc, ◌<◌, cond, eqb, inl, inr, List, [], ◌∷◌, length, get_or}
+use Rattle.std.proofs.Common.{map, refl, sym, ap, ◌∙◌, arith}
+use Rattle.std.specs.List.{swap}
+use Rattle.std.specs.List.Sorted.{IsPermutation}
+use Rattle.std.proofs.lemmas.Bool.{cases_eq, eq-eqb, ne_eqb}
 use Rattle.std.proofs.lemmas.List.{length-map}
+use Rattle.std.proofs.lemmas.List.Edits.{swapped_from_swap}
+use Rattle.std.proofs.lemmas.List.Sorted.{IsPermutation-keeps, IsPermutation-sym}
 use Rattle.shop_model.specs.declared.ops.Op.{Op}
-use Rattle.shop_model.specs.Shop.{Shop, ShopJob, Starts, no_job, no_op, release_of, route_of, machine_of, time_of}
-use Rattle.shop_model.specs.Shop.{IsOperation, IsFeasible, AreDifferent, end_of, IsLeast}
-use Rattle.shop_model.proofs.Ends.{le-end_of, end_of-le}
-use Rattle.shop_engine.specs.Renaming.{IsRenaming, renamed_op, renamed_job, renamed_machines, RenamingKeepsTheLeast}
-
-module _ (shop other : Shop) (r : IsRenaming shop other) where
-  at_home : (j k : ℕ) → IsOperation other j k → IsOperation shop (r.from j) k
-  at_home j k op = (r.operations (r.from j) k).1 (subst (λ i. IsOperation other i k) (sym (r.back j)) op)
-
-  time_home : (j k : ℕ) → IsOperation other j k → time_of other j k ≡ time_of shop (r.from j) k
-  time_home j k op = subst (λ i. time_of other i k ≡ time_of shop (r.from j) k) (r.back j)
-      (r.times (r.from j) k (at_home j k op))
-
-  release_home : (j : ℕ) → IsOperation other j 0 → release_of other j ≡ release_of shop (r.from j)
-  release_home j op = subst (λ i. release_of other i ≡ release_of shop (r.from j)) (r.back j)
-      (r.releases (r.from j) (at_home j 0 op))
-
-  machine_back : (j k : ℕ) → machine_of other (r.to (r.from j)) k ≡ machine_of other j k
-  machine_back j k = ap (λ (i : ℕ). machine_of other i k) (r.back j)
-
-  machine_home : (j k i l : ℕ) → IsOperation other j k → IsOperation other i l
-      → machine_of other j k ≡ machine_of other i l → machine_of shop (r.from j) k ≡ machine_of shop (r.from i) l
-  machine_home j k i l op second same = (r.machines (r.from j) k (r.from i) l (at_home j k op) (at_home i l second)).1
-      (machine_back j k ∙ same ∙ sym (machine_back i l))
-
-  machine_there : (j k i l : ℕ) → IsOperation other j k → IsOperation other i l
-      → machine_of shop (r.from j) k ≡ machine_of shop (r.from i) l → machine_of other j k ≡ machine_of other i l
-  machine_there j k i l op second same =
-      sym (machine_back j k)
-      ∙ (r.machines (r.from j) k (r.from i) l (at_home j k op) (at_home i l second)).0 same ∙ machine_back i l
-
-  different_home : (j k i l : ℕ) → AreDifferent j k i l → AreDifferent (r.from j) k (r.from i) l
-  different_home j k i l different both = different (sym (r.back j) ∙ ap r.to both.0 ∙ r.back i, both.1)
-
-  -- a table under the other names
-  renamed : Starts → Starts
-  renamed starts j k = starts (r.from j) k
-
-  renamed_feasible : (starts : Starts) → IsFeasible shop starts → IsFeasible other (renamed starts)
-  unfolding renamed
-  renamed_feasible starts f = record {
-    released = λ j op. let e = release_home j op in let h = f.released (r.from j) (at_home j 0 op) in omega arith;
-    in_order = λ j k op. let before : IsOperation other j k = omega arith in let e = time_home j k before
-        in let h = f.in_order (r.from j) k (at_home j (k + 1) op) in omega arith;
-    apart = λ j k i l op second same different. let e = time_home j k op in let g = time_home i l second
-        in elim (f.apart (r.from j) k (r.from i) l (at_home j k op) (at_home i l second)
-        (machine_home j k i l op second same) (different_home j k i l different)) [
-          | inl h ↦ inl (omega arith)
-          | inr h ↦ inr (omega arith)
-        ];
-  }
-
-  renamed_end : (starts : Starts) → end_of other (renamed starts) ≤ end_of shop starts
-  unfolding renamed
-  renamed_end starts = end_of-le other (renamed starts) (end_of shop starts)
-      (λ i l op. let e = time_home i l op in let h = le-end_of shop starts (r.from i) l (at_home i l op) in omega arith)
-
-  -- the names turned back
-  turned : IsRenaming other shop
-  turned = record {
-    to = r.from;
-    from = r.to;
-    there = r.back;
-    back = r.there;
-    operations = λ j k. (
-      at_home j k,
-      λ op. subst (λ i. IsOperation other i k) (r.back j) ((r.operations (r.from j) k).0 op),
-    );
-    releases = λ j op. sym (release_home j op);
-    times = λ j k op. sym (time_home j k op);
-    machines = λ j k i l op second. (machine_home j k i l op second, machine_there j k i l op second);
-  }
-
-least_there : (shop other : Shop) → IsRenaming shop other → (c : ℕ) → IsLeast shop c → IsLeast other c
-least_there shop other r c least = record {
-  table = renamed shop other r least.table;
-  feasible = feasible;
-  ends = (let a = renamed_end shop other r least.table in let b = below (renamed shop other r least.table) feasible
-      in let e = least.ends in omega arith);
-  least = below;
-}
-  where
-    back : IsRenaming other shop
-    back = turned shop other r
-
-    feasible : IsFeasible other (renamed shop other r least.table)
-    feasible = renamed_feasible shop other r least.table least.feasible
-
-    below : (starts : Starts) → IsFeasible other starts → c ≤ end_of other starts
-    below starts f =
-        let a = least.least (renamed other shop (turned shop other r) starts)
-        (renamed_feasible other shop (turned shop other r) starts f)
-        in let b = renamed_end other shop (turned shop other r) starts
-        in omega arith
+use Rattle.shop_model.specs.Shop.{Shop, ShopJob, no_job, no_op, release_of, route_of, machine_of, time_of, IsOperation}
+use Rattle.shop_engine.specs.Easier.{AsksNoMore, AskTheSame}
+use Rattle.shop_engine.specs.Relaxations.{IsRelaxation, shop_with}
+use Rattle.shop_engine.specs.Renaming.{renamed_op, renamed_job, renamed_machines, RenamingAsksTheSame}
+use Rattle.shop_engine.proofs.Relaxing.{relaxed, moved_jobs}
 
 -- ---- machines under other names
 
@@ -132,56 +48,96 @@ module _ (f : ℕ → ℕ) where
   length_is : (shop : Shop) (j : ℕ) → length (route_of (renamed_machines f shop) j) ≡ length (route_of shop j)
   length_is shop j = ap length (route_at shop.jobs j) ∙ length-map (route_of shop j) (renamed_op f)
 
-  machines : ((m n : ℕ) → f m ≡ f n → m ≡ n) → (shop : Shop) → IsRenaming shop (renamed_machines f shop)
-  machines one shop = record {
-    to = λ j. j;
-    from = λ j. j;
-    there = λ j. refl;
-    back = λ j. refl;
-    operations = λ j k. (
-      λ op. (let e = length_is shop j in omega arith),
-      λ op. (let e = length_is shop j in omega arith),
-    );
-    releases = λ j op. release_at shop.jobs j;
-    times = λ j k op. ap (λ (os : List Op). (get_or os k no_op).time) (route_at shop.jobs j)
-        ∙ time_at (route_of shop j) k;
-    machines = λ j k i l op second. (
-      λ same. machine_is shop j k op ∙ ap f same ∙ sym (machine_is shop i l second),
-      λ same. one (machine_of shop j k) (machine_of shop i l)
-          (sym (machine_is shop j k op) ∙ same ∙ machine_is shop i l second),
-    );
-  }
+  module _ (one : (m n : ℕ) → f m ≡ f n → m ≡ n) (shop : Shop) where
+    time_is : (j k : ℕ) → time_of (renamed_machines f shop) j k ≡ time_of shop j k
+    time_is j k = ap (λ (os : List Op). (get_or os k no_op).time) (route_at shop.jobs j) ∙ time_at (route_of shop j) k
+
+    release_is : (j : ℕ) → release_of (renamed_machines f shop) j ≡ release_of shop j
+    release_is j = release_at shop.jobs j
+
+    there : (j k : ℕ) → IsOperation shop j k → IsOperation (renamed_machines f shop) j k
+    there j k op = let e = length_is shop j in omega arith
+
+    back : (j k : ℕ) → IsOperation (renamed_machines f shop) j k → IsOperation shop j k
+    back j k op = let e = length_is shop j in omega arith
+
+    eased : IsRelaxation shop (renamed_machines f shop)
+    eased = record {
+      job = λ j. j;
+      step = λ j k. k;
+      operations = there;
+      in_order = λ j k op. omega arith;
+      different = λ j k i l op other different. different;
+      times = λ j k op. let e = time_is j k in omega arith;
+      releases = λ j op. let e = release_is j in omega arith;
+      machines = λ j k i l op other same. machine_is shop j k op ∙ ap f same ∙ sym (machine_is shop i l other);
+    }
+
+    eased_back : IsRelaxation (renamed_machines f shop) shop
+    eased_back = record {
+      job = λ j. j;
+      step = λ j k. k;
+      operations = back;
+      in_order = λ j k op. omega arith;
+      different = λ j k i l op other different. different;
+      times = λ j k op. let e = time_is j k in omega arith;
+      releases = λ j op. let e = release_is j in omega arith;
+      machines = λ j k i l op other same. one (machine_of shop j k) (machine_of shop i l)
+          (sym (machine_is shop j k (back j k op)) ∙ same ∙ machine_is shop i l (back i l other));
+    }
+
+    machines : AskTheSame shop (renamed_machines f shop)
+    machines = (
+      relaxed shop (renamed_machines f shop) eased,
+      relaxed (renamed_machines f shop) shop eased_back,
+    )
 
 -- ---- jobs in another order
 
-jobs : (shop other : Shop) (to from : ℕ → ℕ) → ((j : ℕ) → from (to j) ≡ j) → ((j : ℕ) → to (from j) ≡ j)
-    → ((j : ℕ) → get_or other.jobs (to j) no_job ≡ get_or shop.jobs j no_job) → IsRenaming shop other
-jobs shop other to from there back same = record {
-  to = to;
-  from = from;
-  there = there;
-  back = back;
-  operations = λ j k. (
-    λ op. (let e = ap (λ (x : ShopJob). length x.route) (same j) in omega arith),
-    λ op. (let e = ap (λ (x : ShopJob). length x.route) (same j) in omega arith),
-  );
-  releases = λ j op. ap (λ (x : ShopJob). x.release) (same j);
-  times = λ j k op. ap (λ (x : ShopJob). (get_or x.route k no_op).time) (same j);
-  machines = λ j k i l op second. (
-    λ e. machine j k ∙ e ∙ sym (machine i l),
-    λ e. sym (machine j k) ∙ e ∙ machine i l,
-  );
-}
-  where
-    machine : (j k : ℕ) → machine_of other (to j) k ≡ machine_of shop j k
-    machine j k = ap (λ (x : ShopJob). (get_or x.route k no_op).machine) (same j)
+-- a and b in each other's place
+turned : ℕ → ℕ → ℕ → ℕ
+turned a b j = cond (eqb j a) b (cond (eqb j b) a j)
 
-pub renaming_keeps_the_least : RenamingKeepsTheLeast
-renaming_keeps_the_least = record {
-  least = λ shop other r c. (
-    least_there shop other r c,
-    least_there other shop (turned shop other r) c,
-  );
+turned_back : (a b j : ℕ) → turned a b (turned a b j) ≡ j
+unfolding turned
+turned_back a b j = elim (cases_eq j a) [
+  | inl e ↦ (let x = eq-eqb j a e in elim (cases_eq b a) [
+    | inl g ↦ (let y = eq-eqb b a g in rw (x, y) (g ∙ sym e))
+    | inr n ↦ (let y = ne_eqb b a n in let z = eq-eqb b b refl in rw (x, y, z) (sym e))
+  ])
+  | inr n ↦ (let x = ne_eqb j a n in elim (cases_eq j b) [
+    | inl e ↦ (let y = eq-eqb j b e in let z = eq-eqb a a refl in rw (x, y, z) (sym e))
+    | inr m ↦ (let y = ne_eqb j b m in rw (x, y, x, y) refl)
+  ])
+]
+
+turned_one : (a b j i : ℕ) → turned a b j ≡ turned a b i → j ≡ i
+turned_one a b j i e = sym (turned_back a b j) ∙ ap (turned a b) e ∙ turned_back a b i
+
+module _ (jobs : List ShopJob) (a b : ℕ) (low : a < length jobs) (high : b < length jobs) where
+  turned_same : (j : ℕ) → get_or jobs (turned a b j) no_job ≡ get_or (swap jobs a b) j no_job
+  unfolding turned
+  turned_same j =
+      let moved = swapped_from_swap jobs (swap jobs a b) a b no_job low high refl
+      in elim (cases_eq j a) [
+        | inl e ↦ rw (eq-eqb j a e) (sym moved.0 ∙ ap (λ (i : ℕ). get_or (swap jobs a b) i no_job) (sym e))
+        | inr n ↦ elim (cases_eq j b) [
+          | inl e ↦ rw (ne_eqb j a n, eq-eqb j b e)
+              (sym moved.1 ∙ ap (λ (i : ℕ). get_or (swap jobs a b) i no_job) (sym e))
+          | inr m ↦ rw (ne_eqb j a n, ne_eqb j b m) (sym (moved.2 j n m))
+        ]
+      ]
+
+any_order : (machines : ℕ) (jobs others : List ShopJob) → IsPermutation jobs others
+    → AsksNoMore (shop_with machines others) (shop_with machines jobs)
+any_order machines jobs others p =
+    IsPermutation-keeps jobs (λ ys. AsksNoMore (shop_with machines ys) (shop_with machines jobs)) (λ c h. h)
+    (λ ys a b low high less c h. relaxed (shop_with machines (swap ys a b)) (shop_with machines ys)
+    (moved_jobs (shop_with machines (swap ys a b)) (shop_with machines ys) (turned a b) (turned_one a b)
+    (turned_same ys a b low high)) c (less c h)) others p
+
+pub renaming_asks_the_same : RenamingAsksTheSame
+renaming_asks_the_same = record {
   machines = machines;
-  jobs = jobs;
+  jobs = λ m jobs others p. (any_order m others jobs (IsPermutation-sym jobs others p), any_order m jobs others p);
 }

@@ -28,7 +28,7 @@ right asked a gantt written t printable e = record {
   feasible = t.feasible;
   ends = t.ends;
   bound = t.answer_is.bound;
-  optimal = t.answer_is.least;
+  optimal = λ none. (t.answer_is.least none).least;
 }
 
 reported : List ℕ → Shop → List (List ℕ) → ℕ → ℕ → ℕ → ℕ → ℕ → Reported

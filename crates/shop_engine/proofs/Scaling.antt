@@ -1,13 +1,15 @@
 -- Tables of an instance and of the scaled one.
 use Rattle.std.proofs.Common.{◌≡◌, ℕ, zero, suc, ◌+◌, ◌*◌, ◌/◌, ◌≤◌, ◌<◌, inl, inr, List, [], ◌∷◌, length, get_or, map, refl}
 use Rattle.std.proofs.Common.{sym, ap, ◌∙◌, arith}
+use Rattle.std.proofs.lemmas.Bool.{cases_lt}
 use Rattle.std.proofs.lemmas.Nat.{le-div}
 use Rattle.std.proofs.lemmas.List.{length-map}
-use Rattle.std.proofs.Math.Nat.{mul-le-mul_left}
+use Rattle.std.proofs.Math.Nat.{mul-le-mul_left, mul-lt-mul_of_pos_left}
 use Rattle.shop_model.specs.declared.ops.Op.{Op}
 use Rattle.shop_model.specs.Shop.{Shop, ShopJob, Starts, no_job, no_op, release_of, route_of, machine_of, time_of}
-use Rattle.shop_model.specs.Shop.{IsOperation, IsFeasible, end_of}
+use Rattle.shop_model.specs.Shop.{IsOperation, IsFeasible, end_of, IsLeast}
 use Rattle.shop_model.proofs.Ends.{le-end_of, end_of-le}
+use Rattle.shop_engine.specs.Headline.{IsBound}
 use Rattle.shop_engine.specs.Scaling.{scaled_op, scaled_job, scaled, ScalingKeepsTheLeast}
 
 module _ (k : ℕ) where
@@ -117,18 +119,53 @@ module _ (k : ℕ) (shop : Shop) where
         in let m = mul-le-mul_left k a
         in omega arith
 
+    mul_le_back : (a b : ℕ) → k * a ≤ k * b → a ≤ b
+    mul_le_back a b h = elim (cases_lt b a) [
+      | inl less ↦ absurd (let m = mul-lt-mul_of_pos_left less some in omega arith)
+      | inr most ↦ most
+    ]
+
+    bound_there : (b : ℕ) → IsBound shop b → IsBound (scaled k shop) (k * b)
+    bound_there b bound starts f =
+        let a = bound (whole starts) (whole_feasible starts f)
+        in let e = whole_end starts
+        in let m = mul-le-mul_left k a
+        in omega arith
+
+    bound_back : (b : ℕ) → IsBound (scaled k shop) (k * b) → IsBound shop b
+    bound_back b bound starts f =
+        let a = bound (longer starts) (longer_feasible starts f)
+        in let e = longer_end starts
+        in mul_le_back b (end_of shop starts) (omega arith)
+
+    least_there : (c : ℕ) → IsLeast shop c → IsLeast (scaled k shop) (k * c)
+    least_there c least =
+        let table = longer least.table
+        in let feasible = longer_feasible least.table least.feasible
+        in let below = bound_there c least.least
+        in record {
+          table = table;
+          feasible = feasible;
+          ends = (let a = longer_end least.table in let b = below table feasible
+              in let e = ap (λ (n : ℕ). k * n) least.ends in omega arith);
+          least = below;
+        }
+
+    least_back : (c : ℕ) → IsLeast (scaled k shop) (k * c) → IsLeast shop c
+    least_back c least =
+        let table = whole least.table
+        in let feasible = whole_feasible least.table least.feasible
+        in let below = bound_back c least.least
+        in record {
+          table = table;
+          feasible = feasible;
+          ends = (let a = whole_end least.table in let e = least.ends in let b = below table feasible
+              in let m = mul_le_back (end_of shop table) c (omega arith) in omega arith);
+          least = below;
+        }
+
 pub scaling_keeps_the_least : ScalingKeepsTheLeast
-scaling_keeps_the_least k shop c some least = record {
-  table = longer k shop least.table;
-  feasible = longer_feasible k shop least.table least.feasible;
-  ends = (let a = longer_end k shop least.table
-      in let b = whole_end k shop some (longer k shop least.table)
-      in let d = least.least (whole k shop some (longer k shop least.table))
-      (whole_feasible k shop some (longer k shop least.table) (longer_feasible k shop least.table least.feasible))
-      in let m = mul-le-mul_left k d in let e = ap (λ (n : ℕ). k * n) least.ends in omega arith);
-  least = λ starts f.
-      let a = least.least (whole k shop some starts) (whole_feasible k shop some starts f)
-      in let b = whole_end k shop some starts
-      in let m = mul-le-mul_left k a
-      in omega arith;
+scaling_keeps_the_least = record {
+  least = λ k shop c some. (least_there k shop some c, least_back k shop some c);
+  bounds = λ k shop b some. (bound_there k shop some b, bound_back k shop some b);
 }

@@ -16,13 +16,13 @@
 --     finish_of shop starts j k         its start and its time
 --     IsFeasible shop starts            releases, routes and machines are kept
 --     end_of shop starts                the greatest finish
---     IsLeast shop c                    a feasible schedule ends at c, and none before
+--     IsBound shop b                    no feasible schedule ends before b
 --     HasShape, starts_of               a table in rows has a start for each operation; the
 --                                       schedule that it gives
 --     report_text                       the lines of a report
 use Rattle.std.specs.Prelude.{◌≡◌, ℕ, ◌≤◌, ◌<◌, ◌^◌, Bool, List, ◌++◌, Option}
 use Rattle.std.specs.Prelude.{Some, Result, IsOk}
-use Rattle.shop_model.specs.Shop.{Starts, IsFeasible, end_of, IsLeast}
+use Rattle.shop_model.specs.Shop.{Shop, Starts, IsFeasible, end_of}
 use Rattle.shop_model.specs.Limits.{AreStarts}
 use Rattle.shop_model.specs.Checking.{HasShape, starts_of}
 use Rattle.shop_text.specs.Texts.{NamedShop}
@@ -45,6 +45,10 @@ pub record IsPrintable (r : Reported) : Type 0 where
   pub rounds : r.rounds < 2 ^ 64
   pub nodes : r.nodes < 2 ^ 64
 
+-- no feasible schedule ends before b
+abbrev pub IsBound : Shop → ℕ → Type 0
+IsBound shop b = (s : Starts) → IsFeasible shop s → b ≤ end_of shop s
+
 -- (a) It is a report, with the Gantt text of its table behind it where that is asked for and else
 -- nothing, and what it says is so.
 pub record IsRight (asked : NamedShop) (gantt : Bool) (written : List ℕ) : Type 0 where
@@ -58,9 +62,9 @@ pub record IsRight (asked : NamedShop) (gantt : Bool) (written : List ℕ) : Typ
   pub feasible : IsFeasible asked.shop (starts_of report.table)
   pub ends : end_of asked.shop (starts_of report.table) ≡ report.makespan
   -- no feasible schedule ends before the bound
-  pub bound : (s : Starts) → IsFeasible asked.shop s → report.bound ≤ end_of asked.shop s
-  -- the status is optimal where no node is open; then no feasible schedule ends before the makespan
-  pub optimal : report.open_nodes ≡ 0 → IsLeast asked.shop report.makespan
+  pub bound : IsBound asked.shop report.bound
+  -- the status is optimal where no node is open; then none ends before the makespan
+  pub optimal : report.open_nodes ≡ 0 → IsBound asked.shop report.makespan
 
 -- (b) It is the report of the plan's answer.
 abbrev pub IsDetermined : NamedShop → Planned → Bool → List ℕ → Type 0

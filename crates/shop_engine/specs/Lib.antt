@@ -9,10 +9,16 @@ pub mod Solving
 pub mod SolvedSchedules
 pub mod Refusing
 pub mod WholeRun
+pub mod TextLimits
 pub mod LeastMakespans
+pub mod Easier
 pub mod Relaxations
 pub mod Scaling
 pub mod Renaming
+pub mod Reversing
 pub mod Floors
 pub mod LaterBounds
+pub mod Optimal
+pub mod MetBounds
+pub mod ReportedAnswers
 pub mod inner

@@ -1,0 +1,84 @@
+-- A schedule that ends at a bound is a least one.
+use Rattle.std.proofs.Common.{◌≡◌, ℕ, ◌<◌, ◌^◌, Bool, List, [], ◌∷◌, Option, get_or, drop, sym, ◌∙◌}
+use Rattle.std.proofs.Common.{ap, subst, arith}
+use Rattle.std.specs.Fmt.{decimal}
+use Rattle.std.proofs.lemmas.Fmt.{decimal_injective}
+use Rattle.std.proofs.lemmas.List.{append_cancel_right}
+use Rattle.shop_model.specs.Shop.{Shop, end_of, IsLeast}
+use Rattle.shop_model.specs.Limits.{IsWithinLimits, AreStarts}
+use Rattle.shop_model.specs.Checking.{EndsAt, starts_of, IsVerdict}
+use Rattle.shop_model.specs.declared.checking.Verdict.{Verdict}
+use Rattle.shop_model.specs.declared.checking.Verdict.TheVariants.{Feasible, WrongSize, Unreleased, Early, Overlap}
+use Rattle.shop_model.proofs.Ends.{end_of-le}
+use Rattle.shop_text.specs.Texts.{NamedShop}
+use Rattle.shop_text.specs.Writing.{verdict_text}
+use Rattle.shop_text.specs.declared.formats.Format.{Format}
+use Rattle.shop_text.proofs.TableRows.{table_within}
+use Rattle.shop_engine.specs.Checking.{IsVerdictOn, IsCheckOf}
+use Rattle.shop_engine.specs.Headline.{IsBound, IsRightOf}
+use Rattle.shop_engine.specs.MetBounds.{MetBoundsAreLeast}
+use Rattle.shop_engine.proofs.SolvedSchedules.{one_asked}
+use Rattle.shop_engine.proofs.TextLimits.{asked_within}
+
+-- a table of small starts ends early enough for its end to be printed in full
+end_small : (shop : Shop) (rows : List (List ℕ)) → IsWithinLimits shop → AreStarts rows
+    → end_of shop (starts_of rows) < 2 ^ 64
+end_small shop rows limits small =
+    let a = end_of-le shop (starts_of rows) 1000001000000000
+    (λ i l op. let s = small i l in let t = limits.times i l in omega arith)
+    in omega arith
+
+-- the line of a feasible table is no other's
+feasible_line : (c d : ℕ) → c < 2 ^ 64 → d < 2 ^ 64 → verdict_text (Feasible d) ≡ verdict_text (Feasible c) → d ≡ c
+feasible_line c d small low e = decimal_injective d c low small
+    (append_cancel_right (decimal d) (decimal c) (10 ∷ []) (ap (λ (line : List ℕ). drop 9 line) e))
+
+first_byte : List ℕ → ℕ
+first_byte line = get_or line 0 0
+
+ends_at : (shop : Shop) (rows : List (List ℕ)) (v : Verdict) (c : ℕ) → IsVerdict shop rows v
+    → end_of shop (starts_of rows) < 2 ^ 64 → c < 2 ^ 64 → verdict_text v ≡ verdict_text (Feasible c)
+    → EndsAt shop rows c
+unfolding first_byte
+ends_at shop rows (Feasible d) c h low small e =
+    let same = feasible_line c d small (let x = h.2 in omega arith) e
+    in (h.0, h.1, sym same ∙ h.2)
+ends_at shop rows WrongSize c h low small e = absurd (let x : 105 ≡ 102 = ap first_byte e in omega arith)
+ends_at shop rows (Unreleased j) c h low small e = absurd (let x : 105 ≡ 102 = ap first_byte e in omega arith)
+ends_at shop rows (Early j k) c h low small e = absurd (let x : 105 ≡ 102 = ap first_byte e in omega arith)
+ends_at shop rows (Overlap m p q) c h low small e = absurd (let x : 105 ≡ 102 = ap first_byte e in omega arith)
+
+met : (shop : Shop) (schedule line : List ℕ) (feasible : Bool) (c : ℕ) → IsWithinLimits shop → c < 2 ^ 64
+    → IsVerdictOn shop schedule feasible line → line ≡ verdict_text (Feasible c) → IsBound shop c → IsLeast shop c
+met shop schedule line feasible c limits small v e bound =
+    let ends = ends_at shop v.rows v.verdict c v.is_verdict
+    (end_small shop v.rows limits (table_within shop schedule v.rows v.is_table)) small (sym v.says ∙ e)
+    in record {
+      table = starts_of v.rows;
+      feasible = ends.1;
+      ends = sym ends.2;
+      least = bound;
+    }
+
+checked : (format : Format) (name : Option (List ℕ)) (text schedule line : List ℕ) (feasible : Bool) (c : ℕ)
+    → IsCheckOf format name text schedule feasible line → line ≡ verdict_text (Feasible c)
+    → (gantt : Bool) (written : List ℕ) (right : IsRightOf format name gantt text written)
+    → right.says.report.bound ≡ c → IsLeast right.asked.shop c
+checked format name text schedule line feasible c check e gantt written right is =
+    let asked = right.asked
+    in let same = one_asked format name text check.asked asked check.is_asked right.is_asked
+    in let small = right.says.printable.bound
+    in met asked.shop schedule line feasible c (asked_within format name text asked right.is_asked) (omega arith)
+    (subst (λ (n : NamedShop). IsVerdictOn n.shop schedule feasible line) same check.says) e
+    (subst (IsBound asked.shop) is right.says.bound)
+
+pub met_bounds_are_least : MetBoundsAreLeast
+met_bounds_are_least = record {
+  reported = λ asked gantt written right none. record {
+    table = starts_of right.report.table;
+    feasible = right.feasible;
+    ends = right.ends;
+    least = right.optimal none;
+  };
+  checked = checked;
+}

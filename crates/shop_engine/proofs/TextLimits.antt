@@ -1,0 +1,223 @@
+-- The instances of a good text are within the limits.
+use Rattle.std.proofs.Common.{◌≡◌, ℕ, zero, suc, ◌+◌, ◌*◌, ◌≤◌, ◌<◌, Bool, true, false, List, [], ◌∷◌, ◌++◌, length}
+use Rattle.std.proofs.Common.{get_or, take, drop, map, Option, Some, None, refl, sym, ◌∙◌, subst, arith}
+use Rattle.std.specs.Prelude.{find}
+use Rattle.std.specs.List.{AllByRecursion, zip}
+use Rattle.std.specs.Str.{bytes_eq}
+use Rattle.std.proofs.lemmas.List.{length-map, map-append}
+use Rattle.std.proofs.lemmas.Slice.Zip.{length-zip}
+use Rattle.std.proofs.Math.Seq.{take-append_seam, drop-append_seam}
+use Rattle.shop_model.specs.declared.ops.Op.{Op}
+use Rattle.shop_model.specs.Shop.{ShopJob, no_job, no_op}
+use Rattle.shop_model.specs.Limits.{IsWithinLimits}
+use Rattle.shop_text.specs.Grammar.{Row, Entry, Part, entry_rows, IsPart}
+use Rattle.shop_text.specs.Formats.{jobs_in, machines_in, pairs_of, orlib_job, routes_job, shop_by_rows, taillard_op}
+use Rattle.shop_text.specs.Formats.{taillard_job, taillard_shop, grammar_of}
+use Rattle.shop_text.specs.Shapes.{IsSize, ArePairs, IsOrlibRow, IsRoutesRow, IsRowLine, IsPartOfRows, IsRowOf, IsTime}
+use Rattle.shop_text.specs.Shapes.{IsMachineNumber, IsMatrix, IsTaillardPart}
+use Rattle.shop_text.specs.Texts.{NamedShop, named_from}
+use Rattle.shop_text.specs.Names.{first_named}
+use Rattle.shop_text.specs.declared.formats.Format.{Format}
+use Rattle.shop_text.specs.declared.formats.Format.TheVariants.{Orlib, Taillard, Routes}
+use Rattle.shop_text.proofs.ShapeLaw.{orlib_shape, routes_shape}
+use Rattle.shop_text.proofs.MatrixShape.{taillard_shape}
+use Rattle.shop_engine.specs.Asking.{IsAsked}
+use Rattle.shop_engine.specs.TextLimits.{TextsKeepTheLimits}
+
+-- ---- an instance whose jobs are within the limits
+
+abbrev IsSmallOp : ℕ → Op → Type 0
+IsSmallOp machines o = (o.machine < machines) × (o.time ≤ 1000000000)
+
+record IsSmallJob (machines : ℕ) (job : ShopJob) : Type 0 where
+  release : job.release ≤ 1000000000
+  steps : length job.route ≤ 100
+  ops : AllByRecursion (IsSmallOp machines) job.route
+
+module _ (machines : ℕ) (some : 1 ≤ machines) where
+  op_at : (os : List Op) (k : ℕ) → AllByRecursion (IsSmallOp machines) os → IsSmallOp machines (get_or os k no_op)
+  op_at [] k all = (omega arith, omega arith)
+  op_at (o ∷ os) zero all = all.0
+  op_at (o ∷ os) (suc k) all = op_at os k all.1
+
+  job_at : (jobs : List ShopJob) (j : ℕ) → AllByRecursion (IsSmallJob machines) jobs
+      → IsSmallJob machines (get_or jobs j no_job)
+  job_at [] j all = record { release = omega arith; steps = omega arith; ops = tt }
+  job_at (job ∷ jobs) zero all = all.0
+  job_at (job ∷ jobs) (suc j) all = job_at jobs j all.1
+
+within : (machines : ℕ) (jobs : List ShopJob) → IsSize (length jobs) machines
+    → AllByRecursion (IsSmallJob machines) jobs → IsWithinLimits (record { machines = machines; jobs = jobs })
+within machines jobs size all = record {
+  some_machine = size.some_machine;
+  machines = size.few_machines;
+  some_job = size.some_job;
+  jobs = size.few_jobs;
+  releases = λ j. (job_at machines size.some_machine jobs j all).release;
+  routes = λ j. (job_at machines size.some_machine jobs j all).steps;
+  on_machines = λ j k. (op_at machines size.some_machine (get_or jobs j no_job).route k
+      (job_at machines size.some_machine jobs j all).ops).0;
+  times = λ j k. (op_at machines size.some_machine (get_or jobs j no_job).route k
+      (job_at machines size.some_machine jobs j all).ops).1;
+}
+
+-- ---- `orlib` and `routes`
+
+pairs_small : (machines : ℕ) (row : Row) → ArePairs machines row → AllByRecursion (IsSmallOp machines) (pairs_of row)
+pairs_small machines [] h = tt
+pairs_small machines (m ∷ []) h = absurd h
+pairs_small machines (m ∷ p ∷ rest) h = ((h.0, h.1), pairs_small machines rest h.2)
+
+pairs_count : (machines : ℕ) (row : Row) → ArePairs machines row → 2 * length (pairs_of row) ≡ length row
+pairs_count machines [] h = refl
+pairs_count machines (m ∷ []) h = absurd h
+pairs_count machines (m ∷ p ∷ rest) h = let e = pairs_count machines rest h.2 in omega arith
+
+orlib_small : (machines : ℕ) (row : Row) → machines ≤ 100 → IsOrlibRow machines row
+    → IsSmallJob machines (orlib_job row)
+orlib_small machines row few h = record {
+  release = omega arith;
+  steps = (let e = pairs_count machines row h.pairs in let len = h.len in omega arith);
+  ops = pairs_small machines row h.pairs;
+}
+
+routes_small : (machines : ℕ) (row : Row) → machines ≤ 100 → IsRoutesRow machines row
+    → IsSmallJob machines (routes_job row)
+routes_small machines row few h = subst (λ (r : Row). IsSmallJob machines (routes_job r)) (sym h.cut) (record {
+  release = h.small;
+  steps = (let e = pairs_count machines h.rest h.pairs in let most = h.few in omega arith);
+  ops = pairs_small machines h.rest h.pairs;
+})
+
+module _ (IsRow : ℕ → Row → Type 0) (job_of : Row → ShopJob) (small : (machines : ℕ) (row : Row) → machines ≤ 100
+    → IsRow machines row → IsSmallJob machines (job_of row)) where
+  rows_small : (machines : ℕ) → machines ≤ 100 → (rows : List Entry)
+      → AllByRecursion (IsRowLine (IsRow machines)) rows
+      → AllByRecursion (IsSmallJob machines) (map job_of (entry_rows rows))
+  rows_small machines few [] all = tt
+  rows_small machines few (e ∷ rows) all = (
+    small machines e.row few all.0.is_row,
+    rows_small machines few rows all.1,
+  )
+
+  part_within : (part : Part) → IsPartOfRows IsRow part → IsWithinLimits (shop_by_rows job_of (entry_rows part))
+  part_within part p =
+      let machines = machines_in p.first.row
+      in let count : length (map job_of (entry_rows p.rows)) ≡ jobs_in p.first.row =
+      length-map (entry_rows p.rows) job_of ∙ length-map p.rows (λ e. e.row) ∙ p.count
+      in subst (λ (x : Part). IsWithinLimits (shop_by_rows job_of (entry_rows x))) (sym p.cut)
+      (within machines (map job_of (entry_rows p.rows))
+      (subst (λ (n : ℕ). IsSize n machines) (sym count) p.size)
+      (rows_small machines p.size.few_machines p.rows p.each))
+
+-- ---- `taillard`
+
+ops_small : (machines : ℕ) (times row : Row) → AllByRecursion IsTime times
+    → AllByRecursion (IsMachineNumber machines) row
+    → AllByRecursion (IsSmallOp machines) (map taillard_op (zip times row))
+ops_small machines [] row a b = tt
+ops_small machines (t ∷ times) [] a b = tt
+ops_small machines (t ∷ times) (m ∷ row) a b =
+    let low = b.0.0 in let high = b.0.1 in ((omega arith, a.0), ops_small machines times row a.1 b.1)
+
+taillard_small : (machines : ℕ) (times row : Row) → machines ≤ 100 → IsRowOf IsTime machines times
+    → IsRowOf (IsMachineNumber machines) machines row → IsSmallJob machines (taillard_job (times, row))
+taillard_small machines times row few a b = record {
+  release = omega arith;
+  steps = (let e = length-map (zip times row) taillard_op ∙ length-zip times row
+      in let len = a.len in omega arith);
+  ops = ops_small machines times row a.each b.each;
+}
+
+abbrev AreRows : (Row → Type 0) → List Entry → Type 0
+AreRows IsRow rows = AllByRecursion IsRow (entry_rows rows)
+
+lines_rows : (IsRow : Row → Type 0) (rows : List Entry) → AllByRecursion (IsRowLine IsRow) rows → AreRows IsRow rows
+lines_rows IsRow [] all = tt
+lines_rows IsRow (e ∷ rows) all = (all.0.is_row, lines_rows IsRow rows all.1)
+
+matrix_rows : (IsRow : Row → Type 0) (rows : List Entry) → IsMatrix IsRow rows → AreRows IsRow rows
+matrix_rows IsRow [] is = tt
+matrix_rows IsRow (top ∷ rows) is = (is.1, lines_rows IsRow rows is.2)
+
+zipped_small : (machines : ℕ) → machines ≤ 100 → (times rows : List Row)
+    → AllByRecursion (IsRowOf IsTime machines) times → AllByRecursion (IsRowOf (IsMachineNumber machines) machines) rows
+    → AllByRecursion (IsSmallJob machines) (map taillard_job (zip times rows))
+zipped_small machines few [] rows a b = tt
+zipped_small machines few (t ∷ times) [] a b = tt
+zipped_small machines few (t ∷ times) (row ∷ rows) a b =
+    (taillard_small machines t row few a.0 b.0, zipped_small machines few times rows a.1 b.1)
+
+matrices_within : (part : Part) → IsTaillardPart part → IsWithinLimits (taillard_shop (entry_rows part))
+matrices_within part p =
+    let machines = machines_in p.first.row
+    in let times = entry_rows p.times
+    in let rows = entry_rows p.machines
+    in let jobs = map taillard_job (zip times rows)
+    in let n : length times ≡ jobs_in p.first.row = length-map p.times (λ e. e.row) ∙ p.times_count
+    in let m : length rows ≡ jobs_in p.first.row = length-map p.machines (λ e. e.row) ∙ p.machines_count
+    in let count : length jobs ≡ jobs_in p.first.row =
+    (let e = length-map (zip times rows) taillard_job ∙ length-zip times rows in omega arith)
+    in let joined : entry_rows (p.times ++ p.machines) ≡ times ++ rows = map-append (λ e. e.row) p.times p.machines
+    in let is : IsWithinLimits (record { machines = machines; jobs = jobs }) = within machines jobs
+    (subst (λ (k : ℕ). IsSize k machines) (sym count) p.size)
+    (zipped_small machines p.size.few_machines times rows
+    (matrix_rows (IsRowOf IsTime machines) p.times p.are_times)
+    (matrix_rows (IsRowOf (IsMachineNumber machines) machines) p.machines p.are_machines))
+    in let front : take (jobs_in p.first.row) (times ++ rows) ≡ times =
+    subst (λ (k : ℕ). take k (times ++ rows) ≡ times) n (take-append_seam times rows)
+    in let back : drop (jobs_in p.first.row) (times ++ rows) ≡ rows =
+    subst (λ (k : ℕ). drop k (times ++ rows) ≡ rows) n (drop-append_seam times rows)
+    in let cut : IsWithinLimits (record {
+      machines = machines;
+      jobs = map taillard_job (zip (take (jobs_in p.first.row) (times ++ rows))
+          (drop (jobs_in p.first.row) (times ++ rows)));
+    }) = rw (front, back) is
+    in subst (λ (x : Part). IsWithinLimits (taillard_shop (entry_rows x))) (sym p.cut)
+    (subst (λ (rs : List Row). IsWithinLimits (taillard_shop (p.first.row ∷ rs))) (sym joined) cut)
+
+-- ---- whole texts
+
+of_part : (p : Format) (part : Part) → IsPart (grammar_of p) part
+    → IsWithinLimits ((grammar_of p).shop (entry_rows part))
+of_part Orlib part is = part_within IsOrlibRow orlib_job orlib_small part ((orlib_shape part).0 is)
+of_part Routes part is = part_within IsRoutesRow routes_job routes_small part ((routes_shape part).0 is)
+of_part Taillard part is = matrices_within part ((taillard_shape part).0 is)
+
+abbrev AreWithin : List NamedShop → Type 0
+AreWithin shops = AllByRecursion (λ (s : NamedShop). IsWithinLimits s.shop) shops
+
+named_within : (p : Format) (n : ℕ) (parts : List Part) → AllByRecursion (IsPart (grammar_of p)) parts
+    → AreWithin (named_from (grammar_of p) n parts)
+named_within p n [] all = tt
+named_within p n (part ∷ parts) all = (of_part p part all.0, named_within p (n + 1) parts all.1)
+
+pub texts_keep_the_limits : TextsKeepTheLimits
+texts_keep_the_limits p text shops is =
+    subst AreWithin (sym is.shops_are) (named_within p 1 is.parts is.good.parts_good)
+
+-- ---- the instance that is asked for
+
+found_first : (name : List ℕ) (s : NamedShop) (shops : List NamedShop) (asked : NamedShop) (b : Bool)
+    → bytes_eq s.name name ≡ b → IsWithinLimits s.shop
+    → (find (λ (t : NamedShop). bytes_eq t.name name) shops ≡ Some asked → IsWithinLimits asked.shop)
+    → find (λ (t : NamedShop). bytes_eq t.name name) (s ∷ shops) ≡ Some asked → IsWithinLimits asked.shop
+found_first name s shops asked true is h later e =
+    let now = rw is at e
+    in let first : s ≡ asked = cc
+    in subst (λ (t : NamedShop). IsWithinLimits t.shop) first h
+found_first name s shops asked false is h later e = later (rw is at e)
+
+picked_within : (shops : List NamedShop) (name : Option (List ℕ)) (asked : NamedShop) → AreWithin shops
+    → first_named shops name ≡ Some asked → IsWithinLimits asked.shop
+picked_within [] None asked all e = absurd cc
+picked_within (s ∷ shops) None asked all e =
+    let first : s ≡ asked = cc in subst (λ (t : NamedShop). IsWithinLimits t.shop) first all.0
+picked_within [] (Some name) asked all e = absurd cc
+picked_within (s ∷ shops) (Some name) asked all e =
+    found_first name s shops asked (bytes_eq s.name name) refl all.0 (picked_within shops (Some name) asked all.1) e
+
+pub asked_within : (format : Format) (name : Option (List ℕ)) (text : List ℕ) (asked : NamedShop)
+    → IsAsked format name text asked → IsWithinLimits asked.shop
+asked_within format name text asked is =
+    picked_within is.shops name asked (texts_keep_the_limits format text is.shops is.is_text) is.picked
