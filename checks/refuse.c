@@ -5,6 +5,7 @@
  * the program's own libraries are loaded. What is refused, by variables of the environment; none of them: nothing.
  *
  *     REFUSE_AT=N           the allocation of number N
+ *     REFUSE_NEXT=1         with that, the next one of its thread: a growth is tried once more for less
  *     REFUSE_FROM=N         all allocations from number N on
  *     REFUSE_RANDOM=P SEED  P of 1,000 allocations, by a hash of their number and the seed
  *     REFUSE_SIZES=A B      of these allocations those alone that ask for A to B bytes; without the others all of them
@@ -47,7 +48,8 @@ static long held;
 static atomic_int is_in_vain;
 static atomic_long reads, writes;
 static const char *log_name;
-static int is_ready, refuses_all_sizes;
+static int is_ready, refuses_all_sizes, refuses_next;
+static __thread int is_next __attribute__((tls_model("initial-exec")));
 
 static long number_in(const char *name) {
     const char *text = getenv(name);
@@ -57,6 +59,7 @@ static long number_in(const char *name) {
 __attribute__((constructor)) static void begin(void) {
     allocations.at = number_in("REFUSE_AT");
     allocations.from = number_in("REFUSE_FROM");
+    refuses_next = number_in("REFUSE_NEXT") > 0;
     threads.at = number_in("REFUSE_THREAD_AT");
     threads.from = number_in("REFUSE_THREAD_FROM");
     held = number_in("REFUSE_HOLD");
@@ -85,7 +88,9 @@ static int refuses_memory(size_t size) {
     long number = atomic_fetch_add(&allocations.count, 1) + 1;
     atomic_fetch_add(&bytes, (long)size);
     if (greatest_size && (size < least_size || size > greatest_size)) return 0;
-    if (!refuses_all_sizes && !is_named(&allocations, number) && !refuses_at_random(number)) return 0;
+    int is_refused = is_next || refuses_all_sizes || is_named(&allocations, number) || refuses_at_random(number);
+    is_next = refuses_next && number == allocations.at;
+    if (!is_refused) return 0;
     atomic_fetch_add(&allocations.refused, 1);
     errno = ENOMEM;
     return 1;

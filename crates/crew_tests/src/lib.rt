@@ -8,6 +8,8 @@ mod closing;
 #[cfg(test)]
 mod crews;
 #[cfg(test)]
+mod gates;
+#[cfg(test)]
 mod instances;
 #[cfg(test)]
 mod rounds;

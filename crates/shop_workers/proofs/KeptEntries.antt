@@ -5,12 +5,13 @@ use Rattle.std.proofs.Math.ListN.{get_or-append}
 use Rattle.std.proofs.Math.Seq.{get_or-append_seam}
 use Rattle.std.proofs.lemmas.List.{length-set, get_or-set_same, get_or-set_other, append-nil, append_assoc}
 use Rattle.std.proofs.lemmas.List.Elements.{All-nil, All-cons, All-weaker}
-use Rattle.std.specs.Prelude.{All, IsSome, IfSome, Ok, Err, slice_index_or, slice_set}
+use Rattle.std.specs.Prelude.{All, IsSome, IfSome, slice_index_or, slice_set}
+use Rattle.std.specs.declared.vec.Vec.{Vec}
+use Rattle.std.specs.declared.alloc.Global.{Global}
 use native.Mathlib.Decide.{ℕ_discrete}
 use mathlib.Core.Logic.{dite}
 use Rattle.shop_runs.specs.Entries.{number_of}
 use Rattle.shop_runs.specs.declared.entries.Entry.{Entry}
-use Rattle.shop_workers.specs.Entries.{Brought}
 use Rattle.shop_workers.specs.inner.Gathered.{Fills, FillsAll, StayFilled}
 
 -- of the places below k the entries are kept, and those from k on stand as they did
@@ -61,11 +62,10 @@ put_stays places k e n filled inside = dite (ℕ_discrete n k) here there where
   there : n ≢ k → IsSome (slice_index_or (slice_set places k (Some e)) n None)
   there ne = subst IsSome (sym (get_or-set_other places k n (Some e) None ne)) (filled within)
 
-pub still_filled : (before after : List (Option Entry)) → StayFilled before after → (l : Brought) → FillsAll before l
-    → FillsAll after l
-still_filled before after stays (Ok v) h =
+pub still_filled : (before after : List (Option Entry)) → StayFilled before after → (v : Vec Entry Global)
+    → FillsAll before v → FillsAll after v
+still_filled before after stays v h =
     All-weaker (Fills before) (Fills after) (λ e f. stays (number_of e.kind) f) v.items h
-still_filled before after stays (Err e) h = tt
 
 -- of a list that is taken from its end: what was taken has P
 pub record AreThrough {X : Type 0} (P : X → Type 0) (all left : List X) : Type 0 where

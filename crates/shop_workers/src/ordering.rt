@@ -1,11 +1,11 @@
 // Entries that workers brought, put in the order of their pieces.
-ghost use Rattle.std.specs.Prelude.{◌≡◌, ◌<◌, length, All, IfOk, IfSome, None, slice_set};
-ghost use Rattle.std.specs.Prelude.{slice_index_or, vec_len};
+ghost use Rattle.std.specs.Prelude.{◌≡◌, ◌<◌, length, All, IfOk, IsOk, OnOk, IfSome, None};
+ghost use Rattle.std.specs.Prelude.{slice_set, slice_index_or, vec_len};
 ghost use Rattle.shop_runs.specs.Entries.{told};
 ghost use Rattle.shop_runs.specs.Crews.{OneForEach, IsEntryOf};
 ghost use Rattle.shop_workers.specs.Entries.{OfRound};
-ghost use Rattle.shop_workers.specs.inner.Gathered.{AllOfRound, Placed, AreFilled, AreKept, Fills};
-ghost use Rattle.shop_workers.specs.inner.Gathered.{StayFilled};
+ghost use Rattle.shop_workers.specs.inner.Gathered.{AllOfRound, ListsOfRound, Placed, AreFilled, AreKept};
+ghost use Rattle.shop_workers.specs.inner.Gathered.{Fills, StayFilled};
 
 use crate::piece_search::PieceSearch;
 use shop_runs::{Entry, Round};
@@ -123,30 +123,50 @@ pub fn complete<'r, P: PieceSearch<'r>>(
 pub fn in_places<'r>(
     alloc: Global,
     round: &'r Round<'r>,
-    mut lists: Vec<Result<Vec<Entry<'r>>, AllocError>>,
+    mut lists: Vec<Vec<Entry<'r>>>,
 ) -> Result<Vec<Option<Entry<'r>>>, AllocError>
-    requires { AllOfRound (told round.now) lists.items }
+    requires { ListsOfRound (told round.now) lists.items }
     ensures len { IfOk result (λ v. vec_len v ≡ length round.now.pieces.items) }
     ensures placed { IfOk result (λ v. Placed (told round.now) v.items) }
     ensures filled { IfOk result (λ v. AreFilled lists.entry.items v.items) }
 {
     let mut slots = places(alloc, round)?;
     while let Some(entries) = lists.pop() {
-        place(round, &mut slots, entries?);
+        place(round, &mut slots, entries);
     }
     Ok(slots)
 }
 
+// What the workers brought, where none of them was refused memory.
+fn all_brought<'r>(
+    alloc: Global,
+    round: &'r Round<'r>,
+    mut brought: Vec<Result<Vec<Entry<'r>>, AllocError>>,
+) -> Result<Vec<Vec<Entry<'r>>>, AllocError>
+    requires { AllOfRound (told round.now) brought.items }
+    ensures granted { OnOk result (All IsOk brought.entry.items) }
+    ensures entries { IfOk result (λ v. ListsOfRound (told round.now) v.items) }
+{
+    let mut lists = Vec::with_capacity(alloc, brought.len())?;
+    while let Some(entries) = brought.pop() {
+        lists.push(entries?)?;
+    }
+    Ok(lists)
+}
+
 /// Gives the entries of a round, one for each piece and in number order, of what its workers brought: doubles are
-/// dropped, and pieces that nobody brought are searched. Fails with `AllocError` if memory runs out.
+/// dropped, and pieces that nobody brought are searched. Fails with `AllocError` if memory runs out, or a worker was
+/// refused memory.
 pub fn in_order<'r, P: PieceSearch<'r>>(
     alloc: Global,
     round: &'r Round<'r>,
-    lists: Vec<Result<Vec<Entry<'r>>, AllocError>>,
+    brought: Vec<Result<Vec<Entry<'r>>, AllocError>>,
 ) -> Result<Vec<Entry<'r>>, AllocError>
-    requires { AllOfRound (told round.now) lists.items }
-    ensures { IfOk result (λ v. OneForEach (told round.now) v.items) }
+    requires { AllOfRound (told round.now) brought.items }
+    ensures granted { OnOk result (All IsOk brought.entry.items) }
+    ensures each { IfOk result (λ v. OneForEach (told round.now) v.items) }
 {
+    let lists = all_brought(alloc, round, brought)?;
     let slots = in_places(alloc, round, lists)?;
     complete::<P>(alloc, round, slots)
 }

@@ -1,8 +1,8 @@
 // Seats of a board are lent to workers, and what these bring back is completed.
-ghost use Rattle.std.specs.Prelude.{◌≡◌, ◌<◌, length, All, IfOk, IfSome, IfNone};
+ghost use Rattle.std.specs.Prelude.{◌≡◌, ◌<◌, length, All, IfOk, IsOk, OnOk, IfSome, IfNone};
 ghost use Rattle.shop_runs.specs.Entries.{told};
 ghost use Rattle.shop_runs.specs.Crews.{OneForEach};
-ghost use Rattle.shop_workers.specs.inner.Gathered.{AllOfRound};
+ghost use Rattle.shop_workers.specs.inner.Gathered.{ListsOfRound};
 ghost use Rattle.shop_workers.specs.inner.Returns.{AreReturned};
 ghost use Rattle.shop_runs.specs.Hits.{hits_of_round};
 ghost use Rattle.shop_workers.specs.Seats.{knows, hits_of, IsSeatOf};
@@ -53,16 +53,17 @@ pub fn lend(
     Ok(lent)
 }
 
-// Joins the workers' seats, and gathers what they brought.
+// Joins the workers' seats, and gathers what they brought, where none of them was refused memory.
 fn join_all<'r>(
     alloc: Global,
     board: &Board,
     round: &'r Round<'r>,
     mut returned: Vec<Returned<'r>>,
-) -> Result<(Option<Seat>, Vec<Result<Vec<Entry<'r>>, AllocError>>), AllocError>
+) -> Result<(Option<Seat>, Vec<Vec<Entry<'r>>>), AllocError>
     requires { AreReturned board.now (told round.now) returned.items }
+    ensures granted { OnOk result (All (λ w. IsOk w.entries) returned.entry.items) }
     ensures seat { IfOk result (λ p. IfSome p.0 (IsSeatOf board.now)) }
-    ensures entries { IfOk result (λ p. AllOfRound (told round.now) p.1.items) }
+    ensures entries { IfOk result (λ p. ListsOfRound (told round.now) p.1.items) }
 {
     let mut lists = Vec::with_capacity(alloc, returned.len())?;
     let mut joined = None;
@@ -71,7 +72,7 @@ fn join_all<'r>(
             Some(mine) => Some(board.join(mine, seat)),
             None => Some(seat),
         };
-        lists.push(entries)?;
+        lists.push(entries?)?;
     }
     Ok((joined, lists))
 }
@@ -102,7 +103,8 @@ fn claim_rest(board: &Board, seat: &mut Seat, places: &[Option<Entry>])
 }
 
 /// Gives one entry for each piece of a round, from what its workers brought back. A piece for which none brought one is
-/// claimed and searched by the calling thread. Fails with `AllocError` if memory runs out.
+/// claimed and searched by the calling thread. Fails with `AllocError` if memory runs out, or a worker was refused
+/// memory.
 pub fn complete_returned<'r, P: PieceSearch<'r>>(
     alloc: Global,
     board: &Board,
@@ -111,7 +113,8 @@ pub fn complete_returned<'r, P: PieceSearch<'r>>(
 ) -> Result<Vec<Entry<'r>>, AllocError>
     requires round { hits_of board.now ≡ hits_of_round round.now }
     requires returned { AreReturned board.now (told round.now) returned.items }
-    ensures { IfOk result (λ v. OneForEach (told round.now) v.items) }
+    ensures granted { OnOk result (All (λ w. IsOk w.entries) returned.entry.items) }
+    ensures each { IfOk result (λ v. OneForEach (told round.now) v.items) }
 {
     let (joined, lists) = join_all(alloc, board, round, returned)?;
     let places = in_places(alloc, round, lists)?;

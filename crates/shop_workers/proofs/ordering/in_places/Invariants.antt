@@ -1,6 +1,6 @@
 use Rattle.std.proofs.Common.{◌≡◌, vec_len, length}
 use Rattle.shop_runs.specs.Entries.{told}
-use Rattle.shop_workers.specs.inner.Gathered.{Placed, AllOfRound, FillsAll}
+use Rattle.shop_workers.specs.inner.Gathered.{Placed, ListsOfRound, FillsAll}
 use Rattle.shop_workers.proofs.KeptEntries.{AreThrough}
 use Rattle.shop_workers.proofs.ordering.in_places.Given as goal
 
@@ -8,7 +8,7 @@ abbrev pub invariant-loop-entries : goal.invariant-loop-entries
 invariant-loop-entries l =
     (vec_len l.slots ≡ length l.round.pieces.items)
     × Placed (told l.round) l.slots.items
-    × AllOfRound (told l.round) l.lists.items
+    × ListsOfRound (told l.round) l.lists.items
     × AreThrough (FillsAll l.slots.items) l.initial.lists.items l.lists.items
 
 abbrev pub decreases-loop-entries : goal.decreases-loop-entries

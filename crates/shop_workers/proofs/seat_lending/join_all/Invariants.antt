@@ -1,17 +1,19 @@
 use Rattle.std.proofs.Common.{vec_len}
-use Rattle.std.specs.Prelude.{All, IfSome}
+use Rattle.std.specs.Prelude.{All, IfSome, IsOk}
 use Rattle.shop_runs.specs.Entries.{told}
-use Rattle.shop_workers.specs.inner.Gathered.{AllOfRound}
+use Rattle.shop_workers.specs.inner.Gathered.{ListsOfRound}
 use Rattle.shop_workers.specs.Seats.{IsSeatOf}
 use Rattle.shop_workers.specs.inner.Returns.{IsReturned}
 use Rattle.shop_workers.specs.declared.seat_lending.Returned.{Returned}
+use Rattle.shop_workers.proofs.KeptEntries.{AreThrough}
 use Rattle.shop_workers.proofs.seat_lending.join_all.Given as goal
 
 abbrev pub invariant-loop-seat : goal.invariant-loop-seat
 invariant-loop-seat l =
     IfSome l.joined (IsSeatOf l.board)
-    × AllOfRound (told l.round) l.lists.items
+    × ListsOfRound (told l.round) l.lists.items
     × All (λ (b : Returned). IsReturned l.board (told l.round) b.seat b.entries) l.returned.items
+    × AreThrough (λ (b : Returned). IsOk b.entries) l.initial.returned.items l.returned.items
 
 abbrev pub decreases-loop-seat : goal.decreases-loop-seat
 decreases-loop-seat l = vec_len l.returned

@@ -1,0 +1,116 @@
+// When gates are called: once for each piece that is searched, with its number, just before its search.
+ghost use Rattle.std.specs.Prelude.{◌≡◌};
+
+use crate::rounds::{RoundTest, in_second_round};
+use crate::telling::assert_number;
+use shop_nodes::Sheet;
+use shop_round::PieceSearcher;
+use shop_runs::Round;
+use shop_workers::{Board, Gate, PieceSearch, Pool, Seat, SeatGate, serve, work_by};
+use std::alloc::{AllocError, Global};
+use std::process::Abort;
+use std::sync::atomic::{AtomicUsize, Ordering};
+use std::sync::{Mutex, Wait};
+
+// The calls of a gate, in order: two digits for each, the worker, and the piece counted from 1.
+#[derive(Drop)]
+struct Calls {
+    noted: AtomicUsize,
+}
+
+impl Calls {
+    fn new() -> Calls {
+        Calls {
+            noted: AtomicUsize::new(0),
+        }
+    }
+
+    fn note(&self, worker: usize, piece: usize) {
+        let digits = worker.wrapping_mul(10).wrapping_add(piece).wrapping_add(1);
+        let before = self.noted.load(Ordering::SeqCst).wrapping_mul(100);
+        self.noted
+            .store(before.wrapping_add(digits), Ordering::SeqCst);
+    }
+
+    fn noted(&self) -> usize {
+        self.noted.load(Ordering::SeqCst)
+    }
+}
+
+impl Gate for Calls {
+    fn before(&self, worker: usize, piece: usize) {
+        self.note(worker, piece);
+    }
+}
+
+impl SeatGate for Calls {
+    fn won(&self, worker: usize, _seat: &Seat, piece: usize) {
+        self.note(worker, piece);
+    }
+}
+
+// A searcher that memory is refused at the first piece.
+#[derive(Drop)]
+struct Refused<'r> {
+    round: &'r Round<'r>,
+}
+
+impl<'r> PieceSearch<'r> for Refused<'r> {
+    ghost searched = { λ s. s.round.now };
+
+    fn over(round: &'r Round<'r>) -> Refused<'r> {
+        Refused { round }
+    }
+
+    fn round(&self) -> &'r Round<'r> {
+        self.round
+    }
+
+    fn search(&mut self, _alloc: Global, _number: usize) -> Result<Sheet<'r>, AllocError> {
+        Err(AllocError)
+    }
+}
+
+// The calls of worker 3 on a board, and whether it brought entries.
+fn calls_on_board<'r, P: PieceSearch<'r>>(
+    rt: &impl Abort,
+    alloc: Global,
+    round: &'r Round<'r>,
+) -> (usize, bool) {
+    let gate = Calls::new();
+    let (board, seat) = Board::open(alloc, round).expect(rt, "memory");
+    let (_seat, entries) = work_by::<P, Calls>(alloc, &board, seat, round, 3, &gate);
+    (gate.noted(), entries.is_ok())
+}
+
+// The calls of worker 3 on a pool, and whether it brought entries.
+fn calls_on_pool<'r, P: PieceSearch<'r>, R: Wait>(
+    rt: &R,
+    alloc: Global,
+    round: &'r Round<'r>,
+) -> (usize, bool) {
+    let gate = Calls::new();
+    let pool = Mutex::new(Pool::open(round.pieces.len()));
+    let entries = serve::<P, R, Calls>(rt, alloc, round, &pool, &gate, 3);
+    (gate.noted(), entries.is_ok())
+}
+
+struct Called;
+
+impl<R: Abort + Wait> RoundTest<R> for Called {
+    ghost ready = { Unit {0} };
+
+    fn run<'r>(&self, rt: &R, alloc: Global, round: &'r Round<'r>) {
+        let searched = (3132, true);
+        let refused = (31, false);
+        assert!(rt; calls_on_board::<PieceSearcher<'r>>(rt, alloc, round) == searched);
+        assert!(rt; calls_on_pool::<PieceSearcher<'r>, R>(rt, alloc, round) == searched);
+        assert!(rt; calls_on_board::<Refused<'r>>(rt, alloc, round) == refused);
+        assert!(rt; calls_on_pool::<Refused<'r>, R>(rt, alloc, round) == refused);
+    }
+}
+
+#[test]
+fn a_gate_is_called_once_just_before_each_search(rt: HostRuntime) {
+    in_second_round(&rt, rt.alloc(), &Called);
+}
