@@ -11,7 +11,7 @@ use shop_board::work;
 use shop_round::PieceSearcher;
 use shop_runs::Round;
 use shop_workers::{Board, OpenGate, PieceSearch, Seat, has_all};
-use std::alloc::{AllocError, Global};
+use std::alloc::{AllocError as NoMemory, Global};
 use std::process::Abort;
 use std::thread;
 use std::thread::Threads;
@@ -104,7 +104,7 @@ fn claim_by_threads<R: Threads + Sync>(
     rt: &R,
     board: &Board,
     seats: Vec<Seat>,
-) -> Result<Vec<[bool; 3]>, AllocError>
+) -> Result<Vec<[bool; 3]>, NoMemory>
     requires { All (λ s. IsSeatOf board.now s) seats.items }
 {
     let worker = move |seat: Seat| -> [bool; 3]
@@ -163,7 +163,7 @@ fn work_one<'r>(alloc: Global, board: &Board, seat: Seat, round: &'r Round<'r>) 
             seat,
             won: entries.len(),
         }),
-        Err(AllocError) => None,
+        Err(NoMemory) => None,
     }
 }
 
@@ -174,7 +174,7 @@ fn work_by_threads<'r, R: Threads + Sync>(
     board: &Board,
     seats: Vec<Seat>,
     round: &'r Round<'r>,
-) -> Result<Vec<Option<Worked>>, AllocError>
+) -> Result<Vec<Option<Worked>>, NoMemory>
     requires seats { All (λ s. HasServedOf board.now s 0) seats.items }
     requires round { hits_of board.now ≡ hits_of_round round.now }
     ensures { IfOk result

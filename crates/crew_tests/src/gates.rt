@@ -7,7 +7,7 @@ use shop_nodes::Sheet;
 use shop_round::PieceSearcher;
 use shop_runs::Round;
 use shop_workers::{Board, Gate, PieceSearch, Pool, Seat, SeatGate, serve, work_by};
-use std::alloc::{AllocError, Global};
+use std::alloc::{AllocError as NoMemory, Global};
 use std::process::Abort;
 use std::sync::atomic::{AtomicUsize, Ordering};
 use std::sync::{Mutex, Wait};
@@ -66,8 +66,8 @@ impl<'r> PieceSearch<'r> for Refused<'r> {
         self.round
     }
 
-    fn search(&mut self, _alloc: Global, _number: usize) -> Result<Sheet<'r>, AllocError> {
-        Err(AllocError)
+    fn search(&mut self, _alloc: Global, _number: usize) -> Result<Sheet<'r>, NoMemory> {
+        Err(NoMemory)
     }
 }
 

@@ -6,7 +6,7 @@ use shop_model::Instance;
 use shop_round::{Alone, run_alone};
 use shop_runs::{Crew, Entry, Plan, Round, run};
 use shop_workers::OpenGate;
-use std::alloc::{AllocError, Global};
+use std::alloc::{AllocError as NoMemory, Global};
 use std::process::Abort;
 
 /// An instance, the rounds and the budget of a plan with pieces of one node, and the answer: makespan, bound, open
@@ -74,7 +74,7 @@ impl<R> Crew<R> for Counting {
         _rt: &R,
         alloc: Global,
         round: &'r Round<'r>,
-    ) -> Result<Vec<Entry<'r>>, AllocError> {
+    ) -> Result<Vec<Entry<'r>>, NoMemory> {
         self.rounds = self.rounds.saturating_add(1);
         Alone.search_round(alloc, round)
     }

@@ -4,7 +4,7 @@ ghost use Rattle.shop_model.specs.Word.{count_of, IsWord};
 
 use shop_desk::Desk;
 use shop_model::Instance;
-use std::alloc::AllocError;
+use std::alloc::AllocError as NoMemory;
 use std::fmt::{self, Display, Formatter, Write};
 
 /// A call, encoded as one byte.
@@ -105,7 +105,7 @@ pub(crate) fn make_calls(
     desk: &mut Desk,
     calls: &[u8],
     answers: &mut Vec<Answer>,
-) -> Result<(), AllocError>
+) -> Result<(), NoMemory>
     requires { desk.old.shop ≡ instance.now }
 {
     for &byte in calls {

@@ -8,7 +8,7 @@ ghost use Rattle.shop_runs.specs.Crews.{OneForEach};
 use crate::board_search::search_claimed;
 use shop_runs::{Crew, Entry, Round, Workers};
 use shop_workers::{OpenGate, SeatGate};
-use std::alloc::{AllocError, Global};
+use std::alloc::{AllocError as NoMemory, Global};
 use std::thread::Threads;
 
 /// Workers that claim pieces on a board. Worker 0 is the calling thread. A search may wait for its
@@ -49,13 +49,13 @@ impl<G> BoardCrew<G> {
 
 impl<G: SeatGate + Sync> BoardCrew<G> {
     /// Gives one entry for each piece of the round, in number order, as `Crew::search` does, past any gate. Fails with
-    /// `AllocError` if memory runs out, after all workers have been joined.
+    /// `NoMemory` if memory runs out, after all workers have been joined.
     pub fn search_round<'r, R: Threads + Sync>(
         &self,
         rt: &R,
         alloc: Global,
         round: &'r Round<'r>,
-    ) -> Result<Vec<Entry<'r>>, AllocError>
+    ) -> Result<Vec<Entry<'r>>, NoMemory>
         ensures { IfOk result (λ v. OneForEach (told round.now) v.items) }
     {
         search_claimed(rt, alloc, round, self.workers.count, &self.gate)
@@ -70,7 +70,7 @@ impl<R: Threads + Sync> Crew<R> for BoardCrew<OpenGate> {
         rt: &R,
         alloc: Global,
         round: &'r Round<'r>,
-    ) -> Result<Vec<Entry<'r>>, AllocError> {
+    ) -> Result<Vec<Entry<'r>>, NoMemory> {
         self.search_round(rt, alloc, round)
     }
 }

@@ -11,14 +11,14 @@ ghost use Rattle.shop_workers.specs.inner.Returns.{IsReturned, AreReturned};
 use shop_round::PieceSearcher;
 use shop_runs::{Entry, Round};
 use shop_workers::{Board, Lent, Returned, Seat, SeatGate, complete_returned, lend, work_by};
-use std::alloc::{AllocError, Global};
+use std::alloc::{AllocError as NoMemory, Global};
 use std::thread;
 use std::thread::Threads;
 
 /// Claims each piece of the board in order, and searches or passes those that the seat wins. A piece is passed where
 /// the seat has read a lower number that was marked; one that was searched and ends at the opening bound is marked.
 /// The seat comes back with all that it knew and had won before, and with the entries of the pieces that it won in this
-/// call, in number order; or with `AllocError` if memory runs out. It waits for nobody but the gate.
+/// call, in number order; or with `NoMemory` if memory runs out. It waits for nobody but the gate.
 pub fn work<'r, G: SeatGate>(
     alloc: Global,
     board: &Board,
@@ -26,7 +26,7 @@ pub fn work<'r, G: SeatGate>(
     round: &'r Round<'r>,
     worker: usize,
     gate: &G,
-) -> (Seat, Result<Vec<Entry<'r>>, AllocError>)
+) -> (Seat, Result<Vec<Entry<'r>>, NoMemory>)
     requires seat { IsSeatOf board.now seat }
     requires round { hits_of board.now ≡ hits_of_round round.now }
     ensures seat { IsSeatOf board.now result.0 }
@@ -46,7 +46,7 @@ fn work_all<'r, R: Threads + Sync, G: SeatGate + Sync>(
     lent: Vec<Lent>,
     round: &'r Round<'r>,
     gate: &G,
-) -> Result<Vec<Returned<'r>>, AllocError>
+) -> Result<Vec<Returned<'r>>, NoMemory>
     requires seats { All (λ l. IsSeatOf board.now l.seat) lent.items }
     requires round { hits_of board.now ≡ hits_of_round round.now }
     ensures len { IfOk result (λ v. vec_len v ≡ vec_len lent) }
@@ -64,14 +64,14 @@ fn work_all<'r, R: Threads + Sync, G: SeatGate + Sync>(
 
 /// Gives the entries of a round by this many workers at most, who claim its pieces on a board. No more are started than
 /// there are pieces; what a thread that can't be started would have done, the others do. A piece that nobody brought is
-/// claimed and searched by the calling thread. Fails with `AllocError` if memory runs out.
+/// claimed and searched by the calling thread. Fails with `NoMemory` if memory runs out.
 pub fn search_claimed<'r, R: Threads + Sync, G: SeatGate + Sync>(
     rt: &R,
     alloc: Global,
     round: &'r Round<'r>,
     workers: usize,
     gate: &G,
-) -> Result<Vec<Entry<'r>>, AllocError>
+) -> Result<Vec<Entry<'r>>, NoMemory>
     ensures { IfOk result (λ v. OneForEach (told round.now) v.items) }
 {
     let (board, seat) = Board::open(alloc, round)?;

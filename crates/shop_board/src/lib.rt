@@ -10,4 +10,5 @@ pub use board_crews::BoardCrew;
 pub use board_search::work;
 pub use lock_crews::LockCrew;
 pub use shop_workers::{Board, Gate, OpenGate, Pool, Seat, SeatGate};
+pub use std::alloc::AllocError as NoMemory;
 pub use worker_crews::{ByWorkers, WorkerCrew};

@@ -9,7 +9,7 @@ ghost use Rattle.shop_workers.specs.Entries.{OfRound};
 use shop_round::PieceSearcher;
 use shop_runs::{Crew, Entry, Round, Workers};
 use shop_workers::{Gate, OpenGate, Pool, in_order, serve};
-use std::alloc::{AllocError, Global};
+use std::alloc::{AllocError as NoMemory, Global};
 use std::sync::{Mutex, Wait};
 use std::thread;
 use std::thread::Threads;
@@ -45,13 +45,13 @@ impl<G> LockCrew<G> {
 
 impl<G: Gate + Sync> LockCrew<G> {
     /// Gives one entry for each piece of the round, in number order, as `Crew::search` does, past any gate. Fails with
-    /// `AllocError` if memory runs out, after all workers have been joined.
+    /// `NoMemory` if memory runs out, after all workers have been joined.
     pub fn search_round<'r, R: Threads + Wait + Sync>(
         &self,
         rt: &R,
         alloc: Global,
         round: &'r Round<'r>,
-    ) -> Result<Vec<Entry<'r>>, AllocError>
+    ) -> Result<Vec<Entry<'r>>, NoMemory>
         ensures { IfOk result (λ v. OneForEach (told round.now) v.items) }
     {
         search_shared(rt, alloc, round, self.workers.count, &self.gate)
@@ -66,7 +66,7 @@ impl<R: Threads + Wait + Sync> Crew<R> for LockCrew<OpenGate> {
         rt: &R,
         alloc: Global,
         round: &'r Round<'r>,
-    ) -> Result<Vec<Entry<'r>>, AllocError> {
+    ) -> Result<Vec<Entry<'r>>, NoMemory> {
         self.search_round(rt, alloc, round)
     }
 }
@@ -79,7 +79,7 @@ fn serve_by_search<'r, R: Wait, G: Gate>(
     pool: &Mutex<Pool>,
     gate: &G,
     worker: usize,
-) -> Result<Vec<Entry<'r>>, AllocError>
+) -> Result<Vec<Entry<'r>>, NoMemory>
     ensures { IfOk result (λ v. OfRound (told round.now) v.items) }
 {
     serve::<PieceSearcher<'r>, R, G>(rt, alloc, round, pool, gate, worker)
@@ -93,7 +93,7 @@ fn search_shared<'r, R: Threads + Wait + Sync, G: Gate + Sync>(
     round: &'r Round<'r>,
     workers: usize,
     gate: &G,
-) -> Result<Vec<Entry<'r>>, AllocError>
+) -> Result<Vec<Entry<'r>>, NoMemory>
     ensures { IfOk result (λ v. OneForEach (told round.now) v.items) }
 {
     let pieces = round.pieces.len();

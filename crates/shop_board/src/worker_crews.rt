@@ -5,7 +5,7 @@ use crate::board_crews::BoardCrew;
 use shop_round::Alone;
 use shop_runs::{Crew, Entry, MakesCrew, Round, Workers};
 use shop_workers::OpenGate;
-use std::alloc::{AllocError, Global};
+use std::alloc::{AllocError as NoMemory, Global};
 use std::thread::Threads;
 
 /// One worker is the calling thread alone, and more claim pieces on a board.
@@ -23,7 +23,7 @@ impl<R: Threads + Sync> Crew<R> for WorkerCrew {
         rt: &R,
         alloc: Global,
         round: &'r Round<'r>,
-    ) -> Result<Vec<Entry<'r>>, AllocError> {
+    ) -> Result<Vec<Entry<'r>>, NoMemory> {
         match self {
             WorkerCrew::One(alone) => alone.search_round(alloc, round),
             WorkerCrew::Several(crew) => crew.search_round(rt, alloc, round),

@@ -9,7 +9,7 @@ ghost use Rattle.shop_model.specs.Placements.{IsPlacement};
 ghost use Rattle.shop_bound.specs.inner.PlacedWords.{IsOfWord};
 
 use shop_model::{Instance, Placement, Word};
-use std::alloc::{AllocError, Global};
+use std::alloc::{AllocError as NoMemory, Global};
 use std::marker::Model;
 
 /// The heads of the operations of job j, none for those that are placed.
@@ -18,7 +18,7 @@ fn heads_of_job(
     instance: &Instance,
     placement: &Placement,
     j: usize,
-) -> Result<Vec<Option<u64>>, AllocError>
+) -> Result<Vec<Option<u64>>, NoMemory>
     requires job { j < length instance.now.jobs }
     requires word { IsOfWord instance.now placement.now }
     ensures { IfOk result (λ v. AreHeadsOfJob instance.now placement.now j v.items) }
@@ -44,7 +44,7 @@ fn heads_of_jobs(
     alloc: Global,
     instance: &Instance,
     placement: &Placement,
-) -> Result<Vec<Vec<Option<u64>>>, AllocError>
+) -> Result<Vec<Vec<Option<u64>>>, NoMemory>
     requires { IsOfWord instance.now placement.now }
     ensures { IfOk result (λ v. AreHeadsOf instance.now placement.now (map (λ row. row.items) v.items)) }
 {
@@ -72,8 +72,8 @@ impl Model for Heads {
 }
 
 impl Heads {
-    /// The heads once the word, which fits the instance, is placed. Fails with `AllocError` if memory runs out.
-    pub fn of(alloc: Global, instance: &Instance, word: &Word) -> Result<Heads, AllocError>
+    /// The heads once the word, which fits the instance, is placed. Fails with `NoMemory` if memory runs out.
+    pub fn of(alloc: Global, instance: &Instance, word: &Word) -> Result<Heads, NoMemory>
         requires { IsWord instance.now word.now }
         ensures { IfOk result (λ h. TellsHeads instance.now word.now h) }
     {

@@ -20,6 +20,7 @@ pub use laws::{
 };
 pub use lower::lower_bound;
 pub use schedules::Jackson;
+pub use std::alloc::AllocError as NoMemory;
 pub use tail_rows::{tails, total_time};
 pub use thresholds::one_machine;
 pub use triples::Triple;

@@ -9,10 +9,10 @@ ghost use Rattle.shop_bound.specs.inner.Unplaced.{greatest_among, triples_among}
 use crate::schedules::Jackson;
 use crate::unplaced::{Unplaced, gather, list_unplaced};
 use shop_model::{Instance, Placement, Word};
-use std::alloc::{AllocError, Global};
+use std::alloc::{AllocError as NoMemory, Global};
 
 /// The greatest, over the machines, of when it is free and of the one-machine bound of what is left for it.
-fn greatest_bound(alloc: Global, free: &[u64], unplaced: &[Unplaced]) -> Result<u64, AllocError>
+fn greatest_bound(alloc: Global, free: &[u64], unplaced: &[Unplaced]) -> Result<u64, NoMemory>
     requires { (m : ℕ) → IsSmall (triples_among unplaced.now m) }
     ensures { IfOk result (λ b. b ≡ greatest_among free.now unplaced.now) }
 {
@@ -29,8 +29,8 @@ fn greatest_bound(alloc: Global, free: &[u64], unplaced: &[Unplaced]) -> Result<
 
 /// The lower bound of a word that fits the instance: the greatest of the placed ends and of the one-machine bounds of
 /// what is left. No feasible table under the word ends before it, the table that a full word places is feasible and
-/// ends at it, and it is below 2^50. Fails with `AllocError` if memory runs out.
-pub fn lower_bound(alloc: Global, instance: &Instance, word: &Word) -> Result<u64, AllocError>
+/// ends at it, and it is below 2^50. Fails with `NoMemory` if memory runs out.
+pub fn lower_bound(alloc: Global, instance: &Instance, word: &Word) -> Result<u64, NoMemory>
     requires { IsWord instance.now word.now }
     ensures bound { IfOk result (λ b. b ≡ lb instance.now word.now) }
     ensures lower { IfOk result (λ b. IsLower instance.now word.now b) }

@@ -6,7 +6,7 @@ ghost use Rattle.shop_bound.specs.inner.HeapOrders.{by_head, by_tail};
 
 use crate::triples::Triple;
 use crate::works::Work;
-use std::alloc::{AllocError, Global};
+use std::alloc::{AllocError as NoMemory, Global};
 use std::cmp::Reverse;
 use std::collections::BinaryHeap;
 
@@ -26,8 +26,8 @@ impl Queue {
     ghost use Rattle.shop_bound.specs.inner.Queues.{ComeLater, HasRoom, IsFirst, IsNextRelease};
     ghost use Rattle.shop_bound.specs.inner.Queues.{IsQueue, IsWithoutFirst, KeepsRoom, TakesReleased};
 
-    /// Of no operation, with room for n. Fails with `AllocError` if memory runs out.
-    pub(crate) fn with_room(alloc: Global, n: usize) -> Result<Queue, AllocError>
+    /// Of no operation, with room for n. Fails with `NoMemory` if memory runs out.
+    pub(crate) fn with_room(alloc: Global, n: usize) -> Result<Queue, NoMemory>
         ensures { IfOk result (λ q. HasRoom n q) }
     {
         let coming = BinaryHeap::with_capacity(alloc, n)?;

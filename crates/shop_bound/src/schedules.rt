@@ -11,7 +11,7 @@ ghost use Rattle.shop_bound.specs.inner.Serving.{triples_of, turns_left, undone}
 use crate::queues::Queue;
 use crate::triples::{NO_TRIPLE, Triple};
 use crate::works::Work;
-use std::alloc::{AllocError, Global};
+use std::alloc::{AllocError as NoMemory, Global};
 use std::marker::Model;
 
 /// When a turn that ends at `end` stops: then, or at the next release.
@@ -164,8 +164,8 @@ impl Model for Jackson {
 }
 
 impl Jackson {
-    /// A schedule with room for n operations. Fails with `AllocError` if memory runs out.
-    pub fn with_room(alloc: Global, n: usize) -> Result<Jackson, AllocError>
+    /// A schedule with room for n operations. Fails with `NoMemory` if memory runs out.
+    pub fn with_room(alloc: Global, n: usize) -> Result<Jackson, NoMemory>
         ensures { IfOk result (λ j. j ≡ record { room = n; turns = 0 }) }
     {
         let queue = Queue::with_room(alloc, n)?;

@@ -5,7 +5,7 @@ ghost use Rattle.shop_bound.specs.inner.HeadRows.{tails_in};
 ghost use Rattle.shop_bound.specs.Heads.{AreTimesSmall};
 
 use shop_model::{Instance, Op};
-use std::alloc::{AllocError, Global};
+use std::alloc::{AllocError as NoMemory, Global};
 
 /// The sum of the times of a route, which is below 2^50.
 pub fn total_time(route: &[Op]) -> u64
@@ -20,7 +20,7 @@ pub fn total_time(route: &[Op]) -> u64
 }
 
 /// The tails of the operations of a route.
-fn tails_of_route(alloc: Global, route: &[Op]) -> Result<Vec<u64>, AllocError>
+fn tails_of_route(alloc: Global, route: &[Op]) -> Result<Vec<u64>, NoMemory>
     requires { AreTimesSmall route.now }
     ensures { IfOk result (λ v. v.items ≡ tails_in route.now) }
 {
@@ -34,8 +34,8 @@ fn tails_of_route(alloc: Global, route: &[Op]) -> Result<Vec<u64>, AllocError>
 }
 
 /// The tail of each operation, one row a job: the sum of the times of the later steps of its route. Fails with
-/// `AllocError` if memory runs out. For library callers: the program doesn't use it.
-pub fn tails(alloc: Global, instance: &Instance) -> Result<Vec<Vec<u64>>, AllocError>
+/// `NoMemory` if memory runs out. For library callers: the program doesn't use it.
+pub fn tails(alloc: Global, instance: &Instance) -> Result<Vec<Vec<u64>>, NoMemory>
     ensures { IfOk result (λ v. AreTails instance.now (map (λ row. row.items) v.items)) }
 {
     let mut rows = Vec::with_capacity(alloc, instance.jobs())?;

@@ -7,7 +7,7 @@ ghost use Rattle.shop_bound.specs.inner.Unplaced.{triples_among};
 use crate::tail_rows::total_time;
 use crate::triples::Triple;
 use shop_model::{Instance, Op, Placement};
-use std::alloc::{AllocError, Global};
+use std::alloc::{AllocError as NoMemory, Global};
 
 /// An operation that isn't placed: its machine, and its head, time and tail.
 #[derive(Clone, Copy)]
@@ -17,12 +17,7 @@ pub(crate) struct Unplaced {
 }
 
 /// Adds the rest of a job's route to the list, once the job is ready and the machines are free.
-fn add_rest(
-    list: &mut Vec<Unplaced>,
-    rest: &[Op],
-    ready: u64,
-    free: &[u64],
-) -> Result<(), AllocError>
+fn add_rest(list: &mut Vec<Unplaced>, rest: &[Op], ready: u64, free: &[u64]) -> Result<(), NoMemory>
     requires { CanGoOn free.now ready rest.now }
     ensures { OnOk result (Adds list.old.items list.new.items free.now ready rest.now) }
 {
@@ -61,7 +56,7 @@ pub(crate) fn list_unplaced(
     alloc: Global,
     instance: &Instance,
     placement: &Placement,
-) -> Result<Vec<Unplaced>, AllocError>
+) -> Result<Vec<Unplaced>, NoMemory>
     requires { IsOfWord instance.now placement.now }
     ensures { IfOk result (λ v. AreUnplaced instance.now placement.now v.items) }
 {

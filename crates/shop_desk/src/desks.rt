@@ -6,7 +6,7 @@ ghost use Rattle.shop_desk.specs.Desks.{IsUndone, IsWordOfShop, goes_on, nothing
 
 use crate::lane_rings::LaneRing;
 use shop_model::Instance;
-use std::alloc::{AllocError, Global};
+use std::alloc::{AllocError as NoMemory, Global};
 use std::marker::Model;
 
 /// An instance and a word of it that is dispatched entry by entry, with its bound, in units of time. It takes all its
@@ -28,9 +28,9 @@ impl<'a> Model for Desk<'a> {
 
 impl<'a> Desk<'a> {
     /// With nothing dispatched. It takes memory for the word, its bounds, and states of its last beginnings: as many as
-    /// have a million operations together, at least one, and at most one for each operation. Fails with `AllocError` if
+    /// have a million operations together, at least one, and at most one for each operation. Fails with `NoMemory` if
     /// memory runs out.
-    pub fn new(alloc: Global, instance: &'a Instance) -> Result<Desk<'a>, AllocError>
+    pub fn new(alloc: Global, instance: &'a Instance) -> Result<Desk<'a>, NoMemory>
         ensures { IfOk result (λ d. d ≡ nothing_dispatched instance.now) }
     {
         let ring = Box::new(alloc, LaneRing::new(alloc, instance)?)?;

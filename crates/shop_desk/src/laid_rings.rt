@@ -9,7 +9,7 @@ use shop_lanes::StateLanes;
 use shop_layout::LaidOut;
 use shop_model::Instance;
 use shop_states::State;
-use std::alloc::{AllocError, Global};
+use std::alloc::{AllocError as NoMemory, Global};
 use std::marker::Model;
 
 /// A ring that dispatches over a layout, so that who calls it names the lanes alone, and no dispatcher.
@@ -32,12 +32,12 @@ impl<'a, L: StateLanes> Model for LaidRing<'a, L> {
 }
 
 impl<'a, L: StateLanes> LaidRing<'a, L> {
-    /// Of no entry. Fails with `AllocError` if memory runs out.
+    /// Of no entry. Fails with `NoMemory` if memory runs out.
     pub(crate) fn new(
         alloc: Global,
         instance: &Instance,
         laid_out: LaidOut<'a, L>,
-    ) -> Result<LaidRing<'a, L>, AllocError>
+    ) -> Result<LaidRing<'a, L>, NoMemory>
         requires { laid_out.shop ≡ instance.now }
         ensures { IfOk result (λ r. r ≡ nothing_dispatched instance.now) }
     {

@@ -9,7 +9,7 @@ use crate::laid_rings::LaidRing;
 use shop_lanes::{NarrowLanes, PlainLanes, WideLanes};
 use shop_layout::{LaneLayout, Layout};
 use shop_model::Instance;
-use std::alloc::{AllocError, Global};
+use std::alloc::{AllocError as NoMemory, Global};
 
 /// A ring in lanes of 16, 32 or 64 bits.
 pub(crate) enum LaneRing<'a> {
@@ -29,8 +29,8 @@ impl Drop for LaneRing<'_> {
 }
 
 impl<'a> LaneRing<'a> {
-    /// Of no entry, in the narrowest lanes that hold the instance. Fails with `AllocError` if memory runs out.
-    pub(crate) fn new(alloc: Global, instance: &'a Instance) -> Result<LaneRing<'a>, AllocError>
+    /// Of no entry, in the narrowest lanes that hold the instance. Fails with `NoMemory` if memory runs out.
+    pub(crate) fn new(alloc: Global, instance: &'a Instance) -> Result<LaneRing<'a>, NoMemory>
         ensures { IfOk result (λ r. kept_in r ≡ nothing_dispatched instance.now) }
     {
         match Layout::of(alloc, instance)?.into_lanes() {

@@ -5,7 +5,7 @@ ghost use Rattle.shop_desk.specs.inner.Rings.{HasKept};
 use shop_bound::lower_bound;
 use shop_model::{Instance, Word};
 use shop_states::Dispatching;
-use std::alloc::{AllocError, Global};
+use std::alloc::{AllocError as NoMemory, Global};
 use std::collections::VecDeque;
 use std::marker::Model;
 use std::mem;
@@ -70,12 +70,12 @@ fn kept_states(operations: usize) -> usize
     (KEPT_OPERATIONS / most).clamp(1, most)
 }
 
-/// Room for so many states. Fails with `AllocError` if memory runs out.
+/// Room for so many states. Fails with `NoMemory` if memory runs out.
 fn slots<D: Dispatching<S>, S: Drop>(
     alloc: Global,
     dispatcher: &D,
     count: usize,
-) -> Result<VecDeque<S>, AllocError>
+) -> Result<VecDeque<S>, NoMemory>
     ensures { IfOk result (λ q. (length q.items ≡ count) × All (D.IsSlot dispatcher.now) q.items) }
 {
     let mut states = VecDeque::with_capacity(alloc, count)?;
@@ -113,12 +113,12 @@ impl<D: Dispatching<S> + Drop, S: Drop> Ring<D, S> {
     ghost use Rattle.shop_bound.specs.Bound.{lb};
     ghost use Rattle.shop_desk.specs.Desks.{IsUndone, IsWordOfShop, goes_on, nothing_dispatched};
 
-    /// Of no entry. Fails with `AllocError` if memory runs out.
+    /// Of no entry. Fails with `NoMemory` if memory runs out.
     pub(crate) fn new(
         alloc: Global,
         instance: &Instance,
         dispatcher: D,
-    ) -> Result<Ring<D, S>, AllocError>
+    ) -> Result<Ring<D, S>, NoMemory>
         requires { D.shop dispatcher ≡ instance.now }
         ensures { IfOk result (λ r. r ≡ nothing_dispatched instance.now) }
     {

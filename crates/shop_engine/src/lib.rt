@@ -35,5 +35,6 @@ pub use memory::Memory;
 pub use shop_runs::{Order, Plan};
 pub use shop_text::Format;
 pub use solving::{solve_bytes, solve_instance, solve_text};
+pub use std::alloc::AllocError as NoMemory;
 pub use streams::{Reading, Writing};
 pub use transfers::{read_all, write_all};

@@ -2,7 +2,7 @@
 ghost use Rattle.std.specs.Prelude.{◌≡◌, ◌-◌, ◌≤◌, [], IfOk, vec_len, vec_capacity};
 
 use crate::devices::{DeviceFailed, Sink};
-use std::alloc::{AllocError, Global};
+use std::alloc::{AllocError as NoMemory, Global};
 
 /// A sink that holds its bytes in memory, in room made beforehand. Writing takes no memory, and fails where the room is
 /// full. For library callers: the program doesn't use it.
@@ -15,8 +15,8 @@ pub struct Memory {
 }
 
 impl Memory {
-    /// An empty sink with room for so many bytes. Fails with `AllocError` if memory runs out.
-    pub fn with_room(alloc: Global, room: usize) -> Result<Memory, AllocError>
+    /// An empty sink with room for so many bytes. Fails with `NoMemory` if memory runs out.
+    pub fn with_room(alloc: Global, room: usize) -> Result<Memory, NoMemory>
         ensures empty { IfOk result (λ m. m.held.items ≡ []) }
         ensures fresh { IfOk result (λ m. m.failures ≡ 0) }
         ensures room { IfOk result (λ m. m.room ≡ room) }

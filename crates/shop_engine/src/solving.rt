@@ -20,7 +20,7 @@ use crate::faults::Fault;
 use crate::transfers::{read_all, write_all};
 use shop_runs::{Answer, Crew, Plan, run};
 use shop_text::{Named, ReadFault, Report, gantt, read, report};
-use std::alloc::{AllocError, Global};
+use std::alloc::{AllocError as NoMemory, Global};
 
 /// A `u64` is below 2^64. (A fact for proofs; the call does nothing.)
 fn is_word(number: u64)
@@ -28,7 +28,7 @@ fn is_word(number: u64)
 {}
 
 /// The report of an answer.
-fn report_of(alloc: Global, asked: &Named, answer: &Answer) -> Result<Vec<u8>, AllocError>
+fn report_of(alloc: Global, asked: &Named, answer: &Answer) -> Result<Vec<u8>, NoMemory>
     requires { HasShape asked.now.instance answer.now.table }
     ensures written { IfOk result (λ v.
         v.items ≡ report_text (told_by (shop_of_named asked.now) answer.now)) }
@@ -58,7 +58,7 @@ fn text_of(
     asked: &Named,
     answer: &Answer,
     with_gantt: bool,
-) -> Result<Vec<u8>, AllocError>
+) -> Result<Vec<u8>, NoMemory>
     requires shape { HasShape asked.now.instance answer.now.table }
     requires feasible { IsFeasible asked.now.instance (starts_of answer.now.table) }
     ensures written { IfOk result (λ v.
@@ -78,7 +78,7 @@ fn text_of(
 /// bound, and where the status is optimal none ends before the makespan.
 ///
 /// The report is itself a schedule text of the instance, if it has no more than `MAX_TEXT` bytes. Fails with
-/// `AllocError` if memory runs out.
+/// `NoMemory` if memory runs out.
 pub fn solve_instance<R, C: Crew<R>>(
     rt: &R,
     alloc: Global,
@@ -86,7 +86,7 @@ pub fn solve_instance<R, C: Crew<R>>(
     plan: &Plan,
     with_gantt: bool,
     crew: &mut C,
-) -> Result<Vec<u8>, AllocError>
+) -> Result<Vec<u8>, NoMemory>
     requires { C.ready }
     ensures right { IfOk result (λ out.
         IsRight (shop_of_named asked.now) with_gantt out.items) }

@@ -9,7 +9,7 @@ use crate::marking::Marks;
 use crate::owning::own_spans;
 use crate::passes::{bits_up_to, first_least, load};
 use crate::state_lanes::StateLanes;
-use std::alloc::{AllocError, Global};
+use std::alloc::{AllocError as NoMemory, Global};
 
 /// Times and tails that blocks of eight are read from.
 #[derive(Drop)]
@@ -34,7 +34,7 @@ pub struct BlockLanes<B: Block> {
     ghost ends_are_padded: { IsPadded B.GREATEST jobs (map B.value ends.items) },
 }
 
-fn copied<B: Block>(alloc: Global, numbers: &[u64]) -> Result<Vec<B::Number>, AllocError>
+fn copied<B: Block>(alloc: Global, numbers: &[u64]) -> Result<Vec<B::Number>, NoMemory>
     requires { All (λ n. n ≤ B.GREATEST) numbers.now }
     ensures { IfOk result (λ v. map B.value v.items ≡ numbers.now) }
 {
@@ -65,12 +65,12 @@ fn clear_heads<B: Block>(row: &mut [B::Number], positions: usize)
 }
 
 /// A head of 0 at each position, and the greatest number behind the last one.
-fn no_heads<B: Block>(alloc: Global, positions: usize) -> Result<Vec<B::Number>, AllocError>
+fn no_heads<B: Block>(alloc: Global, positions: usize) -> Result<Vec<B::Number>, NoMemory>
     ensures room { IfOk result (λ _. positions + 64 ≤ 2 ^ 64) }
     ensures none { IfOk result (λ v. map B.value v.items ≡ replicate positions 0 ++ B.GREATEST ∷ []) }
 {
     if positions > usize::MAX - 128 {
-        return Err(AllocError);
+        return Err(NoMemory);
     }
     let mut heads = B::row_of(alloc, 0, positions + 1)?;
     heads[positions] = B::narrowed(B::GREATEST);
@@ -78,14 +78,14 @@ fn no_heads<B: Block>(alloc: Global, positions: usize) -> Result<Vec<B::Number>,
 }
 
 /// The greatest number for each job, and for as many more as fill whole blocks.
-fn no_ends<B: Block>(alloc: Global, jobs: usize) -> Result<Vec<B::Number>, AllocError>
+fn no_ends<B: Block>(alloc: Global, jobs: usize) -> Result<Vec<B::Number>, NoMemory>
     ensures room { IfOk result (λ v. length v.items + 64 ≤ 2 ^ 64) }
     ensures whole { IfOk result (λ v. length v.items ≡ 8 * (jobs / 8 + 1)) }
     ensures padded { IfOk result (λ v. IsPadded B.GREATEST jobs (map B.value v.items)) }
     ensures none { IfOk result (λ v. take jobs (map B.value v.items) ≡ replicate jobs B.GREATEST) }
 {
     if jobs > usize::MAX - 128 {
-        return Err(AllocError);
+        return Err(NoMemory);
     }
     Ok(B::row_of(alloc, B::GREATEST, 8 * (jobs / 8 + 1))?)
 }
@@ -123,14 +123,14 @@ impl<B: Block> StateLanes for BlockLanes<B> {
         alloc: Global,
         all_times: &[u64],
         all_tails: &[u64],
-    ) -> Result<FixedBlocks<B>, AllocError> {
+    ) -> Result<FixedBlocks<B>, NoMemory> {
         Ok(FixedBlocks {
             times: copied::<B>(alloc, all_times)?,
             tails: copied::<B>(alloc, all_tails)?,
         })
     }
 
-    fn new(alloc: Global, positions: usize, jobs: usize) -> Result<Self, AllocError> {
+    fn new(alloc: Global, positions: usize, jobs: usize) -> Result<Self, NoMemory> {
         Ok(BlockLanes {
             heads: no_heads::<B>(alloc, positions)?,
             positions,

@@ -6,7 +6,7 @@ ghost use Rattle.shop_lanes.specs.Eights.{first_of, is_between, IsSplat, up_one,
 ghost use Rattle.shop_lanes.specs.Eights.{down_one, down_two, down_four, halves, quarters};
 ghost use Rattle.shop_lanes.specs.Eights.{neighbours, added, lessened, waiting, AddsFit, later_head};
 
-use std::alloc::{AllocError, Global};
+use std::alloc::{AllocError as NoMemory, Global};
 
 /// Eight numbers of a row at once.
 pub trait Block: Copy + Drop {
@@ -28,8 +28,8 @@ pub trait Block: Copy + Drop {
     fn widened(number: Self::Number) -> u64
         ensures { result ≡ value number };
 
-    /// A row of so many times the same number. Fails with `AllocError` if memory runs out.
-    fn row_of(alloc: Global, number: u64, count: usize) -> Result<Vec<Self::Number>, AllocError>
+    /// A row of so many times the same number. Fails with `NoMemory` if memory runs out.
+    fn row_of(alloc: Global, number: u64, count: usize) -> Result<Vec<Self::Number>, NoMemory>
         requires { number ≤ GREATEST }
         ensures { IfOk result (λ row. map value row.items ≡ replicate count number) };
 

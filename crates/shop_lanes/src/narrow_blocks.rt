@@ -3,7 +3,7 @@ ghost use Rattle.std.specs.Prelude.{ℕ};
 ghost use Rattle.std.proofs.Common.{lit<};
 
 use crate::blocks::Block;
-use std::alloc::{AllocError, Global};
+use std::alloc::{AllocError as NoMemory, Global};
 use std::simd::prelude::*;
 
 /// Eight numbers of 16 bits.
@@ -33,7 +33,7 @@ impl Block for NarrowBlock {
         u64::from(number)
     }
 
-    fn row_of(alloc: Global, number: u64, count: usize) -> Result<Vec<u16>, AllocError> {
+    fn row_of(alloc: Global, number: u64, count: usize) -> Result<Vec<u16>, NoMemory> {
         Ok(vec![in alloc; number as u16; count]?)
     }
 

@@ -3,7 +3,7 @@ ghost use Rattle.std.specs.Prelude.{ℕ, ◌-◌, ◌^◌};
 ghost use Rattle.std.proofs.Common.{lit<};
 
 use crate::blocks::Block;
-use std::alloc::{AllocError, Global};
+use std::alloc::{AllocError as NoMemory, Global};
 use std::simd::prelude::*;
 
 /// Eight numbers of 64 bits.
@@ -33,7 +33,7 @@ impl Block for PlainBlock {
         number
     }
 
-    fn row_of(alloc: Global, number: u64, count: usize) -> Result<Vec<u64>, AllocError> {
+    fn row_of(alloc: Global, number: u64, count: usize) -> Result<Vec<u64>, NoMemory> {
         Ok(vec![in alloc; number; count]?)
     }
 

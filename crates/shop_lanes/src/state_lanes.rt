@@ -8,7 +8,7 @@ ghost use Rattle.shop_lanes.specs.Marks.{positions_among};
 ghost use Rattle.shop_lanes.specs.Ends.{IsFirstLeast};
 
 use crate::marking::Marks;
-use std::alloc::{AllocError, Global};
+use std::alloc::{AllocError as NoMemory, Global};
 
 /// The heads of operations by position and the ends of the jobs' next operations, of one state of a search. A head of
 /// 0 says that nothing waits at the position. Positions come in blocks of eight, which are read and added up together.
@@ -35,14 +35,14 @@ pub trait StateLanes: Drop {
 
     ghost ends: { Self → List ℕ };
 
-    fn fixed(alloc: Global, all_times: &[u64], all_tails: &[u64]) -> Result<Self::Fixed, AllocError>
+    fn fixed(alloc: Global, all_times: &[u64], all_tails: &[u64]) -> Result<Self::Fixed, NoMemory>
         requires fitting_times { All (λ t. t ≤ GREATEST) all_times.now }
         requires fitting_tails { All (λ q. q ≤ GREATEST) all_tails.now }
         ensures times { IfOk result (λ made. times made ≡ all_times.now) }
         ensures tails { IfOk result (λ made. tails made ≡ all_tails.now) };
 
     /// Nothing waits and no job has an end: each end is the greatest number.
-    fn new(alloc: Global, positions: usize, jobs: usize) -> Result<Self, AllocError>
+    fn new(alloc: Global, positions: usize, jobs: usize) -> Result<Self, NoMemory>
         ensures heads { IfOk result (λ made. heads made ≡ replicate positions 0) }
         ensures ends { IfOk result (λ made. ends made ≡ replicate jobs GREATEST) };
 

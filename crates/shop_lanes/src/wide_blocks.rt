@@ -3,7 +3,7 @@ ghost use Rattle.std.specs.Prelude.{ℕ};
 ghost use Rattle.std.proofs.Common.{lit<};
 
 use crate::blocks::Block;
-use std::alloc::{AllocError, Global};
+use std::alloc::{AllocError as NoMemory, Global};
 use std::simd::prelude::*;
 
 /// Eight numbers of 32 bits.
@@ -33,7 +33,7 @@ impl Block for WideBlock {
         u64::from(number)
     }
 
-    fn row_of(alloc: Global, number: u64, count: usize) -> Result<Vec<u32>, AllocError> {
+    fn row_of(alloc: Global, number: u64, count: usize) -> Result<Vec<u32>, NoMemory> {
         Ok(vec![in alloc; number as u32; count]?)
     }
 

@@ -10,7 +10,7 @@ ghost use Rattle.shop_layout.specs.Positions.{AreEven};
 use crate::positions::Positions;
 use crate::routes::Routes;
 use shop_lanes::StateLanes;
-use std::alloc::{AllocError, Global};
+use std::alloc::{AllocError as NoMemory, Global};
 use std::marker::Model;
 
 /// The same as positions, with times and tails in lanes.
@@ -54,8 +54,8 @@ fn even_blocks(blocks: &[u32]) -> usize
 }
 
 impl<L: StateLanes> Grid<L> {
-    /// Of these positions. Fails with `AllocError` if memory runs out.
-    pub(crate) fn of(alloc: Global, positions: Positions) -> Result<Grid<L>, AllocError>
+    /// Of these positions. Fails with `NoMemory` if memory runs out.
+    pub(crate) fn of(alloc: Global, positions: Positions) -> Result<Grid<L>, NoMemory>
         requires times { All (λ t. t ≤ L.GREATEST) positions.times }
         requires tails { All (λ t. t ≤ L.GREATEST) positions.tails }
         ensures { IfOk result (λ g. g ≡ positions) }

@@ -6,7 +6,7 @@ use crate::grid::Grid;
 use crate::positions::Positions;
 use shop_lanes::StateLanes;
 use shop_model::Instance;
-use std::alloc::{AllocError, Global};
+use std::alloc::{AllocError as NoMemory, Global};
 use std::marker::Model;
 
 /// An instance with its operations by position, their times and tails in lanes of one width.
@@ -36,12 +36,12 @@ impl<'a, L: StateLanes> Model for LaidOut<'a, L> {
 }
 
 impl<'a, L: StateLanes> LaidOut<'a, L> {
-    /// Of an instance and the positions of its operations. Fails with `AllocError` if memory runs out.
+    /// Of an instance and the positions of its operations. Fails with `NoMemory` if memory runs out.
     pub(crate) fn of(
         alloc: Global,
         instance: &'a Instance,
         positions: Positions,
-    ) -> Result<LaidOut<'a, L>, AllocError>
+    ) -> Result<LaidOut<'a, L>, NoMemory>
         requires { IsReady L.GREATEST instance.now positions }
         ensures { IfOk result (λ l. l.shop ≡ instance.now) }
     {

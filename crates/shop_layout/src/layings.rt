@@ -12,7 +12,7 @@ ghost use Rattle.shop_layout.specs.Positions.{AreMachinesOf};
 
 use crate::slots::Slot;
 use shop_model::Instance;
-use std::alloc::{AllocError, Global};
+use std::alloc::{AllocError as NoMemory, Global};
 
 /// Padding.
 const NO_SLOT: Slot = Slot {
@@ -39,7 +39,7 @@ fn rank_of(count: usize, place: usize) -> usize
 }
 
 /// Adds so many blocks, in which a list stands down the columns, and padding behind it.
-fn add_blocks(slots: &mut Vec<Slot>, list: &[Slot], count: usize) -> Result<(), AllocError>
+fn add_blocks(slots: &mut Vec<Slot>, list: &[Slot], count: usize) -> Result<(), NoMemory>
     requires { 8 * count < 2 ^ 32 }
     ensures { OnOk result (AreAdded list.now count (8 * count) slots.old.items slots.new.items) }
 {
@@ -56,7 +56,7 @@ fn add_blocks(slots: &mut Vec<Slot>, list: &[Slot], count: usize) -> Result<(), 
 }
 
 /// The lists one after another, each down the columns of as many blocks of eight positions as it needs.
-pub(crate) fn cells_of(alloc: Global, lists: &[Vec<Slot>]) -> Result<Cells, AllocError>
+pub(crate) fn cells_of(alloc: Global, lists: &[Vec<Slot>]) -> Result<Cells, NoMemory>
     requires few { length lists.now ≤ MAX_MACHINES }
     requires short { AreShorter (MAX_JOBS * MAX_STEPS) (items_in lists.now) }
     ensures { IfOk result (λ c. AreCells (items_in lists.now) (length lists.now)
@@ -74,7 +74,7 @@ pub(crate) fn cells_of(alloc: Global, lists: &[Vec<Slot>]) -> Result<Cells, Allo
 }
 
 /// The jobs of the cells.
-pub(crate) fn jobs_of(alloc: Global, slots: &[Slot]) -> Result<Vec<u32>, AllocError>
+pub(crate) fn jobs_of(alloc: Global, slots: &[Slot]) -> Result<Vec<u32>, NoMemory>
     requires { All (λ s. s.job < 2 ^ 32) slots.now }
     ensures { IfOk result (λ v. v.items ≡ map (λ s. s.job) slots.now) }
 {
@@ -86,7 +86,7 @@ pub(crate) fn jobs_of(alloc: Global, slots: &[Slot]) -> Result<Vec<u32>, AllocEr
 }
 
 /// The steps of the cells.
-pub(crate) fn steps_of(alloc: Global, slots: &[Slot]) -> Result<Vec<u32>, AllocError>
+pub(crate) fn steps_of(alloc: Global, slots: &[Slot]) -> Result<Vec<u32>, NoMemory>
     requires { All (λ s. s.step < 2 ^ 32) slots.now }
     ensures { IfOk result (λ v. v.items ≡ map (λ s. s.step) slots.now) }
 {
@@ -98,21 +98,21 @@ pub(crate) fn steps_of(alloc: Global, slots: &[Slot]) -> Result<Vec<u32>, AllocE
 }
 
 /// The times of the cells.
-pub(crate) fn times_of(alloc: Global, slots: &[Slot]) -> Result<Vec<u64>, AllocError>
+pub(crate) fn times_of(alloc: Global, slots: &[Slot]) -> Result<Vec<u64>, NoMemory>
     ensures { IfOk result (λ v. v.items ≡ map (λ s. s.time) slots.now) }
 {
     slots.iter().map(|s| s.time).collect(alloc)
 }
 
 /// The tails of the cells.
-pub(crate) fn tails_of(alloc: Global, slots: &[Slot]) -> Result<Vec<u64>, AllocError>
+pub(crate) fn tails_of(alloc: Global, slots: &[Slot]) -> Result<Vec<u64>, NoMemory>
     ensures { IfOk result (λ v. v.items ≡ map (λ s. s.tail) slots.now) }
 {
     slots.iter().map(|s| s.tail).collect(alloc)
 }
 
 /// A row for each job, as long as its route.
-fn empty_places(alloc: Global, instance: &Instance) -> Result<Vec<Vec<u32>>, AllocError>
+fn empty_places(alloc: Global, instance: &Instance) -> Result<Vec<Vec<u32>>, NoMemory>
     ensures { IfOk result (λ v. HasRoutes instance.now (items_in v.items)) }
 {
     let mut places = Vec::new(alloc);
@@ -154,7 +154,7 @@ pub(crate) fn places_of(
     instance: &Instance,
     lists: &[Vec<Slot>],
     blocks: &[u32],
-) -> Result<Vec<Vec<u32>>, AllocError>
+) -> Result<Vec<Vec<u32>>, NoMemory>
     requires slots { AreMachineSlots instance.now (items_in lists.now) }
     requires blocks { length blocks.now ≡ instance.now.machines + 1 }
     requires room { HaveRoom (items_in lists.now) instance.now.machines blocks.now }
@@ -181,7 +181,7 @@ pub(crate) fn following_of(
     alloc: Global,
     slots: &[Slot],
     places: &[Vec<u32>],
-) -> Result<Vec<u32>, AllocError>
+) -> Result<Vec<u32>, NoMemory>
     requires jobs { All (λ s. s.job < length places.now) slots.now }
     requires steps { All (λ s. s.step < 2 ^ 32) slots.now }
     requires few { length slots.now < 2 ^ 32 }
@@ -202,7 +202,7 @@ pub(crate) fn following_of(
 }
 
 /// The machine of each cell, by the first block of each machine.
-pub(crate) fn machines_of(alloc: Global, blocks: &[u32]) -> Result<Vec<u32>, AllocError>
+pub(crate) fn machines_of(alloc: Global, blocks: &[u32]) -> Result<Vec<u32>, NoMemory>
     requires from_0 { slice_index blocks.now 0 ≡ 0 }
     requires some { 0 < length blocks.now }
     requires ordered { (m : ℕ) → m + 1 < length blocks.now

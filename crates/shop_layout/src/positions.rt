@@ -8,7 +8,7 @@ use crate::layings::{
 use crate::routes::Routes;
 use crate::slots::machine_slots;
 use shop_model::Instance;
-use std::alloc::{AllocError, Global};
+use std::alloc::{AllocError as NoMemory, Global};
 use std::marker::Model;
 
 /// The operations of an instance by position: machine after machine, each in whole blocks of eight positions with
@@ -57,8 +57,8 @@ impl Model for Positions {
 }
 
 impl Positions {
-    /// The layout of an instance. Fails with `AllocError` if memory runs out.
-    pub(crate) fn of(alloc: Global, instance: &Instance) -> Result<Positions, AllocError>
+    /// The layout of an instance. Fails with `NoMemory` if memory runs out.
+    pub(crate) fn of(alloc: Global, instance: &Instance) -> Result<Positions, NoMemory>
         ensures { IfOk result (λ l. IsLaidOut instance.now l) }
     {
         instance.keeps_limits();

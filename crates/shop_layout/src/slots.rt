@@ -9,7 +9,7 @@ ghost use Rattle.shop_layout.specs.inner.Vectors.{items_in};
 
 use shop_bound::total_time;
 use shop_model::{Instance, Op};
-use std::alloc::{AllocError, Global};
+use std::alloc::{AllocError as NoMemory, Global};
 use std::cmp::Reverse;
 
 /// An operation as its machine sees it: its job and step, its time and its tail.
@@ -22,7 +22,7 @@ pub struct Slot {
 }
 
 /// Adds the operations of one job to the lists of their machines.
-fn add_operations(lists: &mut [Vec<Slot>], route: &[Op], job: usize) -> Result<(), AllocError>
+fn add_operations(lists: &mut [Vec<Slot>], route: &[Op], job: usize) -> Result<(), NoMemory>
     requires times { AreTimesSmall route.now }
     requires machines { (k : ℕ) → (slice_index_or route.now k no_op).machine < length lists.old }
     ensures { OnOk result
@@ -44,7 +44,7 @@ fn add_operations(lists: &mut [Vec<Slot>], route: &[Op], job: usize) -> Result<(
 }
 
 /// An empty list for each machine, with room for one operation of each job.
-fn empty_lists(alloc: Global, instance: &Instance) -> Result<Vec<Vec<Slot>>, AllocError>
+fn empty_lists(alloc: Global, instance: &Instance) -> Result<Vec<Vec<Slot>>, NoMemory>
     ensures { IfOk result (λ v. items_in v.items ≡ replicate instance.now.machines []) }
 {
     let mut lists = Vec::with_capacity(alloc, instance.machines())?;
@@ -57,7 +57,7 @@ fn empty_lists(alloc: Global, instance: &Instance) -> Result<Vec<Vec<Slot>>, All
 }
 
 /// The operations of each machine, job by job.
-fn operations_by_machine(alloc: Global, instance: &Instance) -> Result<Vec<Vec<Slot>>, AllocError>
+fn operations_by_machine(alloc: Global, instance: &Instance) -> Result<Vec<Vec<Slot>>, NoMemory>
     ensures { IfOk result (λ v. AreOperations instance.now (map (λ slots. slots.items) v.items)) }
 {
     let mut lists = empty_lists(alloc, instance)?;
@@ -67,11 +67,8 @@ fn operations_by_machine(alloc: Global, instance: &Instance) -> Result<Vec<Vec<S
     Ok(lists)
 }
 
-/// The operations of each machine, by nonincreasing tails. Fails with `AllocError` if memory runs out.
-pub(crate) fn machine_slots(
-    alloc: Global,
-    instance: &Instance,
-) -> Result<Vec<Vec<Slot>>, AllocError>
+/// The operations of each machine, by nonincreasing tails. Fails with `NoMemory` if memory runs out.
+pub(crate) fn machine_slots(alloc: Global, instance: &Instance) -> Result<Vec<Vec<Slot>>, NoMemory>
     ensures { IfOk result (λ v. AreMachineSlots instance.now (map (λ slots. slots.items) v.items)) }
 {
     let mut lists = operations_by_machine(alloc, instance)?;

@@ -10,7 +10,7 @@ use crate::overlaps::first_overlap;
 use crate::spans::are_in_turn_sorted;
 use crate::steps::{early_step, last_finish};
 use crate::tables::Table;
-use std::alloc::{AllocError, Global};
+use std::alloc::{AllocError as NoMemory, Global};
 
 /// What `check` finds of a table: that it is feasible, or its first fault.
 #[derive(Clone, Copy, Debug, PartialEq, Eq)]
@@ -117,12 +117,8 @@ pub fn check(instance: &Instance, table: &Table) -> Verdict
 }
 
 /// As `check`, by sorting the operations: it takes memory, and far less time for a large feasible table. Fails with
-/// `AllocError` if memory runs out.
-pub fn check_quickly(
-    alloc: Global,
-    instance: &Instance,
-    table: &Table,
-) -> Result<Verdict, AllocError>
+/// `NoMemory` if memory runs out.
+pub fn check_quickly(alloc: Global, instance: &Instance, table: &Table) -> Result<Verdict, NoMemory>
     ensures { IfOk result (λ v. IsChecked instance.now table.now v) }
 {
     if has_shape(instance, table)

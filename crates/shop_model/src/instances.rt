@@ -8,7 +8,7 @@ ghost use Rattle.shop_model.specs.Given.{shop_of_rows, shop_of_jobs};
 
 use crate::limits::{MAX_JOBS, MAX_MACHINES, MAX_STEPS, MAX_TIME};
 use crate::ops::{Job, Op};
-use std::alloc::{AllocError, Global};
+use std::alloc::{AllocError as NoMemory, Global};
 use std::marker::Model;
 
 /// The list that an instance was given.
@@ -213,8 +213,8 @@ impl Instance {
         }
     }
 
-    /// When each job is released, in order, in units of time. Fails with `AllocError` if memory runs out.
-    pub fn releases(&self, alloc: Global) -> Result<Vec<u64>, AllocError>
+    /// When each job is released, in order, in units of time. Fails with `NoMemory` if memory runs out.
+    pub fn releases(&self, alloc: Global) -> Result<Vec<u64>, NoMemory>
         ensures { IfOk result (λ v. v.items ≡ releases_of self.now) }
     {
         let mut releases = Vec::with_capacity(alloc, self.jobs())?;

@@ -24,6 +24,7 @@ pub use ops::{Job, Op, OperationId};
 pub use placements::Placement;
 pub use placing::place;
 pub use shared_words::SharedWord;
+pub use std::alloc::AllocError as NoMemory;
 pub use tables::Table;
 pub use word_jobs::Jobs;
 pub use words::{Word, fits, is_full, start_word};

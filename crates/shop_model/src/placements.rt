@@ -7,7 +7,7 @@ ghost use Rattle.shop_model.specs.inner.ClearPlacements.{IsClearUpTo};
 
 use crate::instances::Instance;
 use crate::words::Word;
-use std::alloc::{AllocError, Global};
+use std::alloc::{AllocError as NoMemory, Global};
 use std::marker::Model;
 
 /// The state once the operations of a word are placed: for each job how many of its steps are placed and when it is
@@ -32,8 +32,8 @@ impl Model for Placement {
 }
 
 impl Placement {
-    /// The placement of no operation. Fails with `AllocError` if memory runs out.
-    pub fn none(alloc: Global, instance: &Instance) -> Result<Placement, AllocError>
+    /// The placement of no operation. Fails with `NoMemory` if memory runs out.
+    pub fn none(alloc: Global, instance: &Instance) -> Result<Placement, NoMemory>
         ensures { IfOk result (λ s. IsPlacement instance.now (none_placed instance.now) s) }
     {
         let steps = vec![in alloc; 0; instance.jobs()]?;
@@ -43,8 +43,8 @@ impl Placement {
     }
 
     /// The placement of a word that fits the instance: its operations in its order, each as soon as its job and its
-    /// machine can. Fails with `AllocError` if memory runs out.
-    pub fn of(alloc: Global, instance: &Instance, word: &Word) -> Result<Placement, AllocError>
+    /// machine can. Fails with `NoMemory` if memory runs out.
+    pub fn of(alloc: Global, instance: &Instance, word: &Word) -> Result<Placement, NoMemory>
         requires { IsWord instance.now word.now }
         ensures { IfOk result (λ s. IsPlacement instance.now (placing instance.now word.now) s) }
     {

@@ -8,10 +8,10 @@ use crate::instances::Instance;
 use crate::placements::Placement;
 use crate::tables::Table;
 use crate::words::Word;
-use std::alloc::{AllocError, Global};
+use std::alloc::{AllocError as NoMemory, Global};
 
 /// An empty row for each job, with room for its steps.
-fn empty_rows(alloc: Global, instance: &Instance) -> Result<Vec<Vec<u64>>, AllocError>
+fn empty_rows(alloc: Global, instance: &Instance) -> Result<Vec<Vec<u64>>, NoMemory>
     ensures { IfOk result (λ v. map (λ r. r.items) v.items ≡ no_starts instance.now) }
 {
     let mut rows = Vec::with_capacity(alloc, instance.jobs())?;
@@ -23,8 +23,8 @@ fn empty_rows(alloc: Global, instance: &Instance) -> Result<Vec<Vec<u64>>, Alloc
 
 /// The table that a full word places: each operation, in the order of the word, begins at the greater of the end of the
 /// step before it (its job's release if there is none) and the ends of the operations before it on its machine
-/// (semi-active schedule). Fails with `AllocError` if memory runs out.
-pub fn place(alloc: Global, instance: &Instance, word: &Word) -> Result<Table, AllocError>
+/// (semi-active schedule). Fails with `NoMemory` if memory runs out.
+pub fn place(alloc: Global, instance: &Instance, word: &Word) -> Result<Table, NoMemory>
     requires { IsFull instance.now word.now }
     ensures table { IfOk result (λ t. t ≡ rows_of instance.now (placed instance.now word.now)) }
 

@@ -6,7 +6,7 @@ ghost use Rattle.shop_model.specs.declared.limits.TheConstants.{MAX_JOBS, MAX_ST
 ghost use Rattle.shop_model.specs.SharedWords.{CanBeShared};
 
 use crate::words::set_jobs;
-use std::alloc::{AllocError, Global};
+use std::alloc::{AllocError as NoMemory, Global};
 use std::marker::Model;
 use std::sync::ArcSlice;
 
@@ -31,8 +31,8 @@ impl Model for SharedWord {
 }
 
 impl SharedWord {
-    /// The word of this path. Fails with `AllocError` if memory runs out.
-    pub fn of_path(alloc: Global, path: &[u16]) -> Result<SharedWord, AllocError>
+    /// The word of this path. Fails with `NoMemory` if memory runs out.
+    pub fn of_path(alloc: Global, path: &[u16]) -> Result<SharedWord, NoMemory>
         requires { length path.now ≤ MAX_JOBS * MAX_STEPS }
         ensures { IfOk result (λ w. w ≡ path.now) }
     {
@@ -45,8 +45,8 @@ impl SharedWord {
         })
     }
 
-    /// The word of these jobs. Fails with `AllocError` if memory runs out.
-    pub(crate) fn of_jobs(alloc: Global, jobs: &[usize]) -> Result<SharedWord, AllocError>
+    /// The word of these jobs. Fails with `NoMemory` if memory runs out.
+    pub(crate) fn of_jobs(alloc: Global, jobs: &[usize]) -> Result<SharedWord, NoMemory>
         requires { CanBeShared jobs.now }
         ensures { IfOk result (λ w. w ≡ jobs.now) }
     {
@@ -60,7 +60,7 @@ impl SharedWord {
         path: &ArcSlice<u16, Global>,
         depth: u32,
         last: u16,
-    ) -> Result<SharedWord, AllocError>
+    ) -> Result<SharedWord, NoMemory>
         requires { depth ≤ length (arc_slice_items path.now) }
         ensures { IfOk result (λ w. w ≡ take depth (arc_slice_items path.now) ++ last ∷ []) }
     {
@@ -72,7 +72,7 @@ impl SharedWord {
     }
 
     /// The same word once more, over the same jobs. Takes no memory.
-    pub fn shared(&self) -> Result<SharedWord, AllocError>
+    pub fn shared(&self) -> Result<SharedWord, NoMemory>
         ensures { IfOk result (λ w. w ≡ self.now) }
     {
         Ok(SharedWord {
@@ -107,8 +107,8 @@ impl SharedWord {
         last as usize
     }
 
-    /// Sets a list to the jobs of the word. Fails with `AllocError` if memory runs out.
-    pub fn write_to(&self, list: &mut Vec<u16>) -> Result<(), AllocError>
+    /// Sets a list to the jobs of the word. Fails with `NoMemory` if memory runs out.
+    pub fn write_to(&self, list: &mut Vec<u16>) -> Result<(), NoMemory>
         ensures list { OnOk result (list.new.items ≡ self.now) }
         ensures room { vec_capacity list.old ≤ vec_capacity list.new }
     {

@@ -8,7 +8,7 @@ ghost use Rattle.shop_model.specs.inner.Spans.{spans_at, spans_of, AreInTurn};
 use crate::instances::Instance;
 use crate::ops::Op;
 use crate::tables::Table;
-use std::alloc::{AllocError, Global};
+use std::alloc::{AllocError as NoMemory, Global};
 
 /// An operation in a table: from when to when it takes its machine.
 #[derive(Clone, Copy, PartialEq, Eq, PartialOrd, Ord)]
@@ -19,7 +19,7 @@ pub(crate) struct Occupied {
 }
 
 /// Adds the spans of one job.
-fn push_spans(spans: &mut Vec<Occupied>, route: &[Op], row: &[u64]) -> Result<(), AllocError>
+fn push_spans(spans: &mut Vec<Occupied>, route: &[Op], row: &[u64]) -> Result<(), NoMemory>
     requires { AreSmall route.now row.now }
     ensures { OnOk result (spans.new.items ≡ spans.old.items ++ spans_at route.now row.now) }
 {
@@ -34,7 +34,7 @@ fn push_spans(spans: &mut Vec<Occupied>, route: &[Op], row: &[u64]) -> Result<()
 }
 
 /// The spans of all operations, job by job.
-fn spans(alloc: Global, instance: &Instance, table: &Table) -> Result<Vec<Occupied>, AllocError>
+fn spans(alloc: Global, instance: &Instance, table: &Table) -> Result<Vec<Occupied>, NoMemory>
     requires { HasShape instance.now table.now }
     ensures { IfOk result (λ v. v.items ≡ spans_of instance.now table.now) }
 {
@@ -65,7 +65,7 @@ pub(crate) fn are_in_turn_sorted(
     alloc: Global,
     instance: &Instance,
     table: &Table,
-) -> Result<bool, AllocError>
+) -> Result<bool, NoMemory>
     requires { HasShape instance.now table.now }
     ensures { IfOk result (λ b. IsTrue b → AllApart instance.now (starts_of table.now)) }
 {

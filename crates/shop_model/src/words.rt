@@ -7,7 +7,7 @@ ghost use Rattle.shop_model.specs.Word.{count_of, IsWord, IsFull, start_jobs};
 use crate::instances::Instance;
 use crate::shared_words::SharedWord;
 use crate::word_jobs::Jobs;
-use std::alloc::{AllocError, Global};
+use std::alloc::{AllocError as NoMemory, Global};
 use std::marker::Model;
 
 /// The jobs of a word: a list of its own, or what it shares with other words.
@@ -86,9 +86,9 @@ impl Word {
         Jobs::of(self)
     }
 
-    /// The word as one that shares its jobs. Takes memory only where it has a list of its own. Fails with `AllocError`
+    /// The word as one that shares its jobs. Takes memory only where it has a list of its own. Fails with `NoMemory`
     /// if memory runs out.
-    pub fn into_shared(self, alloc: Global) -> Result<SharedWord, AllocError>
+    pub fn into_shared(self, alloc: Global) -> Result<SharedWord, NoMemory>
         requires { CanBeShared self }
         ensures { IfOk result (λ w. w ≡ self) }
     {
@@ -99,8 +99,8 @@ impl Word {
         }
     }
 
-    /// Sets a list to the jobs of the word. Fails with `AllocError` if memory runs out.
-    pub fn write_to(&self, list: &mut Vec<u16>) -> Result<(), AllocError>
+    /// Sets a list to the jobs of the word. Fails with `NoMemory` if memory runs out.
+    pub fn write_to(&self, list: &mut Vec<u16>) -> Result<(), NoMemory>
         requires { CanBeShared self.now }
         ensures list { OnOk result (list.new.items ≡ self.now) }
         ensures room { vec_capacity list.old ≤ vec_capacity list.new }
@@ -111,8 +111,8 @@ impl Word {
         }
     }
 
-    /// The same word once more, with the same jobs where they are shared. Fails with `AllocError` if memory runs out.
-    pub fn copied(&self, alloc: Global) -> Result<Word, AllocError>
+    /// The same word once more, with the same jobs where they are shared. Fails with `NoMemory` if memory runs out.
+    pub fn copied(&self, alloc: Global) -> Result<Word, NoMemory>
         ensures { IfOk result (λ w. w ≡ self.now) }
     {
         match &self.entries {
@@ -123,7 +123,7 @@ impl Word {
 }
 
 /// Sets a list of jobs in 16 bits to these.
-pub(crate) fn set_jobs(list: &mut Vec<u16>, jobs: &[usize]) -> Result<(), AllocError>
+pub(crate) fn set_jobs(list: &mut Vec<u16>, jobs: &[usize]) -> Result<(), NoMemory>
     requires { CanBeShared jobs.now }
     ensures list { OnOk result (list.new.items ≡ jobs.now) }
     ensures room { vec_capacity list.old ≤ vec_capacity list.new }
@@ -188,8 +188,8 @@ pub fn is_full(instance: &Instance, word: &Word) -> bool
     true
 }
 
-/// The start word: job 0 for all its steps, then job 1, and so on. Fails with `AllocError` if memory runs out.
-pub fn start_word(alloc: Global, instance: &Instance) -> Result<Word, AllocError>
+/// The start word: job 0 for all its steps, then job 1, and so on. Fails with `NoMemory` if memory runs out.
+pub fn start_word(alloc: Global, instance: &Instance) -> Result<Word, NoMemory>
     ensures { IfOk result (λ w. w ≡ start_jobs instance.now) }
 {
     instance.keeps_limits();

@@ -10,7 +10,7 @@ ghost use Rattle.shop_nodes.specs.inner.Places.{IsPlaceFor};
 use crate::conflicts::conflict;
 use crate::nodes::Node;
 use shop_model::{Instance, SharedWord, Word};
-use std::alloc::{AllocError, Global};
+use std::alloc::{AllocError as NoMemory, Global};
 use std::sync::ArcSlice;
 
 /// The jobs of a word that fits the instance, to be shared.
@@ -18,7 +18,7 @@ fn shared_path(
     alloc: Global,
     instance: &Instance,
     word: &Word,
-) -> Result<ArcSlice<u16, Global>, AllocError>
+) -> Result<ArcSlice<u16, Global>, NoMemory>
     requires { IsWord instance.now word.now }
     ensures { IfOk result (λ p. arc_slice_items p ≡ word.now) }
 {
@@ -34,7 +34,7 @@ fn child_along(
     instance: &Instance,
     path: &ArcSlice<u16, Global>,
     job: usize,
-) -> Result<Node, AllocError>
+) -> Result<Node, NoMemory>
     requires { IsWord instance.now (arc_slice_items path.now ++ job ∷ []) }
     ensures word { IfOk result (λ n. n.word ≡ arc_slice_items path.now ++ job ∷ []) }
     ensures bound { IfOk result (λ n. n.bound ≡ lb instance.now n.word) }
@@ -58,9 +58,9 @@ fn place_for(bound: u64, nodes: &[Node]) -> usize
 }
 
 /// The children of a node whose word isn't full, by bound, then by job: its word followed by each job of the conflict
-/// set. For each table under the word some child has one under it that ends no later. Fails with `AllocError` if memory
+/// set. For each table under the word some child has one under it that ends no later. Fails with `NoMemory` if memory
 /// runs out.
-pub fn children(alloc: Global, instance: &Instance, node: &Node) -> Result<Vec<Node>, AllocError>
+pub fn children(alloc: Global, instance: &Instance, node: &Node) -> Result<Vec<Node>, NoMemory>
     requires node { IsNode instance.now node.now }
     requires open { IsFull instance.now node.now.word → ⊥ }
     ensures branch { IfOk result (λ v. words_of v.items ≡ branch instance.now node.now.word) }

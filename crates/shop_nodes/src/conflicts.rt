@@ -6,7 +6,7 @@ ghost use Rattle.shop_nodes.specs.inner.Choosing.{IsChosen, IsNextOf, conflictin
 
 use crate::next_operations::{NextOperation, Placed};
 use shop_model::{Instance, Placement, Word};
-use std::alloc::{AllocError, Global};
+use std::alloc::{AllocError as NoMemory, Global};
 
 /// The next operation that can end first, of the lowest job on ties; none where no job has a step left.
 fn choose(placed: &Placed) -> Option<NextOperation>
@@ -32,7 +32,7 @@ fn conflicting(
     alloc: Global,
     placed: &Placed,
     chosen: NextOperation,
-) -> Result<Vec<usize>, AllocError>
+) -> Result<Vec<usize>, NoMemory>
     requires { IsNextOf placed.now chosen.job chosen }
     ensures { IfOk result (λ v. v.items ≡ conflicting_with placed.now chosen.job) }
 {
@@ -51,8 +51,8 @@ fn conflicting(
 
 /// The conflict set of a word that isn't full, in ascending order: the job whose next operation can end first (the
 /// lowest on ties), and each job whose next operation is on the same machine and can begin before that end (Giffler and
-/// Thompson 1960). Fails with `AllocError` if memory runs out.
-pub fn conflict(alloc: Global, instance: &Instance, word: &Word) -> Result<Vec<usize>, AllocError>
+/// Thompson 1960). Fails with `NoMemory` if memory runs out.
+pub fn conflict(alloc: Global, instance: &Instance, word: &Word) -> Result<Vec<usize>, NoMemory>
     requires word { IsWord instance.now word.now }
     requires open { IsFull instance.now word.now → ⊥ }
     ensures { IfOk result (λ v. v.items ≡ conflict_set instance.now word.now) }

@@ -11,7 +11,7 @@ use crate::child_nodes::children;
 use crate::halts::{Halt, Waiting};
 use crate::nodes::Node;
 use shop_model::{Instance, SharedWord, Word};
-use std::alloc::{AllocError, Global};
+use std::alloc::{AllocError as NoMemory, Global};
 use std::marker::Model;
 use std::sync::ArcSlice;
 
@@ -74,8 +74,8 @@ impl<'r> Left<'r> {
     }
 
     /// Adds the nodes left that are still open, those of bounds below the makespan, to a list, in order. Fails with
-    /// `AllocError` if memory runs out.
-    pub fn add_open(&self, alloc: Global, nodes: &mut Vec<Node>) -> Result<(), AllocError>
+    /// `NoMemory` if memory runs out.
+    pub fn add_open(&self, alloc: Global, nodes: &mut Vec<Node>) -> Result<(), NoMemory>
         ensures { OnOk result (nodes.new.items ≡ nodes.old.items
             ++ open_nodes self.now.shop self.now.makespan self.now.words) }
     {
@@ -85,8 +85,8 @@ impl<'r> Left<'r> {
         add_open_nodes(alloc, self.instance, self.makespan, self.untaken, nodes)
     }
 
-    /// All nodes left, in order. Fails with `AllocError` if memory runs out.
-    pub fn nodes(&self, alloc: Global) -> Result<Vec<Node>, AllocError>
+    /// All nodes left, in order. Fails with `NoMemory` if memory runs out.
+    pub fn nodes(&self, alloc: Global) -> Result<Vec<Node>, NoMemory>
         ensures words { IfOk result (λ v. words_of v.items ≡ self.now.words) }
         ensures nodes { IfOk result (λ v. AreNodes self.now.shop v.items) }
     {
@@ -106,7 +106,7 @@ fn add_if_open(
     path: &ArcSlice<u16, Global>,
     waiting: Waiting,
     nodes: &mut Vec<Node>,
-) -> Result<(), AllocError>
+) -> Result<(), NoMemory>
     requires { IsWaiting instance.now makespan (arc_slice_items path.now) waiting }
     ensures { OnOk result (nodes.new.items ≡ nodes.old.items ++ open_nodes instance.now makespan
         (waiting_words instance.now (arc_slice_items path.now) waiting)) }
@@ -129,7 +129,7 @@ fn add_open_waiting(
     makespan: u64,
     halt: &Halt,
     nodes: &mut Vec<Node>,
-) -> Result<(), AllocError>
+) -> Result<(), NoMemory>
     requires { IsHalt instance.now makespan halt.now }
     ensures { OnOk result (nodes.new.items ≡ nodes.old.items ++ open_nodes instance.now makespan
         (stack_words instance.now (arc_slice_items halt.now.path) halt.now.waiting.items)) }
@@ -150,7 +150,7 @@ fn add_open_nodes(
     makespan: u64,
     left: &[Node],
     nodes: &mut Vec<Node>,
-) -> Result<(), AllocError>
+) -> Result<(), NoMemory>
     requires { AreNodes instance.now left.now }
     ensures { OnOk result (nodes.new.items ≡ nodes.old.items
         ++ open_nodes instance.now makespan (words_of left.now)) }
@@ -171,7 +171,7 @@ fn last_children(
     path: &[u16],
     depth: u32,
     count: u32,
-) -> Result<Vec<Node>, AllocError>
+) -> Result<Vec<Node>, NoMemory>
     requires { IsClosed instance.now _makespan path.now depth count }
     ensures words { IfOk result (λ v. words_of v.items
         ≡ last_of count (branch instance.now (take depth path.now))) }
@@ -191,7 +191,7 @@ fn nodes_of(
     makespan: u64,
     path: &ArcSlice<u16, Global>,
     waiting: Waiting,
-) -> Result<Vec<Node>, AllocError>
+) -> Result<Vec<Node>, NoMemory>
     requires { IsWaiting instance.now makespan (arc_slice_items path.now) waiting }
     ensures words { IfOk result (λ v. words_of v.items
         ≡ waiting_words instance.now (arc_slice_items path.now) waiting) }
@@ -217,7 +217,7 @@ fn waiting_nodes(
     instance: &Instance,
     makespan: u64,
     halt: &Halt,
-) -> Result<Vec<Node>, AllocError>
+) -> Result<Vec<Node>, NoMemory>
     requires { IsHalt instance.now makespan halt.now }
     ensures words { IfOk result (λ v. words_of v.items
         ≡ stack_words instance.now (arc_slice_items halt.now.path) halt.now.waiting.items) }
@@ -234,8 +234,8 @@ fn waiting_nodes(
     Ok(nodes)
 }
 
-/// Adds the same nodes once more, in order. Fails with `AllocError` if memory runs out.
-fn add_copies(alloc: Global, left: &[Node], nodes: &mut Vec<Node>) -> Result<(), AllocError>
+/// Adds the same nodes once more, in order. Fails with `NoMemory` if memory runs out.
+fn add_copies(alloc: Global, left: &[Node], nodes: &mut Vec<Node>) -> Result<(), NoMemory>
     ensures { OnOk result (nodes.new.items ≡ nodes.old.items ++ left.now) }
 {
     for node in left {

@@ -5,7 +5,7 @@ ghost use Rattle.shop_bound.specs.Bound.{lb};
 
 use shop_bound::lower_bound;
 use shop_model::{Instance, Word};
-use std::alloc::{AllocError, Global};
+use std::alloc::{AllocError as NoMemory, Global};
 
 /// A word and its lower bound, in units of time.
 #[derive(Drop)]
@@ -15,9 +15,9 @@ pub struct Node {
 }
 
 impl Node {
-    /// The node of this word, which fits the instance, with its lower bound. Fails with `AllocError` if memory runs
+    /// The node of this word, which fits the instance, with its lower bound. Fails with `NoMemory` if memory runs
     /// out.
-    pub fn new(alloc: Global, instance: &Instance, word: Word) -> Result<Node, AllocError>
+    pub fn new(alloc: Global, instance: &Instance, word: Word) -> Result<Node, NoMemory>
         requires { IsWord instance.now word }
         ensures { IfOk result (λ n. (n.word ≡ word) × (n.bound ≡ lb instance.now word)) }
     {
@@ -25,8 +25,8 @@ impl Node {
         Ok(Node { word, bound })
     }
 
-    /// The same node once more, with the same jobs where they are shared. Fails with `AllocError` if memory runs out.
-    pub fn copied(&self, alloc: Global) -> Result<Node, AllocError>
+    /// The same node once more, with the same jobs where they are shared. Fails with `NoMemory` if memory runs out.
+    pub fn copied(&self, alloc: Global) -> Result<Node, NoMemory>
         ensures { IfOk result (λ n. n ≡ self.now) }
     {
         Ok(Node {

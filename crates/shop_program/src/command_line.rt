@@ -15,7 +15,7 @@ use clap::builder::ValueParser;
 use clap::{Arg, ArgAction, Command};
 use shop_runs::{MAX_BUDGET, MAX_PIECE, MAX_ROUNDS, MAX_WORKERS};
 use shop_text::FORMAT_WORDS;
-use std::alloc::{AllocError, Global};
+use std::alloc::{AllocError as NoMemory, Global};
 
 /// The orders in which a round takes the open nodes.
 static ORDERS: [&str; 2] = ["kept", "bound"];
@@ -121,7 +121,7 @@ fn file<'a>(alloc: Global) -> Arg<'a>
 }
 
 /// `list`: the instances of a text.
-fn list<'a>(alloc: Global, formats: &'a [&'a str]) -> Result<Command<'a>, AllocError>
+fn list<'a>(alloc: Global, formats: &'a [&'a str]) -> Result<Command<'a>, NoMemory>
     ensures { IfOk result (IsCommandOf (list_command (Names formats.entry))) }
 {
     described(alloc, "list", &LIST)
@@ -130,7 +130,7 @@ fn list<'a>(alloc: Global, formats: &'a [&'a str]) -> Result<Command<'a>, AllocE
 }
 
 /// `check`: judges a schedule.
-fn check<'a>(alloc: Global, formats: &'a [&'a str]) -> Result<Command<'a>, AllocError>
+fn check<'a>(alloc: Global, formats: &'a [&'a str]) -> Result<Command<'a>, NoMemory>
     ensures { IfOk result (IsCommandOf (check_command (Names formats.entry))) }
 {
     described(alloc, "check", &CHECK)
@@ -149,7 +149,7 @@ fn with_plan<'a>(
     alloc: Global,
     command: Command<'a>,
     orders: &'a [&'a str],
-) -> Result<Command<'a>, AllocError>
+) -> Result<Command<'a>, NoMemory>
     requires { (out-Command command).has_globals ≡ false }
     ensures { IfOk result (IsCommandOf
         (with_plan_rules (Names orders.entry) (app_of command.entry))) }
@@ -194,7 +194,7 @@ fn solve<'a>(
     alloc: Global,
     formats: &'a [&'a str],
     orders: &'a [&'a str],
-) -> Result<Command<'a>, AllocError>
+) -> Result<Command<'a>, NoMemory>
     ensures { IfOk result (IsCommandOf (solve_command (Names formats.entry) (Names orders.entry))) }
 {
     let command = described(alloc, "solve", &SOLVE)
@@ -231,8 +231,8 @@ fn order_choices<'a>() -> &'a [&'a str]
     ORDERS.as_slice()
 }
 
-/// The whole command line. Fails with `AllocError` if memory runs out.
-pub fn command<'a>(alloc: Global) -> Result<Command<'a>, AllocError>
+/// The whole command line. Fails with `NoMemory` if memory runs out.
+pub fn command<'a>(alloc: Global) -> Result<Command<'a>, NoMemory>
     ensures { IfOk result IsCommandLine }
 {
     let formats = format_choices();

@@ -12,7 +12,7 @@ use crate::line_faults::{LineFault, misread};
 use clap::ArgMatches;
 use shop_runs::Order;
 use shop_text::Format;
-use std::alloc::{AllocError, Global};
+use std::alloc::{AllocError as NoMemory, Global};
 
 /// The format.
 pub fn format_in(alloc: Global, found: &ArgMatches) -> Result<Format, LineFault>
@@ -66,8 +66,8 @@ pub fn flag_in(found: &ArgMatches, id: &str) -> bool
     found.get_flag(id)
 }
 
-/// A text that may be missing. Fails with `AllocError` if memory runs out.
-pub fn text_in(alloc: Global, found: &ArgMatches, id: &str) -> Result<Option<String>, AllocError>
+/// A text that may be missing. Fails with `NoMemory` if memory runs out.
+pub fn text_in(alloc: Global, found: &ArgMatches, id: &str) -> Result<Option<String>, NoMemory>
     ensures { IfOk result (λ text.
         MayHave (rows_of (found_of found.now)) id.now (option_map string_bytes text)) }
 {

@@ -6,7 +6,7 @@ ghost use Rattle.shop_runs.specs.Crews.{OneForEach, StopsAtHit};
 use crate::piece_searchers::PieceSearcher;
 use shop_runs::{Crew, Entry, Round};
 use shop_workers::{PieceSearch, search_up_to_hit};
-use std::alloc::{AllocError, Global};
+use std::alloc::{AllocError as NoMemory, Global};
 
 /// Searches the pieces in order, on the calling thread, and passes those behind the first that ends
 /// at the opening bound.
@@ -16,12 +16,12 @@ pub struct Alone;
 impl Alone {
     /// One entry for each piece, in number order: the pieces are searched up to and with the first
     /// that ends at the opening bound, and each behind it is passed by that one. Fails with
-    /// `AllocError` if memory runs out.
+    /// `NoMemory` if memory runs out.
     pub fn search_round<'r>(
         self,
         alloc: Global,
         round: &'r Round<'r>,
-    ) -> Result<Vec<Entry<'r>>, AllocError>
+    ) -> Result<Vec<Entry<'r>>, NoMemory>
         ensures entries { IfOk result (λ v. OneForEach (told round.now) v.items) }
         ensures stops { IfOk result (λ v. StopsAtHit (told round.now) v.items) }
     {
@@ -38,7 +38,7 @@ impl<R> Crew<R> for Alone {
         _rt: &R,
         alloc: Global,
         round: &'r Round<'r>,
-    ) -> Result<Vec<Entry<'r>>, AllocError> {
+    ) -> Result<Vec<Entry<'r>>, NoMemory> {
         self.search_round(alloc, round)
     }
 }

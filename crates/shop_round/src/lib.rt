@@ -9,3 +9,4 @@ pub use alone::Alone;
 pub use piece_searchers::PieceSearcher;
 pub use runs::run_alone;
 pub use shop_runs::{Answer, Crew, Entry, Kind, Order, Plan, Round, Standing, gather, run};
+pub use std::alloc::AllocError as NoMemory;

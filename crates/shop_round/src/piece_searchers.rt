@@ -6,7 +6,7 @@ use shop_nodes::Sheet;
 use shop_runs::Round;
 use shop_tree::Searcher;
 use shop_workers::PieceSearch;
-use std::alloc::{AllocError, Global};
+use std::alloc::{AllocError as NoMemory, Global};
 use std::marker::Model;
 
 // The sheet of a piece of the round, by a searcher for its instance.
@@ -15,7 +15,7 @@ fn search_piece<'r>(
     searcher: &mut Searcher<'_, 'r>,
     round: &'r Round<'r>,
     number: usize,
-) -> Result<Sheet<'r>, AllocError>
+) -> Result<Sheet<'r>, NoMemory>
     requires piece { number < length round.now.pieces.items }
     requires instance { searcher.old ≡ round.now.instance.now }
     ensures of { IfOk result (λ s. IsOf (told round.now) s × (s.number ≡ number)) }
@@ -31,7 +31,7 @@ fn search_kept<'r>(
     kept: &mut Option<Searcher<'r, 'r>>,
     round: &'r Round<'r>,
     number: usize,
-) -> Result<Sheet<'r>, AllocError>
+) -> Result<Sheet<'r>, NoMemory>
     requires piece { number < length round.now.pieces.items }
     requires kept { IfSome kept.old (λ shop. shop ≡ round.now.instance.now) }
     ensures of { IfOk result (λ s. IsOf (told round.now) s × (s.number ≡ number)) }
@@ -80,7 +80,7 @@ impl<'r> PieceSearch<'r> for PieceSearcher<'r> {
         self.round
     }
 
-    fn search(&mut self, alloc: Global, number: usize) -> Result<Sheet<'r>, AllocError> {
+    fn search(&mut self, alloc: Global, number: usize) -> Result<Sheet<'r>, NoMemory> {
         let sheet = search_kept(alloc, &mut self.searcher, self.round, number);
         if sheet.is_err() {
             self.searcher = None;

@@ -5,11 +5,11 @@ ghost use Rattle.shop_runs.specs.Runs.{SaysAnswer, IsTrusted};
 use crate::alone::Alone;
 use shop_model::Instance;
 use shop_runs::{Answer, Plan, run};
-use std::alloc::{AllocError, Global};
+use std::alloc::{AllocError as NoMemory, Global};
 
 /// The answer of a plan on an instance, by the calling thread alone. Fails with
-/// `AllocError` if memory runs out.
-pub fn run_alone(alloc: Global, instance: &Instance, plan: &Plan) -> Result<Answer, AllocError>
+/// `NoMemory` if memory runs out.
+pub fn run_alone(alloc: Global, instance: &Instance, plan: &Plan) -> Result<Answer, NoMemory>
     ensures says { IfOk result (λ a. SaysAnswer instance.now plan.now a) }
     ensures trust { IfOk result (λ a. IsTrusted instance.now a) }
     ensures nodes { IfOk result (λ a. a.nodes < 2 ^ 50) }

@@ -6,20 +6,20 @@ ghost use Rattle.shop_runs.specs.Crews.{OneForEach};
 use crate::entries::Entry;
 use crate::rounds::Round;
 use crate::workers::Workers;
-use std::alloc::{AllocError, Global};
+use std::alloc::{AllocError as NoMemory, Global};
 
 /// Who searches the pieces of a round.
 pub trait Crew<R> {
     /// What the caller has to know so that the crew may share values among threads; nothing for a crew without threads.
     ghost ready: { Type 0 };
 
-    /// One entry for each piece, in number order. Fails with `AllocError` if memory runs out.
+    /// One entry for each piece, in number order. Fails with `NoMemory` if memory runs out.
     fn search<'r>(
         &mut self,
         rt: &R,
         alloc: Global,
         round: &'r Round<'r>,
-    ) -> Result<Vec<Entry<'r>>, AllocError>
+    ) -> Result<Vec<Entry<'r>>, NoMemory>
         requires { ready }
         ensures { IfOk result (λ v. OneForEach (told round.now) v.items) };
 }

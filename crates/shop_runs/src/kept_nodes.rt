@@ -4,7 +4,7 @@ ghost use Rattle.shop_model.specs.SharedWords.{CanBeShared};
 
 use shop_model::{SharedWord, Word};
 use shop_nodes::Node;
-use std::alloc::{AllocError, Global};
+use std::alloc::{AllocError as NoMemory, Global};
 use std::marker::Model;
 
 /// An open node in 24 bytes, 32 on its stack: its word shares its jobs.
@@ -23,9 +23,9 @@ impl Model for KeptNode {
 }
 
 impl KeptNode {
-    /// The same node; takes memory only where its word doesn't share its jobs yet, and fails with `AllocError` if there
+    /// The same node; takes memory only where its word doesn't share its jobs yet, and fails with `NoMemory` if there
     /// is none left.
-    pub(crate) fn of(alloc: Global, node: Node) -> Result<KeptNode, AllocError>
+    pub(crate) fn of(alloc: Global, node: Node) -> Result<KeptNode, NoMemory>
         requires { CanBeShared node.word }
         ensures { IfOk result (λ n. n ≡ node) }
     {

@@ -6,7 +6,7 @@ ghost use Rattle.shop_runs.specs.inner.Stacks.{IsNextOf};
 
 use crate::kept_nodes::KeptNode;
 use shop_nodes::Node;
-use std::alloc::{AllocError, Global};
+use std::alloc::{AllocError as NoMemory, Global};
 use std::marker::Model;
 
 /// A node on a stack, and the least of its bound and the bounds of those below it: 32 bytes.
@@ -57,8 +57,8 @@ impl KeptStack {
     }
 
     /// Puts a node on top. A full stack grows by a quarter alone, since the open nodes are what takes most memory.
-    /// Fails with `AllocError` if memory runs out.
-    pub(crate) fn push(&mut self, node: KeptNode) -> Result<(), AllocError>
+    /// Fails with `NoMemory` if memory runs out.
+    pub(crate) fn push(&mut self, node: KeptNode) -> Result<(), NoMemory>
         ensures { OnOk result (self.new ≡ node ∷ self.old) }
     {
         let least = self.least_bound(node.bound());

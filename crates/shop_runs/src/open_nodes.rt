@@ -11,7 +11,7 @@ use crate::stacks::{
     Stack, count_by_bound, keep_by_bound, least_by_bound, pop_by_bound, put_by_bound,
 };
 use shop_nodes::Node;
-use std::alloc::{AllocError, Global};
+use std::alloc::{AllocError as NoMemory, Global};
 use std::collections::BTreeMap;
 
 /// Open nodes in the order in which the next cut takes them. In the kept order they lie on one stack, and the last one
@@ -39,8 +39,8 @@ impl OpenNodes {
     }
 
     /// Puts a node where the order wants it: by `Kept` before all others, by `Bound` before those of an equal or a
-    /// greater bound. Fails with `AllocError` if memory runs out.
-    pub(crate) fn put(&mut self, alloc: Global, node: Node) -> Result<(), AllocError>
+    /// greater bound. Fails with `NoMemory` if memory runs out.
+    pub(crate) fn put(&mut self, alloc: Global, node: Node) -> Result<(), NoMemory>
         requires { CanBeShared node.word }
         ensures { OnOk result (IsPut node self.old self.new) }
     {
@@ -51,8 +51,8 @@ impl OpenNodes {
     }
 
     /// Moves nodes out of a list, the last one first, and puts them before those that the order has behind them.
-    /// Fails with `AllocError` if memory runs out.
-    pub(crate) fn put_all(&mut self, alloc: Global, nodes: &mut Vec<Node>) -> Result<(), AllocError>
+    /// Fails with `NoMemory` if memory runs out.
+    pub(crate) fn put_all(&mut self, alloc: Global, nodes: &mut Vec<Node>) -> Result<(), NoMemory>
         requires { AreSharable nodes.old.items }
         ensures put { OnOk result (ArePut nodes.old.items self.old self.new) }
         ensures moved { OnOk result (nodes.new.items ≡ []) }
@@ -64,7 +64,7 @@ impl OpenNodes {
     }
 
     /// Takes the first node, if there is one.
-    fn pop(&mut self) -> Result<Option<Node>, AllocError>
+    fn pop(&mut self) -> Result<Option<Node>, NoMemory>
         ensures { IfOk result (λ n. HasPopped n self.old self.new) }
     {
         match self {
@@ -84,7 +84,7 @@ impl OpenNodes {
     }
 
     /// Takes the first nodes, as many as are asked for if so many are open.
-    pub(crate) fn take(&mut self, alloc: Global, most: usize) -> Result<Vec<Node>, AllocError>
+    pub(crate) fn take(&mut self, alloc: Global, most: usize) -> Result<Vec<Node>, NoMemory>
         ensures { IfOk result (λ v. IsTaken most v.items self.old self.new) }
     {
         let mut taken = Vec::with_capacity(alloc, self.room_for(most))?;
@@ -99,7 +99,7 @@ impl OpenNodes {
 
     /// Lets go of the nodes whose bounds reach this makespan. All bounds are below the opening makespan, so there are
     /// none where the makespan stays.
-    pub(crate) fn keep_below(&mut self, opening: u64, makespan: u64) -> Result<(), AllocError>
+    pub(crate) fn keep_below(&mut self, opening: u64, makespan: u64) -> Result<(), NoMemory>
         requires { AreBelow opening (open_list self.old) }
         ensures { OnOk result (IsKeptBelow makespan self.old self.new) }
     {
@@ -125,8 +125,8 @@ impl OpenNodes {
         }
     }
 
-    /// How many are open. Fails with `AllocError` if they are more than memory could hold.
-    pub(crate) fn count(self) -> Result<usize, AllocError>
+    /// How many are open. Fails with `NoMemory` if they are more than memory could hold.
+    pub(crate) fn count(self) -> Result<usize, NoMemory>
         ensures count { IfOk result (λ n. n ≡ length (open_list self)) }
         ensures too_many { OnErr result (2 ^ 64 ≤ length (open_list self)) }
     {

@@ -11,7 +11,7 @@ use crate::rounds::{Round, copies_of};
 use crate::standings::Standing;
 use shop_model::Word;
 use shop_nodes::{Node, Sheet};
-use std::alloc::{AllocError, Global};
+use std::alloc::{AllocError as NoMemory, Global};
 
 /// What the sheets of a round come to: the word found (none where the opening best stays), its
 /// makespan, the nodes that the sheets left open, and the nodes counted. Where a sheet ends at the
@@ -68,7 +68,7 @@ impl RoundResult {
     }
 
     /// Counts the nodes of one more sheet, keeps what it left open, and takes its word if it is better.
-    pub fn take_in(&mut self, alloc: Global, sheet: Sheet) -> Result<(), AllocError>
+    pub fn take_in(&mut self, alloc: Global, sheet: Sheet) -> Result<(), NoMemory>
         requires { self.old.nodes + sheet.taken < 2 ^ 64 }
         ensures { OnOk result (TakesIn self.old sheet.entry self.new) }
     {
@@ -94,7 +94,7 @@ impl RoundResult {
         word: Word,
         mut rest: Vec<Node>,
         rounds: u64,
-    ) -> Result<Standing, AllocError>
+    ) -> Result<Standing, NoMemory>
         requires counted { IsCountWithin (rounds + 1) self.nodes }
         requires none_left { self.is_closed ≡ true → self.left.items ≡ [] }
         ensures { IfOk result (λ s. IsStandingAfter word rest.items rounds self s) }
@@ -126,7 +126,7 @@ pub fn outcome_of<'r>(
     alloc: Global,
     round: &'r Round<'r>,
     entries: Vec<Entry<'r>>,
-) -> Result<RoundResult, AllocError>
+) -> Result<RoundResult, NoMemory>
     requires { OneForEach (told round.now) entries.items }
     ensures { IfOk result (λ o. IsOutcome (told round.now) o) }
 {
@@ -146,13 +146,13 @@ pub fn outcome_of<'r>(
     Ok(outcome)
 }
 
-/// The standing after a round, by an entry for each of its pieces. Fails with `AllocError` if memory
+/// The standing after a round, by an entry for each of its pieces. Fails with `NoMemory` if memory
 /// runs out. For library callers, as `Round::cut`.
 pub fn gather<'r>(
     alloc: Global,
     round: &'r Round<'r>,
     entries: Vec<Entry<'r>>,
-) -> Result<Standing, AllocError>
+) -> Result<Standing, NoMemory>
     requires { OneForEach (told round.now) entries.items }
     ensures gathered { IfOk result (λ s. IsGatheredOf round.now s) }
     ensures standing { IfOk result (λ s. IsStandingOf round.now.instance.now s) }

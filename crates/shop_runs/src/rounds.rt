@@ -15,7 +15,7 @@ use crate::standings::Standing;
 use shop_layout::Layout;
 use shop_model::{Instance, Word};
 use shop_nodes::{Node, Piece};
-use std::alloc::{AllocError, Global};
+use std::alloc::{AllocError as NoMemory, Global};
 use std::vec::IntoIter;
 
 /// A round: the opening best with its makespan, the opening bound, the budget, the pieces and the
@@ -51,13 +51,13 @@ impl<'r> Round<'r> {
     ghost use Rattle.shop_runs.specs.Standings.{IsStandingOf, StandsAt, stands, round_of, planned};
 
     /// Cuts the open nodes, in the plan's order, into at most 256 pieces; the others are the rest.
-    /// Fails with `AllocError` if memory runs out. For library callers: a run cuts its own store of open nodes.
+    /// Fails with `NoMemory` if memory runs out. For library callers: a run cuts its own store of open nodes.
     pub fn cut(
         alloc: Global,
         instance: &'r Instance,
         plan: &Plan,
         standing: Standing,
-    ) -> Result<Round<'r>, AllocError>
+    ) -> Result<Round<'r>, NoMemory>
         requires open { 0 < length standing.open.items }
         requires rounds { standing.rounds < plan.now.rounds }
         requires standing { IsStandingOf instance.now standing }
@@ -74,7 +74,7 @@ impl<'r> Round<'r> {
     }
 
     /// Cuts all open nodes of a standing, which stand in order, into at most 256 pieces. The round has this rest, this
-    /// opening bound and this layout. Fails with `AllocError` if memory runs out.
+    /// opening bound and this layout. Fails with `NoMemory` if memory runs out.
     pub fn of(
         alloc: Global,
         instance: &'r Instance,
@@ -83,7 +83,7 @@ impl<'r> Round<'r> {
         rest: Vec<Node>,
         bound: u64,
         layout: Layout<'r>,
-    ) -> Result<Round<'r>, AllocError>
+    ) -> Result<Round<'r>, NoMemory>
         requires rounds { front.rounds < plan.now.rounds }
         requires standing { StandsAt instance.now (stands front) front }
         requires rest { AreNodes instance.now rest.items }
@@ -124,7 +124,7 @@ impl<'r> Round<'r> {
 
     /// The standing after the round, by the outcome of its sheets, and the layout for the next round: as `gather`, but
     /// the rest moves, so no word is copied.
-    pub fn closed(self, outcome: RoundResult) -> Result<(Standing, Layout<'r>), AllocError>
+    pub fn closed(self, outcome: RoundResult) -> Result<(Standing, Layout<'r>), NoMemory>
         requires { IsOutcome (told self) outcome }
         ensures gathered { IfOk result (λ p. IsGatheredOf self.entry p.0) }
         ensures standing { IfOk result (λ p. IsStandingOf self.entry.instance.now p.0) }
@@ -152,8 +152,8 @@ pub fn least_bound(makespan: u64, nodes: &[Node]) -> u64
         .fold(makespan, |bound, node| bound.min(node.bound))
 }
 
-/// A copy of these nodes, in order. Fails with `AllocError` if memory runs out.
-pub fn copies_of(alloc: Global, nodes: &[Node]) -> Result<Vec<Node>, AllocError>
+/// A copy of these nodes, in order. Fails with `NoMemory` if memory runs out.
+pub fn copies_of(alloc: Global, nodes: &[Node]) -> Result<Vec<Node>, NoMemory>
     ensures { IfOk result (λ v. v.items ≡ nodes.now) }
 {
     let mut copies = Vec::with_capacity(alloc, nodes.len())?;
@@ -164,7 +164,7 @@ pub fn copies_of(alloc: Global, nodes: &[Node]) -> Result<Vec<Node>, AllocError>
 }
 
 /// Puts nodes in an order; by bound, ties keep their places.
-pub fn put_in_order(nodes: &mut Vec<Node>, order: Order) -> Result<(), AllocError>
+pub fn put_in_order(nodes: &mut Vec<Node>, order: Order) -> Result<(), NoMemory>
     ensures { OnOk result (nodes.new.items ≡ nodes_in_order order nodes.old.items) }
 {
     match order {
@@ -173,12 +173,12 @@ pub fn put_in_order(nodes: &mut Vec<Node>, order: Order) -> Result<(), AllocErro
     }
 }
 
-/// The next `size` nodes, or all that are left if they are fewer. Fails with `AllocError` if memory runs out.
+/// The next `size` nodes, or all that are left if they are fewer. Fails with `NoMemory` if memory runs out.
 fn next_piece(
     alloc: Global,
     nodes: &mut IntoIter<Node, Global>,
     size: usize,
-) -> Result<Vec<Node>, AllocError>
+) -> Result<Vec<Node>, NoMemory>
     ensures taken { IfOk result (λ v. v.items ≡ take size (into_iter_items nodes.old)) }
     ensures left { OnOk result (into_iter_items nodes.new ≡ drop size (into_iter_items nodes.old)) }
 {
@@ -193,8 +193,8 @@ fn next_piece(
 }
 
 /// Cuts nodes into at most 256 pieces of this size, in order; the last may be shorter, and nodes behind it are dropped.
-/// Fails with `AllocError` if memory runs out.
-pub fn cut_pieces(alloc: Global, nodes: Vec<Node>, size: usize) -> Result<Vec<Piece>, AllocError>
+/// Fails with `NoMemory` if memory runs out.
+pub fn cut_pieces(alloc: Global, nodes: Vec<Node>, size: usize) -> Result<Vec<Piece>, NoMemory>
     requires { 0 < size }
     ensures nodes { IfOk result (λ v. nodes_in v.items ≡ cut_into MAX_PIECES size nodes.items) }
     ensures numbers { IfOk result (λ v. numbered 0 v.items ≡ true) }

@@ -10,7 +10,7 @@ use crate::rounds::Round;
 use crate::standings::Standing;
 use shop_layout::Layout;
 use shop_model::{Instance, Table, Word, place};
-use std::alloc::{AllocError, Global};
+use std::alloc::{AllocError as NoMemory, Global};
 
 /// Where a run stands: a standing whose own list of open nodes is empty, and the open nodes in the order of the next
 /// cut.
@@ -29,12 +29,12 @@ impl OpenRun {
     ghost use Rattle.shop_runs.specs.inner.Closing.{IsNextSearch};
     ghost use Rattle.shop_runs.specs.inner.Closing.{IsAtAnswer};
 
-    /// Where a run begins. Fails with `AllocError` if memory runs out.
+    /// Where a run begins. Fails with `NoMemory` if memory runs out.
     pub(crate) fn start(
         alloc: Global,
         instance: &Instance,
         order: Order,
-    ) -> Result<OpenRun, AllocError>
+    ) -> Result<OpenRun, NoMemory>
         ensures { IfOk result (λ t. IsSearchAt instance.now order (opening instance.now) t) }
     {
         instance.keeps_limits();
@@ -43,13 +43,13 @@ impl OpenRun {
     }
 
     /// What stands after a round: the nodes that it left are put among the other open ones, of which those that reach
-    /// the new makespan are let go; all are below the opening makespan. Fails with `AllocError` if memory runs out.
+    /// the new makespan are let go; all are below the opening makespan. Fails with `NoMemory` if memory runs out.
     pub(crate) fn joined(
         alloc: Global,
         mut standing: Standing,
         mut others: OpenNodes,
         opening: u64,
-    ) -> Result<OpenRun, AllocError>
+    ) -> Result<OpenRun, NoMemory>
         requires below { AreBelow opening (open_list others) }
         requires left { AreSharable standing.open.items }
         ensures { IfOk result (λ t. IsJoined standing others t) }
@@ -63,14 +63,14 @@ impl OpenRun {
     }
 
     /// Cuts the first open nodes into at most 256 pieces, a round without a rest, and sets the others apart. The round
-    /// has this layout. Fails with `AllocError` if memory runs out.
+    /// has this layout. Fails with `NoMemory` if memory runs out.
     pub(crate) fn cut<'r>(
         self,
         alloc: Global,
         instance: &'r Instance,
         layout: Layout<'r>,
         plan: &Plan,
-    ) -> Result<(Round<'r>, OpenNodes), AllocError>
+    ) -> Result<(Round<'r>, OpenNodes), NoMemory>
         requires layout { layout ≡ instance.now }
         requires rounds { self.standing.rounds < plan.now.rounds }
         requires search { IsSearchOf instance.now plan.now.order self }
@@ -96,7 +96,7 @@ impl OpenRun {
     }
 
     /// Where the run stands after one more round, and the layout for the next: the one that was kept, if there is one,
-    /// else a new one. Fails with `AllocError` if memory runs out.
+    /// else a new one. Fails with `NoMemory` if memory runs out.
     fn next<'r, R, C: Crew<R>>(
         self,
         rt: &R,
@@ -105,7 +105,7 @@ impl OpenRun {
         plan: &Plan,
         kept: Option<Layout<'r>>,
         crew: &mut C,
-    ) -> Result<(OpenRun, Layout<'r>), AllocError>
+    ) -> Result<(OpenRun, Layout<'r>), NoMemory>
         requires ready { C.ready }
         requires layout { IfSome kept (λ l. l ≡ instance.now) }
         requires rounds { self.standing.rounds < plan.now.rounds }
@@ -132,7 +132,7 @@ impl OpenRun {
         instance: &Instance,
         plan: &Plan,
         crew: &mut C,
-    ) -> Result<OpenRun, AllocError>
+    ) -> Result<OpenRun, NoMemory>
         requires { C.ready }
         ensures { IfOk result (λ t. IsAtAnswer instance.now plan.now t) }
     {
@@ -150,12 +150,12 @@ impl OpenRun {
     }
 }
 
-/// The layout that was kept, or else a new one of the instance. Fails with `AllocError` if memory runs out.
+/// The layout that was kept, or else a new one of the instance. Fails with `NoMemory` if memory runs out.
 fn kept_or_new<'r>(
     alloc: Global,
     instance: &'r Instance,
     kept: Option<Layout<'r>>,
-) -> Result<Layout<'r>, AllocError>
+) -> Result<Layout<'r>, NoMemory>
     requires { IfSome kept (λ l. l ≡ instance.now) }
     ensures { IfOk result (λ l. l ≡ instance.now) }
 {
@@ -181,14 +181,14 @@ pub struct Answer {
 
 /// The answer of a plan on an instance, with any crew: its table is feasible and ends at the
 /// makespan, no feasible table ends before the bound, and where no node is open the makespan is
-/// least. Fails with `AllocError` if memory runs out.
+/// least. Fails with `NoMemory` if memory runs out.
 pub fn run<R, C: Crew<R>>(
     rt: &R,
     alloc: Global,
     instance: &Instance,
     plan: &Plan,
     crew: &mut C,
-) -> Result<Answer, AllocError>
+) -> Result<Answer, NoMemory>
     requires { C.ready }
     ensures says { IfOk result (λ a. SaysAnswer instance.now plan.now a) }
     ensures trust { IfOk result (λ a. IsTrusted instance.now a) }

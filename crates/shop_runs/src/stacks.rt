@@ -8,7 +8,7 @@ ghost use Rattle.shop_runs.specs.inner.Stacks.{KeepsBelow};
 
 use shop_model::{SharedWord, Word};
 use shop_nodes::Node;
-use std::alloc::{AllocError, Global};
+use std::alloc::{AllocError as NoMemory, Global};
 use std::collections::BTreeMap;
 use std::collections::btree_map::Entry;
 use std::mem;
@@ -34,8 +34,8 @@ impl Chunk {
         }
     }
 
-    /// Puts a word on top. Fails with `AllocError` if memory runs out; the block is of no use then.
-    fn push(&mut self, word: SharedWord) -> Result<(), AllocError>
+    /// Puts a word on top. Fails with `NoMemory` if memory runs out; the block is of no use then.
+    fn push(&mut self, word: SharedWord) -> Result<(), NoMemory>
         ensures { OnOk result (words_in self.new ≡ word ∷ words_in self.old) }
     {
         let below = mem::replace(&mut self.top, word);
@@ -81,8 +81,8 @@ impl Stack {
         }
     }
 
-    /// Puts a word on top. Fails with `AllocError` if memory runs out; the stack is of no use then.
-    pub(crate) fn push(&mut self, alloc: Global, word: SharedWord) -> Result<(), AllocError>
+    /// Puts a word on top. Fails with `NoMemory` if memory runs out; the stack is of no use then.
+    pub(crate) fn push(&mut self, alloc: Global, word: SharedWord) -> Result<(), NoMemory>
         ensures { OnOk result (words_on self.new ≡ word ∷ words_on self.old) }
     {
         if self.topmost.below.len() < BLOCK {
@@ -93,8 +93,8 @@ impl Stack {
         Ok(())
     }
 
-    /// How many words there are. Fails with `AllocError` if they are more than memory could hold.
-    pub(crate) fn count(self) -> Result<usize, AllocError>
+    /// How many words there are. Fails with `NoMemory` if they are more than memory could hold.
+    pub(crate) fn count(self) -> Result<usize, NoMemory>
         ensures count { IfOk result (λ n. n ≡ length (words_on self)) }
         ensures too_many { OnErr result (2 ^ 64 ≤ length (words_on self)) }
     {
@@ -105,7 +105,7 @@ impl Stack {
         let mut count = topmost.len();
         while let Some(block) = covered.pop() {
             let Some(sum) = count.checked_add(block.len()) else {
-                return Err(AllocError);
+                return Err(NoMemory);
             };
             count = sum;
         }
@@ -136,7 +136,7 @@ pub(crate) fn put_by_bound(
     alloc: Global,
     stacks: &mut BTreeMap<u64, Stack>,
     node: Node,
-) -> Result<(), AllocError>
+) -> Result<(), NoMemory>
     requires { CanBeShared node.word }
     ensures { OnOk result (IsPutByBound node stacks.old stacks.new) }
 {
@@ -152,7 +152,7 @@ pub(crate) fn put_by_bound(
 }
 
 /// Takes the first node of the least bound, if there is a node.
-pub(crate) fn pop_by_bound(stacks: &mut BTreeMap<u64, Stack>) -> Result<Option<Node>, AllocError>
+pub(crate) fn pop_by_bound(stacks: &mut BTreeMap<u64, Stack>) -> Result<Option<Node>, NoMemory>
     ensures { IfOk result (λ n. IsNextByBound n stacks.old stacks.new) }
 {
     let Some((bound, stack)) = stacks.pop_first() else {
@@ -170,7 +170,7 @@ pub(crate) fn pop_by_bound(stacks: &mut BTreeMap<u64, Stack>) -> Result<Option<N
 pub(crate) fn keep_by_bound(
     stacks: &mut BTreeMap<u64, Stack>,
     makespan: u64,
-) -> Result<(), AllocError>
+) -> Result<(), NoMemory>
     ensures { OnOk result (KeepsBelow makespan stacks.old stacks.new) }
 {
     let _above = stacks.split_off(&makespan)?;
@@ -187,15 +187,15 @@ pub(crate) fn least_by_bound(stacks: &BTreeMap<u64, Stack>, makespan: u64) -> u6
     }
 }
 
-/// How many nodes there are. Fails with `AllocError` if they are more than memory could hold.
-pub(crate) fn count_by_bound(mut stacks: BTreeMap<u64, Stack>) -> Result<usize, AllocError>
+/// How many nodes there are. Fails with `NoMemory` if they are more than memory could hold.
+pub(crate) fn count_by_bound(mut stacks: BTreeMap<u64, Stack>) -> Result<usize, NoMemory>
     ensures count { IfOk result (λ n. n ≡ length (nodes_in_stacks stacks)) }
     ensures too_many { OnErr result (2 ^ 64 ≤ length (nodes_in_stacks stacks)) }
 {
     let mut count = 0_usize;
     while let Some((_, stack)) = stacks.pop_first() {
         let Some(sum) = count.checked_add(stack.count()?) else {
-            return Err(AllocError);
+            return Err(NoMemory);
         };
         count = sum;
     }

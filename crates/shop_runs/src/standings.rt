@@ -4,7 +4,7 @@ ghost use Rattle.shop_runs.specs.Limits.{IsCountWithin};
 use shop_bound::lower_bound;
 use shop_model::{Instance, Word, start_word};
 use shop_nodes::Node;
-use std::alloc::{AllocError, Global};
+use std::alloc::{AllocError as NoMemory, Global};
 
 /// What stands between two rounds: the best word and its makespan, the open nodes, the rounds done
 /// and the nodes counted.
@@ -25,8 +25,8 @@ impl Standing {
     ghost use Rattle.shop_runs.specs.Standings.{stands, StandsAt, IsStandingOf};
 
     /// Where a search begins: the best is the start word, and the empty word is open if its bound
-    /// is below the makespan. Fails with `AllocError` if memory runs out.
-    pub fn start(alloc: Global, instance: &Instance) -> Result<Standing, AllocError>
+    /// is below the makespan. Fails with `NoMemory` if memory runs out.
+    pub fn start(alloc: Global, instance: &Instance) -> Result<Standing, NoMemory>
         ensures at { IfOk result (λ s. StandsAt instance.now (opening instance.now) s) }
         ensures standing { IfOk result (λ s. IsStandingOf instance.now s) }
         ensures covers { IfOk result (λ s. StandsCovering instance.now (stands s)) }

@@ -8,7 +8,7 @@ ghost use Rattle.shop_states.specs.inner.PlacedNexts.{IsPlacedAt};
 use crate::placing::{place_from, place_none};
 use shop_lanes::StateLanes;
 use shop_layout::LaidOut;
-use std::alloc::{AllocError, Global};
+use std::alloc::{AllocError as NoMemory, Global};
 
 /// So many of the last entries of a word are left out, since the next word often differs there.
 const LEFT_OUT: usize = 32;
@@ -34,11 +34,11 @@ fn write_front(row: &mut [u16], front: &[u16])
 }
 
 impl Beginning {
-    /// Of nothing placed, with room for any word. Fails with `AllocError` if memory runs out.
+    /// Of nothing placed, with room for any word. Fails with `NoMemory` if memory runs out.
     pub(crate) fn new<L: StateLanes>(
         alloc: Global,
         laid_out: &LaidOut<L>,
-    ) -> Result<Beginning, AllocError>
+    ) -> Result<Beginning, NoMemory>
         ensures { IfOk result (λ b. IsBeginningOf laid_out.now.shop laid_out.now.layout b) }
     {
         let instance = laid_out.instance();

@@ -12,7 +12,7 @@ use crate::states::{Scratch, State};
 use crate::steps::{BOUNDS, step};
 use shop_lanes::StateLanes;
 use shop_layout::LaidOut;
-use std::alloc::{AllocError, Global};
+use std::alloc::{AllocError as NoMemory, Global};
 
 impl<'a, L: StateLanes> Dispatching<State<L>> for LaidOut<'a, L> {
     ghost use Rattle.std.specs.Prelude.{◌∷◌, ◌++◌, [], vec_capacity};
@@ -36,7 +36,7 @@ impl<'a, L: StateLanes> Dispatching<State<L>> for LaidOut<'a, L> {
 
     ghost IsCandidate = { λ d w c. IsCandidateOf d.shop w d.layout c.job c.own };
 
-    fn scratch(&self, alloc: Global) -> Result<Scratch<L>, AllocError> {
+    fn scratch(&self, alloc: Global) -> Result<Scratch<L>, NoMemory> {
         let instance = self.instance();
         instance.keeps_limits();
         let ready = vec![in alloc; 0; instance.jobs()]?;
@@ -53,7 +53,7 @@ impl<'a, L: StateLanes> Dispatching<State<L>> for LaidOut<'a, L> {
         })
     }
 
-    fn slot(&self, alloc: Global) -> Result<State<L>, AllocError> {
+    fn slot(&self, alloc: Global) -> Result<State<L>, NoMemory> {
         let jobs = self.instance().jobs();
         let lanes = L::new(alloc, self.grid().positions(), jobs)?;
         let next = vec![in alloc; 0; jobs]?;

@@ -10,7 +10,7 @@ ghost use Rattle.shop_states.specs.States.{TellsBoundBelow};
 ghost use Rattle.shop_states.specs.declared.dispatching.Candidate.{Candidate};
 ghost use Rattle.shop_states.specs.States.{CanDispatch, HasSoleCandidate, IsOfSomeWord, ListsBelow};
 
-use std::alloc::{AllocError, Global};
+use std::alloc::{AllocError as NoMemory, Global};
 
 /// A job of the conflict set, and a number that the bound reaches at least once the job's next operation is dispatched,
 /// since all else waits on its machine.
@@ -40,12 +40,12 @@ pub trait Dispatching<S: Drop> {
     /// Its bound by its own machine is right for this word.
     ghost IsCandidate: { Self → List ℕ → Candidate → Type 0 };
 
-    /// Fails with `AllocError` if memory runs out.
-    fn scratch(&self, alloc: Global) -> Result<Self::Scratch, AllocError>
+    /// Fails with `NoMemory` if memory runs out.
+    fn scratch(&self, alloc: Global) -> Result<Self::Scratch, NoMemory>
         ensures { IfOk result (λ s. IsScratch self.now s) };
 
-    /// Room for a state. Fails with `AllocError` if memory runs out.
-    fn slot(&self, alloc: Global) -> Result<S, AllocError>
+    /// Room for a state. Fails with `NoMemory` if memory runs out.
+    fn slot(&self, alloc: Global) -> Result<S, NoMemory>
         ensures { IfOk result (λ s. IsSlot self.now s) };
 
     /// Sets a state to that of the word of a path.

@@ -13,7 +13,7 @@ use crate::machine_sets::MachineSet;
 use crate::raises::raise;
 use shop_lanes::StateLanes;
 use shop_layout::{Grid, Routes};
-use std::alloc::{AllocError, Global};
+use std::alloc::{AllocError as NoMemory, Global};
 use std::marker::Model;
 
 /// The raise of each machine, empty at rest. The machines that have one are told apart: so a bound visits only those.
@@ -38,7 +38,7 @@ impl<L: StateLanes> Model for MachineRaises<L> {
 fn empty_raises<L: StateLanes>(
     alloc: Global,
     machines: usize,
-) -> Result<Vec<LaneRaise<L::Number>>, AllocError>
+) -> Result<Vec<LaneRaise<L::Number>>, NoMemory>
     ensures { IfOk result (λ v. raises_in L.value v.items
         ≡ replicate machines (nothing_raised L.GREATEST)) }
 {
@@ -50,8 +50,8 @@ fn empty_raises<L: StateLanes>(
 }
 
 impl<L: StateLanes> MachineRaises<L> {
-    /// Of so many machines, all empty. Fails with `AllocError` if memory runs out.
-    pub fn new(alloc: Global, machines: usize) -> Result<MachineRaises<L>, AllocError>
+    /// Of so many machines, all empty. Fails with `NoMemory` if memory runs out.
+    pub fn new(alloc: Global, machines: usize) -> Result<MachineRaises<L>, NoMemory>
         requires { machines ≤ 128 }
         ensures { IfOk result (λ r. (length r ≡ machines) × AreEmpty r) }
     {

@@ -7,7 +7,7 @@ ghost use Rattle.shop_text.specs.inner.Printing.{cells_text};
 
 use crate::gantt_lines::show_machine;
 use shop_model::{Instance, Table, makespan};
-use std::alloc::{AllocError, Global};
+use std::alloc::{AllocError as NoMemory, Global};
 
 /// The most columns of a Gantt text.
 const MAX_COLUMNS: u64 = 72;
@@ -27,7 +27,7 @@ fn write_machine(
     alloc: Global,
     machine: usize,
     cells: &[u8],
-) -> Result<(), AllocError>
+) -> Result<(), NoMemory>
     ensures { OnOk result (out.new.items ≡ out.old.items ++ cells_text machine cells.now) }
 {
     let begin = format!(in alloc; "machine {machine} |")?;
@@ -38,8 +38,8 @@ fn write_machine(
 
 /// The Gantt text of a feasible table: a unit of time, and for each machine a line of at most 72 columns. Column c
 /// shows the job that the machine serves c units after 0, or a dot; operations of time 0 never show. Fails with
-/// `AllocError` if memory runs out.
-pub fn gantt(alloc: Global, instance: &Instance, table: &Table) -> Result<Vec<u8>, AllocError>
+/// `NoMemory` if memory runs out.
+pub fn gantt(alloc: Global, instance: &Instance, table: &Table) -> Result<Vec<u8>, NoMemory>
     requires shape { HasShape instance.now table.now }
     requires feasible { IsFeasible instance.now (starts_of table.now) }
     ensures { IfOk result (λ v. v.items ≡ gantt_text instance.now (starts_of table.now)) }

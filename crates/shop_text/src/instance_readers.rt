@@ -18,7 +18,7 @@ use crate::limits::MAX_TEXT;
 use crate::lines::next_line;
 use crate::names::Named;
 use crate::seen_lines::{Seen, header_in, see};
-use std::alloc::{AllocError, Global};
+use std::alloc::{AllocError as NoMemory, Global};
 
 /// The instances read so far, the name of the last header behind them, and the draft of the next instance.
 #[derive(Drop)]
@@ -30,7 +30,7 @@ struct Reader {
 }
 
 /// The name of an instance, or its number where it has none.
-fn name_or_number(alloc: Global, name: Option<String>, number: usize) -> Result<String, AllocError>
+fn name_or_number(alloc: Global, name: Option<String>, number: usize) -> Result<String, NoMemory>
     ensures { IfOk result (λ s. string_bytes s ≡ name_or (decimal number) name) }
 {
     match name {

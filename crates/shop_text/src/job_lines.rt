@@ -7,7 +7,7 @@ ghost use Rattle.shop_text.specs.inner.ScheduleReading.{FollowsJob, IsStartOf, I
 
 use crate::lines::{next_token, number_of};
 use shop_model::{Instance, MAX_JOBS, MAX_START};
-use std::alloc::{AllocError, Global};
+use std::alloc::{AllocError as NoMemory, Global};
 
 /// Whether the token begins the line of a job.
 fn is_job(token: &[u8]) -> bool
@@ -55,7 +55,7 @@ fn start_of(token: &[u8]) -> Option<u64>
 }
 
 /// The starts that follow the label of a line, if they are just as many as the job has steps.
-fn starts_behind(alloc: Global, steps: usize, behind: &[u8]) -> Result<Option<Vec<u64>>, AllocError>
+fn starts_behind(alloc: Global, steps: usize, behind: &[u8]) -> Result<Option<Vec<u64>>, NoMemory>
     ensures { IsRowRead result (starts_of_tokens steps (tokens_of behind.now)) }
 {
     let mut starts = Vec::with_capacity(alloc, steps)?;
@@ -82,7 +82,7 @@ pub(crate) fn row_behind(
     instance: &Instance,
     j: usize,
     behind: &[u8],
-) -> Result<Option<Vec<u64>>, AllocError>
+) -> Result<Option<Vec<u64>>, NoMemory>
     ensures { IsRowRead result (row_in instance.now j (codes "job" ∷ tokens_of behind.now)) }
 {
     if j >= instance.jobs() {

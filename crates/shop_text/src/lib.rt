@@ -34,6 +34,7 @@ pub use names::{Named, pick};
 pub use report_texts::report;
 pub use reports::Report;
 pub use schedules::read_table;
+pub use std::alloc::AllocError as NoMemory;
 pub use table_laws::{
     columns_show_the_job, names_are_visible, one_table, reports_are_schedules, some_table,
     table_faults_are_answered,

@@ -8,24 +8,24 @@ ghost use Rattle.shop_text.specs.Reports.{reported};
 
 use crate::reports::Report;
 use shop_model::Table;
-use std::alloc::{AllocError, Global};
+use std::alloc::{AllocError as NoMemory, Global};
 
 /// Writes a word and a number as a line.
-pub(crate) fn write_number(out: &mut String, word: &str, number: u64) -> Result<(), AllocError>
+pub(crate) fn write_number(out: &mut String, word: &str, number: u64) -> Result<(), NoMemory>
     ensures { AddsLine result out.old out.new (number_line word.now number) }
 {
     writeln!(out, "{word} {number}")
 }
 
 /// Writes two words as a line.
-fn write_words(out: &mut String, word: &str, value: &str) -> Result<(), AllocError>
+fn write_words(out: &mut String, word: &str, value: &str) -> Result<(), NoMemory>
     ensures { AddsLine result out.old out.new (word.now ∷ value.now ∷ []) }
 {
     writeln!(out, "{word} {value}")
 }
 
 /// Writes the numbers of jobs and machines as a line.
-fn write_size(out: &mut String, jobs: usize, machines: usize) -> Result<(), AllocError>
+fn write_size(out: &mut String, jobs: usize, machines: usize) -> Result<(), NoMemory>
     ensures { AddsLine result out.old out.new
         (codes "size" ∷ decimal jobs ∷ decimal machines ∷ []) }
 {
@@ -40,7 +40,7 @@ fn status(open_nodes: usize) -> &'static str
 }
 
 /// Writes the lines before those of the jobs.
-fn write_answer(out: &mut String, report: &Report) -> Result<(), AllocError>
+fn write_answer(out: &mut String, report: &Report) -> Result<(), NoMemory>
     ensures { AddsLines result out.old out.new (answer_lines (reported report.now)) }
 {
     write_words(out, "instance", report.name)?;
@@ -54,7 +54,7 @@ fn write_answer(out: &mut String, report: &Report) -> Result<(), AllocError>
 }
 
 /// Writes the line of job j.
-fn write_job(out: &mut String, j: usize, starts: &[u64]) -> Result<(), AllocError>
+fn write_job(out: &mut String, j: usize, starts: &[u64]) -> Result<(), NoMemory>
     ensures { AddsLine result out.old out.new (job_line j starts.now) }
 {
     write!(out, "job {j}:")?;
@@ -65,7 +65,7 @@ fn write_job(out: &mut String, j: usize, starts: &[u64]) -> Result<(), AllocErro
 }
 
 /// Writes a line for each job.
-fn write_jobs(out: &mut String, table: &Table) -> Result<(), AllocError>
+fn write_jobs(out: &mut String, table: &Table) -> Result<(), NoMemory>
     ensures { AddsLines result out.old out.new (job_lines table.now) }
 {
     for j in 0..table.len() {
@@ -75,8 +75,8 @@ fn write_jobs(out: &mut String, table: &Table) -> Result<(), AllocError>
 }
 
 /// The report as text: what the search answers, and a line for each job with the starts of its steps. The status is
-/// `optimal` where no node is open, else `open`. Fails with `AllocError` if memory runs out.
-pub fn report(alloc: Global, report: &Report) -> Result<Vec<u8>, AllocError>
+/// `optimal` where no node is open, else `open`. Fails with `NoMemory` if memory runs out.
+pub fn report(alloc: Global, report: &Report) -> Result<Vec<u8>, NoMemory>
     requires { HasShape report.now.instance.now report.now.table.now }
     ensures { IfOk result (λ v. v.items ≡ report_text (reported report.now)) }
 {

@@ -9,7 +9,7 @@ ghost use Rattle.shop_text.specs.inner.LineReading.{Tells};
 
 use crate::formats::Format;
 use crate::lines::{next_token, number_of};
-use std::alloc::{AllocError, Global};
+use std::alloc::{AllocError as NoMemory, Global};
 
 /// What a line is: blank, numbers alone, or text, with the name of an instance if it gives one.
 #[derive(Drop)]
@@ -68,7 +68,7 @@ pub(crate) fn see<'t>(
     format: Format,
     line: &'t [u8],
     numbers: &mut Vec<u64>,
-) -> Result<Seen<'t>, AllocError>
+) -> Result<Seen<'t>, NoMemory>
     ensures { IfOk result (λ s. Tells format s numbers.new.items (line_of line.now)) }
 {
     numbers.clear();

@@ -6,10 +6,10 @@ ghost use Rattle.shop_text.specs.Names.{shop_of_named, shops_of};
 
 use crate::names::Named;
 use shop_model::Verdict;
-use std::alloc::{AllocError, Global};
+use std::alloc::{AllocError as NoMemory, Global};
 
 /// Writes the line of an instance.
-fn write_instance(out: &mut String, named: &Named) -> Result<(), AllocError>
+fn write_instance(out: &mut String, named: &Named) -> Result<(), NoMemory>
     ensures { AddsLine result out.old out.new (instance_line (shop_of_named named.now)) }
 {
     let name = named.name.as_str();
@@ -18,9 +18,9 @@ fn write_instance(out: &mut String, named: &Named) -> Result<(), AllocError>
     writeln!(out, "{name} {jobs} {machines}")
 }
 
-/// A line for each instance: its name, its number of jobs and its number of machines. Fails with `AllocError` if memory
+/// A line for each instance: its name, its number of jobs and its number of machines. Fails with `NoMemory` if memory
 /// runs out.
-pub fn listing(alloc: Global, named: &[Named]) -> Result<Vec<u8>, AllocError>
+pub fn listing(alloc: Global, named: &[Named]) -> Result<Vec<u8>, NoMemory>
     ensures { IfOk result (λ v. v.items ≡ list_text (shops_of named.now)) }
 {
     let mut out = String::new(alloc);
@@ -31,7 +31,7 @@ pub fn listing(alloc: Global, named: &[Named]) -> Result<Vec<u8>, AllocError>
 }
 
 /// The verdict as a line.
-fn verdict_string(alloc: Global, verdict: &Verdict) -> Result<String, AllocError>
+fn verdict_string(alloc: Global, verdict: &Verdict) -> Result<String, NoMemory>
     ensures { IfOk result (λ s. string_bytes s ≡ verdict_text verdict.now) }
 {
     match *verdict {
@@ -59,8 +59,8 @@ fn verdict_string(alloc: Global, verdict: &Verdict) -> Result<String, AllocError
     }
 }
 
-/// The verdict as a line of bytes. Fails with `AllocError` if memory runs out.
-pub fn verdict_line(alloc: Global, verdict: &Verdict) -> Result<Vec<u8>, AllocError>
+/// The verdict as a line of bytes. Fails with `NoMemory` if memory runs out.
+pub fn verdict_line(alloc: Global, verdict: &Verdict) -> Result<Vec<u8>, NoMemory>
     ensures { IfOk result (λ v. v.items ≡ verdict_text verdict.now) }
 {
     Ok(verdict_string(alloc, verdict)?.into_bytes())

@@ -4,7 +4,7 @@ ghost use Rattle.shop_tree.specs.inner.Held.{with_held_rest, HasRaisedRest};
 
 use crate::held::Held;
 use shop_nodes::Waiting;
-use std::alloc::AllocError;
+use std::alloc::AllocError as NoMemory;
 
 /// Puts one entry on the stack for `count` closed children of the word of so many entries, if there are any.
 #[inline(always)]
@@ -12,7 +12,7 @@ pub(crate) fn put_rest<S: Drop>(
     stack: &mut Vec<Held<S>>,
     depth: usize,
     count: usize,
-) -> Result<(), AllocError>
+) -> Result<(), NoMemory>
     requires depth { depth < 2 ^ 32 }
     requires count { count < 2 ^ 32 }
     ensures { OnOk result (stack.new.items ≡ with_held_rest stack.old.items depth count) }
@@ -35,7 +35,7 @@ pub(crate) fn raise_rest<S: Drop>(
     depth: usize,
     known: usize,
     count: usize,
-) -> Result<(), AllocError>
+) -> Result<(), NoMemory>
     requires place { place + min known 1 ≤ length stack.old.items }
     requires depth { depth < 2 ^ 32 }
     requires more { known ≤ count }

@@ -14,7 +14,7 @@ use crate::closed_children::{put_rest, raise_rest};
 use crate::walkers::Walker;
 use shop_model::{SharedWord, Word};
 use shop_states::Dispatching;
-use std::alloc::{AllocError, Global};
+use std::alloc::{AllocError as NoMemory, Global};
 
 impl<'l, 'a, D: Dispatching<S>, S: Drop> Walker<'l, 'a, D, S> {
     /// Gathers the candidates of the word, which isn't full, and tells how many others are closed.
@@ -75,7 +75,7 @@ impl<'l, 'a, D: Dispatching<S>, S: Drop> Walker<'l, 'a, D, S> {
 
     /// All children of the word, so many, are closed: they are counted if the budget lasts for them, and else wait.
     #[inline(always)]
-    fn close(&mut self, count: usize) -> Result<(), AllocError>
+    fn close(&mut self, count: usize) -> Result<(), NoMemory>
         requires word { IsWord self.old.progress.instance.now self.old.path.items }
         requires limits { IsWithinLimits self.old.progress.instance.now }
         requires short { length self.old.path.items < self.old.progress.operations }
@@ -97,7 +97,7 @@ impl<'l, 'a, D: Dispatching<S>, S: Drop> Walker<'l, 'a, D, S> {
     /// `closed` other children are put on the stack as closed. Where this child is closed too, all are, and the answer
     /// is `None`.
     #[inline(always)]
-    fn follow_kept(&mut self, bound: u64, closed: usize) -> Result<Option<u64>, AllocError>
+    fn follow_kept(&mut self, bound: u64, closed: usize) -> Result<Option<u64>, NoMemory>
         requires one { length self.old.candidates.items ≡ 1 }
         requires some { 0 < self.old.progress.budget }
         requires short { length self.old.path.items < self.old.progress.operations }
@@ -117,7 +117,7 @@ impl<'l, 'a, D: Dispatching<S>, S: Drop> Walker<'l, 'a, D, S> {
 
     /// The same, whether there are others or not: a sole candidate isn't bounded.
     #[inline(always)]
-    fn go_on(&mut self, bound: u64, closed: usize) -> Result<Option<u64>, AllocError>
+    fn go_on(&mut self, bound: u64, closed: usize) -> Result<Option<u64>, NoMemory>
         requires one { length self.old.candidates.items ≡ 1 }
         requires some { 0 < self.old.progress.budget }
         requires short { length self.old.path.items < self.old.progress.operations }
@@ -134,7 +134,7 @@ impl<'l, 'a, D: Dispatching<S>, S: Drop> Walker<'l, 'a, D, S> {
 
     /// Takes back the state of what waits longest of all that may have one.
     #[inline(never)]
-    fn strip_next(&mut self) -> Result<(), AllocError>
+    fn strip_next(&mut self) -> Result<(), NoMemory>
         requires within { self.old.stripped < length self.old.stack.items }
         requires states { HasStates self.old }
         ensures stands { OnOk result (StandsAs self.old self.new) }
@@ -149,7 +149,7 @@ impl<'l, 'a, D: Dispatching<S>, S: Drop> Walker<'l, 'a, D, S> {
     /// Takes states from the entries that wait longest, until there is a spare one for each candidate or none is left
     /// to take.
     #[inline(always)]
-    fn reclaim(&mut self) -> Result<(), AllocError>
+    fn reclaim(&mut self) -> Result<(), NoMemory>
         requires states { HasStates self.old }
         ensures stands { OnOk result (StandsAs self.old self.new) }
     {
@@ -161,7 +161,7 @@ impl<'l, 'a, D: Dispatching<S>, S: Drop> Walker<'l, 'a, D, S> {
 
     /// Puts the children of the word on the stack, the first one on top. `bound` is the word's, and `closed` of its
     /// children are none of the candidates.
-    fn push_children(&mut self, alloc: Global, bound: u64, closed: usize) -> Result<(), AllocError>
+    fn push_children(&mut self, alloc: Global, bound: u64, closed: usize) -> Result<(), NoMemory>
         requires bound { bound ≡ lb self.old.progress.instance.now self.old.path.items }
         requires short { length self.old.path.items < self.old.progress.operations }
         requires candidates { HasCandidates self.old closed }
@@ -187,7 +187,7 @@ impl<'l, 'a, D: Dispatching<S>, S: Drop> Walker<'l, 'a, D, S> {
 
     /// The same, with a state for each child as far as what waits longer has one; but where all are closed, nothing has
     /// to wait.
-    fn branch(&mut self, alloc: Global, bound: u64, closed: usize) -> Result<(), AllocError>
+    fn branch(&mut self, alloc: Global, bound: u64, closed: usize) -> Result<(), NoMemory>
         requires short { length self.old.path.items < self.old.progress.operations }
         requires at { StandsAt self.old bound }
         requires candidates { HasCandidates self.old closed }
@@ -203,7 +203,7 @@ impl<'l, 'a, D: Dispatching<S>, S: Drop> Walker<'l, 'a, D, S> {
 
     /// The word is full: it is found, and is the best.
     #[inline(never)]
-    fn find(&mut self, alloc: Global, bound: u64) -> Result<(), AllocError>
+    fn find(&mut self, alloc: Global, bound: u64) -> Result<(), NoMemory>
         requires full { self.old.progress.operations ≤ length self.old.path.items }
         requires at { StandsAt self.old bound }
         ensures expanded { OnOk result (HasExpanded (stage_of self.old) (stage_of self.new)) }
@@ -217,7 +217,7 @@ impl<'l, 'a, D: Dispatching<S>, S: Drop> Walker<'l, 'a, D, S> {
 
     /// Goes on from the word, which was taken and whose bound is below the best, as long as one child alone is open: up
     /// to a full word, which is found, or to one whose children are put on the stack.
-    pub(crate) fn expand(&mut self, alloc: Global, bound: u64) -> Result<(), AllocError>
+    pub(crate) fn expand(&mut self, alloc: Global, bound: u64) -> Result<(), NoMemory>
         requires bound { bound ≡ lb self.old.progress.instance.now self.old.path.items }
         requires below { bound < self.old.progress.best }
         requires in_order { IsInOrder (stage_of self.old) }

@@ -9,7 +9,7 @@ use shop_layout::LaidOut;
 use shop_model::Instance;
 use shop_nodes::{Piece, Sheet};
 use shop_states::State;
-use std::alloc::{AllocError, Global};
+use std::alloc::{AllocError as NoMemory, Global};
 use std::marker::Model;
 
 /// A searcher over a layout, so that who calls it names the lanes alone, and no dispatcher. To contracts it is the
@@ -34,13 +34,13 @@ impl<'l, 'a, L: StateLanes> Model for LaidSearcher<'l, 'a, L> {
 
 impl<'l, 'a, L: StateLanes> LaidSearcher<'l, 'a, L> {
     /// For pieces of this instance, which is the layout's, with at most so many states for children that wait. Fails
-    /// with `AllocError` if memory runs out.
+    /// with `NoMemory` if memory runs out.
     pub(crate) fn new(
         alloc: Global,
         instance: &'a Instance,
         laid_out: &'l LaidOut<'a, L>,
         most: usize,
-    ) -> Result<LaidSearcher<'l, 'a, L>, AllocError>
+    ) -> Result<LaidSearcher<'l, 'a, L>, NoMemory>
         requires { laid_out.now.shop ≡ instance.now }
         ensures { IfOk result (λ s. s ≡ instance.now) }
     {
@@ -56,7 +56,7 @@ impl<'l, 'a, L: StateLanes> LaidSearcher<'l, 'a, L> {
         piece: &'a Piece,
         best: u64,
         budget: u64,
-    ) -> Result<Sheet<'a>, AllocError>
+    ) -> Result<Sheet<'a>, NoMemory>
         requires nodes { AreNodes self.old piece.now.nodes.items }
         requires small { budget < 2 ^ 50 }
         ensures of { IfOk result (λ s. IsSheetOf s self.old piece.now best budget) }

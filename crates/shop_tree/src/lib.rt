@@ -17,3 +17,4 @@ mod widths;
 pub use searchers::Searcher;
 pub use searching::search;
 pub use shop_nodes::{Node, Piece, Sheet, children, conflict};
+pub use std::alloc::AllocError as NoMemory;

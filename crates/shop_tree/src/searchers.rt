@@ -8,7 +8,7 @@ use crate::widths::Widths;
 use shop_layout::{LaneLayout, Layout};
 use shop_model::Instance;
 use shop_nodes::{Piece, Sheet};
-use std::alloc::{AllocError, Global};
+use std::alloc::{AllocError as NoMemory, Global};
 use std::marker::Model;
 
 /// How many bytes the states of all children that wait may hold together.
@@ -50,12 +50,12 @@ impl<'l, 'a> Model for Searcher<'l, 'a> {
 }
 
 impl<'l, 'a> Searcher<'l, 'a> {
-    /// For pieces of this instance, over its layout. Fails with `AllocError` if memory runs out.
+    /// For pieces of this instance, over its layout. Fails with `NoMemory` if memory runs out.
     pub fn over(
         alloc: Global,
         instance: &'a Instance,
         layout: &'l Layout<'a>,
-    ) -> Result<Searcher<'l, 'a>, AllocError>
+    ) -> Result<Searcher<'l, 'a>, NoMemory>
         requires { layout.now ≡ instance.now }
         ensures { IfOk result (λ s. s ≡ instance.now) }
     {
@@ -70,14 +70,14 @@ impl<'l, 'a> Searcher<'l, 'a> {
     }
 
     /// The same with at most so many states for children that wait: the state of any other child is made anew from its
-    /// word when its turn comes. What a search gives doesn't depend on that. Fails with `AllocError` if memory runs
+    /// word when its turn comes. What a search gives doesn't depend on that. Fails with `NoMemory` if memory runs
     /// out.
     pub fn with_states(
         alloc: Global,
         instance: &'a Instance,
         layout: &'l Layout<'a>,
         most: usize,
-    ) -> Result<Searcher<'l, 'a>, AllocError>
+    ) -> Result<Searcher<'l, 'a>, NoMemory>
         requires { layout.now ≡ instance.now }
         ensures { IfOk result (λ s. s ≡ instance.now) }
     {
@@ -98,14 +98,14 @@ impl<'l, 'a> Searcher<'l, 'a> {
     /// The search of a piece by branch and bound: its nodes in order, depth first, the children of each by bound.
     /// `best` is the makespan to beat, `budget` how many nodes may be taken; what isn't taken is left, in order. No
     /// table under a node of the piece is lost: it ends at the sheet's makespan or later, or no earlier than one under
-    /// a node left. Fails with `AllocError` if memory runs out; the searcher is of no use then.
+    /// a node left. Fails with `NoMemory` if memory runs out; the searcher is of no use then.
     pub fn search(
         &mut self,
         alloc: Global,
         piece: &'a Piece,
         best: u64,
         budget: u64,
-    ) -> Result<Sheet<'a>, AllocError>
+    ) -> Result<Sheet<'a>, NoMemory>
         requires nodes { AreNodes self.old piece.now.nodes.items }
         requires small { budget < 2 ^ 50 }
         ensures of { IfOk result (λ s. IsSheetOf s self.old piece.now best budget) }

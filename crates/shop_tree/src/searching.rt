@@ -7,9 +7,9 @@ use crate::searchers::Searcher;
 use shop_layout::Layout;
 use shop_model::Instance;
 use shop_nodes::{Piece, Sheet};
-use std::alloc::{AllocError, Global};
+use std::alloc::{AllocError as NoMemory, Global};
 
-/// The search of one piece, as `Searcher::search`, over a layout of its own. Fails with `AllocError` if memory runs
+/// The search of one piece, as `Searcher::search`, over a layout of its own. Fails with `NoMemory` if memory runs
 /// out.
 pub fn search<'r>(
     alloc: Global,
@@ -17,7 +17,7 @@ pub fn search<'r>(
     piece: &'r Piece,
     best: u64,
     budget: u64,
-) -> Result<Sheet<'r>, AllocError>
+) -> Result<Sheet<'r>, NoMemory>
     requires nodes { AreNodes instance.now piece.now.nodes.items }
     requires small { budget < 2 ^ 50 }
     ensures of { IfOk result (λ s. IsSheetOf s instance.now piece.now best budget) }

@@ -7,7 +7,7 @@ use crate::walkers::Walker;
 use shop_model::Instance;
 use shop_nodes::{Piece, Sheet};
 use shop_states::Dispatching;
-use std::alloc::{AllocError, Global};
+use std::alloc::{AllocError as NoMemory, Global};
 use std::marker::Model;
 
 /// Searches pieces of an instance, one after the other, by one dispatcher. What a search needs is kept from one to the
@@ -42,13 +42,13 @@ impl<'l, 'a, D: Dispatching<S>, S: Drop> Model for StateSearcher<'l, 'a, D, S> {
 
 impl<'l, 'a, D: Dispatching<S>, S: Drop> StateSearcher<'l, 'a, D, S> {
     /// For pieces of this instance, which is the dispatcher's, with at most so many states for children that wait.
-    /// Fails with `AllocError` if memory runs out.
+    /// Fails with `NoMemory` if memory runs out.
     pub fn new(
         alloc: Global,
         instance: &'a Instance,
         dispatcher: &'l D,
         most: usize,
-    ) -> Result<StateSearcher<'l, 'a, D, S>, AllocError>
+    ) -> Result<StateSearcher<'l, 'a, D, S>, NoMemory>
         requires { D.shop dispatcher.now ≡ instance.now }
         ensures { IfOk result (λ s. s ≡ instance.now) }
     {
@@ -66,7 +66,7 @@ impl<'l, 'a, D: Dispatching<S>, S: Drop> StateSearcher<'l, 'a, D, S> {
         piece: &'a Piece,
         best: u64,
         budget: u64,
-    ) -> Result<Sheet<'a>, AllocError>
+    ) -> Result<Sheet<'a>, NoMemory>
         requires nodes { AreNodes self.old piece.now.nodes.items }
         requires small { budget < 2 ^ 50 }
         ensures of { IfOk result (λ s. IsSheetOf s self.old piece.now best budget) }
@@ -74,7 +74,7 @@ impl<'l, 'a, D: Dispatching<S>, S: Drop> StateSearcher<'l, 'a, D, S> {
         ensures instance { OnOk result (self.new ≡ self.old) }
     {
         if !self.is_whole {
-            return Err(AllocError);
+            return Err(NoMemory);
         }
         self.is_whole = false;
         let walker = &mut self.walker;

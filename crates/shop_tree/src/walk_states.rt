@@ -15,7 +15,7 @@ use crate::held::Held;
 use crate::open_children::put;
 use shop_nodes::Open;
 use shop_states::{Candidate, Dispatching};
-use std::alloc::{AllocError, Global};
+use std::alloc::{AllocError as NoMemory, Global};
 use std::mem;
 
 /// The states of a walk: that of the word that it came to, one in which a child is tried, and spare ones for children
@@ -32,12 +32,12 @@ pub(crate) struct WalkStates<'l, D: Dispatching<S>, S: Drop> {
 }
 
 impl<'l, D: Dispatching<S>, S: Drop> WalkStates<'l, D, S> {
-    /// With at most so many states for children that wait. Fails with `AllocError` if memory runs out.
+    /// With at most so many states for children that wait. Fails with `NoMemory` if memory runs out.
     pub(crate) fn new(
         alloc: Global,
         dispatcher: &'l D,
         most: usize,
-    ) -> Result<WalkStates<'l, D, S>, AllocError>
+    ) -> Result<WalkStates<'l, D, S>, NoMemory>
         ensures sound { IfOk result (HoldSlots D.IsSlot D.IsScratch) }
         ensures dispatcher { IfOk result (λ s. s.dispatcher.now ≡ dispatcher.now) }
     {
@@ -130,7 +130,7 @@ impl<'l, D: Dispatching<S>, S: Drop> WalkStates<'l, D, S> {
     }
 
     /// Keeps a state that nobody wants any more as a spare one.
-    pub(crate) fn give_back(&mut self, state: Option<Box<S>>) -> Result<(), AllocError>
+    pub(crate) fn give_back(&mut self, state: Option<Box<S>>) -> Result<(), NoMemory>
         requires sound { HoldSlots D.IsSlot D.IsScratch self.old }
         requires slot { IsHeldOf (λ _ s. D.IsSlot self.old.dispatcher.now s) [] state }
         ensures sound { OnOk result (HoldSlots D.IsSlot D.IsScratch self.new) }
@@ -146,7 +146,7 @@ impl<'l, D: Dispatching<S>, S: Drop> WalkStates<'l, D, S> {
 
     /// The given state becomes the current one, and the one before it a spare one; where none is given, the current one
     /// is filled from the word.
-    pub(crate) fn go_on_in(&mut self, state: Option<Box<S>>, word: &[u16]) -> Result<(), AllocError>
+    pub(crate) fn go_on_in(&mut self, state: Option<Box<S>>, word: &[u16]) -> Result<(), NoMemory>
         requires sound { HoldSlots D.IsSlot D.IsScratch self.old }
         requires word { IsWord (D.shop self.old.dispatcher.now) word.now }
         requires state { IsHeldOf (D.IsStateOf self.old.dispatcher.now) word.now state }
@@ -166,7 +166,7 @@ impl<'l, D: Dispatching<S>, S: Drop> WalkStates<'l, D, S> {
 
     /// A spare state, or a new one where one more may be made.
     #[inline(always)]
-    fn spare_state(&mut self, alloc: Global) -> Result<Option<Box<S>>, AllocError>
+    fn spare_state(&mut self, alloc: Global) -> Result<Option<Box<S>>, NoMemory>
         requires sound { HoldSlots D.IsSlot D.IsScratch self.old }
         ensures sound { OnOk result (HoldSlots D.IsSlot D.IsScratch self.new) }
         ensures slot { IfOk result (IsHeldOf (λ _ s. D.IsSlot self.old.dispatcher.now s) []) }
@@ -182,7 +182,7 @@ impl<'l, D: Dispatching<S>, S: Drop> WalkStates<'l, D, S> {
 
     /// A new state, where one more may be made.
     #[inline(never)]
-    fn new_state(&mut self, alloc: Global) -> Result<Option<Box<S>>, AllocError>
+    fn new_state(&mut self, alloc: Global) -> Result<Option<Box<S>>, NoMemory>
         requires sound { HoldSlots D.IsSlot D.IsScratch self.old }
         ensures sound { OnOk result (HoldSlots D.IsSlot D.IsScratch self.new) }
         ensures slot { IfOk result (IsHeldOf (λ _ s. D.IsSlot self.old.dispatcher.now s) []) }
@@ -198,7 +198,7 @@ impl<'l, D: Dispatching<S>, S: Drop> WalkStates<'l, D, S> {
     }
 
     /// The state of the trial, where there is a spare one to take its place.
-    fn take_trial(&mut self, alloc: Global) -> Result<Option<Box<S>>, AllocError>
+    fn take_trial(&mut self, alloc: Global) -> Result<Option<Box<S>>, NoMemory>
         requires sound { HoldSlots D.IsSlot D.IsScratch self.old }
         ensures sound { OnOk result (HoldSlots D.IsSlot D.IsScratch self.new) }
         ensures taken { IfOk result (IsHeldOf (λ _ s. s ≡ self.old.trial.value) []) }
@@ -258,7 +258,7 @@ impl<'l, D: Dispatching<S>, S: Drop> WalkStates<'l, D, S> {
 
     /// Tries each candidate of the word, and puts the children of bounds below the limit on the stack, by bound, then
     /// by job, the first on top, each with its state while there is room. Tells how many children are closed; `closed`
-    /// of them are none of the candidates. Fails with `AllocError` if memory runs out.
+    /// of them are none of the candidates. Fails with `NoMemory` if memory runs out.
     pub(crate) fn try_candidates(
         &mut self,
         alloc: Global,
@@ -268,7 +268,7 @@ impl<'l, D: Dispatching<S>, S: Drop> WalkStates<'l, D, S> {
         word: &[u16],
         bound: u64,
         limit: u64,
-    ) -> Result<usize, AllocError>
+    ) -> Result<usize, NoMemory>
         requires sound { HoldSlots D.IsSlot D.IsScratch self.old }
         requires state { D.IsStateOf self.old.dispatcher.now word.now self.old.current.value }
         requires bound { bound ≡ lb (D.shop self.old.dispatcher.now) word.now }

@@ -10,7 +10,7 @@ use crate::walk_states::WalkStates;
 use shop_model::Instance;
 use shop_nodes::{Halt, Left, Node, Open, Piece, Sheet, Waiting};
 use shop_states::{Candidate, Dispatching};
-use std::alloc::{AllocError, Global};
+use std::alloc::{AllocError as NoMemory, Global};
 use std::sync::ArcSlice;
 
 /// A walk: what it carries, its states, the word that it has come to, the stack of what waits, and room for the
@@ -39,13 +39,13 @@ impl<'l, 'a, D: Dispatching<S>, S: Drop> Walker<'l, 'a, D, S> {
     ghost use Rattle.shop_tree.specs.inner.Walkers.{HasWalked, HasWalkedUpTo, IsTurn};
 
     /// For pieces of this instance, the dispatcher's, with at most so many states for children that wait. Fails with
-    /// `AllocError` if memory runs out.
+    /// `NoMemory` if memory runs out.
     pub(crate) fn new(
         alloc: Global,
         instance: &'a Instance,
         dispatcher: &'l D,
         most: usize,
-    ) -> Result<Walker<'l, 'a, D, S>, AllocError>
+    ) -> Result<Walker<'l, 'a, D, S>, NoMemory>
         requires shop { D.shop dispatcher.now ≡ instance.now }
         ensures instance { IfOk result (λ w. w.progress.instance.now ≡ instance.now) }
         ensures states { IfOk result HasStates }
@@ -66,7 +66,7 @@ impl<'l, 'a, D: Dispatching<S>, S: Drop> Walker<'l, 'a, D, S> {
         alloc: Global,
         child: Open,
         state: Option<Box<S>>,
-    ) -> Result<(), AllocError>
+    ) -> Result<(), NoMemory>
         requires some { 0 < self.old.progress.budget }
         requires on { IsInOrder (on_top (stage_of self.old) (Child child)) }
         requires state { IsHeldOf (D.IsStateOf self.old.states.dispatcher.now)
@@ -86,7 +86,7 @@ impl<'l, 'a, D: Dispatching<S>, S: Drop> Walker<'l, 'a, D, S> {
     }
 
     /// Counts closed children, which lay on top of the stack, as far as the budget goes; the others wait on.
-    fn count_closed(&mut self, depth: u32, count: u32) -> Result<(), AllocError>
+    fn count_closed(&mut self, depth: u32, count: u32) -> Result<(), NoMemory>
         requires some { 0 < self.old.progress.budget }
         requires on { IsInOrder (on_top (stage_of self.old) (Rest depth count)) }
         requires states { HasStates self.old }
@@ -108,7 +108,7 @@ impl<'l, 'a, D: Dispatching<S>, S: Drop> Walker<'l, 'a, D, S> {
     }
 
     /// Walks what waits on the stack from its top on, depth first, as far as the budget goes.
-    fn walk_stack(&mut self, alloc: Global) -> Result<(), AllocError>
+    fn walk_stack(&mut self, alloc: Global) -> Result<(), NoMemory>
         requires in_order { IsInOrder (stage_of self.old) }
         requires states { HasStates self.old }
         ensures walked { OnOk result
@@ -128,7 +128,7 @@ impl<'l, 'a, D: Dispatching<S>, S: Drop> Walker<'l, 'a, D, S> {
     }
 
     /// Takes a node, and walks on from it as far as the budget goes.
-    fn walk_node(&mut self, alloc: Global, node: &Node) -> Result<(), AllocError>
+    fn walk_node(&mut self, alloc: Global, node: &Node) -> Result<(), NoMemory>
         requires some { 0 < self.old.progress.budget }
         requires node { IsNode self.old.progress.instance.now node.now }
         requires empty { self.old.stack.items ≡ [] }
@@ -149,7 +149,7 @@ impl<'l, 'a, D: Dispatching<S>, S: Drop> Walker<'l, 'a, D, S> {
     }
 
     /// Walks nodes in order, each depth first, as far as the budget goes, and tells how many were taken.
-    fn walk_nodes(&mut self, alloc: Global, nodes: &[Node]) -> Result<usize, AllocError>
+    fn walk_nodes(&mut self, alloc: Global, nodes: &[Node]) -> Result<usize, NoMemory>
         requires nodes { AreNodes self.old.progress.instance.now nodes.now }
         requires empty { self.old.stack.items ≡ [] }
         requires states { HasStates self.old }
@@ -167,7 +167,7 @@ impl<'l, 'a, D: Dispatching<S>, S: Drop> Walker<'l, 'a, D, S> {
     }
 
     /// Takes all that waits off the stack, and keeps its states for later.
-    fn clear(&mut self) -> Result<(), AllocError>
+    fn clear(&mut self) -> Result<(), NoMemory>
         requires states { HasStates self.old }
         ensures empty { OnOk result (self.new.stack.items ≡ []) }
         ensures instance { OnOk result
@@ -181,7 +181,7 @@ impl<'l, 'a, D: Dispatching<S>, S: Drop> Walker<'l, 'a, D, S> {
     }
 
     /// Where the walk halted, if anything waits.
-    fn halt(&self, alloc: Global) -> Result<Option<Halt>, AllocError>
+    fn halt(&self, alloc: Global) -> Result<Option<Halt>, NoMemory>
         requires in_order { IsInOrder (stage_of self.now) }
         ensures words { IfOk result (λ h. halted_words self.now.progress.instance.now h
             ≡ stack_words self.now.progress.instance.now self.now.path.items
@@ -204,7 +204,7 @@ impl<'l, 'a, D: Dispatching<S>, S: Drop> Walker<'l, 'a, D, S> {
         piece: &'a Piece,
         best: u64,
         budget: u64,
-    ) -> Result<Sheet<'a>, AllocError>
+    ) -> Result<Sheet<'a>, NoMemory>
         requires nodes { AreNodes self.old.progress.instance.now piece.now.nodes.items }
         requires small { budget < 2 ^ 50 }
         requires states { HasStates self.old }

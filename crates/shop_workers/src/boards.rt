@@ -7,7 +7,7 @@ use crate::rules::{Claim, Law, Look, Mark, Recall, Share};
 use crate::views::View;
 use atomic_table::Table;
 use shop_runs::Round;
-use std::alloc::{AllocError, Global};
+use std::alloc::{AllocError as NoMemory, Global};
 
 /// A board that threads share: a flag for each piece of a round, and the least number of a piece that was marked as
 /// ending at the opening bound. Each change is one atomic step of a seat; nobody waits for anybody.
@@ -30,7 +30,7 @@ pub struct Seat {
 }
 
 // No flag is set, and no hit is marked.
-fn first_words(alloc: Global, pieces: usize) -> Result<Vec<u64>, AllocError>
+fn first_words(alloc: Global, pieces: usize) -> Result<Vec<u64>, NoMemory>
     requires { pieces ≤ 256 }
     ensures { IfOk result (λ v. v.items ≡ replicate pieces 0 ++ pieces ∷ []) }
 {
@@ -55,8 +55,8 @@ impl<'r> Board<'r> {
     ghost use Rattle.shop_workers.specs.Winners.{IsDecided};
 
     /// Makes a board of a round, on which nothing is claimed and nothing marked, and its first seat. Fails with
-    /// `AllocError` if memory runs out; no other call of a board takes memory.
-    pub fn open(alloc: Global, round: &'r Round<'r>) -> Result<(Board<'r>, Seat), AllocError>
+    /// `NoMemory` if memory runs out; no other call of a board takes memory.
+    pub fn open(alloc: Global, round: &'r Round<'r>) -> Result<(Board<'r>, Seat), NoMemory>
         ensures hits { IfOk result (λ p. hits_of p.0 ≡ hits_of_round round.now) }
         ensures seat { IfOk result (λ p. IsSeatOf p.0 p.1) }
         ensures knows { IfOk result (λ p. knows p.1 ≡ newcomer (hits_of p.0)) }

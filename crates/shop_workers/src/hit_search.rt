@@ -6,16 +6,16 @@ ghost use Rattle.shop_workers.specs.inner.Hits.{IsEntryUpToHit, IsFirstHitBelow}
 
 use crate::piece_search::PieceSearch;
 use shop_runs::Entry;
-use std::alloc::{AllocError, Global};
+use std::alloc::{AllocError as NoMemory, Global};
 
 // The entry of the next piece. Where an earlier one, `hit`, ends at the opening bound, the piece is passed; else it is
-// searched, and becomes `hit` if it ends there. Fails with `AllocError` if memory runs out.
+// searched, and becomes `hit` if it ends there. Fails with `NoMemory` if memory runs out.
 fn entry_up_to_hit<'r, P: PieceSearch<'r>>(
     alloc: Global,
     searcher: &mut P,
     number: usize,
     hit: &mut Option<usize>,
-) -> Result<Entry<'r>, AllocError>
+) -> Result<Entry<'r>, NoMemory>
     requires piece { number < length (P.searched searcher.old).pieces.items }
     requires hit { IsFirstHitBelow (told (P.searched searcher.old)) number hit.old }
     ensures entry { IfOk result (IsEntryUpToHit (told (P.searched searcher.old)) number) }
@@ -35,11 +35,11 @@ fn entry_up_to_hit<'r, P: PieceSearch<'r>>(
 }
 
 /// One entry for each piece, in number order: the pieces are searched up to and with the first that ends at the opening
-/// bound, and the others are passed. Fails with `AllocError` if memory runs out.
+/// bound, and the others are passed. Fails with `NoMemory` if memory runs out.
 pub fn search_up_to_hit<'r, P: PieceSearch<'r>>(
     alloc: Global,
     searcher: &mut P,
-) -> Result<Vec<Entry<'r>>, AllocError>
+) -> Result<Vec<Entry<'r>>, NoMemory>
     ensures entries { IfOk result (λ v. OneForEach (told (P.searched searcher.old)) v.items) }
     ensures stops { IfOk result (λ v. StopsAtHit (told (P.searched searcher.old)) v.items) }
 {

@@ -10,7 +10,7 @@ use crate::piece_search::PieceSearch;
 use crate::pool_gates::Gate;
 use crate::pools::Pool;
 use shop_runs::{Entry, Round};
-use std::alloc::{AllocError, Global};
+use std::alloc::{AllocError as NoMemory, Global};
 use std::sync::{Mutex, Wait};
 
 // Searches a piece, or passes it where `low` is lower: the least number among the worker's own pieces that end at the
@@ -22,7 +22,7 @@ fn search_or_pass<'r, P: PieceSearch<'r>, G: Gate>(
     number: usize,
     worker: usize,
     gate: &G,
-) -> Result<Entry<'r>, AllocError>
+) -> Result<Entry<'r>, NoMemory>
     requires piece { number < length (P.searched searcher.old).pieces.items }
     requires low { IsHitOrEnd (hits_of_round (P.searched searcher.old)) low.old }
     ensures round { P.searched searcher.new ≡ P.searched searcher.old }
@@ -61,7 +61,7 @@ fn serve_with<'r, P: PieceSearch<'r>, R: Wait, G: Gate>(
     pool: &Mutex<Pool>,
     gate: &G,
     worker: usize,
-) -> Result<Vec<Entry<'r>>, AllocError>
+) -> Result<Vec<Entry<'r>>, NoMemory>
     ensures of { IfOk result (λ v. OfRound (told (P.searched searcher.old)) v.items) }
     ensures passes { IfOk result
         (λ v. AllPairs (LetsPass (told (P.searched searcher.old))) v.items) }
@@ -80,7 +80,7 @@ fn serve_with<'r, P: PieceSearch<'r>, R: Wait, G: Gate>(
 }
 
 /// The entries of the pieces that a worker takes from a pool. Once one of its own ends at the opening bound, those of a
-/// higher number are passed. Fails with `AllocError` if memory runs out.
+/// higher number are passed. Fails with `NoMemory` if memory runs out.
 pub fn serve<'r, P: PieceSearch<'r>, R: Wait, G: Gate>(
     rt: &R,
     alloc: Global,
@@ -88,7 +88,7 @@ pub fn serve<'r, P: PieceSearch<'r>, R: Wait, G: Gate>(
     pool: &Mutex<Pool>,
     gate: &G,
     worker: usize,
-) -> Result<Vec<Entry<'r>>, AllocError>
+) -> Result<Vec<Entry<'r>>, NoMemory>
     ensures of { IfOk result (λ v. OfRound (told round.now) v.items) }
     ensures passes { IfOk result (λ v. AllPairs (LetsPass (told round.now)) v.items) }
 {

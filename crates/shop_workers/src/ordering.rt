@@ -9,10 +9,10 @@ ghost use Rattle.shop_workers.specs.inner.Gathered.{Fills, StayFilled};
 
 use crate::piece_search::PieceSearch;
 use shop_runs::{Entry, Round};
-use std::alloc::{AllocError, Global};
+use std::alloc::{AllocError as NoMemory, Global};
 
 // A place for each piece.
-fn places<'r>(alloc: Global, round: &'r Round<'r>) -> Result<Vec<Option<Entry<'r>>>, AllocError>
+fn places<'r>(alloc: Global, round: &'r Round<'r>) -> Result<Vec<Option<Entry<'r>>>, NoMemory>
     ensures len { IfOk result (λ v. vec_len v ≡ length round.now.pieces.items) }
     ensures placed { IfOk result (λ v. Placed (told round.now) v.items) }
 {
@@ -67,7 +67,7 @@ fn or_search<'r, P: PieceSearch<'r>>(
     searcher: &mut P,
     number: usize,
     brought: Option<Entry<'r>>,
-) -> Result<Entry<'r>, AllocError>
+) -> Result<Entry<'r>, NoMemory>
     requires number { number < length (P.searched searcher.old).pieces.items }
     requires brought { IfSome brought (λ e. IsEntryOf (told (P.searched searcher.old)) number e) }
     ensures round { P.searched searcher.new ≡ P.searched searcher.old }
@@ -88,7 +88,7 @@ fn complete_with<'r, P: PieceSearch<'r>>(
     alloc: Global,
     searcher: &mut P,
     slots: &mut Vec<Option<Entry<'r>>>,
-) -> Result<Vec<Entry<'r>>, AllocError>
+) -> Result<Vec<Entry<'r>>, NoMemory>
     requires len { vec_len slots.old ≡ length (P.searched searcher.old).pieces.items }
     requires slots { Placed (told (P.searched searcher.old)) slots.old.items }
     ensures each { IfOk result (λ v. OneForEach (told (P.searched searcher.old)) v.items) }
@@ -103,12 +103,12 @@ fn complete_with<'r, P: PieceSearch<'r>>(
 }
 
 /// Gives the entries of a round, one for each piece and in number order; a piece whose place is empty is searched.
-/// Fails with `AllocError` if memory runs out.
+/// Fails with `NoMemory` if memory runs out.
 pub fn complete<'r, P: PieceSearch<'r>>(
     alloc: Global,
     round: &'r Round<'r>,
     mut slots: Vec<Option<Entry<'r>>>,
-) -> Result<Vec<Entry<'r>>, AllocError>
+) -> Result<Vec<Entry<'r>>, NoMemory>
     requires len { vec_len slots ≡ length round.now.pieces.items }
     requires slots { Placed (told round.now) slots.items }
     ensures each { IfOk result (λ v. OneForEach (told round.now) v.items) }
@@ -119,12 +119,12 @@ pub fn complete<'r, P: PieceSearch<'r>>(
 }
 
 /// Puts what the workers of a round brought into the places of its pieces: doubles are dropped, and where nobody
-/// brought a piece its place is empty. Fails with `AllocError` if memory runs out.
+/// brought a piece its place is empty. Fails with `NoMemory` if memory runs out.
 pub fn in_places<'r>(
     alloc: Global,
     round: &'r Round<'r>,
     mut lists: Vec<Vec<Entry<'r>>>,
-) -> Result<Vec<Option<Entry<'r>>>, AllocError>
+) -> Result<Vec<Option<Entry<'r>>>, NoMemory>
     requires { ListsOfRound (told round.now) lists.items }
     ensures len { IfOk result (λ v. vec_len v ≡ length round.now.pieces.items) }
     ensures placed { IfOk result (λ v. Placed (told round.now) v.items) }
@@ -141,8 +141,8 @@ pub fn in_places<'r>(
 fn all_brought<'r>(
     alloc: Global,
     round: &'r Round<'r>,
-    mut brought: Vec<Result<Vec<Entry<'r>>, AllocError>>,
-) -> Result<Vec<Vec<Entry<'r>>>, AllocError>
+    mut brought: Vec<Result<Vec<Entry<'r>>, NoMemory>>,
+) -> Result<Vec<Vec<Entry<'r>>>, NoMemory>
     requires { AllOfRound (told round.now) brought.items }
     ensures granted { OnOk result (All IsOk brought.entry.items) }
     ensures entries { IfOk result (λ v. ListsOfRound (told round.now) v.items) }
@@ -155,13 +155,13 @@ fn all_brought<'r>(
 }
 
 /// Gives the entries of a round, one for each piece and in number order, of what its workers brought: doubles are
-/// dropped, and pieces that nobody brought are searched. Fails with `AllocError` if memory runs out, or a worker was
+/// dropped, and pieces that nobody brought are searched. Fails with `NoMemory` if memory runs out, or a worker was
 /// refused memory.
 pub fn in_order<'r, P: PieceSearch<'r>>(
     alloc: Global,
     round: &'r Round<'r>,
-    brought: Vec<Result<Vec<Entry<'r>>, AllocError>>,
-) -> Result<Vec<Entry<'r>>, AllocError>
+    brought: Vec<Result<Vec<Entry<'r>>, NoMemory>>,
+) -> Result<Vec<Entry<'r>>, NoMemory>
     requires { AllOfRound (told round.now) brought.items }
     ensures granted { OnOk result (All IsOk brought.entry.items) }
     ensures each { IfOk result (λ v. OneForEach (told round.now) v.items) }

@@ -5,7 +5,7 @@ ghost use Rattle.shop_runs.specs.declared.rounds.Round.{Round};
 
 use shop_nodes::Sheet;
 use shop_runs::Round;
-use std::alloc::{AllocError, Global};
+use std::alloc::{AllocError as NoMemory, Global};
 
 /// Searches pieces of one round, one after the other. All that crews do is proved for whoever does so.
 pub trait PieceSearch<'r>: Drop {
@@ -20,8 +20,8 @@ pub trait PieceSearch<'r>: Drop {
     fn round(&self) -> &'r Round<'r>
         ensures { result.now ≡ searched self.now };
 
-    /// Gives the sheet of a piece of the round. Fails with `AllocError` if memory runs out.
-    fn search(&mut self, alloc: Global, number: usize) -> Result<Sheet<'r>, AllocError>
+    /// Gives the sheet of a piece of the round. Fails with `NoMemory` if memory runs out.
+    fn search(&mut self, alloc: Global, number: usize) -> Result<Sheet<'r>, NoMemory>
         requires { number < length (searched self.old).pieces.items }
         ensures of { IfOk result (λ s. IsOf (told (searched self.old)) s × (s.number ≡ number)) }
         ensures hit { IfOk result (TellsHit (told (searched self.old)) number) }

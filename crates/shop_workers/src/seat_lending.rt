@@ -13,7 +13,7 @@ use crate::boards::{Board, Seat};
 use crate::ordering::{complete, in_places};
 use crate::piece_search::PieceSearch;
 use shop_runs::{Entry, Round};
-use std::alloc::{AllocError, Global};
+use std::alloc::{AllocError as NoMemory, Global};
 
 /// A worker's number, with the seat that it is lent.
 #[derive(Drop)]
@@ -26,16 +26,16 @@ pub struct Lent {
 #[derive(Drop)]
 pub struct Returned<'r> {
     pub seat: Seat,
-    pub entries: Result<Vec<Entry<'r>>, AllocError>,
+    pub entries: Result<Vec<Entry<'r>>, NoMemory>,
 }
 
-/// A seat for each worker, that of the calling thread last. Fails with `AllocError` if memory runs out.
+/// A seat for each worker, that of the calling thread last. Fails with `NoMemory` if memory runs out.
 pub fn lend(
     alloc: Global,
     board: &Board,
     seat: Seat,
     workers: usize,
-) -> Result<Vec<Lent>, AllocError>
+) -> Result<Vec<Lent>, NoMemory>
     requires { IsSeatOf board.now seat }
     ensures { IfOk result (λ v. All (λ l. IsSeatOf board.now l.seat) v.items) }
 {
@@ -59,7 +59,7 @@ fn join_all<'r>(
     board: &Board,
     round: &'r Round<'r>,
     mut returned: Vec<Returned<'r>>,
-) -> Result<(Option<Seat>, Vec<Vec<Entry<'r>>>), AllocError>
+) -> Result<(Option<Seat>, Vec<Vec<Entry<'r>>>), NoMemory>
     requires { AreReturned board.now (told round.now) returned.items }
     ensures granted { OnOk result (All (λ w. IsOk w.entries) returned.entry.items) }
     ensures seat { IfOk result (λ p. IfSome p.0 (IsSeatOf board.now)) }
@@ -103,14 +103,14 @@ fn claim_rest(board: &Board, seat: &mut Seat, places: &[Option<Entry>])
 }
 
 /// Gives one entry for each piece of a round, from what its workers brought back. A piece for which none brought one is
-/// claimed and searched by the calling thread. Fails with `AllocError` if memory runs out, or a worker was refused
+/// claimed and searched by the calling thread. Fails with `NoMemory` if memory runs out, or a worker was refused
 /// memory.
 pub fn complete_returned<'r, P: PieceSearch<'r>>(
     alloc: Global,
     board: &Board,
     round: &'r Round<'r>,
     returned: Vec<Returned<'r>>,
-) -> Result<Vec<Entry<'r>>, AllocError>
+) -> Result<Vec<Entry<'r>>, NoMemory>
     requires round { hits_of board.now ≡ hits_of_round round.now }
     requires returned { AreReturned board.now (told round.now) returned.items }
     ensures granted { OnOk result (All (λ w. IsOk w.entries) returned.entry.items) }

@@ -11,7 +11,7 @@ use crate::boards::{Board, Seat};
 use crate::piece_search::PieceSearch;
 use crate::seat_gates::SeatGate;
 use shop_runs::{Entry, Round};
-use std::alloc::{AllocError, Global};
+use std::alloc::{AllocError as NoMemory, Global};
 
 // Searches a piece that the seat won, and marks it where it ends at the opening bound.
 fn search_won<'r, P: PieceSearch<'r>, G: SeatGate>(
@@ -22,7 +22,7 @@ fn search_won<'r, P: PieceSearch<'r>, G: SeatGate>(
     number: usize,
     worker: usize,
     gate: &G,
-) -> Result<Entry<'r>, AllocError>
+) -> Result<Entry<'r>, NoMemory>
     requires seat { IsSeatOf board.now seat.old }
     requires round { hits_of board.now ≡ hits_of_round (P.searched searcher.old) }
     requires piece { number < length (P.searched searcher.old).pieces.items }
@@ -52,7 +52,7 @@ fn claim_and_search<'r, P: PieceSearch<'r>, G: SeatGate>(
     number: usize,
     worker: usize,
     gate: &G,
-) -> Result<Option<Entry<'r>>, AllocError>
+) -> Result<Option<Entry<'r>>, NoMemory>
     requires seat { IsSeatOf board.now seat.old }
     requires round { hits_of board.now ≡ hits_of_round (P.searched searcher.old) }
     requires piece { number < length (P.searched searcher.old).pieces.items }
@@ -82,7 +82,7 @@ fn work_through<'r, P: PieceSearch<'r>, G: SeatGate>(
     searcher: &mut P,
     worker: usize,
     gate: &G,
-) -> Result<Vec<Entry<'r>>, AllocError>
+) -> Result<Vec<Entry<'r>>, NoMemory>
     requires seat { IsSeatOf board.now seat.old }
     requires round { hits_of board.now ≡ hits_of_round (P.searched searcher.old) }
     ensures seat { IsSeatOf board.now seat.new }
@@ -105,7 +105,7 @@ fn work_through<'r, P: PieceSearch<'r>, G: SeatGate>(
 /// Claims each piece of the board in order, and searches or passes those that the seat wins. A piece is passed where
 /// the seat has read a lower number that was marked; one that was searched and ends at the opening bound is marked.
 /// The seat comes back with all that it knew and had won before, and with the entries of the pieces that it won in this
-/// call, in number order; or with `AllocError` if memory runs out. It waits for nobody but the gate.
+/// call, in number order; or with `NoMemory` if memory runs out. It waits for nobody but the gate.
 pub fn work_by<'r, P: PieceSearch<'r>, G: SeatGate>(
     alloc: Global,
     board: &Board,
@@ -113,7 +113,7 @@ pub fn work_by<'r, P: PieceSearch<'r>, G: SeatGate>(
     round: &'r Round<'r>,
     worker: usize,
     gate: &G,
-) -> (Seat, Result<Vec<Entry<'r>>, AllocError>)
+) -> (Seat, Result<Vec<Entry<'r>>, NoMemory>)
     requires seat { IsSeatOf board.now seat }
     requires round { hits_of board.now ≡ hits_of_round round.now }
     ensures seat { IsSeatOf board.now result.0 }
