@@ -1,4 +1,17 @@
 // Engines: from the bytes of a text, or of a source, to a list, a verdict or a report; and the laws of what they say.
+//
+// A program in this language embeds this crate. `solve_bytes` and `check_bytes` touch no device, and the whole theorem
+// is their contract:
+//
+//     let plan = Plan::new(20, 1000, 1).ok_or("a plan within the limits")?;
+//     let args = SolveArgs { format: Format::Orlib, name: None, plan, gantt: false };
+//     let report = solve_bytes(&(), alloc, text, &args, &mut Alone)?;
+//     let asked = CheckArgs { format: Format::Orlib, name: None };
+//     let (is_feasible, line) = check_bytes(alloc, text, Some(report.as_slice()), &asked)?;
+//
+// `Alone`, the crew of one worker, is of `shop_round`. A report of at most 16,777,216 bytes is proved feasible by
+// `check_bytes`. `list_text`, `check_text` and `solve_text` go from a `Source` to a `Sink`: `Reading` and `Writing` make
+// these of any reader and writer, and `Memory` is a sink that takes no memory while it is written.
 #![tactic(auto)]
 
 mod answer_laws;

@@ -71,7 +71,7 @@ The first round takes at most as many nodes as the budget, each other one 256 ti
 Examples:
   jobshop solve ft06.txt
   jobshop solve --name la01 --gantt jobshop1.txt
-  jobshop solve --rounds 100 --budget 1000000 --order bound --workers 4 ft10.txt
+  jobshop solve --order bound --rounds 100 --budget 1000 --workers 4 ft10.txt
 
 Exit status:
   0  reported, also where the status is open

@@ -30,12 +30,7 @@ pub struct Returned<'r> {
 }
 
 /// A seat for each worker, that of the calling thread last. Fails with `NoMemory` if memory runs out.
-pub fn lend(
-    alloc: Global,
-    board: &Board,
-    seat: Seat,
-    workers: usize,
-) -> Result<Vec<Lent>, NoMemory>
+pub fn lend(alloc: Global, board: &Board, seat: Seat, workers: usize) -> Result<Vec<Lent>, NoMemory>
     requires { IsSeatOf board.now seat }
     ensures { IfOk result (λ v. All (λ l. IsSeatOf board.now l.seat) v.items) }
 {
