@@ -3,7 +3,7 @@ ghost use Rattle.std.specs.Prelude.{◌≡◌, ◌++◌, ◌∷◌, [], IsTrue};
 ghost use Rattle.shop_model.specs.Word.{IsWord};
 
 use crate::instances::{CROSSING, GAP, instance_of};
-use shop_desk::Desk;
+use shop_bound::Desk;
 use shop_model::{Instance, Word, fits};
 use std::alloc::Global;
 use std::process::Abort;

@@ -11,6 +11,7 @@ pub mod QueueTurns
 pub mod MachineRows
 pub mod BoundLaw
 pub mod BoundsRise
+pub mod DeskTurns
 pub mod Entries
 pub mod Filled
 pub mod HeadTurns

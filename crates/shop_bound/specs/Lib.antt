@@ -1,7 +1,8 @@
 pub mod OneMachine
 pub mod Schedules
 pub mod Bound
-pub mod Heads
 pub mod Conflicts
+pub mod Desks
+pub mod Heads
 pub mod Laws
 pub mod inner

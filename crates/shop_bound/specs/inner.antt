@@ -3,6 +3,8 @@ pub mod NonincreasingTails
 pub mod Queues
 pub mod Serving
 pub mod Thresholds
+pub mod BoundRooms
 pub mod HeadRows
 pub mod PlacedWords
+pub mod Trails
 pub mod Unplaced

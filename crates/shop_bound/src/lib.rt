@@ -1,7 +1,8 @@
-// Heads and tails of the operations that a word leaves, the one-machine bound, the lower bound of a word, and their
-// laws.
+// Heads and tails of the operations that a word leaves, the one-machine bound, the lower bound of a word with its laws,
+// and a desk on which a word is dispatched and undone.
 #![tactic(auto)]
 
+mod desks;
 mod head_rows;
 mod laws;
 mod lower;
@@ -13,6 +14,7 @@ mod triples;
 mod unplaced;
 mod works;
 
+pub use desks::Desk;
 pub use head_rows::Heads;
 pub use laws::{
     bounds_are_lower, bounds_never_fall, full_words_end_at_their_bound, sums_stay_small,

@@ -3,28 +3,51 @@ ghost use Rattle.std.specs.Prelude.{◌≡◌, ℕ, ◌<◌, ◌^◌, IfOk};
 ghost use Rattle.shop_model.specs.Word.{IsWord};
 ghost use Rattle.shop_bound.specs.Bound.{lb};
 ghost use Rattle.shop_bound.specs.Laws.{IsLower, EndsThereIfFull};
-ghost use Rattle.shop_bound.specs.OneMachine.{IsSmall};
-ghost use Rattle.shop_bound.specs.inner.Unplaced.{greatest_among, triples_among};
+ghost use Rattle.shop_bound.specs.inner.BoundRooms.{IsRoomFor};
+ghost use Rattle.shop_bound.specs.inner.PlacedWords.{IsOfWord};
+ghost use Rattle.shop_bound.specs.inner.Unplaced.{IsGreatestBound};
 
 use crate::schedules::Jackson;
-use crate::unplaced::{Unplaced, gather, list_unplaced};
+use crate::triples::Triple;
+use crate::unplaced::list_unplaced;
 use shop_model::{Instance, Placement, Word};
 use std::alloc::{AllocError as NoMemory, Global};
 
-/// The greatest, over the machines, of when it is free and of the one-machine bound of what is left for it.
-fn greatest_bound(alloc: Global, free: &[u64], unplaced: &[Unplaced]) -> Result<u64, NoMemory>
-    requires { (m : ℕ) → IsSmall (triples_among unplaced.now m) }
-    ensures { IfOk result (λ b. b ≡ greatest_among free.now unplaced.now) }
-{
-    let mut triples = Vec::with_capacity(alloc, unplaced.len())?;
-    let mut jackson = Jackson::with_room(alloc, unplaced.len())?;
-    let mut bound = 0;
-    for machine in 0..free.len() {
-        gather(&mut triples, unplaced, machine);
-        let left = jackson.bound(triples.as_slice());
-        bound = bound.max(free[machine].max(left));
+/// Room to bound what is left of an instance: for the operations of a machine, and for their schedule.
+#[derive(Drop)]
+pub(crate) struct BoundRoom {
+    triples: Vec<Triple>,
+    jackson: Jackson,
+}
+
+impl BoundRoom {
+    /// For an instance. Fails with `NoMemory` if memory runs out.
+    pub(crate) fn of(alloc: Global, instance: &Instance) -> Result<BoundRoom, NoMemory>
+        ensures { IfOk result (IsRoomFor instance.now) }
+    {
+        let operations = instance.operations();
+        let triples = Vec::with_capacity(alloc, operations)?;
+        let jackson = Jackson::with_room(alloc, operations)?;
+        Ok(BoundRoom { triples, jackson })
     }
-    Ok(bound)
+
+    /// The greatest, over the machines, of when it is free and of the one-machine bound of what isn't placed on it.
+    /// Takes no memory.
+    pub(crate) fn bound(&mut self, instance: &Instance, placement: &Placement) -> u64
+        requires room { IsRoomFor instance.now self.old }
+        requires word { IsOfWord instance.now placement.now }
+        ensures bound { IsGreatestBound instance.now placement.now result }
+        ensures room { IsRoomFor instance.now self.new }
+    {
+        instance.keeps_limits();
+        let mut bound = 0;
+        for machine in 0..instance.machines() {
+            list_unplaced(&mut self.triples, instance, placement, machine);
+            let left = self.jackson.bound(self.triples.as_slice());
+            bound = bound.max(placement.free(machine).max(left));
+        }
+        bound
+    }
 }
 
 /// The lower bound of a word that fits the instance: the greatest of the placed ends and of the one-machine bounds of
@@ -39,6 +62,6 @@ pub fn lower_bound(alloc: Global, instance: &Instance, word: &Word) -> Result<u6
 {
     instance.keeps_limits();
     let placement = Placement::of(alloc, instance, word)?;
-    let unplaced = list_unplaced(alloc, instance, &placement)?;
-    greatest_bound(alloc, placement.machines_free(), unplaced.as_slice())
+    let mut room = BoundRoom::of(alloc, instance)?;
+    Ok(room.bound(instance, &placement))
 }

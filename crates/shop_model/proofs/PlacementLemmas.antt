@@ -1,5 +1,5 @@
 -- Placements kept as lists.
-use Rattle.std.proofs.Common.{◌≡◌, ℕ, ◌<◌, ◌≤◌, ◌+◌, ◌^◌, max, inl, inr, List, length, map, take, replicate, get_or}
+use Rattle.std.proofs.Common.{◌≡◌, ℕ, ◌<◌, ◌≤◌, ◌+◌, ◌^◌, max, inl, inr, List, [], ◌∷◌, ◌++◌, length, map, take, replicate, get_or}
 use Rattle.std.proofs.Common.{set, sym, ◌∙◌, ap, subst, arith, cond, eqb}
 use Rattle.std.proofs.lemmas.Bool.{cases_eq}
 use Rattle.std.proofs.lemmas.Grind.{get_or_default_zero, get_or-set_at}
@@ -15,7 +15,7 @@ use Rattle.shop_model.proofs.Placings.{place_next-is}
 use Rattle.shop_model.proofs.Ends.{IsOperation-job}
 use Rattle.shop_model.proofs.Unders.{after_word, next_operation, placing-snoc}
 use Rattle.shop_model.proofs.WordLemmas.{IsWord-init}
-use Rattle.shop_model.specs.Placements.{PlacementState, HasPlaces, IsPlacement, HasNext}
+use Rattle.shop_model.specs.Placements.{PlacementState, HasPlaces, IsPlacement, HasLast, HasNext}
 use Rattle.shop_model.proofs.WordLengths.{word_length, ready_word}
 
 -- a beginning of a word is a word
@@ -206,3 +206,75 @@ start_by_reads shop j s job k o r f reads begin e p is =
     in let fm : p.free o.machine ≡ p.free (machine_of shop j (p.steps j)) = ap p.free (m ∙ here)
     in let a = is.ready j job in let b = is.free o.machine reads.machine in let c = reads.ready in let d = reads.free
     in let g = n.begins_here in omega arith
+
+-- what is known where the last step of j can be taken back
+pub record HasStepPlaced (shop : Shop) (j : ℕ) (s : PlacementState) : Type 0 where
+  pub job : j < length shop.jobs
+  pub places : HasPlaces shop s
+  pub some : 0 < get_or s.steps j 0
+  pub operation : get_or s.steps j 0 ≤ length (route_of shop j)
+
+pub step_placed : (shop : Shop) (j : ℕ) (s : PlacementState) → HasLast shop j s → HasStepPlaced shop j s
+step_placed shop j s last =
+    let w = last.word
+    in let operation = next_operation shop w j last.fits
+    in let job = IsOperation-job shop j (count_of j w) operation
+    in let before = (after_word shop w (IsWord-init shop w j last.fits)).steps j
+    in let steps = last.placed.steps j job
+    in let here = (place_next-is shop (placing shop w) j).steps_here
+    in let same : (placing shop (w ++ j ∷ [])).steps j ≡ (place_next shop (placing shop w) j).steps j =
+    ap (λ (p : Placing). p.steps j) (placing-snoc shop w j)
+    in record {
+      job = job;
+      places = last.placed.places;
+      some = omega arith;
+      operation = omega arith;
+    }
+
+-- the step is one of the route, and its operation is on a machine
+pub last_read : (shop : Shop) (j : ℕ) (s : PlacementState) → HasStepPlaced shop j s → (route : List Op)
+    → route ≡ route_of shop j → (n : ℕ) → n ≡ get_or s.steps j n
+    → (n ≡ get_or s.steps j 0) × (0 < n) × (n ≤ length route)
+last_read shop j s has route e n read =
+    let l = has.places.steps in let b = has.job
+    in let step = read_is s.steps j n (omega arith) read
+    in let long : length route ≡ length (route_of shop j) = ap (λ (xs : List Op). length xs) e
+    in let some = has.some in let most = has.operation in (step, omega arith, omega arith)
+
+-- the lists after it was taken back
+pub taken_back : (shop : Shop) (j : ℕ) (s : PlacementState) → HasStepPlaced shop j s → (k m ready free : ℕ)
+    → k + 1 ≡ get_or s.steps j 0 → m ≡ machine_of shop j k → m < shop.machines → (p : Placing)
+    → IsPlacement shop (place_next shop p j) s → ready ≡ p.ready j → free ≡ p.free (machine_of shop j (p.steps j))
+    → IsPlacement shop p (record {
+      steps = set s.steps j k;
+      ready = set s.ready j ready;
+      free = set s.free m free;
+    })
+taken_back shop j s has k m ready free step on_machine known p is is_ready is_free =
+    let n = place_next-is shop p j
+    in let a = is.steps j has.job in let b = n.steps_here
+    in let last : k ≡ p.steps j = omega arith
+    in let here : m ≡ machine_of shop j (p.steps j) = on_machine ∙ ap (machine_of shop j) last
+    in record {
+      places = record {
+        steps = length-set s.steps j k ∙ is.places.steps;
+        ready = length-set s.ready j ready ∙ is.places.ready;
+        free = length-set s.free m free ∙ is.places.free;
+      };
+      steps = λ i h. elim (cases_eq i j) [
+        | inl e ↦ (let x = get_or-set_at s.steps j i k 0 e (let l = is.places.steps in omega arith)
+            in let y : p.steps i ≡ p.steps j = ap p.steps e in omega arith)
+        | inr ne ↦ get_or-set_other s.steps j i k 0 ne ∙ (is.steps i h ∙ n.steps_other i ne)
+      ];
+      ready = λ i h. elim (cases_eq i j) [
+        | inl e ↦ (let x = get_or-set_at s.ready j i ready 0 e (let l = is.places.ready in omega arith)
+            in let y : p.ready i ≡ p.ready j = ap p.ready e in omega arith)
+        | inr ne ↦ get_or-set_other s.ready j i ready 0 ne ∙ (is.ready i h ∙ n.ready_other i ne)
+      ];
+      free = λ i h. elim (cases_eq i m) [
+        | inl e ↦ (let x = get_or-set_at s.free m i free 0 e (let l = is.places.free in omega arith)
+            in let y : p.free i ≡ p.free (machine_of shop j (p.steps j)) = ap p.free (e ∙ here) in omega arith)
+        | inr ne ↦ get_or-set_other s.free m i free 0 ne
+            ∙ (is.free i h ∙ n.free_other i (λ e. ne (e ∙ sym here)))
+      ];
+    }

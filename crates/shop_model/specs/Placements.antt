@@ -1,6 +1,6 @@
 -- What a program keeps of a placing: lists in place of functions.
 use Rattle.std.specs.Prelude.{◌≡◌, ℕ, ◌<◌, List, [], ◌∷◌, ◌++◌, length, slice_index}
-use Rattle.shop_model.specs.Shop.{Shop}
+use Rattle.shop_model.specs.Shop.{Shop, machine_of}
 use Rattle.shop_model.specs.Word.{Placing, IsWord, place_next, placing}
 
 -- for each job how many of its steps are placed and when it is ready for the next one, and when
@@ -38,3 +38,16 @@ PlacesNext shop j s t =
 abbrev pub TellsNextStart : Shop → ℕ → PlacementState → ℕ → Type 0
 TellsNextStart shop j s start =
     (p : Placing) → IsPlacement shop p s → start ≡ (place_next shop p j).begins j (p.steps j)
+
+-- it is the placement of a word that ends in j
+pub record HasLast (shop : Shop) (j : ℕ) (s : PlacementState) : Type 0 where
+  pub word : List ℕ
+  pub fits : IsWord shop (word ++ j ∷ [])
+  pub placed : IsPlacement shop (placing shop (word ++ j ∷ [])) s
+
+-- whatever was placed before the last step of j, at which j was ready and its machine free at these
+-- times, t is the placement of that
+abbrev pub TakesBack : Shop → ℕ → ℕ → ℕ → PlacementState → PlacementState → Type 0
+TakesBack shop j ready free s t =
+    (p : Placing) → IsPlacement shop (place_next shop p j) s → ready ≡ p.ready j
+    → free ≡ p.free (machine_of shop j (p.steps j)) → IsPlacement shop p t

@@ -1,7 +1,7 @@
 // Placements: how far each job is placed, and when jobs and machines are free for more.
 ghost use Rattle.std.specs.Prelude.{◌≡◌, ◌<◌, IfOk, length, slice_index};
-ghost use Rattle.shop_model.specs.Placements.{HasNext, HasPlaces, IsPlacement, PlacesNext};
-ghost use Rattle.shop_model.specs.Placements.{TellsNextStart};
+ghost use Rattle.shop_model.specs.Placements.{HasLast, HasNext, HasPlaces, IsPlacement, PlacesNext};
+ghost use Rattle.shop_model.specs.Placements.{TakesBack, TellsNextStart};
 ghost use Rattle.shop_model.specs.Word.{IsWord, none_placed, placing};
 ghost use Rattle.shop_model.specs.inner.ClearPlacements.{IsClearUpTo};
 
@@ -121,6 +121,19 @@ impl Placement {
         self.ready[j] = finish;
         self.free[op.machine] = finish;
         start
+    }
+
+    /// Takes back the last step of job j that is placed. Before that step was placed the job was ready, and the step's
+    /// machine free, at these times.
+    pub fn take_back(&mut self, instance: &Instance, j: usize, ready: u64, free: u64)
+        requires { HasLast instance.now j self.old }
+        ensures { TakesBack instance.now j ready free self.old self.new }
+    {
+        let k = self.steps[j] - 1;
+        let op = instance.route(j)[k];
+        self.steps[j] = k;
+        self.ready[j] = ready;
+        self.free[op.machine] = free;
     }
 
     /// How many steps of the job are placed.

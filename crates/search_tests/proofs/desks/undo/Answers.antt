@@ -1,5 +1,5 @@
 use Rattle.std.proofs.Common.{ℕ, List, length, ap, arith}
-use Rattle.shop_desk.proofs.DeskSteps.{undone_shop}
+use Rattle.shop_bound.proofs.DeskTurns.{undone_shop}
 use Rattle.search_tests.proofs.desks.undo.Goals as goal
 
 pub returns-then-jobs-gt0 : goal.returns-then-jobs-gt0

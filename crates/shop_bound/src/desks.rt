@@ -1,0 +1,112 @@
+// A desk: what is dispatched, operation by operation, with its bound.
+ghost use Rattle.std.specs.Prelude.{◌≡◌, ◌++◌, ◌∷◌, [], ◌<◌, IfOk, length};
+ghost use Rattle.shop_model.specs.Word.{IsWord};
+ghost use Rattle.shop_bound.specs.Bound.{lb};
+ghost use Rattle.shop_bound.specs.Desks.{IsUndone, IsWordOfShop, goes_on, nothing_dispatched};
+
+use crate::lower::BoundRoom;
+use shop_model::{Instance, Placement};
+use std::alloc::{AllocError as NoMemory, Global};
+use std::marker::Model;
+
+/// What a dispatch replaced: when its job and its machine were ready before it.
+#[derive(Clone, Copy)]
+pub(crate) struct Replaced {
+    ready: u64,
+    free: u64,
+}
+
+/// An instance and a word of it that is dispatched entry by entry, with its bound, in units of time. It takes all its
+/// memory in `new`; the calls after it take none, and none of them fails. For library callers: the program doesn't
+/// use it.
+#[derive(Drop)]
+pub struct Desk<'a> {
+    instance: &'a Instance,
+    placement: Placement,
+    /// the trail: the jobs that were dispatched, and what each dispatch replaced
+    jobs: Vec<u16>,
+    replaced: Vec<Replaced>,
+    room: BoundRoom,
+}
+
+impl<'a> Model for Desk<'a> {
+    ghost use Rattle.shop_bound.specs.Desks.{DeskState};
+
+    ghost Value = { DeskState };
+
+    ghost use Rattle.shop_bound.specs.inner.Trails.{IsDesk};
+
+    ghost view = { λ d. record { shop = d.instance.now; word = d.jobs.items } };
+
+    ghost invariant = { IsDesk };
+}
+
+impl<'a> Desk<'a> {
+    /// With nothing dispatched. Fails with `NoMemory` if memory runs out.
+    pub fn new(alloc: Global, instance: &'a Instance) -> Result<Desk<'a>, NoMemory>
+        ensures { IfOk result (λ d. d ≡ nothing_dispatched instance.now) }
+    {
+        instance.keeps_limits();
+        let operations = instance.operations();
+        let placement = Placement::none(alloc, instance)?;
+        let jobs = Vec::with_capacity(alloc, operations)?;
+        let replaced = Vec::with_capacity(alloc, operations)?;
+        let room = BoundRoom::of(alloc, instance)?;
+        Ok(Desk {
+            instance,
+            placement,
+            jobs,
+            replaced,
+            room,
+        })
+    }
+
+    /// Dispatches the next operation of a job, which has one left. The job is one of the instance, counted from 0.
+    /// Takes no memory.
+    pub fn dispatch(&mut self, job: usize)
+        requires { IsWord self.old.shop (self.old.word ++ job ∷ []) }
+        ensures { self.new ≡ goes_on self.old job }
+    {
+        let step = self.placement.steps(job);
+        let machine = self.instance.route(job)[step].machine;
+        let ready = self.placement.ready(job);
+        let free = self.placement.free(machine);
+        self.jobs.push(job as u16).unwrap();
+        self.replaced.push(Replaced { ready, free }).unwrap();
+        let _start = self.placement.place_next(self.instance, job);
+    }
+
+    /// Takes back what was dispatched last; something is dispatched. Takes no memory.
+    pub fn undo(&mut self)
+        requires { 0 < length self.old.word }
+        ensures { IsUndone self.old self.new }
+    {
+        let job = self.jobs.pop().unwrap() as usize;
+        let replaced = self.replaced.pop().unwrap();
+        self.placement
+            .take_back(self.instance, job, replaced.ready, replaced.free);
+    }
+
+    /// The lower bound of what is dispatched, in units of time: below 2^50. Takes no memory.
+    pub fn bound(&mut self) -> u64
+        ensures bound { result ≡ lb self.old.shop self.old.word }
+        ensures same { self.new ≡ self.old }
+    {
+        self.room.bound(self.instance, &self.placement)
+    }
+
+    /// The jobs of what is dispatched, in order. Takes no memory.
+    pub fn jobs(&self) -> &[u16]
+        ensures { result.now ≡ self.now.word }
+    {
+        self.jobs.as_slice()
+    }
+
+    /// What is dispatched is a word of the instance, which is within its limits. (A fact for proofs; the call does
+    /// nothing.)
+    pub fn keeps_word(&self)
+        ensures { IsWordOfShop self.now }
+    {
+        let _jobs = &self.jobs;
+    }
+}

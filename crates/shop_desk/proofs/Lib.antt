@@ -1,2 +1,0 @@
-pub mod RingSteps
-pub mod DeskSteps

@@ -1,3 +1,0 @@
--- What only the inside of the crate is told by.
-pub mod Rings
-pub mod LaneRings
