@@ -53,12 +53,11 @@ fn take_step(
 type Step = (Option<usize>, u64);
 
 /// Asserts the bound of a new desk, and that behind each step.
-fn assert_steps(rt: &impl Abort, alloc: Global, text: &str, first: u64, steps: &[Step]) {
-    let instance = instance_of(rt, alloc, text);
-    let mut desk = Desk::new(alloc, &instance).expect(rt, "memory");
+fn assert_steps(rt: &impl Abort, alloc: Global, instance: &Instance, first: u64, steps: &[Step]) {
+    let mut desk = Desk::new(alloc, instance).expect(rt, "memory");
     assert_eq!(rt; desk.bound(), first);
     for (job, bound) in steps {
-        take_step(rt, alloc, &instance, &mut desk, *job);
+        take_step(rt, alloc, instance, &mut desk, *job);
         assert_eq!(rt; desk.bound(), *bound);
     }
 }
@@ -76,6 +75,8 @@ static OF_GAP: [Step; 6] = [
 
 #[test]
 fn bounds_of_desks(rt: HostRuntime) {
-    assert_steps(&rt, rt.alloc(), CROSSING, 7, &OF_CROSSING);
-    assert_steps(&rt, rt.alloc(), GAP, 9, &OF_GAP);
+    let instance = instance_of(&rt, rt.alloc(), CROSSING);
+    assert_steps(&rt, rt.alloc(), &instance, 7, &OF_CROSSING);
+    let instance = instance_of(&rt, rt.alloc(), GAP);
+    assert_steps(&rt, rt.alloc(), &instance, 9, &OF_GAP);
 }

@@ -1,5 +1,7 @@
 // The crew of a program that is told how many workers search.
+ghost use Rattle.std.specs.Prelude.{◌≡◌};
 ghost use Rattle.std.specs.Thread.{IsSync};
+ghost use Rattle.shop_board.specs.Crews.{workers_of};
 
 use crate::board_crews::BoardCrew;
 use shop_round::Alone;
@@ -38,7 +40,9 @@ pub struct ByWorkers;
 impl<R: Threads + Sync> MakesCrew<R> for ByWorkers {
     type Crew = WorkerCrew;
 
-    fn of(&self, workers: Workers) -> WorkerCrew {
+    fn of(&self, workers: Workers) -> WorkerCrew
+        ensures { workers_of result ≡ workers.count }
+    {
         if workers.count == 1 {
             WorkerCrew::One(Alone)
         } else {

@@ -1,25 +1,33 @@
 -- Worked rows of the laws, computed from the definitions.
 use Rattle.std.proofs.Common.{◌≡◌, ℕ, zero, suc, ◌+◌, ◌≤◌, List, [], ◌∷◌, refl, arith, lit<}
-use Rattle.shop_text.specs.Texts.{NamedShop}
-use Rattle.shop_text.specs.Writing.{Reported}
-use Rattle.shop_model.specs.Shop.{Shop, release_of, IsLeast}
+use Rattle.std.specs.Prelude.{true, false, None, codes}
+use Rattle.shop_model.specs.Checking.{HasShape, starts_of}
+use Rattle.shop_model.specs.declared.checking.Verdict.TheVariants.{Feasible}
+use Rattle.shop_model.specs.Shop.{Shop, release_of, IsFeasible, IsLeast}
+use Rattle.shop_model.proofs.Deciding.{shape_by_test, feasible_by_test}
 use Rattle.shop_model.proofs.Rows.{op, job, shop_a}
+use Rattle.shop_text.specs.Schedules.{IsTable}
+use Rattle.shop_text.specs.Writing.{Reported, verdict_text}
+use Rattle.shop_text.specs.declared.formats.Format.TheVariants.{Orlib}
+use Rattle.shop_text.proofs.TableRows.{table_within}
+use Rattle.shop_runs.proofs.Trusting.{trustworthy}
 use Rattle.shop_runs.proofs.Rows.{plan}
 use Rattle.shop_runs.proofs.CoverRows.{least_7}
-use Rattle.shop_engine.specs.Answers.{answer_of}
+use Rattle.shop_engine.specs.Answers.{answer_of, text_with_gantt}
 use Rattle.shop_engine.specs.Easier.{AskTheSame}
 use Rattle.shop_engine.specs.Reversing.{reversed}
 use Rattle.shop_engine.specs.Scaling.{scaled}
+use Rattle.shop_engine.specs.Checking.{IsCheckOf}
+use Rattle.shop_engine.specs.Headline.{IsRightOf}
+use Rattle.shop_engine.specs.WholeRun.{crossing_text}
 use Rattle.shop_engine.proofs.Comparing.{easier_instances_end_no_later}
 use Rattle.shop_engine.proofs.Relaxing.{relaxations_ask_no_more}
 use Rattle.shop_engine.proofs.Renaming.{renaming_asks_the_same}
 use Rattle.shop_engine.proofs.Reversing.{reversing_asks_the_same}
 use Rattle.shop_engine.proofs.Scaling.{scaling_keeps_the_least}
+use Rattle.shop_engine.proofs.MetBounds.{met_bounds_are_least}
 use Rattle.shop_engine.proofs.Optima.{optimal_where_bound_is_makespan}
-
--- A: two jobs that cross
-abbrev crossing : NamedShop
-crossing = record { name = 49 ∷ []; shop = shop_a }
+use Rattle.shop_engine.proofs.WholeRun.{crossing, asked}
 
 -- makespan, bound, open nodes
 abbrev summary : Reported → List ℕ
@@ -35,6 +43,68 @@ solved_by_law = (optimal_where_bound_is_makespan crossing (plan 1 100)).1 refl
 
 pub unsolved : summary (answer_of crossing (plan 0 100)) ≡ 11 ∷ 7 ∷ 1 ∷ []
 unsolved = refl
+
+-- ---- a report that is open, with bound 7, and a schedule that `check` finds feasible at 7
+
+abbrev open_report : Reported
+open_report = answer_of crossing (plan 0 100)
+
+open_table : IsTable shop_a (codes "job 0: 0 3\njob 1: 5 7\n") open_report.table
+open_table = record { short = omega arith; lines = refl; jobs = refl }
+
+open_is_right : IsRightOf Orlib None false crossing_text (text_with_gantt open_report false)
+open_is_right = record {
+  asked = crossing;
+  is_asked = asked;
+  says = record {
+    report = open_report;
+    named = refl;
+    on = refl;
+    text = refl;
+    printable = record {
+      starts = table_within shop_a (codes "job 0: 0 3\njob 1: 5 7\n") open_report.table open_table;
+      makespan = lit< tt;
+      bound = lit< tt;
+      open_nodes = lit< tt;
+      rounds = lit< tt;
+      nodes = lit< tt;
+    };
+    shape = shape_by_test shop_a open_report.table refl;
+    feasible = feasible_by_test shop_a (starts_of open_report.table) refl refl;
+    ends = refl;
+    bound = (trustworthy shop_a (plan 0 100)).bound;
+    optimal = λ none. ((trustworthy shop_a (plan 0 100)).least none).least;
+  };
+}
+
+abbrev best_rows : List (List ℕ)
+best_rows = (0 ∷ 3 ∷ []) ∷ (0 ∷ 3 ∷ []) ∷ []
+
+best_shape : HasShape shop_a best_rows
+best_shape = shape_by_test shop_a best_rows refl
+
+best_feasible : IsFeasible shop_a (starts_of best_rows)
+best_feasible = feasible_by_test shop_a (starts_of best_rows) refl refl
+
+-- the schedule stands in the instance text itself
+best_is_checked : IsCheckOf Orlib None crossing_text crossing_text true (verdict_text (Feasible 7))
+best_is_checked = record {
+  asked = crossing;
+  is_asked = asked;
+  says = record {
+    rows = best_rows;
+    is_table = record { short = omega arith; lines = refl; jobs = refl };
+    verdict = Feasible 7;
+    is_verdict = (best_shape, best_feasible, refl);
+    is_feasible = (λ found. (best_shape, best_feasible), λ found. refl);
+    says = refl;
+  };
+}
+
+pub met_is_least : IsLeast shop_a 7
+unfolding open_is_right
+met_is_least = met_bounds_are_least.checked Orlib None crossing_text crossing_text (verdict_text (Feasible 7)) true 7
+    best_is_checked refl false (text_with_gantt open_report false) open_is_right refl
 
 -- ---- instances of which the least makespan is that of A, 7
 

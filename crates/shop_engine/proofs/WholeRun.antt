@@ -18,7 +18,7 @@ use Rattle.shop_engine.specs.Headline.{IsDetermined}
 use Rattle.shop_engine.specs.WholeRun.{crossing_text, crossing_report, usual_plan, OneWholeRun}
 use Rattle.shop_engine.proofs.SolvedSchedules.{one_asked}
 
-abbrev crossing : NamedShop
+abbrev pub crossing : NamedShop
 crossing = record {
   name = codes "1";
   shop = record {
@@ -40,7 +40,7 @@ is_read : IsText (grammar_of Orlib) crossing_text (crossing ∷ [])
 unfolding digits
 is_read = is_read_as Orlib crossing_text (crossing ∷ []) refl refl refl
 
-asked : IsAsked Orlib None crossing_text crossing
+pub asked : IsAsked Orlib None crossing_text crossing
 asked = record { shops = crossing ∷ []; is_text = is_read; picked = refl }
 
 printed : text_with_gantt (answer_of crossing usual_plan) true ≡ crossing_report

@@ -1,0 +1,9 @@
+-- Crews by how many workers they have.
+--     workers_of crew      so many workers search side by side
+use Rattle.std.specs.Prelude.{ℕ}
+use Rattle.shop_board.specs.declared.worker_crews.WorkerCrew.{WorkerCrew}
+use Rattle.shop_board.specs.declared.worker_crews.WorkerCrew.TheVariants.{One, Several}
+
+abbrev pub workers_of : WorkerCrew → ℕ
+workers_of (One alone) = 1
+workers_of (Several crew) = crew.workers.count
