@@ -1,10 +1,12 @@
 -- What a run of the program does to standard input and output, and how it ends.
---     SolvesFrom                            what `solve` did to a source and a sink
---     IsCommandRun args old new result      what the command line asks for was done, or ended by a
---                                           fault
---     IsLineRefused words old new status    the words are faulty or ask for help, or memory ran out
---     IsEnd words old new status            the program ended on these words
---     IsStart old new status                it ended on some words
+--     SolvesFrom                              what `solve` did to a source and a sink
+--     IsCommandRun opens args old new result  what the command line asks for was done, or ended by
+--                                             a fault
+--     IsLineRefused words old new status      the words are faulty or ask for help, or memory ran
+--                                             out
+--     IsEnd opens words old new status        the program ended on these words
+--     IsStart opens old new status            it ended on some words
+-- OPENS says what opening a path may give.
 use Rattle.std.specs.Prelude.{◌≡◌, ℕ, ◌⊎◌, List, Result, Ok, Err}
 use Rattle.clap.specs.Words.{Text}
 use Rattle.shop_engine.specs.declared.args.SolveArgs.{SolveArgs}
@@ -17,7 +19,7 @@ use Rattle.shop_program.specs.CommandLine.{IsLineOf, IsUnread}
 use Rattle.shop_program.specs.declared.arguments.Args.{Args}
 use Rattle.shop_program.specs.declared.arguments.Args.TheVariants.{List as ListNames, Check, Solve}
 use Rattle.shop_program.specs.Statuses.{status_of}
-use Rattle.shop_program.specs.Commands.{Streams, IsRunOn, ListsFrom, ChecksFrom}
+use Rattle.shop_program.specs.Commands.{Streams, Opens, IsRunOn, ListsFrom, ChecksFrom}
 
 pub record HasSolved (args : SolveArgs) (sink sink' : Device) (result : Result (Unit {0}) Fault)
     (source source' : Device) : Type 0 where
@@ -35,13 +37,13 @@ SolvesFrom args sink sink' (Err fault) source source' =
 
 -- ---- the program
 
-abbrev pub IsCommandRun : Args → Streams → Streams → Result ℕ Fault → Type 0
-IsCommandRun (ListNames args file) old new result =
-    IsRunOn file old new result (ListsFrom args old.sink new.sink result)
-IsCommandRun (Check args file schedule) old new result =
-    IsRunOn file old new result (ChecksFrom args schedule old.sink new.sink result)
-IsCommandRun (Solve args workers file) old new result =
-    IsRunOn file old new result (SolvesFrom args old.sink new.sink result)
+abbrev pub IsCommandRun : Opens → Args → Streams → Streams → Result ℕ Fault → Type 0
+IsCommandRun opens (ListNames args file) old new result =
+    IsRunOn opens file old new result (ListsFrom args old.sink new.sink result)
+IsCommandRun opens (Check args file schedule) old new result =
+    IsRunOn opens file old new result (ChecksFrom opens args schedule old.sink new.sink result)
+IsCommandRun opens (Solve args workers file) old new result =
+    IsRunOn opens file old new result (SolvesFrom args old.sink new.sink result)
 
 -- the status of a run
 abbrev pub status_of_run : Result ℕ Fault → ℕ
@@ -55,15 +57,17 @@ pub record IsLineRefused (words : List Text) (old new : Streams) (status : ℕ) 
   pub same : new ≡ old
 
 -- what the words ask for was done, with this status
-pub record IsDone (words : List Text) (old new : Streams) (status : ℕ) : Type 0 where
+pub record IsDone (opens : Opens) (words : List Text) (old new : Streams) (status : ℕ)
+    : Type 0 where
   pub args : Args
   pub asked : IsLineOf words args
   pub result : Result ℕ Fault
-  pub run : IsCommandRun args old new result
+  pub run : IsCommandRun opens args old new result
   pub is_status : status ≡ status_of_run result
 
-abbrev pub IsEnd : List Text → Streams → Streams → ℕ → Type 0
-IsEnd words old new status = IsLineRefused words old new status ⊎ IsDone words old new status
+abbrev pub IsEnd : Opens → List Text → Streams → Streams → ℕ → Type 0
+IsEnd opens words old new status =
+    IsLineRefused words old new status ⊎ IsDone opens words old new status
 
 -- why there are no words: they aren't text (2), or memory ran out (5)
 abbrev pub IsNoWords : ℕ → Type 0
@@ -74,6 +78,6 @@ pub record IsWordless (old new : Streams) (status : ℕ) : Type 0 where
   pub said : IsNoWords status
   pub same : new ≡ old
 
-abbrev pub IsStart : Streams → Streams → ℕ → Type 0
-IsStart old new status =
-    IsWordless old new status ⊎ ((words : List Text) × IsEnd words old new status)
+abbrev pub IsStart : Opens → Streams → Streams → ℕ → Type 0
+IsStart opens old new status =
+    IsWordless old new status ⊎ ((words : List Text) × IsEnd opens words old new status)

@@ -1,31 +1,10 @@
 // Runs of `list` and `check`, on files or on the source that they are given.
-ghost use Rattle.std.specs.Prelude.{◌≡◌, true, IfOk, IfErr, is_some};
-ghost use Rattle.shop_engine.specs.declared.faults.Fault.TheVariants.{ReadFailed};
 ghost use Rattle.shop_program.specs.Commands.{Streams, IsRunOn, ListsFrom, ChecksFrom};
 
+use crate::files::{Files, open_given};
 use crate::statuses::{DONE, status_of_check};
-use shop_engine::{CheckArgs, Fault, ListArgs, Reading, Sink, Source, check_text, list_text};
+use shop_engine::{CheckArgs, Fault, ListArgs, Sink, Source, check_text, list_text};
 use std::alloc::Global;
-use std::fs::File;
-use std::rt::Files;
-
-/// Opens a file, if a path is given; one that can't be opened is a failed read.
-pub fn open_given<R: Files>(
-    rt: &R,
-    path: &Option<String>,
-) -> Result<Option<Reading<R::File>>, Fault>
-    ensures opened { IfOk result (λ opened. is_some opened ≡ is_some path.now) }
-    ensures unopened { IfErr result (λ fault.
-        (fault ≡ ReadFailed) × (is_some path.now ≡ true)) }
-{
-    let Some(path) = path else {
-        return Ok(None);
-    };
-    match File::open(rt, path.as_str()) {
-        Ok(file) => Ok(Some(Reading::new(file))),
-        Err(_) => Err(Fault::ReadFailed),
-    }
-}
 
 /// Lists the instances of a source. The exit status.
 fn list_from<S: Source, K: Sink>(
@@ -49,7 +28,7 @@ pub fn run_list<R: Files + AllocGlobal, S: Source, K: Sink>(
     source: &mut S,
     out: &mut K,
 ) -> Result<u8, Fault>
-    ensures { IsRunOn file.now
+    ensures { IsRunOn (R.opens rt.now) file.now
         (record { source = S.device source.old; sink = K.device out.old })
         (record { source = S.device source.new; sink = K.device out.new }) result
         (ListsFrom args.now (K.device out.old) (K.device out.new) result) }
@@ -68,8 +47,8 @@ fn check_from<R: Files + AllocGlobal, S: Source, K: Sink>(
     source: &mut S,
     out: &mut K,
 ) -> Result<u8, Fault>
-    ensures { ChecksFrom args.now schedule.now (K.device out.old) (K.device out.new) result
-        (S.device source.old) (S.device source.new) }
+    ensures { ChecksFrom (R.opens rt.now) args.now schedule.now (K.device out.old)
+        (K.device out.new) result (S.device source.old) (S.device source.new) }
 {
     let mut second = open_given(rt, schedule)?;
     let is_feasible = check_text(rt.alloc(), source, &mut second, out, args)?;
@@ -85,10 +64,11 @@ pub fn run_check<R: Files + AllocGlobal, S: Source, K: Sink>(
     source: &mut S,
     out: &mut K,
 ) -> Result<u8, Fault>
-    ensures { IsRunOn file.now
+    ensures { IsRunOn (R.opens rt.now) file.now
         (record { source = S.device source.old; sink = K.device out.old })
         (record { source = S.device source.new; sink = K.device out.new }) result
-        (ChecksFrom args.now schedule.now (K.device out.old) (K.device out.new) result) }
+        (ChecksFrom (R.opens rt.now) args.now schedule.now (K.device out.old) (K.device out.new)
+        result) }
 {
     match open_given(rt, file)? {
         Some(mut first) => check_from(rt, args, schedule, &mut first, out),

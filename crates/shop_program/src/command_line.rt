@@ -1,7 +1,6 @@
 // The command line as clap's builder makes it.
-ghost use Rattle.std.specs.Prelude.{◌≡◌, IfOk, codes, false};
-ghost use Rattle.clap.specs.Words.{app_of, new_app};
-ghost use Rattle.clap.specs.declared.builder.command.Command.TheViews.{out-Command};
+ghost use Rattle.std.specs.Prelude.{IfOk, codes};
+ghost use Rattle.clap.specs.Words.{App, Rule, new_app, with_rule, with_subcommand};
 ghost use Rattle.clap.specs.declared.builder.value_parser.ValueParser.TheVariants.{Names};
 ghost use Rattle.shop_program.specs.CommandLine.{option_rule, choice_rule, format_rule, number_rule};
 ghost use Rattle.shop_program.specs.CommandLine.{flag_rule, path_rule};
@@ -27,6 +26,29 @@ fn described<'a>(alloc: Global, name: &'a str, help: &Help) -> Command<'a>
     Command::new(alloc, name)
         .about(help.about)
         .after_help(help.end)
+}
+
+/// The command with one more argument, unless memory has run out.
+fn add_arg<'a>(
+    command: Result<Command<'a>, NoMemory>,
+    arg: Arg<'a>,
+) -> Result<Command<'a>, NoMemory>
+    ensures { (app : App) (rule : Rule) → IfOk command.entry (IsCommandOf app)
+        → IsArgOf rule arg.entry → IfOk result (IsCommandOf (with_rule app rule)) }
+{
+    command?.arg(arg)
+}
+
+/// The command with one more subcommand, unless memory has run out.
+fn add_subcommand<'a>(
+    command: Result<Command<'a>, NoMemory>,
+    subcommand: Result<Command<'a>, NoMemory>,
+) -> Result<Command<'a>, NoMemory>
+    ensures { (app sub : App) → IfOk command.entry (IsCommandOf app)
+        → IfOk subcommand.entry (IsCommandOf sub)
+        → IfOk result (IsCommandOf (with_subcommand app sub.top)) }
+{
+    command?.subcommand(subcommand?)
 }
 
 /// An option that takes a value.
@@ -124,69 +146,72 @@ fn file<'a>(alloc: Global) -> Arg<'a>
 fn list<'a>(alloc: Global, formats: &'a [&'a str]) -> Result<Command<'a>, NoMemory>
     ensures { IfOk result (IsCommandOf (list_command (Names formats.entry))) }
 {
-    described(alloc, "list", &LIST)
-        .arg(format(alloc, formats))?
-        .arg(file(alloc))
+    let bare = Ok(described(alloc, "list", &LIST));
+    let formatted = add_arg(bare, format(alloc, formats));
+    add_arg(formatted, file(alloc))
 }
 
 /// `check`: judges a schedule.
 fn check<'a>(alloc: Global, formats: &'a [&'a str]) -> Result<Command<'a>, NoMemory>
     ensures { IfOk result (IsCommandOf (check_command (Names formats.entry))) }
 {
-    described(alloc, "check", &CHECK)
-        .arg(format(alloc, formats))?
-        .arg(name(alloc))?
-        .arg(file(alloc))?
-        .arg(path(
-            alloc,
-            "SCHEDULE",
-            "The schedule; without it the text of the instance has its lines",
-        ))
+    let bare = Ok(described(alloc, "check", &CHECK));
+    let formatted = add_arg(bare, format(alloc, formats));
+    let named = add_arg(formatted, name(alloc));
+    let filed = add_arg(named, file(alloc));
+    let schedule = path(
+        alloc,
+        "SCHEDULE",
+        "The schedule; without it the text of the instance has its lines",
+    );
+    add_arg(filed, schedule)
 }
 
 /// A command with the options of a plan: rounds, budget, piece and order.
 fn with_plan<'a>(
     alloc: Global,
-    command: Command<'a>,
+    command: Result<Command<'a>, NoMemory>,
     orders: &'a [&'a str],
 ) -> Result<Command<'a>, NoMemory>
-    requires { (out-Command command).has_globals ≡ false }
-    ensures { IfOk result (IsCommandOf
-        (with_plan_rules (Names orders.entry) (app_of command.entry))) }
+    ensures { (app : App) → IfOk command.entry (IsCommandOf app)
+        → IfOk result (IsCommandOf (with_plan_rules (Names orders.entry) app)) }
 {
-    command
-        .arg(number(
-            alloc,
-            "rounds",
-            "At most so many rounds, 0 to 100000; more may end lower and take longer",
-            0,
-            MAX_ROUNDS,
-            "1000",
-        ))?
-        .arg(number(
-            alloc,
-            "budget",
-            "Nodes that the search of a piece takes before it leaves the rest open, 1 to 10000000",
-            1,
-            MAX_BUDGET,
-            "100000",
-        ))?
-        .arg(number(
-            alloc,
-            "piece",
-            "Open nodes in a piece, 1 to 1000; a round searches at most 256 pieces",
-            1,
-            MAX_PIECE as u64,
-            "1",
-        ))?
-        .arg(choice(
-            alloc,
-            "order",
-            "O",
-            "Which open nodes a round takes first: as they were kept, or those of least lower bound",
-            orders,
-            "kept",
-        ))
+    let rounds = number(
+        alloc,
+        "rounds",
+        "At most so many rounds, 0 to 100000; more may end lower and take longer",
+        0,
+        MAX_ROUNDS,
+        "1000",
+    );
+    let budget = number(
+        alloc,
+        "budget",
+        "Nodes that the search of a piece takes before it leaves the rest open, 1 to 10000000",
+        1,
+        MAX_BUDGET,
+        "100000",
+    );
+    let piece = number(
+        alloc,
+        "piece",
+        "Open nodes in a piece, 1 to 1000; a round searches at most 256 pieces",
+        1,
+        MAX_PIECE as u64,
+        "1",
+    );
+    let order = choice(
+        alloc,
+        "order",
+        "O",
+        "Which open nodes a round takes first: as they were kept, or those of least lower bound",
+        orders,
+        "kept",
+    );
+    let with_rounds = add_arg(command, rounds);
+    let with_budget = add_arg(with_rounds, budget);
+    let with_piece = add_arg(with_budget, piece);
+    add_arg(with_piece, order)
 }
 
 /// `solve`: searches a least makespan.
@@ -197,24 +222,26 @@ fn solve<'a>(
 ) -> Result<Command<'a>, NoMemory>
     ensures { IfOk result (IsCommandOf (solve_command (Names formats.entry) (Names orders.entry))) }
 {
-    let command = described(alloc, "solve", &SOLVE)
-        .arg(format(alloc, formats))?
-        .arg(name(alloc))?;
-    with_plan(alloc, command, orders)?
-        .arg(number(
-            alloc,
-            "workers",
-            "Threads that search side by side, 1 to 64; the report is the same for any number",
-            1,
-            MAX_WORKERS as u64,
-            "1",
-        ))?
-        .arg(flag(
-            alloc,
-            "gantt",
-            "Draws the schedule below the report: a line for each machine",
-        ))?
-        .arg(file(alloc))
+    let bare = Ok(described(alloc, "solve", &SOLVE));
+    let formatted = add_arg(bare, format(alloc, formats));
+    let named = add_arg(formatted, name(alloc));
+    let planned = with_plan(alloc, named, orders);
+    let workers = number(
+        alloc,
+        "workers",
+        "Threads that search side by side, 1 to 64; the report is the same for any number",
+        1,
+        MAX_WORKERS as u64,
+        "1",
+    );
+    let gantt = flag(
+        alloc,
+        "gantt",
+        "Draws the schedule below the report: a line for each machine",
+    );
+    let shared = add_arg(planned, workers);
+    let drawn = add_arg(shared, gantt);
+    add_arg(drawn, file(alloc))
 }
 
 /// The words of the formats.
@@ -236,9 +263,8 @@ pub fn command<'a>(alloc: Global) -> Result<Command<'a>, NoMemory>
     ensures { IfOk result IsCommandLine }
 {
     let formats = format_choices();
-    described(alloc, "jobshop", &PROGRAM)
-        .subcommand_required(true)
-        .subcommand(list(alloc, formats)?)?
-        .subcommand(check(alloc, formats)?)?
-        .subcommand(solve(alloc, formats, order_choices())?)
+    let bare = Ok(described(alloc, "jobshop", &PROGRAM).subcommand_required(true));
+    let listing = add_subcommand(bare, list(alloc, formats));
+    let checking = add_subcommand(listing, check(alloc, formats));
+    add_subcommand(checking, solve(alloc, formats, order_choices()))
 }

@@ -3,6 +3,7 @@ ghost use Rattle.std.specs.Prelude.{map, string_bytes, IfErr};
 ghost use Rattle.shop_program.specs.Commands.{Streams};
 ghost use Rattle.shop_program.specs.Running.{IsNoWords, IsEnd, IsStart};
 
+use crate::files::Files;
 use crate::reading_args::args_of;
 use crate::running::run_args;
 use crate::saying::{say_fault, say_line_fault, say_no_memory, say_no_text};
@@ -10,7 +11,7 @@ use shop_engine::{Sink, Source};
 use shop_runs::MakesCrew;
 use std::env::args;
 use std::io::ErrorKind;
-use std::rt::{Env, Files};
+use std::rt::Env;
 
 /// The words of the process, the program's name first. Where there are none, `err` is told why, and the exit status is 2
 /// (a word isn't UTF-8) or 5 (memory ran out).
@@ -40,7 +41,7 @@ pub fn program<R: Files + AllocGlobal, C: MakesCrew<R>, S: Source, K: Sink, E: S
     err: &mut E,
 ) -> u8
     requires { C.Crew.ready }
-    ensures { IsEnd (map string_bytes words.now)
+    ensures { IsEnd (R.opens rt.now) (map string_bytes words.now)
         (record { source = S.device source.old; sink = K.device out.old })
         (record { source = S.device source.new; sink = K.device out.new }) result }
 {
@@ -63,7 +64,7 @@ pub fn start<R: Env + Files + AllocGlobal, C: MakesCrew<R>, S: Source, K: Sink, 
     err: &mut E,
 ) -> u8
     requires { C.Crew.ready }
-    ensures { IsStart
+    ensures { IsStart (R.opens rt.now)
         (record { source = S.device source.old; sink = K.device out.old })
         (record { source = S.device source.new; sink = K.device out.new }) result }
 {

@@ -5,6 +5,7 @@ mod arguments;
 mod checking_runs;
 mod command_line;
 mod entry_points;
+mod files;
 mod help;
 mod line_faults;
 mod matches;
@@ -14,8 +15,9 @@ mod saying;
 mod statuses;
 
 pub use arguments::Args;
-pub use checking_runs::{open_given, run_check, run_list};
+pub use checking_runs::{run_check, run_list};
 pub use entry_points::{program, start};
+pub use files::{Files, open_given};
 pub use line_faults::LineFault;
 pub use reading_args::args_of;
 pub use running::run_args;

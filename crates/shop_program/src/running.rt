@@ -3,11 +3,11 @@ ghost use Rattle.shop_program.specs.Commands.{Streams, IsRunOn};
 ghost use Rattle.shop_program.specs.Running.{IsCommandRun, HasSolved, SolvesFrom};
 
 use crate::arguments::Args;
-use crate::checking_runs::{open_given, run_check, run_list};
+use crate::checking_runs::{run_check, run_list};
+use crate::files::{Files, open_given};
 use crate::statuses::DONE;
 use shop_engine::{Fault, Sink, SolveArgs, Source, solve_text};
 use shop_runs::{MakesCrew, Workers};
-use std::rt::Files;
 
 /// Solves by the crew of so many workers: the report is the same for every crew.
 fn solve_by<R: AllocGlobal, C: MakesCrew<R>, S: Source, K: Sink>(
@@ -54,7 +54,7 @@ fn run_solve<R: Files + AllocGlobal, C: MakesCrew<R>, S: Source, K: Sink>(
     out: &mut K,
 ) -> Result<u8, Fault>
     requires { C.Crew.ready }
-    ensures { IsRunOn file.now
+    ensures { IsRunOn (R.opens rt.now) file.now
         (record { source = S.device source.old; sink = K.device out.old })
         (record { source = S.device source.new; sink = K.device out.new }) result
         (SolvesFrom args.now (K.device out.old) (K.device out.new) result) }
@@ -75,7 +75,7 @@ pub fn run_args<R: Files + AllocGlobal, C: MakesCrew<R>, S: Source, K: Sink>(
     out: &mut K,
 ) -> Result<u8, Fault>
     requires { C.Crew.ready }
-    ensures { IsCommandRun args.now
+    ensures { IsCommandRun (R.opens rt.now) args.now
         (record { source = S.device source.old; sink = K.device out.old })
         (record { source = S.device source.new; sink = K.device out.new }) result }
 {

@@ -1,23 +1,23 @@
+use Rattle.std.proofs.Common.{codes}
 use Rattle.std.proofs.lemmas.Result.{IfOk-weaker}
+use Rattle.clap.specs.Words.{App, new_app, with_subcommand}
 use Rattle.clap.specs.declared.builder.value_parser.ValueParser.{ValueParser}
 use Rattle.clap.specs.declared.builder.value_parser.ValueParser.TheVariants.{Names}
-use Rattle.shop_program.specs.CommandLine.{IsCommandLine}
-use Rattle.shop_program.proofs.Commands.{added_subcommand, needs_subcommand}
+use Rattle.shop_program.specs.CommandLine.{IsCommandLine, IsCommandOf, check_command, command_line, list_command}
+use Rattle.shop_program.specs.CommandLine.{needing_subcommand, solve_command}
+use Rattle.shop_program.proofs.Commands.{needs_subcommand}
 use Rattle.shop_program.proofs.command_line.command.Goals as goal
 
 pub returns : goal.returns
 returns c =
-    let start = needs_subcommand _ _ _ c.described.ensures c.subcommand_required.ensures in
-    let first = added_subcommand _ _ _ _ _ start c.in_ok-list.ensures c.in_ok-subcommand.ensures in
-    let second = added_subcommand _ _ _ _ _ first c.in_ok-check.ensures c.in_ok-subcommand-2.ensures in
     let formats : ValueParser = Names c.format_choices-formats.result in
     let orders : ValueParser = Names c.order_choices.result in
-    IfOk-weaker c.subcommand-3.result _ IsCommandLine
-    (λ command added. (
-      formats,
-      orders,
-      c.format_choices-formats.ensures,
-      c.order_choices.ensures,
-      added_subcommand _ _ _ _ _ second c.in_ok-solve.ensures added,
-    ))
-    c.subcommand-3.ensures
+    let start : App = needing_subcommand (new_app (codes "jobshop")) in
+    let listing : App = with_subcommand start (list_command formats).top in
+    let checking : App = with_subcommand listing (check_command formats).top in
+    let first = c.add_subcommand-listing.ensures start (list_command formats)
+    (needs_subcommand _ _ _ c.described.ensures c.subcommand_required.ensures) c.list.ensures in
+    let second = c.add_subcommand-checking.ensures listing (check_command formats) first c.check.ensures in
+    let third = c.add_subcommand.ensures checking (solve_command formats orders) second c.solve.ensures in
+    IfOk-weaker c.add_subcommand.result (IsCommandOf (command_line formats orders)) IsCommandLine
+    (λ command is. (formats, orders, c.format_choices-formats.ensures, c.order_choices.ensures, is)) third

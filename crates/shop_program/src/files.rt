@@ -1,0 +1,53 @@
+// Files, and who opens them.
+ghost use Rattle.std.specs.Prelude.{◌≡◌, ℕ, List, Option, ⊤, IfOk, IfErr};
+ghost use Rattle.std.specs.Option.{option_map};
+ghost use Rattle.std.specs.Result.{result_ok};
+ghost use Rattle.shop_engine.specs.Devices.{Device};
+ghost use Rattle.shop_engine.specs.declared.faults.Fault.TheVariants.{ReadFailed};
+ghost use Rattle.shop_program.specs.Commands.{IsGiven, IsMissing};
+
+use shop_engine::{DeviceFailed, Fault, Reading, Source};
+use std::fs::File;
+use std::rt;
+
+/// Who opens files.
+pub trait Files {
+    type File: Source + Drop;
+
+    /// What opening a path may give: a file as it stands then, or none where it can't be opened.
+    ghost opens: { Self → List ℕ → Option Device → Type 0 };
+
+    /// Opens the file at a path. Fails where it can't be opened.
+    fn open(&self, path: &str) -> Result<Self::File, DeviceFailed>
+        ensures { opens self.now path.now (option_map Self.File.device (result_ok result)) };
+}
+
+/// The files of a runtime of std: which bytes stand at a path isn't known.
+impl<R: rt::Files> Files for R {
+    type File = Reading<R::File>;
+
+    ghost opens = { λ _ _ _. ⊤ };
+
+    fn open(&self, path: &str) -> Result<Reading<R::File>, DeviceFailed> {
+        match File::open(self, path) {
+            Ok(file) => Ok(Reading::new(file)),
+            Err(_) => Err(DeviceFailed),
+        }
+    }
+}
+
+/// Opens the file at a path, if one is given; one that can't be opened is a failed read.
+pub fn open_given<R: Files>(rt: &R, path: &Option<String>) -> Result<Option<R::File>, Fault>
+    ensures opened { IfOk result (λ file.
+        IsGiven (R.opens rt.now) path.now (option_map R.File.device file)) }
+    ensures unopened { IfErr result (λ fault.
+        (fault ≡ ReadFailed) × IsMissing (R.opens rt.now) path.now) }
+{
+    let Some(path) = path else {
+        return Ok(None);
+    };
+    match rt.open(path.as_str()) {
+        Ok(file) => Ok(Some(file)),
+        Err(_) => Err(Fault::ReadFailed),
+    }
+}
