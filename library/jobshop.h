@@ -22,8 +22,8 @@
 
 /* The version of this header; `jobshop_version` tells that of the library. The number is 10000 times the first part,
  * 100 times the second, and the third. */
-#define JOBSHOP_VERSION "1.0.0"
-#define JOBSHOP_VERSION_NUMBER 10000
+#define JOBSHOP_VERSION "1.1.0"
+#define JOBSHOP_VERSION_NUMBER 10100
 
 /* Room for any report, to which the bytes of the instance's name are added: 100000 starts of at most 16 digits, each
  * behind a blank; 9 bytes more for each of 1000 jobs; 86 for each of 100 lines of the Gantt text; and 9 other lines of
@@ -87,7 +87,7 @@ typedef struct {
 
 #define JOBSHOP_DEFAULTS {1000, 100000, 1, JOBSHOP_KEPT, false}
 
-/* The version of the library, as "1.0.0". */
+/* The version of the library, as "1.1.0". */
 const char *jobshop_version(void);
 
 /* The instances of a text: a line for each, with name, jobs and machines. */

@@ -22,7 +22,7 @@ Exit status:
   4  a read or a write failed
   5  memory ran out
 
-jobshop 1.0.0",
+jobshop 1.1.0",
 };
 
 pub const LIST: Help = Help {
