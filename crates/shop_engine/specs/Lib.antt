@@ -17,6 +17,7 @@ pub mod Scaling
 pub mod Renaming
 pub mod Reversing
 pub mod Floors
+pub mod Limits
 pub mod LaterBounds
 pub mod Optimal
 pub mod MetBounds

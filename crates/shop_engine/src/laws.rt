@@ -1,4 +1,5 @@
 // Laws of the engines, over what their contracts say.
+ghost use Rattle.shop_engine.specs.Limits.{AreLimits};
 ghost use Rattle.shop_engine.specs.OneReport.{OneReport};
 ghost use Rattle.shop_engine.specs.Refusing.{ListingRefuses, CheckingRefuses, SolvingRefuses};
 ghost use Rattle.shop_engine.specs.WholeRun.{OneWholeRun};
@@ -20,4 +21,9 @@ pub fn one_report()
 /// others.
 pub fn one_whole_run()
     ensures { OneWholeRun }
+{}
+
+/// The limits that contracts name by the code's constants have these numbers.
+pub fn limits_are_fixed()
+    ensures { AreLimits }
 {}

@@ -42,7 +42,7 @@ pub use instance_laws::{
     renaming_asks_the_same, reversing_asks_the_same, scaling_keeps_the_least,
     texts_keep_the_limits,
 };
-pub use laws::{one_report, one_whole_run, refused_texts_are_answered};
+pub use laws::{limits_are_fixed, one_report, one_whole_run, refused_texts_are_answered};
 pub use listing::{list_bytes, list_text};
 pub use memory::Memory;
 pub use shop_runs::{Order, Plan};

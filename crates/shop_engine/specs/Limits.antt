@@ -1,0 +1,23 @@
+-- The limits of the code, in numbers.
+--     AreLimits    of instances, schedules and texts, of plans and rounds, and of workers
+use Rattle.std.specs.Prelude.{◌≡◌}
+use Rattle.shop_model.specs.declared.limits.TheConstants.{MAX_JOBS, MAX_MACHINES, MAX_STEPS}
+use Rattle.shop_model.specs.declared.limits.TheConstants.{MAX_TIME, MAX_START}
+use Rattle.shop_text.specs.declared.limits.TheConstants.{MAX_TEXT}
+use Rattle.shop_runs.specs.declared.plans.TheConstants.{MAX_ROUNDS, MAX_BUDGET, MAX_PIECE}
+use Rattle.shop_runs.specs.declared.plans.TheConstants.{MAX_PIECES, MAX_WORKERS}
+
+pub record AreLimits : Type 0 where
+  pub jobs : MAX_JOBS ≡ 1000
+  pub machines : MAX_MACHINES ≡ 100
+  pub steps : MAX_STEPS ≡ 100
+  -- of a time of an operation, and of a release
+  pub time : MAX_TIME ≡ 1000000000
+  pub start : MAX_START ≡ 1000000000000000
+  -- in bytes
+  pub text : MAX_TEXT ≡ 16777216
+  pub rounds : MAX_ROUNDS ≡ 100000
+  pub budget : MAX_BUDGET ≡ 10000000
+  pub piece : MAX_PIECE ≡ 1000
+  pub pieces : MAX_PIECES ≡ 256
+  pub workers : MAX_WORKERS ≡ 64
