@@ -6,12 +6,13 @@
  *
  * A caller owes:
  *   - each pointer leads to as many bytes as it says, and nobody writes there while a call runs;
- *   - `gantt` is 0 or 1, since another byte passes the guard;
+ *   - the byte of `gantt` is 0 or 1: no other is looked for, and none is defined;
  *   - a call has 24 KB of stack, whatever the instance; a thread of the least size, 16 KB, is too small for a search,
  *     and a main thread is large enough unless its limit was lowered;
  *   - no call is made in a signal handler, nor in the child of a fork of a process with threads: calls use malloc.
  *
- * A null pointer counts as a text of no bytes, or as no name, no schedule, or the default options.
+ * A null pointer counts as a text of no bytes, or as no name, no schedule, or the default options. The default plan
+ * searches for hours where an instance is hard, and a search can't be stopped.
  */
 #ifndef JOBSHOP_H
 #define JOBSHOP_H
@@ -99,8 +100,9 @@ jobshop_outcome jobshop_check(uint32_t format, const char *name, size_t name_len
                               size_t text_length, const char *schedule, size_t schedule_length, char *room,
                               size_t room_length);
 
-/* Reports the best schedule that the plan finds, with a proved lower bound. A search whose report doesn't fit has to be
- * run again, so give it JOBSHOP_LONGEST_REPORT bytes and those of the name. */
+/* Reports the best schedule that the plan finds, with a proved lower bound. Without a name it is of the first instance.
+ * A search whose report doesn't fit has to be run again, so give it JOBSHOP_LONGEST_REPORT bytes and those of the
+ * name. */
 jobshop_outcome jobshop_solve(uint32_t format, const char *name, size_t name_length, const jobshop_options *options,
                               const char *text, size_t text_length, char *room, size_t room_length);
 
