@@ -1,18 +1,18 @@
 /* jobshop: an exact solver of the job shop whose answers are proved, for C and for all that can call C.
  *
- * Each call goes from a text to a text. It reads the bytes of its texts, writes the answer to the front of `room`, and
- * says in its outcome how it ended. It opens no file, prints nothing, starts no thread and keeps nothing from one call
- * to the next, so calls may run side by side on different rooms. Texts need no zero byte at their end, and get none.
+ * A call reads its texts, writes the answer to the front of `room`, and returns how it ended. It opens no file, prints
+ * nothing, starts no thread and keeps nothing from one call to the next: nothing is to be freed, and calls may run side
+ * by side on different rooms. Texts need no zero byte at their end, and get none.
  *
  * A caller owes:
- *   - each pointer leads to as many bytes as it says, and nobody writes there while a call runs;
- *   - the byte of `gantt` is 0 or 1: no other is looked for, and none is defined;
- *   - a call has 24 KB of stack, whatever the instance; a thread of the least size, 16 KB, is too small for a search,
- *     and a main thread is large enough unless its limit was lowered;
+ *   - each pointer leads to as many bytes as the length beside it, and nobody else writes there while a call runs;
+ *   - `gantt` is 0 or 1: another byte isn't refused, and what it does isn't defined;
+ *   - a call has 24 KB of stack, whatever the instance: a main thread has more unless its limit was lowered, a thread
+ *     of the least size, 16 KB, is too small for a search;
  *   - no call is made in a signal handler, nor in the child of a fork of a process with threads: calls use malloc.
  *
- * A null pointer counts as a text of no bytes, or as no name, no schedule, or the default options. The default plan
- * searches for hours where an instance is hard, and a search can't be stopped.
+ * A null pointer means an empty text, no name, no schedule, or the default options. A search can't be stopped, and may
+ * take hours by the default options: {100, 1000, 1, JOBSHOP_BOUND, false} takes seconds up to some 50 x 15.
  */
 #ifndef JOBSHOP_H
 #define JOBSHOP_H
@@ -21,14 +21,14 @@
 #include <stddef.h>
 #include <stdint.h>
 
-/* The version of this header; `jobshop_version` tells that of the library. The number is 10000 times the first part,
- * 100 times the second, and the third. */
-#define JOBSHOP_VERSION "1.1.0"
-#define JOBSHOP_VERSION_NUMBER 10100
+/* The version of this header; `jobshop_version` returns that of the library. The number is 10000 times the first part
+ * plus 100 times the second plus the third. */
+#define JOBSHOP_VERSION "1.2.0"
+#define JOBSHOP_VERSION_NUMBER 10200
 
-/* Room for any report, to which the bytes of the instance's name are added: 100000 starts of at most 16 digits, each
- * behind a blank; 9 bytes more for each of 1000 jobs; 86 for each of 100 lines of the Gantt text; and 9 other lines of
- * at most 28. These make 1717852. */
+/* Room for any report but the bytes of the instance's name. The most is 1717852: 100000 starts of at most 16 digits,
+ * each behind a blank; 9 bytes more for each of 1000 jobs; 86 for each of 100 lines of the Gantt text; and 9 other
+ * lines of at most 28. */
 #define JOBSHOP_LONGEST_REPORT 1800000
 
 #ifdef __cplusplus
@@ -48,10 +48,10 @@ enum {
     JOBSHOP_BOUND = 1,
 };
 
-/* How a call ended. 1 to 12 are the numbers of the refusals that the program prints. Only where the status is
- * JOBSHOP_DONE has anything been written. */
+/* How a call ended. 1 to 12 are the numbers of the refusals that the program prints; docs/FORMATS.md (man
+ * jobshop-formats) explains them and the lines of a report. A room is written only if the status is JOBSHOP_DONE. */
 enum {
-    JOBSHOP_DONE = 0,
+    JOBSHOP_DONE = 0, /* also where a search ended open */
     JOBSHOP_NO_MEMORY = 1,
     JOBSHOP_TEXT_TOO_LONG = 3,
     JOBSHOP_NO_INSTANCE = 4,
@@ -63,7 +63,7 @@ enum {
     JOBSHOP_BAD_TIME = 10,
     JOBSHOP_NO_SUCH_NAME = 11,
     JOBSHOP_BAD_SCHEDULE = 12,
-    /* the answer is longer than the room; `length` says how long */
+    /* the answer is longer than the room: it has `length` bytes */
     JOBSHOP_TOO_SMALL = 100,
     /* a null pointer with a length, a room that overlaps a text, a number or an option out of range, a name that isn't
      * UTF-8 */
@@ -73,11 +73,11 @@ enum {
 typedef struct {
     uint32_t status;
     bool feasible; /* of `jobshop_check`: is the schedule feasible? */
-    size_t line;   /* the line that is refused, from 1; 0 where there is none */
-    size_t length; /* the length of the answer in bytes, whether there is room for it or not */
+    size_t line;   /* the line that is refused, from 1; 0 if there is none */
+    size_t length; /* the length of the answer in bytes, also if it doesn't fit */
 } jobshop_outcome;
 
-/* The plan of a search, as the options of the program. */
+/* The plan of a search: the program's options of these names. */
 typedef struct {
     uint64_t rounds; /* 0 to 100000 */
     uint64_t budget; /* 1 to 10000000 */
@@ -88,21 +88,21 @@ typedef struct {
 
 #define JOBSHOP_DEFAULTS {1000, 100000, 1, JOBSHOP_KEPT, false}
 
-/* The version of the library, as "1.1.0". */
+/* The version of the library, as "1.2.0". */
 const char *jobshop_version(void);
 
-/* The instances of a text: a line for each, with name, jobs and machines. */
+/* Lists the instances of a text, a line for each: name, jobs and machines. */
 jobshop_outcome jobshop_list(uint32_t format, const char *text, size_t text_length, char *room, size_t room_length);
 
-/* Judges a schedule of an instance: the line `feasible C`, or what is wrong. Without a name it is the first instance;
- * without a schedule it stands in the text. */
+/* Judges a schedule: the answer is the line `feasible C`, or the first fault. Without a name the instance is the first
+ * one of the text; without a schedule the text has its lines, too. */
 jobshop_outcome jobshop_check(uint32_t format, const char *name, size_t name_length, const char *text,
                               size_t text_length, const char *schedule, size_t schedule_length, char *room,
                               size_t room_length);
 
-/* Reports the best schedule that the plan finds, with a proved lower bound. Without a name it is of the first instance.
- * A search whose report doesn't fit has to be run again, so give it JOBSHOP_LONGEST_REPORT bytes and those of the
- * name. */
+/* Reports the best schedule that the plan finds, with a proved lower bound. Without a name the instance is the first
+ * one of the text. If the report doesn't fit, the search has to be run again: give it room for JOBSHOP_LONGEST_REPORT
+ * bytes and those of the name. */
 jobshop_outcome jobshop_solve(uint32_t format, const char *name, size_t name_length, const jobshop_options *options,
                               const char *text, size_t text_length, char *room, size_t room_length);
 

@@ -12,7 +12,7 @@ are those that the program prints, byte for byte. A text that is refused raises 
 lets other threads run.
 
 Ctrl-C ends the wait for `solve` with KeyboardInterrupt. The search itself can't be stopped: it goes on in a thread of
-its own until it is done or Python ends. To stop a search while Python goes on, run the program `jobshop` in its place.
+its own until it is done or Python ends. To stop a search while Python goes on, run the program `jobshop` instead.
 
 The shared library is looked for beside this file, in a folder lib above it, or where JOBSHOP_LIBRARY says.
 """
@@ -72,8 +72,8 @@ class Instance(NamedTuple):
 
 
 class Fault(NamedTuple):
-    """The first fault of a schedule: the step of the job begins before the job's release ("unreleased") or before the
-    step before it ends ("early"), or shares the machine with the other step for a while ("overlap")."""
+    """The first fault of a schedule. The step begins before its job's release ("unreleased"), begins before the job's
+    previous step ends ("early"), or overlaps the other step on the machine ("overlap")."""
 
     kind: str
     job: int
@@ -84,19 +84,19 @@ class Fault(NamedTuple):
 
 
 class Verdict(NamedTuple):
-    """What `check` says: is the schedule feasible, and the line of the program, as `feasible 55`."""
+    """The verdict of `check`: is the schedule feasible, and the line that the program prints, as `feasible 55`."""
 
     is_feasible: bool
     line: str
 
     @property
     def makespan(self) -> Optional[int]:
-        """The makespan of a feasible schedule; None where it isn't."""
+        """The makespan of a feasible schedule; None if it is infeasible."""
         return int(self.line.split()[1]) if self.is_feasible else None
 
     @property
     def fault(self) -> Optional[Fault]:
-        """The first fault of an infeasible schedule; None where it is feasible."""
+        """The first fault of an infeasible schedule; None if it is feasible."""
         if self.is_feasible:
             return None
         numbers = [int(word) for word in self.line.split() if word.isdigit()]
@@ -107,7 +107,7 @@ class Verdict(NamedTuple):
 
 
 class Report(NamedTuple):
-    """What `solve` says: the report as the program prints it, and what stands in it."""
+    """The report of `solve`: its text as the program prints it, and its numbers."""
 
     text: str
     name: str
@@ -201,7 +201,7 @@ def _number_of(word, words):
 
 
 def _answer(length, call, *arguments):
-    """The outcome and the text that a call answers, for which a room of this length is enough."""
+    """The outcome of a call and its answer, for which a room of this length is enough."""
     room = ctypes.create_string_buffer(length)
     outcome = call(*arguments, room, length)
     if outcome.status == BAD_ARGUMENT:
@@ -214,7 +214,7 @@ def _answer(length, call, *arguments):
 
 
 def _apart(call):
-    """The call, which a thread of its own makes where it would keep Ctrl-C from the main thread."""
+    """The call; in the main thread, which it would keep from Ctrl-C, a thread of its own makes it."""
 
     def begin(*arguments):
         outcomes = SimpleQueue()
@@ -241,8 +241,8 @@ def check(
     name: Optional[Text] = None,
     format: str = "orlib",
 ) -> Verdict:
-    """Judges a schedule of the first instance of a text, or of that of a name. The schedule is a text, or a list with
-    the starts of each job; without one it stands in the text of the instance."""
+    """Judges a schedule of the text's first instance, or of the one with this name. The schedule is a text, or a list
+    with the starts of each job; without one the text has its lines, too."""
     arguments = [_number_of(format, FORMATS), *_name(name), *_bytes(text), *_schedule(schedule)]
     outcome, line = _answer(256, _library.jobshop_check, *arguments)
     return Verdict(outcome.feasible, line.rstrip("\n"))
@@ -259,7 +259,8 @@ def solve(
     name: Optional[Text] = None,
     format: str = "orlib",
 ) -> Report:
-    """Searches a schedule of least makespan by a plan, with one worker, and reports it with a proved lower bound."""
+    """Searches for a schedule of least makespan by a plan, with one worker, and reports the best one found with a
+    proved lower bound."""
     numbers = (rounds, 100_000), (budget, 10_000_000), (piece, 1_000)
     if any(not 0 <= number <= most for number, most in numbers):
         raise ValueError("an option is out of range")

@@ -2,9 +2,9 @@
 
     python3 show_instance.py FORMAT TEXT [NAME] | python3 floor.py
 
-The head of a step is its job's release and the times of the steps before it; its tail is the times of the steps behind
-it. For a machine the least head, all times and the least tail are added; for a job its release and all times. The floor
-is the greatest sum.
+The head of a step is its job's release plus the times of the job's earlier steps; its tail is the times of the later
+ones. A machine's sum is its least head, all its times and its least tail; a job's sum is its release and all its times.
+The floor is the greatest sum.
 """
 
 import re

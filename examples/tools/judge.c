@@ -4,7 +4,7 @@
 
 static char text[1 << 20], schedule[1 << 20], room[256];
 
-/* Reads a file; of one that can't be read, or is too long, it says so. */
+/* Reads a file, or says that it can't be read or is too long. */
 static bool read_file(const char *path, char *into, size_t most, size_t *length) {
     FILE *file = fopen(path, "rb");
     if (file != NULL) *length = fread(into, 1, most, file);

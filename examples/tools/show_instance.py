@@ -2,9 +2,9 @@
 
     python3 show_instance.py FORMAT TEXT [NAME]
 
-A line has a step: job, step, machine, time, where jobs, steps and machines count from 0. In the format `routes` a line
-with the job's release stands above its steps. Without NAME the first instance is printed. If the program accepts the
-text, this is the instance that its report is about: compare it with where the numbers come from.
+A line has a step: job, step, machine, time. Jobs, steps and machines count from 0. In the format `routes` a line with
+the job's release stands above its steps. Without NAME the first instance is printed. If the program accepts the text,
+its report is about this instance: compare it with where your numbers come from.
 """
 
 import sys

@@ -1,7 +1,7 @@
 """Reads texts as docs/FORMATS.md says, and shares nothing with the program.
 
-A text is bytes. LF ends a line; space, tab and CR separate tokens. (Python's own lines and blanks are more than these.)
-A text that the program refuses is refused by a ValueError, or read as something.
+A text is bytes. LF ends a line; space, tab and CR separate tokens. (Python's own functions know more line ends and
+blanks.) A text that the program refuses raises a ValueError, or is read as something.
 """
 
 import re
@@ -17,7 +17,7 @@ def lines_of(text):
 
 
 def value(token):
-    """The value of a number, which may begin with zeros. Of more than 16 digits behind them it is over every limit."""
+    """The value of a number, which may begin with zeros. More than 16 digits behind them are over every limit."""
     digits = token.lstrip(b"0") or b"0"
     if not token.isdigit() or len(digits) > 16:
         raise ValueError(f"{token[:40]!r} is no number, or over every limit")

@@ -7,7 +7,7 @@ use shop_engine::{
 };
 use shop_round::Alone;
 use shop_runs::Plan;
-use shop_text::{Format, ReadFault};
+use shop_text::Format;
 use std::alloc::Global;
 use std::io;
 use std::io::{ErrorKind, Read, Write};
@@ -236,7 +236,7 @@ fn a_writer_fails_at_each_call(rt: HostRuntime) {
 
 /// Asserts that of a source with 100 bytes above the limit 99 are left, and nothing is written.
 fn assert_too_long(rt: &impl Abort, answer: Answer, reader: &Reader) {
-    let refused = Err(Fault::Text(ReadFault::TooLong));
+    let refused = Err(Fault::TooLong);
     assert_answer(rt, 0, answer, (refused, b"".as_slice()));
     assert!(rt; reader.left.len() == 99);
 }
@@ -311,7 +311,7 @@ fn assert_unread(rt: &impl Abort, alloc: Global, text: &str, call: u64, fault: F
 
 #[test]
 fn a_schedule_is_not_read_where_the_instance_is_refused(rt: HostRuntime) {
-    let fault = Fault::Text(ReadFault::BadShape { line: 1 });
+    let fault = Fault::BadShape { line: 1 };
     assert_unread(&rt, rt.alloc(), "2", 9, fault);
     assert_unread(&rt, rt.alloc(), CROSSING, 5, Fault::ReadFailed);
 }

@@ -174,39 +174,33 @@ fn assert_said(rt: &impl Abort, alloc: Global, fault: &Fault, wanted: &str) {
 }
 
 static FAULTS: [(Fault, &str); 13] = [
-    (Fault::Text(ReadFault::NoMemory), "error 1: out of memory"),
-    (Fault::Text(ReadFault::TooLong), "error 3: text too long"),
-    (Fault::Text(ReadFault::NoInstance), "error 4: no instance"),
+    (Fault::NoMemory, "error 1: out of memory"),
+    (Fault::TooLong, "error 3: text too long"),
+    (Fault::NoInstance, "error 4: no instance"),
     (
-        Fault::Text(ReadFault::BadShape { line: 5 }),
+        Fault::BadShape { line: 5 },
         "error 5: line 5: bad shape of size line",
     ),
     (
-        Fault::Text(ReadFault::BadSize { line: 6 }),
+        Fault::BadSize { line: 6 },
         "error 6: line 6: size out of range",
     ),
+    (Fault::BadRow { line: 7 }, "error 7: line 7: bad row"),
     (
-        Fault::Text(ReadFault::BadRow { line: 7 }),
-        "error 7: line 7: bad row",
-    ),
-    (
-        Fault::Text(ReadFault::Truncated { line: 8 }),
+        Fault::Truncated { line: 8 },
         "error 8: line 8: text ends inside an instance",
     ),
     (
-        Fault::Text(ReadFault::BadMachine { line: 9 }),
+        Fault::BadMachine { line: 9 },
         "error 9: line 9: no such machine",
     ),
     (
-        Fault::Text(ReadFault::BadTime { line: 10 }),
+        Fault::BadTime { line: 10 },
         "error 10: line 10: time out of range",
     ),
+    (Fault::NoSuchName, "error 11: no instance of that name"),
     (
-        Fault::Text(ReadFault::NoSuchName),
-        "error 11: no instance of that name",
-    ),
-    (
-        Fault::Text(ReadFault::BadTable { line: 12 }),
+        Fault::BadTable { line: 12 },
         "error 12: line 12: bad schedule",
     ),
     (Fault::ReadFailed, "error 13: read failed"),
@@ -217,5 +211,27 @@ static FAULTS: [(Fault, &str); 13] = [
 fn words_of_faults(rt: HostRuntime) {
     for (fault, said) in &FAULTS {
         assert_said(&rt, rt.alloc(), fault, said);
+    }
+}
+
+static READ_FAULTS: [ReadFault; 11] = [
+    ReadFault::NoMemory,
+    ReadFault::TooLong,
+    ReadFault::NoInstance,
+    ReadFault::BadShape { line: 5 },
+    ReadFault::BadSize { line: 6 },
+    ReadFault::BadRow { line: 7 },
+    ReadFault::Truncated { line: 8 },
+    ReadFault::BadMachine { line: 9 },
+    ReadFault::BadTime { line: 10 },
+    ReadFault::NoSuchName,
+    ReadFault::BadTable { line: 12 },
+];
+
+#[test]
+fn a_text_is_refused_in_the_words_of_the_engine(rt: HostRuntime) {
+    for fault in &READ_FAULTS {
+        let said = format!(in rt.alloc(); "{fault}").expect(&rt, "memory");
+        assert_said(&rt, rt.alloc(), &Fault::from(*fault), said.as_str());
     }
 }

@@ -1,5 +1,5 @@
--- Crews by how many workers they have.
---     workers_of crew      so many workers search side by side
+-- Crews by their number of workers.
+--     workers_of crew      how many workers search side by side
 use Rattle.std.specs.Prelude.{ℕ}
 use Rattle.shop_board.specs.declared.worker_crews.WorkerCrew.{WorkerCrew}
 use Rattle.shop_board.specs.declared.worker_crews.WorkerCrew.TheVariants.{One, Several}

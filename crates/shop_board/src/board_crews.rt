@@ -11,8 +11,8 @@ use shop_workers::{OpenGate, SeatGate};
 use std::alloc::{AllocError as NoMemory, Global};
 use std::thread::Threads;
 
-/// Workers that claim pieces on a board. Worker 0 is the calling thread. A search may wait for its
-/// workers to end, and has joined all of them when it returns.
+/// A crew whose workers claim pieces on a board. Worker 0 is the calling thread. A search may wait for the other
+/// workers, and joins all of them before it returns.
 #[derive(Drop)]
 pub struct BoardCrew<G> {
     workers: Workers,
@@ -20,7 +20,7 @@ pub struct BoardCrew<G> {
 }
 
 impl<G: Drop> BoardCrew<G> {
-    /// Makes a crew of 1 to 64 workers; for any other number it is `None`.
+    /// Makes a crew of `workers` workers, which call `gate`, or answers `None` if `workers` isn't 1 to 64.
     pub fn new(workers: usize, gate: G) -> Option<BoardCrew<G>>
         ensures within { IsSome result ↔ ((0 < workers) × (workers ≤ MAX_WORKERS)) }
         ensures keeps { IfSome result (λ c. (c.workers.count ≡ workers) × (c.gate ≡ gate)) }
@@ -31,7 +31,7 @@ impl<G: Drop> BoardCrew<G> {
 }
 
 impl<G> BoardCrew<G> {
-    /// Makes a crew of so many workers.
+    /// Makes a crew of `workers.count` workers, which call `gate`.
     pub fn of(workers: Workers, gate: G) -> BoardCrew<G>
         ensures count { result.workers.count ≡ workers.count }
         ensures gate { result.gate ≡ gate }
@@ -39,7 +39,7 @@ impl<G> BoardCrew<G> {
         BoardCrew { workers, gate }
     }
 
-    /// Gives the gate, with what it may have noted. For library callers: the program doesn't use it.
+    /// Answers a reference to the gate, for reading what it recorded. For library callers: the program doesn't use it.
     pub fn gate(&self) -> &G
         ensures { result.now ≡ self.now.gate }
     {
@@ -48,8 +48,8 @@ impl<G> BoardCrew<G> {
 }
 
 impl<G: SeatGate + Sync> BoardCrew<G> {
-    /// Gives one entry for each piece of the round, in number order, as `Crew::search` does, past any gate. Fails with
-    /// `NoMemory` if memory runs out, after all workers have been joined.
+    /// Does what `Crew::search` does, for a crew with a gate of any type: answers one entry for each piece of `round`,
+    /// in number order. Fails with `NoMemory` if memory runs out. Joins all workers before it returns or fails.
     pub fn search_round<'r, R: Threads + Sync>(
         &self,
         rt: &R,

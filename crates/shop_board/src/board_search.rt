@@ -1,4 +1,4 @@
-// A round searched by workers who claim its pieces on a board.
+// Searches a round by workers that claim its pieces on a board.
 ghost use Rattle.std.specs.Prelude.{◌≡◌, length, vec_len, All, IfOk, OnOk};
 ghost use Rattle.shop_runs.specs.Entries.{told};
 ghost use Rattle.shop_runs.specs.Crews.{OneForEach};
@@ -15,10 +15,9 @@ use std::alloc::{AllocError as NoMemory, Global};
 use std::thread;
 use std::thread::Threads;
 
-/// Claims each piece of the board in order, and searches or passes those that the seat wins. A piece is passed where
-/// the seat has read a lower number that was marked; one that was searched and ends at the opening bound is marked.
-/// The seat comes back with all that it knew and had won before, and with the entries of the pieces that it won in this
-/// call, in number order; or with `NoMemory` if memory runs out. It waits for nobody but the gate.
+/// Claims each piece of the board in order. Searches a piece that the seat wins, or skips it if the makespan of an
+/// earlier one is known to equal the opening bound. Answers the seat, and the entries of the pieces that it won in this
+/// call, or `NoMemory` if memory runs out.
 pub fn work<'r, G: SeatGate>(
     alloc: Global,
     board: &Board,
@@ -38,7 +37,7 @@ pub fn work<'r, G: SeatGate>(
     work_by::<PieceSearcher<'r>, G>(alloc, board, seat, round, worker, gate)
 }
 
-// Each worker on a thread of its own where one can be started, and the last on the calling thread.
+// Runs each worker in `lent` on a thread of its own if one can start, and the last worker on the calling thread.
 fn work_all<'r, R: Threads + Sync, G: SeatGate + Sync>(
     rt: &R,
     alloc: Global,
@@ -62,9 +61,9 @@ fn work_all<'r, R: Threads + Sync, G: SeatGate + Sync>(
     thread::map_vec(rt, lent, &worker)
 }
 
-/// Gives the entries of a round by this many workers at most, who claim its pieces on a board. No more are started than
-/// there are pieces; what a thread that can't be started would have done, the others do. A piece that nobody brought is
-/// claimed and searched by the calling thread. Fails with `NoMemory` if memory runs out.
+/// Searches `round` by `workers` workers (fewer if it has fewer pieces) that claim its pieces on a board. Answers one
+/// entry for each piece, in number order. If a thread can't start, the other threads do its work; the calling thread
+/// claims and searches the pieces for which no worker brought an entry. Fails with `NoMemory` if memory runs out.
 pub fn search_claimed<'r, R: Threads + Sync, G: SeatGate + Sync>(
     rt: &R,
     alloc: Global,

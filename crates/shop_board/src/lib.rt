@@ -1,4 +1,4 @@
-// Crews whose workers share a round: on a board of atomic flags, or over a pool behind a lock.
+// Crews whose workers share a round: they claim its pieces on an atomic board, or take them from a locked pool.
 #![tactic(auto)]
 
 mod board_crews;

@@ -1,4 +1,4 @@
-// A crew whose workers take numbers of pieces from one locked pool.
+// A crew whose workers take piece numbers from one locked pool.
 ghost use Rattle.std.specs.Thread.{IsSync};
 ghost use Rattle.std.specs.Prelude.{◌≡◌, ◌<◌, ◌≤◌, ◌↔◌, IsSome, IfSome, IfOk};
 ghost use Rattle.shop_runs.specs.declared.plans.TheConstants.{MAX_WORKERS};
@@ -14,9 +14,8 @@ use std::sync::{Mutex, Wait};
 use std::thread;
 use std::thread::Threads;
 
-/// Workers that take numbers of pieces from one locked pool. Worker 0 is the calling thread. A search
-/// may wait for its workers, and has joined all of them when it returns. For library callers: the
-/// program doesn't use it.
+/// A crew whose workers take piece numbers from one locked pool. Worker 0 is the calling thread. A search may wait for
+/// the other workers, and joins all of them before it returns. For library callers: the program doesn't use it.
 #[derive(Drop)]
 pub struct LockCrew<G> {
     workers: Workers,
@@ -24,7 +23,7 @@ pub struct LockCrew<G> {
 }
 
 impl<G: Drop> LockCrew<G> {
-    /// Makes a crew of 1 to 64 workers; for any other number it is `None`.
+    /// Makes a crew of `workers` workers, which call `gate`, or answers `None` if `workers` isn't 1 to 64.
     pub fn new(workers: usize, gate: G) -> Option<LockCrew<G>>
         ensures within { IsSome result ↔ ((0 < workers) × (workers ≤ MAX_WORKERS)) }
         ensures keeps { IfSome result (λ c. (c.workers.count ≡ workers) × (c.gate ≡ gate)) }
@@ -35,7 +34,7 @@ impl<G: Drop> LockCrew<G> {
 }
 
 impl<G> LockCrew<G> {
-    /// Gives the gate, with what it may have noted.
+    /// Answers a reference to the gate, for reading what it recorded.
     pub fn gate(&self) -> &G
         ensures { result.now ≡ self.now.gate }
     {
@@ -44,8 +43,8 @@ impl<G> LockCrew<G> {
 }
 
 impl<G: Gate + Sync> LockCrew<G> {
-    /// Gives one entry for each piece of the round, in number order, as `Crew::search` does, past any gate. Fails with
-    /// `NoMemory` if memory runs out, after all workers have been joined.
+    /// Does what `Crew::search` does, for a crew with a gate of any type: answers one entry for each piece of `round`,
+    /// in number order. Fails with `NoMemory` if memory runs out. Joins all workers before it returns or fails.
     pub fn search_round<'r, R: Threads + Wait + Sync>(
         &self,
         rt: &R,
@@ -71,7 +70,7 @@ impl<R: Threads + Wait + Sync> Crew<R> for LockCrew<OpenGate> {
     }
 }
 
-// The entries of the pieces that a worker takes and searches.
+// Searches, by `shop_tree`, the pieces whose numbers worker `worker` takes from `pool`, and answers their entries.
 fn serve_by_search<'r, R: Wait, G: Gate>(
     rt: &R,
     alloc: Global,
@@ -85,8 +84,8 @@ fn serve_by_search<'r, R: Wait, G: Gate>(
     serve::<PieceSearcher<'r>, R, G>(rt, alloc, round, pool, gate, worker)
 }
 
-// The entries of a round by this many workers at most, of which the calling thread is one. No more are started than
-// there are pieces; what a thread that can't be started would have done, the others do.
+// Searches `round` by `workers` workers (fewer if it has fewer pieces) that take piece numbers from a pool. The calling
+// thread is one of them. If a thread can't start, the other threads do its work.
 fn search_shared<'r, R: Threads + Wait + Sync, G: Gate + Sync>(
     rt: &R,
     alloc: Global,
@@ -100,7 +99,7 @@ fn search_shared<'r, R: Threads + Wait + Sync, G: Gate + Sync>(
     let pool = Mutex::new(Pool::open(pieces));
     let lock = &pool;
     let count = workers.min(pieces);
-    // The last index runs on the calling thread.
+    // `map_indices` runs the last index on the calling thread, which is thus worker 0.
     let lists = thread::map_indices(
         rt,
         alloc,

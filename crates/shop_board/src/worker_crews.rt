@@ -1,4 +1,4 @@
-// The crew of a program that is told how many workers search.
+// The crew that the program makes for a number of workers.
 ghost use Rattle.std.specs.Prelude.{◌≡◌};
 ghost use Rattle.std.specs.Thread.{IsSync};
 ghost use Rattle.shop_board.specs.Crews.{workers_of};
@@ -10,7 +10,7 @@ use shop_workers::OpenGate;
 use std::alloc::{AllocError as NoMemory, Global};
 use std::thread::Threads;
 
-/// One worker is the calling thread alone, and more claim pieces on a board.
+/// The crew for a number of workers: one searches on the calling thread alone; several claim pieces on a board.
 #[derive(Drop)]
 pub enum WorkerCrew {
     One(Alone),
@@ -33,7 +33,7 @@ impl<R: Threads + Sync> Crew<R> for WorkerCrew {
     }
 }
 
-/// Makes the crew of so many workers.
+/// Makes the `WorkerCrew` for a number of workers.
 #[derive(Clone, Copy)]
 pub struct ByWorkers;
 

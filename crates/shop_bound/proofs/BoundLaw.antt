@@ -7,7 +7,7 @@ use Rattle.std.proofs.lemmas.List.{drop_more, drop_all}
 use Rattle.std.proofs.lemmas.List.Sums.{sum_by-cons}
 use Rattle.shop_model.specs.declared.ops.Op.{Op}
 use Rattle.shop_model.specs.Shop.{Shop, Starts, no_op, route_of, machine_of, time_of, IsOperation, IsFeasible}
-use Rattle.shop_model.specs.Shop.{finish_of, AreDifferent, end_of, greatest_below}
+use Rattle.shop_model.specs.Shop.{finish_of, end_of, greatest_below}
 use Rattle.shop_model.specs.Word.{Placing, placing, IsWord, IsFull, IsUnder}
 use Rattle.shop_model.proofs.Greatest.{greatest_below-le, greatest_below-equal}
 use Rattle.shop_model.proofs.PlacedTables.{full_under, under_beginning}
@@ -21,17 +21,13 @@ use Rattle.shop_bound.specs.Bound.{Waiting, waiting_from, waiting_of, waiting, t
 use Rattle.shop_bound.specs.Laws.{EndsAtItsBound}
 use Rattle.shop_bound.proofs.Lists.{Pairwise, all_map, all_both, all_append, all_filter, pairwise_filter}
 use Rattle.shop_bound.proofs.Lists.{pairwise_append, all_sublist, pairwise_sublist, least_of-le, packed}
+use Rattle.shop_bound.proofs.SameSums.{mapped}
 use Rattle.shop_bound.proofs.Spans.{greatest_sublist-le}
 
 all_unmap : {A B : Type 0} (g : A → B) (P : B → Type 0) → (xs : List A) → AllByRecursion P (map g xs)
     → AllByRecursion (λ x. P (g x)) xs
 all_unmap g P [] h = tt
 all_unmap g P (x ∷ xs) h = (h.0, all_unmap g P xs h.1)
-
-sum_by-map : {A B : Type 0} (g : A → B) (f : B → ℕ) → (xs : List A) → sum_by f (map g xs) ≡ sum_by (λ x. f (g x)) xs
-sum_by-map g f [] = refl
-sum_by-map g f (x ∷ xs) = let a = sum_by-cons f (g x) (map g xs) in let b = sum_by-cons (λ x. f (g x)) x xs in let c =
-    sum_by-map g f xs in omega arith
 
 -- what stands at the front of the rest of a list
 pub front_of : (xs : List Op) (k : ℕ) (o : Op) (os : List Op) → drop k xs ≡ o ∷ os
@@ -146,14 +142,7 @@ module _ (shop : Shop) (starts : Starts) (feasible : IsFeasible shop starts) whe
       → Earlier x y
       → (start_of x + x.triple.time ≤ start_of y) ⊎ (start_of y + y.triple.time ≤ start_of x)
   unfolding Earlier start_of
-  apart_on m x y f g e =
-      let same : machine_of shop x.job x.step ≡ machine_of shop y.job y.step =
-      sym f.0.machine ∙ (f.1 ∙ (sym g.1 ∙ g.0.machine))
-      in let different : AreDifferent x.job x.step y.job y.step =
-      (λ d. elim e [ inl h ↦ omega arith | inr h ↦ omega arith ])
-      in let tx = f.0.time in let ty = g.0.time
-      in elim (feasible.apart x.job x.step y.job y.step f.0.operation g.0.operation same different)
-      [ inl h ↦ inl (omega arith) | inr h ↦ inr (omega arith) ]
+  apart_on m x y f g e = grind arith
 
   pairwise_on : (m : ℕ) (xs : List Waiting) → AllByRecursion (λ x. Fits shop starts x × (x.machine ≡ m)) xs
       → Pairwise Earlier xs
@@ -192,7 +181,7 @@ module _ (shop : Shop) (starts : Starts) (feasible : IsFeasible shop starts) whe
       (all_both (λ y. (h ≤ y.triple.head) × (t ≤ y.triple.tail)) (λ y. Fits shop starts y × (y.machine ≡ m)) (x ∷ xs)
       (all_both (λ y. h ≤ y.triple.head) (λ y. t ≤ y.triple.tail) (x ∷ xs) heads tails) f))
       apart
-      in let sums = sum_by-map (λ (y : Waiting). y.triple) (λ (u : Triple). u.time) (x ∷ xs)
+      in let sums = mapped (λ (y : Waiting). y.triple) (λ (u : Triple). u.time) (x ∷ xs)
       in omega arith
 
   -- the span of operations of one machine is at most the end

@@ -1,14 +1,12 @@
 -- The bound of a word is at most the bound of the word with one more entry.
 use Rattle.std.proofs.Common.{◌≡◌, ℕ, zero, suc, ◌+◌, ◌-◌, ◌≤◌, ◌<◌, max, inl, inr, List, [], ◌∷◌, ◌++◌, length}
 use Rattle.std.proofs.Common.{map, drop, get_or, eqb, refl, sym, ◌∙◌, ap, subst, arith, append_assoc}
-use Rattle.std.proofs.Common.{zero-add}
+use Rattle.std.proofs.Common.{zero-add, eq-eqb}
 use Rattle.std.specs.List.{AllByRecursion, filter, flat_map, range_with_len, sum_by}
-use Rattle.std.proofs.lemmas.Bool.{cases_eq, eqb-true}
-use Rattle.std.proofs.lemmas.Bool.Decides.{eqb_tells}
+use Rattle.std.proofs.lemmas.Bool.{cases_eq, eqb-true, ne_eqb}
 use Rattle.std.proofs.lemmas.Grind.{flat_map-append}
-use Rattle.std.proofs.lemmas.List.{append-nil, drop_more, map-append}
+use Rattle.std.proofs.lemmas.List.{append-nil, drop_more}
 use Rattle.std.proofs.lemmas.List.Sums.{sum_by-cons}
-use Rattle.std.proofs.lemmas.List.Elements.{filter-append}
 use Rattle.shop_model.specs.declared.ops.Op.{Op}
 use Rattle.shop_model.specs.Limits.{IsWithinLimits}
 use Rattle.shop_model.specs.Shop.{Shop, no_op, route_of, machine_of, IsOperation, greatest_below}
@@ -23,6 +21,7 @@ use Rattle.shop_bound.specs.Bound.{Waiting, waiting_from, waiting_of, waiting, t
 use Rattle.shop_bound.specs.OneMachine.{one, span_of}
 use Rattle.shop_bound.proofs.BoundLaw.{front_of}
 use Rattle.shop_bound.proofs.Entries.{IsWord-front}
+use Rattle.shop_bound.proofs.UnplacedTurns.{triples_on-append}
 use Rattle.shop_bound.proofs.Lists.{IsSublist, skip, keep, sublist_none, all_append, all_filter}
 use Rattle.shop_bound.proofs.PlacedEnds.{le-placed_end, placed_end-grows}
 use Rattle.shop_bound.proofs.Raised.{AreRaised, WaitRaised, wait_append, raised_on, one_raised, one_taken}
@@ -64,25 +63,13 @@ late_jobs shop p (j ∷ js) =
     all_append (λ x. p.free x.machine ≤ x.triple.head) (waiting_of shop p j) (flat_map (λ j. waiting_of shop p j) js)
     (late_walk p.free j (p.steps j) (p.ready j) (drop (p.steps j) (route_of shop j))) (late_jobs shop p js)
 
-triples_append : (m : ℕ) (xs ys : List Waiting) → triples_on m (xs ++ ys) ≡ triples_on m xs ++ triples_on m ys
-triples_append m xs ys =
-    ap (map (λ (x : Waiting). x.triple)) (filter-append (λ (x : Waiting). eqb x.machine m) xs ys)
-    ∙ map-append (λ (x : Waiting). x.triple) (filter (λ (x : Waiting). eqb x.machine m) xs)
-    (filter (λ (x : Waiting). eqb x.machine m) ys)
-
 triples_next : (m : ℕ) (x : Waiting) (xs : List Waiting) → x.machine ≡ m
     → triples_on m (x ∷ xs) ≡ x.triple ∷ triples_on m xs
-triples_next m x xs e = elim (eqb_tells x.machine m) [
-  | inl t ↦ rw t.0 refl
-  | inr t ↦ absurd (t.1 e)
-]
+triples_next m x xs e = rw (eq-eqb x.machine m e) refl
 
 triples_other : (m : ℕ) (x : Waiting) (xs : List Waiting) → (x.machine ≡ m → ⊥)
     → triples_on m (x ∷ xs) ≡ triples_on m xs
-triples_other m x xs ne = elim (eqb_tells x.machine m) [
-  | inl t ↦ absurd (ne t.1)
-  | inr t ↦ rw t.0 refl
-]
+triples_other m x xs ne = rw (ne_eqb x.machine m ne) refl
 
 -- one operation is a sublist of each list that has it
 single : {A : Type 0} (xs : List A) (y : A) (ys : List A) → IsSublist (y ∷ []) (xs ++ y ∷ ys)
@@ -172,9 +159,7 @@ module _ (shop : Shop) (limits : IsWithinLimits shop) (p : Placing) (j : ℕ) (q
       ≡ range_with_len 0 j ++ j ∷ range_with_len (j + 1) (length shop.jobs - (j + 1)) =
       ap (range_with_len 0) (sym long) ∙ (range_cut 0 j (length shop.jobs - (j + 1))
       ∙ ap (λ (i : ℕ). range_with_len 0 j ++ i ∷ range_with_len (i + 1) (length shop.jobs - (j + 1))) (zero-add j))
-      in ap (flat_map (λ i. waiting_of shop r i)) range
-      ∙ flat_map-append (λ i. waiting_of shop r i) (range_with_len 0 j)
-      (j ∷ range_with_len (j + 1) (length shop.jobs - (j + 1)))
+      in grind (arith, job, long, range, flat_map-append)
 
   before : waiting shop p ≡ fronts p ++ was ∷ (rest_before ++ backs p)
   before = cut_at p ∙ ap (λ (xs : List Waiting). fronts p ++ (xs ++ backs p)) job_before
@@ -194,10 +179,7 @@ module _ (shop : Shop) (limits : IsWithinLimits shop) (p : Placing) (j : ℕ) (q
       (triples_on m (waiting shop q))
   raised_for m =
       let a = raised_on m (fronts p ++ (rest_before ++ backs p)) (fronts q ++ (rest_after ++ backs q)) all_raised
-      in subst (λ (xs : List Triple). AreRaised xs (triples_on m (waiting shop q)))
-      (triples_append m (fronts p) (rest_before ++ backs p))
-      (subst (λ (ws : List Waiting). AreRaised (triples_on m (fronts p ++ (rest_before ++ backs p)))
-      (triples_on m ws)) (sym after) a)
+      in grind (arith, a, triples_on-append, fronts, rest_before, backs, after)
 
   -- after it no head on its machine is below its end
   late_for : (m : ℕ) → was.machine ≡ m
@@ -217,16 +199,11 @@ module _ (shop : Shop) (limits : IsWithinLimits shop) (p : Placing) (j : ℕ) (q
   -- before it is placed it is among what waits for its machine, so it ends by the bound of that
   waits_on : (m : ℕ) → was.machine ≡ m → triples_on m (waiting shop p)
       ≡ triples_on m (fronts p) ++ was.triple ∷ triples_on m (rest_before ++ backs p)
-  waits_on m e =
-      ap (triples_on m) before ∙ (triples_append m (fronts p) (was ∷ (rest_before ++ backs p))
-      ∙ ap (λ (xs : List Triple). triples_on m (fronts p) ++ xs) (triples_next m was (rest_before ++ backs p) e))
+  waits_on m e = grind (arith, before, triples_on-append, fronts, was, rest_before, backs, triples_next)
 
   pub end-le-left : (m : ℕ) → machine_of shop j (p.steps j) ≡ m → q.free m ≤ one (triples_on m (waiting shop p))
   unfolding was placed_op
-  end-le-left m e =
-      let a = alone-le (triples_on m (fronts p)) was.triple (triples_on m (rest_before ++ backs p))
-      in let b = ap one (waits_on m e)
-      in let c = ends_free m e in omega arith
+  end-le-left m e = grind (arith, alone-le, fronts, rest_before, backs, waits_on, ends_free)
 
   module _ (b : ℕ) (ends : placed_end shop q ≤ b) (each : (m : ℕ) → m < shop.machines
       → one (triples_on m (waiting shop q)) ≤ b) where
@@ -265,7 +242,7 @@ module _ (shop : Shop) (limits : IsWithinLimits shop) (p : Placing) (j : ℕ) (q
           after ∙ ap (λ (xs : List Waiting). fronts q ++ (xs ++ backs q)) first
           in let split : triples_on o.machine (waiting shop q)
           ≡ triples_on o.machine (fronts q) ++ next.triple ∷ triples_on o.machine (rest ++ backs q) =
-          ap (triples_on o.machine) here ∙ (triples_append o.machine (fronts q) (next ∷ (rest ++ backs q))
+          ap (triples_on o.machine) here ∙ (triples_on-append o.machine (fronts q) (next ∷ (rest ++ backs q))
           ∙ ap (λ (xs : List Triple). triples_on o.machine (fronts q) ++ xs)
           (triples_next o.machine next (rest ++ backs q) refl))
           in let c = alone-le (triples_on o.machine (fronts q)) next.triple (triples_on o.machine (rest ++ backs q))
@@ -282,7 +259,7 @@ module _ (shop : Shop) (limits : IsWithinLimits shop) (p : Placing) (j : ℕ) (q
           (raised_for m) (late_for m e) alone (each m known)))
       | inr ne ↦ (let split : triples_on m (waiting shop p)
           ≡ triples_on m (fronts p) ++ triples_on m (rest_before ++ backs p) =
-          ap (triples_on m) before ∙ (triples_append m (fronts p) (was ∷ (rest_before ++ backs p))
+          ap (triples_on m) before ∙ (triples_on-append m (fronts p) (was ∷ (rest_before ++ backs p))
           ∙ ap (λ (xs : List Triple). triples_on m (fronts p) ++ xs)
           (triples_other m was (rest_before ++ backs p) ne))
           in let a = each m known

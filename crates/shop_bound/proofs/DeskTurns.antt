@@ -1,8 +1,7 @@
 -- What a desk's trail says after one more dispatch, and without the last one.
-use Rattle.std.proofs.Common.{◌≡◌, ℕ, ◌+◌, ◌-◌, ◌≤◌, ◌<◌, List, [], ◌∷◌, ◌++◌, length, take, get_or, refl, sym, ◌∙◌, ap}
+use Rattle.std.proofs.Common.{◌≡◌, ℕ, ◌≤◌, ◌<◌, List, [], ◌∷◌, ◌++◌, length, get_or, refl, ◌∙◌, ap}
 use Rattle.std.proofs.Common.{arith, vec_capacity}
 use Rattle.std.specs.List.{fold}
-use Rattle.std.proofs.lemmas.List.{take_all, take_more}
 use Rattle.shop_model.specs.declared.ops.Op.{Op}
 use Rattle.shop_model.specs.Shop.{Shop, machine_of, no_op, route_of}
 use Rattle.shop_model.specs.Word.{IsWord, Placing, none_placed, place_next, placing}
@@ -10,7 +9,6 @@ use Rattle.shop_model.specs.Placements.{PlacesNext, TakesBack}
 use Rattle.shop_model.proofs.PlacementLemmas.{IsAboutToPlace, about_to_place}
 use Rattle.shop_model.proofs.Unders.{placing-snoc}
 use Rattle.shop_model.proofs.WordLemmas.{IsWord-init}
-use Rattle.shop_bound.specs.Desks.{DeskState, IsUndone}
 use Rattle.shop_bound.specs.declared.desks.Desk.TheInside.{Inside}
 use Rattle.shop_bound.specs.declared.desks.Replaced.{Replaced}
 use Rattle.shop_bound.specs.inner.Trails.{IsReplaced, AreReplaced, IsDesk}
@@ -107,12 +105,3 @@ taken d is e shop j jobs r more back jobs_room replaced_room room =
       replaced_room = omega arith;
       room = rw room is.room;
     })
-
--- the instance stays the same
-pub undone_shop : (s t : DeskState) → IsUndone s t → 0 < length s.word → t.shop ≡ s.shop
-undone_shop s t undone some =
-    let n = length s.word - 1
-    in let long : n + 1 ≡ length s.word = omega arith
-    in let cut : s.word ≡ take n s.word ++ get_or s.word n 0 ∷ [] =
-    sym (take_all (n + 1) s.word (omega arith)) ∙ take_more s.word n 0 (omega arith)
-    in ap (λ (d : DeskState). d.shop) (undone (take n s.word) (get_or s.word n 0) cut)

@@ -1,5 +1,5 @@
 -- Lists that are filled from their front.
-use Rattle.std.proofs.Common.{◌≡◌, ℕ, ◌+◌, List, [], ◌∷◌, ◌++◌, map, ◌∙◌, ap, arith}
+use Rattle.std.proofs.Common.{◌≡◌, ℕ, ◌+◌, List, [], ◌∷◌, ◌++◌, map, arith}
 use Rattle.std.specs.Prelude.{Vec}
 use Rattle.std.specs.List.{range_with_len}
 use Rattle.std.specs.declared.alloc.Global.{Global}
@@ -14,6 +14,4 @@ filled_more f xs ys k y filled here pushed = let a = map-range_with_len_more f 0
 pub rows_more : {B : Type 0} (f : ℕ → List B) (xs ys : List (Vec B Global)) (k : ℕ) (y : Vec B Global)
     → map (λ row. row.items) xs ≡ map f (range_with_len 0 k) → y.items ≡ f k → ys ≡ xs ++ y ∷ []
     → map (λ row. row.items) ys ≡ map f (range_with_len 0 (k + 1))
-rows_more f xs ys k y filled here pushed =
-    filled_more f (map (λ row. row.items) xs) (map (λ row. row.items) ys) k y.items filled here
-    (ap (λ vs. map (λ row. row.items) vs) pushed ∙ map-append (λ row. row.items) xs (y ∷ []))
+rows_more f xs ys k y filled here pushed = grind (arith, filled_more, map-append)

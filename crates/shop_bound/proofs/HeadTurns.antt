@@ -1,14 +1,14 @@
 -- Heads, as a walk along a route finds them.
-use Rattle.std.proofs.Common.{◌≡◌, ℕ, suc, ◌+◌, ◌*◌, ◌-◌, ◌≤◌, ◌<◌, max, inl, inr, List, [], length, map, get_or}
-use Rattle.std.proofs.Common.{Option, Some, None, Bool, cond, refl, sym, ◌∙◌, ap, arith, leb}
-use Rattle.std.proofs.Common.{ltb}
+use Rattle.std.proofs.Common.{◌≡◌, ℕ, ◌+◌, ◌*◌, ◌-◌, ◌≤◌, ◌<◌, max, inl, inr, List, [], length, map, get_or}
+use Rattle.std.proofs.Common.{Option, Some, None, refl, sym, ◌∙◌, ap, arith}
 use Rattle.std.specs.List.{range_with_len}
-use Rattle.std.proofs.lemmas.Bool.{cases_lt, lt-leb, lt-ltb, le-ltb, le-leb, and_from, and_left, and_right}
+use Rattle.std.proofs.lemmas.Bool.{cases_lt, lt-leb, lt-ltb, le-leb}
+use Rattle.std.proofs.lemmas.Bool.Decides.{nat_tests}
 use Rattle.std.proofs.lemmas.List.{get_or_past}
 use Rattle.std.proofs.lemmas.List.FromFn.{get_or-map-range_with_len, length-map-range_with_len}
 use Rattle.shop_model.specs.declared.ops.Op.{Op}
 use Rattle.shop_model.specs.Limits.{IsWithinLimits}
-use Rattle.shop_model.specs.Shop.{Shop, ShopJob, no_job, no_op, route_of, machine_of, time_of}
+use Rattle.shop_model.specs.Shop.{Shop, ShopJob, no_job, no_op, route_of, time_of}
 use Rattle.shop_model.specs.Word.{Placing}
 use Rattle.shop_bound.specs.Heads.{ready_after, head_of, head_if_left, heads_at}
 use Rattle.shop_bound.specs.inner.HeadRows.{heads_of}
@@ -37,34 +37,19 @@ ready_first shop p j k h = let e : k - p.steps j ≡ 0 = omega arith in rw e ref
 
 pub ready_more : (shop : Shop) (p : Placing) (j k : ℕ) → p.steps j ≤ k
     → ready_after shop p j (k + 1 - p.steps j) ≡ head_of shop p j k + time_of shop j k
-ready_more shop p j k h =
-    let n = k - p.steps j
-    in let e : k + 1 - p.steps j ≡ suc n = omega arith
-    in let f : p.steps j + n ≡ k = omega arith
-    in ap (ready_after shop p j) e
-    ∙ ap (λ (x : ℕ). max (ready_after shop p j n) (p.free (machine_of shop j x)) + time_of shop j x) f
+ready_more shop p j k h = grind arith
 
 -- a head is there just where the operation is one that isn't placed
-tested : Shop → Placing → ℕ → ℕ → Bool → Option ℕ
-tested shop p j k b = cond b (Some (head_of shop p j k)) None
-
 pub head_none : (shop : Shop) (p : Placing) (j k : ℕ) → k < p.steps j → head_if_left shop p j k ≡ None
-unfolding tested
-head_none shop p j k h =
-    ap (tested shop p j k) (and_left (leb (p.steps j) k) (ltb k (length (route_of shop j))) (lt-leb (p.steps j) k h))
+head_none shop p j k h = rw (lt-leb (p.steps j) k h) refl
 
 pub head_some : (shop : Shop) (p : Placing) (j k : ℕ) → p.steps j ≤ k → k < length (route_of shop j)
     → head_if_left shop p j k ≡ Some (head_of shop p j k)
-unfolding tested
 head_some shop p j k h below =
-    ap (tested shop p j k) (and_from (leb (p.steps j) k) (ltb k (length (route_of shop j)))
-    (le-leb (p.steps j) k h) (lt-ltb k (length (route_of shop j)) below))
+    rw (le-leb (p.steps j) k h, lt-ltb k (length (route_of shop j)) below) refl
 
 pub head_past : (shop : Shop) (p : Placing) (j k : ℕ) → length (route_of shop j) ≤ k → head_if_left shop p j k ≡ None
-unfolding tested
-head_past shop p j k past =
-    ap (tested shop p j k) (and_right (leb (p.steps j) k) (ltb k (length (route_of shop j)))
-    (le-ltb k (length (route_of shop j)) past))
+head_past shop p j k past = grind (arith, nat_tests)
 
 -- one step of the walk
 module _ (shop : Shop) (s : PlacementState) (j : ℕ) (job : j < length shop.jobs) (placed : ℕ)
@@ -75,12 +60,7 @@ module _ (shop : Shop) (s : PlacementState) (j : ℕ) (job : j < length shop.job
 
   pub placed_turn : IsReady → k < placed → (p : Placing) → IsPlacement shop p s
       → (None ≡ head_if_left shop p j k) × (ready ≡ ready_after shop p j (k + 1 - p.steps j))
-  placed_turn known h p is =
-      let a = is.steps j job
-      in let b = ready_first shop p j k (omega arith)
-      in let c = ready_first shop p j (k + 1) (omega arith)
-      in let d = known p is
-      in (sym (head_none shop p j k (omega arith)), omega arith)
+  placed_turn known h p is = grind (arith, ready_first, head_none)
 
   pub left_turn : IsReady → placed ≤ k → (limits : IsWithinLimits shop) → (route : List Op) → route ≡ route_of shop j
       → k < length route
@@ -88,18 +68,7 @@ module _ (shop : Shop) (s : PlacementState) (j : ℕ) (job : j < length shop.job
       → IsPlacement shop p s
       → (Some head ≡ head_if_left shop p j k) × (head + (get_or route k no_op).time
       ≡ ready_after shop p j (k + 1 - p.steps j))
-  left_turn known h limits route e below f head read greater p is =
-      let a = is.steps j job
-      in let m : (get_or route k no_op).machine ≡ machine_of shop j k =
-      ap (λ (xs : List Op). (get_or xs k no_op).machine) e
-      in let t : (get_or route k no_op).time ≡ time_of shop j k = ap (λ (xs : List Op). (get_or xs k no_op).time) e
-      in let n : length route ≡ length (route_of shop j) = ap (λ (xs : List Op). length xs) e
-      in let free : get_or s.free (get_or route k no_op).machine 0 ≡ p.free (machine_of shop j k) =
-      ap (λ (i : ℕ). get_or s.free i 0) m ∙ is.free (machine_of shop j k) (limits.on_machines j k)
-      in let d = known p is
-      in let is_head : head ≡ head_of shop p j k = omega arith
-      in let more = ready_more shop p j k (omega arith)
-      in (ap (λ (x : ℕ). Some x) is_head ∙ sym (head_some shop p j k (omega arith) (omega arith)), omega arith)
+  left_turn known h limits route e below f head read greater p is = grind (arith, ready_more, head_some)
 
 -- and its sum is small
 pub left_small : (shop : Shop) → IsWithinLimits shop → (s : PlacementState) → AreEndsSmall shop s
@@ -108,13 +77,7 @@ pub left_small : (shop : Shop) → IsWithinLimits shop → (s : PlacementState) 
     → head ≡ max ready f
     → ready ≤ 1000000000000000 + k * 1000000000
     → head + (get_or route k no_op).time ≤ 1000000000000000 + (k + 1) * 1000000000
-left_small shop limits s small j route e k ready f head read greater so_far =
-    let m : (get_or route k no_op).machine ≡ machine_of shop j k = ap (λ (xs : List Op). (get_or xs k no_op).machine) e
-    in let t : (get_or route k no_op).time ≡ time_of shop j k = ap (λ (xs : List Op). (get_or xs k no_op).time) e
-    in let a = limits.times j k
-    in let on : (get_or route k no_op).machine < shop.machines = rw m (limits.on_machines j k)
-    in let b = small.free (get_or route k no_op).machine on
-    in omega arith
+left_small shop limits s small j route e k ready f head read greater so_far = grind arith
 
 -- the rows of the heads, one a job, tell each head
 pub rows_tell : (shop : Shop) (p : Placing) (rows : List (List (Option ℕ)))

@@ -1,7 +1,7 @@
 -- The operations that wait, as the walk along the routes lists them, have the heads and the tails of their
 -- definitions.
 use Rattle.std.proofs.Common.{◌≡◌, ℕ, ◌+◌, ◌-◌, ◌≤◌, max, List, [], ◌∷◌, ◌++◌, length, map}
-use Rattle.std.proofs.Common.{drop, get_or, refl, sym, ◌∙◌, ap, arith}
+use Rattle.std.proofs.Common.{drop, get_or, refl, ◌∙◌, ap, arith}
 use Rattle.std.specs.List.{flat_map, range_with_len, sum_by}
 use Rattle.std.proofs.lemmas.List.{length-drop}
 use Rattle.shop_model.specs.declared.ops.Op.{Op}
@@ -41,18 +41,13 @@ module _ (shop : Shop) (p : Placing) (j : ℕ) where
       in let more = ready_more shop p j k h
       in let rest = walk_from (k + 1) os front.2 (omega arith)
       in let here = get_or (route_of shop j) k no_op
-      in ap (λ (x : Op). first k x os ∷ next k x os) (sym front.1)
-      ∙ (ap (λ (xs : List Op). first k here xs ∷ next k here os) (sym front.2)
-      ∙ ap (λ (xs : List Waiting). waiting_at shop p j k ∷ xs)
-      (ap (λ (r : ℕ). waiting_from p.free j (k + 1) r os) (sym more) ∙ rest))
+      in grind (arith, front, more, rest, here, first, next)
 
   waiting_of-is : waiting_of shop p j ≡ map (waiting_at shop p j) (steps_left shop p j)
   waiting_of-is =
       let first = ready_first shop p j (p.steps j) (omega arith)
       in let walk = walk_from (p.steps j) (drop (p.steps j) (route_of shop j)) refl (omega arith)
-      in ap (λ (r : ℕ). waiting_from p.free j (p.steps j) r (drop (p.steps j) (route_of shop j))) (sym first)
-      ∙ (walk ∙ ap (λ (n : ℕ). map (waiting_at shop p j) (range_with_len (p.steps j) n))
-      (length-drop (p.steps j) (route_of shop j)))
+      in grind (arith, first, walk, length-drop)
 
 flat_map-same : {A : Type 0} (f g : ℕ → List A) (h : (j : ℕ) → f j ≡ g j) → (js : List ℕ)
     → flat_map f js ≡ flat_map g js
@@ -63,7 +58,4 @@ flat_map-same f g h (j ∷ js) =
 pub waiting_is : (shop : Shop) (p : Placing)
     → waiting shop p ≡ flat_map (λ j. map (waiting_at shop p j) (steps_left shop p j))
     (range_with_len 0 (length shop.jobs))
-waiting_is shop p =
-    flat_map-same (λ j. waiting_of shop p j) (λ j. map (waiting_at shop p j) (steps_left shop p j))
-    (waiting_of-is shop p)
-    (range_with_len 0 (length shop.jobs))
+waiting_is shop p = grind (arith, flat_map-same, waiting_of-is)

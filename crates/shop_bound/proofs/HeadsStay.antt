@@ -1,5 +1,5 @@
 -- Where heads stay as they are once one more operation is placed.
-use Rattle.std.proofs.Common.{◌≡◌, ℕ, zero, suc, ◌+◌, ◌-◌, ◌≤◌, ◌<◌, ◌⊎◌, inl, inr, refl, ap, arith}
+use Rattle.std.proofs.Common.{◌≡◌, ℕ, zero, suc, ◌+◌, ◌-◌, ◌≤◌, ◌<◌, ◌⊎◌, refl, ap, arith}
 use Rattle.std.proofs.lemmas.Bool.{cases_eq}
 use Rattle.shop_model.specs.Shop.{Shop, machine_of}
 use Rattle.shop_model.specs.Word.{Placing}
@@ -25,29 +25,12 @@ module _ (shop : Shop) (p : Placing) (j : ℕ) (q : Placing) (n : IsNext shop p 
 
   -- the job is ready for its first step that isn't placed as it was to be before
   pub ready_first_same : (i : ℕ) → q.ready i ≡ ready_after shop p i (q.steps i - p.steps i)
-  ready_first_same i = elim (cases_eq i j) [
-    | inl e ↦ rw e (let more = ready_more shop p j (p.steps j) (omega arith)
-        in let first = ready_first shop p j (p.steps j) (omega arith)
-        in let begins = n.begins_here in let ends = n.ready_here
-        in let k : q.steps j - p.steps j ≡ p.steps j + 1 - p.steps j =
-        ap (λ (x : ℕ). x - p.steps j) n.steps_here
-        in let r = ap (ready_after shop p j) k in omega arith)
-    | inr ne ↦ (let a = n.ready_other i ne in let b = n.steps_other i ne
-        in let first = ready_first shop p i (q.steps i) (omega arith) in omega arith)
-  ]
+  ready_first_same i = grind (arith, cases_eq, ready_more, ready_first)
 
   -- a head, where the job is ready as before
   head_same : (i l r s : ℕ) → r ≡ s → r ≡ ready_after shop q i (l - q.steps i)
       → s ≡ ready_after shop p i (l - p.steps i) → IsClear i l → head_of shop q i l ≡ head_of shop p i l
-  head_same i l r s same is_r is_s clear =
-      let m = machine_of shop i l
-      in elim (cases_eq m its_machine) [
-        | inl e ↦ (let was : p.free m ≡ p.free its_machine = ap p.free e
-            in let now : q.free m ≡ q.free its_machine = ap q.free e
-            in let rises = free_rises
-            in elim (clear e) [ inl a ↦ omega arith | inr b ↦ omega arith ])
-        | inr ne ↦ (let a = n.free_other m ne in omega arith)
-      ]
+  head_same i l r s same is_r is_s clear = grind (arith, cases_eq, free_rises)
 
   module _ (i : ℕ) where
     ready_same : (d l : ℕ) → q.steps i + d ≡ l → ((k : ℕ) → k < l → q.steps i ≤ k → IsClear i k)

@@ -30,21 +30,12 @@ times_from head ts = sum_by (λ t. t.time) (filter (begins_from head) ts)
 pub times_from-more : (head : ℕ) (us : List Triple) (x : Triple) → head ≤ x.head
     → times_from head (us ++ x ∷ []) ≡ times_from head us + x.time
 unfolding times_from
-times_from-more head us x h =
-    let e : filter (begins_from head) (us ++ x ∷ []) ≡ filter (begins_from head) us ++ x ∷ [] =
-    filter-append (begins_from head) us (x ∷ []) ∙ rw (le-leb head x.head h) refl
-    in ap (λ (ys : List Triple). sum_by (λ t. t.time) ys) e
-    ∙ sum_by_push (λ (t : Triple). t.time) (filter (begins_from head) us) x
+times_from-more head us x h = grind (arith, filter-append, le-leb, sum_by_push)
 
 pub times_from-less : (head : ℕ) (us : List Triple) (x : Triple) → x.head < head
     → times_from head (us ++ x ∷ []) ≡ times_from head us
 unfolding times_from
-times_from-less head us x h = elim (cases_Bool (leb head x.head)) [
-  | inl e ↦ absurd (let a = leb-true head x.head e in omega arith)
-  | inr e ↦ (let f : filter (begins_from head) (us ++ x ∷ []) ≡ filter (begins_from head) us =
-      filter-append (begins_from head) us (x ∷ []) ∙ rw e (append-nil (filter (begins_from head) us))
-      in ap (λ (ys : List Triple). sum_by (λ t. t.time) ys) f)
-]
+times_from-less head us x h = grind (arith, leb-true, filter-append, append-nil)
 
 module _ {A : Type 0} (f : A → ℕ) where
   -- in a nonincreasing list all before an element have at least its value

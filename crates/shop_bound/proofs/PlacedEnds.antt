@@ -1,5 +1,5 @@
 -- The greatest of the placed ends: it is when the last machine is free, and it never gets less.
-use Rattle.std.proofs.Common.{◌≡◌, ℕ, ◌≤◌, ◌<◌, inl, inr, List, length}
+use Rattle.std.proofs.Common.{◌≡◌, ℕ, ◌≤◌, ◌<◌, List, length}
 use Rattle.std.proofs.Common.{arith}
 use Rattle.std.proofs.lemmas.Bool.{cases_eq}
 use Rattle.shop_model.specs.Limits.{IsWithinLimits}
@@ -24,24 +24,16 @@ le-placed_end shop p j k job step =
 -- and where each placed operation ends by b, so does the last one
 pub placed_end-le : (shop : Shop) (p : Placing) (b : ℕ)
     → ((j k : ℕ) → j < length shop.jobs → k < p.steps j → finish_of shop p.begins j k ≤ b) → placed_end shop p ≤ b
-placed_end-le shop p b h =
-    greatest_below-le (λ i. greatest_below (p.steps i) (λ l. finish_of shop p.begins i l)) (length shop.jobs) b
-    (λ j job. greatest_below-le (λ l. finish_of shop p.begins j l) (p.steps j) b (λ k step. h j k job step))
+placed_end-le shop p b h = grind (arith, greatest_below-le)
 
 pub placed_end-grows : (shop : Shop) (p : Placing) (j : ℕ) (q : Placing) → IsNext shop p j q
     → placed_end shop p ≤ placed_end shop q
-placed_end-grows shop p j q n = placed_end-le shop p (placed_end shop q)
-    (λ i k job step. let a = n.begins_old i k step
-    in let b = le-placed_end shop q i k job (let g = steps_grow shop p j q n i in omega arith) in omega arith)
+placed_end-grows shop p j q n = grind (arith, placed_end-le, le-placed_end, steps_grow)
 
 -- no machine is free later than the last placed end
 next_free : (shop : Shop) (p : Placing) (j : ℕ) (q : Placing) → IsNext shop p j q → j < length shop.jobs
     → ((m : ℕ) → p.free m ≤ placed_end shop p) → (m : ℕ) → q.free m ≤ placed_end shop q
-next_free shop p j q n job before m = elim (cases_eq m (machine_of shop j (p.steps j))) [
-  | inl e ↦ (let a = n.free_here m e in let b =
-      le-placed_end shop q j (p.steps j) job (let s = n.steps_here in omega arith) in omega arith)
-  | inr ne ↦ (let a = n.free_other m ne in let b = before m in let c = placed_end-grows shop p j q n in omega arith)
-]
+next_free shop p j q n job before m = grind (arith, cases_eq, le-placed_end, placed_end-grows)
 
 pub free-le : (shop : Shop) (w : List ℕ) → IsWord shop w → (m : ℕ)
     → (placing shop w).free m ≤ placed_end shop (placing shop w)

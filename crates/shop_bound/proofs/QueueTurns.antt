@@ -40,9 +40,7 @@ module _ {A : Type 0} (place : A → ℕ) where
 
   pub times-other : (k : ℕ) (x : A) (xs : List A) → place x ≢ k → times place k (x ∷ xs) ≡ times place k xs
   unfolding times
-  times-other k x xs ne =
-      let a = sum_by-cons (λ (y : A). cond {A = ℕ} (place y == k) 1 0) x xs
-      in let b : cond {A = ℕ} (place x == k) 1 0 ≡ 0 = rw (ne_eqb (place x) k ne) refl in omega arith
+  times-other k x xs ne = grind (arith, sum_by-cons, ne_eqb)
 
   pub times-permutation : (k : ℕ) (xs ys : List A) → IsPermutation xs ys → times place k ys ≡ times place k xs
   unfolding times
@@ -69,21 +67,13 @@ module _ {A : Type 0} (place : A → ℕ) where
 -- what a heap's order says of its top
 then_less : (a b c d : ℕ) → is_lt (ordering_then (nat_cmp a b) (nat_cmp c d)) ≡ false
     → (b < a) ⊎ ((b ≡ a) × (d ≤ c))
-then_less a b c d h = elim (cases_order a b) [
-  | inl e ↦ inr (sym e, ge_from_not_lt c d (rw (le-ltb a b (omega arith), eq-eqb a b e) at h))
-  | inr r ↦ elim r [
-    | inl l ↦ absurd (true≢false (rw (lt-ltb a b l) at h))
-    | inr g ↦ inl g
-  ]
-]
+then_less a b c d h = grind (arith, cases_order, ge_from_not_lt, le-ltb, eq-eqb, true≢false, lt-ltb)
 
 pub least_from : (c : Coming) (cs : List Coming)
     → AllByRecursion (λ d. is_lt (by_head c d) ≡ false) cs
     → All (λ d. c.0.0 ≤ d.0.0) cs
 least_from c [] h = λ k d l. absurd (omega arith)
-least_from c (x ∷ xs) h = All-cons (λ (d : Coming). c.0.0 ≤ d.0.0) x xs
-    (elim (then_less x.0.0 c.0.0 c.1 x.1 h.0) [ inl l ↦ omega arith | inr e ↦ (let f = e.0 in omega arith) ])
-    (least_from c xs h.1)
+least_from c (x ∷ xs) h = grind (arith, then_less, least_from c xs h.1)
 
 pub behind_from : (w : Waiting) (hs : List Waiting)
     → AllByRecursion (λ h. is_lt (by_tail w h) ≡ false) hs
@@ -100,16 +90,10 @@ count_undone : (w : Work) → w.done ≡ false → undone_of w ≡ 1
 count_undone w d = rw d refl
 
 undone_since : (w : Work) → 0 < undone_of w → w.done ≡ false
-undone_since w some = elim (cases_Bool w.done) [
-  | inl d ↦ absurd (let e = count_done w d in omega arith)
-  | inr d ↦ d
-]
+undone_since w some = grind arith
 
 done_since : (w : Work) → undone_of w ≡ 0 → w.done ≡ true
-done_since w none = elim (cases_Bool w.done) [
-  | inl d ↦ d
-  | inr d ↦ absurd (let e = count_undone w d in omega arith)
-]
+done_since w none = grind arith
 
 module _ (ws : List Work) (clock : ℕ) (cs : List Coming) (hs : List Waiting) (q : AreQueued ws clock cs hs) where
   -- one that is not done and isn't to come is in line
@@ -138,17 +122,11 @@ module _ (ws : List Work) (clock : ℕ) (cs : List Coming) (hs : List Waiting) (
   ]
 
   not_done : (k : ℕ) → k < length ws → clock < (work_at ws k).triple.head → (work_at ws k).done ≡ false
-  not_done k here late = elim (cases_Bool (work_at ws k).done) [
-    | inl d ↦ absurd (let p = q.passed k here d in omega arith)
-    | inr d ↦ d
-  ]
+  not_done k here late = grind (arith, cases_Bool)
 
   -- those to come are not done
   coming_undone : (c : Coming) → 0 < length cs → c ≡ get_or cs 0 c → (work_at ws c.1).done ≡ false
-  coming_undone c some top =
-      let here = (all-top coming_place (IsToCome ws) cs c some top q.coming).here
-      in let o = q.once c.1 here in let t = times-top coming_place c.1 cs c some top refl
-      in undone_since (work_at ws c.1) (omega arith)
+  coming_undone c some top = grind (arith, all-top, times-top, undone_since)
 
   module _ (later : ComeLater clock cs) where
     -- what is released isn't to come
@@ -190,10 +168,7 @@ module _ (ws : List Work) (clock : ℕ) (cs : List Coming) (hs : List Waiting) (
 
     -- where none waits, none is released that is not done
     pub none_waits : IsFirst hs None → (k : ℕ) → Waits ws clock k → ⊥
-    none_waits none k w = let e = in_line k w.here w.undone (not_coming k w.released) (λ h. Unit {0}) (λ i d l. tt)
-        in let z = times-none waiting_place k hs none
-        in let o = q.once k w.here in let u = count_undone (work_at ws k) w.undone
-        in let c = not_coming k w.released in omega arith
+    none_waits none k w = grind (arith, in_line, not_coming, times-none, count_undone)
 
     -- what is ready
     pub ready_now : (r : Option ℕ) → IsFirst hs r → is_some r ≡ true → IsReady ws clock clock
@@ -328,13 +303,7 @@ module _ (ws : List Work) (i : ℕ) (v : Work) (lt : i < length ws) (same : v.tr
 
     passed_after : (k : ℕ) → k < length ws → (work_at (set ws i v) k).done ≡ true
         → (work_at (set ws i v) k).triple.head ≤ clock
-    passed_after k here was =
-        let f = ap (λ (t : Triple). t.head) (triple_at ws i v lt same k)
-        in elim (cases_eq k i) [
-          | inl e ↦ (let g = ap (λ (j : ℕ). (work_at ws j).triple.head) e in omega arith)
-          | inr ne ↦ (let p = q.passed k here (sym (ap (λ (w : Work). w.done) (get_or-set_other ws i k v no_work ne)) ∙ was)
-              in omega arith)
-        ]
+    passed_after k here was = grind (arith, triple_at, cases_eq, get_or-set_other)
 
 -- a turn that is held back, and one that ends, for the whole queue
 pub queue_held : (ws : List Work) (clock i stop : ℕ) (v : Work) (q : Queue) → IsQueue ws clock q

@@ -66,9 +66,7 @@ sublist_raised-le {us = us} s ys r =
     in let a = span_raised us t.0 t.2 in let b = le-greatest_sublist span_of t.1 in omega arith
 
 pub one_raised : (xs ys : List Triple) → AreRaised xs ys → one xs ≤ one ys
-one_raised xs ys r = greatest_of-le span_of (one ys) (sublists xs)
-    (all_map (λ us. IsSublist us xs) (λ us. span_of us ≤ one ys) (λ us s. sublist_raised-le s ys r) (sublists xs)
-    (sublists-are xs))
+one_raised xs ys r = grind (arith, greatest_of-le, all_map, sublist_raised-le, sublists-are)
 
 -- us has z and a sublist of xs
 record HasTaken {A : Type 0} (z : A) (us xs : List A) : Type 0 where

@@ -72,16 +72,7 @@ module _ (shop : Shop) (limits : IsWithinLimits shop) (w : List ℕ) (word : IsW
 
   jobs_few : (a n : ℕ) → length (flat_map (λ j. waiting_of shop (placing shop w) j) (range_with_len a n)) ≤ n * 100
   jobs_few a zero = omega arith
-  jobs_few a (suc n) =
-      let p = placing shop w
-      in let rest = jobs_few (a + 1) n
-      in let here = length-waiting_from p.free a (p.steps a) (p.ready a) (drop (p.steps a) (route_of shop a))
-      in let dropped = length-drop (p.steps a) (route_of shop a)
-      in let short = limits.routes a
-      in let both =
-      length-append (waiting_of shop p a) (flat_map (λ j. waiting_of shop p j) (range_with_len (a + 1) n))
-      in let m : suc n * 100 ≡ n * 100 + 100 = omega arith
-      in omega arith
+  jobs_few a (suc n) = grind (arith, jobs_few (a + 1) n, length-waiting_from, length-drop, length-append)
 
   -- the extent of small triples
   extent-le : (h t n : ℕ) (ts : List Triple) → AllByRecursion (IsSmallTriple h t) ts → length ts ≤ n

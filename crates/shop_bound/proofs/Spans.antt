@@ -1,5 +1,5 @@
 -- The greatest span of a sublist, as a least upper bound.
-use Rattle.std.proofs.Common.{◌≡◌, ℕ, ◌≤◌, List, [], ◌∷◌, map, refl, ap}
+use Rattle.std.proofs.Common.{arith, ◌≡◌, ℕ, ◌≤◌, List, [], ◌∷◌, map, refl, ap}
 use Rattle.std.specs.List.{AllByRecursion}
 use Rattle.shop_bound.specs.OneMachine.{sublists, greatest_of}
 use Rattle.shop_bound.proofs.Lists.{IsSublist, none, skip, keep, all_append, all_map, greatest_of-le}
@@ -28,7 +28,4 @@ module _ {A B : Type 0} where
   -- a bound on each sublist bounds the greatest
   pub greatest_sublist-le : (g : A → B) (f : List B → ℕ) (b : ℕ) (xs : List A)
       → ((ys : List A) → IsSublist ys xs → f (map g ys) ≤ b) → greatest_of f (sublists (map g xs)) ≤ b
-  greatest_sublist-le g f b xs h =
-      greatest_of-le f b (sublists (map g xs))
-      (all_map (IsImage g xs) (λ X. f X ≤ b) (λ X im. rw im.1 (h im.0 im.2)) (sublists (map g xs))
-      (sublists-images g xs))
+  greatest_sublist-le g f b xs h = grind (arith, greatest_of-le, all_map, sublists-images)

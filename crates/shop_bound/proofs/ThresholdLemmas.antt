@@ -2,7 +2,7 @@
 use Rattle.std.proofs.Common.{◌≡◌, ℕ, zero, suc, ◌+◌, ◌≤◌, ◌<◌, max, inl, inr, Bool, true, List, [], ◌∷◌, ◌++◌, length}
 use Rattle.std.proofs.Common.{get_or, take, map, refl, sym, ◌∙◌, ap, subst, arith, leb}
 use Rattle.std.specs.List.{AllByRecursion, filter, sum_by}
-use Rattle.std.proofs.lemmas.Bool.{cases_Bool, leb-true, le-leb, and_from, and_left, and_right, true≢false}
+use Rattle.std.proofs.lemmas.Bool.{cases_Bool, leb-true, le-leb, and_from, and_parts}
 use Rattle.std.proofs.lemmas.Bool.Decides.{eqb_tells}
 use Rattle.std.proofs.lemmas.List.{take_more}
 use Rattle.std.proofs.lemmas.List.Sums.{sum_by-cons}
@@ -109,13 +109,7 @@ is_above-from head tail t h k =
     and_from (leb head t.head) (leb tail t.tail) (le-leb head t.head h) (le-leb tail t.tail k)
 
 pub is_above-true : (head tail : ℕ) (t : Triple) → is_above head tail t ≡ true → (head ≤ t.head) × (tail ≤ t.tail)
-is_above-true head tail t e = elim (cases_Bool (leb head t.head)) [
-  | inl a ↦ elim (cases_Bool (leb tail t.tail)) [
-    | inl b ↦ (leb-true head t.head a, leb-true tail t.tail b)
-    | inr b ↦ absurd (true≢false (sym e ∙ and_right (leb head t.head) (leb tail t.tail) b))
-  ]
-  | inr a ↦ absurd (true≢false (sym e ∙ and_left (leb head t.head) (leb tail t.tail) a))
-]
+is_above-true head tail t e = grind (arith, and_parts, leb-true)
 
 -- each span above thresholds is at most the bound
 pub span_above-le : (ts : List Triple) (head tail : ℕ) → span_above ts head tail ≤ one ts
@@ -178,12 +172,7 @@ spans-le ts b h =
     (λ i l. greatest_of-up_to (λ (t : Triple). span_above ts (head_at ts i) t.tail) b no_triple ts (λ k m. h i k l m))
 
 pub thresholds : (ts : List Triple) → greatest_span_of ts ≡ one ts
-thresholds ts =
-    let a = spans-le ts (one ts) (λ i k _ _. span_above-le ts (head_at ts i) (tail_at ts k))
-    in let b = greatest_of-le span_of (greatest_span_of ts) (sublists ts)
-    (all_map (λ ys. IsSublist ys ts) (λ ys. span_of ys ≤ greatest_span_of ts)
-    (λ ys s. span_of-le ts ys s) (sublists ts) (sublists-are ts))
-    in omega arith
+thresholds ts = grind (arith, spans-le, span_above-le, greatest_of-le, all_map, span_of-le, sublists-are)
 
 -- and so is the one-machine bound
 pub one-le : (ts : List Triple) (b : ℕ)
@@ -202,12 +191,12 @@ least-le-greatest f (x ∷ []) = omega arith
 least-le-greatest f (x ∷ y ∷ ys) = let a = least-le-greatest f (y ∷ ys) in omega arith
 
 pub one-le-extent : (ts : List Triple) → one ts ≤ extent ts
-one-le-extent ts =
-    greatest_of-le span_of (extent ts) (sublists ts)
-    (all_map (λ ys. IsSublist ys ts) (λ ys. span_of ys ≤ extent ts)
-    (λ ys s. let a =
-    least-le-greatest (λ (t : Triple). t.head) ys in let b = sublist_greatest (λ (t : Triple). t.head) s
-    in let c = sublist_sum (λ (t : Triple). t.time) s
-    in let d = least-le-greatest (λ (t : Triple). t.tail) ys in let e = sublist_greatest (λ (t : Triple). t.tail) s
-    in omega arith)
-    (sublists ts) (sublists-are ts))
+one-le-extent ts = grind (
+  arith,
+  greatest_of-le,
+  all_map,
+  least-le-greatest,
+  sublist_greatest,
+  sublist_sum,
+  sublists-are,
+)

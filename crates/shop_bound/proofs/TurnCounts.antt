@@ -1,8 +1,8 @@
 -- How many turns are left, and how many works are not done.
-use Rattle.std.proofs.Common.{◌≡◌, ℕ, zero, suc, ◌+◌, ◌≤◌, ◌<◌, inl, inr, Bool, true, false}
-use Rattle.std.proofs.Common.{cond, List, [], ◌∷◌, length, refl, ap, arith, leb}
+use Rattle.std.proofs.Common.{◌≡◌, ℕ, zero, suc, ◌+◌, ◌≤◌, ◌<◌, inl, inr, true, false}
+use Rattle.std.proofs.Common.{List, [], ◌∷◌, length, refl, arith}
 use Rattle.std.proofs.Math.ListN.{set}
-use Rattle.std.proofs.lemmas.Bool.{cases_Bool, cases_lt, le-leb, lt-leb}
+use Rattle.std.proofs.lemmas.Bool.Decides.{nat_tests}
 use Rattle.std.proofs.lemmas.List.Sums.{sum_by-cons, sum_by-set}
 use Rattle.shop_bound.specs.declared.works.Work.{Work}
 use Rattle.shop_bound.specs.inner.Serving.{no_work, work_at, IsFresh}
@@ -11,37 +11,13 @@ use Rattle.shop_bound.specs.inner.Serving.{undone}
 
 -- the turns left
 turn_of-le : (a b : ℕ) (w : Work) → a ≤ b → turns_of b w ≤ turns_of a w
-turn_of-le a b w h = elim (cases_lt a w.triple.head) [
-  | inl l ↦ (let e : turns_of a w ≡ cond w.done 0 1 + 1 =
-      ap (λ (t : Bool). cond w.done 0 1 + cond t 0 1) (lt-leb w.triple.head a l) in
-      elim (cases_Bool (leb w.triple.head b)) [
-        | inl y ↦ (let f : turns_of b w ≡ cond w.done 0 1 + 0 =
-            ap (λ (t : Bool). cond w.done 0 1 + cond t 0 1) y in omega arith)
-        | inr n ↦ (let f : turns_of b w ≡ cond w.done 0 1 + 1 =
-            ap (λ (t : Bool). cond w.done 0 1 + cond t 0 1) n in omega arith)
-      ])
-  | inr l ↦ (let f : turns_of b w ≡ cond w.done 0 1 + 0 =
-      ap (λ (t : Bool). cond w.done 0 1 + cond t 0 1) (le-leb w.triple.head b (omega arith)) in omega arith)
-]
+turn_of-le a b w h = grind (arith, nat_tests)
 
 turn_of-release : (a b : ℕ) (w : Work) → a < w.triple.head → w.triple.head ≤ b → turns_of b w + 1 ≡ turns_of a w
-turn_of-release a b w l h =
-    let e : turns_of a w ≡ cond w.done 0 1 + 1 =
-    ap (λ (t : Bool). cond w.done 0 1 + cond t 0 1) (lt-leb w.triple.head a l)
-    in let f : turns_of b w ≡ cond w.done 0 1 + 0 =
-    ap (λ (t : Bool). cond w.done 0 1 + cond t 0 1) (le-leb w.triple.head b h) in omega arith
+turn_of-release a b w l h = grind (arith, nat_tests)
 
 turn_of-two : (a : ℕ) (w : Work) → turns_of a w ≤ 2
-turn_of-two a w = elim (cases_Bool w.done) [
-  | inl d ↦ elim (cases_Bool (leb w.triple.head a)) [
-    | inl y ↦ (let f : turns_of a w ≡ 0 = rw (d, y) refl in omega arith)
-    | inr n ↦ (let f : turns_of a w ≡ 1 = rw (d, n) refl in omega arith)
-  ]
-  | inr d ↦ elim (cases_Bool (leb w.triple.head a)) [
-    | inl y ↦ (let f : turns_of a w ≡ 1 = rw (d, y) refl in omega arith)
-    | inr n ↦ (let f : turns_of a w ≡ 2 = rw (d, n) refl in omega arith)
-  ]
-]
+turn_of-two a w = grind arith
 
 pub turns_left-le : (ws : List Work) (a b : ℕ) → a ≤ b → turns_left ws b ≤ turns_left ws a
 unfolding turns_left
@@ -70,18 +46,12 @@ turns_left-two (w ∷ ws) a =
 pub turns_left-same : (ws : List Work) (i a : ℕ) (v : Work) → i < length ws → v.triple ≡ (work_at ws i).triple
     → v.done ≡ (work_at ws i).done → turns_left (set ws i v) a ≡ turns_left ws a
 unfolding turns_left
-turns_left-same ws i a v lt same done =
-    let x = sum_by-set (turns_of a) ws i v no_work lt
-    in let e : turns_of a v ≡ turns_of a (work_at ws i) = rw (same, done) refl in omega arith
+turns_left-same ws i a v lt same done = grind (arith, sum_by-set)
 
 pub turns_left-done : (ws : List Work) (i a : ℕ) (v : Work) → i < length ws → v.triple ≡ (work_at ws i).triple
     → v.done ≡ true → (work_at ws i).done ≡ false → turns_left (set ws i v) a < turns_left ws a
 unfolding turns_left
-turns_left-done ws i a v lt same done undone =
-    let x = sum_by-set (turns_of a) ws i v no_work lt
-    in let e : turns_of a v ≡ 0 + cond (leb (work_at ws i).triple.head a) 0 1 = rw (same, done) refl
-    in let f : turns_of a (work_at ws i) ≡ 1 + cond (leb (work_at ws i).triple.head a) 0 1 =
-    rw undone refl in omega arith
+turns_left-done ws i a v lt same done undone = grind (arith, sum_by-set)
 
 pub ready_turns : (ws : List Work) (clock ready : ℕ) → IsReady ws clock ready
     → turns_left ws ready ≤ turns_left ws clock
@@ -91,10 +61,7 @@ ready_turns ws clock ready (inr (inr d)) = turns_left-le ws clock ready (let e =
 
 -- a turn ends one operation at most, so that each takes a turn
 pub undone_of-one : (w : Work) → undone_of w ≤ 1
-undone_of-one w = elim (cases_Bool w.done) [
-  | inl d ↦ (let f : undone_of w ≡ 0 = rw d refl in omega arith)
-  | inr d ↦ (let f : undone_of w ≡ 1 = rw d refl in omega arith)
-]
+undone_of-one w = grind arith
 
 pub undone-set : (ws : List Work) (i : ℕ) (v : Work) → i < length ws → undone ws ≤ undone (set ws i v) + 1
 unfolding undone

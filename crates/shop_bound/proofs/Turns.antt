@@ -8,7 +8,7 @@ use Rattle.std.proofs.lemmas.List.{get_or-set_same, get_or-set_other, length-set
 use Rattle.shop_bound.specs.declared.triples.Triple.{Triple}
 use Rattle.shop_bound.specs.declared.works.Work.{Work}
 use Rattle.shop_bound.specs.OneMachine.{one, greatest_of, IsSmall}
-use Rattle.shop_bound.specs.inner.Thresholds.{is_above, span_above, head_at, tail_at}
+use Rattle.shop_bound.specs.inner.Thresholds.{is_above, span_above}
 use Rattle.shop_bound.specs.inner.Serving.{no_work, work_at, triples_of, Waits, IsFresh, fresh, IsServed, IsStop}
 use Rattle.shop_bound.specs.inner.Serving.{IsRelease, IsReady, worked, IsBusy, IsRun, turns_left}
 use Rattle.shop_bound.specs.inner.Serving.{undone}
@@ -39,12 +39,7 @@ module _ (ws : List Work) (clock best i d : ℕ) (v : Work) (run : IsRun ws cloc
     spent-after = set_all (λ w. w.spent ≤ w.triple.time) ws i v s.within run.spent
 
     from-le : (tail : ℕ) → tail ≤ (work_at ws i).triple.tail → (run.busy tail).from ≤ (work_at ws i).triple.head
-    from-le tail h = (run.busy tail).waiting i (record {
-      here =
-          s.chosen.seen;
-      undone = s.chosen.undone;
-      released = s.chosen.released;
-    }) h
+    from-le tail h = grind arith
 
     -- where it is among those of a busy time, it adds d
     worked-more : (head tail : ℕ) → head ≤ (work_at ws i).triple.head → tail ≤ (work_at ws i).triple.tail
@@ -161,13 +156,8 @@ module _ (ws : List Work) (clock best i d : ℕ) (v : Work) (run : IsRun ws cloc
         let a = worked-set head tail ws i d v s.chosen.seen s.same s.more
         in let b = run.no_sooner head tail
         in let r = s.chosen.released
-        in elim (cases_Bool (is_above head tail (work_at ws i).triple)) [
-          | inl e ↦ (let c : worked head tail (set ws i v) ≡ worked head tail ws + d =
-              a ∙ ap (λ (b : Bool). worked head tail ws + cond b d 0) e
-              in let f = (is_above-true head tail (work_at ws i).triple e).0 in omega arith)
-          | inr e ↦ (let c : worked head tail (set ws i v) ≡ worked head tail ws + 0 =
-              a ∙ ap (λ (b : Bool). worked head tail ws + cond b d 0) e in omega arith)
-        ]
+        in let f = is_above-true head tail (work_at ws i).triple
+        in grind (arith, a, b, r, f)
 
     -- the next state, with the best end so far
     pub served : IsQuiet ws clock d → (later : ℕ) → (v.done ≡ true → v.spent ≡ v.triple.time)
@@ -240,10 +230,7 @@ jumped ws clock ready best run r = record {
 -- where all are done the best is the bound
 pub all_done : (ws : List Work) (clock best : ℕ) → IsRun ws clock best
     → ((k : ℕ) → k < length ws → (work_at ws k).done ≡ true) → best ≡ one (triples_of ws)
-all_done ws clock best run all =
-    let a = one-le (triples_of ws) best
-    (λ i k _ _. run.ended (head_at (triples_of ws) i) (tail_at (triples_of ws) k) (λ j l _. all j l))
-    in let r = run.reached in omega arith
+all_done ws clock best run all = grind (arith, one-le)
 
 pub started : (ws : List Work) → IsFresh ws → IsRun ws 0 0
 started ws fresh = record {
@@ -333,12 +320,7 @@ held_run ws clock best i stop run c h =
 pub held_fewer : (ws : List Work) (clock i stop : ℕ) → IsServed (length ws) ws clock i
     → IsStop (length ws) ws clock (clock + left_of ws i) stop → stop < clock + left_of ws i
     → turns_left (set ws i (held ws clock i stop)) stop < turns_left ws clock
-held_fewer ws clock i stop c h less =
-    let a = turns_left-same ws i stop (held ws clock i stop) c.seen refl (sym c.undone)
-    in elim h.reason [
-      | inl e ↦ absurd (omega arith)
-      | inr k ↦ (let k3 = k.3 in let b = turns_left-release ws clock stop k.0 k.1 k.2 (omega arith) in omega arith)
-    ]
+held_fewer ws clock i stop c h less = grind (arith, turns_left-same, turns_left-release)
 
 serving_finished : (ws : List Work) (clock best i : ℕ) → IsRun ws clock best → IsServed (length ws) ws clock i
     → IsServing ws clock i (left_of ws i) (finished ws i)
@@ -362,9 +344,7 @@ finished_run ws clock best i stop run c h more =
 
 pub finished_fewer : (ws : List Work) (clock i : ℕ) → IsServed (length ws) ws clock i
     → turns_left (set ws i (finished ws i)) (clock + left_of ws i) < turns_left ws clock
-finished_fewer ws clock i c =
-    let a = turns_left-done ws i (clock + left_of ws i) (finished ws i) c.seen refl refl c.undone
-    in let b = turns_left-le ws clock (clock + left_of ws i) (omega arith) in omega arith
+finished_fewer ws clock i c = grind (arith, turns_left-done, turns_left-le)
 
 -- no end is too late
 pub end_small : (ws : List Work) (clock best i : ℕ) → IsRun ws clock best → IsServed (length ws) ws clock i

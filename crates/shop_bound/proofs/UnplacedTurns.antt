@@ -1,7 +1,7 @@
 -- The operations that a word leaves, as a walk along the routes lists them.
 use Rattle.std.proofs.Common.{◌≡◌, ◌≢◌, ℕ, zero, suc, ◌+◌, ◌-◌, ◌≤◌, ◌<◌, max, List, [], ◌∷◌, ◌++◌, length, map}
 use Rattle.std.proofs.Common.{take, drop, get_or, refl, sym, ◌∙◌, ap, arith, append_assoc, add-one, add-zero}
-use Rattle.std.proofs.Common.{zero-add, inl, inr, eqb, eq-eqb}
+use Rattle.std.proofs.Common.{zero-add, eqb, eq-eqb}
 use Rattle.std.specs.List.{filter, flat_map, range_with_len, sum_by}
 use Rattle.std.proofs.lemmas.Bool.{cases_eq, ne_eqb}
 use Rattle.std.proofs.lemmas.List.Elements.{filter-append}
@@ -28,20 +28,13 @@ pub first_on : (m : ℕ) (free : ℕ → ℕ) (j k ready : ℕ) (o : Op) (os : L
     → triples_on m (waiting_from free j k ready (o ∷ os))
     ≡ (record { head = head; time = o.time; tail = sum_by (λ p. p.time) os })
     ∷ triples_on m (waiting_from free j (k + 1) (head + o.time) os)
-first_on m free j k ready o os head is on =
-    rw (eq-eqb o.machine m on) (ap (λ (h : ℕ). (record {
-      head = h;
-      time = o.time;
-      tail = sum_by (λ p. p.time) os;
-    }) ∷ triples_on m (waiting_from free j (k + 1) (h + o.time) os)) (sym is))
+first_on m free j k ready o os head is on = grind (arith, eq-eqb)
 
 pub first_off : (m : ℕ) (free : ℕ → ℕ) (j k ready : ℕ) (o : Op) (os : List Op) (head : ℕ)
     → head ≡ max ready (free o.machine) → o.machine ≢ m
     → triples_on m (waiting_from free j k ready (o ∷ os))
     ≡ triples_on m (waiting_from free j (k + 1) (head + o.time) os)
-first_off m free j k ready o os head is off =
-    rw (ne_eqb o.machine m off)
-    (ap (λ (h : ℕ). triples_on m (waiting_from free j (k + 1) (h + o.time) os)) (sym is))
+first_off m free j k ready o os head is off = grind (arith, ne_eqb)
 
 -- only the machines of the rest of the route matter, and not its place
 pub unplaced-same : (m : ℕ) (f g : ℕ → ℕ) (i j k l ready : ℕ) (os : List Op)
@@ -52,18 +45,11 @@ unplaced-same m f g i j k l ready (o ∷ os) h =
     let head = max ready (f o.machine)
     in let here : head ≡ max ready (g o.machine) = ap (max ready) (h 0 (omega arith))
     in let rest = unplaced-same m f g i j (k + 1) (l + 1) (head + o.time) os (λ n below. h (suc n) (omega arith))
-    in elim (cases_eq o.machine m) [
-      | inl on ↦ first_on m f i k ready o os head refl on
-          ∙ (ap (λ (ts : List Triple). (record { head = head; time = o.time; tail = sum_by (λ p. p.time) os }) ∷ ts) rest
-          ∙ sym (first_on m g j l ready o os head here on))
-      | inr off ↦ first_off m f i k ready o os head refl off ∙ (rest ∙ sym (first_off m g j l ready o os head here off))
-    ]
+    in grind (arith, here, rest, cases_eq o.machine m, first_on, first_off)
 
 range_last : (a j : ℕ) → range_with_len a (suc j) ≡ range_with_len a j ++ (a + j) ∷ []
 range_last a zero = ap (λ (x : ℕ). x ∷ []) (sym (add-zero a))
-range_last a (suc j) =
-    let e : a + 1 + j ≡ a + suc j = omega arith
-    in ap (λ (xs : List ℕ). a ∷ xs) (range_last (a + 1) j ∙ ap (λ (x : ℕ). range_with_len (a + 1) j ++ x ∷ []) e)
+range_last a (suc j) = grind (arith, range_last (a + 1) j)
 
 pub range_more : (j : ℕ) → range_with_len 0 (j + 1) ≡ range_with_len 0 j ++ j ∷ []
 range_more j = rw add-one (range_last 0 j ∙ ap (λ (x : ℕ). range_with_len 0 j ++ x ∷ []) (zero-add j))
@@ -83,29 +69,11 @@ module _ (m : ℕ) (free : List ℕ) (ready : ℕ) (rest : List Op) (k : ℕ) (b
   pub added_on : (get_or rest k no_op).machine ≡ m → (tail : ℕ) → tail ≡ tail_in rest k
       → ys ≡ xs ++ (record { head = head; time = (get_or rest k no_op).time; tail = tail }) ∷ []
       → ys ++ unplaced_from m free (head + (get_or rest k no_op).time) (drop (k + 1) rest) ≡ whole
-  added_on on tail is_tail pushed =
-      let o = get_or rest k no_op
-      in let x : Triple = record { head = head; time = o.time; tail = tail }
-      in let later = unplaced_from m free (head + o.time) (drop (k + 1) rest)
-      in let split : unplaced_from m free ready (drop k rest) ≡ x ∷ later =
-      ap (unplaced_from m free ready) front
-      ∙ (first_on m (λ i. get_or free i 0) 0 0 ready o (drop (k + 1) rest) head is_head on
-      ∙ (ap (λ (t : ℕ). (record { head = head; time = o.time; tail = t }) ∷ triples_on m
-      (waiting_from (λ i. get_or free i 0) 0 1 (head + o.time) (drop (k + 1) rest))) (sym is_tail)
-      ∙ ap (λ (ts : List Triple). x ∷ ts) place))
-      in let joined : ys ++ later ≡ xs ++ (x ∷ later) =
-      ap (λ (zs : List Triple). zs ++ later) pushed ∙ append_assoc xs (x ∷ []) later
-      in joined ∙ (ap (λ (zs : List Triple). xs ++ zs) (sym split) ∙ before)
+  added_on on tail is_tail pushed = grind (arith, front, first_on, place, append_assoc)
 
   pub added_off : (get_or rest k no_op).machine ≢ m → ys ≡ xs
       → ys ++ unplaced_from m free (head + (get_or rest k no_op).time) (drop (k + 1) rest) ≡ whole
-  added_off off same =
-      let o = get_or rest k no_op
-      in let split : unplaced_from m free ready (drop k rest) ≡ unplaced_from m free (head + o.time) (drop (k + 1) rest) =
-      ap (unplaced_from m free ready) front
-      ∙ (first_off m (λ i. get_or free i 0) 0 0 ready o (drop (k + 1) rest) head is_head off ∙ place)
-      in ap (λ (zs : List Triple). zs ++ unplaced_from m free (head + o.time) (drop (k + 1) rest)) same
-      ∙ (ap (λ (zs : List Triple). xs ++ zs) (sym split) ∙ before)
+  added_off off same = grind (arith, front, first_off, place)
 
 -- as many steps are placed as the route has, or fewer
 pub steps_within : (shop : Shop) (s : PlacementState) → IsOfWord shop s → (j : ℕ) → j < length shop.jobs
@@ -146,27 +114,17 @@ pub unplaced_of_job : (m : ℕ) (shop : Shop) → IsWithinLimits shop → (s : P
     → (free : List ℕ) → free ≡ s.free → (ready : ℕ) → ready ≡ get_or s.ready j 0
     → (rest : List Op) → rest ≡ drop (get_or s.steps j 0) (route_of shop j) → (p : Placing) → IsPlacement shop p s
     → unplaced_from m free ready rest ≡ triples_on m (waiting_of shop p j)
-unplaced_of_job m shop limits s j job free is_free ready is_ready rest e p is =
-    let route : rest ≡ drop (p.steps j) (route_of shop j) =
-    e ∙ ap (λ (n : ℕ). drop n (route_of shop j)) (is.steps j job)
-    in let same = unplaced-same m (λ i. get_or free i 0) p.free 0 j 0 (p.steps j) ready rest
-    (λ k below. (let i : (get_or rest k no_op).machine ≡ machine_of shop j (p.steps j + k) =
-    ap (λ (xs : List Op). (get_or xs k no_op).machine) route
-    ∙ ap (λ (o : Op). o.machine) (get_or-drop (p.steps j) (route_of shop j) k no_op)
-    in let on : (get_or rest k no_op).machine < shop.machines = rw i (limits.on_machines j (p.steps j + k))
-    in ap (λ (xs : List ℕ). get_or xs (get_or rest k no_op).machine 0) is_free
-    ∙ is.free (get_or rest k no_op).machine on))
-    in same ∙ (ap (λ (r : ℕ). triples_on m (waiting_from p.free j (p.steps j) r rest)) (is_ready ∙ is.ready j job)
-    ∙ ap (λ (xs : List Op). triples_on m (waiting_from p.free j (p.steps j) (p.ready j) xs)) route)
+unplaced_of_job m shop limits s j job free is_free ready is_ready rest e p is = grind (
+  arith,
+  unplaced-same,
+  get_or-drop,
+)
 
 -- what waits of one job more
 waiting_more : (shop : Shop) (p : Placing) (j : ℕ)
     → flat_map (λ i. waiting_of shop p i) (range_with_len 0 (j + 1))
     ≡ flat_map (λ i. waiting_of shop p i) (range_with_len 0 j) ++ waiting_of shop p j
-waiting_more shop p j =
-    let fs = λ (i : ℕ). waiting_of shop p i
-    in ap (flat_map fs) (range_more j) ∙ (flat_map-append fs (range_with_len 0 j) (j ∷ [])
-    ∙ ap (λ (zs : List Waiting). flat_map fs (range_with_len 0 j) ++ zs) (append-nil (waiting_of shop p j)))
+waiting_more shop p j = grind (arith, range_more, flat_map-append, append-nil)
 
 pub length-waiting_from : (free : ℕ → ℕ) (j k ready : ℕ) (os : List Op)
     → length (waiting_from free j k ready os) ≡ length os
@@ -174,7 +132,7 @@ length-waiting_from free j k ready [] = refl
 length-waiting_from free j k ready (o ∷ os) =
     ap suc (length-waiting_from free j (k + 1) (max ready (free o.machine) + o.time) os)
 
-triples_on-append : (m : ℕ) (xs ys : List Waiting) → triples_on m (xs ++ ys) ≡ triples_on m xs ++ triples_on m ys
+pub triples_on-append : (m : ℕ) (xs ys : List Waiting) → triples_on m (xs ++ ys) ≡ triples_on m xs ++ triples_on m ys
 triples_on-append m xs ys = ap (map (λ x. x.triple)) (filter-append (λ x. eqb x.machine m) xs ys)
     ∙ map-append (λ x. x.triple) (filter (λ x. eqb x.machine m) xs) (filter (λ x. eqb x.machine m) ys)
 
@@ -183,11 +141,7 @@ pub job_listed : (m : ℕ) (shop : Shop) (p : Placing) (j : ℕ) (xs ys more : L
     → xs ≡ triples_on m (flat_map (λ i. waiting_of shop p i) (range_with_len 0 j))
     → more ≡ triples_on m (waiting_of shop p j)
     → ys ≡ xs ++ more → ys ≡ triples_on m (flat_map (λ i. waiting_of shop p i) (range_with_len 0 (j + 1)))
-job_listed m shop p j xs ys more before here added =
-    let before_j = flat_map (λ i. waiting_of shop p i) (range_with_len 0 j)
-    in added ∙ (ap (λ (zs : List Triple). zs ++ more) before
-    ∙ (ap (λ (zs : List Triple). triples_on m before_j ++ zs) here
-    ∙ (sym (triples_on-append m before_j (waiting_of shop p j)) ∙ ap (triples_on m) (sym (waiting_more shop p j)))))
+job_listed m shop p j xs ys more before here added = grind (arith, triples_on-append, waiting_more)
 
 pub rest_small : (free : List ℕ) (ready : ℕ) (rest : List Op) → CanGoOn free ready rest → AreTimesSmall rest
 rest_small free ready rest can =
@@ -196,13 +150,9 @@ rest_small free ready rest can =
 -- the slice of a route from step n on
 pub rest_is : (route whole : List Op) (n m : ℕ) → route ≡ whole → n ≡ m
     → take (length route - n) (drop n route) ≡ drop m whole
-rest_is route whole n m e f =
-    take_all (length route - n) (drop n route) (let a = length-drop n route in omega arith)
-    ∙ (ap (λ (k : ℕ). drop k route) f ∙ ap (λ (xs : List Op). drop m xs) e)
+rest_is route whole n m e f = grind (arith, take_all, length-drop)
 
 -- and it is no longer than the route
 pub rest_short : (route whole : List Op) (n : ℕ) → route ≡ whole
     → length (take (length route - n) (drop n route)) ≤ length whole
-rest_short route whole n e =
-    let a = ap (λ (xs : List Op). length xs) (rest_is route whole n n e refl)
-    in let b = length-drop n whole in omega arith
+rest_short route whole n e = grind (arith, rest_is, length-drop)

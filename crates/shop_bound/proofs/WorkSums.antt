@@ -1,10 +1,10 @@
 -- The time spent on works, as they change.
-use Rattle.std.proofs.Common.{◌≡◌, ℕ, zero, suc, ◌+◌, ◌≤◌, ◌<◌, inl, inr, Bool, true, false}
-use Rattle.std.proofs.Common.{cond, List, [], ◌∷◌, length, map, refl, sym, ◌∙◌, ap, subst, arith}
+use Rattle.std.proofs.Common.{◌≡◌, ℕ, zero, suc, ◌+◌, ◌≤◌, ◌<◌, Bool, true, false}
+use Rattle.std.proofs.Common.{cond, List, [], ◌∷◌, length, map, refl, ap, arith}
 use Rattle.std.specs.List.{filter, sum_by}
 use Rattle.std.proofs.Math.ListN.{set}
 use Rattle.std.proofs.Math.Seq.{map-set_same}
-use Rattle.std.proofs.lemmas.Bool.{cases_Bool, cases_lt, cases_eq, true≢false}
+use Rattle.std.proofs.lemmas.Bool.{cases_lt, cases_eq}
 use Rattle.std.proofs.lemmas.List.{get_or-set_same, get_or-set_other, length-set}
 use Rattle.std.proofs.lemmas.List.Sums.{sum_by-cons, sum_by-set}
 use Rattle.shop_bound.specs.declared.triples.Triple.{Triple}
@@ -18,11 +18,7 @@ use Rattle.shop_bound.proofs.ThresholdLemmas.{span_above-some}
 -- one operation changed
 pub triple_at : (ws : List Work) (i : ℕ) (v : Work) → i < length ws → v.triple ≡ (work_at ws i).triple → (j : ℕ)
     → (work_at (set ws i v) j).triple ≡ (work_at ws j).triple
-triple_at ws i v lt same j = elim (cases_eq j i) [
-  | inl e ↦ subst (λ (k : ℕ). (work_at (set ws i v) k).triple ≡ (work_at ws k).triple) (sym e)
-      (ap (λ (w : Work). w.triple) (get_or-set_same ws i v no_work lt) ∙ same)
-  | inr ne ↦ ap (λ (w : Work). w.triple) (get_or-set_other ws i j v no_work ne)
-]
+triple_at ws i v lt same j = grind (arith, cases_eq, get_or-set_same, get_or-set_other)
 
 pub triples-set : (ws : List Work) (i : ℕ) (v : Work) → v.triple ≡ (work_at ws i).triple
     → triples_of (set ws i v) ≡ triples_of ws
@@ -32,10 +28,7 @@ pub set_all : (P : Work → Type 0) (ws : List Work) (i : ℕ) (v : Work) → P 
     → ((j : ℕ) → j < length ws → P (work_at ws j)) → (j : ℕ) → j < length (set ws i v) → P (work_at (set ws i v) j)
 set_all P ws i v here all j lt =
     let lt' : j < length ws = omega (arith, length-set ws i v)
-    in elim (cases_eq j i) [
-      | inl e ↦ subst P (sym (get_or-set_same ws i v no_work (omega arith)) ∙ ap (work_at (set ws i v)) (sym e)) here
-      | inr ne ↦ subst P (sym (get_or-set_other ws i j v no_work ne)) (all j lt')
-    ]
+    in grind (arith, lt', cases_eq j i, get_or-set_same, get_or-set_other)
 
 pub worked-set : (head tail : ℕ) (ws : List Work) (i d : ℕ) (v : Work) → i < length ws
     → v.triple ≡ (work_at ws i).triple → v.spent ≡ (work_at ws i).spent + d
@@ -47,14 +40,7 @@ worked-set head tail ws i d v lt same more =
           ≡ sum_by (λ w. cond (test w.triple) w.spent 0) ws + cond (test (work_at ws i).triple) d 0
       general test =
           let a = sum_by-set (λ w. cond (test w.triple) w.spent 0) ws i v no_work lt
-          in elim (cases_Bool (test (work_at ws i).triple)) [
-            | inl e ↦ (let b : cond (test v.triple) v.spent 0 ≡ v.spent = rw (same, e) refl
-                in let c : cond (test (work_at ws i).triple) (work_at ws i).spent 0 ≡ (work_at ws i).spent = rw e refl
-                in let g : cond (test (work_at ws i).triple) d 0 ≡ d = rw e refl in omega arith)
-            | inr e ↦ (let b : cond (test v.triple) v.spent 0 ≡ 0 = rw (same, e) refl
-                in let c : cond (test (work_at ws i).triple) (work_at ws i).spent 0 ≡ 0 = rw e refl
-                in let g : cond (test (work_at ws i).triple) d 0 ≡ 0 = rw e refl in omega arith)
-          ]
+          in grind (arith, a, same, more)
 
 -- the time spent is at most the times, and is the times where those are done
 pub spent-le : (test : Triple → Bool) (ws : List Work)
@@ -66,13 +52,7 @@ spent-le test (w ∷ ws) h =
     in let a = sum_by-cons (λ (w : Work). cond (test w.triple) w.spent 0) w ws
     in let b = h 0 (omega arith)
     in let d = sum_by-cons (λ (t : Triple). t.time) w.triple (filter test (triples_of ws))
-    in elim (cases_Bool (test w.triple)) [
-      | inl e ↦ (let c : cond (test w.triple) w.spent 0 ≡ w.spent = rw e refl
-          in let f : filter test (triples_of (w ∷ ws)) ≡ w.triple ∷ filter test (triples_of ws) =
-          rw e refl in rw f (omega arith))
-      | inr e ↦ (let c : cond (test w.triple) w.spent 0 ≡ 0 = rw e refl
-          in let f : filter test (triples_of (w ∷ ws)) ≡ filter test (triples_of ws) = rw e refl in rw f (omega arith))
-    ]
+    in grind (arith, r, a, b, d)
 
 pub spent-all : (test : Triple → Bool) (ws : List Work)
     → ((i : ℕ) → i < length ws → test (work_at ws i).triple ≡ true → (work_at ws i).spent ≡ (work_at ws i).triple.time)
@@ -82,26 +62,14 @@ spent-all test (w ∷ ws) h =
     let r = spent-all test ws (λ i lt. h (suc i) (omega arith))
     in let a = sum_by-cons (λ (w : Work). cond (test w.triple) w.spent 0) w ws
     in let d = sum_by-cons (λ (t : Triple). t.time) w.triple (filter test (triples_of ws))
-    in elim (cases_Bool (test w.triple)) [
-      | inl e ↦ (let b = h 0 (omega arith) e in let c : cond (test w.triple) w.spent 0 ≡ w.spent = rw e refl
-          in let f : filter test (triples_of (w ∷ ws)) ≡ w.triple ∷ filter test (triples_of ws) =
-          rw e refl in rw f (omega arith))
-      | inr e ↦ (let c : cond (test w.triple) w.spent 0 ≡ 0 = rw e refl
-          in let f : filter test (triples_of (w ∷ ws)) ≡ filter test (triples_of ws) = rw e refl in rw f (omega arith))
-    ]
+    in let b = h 0 (omega arith)
+    in grind (arith, r, a, b, d)
 
 pub some_above : (test : Triple → Bool) (ws : List Work) (i : ℕ) → i < length ws → test (work_at ws i).triple ≡ true
     → 0 < length (filter test (triples_of ws))
 some_above test [] i lt e = absurd (omega arith)
-some_above test (w ∷ ws) zero lt e = let f : filter test (triples_of (w ∷ ws))
-    ≡ w.triple ∷ filter test (triples_of ws) = rw e refl in rw f (omega arith)
-some_above test (w ∷ ws) (suc i) lt e =
-    let r = some_above test ws i (omega arith) e
-    in elim (cases_Bool (test w.triple)) [
-      | inl y ↦ (let f : filter test (triples_of (w ∷ ws)) ≡ w.triple ∷ filter test (triples_of ws) =
-          rw y refl in rw f (omega arith))
-      | inr n ↦ (let f : filter test (triples_of (w ∷ ws)) ≡ filter test (triples_of ws) = rw n refl in rw f r)
-    ]
+some_above test (w ∷ ws) zero lt e = grind (arith, e)
+some_above test (w ∷ ws) (suc i) lt e = let r = some_above test ws i (omega arith) e in grind (arith, r)
 
 pub worked-le : (head tail : ℕ) (ws : List Work)
     → ((i : ℕ) → i < length ws → (work_at ws i).spent ≤ (work_at ws i).triple.time)
@@ -119,11 +87,7 @@ worked-all head tail ws h = spent-all (is_above head tail) ws h
 -- a span is at most the sum of its three parts
 pub span_above-parts : (ts : List Triple) (head tail : ℕ)
     → span_above ts head tail ≤ head + sum_by (λ t. t.time) (filter (is_above head tail) ts) + tail
-span_above-parts ts head tail = elim (cases_lt 0 (length (filter (is_above head tail) ts))) [
-  | inl h ↦ (let e = span_above-some ts head tail h in omega arith)
-  | inr h ↦ (let z : length (filter (is_above head tail) ts) ≡ 0 =
-      omega arith in let e : span_above ts head tail ≡ 0 = rw z refl in omega arith)
-]
+span_above-parts ts head tail = grind (arith, cases_lt, span_above-some)
 
 -- at the start nothing is done
 pub spent-none : (test : Triple → Bool) (ws : List Work) → ((i : ℕ) → i < length ws → (work_at ws i).spent ≡ 0)
@@ -133,10 +97,7 @@ spent-none test (w ∷ ws) h =
     let r = spent-none test ws (λ i lt. h (suc i) (omega arith))
     in let a = sum_by-cons (λ (w : Work). cond (test w.triple) w.spent 0) w ws
     in let b = h 0 (omega arith)
-    in elim (cases_Bool (test w.triple)) [
-      | inl e ↦ (let c : cond (test w.triple) w.spent 0 ≡ w.spent = rw e refl in omega arith)
-      | inr e ↦ (let c : cond (test w.triple) w.spent 0 ≡ 0 = rw e refl in omega arith)
-    ]
+    in grind (arith, r, a, b)
 
 pub worked-none : (head tail : ℕ) (ws : List Work) → ((i : ℕ) → i < length ws → (work_at ws i).spent ≡ 0)
     → worked head tail ws ≡ 0
@@ -149,11 +110,7 @@ pub none_above : (test : Triple → Bool) (ws : List Work) → ((i : ℕ) → i 
 none_above test [] undone all = refl
 none_above test (w ∷ ws) undone all =
     let r = none_above test ws (λ i lt. undone (suc i) (omega arith)) (λ i lt. all (suc i) (omega arith))
-    in elim (cases_Bool (test w.triple)) [
-      | inl e ↦ absurd (true≢false (sym (all 0 (omega arith) e) ∙ undone 0 (omega arith)))
-      | inr e ↦ (let f : filter test (triples_of (w ∷ ws)) ≡ filter test (triples_of ws) =
-          rw e refl in ap length f ∙ r)
-    ]
+    in grind (arith, r, all 0 (omega arith), undone 0 (omega arith))
 
 -- the works that stand for triples at the start
 pub fresh-triples : (ts : List Triple) → triples_of (map fresh ts) ≡ ts

@@ -31,7 +31,7 @@ waiting_from free j k ready (o ∷ os) =
     }
     ∷ waiting_from free j (k + 1) (head + o.time) os
 
--- those of job j, and those of all jobs
+-- the operations of job j that wait, and those of all jobs
 abbrev pub waiting_of : Shop → Placing → ℕ → List Waiting
 waiting_of shop p j =
     waiting_from p.free j (p.steps j) (p.ready j) (drop (p.steps j) (route_of shop j))
@@ -39,7 +39,7 @@ waiting_of shop p j =
 abbrev pub waiting : Shop → Placing → List Waiting
 waiting shop p = flat_map (λ j. waiting_of shop p j) (range_with_len 0 (length shop.jobs))
 
--- the triples of those on machine m
+-- the triples of the operations that wait for machine m
 abbrev pub triples_on : ℕ → List Waiting → List Triple
 triples_on m ws = map (λ x. x.triple) (filter (λ x. x.machine == m) ws)
 

@@ -1,6 +1,6 @@
 -- What a desk has dispatched.
 --     DeskState                      the instance, and the word of what is dispatched
---     goes_on s job                  the same with one more operation of the job
+--     goes_on s job                  s with one more operation of the job dispatched
 --     IsUndone s t                   t is s without its last entry
 --     IsWordOfShop s                 the word is one of the instance, which is within its limits
 use Rattle.std.specs.Prelude.{◌≡◌, ℕ, List, [], ◌∷◌, ◌++◌}

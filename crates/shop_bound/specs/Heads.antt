@@ -23,12 +23,12 @@ ready_after shop p j (suc n) =
     max (ready_after shop p j n) (p.free (machine_of shop j (p.steps j + n)))
     + time_of shop j (p.steps j + n)
 
--- The head of step k of job j, which isn't placed: the greater of that and of the last placed end
--- on its machine.
+-- The head of step k of job j, which isn't placed: the greater of when the job is ready for it and
+-- of the last placed end on its machine.
 abbrev pub head_of : Shop → Placing → ℕ → ℕ → ℕ
 head_of shop p j k = max (ready_after shop p j (k - p.steps j)) (p.free (machine_of shop j k))
 
--- times that can be added up
+-- the times of a route, whose sum is below 2 ^ 50
 abbrev pub AreTimesSmall : List Op → Type 0
 AreTimesSmall route = sum_by (λ o. o.time) route < 2 ^ 50
 

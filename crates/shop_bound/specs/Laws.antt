@@ -1,6 +1,6 @@
 -- What a bound says of all tables.
 --     IsLower shop w b                   no table under the word ends before b
---     BoundsAreLower                     the bound of a word is such
+--     BoundsAreLower                     no table under a word ends before the word's bound
 --     SumsStaySmall                      within the limits no sum of what a word leaves reaches
 --                                        2 ^ 49
 --     BoundsNeverFall                    a word's bound is at most the bound of each word that it

@@ -1,4 +1,4 @@
-// A desk: what is dispatched, operation by operation, with its bound.
+// `Desk`: dispatches and undoes a word operation by operation, and bounds it.
 ghost use Rattle.std.specs.Prelude.{◌≡◌, ◌++◌, ◌∷◌, [], ◌<◌, IfOk, length};
 ghost use Rattle.shop_model.specs.Word.{IsWord};
 ghost use Rattle.shop_bound.specs.Bound.{lb};
@@ -9,22 +9,22 @@ use shop_model::{Instance, Placement};
 use std::alloc::{AllocError as NoMemory, Global};
 use std::marker::Model;
 
-/// What a dispatch replaced: when its job and its machine were ready before it.
+/// The times that a dispatch overwrites: when its job was ready, and when its machine was free, before the dispatch.
 #[derive(Clone, Copy)]
 pub(crate) struct Replaced {
     ready: u64,
     free: u64,
 }
 
-/// An instance and a word of it that is dispatched entry by entry, with its bound, in units of time. It takes all its
-/// memory in `new`; the calls after it take none, and none of them fails. For library callers: the program doesn't
-/// use it.
+/// An instance and a word of it, dispatched operation by operation, with the word's lower bound in units of time. `new`
+/// takes all memory; the later calls take none and never fail. For library callers: the program doesn't use `Desk`.
 #[derive(Drop)]
 pub struct Desk<'a> {
     instance: &'a Instance,
     placement: Placement,
-    /// the trail: the jobs that were dispatched, and what each dispatch replaced
+    /// the job of each dispatch, in order
     jobs: Vec<u16>,
+    /// the times that each dispatch overwrote, for `undo`
     replaced: Vec<Replaced>,
     room: BoundRoom,
 }
@@ -42,7 +42,7 @@ impl<'a> Model for Desk<'a> {
 }
 
 impl<'a> Desk<'a> {
-    /// With nothing dispatched. Fails with `NoMemory` if memory runs out.
+    /// Makes a desk with no operation dispatched. Fails with `NoMemory` if memory runs out.
     pub fn new(alloc: Global, instance: &'a Instance) -> Result<Desk<'a>, NoMemory>
         ensures { IfOk result (λ d. d ≡ nothing_dispatched instance.now) }
     {
@@ -61,8 +61,7 @@ impl<'a> Desk<'a> {
         })
     }
 
-    /// Dispatches the next operation of a job, which has one left. The job is one of the instance, counted from 0.
-    /// Takes no memory.
+    /// Dispatches the next operation of `job`. Requires a job, counted from 0, with an operation left. Takes no memory.
     pub fn dispatch(&mut self, job: usize)
         requires { IsWord self.old.shop (self.old.word ++ job ∷ []) }
         ensures { self.new ≡ goes_on self.old job }
@@ -76,7 +75,7 @@ impl<'a> Desk<'a> {
         let _start = self.placement.place_next(self.instance, job);
     }
 
-    /// Takes back what was dispatched last; something is dispatched. Takes no memory.
+    /// Takes back the last dispatch. Requires that an operation is dispatched. Takes no memory.
     pub fn undo(&mut self)
         requires { 0 < length self.old.word }
         ensures { IsUndone self.old self.new }
@@ -87,7 +86,7 @@ impl<'a> Desk<'a> {
             .take_back(self.instance, job, replaced.ready, replaced.free);
     }
 
-    /// The lower bound of what is dispatched, in units of time: below 2^50. Takes no memory.
+    /// Answers the lower bound of the dispatched word, in units of time. The bound is below 2^50. Takes no memory.
     pub fn bound(&mut self) -> u64
         ensures bound { result ≡ lb self.old.shop self.old.word }
         ensures same { self.new ≡ self.old }
@@ -95,15 +94,14 @@ impl<'a> Desk<'a> {
         self.room.bound(self.instance, &self.placement)
     }
 
-    /// The jobs of what is dispatched, in order. Takes no memory.
+    /// The dispatched word: the job of each dispatch, in order. Takes no memory.
     pub fn jobs(&self) -> &[u16]
         ensures { result.now ≡ self.now.word }
     {
         self.jobs.as_slice()
     }
 
-    /// What is dispatched is a word of the instance, which is within its limits. (A fact for proofs; the call does
-    /// nothing.)
+    /// States for proofs: the dispatched jobs are a word of the instance, which is within the limits. Does nothing.
     pub fn keeps_word(&self)
         ensures { IsWordOfShop self.now }
     {

@@ -1,4 +1,4 @@
-// Heads: when an operation that a word leaves could begin.
+// Heads: when each operation that a word has not dispatched could begin at the earliest.
 ghost use Rattle.std.specs.Prelude.{◌≡◌, ◌<◌, IfOk, length, map};
 ghost use Rattle.std.specs.List.{range_with_len};
 ghost use Rattle.shop_model.specs.Shop.{route_of};
@@ -12,7 +12,7 @@ use shop_model::{Instance, Placement, Word};
 use std::alloc::{AllocError as NoMemory, Global};
 use std::marker::Model;
 
-/// The heads of the operations of job j, none for those that are placed.
+/// Computes the head of each operation of job `j`, in order of its route; `None` for each operation that is placed.
 fn heads_of_job(
     alloc: Global,
     instance: &Instance,
@@ -39,7 +39,7 @@ fn heads_of_job(
     Ok(heads)
 }
 
-/// The heads of the operations of each job.
+/// Computes the heads of all operations, one row for each job; `None` for each operation that is placed.
 fn heads_of_jobs(
     alloc: Global,
     instance: &Instance,
@@ -56,8 +56,8 @@ fn heads_of_jobs(
     Ok(rows)
 }
 
-/// The heads of the operations that a word leaves: the longest paths to them in the disjunctive model. For library
-/// callers: the program doesn't use it.
+/// The head of each operation that a word has not dispatched: the length of the longest path to the operation in the
+/// disjunctive model. For library callers: the program doesn't use `Heads`.
 #[derive(Drop)]
 pub struct Heads {
     rows: Vec<Vec<Option<u64>>>,
@@ -72,7 +72,8 @@ impl Model for Heads {
 }
 
 impl Heads {
-    /// The heads once the word, which fits the instance, is placed. Fails with `NoMemory` if memory runs out.
+    /// Finds the head of each operation that `word`, a word of `instance`, has not dispatched. Fails with `NoMemory` if
+    /// memory runs out.
     pub fn of(alloc: Global, instance: &Instance, word: &Word) -> Result<Heads, NoMemory>
         requires { IsWord instance.now word.now }
         ensures { IfOk result (λ h. TellsHeads instance.now word.now h) }
@@ -82,7 +83,7 @@ impl Heads {
         Ok(Heads { rows })
     }
 
-    /// The head of step k of job j; none where it is in the word, or no operation.
+    /// The head of step `k` of job `j`; `None` if the word has dispatched the step or the instance lacks it.
     pub fn head(&self, j: usize, k: usize) -> Option<u64>
         ensures { result ≡ heads_at self.now j k }
     {

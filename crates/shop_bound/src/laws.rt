@@ -1,30 +1,31 @@
-// Laws of bounds, over their definitions alone.
+// Laws of the heads, tails and bounds of words, stated on their definitions alone.
 ghost use Rattle.shop_bound.specs.Heads.{WaitingIsWhatIsLeft};
 ghost use Rattle.shop_bound.specs.Laws.{BoundsAreLower, BoundsNeverFall, FullWordsEndAtTheirBound};
 ghost use Rattle.shop_bound.specs.Laws.{SumsStaySmall};
 
-/// No table under a word ends before the word's bound.
+/// A feasible schedule that begins each machine with a word's operations, in order, ends at the word's bound or later.
 pub fn bounds_are_lower()
     ensures { BoundsAreLower }
 {}
 
-/// The bound of a word is at most the bound of each word that it begins.
+/// The bound of a word is at least the bound of each of its prefixes, for an instance within the limits.
 pub fn bounds_never_fall()
     ensures { BoundsNeverFall }
 {}
 
-/// The table that a full word places is feasible, lies under the word and each of its beginnings, and ends at its
-/// bound.
+/// A word of all operations makes a feasible schedule that ends at the word's bound. For each prefix of the word, this
+/// schedule begins each machine with the operations of the prefix, in order.
 pub fn full_words_end_at_their_bound()
     ensures { FullWordsEndAtTheirBound }
 {}
 
-/// The operations that wait are those that are not placed, each with its head, its time and its tail.
+/// `waiting` lists the operations that are not placed, job by job, each with its head, time and tail.
 pub fn what_waits_is_left()
     ensures { WaitingIsWhatIsLeft }
 {}
 
-/// Within the limits, the sums of heads, times and tails, the placed ends and the bounds of a word stay below 2^49.
+/// For an instance within the limits, three things are below 2^49: a word's bound, the ends of its operations, and
+/// greatest head + sum of times + greatest tail of each machine's waiting operations.
 pub fn sums_stay_small()
     ensures { SumsStaySmall }
 {}

@@ -1,5 +1,5 @@
-// Heads and tails of the operations that a word leaves, the one-machine bound, the lower bound of a word with its laws,
-// and a desk on which a word is dispatched and undone.
+// Heads and tails of the operations that a word has not dispatched, the one-machine bound, the lower bound of a word
+// with its laws, and `Desk`, which dispatches and undoes operations.
 #![tactic(auto)]
 
 mod desks;

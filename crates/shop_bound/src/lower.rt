@@ -1,4 +1,4 @@
-// The lower bound of a word.
+// The lower bound of a word: the greatest of the ends of its operations and of the machines' one-machine bounds.
 ghost use Rattle.std.specs.Prelude.{◌≡◌, ℕ, ◌<◌, ◌^◌, IfOk};
 ghost use Rattle.shop_model.specs.Word.{IsWord};
 ghost use Rattle.shop_bound.specs.Bound.{lb};
@@ -13,7 +13,7 @@ use crate::unplaced::list_unplaced;
 use shop_model::{Instance, Placement, Word};
 use std::alloc::{AllocError as NoMemory, Global};
 
-/// Room to bound what is left of an instance: for the operations of a machine, and for their schedule.
+/// Memory to bound words of an instance: for the waiting operations of a machine, and for their preemptive schedule.
 #[derive(Drop)]
 pub(crate) struct BoundRoom {
     triples: Vec<Triple>,
@@ -21,7 +21,7 @@ pub(crate) struct BoundRoom {
 }
 
 impl BoundRoom {
-    /// For an instance. Fails with `NoMemory` if memory runs out.
+    /// Makes room for all operations of `instance`. Fails with `NoMemory` if memory runs out.
     pub(crate) fn of(alloc: Global, instance: &Instance) -> Result<BoundRoom, NoMemory>
         ensures { IfOk result (IsRoomFor instance.now) }
     {
@@ -31,8 +31,8 @@ impl BoundRoom {
         Ok(BoundRoom { triples, jackson })
     }
 
-    /// The greatest, over the machines, of when it is free and of the one-machine bound of what isn't placed on it.
-    /// Takes no memory.
+    /// Answers the lower bound of the word in `placement`: the greatest of the times when machines are free and of the
+    /// one-machine bounds of each machine's waiting operations. Takes no memory.
     pub(crate) fn bound(&mut self, instance: &Instance, placement: &Placement) -> u64
         requires room { IsRoomFor instance.now self.old }
         requires word { IsOfWord instance.now placement.now }
@@ -50,9 +50,9 @@ impl BoundRoom {
     }
 }
 
-/// The lower bound of a word that fits the instance: the greatest of the placed ends and of the one-machine bounds of
-/// what is left. No feasible table under the word ends before it, the table that a full word places is feasible and
-/// ends at it, and it is below 2^50. Fails with `NoMemory` if memory runs out.
+/// Computes the lower bound, below 2^50, of `word`, a word of `instance`: the greatest of its operations' ends and the
+/// waiting operations' one-machine bounds. No feasible schedule that begins each machine with `word`, in order, ends
+/// earlier. The schedule of a full `word` is feasible and ends there. Fails with `NoMemory` if memory runs out.
 pub fn lower_bound(alloc: Global, instance: &Instance, word: &Word) -> Result<u64, NoMemory>
     requires { IsWord instance.now word.now }
     ensures bound { IfOk result (λ b. b ≡ lb instance.now word.now) }

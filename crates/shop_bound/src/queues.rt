@@ -1,4 +1,4 @@
-// The operations of one machine that are not done: those to come, and those that wait.
+// Two heaps for the operations of one machine that have not ended: the unreleased by head, the waiting by tail.
 ghost use Rattle.std.specs.Prelude.{◌≡◌, ℕ, ◌+◌, ◌<◌, ◌≤◌, IfOk, OnSome, length, map};
 ghost use Rattle.std.specs.BinaryHeap.{IsHeap, heap_capacity, heap_items, heap_len};
 ghost use Rattle.std.proofs.Props.{props};
@@ -10,12 +10,12 @@ use std::alloc::{AllocError as NoMemory, Global};
 use std::cmp::Reverse;
 use std::collections::BinaryHeap;
 
-/// Operations of a list, by their positions in it.
+/// Two heaps of operations, each operation named by its position in the list of triples.
 #[derive(Drop)]
 pub(crate) struct Queue {
-    /// heads and positions of those to come, the least head on top
+    /// heads and positions of the operations to come, the least head on top
     coming: BinaryHeap<(Reverse<u64>, usize)>,
-    /// tails and positions of those that wait, the greatest tail on top, the lowest position on ties
+    /// tails and positions of the waiting operations, the greatest tail on top, the lowest position on ties
     waiting: BinaryHeap<(u64, Reverse<usize>)>,
     ghost least_first: { IsHeap by_head (heap_items coming) } by { Prim.hlevel props },
     ghost greatest_first: { IsHeap by_tail (heap_items waiting) } by { Prim.hlevel props },
@@ -26,7 +26,7 @@ impl Queue {
     ghost use Rattle.shop_bound.specs.inner.Queues.{ComeLater, HasRoom, IsFirst, IsNextRelease};
     ghost use Rattle.shop_bound.specs.inner.Queues.{IsQueue, IsWithoutFirst, KeepsRoom, TakesReleased};
 
-    /// Of no operation, with room for n. Fails with `NoMemory` if memory runs out.
+    /// Makes an empty queue with room for `n` operations. Fails with `NoMemory` if memory runs out.
     pub(crate) fn with_room(alloc: Global, n: usize) -> Result<Queue, NoMemory>
         ensures { IfOk result (λ q. HasRoom n q) }
     {
@@ -35,7 +35,7 @@ impl Queue {
         Ok(Queue { coming, waiting })
     }
 
-    /// All operations of the list are to come, and none waits.
+    /// Refills the queue from `triples`: all operations are to come, and none waits.
     pub(crate) fn fill(&mut self, triples: &[Triple])
         requires { HasRoom (length triples.now) self.old }
         ensures queue { IsQueue (map fresh triples.now) 0 self.new }
@@ -48,7 +48,7 @@ impl Queue {
         }
     }
 
-    /// The next release: the least head of those to come.
+    /// The next release: the least head of the operations to come; `None` if no operation is to come.
     pub(crate) fn next_release(&self) -> Option<u64>
         ensures { IsNextRelease (heap_items self.now.coming) result }
     {
@@ -58,7 +58,7 @@ impl Queue {
         }
     }
 
-    /// The operation to be served: of those that wait, that of greatest tail, and first of these in the list.
+    /// The waiting operation to serve: the one of greatest tail, of lowest position on ties; `None` if none waits.
     pub(crate) fn first(&self) -> Option<usize>
         ensures { IsFirst (heap_items self.now.waiting) result }
     {
@@ -68,7 +68,7 @@ impl Queue {
         }
     }
 
-    /// Takes out the next of those to come, if it is released by the clock.
+    /// Takes out the next operation to come if it is released by `clock`, and answers its position.
     fn pop_released(&mut self, clock: u64) -> Option<usize>
         ensures taken { TakesReleased clock (heap_items self.old.coming) (heap_items self.new.coming) result }
         ensures fewer { OnSome result (heap_len self.new.coming + 1 ≡ heap_len self.old.coming) }
@@ -83,7 +83,7 @@ impl Queue {
         Some(position)
     }
 
-    /// Those that are released by the clock wait.
+    /// Moves each operation that is released by `clock` from the operations to come to the waiting ones.
     pub(crate) fn release(&mut self, works: &[Work], clock: u64)
         requires { IsQueue works.now clock self.old }
         ensures queue { IsQueue works.now clock self.new }
@@ -96,7 +96,7 @@ impl Queue {
         }
     }
 
-    /// The operation that is served has ended; one waits.
+    /// Takes the operation that `first` answers, which has ended, out of the waiting operations.
     pub(crate) fn finish(&mut self)
         requires { 0 < heap_len self.old.waiting }
         ensures first { IsWithoutFirst (heap_items self.old.waiting) (heap_items self.new.waiting) }

@@ -1,4 +1,4 @@
-// Jackson's preemptive schedule of one machine.
+// Jackson's preemptive schedule of one machine: its greatest end is the one-machine bound.
 ghost use Rattle.std.specs.Prelude.{◌≡◌, ℕ, ◌+◌, ◌*◌, ◌^◌, ◌<◌, ◌≤◌, List, length, map, vec_len, IfOk};
 ghost use Rattle.std.specs.BinaryHeap.{heap_items};
 ghost use Rattle.shop_bound.specs.OneMachine.{one, IsSmall};
@@ -14,7 +14,7 @@ use crate::works::Work;
 use std::alloc::{AllocError as NoMemory, Global};
 use std::marker::Model;
 
-/// When a turn that ends at `end` stops: then, or at the next release.
+/// Answers when the machine stops serving an operation: at `end`, or at the next release if it is earlier.
 fn stop_of_turn(queue: &Queue, end: u64) -> u64
     ensures { (ws : List Work) (clock : ℕ) → IsQueue ws clock queue.now
         → ComeLater clock (heap_items queue.now.coming) → clock ≤ end
@@ -26,7 +26,8 @@ fn stop_of_turn(queue: &Queue, end: u64) -> u64
     }
 }
 
-/// The clock, or, where no operation waits then, the next release. All that are released by then wait.
+/// Answers when the machine serves next: at `clock` if an operation waits or none is left, else at the next release.
+/// Moves the operations that are released by then to the waiting ones.
 fn ready_at(works: &[Work], queue: &mut Queue, clock: u64) -> u64
     requires { IsQueue works.now clock queue.old }
     ensures ready { IsReady works.now clock result }
@@ -45,8 +46,8 @@ fn ready_at(works: &[Work], queue: &mut Queue, clock: u64) -> u64
     release
 }
 
-/// One turn: serves the first of those that wait from the clock until it ends or until the next release. Returns the
-/// clock then.
+/// Serves operation `chosen` from `clock` until the operation ends or until the next release, and answers that time.
+/// Raises `best` to the operation's end plus tail if the operation ends.
 fn serve(works: &mut [Work], queue: &mut Queue, clock: u64, chosen: usize, best: &mut u64) -> u64
     requires queue { IsQueue works.old clock queue.old }
     requires later { ComeLater clock (heap_items queue.old.coming) }
@@ -82,14 +83,14 @@ fn serve(works: &mut [Work], queue: &mut Queue, clock: u64, chosen: usize, best:
     end
 }
 
-/// What a schedule comes to: its greatest completion time with its tail, and its turns.
+/// The result of a preemptive schedule: its greatest completion time, tail included, and its number of turns.
 #[derive(Clone, Copy)]
 struct Outcome {
     bound: u64,
     turns: u64,
 }
 
-/// The whole schedule, turn by turn, where all operations are to come.
+/// Makes the whole preemptive schedule, turn by turn. `queue` holds all operations of `works`, and none is served yet.
 fn schedule(works: &mut [Work], queue: &mut Queue) -> Outcome
     requires fresh { IsFresh works.old }
     requires queue { IsQueue works.old 0 queue.old }
@@ -111,7 +112,7 @@ fn schedule(works: &mut [Work], queue: &mut Queue) -> Outcome
     Outcome { bound: best, turns }
 }
 
-/// Writes the triples over the works, with nothing done.
+/// Writes the operations of `triples` over `works`, none of them served.
 fn fill(works: &mut [Work], triples: &[Triple])
     requires { length works.old ≡ length triples.now }
     ensures { works.new ≡ map fresh triples.now }
@@ -125,7 +126,7 @@ fn fill(works: &mut [Work], triples: &[Triple])
     }
 }
 
-/// The schedule of a list of operations, for which there is room.
+/// Makes the preemptive schedule of the operations of `triples`. `works` and `queue` have room for them.
 fn schedule_list(works: &mut [Work], queue: &mut Queue, triples: &[Triple]) -> Outcome
     requires works { length triples.now ≤ length works.old }
     requires queue { HasRoom (length triples.now) queue.old }
@@ -142,8 +143,8 @@ fn schedule_list(works: &mut [Work], queue: &mut Queue, triples: &[Triple]) -> O
 }
 
 /// Jackson's preemptive schedule of one machine (Carlier 1982): at each moment it serves the released operation of
-/// greatest tail, the first of these in the list, until it ends or until the next release. Of n operations it takes
-/// n log n steps. It has room for a number of operations, and takes no memory once it is made.
+/// greatest tail, the first in the list on ties, until the operation ends or until the next release. n operations take
+/// n log n steps. `with_room` takes all memory; the later calls take none.
 #[derive(Drop)]
 pub struct Jackson {
     works: Vec<Work>,
@@ -164,7 +165,7 @@ impl Model for Jackson {
 }
 
 impl Jackson {
-    /// A schedule with room for n operations. Fails with `NoMemory` if memory runs out.
+    /// Makes a `Jackson` with room for `n` operations. Fails with `NoMemory` if memory runs out.
     pub fn with_room(alloc: Global, n: usize) -> Result<Jackson, NoMemory>
         ensures { IfOk result (λ j. j ≡ record { room = n; turns = 0 }) }
     {
@@ -186,8 +187,8 @@ impl Jackson {
         })
     }
 
-    /// The greatest end, tail included, of the schedule of these operations: the one-machine bound, 0 for none. There
-    /// is room for them, and their greatest head, times and greatest tail together are below 2^50.
+    /// Answers the one-machine bound of `triples`: the greatest end, tail included, of their preemptive schedule; 0 if
+    /// `triples` is empty. Requires room for `triples`, and greatest head + sum of times + greatest tail below 2^50.
     pub fn bound(&mut self, triples: &[Triple]) -> u64
         requires room { length triples.now ≤ self.old.room }
         requires small { IsSmall triples.now }
@@ -201,7 +202,8 @@ impl Jackson {
         outcome.bound
     }
 
-    /// The turns of the last schedule, 0 before any: at least one for each operation, and at most two.
+    /// The number of turns in the last schedule: from n to 2 n for n operations, 0 before the first schedule. A turn
+    /// serves one operation until it ends or until the next release.
     pub fn turns(&self) -> u64
         ensures { result ≡ self.now.turns }
     {

@@ -1,4 +1,4 @@
-// Tails: what must follow an operation in its route.
+// Tails: the total time of the operations behind an operation on its route.
 ghost use Rattle.std.specs.Prelude.{◌≡◌, ◌<◌, IfOk, map, sum_by};
 ghost use Rattle.shop_bound.specs.Heads.{AreTails};
 ghost use Rattle.shop_bound.specs.inner.HeadRows.{tails_in};
@@ -7,7 +7,7 @@ ghost use Rattle.shop_bound.specs.Heads.{AreTimesSmall};
 use shop_model::{Instance, Op};
 use std::alloc::{AllocError as NoMemory, Global};
 
-/// The sum of the times of a route, which is below 2^50.
+/// Adds up the times of the operations of `route`. Their sum is below 2^50.
 pub fn total_time(route: &[Op]) -> u64
     requires { AreTimesSmall route.now }
     ensures { result ≡ sum_by (λ o. o.time) route.now }
@@ -19,7 +19,7 @@ pub fn total_time(route: &[Op]) -> u64
     total
 }
 
-/// The tails of the operations of a route.
+/// Computes the tail of each operation of `route`, in order.
 fn tails_of_route(alloc: Global, route: &[Op]) -> Result<Vec<u64>, NoMemory>
     requires { AreTimesSmall route.now }
     ensures { IfOk result (λ v. v.items ≡ tails_in route.now) }
@@ -33,8 +33,8 @@ fn tails_of_route(alloc: Global, route: &[Op]) -> Result<Vec<u64>, NoMemory>
     Ok(tails)
 }
 
-/// The tail of each operation, one row a job: the sum of the times of the later steps of its route. Fails with
-/// `NoMemory` if memory runs out. For library callers: the program doesn't use it.
+/// Computes the tail of each operation, one row for each job: the sum of the times of the later steps of its route.
+/// Fails with `NoMemory` if memory runs out. For library callers: the program doesn't use `tails`.
 pub fn tails(alloc: Global, instance: &Instance) -> Result<Vec<Vec<u64>>, NoMemory>
     ensures { IfOk result (λ v. AreTails instance.now (map (λ row. row.items) v.items)) }
 {

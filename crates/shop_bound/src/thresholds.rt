@@ -1,11 +1,12 @@
-// The one-machine bound by thresholds: each pair of a least head and a least tail that occur.
+// The one-machine bound by thresholds: tries each head as least head with each tail as least tail.
 ghost use Rattle.std.specs.Prelude.{◌≡◌, ◌+◌, ◌^◌, ◌<◌, sum_by};
 ghost use Rattle.shop_bound.specs.OneMachine.{one, IsSmall};
 ghost use Rattle.shop_bound.specs.inner.Thresholds.{span_above, greatest_span_of};
 
 use crate::triples::Triple;
 
-/// The head, the times of the operations whose heads and tails are at least these, and the tail; 0 if there are none.
+/// Answers `head` plus `tail` plus the times of the operations with a head of at least `head` and a tail of at least
+/// `tail`; 0 if there is no such operation.
 fn span_of_above(triples: &[Triple], head: u64, tail: u64) -> u64
     requires { head + sum_by (λ t. t.time) triples.now + tail < 2 ^ 50 }
     ensures { result ≡ span_above triples.now head tail }
@@ -21,7 +22,7 @@ fn span_of_above(triples: &[Triple], head: u64, tail: u64) -> u64
     if count == 0 { 0 } else { head + sum + tail }
 }
 
-/// The greatest span over the thresholds that occur.
+/// Answers the greatest `span_of_above` over all pairs of a head and a tail in `triples`; 0 if `triples` is empty.
 fn greatest_span(triples: &[Triple]) -> u64
     requires { IsSmall triples.now }
     ensures { result ≡ greatest_span_of triples.now }
@@ -37,10 +38,9 @@ fn greatest_span(triples: &[Triple]) -> u64
     best
 }
 
-/// The one-machine bound (Carlier 1982): the greatest of least head + sum of times + least tail over all sublists of
-/// the operations, 0 for none. The greatest head, the times and the greatest tail together are below 2^50. Tries each
-/// pair of a head and a tail that occur, so it takes cubic time: for small lists, and to test `Jackson` against.
-/// For library callers: the program doesn't use it.
+/// Answers the one-machine bound (Carlier 1982): the greatest of least head + sum of times + least tail over all
+/// sublists of `triples`; 0 if `triples` is empty. Requires greatest head + sum of times + greatest tail below 2^50.
+/// Takes cubic time. For library callers and for tests of `Jackson`: the program doesn't use `one_machine`.
 pub fn one_machine(triples: &[Triple]) -> u64
     requires { IsSmall triples.now }
     ensures { result ≡ one triples.now }

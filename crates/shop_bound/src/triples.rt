@@ -1,5 +1,4 @@
-/// An operation of one machine: when it can begin (its head), how long it takes (its time), and how much must follow it
-/// (its tail), in units of time.
+/// An operation of one machine, in units of time: it can begin at `head`, takes `time`, and needs `tail` after its end.
 #[derive(Clone, Copy, Debug, PartialEq, Eq)]
 pub struct Triple {
     pub head: u64,
@@ -7,7 +6,7 @@ pub struct Triple {
     pub tail: u64,
 }
 
-/// Padding: stands in room that no operation was written to.
+/// Padding: the triple where no operation is written yet.
 pub(crate) const NO_TRIPLE: Triple = Triple {
     head: 0,
     time: 0,

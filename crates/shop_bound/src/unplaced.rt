@@ -1,4 +1,4 @@
-// The operations of a machine that a word leaves, with their heads, times and tails.
+// The operations of a machine that a word has not dispatched, with their heads, times and tails.
 ghost use Rattle.std.specs.Prelude.{◌+◌, ◌≤◌, length, vec_capacity, vec_len};
 ghost use Rattle.shop_model.specs.Shop.{operation_count};
 ghost use Rattle.shop_bound.specs.inner.PlacedWords.{IsOfWord};
@@ -8,7 +8,8 @@ use crate::tail_rows::total_time;
 use crate::triples::Triple;
 use shop_model::{Instance, Op, Placement};
 
-/// Adds to the list what a machine has of the rest of a job's route, once the job is ready and the machines are free.
+/// Adds to `triples` the operations on `machine` in `rest`, the rest of a job's route. The job is ready at `ready`, and
+/// machine m is free at `free[m]`.
 fn add_rest(triples: &mut Vec<Triple>, machine: usize, rest: &[Op], ready: u64, free: &[u64])
     requires rest { CanGoOn free.now ready rest.now }
     requires room { vec_len triples.old + length rest.now ≤ vec_capacity triples.old }
@@ -29,8 +30,7 @@ fn add_rest(triples: &mut Vec<Triple>, machine: usize, rest: &[Op], ready: u64, 
     }
 }
 
-/// Replaces the list with the operations of a machine that aren't placed, job by job. There is room for all operations
-/// of the instance.
+/// Replaces `triples` by the unplaced operations of `machine`, job by job. `triples` has room for all operations.
 pub(crate) fn list_unplaced(
     triples: &mut Vec<Triple>,
     instance: &Instance,

@@ -1,7 +1,7 @@
-// Operations as a schedule serves them.
+// Operations of one machine during its preemptive schedule.
 use crate::triples::Triple;
 
-/// An operation, how long it was served, and whether it has ended.
+/// An operation, the time for which the machine has served it, and whether it has ended.
 #[derive(Clone, Copy)]
 pub(crate) struct Work {
     pub(crate) triple: Triple,

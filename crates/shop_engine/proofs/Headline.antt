@@ -1,11 +1,10 @@
 -- A text goes out, and the same where the bytes of source and sink are known.
-use Rattle.std.proofs.Common.{◌≡◌, ℕ, List, ◌++◌, Option, Some, None, Result, Ok, Err, OnOk, IfErr}
+use Rattle.std.proofs.Common.{◌≡◌, ℕ, inr, List, ◌++◌, Option, Some, None, Result, Ok, Err, OnOk, IfErr}
 use Rattle.std.proofs.Common.{subst, rules, arith}
 use Rattle.std.proofs.lemmas.Grind.{common_steps}
 use Rattle.std.specs.Io.KnownBytes.{Consumes, Appends, IsAtEnd}
 use Rattle.shop_text.specs.declared.faults.ReadFault.{ReadFault}
 use Rattle.shop_engine.specs.declared.faults.Fault.{Fault}
-use Rattle.shop_engine.specs.declared.faults.Fault.TheVariants.{Text, ReadFailed, WriteFailed}
 use Rattle.shop_engine.specs.Devices.{Device, IsReadToEnd, IsWritten, IsCutOff, IsUnwritten, Passes, IsTransfer}
 use Rattle.shop_engine.specs.Headline.{WhereKnown}
 
@@ -26,10 +25,8 @@ pub transferred : {s s' : Device} {text out written : List ℕ} (Gives : List �
     → (r : Result (Unit {0}) Fault) → OnOk r (IsWritten k k' written) → IfErr r (λ e. IsUnwritten k k' written e)
     → IsTransfer Gives IsBad s s' k k' r
 transferred Gives IsBad k k' read gives same (Ok done) ok err = passes Gives (IsWritten k k') read gives same ok
-transferred Gives IsBad k k' read gives same (Err (Text fault)) ok err = absurd err
-transferred Gives IsBad k k' read gives same (Err ReadFailed) ok err = absurd err
-transferred Gives IsBad k k' read gives same (Err WriteFailed) ok err =
-    passes Gives (IsCutOff k k') read gives same err
+transferred Gives IsBad k k' read gives same (Err fault) ok err =
+    inr (err.0, passes Gives (IsCutOff k k') read gives same err.1)
 
 -- known bytes that are read to the end are the text
 pub known_read : (old new : Option (List ℕ)) (text known : List ℕ)

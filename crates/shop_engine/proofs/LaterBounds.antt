@@ -24,7 +24,7 @@ use Rattle.shop_runs.proofs.Cutting.{all_front, all_back, all_pieces}
 use Rattle.shop_runs.proofs.Ending.{goes_on_from}
 use Rattle.shop_runs.proofs.FrontLemmas.{least_order}
 use Rattle.shop_engine.proofs.WalksAbove.{IsAbove, sheet_above}
-use Rattle.shop_engine.specs.LaterBounds.{MoreRoundsLowerNoBound}
+use Rattle.shop_engine.specs.AnswerLaws.{MoreRoundsLowerNoBound}
 
 module _ (shop : Shop) (limits : IsWithinLimits shop) (b : ℕ) where
   pub least_above : (c : ℕ) (ws : List (List ℕ)) → b ≤ c → AllByRecursion (IsAbove shop limits b) ws

@@ -6,7 +6,7 @@ use Rattle.shop_runs.specs.Answers.{answer}
 use Rattle.shop_runs.specs.Exact.{with_rounds}
 use Rattle.shop_runs.specs.declared.plans.Order.TheVariants.{Kept}
 use Rattle.shop_runs.proofs.Ending.{searches_end}
-use Rattle.shop_engine.specs.LeastMakespans.{EachHasOneLeast}
+use Rattle.shop_engine.specs.Easier.{EachHasOneLeast}
 
 abbrev plan : Planned
 plan = record { rounds = 0; budget = 1; piece = 1; order = Kept }

@@ -1,4 +1,5 @@
 pub mod Picks
+pub mod Sources
 pub mod Verdicts
 pub mod Reported
 pub mod Headline

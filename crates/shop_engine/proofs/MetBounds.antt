@@ -16,7 +16,7 @@ use Rattle.shop_text.specs.declared.formats.Format.{Format}
 use Rattle.shop_text.proofs.TableRows.{table_within}
 use Rattle.shop_engine.specs.Checking.{IsVerdictOn, IsCheckOf}
 use Rattle.shop_engine.specs.Headline.{IsBound, IsRightOf}
-use Rattle.shop_engine.specs.MetBounds.{MetBoundsAreLeast}
+use Rattle.shop_engine.specs.AnswerLaws.{MetBoundsAreLeast}
 use Rattle.shop_engine.proofs.SolvedSchedules.{one_asked}
 use Rattle.shop_engine.proofs.TextLimits.{asked_within}
 

@@ -12,20 +12,12 @@ use Rattle.shop_text.specs.Lines.{lines_of, tokens_of, value_of}
 use Rattle.shop_text.specs.Schedules.{Tokens}
 use Rattle.shop_text.specs.Writing.{Reported, printed_line, text_of, answer_lines, job_line, job_lines}
 use Rattle.shop_text.specs.Writing.{report_lines, gantt_text}
-use Rattle.shop_text.proofs.PrintedLines.{AreLines, line_cut, are_lines_append}
+use Rattle.shop_text.proofs.PrintedLines.{lines_of_front, are_lines_append}
 use Rattle.shop_text.proofs.PrintedJobLines.{AreSmallStarts, jobs_from, job_lines_are_lines, line_is_tokens}
 use Rattle.shop_text.proofs.PrintedJobLines.{values_read}
 use Rattle.shop_text.proofs.ReportReading.{answer_is_lines}
 use Rattle.shop_engine.specs.OneReport.{OneReport}
-
--- the lines of a text that begins with these
-front : (lines : List Tokens) (rest : List ℕ) → AreLines lines
-    → lines_of (text_of lines ++ rest) ≡ map (join_with_byte 32) lines ++ lines_of rest
-front [] rest are = refl
-front (line ∷ lines) rest are =
-    ap lines_of (append_assoc (printed_line line) (text_of lines) rest)
-    ∙ line_cut (join_with_byte 32 line) (text_of lines ++ rest) are.0
-    ∙ ap (λ (ls : List (List ℕ)). join_with_byte 32 line ∷ ls) (front lines rest are.1)
+use Rattle.shop_engine.proofs.Reported.{same_report, chart_of}
 
 same_row : (j : ℕ) (row other : List ℕ) → AreSmallStarts row → AreSmallStarts other
     → join_with_byte 32 (job_line j row) ≡ join_with_byte 32 (job_line j other) → row ≡ other
@@ -48,39 +40,11 @@ same_rows j (row ∷ rows) (other ∷ others) x y long small low e =
     (ap (λ (ls : List (List ℕ)). drop 1 ls) e)
     in ap (λ (r : List ℕ). r ∷ rows) first ∙ ap (λ (rs : List (List ℕ)). other ∷ rs) later
 
-told : List ℕ → Shop → List (List ℕ) → ℕ → ℕ → ℕ → ℕ → ℕ → Reported
-told name shop table makespan bound open_nodes rounds nodes = record {
-  name = name;
-  shop = shop;
-  table = table;
-  makespan = makespan;
-  bound = bound;
-  open_nodes = open_nodes;
-  rounds = rounds;
-  nodes = nodes;
-}
-
-same_report : (r s : Reported) → r.name ≡ s.name → r.shop ≡ s.shop → r.table ≡ s.table → r.makespan ≡ s.makespan
-    → r.bound ≡ s.bound → r.open_nodes ≡ s.open_nodes → r.rounds ≡ s.rounds → r.nodes ≡ s.nodes → r ≡ s
-unfolding told
-same_report r s a b c d e f g h =
-    ap (λ (x : List ℕ). told x r.shop r.table r.makespan r.bound r.open_nodes r.rounds r.nodes) a
-    ∙ ap (λ (x : Shop). told s.name x r.table r.makespan r.bound r.open_nodes r.rounds r.nodes) b
-    ∙ ap (λ (x : List (List ℕ)). told s.name s.shop x r.makespan r.bound r.open_nodes r.rounds r.nodes) c
-    ∙ ap (λ (x : ℕ). told s.name s.shop s.table x r.bound r.open_nodes r.rounds r.nodes) d
-    ∙ ap (λ (x : ℕ). told s.name s.shop s.table s.makespan x r.open_nodes r.rounds r.nodes) e
-    ∙ ap (λ (x : ℕ). told s.name s.shop s.table s.makespan s.bound x r.rounds r.nodes) f
-    ∙ ap (λ (x : ℕ). told s.name s.shop s.table s.makespan s.bound s.open_nodes x r.nodes) g
-    ∙ ap (λ (x : ℕ). told s.name s.shop s.table s.makespan s.bound s.open_nodes s.rounds x) h
-
-chart_of : Reported → Bool → List ℕ
-chart_of r gantt = if gantt then gantt_text r.shop (starts_of r.table) else []
-
 -- the lines of a report and of what is drawn behind it
 pub lines_are : (r : Reported) (chart written : List ℕ) → list_all is_visible r.name ≡ true
     → written ≡ text_of (report_lines r) ++ chart
     → lines_of written ≡ map (join_with_byte 32) (report_lines r) ++ lines_of chart
-lines_are r chart written visible e = ap lines_of e ∙ front (report_lines r) chart
+lines_are r chart written visible e = ap lines_of e ∙ lines_of_front (report_lines r) chart
     (are_lines_append (answer_lines r) (job_lines r.table) (answer_is_lines r visible) (job_lines_are_lines 0 r.table))
 
 pub one_report : OneReport

@@ -8,7 +8,7 @@ use Rattle.shop_runs.specs.Answers.{answer}
 use Rattle.shop_runs.proofs.Covering.{opens_covering}
 use Rattle.shop_runs.proofs.OpenLemmas.{least_bound-le}
 use Rattle.shop_runs.proofs.Trusting.{rounds_cover, none_from}
-use Rattle.shop_engine.specs.Optimal.{OptimalWhereBoundIsMakespan}
+use Rattle.shop_engine.specs.AnswerLaws.{OptimalWhereBoundIsMakespan}
 
 none_open : (shop : Shop) (c : ℕ) (ws : List (List ℕ)) → ((w : List ℕ) → In w ws → lb shop w < c)
     → least_bound shop c ws ≡ c → length ws ≡ 0

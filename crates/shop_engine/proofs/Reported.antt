@@ -4,13 +4,13 @@ use Rattle.std.specs.Prelude.{if◌then◌else◌}
 use Rattle.shop_model.specs.Shop.{Shop}
 use Rattle.shop_model.specs.Checking.{starts_of}
 use Rattle.shop_text.specs.Texts.{NamedShop}
-use Rattle.shop_text.specs.Writing.{Reported, gantt_text}
+use Rattle.shop_text.specs.Writing.{Reported, gantt_text, text_with_gantt}
 use Rattle.shop_runs.specs.Round.{Planned, makespan_of}
 use Rattle.shop_runs.specs.Answers.{answer, bound_of}
 use Rattle.shop_runs.specs.Runs.{Says, IsTrusted}
 use Rattle.shop_runs.specs.declared.runs.Answer.{Answer}
 use Rattle.shop_engine.specs.inner.Told.{told_by}
-use Rattle.shop_engine.specs.Answers.{answer_of, text_with_gantt}
+use Rattle.shop_engine.specs.Answers.{answer_of}
 use Rattle.shop_engine.specs.Headline.{IsPrintable, IsRight, IsDetermined}
 
 unfoldable pub chart_of : Reported → Bool → List ℕ
@@ -31,38 +31,23 @@ right asked a gantt written t printable e = record {
   optimal = λ none. (t.answer_is.least none).least;
 }
 
-reported : List ℕ → Shop → List (List ℕ) → ℕ → ℕ → ℕ → ℕ → ℕ → Reported
-reported name shop table makespan bound open_nodes rounds nodes = record {
-  name = name;
-  shop = shop;
-  table = table;
-  makespan = makespan;
-  bound = bound;
-  open_nodes = open_nodes;
-  rounds = rounds;
-  nodes = nodes;
+-- reports of equal parts are equal
+pub same_report : (r s : Reported) → r.name ≡ s.name → r.shop ≡ s.shop → r.table ≡ s.table → r.makespan ≡ s.makespan
+    → r.bound ≡ s.bound → r.open_nodes ≡ s.open_nodes → r.rounds ≡ s.rounds → r.nodes ≡ s.nodes → r ≡ s
+same_report r s a b c d e f g h = λ i. record {
+  name = a i;
+  shop = b i;
+  table = c i;
+  makespan = d i;
+  bound = e i;
+  open_nodes = f i;
+  rounds = g i;
+  nodes = h i;
 }
-
--- reports of equal numbers are equal
-same_report : (name : List ℕ) (shop : Shop) (t t' : List (List ℕ)) (m m' b b' o o' r r' n n' : ℕ)
-    → t ≡ t' → m ≡ m' → b ≡ b' → o ≡ o' → r ≡ r' → n ≡ n'
-    → reported name shop t m b o r n ≡ reported name shop t' m' b' o' r' n'
-same_report name shop t t' m m' b b' o o' r r' n n' e f g h i k =
-    ap (λ (x : List (List ℕ)). reported name shop x m b o r n) e
-    ∙ ap (λ (x : ℕ). reported name shop t' x b o r n) f
-    ∙ ap (λ (x : ℕ). reported name shop t' m' x o r n) g
-    ∙ ap (λ (x : ℕ). reported name shop t' m' b' x r n) h
-    ∙ ap (λ (x : ℕ). reported name shop t' m' b' o' x n) i
-    ∙ ap (λ (x : ℕ). reported name shop t' m' b' o' r' x) k
 
 told_is : (asked : NamedShop) (plan : Planned) (a : Answer) → Says asked.shop (answer asked.shop plan) a
     → told_by asked a ≡ answer_of asked plan
-unfolding reported
-told_is asked plan a says =
-    let shop = asked.shop
-    in let s = answer shop plan
-    in same_report asked.name shop a.table _ a.makespan (makespan_of shop s) a.bound (bound_of shop s)
-    a.open_nodes (length s.open_words) a.rounds s.rounds a.nodes s.nodes
+told_is asked plan a says = same_report (told_by asked a) (answer_of asked plan) refl refl
     says.table says.makespan says.bound says.open_nodes says.rounds says.nodes
 
 pub determined : (asked : NamedShop) (plan : Planned) (a : Answer) (gantt : Bool) (written : List ℕ)

@@ -22,7 +22,7 @@ use Rattle.shop_runs.specs.Answers.{answer}
 use Rattle.shop_runs.proofs.Trusting.{trustworthy}
 use Rattle.shop_engine.specs.Answers.{answer_of}
 use Rattle.shop_engine.specs.Headline.{IsRight, IsDetermined}
-use Rattle.shop_engine.specs.ReportedAnswers.{TellsTheAnswer, ReportsTellTheAnswer}
+use Rattle.shop_engine.specs.AnswerLaws.{TellsTheAnswer, ReportsTellTheAnswer}
 use Rattle.shop_engine.proofs.OneReport.{lines_are}
 use Rattle.shop_engine.proofs.Reported.{chart_of}
 use Rattle.shop_engine.proofs.SolvedSchedules.{one_asked}

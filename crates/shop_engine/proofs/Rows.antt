@@ -7,13 +7,13 @@ use Rattle.shop_model.specs.Shop.{Shop, release_of, IsFeasible, IsLeast}
 use Rattle.shop_model.proofs.Deciding.{shape_by_test, feasible_by_test}
 use Rattle.shop_model.proofs.Rows.{op, job, shop_a}
 use Rattle.shop_text.specs.Schedules.{IsTable}
-use Rattle.shop_text.specs.Writing.{Reported, verdict_text}
+use Rattle.shop_text.specs.Writing.{Reported, verdict_text, text_with_gantt}
 use Rattle.shop_text.specs.declared.formats.Format.TheVariants.{Orlib}
 use Rattle.shop_text.proofs.TableRows.{table_within}
 use Rattle.shop_runs.proofs.Trusting.{trustworthy}
 use Rattle.shop_runs.proofs.Rows.{plan}
 use Rattle.shop_runs.proofs.CoverRows.{least_7}
-use Rattle.shop_engine.specs.Answers.{answer_of, text_with_gantt}
+use Rattle.shop_engine.specs.Answers.{answer_of}
 use Rattle.shop_engine.specs.Easier.{AskTheSame}
 use Rattle.shop_engine.specs.Reversing.{reversed}
 use Rattle.shop_engine.specs.Scaling.{scaled}

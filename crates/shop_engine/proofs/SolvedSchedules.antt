@@ -14,32 +14,22 @@ use Rattle.shop_text.specs.Formats.{is_visible}
 use Rattle.shop_text.specs.Texts.{NamedShop}
 use Rattle.shop_text.specs.Names.{first_named}
 use Rattle.shop_text.specs.Schedules.{IsTable, IsTableFault}
-use Rattle.shop_text.specs.Writing.{Reported, report_text, verdict_text}
+use Rattle.shop_text.specs.Writing.{Reported, report_text, verdict_text, text_with_gantt}
 use Rattle.shop_text.specs.declared.formats.Format.{Format}
+use Rattle.shop_text.proofs.ReaderTurns.{one_reading}
 use Rattle.shop_text.proofs.ReportReading.{reports_are_schedules}
 use Rattle.shop_text.proofs.TableReadings.{one_table}
 use Rattle.shop_text.proofs.VisibleNames.{asked_visible}
 use Rattle.shop_runs.specs.Runs.{IsTrusted}
 use Rattle.shop_runs.specs.declared.runs.Answer.{Answer}
 use Rattle.shop_engine.specs.inner.Told.{told_by}
-use Rattle.shop_engine.specs.Answers.{text_with_gantt}
 use Rattle.shop_engine.specs.Asking.{IsAsked}
 use Rattle.shop_engine.specs.Checking.{IsVerdictOn}
 use Rattle.shop_engine.specs.SolvedSchedules.{GivesSchedule, PassesCheck}
 use Rattle.shop_engine.proofs.Reported.{chart_of}
-use Rattle.shop_engine.proofs.RefusedTexts.{one_reading, not_had}
+use Rattle.shop_engine.proofs.RefusedTexts.{not_had}
 
 -- ---- the table is read back
-
-report_table : (r : Reported) (gantt : Bool) → IsTrue (list_all is_visible r.name)
-    → EndsAt r.shop r.table r.makespan → AreStarts r.table → length (text_with_gantt r gantt) ≤ 16777216
-    → IsTable r.shop (text_with_gantt r gantt) r.table
-report_table r true visible ends small short = reports_are_schedules.with_gantt r visible ends.0 small short
-report_table r false visible ends small short =
-    let same = append-nil (report_text r)
-    in subst (λ (text : List ℕ). IsTable r.shop text r.table) (sym same)
-    (reports_are_schedules.alone r visible ends.0 small
-    (subst (λ (text : List ℕ). length text ≤ 16777216) same short))
 
 pub gives_schedule : (asked : NamedShop) (a : Answer) (gantt : Bool) (written : List ℕ) → IsTrusted asked.shop a
     → AreStarts a.table → written ≡ text_with_gantt (told_by asked a) gantt → GivesSchedule asked written
@@ -51,7 +41,7 @@ gives_schedule asked a gantt written t small e visible short =
       rest = chart_of (told_by asked a) gantt;
       begins = e;
       is_table = subst (λ (text : List ℕ). IsTable asked.shop text a.table) (sym e)
-          (report_table (told_by asked a) gantt visible ends small
+          (reports_are_schedules (told_by asked a) gantt visible t.shape small
           (subst (λ (text : List ℕ). length text ≤ 16777216) e short));
       ends = ends;
     }

@@ -21,8 +21,9 @@ use Rattle.shop_text.specs.declared.formats.Format.{Format}
 use Rattle.shop_text.specs.declared.formats.Format.TheVariants.{Orlib, Taillard, Routes}
 use Rattle.shop_text.proofs.ShapeLaw.{orlib_shape, routes_shape}
 use Rattle.shop_text.proofs.MatrixShape.{taillard_shape}
+use Rattle.shop_text.proofs.VisibleNames.{picked_has}
 use Rattle.shop_engine.specs.Asking.{IsAsked}
-use Rattle.shop_engine.specs.TextLimits.{TextsKeepTheLimits}
+use Rattle.shop_engine.specs.Limits.{TextsKeepTheLimits}
 
 -- ---- an instance whose jobs are within the limits
 
@@ -198,26 +199,8 @@ texts_keep_the_limits p text shops is =
 
 -- ---- the instance that is asked for
 
-found_first : (name : List ℕ) (s : NamedShop) (shops : List NamedShop) (asked : NamedShop) (b : Bool)
-    → bytes_eq s.name name ≡ b → IsWithinLimits s.shop
-    → (find (λ (t : NamedShop). bytes_eq t.name name) shops ≡ Some asked → IsWithinLimits asked.shop)
-    → find (λ (t : NamedShop). bytes_eq t.name name) (s ∷ shops) ≡ Some asked → IsWithinLimits asked.shop
-found_first name s shops asked true is h later e =
-    let now = rw is at e
-    in let first : s ≡ asked = cc
-    in subst (λ (t : NamedShop). IsWithinLimits t.shop) first h
-found_first name s shops asked false is h later e = later (rw is at e)
-
-picked_within : (shops : List NamedShop) (name : Option (List ℕ)) (asked : NamedShop) → AreWithin shops
-    → first_named shops name ≡ Some asked → IsWithinLimits asked.shop
-picked_within [] None asked all e = absurd cc
-picked_within (s ∷ shops) None asked all e =
-    let first : s ≡ asked = cc in subst (λ (t : NamedShop). IsWithinLimits t.shop) first all.0
-picked_within [] (Some name) asked all e = absurd cc
-picked_within (s ∷ shops) (Some name) asked all e =
-    found_first name s shops asked (bytes_eq s.name name) refl all.0 (picked_within shops (Some name) asked all.1) e
-
 pub asked_within : (format : Format) (name : Option (List ℕ)) (text : List ℕ) (asked : NamedShop)
     → IsAsked format name text asked → IsWithinLimits asked.shop
 asked_within format name text asked is =
-    picked_within is.shops name asked (texts_keep_the_limits format text is.shops is.is_text) is.picked
+    picked_has (λ (s : NamedShop). IsWithinLimits s.shop) is.shops name asked
+    (texts_keep_the_limits format text is.shops is.is_text) is.picked

@@ -1,11 +1,8 @@
 -- The report of a plan's answer.
---     answer_of asked plan          what is reported of the answer of a plan
---     text_with_gantt r gantt       the text that is written of a report
-use Rattle.std.specs.Prelude.{ℕ, Bool, if◌then◌else◌, List, [], ◌++◌, length}
+use Rattle.std.specs.Prelude.{length}
 use Rattle.shop_model.specs.Word.{placed, rows_of}
-use Rattle.shop_model.specs.Checking.{starts_of}
 use Rattle.shop_text.specs.Texts.{NamedShop}
-use Rattle.shop_text.specs.Writing.{Reported, report_text, gantt_text}
+use Rattle.shop_text.specs.Writing.{Reported}
 use Rattle.shop_runs.specs.Round.{Planned, makespan_of}
 use Rattle.shop_runs.specs.Answers.{answer, bound_of}
 
@@ -23,7 +20,3 @@ answer_of asked plan =
       rounds = s.rounds;
       nodes = s.nodes;
     }
-
--- a report, and where that is asked for its Gantt text
-abbrev pub text_with_gantt : Reported → Bool → List ℕ
-text_with_gantt r g = report_text r ++ (if g then gantt_text r.shop (starts_of r.table) else [])

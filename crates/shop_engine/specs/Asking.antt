@@ -2,17 +2,15 @@
 --     IsAsked format name text asked       the instance that is asked for stands in the text
 --     OfAsked format name text Says        and this holds of it
 --     IsAskFault format name text fault    why there is none
---     OrNoMemory IsBad text fault          why a call is refused: memory ran out, or a fault
-use Rattle.std.specs.Prelude.{◌≡◌, ℕ, ◌≤◌, List, length, Option, Some, None, string_bytes}
+use Rattle.std.specs.Prelude.{◌≡◌, ℕ, ◌⊎◌, List, Option, Some, None, string_bytes}
 use Rattle.std.specs.Option.{option_map}
 use Rattle.std.specs.declared.string.String.{String}
 use Rattle.std.specs.declared.alloc.Global.{Global}
 use Rattle.shop_text.specs.Formats.{grammar_of}
 use Rattle.shop_text.specs.Texts.{NamedShop, IsText, IsTextFault}
 use Rattle.shop_text.specs.Names.{first_named}
-use Rattle.shop_text.specs.declared.limits.TheConstants.{MAX_TEXT}
 use Rattle.shop_text.specs.declared.faults.ReadFault.{ReadFault}
-use Rattle.shop_text.specs.declared.faults.ReadFault.TheVariants.{NoMemory, NoSuchName}
+use Rattle.shop_text.specs.declared.faults.ReadFault.TheVariants.{NoSuchName}
 use Rattle.shop_text.specs.declared.formats.Format.{Format}
 
 -- the bytes of a name, if one is given
@@ -34,17 +32,14 @@ pub record OfAsked (format : Format) (name : Option (List ℕ)) (text : List ℕ
   pub says : Says asked
 
 -- the text is good, but has no instance of the name
-pub record IsMissing (format : Format) (name : Option (List ℕ)) (text : List ℕ) : Type 0 where
+pub record IsMissing (format : Format) (name : Option (List ℕ)) (text : List ℕ) (fault : ReadFault)
+    : Type 0 where
   pub shops : List NamedShop
   pub is_text : IsText (grammar_of format) text shops
   pub missing : first_named shops name ≡ None
+  pub told : fault ≡ NoSuchName
 
 -- the text has this fault, or no instance of the name
 abbrev pub IsAskFault : Format → Option (List ℕ) → List ℕ → ReadFault → Type 0
-IsAskFault format name text NoSuchName = IsMissing format name text
-IsAskFault format name text fault = IsTextFault (grammar_of format) text fault
-
--- memory may run out over any text that isn't too long, and in place of any other fault
-abbrev pub OrNoMemory : (List ℕ → ReadFault → Type 0) → List ℕ → ReadFault → Type 0
-OrNoMemory IsBad text NoMemory = length text ≤ MAX_TEXT
-OrNoMemory IsBad text fault = IsBad text fault
+IsAskFault format name text fault =
+    IsMissing format name text fault ⊎ IsTextFault (grammar_of format) text fault

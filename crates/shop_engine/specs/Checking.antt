@@ -1,14 +1,4 @@
 -- What `check_bytes` and `check_text` do.
---     IsVerdictOn shop schedule feasible line     the table of a schedule text is judged, with
---                                                 this line
---     schedule_in text given                      the schedule text: what is given, or else the
---                                                 instance text itself
---     IsCheckFault format name text schedule fault     why a check is refused
---     Second, IsScheduleRead                      the source of the schedule, which may be
---                                                 missing; how it was had
---     Checks args source source' second second' feasible goes          a table was judged, and the
---                                                                      line goes out
---     IsChecking args source source' second second' sink sink' result     what `check_text` answers
 use Rattle.std.specs.Prelude.{◌≡◌, ℕ, ◌⊎◌, ◌↔◌, Bool, IsTrue, List, Option, Some, None, Result, Ok}
 use Rattle.std.specs.Prelude.{Err}
 use Rattle.shop_model.specs.Shop.{Shop, IsFeasible}
@@ -18,14 +8,13 @@ use Rattle.shop_text.specs.Texts.{NamedShop}
 use Rattle.shop_text.specs.Schedules.{IsTableRead, IsTableFault}
 use Rattle.shop_text.specs.Writing.{verdict_text}
 use Rattle.shop_text.specs.declared.faults.ReadFault.{ReadFault}
-use Rattle.shop_text.specs.declared.faults.ReadFault.TheVariants.{NoMemory}
 use Rattle.shop_text.specs.declared.formats.Format.{Format}
 use Rattle.shop_engine.specs.declared.args.CheckArgs.{CheckArgs}
 use Rattle.shop_engine.specs.declared.faults.Fault.{Fault}
-use Rattle.shop_engine.specs.declared.faults.Fault.TheVariants.{Text, ReadFailed, WriteFailed}
-use Rattle.shop_engine.specs.Devices.{Device, HasReadOnce, HasReadFailed, IsReadToEnd, IsUnread}
-use Rattle.shop_engine.specs.Devices.{IsWritten, IsCutOff}
-use Rattle.shop_engine.specs.Devices.{IsTextRefused}
+use Rattle.shop_engine.specs.declared.faults.Fault.TheVariants.{NoMemory, WriteFailed}
+use Rattle.shop_engine.specs.Devices.{Device, IsReadToEnd, IsUnread, IsSourceRefused, IsWritten}
+use Rattle.shop_engine.specs.Devices.{IsCutOff}
+use Rattle.shop_engine.specs.Faults.{fault_of}
 use Rattle.shop_engine.specs.Asking.{name_in, IsAsked, OfAsked, IsAskFault}
 
 -- The schedule text has a table, and the line says what a check of it finds.
@@ -40,6 +29,7 @@ pub record IsVerdictOn (shop : Shop) (schedule : List ℕ) (feasible : Bool) (li
 
 -- ---- over bytes
 
+-- the schedule text: what is given, or else the instance text itself
 abbrev pub schedule_in : List ℕ → Option (List ℕ) → List ℕ
 schedule_in text None = text
 schedule_in text (Some schedule) = schedule
@@ -86,17 +76,11 @@ pub record IsJudged (second second' : Second) (feasible : Bool) (Goes : List ℕ
   pub judges : IsVerdictOn shop schedule feasible line
   pub out : Goes line
 
+-- a schedule was judged, and the line goes out
 abbrev pub Checks : CheckArgs → Device → Device → Second → Second → Bool → (List ℕ → Type 0)
     → Type 0
 Checks args source source' second second' feasible Goes =
     IsPicked args source source' (IsJudged second second' feasible Goes)
-
--- no read of it failed, and its end was told at most once
-abbrev pub IsSecondReadOnce : Second → Second → Type 0
-IsSecondReadOnce None None = Unit {0}
-IsSecondReadOnce None (Some new) = ⊥
-IsSecondReadOnce (Some old) None = ⊥
-IsSecondReadOnce (Some old) (Some new) = HasReadOnce old new
 
 -- it wasn't read to its end
 abbrev pub IsSecondUnread : Second → Second → Fault → Type 0
@@ -104,17 +88,14 @@ IsSecondUnread None second' fault = ⊥
 IsSecondUnread (Some old) None fault = ⊥
 IsSecondUnread (Some old) (Some new) fault = IsUnread old new fault
 
--- the schedule text has this fault
-pub record IsScheduleFaulty (second second' : Second) (fault : ReadFault) (text : List ℕ)
-    (shop : Shop)
-    : Type 0 where
-  pub schedule : List ℕ
-  pub schedule_read : IsScheduleRead text second second' schedule
-  pub is_fault : IsTableFault shop schedule fault
-
-abbrev pub IsScheduleRefused : Second → Second → ReadFault → List ℕ → Shop → Type 0
-IsScheduleRefused second second' fault text shop =
-    IsSecondUnread second second' (Text fault) ⊎ IsScheduleFaulty second second' fault text shop
+-- The schedule is refused: that of the second source, or where there is none the instance text.
+abbrev pub IsScheduleRefused : Second → Second → Fault → List ℕ → Shop → Type 0
+IsScheduleRefused None None fault text shop = (fault ≡ NoMemory)
+    ⊎ ((found : ReadFault) × IsTableFault shop text found × (fault ≡ fault_of found))
+IsScheduleRefused None (Some new) fault text shop = ⊥
+IsScheduleRefused (Some old) None fault text shop = ⊥
+IsScheduleRefused (Some old) (Some new) fault text shop =
+    IsSourceRefused old new (IsTableFault shop) fault
 
 -- The second source is read only after an instance was picked. On success the sink took just the
 -- line, and no device failed. A refusal is that of all bytes of its source; it and a failed read
@@ -124,18 +105,9 @@ abbrev pub IsChecking : CheckArgs → Device → Device → Second → Second �
     → Result Bool Fault → Type 0
 IsChecking args source source' second second' sink sink' (Ok feasible) =
     Checks args source source' second second' feasible (IsWritten sink sink')
-IsChecking args source source' second second' sink sink' (Err (Text NoMemory)) =
-    ((HasReadOnce source source' × (second' ≡ second))
-    ⊎ IsPicked args source source' (λ text shop. IsSecondReadOnce second second'))
-    × (sink' ≡ sink)
-IsChecking args source source' second second' sink sink' (Err (Text fault)) =
-    ((IsTextRefused source source' (IsAskFault args.format (name_in args.name)) fault
-    × (second' ≡ second))
-    ⊎ IsPicked args source source' (IsScheduleRefused second second' fault))
-    × (sink' ≡ sink)
-IsChecking args source source' second second' sink sink' (Err ReadFailed) =
-    ((HasReadFailed source source' × (second' ≡ second))
-    ⊎ IsPicked args source source' (λ text shop. IsSecondUnread second second' ReadFailed))
-    × (sink' ≡ sink)
-IsChecking args source source' second second' sink sink' (Err WriteFailed) =
-    (feasible : Bool) × Checks args source source' second second' feasible (IsCutOff sink sink')
+IsChecking args source source' second second' sink sink' (Err fault) =
+    (IsSourceRefused source source' (IsAskFault args.format (name_in args.name)) fault
+    × (second' ≡ second) × (sink' ≡ sink))
+    ⊎ (IsPicked args source source' (IsScheduleRefused second second' fault) × (sink' ≡ sink))
+    ⊎ ((fault ≡ WriteFailed) × (feasible : Bool)
+    × Checks args source source' second second' feasible (IsCutOff sink sink'))

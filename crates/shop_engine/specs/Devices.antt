@@ -1,23 +1,14 @@
 -- What is known of devices, and what calls do to them.
---     Device                           the bytes that a source has left or a sink holds, how often
---                                      it failed and told its end
---     HasWorked, HasFailed old new     no failure; one failure more
---     GoesOn, HasEnded old new         its end wasn't told; it was, once
---     IsReadToEnd old new text         all that a source had left was read, and it is this text
---     IsLeftUnread old new             a source was left after one byte more than a text may have
---     IsWritten old new text           a sink took the text
---     IsCutOff old new text            a sink failed, after a beginning of the text
---     IsTransfer Gives IsBad source source' sink sink' result      what is answered between a read
---                                                                  and a write
-use Rattle.std.specs.Prelude.{◌≡◌, ℕ, ◌+◌, ◌<◌, ◌⊎◌, min, List, ◌++◌, length, Option, Result, Ok}
+use Rattle.std.specs.Prelude.{◌≡◌, ℕ, ◌+◌, ◌≤◌, ◌<◌, ◌⊎◌, min, List, ◌++◌, length, Option, Result, Ok}
 use Rattle.std.specs.Prelude.{Err, Some, MatchResult}
 use Rattle.std.specs.Io.KnownBytes.{Consumes, Appends, IsAtEnd}
 use Rattle.shop_text.specs.declared.limits.TheConstants.{MAX_TEXT}
 use Rattle.shop_text.specs.declared.faults.ReadFault.{ReadFault}
-use Rattle.shop_text.specs.declared.faults.ReadFault.TheVariants.{NoMemory, TooLong}
 use Rattle.shop_engine.specs.declared.memory.Memory.{Memory}
 use Rattle.shop_engine.specs.declared.faults.Fault.{Fault}
-use Rattle.shop_engine.specs.declared.faults.Fault.TheVariants.{Text, ReadFailed, WriteFailed}
+use Rattle.shop_engine.specs.declared.faults.Fault.TheVariants.{NoMemory, TooLong, ReadFailed}
+use Rattle.shop_engine.specs.declared.faults.Fault.TheVariants.{WriteFailed}
+use Rattle.shop_engine.specs.Faults.{fault_of}
 
 -- What is known of a device: the bytes that a source has left, or that a sink holds, how often it
 -- has failed, and how often a source has told its end. Where nothing is known of the bytes, as of a
@@ -30,6 +21,7 @@ pub record Device : Type 0 where
 abbrev pub device_of : Memory → Device
 device_of memory = record { bytes = Some memory.held.items; failures = memory.failures; ends = 0 }
 
+-- no failure; one failure more
 abbrev pub HasWorked : Device → Device → Type 0
 HasWorked old new = new.failures ≡ old.failures
 
@@ -40,6 +32,7 @@ counted n = min (n + 1) 18446744073709551615
 abbrev pub HasFailed : Device → Device → Type 0
 HasFailed old new = new.failures ≡ counted old.failures
 
+-- its end wasn't told; it was, once
 abbrev pub GoesOn : Device → Device → Type 0
 GoesOn old new = new.ends ≡ old.ends
 
@@ -62,7 +55,7 @@ pub record IsReadToEnd (old new : Device) (text : List ℕ) : Type 0 where
   pub told : HasEnded old new
   pub worked : HasWorked old new
 
--- a text may have `MAX_TEXT` bytes
+-- it was left after one byte more than a text may have
 pub record IsLeftUnread (old new : Device) : Type 0 where
   pub text : List ℕ
   pub taken : Consumes old.bytes new.bytes text
@@ -80,10 +73,12 @@ pub record HasReadOnce (old new : Device) : Type 0 where
   pub worked : HasWorked old new
   pub once : GoesOn old new ⊎ HasEnded old new
 
+-- a sink took the text
 pub record IsWritten (old new : Device) (text : List ℕ) : Type 0 where
   pub took : Appends old.bytes new.bytes text
   pub worked : HasWorked old new
 
+-- a sink failed, after a beginning of the text
 pub record IsCutOff (old new : Device) (text : List ℕ) : Type 0 where
   pub gone : List ℕ
   pub left : List ℕ
@@ -92,20 +87,16 @@ pub record IsCutOff (old new : Device) (text : List ℕ) : Type 0 where
   pub took : Appends old.bytes new.bytes gone
   pub failed : HasFailed old new
 
--- why reading to the end was given up: memory ran out, the source failed, or it has more than a
--- text may have
+-- why reading to the end was given up: memory ran out, the source has more than a text may have, or
+-- it failed
 abbrev pub IsUnread : Device → Device → Fault → Type 0
-IsUnread old new (Text NoMemory) = HasWorked old new × GoesOn old new
-IsUnread old new (Text TooLong) = IsLeftUnread old new
-IsUnread old new (Text fault) = ⊥
-IsUnread old new ReadFailed = HasReadFailed old new
-IsUnread old new WriteFailed = ⊥
+IsUnread old new fault = ((fault ≡ NoMemory) × HasWorked old new × GoesOn old new)
+    ⊎ ((fault ≡ TooLong) × IsLeftUnread old new)
+    ⊎ ((fault ≡ ReadFailed) × HasReadFailed old new)
 
 -- why writing was given up
 abbrev pub IsUnwritten : Device → Device → List ℕ → Fault → Type 0
-IsUnwritten old new text (Text fault) = ⊥
-IsUnwritten old new text ReadFailed = ⊥
-IsUnwritten old new text WriteFailed = IsCutOff old new text
+IsUnwritten old new text fault = (fault ≡ WriteFailed) × IsCutOff old new text
 
 -- ---- between a read and a write
 
@@ -119,19 +110,22 @@ pub record Passes (old new : Device) (Gives : List ℕ → List ℕ → Type 0) 
   pub goes : Goes out
 
 -- the source was read to its end, and its text is refused for this
-pub record IsRefusedWhole (old new : Device) (IsBad : List ℕ → ReadFault → Type 0)
-    (fault : ReadFault)
+pub record IsRefusedWhole (old new : Device) (IsBad : List ℕ → ReadFault → Type 0) (fault : Fault)
     : Type 0 where
   pub text : List ℕ
+  pub short : length text ≤ MAX_TEXT
   pub read : IsReadToEnd old new text
-  pub is_bad : IsBad text fault
+  pub found : ReadFault
+  pub is_bad : IsBad text found
+  pub told : fault ≡ fault_of found
 
--- why nothing was had of a source that didn't fail: memory ran out, it has more than a text may
--- have, or its text is refused
-abbrev pub IsTextRefused : Device → Device → (List ℕ → ReadFault → Type 0) → ReadFault → Type 0
-IsTextRefused old new IsBad NoMemory = HasReadOnce old new
-IsTextRefused old new IsBad TooLong = IsLeftUnread old new
-IsTextRefused old new IsBad fault = IsRefusedWhole old new IsBad fault
+-- why nothing was had of a source: memory ran out, it has more than a text may have, it failed, or
+-- its text is refused
+abbrev pub IsSourceRefused : Device → Device → (List ℕ → ReadFault → Type 0) → Fault → Type 0
+IsSourceRefused old new IsBad fault = ((fault ≡ NoMemory) × HasReadOnce old new)
+    ⊎ ((fault ≡ TooLong) × IsLeftUnread old new)
+    ⊎ ((fault ≡ ReadFailed) × HasReadFailed old new)
+    ⊎ IsRefusedWhole old new IsBad fault
 
 -- What is answered where a text is read to the end and what it gives is written. On success the
 -- sink took just that, and no device failed. A refusal is that of all bytes of the source; it and a
@@ -141,9 +135,6 @@ abbrev pub IsTransfer : (List ℕ → List ℕ → Type 0) → (List ℕ → Rea
     → Result (Unit {0}) Fault → Type 0
 IsTransfer Gives IsBad source source' sink sink' (Ok done) = Passes source source' Gives
     (IsWritten sink sink')
-IsTransfer Gives IsBad source source' sink sink' (Err (Text fault)) =
-    IsTextRefused source source' IsBad fault × (sink' ≡ sink)
-IsTransfer Gives IsBad source source' sink sink' (Err ReadFailed) =
-    HasReadFailed source source' × (sink' ≡ sink)
-IsTransfer Gives IsBad source source' sink sink' (Err WriteFailed) =
-    Passes source source' Gives (IsCutOff sink sink')
+IsTransfer Gives IsBad source source' sink sink' (Err fault) =
+    (IsSourceRefused source source' IsBad fault × (sink' ≡ sink))
+    ⊎ ((fault ≡ WriteFailed) × Passes source source' Gives (IsCutOff sink sink'))

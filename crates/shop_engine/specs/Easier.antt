@@ -1,17 +1,15 @@
 -- Instances compared by how early their schedules may end.
---     EndsBy shop c                 some feasible table ends by c
---     AsksNoMore easy hard          whenever the hard instance can end, the easy one can
---     AskTheSame one other          neither asks for more than the other
---     EasierInstancesEndNoLater     the law
-use Rattle.std.specs.Prelude.{ℕ, ◌≤◌, ◌↔◌}
+use Rattle.std.specs.Prelude.{◌≡◌, ℕ, ◌≤◌, ◌↔◌}
 use Rattle.shop_model.specs.Shop.{Shop, Starts, IsFeasible, end_of, IsLeast}
 use Rattle.shop_engine.specs.Headline.{IsBound}
 
+-- some feasible table ends by c
 pub record EndsBy (shop : Shop) (c : ℕ) : Type 0 where
   pub table : Starts
   pub feasible : IsFeasible shop table
   pub ends : end_of shop table ≤ c
 
+-- whenever the hard instance can end, the easy one can
 abbrev pub AsksNoMore : Shop → Shop → Type 0
 AsksNoMore easy hard = (c : ℕ) → EndsBy hard c → EndsBy easy c
 
@@ -26,3 +24,11 @@ pub record EasierInstancesEndNoLater : Type 0 where
   -- what asks for the same has the same bounds (by `bounds`) and the same least makespan
   pub same_least : (one other : Shop) → AskTheSame one other → (c : ℕ)
       → IsLeast one c ↔ IsLeast other c
+
+-- there is a least makespan, and only one
+pub record HasOneLeast (shop : Shop) : Type 0 where
+  pub some : (c : ℕ) × IsLeast shop c
+  pub one : (c d : ℕ) → IsLeast shop c → IsLeast shop d → c ≡ d
+
+abbrev pub EachHasOneLeast : Type 0
+EachHasOneLeast = (shop : Shop) → HasOneLeast shop

@@ -1,3 +1,4 @@
+pub mod Faults
 pub mod Devices
 pub mod Asking
 pub mod Listing
@@ -9,8 +10,6 @@ pub mod Solving
 pub mod SolvedSchedules
 pub mod Refusing
 pub mod WholeRun
-pub mod TextLimits
-pub mod LeastMakespans
 pub mod Easier
 pub mod Relaxations
 pub mod Scaling
@@ -18,8 +17,5 @@ pub mod Renaming
 pub mod Reversing
 pub mod Floors
 pub mod Limits
-pub mod LaterBounds
-pub mod Optimal
-pub mod MetBounds
-pub mod ReportedAnswers
+pub mod AnswerLaws
 pub mod inner

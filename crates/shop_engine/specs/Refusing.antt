@@ -2,15 +2,15 @@
 --     IsRefusal fault result                 the answer is that refusal
 --     Refuses IsBad source result            where the source's bytes are known and bad, it is
 --     ListingRefuses, CheckingRefuses, SolvingRefuses     the laws
-use Rattle.std.specs.Prelude.{◌≡◌, ℕ, List, Bool, Some, Result, Ok, Err}
+use Rattle.std.specs.Prelude.{◌≡◌, ℕ, ◌⊎◌, List, Bool, Some, Result, Ok, Err}
 use Rattle.shop_text.specs.Texts.{IsTextFault}
 use Rattle.shop_text.specs.declared.faults.ReadFault.{ReadFault}
-use Rattle.shop_text.specs.declared.faults.ReadFault.TheVariants.{NoMemory}
 use Rattle.shop_engine.specs.declared.args.ListArgs.{ListArgs}
 use Rattle.shop_engine.specs.declared.args.CheckArgs.{CheckArgs}
 use Rattle.shop_engine.specs.declared.args.SolveArgs.{SolveArgs}
 use Rattle.shop_engine.specs.declared.faults.Fault.{Fault}
-use Rattle.shop_engine.specs.declared.faults.Fault.TheVariants.{Text, ReadFailed, WriteFailed}
+use Rattle.shop_engine.specs.declared.faults.Fault.TheVariants.{NoMemory, ReadFailed}
+use Rattle.shop_engine.specs.Faults.{fault_of}
 use Rattle.shop_engine.specs.Devices.{Device}
 use Rattle.shop_text.specs.Formats.{grammar_of}
 use Rattle.shop_engine.specs.Asking.{name_in, IsAskFault}
@@ -21,10 +21,7 @@ use Rattle.shop_engine.specs.Solving.{IsSolving}
 -- the text is refused by this fault, or else memory ran out or a read failed
 abbrev pub IsRefusal : {A : Type 0} → ReadFault → Result A Fault → Type 0
 IsRefusal fault (Ok a) = ⊥
-IsRefusal fault (Err (Text NoMemory)) = Unit {0}
-IsRefusal fault (Err (Text other)) = other ≡ fault
-IsRefusal fault (Err ReadFailed) = Unit {0}
-IsRefusal fault (Err WriteFailed) = ⊥
+IsRefusal fault (Err told) = (told ≡ NoMemory) ⊎ (told ≡ ReadFailed) ⊎ (told ≡ fault_of fault)
 
 abbrev pub Refuses : {A : Type 0} → (List ℕ → ReadFault → Type 0) → Device → Result A Fault → Type 0
 Refuses IsBad source result =

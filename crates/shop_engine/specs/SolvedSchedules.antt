@@ -1,10 +1,4 @@
 -- What `solve` writes is a schedule text that `check` finds feasible.
---     IsScheduleOf asked written                     read as a schedule it gives the report's
---                                                    table, which ends as said
---     GivesSchedule asked written                    this, where the name and the length of the
---                                                    text allow it
---     IsFoundFeasible format name text written       whatever `check_bytes` answers on it, it
---                                                    finds it feasible
 use Rattle.std.specs.Prelude.{◌≡◌, ℕ, ◌≤◌, Bool, IsTrue, List, ◌++◌, length, Option}
 use Rattle.std.specs.List.{list_all}
 use Rattle.shop_model.specs.Checking.{EndsAt}

@@ -1,35 +1,34 @@
-// Laws of answers: where they are least and optimal, and how their bounds compare with what can be counted by hand and with those
-// of shorter runs.
+// Laws of answers: when a makespan is least, how high each bound is at least, and what more rounds do to it.
 ghost use Rattle.shop_engine.specs.Floors.{BoundsReachTheFloor};
-ghost use Rattle.shop_engine.specs.LaterBounds.{MoreRoundsLowerNoBound};
-ghost use Rattle.shop_engine.specs.MetBounds.{MetBoundsAreLeast};
-ghost use Rattle.shop_engine.specs.Optimal.{OptimalWhereBoundIsMakespan};
-ghost use Rattle.shop_engine.specs.ReportedAnswers.{ReportsTellTheAnswer};
+ghost use Rattle.shop_engine.specs.AnswerLaws.{MoreRoundsLowerNoBound, MetBoundsAreLeast};
+ghost use Rattle.shop_engine.specs.AnswerLaws.{OptimalWhereBoundIsMakespan, ReportsTellTheAnswer};
 
-/// What `solve_bytes` writes for a text has the makespan, the bound and the status of the plan's answer, and the
-/// instance is within the limits. So the laws of answers hold of the report.
+/// A report that `solve_bytes` writes has the makespan, the bound and the status of the plan's answer, and its instance
+/// is within the limits. So the laws of answers hold for the report.
 pub fn reports_tell_the_answer()
     ensures { ReportsTellTheAnswer }
 {}
 
-/// The makespan of a report whose status is optimal is least. So is the makespan of a schedule that `check` finds
-/// feasible, if a report on the instance has it as its bound.
+/// The makespan of a report whose status is optimal is least. A schedule that `check` finds feasible has a least
+/// makespan if a report on the instance has this makespan as its bound.
+#[tactic(auto, using(crate::proofs::MetBounds::met_bounds_are_least))]
 pub fn met_bounds_are_least()
     ensures { MetBoundsAreLeast }
 {}
 
-/// The status is optimal just where bound and makespan are one number.
+/// The status of an answer is optimal exactly when its bound equals its makespan.
 pub fn optimal_where_bound_is_makespan()
     ensures { OptimalWhereBoundIsMakespan }
 {}
 
-/// The bound of every answer is at least, for each machine, the least head, all times and the least tail of its
-/// operations, and for each job its release and all its times.
+/// On an instance within the limits, every answer's bound is at least, for each machine in use, its operations' least
+/// head plus total time plus least tail, and for each job with operations, its release plus total time.
+#[tactic(auto, using(crate::proofs::Floors::bounds_reach_the_floor))]
 pub fn bounds_reach_the_floor()
     ensures { BoundsReachTheFloor }
 {}
 
-/// With more rounds of the same plan the bound is no smaller.
+/// On an instance within the limits, more rounds of a plan never end at a smaller bound.
 pub fn more_rounds_lower_no_bound()
     ensures { MoreRoundsLowerNoBound }
 {}

@@ -1,9 +1,10 @@
 // The verdict on a schedule.
-ghost use Rattle.std.specs.Prelude.{◌≡◌, ◌⊎◌, ◌↔◌, Err, IsTrue, IfOk, IfErr};
+ghost use Rattle.std.specs.Prelude.{◌≡◌, ◌≤◌, length, IfOk, IfErr};
 ghost use Rattle.std.specs.Option.{option_map, option_copied};
-ghost use Rattle.shop_text.specs.Schedules.{IsTableRead};
-ghost use Rattle.shop_text.specs.declared.faults.ReadFault.TheVariants.{NoMemory};
-ghost use Rattle.shop_engine.specs.Asking.{name_in, OrNoMemory};
+ghost use Rattle.shop_text.specs.declared.limits.TheConstants.{MAX_TEXT};
+ghost use Rattle.shop_text.specs.Schedules.{IsTableFault};
+ghost use Rattle.shop_text.specs.Texts.{OrNoMemory};
+ghost use Rattle.shop_engine.specs.Asking.{name_in};
 ghost use Rattle.shop_engine.specs.Checking.{schedule_in, IsVerdictOn, IsCheckOf, IsCheckFault};
 ghost use Rattle.shop_engine.specs.Checking.{IsScheduleRead, IsSecondUnread, IsChecking};
 
@@ -19,8 +20,7 @@ use std::alloc::Global;
 /// Whether the table of a schedule text is feasible, and the line of the verdict.
 fn judge(alloc: Global, instance: &Instance, schedule: &[u8]) -> Result<(bool, Vec<u8>), ReadFault>
     ensures judges { IfOk result (λ r. IsVerdictOn instance.now schedule.now r.0 r.1.items) }
-    ensures refused { IfErr result (λ e.
-        (e ≡ NoMemory) ⊎ IsTableRead instance.now schedule.now (Err e)) }
+    ensures refused { IfErr result (OrNoMemory (IsTableFault instance.now) schedule.now) }
 {
     let table = read_table(alloc, instance, schedule)?;
     let verdict = check_quickly(alloc, instance, &table)?;
@@ -70,6 +70,8 @@ fn schedule_of<T: Source>(
     text: Vec<u8>,
     second: &mut Option<T>,
 ) -> Result<Vec<u8>, Fault>
+    requires { length text.items ≤ MAX_TEXT }
+    ensures short { IfOk result (λ r. length r.items ≤ MAX_TEXT) }
     ensures read { IfOk result (λ r. IsScheduleRead text.items
         (option_map T.device second.old) (option_map T.device second.new) r.items) }
     ensures unread { IfErr result (λ e. IsSecondUnread

@@ -1,45 +1,48 @@
-// Laws of instances: what texts they stand in, what their least makespans are, and how these change.
-ghost use Rattle.shop_engine.specs.Easier.{EasierInstancesEndNoLater};
-ghost use Rattle.shop_engine.specs.LeastMakespans.{EachHasOneLeast};
+// Laws of instances: limits kept by texts, the least makespan, and how it changes with the instance.
+ghost use Rattle.shop_engine.specs.Easier.{EasierInstancesEndNoLater, EachHasOneLeast};
 ghost use Rattle.shop_engine.specs.Relaxations.{RelaxationsAskNoMore};
 ghost use Rattle.shop_engine.specs.Renaming.{RenamingAsksTheSame};
 ghost use Rattle.shop_engine.specs.Reversing.{ReversingAsksTheSame};
 ghost use Rattle.shop_engine.specs.Scaling.{ScalingKeepsTheLeast};
-ghost use Rattle.shop_engine.specs.TextLimits.{TextsKeepTheLimits};
+ghost use Rattle.shop_engine.specs.Limits.{TextsKeepTheLimits};
 
-/// The instances of an accepted text are within the limits.
+/// Every instance of an accepted text is within the limits.
 pub fn texts_keep_the_limits()
     ensures { TextsKeepTheLimits }
 {}
 
-/// Each instance has a least makespan, and only one.
+/// Each instance has exactly one least makespan.
 pub fn each_instance_has_one_least()
     ensures { EachHasOneLeast }
 {}
 
-/// What asks for no more has no greater least makespan, and its bounds are bounds of what asks for more. Instances that
-/// ask for the same have the same least makespan and the same bounds.
+/// If an instance can meet each deadline for the makespan that a second one can, its least makespan is no greater, and
+/// its bounds hold for the second. If both can meet the same deadlines, their least makespans and bounds are equal.
+#[tactic(auto, using(crate::proofs::Comparing::easier_instances_end_no_later))]
 pub fn easier_instances_end_no_later()
     ensures { EasierInstancesEndNoLater }
 {}
 
-/// A relaxation asks for no more: any jobs and any steps may be left out, times may be shorter, releases earlier, and
-/// what needs one machine may need two.
+/// A relaxation can meet each deadline that its instance can: it may leave out jobs and steps, shorten times, put
+/// releases earlier, and spread one machine's operations over several machines.
+#[tactic(auto, using(crate::proofs::Relaxing::relaxations_ask_no_more))]
 pub fn relaxations_ask_no_more()
     ensures { RelaxationsAskNoMore }
 {}
 
-/// Other names for the machines and another order of the jobs ask for the same.
+/// Renaming the machines, no two to one name, or reordering the jobs keeps the deadlines that an instance can meet.
+#[tactic(auto, using(crate::proofs::Renaming::renaming_asks_the_same))]
 pub fn renaming_asks_the_same()
     ensures { RenamingAsksTheSame }
 {}
 
-/// Without releases, routes in reverse ask for the same.
+/// Reversing all routes of an instance without releases keeps the deadlines that the instance can meet.
 pub fn reversing_asks_the_same()
     ensures { ReversingAsksTheSame }
 {}
 
-/// Where all times and releases are multiplied by a whole number, so are the least makespan and the bounds.
+/// Multiplying all times and releases by a whole number above 0 multiplies the least makespan and the bounds by it.
+#[tactic(auto, using(crate::proofs::Scaling::scaling_keeps_the_least))]
 pub fn scaling_keeps_the_least()
     ensures { ScalingKeepsTheLeast }
 {}

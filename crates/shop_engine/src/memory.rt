@@ -1,11 +1,11 @@
-// A sink in memory.
+// A sink that writes into room made beforehand.
 ghost use Rattle.std.specs.Prelude.{◌≡◌, ◌-◌, ◌≤◌, [], IfOk, vec_len, vec_capacity};
 
 use crate::devices::{DeviceFailed, Sink};
 use std::alloc::{AllocError as NoMemory, Global};
 
-/// A sink that holds its bytes in memory, in room made beforehand. Writing takes no memory, and fails where the room is
-/// full. For library callers: the program doesn't use it.
+/// A sink that holds its bytes in memory, in room that `with_room` made. Writing takes no memory, and fails only if the
+/// room is full. For library callers: the program doesn't use it.
 #[derive(Drop)]
 pub struct Memory {
     held: Vec<u8>,
@@ -15,7 +15,7 @@ pub struct Memory {
 }
 
 impl Memory {
-    /// An empty sink with room for so many bytes. Fails with `NoMemory` if memory runs out.
+    /// Makes an empty sink with room for `room` bytes. Fails with `NoMemory` if memory runs out.
     pub fn with_room(alloc: Global, room: usize) -> Result<Memory, NoMemory>
         ensures empty { IfOk result (λ m. m.held.items ≡ []) }
         ensures fresh { IfOk result (λ m. m.failures ≡ 0) }
@@ -28,7 +28,7 @@ impl Memory {
         })
     }
 
-    /// The bytes that were written.
+    /// Answers the bytes written so far.
     pub fn bytes(&self) -> &[u8]
         ensures { result.now ≡ self.now.held.items }
     {
@@ -43,7 +43,8 @@ impl Sink for Memory {
 
     ghost device = { device_of };
 
-    /// Takes as much of the buffer as there is room for; fails only where the room is full.
+    /// Writes as much from the front of `buffer` as there is room for, and answers how many bytes. Fails only if the
+    /// room is full and `buffer` isn't empty.
     fn write(&mut self, buffer: &[u8]) -> Result<usize, DeviceFailed>
         ensures bound { IfOk result (λ n. n ≤ length buffer.now) }
         ensures some { IfOk result (λ n. 0 < length buffer.now → 0 < n) }

@@ -2,11 +2,11 @@
 ghost use Rattle.std.specs.Prelude.{◌≡◌, ◌<◌, ◌^◌, IfOk, IfErr};
 ghost use Rattle.shop_model.specs.Shop.{IsFeasible};
 ghost use Rattle.shop_model.specs.Checking.{HasShape, starts_of};
-ghost use Rattle.shop_text.specs.Writing.{report_text};
+ghost use Rattle.shop_text.specs.Texts.{OrNoMemory};
+ghost use Rattle.shop_text.specs.Writing.{report_text, text_with_gantt};
 ghost use Rattle.shop_text.specs.Names.{shop_of_named};
-ghost use Rattle.shop_runs.specs.Runs.{planned};
-ghost use Rattle.shop_engine.specs.Asking.{name_in, IsAskFault, OrNoMemory};
-ghost use Rattle.shop_engine.specs.Answers.{text_with_gantt};
+ghost use Rattle.shop_runs.specs.Runs.{planned, SaysAnswer};
+ghost use Rattle.shop_engine.specs.Asking.{name_in, IsAskFault};
 ghost use Rattle.shop_engine.specs.Headline.{IsRight, IsDetermined, IsRightOf, IsDeterminedOf};
 ghost use Rattle.shop_engine.specs.Headline.{WhereKnown};
 ghost use Rattle.shop_engine.specs.Solving.{IsSolving};
@@ -21,6 +21,7 @@ use crate::transfers::{read_all, write_all};
 use shop_runs::{Answer, Crew, Plan, run};
 use shop_text::{Named, ReadFault, Report, gantt, read, report};
 use std::alloc::{AllocError as NoMemory, Global};
+use std::mem;
 
 /// A `u64` is below 2^64. (A fact for proofs; the call does nothing.)
 fn is_word(number: u64)
@@ -74,8 +75,8 @@ fn text_of(
 }
 
 /// The report of the best schedule that a plan finds for an instance, with any crew, and its Gantt text where that is
-/// asked for. The schedule is feasible and ends at the printed makespan, no feasible schedule ends before the printed
-/// bound, and where the status is optimal none ends before the makespan.
+/// asked for; beside it the answer of the run. The schedule is feasible and ends at the printed makespan, no feasible
+/// schedule ends before the printed bound, and where the status is optimal none ends before the makespan.
 ///
 /// The report is itself a schedule text of the instance, if it has no more than `MAX_TEXT` bytes. Fails with
 /// `NoMemory` if memory runs out.
@@ -86,17 +87,41 @@ pub fn solve_instance<R, C: Crew<R>>(
     plan: &Plan,
     with_gantt: bool,
     crew: &mut C,
-) -> Result<Vec<u8>, NoMemory>
+) -> Result<(Vec<u8>, Answer), NoMemory>
     requires { C.ready }
-    ensures right { IfOk result (λ out.
-        IsRight (shop_of_named asked.now) with_gantt out.items) }
-    ensures determined { IfOk result (λ out.
-        IsDetermined (shop_of_named asked.now) (planned plan.now) with_gantt out.items) }
-    ensures schedule { IfOk result (λ out. GivesSchedule (shop_of_named asked.now) out.items) }
+    ensures right { IfOk result (λ p.
+        IsRight (shop_of_named asked.now) with_gantt p.0.items) }
+    ensures determined { IfOk result (λ p.
+        IsDetermined (shop_of_named asked.now) (planned plan.now) with_gantt p.0.items) }
+    ensures schedule { IfOk result (λ p. GivesSchedule (shop_of_named asked.now) p.0.items) }
+    ensures answer { IfOk result (λ p. SaysAnswer asked.now.instance plan.now p.1) }
 {
     let answer = run(rt, alloc, &asked.instance, plan, crew)?;
     answer.table.keeps_limits();
-    text_of(alloc, asked, &answer, with_gantt)
+    let text = text_of(alloc, asked, &answer, with_gantt)?;
+    Ok((text, answer))
+}
+
+/// The report that `solve_bytes` gives, and beside it the answer of the run, of which nothing is claimed.
+fn solve<R, C: Crew<R>>(
+    rt: &R,
+    alloc: Global,
+    text: &[u8],
+    args: &SolveArgs,
+    crew: &mut C,
+) -> Result<(Vec<u8>, Answer), ReadFault>
+    requires { C.ready }
+    ensures right { IfOk result (λ p. IsRightOf
+        args.now.format (name_in args.now.name) args.now.gantt text.now p.0.items) }
+    ensures determined { IfOk result (λ p. IsDeterminedOf args.now text.now p.0.items) }
+    ensures schedule { IfOk result (λ p. PassesCheck
+        args.now.format (name_in args.now.name) text.now p.0.items) }
+    ensures refused { IfErr result (λ fault. OrNoMemory
+        (IsAskFault args.now.format (name_in args.now.name)) text.now fault) }
+{
+    let named = read(alloc, args.format, text)?;
+    let asked = ask(named.as_slice(), &args.name)?;
+    Ok(solve_instance(rt, alloc, asked, &args.plan, args.gantt, crew)?)
 }
 
 /// The report as `solve_instance` makes it, of the instance that is asked for in a text. Reads and writes no device.
@@ -119,12 +144,13 @@ pub fn solve_bytes<R, C: Crew<R>>(
     ensures refused { IfErr result (λ fault. OrNoMemory
         (IsAskFault args.now.format (name_in args.now.name)) text.now fault) }
 {
-    let named = read(alloc, args.format, text)?;
-    let asked = ask(named.as_slice(), &args.name)?;
-    Ok(solve_instance(rt, alloc, asked, &args.plan, args.gantt, crew)?)
+    let (report, _answer) = solve(rt, alloc, text, args, crew)?;
+    Ok(report)
 }
 
 /// Writes the report that `solve_bytes` makes of the text of a source. Nothing is written before the search ends.
+///
+/// The open nodes are not freed, which takes a step for each: the call is for a program that ends with its report.
 pub fn solve_text<R, S: Source, K: Sink, C: Crew<R>>(
     rt: &R,
     alloc: Global,
@@ -143,6 +169,7 @@ pub fn solve_text<R, S: Source, K: Sink, C: Crew<R>>(
         (K.device sink.old) (K.device sink.new) result }
 {
     let text = read_all(alloc, source)?;
-    let written = solve_bytes(rt, alloc, text.as_slice(), args, crew)?;
+    let (written, answer) = solve(rt, alloc, text.as_slice(), args, crew)?;
+    mem::forget(answer);
     write_all(sink, written.as_slice())
 }

@@ -51,7 +51,7 @@ impl<R: Read + Drop> Source for Reading<R> {
 }
 
 /// A sink over a writer, such as a file or standard output. Each write is one write of the writer: one that fails, or
-/// takes nothing of something, is a failure and isn't tried again.
+/// takes none of some bytes, is a failure and isn't tried again.
 #[derive(Drop)]
 pub struct Writing<W: Write + Drop> {
     writer: W,

@@ -5,7 +5,7 @@ ghost use Rattle.shop_engine.specs.Devices.{Device, IsReadToEnd, IsUnread, IsWri
 
 use crate::devices::{Sink, Source};
 use crate::faults::Fault;
-use shop_text::{MAX_TEXT, ReadFault};
+use shop_text::MAX_TEXT;
 use std::alloc::Global;
 
 /// All bytes of a source up to its end, after which it isn't read again. Fails with `ReadFailed` if the source fails,
@@ -29,10 +29,10 @@ pub fn read_all<S: Source>(alloc: Global, source: &mut S) -> Result<Vec<u8>, Fau
         }
         text.extend_from_slice(&buffer[..count])?;
     }
-    Err(Fault::Text(ReadFault::TooLong))
+    Err(Fault::TooLong)
 }
 
-/// Writes all of a text. Fails with `WriteFailed` if the sink does, once it holds a beginning of the text.
+/// Writes all of a text. Fails with `WriteFailed` if the sink fails; the sink then holds a beginning of the text.
 pub fn write_all<K: Sink>(sink: &mut K, text: &[u8]) -> Result<(), Fault>
     ensures written { OnOk result (IsWritten (K.device sink.old) (K.device sink.new) text.now) }
     ensures unwritten { IfErr result (λ fault.

@@ -1,13 +1,10 @@
 -- What the calls of C do: each has the theorem of the engine's call that it makes.
---     IsServed Is room room' outcome        a text of which this holds is given
---     IsRefused IsBad room room' outcome    the call is refused by a fault, and the room is kept
---     ListsFor, ChecksFor, SolvesFor        what each call does
 use Rattle.std.specs.Prelude.{◌≡◌, ℕ, ◌⊎◌, Bool, false, List, Option}
 use Rattle.shop_text.specs.Formats.{grammar_of}
-use Rattle.shop_text.specs.Texts.{IsTextFault}
+use Rattle.shop_text.specs.Texts.{IsTextFault, OrNoMemory}
 use Rattle.shop_text.specs.declared.formats.Format.{Format}
 use Rattle.shop_text.specs.declared.faults.ReadFault.{ReadFault}
-use Rattle.shop_engine.specs.Asking.{name_in, IsAskFault, OrNoMemory}
+use Rattle.shop_engine.specs.Asking.{name_in, IsAskFault}
 use Rattle.shop_engine.specs.Listing.{IsListOf}
 use Rattle.shop_engine.specs.Checking.{schedule_in, IsCheckOf, IsCheckFault}
 use Rattle.shop_engine.specs.Solving.{IsSolution}
@@ -77,9 +74,12 @@ pub record IsReport (args : SolveArgs) (text : List ℕ) (feasible : Bool) (writ
   pub solution : IsSolution args text written
   pub schedule : PassesCheck args.format (name_in args.name) text written
 
+abbrev pub SolvesWith : SolveArgs → List ℕ → List ℕ → List ℕ → CallResult → Type 0
+SolvesWith args text room room' outcome = Serves (IsReport args text)
+    (OrNoMemory (IsAskFault args.format (name_in args.name)) text) room room' outcome
+
 abbrev pub SolvesFor : ℕ → Bool → List ℕ → Options → List ℕ → List ℕ → List ℕ → CallResult → Type 0
 SolvesFor code is_named name options text room room' outcome =
     IsUnserved (IsFaultySolve code is_named name options) room room' outcome
     ⊎ ((args : SolveArgs) × AsksSolve code is_named name options args
-    × Serves (IsReport args text)
-    (OrNoMemory (IsAskFault args.format (name_in args.name)) text) room room' outcome)
+    × SolvesWith args text room room' outcome)

@@ -1,4 +1,3 @@
 pub mod Outcomes
 pub mod Requests
 pub mod Exports
-pub mod inner

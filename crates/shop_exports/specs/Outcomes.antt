@@ -1,9 +1,5 @@
--- How a call of C ends, and what it leaves in the caller's room.
---     status_of, line_of fault                        the number of a refusal, and its line
---     is_refused fault                                the outcome of a refusal
---     is_faulty                                       the outcome where an argument is faulty
---     IsGiven feasible text room room' outcome        a text is given: it stands in the room, or
---                                                     is too long for it
+-- How a call of C ends, and what it leaves in the caller's room. Statuses: 0 done, 100 a room that is
+-- too small, 101 a faulty argument, and else the number of a refusal.
 use Rattle.std.specs.Prelude.{◌≡◌, ℕ, ◌<◌, ◌≤◌, Bool, false, List, ◌++◌, length, drop}
 use Rattle.shop_text.specs.declared.faults.ReadFault.{ReadFault}
 use Rattle.shop_text.specs.declared.faults.ReadFault.TheVariants.{NoMemory, TooLong, NoInstance}
@@ -11,7 +7,6 @@ use Rattle.shop_text.specs.declared.faults.ReadFault.TheVariants.{BadShape, BadS
 use Rattle.shop_text.specs.declared.faults.ReadFault.TheVariants.{Truncated, BadMachine, BadTime}
 use Rattle.shop_text.specs.declared.faults.ReadFault.TheVariants.{NoSuchName, BadTable}
 use Rattle.shop_exports.specs.declared.outcomes.CallResult.{CallResult}
-use Rattle.shop_exports.specs.declared.outcomes.TheConstants.{DONE, TOO_SMALL, BAD_ARGUMENT}
 
 -- the number that the program prints of it, as `error 7`
 abbrev pub status_of : ReadFault → ℕ
@@ -41,12 +36,13 @@ line_of (BadTime n) = n
 line_of NoSuchName = 0
 line_of (BadTable n) = n
 
+-- the outcome of a refusal, and where an argument is faulty
 abbrev pub is_refused : ReadFault → CallResult
 is_refused fault =
     record { status = status_of fault; feasible = false; line = line_of fault; length = 0 }
 
 abbrev pub is_faulty : CallResult
-is_faulty = record { status = BAD_ARGUMENT; feasible = false; line = 0; length = 0 }
+is_faulty = record { status = 101; feasible = false; line = 0; length = 0 }
 
 -- A text is given: it stands at the front of the room, and the rest of the room is as it was; or it
 -- is longer than the room, and all of the room is as it was.
@@ -55,5 +51,5 @@ pub record IsGiven (feasible : Bool) (text room room' : List ℕ) (outcome : Cal
   pub no_line : outcome.line ≡ 0
   pub long : outcome.length ≡ length text
   pub fits : length text ≤ length room
-      → (outcome.status ≡ DONE) × (room' ≡ text ++ drop (length text) room)
-  pub too_long : length room < length text → (outcome.status ≡ TOO_SMALL) × (room' ≡ room)
+      → (outcome.status ≡ 0) × (room' ≡ text ++ drop (length text) room)
+  pub too_long : length room < length text → (outcome.status ≡ 100) × (room' ≡ room)

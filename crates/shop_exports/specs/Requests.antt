@@ -1,10 +1,4 @@
 -- What a caller asks for, and the arguments that it makes.
---     format_code, order_code                           the numbers of formats and orders
---     AsksCheck code is_named name args                 the arguments of a check that is asked for
---     AsksSolve code is_named name options args         and of a search
---     IsFaultyCheck, IsFaultySolve                      no arguments are asked for: a number or a
---                                                       name is none
---     IsUnasked IsFaulty outcome                        the outcome where no arguments are made
 use Rattle.std.specs.Prelude.{◌≡◌, ◌≢◌, ℕ, ◌⊎◌, Bool, true, List, Option, Some, None}
 use Rattle.std.specs.Prelude.{if◌then◌else◌}
 use Rattle.std.specs.Str.{IsUtf8}
@@ -22,6 +16,7 @@ use Rattle.shop_exports.specs.Outcomes.{is_refused, is_faulty}
 use Rattle.shop_exports.specs.declared.outcomes.CallResult.{CallResult}
 use Rattle.shop_exports.specs.declared.requests.Options.{Options}
 
+-- the numbers of formats and orders
 abbrev pub format_code : Format → ℕ
 format_code Orlib = 0
 format_code Taillard = 1
@@ -47,10 +42,12 @@ bytes_given is_given bytes = if is_given then Some bytes else None
 abbrev pub IsNoName : Bool → List ℕ → Type 0
 IsNoName is_named name = (is_named ≡ true) × ¬ (IsUtf8 name)
 
+-- the arguments of a check that is asked for
 pub record AsksCheck (code : ℕ) (is_named : Bool) (name : List ℕ) (args : CheckArgs) : Type 0 where
   pub format : format_code args.format ≡ code
   pub named : name_in args.name ≡ bytes_given is_named name
 
+-- no arguments are asked for: a number or a name is none
 abbrev pub IsFaultyCheck : ℕ → Bool → List ℕ → Type 0
 IsFaultyCheck code is_named name = IsNoFormat code ⊎ IsNoName is_named name
 
@@ -65,6 +62,7 @@ abbrev pub IsFaultyPlan : Options → Type 0
 IsFaultyPlan options = IsNoOrder options.order
     ⊎ ¬ (IsPlanWithin options.rounds options.budget options.piece)
 
+-- and those of a search
 pub record AsksSolve (code : ℕ) (is_named : Bool) (name : List ℕ) (options : Options)
     (args : SolveArgs) : Type 0 where
   pub format : format_code args.format ≡ code

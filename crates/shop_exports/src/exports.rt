@@ -2,9 +2,9 @@
 // into the caller's room. Formats are 0 for `orlib`, 1 for `taillard` and 2 for `routes`; without a name the first
 // instance is meant. Where a call doesn't end as `DONE`, the room is as it was.
 ghost use Rattle.std.specs.Option.{option_copied};
-ghost use Rattle.shop_exports.specs.Exports.{ListsFor, ChecksWith, ChecksFor, SolvesFor};
+ghost use Rattle.shop_exports.specs.Exports.{ListsFor, ChecksWith, ChecksFor, SolvesWith};
+ghost use Rattle.shop_exports.specs.Exports.{SolvesFor};
 ghost use Rattle.shop_exports.specs.Requests.{bytes_given};
-ghost use Rattle.shop_exports.specs.inner.Reports.{SolvesWith};
 
 use crate::outcomes::{CallResult, faulty, give, refused};
 use crate::requests::{Options, check_args, format_of, given, solve_args};

@@ -1,6 +1,6 @@
 -- The least and the greatest of lanes are the same in any order.
 use Rattle.std.proofs.Common.{◌≡◌, ℕ, zero, suc, ◌*◌, ◌/◌, ◌%◌, ◌<◌, ◌≤◌, List, [], ◌∷◌, length, map}
-use Rattle.std.proofs.Common.{get_or, sym, ◌∙◌, arith}
+use Rattle.std.proofs.Common.{get_or, ◌∙◌, arith}
 use Rattle.std.specs.List.{All}
 use Rattle.std.proofs.lemmas.List.{length-map}
 use Rattle.shop_lanes.specs.Eights.{later_head}
@@ -66,16 +66,11 @@ module _ {A : Type 0} (f : A → ℕ) (heads times tails : List A) (count : ℕ)
   raw = lanes (map f heads) (map f times) (map f tails)
 
   raw_long : length raw ≡ length heads
-  raw_long =
-      length-lanes (map f heads) (map f times) (map f tails) (as_long f times heads a) (as_long f tails heads b)
-      ∙ length-map heads f
+  raw_long = grind (arith, length-lanes, as_long, length-map)
 
   raw_whole : length raw ≡ 8 * (length heads / 8)
   raw_whole = raw_long ∙ omega (arith, e, whole)
 
   pub least_of_rows : (top from : ℕ)
       → least_later top from (map f heads) ≡ least_head top from (lanes_by f heads times tails)
-  least_of_rows top from =
-      least_head_is top from (map f heads) (map f times) (map f tails) (as_long f times heads a)
-      (as_long f tails heads b)
-      ∙ sym (least-by_columns (length heads / 8) raw raw_whole top from)
+  least_of_rows top from = grind (arith, least_head_is, as_long, least-by_columns, raw_whole)

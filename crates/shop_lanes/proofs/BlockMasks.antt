@@ -37,16 +37,7 @@ mask-append (x ∷ xs) ys =
 pub mask-block : (p : ℕ → Bool) (b : ℕ) (xs : List ℕ) → 8 * (b + 1) ≤ length xs
     → mask_l (map p (take 8 (drop (8 * b) xs))) + 256 * mask_l (map p (drop (8 * (b + 1)) xs))
     ≡ mask_l (map p (drop (8 * b) xs))
-mask-block p b xs le =
-    let block = take 8 (drop (8 * b) xs)
-    in let behind = drop (8 * (b + 1)) xs
-    in let eight : length (map p block) ≡ 8 = length-map block p ∙ length-block b xs le
-    in sym (
-    ap (λ l. mask_l (map p l)) (drop_split b xs)
-    ∙ ap mask_l (map-append p block behind)
-    ∙ mask-append (map p block) (map p behind)
-    ∙ ap (λ n. mask_l (map p block) + 2 ^ n * mask_l (map p behind)) eight
-    )
+mask-block p b xs le = grind (arith, length-map, length-block, drop_split, map-append, mask-append)
 
 -- one block back
 pub mask_back : (p : ℕ → Bool) (n : ℕ) (xs : List ℕ) → 0 < n → 8 * n ≤ length xs → (block rest : ℕ)
@@ -76,15 +67,13 @@ pub least_more : (top b : ℕ) (xs least next : List ℕ) (all : ℕ) → 8 * (b
     → next ≡ zip2 min least (take 8 (drop (8 * b) xs))
     → min (least_up_to top least) (least_up_to top (drop (8 * b) xs)) ≡ all
     → min (least_up_to top next) (least_up_to top (drop (8 * (b + 1)) xs)) ≡ all
-least_more top b xs least next all le eight is so_far =
-    let block = take 8 (drop (8 * b) xs)
-    in let behind = drop (8 * (b + 1)) xs
-    in let long : length least ≡ length block = eight ∙ sym (length-block b xs le)
-    in let one : least_up_to top next ≡ min (least_up_to top least) (least_up_to top block) =
-    ap (least_up_to top) is ∙ least-lesser top least block long
-    in let two : least_up_to top (drop (8 * b) xs) ≡ min (least_up_to top block) (least_up_to top behind) =
-    ap (least_up_to top) (drop_split b xs) ∙ least-append top block behind
-    in omega arith
+least_more top b xs least next all le eight is so_far = grind (
+  arith,
+  length-block,
+  least-lesser,
+  drop_split,
+  least-append,
+)
 
 pub length-lesser : (b : ℕ) (xs least next : List ℕ) → 8 * (b + 1) ≤ length xs → length least ≡ 8
     → next ≡ zip2 min least (take 8 (drop (8 * b) xs)) → length next ≡ 8
@@ -94,9 +83,7 @@ length-lesser b xs least next le eight is =
 pub least_ends : (top b : ℕ) (xs least : List ℕ) → length xs ≤ 8 * b
     → min (least_up_to top least) (least_up_to top (drop (8 * b) xs)) ≡ least_up_to top xs
     → least_up_to top least ≡ least_up_to top xs
-least_ends top b xs least past so_far =
-    let none : least_up_to top (drop (8 * b) xs) ≡ top = ap (least_up_to top) (drop_all (8 * b) xs past)
-    in omega (arith, none, least_le_top top least)
+least_ends top b xs least past so_far = grind (arith, drop_all, least_le_top)
 
 -- the lowest bit of a mask is the first number that passes
 pub record IsFirstPassed (p : ℕ → Bool) (xs : List ℕ) (r : ℕ) : Type 0 where

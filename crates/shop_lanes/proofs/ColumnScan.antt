@@ -1,6 +1,6 @@
 -- What all columns come to one after the other, from what each comes to by itself.
-use Rattle.std.proofs.Common.{◌≡◌, ℕ, zero, suc, ◌+◌, ◌*◌, ◌<◌, ◌≤◌, max, List, [], ◌∷◌, ◌++◌, length}
-use Rattle.std.proofs.Common.{take, drop, get_or, refl, ap, sym, ◌∙◌, arith, take-append-drop}
+use Rattle.std.proofs.Common.{◌≡◌, ℕ, zero, suc, ◌+◌, ◌*◌, ◌<◌, ◌≤◌, max, List, [], ◌∷◌, ◌++◌}
+use Rattle.std.proofs.Common.{take, drop, get_or, refl, ap, sym, ◌∙◌, arith, take-append-drop, subst}
 use Rattle.std.proofs.Math.Seq.{take-suc, take-add}
 use Rattle.std.proofs.lemmas.List.{drop-drop, drop_all}
 use lib.Lanes.{sum_l}
@@ -10,7 +10,7 @@ use Rattle.shop_lanes.proofs.Extremes.{greatest-append}
 use Rattle.shop_lanes.specs.Rows.{Lane}
 use Rattle.shop_lanes.specs.Spans.{span, FitsSpan}
 use Rattle.shop_lanes.specs.inner.Passes.{clock_after, column, eight}
-use Rattle.shop_lanes.proofs.ColumnTurns.{eight_fit, in_eight}
+use Rattle.shop_lanes.proofs.ColumnTurns.{AreColumnsOf, eight_fit, in_eight}
 use Rattle.shop_lanes.proofs.Loads.{work-append, load-append, work_le, load_le, work_le_load}
 use Rattle.shop_lanes.proofs.SpanParts.{sum_part, greatest_part}
 
@@ -24,7 +24,7 @@ abbrev listed : (ℕ → ℕ) → ℕ → ℕ → List ℕ
 listed f k zero = []
 listed f k (suc n) = f k ∷ listed f (suc k) n
 
-module _ (least count : ℕ) (all : List Lane) (whole : length all ≡ 8 * count) where
+module _ (least : ℕ) {count : ℕ} {hs ts qs : List ℕ} {all : List Lane} (cols : AreColumnsOf count hs ts qs all) where
   -- the clock where column k begins
   abbrev pub begin : ℕ → ℕ
   begin k = clock_after least 0 (take (k * count) all)
@@ -62,9 +62,7 @@ module _ (least count : ℕ) (all : List Lane) (whole : length all ≡ 8 * count
       ap (clock_after least 0) (from_here k) ∙ work-append least (column count all k) (drop (suc k * count) all)
 
   none_left : (k : ℕ) → k + 0 ≡ 8 → drop (k * count) all ≡ []
-  none_left k e =
-      let is : k ≡ 8 = omega (arith, e)
-      in ap (λ n. drop (n * count) all) is ∙ drop_all (8 * count) all (omega (arith, whole))
+  none_left k e = grind (arith, drop_all)
 
   -- when each column ends, if all are served one after the other
   abbrev pub finish : ℕ → ℕ
@@ -72,36 +70,24 @@ module _ (least count : ℕ) (all : List Lane) (whole : length all ≡ 8 * count
 
   ends_from : (n k : ℕ) → k + n ≡ 8
       → max (begin k) (greatest (listed finish k n)) ≡ begin k + span least 0 (drop (k * count) all)
-  ends_from zero k e =
-      let none : span least 0 (drop (k * count) all) ≡ 0 = ap (span least 0) (none_left k e)
-      in omega (arith, none)
-  ends_from (suc n) k e =
-      let rest = ends_from n (suc k) (omega (arith, e))
-      in let next = begin_next k
-      in let here = behind_here k
-      in let le = work_le_load least (column count all k)
-      in omega (arith, rest, next, here, le)
+  ends_from zero k e = grind (arith, none_left)
+  ends_from (suc n) k e = grind (arith, ends_from n (suc k) (omega (arith, e)), begin_next, behind_here, work_le_load)
 
   begins_from : (n k : ℕ) → sums_before (begin k) (listed work k n) ≡ listed begin k n
   begins_from zero k = refl
-  begins_from (suc n) k =
-      ap (λ s. begin k ∷ sums_before s (listed work (suc k) n)) (sym (begin_next k))
-      ∙ ap (λ l. begin k ∷ l) (begins_from n (suc k))
+  begins_from (suc n) k = grind (arith, begin_next, begins_from n (suc k))
 
   work_from : (n k : ℕ) → k + n ≡ 8 → sum_l (listed work k n) ≡ clock_after least 0 (drop (k * count) all)
   work_from zero k e = sym (ap (clock_after least 0) (none_left k e))
-  work_from (suc n) k e =
-      let rest = work_from n (suc k) (omega (arith, e))
-      in let here = work_here k
-      in omega (arith, rest, here)
+  work_from (suc n) k e = grind (arith, work_from n (suc k) (omega (arith, e)), work_here)
 
   first_begin : begin 0 ≡ 0
   first_begin = ap (λ n. clock_after least 0 (take n all)) (no_columns count)
 
-  pub begins_are : sums_before 0 (eight work) ≡ eight begin
+  begins_are : sums_before 0 (eight work) ≡ eight begin
   begins_are = ap (λ s. sums_before s (eight work)) (sym first_begin) ∙ begins_from 8 0
 
-  pub all_work : sum_l (eight work) ≡ clock_after least 0 all
+  all_work : sum_l (eight work) ≡ clock_after least 0 all
   all_work = work_from 8 0 refl ∙ ap (λ n. clock_after least 0 (drop n all)) (no_columns count)
 
   pub last_end : greatest (eight finish) ≡ span least 0 all
@@ -136,9 +122,6 @@ module _ (least count : ℕ) (all : List Lane) (whole : length all ≡ 8 * count
       in omega (arith, rest, more, next)
 
   module _ (limit : ℕ) (fits : FitsSpan limit 0 all) where
-    pub all_fits : sum_l (eight work) ≤ limit
-    all_fits = let a = work_le least all in let b = all_work in omega (arith, fits, a, b)
-
     begin_fits : (k : ℕ) → begin k + work k ≤ limit
     begin_fits k =
         let next = begin_next k
@@ -146,22 +129,38 @@ module _ (least count : ℕ) (all : List Lane) (whole : length all ≡ 8 * count
         in let b = sum_part (λ x. x.time) (suc k * count) 0 all
         in omega (arith, fits, next, a, b)
 
-    pub begins_fit : AddsFit limit (eight begin) (eight work)
-    begins_fit = eight_fit limit begin work (λ k lt. begin_fits k)
-
-    pub ends_fit : AddsFit limit (eight begin) (eight load)
-    ends_fit = eight_fit limit begin load (λ k lt.
+    finish_fits : (k : ℕ) → begin k + load k ≤ limit
+    finish_fits k =
         let next = begin_next k
         in let a = work_le least (take (suc k * count) all)
         in let b = sum_part (λ x. x.time) (suc k * count) 0 all
         in let c = load_le least (column count all k)
         in let d = greatest_part (λ x. x.tail) count (k * count) all
-        in omega (arith, fits, next, a, b, c, d))
+        in omega (arith, fits, next, a, b, c, d)
 
   -- what the scan of the columns gives
-  pub scanned : (clocks most begins ends : List ℕ) → clocks ≡ eight work → most ≡ eight load
-      → begins ≡ sums_before 0 clocks → ends ≡ added begins most → ends ≡ eight finish
-  scanned clocks most begins ends ec em eb ee =
-      ee
-      ∙ ap (λ l. added l most) (eb ∙ ap (sums_before 0) ec ∙ begins_are)
-      ∙ ap (added (eight begin)) em
+  module _ {works : List ℕ} (works_are : works ≡ eight work) where
+    pub works_fit : (limit : ℕ) → FitsSpan limit 0 all → sum_l works ≤ limit
+    works_fit limit fits =
+        let a = work_le least all in let b = all_work in let e = ap sum_l works_are in omega (arith, fits, a, b, e)
+
+    module _ {begins : List ℕ} (begins_told : begins ≡ sums_before 0 works) where
+      pub begins_eight : begins ≡ eight begin
+      begins_eight = begins_told ∙ ap (sums_before 0) works_are ∙ begins_are
+
+      pub begins_fit : (limit : ℕ) → FitsSpan limit 0 all → AddsFit limit begins works
+      begins_fit limit fits =
+          subst (λ l. AddsFit limit l works) (sym begins_eight)
+          (subst (AddsFit limit (eight begin)) (sym works_are)
+          (eight_fit limit begin work (λ k lt. begin_fits limit fits k)))
+
+      module _ {most : List ℕ} (most_are : most ≡ eight load) where
+        pub ends_fit : (limit : ℕ) → FitsSpan limit 0 all → AddsFit limit begins most
+        ends_fit limit fits =
+            subst (λ l. AddsFit limit l most) (sym begins_eight)
+            (subst (AddsFit limit (eight begin)) (sym most_are)
+            (eight_fit limit begin load (λ k lt. finish_fits limit fits k)))
+
+        pub ends_eight : {ends : List ℕ} → ends ≡ added begins most → ends ≡ eight finish
+        ends_eight told =
+            told ∙ ap (λ l. added l most) begins_eight ∙ ap (added (eight begin)) most_are

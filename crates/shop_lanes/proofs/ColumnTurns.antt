@@ -58,17 +58,12 @@ block_eight b xs room =
     ∙ eight_same (λ k. get_or (take 8 (drop (8 * b) xs)) k 0) (λ k. get_or xs (8 * b + k) 0)
     (λ k lt. get_or-chunk (8 * b) 8 xs k 0 lt)
 
--- what was read of block j
-pub record IsRead (hs ts qs : List ℕ) (j : ℕ) (heads times tails : List ℕ) : Type 0 where
-  pub heads_are : heads ≡ take 8 (drop (8 * j) hs)
-  pub times_are : times ≡ take 8 (drop (8 * j) ts)
-  pub tails_are : tails ≡ take 8 (drop (8 * j) qs)
-
 -- lanes in order of rank, of rows as they stand
 pub record AreColumnsOf (count : ℕ) (hs ts qs : List ℕ) (all : List Lane) : Type 0 where
   pub heads_long : length hs ≡ 8 * count
   pub times_long : length ts ≡ 8 * count
   pub tails_long : length qs ≡ 8 * count
+  pub are : all ≡ by_columns count (lanes hs ts qs)
   pub long : length all ≡ 8 * count
   pub at : (k j : ℕ) → k < 8 → j < count → (d : Lane) → get_or all (k * count + j) d ≡ lane_at hs ts qs (8 * j + k)
 
@@ -80,6 +75,7 @@ columns_of count hs ts qs whole a b =
       heads_long = whole;
       times_long = a ∙ whole;
       tails_long = b ∙ whole;
+      are = refl;
       long = length-by_columns count (lanes hs ts qs) long;
       at = λ k j k_lt j_lt d.
           let below = rank_below count k j k_lt j_lt
@@ -97,15 +93,6 @@ columns_by f heads times tails count e whole a b =
     (columns_of (length heads / 8) (map f heads) (map f times) (map f tails)
     (length-map heads f ∙ omega (arith, e, whole)) (as_long f times heads a) (as_long f tails heads b))
 
-pub lanes_by_is : {A : Type 0} (f : A → ℕ) (heads times tails : List A) (count : ℕ) → length heads ≡ count
-    → lanes_by f heads times tails ≡ by_columns (count / 8) (lanes (map f heads) (map f times) (map f tails))
-lanes_by_is f heads times tails count e =
-    ap (λ n. by_columns (n / 8) (lanes (map f heads) (map f times) (map f tails))) e
-
-pub heads_whole : {A : Type 0} (f : A → ℕ) (heads : List A) (count : ℕ) → length heads ≡ count → count % 8 ≡ 0
-    → length (map f heads) ≡ 8 * (count / 8)
-heads_whole f heads count e whole = length-map heads f ∙ omega (arith, e, whole)
-
 -- the first j lanes of column k, and all lanes up to there
 abbrev pub part_of : ℕ → List Lane → ℕ → ℕ → List Lane
 part_of count all k j = take j (drop (k * count) all)
@@ -118,9 +105,14 @@ pub record IsServedTo (least : ℕ) (part : ℕ → ℕ → List Lane) (j : ℕ)
   pub clocks_are : clocks ≡ eight (λ k. clock_after least 0 (part k j))
   pub most_are : most ≡ eight (λ k. span least 0 (part k j))
 
-module _ (count : ℕ) (hs ts qs : List ℕ) (all : List Lane) (c : AreColumnsOf count hs ts qs all) where
+-- what a pass has served of column k, j blocks down, each block one lane more
+pub record AreParts (count : ℕ) (hs ts qs : List ℕ) (all : List Lane) (part : ℕ → ℕ → List Lane) : Type 0 where
+  pub more : (k j : ℕ) → k < 8 → j < count → part k (suc j) ≡ part k j ++ (lane_at hs ts qs (8 * j + k) ∷ [])
+  pub within : (k j : ℕ) → sum_by (λ x. x.time) (part k j) ≤ sum_by (λ x. x.time) all
+
+module _ {count : ℕ} {hs ts qs : List ℕ} {all : List Lane} (c : AreColumnsOf count hs ts qs all) where
   -- what stands in column k, j blocks down
-  abbrev pub here : ℕ → ℕ → Lane
+  abbrev here : ℕ → ℕ → Lane
   here k j = lane_at hs ts qs (8 * j + k)
 
   pub tail_small : (k j : ℕ) → k < 8 → j < count → get_or qs (8 * j + k) 0 ≤ greatest_by (λ x. x.tail) all
@@ -131,91 +123,81 @@ module _ (count : ℕ) (hs ts qs : List ℕ) (all : List Lane) (c : AreColumnsOf
       ap (λ x. x.tail) (c.at k j k_lt j_lt (here k j))
       in omega (arith, each, is)
 
-  pub part_more : (k j : ℕ) → k < 8 → j < count
-      → part_of count all k (suc j) ≡ part_of count all k j ++ (here k j ∷ [])
-  part_more k j k_lt j_lt =
-      let below = rank_below count k j k_lt j_lt
-      in let long = length-drop (k * count) all
-      in take-suc (drop (k * count) all) j (here k j) (omega (arith, long, below, c.long))
-      ∙ ap (λ x. part_of count all k j ++ (x ∷ []))
-      (get_or-drop (k * count) all j (here k j) ∙ c.at k j k_lt j_lt (here k j))
+  pub parts : AreParts count hs ts qs all (part_of count all)
+  parts = record {
+    more = λ k j k_lt j_lt.
+        let below = rank_below count k j k_lt j_lt
+        in let long = length-drop (k * count) all
+        in take-suc (drop (k * count) all) j (here k j) (omega (arith, long, below, c.long))
+        ∙ ap (λ x. part_of count all k j ++ (x ∷ []))
+        (get_or-drop (k * count) all j (here k j) ∙ c.at k j k_lt j_lt (here k j));
+    within = λ k j. sum_part (λ x. x.time) j (k * count) all;
+  }
 
-  pub part_within : (k j : ℕ) → sum_by (λ x. x.time) (part_of count all k j) ≤ sum_by (λ x. x.time) all
-  part_within k j = sum_part (λ x. x.time) j (k * count) all
+  pub fronts : AreParts count hs ts qs all (front_of count all)
+  fronts = record {
+    more = λ k j k_lt j_lt.
+        let below = rank_below count k j k_lt j_lt
+        in let on : k * count + suc j ≡ suc (k * count + j) = omega arith
+        in ap (λ n. take n all) on
+        ∙ take-suc all (k * count + j) (here k j) (omega (arith, below, c.long))
+        ∙ ap (λ x. front_of count all k j ++ (x ∷ [])) (c.at k j k_lt j_lt (here k j));
+    within = λ k j. sum_part (λ x. x.time) (k * count + j) 0 all;
+  }
 
-  pub front_more : (k j : ℕ) → k < 8 → j < count
-      → front_of count all k (suc j) ≡ front_of count all k j ++ (here k j ∷ [])
-  front_more k j k_lt j_lt =
-      let below = rank_below count k j k_lt j_lt
-      in let on : k * count + suc j ≡ suc (k * count + j) = omega arith
-      in ap (λ n. take n all) on
-      ∙ take-suc all (k * count + j) (here k j) (omega (arith, below, c.long))
-      ∙ ap (λ x. front_of count all k j ++ (x ∷ [])) (c.at k j k_lt j_lt (here k j))
-
-  pub front_within : (k j : ℕ) → sum_by (λ x. x.time) (front_of count all k j) ≤ sum_by (λ x. x.time) all
-  front_within k j = sum_part (λ x. x.time) (k * count + j) 0 all
-
-  pub served_none : (least : ℕ) → IsServedTo least (part_of count all) 0 (replicate 8 0) (replicate 8 0)
-  served_none least = record { clocks_are = refl; most_are = refl }
-
-  module _ (part : ℕ → ℕ → List Lane)
-      (more : (k j : ℕ) → k < 8 → j < count → part k (suc j) ≡ part k j ++ (here k j ∷ []))
-      (within : (k j : ℕ) → sum_by (λ x. x.time) (part k j) ≤ sum_by (λ x. x.time) all) (least : ℕ) where
-    abbrev pub work : ℕ → ℕ → ℕ
+  module _ {part : ℕ → ℕ → List Lane} (p : AreParts count hs ts qs all part) (least : ℕ) where
+    abbrev work : ℕ → ℕ → ℕ
     work k j = clock_after least 0 (part k j)
 
-    abbrev pub end : ℕ → ℕ → ℕ
+    abbrev end : ℕ → ℕ → ℕ
     end k j = span least 0 (part k j)
 
     -- the time that the lane adds
-    abbrev pub added_by : ℕ → ℕ → ℕ
+    abbrev added_by : ℕ → ℕ → ℕ
     added_by k j = cond (leb least (get_or hs (8 * j + k) 0)) (get_or ts (8 * j + k) 0) 0
 
-    pub work_next : (k j : ℕ) → k < 8 → j < count → work k (suc j) ≡ work k j + added_by k j
-    work_next k j k_lt j_lt = ap (clock_after least 0) (more k j k_lt j_lt) ∙ work_more least (part k j) (here k j)
+    -- when the lane ends, its tail included
+    abbrev late : ℕ → ℕ → ℕ
+    late k j = cond (leb least (get_or hs (8 * j + k) 0)) (work k j + added_by k j + get_or qs (8 * j + k) 0) 0
 
-    pub end_next : (k j : ℕ) → k < 8 → j < count
-        → end k (suc j)
-        ≡ max (end k j)
-        (cond (leb least (get_or hs (8 * j + k) 0)) (work k j + added_by k j + get_or qs (8 * j + k) 0) 0)
-    end_next k j k_lt j_lt = ap (span least 0) (more k j k_lt j_lt) ∙ load_more least (part k j) (here k j)
+    pub work_next : (k j : ℕ) → k < 8 → j < count → work k (suc j) ≡ work k j + added_by k j
+    work_next k j k_lt j_lt = ap (clock_after least 0) (p.more k j k_lt j_lt) ∙ work_more least (part k j) (here k j)
+
+    end_next : (k j : ℕ) → k < 8 → j < count → end k (suc j) ≡ max (end k j) (late k j)
+    end_next k j k_lt j_lt = ap (span least 0) (p.more k j k_lt j_lt) ∙ load_more least (part k j) (here k j)
 
     pub work_small : (limit : ℕ) → FitsSpan limit 0 all → (k j : ℕ)
         → work k j + greatest_by (λ x. x.tail) all ≤ limit
-    work_small limit fits k j =
-        let a = work_le least (part k j)
-        in let b = within k j
-        in omega (arith, fits, a, b)
+    work_small limit fits k j = grind (arith, work_le)
 
-    module _ (j : ℕ) (j_lt : j < count) (heads times tails leasts clocks most : List ℕ)
-        (read : IsRead hs ts qs j heads times tails) (leasts_are : leasts ≡ replicate 8 least)
+    -- block j, as it is read and served
+    module _ {j : ℕ} (j_lt : j < count) {heads times tails leasts clocks most : List ℕ}
+        (heads_are : heads ≡ take 8 (drop (8 * j) hs)) (times_are : times ≡ take 8 (drop (8 * j) ts))
+        (tails_are : tails ≡ take 8 (drop (8 * j) qs)) (leasts_are : leasts ≡ replicate 8 least)
         (so_far : IsServedTo least part j clocks most) where
-      abbrev pub served : List ℕ
+      abbrev served : List ℕ
       served = waiting (get_or leasts 0 0) heads times
 
       least_at : get_or leasts 0 0 ≡ least
       least_at = ap (λ l. get_or l 0 0) leasts_are
 
-      pub heads_eight : heads ≡ eight (λ k. get_or hs (8 * j + k) 0)
-      heads_eight = read.heads_are ∙ block_eight j hs (omega (arith, c.heads_long))
+      heads_eight : heads ≡ eight (λ k. get_or hs (8 * j + k) 0)
+      heads_eight = heads_are ∙ block_eight j hs (omega (arith, c.heads_long))
 
-      pub times_eight : times ≡ eight (λ k. get_or ts (8 * j + k) 0)
-      times_eight = read.times_are ∙ block_eight j ts (omega (arith, c.times_long))
+      times_eight : times ≡ eight (λ k. get_or ts (8 * j + k) 0)
+      times_eight = times_are ∙ block_eight j ts (omega (arith, c.times_long))
 
-      pub tails_eight : tails ≡ eight (λ k. get_or qs (8 * j + k) 0)
-      tails_eight = read.tails_are ∙ block_eight j qs (omega (arith, c.tails_long))
+      tails_eight : tails ≡ eight (λ k. get_or qs (8 * j + k) 0)
+      tails_eight = tails_are ∙ block_eight j qs (omega (arith, c.tails_long))
 
       served_eight : served ≡ eight (λ k. added_by k j)
-      served_eight =
-          ap (λ n. waiting n heads times) least_at
-          ∙ ap (λ l. waiting least l times) heads_eight
-          ∙ ap (waiting least (eight (λ k. get_or hs (8 * j + k) 0))) times_eight
+      served_eight = grind (arith, least_at, heads_eight, times_eight)
 
       after_eight : added clocks served ≡ eight (λ k. work k j + added_by k j)
       after_eight =
           ap (λ l. added l served) so_far.clocks_are ∙ ap (added (eight (λ k. work k j))) served_eight
 
-      pub clocks_fit : (limit : ℕ) → FitsSpan limit 0 all → AddsFit limit clocks served
+      clocks_fit : (limit : ℕ) → FitsSpan limit 0 all → AddsFit limit clocks served
       clocks_fit limit fits =
           subst (λ l. AddsFit limit l served) (sym so_far.clocks_are)
           (subst (AddsFit limit (eight (λ k. work k j))) (sym served_eight)
@@ -224,7 +206,7 @@ module _ (count : ℕ) (hs ts qs : List ℕ) (all : List Lane) (c : AreColumnsOf
           in let small = work_small limit fits k (suc j)
           in omega (arith, next, small))))
 
-      pub ends_fit : (limit : ℕ) → FitsSpan limit 0 all → AddsFit limit (added clocks served) tails
+      ends_fit : (limit : ℕ) → FitsSpan limit 0 all → AddsFit limit (added clocks served) tails
       ends_fit limit fits =
           subst (λ l. AddsFit limit l tails) (sym after_eight)
           (subst (AddsFit limit (eight (λ k. work k j + added_by k j))) (sym tails_eight)
@@ -234,34 +216,29 @@ module _ (count : ℕ) (hs ts qs : List ℕ) (all : List Lane) (c : AreColumnsOf
           in let tail = tail_small k j lt j_lt
           in omega (arith, next, small, tail))))
 
-      module _ (after : List ℕ) (after_is : after ≡ added clocks served) where
+      pub both_fit : (limit : ℕ) → FitsSpan limit 0 all
+          → AddsFit limit clocks served × AddsFit limit (added clocks served) tails
+      both_fit limit fits = (clocks_fit limit fits, ends_fit limit fits)
+
+      module _ {after : List ℕ} (after_is : after ≡ added clocks served) where
         next_eight : after ≡ eight (λ k. work k j + added_by k j)
         next_eight = after_is ∙ after_eight
 
-        pub late_eight : waiting (get_or leasts 0 0) heads (added after tails)
-            ≡ eight (λ k. cond (leb least (get_or hs (8 * j + k) 0))
-            (work k j + added_by k j + get_or qs (8 * j + k) 0) 0)
-        late_eight =
-            ap (λ n. waiting n heads (added after tails)) least_at
-            ∙ ap (λ l. waiting least l (added after tails)) heads_eight
-            ∙ ap (λ l. waiting least (eight (λ k. get_or hs (8 * j + k) 0)) (added l tails)) next_eight
-            ∙ ap (λ l. waiting least (eight (λ k. get_or hs (8 * j + k) 0))
-            (added (eight (λ k. work k j + added_by k j)) l)) tails_eight
+        pub late_eight : waiting (get_or leasts 0 0) heads (added after tails) ≡ eight (λ k. late k j)
+        late_eight = grind (arith, least_at, heads_eight, next_eight, tails_eight)
 
-        module _ (later : List ℕ)
-            (later_is : later ≡ zip2 max most (waiting (get_or leasts 0 0) heads (added after tails))) where
-          pub served_more : IsServedTo least part (j + 1) after later
-          served_more =
-              let on : suc j ≡ j + 1 = omega arith
-              in subst (λ n. IsServedTo least part n after later) on (record {
-                clocks_are = next_eight
-                    ∙ eight_same (λ k. work k j + added_by k j) (λ k. work k (suc j))
-                    (λ k lt. sym (work_next k j lt j_lt));
-                most_are = later_is
-                    ∙ ap (λ l. zip2 max l (waiting (get_or leasts 0 0) heads (added after tails))) so_far.most_are
-                    ∙ ap (zip2 max (eight (λ k. end k j))) late_eight
-                    ∙ eight_same
-                    (λ k. max (end k j) (cond (leb least (get_or hs (8 * j + k) 0))
-                    (work k j + added_by k j + get_or qs (8 * j + k) 0) 0)) (λ k. end k (suc j))
-                    (λ k lt. sym (end_next k j lt j_lt));
-              })
+        pub served_more : {later : List ℕ}
+            → later ≡ zip2 max most (waiting (get_or leasts 0 0) heads (added after tails))
+            → IsServedTo least part (j + 1) after later
+        served_more {later} later_is =
+            let on : suc j ≡ j + 1 = omega arith
+            in subst (λ n. IsServedTo least part n after later) on (record {
+              clocks_are = next_eight
+                  ∙ eight_same (λ k. work k j + added_by k j) (λ k. work k (suc j))
+                  (λ k lt. sym (work_next k j lt j_lt));
+              most_are = later_is
+                  ∙ ap (λ l. zip2 max l (waiting (get_or leasts 0 0) heads (added after tails))) so_far.most_are
+                  ∙ ap (zip2 max (eight (λ k. end k j))) late_eight
+                  ∙ eight_same (λ k. max (end k j) (late k j)) (λ k. end k (suc j))
+                  (λ k lt. sym (end_next k j lt j_lt));
+            })

@@ -15,24 +15,17 @@ some_blocks : (count i : ℕ) → i < 8 * count → 0 < count
 some_blocks count i lt = omega arith
 
 pub rank_parts : (count i : ℕ) → i < 8 * count → (i % count < count) × (i / count < 8)
-rank_parts count i lt =
-    let some = some_blocks count i lt
-    in (mod-lt i some, (div-lt_iff_lt-mul some).1 lt)
+rank_parts count i lt = grind (arith, some_blocks, mod-lt, div-lt_iff_lt-mul)
 
 pub place_fits : (count i : ℕ) → i < 8 * count → place_at_rank count i < 8 * count
 place_fits count i lt = let parts = rank_parts count i lt in omega (arith, parts.0, parts.1)
 
 -- the place j blocks down column k
 pub place_of_rank : (count k j : ℕ) → j < count → place_at_rank count (k * count + j) ≡ 8 * j + k
-place_of_rank count k j lt =
-    ap (λ n. 8 * n + (k * count + j) / count) (mod-mul-add k count j lt)
-    ∙ ap (λ n. 8 * j + n) (div-mul-add k count j lt)
+place_of_rank count k j lt = grind (arith, mod-mul-add, div-mul-add)
 
 pub rank_below : (count k j : ℕ) → k < 8 → j < count → k * count + j < 8 * count
-rank_below count k j k_lt j_lt =
-    let next : suc k * count ≤ 8 * count = mul-le-mul_right count (omega (arith, k_lt))
-    in let parts = suc-mul k count
-    in omega (arith, next, parts, j_lt)
+rank_below count k j k_lt j_lt = grind (arith, mul-le-mul_right, suc-mul)
 
 pub rank_fits : (count p : ℕ) → p < 8 * count → rank_of count p < 8 * count
 rank_fits count p lt = rank_below count (p % 8) (p / 8) (omega arith) (omega arith)
@@ -53,10 +46,7 @@ rank_of_place count i lt =
     whole q e = omega (arith, e)
 
 pub rank_of_parts : (count k j : ℕ) → k < 8 → rank_of count (8 * j + k) ≡ k * count + j
-rank_of_parts count k j lt =
-    let lane : (8 * j + k) % 8 ≡ k = omega arith
-    in let block : (8 * j + k) / 8 ≡ j = omega arith
-    in ap (λ n. n * count + (8 * j + k) / 8) lane ∙ ap (λ n. k * count + n) block
+rank_of_parts count k j lt = grind arith
 
 module _ {A : Type 0} where
   one_long : (p : ℕ) (xs : List A) → p < length xs → length (take 1 (drop p xs)) ≡ 1
@@ -101,9 +91,7 @@ module _ {A : Type 0} where
 
     pub by_columns-of : (p : ℕ) (d : A) → p < 8 * count
         → get_or (by_columns count xs) (rank_of count p) d ≡ get_or xs p d
-    by_columns-of p d lt =
-        by_columns-at (rank_of count p) d (rank_fits count p lt)
-        ∙ ap (λ k. get_or xs k d) (place_of_rank_of count p lt)
+    by_columns-of p d lt = grind (arith, by_columns-at, rank_fits, place_of_rank_of)
 
     pub All-by_columns : (P : A → Type 0) → All P xs → All P (by_columns count xs)
     All-by_columns P each i d lt =
@@ -120,33 +108,16 @@ module _ {A : Type 0} where
 pub lanes-by_columns : (count : ℕ) (hs ts qs : List ℕ) → length hs ≡ 8 * count → length ts ≡ length hs
     → length qs ≡ length hs
     → lanes (by_columns count hs) (by_columns count ts) (by_columns count qs) ≡ by_columns count (lanes hs ts qs)
-lanes-by_columns count hs ts qs whole a b =
-    let hl = length-by_columns count hs whole
-    in let tl = length-by_columns count ts (a ∙ whole)
-    in let ql = length-by_columns count qs (b ∙ whole)
-    in let al : length (lanes hs ts qs) ≡ 8 * count = length-lanes hs ts qs a b ∙ whole
-    in let rl = length-lanes (by_columns count hs) (by_columns count ts) (by_columns count qs) (tl ∙ sym hl)
-    (ql ∙ sym hl)
-    in same_lists (lanes (by_columns count hs) (by_columns count ts) (by_columns count qs))
-    (by_columns count (lanes hs ts qs))
-    (rl ∙ hl ∙ sym (length-by_columns count (lanes hs ts qs) al))
-    (λ i d lt.
-    let inside : i < 8 * count = omega (arith, rl, hl)
-    in let place = place_at_rank count i
-    in let there = place_fits count i inside
-    in get_or-lanes (by_columns count hs) (by_columns count ts) (by_columns count qs) i d (tl ∙ sym hl) (ql ∙ sym hl)
-    (omega (arith, inside, hl))
-    ∙ ap (λ h. record {
-      head = h;
-      time = get_or (by_columns count ts) i 0;
-      tail = get_or (by_columns count qs) i 0;
-    }) (by_columns-at count hs whole i 0 inside)
-    ∙ ap (λ t. record { head = get_or hs place 0; time = t; tail = get_or (by_columns count qs) i 0 })
-    (by_columns-at count ts (a ∙ whole) i 0 inside)
-    ∙ ap (λ q. record { head = get_or hs place 0; time = get_or ts place 0; tail = q })
-    (by_columns-at count qs (b ∙ whole) i 0 inside)
-    ∙ sym (get_or-lanes hs ts qs place d a b (omega (arith, there, whole)))
-    ∙ sym (by_columns-at count (lanes hs ts qs) al i d inside))
+lanes-by_columns count hs ts qs whole a b = grind (
+  arith,
+  length-by_columns,
+  whole,
+  length-lanes,
+  same_lists,
+  place_fits,
+  get_or-lanes,
+  by_columns-at,
+)
 
 -- a number replaced at a place is replaced at its rank
 pub by_columns-set : (count : ℕ) (xs : List ℕ) → length xs ≡ 8 * count → (p x : ℕ) → p < 8 * count

@@ -79,9 +79,7 @@ covered (x ∷ xs) (y ∷ ys) = (omega arith, covered xs ys)
 left_of : (xs ys : List ℕ) → zip2 (λ a b. a - b) (zip2 max xs ys) ys ≡ lessened xs ys
 left_of [] ys = refl
 left_of (x ∷ xs) [] = refl
-left_of (x ∷ xs) (y ∷ ys) =
-    let one : max x y - y ≡ x - y = omega arith
-    in ap (λ n. n ∷ zip2 (λ a b. a - b) (zip2 max xs ys) ys) one ∙ ap (λ l. (x - y) ∷ l) (left_of xs ys)
+left_of (x ∷ xs) (y ∷ ys) = grind (arith, left_of xs ys)
 
 pub greater_covers : (w : Width) (xs ys : List ℕ) → length xs ≡ length ys
     → Each2 (λ a b. b ≤ a) (greater_told w xs ys) ys

@@ -1,5 +1,5 @@
 -- Lists of eight, their sums by three shifted additions, and their greatest by three turns.
-use Rattle.std.proofs.Common.{◌≡◌, ℕ, suc, ◌+◌, ◌-◌, ◌≤◌, ◌^◌, List, [], ◌∷◌, ◌++◌, length, replicate, get_or, refl, ap}
+use Rattle.std.proofs.Common.{◌≡◌, ℕ, suc, ◌+◌, ◌-◌, ◌≤◌, ◌^◌, List, [], ◌∷◌, length, refl, ap}
 use Rattle.std.proofs.Common.{◌∙◌, arith}
 use lib.Lanes.{Each2, sum_l}
 use mir.Syntax.{Width}
@@ -37,9 +37,6 @@ fours v = added (pairs v) (up_two (pairs v))
 abbrev pub eights : List ℕ → List ℕ
 eights v = added (fours v) (up_four (fours v))
 
-fit : (limit n most : ℕ) → most ≤ limit → n ≤ most → n ≤ limit
-fit limit n most small le = omega arith
-
 -- sums that fit a width are what its additions ask for
 pub lanes_fit : (w : Width) (xs ys : List ℕ) → AddsFit (2 ^ bits w - 1) xs ys → Each2 (λ a b. Fits w (a + b)) xs ys
 lanes_fit w [] ys h = tt
@@ -52,82 +49,17 @@ pub sums_moved : (v : List ℕ) → length v ≡ 8 → up_one (running 0 v) ≡ 
 sums_moved = on_eight (λ v. up_one (running 0 v) ≡ sums_before 0 v) (λ a b c d e f g h. refl)
 
 pub pairs_fit : (limit : ℕ) (v : List ℕ) → length v ≡ 8 → sum_l v ≤ limit → AddsFit limit v (up_one v)
-pairs_fit limit = on_eight (λ v. sum_l v ≤ limit → AddsFit limit v (up_one v)) (λ a b c d e f g h small.
-    let most = a + (b + (c + (d + (e + (f + (g + (h + 0)))))))
-    in let ok = fit limit
-    in (
-      ok (a + 0) most small (omega arith),
-      (
-        ok (b + a) most small (omega arith),
-        (
-          ok (c + b) most small (omega arith),
-          (
-            ok (d + c) most small (omega arith),
-            (
-              ok (e + d) most small (omega arith),
-              (
-                ok (f + e) most small (omega arith),
-                (ok (g + f) most small (omega arith), (ok (h + g) most small (omega arith), tt)),
-              ),
-            ),
-          ),
-        ),
-      ),
-    ))
+pairs_fit limit = on_eight (λ v. sum_l v ≤ limit → AddsFit limit v (up_one v)) (λ a b c d e f g h small. omega arith)
 
 pub fours_fit : (limit : ℕ) (v : List ℕ) → length v ≡ 8 → sum_l v ≤ limit
     → AddsFit limit (pairs v) (up_two (pairs v))
-fours_fit limit = on_eight (λ v. sum_l v ≤ limit → AddsFit limit (pairs v) (up_two (pairs v))) (λ a b c d e f g h small.
-    let most = a + (b + (c + (d + (e + (f + (g + (h + 0)))))))
-    in let ok = fit limit
-    in (
-      ok (a + 0 + 0) most small (omega arith),
-      (
-        ok (b + a + 0) most small (omega arith),
-        (
-          ok (c + b + (a + 0)) most small (omega arith),
-          (
-            ok (d + c + (b + a)) most small (omega arith),
-            (
-              ok (e + d + (c + b)) most small (omega arith),
-              (
-                ok (f + e + (d + c)) most small (omega arith),
-                (ok (g + f + (e + d)) most small (omega arith), (ok (h + g + (f + e)) most small (omega arith), tt)),
-              ),
-            ),
-          ),
-        ),
-      ),
-    ))
+fours_fit limit =
+    on_eight (λ v. sum_l v ≤ limit → AddsFit limit (pairs v) (up_two (pairs v))) (λ a b c d e f g h small. omega arith)
 
 pub eights_fit : (limit : ℕ) (v : List ℕ) → length v ≡ 8 → sum_l v ≤ limit
     → AddsFit limit (fours v) (up_four (fours v))
 eights_fit limit =
-    on_eight (λ v. sum_l v ≤ limit → AddsFit limit (fours v) (up_four (fours v))) (λ a b c d e f g h small.
-    let most = a + (b + (c + (d + (e + (f + (g + (h + 0)))))))
-    in let ok = fit limit
-    in (
-      ok (a + 0 + 0 + 0) most small (omega arith),
-      (
-        ok (b + a + 0 + 0) most small (omega arith),
-        (
-          ok (c + b + (a + 0) + 0) most small (omega arith),
-          (
-            ok (d + c + (b + a) + 0) most small (omega arith),
-            (
-              ok (e + d + (c + b) + (a + 0 + 0)) most small (omega arith),
-              (
-                ok (f + e + (d + c) + (b + a + 0)) most small (omega arith),
-                (
-                  ok (g + f + (e + d) + (c + b + (a + 0))) most small (omega arith),
-                  (ok (h + g + (f + e) + (d + c + (b + a))) most small (omega arith), tt),
-                ),
-              ),
-            ),
-          ),
-        ),
-      ),
-    ))
+    on_eight (λ v. sum_l v ≤ limit → AddsFit limit (fours v) (up_four (fours v))) (λ a b c d e f g h small. omega arith)
 
 pub same_eight : {a b c d e f g h a' b' c' d' e' f' g' h' : ℕ} → a ≡ a' → b ≡ b' → c ≡ c' → d ≡ d' → e ≡ e' → f ≡ f'
     → g ≡ g' → h ≡ h'

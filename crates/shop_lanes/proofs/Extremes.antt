@@ -70,10 +70,7 @@ folded-min top = on_eight (λ v. folded min v ≤ top → folded min v ≡ least
 
 pub folded_is : (f : ℕ → ℕ → ℕ) (v fours pairs all : List ℕ) → fours ≡ zip2 f v (halves v)
     → pairs ≡ zip2 f fours (quarters fours) → all ≡ zip2 f pairs (neighbours pairs) → get_or all 0 0 ≡ folded f v
-folded_is f v fours pairs all a b c =
-    ap (λ l. get_or l 0 0) c
-    ∙ ap (λ l. get_or (zip2 f l (neighbours l)) 0 0) b
-    ∙ ap (λ l. get_or (zip2 f (zip2 f l (quarters l)) (neighbours (zip2 f l (quarters l)))) 0 0) a
+folded_is f v fours pairs all a b c = grind arith
 
 pub folded_long : (f : ℕ → ℕ → ℕ) (v u w : List ℕ) → length v ≡ 8 → length u ≡ 8 → w ≡ zip2 f v u → length w ≡ 8
 folded_long f v u w a b e = ap length e ∙ length-zip2 f v u (a ∙ sym b) ∙ a

@@ -1,6 +1,6 @@
 -- The lanes of parts of rows are parts of the lanes.
 use Rattle.std.proofs.Common.{◌≡◌, ℕ, zero, suc, ◌+◌, ◌-◌, ◌*◌, ◌<◌, ◌≤◌, List, [], ◌∷◌, length, take, drop, get_or}
-use Rattle.std.proofs.Common.{refl, ap, sym, ◌∙◌, arith, add-one, length-take, length-drop, subst}
+use Rattle.std.proofs.Common.{refl, ap, arith, length-take, length-drop}
 use Rattle.shop_lanes.specs.Rows.{Lane, lanes, blocks}
 
 pub lanes-drop : (n : ℕ) (hs ts qs : List ℕ) → length ts ≡ length hs → length qs ≡ length hs
@@ -51,21 +51,16 @@ lanes_more [] ts qs i a b lt = absurd (omega arith)
 lanes_more (h ∷ hs) [] qs i a b lt = absurd (omega arith)
 lanes_more (h ∷ hs) (t ∷ ts) [] i a b lt = absurd (omega arith)
 lanes_more (h ∷ hs) (t ∷ ts) (q ∷ qs) zero a b lt = refl
-lanes_more (h ∷ hs) (t ∷ ts) (q ∷ qs) (suc i) a b lt =
-    rw (add-one (suc i))
-    (subst (λ n. drop i (lanes hs ts qs) ≡ lane_at hs ts qs i ∷ drop n (lanes hs ts qs)) (add-one i)
-    (lanes_more hs ts qs i (omega arith) (omega arith) (omega arith)))
+lanes_more (h ∷ hs) (t ∷ ts) (q ∷ qs) (suc i) a b lt = grind (
+  arith,
+  lanes_more hs ts qs i (omega arith) (omega
+      arith) (omega arith),
+)
 
 -- the lanes of the same blocks of each row
 pub lanes-blocks : (hs ts qs : List ℕ) (from to : ℕ) → length ts ≡ length hs → length qs ≡ length hs
     → lanes (blocks from to hs) (blocks from to ts) (blocks from to qs) ≡ blocks from to (lanes hs ts qs)
-lanes-blocks hs ts qs from to a b =
-    let la : length (drop (8 * from) ts) ≡ length (drop (8 * from) hs) = simp length-drop (ap (λ n. n - 8 * from) a)
-    in let lb : length (drop (8 * from) qs) ≡ length (drop (8 * from) hs) = simp length-drop (ap (λ n. n - 8 * from) b)
-    in sym (
-    ap (take (8 * to - 8 * from)) (lanes-drop (8 * from) hs ts qs a b)
-    ∙ lanes-take (8 * to - 8 * from) (drop (8 * from) hs) (drop (8 * from) ts) (drop (8 * from) qs) la lb
-    )
+lanes-blocks hs ts qs from to a b = grind (arith, length-drop, lanes-drop, lanes-take)
 
 pub length-blocks : {A : Type 0} (from to : ℕ) (xs : List A) → 8 * to ≤ length xs
     → length (blocks from to xs) ≡ 8 * to - 8 * from

@@ -1,6 +1,6 @@
 -- The least head from a number on, block by block.
-use Rattle.std.proofs.Common.{◌≡◌, ℕ, ◌*◌, List, map}
-use Rattle.std.proofs.Common.{take, drop, ap, sym, ◌∙◌}
+use Rattle.std.proofs.Common.{arith, ◌≡◌, ℕ, ◌*◌, List, map}
+use Rattle.std.proofs.Common.{take, drop}
 use Rattle.std.proofs.lemmas.List.{take-map, drop-map}
 use Rattle.shop_lanes.specs.Eights.{later_head}
 
@@ -8,10 +8,4 @@ use Rattle.shop_lanes.specs.Eights.{later_head}
 pub later_block : (top from top' from' b : ℕ) (row block later : List ℕ) → top' ≡ top → from' ≡ from
     → block ≡ take 8 (drop (8 * b) row) → later ≡ map (later_head top' from') block
     → later ≡ take 8 (drop (8 * b) (map (later_head top from) row))
-later_block top from top' from' b row block later et ef e f =
-    f ∙ ap (λ t. map (later_head t from') block) et ∙ ap (λ k. map (later_head top k) block) ef
-    ∙ ap (map (later_head top from)) e
-    ∙ sym (
-    ap (take 8) (drop-map (later_head top from) (8 * b) row)
-    ∙ take-map (later_head top from) 8 (drop (8 * b) row)
-    )
+later_block top from top' from' b row block later et ef e f = grind (arith, drop-map, take-map)

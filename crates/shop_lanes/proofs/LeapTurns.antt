@@ -1,14 +1,14 @@
 -- Spans from heads on, and how far one load settles them.
-use Rattle.std.proofs.Common.{◌≡◌, ℕ, ◌+◌, ◌-◌, ◌<◌, ◌≤◌, min, max, Bool, true, false, cond, leb, ltb, ◌&&◌, List, []}
+use Rattle.std.proofs.Common.{◌≡◌, ℕ, ◌+◌, ◌-◌, ◌<◌, ◌≤◌, min, max, true, false, leb, ltb, ◌&&◌, List, []}
 use Rattle.std.proofs.Common.{◌∷◌}
 use Rattle.std.proofs.Common.{length, refl, ap, sym, ◌∙◌, arith, inl, inr}
 use Rattle.std.proofs.lemmas.Bool.Decides.{nat_tests}
 use Rattle.std.proofs.lemmas.Bool.{cases_lt}
 use Rattle.shop_lanes.specs.Rows.{Lane, lanes}
-use Rattle.shop_lanes.specs.Spans.{span, spans_from, spans_between}
+use Rattle.shop_lanes.specs.Spans.{span, spans_from, spans_between, FitsSpan, IsRaisedBelow}
 use Rattle.shop_lanes.specs.Eights.{later_head}
 use Rattle.shop_lanes.specs.inner.LaterHeads.{least_later}
-use Rattle.shop_lanes.proofs.Loads.{span_from_start}
+use Rattle.shop_lanes.proofs.Loads.{span_from_start, load_le, work_le}
 
 true_false : true ≡ false → ⊥
 true_false e = cc
@@ -16,25 +16,15 @@ true_false e = cc
 -- fewer lanes that begin earlier end no later
 pub span_falls : (lower upper s t : ℕ) (xs : List Lane) → lower ≤ upper → s ≤ t → span upper s xs ≤ span lower t xs
 span_falls lower upper s t [] le early = omega arith
-span_falls lower upper s t (x ∷ xs) le early =
-    by_test (leb upper x.head) (leb lower x.head) (implied x.head)
-    (span_falls lower upper (s + x.time) (t + x.time) xs le (omega arith))
-    (span_falls lower upper s (t + x.time) xs le (omega arith))
-    (span_falls lower upper s t xs le early)
-  where
-    implied : (h : ℕ) → leb upper h ≡ true → leb lower h ≡ true
-    implied h e = grind (arith, nat_tests)
-
-    by_test : (on more : Bool) → (on ≡ true → more ≡ true)
-        → span upper (s + x.time) xs ≤ span lower (t + x.time) xs
-        → span upper s xs ≤ span lower (t + x.time) xs
-        → span upper s xs ≤ span lower t xs
-        → cond on (max (s + x.time + x.tail) (span upper (s + x.time) xs)) (span upper s xs)
-        ≤ cond more (max (t + x.time + x.tail) (span lower (t + x.time) xs)) (span lower t xs)
-    by_test true true implies both served left = omega (arith, both)
-    by_test true false implies both served left = absurd (true_false (sym (implies refl)))
-    by_test false true implies both served left = omega (arith, served)
-    by_test false false implies both served left = left
+span_falls lower upper s t (x ∷ xs) le early = grind (
+  arith,
+  span_falls lower upper (s + x.time) (t + x.time) xs le
+      (omega arith),
+  span_falls lower upper s (t + x.time) xs le (omega arith),
+  span_falls lower upper s t xs le
+      early,
+  nat_tests,
+)
 
 -- the least head of lanes from a number on; the greatest number if there is none
 abbrev pub least_head : ℕ → ℕ → List Lane → ℕ
@@ -53,43 +43,23 @@ least_head_is top from (h ∷ hs) (t ∷ ts) (q ∷ qs) a b =
 pub same_span : (top from head s : ℕ) (xs : List Lane) → from ≤ head → head ≤ least_head top from xs
     → span head s xs ≡ span from s xs
 same_span top from head s [] le least = refl
-same_span top from head s (x ∷ xs) le least =
-    by_test (leb head x.head) (leb from x.head) (told x.head (omega arith))
-    (same_span top from head (s + x.time) xs le (omega arith)) (same_span top from head s xs le (omega arith))
-  where
-    told : (h : ℕ) → head ≤ later_head top from h → leb head h ≡ leb from h
-    told h low = grind (arith, nat_tests)
-
-    by_test : (on more : Bool) → on ≡ more
-        → span head (s + x.time) xs ≡ span from (s + x.time) xs
-        → span head s xs ≡ span from s xs
-        → cond on (max (s + x.time + x.tail) (span head (s + x.time) xs)) (span head s xs)
-        ≡ cond more (max (s + x.time + x.tail) (span from (s + x.time) xs)) (span from s xs)
-    by_test true true e served left = ap (max (s + x.time + x.tail)) served
-    by_test true false e served left = absurd (true_false e)
-    by_test false true e served left = absurd (true_false (sym e))
-    by_test false false e served left = left
+same_span top from head s (x ∷ xs) le least = grind (
+  arith,
+  same_span top from head (s + x.time) xs le (omega
+      arith),
+  same_span top from head s xs le (omega arith),
+  nat_tests,
+)
 
 -- it is no earlier than asked for, and where it is below the greatest number, something waits
 pub least_head_le : (top from : ℕ) (xs : List Lane) → from ≤ top → from ≤ least_head top from xs
 least_head_le top from [] le = le
 least_head_le top from (x ∷ xs) le =
-    let rest = least_head_le top from xs le
-    in let here = at_least x.head in omega (arith, rest, here)
-  where
-    at_least : (h : ℕ) → from ≤ later_head top from h
-    at_least h = grind (arith, nat_tests)
+    let rest = least_head_le top from xs le in grind (arith, nat_tests, rest)
 
 pub some_waits : (top from s : ℕ) (xs : List Lane) → least_head top from xs < top → s ≤ span from s xs
 some_waits top from s [] lt = absurd (omega arith)
-some_waits top from s (x ∷ xs) lt =
-    by_test (leb from x.head) (some_waits top from s xs) lt
-  where
-    by_test : (on : Bool) → (least_head top from xs < top → s ≤ span from s xs)
-        → min (cond on x.head top) (least_head top from xs) < top
-        → s ≤ cond on (max (s + x.time + x.tail) (span from (s + x.time) xs)) (span from s xs)
-    by_test true rest less = omega arith
-    by_test false rest less = rest (omega arith)
+some_waits top from s (x ∷ xs) lt = grind (arith, some_waits top from s xs)
 
 -- the span from the least head on is that head and the load
 pub least_span : (top from : ℕ) (xs : List Lane) → from ≤ top → least_head top from xs < top
@@ -127,58 +97,24 @@ pub settled_spans : (lower upper upto bound : ℕ) (all : List Lane)
     → spans_from lower upto all xs ≤ max (spans_from upper upto all xs) bound
 settled_spans lower upper upto bound all each [] = omega arith
 settled_spans lower upper upto bound all each (x ∷ xs) =
-    let rest = settled_spans lower upper upto bound all each xs
-    in by_test (ltb lower x.head && leb x.head upto) (ltb upper x.head && leb x.head upto) (told x.head) rest
-  where
-    told : (h : ℕ) → (ltb lower h && leb h upto) ≡ true → (ltb upper h && leb h upto) ≡ false → span h h all ≤ bound
-    told h on off =
-        each h (grind (arith, nat_tests)) (grind (arith, nat_tests)) (grind (arith, nat_tests))
-
-    by_test : (on more : Bool) → (on ≡ true → more ≡ false → span x.head x.head all ≤ bound)
-        → spans_from lower upto all xs ≤ max (spans_from upper upto all xs) bound
-        → max (cond on (span x.head x.head all) 0) (spans_from lower upto all xs)
-        ≤ max (max (cond more (span x.head x.head all) 0) (spans_from upper upto all xs)) bound
-    by_test true true settled rest = omega (arith, rest)
-    by_test true false settled rest = let a = settled refl refl in omega (arith, rest, a)
-    by_test false true settled rest = omega (arith, rest)
-    by_test false false settled rest = omega (arith, rest)
+    let rest = settled_spans lower upper upto bound all each xs in grind (arith, nat_tests, each x.head, rest)
 
 pub spans_fall : (lower upper upto : ℕ) (all xs : List Lane) → lower ≤ upper
     → spans_from upper upto all xs ≤ spans_from lower upto all xs
 spans_fall lower upper upto all [] le = omega arith
 spans_fall lower upper upto all (x ∷ xs) le =
-    by_test (ltb upper x.head && leb x.head upto) (ltb lower x.head && leb x.head upto) (told x.head)
-    (spans_fall lower upper upto all xs le)
-  where
-    told : (h : ℕ) → (ltb upper h && leb h upto) ≡ true → (ltb lower h && leb h upto) ≡ true
-    told h on = grind (arith, nat_tests)
-
-    by_test : (on more : Bool) → (on ≡ true → more ≡ true)
-        → spans_from upper upto all xs ≤ spans_from lower upto all xs
-        → max (cond on (span x.head x.head all) 0) (spans_from upper upto all xs)
-        ≤ max (cond more (span x.head x.head all) 0) (spans_from lower upto all xs)
-    by_test true true implies rest = omega (arith, rest)
-    by_test true false implies rest = absurd (true_false (sym (implies refl)))
-    by_test false more implies rest = omega (arith, rest)
+    let rest = spans_fall lower upper upto all xs le in grind (arith, nat_tests, rest)
 
 pub none_between : (above upto : ℕ) (all xs : List Lane) → upto ≤ above → spans_from above upto all xs ≡ 0
 none_between above upto all [] le = refl
 none_between above upto all (x ∷ xs) le =
-    let off : (ltb above x.head && leb x.head upto) ≡ false = never x.head
-    in rw off (let rest = none_between above upto all xs le in omega (arith, rest))
-  where
-    never : (h : ℕ) → (ltb above h && leb h upto) ≡ false
-    never h = grind (arith, nat_tests)
+    let rest = none_between above upto all xs le in grind (arith, nat_tests, rest)
 
 pub none_so_early : (top above upto : ℕ) (all xs : List Lane) → upto < least_head top (above + 1) xs
     → spans_from above upto all xs ≡ 0
 none_so_early top above upto all [] lt = refl
 none_so_early top above upto all (x ∷ xs) lt =
-    let off : (ltb above x.head && leb x.head upto) ≡ false = never x.head (omega arith)
-    in rw off (let rest = none_so_early top above upto all xs (omega arith) in omega (arith, rest))
-  where
-    never : (h : ℕ) → upto < later_head top (above + 1) h → (ltb above h && leb h upto) ≡ false
-    never h less = grind (arith, nat_tests)
+    let rest = none_so_early top above upto all xs (omega arith) in grind (arith, nat_tests, rest)
 
 -- a head and the load of what begins no earlier settle its span
 pub settled_by : (settled load bound : ℕ) (all : List Lane) → load ≡ span (settled + 1) 0 all
@@ -193,47 +129,65 @@ pub record IsLeaped (above upto most : ℕ) (all : List Lane) (settled bound : �
   pub kept : most ≤ bound
   pub reaches : max bound (spans_between settled upto all) ≡ max most (spans_between above upto all)
 
-module _ (top above upto most : ℕ) (all : List Lane) (settled bound : ℕ)
+exactly : (limit : ℕ) {m r : ℕ} → r ≡ m → IsRaisedBelow limit m r
+exactly limit is = record { no_greater = omega (arith, is); exact = λ lt. is }
+
+module _ {above upto most : ℕ} {all : List Lane} {settled bound : ℕ}
     (h : IsLeaped above upto most all settled bound) where
-  pub leaps_no_greater : bound ≤ max most (spans_between above upto all)
-  leaps_no_greater = let a = h.reaches in omega (arith, a)
+  no_greater : bound ≤ max most (spans_between above upto all)
+  no_greater = let a = h.reaches in omega (arith, a)
 
-  pub leaps_end : upto ≤ settled → bound ≡ max most (spans_between above upto all)
-  leaps_end le = let a = h.reaches in let none = none_between settled upto all all le in omega (arith, a, none)
+  pub leaps_end : upto ≤ settled → (limit : ℕ) → IsRaisedBelow limit (max most (spans_between above upto all)) bound
+  leaps_end le limit =
+      let a = h.reaches in let none = none_between settled upto all all le in exactly limit (omega (arith, a, none))
 
-  module _ (load : ℕ) (load_is : load ≡ span (settled + 1) 0 all) where
-    pub leaps_within : upto + load ≤ bound → bound ≡ max most (spans_between above upto all)
-    leaps_within le =
+  pub leaps_reached : (limit : ℕ) → limit ≤ bound → IsRaisedBelow limit (max most (spans_between above upto all)) bound
+  leaps_reached limit over = record { no_greater = no_greater; exact = λ lt. absurd (omega (arith, lt, over)) }
+
+  module _ {load : ℕ} (load_is : load ≡ span (settled + 1) 0 all) where
+    pub load_fits : (limit : ℕ) → FitsSpan limit upto all → upto + load ≤ limit
+    load_fits limit fits =
+        let at_most = load_le (settled + 1) all
+        in let works = work_le (settled + 1) all
+        in omega (arith, load_is, at_most, works, fits)
+
+    pub leaps_within : upto + load ≤ bound → (limit : ℕ)
+        → IsRaisedBelow limit (max most (spans_between above upto all)) bound
+    leaps_within le limit =
         let a = h.reaches
         in let left = settled_spans settled upto upto bound all
         (λ k over under under'. settled_by settled load bound all load_is k over (omega arith)) all
         in let none = none_between upto upto all all (omega arith)
-        in omega (arith, a, left, none)
+        in exactly limit (omega (arith, a, left, none))
 
-    module _ (head : ℕ) (head_is : head ≡ least_head top (settled + 1) all) where
-      pub leaps_past : upto < head → bound ≡ max most (spans_between above upto all)
-      leaps_past lt =
+    module _ (top : ℕ) {head : ℕ} (head_is : head ≡ least_head top (settled + 1) all) where
+      pub leaps_past : upto < head → (limit : ℕ)
+          → IsRaisedBelow limit (max most (spans_between above upto all)) bound
+      leaps_past lt limit =
           let a = h.reaches
           in let none = none_so_early top settled upto all all (omega (arith, head_is))
-          in omega (arith, a, none)
+          in exactly limit (omega (arith, a, none))
 
-      module _ (room : settled + 1 ≤ top) (under : head ≤ upto) (below_top : upto < top)
-          (next : ℕ) (next_is : next ≡ max bound (head + load)) where
+      module _ (before : settled < upto) (under : head ≤ upto) (below_top : upto < top) (next : ℕ)
+          (next_is : next ≡ max bound (head + load)) where
+        low : settled < head
+        low =
+            let least = least_head_le top (settled + 1) all (omega (arith, before, below_top))
+            in omega (arith, least, head_is)
+
         pub leap_rises : settled < next - load
-        leap_rises =
-            let low = least_head_le top (settled + 1) all room in omega (arith, low, head_is, next_is)
+        leap_rises = omega (arith, low, next_is)
 
         pub leap : IsLeaped above upto most all (next - load) next
         leap =
             let a = h.reaches
-            in let low = least_head_le top (settled + 1) all room
-            in let over : settled < head = omega (arith, low, head_is)
-            in let less : least_head top (settled + 1) all < top = omega (arith, head_is)
+            in let room : settled + 1 ≤ top = omega (arith, before, below_top)
+            in let less : least_head top (settled + 1) all < top = omega (arith, head_is, under, below_top)
             in let own : span head head all ≡ head + load =
             ap (λ k. span k k all) head_is ∙ least_span top (settled + 1) all room less
             ∙ ap (λ k. k + span (settled + 1) 0 all) (sym head_is) ∙ ap (λ k. head + k) (sym load_is)
-            in let among = least_among top (settled + 1) settled upto all all head head_is (omega (arith, head_is)) over
-            under
+            in let among = least_among top (settled + 1) settled upto all all head head_is
+            (omega (arith, under, below_top)) low under
             in let left = settled_spans settled (next - load) upto next all
             (λ k after upper within. settled_by settled load next all load_is k after (omega (arith, next_is))) all
             in let falls = spans_fall settled (next - load) upto all all (let b = leap_rises in omega (arith, b))

@@ -1,5 +1,5 @@
 -- The load of some lanes is their span from 0 on, and their work the clock afterwards: how both are put together.
-use Rattle.std.proofs.Common.{◌≡◌, ℕ, ◌+◌, ◌≤◌, max, Bool, true, false, cond, leb, List, [], ◌∷◌, ◌++◌, refl, ap}
+use Rattle.std.proofs.Common.{◌≡◌, ℕ, ◌+◌, ◌≤◌, max, cond, leb, List, [], ◌∷◌, ◌++◌, refl, ap}
 use Rattle.std.proofs.Common.{◌∙◌, arith, sum_by}
 use Rattle.std.proofs.lemmas.List.Sums.{sum_by-cons}
 use Rattle.shop_lanes.specs.Rows.{Lane}
@@ -10,19 +10,7 @@ use Rattle.shop_lanes.proofs.SpanParts.{span-append}
 -- all ends are later by the start; with no lane there is but the start
 pub span-later : (least s k : ℕ) (xs : List Lane) → max s (span least (s + k) xs) ≡ s + span least k xs
 span-later least s k [] = omega arith
-span-later least s k (x ∷ xs) =
-    by_test (leb least x.head)
-    (let e : s + k + x.time ≡ s + (k + x.time) = omega arith
-    in ap (λ n. max s (span least n xs)) e ∙ span-later least s (k + x.time) xs)
-    (span-later least s k xs)
-  where
-    by_test : (on : Bool)
-        → max s (span least (s + k + x.time) xs) ≡ s + span least (k + x.time) xs
-        → max s (span least (s + k) xs) ≡ s + span least k xs
-        → max s (cond on (max (s + k + x.time + x.tail) (span least (s + k + x.time) xs)) (span least (s + k) xs))
-        ≡ s + cond on (max (k + x.time + x.tail) (span least (k + x.time) xs)) (span least k xs)
-    by_test true served left = omega (arith, served)
-    by_test false served left = left
+span-later least s k (x ∷ xs) = grind (arith, span-later least s (k + x.time) xs, span-later least s k xs)
 
 pub span_from_start : (least s : ℕ) (xs : List Lane) → max s (span least s xs) ≡ s + span least 0 xs
 span_from_start least s xs =
@@ -31,32 +19,21 @@ span_from_start least s xs =
 
 pub clock-later : (least s : ℕ) (xs : List Lane) → clock_after least s xs ≡ s + clock_after least 0 xs
 clock-later least s [] = omega arith
-clock-later least s (x ∷ xs) =
-    by_test (leb least x.head) (clock-later least (s + x.time) xs) (clock-later least (0 + x.time) xs)
-    (clock-later least s xs)
-  where
-    by_test : (on : Bool)
-        → clock_after least (s + x.time) xs ≡ s + x.time + clock_after least 0 xs
-        → clock_after least (0 + x.time) xs ≡ 0 + x.time + clock_after least 0 xs
-        → clock_after least s xs ≡ s + clock_after least 0 xs
-        → cond on (clock_after least (s + x.time) xs) (clock_after least s xs)
-        ≡ s + cond on (clock_after least (0 + x.time) xs) (clock_after least 0 xs)
-    by_test true served begun left = omega (arith, served, begun)
-    by_test false served begun left = left
+clock-later least s (x ∷ xs) = grind (
+  arith,
+  clock-later least (s + x.time) xs,
+  clock-later least (0 + x.time) xs,
+  clock-later least s xs,
+)
 
 pub clock_after-append : (least s : ℕ) (xs ys : List Lane)
     → clock_after least s (xs ++ ys) ≡ clock_after least (clock_after least s xs) ys
 clock_after-append least s [] ys = refl
-clock_after-append least s (x ∷ xs) ys =
-    by_test (leb least x.head) (clock_after-append least (s + x.time) xs ys) (clock_after-append least s xs ys)
-  where
-    by_test : (on : Bool)
-        → clock_after least (s + x.time) (xs ++ ys) ≡ clock_after least (clock_after least (s + x.time) xs) ys
-        → clock_after least s (xs ++ ys) ≡ clock_after least (clock_after least s xs) ys
-        → cond on (clock_after least (s + x.time) (xs ++ ys)) (clock_after least s (xs ++ ys))
-        ≡ clock_after least (cond on (clock_after least (s + x.time) xs) (clock_after least s xs)) ys
-    by_test true served left = served
-    by_test false served left = left
+clock_after-append least s (x ∷ xs) ys = grind (
+  arith,
+  clock_after-append least (s + x.time) xs ys,
+  clock_after-append least s xs ys,
+)
 
 pub work-append : (least : ℕ) (xs ys : List Lane)
     → clock_after least 0 (xs ++ ys) ≡ clock_after least 0 xs + clock_after least 0 ys
@@ -65,16 +42,7 @@ work-append least xs ys = clock_after-append least 0 xs ys ∙ clock-later least
 -- the last of them ends no earlier than the clock stands
 pub clock_le_span : (least s : ℕ) (xs : List Lane) → clock_after least s xs ≤ max s (span least s xs)
 clock_le_span least s [] = omega arith
-clock_le_span least s (x ∷ xs) =
-    by_test (leb least x.head) (clock_le_span least (s + x.time) xs) (clock_le_span least s xs)
-  where
-    by_test : (on : Bool)
-        → clock_after least (s + x.time) xs ≤ max (s + x.time) (span least (s + x.time) xs)
-        → clock_after least s xs ≤ max s (span least s xs)
-        → cond on (clock_after least (s + x.time) xs) (clock_after least s xs)
-        ≤ max s (cond on (max (s + x.time + x.tail) (span least (s + x.time) xs)) (span least s xs))
-    by_test true served left = omega (arith, served)
-    by_test false served left = left
+clock_le_span least s (x ∷ xs) = grind (arith, clock_le_span least (s + x.time) xs, clock_le_span least s xs)
 
 pub work_le_load : (least : ℕ) (xs : List Lane) → clock_after least 0 xs ≤ span least 0 xs
 work_le_load least xs = let a = clock_le_span least 0 xs in omega (arith, a)
@@ -89,11 +57,7 @@ load-append least xs ys =
 
 -- one lane more
 pub work-one : (least : ℕ) (x : Lane) → clock_after least 0 (x ∷ []) ≡ cond (leb least x.head) x.time 0
-work-one least x = by_test (leb least x.head)
-  where
-    by_test : (on : Bool) → cond on (0 + x.time) 0 ≡ cond on x.time 0
-    by_test true = omega arith
-    by_test false = refl
+work-one least x = grind arith
 
 pub work_more : (least : ℕ) (xs : List Lane) (x : Lane)
     → clock_after least 0 (xs ++ (x ∷ [])) ≡ clock_after least 0 xs + cond (leb least x.head) x.time 0
@@ -104,14 +68,7 @@ pub load_more : (least : ℕ) (xs : List Lane) (x : Lane)
     ≡ max (span least 0 xs)
     (cond (leb least x.head) (clock_after least 0 xs + cond (leb least x.head) x.time 0 + x.tail) 0)
 load_more least xs x =
-    load-append least xs (x ∷ []) ∙ by_test (leb least x.head) (work_le_load least xs)
-  where
-    by_test : (on : Bool) → clock_after least 0 xs ≤ span least 0 xs
-        → max (span least 0 xs)
-        (clock_after least 0 xs + cond on (max (0 + x.time + x.tail) (span least (0 + x.time) [])) (span least 0 []))
-        ≡ max (span least 0 xs) (cond on (clock_after least 0 xs + cond on x.time 0 + x.tail) 0)
-    by_test true le = omega arith
-    by_test false le = omega (arith, le)
+    load-append least xs (x ∷ []) ∙ (let le = work_le_load least xs in grind (arith, le))
 
 -- neither is above what all lanes together come to
 pub work_le : (least : ℕ) (xs : List Lane) → clock_after least 0 xs ≤ sum_by (λ x. x.time) xs
@@ -120,28 +77,13 @@ work_le least (x ∷ xs) =
     let sum = sum_by-cons (λ y. y.time) x xs
     in let later = clock-later least (0 + x.time) xs
     in let rest = work_le least xs
-    in by_test (leb least x.head) (omega (arith, sum, later, rest)) (omega (arith, sum, rest))
-  where
-    by_test : (on : Bool)
-        → clock_after least (0 + x.time) xs ≤ sum_by (λ y. y.time) (x ∷ xs)
-        → clock_after least 0 xs ≤ sum_by (λ y. y.time) (x ∷ xs)
-        → cond on (clock_after least (0 + x.time) xs) (clock_after least 0 xs) ≤ sum_by (λ y. y.time) (x ∷ xs)
-    by_test true served left = served
-    by_test false served left = left
+    in grind (arith, sum, later, rest)
 
 pub load_le : (least : ℕ) (xs : List Lane)
     → span least 0 xs ≤ clock_after least 0 xs + greatest_by (λ x. x.tail) xs
 load_le least [] = omega arith
 load_le least (x ∷ xs) =
-    by_test (leb least x.head) (clock-later least (0 + x.time) xs) (span_from_start least (0 + x.time) xs)
-    (load_le least xs)
-  where
-    by_test : (on : Bool)
-        → clock_after least (0 + x.time) xs ≡ 0 + x.time + clock_after least 0 xs
-        → max (0 + x.time) (span least (0 + x.time) xs) ≡ 0 + x.time + span least 0 xs
-        → span least 0 xs ≤ clock_after least 0 xs + greatest_by (λ y. y.tail) xs
-        → cond on (max (0 + x.time + x.tail) (span least (0 + x.time) xs)) (span least 0 xs)
-        ≤ cond on (clock_after least (0 + x.time) xs) (clock_after least 0 xs)
-        + max x.tail (greatest_by (λ y. y.tail) xs)
-    by_test true clock later rest = omega (arith, clock, later, rest)
-    by_test false clock later rest = omega (arith, rest)
+    let clock = clock-later least (0 + x.time) xs
+    in let later = span_from_start least (0 + x.time) xs
+    in let rest = load_le least xs
+    in grind (arith, clock, later, rest)

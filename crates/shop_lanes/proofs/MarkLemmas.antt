@@ -113,7 +113,4 @@ no_bits n at m small e =
 
 pub no_bits_exactly : (n at m : ℕ) (marks : List ℕ) → m < 2 ^ n → set_bits n at m ≡ marks
     → IsTrue (nat_eq m 0) ↔ (marks ≡ [])
-no_bits_exactly n at m marks small is = (
-  (λ t. sym is ∙ ap (set_bits n at) (grind (arith, nat_tests)) ∙ set_bits-zero n at),
-  (λ e. let z = no_bits n at m small (is ∙ e) in grind (arith, nat_tests)),
-)
+no_bits_exactly n at m marks small is = grind (arith, nat_tests, set_bits-zero, no_bits)

@@ -1,11 +1,10 @@
 -- The greatest numbers before and behind each of eight, by three turns and by position.
-use Rattle.std.proofs.Common.{◌≡◌, ℕ, zero, suc, ◌<◌, max, List, [], ◌∷◌, length, take, drop, replicate, get_or}
-use Rattle.std.proofs.Common.{refl, ap, sym, ◌∙◌, arith}
+use Rattle.std.proofs.Common.{◌≡◌, ℕ, zero, suc, ◌<◌, max, List, [], ◌∷◌, length, take, drop, get_or}
+use Rattle.std.proofs.Common.{refl, ap, ◌∙◌, arith}
 use lib.Lanes.{zip2}
 use Rattle.shop_lanes.specs.Eights.{up_one, up_two, up_four, down_one, down_two, down_four}
 use Rattle.shop_lanes.specs.Folds.{greatest, greatest_before, maxima_behind}
 use Rattle.shop_lanes.proofs.Eights.{on_eight, same_eight}
-use Rattle.shop_lanes.proofs.Extremes.{greatest-append}
 
 pub greatest_before-get : (most : ℕ) (xs : List ℕ) (k : ℕ) → k < length xs
     → get_or (greatest_before most xs) k 0 ≡ max most (greatest (take k xs))
@@ -19,69 +18,6 @@ pub maxima_behind-get : (most : ℕ) (xs : List ℕ) (k : ℕ) → k < length xs
 maxima_behind-get most [] k lt = absurd (omega arith)
 maxima_behind-get most (x ∷ xs) zero lt = refl
 maxima_behind-get most (x ∷ xs) (suc k) lt = maxima_behind-get most xs k (omega arith)
-
-pub length-greatest_before : (most : ℕ) (xs : List ℕ) → length (greatest_before most xs) ≡ length xs
-length-greatest_before most [] = refl
-length-greatest_before most (x ∷ xs) = ap suc (length-greatest_before (max most x) xs)
-
-pub length-maxima_behind : (most : ℕ) (xs : List ℕ) → length (maxima_behind most xs) ≡ length xs
-length-maxima_behind most [] = refl
-length-maxima_behind most (x ∷ xs) = ap suc (length-maxima_behind most xs)
-
--- a number that is greater counts at each place
-before_from : (n most m : ℕ) (xs : List ℕ) → length xs ≡ n
-    → zip2 max (replicate n most) (greatest_before m xs) ≡ greatest_before (max most m) xs
-before_from zero most m [] e = refl
-before_from zero most m (x ∷ xs) e = absurd (omega arith)
-before_from (suc n) most m [] e = absurd (omega arith)
-before_from (suc n) most m (x ∷ xs) e =
-    let same : max most (max m x) ≡ max (max most m) x = omega arith
-    in ap (λ l. max most m ∷ l)
-    (before_from n most (max m x) xs (omega arith) ∙ ap (λ k. greatest_before k xs) same)
-
-behind_from : (n most m : ℕ) (xs : List ℕ) → length xs ≡ n
-    → zip2 max (replicate n most) (maxima_behind m xs) ≡ maxima_behind (max most m) xs
-behind_from zero most m [] e = refl
-behind_from zero most m (x ∷ xs) e = absurd (omega arith)
-behind_from (suc n) most m [] e = absurd (omega arith)
-behind_from (suc n) most m (x ∷ xs) e =
-    let same : max most (max m (greatest xs)) ≡ max (max most m) (greatest xs) = omega arith
-    in ap (λ k. k ∷ zip2 max (replicate n most) (maxima_behind m xs)) same
-    ∙ ap (λ l. max (max most m) (greatest xs) ∷ l) (behind_from n most m xs (omega arith))
-
-pub before-greater : (most : ℕ) (xs : List ℕ) → length xs ≡ 8
-    → zip2 max (replicate 8 most) (greatest_before 0 xs) ≡ greatest_before most xs
-before-greater most xs e =
-    let same : max most 0 ≡ most = omega arith
-    in before_from 8 most 0 xs e ∙ ap (λ k. greatest_before k xs) same
-
-pub behind-greater : (most : ℕ) (xs : List ℕ) → length xs ≡ 8
-    → zip2 max (replicate 8 most) (maxima_behind 0 xs) ≡ maxima_behind most xs
-behind-greater most xs e =
-    let same : max most 0 ≡ most = omega arith
-    in behind_from 8 most 0 xs e ∙ ap (λ k. maxima_behind k xs) same
-
--- the last of those before and itself, and the first of those behind and itself, is the greatest of all
-pub last-before : (most : ℕ) (v : List ℕ) → length v ≡ 8
-    → get_or (zip2 max (greatest_before most v) v) 7 0 ≡ max most (greatest v)
-last-before most =
-    on_eight (λ v. get_or (zip2 max (greatest_before most v) v) 7 0 ≡ max most (greatest v)) (λ a b c d e f g h.
-    let seven = a ∷ b ∷ c ∷ d ∷ e ∷ f ∷ g ∷ []
-    in ap (λ n. max n h) (greatest_before-get most (a ∷ b ∷ c ∷ d ∷ e ∷ f ∷ g ∷ h ∷ []) 7 (omega arith))
-    ∙ one_more (greatest seven) h
-    ∙ ap (max most) (sym (greatest-append seven (h ∷ []))))
-  where
-    one_more : (p q : ℕ) → max (max most p) q ≡ max most (max p (max q 0))
-    one_more p q = omega arith
-
-pub first-behind : (most : ℕ) (v : List ℕ) → length v ≡ 8
-    → get_or (zip2 max (maxima_behind most v) v) 0 0 ≡ max most (greatest v)
-first-behind most =
-    on_eight (λ v. get_or (zip2 max (maxima_behind most v) v) 0 0 ≡ max most (greatest v)) (λ a b c d e f g h.
-    one_more (greatest (b ∷ c ∷ d ∷ e ∷ f ∷ g ∷ h ∷ [])) a)
-  where
-    one_more : (p q : ℕ) → max (max most p) q ≡ max most (max q p)
-    one_more p q = omega arith
 
 -- the turns that give them
 abbrev pub turned : (List ℕ → List ℕ) → List ℕ → List ℕ
@@ -161,8 +97,10 @@ pub turns_are : (one two four : List ℕ → List ℕ) (v ones moved pairs moved
     → ones ≡ one v → moved ≡ one ones → pairs ≡ zip2 max ones moved → moved' ≡ two pairs
     → fours ≡ zip2 max pairs moved' → moved'' ≡ four fours → all ≡ zip2 max fours moved''
     → all ≡ turned four (turned two (turned one (one v)))
-turns_are one two four v ones moved pairs moved' fours moved'' all eo em ep em' ef em'' ea =
-    let pairs_are : pairs ≡ turned one (one v) = ep ∙ ap (zip2 max ones) em ∙ ap (turned one) eo
-    in let fours_are : fours ≡ turned two (turned one (one v)) =
-    ef ∙ ap (zip2 max pairs) em' ∙ ap (turned two) pairs_are
-    in ea ∙ ap (zip2 max fours) em'' ∙ ap (turned four) fours_are
+turns_are one two four v ones moved pairs moved' fours moved'' all eo em ep em' ef em'' ea = grind (
+  arith,
+  one,
+  fours,
+  two,
+  four,
+)

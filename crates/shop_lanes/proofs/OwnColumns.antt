@@ -14,30 +14,28 @@ use Rattle.shop_lanes.specs.inner.OwnSpans.{rank_of, IsLoadBehind, own_span_at}
 use Rattle.shop_lanes.specs.inner.Passes.{clock_after, eight}
 use Rattle.shop_lanes.proofs.Columns.{rank_fits, rank_below, rank_of_parts, by_columns-of, by_columns-set}
 use Rattle.shop_lanes.proofs.Columns.{length-by_columns, lanes-by_columns}
-use Rattle.shop_lanes.proofs.ColumnTurns.{AreColumnsOf, IsRead, IsServedTo, front_of, front_more, front_within}
-use Rattle.shop_lanes.proofs.ColumnTurns.{as_eight, eight_same, in_eight, eight_fit, block_eight, work_next, work_small}
-use Rattle.shop_lanes.proofs.ColumnTurns.{tail_small}
+use Rattle.shop_lanes.proofs.ColumnTurns.{AreColumnsOf, IsServedTo, front_of, fronts, as_eight, eight_same}
+use Rattle.shop_lanes.proofs.ColumnTurns.{in_eight, eight_fit, block_eight, work_next, work_small, tail_small}
 use Rattle.shop_lanes.proofs.LaneLists.{lane_at}
 use Rattle.shop_lanes.proofs.Loads.{span_from_start}
 use Rattle.shop_lanes.proofs.OwnPositions.{own_in_order, own_fits, own_at}
 
 -- what stands at a place, in order of rank
-module _ (count : ℕ) (hs ts qs : List ℕ) (whole : length hs ≡ 8 * count) (a : length ts ≡ length hs)
-    (b : length qs ≡ length hs) (all : List Lane) (all_is : all ≡ by_columns count (lanes hs ts qs)) where
+module _ {count : ℕ} {hs ts qs : List ℕ} {all : List Lane} (cols : AreColumnsOf count hs ts qs all) where
   abbrev ranked : List ℕ → List ℕ
   ranked xs = by_columns count xs
 
   same : lanes (ranked hs) (ranked ts) (ranked qs) ≡ all
-  same = lanes-by_columns count hs ts qs whole a b ∙ sym all_is
+  same = grind (arith, lanes-by_columns)
 
   heads_long : length (ranked hs) ≡ 8 * count
-  heads_long = length-by_columns count hs whole
+  heads_long = length-by_columns count hs cols.heads_long
 
   times_long : length (ranked ts) ≡ length (ranked hs)
-  times_long = length-by_columns count ts (a ∙ whole) ∙ sym heads_long
+  times_long = length-by_columns count ts cols.times_long ∙ sym heads_long
 
   tails_long : length (ranked qs) ≡ length (ranked hs)
-  tails_long = length-by_columns count qs (b ∙ whole) ∙ sym heads_long
+  tails_long = length-by_columns count qs cols.tails_long ∙ sym heads_long
 
   module _ (p : ℕ) (lt : p < 8 * count) where
     abbrev rank : ℕ
@@ -47,20 +45,21 @@ module _ (count : ℕ) (hs ts qs : List ℕ) (whole : length hs ≡ 8 * count) (
     inside = let fits = rank_fits count p lt in omega (arith, fits, heads_long)
 
     head_is : get_or (ranked hs) rank 0 ≡ get_or hs p 0
-    head_is = by_columns-of count hs whole p 0 lt
+    head_is = by_columns-of count hs cols.heads_long p 0 lt
 
     time_is : get_or (ranked ts) rank 0 ≡ get_or ts p 0
-    time_is = by_columns-of count ts (a ∙ whole) p 0 lt
+    time_is = by_columns-of count ts cols.times_long p 0 lt
 
     own_same : own_in_order (ranked hs) (ranked ts) (ranked qs) rank ≡ own_span_at count hs ts qs p
     own_same =
         let end : get_or (ranked hs) rank 0 + get_or (ranked ts) rank 0 ≡ get_or hs p 0 + get_or ts p 0 =
         omega (arith, head_is, time_is)
-        in let written : length (set hs p 0) ≡ length hs = length-set hs p 0
+        in let written : length (set hs p 0) ≡ 8 * count = length-set hs p 0 ∙ cols.heads_long
         in let others : lanes (set (ranked hs) rank 0) (ranked ts) (ranked qs)
         ≡ by_columns count (lanes (set hs p 0) ts qs) =
-        ap (λ l. lanes l (ranked ts) (ranked qs)) (sym (by_columns-set count hs whole p 0 lt))
-        ∙ lanes-by_columns count (set hs p 0) ts qs (written ∙ whole) (a ∙ sym written) (b ∙ sym written)
+        ap (λ l. lanes l (ranked ts) (ranked qs)) (sym (by_columns-set count hs cols.heads_long p 0 lt))
+        ∙ lanes-by_columns count (set hs p 0) ts qs written (cols.times_long ∙ sym written)
+        (cols.tails_long ∙ sym written)
         in ap (λ e. max e (span 1 e (lanes (set (ranked hs) rank 0) (ranked ts) (ranked qs)))) end
         ∙ ap (λ l. max (get_or hs p 0 + get_or ts p 0) (span 1 (get_or hs p 0 + get_or ts p 0) l)) others
 
@@ -78,18 +77,22 @@ module _ (count : ℕ) (hs ts qs : List ℕ) (whole : length hs ≡ 8 * count) (
       own_fits_at limit fits =
           let both = own_fits (ranked hs) (ranked ts) (ranked qs) times_long tails_long rank inside before behind
           before_ranked behind_ranked limit (subst (FitOwnSpans limit) (sym same) fits)
-          in subst (λ t. (get_or hs p 0 + t ≤ limit) × (get_or hs p 0 + t + max before (behind - t) ≤ limit)) time_is
-          (subst (λ h. (h + get_or (ranked ts) rank 0 ≤ limit)
-          × (h + get_or (ranked ts) rank 0 + max before (behind - get_or (ranked ts) rank 0) ≤ limit)) head_is both)
+          in grind (arith, both, time_is, head_is)
 
       pub own_is_at : 0 < get_or hs p 0
           → get_or hs p 0 + get_or ts p 0 + max before (behind - get_or ts p 0) ≡ own_span_at count hs ts qs p
-      own_is_at waits =
-          let own = own_at (ranked hs) (ranked ts) (ranked qs) times_long tails_long rank inside before behind
-          before_ranked behind_ranked (omega (arith, head_is, waits))
-          in subst (λ t. get_or hs p 0 + t + max before (behind - t) ≡ own_span_at count hs ts qs p) time_is
-          (subst (λ h. h + get_or (ranked ts) rank 0 + max before (behind - get_or (ranked ts) rank 0)
-          ≡ own_span_at count hs ts qs p) head_is (own ∙ own_same))
+      own_is_at waits = grind (
+        arith,
+        own_at,
+        times_long,
+        tails_long,
+        inside,
+        before_ranked,
+        behind_ranked,
+        head_is,
+        time_is,
+        own_same,
+      )
 
 -- a place of a row is one of the block that is written, or of what stands before or behind it
 module _ (n : ℕ) (owns v new : List ℕ) (eight_long : length v ≡ 8) (room : 8 * (n + 1) ≤ length owns)
@@ -101,9 +104,7 @@ module _ (n : ℕ) (owns v new : List ℕ) (eight_long : length v ≡ 8) (room :
   stored_before k lt = ap (λ l. get_or l k 0) new_is ∙ get_or-put_chunk_below (8 * n) owns v k 0 lt
 
   pub stored_at : (j : ℕ) → j < 8 → get_or new (8 * n + j) 0 ≡ get_or v j 0
-  stored_at j lt =
-      ap (λ l. get_or l (8 * n + j) 0) new_is
-      ∙ get_or-put_chunk_at (8 * n) owns v j 0 (omega (arith, eight_long)) (omega (arith, eight_long))
+  stored_at j lt = grind (arith, get_or-put_chunk_at)
 
   pub stored_behind : (k : ℕ) → 8 * (n + 1) ≤ k → get_or new k 0 ≡ get_or owns k 0
   stored_behind k le =
@@ -115,10 +116,10 @@ pub record IsNotedTo (count : ℕ) (all : List Lane) (j : ℕ) (clocks most owns
   pub served : IsServedTo 1 (front_of count all) j clocks most
   pub noted : (p : ℕ) → p < 8 * j → get_or owns p 0 ≡ span 1 0 (take (rank_of count p) all)
 
-pub note_more : (count : ℕ) (all : List Lane) (j : ℕ) → j < count → (clocks most owns after later new : List ℕ)
+pub note_more : {count : ℕ} {all : List Lane} {j : ℕ} → j < count → {clocks most owns after later new : List ℕ}
     → IsNotedTo count all j clocks most owns → new ≡ put_chunk (8 * j) owns most
     → IsServedTo 1 (front_of count all) (j + 1) after later → IsNotedTo count all (j + 1) after later new
-note_more count all j lt clocks most owns after later new so_far new_is served =
+note_more {count} {all} {j} lt {clocks} {most} {owns} {after} {later} {new} so_far new_is served =
     let eight_long : length most ≡ 8 = ap length so_far.served.most_are
     in let room : 8 * (j + 1) ≤ length owns = omega (arith, so_far.long, lt)
     in record {
@@ -152,12 +153,6 @@ pub record IsBackTo (count : ℕ) (hs ts qs : List ℕ) (all : List Lane) (j : �
   pub done : (p : ℕ) → 8 * j ≤ p → p < 8 * count → 0 < get_or hs p 0
       → get_or owns p 0 ≡ own_span_at count hs ts qs p
 
-pub back_at : (count : ℕ) (hs ts qs : List ℕ) (all : List Lane) (j n : ℕ) (clocks behind owns : List ℕ)
-    → IsBackTo count hs ts qs all n clocks behind owns → n ≡ j + 1
-    → IsBackTo count hs ts qs all (j + 1) clocks behind owns
-back_at count hs ts qs all j n clocks behind owns so_far e =
-    subst (λ m. IsBackTo count hs ts qs all m clocks behind owns) e so_far
-
 -- one lane more of what stands behind
 module _ (W T Z t q rest tail : ℕ) (rest_is : max t tail ≡ t + rest) where
   behind_numbers : (on : Bool) → W + cond on t 0 ≡ T → max T Z ≡ T + rest
@@ -165,36 +160,34 @@ module _ (W T Z t q rest tail : ℕ) (rest_is : max t tail ≡ t + rest) where
   behind_numbers true e z = omega (arith, e, z, rest_is)
   behind_numbers false e z = omega (arith, e, z)
 
-module _ (count : ℕ) (hs ts qs : List ℕ) (whole : length hs ≡ 8 * count) (a : length ts ≡ length hs)
-    (b : length qs ≡ length hs) (rows : List Lane) (rows_are : rows ≡ by_columns count (lanes hs ts qs))
-    (cols : AreColumnsOf count hs ts qs rows) (limit : ℕ) (fits : FitOwnSpans limit rows) where
-  module _ (j : ℕ) (clocks behind owns : List ℕ)
-      (so_far : IsBackTo count hs ts qs rows (j + 1) clocks behind owns)
-      (heads times tails before one : List ℕ) (read : IsRead hs ts qs j heads times tails)
-      (before_is : before ≡ take 8 (drop (8 * j) owns)) (one_is : one ≡ replicate 8 1) where
+module _ {count : ℕ} {hs ts qs : List ℕ} {rows : List Lane} (cols : AreColumnsOf count hs ts qs rows) {limit : ℕ}
+    (fits : FitOwnSpans limit rows) where
+  -- block j, as it is read and bounded
+  module _ (j : ℕ) {n : ℕ} (next : n ≡ j + 1) {clocks behind owns : List ℕ}
+      (so_far_n : IsBackTo count hs ts qs rows n clocks behind owns) {heads times tails before one : List ℕ}
+      (heads_are : heads ≡ take 8 (drop (8 * j) hs)) (times_are : times ≡ take 8 (drop (8 * j) ts))
+      (tails_are : tails ≡ take 8 (drop (8 * j) qs)) (before_is : before ≡ take 8 (drop (8 * j) owns))
+      (one_is : one ≡ replicate 8 1) where
+    so_far : IsBackTo count hs ts qs rows (j + 1) clocks behind owns
+    so_far = subst (λ m. IsBackTo count hs ts qs rows m clocks behind owns) next so_far_n
+
     j_lt : j < count
     j_lt = let w = so_far.within in omega (arith, w)
 
     heads_eight : heads ≡ eight (λ k. get_or hs (8 * j + k) 0)
-    heads_eight = read.heads_are ∙ block_eight j hs (omega (arith, cols.heads_long, j_lt))
+    heads_eight = heads_are ∙ block_eight j hs (omega (arith, cols.heads_long, j_lt))
 
     times_eight : times ≡ eight (λ k. get_or ts (8 * j + k) 0)
-    times_eight = read.times_are ∙ block_eight j ts (omega (arith, cols.times_long, j_lt))
+    times_eight = times_are ∙ block_eight j ts (omega (arith, cols.times_long, j_lt))
 
     tails_eight : tails ≡ eight (λ k. get_or qs (8 * j + k) 0)
-    tails_eight = read.tails_are ∙ block_eight j qs (omega (arith, cols.tails_long, j_lt))
+    tails_eight = tails_are ∙ block_eight j qs (omega (arith, cols.tails_long, j_lt))
 
     before_eight : before ≡ eight (λ k. get_or owns (8 * j + k) 0)
     before_eight = before_is ∙ block_eight j owns (omega (arith, so_far.long, j_lt))
 
-    pub before_long : length before ≡ 8
-    before_long = ap length before_eight
-
     behind_eight : behind ≡ eight (λ k. get_or behind k 0)
     behind_eight = as_eight behind so_far.behind_long
-
-    rank_is : (k : ℕ) → k < 8 → rank_of count (8 * j + k) ≡ k * count + j
-    rank_is k lt = rank_of_parts count k j lt
 
     noted_here : (k : ℕ) → k < 8
         → get_or owns (8 * j + k) 0 ≡ span 1 0 (take (rank_of count (8 * j + k)) rows)
@@ -202,7 +195,7 @@ module _ (count : ℕ) (hs ts qs : List ℕ) (whole : length hs ≡ 8 * count) (
 
     behind_here : (k : ℕ) → k < 8 → IsLoadBehind rows (suc (rank_of count (8 * j + k))) (get_or behind k 0)
     behind_here k lt =
-        let r = rank_is k lt
+        let r = rank_of_parts count k j lt
         in let on : k * count + (j + 1) ≡ suc (rank_of count (8 * j + k)) = omega (arith, r)
         in subst (λ n. IsLoadBehind rows n (get_or behind k 0)) on (so_far.behind_are k lt)
 
@@ -211,7 +204,7 @@ module _ (count : ℕ) (hs ts qs : List ℕ) (whole : length hs ≡ 8 * count) (
         × (get_or hs (8 * j + k) 0 + get_or ts (8 * j + k) 0
         + max (get_or owns (8 * j + k) 0) (get_or behind k 0 - get_or ts (8 * j + k) 0) ≤ limit)
     here_fits k lt =
-        own_fits_at count hs ts qs whole a b rows rows_are (8 * j + k) (omega (arith, lt, j_lt))
+        own_fits_at cols (8 * j + k) (omega (arith, lt, j_lt))
         (get_or owns (8 * j + k) 0) (get_or behind k 0) (noted_here k lt) (behind_here k lt) limit fits
 
     pub begins_fit : AddsFit limit heads times
@@ -222,11 +215,7 @@ module _ (count : ℕ) (hs ts qs : List ℕ) (whole : length hs ≡ 8 * count) (
 
     own_rest : zip2 max before (lessened behind times)
         ≡ eight (λ k. max (get_or owns (8 * j + k) 0) (get_or behind k 0 - get_or ts (8 * j + k) 0))
-    own_rest =
-        ap (λ l. zip2 max l (lessened behind times)) before_eight
-        ∙ ap (λ l. zip2 max (eight (λ k. get_or owns (8 * j + k) 0)) (lessened l times)) behind_eight
-        ∙ ap (λ l. zip2 max (eight (λ k. get_or owns (8 * j + k) 0)) (lessened (eight (λ k. get_or behind k 0)) l))
-        times_eight
+    own_rest = grind (arith, before_eight, behind_eight, times_eight)
 
     own_begins : added heads times ≡ eight (λ k. get_or hs (8 * j + k) 0 + get_or ts (8 * j + k) 0)
     own_begins =
@@ -244,14 +233,10 @@ module _ (count : ℕ) (hs ts qs : List ℕ) (whole : length hs ≡ 8 * count) (
         → clock_after 1 0 (front_of count rows k (suc j))
         ≡ clock_after 1 0 (front_of count rows k j)
         + cond (leb 1 (get_or hs (8 * j + k) 0)) (get_or ts (8 * j + k) 0) 0
-    front_next k lt =
-        work_next count hs ts qs rows cols (front_of count rows) (front_more count hs ts qs rows cols)
-        (front_within count hs ts qs rows cols) 1 k j lt j_lt
+    front_next k lt = work_next cols (fronts cols) 1 k j lt j_lt
 
     clocks_eight : clocks ≡ eight (λ k. clock_after 1 0 (front_of count rows k (suc j)))
-    clocks_eight =
-        let on : j + 1 ≡ suc j = omega arith
-        in so_far.clocks_are ∙ ap (λ n. eight (λ k. clock_after 1 0 (front_of count rows k n))) on
+    clocks_eight = grind arith
 
     pub tails_fit : AddsFit limit clocks tails
     tails_fit =
@@ -259,9 +244,8 @@ module _ (count : ℕ) (hs ts qs : List ℕ) (whole : length hs ≡ 8 * count) (
         (subst (AddsFit limit (eight (λ k. clock_after 1 0 (front_of count rows k (suc j))))) (sym tails_eight)
         (eight_fit limit (λ k. clock_after 1 0 (front_of count rows k (suc j))) (λ k. get_or qs (8 * j + k) 0)
         (λ k lt.
-        let small = work_small count hs ts qs rows cols (front_of count rows) (front_more count hs ts qs rows cols)
-        (front_within count hs ts qs rows cols) 1 limit fits.whole k (suc j)
-        in let tail = tail_small count hs ts qs rows cols k j lt j_lt
+        let small = work_small cols (fronts cols) 1 limit fits.whole k (suc j)
+        in let tail = tail_small cols k j lt j_lt
         in omega (arith, small, tail))))
 
     one_at : get_or one 0 0 ≡ 1
@@ -271,51 +255,36 @@ module _ (count : ℕ) (hs ts qs : List ℕ) (whole : length hs ≡ 8 * count) (
     own_of k = get_or hs (8 * j + k) 0 + get_or ts (8 * j + k) 0
         + max (get_or owns (8 * j + k) 0) (get_or behind k 0 - get_or ts (8 * j + k) 0)
 
-    module _ (own : List ℕ)
-        (own_told : own ≡ added (added heads times) (zip2 max before (lessened behind times))) where
-      pub own_eight : own ≡ eight own_of
-      own_eight =
-          own_told
-          ∙ ap (λ l. added l (zip2 max before (lessened behind times))) own_begins
-          ∙ ap (added (eight (λ k. get_or hs (8 * j + k) 0 + get_or ts (8 * j + k) 0))) own_rest
+    pub own_eight : {own : List ℕ} → own ≡ added (added heads times) (zip2 max before (lessened behind times))
+        → own ≡ eight own_of
+    own_eight told = grind (arith, own_begins, own_rest)
 
-    module _ (sums late : List ℕ) (sums_are : sums ≡ added clocks tails)
-        (late_is : late ≡ waiting (get_or one 0 0) heads sums) where
-      pub late_eight : late ≡ eight (λ k. cond (leb 1 (get_or hs (8 * j + k) 0))
-          (clock_after 1 0 (front_of count rows k (suc j)) + get_or qs (8 * j + k) 0) 0)
-      late_eight =
-          late_is
-          ∙ ap (λ n. waiting n heads sums) one_at
-          ∙ ap (λ l. waiting 1 l sums) heads_eight
-          ∙ ap (waiting 1 (eight (λ k. get_or hs (8 * j + k) 0)))
-          (sums_are ∙ ap (λ l. added l tails) clocks_eight
-          ∙ ap (added (eight (λ k. clock_after 1 0 (front_of count rows k (suc j))))) tails_eight)
+    pub late_eight : {sums late : List ℕ} → sums ≡ added clocks tails → late ≡ waiting (get_or one 0 0) heads sums
+        → late ≡ eight (λ k. cond (leb 1 (get_or hs (8 * j + k) 0))
+        (clock_after 1 0 (front_of count rows k (suc j)) + get_or qs (8 * j + k) 0) 0)
+    late_eight {sums} sums_are late_is = grind (arith, one_at, heads_eight, clocks_eight, tails_eight)
 
-    module _ (served : List ℕ) (served_is : served ≡ waiting (get_or one 0 0) heads times) where
-      pub served_eight : served ≡ eight (λ k. cond (leb 1 (get_or hs (8 * j + k) 0)) (get_or ts (8 * j + k) 0) 0)
-      served_eight =
-          served_is
-          ∙ ap (λ n. waiting n heads times) one_at
-          ∙ ap (λ l. waiting 1 l times) heads_eight
-          ∙ ap (waiting 1 (eight (λ k. get_or hs (8 * j + k) 0))) times_eight
+    pub served_eight : {served : List ℕ} → served ≡ waiting (get_or one 0 0) heads times
+        → served ≡ eight (λ k. cond (leb 1 (get_or hs (8 * j + k) 0)) (get_or ts (8 * j + k) 0) 0)
+    served_eight told = grind (arith, one_at, heads_eight, times_eight)
 
-    module _ (own : List ℕ) (own_told : own ≡ added (added heads times) (zip2 max before (lessened behind times)))
-        (sums late : List ℕ) (sums_are : sums ≡ added clocks tails)
+    module _ {own : List ℕ} (own_told : own ≡ added (added heads times) (zip2 max before (lessened behind times)))
+        {sums late : List ℕ} (sums_are : sums ≡ added clocks tails)
         (late_is : late ≡ waiting (get_or one 0 0) heads sums)
-        (served : List ℕ) (served_is : served ≡ waiting (get_or one 0 0) heads times)
-        (new more less : List ℕ) (new_is : new ≡ put_chunk (8 * j) owns own) (more_is : more ≡ zip2 max behind late)
+        {served : List ℕ} (served_is : served ≡ waiting (get_or one 0 0) heads times)
+        {new more less : List ℕ} (new_is : new ≡ put_chunk (8 * j) owns own) (more_is : more ≡ zip2 max behind late)
         (less_is : less ≡ lessened clocks served) where
       own_long : length own ≡ 8
-      own_long = ap length (own_eight own own_told)
+      own_long = ap length (own_eight own_told)
 
       late_long : length late ≡ 8
-      late_long = ap length (late_eight sums late sums_are late_is)
+      late_long = ap length (late_eight sums_are late_is)
 
       less_eight : less ≡ eight (λ k. clock_after 1 0 (front_of count rows k j))
       less_eight =
           less_is
           ∙ ap (λ l. lessened l served) clocks_eight
-          ∙ ap (lessened (eight (λ k. clock_after 1 0 (front_of count rows k (suc j))))) (served_eight served served_is)
+          ∙ ap (lessened (eight (λ k. clock_after 1 0 (front_of count rows k (suc j))))) (served_eight served_is)
           ∙ eight_same
           (λ k. clock_after 1 0 (front_of count rows k (suc j))
           - cond (leb 1 (get_or hs (8 * j + k) 0)) (get_or ts (8 * j + k) 0) 0)
@@ -336,7 +305,7 @@ module _ (count : ℕ) (hs ts qs : List ℕ) (whole : length hs ≡ 8 * count) (
           (clock_after 1 0 (take (suc r) rows) + get_or qs (8 * j + k) 0) 0) =
           ap (λ l. get_or l k 0) more_is
           ∙ get_or-zip2 max behind late k 0 0 0 (omega (arith, lt, so_far.behind_long)) (omega (arith, lt, late_long))
-          ∙ ap (λ l. max (get_or behind k 0) (get_or l k 0)) (late_eight sums late sums_are late_is)
+          ∙ ap (λ l. max (get_or behind k 0) (get_or l k 0)) (late_eight sums_are late_is)
           ∙ ap (max (get_or behind k 0)) (in_eight (λ i. cond (leb 1 (get_or hs (8 * j + i) 0))
           (clock_after 1 0 (front_of count rows i (suc j)) + get_or qs (8 * j + i) 0) 0) k lt)
           ∙ ap (λ n. max (get_or behind k 0) (cond (leb 1 (get_or hs (8 * j + k) 0))
@@ -348,12 +317,7 @@ module _ (count : ℕ) (hs ts qs : List ℕ) (whole : length hs ≡ 8 * count) (
           in let later = span_from_start 1 (0 + get_or ts (8 * j + k) 0) (drop (suc r) rows)
           in let behind_is : IsLoadBehind rows (suc r) (get_or behind k 0) =
           subst (λ n. IsLoadBehind rows n (get_or behind k 0)) on (so_far.behind_are k lt)
-          in ap (max (clock_after 1 0 (take r rows))) number
-          ∙ behind_numbers (clock_after 1 0 (take r rows)) (clock_after 1 0 (take (suc r) rows)) (get_or behind k 0)
-          (get_or ts (8 * j + k) 0) (get_or qs (8 * j + k) 0) (span 1 0 (drop (suc r) rows))
-          (span 1 (0 + get_or ts (8 * j + k) 0) (drop (suc r) rows))
-          (omega (arith, later)) (leb 1 (get_or hs (8 * j + k) 0)) clock behind_is
-          ∙ ap (λ l. clock_after 1 0 (take r rows) + span 1 0 l) (sym split)
+          in grind (arith, r, below, x, on, front_on, split, number, clock, later, behind_is, behind_numbers)
 
       pub back_more : IsBackTo count hs ts qs rows j less more new
       back_more =
@@ -372,13 +336,13 @@ module _ (count : ℕ) (hs ts qs : List ℕ) (whole : length hs ≡ 8 * count) (
                   let k : ℕ = p - 8 * j
                   in let is : 8 * j + k ≡ p = omega (arith, from)
                   in let k_lt : k < 8 = omega (arith, from, within)
-                  in let own_here = own_is_at count hs ts qs whole a b rows rows_are (8 * j + k)
+                  in let own_here = own_is_at cols (8 * j + k)
                   (omega (arith, k_lt, j_lt)) (get_or owns (8 * j + k) 0) (get_or behind k 0)
                   (noted_here k k_lt) (behind_here k k_lt)
                   (subst (λ n. 0 < get_or hs n 0) (sym is) waits)
                   in ap (λ n. get_or new n 0) (sym is)
                   ∙ stored_at j owns own new own_long room new_is k k_lt
-                  ∙ ap (λ l. get_or l k 0) (own_eight own own_told)
+                  ∙ ap (λ l. get_or l k 0) (own_eight own_told)
                   ∙ in_eight own_of k k_lt
                   ∙ own_here
                   ∙ ap (own_span_at count hs ts qs) is

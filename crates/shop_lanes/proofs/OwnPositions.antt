@@ -61,9 +61,11 @@ taken_more [] ts qs i a b lt = absurd (omega arith)
 taken_more (h ∷ hs) [] qs i a b lt = absurd (omega arith)
 taken_more (h ∷ hs) (t ∷ ts) [] i a b lt = absurd (omega arith)
 taken_more (h ∷ hs) (t ∷ ts) (q ∷ qs) zero a b lt = refl
-taken_more (h ∷ hs) (t ∷ ts) (q ∷ qs) (suc i) a b lt =
-    ap (λ l. record { head = h; time = t; tail = q } ∷ l)
-    (taken_more hs ts qs i (omega arith) (omega arith) (omega arith))
+taken_more (h ∷ hs) (t ∷ ts) (q ∷ qs) (suc i) a b lt = grind (
+  arith,
+  taken_more hs ts qs i (omega arith) (omega
+      arith) (omega arith),
+)
 
 -- its end, or when the last of what else waits ends if it is served in this order from there on
 abbrev pub own_in_order : List ℕ → List ℕ → List ℕ → ℕ → ℕ
@@ -92,10 +94,7 @@ module _ (hs ts qs : List ℕ) (a : length ts ≡ length hs) (b : length qs ≡ 
   pub work_more : (i : ℕ) → i < length hs
       → clock_after 1 0 (take (suc i) all)
       ≡ clock_after 1 0 (take i all) + cond (leb 1 (get_or hs i 0)) (get_or ts i 0) 0
-  work_more i lt =
-      ap (clock_after 1 0) (taken_more hs ts qs i a b lt)
-      ∙ work-append 1 (take i all) (lane_at hs ts qs i ∷ [])
-      ∙ ap (λ m. clock_after 1 0 (take i all) + m) (work-one 1 (lane_at hs ts qs i))
+  work_more i lt = grind (arith, taken_more, work-append, work-one)
 
   -- what else waits, where position p is taken out
   others : (p : ℕ) → p < length hs
@@ -122,16 +121,7 @@ module _ (hs ts qs : List ℕ) (a : length ts ≡ length hs) (b : length qs ≡ 
   own_is : (p r : ℕ) → p < length hs
       → r ≡ max (span 1 0 (take p all)) (clock_after 1 0 (take p all) + span 1 0 (drop (p + 1) all))
       → get_or hs p 0 + get_or ts p 0 + r ≡ own_in_order hs ts qs p
-  own_is p r lt e =
-      let taken = set hs p 0
-      in let none : get_or taken p 0 ≡ 0 = set_to_none hs p
-      in let load : span 1 0 (lanes taken ts qs)
-      ≡ max (span 1 0 (take p all)) (clock_after 1 0 (take p all) + span 1 0 (drop (p + 1) all)) =
-      ap (span 1 0) (others p lt)
-      ∙ load-append 1 (take p all) (lane_at taken ts qs p ∷ drop (p + 1) all)
-      ∙ ap (λ m. max (span 1 0 (take p all)) (clock_after 1 0 (take p all) + m)) (rw none refl)
-      in ap (λ m. get_or hs p 0 + get_or ts p 0 + m) (e ∙ sym load)
-      ∙ sym (span_from_start 1 (get_or hs p 0 + get_or ts p 0) (lanes taken ts qs))
+  own_is p r lt e = grind (arith, set_to_none, others, load-append, span_from_start)
 
   module _ (i : ℕ) (lt : i < length hs) (before behind : ℕ) (before_is : before ≡ span 1 0 (take i all))
       (behind_is : IsLoadBehind all (suc i) behind) where
@@ -152,9 +142,7 @@ module _ (hs ts qs : List ℕ) (a : length ts ≡ length hs) (b : length qs ≡ 
         (parted i lt) fitting
         in let load_before : get_or hs i 0 + before + get_or ts i 0 ≤ limit =
         let w = within.load_before in omega (arith, w, before_is)
-        in fit_numbers limit (get_or hs i 0) (get_or ts i 0) (get_or qs i 0) (clock_after 1 0 (take i all)) before
-        (span 1 0 (drop (i + 1) all)) (clock_after 1 0 (take (suc i) all)) behind (leb 1 (get_or hs i 0))
-        (work_more i lt) behind_here within.fit load_before within.load_behind
+        in grind (arith, each, fitting, within, load_before, fit_numbers, work_more, behind_here)
 
     pub own_at : 0 < get_or hs i 0
         → get_or hs i 0 + get_or ts i 0 + max before (behind - get_or ts i 0) ≡ own_in_order hs ts qs i

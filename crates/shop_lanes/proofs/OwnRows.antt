@@ -1,23 +1,19 @@
 -- Own spans in blocks that were sliced out of rows are those of the rows.
-use Rattle.std.proofs.Common.{◌≡◌, ℕ, zero, suc, ◌+◌, ◌-◌, ◌*◌, ◌/◌, ◌<◌, ◌≤◌, max, List, [], ◌∷◌, length, map, take}
+use Rattle.std.proofs.Common.{◌≡◌, ℕ, zero, suc, ◌+◌, ◌-◌, ◌*◌, ◌/◌, ◌<◌, ◌≤◌, List, [], ◌∷◌, length, map, take}
 use Rattle.std.proofs.Common.{drop, set, get_or, refl, ap, sym, ◌∙◌, arith, length-set}
 use Rattle.std.proofs.lemmas.List.{length-map}
 use Rattle.std.proofs.lemmas.Simd.{get_or-chunk}
-use Rattle.shop_lanes.specs.Rows.{lanes, blocks, by_columns}
-use Rattle.shop_lanes.specs.Spans.{span, own_span, AreOwnSpans}
+use Rattle.shop_lanes.specs.Rows.{lanes, blocks}
+use Rattle.shop_lanes.specs.Spans.{own_span, AreOwnSpans}
 use Rattle.shop_lanes.specs.inner.OwnSpans.{own_span_at, AreOwnSpansOf}
 use Rattle.shop_lanes.proofs.LaneLists.{lanes-blocks, length-blocks}
 use Rattle.shop_lanes.proofs.Padding.{take-set}
 use Rattle.shop_lanes.proofs.RowValues.{values_of_blocks}
 
 drop-set : (k i x : ℕ) (xs : List ℕ) → drop k (set xs (k + i) x) ≡ set (drop k xs) i x
-drop-set zero i x xs =
-    let z : 0 + i ≡ i = omega arith
-    in ap (λ j. set xs j x) z
+drop-set zero i x xs = grind arith
 drop-set (suc k) i x [] = refl
-drop-set (suc k) i x (y ∷ xs) =
-    let on : suc k + i ≡ suc (k + i) = omega arith
-    in ap (λ j. drop (suc k) (set (y ∷ xs) j x)) on ∙ drop-set k i x xs
+drop-set (suc k) i x (y ∷ xs) = grind (arith, drop-set k i x xs)
 
 own_in_blocks : (hs ts qs : List ℕ) (from to q : ℕ) → length ts ≡ length hs → length qs ≡ length hs → 8 * from ≤ q
     → q < 8 * to
@@ -42,10 +38,7 @@ own_in_blocks hs ts qs from to q a b le lt =
     ∙ lanes-blocks (set hs q 0) ts qs from to (a ∙ sym many) (b ∙ sym many)
     in let end : get_or (blocks from to hs) i 0 + get_or (blocks from to ts) i 0 ≡ get_or hs q 0 + get_or ts q 0 =
     omega (arith, head, time)
-    in ap (λ e. max e (span 1 e (by_columns (to - from)
-    (lanes (set (blocks from to hs) i 0) (blocks from to ts) (blocks from to qs))))) end
-    ∙ ap (λ l. max (get_or hs q 0 + get_or ts q 0) (span 1 (get_or hs q 0 + get_or ts q 0) (by_columns (to - from) l)))
-    whole
+    in grind (arith, i, at, inside, time, out, many, whole, end)
 
 module _ {A : Type 0} (f : A → ℕ) {heads times tails : List A} (hs ts qs : List A) (from to : ℕ) (eh : hs ≡ heads)
     (et : ts ≡ times) (eq : qs ≡ tails) where
@@ -68,9 +61,4 @@ module _ {A : Type 0} (f : A → ℕ) {heads times tails : List A} (hs ts qs : L
       ∙ get_or-chunk (8 * from) (8 * to - 8 * from) (map f heads) i 0 (omega arith)
       ∙ ap (λ k. get_or (map f heads) k 0) whole
       in let count : length (slice hs) / 8 ≡ to - from = omega (arith, many)
-      in h i (omega (arith, many)) (omega (arith, head, waits))
-      ∙ ap (λ n. own_span_at n (map f (slice hs)) (map f (slice ts)) (map f (slice qs)) i) count
-      ∙ ap (λ l. own_span_at (to - from) l (map f (slice ts)) (map f (slice qs)) i) h_is
-      ∙ ap (λ l. own_span_at (to - from) (blocks from to (map f heads)) l (map f (slice qs)) i) t_is
-      ∙ ap (λ l. own_span_at (to - from) (blocks from to (map f heads)) (blocks from to (map f times)) l i) q_is
-      ∙ own_in_blocks (map f heads) (map f times) (map f tails) from to q a b low high
+      in grind (arith, i, h_is, t_is, q_is, whole, many, count, own_in_blocks)

@@ -1,6 +1,6 @@
 -- Rows that are filled up to whole blocks, and what of them is seen.
-use Rattle.std.proofs.Common.{◌≡◌, ℕ, zero, suc, ◌+◌, ◌-◌, ◌*◌, ◌/◌, ◌<◌, ◌≤◌, Bool, cond}
-use Rattle.std.proofs.Common.{inl, inr, List, [], ◌∷◌, length, map, take, drop, set, replicate, get_or, refl, ap, sym}
+use Rattle.std.proofs.Common.{◌≡◌, ℕ, zero, suc, ◌+◌, ◌-◌, ◌*◌, ◌/◌, ◌<◌, ◌≤◌, Bool}
+use Rattle.std.proofs.Common.{inl, inr, List, [], ◌∷◌, length, map, take, set, replicate, get_or, refl, ap, sym}
 use Rattle.std.proofs.Common.{◌∙◌, ◌++◌, arith, length-set}
 use Rattle.std.proofs.lemmas.Bool.{cases_lt}
 use Rattle.std.proofs.lemmas.Bool.Decides.{nat_tests}
@@ -56,19 +56,14 @@ set_le top (y ∷ xs) (suc i) x small le (suc k) = set_le top xs i x (λ n. smal
 
 pub padded_none : (none jobs : ℕ) (ends : List ℕ) → ends ≡ replicate (8 * (jobs / 8 + 1)) none
     → IsPadded none jobs ends × (take jobs ends ≡ replicate jobs none)
-padded_none none jobs ends e =
-    let n = 8 * (jobs / 8 + 1)
-    in let room : jobs ≤ n = omega arith
-    in let long : length ends ≡ n = ap length e ∙ length-replicate n none
-    in (
-      record {
-        whole_blocks = rw long (omega arith);
-        within = omega arith;
-        rest = ap (drop jobs) e ∙ drop-replicate jobs n none ∙ ap (λ m. replicate (m - jobs) none) (sym long);
-        least = λ k. rw e (replicate_le none n k);
-      },
-      ap (take jobs) e ∙ take-replicate jobs n none room,
-    )
+padded_none none jobs ends e = grind (
+  arith,
+  length-replicate,
+  drop-replicate,
+  replicate,
+  replicate_le,
+  take-replicate,
+)
 
 pub padded_set : (none jobs : ℕ) (ends : List ℕ) (job end : ℕ) → IsPadded none jobs ends → job < length (take jobs ends)
     → end ≤ none → IsPadded none jobs (set ends job end)
@@ -119,9 +114,7 @@ first_least_seen none jobs ends i pad some h =
 
 marked_alike : (p q : ℕ → Bool) → ((x : ℕ) → p x ≡ q x) → (at : ℕ) (xs : List ℕ) → marked p at xs ≡ marked q at xs
 marked_alike p q same at [] = refl
-marked_alike p q same at (x ∷ xs) =
-    ap (λ b. cond b (at ∷ marked p (at + 1) xs) (marked p (at + 1) xs)) (same x)
-    ∙ ap (λ l. cond (q x) (at ∷ l) l) (marked_alike p q same (at + 1) xs)
+marked_alike p q same at (x ∷ xs) = grind (arith, marked_alike p q same (at + 1) xs)
 
 -- above 0 and at most one less than the limit
 below_is_between : (limit x : ℕ) → is_between 0 (limit - 1) x ≡ waits_below limit x
@@ -131,11 +124,10 @@ pub marks_below : (heads : List ℕ) (from to limit upto bits : ℕ) (marks : Li
     → to ≤ from + 8 → upto ≡ limit - 1 → marks ≡ set_bits 64 (8 * from) bits
     → bits ≡ mask_l (map (is_between 0 upto) (blocks from to heads))
     → marks ≡ marked (waits_below limit) (8 * from) (blocks from to heads)
-marks_below heads from to limit upto bits marks room few below marks_are bits_are =
-    let part = blocks from to heads
-    in let short : length part ≤ 64 = omega (arith, length-blocks from to heads room)
-    in marks_are
-    ∙ ap (set_bits 64 (8 * from)) bits_are
-    ∙ set_bits-mask (is_between 0 upto) 64 (8 * from) part short
-    ∙ ap (λ n. marked (is_between 0 n) (8 * from) part) below
-    ∙ marked_alike (is_between 0 (limit - 1)) (waits_below limit) (below_is_between limit) (8 * from) part
+marks_below heads from to limit upto bits marks room few below marks_are bits_are = grind (
+  arith,
+  length-blocks,
+  set_bits-mask,
+  marked_alike,
+  below_is_between,
+)

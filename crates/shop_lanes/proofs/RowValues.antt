@@ -1,10 +1,10 @@
 -- Rows of numbers of some width, seen as numbers.
-use Rattle.std.proofs.Common.{◌≡◌, ℕ, ◌-◌, ◌*◌, ◌/◌, ◌++◌, min, List, length, map, take, drop, ap, sym, ◌∙◌, arith}
+use Rattle.std.proofs.Common.{◌≡◌, ℕ, ◌-◌, ◌*◌, ◌++◌, List, length, map, take, drop, sym, ◌∙◌, arith}
 use Rattle.std.proofs.lemmas.List.{length-map, length-take}
 use Rattle.std.proofs.lemmas.List.{take-map, drop-map}
 use Rattle.std.proofs.Math.Seq.{take-append_seam}
 use Rattle.std.proofs.Common.{length-drop}
-use Rattle.shop_lanes.specs.Rows.{lanes, blocks, by_columns, lanes_of, AreBlocksOf}
+use Rattle.shop_lanes.specs.Rows.{blocks, lanes_of, AreBlocksOf}
 use Rattle.shop_lanes.specs.inner.Passes.{lanes_by}
 use Rattle.shop_lanes.proofs.LaneLists.{lanes-blocks, length-blocks}
 
@@ -15,12 +15,7 @@ module _ {A : Type 0} (f : A → ℕ) where
   -- the values of blocks that were sliced out of a row
   pub values_of_blocks : (xs row : List A) (from to : ℕ) → xs ≡ row
       → map f (take (8 * to - 8 * from) (drop (8 * from) xs)) ≡ blocks from to (map f row)
-  values_of_blocks xs row from to e =
-      ap (λ l. map f (blocks from to l)) e
-      ∙ sym (
-      ap (take (8 * to - 8 * from)) (drop-map f (8 * from) row)
-      ∙ take-map f (8 * to - 8 * from) (drop (8 * from) row)
-      )
+  values_of_blocks xs row from to e = grind (arith, drop-map, take-map)
 
   pub as_short : (xs ys : List A) → length (map f xs) ≡ length (map f ys) → length xs ≡ length ys
   as_short xs ys e = sym (length-map xs f) ∙ e ∙ length-map ys f
@@ -31,31 +26,21 @@ module _ {A : Type 0} (f : A → ℕ) where
       → lanes_by f (take (8 * to - 8 * from) (drop (8 * from) hs)) (take (8 * to - 8 * from) (drop (8 * from) ts))
       (take (8 * to - 8 * from) (drop (8 * from) qs))
       ≡ lanes_of (map f heads) (map f times) (map f tails) from to
-  lanes_of_rows {heads} {times} {tails} hs ts qs from to eh et eq rows =
-      let h = values_of_blocks hs heads from to eh
-      in let t = values_of_blocks ts times from to et
-      in let q = values_of_blocks qs tails from to eq
-      in let long : length (take (8 * to - 8 * from) (drop (8 * from) hs)) ≡ 8 * to - 8 * from =
-      sym (length-map (take (8 * to - 8 * from) (drop (8 * from) hs)) f)
-      ∙ ap length h ∙ length-blocks from to (map f heads) rows.within
-      in let many : length (take (8 * to - 8 * from) (drop (8 * from) hs)) / 8 ≡ to - from = omega (arith, long)
-      in ap (λ n. by_columns n (lanes (map f (take (8 * to - 8 * from) (drop (8 * from) hs)))
-      (map f (take (8 * to - 8 * from) (drop (8 * from) ts)))
-      (map f (take (8 * to - 8 * from) (drop (8 * from) qs))))) many
-      ∙ ap (by_columns (to - from)) (rw (h, t, q) (lanes-blocks (map f heads) (map f times) (map f tails) from to
-      rows.times_are_as_many rows.tails_are_as_many))
+  lanes_of_rows {heads} {times} {tails} hs ts qs from to eh et eq rows = grind (
+    arith,
+    values_of_blocks,
+    length-map,
+    length-blocks,
+    lanes-blocks,
+  )
 
   -- blocks of rows that are as long are as many
   pub blocks_as_long : {row heads : List A} (xs hs : List A) (from to : ℕ) → xs ≡ row → hs ≡ heads
       → length (map f row) ≡ length (map f heads)
       → length (take (8 * to - 8 * from) (drop (8 * from) xs)) ≡ length (take (8 * to - 8 * from) (drop (8 * from) hs))
-  blocks_as_long {row} {heads} xs hs from to e eh a =
-      let long = as_short row heads a
-      in rw (e, eh) (simp (length-take, length-drop) (ap (λ n. min (8 * to - 8 * from) (n - 8 * from)) long))
+  blocks_as_long {row} {heads} xs hs from to e eh a = grind (arith, as_short, length-take, length-drop)
 
   -- a row that was lent as a slice, in which these numbers were written
   pub row_written : (n : ℕ) (numbers : List ℕ) (new rest : List A) → map f new ≡ numbers → length numbers ≡ n
       → map f (take n (new ++ rest)) ≡ numbers
-  row_written n numbers new rest e h =
-      let long : n ≡ length new = sym h ∙ sym (ap length e) ∙ length-map new f
-      in ap (λ k. map f (take k (new ++ rest))) long ∙ ap (map f) (take-append_seam new rest) ∙ e
+  row_written n numbers new rest e h = grind (arith, length-map, take-append_seam)

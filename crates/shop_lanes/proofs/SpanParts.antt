@@ -1,5 +1,5 @@
 -- Lanes served one after the other: some of them, and then others.
-use Rattle.std.proofs.Common.{◌≡◌, ℕ, ◌+◌, ◌≤◌, ◌<◌, max, Bool, true, false, cond, leb, List, [], ◌∷◌, ◌++◌, zero, suc}
+use Rattle.std.proofs.Common.{◌≡◌, ℕ, ◌+◌, ◌≤◌, ◌<◌, max, List, [], ◌∷◌, ◌++◌, zero, suc}
 use Rattle.std.proofs.Common.{arith, sum_by, length, get_or, take, drop, take-append-drop, ap}
 use Rattle.std.proofs.lemmas.List.Sums.{sum_by-append}
 use Rattle.shop_lanes.specs.Rows.{Lane}
@@ -10,19 +10,12 @@ use Rattle.shop_lanes.specs.inner.Passes.{clock_after}
 pub span-append : (least start : ℕ) (xs ys : List Lane)
     → span least start (xs ++ ys) ≡ max (span least start xs) (span least (clock_after least start xs) ys)
 span-append least start [] ys = omega arith
-span-append least start (x ∷ xs) ys =
-    by_test (leb least x.head) (span-append least (start + x.time) xs ys) (span-append least start xs ys)
-  where
-    by_test : (on : Bool)
-        → span least (start + x.time) (xs ++ ys)
-        ≡ max (span least (start + x.time) xs) (span least (clock_after least (start + x.time) xs) ys)
-        → span least start (xs ++ ys) ≡ max (span least start xs) (span least (clock_after least start xs) ys)
-        → cond on (max (start + x.time + x.tail) (span least (start + x.time) (xs ++ ys))) (span least start (xs ++ ys))
-        ≡ max
-        (cond on (max (start + x.time + x.tail) (span least (start + x.time) xs)) (span least start xs))
-        (span least (cond on (clock_after least (start + x.time) xs) (clock_after least start xs)) ys)
-    by_test true served left = omega (arith, served)
-    by_test false served left = left
+span-append least start (x ∷ xs) ys = grind (
+  arith,
+  span-append least (start + x.time) xs ys,
+  span-append least
+      start xs ys,
+)
 
 pub greatest_by-append : (f : Lane → ℕ) (xs ys : List Lane)
     → greatest_by f (xs ++ ys) ≡ max (greatest_by f xs) (greatest_by f ys)

@@ -1,10 +1,10 @@
 -- Eight numbers moved among their lanes, added, subtracted, and chosen from.
---     up_one, up_two, up_four          moved up by so many lanes, with zeros from below
---     down_one, down_two, down_four    moved down by so many lanes, with zeros from above
---     halves, quarters, neighbours     with their halves, quarters or neighbours exchanged
---     waiting least heads xs           those with a head of at least `least`, and 0 for the others
---     later_head rest least head       a head that is at least `least`, and `rest` for any other
---     is_between above upto x          x is above the one and at most the other
+--     up_one, up_two, up_four          moved up by one, two or four lanes, with zeros from below
+--     down_one, down_two, down_four    moved down by one, two or four lanes, with zeros from above
+--     halves, quarters, neighbours     with halves, quarters or neighbours exchanged
+--     waiting least heads xs           the numbers whose head is at least `least`, 0 in other lanes
+--     later_head rest least head       `head` if it is at least `least`, else `rest`
+--     is_between above upto x          x is above `above` and at most `upto`
 use Rattle.std.specs.Prelude.{◌≡◌, ℕ, ◌+◌, ◌-◌, ◌≤◌, Bool, ◌&&◌, List, [], ◌∷◌, ◌++◌, length}
 use Rattle.std.specs.Prelude.{replicate, map, nat_le, nat_lt, if◌then◌else◌, slice_index}
 use Rattle.std.specs.Simd.Lanes.{pick_l, sel_l, zip2, Each2}

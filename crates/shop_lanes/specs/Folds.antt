@@ -1,9 +1,9 @@
 -- Sums and extremes of numbers in order.
---     running start xs            the start and the sum of the numbers up to each one
---     sums_before start xs        the start and the sum of the numbers before each one
+--     running start xs            for each number `start` plus all numbers up to it
+--     sums_before start xs        for each number `start` plus all numbers before it
 --     greatest xs                 the greatest number, 0 if there is none
---     greatest_before most xs       the greatest of `most` and the numbers before each one
---     maxima_behind most xs       the greatest of `most` and the numbers behind each one
+--     greatest_before most xs     for each number the greatest of `most` and the numbers before it
+--     maxima_behind most xs       for each number the greatest of `most` and the numbers behind it
 --     least_up_to top xs          the least of the numbers and `top`
 use Rattle.std.specs.Prelude.{ℕ, ◌+◌, min, max, List, [], ◌∷◌}
 

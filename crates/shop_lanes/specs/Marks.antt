@@ -3,7 +3,7 @@ use Rattle.std.specs.Prelude.{◌≡◌, Option, MatchOption, ℕ, ◌+◌, ◌*
 use Rattle.std.specs.Prelude.{if◌then◌else◌, nat_lt, ◌&&◌}
 use Rattle.shop_lanes.specs.Rows.{Rows, blocks}
 
--- from the position `at` on, in order
+-- the positions of the numbers that pass, in order; the first number stands at position `at`
 abbrev pub marked : (ℕ → Bool) → ℕ → List ℕ → List ℕ
 marked p at [] = []
 marked p at (x ∷ xs) = if p x then at ∷ marked p (at + 1) xs else marked p (at + 1) xs
@@ -12,7 +12,8 @@ marked p at (x ∷ xs) = if p x then at ∷ marked p (at + 1) xs else marked p (
 abbrev pub waits_below : ℕ → ℕ → Bool
 waits_below limit head = nat_lt 0 head && nat_lt head limit
 
--- the positions in these blocks at which something waits with a head below the limit
+-- the positions from block `from` on and before block `to` where something waits with a head below
+-- the limit
 abbrev pub positions_below : Rows → ℕ → ℕ → ℕ → List ℕ
 positions_below rows from to limit =
     marked (waits_below limit) (8 * from) (blocks from to rows.heads)
@@ -20,6 +21,6 @@ positions_below rows from to limit =
 abbrev pub positions_among : List ℕ → ℕ → ℕ → ℕ → List ℕ
 positions_among heads from to limit = marked (waits_below limit) (8 * from) (blocks from to heads)
 
--- the first position taken out, if there is one
+-- `found` is the first position, if there is one, and `new` are the others
 abbrev pub IsPopped : List ℕ → Option ℕ → List ℕ → Type 0
 IsPopped old found new = MatchOption found ((old ≡ []) × (new ≡ [])) (λ p. old ≡ p ∷ new)

@@ -1,13 +1,13 @@
 -- Rows of numbers by position, in blocks of eight, and the lanes that they make.
 --     Rows                           heads, times and tails by position, and ends by job
 --     Lane                           what stands at one position
---     place_at_rank count i          where rank i stands in so many blocks: ranks run down the first
---                                    lanes of all blocks, then down the second ones, and so on
---     by_columns count xs            what stands in so many blocks, in order of rank
+--     place_at_rank count i          where rank i stands in `count` blocks: ranks run down the
+--                                    first lanes of all blocks, then down the second lanes
+--     by_columns count xs            what stands in `count` blocks, in order of rank
 --     lanes_between rows from to     the lanes of the blocks from `from` on and before `to`, in order
 --                                    of rank
---     lanes_of heads times tails     the same of rows that are told one by one
---     with_head, with_end            the same rows with one number replaced
+--     lanes_of heads times tails     the lanes of blocks of three rows, in order of rank
+--     with_head, with_end            rows with one head, or one end, replaced
 use Rattle.std.specs.Prelude.{◌≡◌, ℕ, zero, suc, ◌+◌, ◌*◌, ◌-◌, ◌/◌, ◌%◌, ◌≤◌, List, [], ◌∷◌, ◌++◌}
 use Rattle.std.specs.Prelude.{length, take, drop, slice_set}
 
@@ -30,7 +30,7 @@ lanes (h ∷ hs) [] qs = []
 lanes (h ∷ hs) (t ∷ ts) [] = []
 lanes (h ∷ hs) (t ∷ ts) (q ∷ qs) = record { head = h; time = t; tail = q } ∷ lanes hs ts qs
 
--- what a row has in these blocks of eight positions
+-- the part of a row from block `from` on and before block `to`
 abbrev pub blocks : {A : Type 0} → ℕ → ℕ → List A → List A
 blocks from to xs = take (8 * to - 8 * from) (drop (8 * from) xs)
 
@@ -52,14 +52,14 @@ lanes_between rows from to =
 abbrev pub lanes_of : List ℕ → List ℕ → List ℕ → ℕ → ℕ → List Lane
 lanes_of heads times tails from to = by_columns (to - from) (blocks from to (lanes heads times tails))
 
--- there are such blocks, and a time and a tail for each head
+-- the blocks lie within the heads, and each head has a time and a tail
 pub record AreBlocksOf (heads times tails : List ℕ) (from to : ℕ) : Type 0 where
   pub ordered : from ≤ to
   pub within : 8 * to ≤ length heads
   pub times_are_as_many : length times ≡ length heads
   pub tails_are_as_many : length tails ≡ length heads
 
--- there are such blocks
+-- the blocks lie within the heads
 pub record AreBlocks (rows : Rows) (from to : ℕ) : Type 0 where
   pub ordered : from ≤ to
   pub within : 8 * to ≤ length rows.heads

@@ -1,13 +1,12 @@
 -- When the last of some lanes ends, its tail included, if they are served one after the other.
---     span least start xs            those with a head of at least `least`, in this order,
---                                    from `start` on
---     spans_between above upto xs    the greatest span of those whose head is at least that of one
---                                    of them
+--     span least start xs            the greatest end, tail included, of the lanes with a head of
+--                                    at least `least`, served in order from `start` on
+--     spans_between above upto xs    the greatest of the spans from each head above `above` and up
+--                                    to `upto`, of the lanes that begin no earlier
 --     IsRaisedBelow limit most r     r is `most`, or both reach the limit and r is no greater
---     own_span .. q                  the end of the operation at position q, or when the last of
---                                    what else waits ends if it is served from there on
---     FitsSpan, FitOwnSpans          no sum that a span, or an own span, may add up is above what a
---                                    lane holds
+--     own_span .. q                  the end of the operation at position q or, if later, the
+--                                    greatest end of the others, served from that end on
+--     FitsSpan, FitOwnSpans          the sums of spans, or of own spans, fit into a lane
 use Rattle.std.specs.Prelude.{◌≡◌, ℕ, ◌+◌, ◌-◌, ◌*◌, ◌<◌, ◌≤◌, max, List, [], ◌∷◌, All, sum_by}
 use Rattle.std.specs.Prelude.{if◌then◌else◌, nat_le, nat_lt, ◌&&◌, slice_index, slice_set}
 use Rattle.shop_lanes.specs.Rows.{Lane, lanes_of}
@@ -24,8 +23,8 @@ abbrev pub greatest_by : (Lane → ℕ) → List Lane → ℕ
 greatest_by f [] = 0
 greatest_by f (x ∷ xs) = max (f x) (greatest_by f xs)
 
--- the greatest span from a head on, of those that begin no earlier, over the heads above `above`
--- and up to `upto`
+-- Over the heads of xs above `above` and up to `upto`: the greatest span, from the head on, of the
+-- lanes of `all` that begin no earlier.
 abbrev pub spans_from : ℕ → ℕ → List Lane → List Lane → ℕ
 spans_from above upto all xs =
     greatest_by (λ x.
@@ -52,7 +51,7 @@ own_span heads times tails from to q =
     let end = slice_index heads q + slice_index times q
     in max end (span 1 end (lanes_of (slice_set heads q 0) times tails from to))
 
--- at each position of these blocks where something waits
+-- `owns` has the own span of each operation that waits in these blocks
 abbrev pub AreOwnSpans : List ℕ → List ℕ → List ℕ → ℕ → ℕ → List ℕ → Type 0
 AreOwnSpans heads times tails from to owns =
     (q : ℕ) → 8 * from ≤ q → q < 8 * to → 0 < slice_index heads q

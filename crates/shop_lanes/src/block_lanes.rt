@@ -1,4 +1,4 @@
-// Rows of numbers of one width, eight of them read at once.
+// The heads and ends of a word's state in lanes of one width, read in blocks of eight.
 ghost use Rattle.std.specs.Prelude.{◌≡◌, ℕ, ◌+◌, ◌-◌, ◌*◌, ◌/◌, ◌^◌, ◌<◌, ◌≤◌, ◌++◌, ◌∷◌, [], length};
 ghost use Rattle.std.specs.Prelude.{map, take, replicate, slice_index, All, IfOk};
 ghost use Rattle.shop_lanes.specs.inner.Passes.{IsPadded};
@@ -7,21 +7,21 @@ use crate::blocks::Block;
 use crate::leaps::{leap, leap_over};
 use crate::marking::Marks;
 use crate::owning::own_spans;
-use crate::passes::{bits_up_to, first_least, load};
+use crate::passes::{bits_up_to, first_least};
 use crate::state_lanes::StateLanes;
 use std::alloc::{AllocError as NoMemory, Global};
 
-/// Times and tails that blocks of eight are read from.
+/// The time and the tail of the operation at each position.
 #[derive(Drop)]
 pub struct FixedBlocks<B: Block> {
     times: Vec<B::Number>,
     tails: Vec<B::Number>,
 }
 
-/// Heads and ends that blocks of eight are read from.
+/// The rows of a word's state: the head of the operation at each position, and the end of each job's next operation.
 #[derive(Drop)]
 pub struct BlockLanes<B: Block> {
-    /// by position, and behind the last one the greatest number
+    /// the head at each position, and `GREATEST` behind the last position
     heads: Vec<B::Number>,
     positions: usize,
     ends: Vec<B::Number>,
@@ -45,7 +45,7 @@ fn copied<B: Block>(alloc: Global, numbers: &[u64]) -> Result<Vec<B::Number>, No
     Ok(copy)
 }
 
-/// Writes the same number everywhere.
+/// Writes `number` at every place of `row`.
 fn set_all<B: Block>(row: &mut [B::Number], number: u64)
     requires { number ≤ B.GREATEST }
     ensures { map B.value row.new ≡ replicate (length row.old) number }
@@ -55,7 +55,7 @@ fn set_all<B: Block>(row: &mut [B::Number], number: u64)
     }
 }
 
-/// Writes a head of 0 at each position, and the greatest number behind the last one.
+/// Writes head 0 at each position of `row`, and `GREATEST` behind the last position.
 fn clear_heads<B: Block>(row: &mut [B::Number], positions: usize)
     requires { length row.old ≡ positions + 1 }
     ensures { map B.value row.new ≡ replicate positions 0 ++ B.GREATEST ∷ [] }
@@ -64,7 +64,7 @@ fn clear_heads<B: Block>(row: &mut [B::Number], positions: usize)
     row[positions] = B::narrowed(B::GREATEST);
 }
 
-/// A head of 0 at each position, and the greatest number behind the last one.
+/// Makes a row with head 0 at each of `positions` positions, and `GREATEST` behind the last position.
 fn no_heads<B: Block>(alloc: Global, positions: usize) -> Result<Vec<B::Number>, NoMemory>
     ensures room { IfOk result (λ _. positions + 64 ≤ 2 ^ 64) }
     ensures none { IfOk result (λ v. map B.value v.items ≡ replicate positions 0 ++ B.GREATEST ∷ []) }
@@ -77,7 +77,7 @@ fn no_heads<B: Block>(alloc: Global, positions: usize) -> Result<Vec<B::Number>,
     Ok(heads)
 }
 
-/// The greatest number for each job, and for as many more as fill whole blocks.
+/// Makes the ends of `jobs` jobs that have no next operation: `GREATEST` for each job, and for padding to whole blocks.
 fn no_ends<B: Block>(alloc: Global, jobs: usize) -> Result<Vec<B::Number>, NoMemory>
     ensures room { IfOk result (λ v. length v.items + 64 ≤ 2 ^ 64) }
     ensures whole { IfOk result (λ v. length v.items ≡ 8 * (jobs / 8 + 1)) }
@@ -91,7 +91,7 @@ fn no_ends<B: Block>(alloc: Global, jobs: usize) -> Result<Vec<B::Number>, NoMem
 }
 
 impl<B: Block> BlockLanes<B> {
-    /// The heads by position.
+    /// The head at each position.
     #[inline(always)]
     fn heads(&self) -> &[B::Number]
         ensures { result.now ≡ take self.now.positions self.now.heads.items }
@@ -187,15 +187,6 @@ impl<B: Block> StateLanes for BlockLanes<B> {
             first,
             bits_up_to::<B>(&self.heads()[first..end], limit.saturating_sub(1)),
         )
-    }
-
-    #[inline(always)]
-    fn load(&self, fixed: &FixedBlocks<B>, from: usize, to: usize, least: u64) -> u64 {
-        let (first, end) = (8 * from, 8 * to);
-        let heads = &self.heads()[first..end];
-        let times = &fixed.times[first..end];
-        let tails = &fixed.tails[first..end];
-        load::<B>(heads, times, tails, least)
     }
 
     #[inline(always)]

@@ -1,4 +1,4 @@
-// Eight numbers of one width at once.
+// What each width of lanes offers: blocks of eight numbers, which are read, added and compared lane by lane at once.
 ghost use Rattle.std.specs.Prelude.{◌≡◌, ℕ, ◌+◌, ◌*◌, ◌<◌, ◌≤◌, List, length, replicate, map, min, IfOk};
 ghost use Rattle.std.specs.Prelude.{max, ◌==◌, take, drop};
 ghost use Rattle.std.specs.Simd.Lanes.{mask_l, zip2, put_chunk};
@@ -8,13 +8,13 @@ ghost use Rattle.shop_lanes.specs.Eights.{neighbours, added, lessened, waiting, 
 
 use std::alloc::{AllocError as NoMemory, Global};
 
-/// Eight numbers of a row at once.
+/// A block: eight numbers of one width, one in each lane. An operation works on all eight lanes at once.
 pub trait Block: Copy + Drop {
     type Number: Copy + Drop;
 
     ghost GREATEST: { ℕ };
 
-    /// The greatest number.
+    /// The greatest number that a lane holds.
     const GREATEST: u64;
 
     ghost numbers: { Self → List ℕ };
@@ -28,7 +28,7 @@ pub trait Block: Copy + Drop {
     fn widened(number: Self::Number) -> u64
         ensures { result ≡ value number };
 
-    /// A row of so many times the same number. Fails with `NoMemory` if memory runs out.
+    /// Makes a row with `number` at each of its `count` places. Fails with `NoMemory` if memory runs out.
     fn row_of(alloc: Global, number: u64, count: usize) -> Result<Vec<Self::Number>, NoMemory>
         requires { number ≤ GREATEST }
         ensures { IfOk result (λ row. map value row.items ≡ replicate count number) };
@@ -37,19 +37,19 @@ pub trait Block: Copy + Drop {
         requires { number ≤ GREATEST }
         ensures { numbers result ≡ replicate 8 number };
 
-    /// The numbers of a block of a row.
+    /// Reads eight numbers of `row`, from number 8 * `block` on.
     fn load(row: &[Self::Number], block: usize) -> Self
         requires { 8 * (block + 1) ≤ length row.now }
         ensures { numbers result ≡ take 8 (drop (8 * block) (map value row.now)) };
 
-    /// Writes the numbers over a block of a row.
+    /// Writes the eight numbers of `written` into `row`, from number 8 * `block` on.
     fn store(written: Self, row: &mut [Self::Number], block: usize)
         requires eight { length (numbers written) ≡ 8 }
         requires within { 8 * (block + 1) ≤ length row.old }
         ensures { map value row.new
             ≡ put_chunk (8 * block) (map value row.old) (numbers written) };
 
-    /// The first number.
+    /// The number in the first lane of `block`.
     fn first(block: Self) -> u64
         ensures first { result ≡ first_of (numbers block) }
         ensures small { result ≤ GREATEST };
@@ -85,7 +85,7 @@ pub trait Block: Copy + Drop {
         requires { AddsFit GREATEST (numbers a) (numbers b) }
         ensures { numbers result ≡ added (numbers a) (numbers b) };
 
-    /// The numbers of `a` less those of `b`, and 0 where these are greater.
+    /// Subtracts the numbers of `b` from those of `a`, lane by lane; 0 in a lane where `b` is greater.
     fn less(a: Self, b: Self) -> Self
         requires { length (numbers a) ≡ length (numbers b) }
         ensures { numbers result ≡ lessened (numbers a) (numbers b) };
@@ -98,14 +98,14 @@ pub trait Block: Copy + Drop {
         requires { length (numbers a) ≡ length (numbers b) }
         ensures { numbers result ≡ zip2 min (numbers a) (numbers b) };
 
-    /// The numbers of those whose head is at least `least`, and 0 for the others.
+    /// Keeps the number of `block` in each lane whose head in `heads` is at least `least`; sets the other lanes to 0.
     fn waiting(block: Self, heads: Self, least: Self) -> Self
         requires heads { length (numbers heads) ≡ 8 }
         requires least { IsSplat (numbers least) }
         ensures { numbers result
             ≡ waiting (first_of (numbers least)) (numbers heads) (numbers block) };
 
-    /// The numbers that are at least `least`, and `rest` for the others.
+    /// Keeps each number of `block` that is at least `least`, and sets the other lanes to `rest`.
     fn later(block: Self, least: Self, rest: Self) -> Self
         requires eight { length (numbers block) ≡ 8 }
         requires least { IsSplat (numbers least) }
@@ -113,14 +113,14 @@ pub trait Block: Copy + Drop {
         ensures { numbers result ≡ map (later_head (first_of (numbers rest))
             (first_of (numbers least))) (numbers block) };
 
-    /// A bit for each lane, the first the lowest, that says whether it is above `above` and at most `upto`.
+    /// Sets bit i of the result if lane i of `block` is above `above` and at most `upto`.
     fn bits_between(block: Self, above: u64, upto: u64) -> u64
         requires eight { length (numbers block) ≡ 8 }
         requires above { above ≤ GREATEST }
         requires upto { upto ≤ GREATEST }
         ensures { result ≡ mask_l (map (is_between above upto) (numbers block)) };
 
-    /// A bit for each lane, the first the lowest, that says whether it is this number.
+    /// Sets bit i of the result if lane i of `block` equals `number`.
     fn bits_equal(block: Self, number: u64) -> u64
         requires eight { length (numbers block) ≡ 8 }
         requires fits { number ≤ GREATEST }

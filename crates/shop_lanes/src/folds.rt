@@ -1,4 +1,4 @@
-// Sums and extremes of eight numbers, each by three turns.
+// Running sums, running maxima, and the greatest and least of the eight numbers of a block.
 ghost use Rattle.std.specs.Prelude.{◌≡◌, ◌≤◌, length};
 ghost use Rattle.std.specs.Simd.Lanes.{sum_l};
 ghost use Rattle.shop_lanes.specs.Folds.{running, sums_before, greatest, least_up_to};
@@ -6,7 +6,7 @@ ghost use Rattle.shop_lanes.specs.Folds.{greatest_before, maxima_behind};
 
 use crate::blocks::Block;
 
-/// The sum of the numbers up to each one.
+/// Answers in each lane the sum of this lane and of all lanes of `block` before it.
 #[inline(always)]
 fn sums_up_to<B: Block>(block: B) -> B
     requires eight { length (B.numbers block) ≡ 8 }
@@ -18,7 +18,7 @@ fn sums_up_to<B: Block>(block: B) -> B
     B::sum(fours, B::up_four(fours))
 }
 
-/// The sum of the numbers before each one.
+/// Answers in each lane the sum of all lanes of `block` before it; 0 in the first lane.
 #[inline(always)]
 pub fn sums_before<B: Block>(block: B) -> B
     requires eight { length (B.numbers block) ≡ 8 }
@@ -28,7 +28,7 @@ pub fn sums_before<B: Block>(block: B) -> B
     B::up_one(sums_up_to(block))
 }
 
-/// The greatest number before each one; 0 for the first.
+/// Answers in each lane the greatest number in the lanes of `block` before it; 0 in the first lane.
 #[inline(always)]
 pub fn greatest_before<B: Block>(block: B) -> B
     requires { length (B.numbers block) ≡ 8 }
@@ -40,7 +40,7 @@ pub fn greatest_before<B: Block>(block: B) -> B
     B::greater(fours, B::up_four(fours))
 }
 
-/// The greatest number behind each one; 0 for the last.
+/// Answers in each lane the greatest number in the lanes of `block` behind it; 0 in the last lane.
 #[inline(always)]
 pub fn greatest_behind<B: Block>(block: B) -> B
     requires { length (B.numbers block) ≡ 8 }
@@ -52,7 +52,7 @@ pub fn greatest_behind<B: Block>(block: B) -> B
     B::greater(fours, B::down_four(fours))
 }
 
-/// The greatest number.
+/// The greatest of the eight numbers of `block`.
 #[inline(always)]
 pub fn greatest_of<B: Block>(block: B) -> u64
     requires { length (B.numbers block) ≡ 8 }
@@ -63,7 +63,7 @@ pub fn greatest_of<B: Block>(block: B) -> u64
     B::first(B::greater(pairs, B::neighbours(pairs)))
 }
 
-/// The least number.
+/// The least of the eight numbers of `block`.
 #[inline(always)]
 pub fn least_of<B: Block>(block: B) -> u64
     requires { length (B.numbers block) ≡ 8 }

@@ -1,5 +1,5 @@
-// The greatest span over a range of heads. The load of what waits from a head on bounds the spans of all heads up to
-// the bound less that load, so most heads are leapt over.
+// Raises a bound to the greatest span from a head in a range. The span from head h is h plus the load L of the
+// operations with no lesser head. Later heads have no greater load, so `leap` skips the heads up to the bound less L.
 ghost use Rattle.std.specs.Prelude.{◌≡◌, ℕ, ◌%◌, ◌<◌, ◌≤◌, max, length, map};
 ghost use Rattle.shop_lanes.specs.Spans.{spans_between, FitsSpan, IsRaisedBelow};
 ghost use Rattle.shop_lanes.specs.inner.Passes.{lanes_by};
@@ -9,7 +9,7 @@ use crate::blocks::Block;
 use crate::folds::least_of;
 use crate::passes::load_of;
 
-/// The least head of at least `from`; the greatest number if there is none.
+/// The least number of `heads` that is at least `from`; `greatest` if there is none.
 #[inline(always)]
 fn least_head_of<B: Block>(count: usize, heads: &[B::Number], from: u64, greatest: u64) -> u64
     requires count { length heads.now ≡ count }
@@ -27,8 +27,9 @@ fn least_head_of<B: Block>(count: usize, heads: &[B::Number], from: u64, greates
     least_of(least)
 }
 
-/// The greater of `most` and the spans from each head above `above` and up to `upto` on; where that reaches the limit,
-/// one that does. With a literal `count` the loops over blocks are unrolled.
+/// Answers `most` or, if greater, the greatest span from a head above `above` and at most `upto`. The span from a head
+/// is the greatest end, tail included, of the operations with no lesser head, served by rank from that head on. Stops
+/// early once the bound reaches `limit`. A literal `count`, the number of positions, unrolls the loops over blocks.
 #[inline(always)]
 pub(crate) fn leap<B: Block>(
     count: usize,
@@ -71,8 +72,7 @@ pub(crate) fn leap<B: Block>(
     bound
 }
 
-/// The greater of `most` and the spans from each head above `above` and up to `upto` on; where that reaches the limit,
-/// one that does; in a function of its own, for any number of blocks.
+/// Calls `leap` for any number of blocks, with a literal `count` for one to eight blocks. Kept out of line.
 #[inline(never)]
 pub(crate) fn leap_over<B: Block>(
     heads: &[B::Number],

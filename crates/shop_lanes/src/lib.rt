@@ -1,4 +1,4 @@
-// Rows of numbers of 16, 32 or 64 bits by position, read and added up in blocks of eight.
+// Rows of heads, times, tails and ends in lanes of 16, 32 or 64 bits, read and added up in blocks of eight.
 #![tactic(auto)]
 
 mod block_lanes;
@@ -21,11 +21,11 @@ use plain_blocks::PlainBlock;
 pub use state_lanes::StateLanes;
 use wide_blocks::WideBlock;
 
-/// Lanes of 16 bits.
+/// The heads and ends of a word's state in lanes of 16 bits.
 pub type NarrowLanes = BlockLanes<NarrowBlock>;
 
-/// Lanes of 32 bits.
+/// The heads and ends of a word's state in lanes of 32 bits.
 pub type WideLanes = BlockLanes<WideBlock>;
 
-/// Lanes of 64 bits.
+/// The heads and ends of a word's state in lanes of 64 bits.
 pub type PlainLanes = BlockLanes<PlainBlock>;

@@ -1,4 +1,4 @@
-// Positions that are marked by bits.
+// A set of marked positions, one bit for each.
 ghost use Rattle.std.specs.Prelude.{◌≡◌, ℕ, ◌<◌, ◌+◌, ◌≤◌, ◌↔◌, ◌^◌, List, [], ◌∷◌, IsTrue, All};
 ghost use Rattle.std.specs.Prelude.{MatchOption};
 ghost use Rattle.shop_lanes.specs.Marks.{IsPopped};
@@ -6,7 +6,7 @@ ghost use Rattle.shop_lanes.specs.SetBits.{set_bits};
 
 use std::marker::Model;
 
-/// At most 64 neighbouring positions, of which some are marked: to contracts the marked ones in order.
+/// 64 neighbouring positions, from `first` on, of which some are marked. Contracts see the marked positions, in order.
 #[derive(Drop)]
 pub struct Marks {
     first: usize,
@@ -22,7 +22,7 @@ impl Model for Marks {
 }
 
 impl Marks {
-    /// The positions whose bits are set, the lowest bit that of the first position.
+    /// Marks position `first` + i for each set bit i of `bits`.
     #[inline(always)]
     pub fn new(first: usize, bits: u64) -> Self
         requires { first + 64 ≤ 2 ^ 64 }
@@ -31,7 +31,7 @@ impl Marks {
         Marks { first, bits }
     }
 
-    /// Whether no position is marked.
+    /// Answers whether no position is marked.
     #[inline(always)]
     pub fn is_empty(&self) -> bool
         ensures { IsTrue result ↔ (self.now ≡ []) }
@@ -39,7 +39,7 @@ impl Marks {
         self.bits == 0
     }
 
-    /// Whether no position but this one is marked.
+    /// Answers whether every marked position is `position`; true if no position is marked.
     #[inline(always)]
     pub fn has_no_other(&self, position: usize) -> bool
         ensures { IsTrue result → All (λ p. p ≡ position) self.now }
@@ -54,7 +54,7 @@ impl Marks {
         }
     }
 
-    /// Takes the first marked position out.
+    /// Unmarks the first marked position and answers it; `None` if no position is marked.
     #[inline(always)]
     pub fn pop_first(&mut self) -> Option<usize>
         ensures { IsPopped self.old result self.new }

@@ -1,5 +1,5 @@
-// The own span of each operation that waits on a machine: when the last operation ends if this one is sequenced first.
-// The first of three passes sums up the columns, the others go down the columns and back.
+// The own span of each waiting operation of a machine: how late the operation, and the others with their tails, end if
+// it goes first. Takes three passes: one sums up each column, one goes down the columns, one goes back up.
 ghost use Rattle.std.specs.Prelude.{◌≡◌, ◌%◌, ◌/◌, length, max};
 ghost use Rattle.std.specs.Simd.Lanes.{zip2};
 ghost use Rattle.shop_lanes.specs.Eights.{added, lessened, AddsFit};
@@ -13,8 +13,9 @@ use crate::folds::{greatest_before, greatest_behind, sums_before};
 use crate::passes::serve_columns;
 use crate::served_blocks::tailed_ends;
 
-/// Notes for each position when the last of what waits before it ends, its tail included, if it is served by rank from
-/// 0 on; from when each column begins, and the greatest end before each.
+/// Goes down the columns and writes into `owns`, for each position, the greatest end, tail included, of the waiting
+/// operations of lesser rank. All are served by rank from time 0 on. `clocks` holds the time when each column begins,
+/// and `most` the greatest end, tail included, in the columns before each column.
 #[inline(always)]
 fn note<B: Block>(
     count: usize,
@@ -52,8 +53,9 @@ fn note<B: Block>(
     }
 }
 
-/// The own spans of eight lanes. If all that waits is served from 0 on, `before` is the greatest end of what stands
-/// before each lane and `behind` that of what stands behind it, tails included; so `behind` counts the lane's own time.
+/// Answers in each lane the own span of its operation: how late it, and the others with their tails, end if it goes
+/// first. With all waiting operations served by rank from time 0 on, `before` and `behind` hold the greatest end, tail
+/// included, of the operations before and behind it. `behind` counts its time, which `own_ends` takes off.
 #[inline(always)]
 fn own_ends<B: Block>(heads: B, times: B, before: B, behind: B) -> B
     requires heads { length (B.numbers heads) ≡ 8 }
@@ -70,8 +72,9 @@ fn own_ends<B: Block>(heads: B, times: B, before: B, behind: B) -> B
     B::sum(B::sum(heads, times), rest)
 }
 
-/// Writes the own spans over what was noted, from the last block back; from when each column ends, and the greatest end
-/// behind each.
+/// Goes back up the columns and replaces what `note` wrote into `owns` by own spans: how late each operation, and the
+/// others with their tails, end if it goes first. `clocks` holds the time when each column ends, and `behind` the
+/// greatest end, tail included, in the columns behind each column.
 #[inline(always)]
 fn write_back<B: Block>(
     count: usize,
@@ -113,7 +116,7 @@ fn write_back<B: Block>(
     }
 }
 
-/// All three passes. With a literal `count` the loops over blocks are unrolled.
+/// Does `own_spans` in three passes. A literal `count`, the number of positions, unrolls the loops over blocks.
 #[inline(always)]
 fn own_spans_of<B: Block>(
     count: usize,
@@ -155,7 +158,7 @@ fn own_spans_of<B: Block>(
     );
 }
 
-/// The same for machines of four blocks and more, in a function of its own.
+/// Does `own_spans` for four or more blocks, out of line: only the code for up to three blocks is inlined.
 #[inline(never)]
 fn own_spans_of_longer<B: Block>(
     heads: &[B::Number],
@@ -181,8 +184,8 @@ fn own_spans_of_longer<B: Block>(
     }
 }
 
-/// The own span of each operation that waits: the greater of its end and of the greatest end, tails included, of the
-/// others, sequenced after it by rank.
+/// Writes into `owns` the own span of each waiting operation: how late the operation, and the others with their tails,
+/// end if it starts first, at its head, and they follow by rank.
 #[inline(always)]
 pub(crate) fn own_spans<B: Block>(
     heads: &[B::Number],

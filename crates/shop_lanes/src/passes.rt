@@ -1,4 +1,5 @@
-// Passes over rows of numbers, a block of eight at a time.
+// Passes over rows of numbers, eight at a time: find the load of a machine, the least number of a row, and (as bits of
+// a mask) which numbers lie in a range or equal a number.
 ghost use Rattle.std.specs.Prelude.{◌≡◌, ℕ, ◌+◌, ◌*◌, ◌/◌, ◌%◌, ◌^◌, ◌<◌, ◌≤◌, ◌==◌, length, map};
 ghost use Rattle.std.specs.Prelude.{slice_index};
 ghost use Rattle.std.specs.Simd.Lanes.{mask_l};
@@ -12,8 +13,8 @@ use crate::blocks::Block;
 use crate::folds::{greatest_of, least_of, sums_before};
 use crate::served_blocks::serve;
 
-/// The columns of all blocks served side by side, each from 0 on: when each one ends, and the greatest end of each one,
-/// tails included. With a literal `count` the loop over blocks is unrolled.
+/// Serves, down each of eight columns from time 0 on, the operations with a head of at least `least`. Answers when each
+/// column ends, and the greatest end in it, tail included. A literal `count` of positions unrolls the loop over blocks.
 #[inline(always)]
 pub(crate) fn serve_columns<B: Block>(
     count: usize,
@@ -49,8 +50,8 @@ pub(crate) fn serve_columns<B: Block>(
     (clocks, most)
 }
 
-/// When the last of what waits with a head of at least `least` ends, its tail included, if it is served by rank from 0
-/// on; laid out by the number of positions.
+/// The load of the operations with a head of at least `least`: their greatest end, tail included, if they are served by
+/// rank from time 0 on. A literal `count`, the number of positions, unrolls the loop over blocks.
 #[inline(always)]
 pub(crate) fn load_of<B: Block>(
     count: usize,
@@ -71,56 +72,8 @@ pub(crate) fn load_of<B: Block>(
     greatest_of(B::sum(sums_before(clocks), most))
 }
 
-/// The same for machines of four blocks and more, in a function of its own.
-#[inline(never)]
-fn load_of_longer<B: Block>(
-    heads: &[B::Number],
-    times: &[B::Number],
-    tails: &[B::Number],
-    least: u64,
-) -> u64
-    requires whole_blocks { length heads.now % 8 ≡ 0 }
-    requires times { length times.now ≡ length heads.now }
-    requires tails { length tails.now ≡ length heads.now }
-    requires least { least ≤ B.GREATEST }
-    requires fits { FitsSpan B.GREATEST 0 (lanes_by B.value heads.now times.now tails.now) }
-    ensures { result ≡ span_by B.value heads.now times.now tails.now least 0 }
-{
-    match heads.len() {
-        32 => load_of::<B>(32, heads, times, tails, least),
-        40 => load_of::<B>(40, heads, times, tails, least),
-        48 => load_of::<B>(48, heads, times, tails, least),
-        56 => load_of::<B>(56, heads, times, tails, least),
-        64 => load_of::<B>(64, heads, times, tails, least),
-        _ => load_of::<B>(heads.len(), heads, times, tails, least),
-    }
-}
-
-/// When the last of what waits with a head of at least `least` ends, its tail included, if it is served by rank from 0
-/// on.
-#[inline(always)]
-pub(crate) fn load<B: Block>(
-    heads: &[B::Number],
-    times: &[B::Number],
-    tails: &[B::Number],
-    least: u64,
-) -> u64
-    requires whole_blocks { length heads.now % 8 ≡ 0 }
-    requires times { length times.now ≡ length heads.now }
-    requires tails { length tails.now ≡ length heads.now }
-    requires least { least ≤ B.GREATEST }
-    requires fits { FitsSpan B.GREATEST 0 (lanes_by B.value heads.now times.now tails.now) }
-    ensures { result ≡ span_by B.value heads.now times.now tails.now least 0 }
-{
-    match heads.len() {
-        8 => load_of::<B>(8, heads, times, tails, least),
-        16 => load_of::<B>(16, heads, times, tails, least),
-        24 => load_of::<B>(24, heads, times, tails, least),
-        _ => load_of_longer::<B>(heads, times, tails, least),
-    }
-}
-
-/// A bit for each of so many numbers, the first the lowest, that says whether it is above `above` and at most `upto`.
+/// Sets bit i of the result if number i of `heads` is above `above` and at most `upto`. A literal `count`, the length
+/// of `heads`, unrolls the loop over blocks.
 #[inline(always)]
 fn bits_between<B: Block>(count: usize, heads: &[B::Number], above: u64, upto: u64) -> u64
     requires count { length heads.now ≡ count }
@@ -139,8 +92,7 @@ fn bits_between<B: Block>(count: usize, heads: &[B::Number], above: u64, upto: u
     bits
 }
 
-/// A bit for each of the numbers of four blocks and more, the first the lowest, that says whether it is above 0 and at
-/// most `upto`; in a function of its own.
+/// Does `bits_up_to` for four or more blocks, out of line: only the code for up to three blocks is inlined.
 #[inline(never)]
 fn bits_of_longer<B: Block>(heads: &[B::Number], upto: u64) -> u64
     requires whole_blocks { length heads.now % 8 ≡ 0 }
@@ -158,7 +110,7 @@ fn bits_of_longer<B: Block>(heads: &[B::Number], upto: u64) -> u64
     }
 }
 
-/// A bit for each number, the first the lowest, that says whether it is above 0 and at most `upto`.
+/// Sets bit i of the result if number i of `heads` is above 0 and at most `upto`.
 #[inline(always)]
 pub(crate) fn bits_up_to<B: Block>(heads: &[B::Number], upto: u64) -> u64
     requires whole_blocks { length heads.now % 8 ≡ 0 }
@@ -174,7 +126,7 @@ pub(crate) fn bits_up_to<B: Block>(heads: &[B::Number], upto: u64) -> u64
     }
 }
 
-/// A bit for each of so many numbers, the first the lowest, that says whether it is this one.
+/// Sets bit i of the result if number i of `numbers` equals `number`. A literal length `count` unrolls the loop.
 #[inline(always)]
 fn bits_equal<B: Block>(count: usize, numbers: &[B::Number], number: u64) -> u64
     requires count { length numbers.now ≡ count }
@@ -192,7 +144,7 @@ fn bits_equal<B: Block>(count: usize, numbers: &[B::Number], number: u64) -> u64
     bits
 }
 
-/// The least of so many numbers.
+/// The least of the `count` numbers in `numbers`.
 #[inline(always)]
 fn least_number<B: Block>(count: usize, numbers: &[B::Number]) -> u64
     requires count { length numbers.now ≡ count }
@@ -206,7 +158,7 @@ fn least_number<B: Block>(count: usize, numbers: &[B::Number]) -> u64
     least_of(least)
 }
 
-/// The position of the first number that is this one; how many there are if none is.
+/// The position of the first number of `numbers` that equals `number`, or the length of `numbers` if there is none.
 #[inline(always)]
 fn position_of<B: Block>(numbers: &[B::Number], number: u64) -> usize
     requires whole_blocks { length numbers.now % 8 ≡ 0 }
@@ -223,7 +175,7 @@ fn position_of<B: Block>(numbers: &[B::Number], number: u64) -> usize
     numbers.len()
 }
 
-/// The position of the first of the least of so many numbers, and this number; laid out by how many there are.
+/// Does `first_least` for at most 64 numbers. A literal length `count` unrolls the loops over blocks.
 #[inline(always)]
 fn first_least_of<B: Block>(count: usize, numbers: &[B::Number]) -> (usize, u64)
     requires count { length numbers.now ≡ count }
@@ -239,7 +191,7 @@ fn first_least_of<B: Block>(count: usize, numbers: &[B::Number]) -> (usize, u64)
     (bits.trailing_zeros() as usize, least)
 }
 
-/// The same for any number of blocks, block by block.
+/// Does `first_least` for any number of blocks: finds the least number, then its first position.
 #[inline(always)]
 fn first_least_of_any<B: Block>(numbers: &[B::Number]) -> (usize, u64)
     requires whole_blocks { length numbers.now % 8 ≡ 0 }
@@ -253,7 +205,7 @@ fn first_least_of_any<B: Block>(numbers: &[B::Number]) -> (usize, u64)
     (position_of::<B>(numbers, least), least)
 }
 
-/// The same for four blocks and more, in a function of its own.
+/// Does `first_least` for four or more blocks, out of line: only the code for up to three blocks is inlined.
 #[inline(never)]
 fn first_least_of_longer<B: Block>(numbers: &[B::Number]) -> (usize, u64)
     requires whole_blocks { length numbers.now % 8 ≡ 0 }
@@ -273,7 +225,7 @@ fn first_least_of_longer<B: Block>(numbers: &[B::Number]) -> (usize, u64)
     }
 }
 
-/// The position of the first of the least numbers, and this number.
+/// The first position of the least number of `numbers`, and this least number.
 #[inline(always)]
 pub(crate) fn first_least<B: Block>(numbers: &[B::Number]) -> (usize, u64)
     requires whole_blocks { length numbers.now % 8 ≡ 0 }

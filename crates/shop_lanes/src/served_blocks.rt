@@ -1,11 +1,12 @@
-// A block of eight columns served, each column from a clock of its own on.
+// Serves the operations of a block: adds their times to the clocks of their columns, and finds their ends with tails.
 ghost use Rattle.std.specs.Prelude.{◌≡◌, length};
 ghost use Rattle.shop_lanes.specs.Eights.{IsSplat};
 ghost use Rattle.shop_lanes.specs.inner.Passes.{FitServed, AreTailed, AreServed};
 
 use crate::blocks::Block;
 
-/// The clock of each column afterwards, and when each lane that waits ends, its tail included, with 0 for the others.
+/// Serves the operations of a block with a head of at least `least`: adds their times to `clocks`. Answers the new
+/// clock of each column, and the end of each served operation, tail included; 0 in the other lanes.
 #[inline(always)]
 pub(crate) fn tailed_ends<B: Block>(heads: B, times: B, tails: B, least: B, clocks: B) -> (B, B)
     requires heads { length (B.numbers heads) ≡ 8 }
@@ -18,7 +19,8 @@ pub(crate) fn tailed_ends<B: Block>(heads: B, times: B, tails: B, least: B, cloc
     (after, late)
 }
 
-/// The clock of each column afterwards, and the greatest end so far of each column.
+/// Serves a block as `tailed_ends` does. Answers the new clock of each column, and in each lane the greater of `most`
+/// and the end of the operation served there, tail included.
 #[inline(always)]
 pub(crate) fn serve<B: Block>(heads: B, times: B, tails: B, least: B, clocks: B, most: B) -> (B, B)
     requires heads { length (B.numbers heads) ≡ 8 }

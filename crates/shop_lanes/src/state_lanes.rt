@@ -1,8 +1,8 @@
-// What the lanes of a state can do, whatever their width.
+// `StateLanes`: what lanes of any width offer to store the heads and ends of a word's state and to bound the word.
 ghost use Rattle.std.specs.Prelude.{◌≡◌, ℕ, ◌+◌, ◌-◌, ◌*◌, ◌<◌, ◌≤◌, max, List, All, IfOk, length, map};
 ghost use Rattle.std.specs.Prelude.{replicate, slice_index, slice_index_or, slice_set};
 ghost use Rattle.shop_lanes.specs.Rows.{lanes_of, AreBlocksOf};
-ghost use Rattle.shop_lanes.specs.Spans.{span, spans_between, FitsSpan, FitOwnSpans, AreOwnSpans};
+ghost use Rattle.shop_lanes.specs.Spans.{spans_between, FitsSpan, FitOwnSpans, AreOwnSpans};
 ghost use Rattle.shop_lanes.specs.Spans.{IsRaisedBelow};
 ghost use Rattle.shop_lanes.specs.Marks.{positions_among};
 ghost use Rattle.shop_lanes.specs.Ends.{IsFirstLeast};
@@ -10,14 +10,14 @@ ghost use Rattle.shop_lanes.specs.Ends.{IsFirstLeast};
 use crate::marking::Marks;
 use std::alloc::{AllocError as NoMemory, Global};
 
-/// The heads of operations by position and the ends of the jobs' next operations, of one state of a search. A head of
-/// 0 says that nothing waits at the position. Positions come in blocks of eight, which are read and added up together.
-/// Some blocks are served by rank: down the first lanes of all of them, then down the second ones, and so on.
+/// The state of a word: the head of the operation at each position, 0 if no operation waits there, and the end of each
+/// job's next operation. Positions come in blocks of eight, read and added up together. Ranks run down the first lanes
+/// of all blocks of a machine, then down their second lanes, and so on.
 pub trait StateLanes: Drop {
-    /// The times and tails of the operations by position, which are the same in every state.
+    /// The time and the tail of the operation at each position, equal in all states.
     type Fixed: Drop;
 
-    /// What a lane holds.
+    /// The type of the number in a lane.
     type Number: Copy + Drop;
 
     ghost GREATEST: { ℕ };
@@ -41,17 +41,17 @@ pub trait StateLanes: Drop {
         ensures times { IfOk result (λ made. times made ≡ all_times.now) }
         ensures tails { IfOk result (λ made. tails made ≡ all_tails.now) };
 
-    /// Nothing waits and no job has an end: each end is the greatest number.
+    /// Makes a state with each head 0, as no operation waits, and each end `GREATEST`, as no job has a next operation.
     fn new(alloc: Global, positions: usize, jobs: usize) -> Result<Self, NoMemory>
         ensures heads { IfOk result (λ made. heads made ≡ replicate positions 0) }
         ensures ends { IfOk result (λ made. ends made ≡ replicate jobs GREATEST) };
 
-    /// Nothing waits any more, and no job has an end.
+    /// Empties the state: sets each head to 0, so that no operation waits, and each end to `GREATEST`.
     fn clear(&mut self)
         ensures heads { heads self.new ≡ replicate (length (heads self.old)) 0 }
         ensures ends { ends self.new ≡ replicate (length (ends self.old)) GREATEST };
 
-    /// Takes the heads and ends of another state.
+    /// Copies the heads and ends of the state `other`.
     fn copy_from(&mut self, other: &Self)
         requires positions { length (heads self.old) ≡ length (heads other.now) }
         requires jobs { length (ends self.old) ≡ length (ends other.now) }
@@ -66,7 +66,7 @@ pub trait StateLanes: Drop {
         requires { position < length (heads self.now) }
         ensures { result ≡ slice_index (heads self.now) position };
 
-    /// The head at a position; behind the last one the greatest number, so that no head is greater there.
+    /// The head at `position`; `GREATEST` behind the last position.
     fn head_or_greatest(&self, position: usize) -> u64
         requires { position ≤ length (heads self.now) }
         ensures { result ≡ slice_index_or (heads self.now) position GREATEST };
@@ -83,13 +83,13 @@ pub trait StateLanes: Drop {
         ensures heads { heads self.new ≡ heads self.old }
         ensures ends { ends self.new ≡ slice_set (ends self.old) job end };
 
-    /// The job whose end is the least, the first of them if there are several, and this end.
+    /// The first job with the least end, and this least end.
     fn first_least_end(&self) -> (usize, u64)
         requires { 0 < length (ends self.now) }
         ensures job { IsFirstLeast (ends self.now) result.0 }
         ensures end { result.1 ≡ slice_index (ends self.now) result.0 };
 
-    /// The positions in the blocks from `from` on and before `to` at which something waits with a head below `limit`.
+    /// Marks the positions in blocks `from` up to `to` (excluded) where an operation waits with a head below `limit`.
     fn below(&self, from: usize, to: usize, limit: u64) -> Marks
         requires ordered { from ≤ to }
         requires within { 8 * to ≤ length (heads self.now) }
@@ -97,19 +97,10 @@ pub trait StateLanes: Drop {
         requires fits { limit ≤ GREATEST }
         ensures { result ≡ positions_among (heads self.now) from to limit };
 
-    /// When the last of what waits in the blocks from `from` on and before `to` with a head of at least `least` ends,
-    /// its tail included, if that is served by rank, from 0 on; 0 if nothing waits.
-    fn load(&self, fixed: &Self::Fixed, from: usize, to: usize, least: u64) -> u64
-        requires blocks { AreBlocksOf (heads self.now) (times fixed.now) (tails fixed.now) from to }
-        requires least { least ≤ GREATEST }
-        requires fits { FitsSpan GREATEST 0
-            (lanes_of (heads self.now) (times fixed.now) (tails fixed.now) from to) }
-        ensures { result ≡ span least 0
-            (lanes_of (heads self.now) (times fixed.now) (tails fixed.now) from to) };
-
-    /// The greatest of `most` and the spans of those that begin no earlier than one of them, from its head on, for each
-    /// head above `above` and up to `upto`; where that reaches the limit, `most` or one of these that reaches it.
-    /// `count` is the number of these blocks, or 0; with a literal number the passes over them are unrolled.
+    /// Answers `most` or, if greater, the greatest span from a head above `above` and at most `upto` in blocks `from`
+    /// up to `to` (excluded). The span from a head is the greatest end, tail included, of the operations with no lesser
+    /// head, served by rank from that head on. Stops early once the bound reaches `limit`. `count` is `to` - `from`, or
+    /// 0 if unknown; a literal `count` unrolls loops.
     fn bound_raised(
         &self,
         fixed: &Self::Fixed,
@@ -137,8 +128,8 @@ pub trait StateLanes: Drop {
     fn widened(number: Self::Number) -> u64
         ensures { result ≡ value number };
 
-    /// For each position of these blocks at which something waits: when that ends if it is served at its head or, if
-    /// that is later, when the last of what else waits there ends, its tail included, served by rank from there on.
+    /// Writes into `owns` the own span of each waiting operation in blocks `from` up to `to` (excluded): how late the
+    /// operation, and the others with their tails, end if it starts first, at its head, and they follow by rank.
     fn own_spans(&self, fixed: &Self::Fixed, from: usize, to: usize, owns: &mut [Self::Number])
         requires blocks { AreBlocksOf (heads self.now) (times fixed.now) (tails fixed.now) from to }
         requires room { length owns.old ≡ 8 * to - 8 * from }

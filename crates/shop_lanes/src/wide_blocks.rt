@@ -1,4 +1,4 @@
-// Eight numbers of 32 bits at once.
+// Blocks of eight numbers of 32 bits.
 ghost use Rattle.std.specs.Prelude.{ℕ};
 ghost use Rattle.std.proofs.Common.{lit<};
 
@@ -6,7 +6,7 @@ use crate::blocks::Block;
 use std::alloc::{AllocError as NoMemory, Global};
 use std::simd::prelude::*;
 
-/// Eight numbers of 32 bits.
+/// A block of eight numbers of 32 bits.
 #[derive(Clone, Copy)]
 pub struct WideBlock(u32x8);
 

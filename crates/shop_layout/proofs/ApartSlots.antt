@@ -30,11 +30,7 @@ pairs_from R (x ∷ xs) h (suc p) (suc q) d l b = pairs_from R xs h.1 p q d (ome
 -- numbers that rise
 range_rises : (a n : ℕ) → Pairwise (λ x y. x < y) (range_with_len a n)
 range_rises a zero = tt
-range_rises a (suc n) = (
-  all_map (λ y. (a + 1 ≤ y) × (y < a + 1 + n)) (λ y. a < y) (λ y h. (let b = h.0 in omega arith))
-      (range_with_len (a + 1) n) (range_within (a + 1) n),
-  range_rises (a + 1) n,
-)
+range_rises a (suc n) = grind (arith, all_map, range_within, range_rises (a + 1) n)
 
 pairs_mapped : {A B : Type 0} (R : A → A → Type 0) (S : B → B → Type 0) (g : A → B)
     → ((x y : A) → R x y → S (g x) (g y)) → (xs : List A) → Pairwise R xs → Pairwise S (map g xs)
@@ -83,18 +79,16 @@ slots_apart shop m slots are =
 operations_few : (shop : Shop) (m : ℕ) → ((j : ℕ) → length (route_of shop j) ≤ 100) → (a n : ℕ)
     → length (flat_map (λ j. operations_in (route_of shop j) m j) (range_with_len a n)) ≤ n * 100
 operations_few shop m routes a zero = omega arith
-operations_few shop m routes a (suc n) =
-    let f = λ (j : ℕ). operations_in (route_of shop j) m j
-    in let test = λ (k : ℕ). eqb (get_or (route_of shop a) k no_op).machine m
-    in let steps = range_with_len 0 (length (route_of shop a))
-    in let b = length-append (f a) (flat_map f (range_with_len (a + 1) n))
-    in let d = length-map (filter test steps) (slot_at (route_of shop a) a)
-    in let e = length-filter test steps in let g = count_by-le-length test steps
-    in let h = length-range_with_len 0 (length (route_of shop a))
-    in let i = operations_few shop m routes (a + 1) n in let j = routes a in omega arith
+operations_few shop m routes a (suc n) = grind (
+  arith,
+  length-append,
+  length-map,
+  length-filter,
+  count_by-le-length,
+  length-range_with_len,
+  operations_few shop m routes (a + 1) n,
+)
 
 pub slots_few : (shop : Shop) → IsWithinLimits shop → (m : ℕ) (slots : List Slot) → AreSlotsOf shop m slots
     → length slots ≤ 100000
-slots_few shop limits m slots are =
-    let a = length_permutation (operations_on shop m) slots are.same
-    in let b = operations_few shop m limits.routes 0 (length shop.jobs) in let d = limits.jobs in omega arith
+slots_few shop limits m slots are = grind (arith, length_permutation, operations_few)

@@ -1,8 +1,8 @@
 -- The lists of the machines one after another, each down the columns of its blocks.
 use Rattle.std.proofs.Common.{◌≡◌, ℕ, ◌+◌, ◌-◌, ◌*◌, ◌/◌, ◌%◌, ◌^◌, ◌≤◌, ◌<◌, inl, inr, List, [], ◌∷◌, ◌++◌}
-use Rattle.std.proofs.Common.{length, get_or, refl, sym, ◌∙◌, ap, subst, arith}
+use Rattle.std.proofs.Common.{length, get_or, sym, ◌∙◌, ap, subst, arith}
 use Rattle.std.specs.Int.{div_ceil}
-use Rattle.std.proofs.lemmas.Bool.{cases_eq, cases_lt}
+use Rattle.std.proofs.lemmas.Bool.{cases_eq}
 use Rattle.std.proofs.lemmas.Grind.{div_ceil_times}
 use Rattle.std.proofs.lemmas.List.{get_or_append_left, get_or_default, get_or_past}
 use Rattle.std.proofs.lemmas.List.{length-append}
@@ -13,35 +13,6 @@ use Rattle.shop_layout.specs.declared.slots.Slot.{Slot}
 use Rattle.shop_layout.specs.Positions.{position_at_rank}
 use Rattle.shop_layout.specs.inner.Layings.{AreAdded, AreCells, AreShorter, IsListIn, no_slot}
 use Rattle.shop_layout.proofs.Ranks.{position_within}
-
--- no place yet, and one more
-pub added_none : (list : List Slot) (count : ℕ) (old : List Slot) → AreAdded list count 0 old old
-added_none list count old = record {
-  long = omega arith;
-  before = λ q below. refl;
-  at = λ p below. absurd (omega arith);
-}
-
-pub added_more : (list : List Slot) (count n : ℕ) (old now : List Slot) → AreAdded list count n old now
-    → (slot : Slot) → slot ≡ get_or list (n % 8 * count + n / 8) no_slot → (new : List Slot)
-    → new ≡ now ++ slot ∷ [] → AreAdded list count (n + 1) old new
-added_more list count n old now before slot is new pushed =
-    let long = before.long
-    in let same : (q : ℕ) → q < length now → get_or new q no_slot ≡ get_or now q no_slot =
-    (λ q below. ap (λ (xs : List Slot). get_or xs q no_slot) pushed
-    ∙ get_or_append_left now (slot ∷ []) no_slot q below)
-    in record {
-      long = (let a = ap length pushed in omega (arith, a, length-append now (slot ∷ [])));
-      before = λ q below. same q (omega arith) ∙ before.before q below;
-      at = λ p below. elim (cases_eq p n) [
-        | inl e ↦ (let last : length old + p ≡ length now = omega arith
-            in ap (λ (q : ℕ). get_or new q no_slot) last
-            ∙ (ap (λ (xs : List Slot). get_or xs (length now) no_slot) pushed
-            ∙ (get_or-append_seam now slot [] no_slot
-            ∙ (is ∙ ap (λ (k : ℕ). get_or list (k % 8 * count + k / 8) no_slot) (sym e)))))
-        | inr ne ↦ same (length old + p) (omega arith) ∙ before.at p (omega arith)
-      ];
-    }
 
 -- one more list
 pub cells_more : (lists : List (List Slot)) (n : ℕ) (cells : List Slot) (blocks : List ℕ)
@@ -117,14 +88,6 @@ cells_more lists n cells blocks before short slots are count low high more added
 pub count_bounds : (a count : ℕ) → count ≡ div_ceil a 8 → (a ≤ 8 * count) × (8 * count < a + 8)
 count_bounds a count is = let t = div_ceil_times a 8 (omega arith) in (omega arith, omega arith)
 
--- what stands at a place of a list's blocks
-pub slot_told : (list : List Slot) (rank : ℕ) (slot : Slot) → (rank < length list → slot ≡ get_or list rank slot)
-    → (length list ≤ rank → slot ≡ no_slot) → slot ≡ get_or list rank no_slot
-slot_told list rank slot here none = elim (cases_lt rank (length list)) [
-  | inl below ↦ here below ∙ get_or_default list rank slot no_slot below
-  | inr past ↦ none past ∙ sym (get_or_past list rank no_slot past)
-]
-
 module _ (lists : List (List Slot)) (n : ℕ) (cells : List Slot) (blocks : List ℕ)
     (before : AreCells lists n cells blocks)
     (short : AreShorter 100000 lists) (slots : List Slot) (are : slots ≡ get_or lists n []) (count : ℕ)
@@ -141,10 +104,7 @@ module _ (lists : List (List Slot)) (n : ℕ) (cells : List Slot) (blocks : List
       eights = let a = added.long in let b = before.whole in omega arith
 
       pub last_small : n < 100 → last < 2 ^ 32
-      last_small below =
-          let bounds = count_bounds (length slots) count whole in let high = bounds.1
-          in let a = added.long in let b = before.few in let d = short n in let e = ap length are
-          in let f = eights in omega arith
+      last_small below = grind (arith, count_bounds, eights)
 
       pub cells_turn : (after : List ℕ) → after ≡ blocks ++ last ∷ [] → AreCells lists (n + 1) more after
       cells_turn after noted =

@@ -57,12 +57,7 @@ module _ (g : ℕ → ℕ) where
 
     by_ranks : sum_to at_rank (8 * count) ≡ sum_to g (8 * count)
     unfolding sum_to columns
-    by_ranks =
-        let begin : 0 * count ≡ 0 = omega arith
-        in let none : sum_to at_rank (0 * count) ≡ 0 = ap (sum_to at_rank) begin
-        in let a = one_column 0 in let b = one_column 1 in let c = one_column 2 in let d = one_column 3
-        in let e = one_column 4 in let f = one_column 5 in let h = one_column 6 in let i = one_column 7
-        in let all = by_blocks count in omega (arith, none, a, b, c, d, e, f, h, i, all)
+    by_ranks = grind (arith, sum_to, one_column, by_blocks)
 
 module _ {A : Type 0} (f : A → ℕ) (d : A) where
   of_first : (xs : List A) (n : ℕ) → n ≤ length xs → sum_by f (take n xs) ≡ sum_to (λ i. f (get_or xs i d)) n

@@ -112,10 +112,7 @@ module _ (shop : Shop) (limits : IsWithinLimits shop) (lists : List (List Slot))
 
   -- where there are cells there is a job
   jobs_known : 0 < length cells → 0 < length shop.jobs
-  jobs_known any =
-      let x = laid.some any
-      in let op = slots_are_operations shop x.0 (get_or lists x.0 []) (are.slots x.0 x.1) 0 no_slot x.2
-      in let job = op.job in omega arith
+  jobs_known any = grind (arith, slots_are_operations)
 
   pub cells_known : All (λ s. (s.job < length shop.jobs) × (s.step < 100)) cells
   cells_known q d here =
@@ -161,11 +158,7 @@ module _ (shop : Shop) (limits : IsWithinLimits shop) (lists : List (List Slot))
             in let f = ap (λ (n : ℕ). get_or blocks n 0) e in omega arith
 
   column : (f : Slot → ℕ) → f no_slot ≡ 0 → (q : ℕ) → get_or (map f cells) q 0 ≡ f (get_or cells q no_slot)
-  column f nil q = elim (cases_lt q (length cells)) [
-    | inl l ↦ get_or-map f cells q no_slot 0 l
-    | inr l ↦ get_or_past (map f cells) q 0 (omega (arith, length-map cells f))
-        ∙ (sym nil ∙ ap f (sym (get_or_past cells q no_slot l)))
-  ]
+  column f nil q = grind (arith, cases_lt, get_or-map, get_or_past, length-map)
 
   pub laid_out : (rows : List (List ℕ)) → ArePlaces shop lists blocks shop.machines rows → (l : LayoutState)
       → l.jobs ≡ map (λ s. s.job) cells → l.steps ≡ map (λ s. s.step) cells → l.times ≡ map (λ s. s.time) cells

@@ -5,7 +5,7 @@ use Rattle.std.specs.List.{sum_by}
 use Rattle.std.proofs.lemmas.Bool.{cases_lt}
 use Rattle.std.proofs.lemmas.List.{get_or-take, get_or-drop, get_or_past}
 use Rattle.std.proofs.lemmas.List.Sums.{sum_by-cons, sum_by-take-drop}
-use Rattle.shop_lanes.specs.Rows.{blocks, by_columns, place_at_rank}
+use Rattle.shop_lanes.specs.Rows.{blocks, by_columns}
 use Rattle.shop_lanes.proofs.Columns.{by_columns-at, length-by_columns, place_fits}
 use Rattle.shop_lanes.proofs.LaneLists.{length-blocks}
 use Rattle.shop_model.specs.declared.ops.Op.{Op}
@@ -25,9 +25,7 @@ use Rattle.shop_bound.proofs.TimeSums.{route_times}
 
 pub total_small : (shop : Shop) → IsWithinLimits shop → (n : ℕ) → total_before shop n ≤ n * 100000000000
 total_small shop limits zero = omega arith
-total_small shop limits (suc n) =
-    let a = total_small shop limits n in let b = route_times shop limits n
-    in let m : suc n * 100000000000 ≡ n * 100000000000 + 100000000000 = omega arith in omega arith
+total_small shop limits (suc n) = grind (arith, total_small shop limits n, route_times)
 
 -- a sum of which only the first n numbers are not 0
 sum_front : (b : ℕ) (xs : List ℕ) (n : ℕ) → ((i : ℕ) → get_or xs i 0 ≤ b) → ((i : ℕ) → n ≤ i → get_or xs i 0 ≡ 0)
@@ -81,22 +79,15 @@ module _ (shop : Shop) (limits : IsWithinLimits shop) (l : LayoutState) (laid : 
     ranked = by_columns (to - from) (blocks from to l.times)
 
     whole_blocks : length (blocks from to l.times) ≡ 8 * (to - from)
-    whole_blocks =
-        let all = within in let long = laid.positions.times
-        in length-blocks from to l.times (omega arith) ∙ omega arith
+    whole_blocks = grind (arith, within, length-blocks)
 
     time_at : (i : ℕ) → i < 8 * (to - from) → get_or ranked i 0 ≡ get_or l.times (position_at_rank l.blocks m i) 0
     unfolding ranked
-    time_at i here =
-        by_columns-at (to - from) (blocks from to l.times) whole_blocks i 0 here
-        ∙ block_at l.times from to (place_at_rank (to - from) i)
-        (let a = place_fits (to - from) i here in omega (arith, a))
+    time_at i here = grind (arith, by_columns-at, whole_blocks, block_at, place_fits)
 
     time_past : (i : ℕ) → 8 * (to - from) ≤ i → get_or ranked i 0 ≡ 0
     unfolding ranked
-    time_past i past =
-        let long = length-by_columns (to - from) (blocks from to l.times) whole_blocks
-        in get_or_past ranked i 0 (omega arith)
+    time_past i past = grind (arith, length-by_columns, whole_blocks, get_or_past, ranked)
 
     -- the times and tails of a machine are small, and 0 behind its operations
     time_small : (i : ℕ) → get_or ranked i 0 ≤ 1000000000
@@ -119,11 +110,7 @@ module _ (shop : Shop) (limits : IsWithinLimits shop) (l : LayoutState) (laid : 
 
     time_behind : (i : ℕ) → length slots ≤ i → get_or ranked i 0 ≡ 0
     unfolding slots
-    time_behind i behind = elim (cases_lt i (8 * (to - from))) [
-      | inl here ↦ (let e = time_at i here
-          in let t = ((laid.each m known).padding i behind (omega arith)).time in omega (arith, e, t))
-      | inr past ↦ time_past i past
-    ]
+    time_behind i behind = grind (arith, cases_lt, time_at, time_past)
 
     tail_at : (q : ℕ) → first_position l m ≤ q → q < first_position l (m + 1) → get_or l.tails q 0 ≤ 100000000000
     unfolding slots
@@ -147,13 +134,7 @@ module _ (shop : Shop) (limits : IsWithinLimits shop) (l : LayoutState) (laid : 
         ]
 
     tail_small : (i : ℕ) → get_or (blocks from to l.tails) i 0 ≤ 100000000000
-    tail_small i =
-        let all = within in let long = laid.positions.tails
-        in elim (cases_lt i (8 * to - 8 * from)) [
-          | inl here ↦ (let e = block_at l.tails from to i here
-              in let small = tail_at (8 * from + i) (omega arith) (omega arith) in omega (arith, e, small))
-          | inr past ↦ (let e = block_past l.tails from to i (omega arith) past in omega (arith, e))
-        ]
+    tail_small i = grind (arith, within, cases_lt, block_at, tail_at, block_past)
 
     pub load_small : load_on l m < 2 ^ 47
     unfolding slots ranked

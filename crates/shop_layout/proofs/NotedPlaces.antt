@@ -1,5 +1,5 @@
 -- Places that are written one after another.
-use Rattle.std.proofs.Common.{◌≡◌, ℕ, ◌+◌, ◌<◌, inl, inr, List, [], length, get_or, set, refl, sym}
+use Rattle.std.proofs.Common.{◌≡◌, ℕ, ◌+◌, ◌<◌, inl, inr, List, [], length, get_or, set, sym}
 use Rattle.std.proofs.Common.{◌∙◌, ap, arith}
 use Rattle.std.specs.List.{All}
 use Rattle.std.proofs.lemmas.Bool.{cases_eq}
@@ -20,30 +20,10 @@ module _ (now : List (List ℕ)) (j k x : ℕ) (job : j < length now) (step : k 
   place_here = ap (λ (row : List ℕ). get_or row k 0) row_here ∙ get_or-set_same (get_or now j []) k x 0 step
 
   place_other : (i n : ℕ) → (i ≡ j → n ≡ k → ⊥) → place_in written i n ≡ place_in now i n
-  place_other i n ne = elim (cases_eq i j) [
-    | inl e ↦ ap (λ (y : ℕ). get_or (get_or written y []) n 0) e
-        ∙ (ap (λ (row : List ℕ). get_or row n 0) row_here
-        ∙ (get_or-set_other (get_or now j []) k n x 0 (λ f. ne e f)
-        ∙ ap (λ (y : ℕ). get_or (get_or now y []) n 0) (sym e)))
-    | inr differ ↦ ap (λ (row : List ℕ). get_or row n 0)
-        (get_or-set_other now j i (set (get_or now j []) k x) [] differ)
-  ]
+  place_other i n ne = grind (arith, cases_eq, row_here, get_or-set_other)
 
   row_long : (i : ℕ) → length (get_or written i []) ≡ length (get_or now i [])
-  row_long i = elim (cases_eq i j) [
-    | inl e ↦ ap (λ (y : ℕ). length (get_or written y [])) e
-        ∙ (ap (λ (row : List ℕ). length row) row_here ∙ (length-set (get_or now j []) k x
-        ∙ ap (λ (y : ℕ). length (get_or now y [])) (sym e)))
-    | inr differ ↦ ap (λ (row : List ℕ). length row) (get_or-set_other now j i (set (get_or now j []) k x) [] differ)
-  ]
-
-pub noted_none : (first count : ℕ) (slots : List Slot) (old : List (List ℕ)) → AreNoted 0 first count slots old old
-noted_none first count slots old = record {
-  long = refl;
-  rows = λ j. refl;
-  noted = λ i d below. absurd (omega arith);
-  others = λ j k none. refl;
-}
+  row_long i = grind (arith, cases_eq, row_here, length-set, get_or-set_other)
 
 pub noted_more : (n first count : ℕ) (slots : List Slot) (old now new : List (List ℕ))
     → AreNoted n first count slots old now

@@ -1,6 +1,6 @@
 -- The operations of one more step of a route.
-use Rattle.std.proofs.Common.{◌≡◌, ℕ, ◌+◌, Bool, List, [], ◌∷◌, ◌++◌}
-use Rattle.std.proofs.Common.{get_or, map, refl, sym, ◌∙◌, ap, eqb}
+use Rattle.std.proofs.Common.{arith, ◌≡◌, ℕ, ◌+◌, List, [], ◌∷◌, ◌++◌}
+use Rattle.std.proofs.Common.{get_or, map, eqb}
 use Rattle.std.proofs.Common.{append_assoc}
 use Rattle.std.specs.List.{filter, range_with_len}
 use Rattle.std.proofs.lemmas.Bool.{eq-eqb, ne_eqb}
@@ -20,18 +20,14 @@ pub added_in : (route : List Op) (m j k tail : ℕ) (old now new : List Slot)
     → new ≡ now ++ record { job = j; step = k; time = (get_or route k no_op).time; tail = tail } ∷ []
     → new ≡ old ++ map (slot_at route j)
     (filter (λ k. eqb (get_or route k no_op).machine m) (range_with_len 0 (k + 1)))
-added_in route m j k tail old now new before here is added =
-    let y : Slot = record { job = j; step = k; time = (get_or route k no_op).time; tail = tail }
-    in let test : ℕ → Bool = λ k. eqb (get_or route k no_op).machine m
-    in let e : filter test (range_with_len 0 (k + 1)) ≡ filter test (range_with_len 0 k) ++ k ∷ [] =
-    ap (filter test) (range_more k) ∙ filter-append test (range_with_len 0 k) (k ∷ [])
-    ∙ rw (eq-eqb (get_or route k no_op).machine m here) refl
-    in let f = ap (map (slot_at route j)) e ∙ map-append (slot_at route j) (filter test (range_with_len 0 k)) (k ∷ [])
-    in added ∙ ap (λ (ys : List Slot). ys ++ y ∷ []) before
-    ∙ append_assoc old (map (slot_at route j) (filter test (range_with_len 0 k))) (y ∷ [])
-    ∙ ap (λ (t : ℕ). old ++ (map (slot_at route j) (filter test (range_with_len 0 k))
-    ++ record { job = j; step = k; time = (get_or route k no_op).time; tail = t } ∷ [])) is
-    ∙ ap (λ (ys : List Slot). old ++ ys) (sym f)
+added_in route m j k tail old now new before here is added = grind (
+  arith,
+  range_more,
+  filter-append,
+  eq-eqb,
+  map-append,
+  append_assoc,
+)
 
 -- or on another
 pub added_out : (route : List Op) (m j k : ℕ) (old now : List Slot)
@@ -39,9 +35,4 @@ pub added_out : (route : List Op) (m j k : ℕ) (old now : List Slot)
     → ((get_or route k no_op).machine ≡ m → ⊥)
     → now ≡ old ++ map (slot_at route j)
     (filter (λ k. eqb (get_or route k no_op).machine m) (range_with_len 0 (k + 1)))
-added_out route m j k old now before out =
-    let test : ℕ → Bool = λ k. eqb (get_or route k no_op).machine m
-    in let e : filter test (range_with_len 0 (k + 1)) ≡ filter test (range_with_len 0 k) =
-    ap (filter test) (range_more k) ∙ filter-append test (range_with_len 0 k) (k ∷ [])
-    ∙ rw (ne_eqb (get_or route k no_op).machine m out) (append-nil (filter test (range_with_len 0 k)))
-    in before ∙ ap (λ (ys : List ℕ). old ++ map (slot_at route j) ys) (sym e)
+added_out route m j k old now before out = grind (arith, range_more, filter-append, ne_eqb, append-nil)

@@ -1,14 +1,12 @@
 -- A vector after a slice of all of it was written.
-use Rattle.std.proofs.Common.{◌≡◌, ℕ, List, [], ◌++◌, length, take, drop, ap, ◌∙◌, arith}
+use Rattle.std.proofs.Common.{◌≡◌, ℕ, List, ◌++◌, length, take, drop, ap, arith}
 use Rattle.std.specs.Prelude.{Vec}
 use Rattle.std.specs.declared.alloc.Global.{Global}
 use Rattle.std.proofs.lemmas.List.{append-nil, drop_all, take_all}
 
 written : {A : Type 0} (n : ℕ) (new old : List A) → length new ≡ n → length old ≡ n
     → take n (new ++ drop (length new) old) ≡ new
-written n new old e f =
-    let d : drop (length new) old ≡ [] = drop_all (length new) old (omega arith)
-    in ap (λ xs. take n (new ++ xs)) d ∙ (ap (λ xs. take n xs) (append-nil new) ∙ take_all n new (omega arith))
+written n new old e f = grind (arith, drop_all, append-nil, take_all)
 
 pub written_vec : {A : Type 0} (v : Vec A Global) (given new : List A) → given ≡ v.items → length new ≡ length given
     → take v.len (new ++ drop (length new) v.items) ≡ new

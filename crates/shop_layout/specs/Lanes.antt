@@ -1,5 +1,5 @@
 -- Heads and ends of a state, with the times and tails of a layout.
---     rows_of l heads ends           all of them
+--     rows_of l heads ends           the four rows together
 --     lanes_on rows l m              the lanes of machine m
 use Rattle.std.specs.Prelude.{ℕ, ◌+◌, List, slice_index}
 use Rattle.shop_lanes.specs.Rows.{Rows, Lane, lanes_between}

@@ -3,14 +3,14 @@
 --     LayoutState                    what a program keeps: numbers by position, by job and step,
 --                                    and by machine
 --     place l j k                    the position of step k of job j
---     place_or n rows j k            the same by rows, one a job, or n if the route has no such step
+--     place_or n rows j k            the position in the row of job j, or n if it has no step k
 --     AreMachinesOf blocks n ms      the machine of each position, of the first n machines
---     AreEven blocks each            each machine has so many blocks, if this isn't 0
+--     AreEven blocks each            each machine has `each` blocks, unless `each` is 0
 --     position_at_rank blocks m i    where rank i of machine m stands
 --     IsAt l q s                     operation s stands at position q
 --     IsFree shop l q                no operation of the instance stands there
---     IsPadding l q                  nothing is added up there
---     IsLaidOut shop l               it is the layout of the instance
+--     IsPadding l q                  time and tail are 0 at position q
+--     IsLaidOut shop l               l is the layout of the instance
 use Rattle.std.specs.Prelude.{◌≡◌, ℕ, ◌+◌, ◌-◌, ◌*◌, ◌^◌, ◌≤◌, ◌<◌, List, [], length, slice_index}
 use Rattle.std.specs.Prelude.{slice_index_or, if◌then◌else◌, nat_lt}
 use Rattle.shop_lanes.specs.Rows.{place_at_rank}
@@ -78,7 +78,7 @@ pub record IsPadding (l : LayoutState) (q : ℕ) : Type 0 where
   pub time : slice_index l.times q ≡ 0
   pub tail : slice_index l.tails q ≡ 0
 
--- as many positions as these in each list
+-- each row has n positions
 pub record HasPositions (l : LayoutState) (n : ℕ) : Type 0 where
   pub jobs : length l.jobs ≡ n
   pub steps : length l.steps ≡ n

@@ -1,6 +1,6 @@
 -- The operations of a machine as a program keeps them.
 --     operations_on shop m           the operations of machine m, job by job, step by step
---     AreSlotsOf shop m slots        these, in an order in which the tails fall
+--     AreSlotsOf shop m slots        the operations of machine m by nonincreasing tails
 use Rattle.std.specs.Prelude.{◌≡◌, ℕ, ◌<◌, ◌==◌, List, [], length, map, filter, flat_map}
 use Rattle.std.specs.Prelude.{slice_index_or, IsPermutation}
 use Rattle.std.specs.List.{range_with_len}
@@ -15,7 +15,7 @@ abbrev pub slot_at : List Op → ℕ → ℕ → Slot
 slot_at route j k =
     record { job = j; step = k; time = (slice_index_or route k no_op).time; tail = tail_in route k }
 
--- those of one job on machine m, and those of all jobs
+-- the operations of one job on machine m, and of all jobs
 abbrev pub operations_in : List Op → ℕ → ℕ → List Slot
 operations_in route m j = map (slot_at route j)
     (filter (λ k. (slice_index_or route k no_op).machine == m) (range_with_len 0 (length route)))

@@ -1,8 +1,8 @@
-// The operations of an instance by position, with their times and tails in lanes.
+// `Grid`: the operations of an instance by position, with their times and tails in lanes.
 ghost use Rattle.std.specs.Prelude.{◌≡◌, ◌<◌, All, IfOk, length, slice_index, slice_index_or, []};
 ghost use Rattle.std.specs.Prelude.{◌≤◌, ◌+◌, ◌-◌, ◌*◌, ◌^◌, map, max};
 ghost use Rattle.shop_lanes.specs.Rows.{AreBlocks, lanes_between};
-ghost use Rattle.shop_lanes.specs.Spans.{AreOwnSpans, FitOwnSpans, FitsSpan, IsRaisedBelow, span};
+ghost use Rattle.shop_lanes.specs.Spans.{AreOwnSpans, FitOwnSpans, FitsSpan, IsRaisedBelow};
 ghost use Rattle.shop_lanes.specs.Spans.{spans_between};
 ghost use Rattle.shop_layout.specs.Lanes.{rows_of};
 ghost use Rattle.shop_layout.specs.Positions.{AreEven};
@@ -13,12 +13,12 @@ use shop_lanes::StateLanes;
 use std::alloc::{AllocError as NoMemory, Global};
 use std::marker::Model;
 
-/// The same as positions, with times and tails in lanes.
+/// The layout of an instance, with times and tails in lanes. Contracts see the layout without lanes.
 #[derive(Drop)]
 pub struct Grid<L: StateLanes> {
     positions: Positions,
     fixed: L::Fixed,
-    /// how many blocks each machine has; 0 where they differ
+    /// the number of blocks of each machine, or 0 if not all machines have equally many
     blocks_each: usize,
 }
 
@@ -35,7 +35,7 @@ impl<L: StateLanes> Model for Grid<L> {
         × AreEven g.positions.blocks g.blocks_each };
 }
 
-/// How many blocks each machine has, by the first block of each; 0 where they differ.
+/// Answers the number of blocks of each machine, or 0 if not all machines have equally many.
 fn even_blocks(blocks: &[u32]) -> usize
     ensures { AreEven blocks.now result }
 {
@@ -54,7 +54,7 @@ fn even_blocks(blocks: &[u32]) -> usize
 }
 
 impl<L: StateLanes> Grid<L> {
-    /// Of these positions. Fails with `NoMemory` if memory runs out.
+    /// Makes a grid of `positions`, with their times and tails in lanes. Fails with `NoMemory` if memory runs out.
     pub(crate) fn of(alloc: Global, positions: Positions) -> Result<Grid<L>, NoMemory>
         requires times { All (λ t. t ≤ L.GREATEST) positions.times }
         requires tails { All (λ t. t ≤ L.GREATEST) positions.tails }
@@ -69,60 +69,60 @@ impl<L: StateLanes> Grid<L> {
         })
     }
 
-    /// What is read along routes.
+    /// The rows of the layout that a walk along a route reads: jobs, machines, times and next positions.
     #[inline(always)]
     pub fn routes(&self) -> Routes
         ensures { result ≡ self.now }
     {
-        self.positions.routes()
+        Routes::of(&self.positions)
     }
 
-    /// The job of the operation at a position.
+    /// The job of the operation at `position`.
     #[inline(always)]
     pub fn job(&self, position: usize) -> usize
         requires { position < length self.now.jobs }
         ensures { result ≡ slice_index self.now.jobs position }
     {
-        self.positions.job(position)
+        self.positions.jobs[position] as usize
     }
 
-    /// The step of its job's route that stands at a position.
+    /// The step of the operation at `position`, counted from 0 on its job's route.
     #[inline(always)]
     pub fn step(&self, position: usize) -> usize
         requires { position < length self.now.steps }
         ensures { result ≡ slice_index self.now.steps position }
     {
-        self.positions.step(position)
+        self.positions.steps[position] as usize
     }
 
-    /// The time of the operation at a position.
+    /// The time of the operation at `position`.
     #[inline(always)]
     pub fn time(&self, position: usize) -> u64
         requires { position < length self.now.times }
         ensures { result ≡ slice_index self.now.times position }
     {
-        self.positions.time(position)
+        self.positions.times[position]
     }
 
-    /// The positions of the steps of a job.
+    /// The position of each step of `job`.
     #[inline(always)]
     pub fn places(&self, job: usize) -> &[u32]
         requires { job < length self.now.places }
         ensures { result.now ≡ slice_index_or self.now.places job [] }
     {
-        self.positions.places(job)
+        self.positions.places[job].as_slice()
     }
 
-    /// The first block of a machine, or the number of all blocks behind the last one's.
+    /// The first block of `machine`; the number of all blocks if `machine` is the number of machines.
     #[inline(always)]
     pub fn block(&self, machine: usize) -> usize
         requires { machine < length self.now.blocks }
         ensures { result ≡ slice_index self.now.blocks machine }
     {
-        self.positions.block(machine)
+        self.positions.blocks[machine] as usize
     }
 
-    /// How many blocks each machine has; 0 where they differ.
+    /// The number of blocks of each machine, or 0 if not all machines have equally many.
     #[inline(always)]
     pub fn blocks_each(&self) -> usize
         ensures { AreEven self.now.blocks result }
@@ -130,7 +130,8 @@ impl<L: StateLanes> Grid<L> {
         self.blocks_each
     }
 
-    /// The first block of a machine and the one behind its last, where each machine has so many blocks, or this is 0.
+    /// The first block of `machine`, and the block behind its last block. `each` is the number of blocks of each
+    /// machine, or 0 if unknown.
     #[inline(always)]
     pub fn blocks_of(&self, each: usize, machine: usize) -> (usize, usize)
         requires even { AreEven self.now.blocks each }
@@ -147,51 +148,43 @@ impl<L: StateLanes> Grid<L> {
         (first, first + each)
     }
 
-    /// The machine of the operation at each position.
+    /// The machine of each position.
     #[inline(always)]
     pub fn machines(&self) -> &[u32]
         ensures { result.now ≡ self.now.machines }
     {
-        self.positions.machines()
+        self.positions.machines.as_slice()
     }
 
-    /// The position of the step that follows on the route of the operation at a position, or the number of all
-    /// positions.
-    #[inline(always)]
-    pub fn following(&self, position: usize) -> usize
-        requires { position < length self.now.following }
-        ensures { result ≡ slice_index self.now.following position }
-    {
-        self.positions.following(position)
-    }
-
-    /// The same as a number of 32 bits.
+    /// The next position on the route of the operation at `position`; the number of all positions at the route's end.
     #[inline(always)]
     pub fn next_behind(&self, position: usize) -> u32
         requires { position < length self.now.following }
         ensures { result ≡ slice_index self.now.following position }
     {
-        self.positions.next_behind(position)
+        self.positions.following[position]
     }
 
-    /// How many positions there are, as a number of 32 bits.
+    /// The number of all positions, as a `u32`. `next_behind` answers it at the end of a route.
     #[inline(always)]
     pub fn end(&self) -> u32
         ensures { result ≡ length self.now.following }
     {
-        self.positions.end()
+        self.positions.end
     }
 
-    /// How many positions there are.
+    /// The number of all positions.
     #[inline(always)]
     pub fn positions(&self) -> usize
         ensures { result ≡ length self.now.following }
     {
-        self.positions.positions()
+        self.positions.following.len()
     }
 
-    /// The greatest of `most` and the spans from each head above `above` and up to `upto` on, in these blocks; once
-    /// that reaches the limit, any number between the limit and it. `count` is the number of these blocks, or 0.
+    /// Answers `most` or, if greater, the greatest span from a head above `above` and at most `upto` in blocks `from`
+    /// up to `to` (excluded). The span from a head is the greatest end, tail included, of the operations with no lesser
+    /// head, served by rank from that head on. Stops early once the bound reaches `limit`. `count` is `to` - `from`, or
+    /// 0 if unknown.
     #[inline(always)]
     pub fn bound_raised(
         &self,
@@ -219,7 +212,8 @@ impl<L: StateLanes> Grid<L> {
         lanes.bound_raised(&self.fixed, count, from, to, above, upto, most, limit)
     }
 
-    /// The own spans of what waits in these blocks, from the first of the room on.
+    /// Writes to the start of `owns` the own span of each waiting operation in blocks `from` up to `to` (excluded): how
+    /// late the operation, and the others with their tails, end if it goes first at its head.
     #[inline(always)]
     pub fn own_spans(&self, lanes: &L, from: usize, to: usize, owns: &mut [L::Number])
         requires blocks { AreBlocks (rows_of self.now (L.heads lanes.now) (L.ends lanes.now))
@@ -235,22 +229,5 @@ impl<L: StateLanes> Grid<L> {
     {
         let owns = &mut owns[..8 * (to - from)];
         lanes.own_spans(&self.fixed, from, to, owns);
-    }
-
-    /// When the last of what waits in these blocks ends, its tail included, if it is served by rank, from 0 on; 0 if
-    /// nothing waits.
-    #[inline(always)]
-    pub fn load(&self, lanes: &L, from: usize, to: usize) -> u64
-        requires blocks { AreBlocks (rows_of self.now (L.heads lanes.now) (L.ends lanes.now))
-            from to }
-        requires times { length self.now.times ≡ length (L.heads lanes.now) }
-        requires tails { length self.now.tails ≡ length self.now.times }
-        requires greatest { 1 ≤ L.GREATEST }
-        requires fits { FitsSpan L.GREATEST 0 (lanes_between
-            (rows_of self.now (L.heads lanes.now) (L.ends lanes.now)) from to) }
-        ensures { result ≡ span 1 0 (lanes_between
-            (rows_of self.now (L.heads lanes.now) (L.ends lanes.now)) from to) }
-    {
-        lanes.load(&self.fixed, from, to, 1)
     }
 }

@@ -1,4 +1,4 @@
-// An instance laid out in lanes of one width.
+// `LaidOut`: an instance with its layout in lanes of one width.
 ghost use Rattle.std.specs.Prelude.{◌≡◌, IfOk};
 ghost use Rattle.shop_layout.specs.LaidOuts.{IsReady};
 
@@ -9,13 +9,13 @@ use shop_model::Instance;
 use std::alloc::{AllocError as NoMemory, Global};
 use std::marker::Model;
 
-/// An instance with its operations by position, their times and tails in lanes of one width.
+/// An instance, and its operations by position with times and tails in lanes of one width.
 pub struct LaidOut<'a, L: StateLanes> {
     instance: &'a Instance,
     grid: Grid<L>,
 }
 
-// Written out, so that those who let go of a layout call it, and don't go through all that it holds.
+// Written by hand so that code that drops a layout calls this one function and does not drop each field itself.
 impl<L: StateLanes> Drop for LaidOut<'_, L> {
     fn drop(self) {
         let LaidOut {
@@ -36,7 +36,7 @@ impl<'a, L: StateLanes> Model for LaidOut<'a, L> {
 }
 
 impl<'a, L: StateLanes> LaidOut<'a, L> {
-    /// Of an instance and the positions of its operations. Fails with `NoMemory` if memory runs out.
+    /// Puts `positions`, the layout of `instance`, into lanes. Fails with `NoMemory` if memory runs out.
     pub(crate) fn of(
         alloc: Global,
         instance: &'a Instance,
@@ -56,7 +56,7 @@ impl<'a, L: StateLanes> LaidOut<'a, L> {
         self.instance
     }
 
-    /// Its operations by position. Lanes of this width hold what may be dispatched of the instance.
+    /// The layout in lanes, which are wide enough for each head and each end that dispatches can reach.
     #[inline(always)]
     pub fn grid(&self) -> &Grid<L>
         ensures grid { result.now ≡ self.now.layout }

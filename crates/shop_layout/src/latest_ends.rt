@@ -1,4 +1,4 @@
-// How late operations can end at most, and how much time a machine's operations take.
+// How late an operation can end, and the greatest load of a machine: they decide the width of lanes.
 ghost use Rattle.std.specs.Prelude.{◌≡◌, ℕ, ◌+◌, ◌*◌, ◌≤◌, ◌<◌, ◌^◌, length};
 ghost use Rattle.shop_lanes.specs.Rows.{blocks};
 ghost use Rattle.shop_layout.specs.HeadLimits.{latest_end, load_of, load_on};
@@ -8,8 +8,7 @@ use crate::positions::Positions;
 use shop_bound::total_time;
 use shop_model::Instance;
 
-/// The latest release and all times together: no operation ends later if each is placed as soon as its job and its
-/// machine can.
+/// Answers the latest release plus all times: in a semi-active schedule no operation ends later than this sum.
 pub(crate) fn latest_end(instance: &Instance) -> u64
     ensures latest { result ≡ latest_end instance.now }
     ensures small { result < 2 ^ 48 }
@@ -24,7 +23,7 @@ pub(crate) fn latest_end(instance: &Instance) -> u64
     release + total
 }
 
-/// All times and the greatest tail.
+/// Answers the sum of `times` plus the greatest of `tails`.
 fn load_of(times: &[u64], tails: &[u64]) -> u64
     requires { load_of times.now tails.now < 2 ^ 48 }
     ensures { result ≡ load_of times.now tails.now }
@@ -40,7 +39,7 @@ fn load_of(times: &[u64], tails: &[u64]) -> u64
     total + greatest
 }
 
-/// The total time of these blocks and their greatest tail.
+/// Answers the total time plus the greatest tail of the operations in blocks `from` up to `to` (excluded).
 fn load_of_blocks(times: &[u64], tails: &[u64], from: usize, to: usize) -> u64
     requires ordered { from ≤ to }
     requires times { 8 * to ≤ length times.now }
@@ -51,7 +50,7 @@ fn load_of_blocks(times: &[u64], tails: &[u64], from: usize, to: usize) -> u64
     load_of(&times[8 * from..8 * to], &tails[8 * from..8 * to])
 }
 
-/// The greatest, over the machines, of a machine's total time and its greatest tail.
+/// The greatest, over machines, of total time plus greatest tail.
 pub(crate) fn greatest_load(layout: &Positions, instance: &Instance) -> u64
     requires { IsLaidOut instance.now layout.now }
     ensures each { (m : ℕ) → m < instance.now.machines → load_on layout.now m ≤ result }

@@ -1,4 +1,4 @@
-// The operations of an instance come to their positions.
+// Puts the operations of an instance at their positions.
 ghost use Rattle.std.specs.Prelude.{◌≡◌, ℕ, ◌+◌, ◌-◌, ◌*◌, ◌/◌, ◌%◌, ◌<◌, ◌≤◌, ◌^◌, All, IfOk, OnOk};
 ghost use Rattle.std.specs.Prelude.{length, map, slice_index};
 ghost use Rattle.shop_lanes.specs.Rows.{place_at_rank};
@@ -14,7 +14,7 @@ use crate::slots::Slot;
 use shop_model::Instance;
 use std::alloc::{AllocError as NoMemory, Global};
 
-/// Padding.
+/// The slot at padding: its time and tail are 0.
 const NO_SLOT: Slot = Slot {
     job: 0,
     step: 0,
@@ -22,14 +22,14 @@ const NO_SLOT: Slot = Slot {
     tail: 0,
 };
 
-/// The operations of all machines by position, and the first block of each machine.
+/// The slot at each position in `slots`; the first block of each machine, then the number of all blocks, in `blocks`.
 #[derive(Drop)]
 pub(crate) struct Cells {
     pub slots: Vec<Slot>,
     pub blocks: Vec<u32>,
 }
 
-/// The rank of a place in so many blocks.
+/// The rank of `place` in `count` blocks: ranks run down the first lanes of all blocks, then down the second lanes.
 fn rank_of(count: usize, place: usize) -> usize
     requires place { place < 8 * count }
     requires small { 8 * count < 2 ^ 32 }
@@ -38,7 +38,7 @@ fn rank_of(count: usize, place: usize) -> usize
     place % 8 * count + place / 8
 }
 
-/// Adds so many blocks, in which a list stands down the columns, and padding behind it.
+/// Adds `count` blocks to `slots`, with the operations of `list` down their columns and padding behind.
 fn add_blocks(slots: &mut Vec<Slot>, list: &[Slot], count: usize) -> Result<(), NoMemory>
     requires { 8 * count < 2 ^ 32 }
     ensures { OnOk result (AreAdded list.now count (8 * count) slots.old.items slots.new.items) }
@@ -55,7 +55,9 @@ fn add_blocks(slots: &mut Vec<Slot>, list: &[Slot], count: usize) -> Result<(), 
     Ok(())
 }
 
-/// The lists one after another, each down the columns of as many blocks of eight positions as it needs.
+/// Lays out `lists`, the operations of each machine, machine after machine. Each list gets whole blocks of eight: it
+/// runs down the first lanes of its blocks, then down the second lanes, and so on, and padding fills the rest.
+/// Fails with `NoMemory` if memory runs out.
 pub(crate) fn cells_of(alloc: Global, lists: &[Vec<Slot>]) -> Result<Cells, NoMemory>
     requires few { length lists.now ≤ MAX_MACHINES }
     requires short { AreShorter (MAX_JOBS * MAX_STEPS) (items_in lists.now) }
@@ -73,7 +75,7 @@ pub(crate) fn cells_of(alloc: Global, lists: &[Vec<Slot>]) -> Result<Cells, NoMe
     Ok(Cells { slots, blocks })
 }
 
-/// The jobs of the cells.
+/// The job of each slot, in order of position.
 pub(crate) fn jobs_of(alloc: Global, slots: &[Slot]) -> Result<Vec<u32>, NoMemory>
     requires { All (λ s. s.job < 2 ^ 32) slots.now }
     ensures { IfOk result (λ v. v.items ≡ map (λ s. s.job) slots.now) }
@@ -85,7 +87,7 @@ pub(crate) fn jobs_of(alloc: Global, slots: &[Slot]) -> Result<Vec<u32>, NoMemor
     Ok(jobs)
 }
 
-/// The steps of the cells.
+/// The step of each slot, in order of position.
 pub(crate) fn steps_of(alloc: Global, slots: &[Slot]) -> Result<Vec<u32>, NoMemory>
     requires { All (λ s. s.step < 2 ^ 32) slots.now }
     ensures { IfOk result (λ v. v.items ≡ map (λ s. s.step) slots.now) }
@@ -97,21 +99,21 @@ pub(crate) fn steps_of(alloc: Global, slots: &[Slot]) -> Result<Vec<u32>, NoMemo
     Ok(steps)
 }
 
-/// The times of the cells.
+/// The time of each slot, in order of position.
 pub(crate) fn times_of(alloc: Global, slots: &[Slot]) -> Result<Vec<u64>, NoMemory>
     ensures { IfOk result (λ v. v.items ≡ map (λ s. s.time) slots.now) }
 {
     slots.iter().map(|s| s.time).collect(alloc)
 }
 
-/// The tails of the cells.
+/// The tail of each slot, in order of position.
 pub(crate) fn tails_of(alloc: Global, slots: &[Slot]) -> Result<Vec<u64>, NoMemory>
     ensures { IfOk result (λ v. v.items ≡ map (λ s. s.tail) slots.now) }
 {
     slots.iter().map(|s| s.tail).collect(alloc)
 }
 
-/// A row for each job, as long as its route.
+/// Makes a row of zeros for each job, as long as the job's route.
 fn empty_places(alloc: Global, instance: &Instance) -> Result<Vec<Vec<u32>>, NoMemory>
     ensures { IfOk result (λ v. HasRoutes instance.now (items_in v.items)) }
 {
@@ -122,7 +124,7 @@ fn empty_places(alloc: Global, instance: &Instance) -> Result<Vec<Vec<u32>>, NoM
     Ok(places)
 }
 
-/// The place of a rank in so many blocks: ranks run down the first lanes of all of them, then down the second ones.
+/// The place of `rank` in `count` blocks: ranks run down the first lanes of all blocks, then down the second lanes.
 fn place_at_rank(count: usize, rank: usize) -> usize
     requires rank { rank < 8 * count }
     requires small { 8 * count < 2 ^ 32 }
@@ -132,7 +134,7 @@ fn place_at_rank(count: usize, rank: usize) -> usize
     8 * (rank % count) + rank / count
 }
 
-/// Writes the positions of a machine's operations, which stand in so many blocks down their columns.
+/// Writes into `places` the positions of `slots`: down the columns of `count` blocks from position `first` on.
 fn note_places(places: &mut [Vec<u32>], slots: &[Slot], first: usize, count: usize)
     requires rows { All (IsInRows (items_in places.old)) slots.now }
     requires apart { AreApart slots.now }
@@ -148,7 +150,7 @@ fn note_places(places: &mut [Vec<u32>], slots: &[Slot], first: usize, count: usi
     }
 }
 
-/// The position of each step of each job.
+/// Answers the position of each step of each job. The operations of `lists[m]` are in the blocks of machine m.
 pub(crate) fn places_of(
     alloc: Global,
     instance: &Instance,
@@ -176,7 +178,7 @@ pub(crate) fn places_of(
     Ok(places)
 }
 
-/// The position of the step that follows each cell's on its route, or the number of all positions where none does.
+/// For each slot, the position of the next step on its job's route, or the number of all positions if the route ends.
 pub(crate) fn following_of(
     alloc: Global,
     slots: &[Slot],
@@ -201,7 +203,7 @@ pub(crate) fn following_of(
     Ok(following)
 }
 
-/// The machine of each cell, by the first block of each machine.
+/// The machine of each position. `blocks` holds the first block of each machine, then the number of all blocks.
 pub(crate) fn machines_of(alloc: Global, blocks: &[u32]) -> Result<Vec<u32>, NoMemory>
     requires from_0 { slice_index blocks.now 0 ≡ 0 }
     requires some { 0 < length blocks.now }

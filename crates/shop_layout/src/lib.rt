@@ -1,4 +1,4 @@
-// Where the operations of an instance stand, in lanes as narrow as it allows.
+// The layout of an instance: the position of each operation, and lanes as narrow as the instance allows.
 #![tactic(auto)]
 
 mod grid;

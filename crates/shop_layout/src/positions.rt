@@ -1,38 +1,37 @@
-// The operations of an instance by position.
-ghost use Rattle.std.specs.Prelude.{◌≡◌, ◌<◌, IfOk, length, slice_index, slice_index_or, []};
+// `Positions`: the operations of an instance by position.
+ghost use Rattle.std.specs.Prelude.{◌≡◌, ◌<◌, IfOk, length, slice_index};
 ghost use Rattle.shop_layout.specs.Positions.{IsLaidOut};
 
 use crate::layings::{
     Cells, cells_of, following_of, jobs_of, machines_of, places_of, steps_of, tails_of, times_of,
 };
-use crate::routes::Routes;
 use crate::slots::machine_slots;
 use shop_model::Instance;
 use std::alloc::{AllocError as NoMemory, Global};
 use std::marker::Model;
 
 /// The operations of an instance by position: machine after machine, each in whole blocks of eight positions with
-/// padding, on a machine by nonincreasing tail down the columns of its blocks.
+/// padding. A machine's operations run by nonincreasing tail down the columns of its blocks.
 #[derive(Drop)]
 pub(crate) struct Positions {
-    /// jobs[position], 0 at padding
-    jobs: Vec<u32>,
-    /// steps[position], 0 at padding
-    steps: Vec<u32>,
-    /// times[position], 0 at padding
-    times: Vec<u64>,
-    /// tails[position], 0 at padding
-    tails: Vec<u64>,
-    /// places[job][step]: the position of the operation
-    places: Vec<Vec<u32>>,
-    /// blocks[machine]: its first block; behind the last machine's the number of all blocks
-    blocks: Vec<u32>,
-    /// machines[position]
-    machines: Vec<u32>,
-    /// following[position]: the position of the step that follows on the route, or the number of all positions
-    following: Vec<u32>,
+    /// the job of the operation at each position, 0 at padding
+    pub(crate) jobs: Vec<u32>,
+    /// the step of the operation at each position, 0 at padding
+    pub(crate) steps: Vec<u32>,
+    /// the time of the operation at each position, 0 at padding
+    pub(crate) times: Vec<u64>,
+    /// the tail of the operation at each position, 0 at padding
+    pub(crate) tails: Vec<u64>,
+    /// the position of each operation, by job and step
+    pub(crate) places: Vec<Vec<u32>>,
+    /// the first block of each machine, then the number of all blocks
+    pub(crate) blocks: Vec<u32>,
+    /// the machine of each position
+    pub(crate) machines: Vec<u32>,
+    /// for each position, the position of the next step on the route; the number of all positions at a route's end
+    pub(crate) following: Vec<u32>,
     /// the number of all positions
-    end: u32,
+    pub(crate) end: u32,
 }
 
 impl Model for Positions {
@@ -57,7 +56,7 @@ impl Model for Positions {
 }
 
 impl Positions {
-    /// The layout of an instance. Fails with `NoMemory` if memory runs out.
+    /// Lays out the operations of `instance` by position. Fails with `NoMemory` if memory runs out.
     pub(crate) fn of(alloc: Global, instance: &Instance) -> Result<Positions, NoMemory>
         ensures { IfOk result (λ l. IsLaidOut instance.now l) }
     {
@@ -78,69 +77,21 @@ impl Positions {
         })
     }
 
-    /// What is read along routes.
-    #[inline(always)]
-    pub(crate) fn routes(&self) -> Routes
-        ensures { result ≡ self.now }
-    {
-        Routes::of(
-            self,
-            self.jobs.as_slice(),
-            self.machines.as_slice(),
-            self.times.as_slice(),
-            self.following.as_slice(),
-        )
-    }
-
-    /// The job of the operation at a position.
-    pub(crate) fn job(&self, position: usize) -> usize
-        requires { position < length self.now.jobs }
-        ensures { result ≡ slice_index self.now.jobs position }
-    {
-        self.jobs[position] as usize
-    }
-
-    /// The step of its job's route that stands at a position.
-    #[inline(always)]
-    pub(crate) fn step(&self, position: usize) -> usize
-        requires { position < length self.now.steps }
-        ensures { result ≡ slice_index self.now.steps position }
-    {
-        self.steps[position] as usize
-    }
-
-    /// The time of the operation at a position.
-    #[inline(always)]
-    pub(crate) fn time(&self, position: usize) -> u64
-        requires { position < length self.now.times }
-        ensures { result ≡ slice_index self.now.times position }
-    {
-        self.times[position]
-    }
-
-    /// The time of the operation at each position.
+    /// The time of the operation at each position, 0 at padding.
     pub(crate) fn times(&self) -> &[u64]
         ensures { result.now ≡ self.now.times }
     {
         self.times.as_slice()
     }
 
-    /// The tail of the operation at each position.
+    /// The tail of the operation at each position, 0 at padding.
     pub(crate) fn tails(&self) -> &[u64]
         ensures { result.now ≡ self.now.tails }
     {
         self.tails.as_slice()
     }
 
-    /// The positions of the steps of a job.
-    pub(crate) fn places(&self, job: usize) -> &[u32]
-        requires { job < length self.now.places }
-        ensures { result.now ≡ slice_index_or self.now.places job [] }
-    {
-        self.places[job].as_slice()
-    }
-
-    /// The first block of a machine, or the number of all blocks behind the last one's.
+    /// The first block of `machine`; the number of all blocks if `machine` is the number of machines.
     pub(crate) fn block(&self, machine: usize) -> usize
         requires { machine < length self.now.blocks }
         ensures { result ≡ slice_index self.now.blocks machine }
@@ -148,50 +99,10 @@ impl Positions {
         self.blocks[machine] as usize
     }
 
-    /// The first block of each machine, and behind the last one's the number of all blocks.
+    /// The first block of each machine, then the number of all blocks.
     pub(crate) fn blocks(&self) -> &[u32]
         ensures { result.now ≡ self.now.blocks }
     {
         self.blocks.as_slice()
-    }
-
-    /// The machine of the operation at each position.
-    pub(crate) fn machines(&self) -> &[u32]
-        ensures { result.now ≡ self.now.machines }
-    {
-        self.machines.as_slice()
-    }
-
-    /// The position of the step that follows on the route of the operation at a position, or the number of all
-    /// positions.
-    pub(crate) fn following(&self, position: usize) -> usize
-        requires { position < length self.now.following }
-        ensures { result ≡ slice_index self.now.following position }
-    {
-        self.following[position] as usize
-    }
-
-    /// The same as a number of 32 bits.
-    #[inline(always)]
-    pub(crate) fn next_behind(&self, position: usize) -> u32
-        requires { position < length self.now.following }
-        ensures { result ≡ slice_index self.now.following position }
-    {
-        self.following[position]
-    }
-
-    /// How many positions there are, as a number of 32 bits.
-    #[inline(always)]
-    pub(crate) fn end(&self) -> u32
-        ensures { result ≡ length self.now.following }
-    {
-        self.end
-    }
-
-    /// How many positions there are.
-    pub(crate) fn positions(&self) -> usize
-        ensures { result ≡ length self.now.following }
-    {
-        self.following.len()
     }
 }

@@ -1,15 +1,14 @@
-// What is read of operations along their routes.
+// `Routes`: the rows of a layout that a walk along a route reads.
 ghost use Rattle.std.specs.Prelude.{◌≡◌, ◌<◌, length, slice_index};
-ghost use Rattle.shop_layout.specs.inner.RouteRows.{AreSmallRows};
 
 use crate::positions::Positions;
 use std::marker::Model;
 
-/// The rows that are read along routes, looked up once: a walk that writes at each step would look them up anew at each
-/// step. To contracts the same as the positions.
+/// The rows of a layout that a walk along a route reads, looked up once: a walk that writes at each step would
+/// otherwise look them up anew at each step. Contracts see the layout.
 #[derive(Drop)]
 pub struct Routes<'a> {
-    /// proofs alone read it
+    /// the layout, which only proofs read
     positions: &'a Positions,
     jobs: &'a [u32],
     machines: &'a [u32],
@@ -34,32 +33,21 @@ impl<'a> Model for Routes<'a> {
 }
 
 impl<'a> Routes<'a> {
-    /// Of positions with these rows.
+    /// Looks up the rows of the layout `positions`.
     #[inline(always)]
-    pub(crate) fn of(
-        positions: &'a Positions,
-        jobs: &'a [u32],
-        machines: &'a [u32],
-        times: &'a [u64],
-        following: &'a [u32],
-    ) -> Routes<'a>
-        requires jobs { jobs.now ≡ positions.now.jobs }
-        requires machines { machines.now ≡ positions.now.machines }
-        requires times { times.now ≡ positions.now.times }
-        requires following { following.now ≡ positions.now.following }
-        requires small { AreSmallRows positions.now }
+    pub(crate) fn of(positions: &'a Positions) -> Routes<'a>
         ensures { result ≡ positions.now }
     {
         Routes {
             positions,
-            jobs,
-            machines,
-            times,
-            following,
+            jobs: positions.jobs.as_slice(),
+            machines: positions.machines.as_slice(),
+            times: positions.times.as_slice(),
+            following: positions.following.as_slice(),
         }
     }
 
-    /// The job of the operation at a position.
+    /// The job of the operation at `position`.
     #[inline(always)]
     pub fn job(&self, position: usize) -> usize
         requires { position < length self.now.jobs }
@@ -69,7 +57,7 @@ impl<'a> Routes<'a> {
         jobs[position] as usize
     }
 
-    /// The machine of the operation at a position.
+    /// The machine of the operation at `position`.
     #[inline(always)]
     pub fn machine(&self, position: usize) -> u32
         requires { position < length self.now.machines }
@@ -79,7 +67,7 @@ impl<'a> Routes<'a> {
         machines[position]
     }
 
-    /// The time of the operation at a position.
+    /// The time of the operation at `position`.
     #[inline(always)]
     pub fn time(&self, position: usize) -> u64
         requires { position < length self.now.times }
@@ -89,8 +77,7 @@ impl<'a> Routes<'a> {
         times[position]
     }
 
-    /// The position of the step that follows on the route of the operation at a position, or the number of all
-    /// positions.
+    /// The next position on the route of the operation at `position`; the number of all positions at the route's end.
     #[inline(always)]
     pub fn following(&self, position: usize) -> usize
         requires { position < length self.now.following }

@@ -1,4 +1,4 @@
-// The operations of each machine by nonincreasing tails.
+// Lists the operations of each machine by nonincreasing tail.
 ghost use Rattle.std.specs.Prelude.{◌≡◌, ℕ, ◌<◌, [], slice_index_or, IfOk, OnOk, length, map};
 ghost use Rattle.std.specs.Prelude.{replicate};
 ghost use Rattle.shop_model.specs.Shop.{no_op};
@@ -12,7 +12,7 @@ use shop_model::{Instance, Op};
 use std::alloc::{AllocError as NoMemory, Global};
 use std::cmp::Reverse;
 
-/// An operation as its machine sees it: its job and step, its time and its tail.
+/// An operation on its machine: its job and its step, both counted from 0, its time and its tail.
 #[derive(Clone, Copy, Debug, PartialEq, Eq)]
 pub struct Slot {
     pub job: usize,
@@ -21,7 +21,7 @@ pub struct Slot {
     pub tail: u64,
 }
 
-/// Adds the operations of one job to the lists of their machines.
+/// Adds the operations of `route`, the route of `job`, to the lists of their machines.
 fn add_operations(lists: &mut [Vec<Slot>], route: &[Op], job: usize) -> Result<(), NoMemory>
     requires times { AreTimesSmall route.now }
     requires machines { (k : ℕ) → (slice_index_or route.now k no_op).machine < length lists.old }
@@ -43,7 +43,7 @@ fn add_operations(lists: &mut [Vec<Slot>], route: &[Op], job: usize) -> Result<(
     Ok(())
 }
 
-/// An empty list for each machine, with room for one operation of each job.
+/// Makes an empty list for each machine, with room for one operation of each job.
 fn empty_lists(alloc: Global, instance: &Instance) -> Result<Vec<Vec<Slot>>, NoMemory>
     ensures { IfOk result (λ v. items_in v.items ≡ replicate instance.now.machines []) }
 {
@@ -56,7 +56,7 @@ fn empty_lists(alloc: Global, instance: &Instance) -> Result<Vec<Vec<Slot>>, NoM
     Ok(lists)
 }
 
-/// The operations of each machine, job by job.
+/// Lists the operations of each machine, job by job.
 fn operations_by_machine(alloc: Global, instance: &Instance) -> Result<Vec<Vec<Slot>>, NoMemory>
     ensures { IfOk result (λ v. AreOperations instance.now (map (λ slots. slots.items) v.items)) }
 {
@@ -67,7 +67,7 @@ fn operations_by_machine(alloc: Global, instance: &Instance) -> Result<Vec<Vec<S
     Ok(lists)
 }
 
-/// The operations of each machine, by nonincreasing tails. Fails with `NoMemory` if memory runs out.
+/// Lists the operations of each machine by nonincreasing tail. Fails with `NoMemory` if memory runs out.
 pub(crate) fn machine_slots(alloc: Global, instance: &Instance) -> Result<Vec<Vec<Slot>>, NoMemory>
     ensures { IfOk result (λ v. AreMachineSlots instance.now (map (λ slots. slots.items) v.items)) }
 {

@@ -63,10 +63,7 @@ are_apart-true shop starts j k i l h e =
     ]
 
 is_before-true : (j k i l : ℕ) → IsBefore j k i l → is_before j k i l ≡ true
-is_before-true j k i l before = elim before [
-  | inl h ↦ or_left (ltb j i) (eqb j i && ltb k l) (lt-ltb j i h)
-  | inr h ↦ or_right (ltb j i) (eqb j i && ltb k l) (and_from (eqb j i) (ltb k l) (eq-eqb j i h.0) (lt-ltb k l h.1))
-]
+is_before-true j k i l before = grind (arith, or_left, lt-ltb, or_right, and_from, eq-eqb)
 
 -- what is no case, or is true
 unless : (a b : Bool) → (not a || b) ≡ true → a ≡ true → b ≡ true

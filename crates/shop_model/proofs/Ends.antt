@@ -1,20 +1,16 @@
 -- The end of a table, and feasible tables by when each operation may begin.
-use Rattle.std.proofs.Common.{◌≡◌, ℕ, zero, suc, ◌≤◌, ◌<◌, ◌⊎◌, inl, inr, length, ap, arith}
+use Rattle.std.proofs.Common.{◌≡◌, ℕ, zero, suc, ◌≤◌, ◌<◌, ◌⊎◌, inl, inr, length, arith}
 use Rattle.std.proofs.Common.{add-one}
 use Rattle.std.proofs.lemmas.Bool.{cases_eq, cases_lt}
 use Rattle.std.proofs.lemmas.List.{get_or_past}
-use Rattle.shop_model.specs.Shop.{Shop, ShopJob, Starts, no_job, route_of, machine_of, IsOperation}
+use Rattle.shop_model.specs.Shop.{Shop, Starts, route_of, machine_of, IsOperation}
 use Rattle.shop_model.specs.Shop.{IsFeasible, finish_of, AreDifferent, end_of, greatest_below}
 use Rattle.shop_model.specs.Checking.{NoneEarly}
 use Rattle.shop_model.proofs.Greatest.{le-greatest_below, greatest_below-le}
 
 -- an operation is one of a job
 pub IsOperation-job : (shop : Shop) (i l : ℕ) → IsOperation shop i l → i < length shop.jobs
-IsOperation-job shop i l op = elim (cases_lt i (length shop.jobs)) [
-  | inl h ↦ h
-  | inr h ↦ (let e : length (route_of shop i) ≡ 0 =
-      ap (λ (j : ShopJob). length j.route) (get_or_past shop.jobs i no_job h) in absurd (omega arith))
-]
+IsOperation-job shop i l op = grind (arith, cases_lt, get_or_past)
 
 -- each operation ends by the end
 pub le-end_of : (shop : Shop) (starts : Starts) (i l : ℕ) → IsOperation shop i l
@@ -28,10 +24,7 @@ le-end_of shop starts i l op =
 -- and where each ends by b, so does the table
 pub end_of-le : (shop : Shop) (starts : Starts) (b : ℕ)
     → ((i l : ℕ) → IsOperation shop i l → finish_of shop starts i l ≤ b) → end_of shop starts ≤ b
-end_of-le shop starts b h =
-    greatest_below-le (λ j. greatest_below (length (route_of shop j)) (λ k. finish_of shop starts j k))
-    (length shop.jobs) b
-    (λ i below. greatest_below-le (λ k. finish_of shop starts i k) (length (route_of shop i)) b (λ l op. h i l op))
+end_of-le shop starts b h = grind (arith, greatest_below-le)
 
 -- in a feasible table each operation begins in time
 pub feasible-in_time : (shop : Shop) (starts : Starts) → IsFeasible shop starts → NoneEarly shop starts

@@ -1,5 +1,5 @@
 -- Instances that were given as rows, or as jobs.
-use Rattle.std.proofs.Common.{◌≡◌, ℕ, zero, suc, ◌≤◌, ◌<◌, inl, inr, List, [], ◌∷◌, map, length, slice_index_or, refl}
+use Rattle.std.proofs.Common.{◌≡◌, ℕ, zero, suc, ◌≤◌, ◌<◌, List, [], ◌∷◌, map, length, slice_index_or, refl}
 use Rattle.std.proofs.Common.{arith}
 use Rattle.std.specs.List.{AllByRecursion}
 use Rattle.std.proofs.lemmas.Bool.{cases_lt}
@@ -29,10 +29,7 @@ record KeepsLimits (machines : ℕ) (job : ShopJob) : Type 0 where
 
 op_within : (machines : ℕ) (route : List Op) → 1 ≤ machines → IsRouteWithin machines route → (k : ℕ)
     → ((slice_index_or route k no_op).machine < machines) × ((slice_index_or route k no_op).time ≤ 1000000000)
-op_within machines route some h k = elim (cases_lt k (length route)) [
-  | inl below ↦ h k no_op below
-  | inr past ↦ rw (get_or_past route k no_op past) (omega arith, omega arith)
-]
+op_within machines route some h k = grind (arith, cases_lt, route, get_or_past)
 
 no_job_within : (machines : ℕ) → 1 ≤ machines → KeepsLimits machines no_job
 no_job_within machines some =

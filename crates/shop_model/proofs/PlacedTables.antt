@@ -5,8 +5,8 @@ use Rattle.std.specs.List.{range_with_len}
 use Rattle.std.proofs.lemmas.Bool.{cases_lt}
 use Rattle.std.proofs.lemmas.List.{get_or_past}
 use Rattle.std.proofs.lemmas.List.FromFn.{length-map-range_with_len, get_or-map-range_with_len}
-use Rattle.shop_model.specs.Shop.{Shop, ShopJob, Starts, no_job, route_of, time_of, IsOperation, IsFeasible}
-use Rattle.shop_model.specs.Shop.{finish_of, end_of, greatest_below}
+use Rattle.shop_model.specs.Shop.{Shop, ShopJob, Starts, no_job, route_of, IsOperation, IsFeasible}
+use Rattle.shop_model.specs.Shop.{end_of}
 use Rattle.shop_model.specs.Word.{placing, placed, count_of, IsWord, IsFull, IsUnder, rows_of}
 use Rattle.shop_model.specs.Checking.{HasShape, starts_of}
 use Rattle.shop_model.specs.Placed.{IsPlacedBy}
@@ -28,11 +28,7 @@ agree_feasible shop s t same f = record {
 }
 
 pub agree_end : (shop : Shop) (s t : Starts) → Agree shop s t → end_of shop s ≡ end_of shop t
-agree_end shop s t same =
-    greatest_below-equal (λ j. greatest_below (length (route_of shop j)) (λ k. finish_of shop s j k))
-    (λ j. greatest_below (length (route_of shop j)) (λ k. finish_of shop t j k)) (length shop.jobs)
-    (λ j _. greatest_below-equal (λ k. finish_of shop s j k) (λ k. finish_of shop t j k) (length (route_of shop j))
-    (λ k op. ap (λ n. n + time_of shop j k) (same j k op)))
+agree_end shop s t same = grind (arith, greatest_below-equal)
 
 -- an entry of a word stands for an operation
 entry_operation : (shop : Shop) (v later : List ℕ) (j : ℕ) → IsWord shop (v ++ j ∷ later)

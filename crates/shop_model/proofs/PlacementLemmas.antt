@@ -120,20 +120,12 @@ reads shop j s limits next route e k r f read_k read_r read_f =
 -- the step is one of the route, which is short
 pub step_read : (shop : Shop) (j : ℕ) (s : PlacementState) → IsWithinLimits shop → IsAboutToPlace shop j s
     → (route : List Op) → route ≡ route_of shop j → (k : ℕ) → k ≡ get_or s.steps j k → (k < length route) × (k < 100)
-step_read shop j s limits next route e k read =
-    let step = read_is s.steps j k (let a = next.job in let b = next.places.steps in omega arith) read
-    in let long : length route ≡ length (route_of shop j) = ap (λ (xs : List Op). length xs) e
-    in let a = next.operation in let b = limits.routes j in (omega arith, omega arith)
+step_read shop j s limits next route e k read = grind (arith, read_is)
 
 -- the sum fits
 pub finish_small : (shop : Shop) (j : ℕ) (s : PlacementState) → IsWithinLimits shop → IsAboutToPlace shop j s
     → (k : ℕ) (o : Op) (r f : ℕ) → AreReads shop j s k o r f → max r f + o.time < 2 ^ 64
-finish_small shop j s limits next k o r f reads =
-    let a = next.ready
-    in let b = next.free o.machine reads.machine
-    in let c = limits.times j k
-    in let d : o.time ≡ time_of shop j k = ap (λ (x : Op). x.time) reads.operation
-    in let e = reads.ready in let g = reads.free in omega arith
+finish_small shop j s limits next k o r f reads = grind arith
 
 -- the lists after the next step of j was written into them
 module _ (shop : Shop) (p : Placing) (s : PlacementState) (is : IsPlacement shop p s) (j : ℕ)
@@ -198,14 +190,7 @@ placed_by_reads shop j s job k o r f reads begin e p is =
 pub start_by_reads : (shop : Shop) (j : ℕ) (s : PlacementState) → j < length shop.jobs → (k : ℕ) (o : Op) (r f : ℕ)
     → AreReads shop j s k o r f → (begin : ℕ) → begin ≡ max r f → (p : Placing) → IsPlacement shop p s
     → begin ≡ (place_next shop p j).begins j (p.steps j)
-start_by_reads shop j s job k o r f reads begin e p is =
-    let n = place_next-is shop p j
-    in let m : o.machine ≡ machine_of shop j k = ap (λ (x : Op). x.machine) reads.operation
-    in let step : k ≡ p.steps j = reads.step ∙ is.steps j job
-    in let here : machine_of shop j k ≡ machine_of shop j (p.steps j) = ap (machine_of shop j) step
-    in let fm : p.free o.machine ≡ p.free (machine_of shop j (p.steps j)) = ap p.free (m ∙ here)
-    in let a = is.ready j job in let b = is.free o.machine reads.machine in let c = reads.ready in let d = reads.free
-    in let g = n.begins_here in omega arith
+start_by_reads shop j s job k o r f reads begin e p is = grind (arith, place_next-is, job)
 
 -- what is known where the last step of j can be taken back
 pub record HasStepPlaced (shop : Shop) (j : ℕ) (s : PlacementState) : Type 0 where
@@ -235,11 +220,7 @@ step_placed shop j s last =
 pub last_read : (shop : Shop) (j : ℕ) (s : PlacementState) → HasStepPlaced shop j s → (route : List Op)
     → route ≡ route_of shop j → (n : ℕ) → n ≡ get_or s.steps j n
     → (n ≡ get_or s.steps j 0) × (0 < n) × (n ≤ length route)
-last_read shop j s has route e n read =
-    let l = has.places.steps in let b = has.job
-    in let step = read_is s.steps j n (omega arith) read
-    in let long : length route ≡ length (route_of shop j) = ap (λ (xs : List Op). length xs) e
-    in let some = has.some in let most = has.operation in (step, omega arith, omega arith)
+last_read shop j s has route e n read = grind (arith, read_is)
 
 -- the lists after it was taken back
 pub taken_back : (shop : Shop) (j : ℕ) (s : PlacementState) → HasStepPlaced shop j s → (k m ready free : ℕ)

@@ -81,18 +81,10 @@ module _ (shop : Shop) (p : Placing) (j : ℕ) (q : Placing) (n : IsNext shop p 
 
   -- nothing is taken back, and no machine is free earlier
   pub steps_grow : (i : ℕ) → p.steps i ≤ q.steps i
-  steps_grow i = elim (cases_eq i j) [
-    | inl e ↦ (let a : p.steps i ≡ p.steps j = ap p.steps e in let b : q.steps i ≡ q.steps j = ap q.steps e
-        in let c = n.steps_here in omega arith)
-    | inr ne ↦ (let a = n.steps_other i ne in omega arith)
-  ]
+  steps_grow i = grind (arith, cases_eq)
 
   pub free_grows : (m : ℕ) → p.free m ≤ q.free m
-  free_grows m = elim (cases_eq m (machine_of shop j (p.steps j))) [
-    | inl e ↦ (let a = n.free_here m e in let b = n.begins_here
-        in let c : p.free m ≡ p.free (machine_of shop j (p.steps j)) = ap p.free e in omega arith)
-    | inr ne ↦ (let a = n.free_other m ne in omega arith)
-  ]
+  free_grows m = grind (arith, cases_eq)
 
   pub earliest_old : (i l : ℕ) → l ≤ p.steps i → earliest_of shop q.begins i l ≡ earliest_of shop p.begins i l
   earliest_old i l h = earliest_of-same shop q.begins p.begins i l (λ k below. n.begins_old i k (omega arith))
@@ -100,10 +92,7 @@ module _ (shop : Shop) (p : Placing) (j : ℕ) (q : Placing) (n : IsNext shop p 
   -- what was placed on the machine ends before the new one begins
   pub before_new : IsSound shop p → (i l : ℕ) → l < p.steps i → machine_of shop i l ≡ machine_of shop j (p.steps j)
       → finish_of shop q.begins i l ≤ q.begins j (p.steps j)
-  before_new s i l h e =
-      let a = n.begins_old i l h in let b = s.free i l h
-      in let c : p.free (machine_of shop i l) ≡ p.free (machine_of shop j (p.steps j)) = ap p.free e
-      in let d = n.begins_here in omega arith
+  before_new s i l h e = grind arith
 
   pub sound_next : IsSound shop p → IsOperation shop j (p.steps j) → IsSound shop q
   sound_next s op = record {
@@ -230,10 +219,7 @@ module _ (shop : Shop) (p : Placing) (starts : Starts) (sound : IsSound shop p) 
   pub between : (j k i l : ℕ) → k < p.steps j → p.steps i ≤ l → IsOperation shop i l
       → machine_of shop j k ≡ machine_of shop i l
       → finish_of shop (merged p starts) j k ≤ merged p starts i l
-  between j k i l h g r e =
-      let a = merged-placed p starts j k h in let b = merged-other p starts i l g in let c = sound.free j k h
-      in let d = f.free i l r g
-      in let m : p.free (machine_of shop j k) ≡ p.free (machine_of shop i l) = ap p.free e in omega arith
+  between j k i l h g r e = grind (arith, merged-placed, merged-other)
 
   merged-apart : (j k i l : ℕ) → IsOperation shop j k → IsOperation shop i l → machine_of shop j k ≡ machine_of shop i l
       → AreDifferent j k i l

@@ -1,6 +1,6 @@
 -- In the table of a word each operation begins as soon as it can.
 use Rattle.std.proofs.Common.{◌≡◌, ℕ, ◌≤◌, ◌<◌, max, inl, inr, List, [], ◌∷◌, ◌++◌, refl, sym, ap, subst}
-use Rattle.std.proofs.Common.{arith, add-one, cond, eqb}
+use Rattle.std.proofs.Common.{arith, cond, eqb}
 use Rattle.std.proofs.lemmas.Bool.{cases_eq}
 use Rattle.std.proofs.lemmas.List.Sums.{sum_by-append}
 use Rattle.shop_model.specs.Shop.{Shop, machine_of, finish_of}
@@ -34,42 +34,19 @@ module _ (shop : Shop) (w : List ℕ) (j : ℕ) (p q : Placing) (n : IsNext shop
   ]
 
   ready_next : (i : ℕ) → q.ready i ≡ earliest_of shop q.begins i (q.steps i)
-  ready_next i = elim (cases_eq i j) [
-    | inl e ↦ subst (λ (x : ℕ). q.ready x ≡ earliest_of shop q.begins x (q.steps x)) (sym e)
-        (rw (n.steps_here, add-one) n.ready_here)
-    | inr ne ↦ rw (n.steps_other i ne)
-        (let b = earliest_old shop p j q n i (p.steps i) (omega arith) in let c = n.ready_other i ne
-        in let d = a.ready i in omega arith)
-  ]
+  ready_next i = grind (arith, cases_eq, earliest_old)
 
   -- where the new operation may begin
   start_here : q.begins j (p.steps j)
       ≡ max (earliest_of shop q.begins j (p.steps j)) (p.free (machine_of shop j (p.steps j)))
-  start_here =
-      let b = earliest_old shop p j q n j (p.steps j) (omega arith) in let c = a.ready j in let d = n.begins_here
-      in omega arith
+  start_here = grind (arith, earliest_old)
 
   free_next : (i l : ℕ) → l < q.steps i → finish_of shop q.begins i l ≤ q.free (machine_of shop i l)
-  free_next = each_placed shop p j q n (λ i l. finish_of shop q.begins i l ≤ q.free (machine_of shop i l))
-      (λ i l h. let b = n.begins_old i l h in let c = a.free i l h
-      in elim (cases_eq (machine_of shop i l) (machine_of shop j (p.steps j))) [
-        | inl e ↦ (let d = n.free_here (machine_of shop i l) e in let f = n.begins_here
-            in let g : p.free (machine_of shop i l) ≡ p.free (machine_of shop j (p.steps j)) = ap p.free e
-            in omega arith)
-        | inr ne ↦ (let d = n.free_other (machine_of shop i l) ne in omega arith)
-      ])
-      (let b = n.free_here (machine_of shop j (p.steps j)) refl in omega arith)
+  free_next = grind (arith, each_placed, cases_eq)
 
   free_first_next : (m t : ℕ)
       → ((i l : ℕ) → l < q.steps i → machine_of shop i l ≡ m → finish_of shop q.begins i l ≤ t) → q.free m ≤ t
-  free_first_next m t h = elim (cases_eq m (machine_of shop j (p.steps j))) [
-    | inl e ↦ (let b = h j (p.steps j) (let c = n.steps_here in omega arith) (sym e) in let c = n.free_here m e
-        in omega arith)
-    | inr ne ↦ (let b = a.free_first m t (λ i l below same.
-        let c = h i l (let d = steps_grow shop p j q n i in omega arith) same in let d = n.begins_old i l below
-        in omega arith)
-        in let c = n.free_other m ne in omega arith)
-  ]
+  free_first_next m t h = grind (arith, cases_eq, steps_grow)
 
   -- the new operation begins as soon as it can
   new_entry : BeginsAsSoon shop q.begins w j (p.steps j)

@@ -57,31 +57,7 @@ module _ {X : Type 0} where
 
   -- two elements don't go to one place
   goes_apart : (xs : List X) (i j p q m : ℕ) → GoesTo xs i j p m → GoesTo xs i j q m → p ≡ q
-  goes_apart xs i j p q m one two = elim one.place [
-    | inl h ↦ elim two.place [
-      | inl k ↦ (let x = h.0 in let y = k.0 in omega arith)
-      | inr k ↦ elim k [
-        | inl f ↦ (let x = h.1 in let y = f.1 in let z = h.0 in let w = f.0 in omega arith)
-        | inr f ↦ absurd (f.0 (let x = h.1 in let y = f.2 in omega arith))
-      ]
-    ]
-    | inr h ↦ elim h [
-      | inl g ↦ elim two.place [
-        | inl k ↦ (let x = g.1 in let y = k.1 in let z = g.0 in let w = k.0 in omega arith)
-        | inr k ↦ elim k [
-          | inl f ↦ (let x = g.0 in let y = f.0 in omega arith)
-          | inr f ↦ absurd (f.1 (let x = g.1 in let y = f.2 in omega arith))
-        ]
-      ]
-      | inr g ↦ elim two.place [
-        | inl k ↦ absurd (g.0 (let x = g.2 in let y = k.1 in omega arith))
-        | inr k ↦ elim k [
-          | inl f ↦ absurd (g.1 (let x = g.2 in let y = f.1 in omega arith))
-          | inr f ↦ (let x = g.2 in let y = f.2 in omega arith)
-        ]
-      ]
-    ]
-  ]
+  goes_apart xs i j p q m one two = grind arith
 
   module _ (S : X → X → Type 0) (symmetric : (x y : X) → S x y → S y x) where
     unswapped : (xs : List X) (i j : ℕ) → i < length xs → j < length xs → AllPairs S (swap xs i j) → AllPairs S xs

@@ -34,7 +34,4 @@ starts_next rows n row h is before within j k below = elim (cases_eq j n) [
 
 pub starts_at : (rows : List (Vec ℕ Global)) (n : ℕ) (row : Vec ℕ Global) → n < length rows
     → row ≡ slice_index_or rows n row → AreStarts (map (λ r. r.items) rows) → All (λ s. s ≤ MAX_START) row.items
-starts_at rows n row h is starts k d below =
-    let at : slice_index_or (map (λ r. r.items) rows) n [] ≡ row.items = rows_at rows n row h
-    ∙ ap (λ (v : Vec ℕ Global). v.items) (sym is)
-    in rw (get_or_default row.items k d 0 below) (rw at at (starts n k))
+starts_at rows n row h is starts k d below = grind (arith, slice_index_or, rows_at, get_or_default)

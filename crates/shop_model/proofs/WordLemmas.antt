@@ -22,17 +22,10 @@ snoc_induct P base step w = snoc_from P step [] w base
 
 -- one more entry
 pub count_of-snoc_same : (w : List ℕ) (i j : ℕ) → i ≡ j → count_of i (w ++ j ∷ []) ≡ count_of i w + 1
-count_of-snoc_same w i j e = elim (eqb_tells j i) [
-  | inl h ↦ sum_by_push (λ x. cond (eqb x i) 1 0) w j ∙ ap (λ b. count_of i w + cond b 1 0) h.0
-  | inr h ↦ absurd (h.1 (sym e))
-]
+count_of-snoc_same w i j e = grind (arith, eqb_tells, sum_by_push)
 
 pub count_of-snoc_other : (w : List ℕ) (i j : ℕ) → (i ≡ j → ⊥) → count_of i (w ++ j ∷ []) ≡ count_of i w
-count_of-snoc_other w i j ne = elim (eqb_tells j i) [
-  | inl h ↦ absurd (ne (sym h.1))
-  | inr h ↦ sum_by_push (λ x. cond (eqb x i) 1 0) w j
-      ∙ (ap (λ b. count_of i w + cond b 1 0) h.0 ∙ add-zero (count_of i w))
-]
+count_of-snoc_other w i j ne = grind (arith, eqb_tells, sum_by_push, add-zero)
 
 -- where a word with an entry at its end is cut: at the end, or before
 pub cut_snoc : (w v later : List ℕ) (c j : ℕ) → w ++ c ∷ [] ≡ v ++ j ∷ later
@@ -83,13 +76,7 @@ count_of-head x w = elim (eqb_tells x x) [
 ]
 
 pub count_of-head_other : (i x : ℕ) (w : List ℕ) → (x ≡ i → ⊥) → count_of i (x ∷ w) ≡ count_of i w
-count_of-head_other i x w ne = elim (eqb_tells x i) [
-  | inl h ↦ absurd (ne h.1)
-  | inr h ↦ (let e : count_of i (x ∷ w) ≡ 0 + count_of i w
-      = subst (λ (b : Bool). count_of i (x ∷ w) ≡ cond {A = ℕ} b 1 0 + count_of i w) h.0
-      (sum_by-cons (λ y. cond (eqb y i) 1 0) x w)
-      in omega arith)
-]
+count_of-head_other i x w ne = grind (arith, eqb_tells, sum_by-cons)
 
 -- each entry of a word is a job
 pub jobs_below : (shop : Shop) (w : List ℕ) → IsWord shop w → AllByRecursion (λ j. j < length shop.jobs) w
@@ -105,10 +92,7 @@ word_jobs shop w h = All-from_recursion (λ j. j < length shop.jobs) w (jobs_bel
 -- and what is above all entries doesn't stand in the word
 count_of_above : (w : List ℕ) (n i : ℕ) → AllByRecursion (λ j. j < n) w → n ≤ i → count_of i w ≡ 0
 count_of_above [] n i h le = refl
-count_of_above (x ∷ w) n i h le =
-    let below : x < n = h.0
-    in let a = count_of_above w n i h.1 le in let b = count_of-head_other i x w (λ e. absurd (omega arith))
-    in omega arith
+count_of_above (x ∷ w) n i h le = grind (arith, count_of_above w n i h.1 le, count_of-head_other)
 
 pub word_from : (shop : Shop) (w : List ℕ) → All (λ j. j < length shop.jobs) w
     → ((i : ℕ) → i < length shop.jobs → count_of i w ≤ length (route_of shop i)) → IsWord shop w

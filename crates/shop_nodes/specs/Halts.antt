@@ -7,13 +7,14 @@
 --     stack_words shop word stack            all that waits, the last entry first
 --     IsOpen shop word o                     the word of o is one of the instance, no longer than
 --                                            word and a job, with its bound
---     IsClosed shop best word n count        so many children of the first n entries of word have
---                                            bounds that reach the best
---     IsWaiting shop best word x             the entry is such an open child, or such closed ones
+--     IsClosed shop best word n count        the last count children of the first n entries of
+--                                            word have bounds that reach the best
+--     IsWaiting shop best word x             the entry is an open child or closed ones, told
+--                                            rightly
 --     halted_words shop h                    the words of what waited where a walk halted, if
 --                                            anything did
 --     IsHalt shop best h                     all that waited is told rightly
---     AreHalted shop best h                  so is what waited, if anything did
+--     AreHalted shop best h                  where a walk halted, all that waited is told rightly
 use Rattle.std.specs.Prelude.{◌≡◌, ℕ, ◌-◌, ◌≤◌, ◌<◌, Option, Some, None, List, [], ◌∷◌, ◌++◌, length}
 use Rattle.std.specs.Prelude.{take, drop}
 use Rattle.std.specs.Arc.{arc_slice_items}

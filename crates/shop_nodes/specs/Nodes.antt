@@ -2,7 +2,7 @@
 --     words_of nodes                        the words of the nodes
 --     IsNode shop node                      its word is one of the instance, and it holds its
 --                                           word's bound
---     AreNodes shop nodes                   all are such
+--     AreNodes shop nodes                   each is a node of the instance
 --     AreBetterChildren shop node nodes     each table under the node's word has one under the word
 --                                           of some of these nodes that ends no later
 use Rattle.std.specs.Prelude.{◌≡◌, ℕ, List, map, All}

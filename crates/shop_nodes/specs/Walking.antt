@@ -13,7 +13,8 @@ pub record Walk : Type 0 where
   pub left : List (List ℕ)
   pub budget : ℕ
 
--- With no budget the word is left; else it is taken, one is spent, and the walk goes on.
+-- With no budget the word is left. Else the word is taken, the budget falls by one, and the walk
+-- goes on.
 abbrev pub taking : ℕ → Walk → List ℕ → (Walk → Walk) → Walk
 taking zero s w go = record s { left = s.left ++ w ∷ [] }
 taking (suc b) s w go = go (record s { budget = b })

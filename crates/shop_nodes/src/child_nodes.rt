@@ -1,4 +1,4 @@
-// The children of a node.
+// Makes the children of a node.
 ghost use Rattle.std.specs.Prelude.{◌≡◌, [], ◌∷◌, ◌++◌, IfOk};
 ghost use Rattle.std.specs.Arc.{arc_slice_items};
 ghost use Rattle.shop_model.specs.Word.{IsWord, IsFull};
@@ -13,7 +13,7 @@ use shop_model::{Instance, SharedWord, Word};
 use std::alloc::{AllocError as NoMemory, Global};
 use std::sync::ArcSlice;
 
-/// The jobs of a word that fits the instance, to be shared.
+/// Copies the jobs of `word` into a path that the children's words share. Fails with `NoMemory` if memory runs out.
 fn shared_path(
     alloc: Global,
     instance: &Instance,
@@ -28,7 +28,7 @@ fn shared_path(
     ArcSlice::from_slice(alloc, path.as_slice())
 }
 
-/// The node of a path and a job.
+/// Makes the node whose word is `path` followed by `job`, with its bound. Fails with `NoMemory` if memory runs out.
 fn child_along(
     alloc: Global,
     instance: &Instance,
@@ -45,7 +45,7 @@ fn child_along(
     Node::new(alloc, instance, Word::of_shared(word))
 }
 
-/// The place of the first node whose bound is not below this one, or the end.
+/// Answers the index of the first of `nodes` with a bound of at least `bound`, or their number if there is none.
 fn place_for(bound: u64, nodes: &[Node]) -> usize
     ensures { IsPlaceFor bound nodes.now result }
 {
@@ -57,9 +57,9 @@ fn place_for(bound: u64, nodes: &[Node]) -> usize
     nodes.len()
 }
 
-/// The children of a node whose word isn't full, by bound, then by job: its word followed by each job of the conflict
-/// set. For each table under the word some child has one under it that ends no later. Fails with `NoMemory` if memory
-/// runs out.
+/// Lists the children of a node whose word isn't full, by bound, then by job: the word followed by each job of its
+/// conflict set. For each schedule under the word, some child has a schedule under it that ends no later. Fails with
+/// `NoMemory` if memory runs out.
 pub fn children(alloc: Global, instance: &Instance, node: &Node) -> Result<Vec<Node>, NoMemory>
     requires node { IsNode instance.now node.now }
     requires open { IsFull instance.now node.now.word → ⊥ }
@@ -70,7 +70,7 @@ pub fn children(alloc: Global, instance: &Instance, node: &Node) -> Result<Vec<N
     let mut jobs = conflict(alloc, instance, &node.word)?;
     let path = shared_path(alloc, instance, &node.word)?;
     let mut children = Vec::with_capacity(alloc, jobs.len())?;
-    // The last job first: of equal bounds the lower job then stands first.
+    // Inserts the last job first, so that of equal bounds the lower job stands first.
     while let Some(job) = jobs.pop() {
         let child = child_along(alloc, instance, &path, job)?;
         let place = place_for(child.bound, children.as_slice());

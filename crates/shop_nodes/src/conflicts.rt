@@ -1,4 +1,4 @@
-// The conflict set (Giffler and Thompson 1960).
+// Finds the conflict set of a word (Giffler and Thompson 1960).
 ghost use Rattle.std.specs.Prelude.{◌≡◌, IfOk};
 ghost use Rattle.shop_model.specs.Word.{IsWord, IsFull};
 ghost use Rattle.shop_nodes.specs.Branching.{conflict as conflict_set};
@@ -8,7 +8,7 @@ use crate::next_operations::{NextOperation, Placed};
 use shop_model::{Instance, Placement, Word};
 use std::alloc::{AllocError as NoMemory, Global};
 
-/// The next operation that can end first, of the lowest job on ties; none where no job has a step left.
+/// Chooses the next operation that can end first, that of the lowest job on ties; `None` if no operation is left.
 fn choose(placed: &Placed) -> Option<NextOperation>
     ensures { IsChosen placed.now result }
 {
@@ -27,7 +27,7 @@ fn choose(placed: &Placed) -> Option<NextOperation>
     chosen
 }
 
-/// The jobs whose next operations are in conflict with the chosen one, that one included.
+/// Lists the jobs whose next operations conflict with `chosen`, including the job of `chosen`.
 fn conflicting(
     alloc: Global,
     placed: &Placed,
@@ -49,9 +49,9 @@ fn conflicting(
     Ok(jobs)
 }
 
-/// The conflict set of a word that isn't full, in ascending order: the job whose next operation can end first (the
-/// lowest on ties), and each job whose next operation is on the same machine and can begin before that end (Giffler and
-/// Thompson 1960). Fails with `NoMemory` if memory runs out.
+/// Lists the conflict set of a word that isn't full, in ascending order: the job whose next operation can end first
+/// (the lowest on ties), and each job whose next operation is on the same machine and can begin before that end
+/// (Giffler and Thompson 1960). Fails with `NoMemory` if memory runs out.
 pub fn conflict(alloc: Global, instance: &Instance, word: &Word) -> Result<Vec<usize>, NoMemory>
     requires word { IsWord instance.now word.now }
     requires open { IsFull instance.now word.now → ⊥ }

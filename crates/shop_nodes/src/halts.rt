@@ -1,8 +1,8 @@
-// Where a walk halted.
+// Where a walk halted: its path, and the children that wait along it.
 use std::alloc::Global;
 use std::sync::ArcSlice;
 
-/// A child that waits: the first `depth` entries of the walk's word and this job, with its bound.
+/// A waiting open child, with its lower bound. Its word is the first `depth` jobs of the walk's path, then `job`.
 #[derive(Clone, Copy)]
 pub struct Open {
     pub depth: u32,
@@ -10,15 +10,15 @@ pub struct Open {
     pub bound: u64,
 }
 
-/// What waits in a walk: a child, or closed ones, the last `count` children of the first `depth` entries of the walk's
-/// word: their bounds reach the best makespan, so that they are only counted.
+/// A waiting open child, or waiting closed children. Closed children have bounds that reach the best makespan and are
+/// only counted. They are the last `count` children of one word: the first `depth` jobs of the walk's path.
 #[derive(Clone, Copy)]
 pub enum Waiting {
     Child(Open),
     Rest { depth: u32, count: u32 },
 }
 
-/// Where a walk halted: the path to the word that it had come to, and what waited along it, the next entry last.
+/// Where a walk halted: the path to its current word, and the children that wait along it. The last one is walked next.
 #[derive(Drop)]
 pub struct Halt {
     pub path: ArcSlice<u16, Global>,

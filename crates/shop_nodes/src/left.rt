@@ -1,4 +1,4 @@
-// What the search of a piece left.
+// The nodes that the search of a piece left.
 ghost use Rattle.std.specs.Prelude.{◌≡◌, ◌++◌, take, OnOk, IfOk};
 ghost use Rattle.std.specs.Arc.{arc_slice_items};
 ghost use Rattle.shop_nodes.specs.Branching.{branch};
@@ -15,8 +15,8 @@ use std::alloc::{AllocError as NoMemory, Global};
 use std::marker::Model;
 use std::sync::ArcSlice;
 
-/// What the search of a piece left, in order: what waited where its budget ended, if anything did, and the nodes of the
-/// piece that weren't taken. To contracts it is the list of all these words.
+/// The nodes that the search of a piece left, in order: the children that wait where the walk halted, if it did, then
+/// the nodes of the piece that weren't taken. Contracts see the instance, the makespan and the nodes' words.
 pub struct Left<'r> {
     instance: &'r Instance,
     makespan: u64,
@@ -50,8 +50,7 @@ impl<'r> Model for Left<'r> {
 }
 
 impl<'r> Left<'r> {
-    /// What is left of a search that ended with this makespan: what waited where its walk halted, if anything did, and
-    /// then these nodes, which weren't taken.
+    /// Makes the record of a search that ended with `makespan` and left the children at `halt`, if any, then `untaken`.
     pub fn new(
         instance: &'r Instance,
         makespan: u64,
@@ -73,8 +72,8 @@ impl<'r> Left<'r> {
         }
     }
 
-    /// Adds the nodes left that are still open, those of bounds below the makespan, to a list, in order. Fails with
-    /// `NoMemory` if memory runs out.
+    /// Adds the open nodes to `nodes`, in order: the nodes left with bounds below the makespan. Fails with `NoMemory`
+    /// if memory runs out.
     pub fn add_open(&self, alloc: Global, nodes: &mut Vec<Node>) -> Result<(), NoMemory>
         ensures { OnOk result (nodes.new.items ≡ nodes.old.items
             ++ open_nodes self.now.shop self.now.makespan self.now.words) }
@@ -85,7 +84,7 @@ impl<'r> Left<'r> {
         add_open_nodes(alloc, self.instance, self.makespan, self.untaken, nodes)
     }
 
-    /// All nodes left, in order. Fails with `NoMemory` if memory runs out.
+    /// Lists all nodes left, in order. Fails with `NoMemory` if memory runs out.
     pub fn nodes(&self, alloc: Global) -> Result<Vec<Node>, NoMemory>
         ensures words { IfOk result (λ v. words_of v.items ≡ self.now.words) }
         ensures nodes { IfOk result (λ v. AreNodes self.now.shop v.items) }
@@ -99,7 +98,8 @@ impl<'r> Left<'r> {
     }
 }
 
-/// Adds the node of what waits along a path, if it is a child with a bound below the makespan.
+/// Adds the node of `waiting` to `nodes` if it is an open child with a bound below `makespan`. Adds nothing for closed
+/// children. Fails with `NoMemory` if memory runs out.
 fn add_if_open(
     instance: &Instance,
     makespan: u64,
@@ -123,7 +123,8 @@ fn add_if_open(
     Ok(())
 }
 
-/// Adds the nodes of bounds below the makespan among what waits where a walk halted, from the next entry on.
+/// Adds a node for each child that waits at `halt` with a bound below `makespan`, from the last entry of `halt.waiting`
+/// to the first. Fails with `NoMemory` if memory runs out.
 fn add_open_waiting(
     instance: &Instance,
     makespan: u64,
@@ -143,7 +144,7 @@ fn add_open_waiting(
     Ok(())
 }
 
-/// Adds the nodes of bounds below the makespan, in order.
+/// Adds copies of the nodes in `left` with bounds below `makespan`, in order. Fails with `NoMemory` if memory runs out.
 fn add_open_nodes(
     alloc: Global,
     instance: &Instance,
@@ -163,7 +164,7 @@ fn add_open_nodes(
     Ok(())
 }
 
-/// The last children, so many, of the word of the first entries of a path.
+/// Makes the last `count` children of the word `path[..depth]`. Fails with `NoMemory` if memory runs out.
 fn last_children(
     alloc: Global,
     instance: &Instance,
@@ -184,7 +185,7 @@ fn last_children(
     all.split_off(all.len() - count as usize)
 }
 
-/// The nodes of what waits along a path.
+/// Makes the nodes of `waiting`: of an open child or of closed children. Fails with `NoMemory` if memory runs out.
 fn nodes_of(
     alloc: Global,
     instance: &Instance,
@@ -211,7 +212,8 @@ fn nodes_of(
     }
 }
 
-/// The nodes of all that waits where a walk halted, from the next entry on.
+/// Makes the nodes of all children that wait at `halt`, from the last entry of `halt.waiting` to the first. Fails with
+/// `NoMemory` if memory runs out.
 fn waiting_nodes(
     alloc: Global,
     instance: &Instance,
@@ -234,7 +236,7 @@ fn waiting_nodes(
     Ok(nodes)
 }
 
-/// Adds the same nodes once more, in order. Fails with `NoMemory` if memory runs out.
+/// Adds copies of the nodes in `left` to `nodes`, in order. Fails with `NoMemory` if memory runs out.
 fn add_copies(alloc: Global, left: &[Node], nodes: &mut Vec<Node>) -> Result<(), NoMemory>
     ensures { OnOk result (nodes.new.items ≡ nodes.old.items ++ left.now) }
 {

@@ -1,5 +1,4 @@
-// Nodes and their children, and what the search of a piece gives and leaves, with the laws of both. How a piece is
-// searched is of no matter here.
+// Nodes, their children, and the sheets that searches of pieces return, with their laws. No code here searches.
 #![tactic(auto)]
 
 mod child_nodes;

@@ -1,11 +1,11 @@
-// The next operations of the jobs after a word.
+// The next operation of each job after a word, with its machine, head and end.
 ghost use Rattle.std.specs.Prelude.{◌≡◌, ◌<◌, length};
 ghost use Rattle.shop_model.specs.Placements.{IsPlacement};
 ghost use Rattle.shop_model.specs.Word.{placing, IsWord};
 
 use shop_model::{Instance, Placement, Word};
 
-/// The next operation of a job: its machine, when it can begin, and when it can end.
+/// The next operation of a job: its machine, when it can begin (`head`), and when it can end.
 #[derive(Clone, Copy)]
 pub(crate) struct NextOperation {
     pub(crate) job: usize,
@@ -17,7 +17,7 @@ pub(crate) struct NextOperation {
 impl NextOperation {
     ghost use Rattle.shop_nodes.specs.inner.Choosing.{is_in_conflict};
 
-    /// Whether this one is the other, or is on its machine and can begin before the other can end.
+    /// Tells whether this operation is `other`, or is on the machine of `other` and can begin before `other` can end.
     pub(crate) fn conflicts_with(&self, other: &NextOperation) -> bool
         ensures { result ≡ is_in_conflict self.now other.now }
     {
@@ -25,7 +25,7 @@ impl NextOperation {
     }
 }
 
-/// An instance and a word of it, placed.
+/// A word of an instance, with its placement.
 #[derive(Drop)]
 pub(crate) struct Placed<'a> {
     pub(crate) instance: &'a Instance,
@@ -38,7 +38,7 @@ pub(crate) struct Placed<'a> {
 impl<'a> Placed<'a> {
     ghost use Rattle.shop_nodes.specs.inner.Choosing.{IsNextIfAny};
 
-    /// The next operation of a job, if it has a step left.
+    /// Answers the next operation of `job`, or `None` if the job has no operation left.
     pub(crate) fn next(&self, job: usize) -> Option<NextOperation>
         requires { job < length self.now.instance.now.jobs }
         ensures { IsNextIfAny self.now.instance.now self.now.word.now job result }

@@ -1,4 +1,4 @@
-// A word with its lower bound.
+// Nodes: words with their lower bounds.
 ghost use Rattle.std.specs.Prelude.{◌≡◌, IfOk};
 ghost use Rattle.shop_model.specs.Word.{IsWord};
 ghost use Rattle.shop_bound.specs.Bound.{lb};
@@ -7,7 +7,7 @@ use shop_bound::lower_bound;
 use shop_model::{Instance, Word};
 use std::alloc::{AllocError as NoMemory, Global};
 
-/// A word and its lower bound, in units of time.
+/// A node of the search: a word and its lower bound, in units of time.
 #[derive(Drop)]
 pub struct Node {
     pub word: Word,
@@ -15,8 +15,7 @@ pub struct Node {
 }
 
 impl Node {
-    /// The node of this word, which fits the instance, with its lower bound. Fails with `NoMemory` if memory runs
-    /// out.
+    /// Makes the node of `word`, a word of the instance, with its bound. Fails with `NoMemory` if memory runs out.
     pub fn new(alloc: Global, instance: &Instance, word: Word) -> Result<Node, NoMemory>
         requires { IsWord instance.now word }
         ensures { IfOk result (λ n. (n.word ≡ word) × (n.bound ≡ lb instance.now word)) }
@@ -25,7 +24,7 @@ impl Node {
         Ok(Node { word, bound })
     }
 
-    /// The same node once more, with the same jobs where they are shared. Fails with `NoMemory` if memory runs out.
+    /// Copies the node; shared jobs of its word stay shared. Fails with `NoMemory` if memory runs out.
     pub fn copied(&self, alloc: Global) -> Result<Node, NoMemory>
         ensures { IfOk result (λ n. n ≡ self.now) }
     {

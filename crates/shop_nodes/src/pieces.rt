@@ -1,9 +1,9 @@
-// Nodes that are searched together.
+// Pieces: numbered lists of nodes, each for one search.
 ghost use Rattle.std.specs.Prelude.{◌≡◌};
 
 use crate::nodes::Node;
 
-/// Some nodes of the search, to be searched one after the other, under a number.
+/// A numbered list of nodes that one search takes in turn.
 #[derive(Drop)]
 pub struct Piece {
     pub number: usize,
@@ -11,7 +11,7 @@ pub struct Piece {
 }
 
 impl Piece {
-    /// The piece of this number and these nodes.
+    /// Makes the piece of `number` and `nodes`.
     pub fn new(number: usize, nodes: Vec<Node>) -> Piece
         ensures { result ≡ record { number = number; nodes = nodes } }
     {

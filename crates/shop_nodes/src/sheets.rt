@@ -1,4 +1,4 @@
-// What the search of a piece gave.
+// The result of the search of a piece.
 ghost use Rattle.std.specs.Prelude.{◌≡◌, ◌≤◌};
 ghost use Rattle.shop_nodes.specs.Laws.{AreWords};
 ghost use Rattle.shop_nodes.specs.Pieces.{IsSheet};
@@ -7,9 +7,9 @@ use crate::left::Left;
 use crate::pieces::Piece;
 use shop_model::{Instance, Word};
 
-/// What the search of a piece gave: the last word found, the makespan (the opening one, `best`, where nothing was
-/// found), the nodes left in order, and how many were taken, at most `budget`. It keeps what it was made from, and is
-/// the sheet that the definition gives of this.
+/// The result of the search of a piece: the last word found, the makespan, the nodes left in order, and how many nodes
+/// were taken, at most `budget`. The makespan is `best`, the opening one, if no word was found. The definition `sheet`
+/// gives the same result for the instance, the piece, `best` and `budget`.
 #[derive(Drop)]
 pub struct Sheet<'r> {
     pub number: usize,

@@ -65,13 +65,14 @@ line_of words matches command args name rows line has is of given =
 unread_by : (words : List Text) (matches : ArgMatches) (command : Command) (sub : Option (Text × List Row))
     → IsCommandLine command → HasMatchesOf (app_of command) words matches → subcommand_rows_of matches ≡ sub
     → ((args : Args) (m : Text × List Row) → sub ≡ Some m → IsArgs m.0 m.1 args → ⊥) → IsUnread words
-unread_by words matches command sub line has entered none = record {
-  formats = line.0;
-  orders = line.1;
-  of_formats = line.2;
-  of_orders = line.3;
-  unread = inr (λ args by. none args by.0 (sym (read_of words matches command sub line has entered) ∙ by.1) by.2);
-}
+unread_by words matches command sub line has entered none = (
+  line.0,
+  line.1,
+  line.2,
+  line.3,
+  inr (λ args by.
+      none args by.0 (sym (read_of words matches command sub line has entered) ∙ by.1) by.2),
+)
 
 of_some : {A : Type 0} (x y : A) → Some x ≡ Some y → x ≡ y
 of_some x y e = cc
@@ -111,11 +112,5 @@ pub untaken : (words : List Text) (command : Command) (fault : Error) → IsComm
     → UnlessNoMemory (IsUnread words) (line_fault_of fault)
 untaken words command fault line passes =
     by_kind (IsUnread words) fault (kind_of fault) (takes (app_of command) words)
-    (λ refused. record {
-      formats = line.0;
-      orders = line.1;
-      of_formats = line.2;
-      of_orders = line.3;
-      unread = inl (ap (λ a. takes a words) (sym line.4.0) ∙ refused);
-    })
+    (λ refused. (line.0, line.1, line.2, line.3, inl (ap (λ a. takes a words) (sym line.4.0) ∙ refused)))
     passes

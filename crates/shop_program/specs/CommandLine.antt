@@ -119,16 +119,22 @@ order_word Bound = codes "bound"
 abbrev pub order_words : List Text
 order_words = map order_word (Kept ∷ Bound ∷ [])
 
+-- this holds of the command line, with the words of formats and orders
+abbrev pub OfLine : (App → Type 0) → Type 0
+OfLine Holds = (formats orders : ValueParser) × IsChoice format_words formats
+    × IsChoice order_words orders × Holds (command_line formats orders)
+
 abbrev pub IsCommandLine : Command → Type 0
-IsCommandLine command =
-    (formats orders : ValueParser) × IsChoice format_words formats × IsChoice order_words orders
-    × IsCommandOf (command_line formats orders) command
+IsCommandLine command = OfLine (λ app. IsCommandOf app command)
 
 -- ---- its values
 
--- the first value of an argument is this text, this number, this flag, or it may be missing
+-- the first value of an argument is this text, or none; this number; this flag
+abbrev pub MayHave : List Row → Text → Option Text → Type 0
+MayHave rows id text = first_of id rows ≡ text
+
 abbrev pub HasText : List Row → Text → Text → Type 0
-HasText rows id text = first_of id rows ≡ Some text
+HasText rows id text = MayHave rows id (Some text)
 
 abbrev pub NumberIs : Text → ℕ → Type 0
 NumberIs text n =
@@ -140,9 +146,6 @@ HasNumber rows id n = (text : Text) × (one_of id rows ≡ Some text) × NumberI
 pub record HasFlag (rows : List Row) (id : Text) (flag : Bool) : Type 0 where
   pub given : one_of id rows ≡ Some (codes "true") → flag ≡ true
   pub absent : one_of id rows ≡ Some (codes "false") → flag ≡ false
-
-abbrev pub MayHave : List Row → Text → Option Text → Type 0
-MayHave rows id text = first_of id rows ≡ text
 
 -- the plan has these values, and is within the limits
 pub record HasPlan (rows : List Row) (plan : Plan) : Type 0 where
@@ -177,17 +180,12 @@ IsReadBy app words args = (matches : Text × List Row) × (subcommand_of app wor
     × IsArgs matches.0 matches.1 args
 
 abbrev pub IsLineOf : List Text → Args → Type 0
-IsLineOf words args = (formats orders : ValueParser) × IsChoice format_words formats
-    × IsChoice order_words orders × IsReadBy (command_line formats orders) words args
+IsLineOf words args = OfLine (λ app. IsReadBy app words args)
 
 -- clap doesn't take the words, or what it reads of them is of no arguments
-pub record IsUnread (words : List Text) : Type 0 where
-  pub formats : ValueParser
-  pub orders : ValueParser
-  pub of_formats : IsChoice format_words formats
-  pub of_orders : IsChoice order_words orders
-  pub unread : (takes (command_line formats orders) words ≡ false)
-      ⊎ ((args : Args) → IsReadBy (command_line formats orders) words args → ⊥)
+abbrev pub IsUnread : List Text → Type 0
+IsUnread words = OfLine (λ app. (takes app words ≡ false)
+    ⊎ ((args : Args) → IsReadBy app words args → ⊥))
 
 -- why a command line is refused: this, or memory ran out
 abbrev pub UnlessNoMemory : Type 0 → LineFault → Type 0

@@ -1,12 +1,5 @@
--- What a run of the program does to standard input and output, and how it ends.
---     SolvesFrom                              what `solve` did to a source and a sink
---     IsCommandRun opens args old new result  what the command line asks for was done, or ended by
---                                             a fault
---     IsLineRefused words old new status      the words are faulty or ask for help, or memory ran
---                                             out
---     IsEnd opens words old new status        the program ended on these words
---     IsStart opens old new status            it ended on some words
--- OPENS says what opening a path may give.
+-- What a run of the program does to standard input and output, and how it ends. OPENS says what
+-- opening a path may give.
 use Rattle.std.specs.Prelude.{◌≡◌, ℕ, ◌⊎◌, List, Result, Ok, Err}
 use Rattle.clap.specs.Words.{Text}
 use Rattle.shop_engine.specs.declared.args.SolveArgs.{SolveArgs}
@@ -21,6 +14,7 @@ use Rattle.shop_program.specs.declared.arguments.Args.TheVariants.{List as ListN
 use Rattle.shop_program.specs.Statuses.{status_of}
 use Rattle.shop_program.specs.Commands.{Streams, Opens, IsRunOn, ListsFrom, ChecksFrom}
 
+-- what `solve` did to a source and a sink
 pub record HasSolved (args : SolveArgs) (sink sink' : Device) (result : Result (Unit {0}) Fault)
     (source source' : Device) : Type 0 where
   pub right : WhereKnown (IsRightOf args.format (name_in args.name) args.gantt)
@@ -37,6 +31,7 @@ SolvesFrom args sink sink' (Err fault) source source' =
 
 -- ---- the program
 
+-- what the command line asks for was done, or ended by a fault
 abbrev pub IsCommandRun : Opens → Args → Streams → Streams → Result ℕ Fault → Type 0
 IsCommandRun opens (ListNames args file) old new result =
     IsRunOn opens file old new result (ListsFrom args old.sink new.sink result)
@@ -65,6 +60,7 @@ pub record IsDone (opens : Opens) (words : List Text) (old new : Streams) (statu
   pub run : IsCommandRun opens args old new result
   pub is_status : status ≡ status_of_run result
 
+-- the program ended on these words
 abbrev pub IsEnd : Opens → List Text → Streams → Streams → ℕ → Type 0
 IsEnd opens words old new status =
     IsLineRefused words old new status ⊎ IsDone opens words old new status
@@ -78,6 +74,7 @@ pub record IsWordless (old new : Streams) (status : ℕ) : Type 0 where
   pub said : IsNoWords status
   pub same : new ≡ old
 
+-- and on some words
 abbrev pub IsStart : Opens → Streams → Streams → ℕ → Type 0
 IsStart opens old new status =
     IsWordless old new status ⊎ ((words : List Text) × IsEnd opens words old new status)

@@ -1,18 +1,17 @@
 -- Exit statuses: 0 done, 1 an infeasible schedule, 2 a faulty command line or a call for help, 3 a
 -- text that is refused, 4 a device that failed, 5 want of memory.
 use Rattle.std.specs.Prelude.{ℕ, Bool, true, false}
-use Rattle.shop_text.specs.declared.faults.ReadFault.TheVariants as read
 use Rattle.shop_engine.specs.declared.faults.Fault.{Fault}
-use Rattle.shop_engine.specs.declared.faults.Fault.TheVariants.{Text, ReadFailed, WriteFailed}
+use Rattle.shop_engine.specs.declared.faults.Fault.TheVariants as engine
 use Rattle.shop_program.specs.declared.line_faults.LineFault.{LineFault}
 use Rattle.shop_program.specs.declared.line_faults.LineFault.TheVariants.{NoMemory, Usage}
 
 -- of a fault
 abbrev pub status_of : Fault → ℕ
-status_of (Text read.NoMemory) = 5
-status_of (Text fault) = 3
-status_of ReadFailed = 4
-status_of WriteFailed = 4
+status_of engine.NoMemory = 5
+status_of engine.ReadFailed = 4
+status_of engine.WriteFailed = 4
+status_of refused = 3
 
 -- of a fault of the command line
 abbrev pub status_of_line : LineFault → ℕ

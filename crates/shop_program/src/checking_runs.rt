@@ -6,7 +6,7 @@ use crate::statuses::{DONE, status_of_check};
 use shop_engine::{CheckArgs, Fault, ListArgs, Sink, Source, check_text, list_text};
 use std::alloc::Global;
 
-/// Lists the instances of a source. The exit status.
+/// Lists the instances of a source. Returns the exit status.
 fn list_from<S: Source, K: Sink>(
     alloc: Global,
     args: &ListArgs,
@@ -20,7 +20,7 @@ fn list_from<S: Source, K: Sink>(
     Ok(DONE)
 }
 
-/// Runs `list`. The exit status.
+/// Runs `list`. Returns the exit status.
 pub fn run_list<R: Files + AllocGlobal, S: Source, K: Sink>(
     rt: &R,
     args: &ListArgs,
@@ -39,7 +39,7 @@ pub fn run_list<R: Files + AllocGlobal, S: Source, K: Sink>(
     }
 }
 
-/// Judges the schedule of a file, if a path is given, or else of the source. The exit status.
+/// Judges the schedule of a file, if a path is given, or else of the source. Returns the exit status.
 fn check_from<R: Files + AllocGlobal, S: Source, K: Sink>(
     rt: &R,
     args: &CheckArgs,
@@ -55,7 +55,7 @@ fn check_from<R: Files + AllocGlobal, S: Source, K: Sink>(
     Ok(status_of_check(is_feasible))
 }
 
-/// Runs `check`. The exit status.
+/// Runs `check`. Returns the exit status.
 pub fn run_check<R: Files + AllocGlobal, S: Source, K: Sink>(
     rt: &R,
     args: &CheckArgs,

@@ -9,7 +9,7 @@ use crate::statuses::DONE;
 use shop_engine::{Fault, Sink, SolveArgs, Source, solve_text};
 use shop_runs::{MakesCrew, Workers};
 
-/// Solves by the crew of so many workers: the report is the same for every crew.
+/// Solves with a crew of `workers`. Every crew gives the same report.
 fn solve_by<R: AllocGlobal, C: MakesCrew<R>, S: Source, K: Sink>(
     rt: &R,
     crews: &C,
@@ -26,7 +26,7 @@ fn solve_by<R: AllocGlobal, C: MakesCrew<R>, S: Source, K: Sink>(
     solve_text(rt, rt.alloc(), source, out, args, &mut crew)
 }
 
-/// Solves an instance of a source. The exit status.
+/// Solves an instance of a source. Returns the exit status.
 fn solve_from<R: AllocGlobal, C: MakesCrew<R>, S: Source, K: Sink>(
     rt: &R,
     crews: &C,
@@ -43,7 +43,7 @@ fn solve_from<R: AllocGlobal, C: MakesCrew<R>, S: Source, K: Sink>(
     Ok(DONE)
 }
 
-/// Runs `solve`. The exit status.
+/// Runs `solve`. Returns the exit status.
 fn run_solve<R: Files + AllocGlobal, C: MakesCrew<R>, S: Source, K: Sink>(
     rt: &R,
     crews: &C,

@@ -5,7 +5,6 @@ ghost use Rattle.shop_program.specs.Statuses.{status_of, status_of_line};
 use crate::line_faults::LineFault;
 use crate::statuses::{COMMAND_LINE, NO_MEMORY, status_of_fault};
 use shop_engine::{Fault, Sink, write_all};
-use shop_text::ReadFault;
 use std::fmt;
 use std::fmt::{Display, Write};
 
@@ -30,7 +29,7 @@ fn say<K: Sink, D: Display + Drop>(err: &mut K, text: D) {
     let _ = write!(pieces, "{text}");
 }
 
-/// Says a fault on one line. The exit status.
+/// Says a fault on one line. Returns the exit status.
 pub fn say_fault<K: Sink>(err: &mut K, fault: Fault) -> u8
     ensures { result ≡ status_of fault }
 {
@@ -39,14 +38,14 @@ pub fn say_fault<K: Sink>(err: &mut K, fault: Fault) -> u8
     status_of_fault(&fault)
 }
 
-/// Says that memory ran out. The exit status.
+/// Says that memory ran out. Returns the exit status.
 pub fn say_no_memory<K: Sink>(err: &mut K) -> u8
     ensures { result ≡ 5 }
 {
-    say_fault(err, Fault::Text(ReadFault::NoMemory))
+    say_fault(err, Fault::NoMemory)
 }
 
-/// Says that a word of the command line isn't text. The exit status.
+/// Says that a word of the command line isn't text. Returns the exit status.
 pub fn say_no_text<K: Sink>(err: &mut K) -> u8
     ensures { result ≡ 2 }
 {
@@ -54,7 +53,7 @@ pub fn say_no_text<K: Sink>(err: &mut K) -> u8
     COMMAND_LINE
 }
 
-/// Says clap's text of a fault of the command line, or that memory ran out. The exit status.
+/// Says clap's text of a fault of the command line, or that memory ran out. Returns the exit status.
 pub fn say_line_fault<K: Sink>(err: &mut K, fault: LineFault) -> u8
     ensures { result ≡ status_of_line fault }
 {

@@ -3,7 +3,6 @@ ghost use Rattle.std.specs.Prelude.{◌≡◌};
 ghost use Rattle.shop_program.specs.Statuses.{status_of, status_of_verdict};
 
 use shop_engine::Fault;
-use shop_text::ReadFault;
 
 /// Done.
 pub const DONE: u8 = 0;
@@ -28,9 +27,9 @@ pub fn status_of_fault(fault: &Fault) -> u8
     ensures { result ≡ status_of fault.now }
 {
     match fault {
-        Fault::Text(ReadFault::NoMemory) => NO_MEMORY,
-        Fault::Text(_) => REFUSED,
+        Fault::NoMemory => NO_MEMORY,
         Fault::ReadFailed | Fault::WriteFailed => FAILED,
+        _ => REFUSED,
     }
 }
 

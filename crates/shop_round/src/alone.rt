@@ -1,4 +1,4 @@
-// The crew of the calling thread alone.
+// The crew that searches on the calling thread alone.
 ghost use Rattle.std.specs.Prelude.{IfOk};
 ghost use Rattle.shop_runs.specs.Entries.{told};
 ghost use Rattle.shop_runs.specs.Crews.{OneForEach, StopsAtHit};
@@ -8,15 +8,14 @@ use shop_runs::{Crew, Entry, Round};
 use shop_workers::{PieceSearch, search_up_to_hit};
 use std::alloc::{AllocError as NoMemory, Global};
 
-/// Searches the pieces in order, on the calling thread, and passes those behind the first that ends
-/// at the opening bound.
+/// The crew of the calling thread alone. It searches the pieces of a round in order until one's makespan equals the
+/// opening bound, and skips the rest.
 #[derive(Clone, Copy)]
 pub struct Alone;
 
 impl Alone {
-    /// One entry for each piece, in number order: the pieces are searched up to and with the first
-    /// that ends at the opening bound, and each behind it is passed by that one. Fails with
-    /// `NoMemory` if memory runs out.
+    /// Searches the pieces of `round` in order until one's makespan equals the opening bound, and skips the rest.
+    /// Answers one entry for each piece, in number order. Fails with `NoMemory` if memory runs out.
     pub fn search_round<'r>(
         self,
         alloc: Global,

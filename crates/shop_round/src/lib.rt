@@ -1,4 +1,4 @@
-// The crew of one thread, and runs by it.
+// The crew that searches on the calling thread alone, and runs by this crew.
 #![tactic(auto)]
 
 mod alone;

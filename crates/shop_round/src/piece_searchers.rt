@@ -1,4 +1,4 @@
-// The search of single pieces of a round.
+// Searches pieces of a round by their number, for the workers of any crew.
 ghost use Rattle.std.specs.Prelude.{◌≡◌, ◌<◌, length, IfOk, OnOk, IfSome};
 ghost use Rattle.shop_runs.specs.Entries.{told, IsOf, TellsHit};
 
@@ -9,7 +9,7 @@ use shop_workers::PieceSearch;
 use std::alloc::{AllocError as NoMemory, Global};
 use std::marker::Model;
 
-// The sheet of a piece of the round, by a searcher for its instance.
+/// Searches piece `number` of `round`, and answers its sheet. Fails with `NoMemory` if memory runs out.
 fn search_piece<'r>(
     alloc: Global,
     searcher: &mut Searcher<'_, 'r>,
@@ -25,7 +25,8 @@ fn search_piece<'r>(
     searcher.search(alloc, &round.pieces[number], round.best, round.budget)
 }
 
-// The sheet of a piece of the round by the searcher that is kept. Where none is, one over the round's layout is made.
+/// Searches piece `number` with the searcher in `kept`, and answers its sheet. If `kept` is `None`, makes a searcher
+/// over the round's layout and keeps it. Fails with `NoMemory` if memory runs out.
 fn search_kept<'r>(
     alloc: Global,
     kept: &mut Option<Searcher<'r, 'r>>,
@@ -47,8 +48,8 @@ fn search_kept<'r>(
     Ok(sheet)
 }
 
-/// Searches pieces of a round, one after the other, over the round's layout. What a search needs beside it is made for
-/// the first piece, and kept. To contracts it is the round.
+/// Searches pieces of a round one after the other. The first search makes a searcher over the round's layout, and later
+/// searches use it again. Contracts see the round.
 #[derive(Drop)]
 pub struct PieceSearcher<'r> {
     round: &'r Round<'r>,

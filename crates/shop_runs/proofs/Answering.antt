@@ -1,9 +1,13 @@
 -- Rounds up to the answer.
 use Rattle.std.proofs.Common.{◌≡◌, ℕ, zero, suc, ◌+◌, ◌-◌, ◌*◌, ◌≤◌, ◌<◌, List, [], ◌∷◌, ◌++◌, length, refl, sym}
-use Rattle.std.proofs.Common.{◌∙◌, ap, subst, arith}
+use Rattle.std.proofs.Common.{◌∙◌, ap, subst, arith, append-nil, ltb}
+use Rattle.std.specs.Prelude.{unwrap_or}
+use Rattle.std.proofs.lemmas.List.Elements.{All-filter}
 use Rattle.shop_model.specs.Shop.{Shop}
 use Rattle.std.proofs.lemmas.List.{length-map}
-use Rattle.shop_runs.specs.Plans.{Planned}
+use Rattle.shop_runs.specs.Plans.{Planned, planned}
+use Rattle.shop_runs.specs.declared.plans.Plan.{Plan}
+use Rattle.shop_nodes.specs.declared.nodes.Node.{Node}
 use Rattle.shop_runs.specs.Round.{Stand, Told, cut_of, gathered, round}
 use Rattle.shop_runs.specs.Answers.{rounds_from, unless_closed, answer}
 use Rattle.shop_runs.specs.Round.{opening, least_bound, makespan_of}
@@ -12,24 +16,25 @@ use Rattle.shop_runs.specs.Laws.{StandsCovering}
 use Rattle.shop_runs.specs.Trust.{IsTrustworthy}
 use Rattle.shop_nodes.specs.Nodes.{words_of}
 use Rattle.shop_bound.specs.Bound.{lb}
-use Rattle.shop_nodes.specs.Nodes.{AreNodes}
+use Rattle.shop_nodes.specs.Nodes.{IsNode, AreNodes}
 use Rattle.shop_runs.specs.Entries.{told}
 use Rattle.shop_runs.specs.Round.{in_order, words_below, pieces_of, rest_of}
-use Rattle.shop_runs.specs.Standings.{stands, StandsAt}
+use Rattle.shop_runs.specs.Standings.{stands}
 use Rattle.shop_runs.specs.Runs.{Says}
 use Rattle.shop_runs.specs.declared.open_nodes.OpenNodes.{OpenNodes}
 use Rattle.shop_runs.specs.declared.plans.Order.{Order}
 use Rattle.shop_runs.specs.declared.rounds.Round.{Round}
 use Rattle.shop_runs.specs.declared.runs.OpenRun.{OpenRun}
-use Rattle.shop_runs.specs.inner.NodeLists.{least_of_bounds}
-use Rattle.shop_runs.specs.inner.Searches.{IsSearchAt, IsSearchOf, IsJoined, front_of, stand_of}
+use Rattle.shop_runs.specs.inner.NodeLists.{least_of_bounds, nodes_below}
+use Rattle.shop_runs.specs.inner.Searches.{IsSearchAt, IsSearchOf, IsFront, IsJoined, front_of, stand_of}
 use Rattle.shop_runs.specs.inner.Stores.{open_list, order_of}
 use Rattle.shop_runs.proofs.FrontLemmas.{IsInOrder, in_order_is, order_drop, ordered_twice, gathered_front, rejoined}
 use Rattle.shop_runs.proofs.FrontLemmas.{joined_at, search_of, least_order, length_order}
-use Rattle.shop_runs.proofs.NodeLemmas.{least_is}
+use Rattle.shop_runs.proofs.NodeLemmas.{least_is, below_is}
 use Rattle.shop_runs.specs.declared.runs.Answer.{Answer}
 use Rattle.shop_model.specs.Word.{placed, rows_of}
-use Rattle.shop_runs.specs.declared.standings.Standing.{Standing}
+use Rattle.shop_runs.specs.declared.outcomes.RoundResult.{RoundResult}
+use Rattle.shop_runs.specs.inner.Outcomes.{left_open, IsOutcome}
 use Rattle.shop_runs.proofs.Covering.{opens_covering, round_covers, cut_is_round}
 use Rattle.shop_runs.proofs.Trusting.{trustworthy, none_from}
 use Rattle.shop_runs.proofs.Counting.{counts_small}
@@ -73,36 +78,76 @@ pub goes_last : (shop : Shop) (plan : Planned) (i : ℕ) (s : Stand) → GoesTo 
 goes_last shop plan i s g h = let e : plan.rounds - i ≡ 0 = omega arith
     in sym (ap (λ n. rounds_from shop plan n s) e) ∙ g.goes_to
 
--- a round of a run: its front is cut off and searched, what stands after that is joined by the others
+-- the run v stands after the round r of this outcome, beside the other open nodes
+pub record IsAfter (r : Round) (o : RoundResult) (others : OpenNodes) (v : OpenRun) : Type 0 where
+  pub word : v.standing.word ≡ unwrap_or o.found r.word
+  pub makespan : v.standing.makespan ≡ o.makespan
+  pub rounds : v.standing.rounds ≡ r.rounds + 1
+  pub nodes : v.standing.nodes ≡ o.nodes
+  pub joined : IsJoined (nodes_below o.makespan (left_open o.left.items)) others v
+
+-- a round of a run: its front is cut off and searched, what it left joins the others
 module _ (shop : Shop) (plan : Planned) (t : OpenRun) (of : IsSearchOf shop plan.order t) where
   whole : Told
   whole = cut_of shop plan (stand_of t)
 
-  pub next_round : (r : Round) (others : OpenNodes) (u : Standing) (v : OpenRun)
+  pub next_round : (r : Round) (others : OpenNodes) (o : RoundResult) (v : OpenRun)
       → told r ≡ front_of (cut_of shop plan (stand_of t))
       → words_of (open_list others) ≡ (cut_of shop plan (stand_of t)).rest → AreNodes shop (open_list others)
-      → order_of others ≡ order_of t.open → StandsAt r.instance.now (gathered (told r)) u → IsJoined u others v
+      → order_of others ≡ order_of t.open → IsOutcome (told r) o → IsAfter r o others v
       → IsSearchAt shop plan.order (round shop plan (stand_of t)) v
   unfolding whole
-  next_round r others u v front rest bounds kept at joined =
-      let is = cut_is_round shop plan (stand_of t) of.standing
-      in let stands_at : StandsAt shop (gathered (front_of whole)) u =
-      subst (λ (q : Told). StandsAt q.shop (gathered q) u) front at
-      in let first = gathered (front_of whole)
-      in let split : round shop plan (stand_of t) ≡ rejoined whole first = gathered_front whole is
-      in let stood : rejoined whole first ≡ record (stands u) {
-        open_words = words_of u.open.items ++ words_below shop u.makespan (words_of (open_list others));
-      } = (λ j. record (sym stands_at.stands_at j) {
-        open_words = (sym stands_at.stands_at j).open_words ++ words_below shop (sym stands_at.makespan j) (sym rest j);
+  next_round r others o v front rest bounds kept out after =
+      let first : IsOutcome (front_of whole) o = subst (λ (q : Told). IsOutcome q o) front out
+      in let all = left_open o.left.items
+      in let left = nodes_below o.makespan all
+      in let word : unwrap_or o.found whole.word ≡ v.standing.word =
+      sym (after.word ∙ ap (λ (q : Told). unwrap_or o.found q.word) front)
+      in let makespan : v.standing.makespan ≡ lb shop (unwrap_or o.found whole.word) = after.makespan ∙ first.makespan
+      in let words : words_below shop o.makespan (words_of all ++ []) ≡ words_of left =
+      ap (words_below shop o.makespan) (append-nil (words_of all))
+      ∙ sym (below_is shop o.makespan all first.nodes_left)
+      in let rounds : whole.rounds + 1 ≡ v.standing.rounds =
+      sym (after.rounds ∙ ap (λ (q : Told). q.rounds + 1) front)
+      in let stood : rejoined whole (gathered (front_of whole)) ≡ record (stands v.standing) {
+        open_words = words_of left ++ words_below shop v.standing.makespan (words_of (open_list others));
+      } = ap (rejoined whole) first.stands ∙ (λ j. record {
+        word = word j;
+        open_words = words j ++ words_below shop (sym makespan j) (sym rest j);
+        rounds = rounds j;
+        nodes = sym after.nodes j;
       })
       in let rises : IsInOrder shop plan.order (words_of (open_list others)) =
       subst (IsInOrder shop plan.order) (sym rest) (order_drop shop plan.order (256 * plan.piece)
       (in_order shop plan.order (stand_of t).open_words) (in_order_is shop plan.order (stand_of t).open_words))
-      in let landed : IsSearchAt shop plan.order (rejoined whole first) v =
-      joined_at shop plan.order (rejoined whole first) u others v stood
-      (stands_at.makespan ∙ ap (λ (x : Stand). lb shop x.word) (sym stands_at.stands_at)) stands_at.bounds bounds
-      (kept ∙ of.kept) rises joined
-      in subst (λ x. IsSearchAt shop plan.order x v) (sym split) landed
+      in let landed : IsSearchAt shop plan.order (rejoined whole (gathered (front_of whole))) v =
+      joined_at shop plan.order (rejoined whole (gathered (front_of whole))) left others v stood
+      (makespan ∙ ap (lb shop) word) (All-filter (λ n. ltb n.bound o.makespan) (IsNode shop) all first.nodes_left) bounds
+      (kept ∙ of.kept) rises after.joined
+      in subst (λ x. IsSearchAt shop plan.order x v)
+      (sym (gathered_front whole (cut_is_round shop plan (stand_of t) of.standing))) landed
+
+-- what is cut of a run is what the definition cuts of where it stands
+pub cut_again : (shop : Shop) (plan : Planned) (s : Stand) (t : OpenRun) → IsSearchAt shop plan.order s t
+    → cut_of shop plan (stand_of t) ≡ cut_of shop plan s
+cut_again shop plan s t at = ap (cut_of shop plan) at.stands_at ∙ ap (λ ws. record {
+  shop = shop;
+  word = s.word;
+  best = lb shop s.word;
+  bound = least_bound shop (lb shop s.word) ws;
+  budget = plan.budget;
+  pieces = pieces_of plan ws;
+  rest = rest_of plan ws;
+  rounds = s.rounds;
+  nodes = s.nodes;
+}) (ordered_twice shop plan.order s.open_words)
+
+-- the round of a run's front, given the other nodes as its rest, is what is cut of where the run stands
+pub with_rest : (shop : Shop) (plan : Plan) (s : Stand) (t : OpenRun) (r : Round) (others : OpenNodes) (rest : List Node)
+    → IsSearchAt shop plan.order s t → IsFront shop plan t r others → rest ≡ open_list others
+    → record (told r) { rest = words_of rest } ≡ cut_of shop (planned plan) s
+with_rest shop plan s t r others rest at front is =
+    (λ i. record (front.round i) { rest = (ap words_of is ∙ front.rest) i }) ∙ cut_again shop (planned plan) s t at
 
 -- a run on its way: it stands where the definition does, which covers the instance, and goes to the answer
 pub record OnTheWay (shop : Shop) (plan : Planned) (i : ℕ) (t : OpenRun) : Type 0 where
@@ -126,12 +171,9 @@ module _ (shop : Shop) (plan : Planned) (i : ℕ) (t : OpenRun) (way : OnTheWay 
   s : Stand
   s = way.stand
 
-  -- a run on its way is a standing of the instance, of so many rounds
+  -- a run on its way is a standing of the instance
   pub way_search : IsSearchOf shop plan.order t
   way_search = search_of shop plan.order way.stand t way.at way.covering.0
-
-  pub way_rounds : t.standing.rounds ≡ i
-  way_rounds = ap (λ (x : Stand). x.rounds) way.at.stands_at ∙ way.rounds
 
   many : length (open_list t.open) ≡ length way.stand.open_words
   many =
@@ -149,26 +191,12 @@ module _ (shop : Shop) (plan : Planned) (i : ℕ) (t : OpenRun) (way : OnTheWay 
   pub way_last : plan.rounds ≤ i → IsSearchAt shop plan.order (answer shop plan) t
   way_last h = subst (λ x. IsSearchAt shop plan.order x t) (goes_last shop plan i way.stand way.goes h) way.at
 
-  -- what is cut is what the definition cuts
-  same_cut : cut_of shop plan (stand_of t) ≡ cut_of shop plan way.stand
-  same_cut = ap (cut_of shop plan) way.at.stands_at ∙ ap (λ ws. record {
-    shop = shop;
-    word = way.stand.word;
-    best = lb shop way.stand.word;
-    bound = least_bound shop (lb shop way.stand.word) ws;
-    budget = plan.budget;
-    pieces = pieces_of plan ws;
-    rest = rest_of plan ws;
-    rounds = way.stand.rounds;
-    nodes = way.stand.nodes;
-  }) (ordered_twice shop plan.order way.stand.open_words)
-
   -- one more round brings it to where the definition's next round ends
   pub way_next : (v : OpenRun) → i < plan.rounds → 0 < length (open_list t.open)
       → IsSearchAt shop plan.order (round shop plan (stand_of t)) v → OnTheWay shop plan (i + 1) v
   way_next v h some at = record {
     stand = round shop plan way.stand;
-    at = subst (λ x. IsSearchAt shop plan.order (gathered x) v) same_cut at;
+    at = subst (λ x. IsSearchAt shop plan.order (gathered x) v) (cut_again shop plan way.stand t way.at) at;
     covering = round_covers shop plan way.stand way.covering;
     goes = goes_on shop plan i way.stand way.goes h (let m = many in omega arith);
     rounds = (counts_small (cut_of shop plan way.stand)).0 ∙ ap (λ k. k + 1) way.rounds;

@@ -1,13 +1,12 @@
 -- Rounds keep the cover.
-use Rattle.std.proofs.Common.{◌≡◌, ℕ, zero, suc, ◌≤◌, ◌⊎◌, inl, inr, Option, Some, None, List, [], ◌∷◌, ◌++◌, length}
-use Rattle.std.proofs.Common.{refl, sym, ap, subst, arith}
+use Rattle.std.proofs.Common.{◌≡◌, ◌≤◌, ◌⊎◌, inl, inr, Option, Some, None, List, [], ◌∷◌, ◌++◌}
+use Rattle.std.proofs.Common.{refl, sym, subst, arith}
 use Rattle.std.specs.Prelude.{Contains}
 use Rattle.std.specs.List.{AllByRecursion, flat_map}
-use Rattle.std.proofs.lemmas.List.{append-nil}
 use Rattle.shop_model.specs.Shop.{Shop, Starts, IsFeasible, end_of}
-use Rattle.shop_model.specs.Word.{placed, IsWord, start_jobs}
+use Rattle.shop_model.specs.Word.{IsWord, start_jobs}
 use Rattle.shop_bound.specs.Bound.{lb}
-use Rattle.shop_bound.proofs.BoundLaw.{lb-le-end, full_word}
+use Rattle.shop_bound.proofs.BoundLaw.{lb-le-end}
 use Rattle.shop_nodes.specs.Walking.{Walk}
 use Rattle.shop_nodes.specs.Laws.{AreWords, HasBetter}
 use Rattle.shop_nodes.proofs.Members.{In, in_contains, contains_in, all_contains, contains_all, in_all, in_map}
@@ -15,8 +14,8 @@ use Rattle.shop_nodes.proofs.Members.{in_flat_map, in_left, in_right}
 use Rattle.shop_nodes.proofs.Found.{searches_keep}
 use Rattle.shop_runs.specs.Plans.{Planned}
 use Rattle.shop_runs.specs.Round.{Stand, Told, words_of_round, sheet_in, sheets_of, cut_of, in_order}
-use Rattle.shop_runs.specs.Round.{least_bound, up_to_hit, best_word, after_round, round, opening}
-use Rattle.shop_runs.specs.Round.{makespan_of, Covers}
+use Rattle.shop_runs.specs.Round.{up_to_hit, best_word, after_round}
+use Rattle.shop_runs.specs.Round.{Covers}
 use Rattle.shop_runs.specs.Laws.{IsStanding, StandsCovering, IsRound, OpeningCovers, CutsCover, GatheringCovers}
 use Rattle.shop_runs.specs.Laws.{RoundsKeepTheCover}
 use Rattle.shop_runs.proofs.Opening.{start_full}

@@ -4,7 +4,7 @@ use Rattle.std.proofs.Common.{[], ◌∷◌, ◌++◌, length, drop, filter, ref
 use Rattle.std.proofs.Common.{append-nil, min}
 use Rattle.std.specs.Prelude.{unwrap_or, Contains}
 use Rattle.std.specs.List.{AllByRecursion, flat_map}
-use Rattle.std.proofs.lemmas.Bool.{cases_Bool, le-leb, le-ltb}
+use Rattle.std.proofs.lemmas.Bool.{cases_Bool, le-leb}
 use Rattle.std.proofs.lemmas.List.Elements.{filter-append, recursion_from_All, All-from_recursion, All-filter}
 use Rattle.shop_model.specs.Shop.{Shop}
 use Rattle.shop_model.specs.Word.{IsWord}
@@ -17,10 +17,9 @@ use Rattle.shop_nodes.specs.Nodes.{words_of, IsNode, AreNodes}
 use Rattle.shop_nodes.proofs.Members.{all_contains, contains_all, all_insert, in_all}
 use Rattle.shop_runs.specs.declared.plans.Order.{Order}
 use Rattle.shop_runs.specs.declared.plans.Order.TheVariants.{Kept, Bound}
-use Rattle.shop_runs.specs.declared.standings.Standing.{Standing}
 use Rattle.shop_runs.specs.declared.open_nodes.OpenNodes.{OpenNodes}
 use Rattle.shop_runs.specs.declared.runs.OpenRun.{OpenRun}
-use Rattle.shop_runs.specs.Round.{Stand, Told, in_order, words_below, words_of_round, sheets_of, up_to_hit}
+use Rattle.shop_runs.specs.Round.{Stand, Told, in_order, words_below, sheets_of, up_to_hit}
 use Rattle.shop_runs.specs.Round.{after_round, gathered, best_word, makespan_of, least_bound}
 use Rattle.shop_runs.specs.Laws.{IsRound, IsStanding}
 use Rattle.shop_runs.specs.Standings.{stands}
@@ -28,12 +27,12 @@ use Rattle.shop_runs.specs.inner.NodeLists.{nodes_below}
 use Rattle.shop_runs.specs.inner.Searches.{IsSearchAt, IsSearchOf, IsJoined, front_of}
 use Rattle.shop_runs.specs.inner.Stacks.{put_before, put_all_before}
 use Rattle.shop_runs.specs.inner.Stores.{open_list, order_of}
-use Rattle.shop_runs.proofs.Cutting.{all_front, all_back}
+use Rattle.shop_runs.proofs.Cutting.{all_front}
 use Rattle.shop_runs.proofs.NodeLemmas.{insert_words, below_is}
 use Rattle.shop_runs.proofs.OpenLemmas.{ordered_all}
 use Rattle.shop_runs.proofs.SheetLemmas.{IsOfRound, hit_in, found_is}
 use Rattle.shop_runs.proofs.SortLemmas.{Rises, sort_rises}
-use Rattle.shop_runs.proofs.StandingLemmas.{known}
+use Rattle.shop_runs.proofs.StandingLemmas.{known, rest_closed}
 
 -- a list in order stays as it is, and so do its parts
 module _ {A : Type 0} (key : A → ℕ) where
@@ -175,12 +174,6 @@ front_is_round r is = record {
   bound = part_of_words (λ w. r.bound ≤ lb r.shop w) (flat_map (λ p. p) r.pieces) r.rest is.bound;
 }
 
--- none is below a bound that all have
-none_below : (shop : Shop) (c : ℕ) (ws : List (List ℕ)) → AllByRecursion (λ w. c ≤ lb shop w) ws
-    → words_below shop c ws ≡ []
-none_below shop c [] a = refl
-none_below shop c (w ∷ ws) a = rw (le-ltb (lb shop w) c a.0) (none_below shop c ws a.1)
-
 -- what stands after a round is what stands after its front, with those of its rest that are below the makespan
 abbrev pub rejoined : Told → Stand → Stand
 rejoined r s = record s { open_words = s.open_words ++ words_below r.shop (lb r.shop s.word) r.rest }
@@ -206,10 +199,8 @@ module _ (r : Told) (is : IsRound r) where
       let m = hit_in r.bound (sheets_of r) h counted e
       in let k = in_all (IsOfRound r.shop r.best) h (sheets_of r) m.0 (known r is)
       in let f = found_is r.shop r.word r.best r.bound h.found h.best is.best is.full k.found m.1
-      in let low = all_back (λ w. r.bound ≤ lb r.shop w) (flat_map (λ p. p) r.pieces) r.rest
-      (all_contains (λ w. r.bound ≤ lb r.shop w) (words_of_round r) is.bound)
       in let none : [] ≡ words_below r.shop (lb r.shop (unwrap_or h.found r.word)) r.rest =
-      sym (ap (λ c. words_below r.shop c r.rest) f.1 ∙ none_below r.shop r.bound r.rest low)
+      sym (ap (λ c. words_below r.shop c r.rest) f.1 ∙ rest_closed r is)
       in (λ i. record {
         word = unwrap_or h.found r.word;
         open_words = none i;
@@ -220,47 +211,46 @@ module _ (r : Told) (is : IsRound r) where
   pub gathered_front : gathered r ≡ rejoined r (gathered (front_of r))
   gathered_front = after_front (up_to_hit r.bound (sheets_of r)) refl
 
--- where a run stands once the others have joined
-module _ (shop : Shop) (o : Order) (s : Stand) (standing : Standing) (others : OpenNodes) (t : OpenRun)
-    (whole : s ≡ record (stands standing) {
-      open_words = words_of standing.open.items ++ words_below shop standing.makespan (words_of (open_list others));
+-- where a run stands once some nodes have joined the others that are below its makespan
+module _ (shop : Shop) (o : Order) (s : Stand) (left : List Node) (others : OpenNodes) (t : OpenRun)
+    (whole : s ≡ record (stands t.standing) {
+      open_words = words_of left ++ words_below shop t.standing.makespan (words_of (open_list others));
     })
-    (makespan : standing.makespan ≡ lb shop standing.word) (left : AreNodes shop standing.open.items)
+    (makespan : t.standing.makespan ≡ lb shop t.standing.word) (left_nodes : AreNodes shop left)
     (rest : AreNodes shop (open_list others)) (kept : order_of others ≡ o)
-    (rises : IsInOrder shop o (words_of (open_list others))) (joined : IsJoined standing others t) where
+    (rises : IsInOrder shop o (words_of (open_list others))) (joined : IsJoined left others t) where
   low : List Node
-  low = nodes_below standing.makespan (open_list others)
+  low = nodes_below t.standing.makespan (open_list others)
 
   low_nodes : AreNodes shop low
   unfolding low
-  low_nodes = All-filter (λ n. ltb n.bound standing.makespan) (IsNode shop) (open_list others) rest
+  low_nodes = All-filter (λ n. ltb n.bound t.standing.makespan) (IsNode shop) (open_list others) rest
 
-  low_words : words_of low ≡ words_below shop standing.makespan (words_of (open_list others))
+  low_words : words_of low ≡ words_below shop t.standing.makespan (words_of (open_list others))
   unfolding low
-  low_words = below_is shop standing.makespan (open_list others) rest
+  low_words = below_is shop t.standing.makespan (open_list others) rest
 
-  open_is : open_list t.open ≡ put_all_before o standing.open.items low
+  open_is : open_list t.open ≡ put_all_before o left low
   unfolding low
-  open_is = joined.open_nodes ∙ ap (λ q. put_all_before q standing.open.items low) kept
+  open_is = joined.open_nodes ∙ ap (λ q. put_all_before q left low) kept
 
   open_words_are : words_of (open_list t.open) ≡ in_order shop o s.open_words
   open_words_are = ap words_of open_is
-      ∙ (put_all_words shop o standing.open.items low
-      (recursion_from_All (IsNode shop) standing.open.items left) (recursion_from_All (IsNode shop) low low_nodes)
+      ∙ (put_all_words shop o left low
+      (recursion_from_All (IsNode shop) left left_nodes) (recursion_from_All (IsNode shop) low low_nodes)
       (subst (IsInOrder shop o) (sym low_words)
-      (order_below shop o standing.makespan (words_of (open_list others)) rises))
-      ∙ ap (in_order shop o) (ap (λ ws. words_of standing.open.items ++ ws) low_words
+      (order_below shop o t.standing.makespan (words_of (open_list others)) rises))
+      ∙ ap (in_order shop o) (ap (λ ws. words_of left ++ ws) low_words
       ∙ ap (λ (x : Stand). x.open_words) (sym whole)))
 
   pub joined_at : IsSearchAt shop o s t
   joined_at = record {
-    stands_at = (λ i. record (stands (joined.standing_is i)) { open_words = open_words_are i })
+    stands_at = (λ i. record (stands t.standing) { open_words = open_words_are i })
         ∙ (λ i. record (sym whole i) { open_words = in_order shop o s.open_words });
-    makespan = ap (λ (x : Standing). x.makespan) joined.standing_is
-        ∙ (makespan ∙ ap (λ (x : Stand). lb shop x.word) (sym whole));
+    makespan = makespan ∙ ap (λ (x : Stand). lb shop x.word) (sym whole);
     bounds = subst (AreNodes shop) (sym open_is) (All-from_recursion (IsNode shop)
-        (put_all_before o standing.open.items low) (put_all_nodes shop o standing.open.items low
-        (recursion_from_All (IsNode shop) standing.open.items left)
+        (put_all_before o left low) (put_all_nodes shop o left low
+        (recursion_from_All (IsNode shop) left left_nodes)
         (recursion_from_All (IsNode shop) low low_nodes)));
     kept = joined.kept ∙ kept;
   }

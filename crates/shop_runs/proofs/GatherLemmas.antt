@@ -1,10 +1,10 @@
 -- Entries gathered in turn.
-use Rattle.std.proofs.Common.{◌≡◌, ℕ, zero, suc, ◌+◌, ◌*◌, ◌≤◌, ◌<◌, inl, inr, Bool, true, false, cond, Option, None}
+use Rattle.std.proofs.Common.{◌≡◌, ℕ, zero, suc, ◌+◌, ◌*◌, ◌≤◌, ◌<◌, inl, inr, Bool, true, false, cond}
 use Rattle.std.proofs.Common.{List, [], ◌∷◌, ◌++◌, map, length, get_or, take, refl, sym, ◌∙◌, ap, subst, arith, eqb}
 use Rattle.std.proofs.Common.{ltb}
 use Rattle.std.specs.Prelude.{unwrap_or, slice_index_or}
 use Rattle.std.specs.List.{flat_map, fold, sum_by}
-use Rattle.std.proofs.lemmas.Bool.{lt-ltb, le-ltb, cases_lt}
+use Rattle.std.proofs.lemmas.Bool.{cases_lt}
 use Rattle.std.proofs.lemmas.List.{take_more, length-map, flat_map_more, map-append}
 use Rattle.std.proofs.lemmas.List.Sums.{sum_by-append, fold-append}
 use Rattle.std.proofs.lemmas.List.Elements.{All-append}
@@ -19,7 +19,8 @@ use Rattle.shop_nodes.specs.Left.{open_nodes}
 use Rattle.shop_nodes.specs.Sheets.{walk_of}
 use Rattle.shop_runs.specs.Round.{Told, taken_of, sheet_in, sheets_of}
 use Rattle.shop_runs.specs.Entries.{is_hit, IsOf}
-use Rattle.shop_runs.specs.inner.Outcomes.{open_of}
+use Rattle.shop_runs.specs.inner.Outcomes.{open_of, left_open, TakesIn}
+use Rattle.shop_runs.specs.declared.outcomes.RoundResult.{RoundResult}
 use Rattle.shop_runs.proofs.OpenWords.{words_open, nodes_open}
 use Rattle.shop_runs.proofs.SheetLemmas.{better_of, first_of}
 
@@ -36,26 +37,14 @@ abbrev pub below_best : Shop → Walk → List (List ℕ)
 below_best shop t = words_below shop t.best t.left
 
 -- the first i entries were searched, none of their sheets ends at the opening bound, and this is what they come to
-pub record GatheredSoFar (r : Told) (i : ℕ) (found : Option (List ℕ)) (makespan : ℕ) (left : List Node)
-    (nodes : ℕ) : Type 0 where
+pub record GatheredSoFar (r : Told) (i : ℕ) (o : RoundResult) : Type 0 where
   pub none_hits : (k : ℕ) → k < i → is_hit r k ≡ false
-  pub makespan_is : makespan ≡ (best_among r (first_sheets r i)).best
-  pub word_is : unwrap_or found r.word ≡ unwrap_or (best_among r (first_sheets r i)).found r.word
-  pub left_is : words_of left ≡ flat_map (below_best r.shop) (first_sheets r i)
-  pub nodes_left : AreNodes r.shop left
-  pub nodes_is : nodes ≡ r.nodes + sum_by (taken_of r.budget) (first_sheets r i)
-  pub few : nodes ≤ r.nodes + i * 10000000
-
-pub gathered_none : (r : Told) → GatheredSoFar r 0 None r.best [] r.nodes
-gathered_none r = record {
-  none_hits = λ k h. absurd (omega arith);
-  makespan_is = refl;
-  word_is = refl;
-  left_is = refl;
-  nodes_left = λ k d h. absurd (omega arith);
-  nodes_is = omega arith;
-  few = omega arith;
-}
+  pub makespan_is : o.makespan ≡ (best_among r (first_sheets r i)).best
+  pub word_is : unwrap_or o.found r.word ≡ unwrap_or (best_among r (first_sheets r i)).found r.word
+  pub left_is : words_of (left_open o.left.items) ≡ flat_map (below_best r.shop) (first_sheets r i)
+  pub nodes_left : AreNodes r.shop (left_open o.left.items)
+  pub nodes_is : o.nodes ≡ r.nodes + sum_by (taken_of r.budget) (first_sheets r i)
+  pub few : o.nodes ≤ r.nodes + i * 10000000
 
 pub map_at : (r : Told) (ps : List (List (List ℕ))) (i : ℕ) (d : Walk) → i < length ps
     → get_or (map (sheet_in r) ps) i d ≡ sheet_in r (slice_index_or ps i [])
@@ -82,7 +71,7 @@ module _ (r : Told) (i : ℕ) (s : Sheet) (at : IsSheetAt r i s) where
   of_shop : s.left.shop ≡ r.shop
   of_shop = s.left_of ∙ (at.of_round).0
 
-  left_below : words_of (open_of s) ≡ below_best r.shop (whole_of r i s)
+  left_below : words_of (open_of s.left) ≡ below_best r.shop (whole_of r i s)
   left_below = words_open s.left.shop s.left.makespan s.left.words
       ∙ (λ j. words_below (of_shop j) (s.left_below j) s.left.words)
 
@@ -111,13 +100,12 @@ module _ (r : Told) (i : ℕ) (s : Sheet) (at : IsSheetAt r i s) where
       in let b = ap (sum_by (taken_of r.budget)) next_sheets
       in let e = taken_here in omega arith
 
-  module _ (found : Option (List ℕ)) (makespan : ℕ) (left : List Node) (nodes : ℕ)
-      (was : GatheredSoFar r i found makespan left nodes) (small : r.budget ≤ 10000000) where
+  module _ (o : RoundResult) (was : GatheredSoFar r i o) (small : r.budget ≤ 10000000) where
     -- the nodes counted with this sheet
-    nodes_here : nodes + s.taken ≡ r.nodes + sum_by (taken_of r.budget) (first_sheets r (i + 1))
+    nodes_here : o.nodes + s.taken ≡ r.nodes + sum_by (taken_of r.budget) (first_sheets r (i + 1))
     nodes_here = let a = was.nodes_is in let b = next_taken in omega arith
 
-    pub few_here : nodes + s.taken ≤ r.nodes + (i + 1) * 10000000
+    pub few_here : o.nodes + s.taken ≤ r.nodes + (i + 1) * 10000000
     few_here = let a = was.few in let b = s.spent in let e = (at.of_round).2 in omega arith
 
     none_here : eqb s.makespan r.bound ≡ false → (k : ℕ) → k < i + 1 → is_hit r k ≡ false
@@ -126,53 +114,53 @@ module _ (r : Told) (i : ℕ) (s : Sheet) (at : IsSheetAt r i s) where
       | inr m ↦ (let same : i ≡ k = omega arith in subst (λ j. is_hit r j ≡ false) same (hits_here ∙ e))
     ]
 
-    left_here : words_of (left ++ open_of s) ≡ flat_map (below_best r.shop) (first_sheets r (i + 1))
+    left_here : words_of (left_open o.left.items ++ open_of s.left)
+        ≡ flat_map (below_best r.shop) (first_sheets r (i + 1))
     left_here =
-        map-append (λ (n : Node). n.word) left (open_of s)
+        map-append (λ (n : Node). n.word) (left_open o.left.items) (open_of s.left)
         ∙ ((λ j. was.left_is j ++ left_below j)
         ∙ (flat_map_more (below_best r.shop) [] (first_sheets r i) (whole_of r i s)
         ∙ sym (ap (flat_map (below_best r.shop)) next_sheets)))
 
-    nodes_left_here : AreNodes r.shop (left ++ open_of s)
-    nodes_left_here = All-append (IsNode r.shop) left (open_of s) was.nodes_left
+    nodes_left_here : AreNodes r.shop (left_open o.left.items ++ open_of s.left)
+    nodes_left_here = All-append (IsNode r.shop) (left_open o.left.items) (open_of s.left) was.nodes_left
         (subst (λ (shop : Shop). AreNodes r.shop (open_nodes shop s.left.makespan s.left.words)) (sym of_shop)
         (nodes_open r.shop s.left.makespan s.left.words
         (subst (λ (shop : Shop). AreWords shop s.left.words) (at.of_round).0 s.words_left)))
 
-    best_here : best_among r (first_sheets r (i + 1)) ≡ better_of (best_among r (first_sheets r i)) (whole_of r i s)
-    best_here = ap (best_among r) next_sheets
-        ∙ fold-append better_of (first_of r.best r.word) (first_sheets r i) (whole_of r i s ∷ [])
+    -- the better of this sheet and those so far
+    better : Bool → Walk
+    better b = cond b (whole_of r i s) (best_among r (first_sheets r i))
 
-    turn : (b : Bool) (f : Option (List ℕ)) (m : ℕ) → ltb s.makespan (best_among r (first_sheets r i)).best ≡ b
-        → eqb s.makespan r.bound ≡ false
-        → m ≡ (cond b (whole_of r i s) (best_among r (first_sheets r i))).best
-        → unwrap_or f r.word ≡ unwrap_or (cond b (whole_of r i s) (best_among r (first_sheets r i))).found r.word
-        → GatheredSoFar r (i + 1) f m (left ++ open_of s) (nodes + s.taken)
-    turn b f m t e is word =
-        let best : best_among r (first_sheets r (i + 1)) ≡ cond b (whole_of r i s) (best_among r (first_sheets r i)) =
-        best_here ∙ ap (λ c. cond c (whole_of r i s) (best_among r (first_sheets r i))) t
+    best_here : best_among r (first_sheets r (i + 1)) ≡ better (ltb s.makespan o.makespan)
+    unfolding better
+    best_here = ap (best_among r) next_sheets
+        ∙ (fold-append better_of (first_of r.best r.word) (first_sheets r i) (whole_of r i s ∷ [])
+        ∙ ap (λ m. better (ltb s.makespan m)) (sym was.makespan_is))
+
+    makespan_by : (b : Bool) → cond b s.makespan o.makespan ≡ (better b).best
+    unfolding better
+    makespan_by true = refl
+    makespan_by false = was.makespan_is
+
+    word_by : (b : Bool) → unwrap_or (cond b s.found o.found) r.word ≡ unwrap_or (better b).found r.word
+    unfolding better
+    word_by true = refl
+    word_by false = was.word_is
+
+    -- a turn: one more sheet, which doesn't end at the opening bound, is taken in
+    pub gathered_turn : (t : RoundResult) → eqb s.makespan r.bound ≡ false → TakesIn o s t → GatheredSoFar r (i + 1) t
+    gathered_turn t e takes =
+        let b = ltb s.makespan o.makespan
+        in let more : left_open t.left.items ≡ left_open o.left.items ++ open_of s.left =
+        ap left_open takes.left ∙ sym (flat_map_more open_of [] o.left.items s.left)
         in record {
           none_hits = none_here e;
-          makespan_is = is ∙ sym (ap (λ (w : Walk). w.best) best);
-          word_is = word ∙ sym (ap (λ (w : Walk). unwrap_or w.found r.word) best);
-          left_is = left_here;
-          nodes_left = nodes_left_here;
-          nodes_is = nodes_here;
-          few = few_here;
+          makespan_is = takes.makespan ∙ (makespan_by b ∙ sym (ap (λ (w : Walk). w.best) best_here));
+          word_is = ap (λ f. unwrap_or f r.word) takes.found
+              ∙ (word_by b ∙ sym (ap (λ (w : Walk). unwrap_or w.found r.word) best_here));
+          left_is = ap words_of more ∙ left_here;
+          nodes_left = subst (AreNodes r.shop) (sym more) nodes_left_here;
+          nodes_is = takes.nodes ∙ nodes_here;
+          few = (let a = few_here in let b = takes.nodes in omega arith);
         }
-
-    -- the sheet of this turn ends before those so far
-    pub gathered_better : eqb s.makespan r.bound ≡ false → s.makespan < makespan
-        → GatheredSoFar r (i + 1) s.found s.makespan (left ++ open_of s) (nodes + s.taken)
-    gathered_better e h =
-        let m = was.makespan_is
-        in turn true s.found s.makespan
-        (lt-ltb s.makespan (best_among r (first_sheets r i)).best (omega arith)) e refl refl
-
-    -- or it doesn't
-    pub gathered_worse : eqb s.makespan r.bound ≡ false → makespan ≤ s.makespan
-        → GatheredSoFar r (i + 1) found makespan (left ++ open_of s) (nodes + s.taken)
-    gathered_worse e h =
-        let m = was.makespan_is
-        in turn false found makespan (le-ltb s.makespan (best_among r (first_sheets r i)).best
-        (omega arith)) e was.makespan_is was.word_is

@@ -1,10 +1,10 @@
 -- Nodes cut into pieces.
-use Rattle.std.proofs.Common.{◌≡◌, ℕ, zero, suc, ◌+◌, ◌-◌, ◌*◌, ◌≤◌, ◌<◌, min, inl, inr, Bool, true, false, ◌&&◌, List}
+use Rattle.std.proofs.Common.{◌≡◌, ℕ, zero, suc, ◌+◌, ◌-◌, ◌*◌, ◌≤◌, ◌<◌, Bool, true, false, ◌&&◌, List}
 use Rattle.std.proofs.Common.{[], ◌∷◌, ◌++◌, map, length, get_or, take, drop, refl, sym, ◌∙◌, ap, subst, arith, eqb}
 use Rattle.std.proofs.Common.{append_assoc}
 use Rattle.std.specs.List.{AllByRecursion}
-use Rattle.std.proofs.lemmas.Bool.{eqb-true, eq-eqb, cases_lt}
-use Rattle.std.proofs.lemmas.List.{map-append, take-take, drop-take, drop_all, take_all, append-nil}
+use Rattle.std.proofs.lemmas.Bool.{eqb-true, eq-eqb}
+use Rattle.std.proofs.lemmas.List.{map-append, take-take, drop-take, append-nil}
 use Rattle.std.proofs.lemmas.List.Elements.{recursion_from_All, All-from_recursion}
 use Rattle.shop_model.specs.Shop.{Shop}
 use Rattle.shop_nodes.specs.declared.nodes.Node.{Node}
@@ -193,21 +193,6 @@ pub cut_last : (ps : List Piece) (m size : ℕ) (rest : List Node) (cut : List (
     → nodes_in ps ++ cut_into m size rest ≡ cut → nodes_in ps ≡ cut
 cut_last ps m size rest cut e was = sym (append-nil (nodes_in ps))
     ∙ (sym (ap (λ k. nodes_in ps ++ cut_into k size rest) e) ∙ was)
-
--- what lies beyond the pieces is let go before they are cut
-module _ {A : Type 0} where
-  pub cut_of_front : (size n : ℕ) (xs : List A) → 0 < size → n ≡ min (length xs) (256 * size)
-      → (cut_into 256 size (take n xs) ≡ cut_into 256 size xs) × (drop n xs ≡ drop (256 * size) xs)
-  cut_of_front size n xs h e = elim (cases_lt (length xs) (256 * size)) [
-    | inl less ↦ (let all : length xs ≤ n = omega arith
-        in (
-          ap (cut_into 256 size) (take_all n xs all),
-          drop_all n xs all
-              ∙ sym (drop_all (256 * size) xs (omega arith)),
-        ))
-    | inr more ↦ (let whole : n ≡ 256 * size = omega arith
-        in (cut_front 256 size n xs h (omega arith), ap (λ k. drop k xs) whole))
-  ]
 
 pub some_open : (n m : ℕ) → n ≡ m → false ≡ eqb n 0 → 0 < m
 some_open zero m e f = absurd (cc)

@@ -1,11 +1,14 @@
 -- What stands after a round is a standing.
-use Rattle.std.proofs.Common.{◌≡◌, Option, Some, None, List, ◌++◌, refl, arith}
+use Rattle.std.proofs.Common.{◌≡◌, ◌≤◌, Option, Some, None, List, [], ◌++◌, refl, arith}
 use Rattle.std.specs.List.{AllByRecursion, flat_map}
 use Rattle.shop_model.specs.Word.{IsWord}
+use Rattle.shop_bound.specs.Bound.{lb}
 use Rattle.shop_bound.proofs.Lists.{all_append}
 use Rattle.shop_nodes.specs.Walking.{Walk}
+use Rattle.shop_nodes.proofs.HighWalks.{none_below}
 use Rattle.shop_nodes.proofs.Members.{all_contains, in_all}
 use Rattle.shop_runs.specs.Round.{Told, gathered, words_of_round, sheets_of, up_to_hit, best_word, after_round}
+use Rattle.shop_runs.specs.Round.{words_below}
 use Rattle.shop_runs.specs.Laws.{IsStanding, IsRound}
 use Rattle.shop_runs.proofs.Cutting.{all_front, all_back, all_pieces}
 use Rattle.shop_runs.proofs.OpenLemmas.{standing_from}
@@ -30,6 +33,12 @@ module _ (r : Told) (is : IsRound r) where
   pub open_all : AllByRecursion (IsWord r.shop) (flat_map (λ t. t.left) (sheets_of r) ++ r.rest)
   open_all = all_append (IsWord r.shop) (flat_map (λ t. t.left) (sheets_of r)) r.rest
       (left_words r.shop r.best (sheets_of r) known) rest_words
+
+  -- none of the rest is below the opening bound
+  pub rest_closed : words_below r.shop r.bound r.rest ≡ []
+  rest_closed = none_below r.shop r.bound r.rest
+      (all_back (λ w. r.bound ≤ lb r.shop w) (flat_map (λ p. p) r.pieces) r.rest
+      (all_contains (λ w. r.bound ≤ lb r.shop w) (words_of_round r) is.bound))
 
   -- what stands after the round is a standing
   pub after_is_standing : (o : Option (Walk × List Walk)) → up_to_hit r.bound (sheets_of r) ≡ o

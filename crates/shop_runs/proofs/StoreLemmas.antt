@@ -1,15 +1,20 @@
 -- Open nodes in the order of the next cut, through what is put, taken and let go.
-use Rattle.std.proofs.Common.{◌≡◌, ℕ, suc, ◌+◌, min, Bool, true, false, List, [], ◌∷◌, ◌++◌, length}
-use Rattle.std.proofs.Common.{append-nil, ltb, reverse, refl, sym, ◌∙◌, ap, arith, eqb, filter, inl, inr, cond}
+use Rattle.std.proofs.Common.{◌≡◌, ℕ, suc, ◌≤◌, ◌<◌, min, Bool, true, false, List, [], ◌∷◌, ◌++◌, length}
+use Rattle.std.proofs.Common.{append-nil, ltb, reverse, refl, sym, ◌∙◌, ap, subst, arith, eqb, filter, inl, inr, cond}
 use Rattle.std.specs.Prelude.{IsTrue, ◌↔◌}
-use Rattle.std.proofs.lemmas.Bool.{cases_Bool, ne_eqb}
-use Rattle.std.proofs.lemmas.List.Elements.{filter-append}
-use Rattle.std.proofs.lemmas.List.{length-append, length-map, reverse-append}
+use Rattle.std.proofs.lemmas.Bool.{cases_Bool, ne_eqb, lt-ltb, le-ltb}
+use Rattle.std.proofs.lemmas.List.Elements.{filter-append, recursion_from_All, All-from_recursion}
+use Rattle.std.proofs.lemmas.List.{reverse-append, flat_map_more}
+use Rattle.shop_model.specs.SharedWords.{CanBeShared}
+use Rattle.shop_nodes.specs.Left.{Leaving}
 use Rattle.shop_nodes.specs.declared.nodes.Node.{Node}
 use Rattle.shop_runs.specs.declared.stacks.Stack.{Stack}
 use Rattle.shop_runs.specs.declared.plans.Order.{Order}
 use Rattle.shop_runs.specs.inner.NodeLists.{least_of_bounds, nodes_below}
-use Rattle.shop_runs.specs.inner.Stacks.{words_on, nodes_of_bound, nodes_by_bound, put_before, put_all_before}
+use Rattle.shop_runs.specs.inner.OpenNodes.{AreSharable}
+use Rattle.shop_runs.specs.inner.Outcomes.{open_of, left_open}
+use Rattle.shop_runs.specs.inner.Stacks.{nodes_by_bound, put_before, put_all_before}
+use Rattle.shop_runs.proofs.Cutting.{all_front, all_back}
 
 pub reverse-cons : {A : Type 0} (x : A) (xs : List A) → reverse (x ∷ xs) ≡ reverse xs ++ x ∷ []
 reverse-cons x xs = reverse-append (x ∷ []) xs
@@ -30,9 +35,6 @@ least_min c b (n ∷ ns) =
     in ap (λ k. least_of_bounds k ns) e ∙ least_min (min c n.bound) b ns
 
 -- what is kept, in reverse
-filter_last : (p : Node → Bool) (x : Node) → filter p (x ∷ []) ≡ cond (p x) (x ∷ []) []
-filter_last p x = refl
-
 pub below_reverse : (c : ℕ) (ns : List Node) → reverse (nodes_below c ns) ≡ nodes_below c (reverse ns)
 below_reverse c ns = go (λ n. ltb n.bound c) ns
   where
@@ -48,16 +50,41 @@ below_reverse c ns = go (λ n. ltb n.bound c) ns
               ∙ append-nil (filter p (reverse xs)))))
         ]
 
--- the last node is put first
-pub put_last : (o : Order) (ns : List Node) (n : Node) (nodes : List Node)
-    → put_all_before o (ns ++ n ∷ []) nodes ≡ put_all_before o ns (put_before o n nodes)
-put_last o [] n nodes = refl
-put_last o (m ∷ ns) n nodes = ap (put_before o m) (put_last o ns n nodes)
+-- of two lists the second is put first
+pub put_append : (o : Order) (ms ns nodes : List Node)
+    → put_all_before o (ms ++ ns) nodes ≡ put_all_before o ms (put_all_before o ns nodes)
+put_append o [] ns nodes = refl
+put_append o (m ∷ ms) ns nodes = ap (put_before o m) (put_append o ms ns nodes)
 
--- the nodes of a stack are as many as its words
-pub count_first : (before after : List (ℕ × Stack)) (e : ℕ × Stack) → before ≡ e ∷ after
-    → length (nodes_by_bound before) ≡ length (words_on e.1) + length (nodes_by_bound after)
-count_first before after e is =
-    let a = length-append (nodes_of_bound e.0 (words_on e.1)) (nodes_by_bound after)
-    in let b = length-map (words_on e.1) (λ w. record { word = w; bound = e.0 })
-    in ap (λ es. length (nodes_by_bound es)) is ∙ (a ∙ ap (λ k. k + length (nodes_by_bound after)) b)
+-- the last node of a list is put first, if it is below the makespan
+pub put_last : (o : Order) (c : ℕ) (ns : List Node) (n : Node) (nodes : List Node) → n.bound < c
+    → put_all_before o (nodes_below c (ns ++ n ∷ [])) nodes
+    ≡ put_all_before o (nodes_below c ns) (put_before o n nodes)
+put_last o c ns n nodes low =
+    let e = filter-append (λ (m : Node). ltb m.bound c) ns (n ∷ [])
+    ∙ ap (λ b. nodes_below c ns ++ cond b (n ∷ []) []) (lt-ltb n.bound c low)
+    in ap (λ ms. put_all_before o ms nodes) e ∙ put_append o (nodes_below c ns) (n ∷ []) nodes
+
+pub skip_last : (c : ℕ) (ns : List Node) (n : Node) → c ≤ n.bound → nodes_below c (ns ++ n ∷ []) ≡ nodes_below c ns
+skip_last c ns n high = filter-append (λ (m : Node). ltb m.bound c) ns (n ∷ [])
+    ∙ (ap (λ b. nodes_below c ns ++ cond b (n ∷ []) []) (le-ltb n.bound c high) ∙ append-nil (nodes_below c ns))
+
+-- what the last sheet left is put first
+pub put_last_left : (o : Order) (c : ℕ) (ls : List Leaving) (l : Leaving) (nodes : List Node)
+    → put_all_before o (nodes_below c (left_open (ls ++ l ∷ []))) nodes
+    ≡ put_all_before o (nodes_below c (left_open ls)) (put_all_before o (nodes_below c (open_of l)) nodes)
+put_last_left o c ls l nodes =
+    let e = ap (nodes_below c) (sym (flat_map_more open_of [] ls l))
+    ∙ filter-append (λ (m : Node). ltb m.bound c) (left_open ls) (open_of l)
+    in ap (λ ms. put_all_before o ms nodes) e ∙ put_append o (nodes_below c (left_open ls)) (nodes_below c (open_of l)) nodes
+
+pub last_left_sharable : (ls : List Leaving) (l : Leaving) → AreSharable (left_open (ls ++ l ∷ []))
+    → AreSharable (left_open ls) × AreSharable (open_of l)
+last_left_sharable ls l all =
+    let ok : Node → Type 0 = (λ n. CanBeShared n.word)
+    in let both = recursion_from_All ok (left_open ls ++ open_of l)
+    (subst AreSharable (sym (flat_map_more open_of [] ls l)) all)
+    in (
+      All-from_recursion ok (left_open ls) (all_front ok (left_open ls) (open_of l) both),
+      All-from_recursion ok (open_of l) (all_back ok (left_open ls) (open_of l) both),
+    )

@@ -1,4 +1,4 @@
--- A search is exact: with rounds enough it ends, and with more it comes to nothing worse.
+-- A search is exact: with enough rounds it ends, and with more rounds its makespan is no greater.
 --     with_rounds plan n           the plan, with n rounds
 --     IsSolved shop s              no word is open, and the makespan is least
 --     SearchesEnd, MoreRoundsAreNoWorse, SolvedStays      the laws

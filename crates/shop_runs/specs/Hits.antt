@@ -1,9 +1,9 @@
 -- Which pieces of a round end at the opening bound, in number order.
---     hits_of_round r     for each piece whether it does
+--     hits_of_round r     for each piece whether it ends at the opening bound
 --     is_hit_in hits n    piece n ends at the opening bound
---     IsHitOrEnd hits n   n is the number of such a piece, or how many pieces there are
---     IsLeastHit hits n   n is the least number of such a piece; where there is none, how many
---                         pieces there are
+--     IsHitOrEnd hits n   n is the number of a piece that does, or the number of all pieces
+--     IsLeastHit hits n   n is the least number of a piece that does; where none does, the number
+--                         of all pieces
 use Rattle.std.specs.Prelude.{◌≡◌, ℕ, ◌<◌, ◌≤◌, List, length, map, Bool, true, false, ◌==◌, ◌⊎◌}
 use Rattle.std.specs.Prelude.{slice_index_or}
 use Rattle.shop_runs.specs.Round.{Told, sheet_in}

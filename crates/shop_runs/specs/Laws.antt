@@ -6,8 +6,8 @@
 --     PiecesAreAll, OpeningCovers, CutsCover, GatheringCovers, RoundsKeepTheCover,
 --     CountsStaySmall        the laws
 use Rattle.std.specs.Prelude.{◌≡◌, ℕ, ◌+◌, ◌*◌, ◌<◌, ◌≤◌, List, ◌++◌, length, flat_map, Contains}
-use Rattle.shop_model.specs.Shop.{Shop, Starts, IsFeasible, end_of, IsLeast}
-use Rattle.shop_model.specs.Word.{placed, IsFull}
+use Rattle.shop_model.specs.Shop.{Shop}
+use Rattle.shop_model.specs.Word.{IsFull}
 use Rattle.shop_bound.specs.Bound.{lb}
 use Rattle.shop_nodes.specs.Laws.{AreWords}
 use Rattle.shop_runs.specs.Plans.{Planned}
@@ -19,7 +19,7 @@ pub record IsStanding (shop : Shop) (s : Stand) : Type 0 where
   pub words : AreWords shop s.open_words
   pub below : (w : List ℕ) → Contains s.open_words w → lb shop w < makespan_of shop s
 
--- the standing is one, and it covers the instance
+-- the standing's words and bounds are right, and it covers the instance
 abbrev pub StandsCovering : Shop → Stand → Type 0
 StandsCovering shop s = IsStanding shop s × Covers shop (makespan_of shop s) s.open_words
 
@@ -38,7 +38,7 @@ pub record IsRound (r : Told) : Type 0 where
   pub most : r.bound ≤ r.best
   pub bound : (w : List ℕ) → Contains (words_of_round r) w → r.bound ≤ lb r.shop w
 
--- the round is one, and it covers the instance
+-- the round's words and bounds are right, and it covers the instance
 abbrev pub CoversInRound : Told → Type 0
 CoversInRound r = IsRound r × Covers r.shop r.best (words_of_round r)
 
@@ -47,7 +47,7 @@ abbrev pub CutsCover : Type 0
 CutsCover = (shop : Shop) (plan : Planned) (s : Stand) → StandsCovering shop s
     → CoversInRound (cut_of shop plan s)
 
--- and so does what is gathered
+-- what is gathered of a round that covers does so
 abbrev pub GatheringCovers : Type 0
 GatheringCovers = (r : Told) → CoversInRound r → StandsCovering r.shop (gathered r)
 
@@ -56,7 +56,7 @@ abbrev pub RoundsKeepTheCover : Type 0
 RoundsKeepTheCover = (shop : Shop) (plan : Planned) (s : Stand) → StandsCovering shop s
     → StandsCovering shop (round shop plan s)
 
--- a round is one more, and counts at most the budget of each piece
+-- a round adds one to the rounds, and at most the budget of each piece to the nodes
 abbrev pub CountsStaySmall : Type 0
 CountsStaySmall = (r : Told) → ((gathered r).rounds ≡ r.rounds + 1)
     × ((gathered r).nodes ≤ r.nodes + length r.pieces * r.budget)

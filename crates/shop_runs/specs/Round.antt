@@ -22,7 +22,7 @@ pub record Stand : Type 0 where
   pub rounds : ℕ
   pub nodes : ℕ
 
--- at most n pieces of so many, in order, the last may be shorter
+-- at most n pieces of this size, in order; the last may be shorter
 abbrev pub cut_into : {A : Type 0} → ℕ → ℕ → List A → List (List A)
 cut_into zero size xs = []
 cut_into (suc n) size [] = []
@@ -55,7 +55,7 @@ best_word best word ss = unwrap_or
     ((fold (λ b s. if nat_lt s.best b.best then s else b)
     (record { found = Some word; best = best; left = []; budget = 0 }) ss).found) word
 
--- What a round is told: the opening best and bound; rounds and nodes are those before it.
+-- What a round is told: the opening best and bound, and the rounds and nodes before the round.
 pub record Told : Type 0 where
   pub shop : Shop
   pub word : List ℕ

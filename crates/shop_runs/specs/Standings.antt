@@ -20,8 +20,8 @@ pub record StandsAt (shop : Shop) (s : Stand) (t : Standing) : Type 0 where
   pub makespan : t.makespan ≡ makespan_of shop s
   pub bounds : AreNodes shop t.open.items
 
--- a standing of the instance: it holds the makespan and the bounds, its best word is full, and each
--- open bound is below
+-- a standing of the instance: its makespan and bounds are those of its words, its best word is
+-- full, and each open bound is below the makespan
 abbrev pub IsStandingOf : Shop → Standing → Type 0
 IsStandingOf shop t = StandsAt shop (stands t) t × IsStanding shop (stands t)
 

@@ -1,5 +1,5 @@
 -- What an answer says of all tables.
---     IsTrustworthy ..           what it says is so
+--     IsTrustworthy ..           what the answer says of all tables is so
 --     AnswersAreTrustworthy      the law
 use Rattle.std.specs.Prelude.{◌≡◌, ℕ, ◌≤◌, List, length}
 use Rattle.shop_model.specs.Shop.{Shop, Starts, IsFeasible, end_of, IsLeast}

@@ -1,4 +1,4 @@
-// Crews, who search the pieces of a round, and who makes them.
+// The traits of crews, which search the pieces of a round, and of their makers.
 ghost use Rattle.std.specs.Prelude.{IfOk};
 ghost use Rattle.shop_runs.specs.Entries.{told};
 ghost use Rattle.shop_runs.specs.Crews.{OneForEach};
@@ -8,12 +8,13 @@ use crate::rounds::Round;
 use crate::workers::Workers;
 use std::alloc::{AllocError as NoMemory, Global};
 
-/// Who searches the pieces of a round.
+/// Searches the pieces of a round, on one thread or on several.
 pub trait Crew<R> {
-    /// What the caller has to know so that the crew may share values among threads; nothing for a crew without threads.
+    /// What a caller of `search` must prove: that threads may share values, or nothing if the crew has no threads.
     ghost ready: { Type 0 };
 
-    /// One entry for each piece, in number order. Fails with `NoMemory` if memory runs out.
+    /// Searches the pieces of `round`, and may skip those behind one whose sheet's makespan equals the opening bound.
+    /// Answers one entry for each piece, in number order. Fails with `NoMemory` if memory runs out.
     fn search<'r>(
         &mut self,
         rt: &R,
@@ -24,10 +25,10 @@ pub trait Crew<R> {
         ensures { IfOk result (λ v. OneForEach (told round.now) v.items) };
 }
 
-/// Who makes crews, by how many workers they have.
+/// Makes crews of 1 to 64 workers.
 pub trait MakesCrew<R> {
     type Crew: Crew<R> + Drop;
 
-    /// A crew of so many workers.
+    /// Makes a crew of `workers.count` workers.
     fn of(&self, workers: Workers) -> Self::Crew;
 }

@@ -1,18 +1,18 @@
-// Entries: what became of the pieces of a round.
+// Entries, which say for each piece of a round whether a crew searched it or skipped it.
 ghost use Rattle.shop_runs.specs.Entries.{told, Fits, Fits-prop};
 
 use crate::rounds::Round;
 use shop_nodes::Sheet;
 
-/// What became of a piece: it was searched, or passed since the lower piece `by` ends at the
-/// opening bound.
+/// What a crew did with a piece. `Done` holds the sheet of its search. `Passed` says that the crew left piece `number`
+/// unsearched, because the sheet of an earlier piece, `by`, has a makespan equal to the opening bound.
 #[derive(Drop)]
 pub enum Kind<'r> {
     Done(Sheet<'r>),
     Passed { number: usize, by: usize },
 }
 
-/// What became of one piece of a round.
+/// The entry of one piece of `round`: its sheet if a crew searched it, or why a crew left it unsearched.
 #[derive(Drop)]
 pub struct Entry<'r> {
     pub round: &'r Round<'r>,
@@ -25,7 +25,7 @@ impl<'r> Entry<'r> {
     ghost use Rattle.shop_runs.specs.Entries.{IsOf, MayPass, number_of};
     ghost use Rattle.shop_runs.specs.declared.entries.Kind.TheVariants.{Done, Passed};
 
-    /// The sheet of a piece of the round.
+    /// Makes the entry of a searched piece from its sheet.
     pub fn done(round: &'r Round<'r>, sheet: Sheet<'r>) -> Entry<'r>
         requires { IsOf (told round.now) sheet }
         ensures of { result.round.now ≡ round.now }
@@ -37,7 +37,7 @@ impl<'r> Entry<'r> {
         }
     }
 
-    /// A piece passed, since a lower one ends at the opening bound.
+    /// Makes the entry of piece `number`, left unsearched because the makespan of piece `by` equals the opening bound.
     pub fn passed(round: &'r Round<'r>, number: usize, by: usize) -> Entry<'r>
         requires { MayPass (told round.now) number by }
         ensures of { result.round.now ≡ round.now }
@@ -49,7 +49,7 @@ impl<'r> Entry<'r> {
         }
     }
 
-    /// The number of the piece.
+    /// Answers the number of the entry's piece.
     pub fn number(&self) -> usize
         ensures { result ≡ number_of self.now.kind }
     {

@@ -1,4 +1,4 @@
-// Nodes as a run keeps them.
+// The form in which a run stores an open node if the plan's order is `Kept`.
 ghost use Rattle.std.specs.Prelude.{◌≡◌, IfOk};
 ghost use Rattle.shop_model.specs.SharedWords.{CanBeShared};
 
@@ -7,7 +7,7 @@ use shop_nodes::Node;
 use std::alloc::{AllocError as NoMemory, Global};
 use std::marker::Model;
 
-/// An open node in 24 bytes, 32 on its stack: its word shares its jobs.
+/// An open node as a run stores it, whose word can share its jobs with other words. It takes 24 bytes.
 #[derive(Drop)]
 pub(crate) struct KeptNode {
     word: SharedWord,
@@ -23,8 +23,8 @@ impl Model for KeptNode {
 }
 
 impl KeptNode {
-    /// The same node; takes memory only where its word doesn't share its jobs yet, and fails with `NoMemory` if there
-    /// is none left.
+    /// Makes the stored form of `node`. Takes memory only if the node's word has a list of jobs of its own. Fails with
+    /// `NoMemory` if memory runs out.
     pub(crate) fn of(alloc: Global, node: Node) -> Result<KeptNode, NoMemory>
         requires { CanBeShared node.word }
         ensures { IfOk result (λ n. n ≡ node) }
@@ -34,14 +34,14 @@ impl KeptNode {
         Ok(KeptNode { word, bound })
     }
 
-    /// The node's lower bound, in units of time.
+    /// Answers the node's lower bound, in units of time.
     pub(crate) fn bound(&self) -> u64
         ensures { result ≡ self.now.bound }
     {
         self.bound
     }
 
-    /// The node itself.
+    /// Turns the stored form back into a node.
     pub(crate) fn into_node(self) -> Node
         ensures { result ≡ self }
     {

@@ -1,4 +1,4 @@
-// Open nodes in the kept order, with the least of their bounds at hand.
+// A stack of open nodes that knows the least of their bounds, for the order `Kept`.
 ghost use Rattle.std.specs.Prelude.{◌≡◌, ◌==◌, ◌∷◌, [], length, OnOk};
 ghost use Rattle.shop_runs.specs.inner.NodeLists.{least_of_bounds, nodes_below};
 ghost use Rattle.shop_runs.specs.inner.KeptStacks.{AreLeasts, nodes_of};
@@ -9,14 +9,14 @@ use shop_nodes::Node;
 use std::alloc::{AllocError as NoMemory, Global};
 use std::marker::Model;
 
-/// A node on a stack, and the least of its bound and the bounds of those below it: 32 bytes.
+/// A node on a stack, and the least bound among it and the nodes below it on the stack. It takes 32 bytes.
 #[derive(Drop)]
 pub(crate) struct StackedNode {
     pub(crate) node: KeptNode,
     pub(crate) least: u64,
 }
 
-/// Tells the least bounds anew, from the bottom up.
+/// Computes anew the `least` of each node on a stack, from the bottom of the stack up.
 fn tell_leasts(nodes: &mut [StackedNode])
     ensures leasts { AreLeasts nodes.new }
     ensures nodes { nodes_of nodes.new ≡ nodes_of nodes.old }
@@ -28,7 +28,7 @@ fn tell_leasts(nodes: &mut [StackedNode])
     }
 }
 
-/// Open nodes on a stack. To contracts they are their list, the one on top first, which is taken next.
+/// A stack of open nodes; `pop` takes the top one. Contracts see the list of nodes from the top down.
 #[derive(Drop)]
 pub(crate) struct KeptStack {
     nodes: Vec<StackedNode>,
@@ -47,7 +47,7 @@ impl Model for KeptStack {
 }
 
 impl KeptStack {
-    /// No nodes. Takes no memory.
+    /// Makes an empty stack. Takes no memory.
     pub(crate) fn new(alloc: Global) -> KeptStack
         ensures { result ≡ [] }
     {
@@ -56,8 +56,8 @@ impl KeptStack {
         }
     }
 
-    /// Puts a node on top. A full stack grows by a quarter alone, since the open nodes are what takes most memory.
-    /// Fails with `NoMemory` if memory runs out.
+    /// Puts `node` on top. A full stack gets room for only a quarter more nodes plus 4, as open nodes take most of a
+    /// run's memory. Fails with `NoMemory` if memory runs out.
     pub(crate) fn push(&mut self, node: KeptNode) -> Result<(), NoMemory>
         ensures { OnOk result (self.new ≡ node ∷ self.old) }
     {
@@ -69,7 +69,7 @@ impl KeptStack {
         Ok(())
     }
 
-    /// Takes the node on top, if there is one.
+    /// Takes the top node, or answers `None` if the stack is empty.
     pub(crate) fn pop(&mut self) -> Option<Node>
         ensures { IsNextOf result self.old self.new }
     {
@@ -79,7 +79,7 @@ impl KeptStack {
         }
     }
 
-    /// Lets go of the nodes whose bounds reach a makespan.
+    /// Drops the nodes whose bounds are at least `makespan`.
     pub(crate) fn keep_below(&mut self, makespan: u64)
         ensures { self.new ≡ nodes_below makespan self.old }
     {
@@ -87,7 +87,7 @@ impl KeptStack {
         tell_leasts(self.nodes.as_mut_slice());
     }
 
-    /// The least of a makespan and the bounds of the nodes.
+    /// Answers the least of `makespan` and the bounds of the nodes.
     pub(crate) fn least_bound(&self, makespan: u64) -> u64
         ensures { result ≡ least_of_bounds makespan self.now }
     {
@@ -97,14 +97,14 @@ impl KeptStack {
         }
     }
 
-    /// How many nodes there are.
+    /// Answers how many nodes the stack holds.
     pub(crate) fn len(&self) -> usize
         ensures { result ≡ length self.now }
     {
         self.nodes.len()
     }
 
-    /// Whether there is none.
+    /// Tells whether the stack is empty.
     pub(crate) fn is_empty(&self) -> bool
         ensures { result ≡ (length self.now == 0) }
     {

@@ -1,4 +1,4 @@
-// Plans, rounds, the contract of a crew, what is gathered of a round, and runs by any crew.
+// Plans, rounds and their outcomes, the contract of a crew, and runs of rounds by any crew.
 #![tactic(auto)]
 
 mod crews;

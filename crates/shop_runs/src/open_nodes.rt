@@ -1,8 +1,9 @@
-// The open nodes of a run, in the order in which the next cut takes them.
+// The store of a run's open nodes, in the order in which the next round takes them.
 ghost use Rattle.std.specs.Prelude.{◌≡◌, ◌==◌, ◌^◌, ◌≤◌, [], length, IfOk, OnOk, OnErr};
 ghost use Rattle.shop_model.specs.SharedWords.{CanBeShared};
-ghost use Rattle.shop_runs.specs.inner.NodeLists.{least_of_bounds};
+ghost use Rattle.shop_runs.specs.inner.NodeLists.{least_of_bounds, nodes_below};
 ghost use Rattle.shop_runs.specs.inner.OpenNodes.{AreBelow, AreSharable};
+ghost use Rattle.shop_runs.specs.inner.Outcomes.{left_open};
 
 use crate::kept_nodes::KeptNode;
 use crate::kept_stacks::KeptStack;
@@ -10,13 +11,12 @@ use crate::plans::Order;
 use crate::stacks::{
     Stack, count_by_bound, keep_by_bound, least_by_bound, pop_by_bound, put_by_bound,
 };
-use shop_nodes::Node;
+use shop_nodes::{Left, Node};
 use std::alloc::{AllocError as NoMemory, Global};
 use std::collections::BTreeMap;
 
-/// Open nodes in the order in which the next cut takes them. In the kept order they lie on one stack, and the last one
-/// is taken first; by bound, each bound has a stack of its words. To put a node or to take one costs hardly more where
-/// many are open.
+/// Open nodes in the order in which the next round takes them: one stack for `Kept`, and one stack of words per bound
+/// for `Bound`. The time to put or take a node hardly grows with the number of open nodes.
 #[derive(Drop)]
 pub(crate) enum OpenNodes {
     AsKept(KeptStack),
@@ -27,7 +27,7 @@ impl OpenNodes {
     ghost use Rattle.shop_runs.specs.inner.Stores.{open_list, order_of, IsPut, ArePut, IsTaken};
     ghost use Rattle.shop_runs.specs.inner.Stores.{IsKeptBelow, HasPopped};
 
-    /// None open.
+    /// Makes an empty store, which will hold open nodes in `order`.
     pub(crate) fn new(alloc: Global, order: Order) -> OpenNodes
         ensures none { open_list result ≡ [] }
         ensures order { order_of result ≡ order }
@@ -38,8 +38,8 @@ impl OpenNodes {
         }
     }
 
-    /// Puts a node where the order wants it: by `Kept` before all others, by `Bound` before those of an equal or a
-    /// greater bound. Fails with `NoMemory` if memory runs out.
+    /// Puts `node` in its place: for `Kept` before all others, for `Bound` before the nodes of an equal or a greater
+    /// bound. Fails with `NoMemory` if memory runs out.
     pub(crate) fn put(&mut self, alloc: Global, node: Node) -> Result<(), NoMemory>
         requires { CanBeShared node.word }
         ensures { OnOk result (IsPut node self.old self.new) }
@@ -50,20 +50,48 @@ impl OpenNodes {
         }
     }
 
-    /// Moves nodes out of a list, the last one first, and puts them before those that the order has behind them.
-    /// Fails with `NoMemory` if memory runs out.
-    pub(crate) fn put_all(&mut self, alloc: Global, nodes: &mut Vec<Node>) -> Result<(), NoMemory>
+    /// Empties the list `nodes` from its end: puts each node whose bound is below `makespan` into the store, and drops
+    /// the others. Fails with `NoMemory` if memory runs out.
+    pub(crate) fn put_below(
+        &mut self,
+        alloc: Global,
+        makespan: u64,
+        nodes: &mut Vec<Node>,
+    ) -> Result<(), NoMemory>
         requires { AreSharable nodes.old.items }
-        ensures put { OnOk result (ArePut nodes.old.items self.old self.new) }
+        ensures put { OnOk result (ArePut (nodes_below makespan nodes.old.items) self.old self.new) }
         ensures moved { OnOk result (nodes.new.items ≡ []) }
     {
         while let Some(node) = nodes.pop() {
+            if node.bound >= makespan {
+                continue;
+            }
             self.put(alloc, node)?;
         }
         Ok(())
     }
 
-    /// Takes the first node, if there is one.
+    /// Puts each node that a search left open and whose bound is below `makespan` into the store, from the end of
+    /// `left` to its start. Fails with `NoMemory` if memory runs out.
+    pub(crate) fn put_left(
+        &mut self,
+        alloc: Global,
+        makespan: u64,
+        mut left: Vec<Left>,
+    ) -> Result<(), NoMemory>
+        requires { AreSharable (left_open left.items) }
+        ensures { OnOk result
+            (ArePut (nodes_below makespan (left_open left.entry.items)) self.old self.new) }
+    {
+        let mut nodes = Vec::new(alloc);
+        while let Some(of_sheet) = left.pop() {
+            of_sheet.add_open(alloc, &mut nodes)?;
+            self.put_below(alloc, makespan, &mut nodes)?;
+        }
+        Ok(())
+    }
+
+    /// Takes the first node, or answers `None` if no node is open. Fails with `NoMemory` if memory runs out.
     fn pop(&mut self) -> Result<Option<Node>, NoMemory>
         ensures { IfOk result (λ n. HasPopped n self.old self.new) }
     {
@@ -73,7 +101,7 @@ impl OpenNodes {
         }
     }
 
-    /// Room for the nodes that are taken where so many are asked for: by bound none, since they aren't counted there.
+    /// Answers for how many nodes `take` makes room: at most `most`, and 0 for `Bound`, which doesn't count its nodes.
     fn room_for(&self, most: usize) -> usize
         ensures { result ≤ most }
     {
@@ -83,7 +111,7 @@ impl OpenNodes {
         }
     }
 
-    /// Takes the first nodes, as many as are asked for if so many are open.
+    /// Takes the first `most` nodes, or all if fewer are open. Fails with `NoMemory` if memory runs out.
     pub(crate) fn take(&mut self, alloc: Global, most: usize) -> Result<Vec<Node>, NoMemory>
         ensures { IfOk result (λ v. IsTaken most v.items self.old self.new) }
     {
@@ -97,8 +125,8 @@ impl OpenNodes {
         Ok(taken)
     }
 
-    /// Lets go of the nodes whose bounds reach this makespan. All bounds are below the opening makespan, so there are
-    /// none where the makespan stays.
+    /// Drops the nodes whose bounds are at least `makespan`. As all bounds are below `opening`, does nothing unless
+    /// `makespan` is below `opening` too. Fails with `NoMemory` if memory runs out.
     pub(crate) fn keep_below(&mut self, opening: u64, makespan: u64) -> Result<(), NoMemory>
         requires { AreBelow opening (open_list self.old) }
         ensures { OnOk result (IsKeptBelow makespan self.old self.new) }
@@ -115,7 +143,7 @@ impl OpenNodes {
         }
     }
 
-    /// The least of a makespan and the bounds of the nodes.
+    /// Answers the least of `makespan` and the bounds of the open nodes.
     pub(crate) fn least_bound(&self, makespan: u64) -> u64
         ensures { result ≡ least_of_bounds makespan (open_list self.now) }
     {
@@ -125,10 +153,10 @@ impl OpenNodes {
         }
     }
 
-    /// How many are open. Fails with `NoMemory` if they are more than memory could hold.
-    pub(crate) fn count(self) -> Result<usize, NoMemory>
-        ensures count { IfOk result (λ n. n ≡ length (open_list self)) }
-        ensures too_many { OnErr result (2 ^ 64 ≤ length (open_list self)) }
+    /// Answers how many nodes are open. Fails with `NoMemory` if they are 2^64 or more, which no memory holds.
+    pub(crate) fn count(&self) -> Result<usize, NoMemory>
+        ensures count { IfOk result (λ n. n ≡ length (open_list self.now)) }
+        ensures too_many { OnErr result (2 ^ 64 ≤ length (open_list self.now)) }
     {
         match self {
             OpenNodes::AsKept(nodes) => Ok(nodes.len()),
@@ -136,7 +164,7 @@ impl OpenNodes {
         }
     }
 
-    /// Whether none is open.
+    /// Tells whether no node is open.
     pub(crate) fn is_empty(&self) -> bool
         ensures { result ≡ (length (open_list self.now) == 0) }
     {

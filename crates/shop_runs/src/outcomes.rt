@@ -1,74 +1,31 @@
-// Outcomes: what the sheets of a round come to, and what stands after it.
-ghost use Rattle.std.specs.Prelude.{◌≡◌, ◌+◌, ◌<◌, ◌^◌, [], true, false, IfOk, OnOk};
-ghost use Rattle.shop_runs.specs.Limits.{IsCountWithin};
+// The result of a round, from the sheets of its pieces, and the standing after the round.
+ghost use Rattle.std.specs.Prelude.{◌≡◌, ◌+◌, ◌<◌, ◌^◌, IfOk, OnOk};
 ghost use Rattle.shop_runs.specs.Entries.{told};
 ghost use Rattle.shop_runs.specs.Crews.{OneForEach};
 ghost use Rattle.shop_runs.specs.Standings.{IsGatheredOf, GatheredCovers, IsStandingOf};
-ghost use Rattle.shop_runs.specs.inner.Outcomes.{IsOutcome, TakesIn, IsStandingAfter};
+ghost use Rattle.shop_runs.specs.inner.Outcomes.{IsOutcome, TakesIn, left_open};
 
 use crate::entries::{Entry, Kind};
 use crate::rounds::{Round, copies_of};
 use crate::standings::Standing;
 use shop_model::Word;
-use shop_nodes::{Node, Sheet};
+use shop_nodes::{Left, Node, Sheet};
 use std::alloc::{AllocError as NoMemory, Global};
 
-/// What the sheets of a round come to: the word found (none where the opening best stays), its
-/// makespan, the nodes that the sheets left open, and the nodes counted. Where a sheet ends at the
-/// opening bound the round is closed: nothing stays open.
+/// The result of a round: the better word (`None` if no search found one), the makespan, what the searches left open,
+/// in order, and the nodes counted so far. If a sheet's makespan equals the opening bound, `left` is empty.
 #[derive(Drop)]
-pub struct RoundResult {
+pub struct RoundResult<'r> {
     pub found: Option<Word>,
     pub makespan: u64,
-    pub left: Vec<Node>,
+    pub left: Vec<Left<'r>>,
     pub nodes: u64,
-    pub is_closed: bool,
 }
 
-impl RoundResult {
-    /// Before the first sheet.
-    pub fn new(alloc: Global, makespan: u64, nodes: u64) -> RoundResult
-        ensures found { result.found ≡ None }
-        ensures makespan { result.makespan ≡ makespan }
-        ensures left { result.left.items ≡ [] }
-        ensures nodes { result.nodes ≡ nodes }
-        ensures open { result.is_closed ≡ false }
-    {
-        RoundResult {
-            found: None,
-            makespan,
-            left: Vec::new(alloc),
-            nodes,
-            is_closed: false,
-        }
-    }
-
-    /// The round is closed by a sheet, after those that counted so many nodes.
-    pub fn closed_by(alloc: Global, nodes: u64, sheet: Sheet) -> RoundResult
-        requires { nodes + sheet.taken < 2 ^ 64 }
-        ensures found { result.found ≡ sheet.entry.found }
-        ensures makespan { result.makespan ≡ sheet.entry.makespan }
-        ensures left { result.left.items ≡ [] }
-        ensures nodes { result.nodes ≡ nodes + sheet.entry.taken }
-        ensures closed { result.is_closed ≡ true }
-    {
-        let Sheet {
-            found,
-            makespan,
-            taken,
-            ..
-        } = sheet;
-        RoundResult {
-            found,
-            makespan,
-            left: Vec::new(alloc),
-            nodes: nodes + taken,
-            is_closed: true,
-        }
-    }
-
-    /// Counts the nodes of one more sheet, keeps what it left open, and takes its word if it is better.
-    pub fn take_in(&mut self, alloc: Global, sheet: Sheet) -> Result<(), NoMemory>
+impl<'r> RoundResult<'r> {
+    /// Adds `sheet` to the result: counts its nodes, keeps what its search left open, and takes over its word and
+    /// makespan if that makespan is lower. Fails with `NoMemory` if memory runs out.
+    fn take_in(&mut self, sheet: Sheet<'r>) -> Result<(), NoMemory>
         requires { self.old.nodes + sheet.taken < 2 ^ 64 }
         ensures { OnOk result (TakesIn self.old sheet.entry self.new) }
     {
@@ -84,70 +41,58 @@ impl RoundResult {
             self.makespan = makespan;
             self.found = found;
         }
-        left.add_open(alloc, &mut self.left)
-    }
-
-    /// The standing after a round of which this is the outcome, with its opening best, its rest and
-    /// the rounds done before it. The rest moves, so no word is copied.
-    pub fn standing_after(
-        self,
-        word: Word,
-        mut rest: Vec<Node>,
-        rounds: u64,
-    ) -> Result<Standing, NoMemory>
-        requires counted { IsCountWithin (rounds + 1) self.nodes }
-        requires none_left { self.is_closed ≡ true → self.left.items ≡ [] }
-        ensures { IfOk result (λ s. IsStandingAfter word rest.items rounds self s) }
-    {
-        let RoundResult {
-            found,
-            makespan,
-            left: mut open,
-            nodes,
-            is_closed,
-        } = self;
-        if !is_closed {
-            rest.retain(|node| node.bound < makespan);
-            open.append(&mut rest)?;
-        }
-        Ok(Standing {
-            word: found.unwrap_or(word),
-            makespan,
-            open,
-            rounds: rounds + 1,
-            nodes,
-        })
+        self.left.push(left)?;
+        Ok(())
     }
 }
 
-/// What the sheets of the entries come to. Where one ends at the opening bound, the later entries
-/// are not looked at; so a passed one never is.
+/// Makes the result of `round` from `entries`, one for each piece in order. Stops at the first sheet whose makespan
+/// equals the opening bound, so it never reaches a piece that a crew skipped. Fails with `NoMemory` if memory runs out.
 pub fn outcome_of<'r>(
     alloc: Global,
     round: &'r Round<'r>,
     entries: Vec<Entry<'r>>,
-) -> Result<RoundResult, NoMemory>
+) -> Result<RoundResult<'r>, NoMemory>
     requires { OneForEach (told round.now) entries.items }
     ensures { IfOk result (λ o. IsOutcome (told round.now) o) }
 {
-    let mut outcome = RoundResult::new(alloc, round.best, round.nodes);
+    let mut outcome = RoundResult {
+        found: None,
+        makespan: round.best,
+        left: Vec::with_capacity(alloc, entries.len())?,
+        nodes: round.nodes,
+    };
     for entry in entries {
         let Entry { round: _, kind } = entry;
         let Kind::Done(sheet) = kind else {
             unreachable!();
         };
         if sheet.makespan == round.bound {
-            return Ok(RoundResult::closed_by(alloc, outcome.nodes, sheet));
+            return Ok(RoundResult {
+                found: sheet.found,
+                makespan: sheet.makespan,
+                left: Vec::new(alloc),
+                nodes: outcome.nodes + sheet.taken,
+            });
         }
-        outcome.take_in(alloc, sheet)?;
+        outcome.take_in(sheet)?;
     }
-    let makespan = outcome.makespan;
-    outcome.left.retain(|node| node.bound < makespan);
     Ok(outcome)
 }
 
-/// The standing after a round, by an entry for each of its pieces. Fails with `NoMemory` if memory
-/// runs out. For library callers, as `Round::cut`.
+/// Lists the nodes that searches left open, in the order of `left`. Fails with `NoMemory` if memory runs out.
+fn nodes_left(alloc: Global, left: &[Left]) -> Result<Vec<Node>, NoMemory>
+    ensures { IfOk result (λ v. v.items ≡ left_open left.now) }
+{
+    let mut nodes = Vec::new(alloc);
+    for of_sheet in left {
+        of_sheet.add_open(alloc, &mut nodes)?;
+    }
+    Ok(nodes)
+}
+
+/// Makes the standing after a round from `entries`, one for each piece in order. Fails with `NoMemory` if memory runs
+/// out. For library callers: a run keeps its open nodes in a store of its own.
 pub fn gather<'r>(
     alloc: Global,
     round: &'r Round<'r>,
@@ -158,8 +103,21 @@ pub fn gather<'r>(
     ensures standing { IfOk result (λ s. IsStandingOf round.now.instance.now s) }
     ensures covers { IfOk result (λ s. GatheredCovers round.now s) }
 {
-    let outcome = outcome_of(alloc, round, entries)?;
-    let word = round.word.copied(alloc)?;
-    let rest = copies_of(alloc, round.rest.as_slice())?;
-    outcome.standing_after(word, rest, round.rounds)
+    let RoundResult {
+        found,
+        makespan,
+        left,
+        nodes,
+    } = outcome_of(alloc, round, entries)?;
+    let mut open = nodes_left(alloc, left.as_slice())?;
+    open.append(&mut copies_of(alloc, round.rest.as_slice())?)?;
+    open.retain(|node| node.bound < makespan);
+    let best = round.word.copied(alloc)?;
+    Ok(Standing {
+        word: found.unwrap_or(best),
+        makespan,
+        open,
+        rounds: round.rounds + 1,
+        nodes,
+    })
 }

@@ -1,31 +1,31 @@
-// Plans: how long a search goes on, and how its rounds are cut; the limits of plans, rounds and workers.
+// Plans, which say how many rounds a search has and how they are cut, and the limits of plans, rounds and workers.
 ghost use Rattle.shop_runs.specs.Limits.{IsPlanWithin};
 
-/// Rounds of a plan at most.
+/// The most rounds that a plan may have.
 pub const MAX_ROUNDS: u64 = 100_000;
 
-/// Nodes that are taken in one piece at most.
+/// The largest budget: the most nodes that the search of one piece may take.
 pub const MAX_BUDGET: u64 = 10_000_000;
 
-/// Nodes of a piece at most.
+/// The most nodes that a piece may hold.
 pub const MAX_PIECE: usize = 1_000;
 
-/// Pieces of a round at most.
+/// The most pieces that a round may have.
 pub const MAX_PIECES: usize = 256;
 
-/// Threads that search side by side at most.
+/// The most workers that may search in parallel.
 pub const MAX_WORKERS: usize = 64;
 
-/// The order in which the open nodes are cut: as they stand, or by their bounds, ties keeping their
-/// places.
+/// The order in which a round takes the open nodes. `Kept` keeps the order of the standing's list. `Bound` takes the
+/// nodes by lower bound, least first, and leaves ties in the order of that list.
 #[derive(Clone, Copy, Debug, PartialEq, Eq)]
 pub enum Order {
     Kept,
     Bound,
 }
 
-/// How long a search goes on, and how its rounds are cut: 0 to 100,000 rounds, a budget of 1 to
-/// 10,000,000 nodes a piece, and 1 to 1,000 nodes in a piece.
+/// How a search goes: its rounds (0 to 100,000), the budget of each piece (1 to 10,000,000 nodes), the nodes in a piece
+/// (1 to 1,000), and the order in which a round takes the open nodes.
 #[derive(Clone, Copy)]
 pub struct Plan {
     pub rounds: u64,
@@ -40,7 +40,7 @@ impl Plan {
     ghost use Rattle.shop_runs.specs.Plans.{IsPlanMadeOf};
     ghost use Rattle.shop_runs.specs.declared.plans.Order.TheVariants.{Kept};
 
-    /// A plan in an order, if it is within the limits.
+    /// Makes a plan, or answers `None` if `rounds`, `budget` or `piece` is outside its limits.
     pub fn ordered(rounds: u64, budget: u64, piece: usize, order: Order) -> Option<Plan>
         ensures within { IsPlanWithin rounds budget piece ↔ IsSome result }
         ensures plan { IfSome result (λ p. IsPlanMadeOf rounds budget piece order p) }
@@ -62,7 +62,7 @@ impl Plan {
         }
     }
 
-    /// A plan that keeps the order of the open nodes.
+    /// Makes a plan of the order `Kept`, or answers `None` if `rounds`, `budget` or `piece` is outside its limits.
     pub fn new(rounds: u64, budget: u64, piece: usize) -> Option<Plan>
         ensures within { IsPlanWithin rounds budget piece ↔ IsSome result }
         ensures plan { IfSome result (λ p. IsPlanMadeOf rounds budget piece Kept p) }

@@ -1,4 +1,4 @@
-// Rounds: cut from a standing, in an order and into pieces, and closed to the next standing.
+// Rounds, and how they cut the open nodes of a standing into pieces.
 ghost use Rattle.std.specs.Prelude.{◌≡◌, ◌≤◌, ◌<◌, length, take, drop, true, IfOk, OnOk};
 ghost use Rattle.std.specs.Vec.Iter.{into_iter_items};
 ghost use Rattle.shop_nodes.specs.Nodes.{words_of, AreNodes};
@@ -6,11 +6,11 @@ ghost use Rattle.shop_runs.specs.Limits.{IsCountWithin};
 ghost use Rattle.shop_runs.specs.Round.{cut_into};
 ghost use Rattle.shop_runs.specs.Nodes.{numbered, told_of, ArePieces};
 ghost use Rattle.shop_runs.specs.Laws.{IsRound};
-ghost use Rattle.shop_runs.specs.inner.NodeLists.{least_of_bounds, nodes_in_order, nodes_in};
+ghost use Rattle.shop_runs.specs.inner.NodeLists.{nodes_in};
 ghost use Rattle.shop_runs.specs.declared.plans.TheConstants.{MAX_BUDGET, MAX_PIECES, MAX_ROUNDS};
 
-use crate::outcomes::RoundResult;
-use crate::plans::{MAX_PIECES, Order, Plan};
+use crate::plans::{MAX_PIECES, Plan};
+use crate::runs::OpenRun;
 use crate::standings::Standing;
 use shop_layout::Layout;
 use shop_model::{Instance, Word};
@@ -18,8 +18,9 @@ use shop_nodes::{Node, Piece};
 use std::alloc::{AllocError as NoMemory, Global};
 use std::vec::IntoIter;
 
-/// A round: the opening best with its makespan, the opening bound, the budget, the pieces and the
-/// rest, and the rounds done and nodes counted before it. All who search its pieces share its layout.
+/// A round. `word` is the best word at its start, and `best` the makespan of that word. `bound`, the opening bound, is
+/// at most `best` and the bound of each node of the round. Each piece has a budget of `budget` nodes. `rest` holds the
+/// open nodes in no piece. `rounds` and `nodes` were counted before the round. All who search pieces share `layout`.
 #[derive(Drop)]
 pub struct Round<'r> {
     pub instance: &'r Instance,
@@ -46,12 +47,11 @@ pub struct Round<'r> {
 
 impl<'r> Round<'r> {
     ghost use Rattle.shop_runs.specs.Entries.{told};
-    ghost use Rattle.shop_runs.specs.inner.Outcomes.{IsOutcome};
-    ghost use Rattle.shop_runs.specs.Standings.{IsCutOf, CutCovers, IsGatheredOf, GatheredCovers};
+    ghost use Rattle.shop_runs.specs.Standings.{IsCutOf, CutCovers};
     ghost use Rattle.shop_runs.specs.Standings.{IsStandingOf, StandsAt, stands, round_of, planned};
 
-    /// Cuts the open nodes, in the plan's order, into at most 256 pieces; the others are the rest.
-    /// Fails with `NoMemory` if memory runs out. For library callers: a run cuts its own store of open nodes.
+    /// Cuts the open nodes of `standing`, in the plan's order, into at most 256 pieces, and keeps the other nodes as
+    /// the round's rest. Fails with `NoMemory` if memory runs out. For library callers: a run cuts a store of its own.
     pub fn cut(
         alloc: Global,
         instance: &'r Instance,
@@ -64,17 +64,16 @@ impl<'r> Round<'r> {
         ensures cut { IfOk result (λ r. IsCutOf instance.now plan.now standing r) }
         ensures covers { IfOk result (λ r. CutCovers instance.now standing r) }
     {
-        let mut front = standing;
-        put_in_order(&mut front.open, plan.order)?;
-        let bound = least_bound(front.makespan, front.open.as_slice());
-        let taken = front.open.len().min(MAX_PIECES * plan.piece);
-        let rest = front.open.split_off(taken)?;
         let layout = Layout::of(alloc, instance)?;
-        Round::of(alloc, instance, plan, front, rest, bound, layout)
+        let search = OpenRun::of(alloc, instance, plan.order, standing)?;
+        let (mut round, mut others) = search.cut(alloc, instance, layout, plan)?;
+        let rest = others.take(alloc, others.count()?)?;
+        round.rest = rest;
+        Ok(round)
     }
 
-    /// Cuts all open nodes of a standing, which stand in order, into at most 256 pieces. The round has this rest, this
-    /// opening bound and this layout. Fails with `NoMemory` if memory runs out.
+    /// Makes a round. Cuts the open nodes of `front`, in their order, into at most 256 pieces; takes over `rest`, the
+    /// opening bound `bound` and `layout`. Fails with `NoMemory` if memory runs out.
     pub fn of(
         alloc: Global,
         instance: &'r Instance,
@@ -115,44 +114,15 @@ impl<'r> Round<'r> {
         })
     }
 
-    /// The instance's layout, which all who search its pieces share.
+    /// Answers the layout of the instance, which all who search the pieces share.
     pub fn layout(&self) -> &Layout<'r>
         ensures { result.now ≡ self.now.instance.now }
     {
         &self.layout
     }
-
-    /// The standing after the round, by the outcome of its sheets, and the layout for the next round: as `gather`, but
-    /// the rest moves, so no word is copied.
-    pub fn closed(self, outcome: RoundResult) -> Result<(Standing, Layout<'r>), NoMemory>
-        requires { IsOutcome (told self) outcome }
-        ensures gathered { IfOk result (λ p. IsGatheredOf self.entry p.0) }
-        ensures standing { IfOk result (λ p. IsStandingOf self.entry.instance.now p.0) }
-        ensures covers { IfOk result (λ p. GatheredCovers self.entry p.0) }
-        ensures layout { IfOk result (λ p. p.1 ≡ self.entry.instance.now) }
-    {
-        let Round {
-            word,
-            rest,
-            rounds,
-            layout,
-            ..
-        } = self;
-        let standing = outcome.standing_after(word, rest, rounds)?;
-        Ok((standing, layout))
-    }
 }
 
-/// The least of a makespan and the bounds of nodes.
-pub fn least_bound(makespan: u64, nodes: &[Node]) -> u64
-    ensures { result ≡ least_of_bounds makespan nodes.now }
-{
-    nodes
-        .iter()
-        .fold(makespan, |bound, node| bound.min(node.bound))
-}
-
-/// A copy of these nodes, in order. Fails with `NoMemory` if memory runs out.
+/// Answers copies of `nodes`, in order. Fails with `NoMemory` if memory runs out.
 pub fn copies_of(alloc: Global, nodes: &[Node]) -> Result<Vec<Node>, NoMemory>
     ensures { IfOk result (λ v. v.items ≡ nodes.now) }
 {
@@ -163,17 +133,7 @@ pub fn copies_of(alloc: Global, nodes: &[Node]) -> Result<Vec<Node>, NoMemory>
     Ok(copies)
 }
 
-/// Puts nodes in an order; by bound, ties keep their places.
-pub fn put_in_order(nodes: &mut Vec<Node>, order: Order) -> Result<(), NoMemory>
-    ensures { OnOk result (nodes.new.items ≡ nodes_in_order order nodes.old.items) }
-{
-    match order {
-        Order::Kept => Ok(()),
-        Order::Bound => nodes.sort_by_key(|node| node.bound),
-    }
-}
-
-/// The next `size` nodes, or all that are left if they are fewer. Fails with `NoMemory` if memory runs out.
+/// Takes the next `size` nodes, or all remaining nodes if they are fewer. Fails with `NoMemory` if memory runs out.
 fn next_piece(
     alloc: Global,
     nodes: &mut IntoIter<Node, Global>,
@@ -192,8 +152,8 @@ fn next_piece(
     Ok(piece)
 }
 
-/// Cuts nodes into at most 256 pieces of this size, in order; the last may be shorter, and nodes behind it are dropped.
-/// Fails with `NoMemory` if memory runs out.
+/// Cuts `nodes`, in order, into at most 256 pieces of `size` nodes; the last piece may be shorter. Drops the nodes that
+/// 256 pieces can't hold. Fails with `NoMemory` if memory runs out.
 pub fn cut_pieces(alloc: Global, nodes: Vec<Node>, size: usize) -> Result<Vec<Piece>, NoMemory>
     requires { 0 < size }
     ensures nodes { IfOk result (λ v. nodes_in v.items ≡ cut_into MAX_PIECES size nodes.items) }

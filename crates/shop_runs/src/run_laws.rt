@@ -1,26 +1,25 @@
-// Laws of answers, over their definitions alone.
+// Laws of answers, stated over their definitions and not over code.
 ghost use Rattle.shop_runs.specs.Trust.{AnswersAreTrustworthy};
 ghost use Rattle.shop_runs.specs.Exact.{SearchesEnd, MoreRoundsAreNoWorse, SolvedStays};
 
-/// Of every instance and plan the answer's word is full, its table is feasible and ends at the
-/// makespan, no feasible table ends before the bound, and where nothing is open the makespan is
-/// least.
+/// For every instance and plan, the answer's word is full, and its schedule is feasible and ends at the makespan. No
+/// feasible schedule ends before the bound. If no node is open, the makespan is least.
 pub fn answers_are_trustworthy()
     ensures { AnswersAreTrustworthy }
 {}
 
-/// For every instance, budget, piece size and order there is a number of rounds from which on no
-/// node is open and the makespan is least, where a budget and a piece are of one node at least.
+/// For every instance and order, and every budget and piece size of one node or more, some number of rounds is enough:
+/// from that number on, no node is open and the makespan is least.
 pub fn searches_end()
     ensures { SearchesEnd }
 {}
 
-/// More rounds never end at a greater makespan.
+/// With more rounds, a plan never gives a greater makespan.
 pub fn more_rounds_are_no_worse()
     ensures { MoreRoundsAreNoWorse }
 {}
 
-/// Once no node is open, further rounds change nothing.
+/// Once no node is open, further rounds don't change the answer.
 pub fn solved_stays()
     ensures { SolvedStays }
 {}

@@ -1,10 +1,10 @@
-// Runs: where one stands between two rounds, and the answer of a plan.
+// Runs, which search round after round until no node is open or the plan's rounds are done.
 ghost use Rattle.std.specs.Prelude.{◌≡◌, ◌^◌, ◌<◌, IfOk, IfSome};
 ghost use Rattle.shop_runs.specs.Runs.{SaysAnswer, IsTrusted};
 
 use crate::crews::Crew;
 use crate::open_nodes::OpenNodes;
-use crate::outcomes::outcome_of;
+use crate::outcomes::{RoundResult, outcome_of};
 use crate::plans::{MAX_PIECES, Order, Plan};
 use crate::rounds::Round;
 use crate::standings::Standing;
@@ -12,8 +12,8 @@ use shop_layout::Layout;
 use shop_model::{Instance, Table, Word, place};
 use std::alloc::{AllocError as NoMemory, Global};
 
-/// Where a run stands: a standing whose own list of open nodes is empty, and the open nodes in the order of the next
-/// cut.
+/// A run between two rounds: a standing whose own list of open nodes is empty, and the store of the run's open nodes,
+/// in the order in which the next round takes them.
 #[derive(Drop)]
 pub(crate) struct OpenRun {
     pub(crate) standing: Standing,
@@ -22,48 +22,29 @@ pub(crate) struct OpenRun {
 
 impl OpenRun {
     ghost use Rattle.std.specs.Prelude.{length};
-    ghost use Rattle.shop_runs.specs.Round.{opening};
-    ghost use Rattle.shop_runs.specs.inner.OpenNodes.{AreBelow, AreSharable};
-    ghost use Rattle.shop_runs.specs.inner.Stores.{open_list};
-    ghost use Rattle.shop_runs.specs.inner.Searches.{IsSearchAt, IsSearchOf, IsJoined, IsFront};
+    ghost use Rattle.shop_runs.specs.Standings.{IsStandingOf, stands};
+    ghost use Rattle.shop_runs.specs.inner.Searches.{IsSearchAt, IsSearchOf, IsFront};
     ghost use Rattle.shop_runs.specs.inner.Closing.{IsNextSearch};
     ghost use Rattle.shop_runs.specs.inner.Closing.{IsAtAnswer};
 
-    /// Where a run begins. Fails with `NoMemory` if memory runs out.
-    pub(crate) fn start(
+    /// Makes the run at `standing`, whose open nodes it stores in `order`. Fails with `NoMemory` if memory runs out.
+    pub(crate) fn of(
         alloc: Global,
         instance: &Instance,
         order: Order,
+        mut standing: Standing,
     ) -> Result<OpenRun, NoMemory>
-        ensures { IfOk result (λ t. IsSearchAt instance.now order (opening instance.now) t) }
+        requires { IsStandingOf instance.now standing }
+        ensures { IfOk result (λ t. IsSearchAt instance.now order (stands standing) t) }
     {
         instance.keeps_limits();
-        let open = OpenNodes::new(alloc, order);
-        OpenRun::joined(alloc, Standing::start(alloc, instance)?, open, 0)
+        let mut open = OpenNodes::new(alloc, order);
+        open.put_below(alloc, standing.makespan, &mut standing.open)?;
+        Ok(OpenRun { standing, open })
     }
 
-    /// What stands after a round: the nodes that it left are put among the other open ones, of which those that reach
-    /// the new makespan are let go; all are below the opening makespan. Fails with `NoMemory` if memory runs out.
-    pub(crate) fn joined(
-        alloc: Global,
-        mut standing: Standing,
-        mut others: OpenNodes,
-        opening: u64,
-    ) -> Result<OpenRun, NoMemory>
-        requires below { AreBelow opening (open_list others) }
-        requires left { AreSharable standing.open.items }
-        ensures { IfOk result (λ t. IsJoined standing others t) }
-    {
-        others.keep_below(opening, standing.makespan)?;
-        others.put_all(alloc, &mut standing.open)?;
-        Ok(OpenRun {
-            standing,
-            open: others,
-        })
-    }
-
-    /// Cuts the first open nodes into at most 256 pieces, a round without a rest, and sets the others apart. The round
-    /// has this layout. Fails with `NoMemory` if memory runs out.
+    /// Cuts the first open nodes into at most 256 pieces. Answers the round of these pieces, without a rest, and the
+    /// store of the other open nodes. Fails with `NoMemory` if memory runs out.
     pub(crate) fn cut<'r>(
         self,
         alloc: Global,
@@ -95,8 +76,8 @@ impl OpenRun {
         Ok((round, open))
     }
 
-    /// Where the run stands after one more round, and the layout for the next: the one that was kept, if there is one,
-    /// else a new one. Fails with `NoMemory` if memory runs out.
+    /// Searches one more round. Answers the run after the round, and the layout: the one in `kept`, or a new one if
+    /// `kept` is `None`. Fails with `NoMemory` if memory runs out.
     fn next<'r, R, C: Crew<R>>(
         self,
         rt: &R,
@@ -116,16 +97,34 @@ impl OpenRun {
         instance.keeps_limits();
         let opening = self.standing.makespan;
         let layout = kept_or_new(alloc, instance, kept)?;
-        let (round, others) = self.cut(alloc, instance, layout, plan)?;
+        let (round, mut open) = self.cut(alloc, instance, layout, plan)?;
         let entries = crew.search(rt, alloc, &round)?;
-        let outcome = outcome_of(alloc, &round, entries)?;
-        let (standing, layout) = round.closed(outcome)?;
-        let search = OpenRun::joined(alloc, standing, others, opening)?;
-        Ok((search, layout))
+        let RoundResult {
+            found,
+            makespan,
+            left,
+            nodes,
+        } = outcome_of(alloc, &round, entries)?;
+        open.keep_below(opening, makespan)?;
+        open.put_left(alloc, makespan, left)?;
+        let Round {
+            word,
+            rounds,
+            layout,
+            ..
+        } = round;
+        let standing = Standing {
+            word: found.unwrap_or(word),
+            makespan,
+            open: Vec::new(alloc),
+            rounds: rounds + 1,
+            nodes,
+        };
+        Ok((OpenRun { standing, open }, layout))
     }
 
-    /// Where a run stands after the rounds of a plan, or as soon as nothing is open. Its layout is made with its first
-    /// round, and goes from round to round.
+    /// Starts a run, and searches rounds until no node is open or the plan's rounds are done. The first round makes the
+    /// layout, and later rounds use it again. Fails with `NoMemory` if memory runs out.
     fn at_end<R, C: Crew<R>>(
         rt: &R,
         alloc: Global,
@@ -136,7 +135,8 @@ impl OpenRun {
         requires { C.ready }
         ensures { IfOk result (λ t. IsAtAnswer instance.now plan.now t) }
     {
-        let mut search = OpenRun::start(alloc, instance, plan.order)?;
+        let start = Standing::start(alloc, instance)?;
+        let mut search = OpenRun::of(alloc, instance, plan.order, start)?;
         let mut layout = None;
         for done in 0..plan.rounds {
             if search.open.is_empty() {
@@ -150,7 +150,7 @@ impl OpenRun {
     }
 }
 
-/// The layout that was kept, or else a new one of the instance. Fails with `NoMemory` if memory runs out.
+/// Answers the layout in `kept`, or makes one if `kept` is `None`. Fails with `NoMemory` if memory runs out.
 fn kept_or_new<'r>(
     alloc: Global,
     instance: &'r Instance,
@@ -165,9 +165,9 @@ fn kept_or_new<'r>(
     }
 }
 
-/// What a run has come to: the best word with its table and makespan, the bound that no feasible
-/// table ends before, how many nodes are open (none: the makespan is least), the rounds done and
-/// the nodes counted.
+/// The answer of a run: the best word with its schedule and makespan, the bound before which no feasible schedule ends,
+/// the number of open nodes, the rounds done and the nodes counted. If no node is open, the makespan is least. Dropping
+/// the answer also drops the open nodes, one by one.
 #[derive(Drop)]
 pub struct Answer {
     pub word: Word,
@@ -177,11 +177,12 @@ pub struct Answer {
     pub open_nodes: usize,
     pub rounds: u64,
     pub nodes: u64,
+    store: OpenNodes,
 }
 
-/// The answer of a plan on an instance, with any crew: its table is feasible and ends at the
-/// makespan, no feasible table ends before the bound, and where no node is open the makespan is
-/// least. Fails with `NoMemory` if memory runs out.
+/// Searches `instance` by `plan`, with any crew. The answer's schedule is feasible and ends at the makespan, and no
+/// feasible schedule ends before the bound. If no node is open, the makespan is least. Fails with `NoMemory` if memory
+/// runs out.
 pub fn run<R, C: Crew<R>>(
     rt: &R,
     alloc: Global,
@@ -206,5 +207,6 @@ pub fn run<R, C: Crew<R>>(
         open_nodes,
         rounds: standing.rounds,
         nodes: standing.nodes,
+        store: open,
     })
 }

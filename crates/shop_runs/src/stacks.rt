@@ -1,4 +1,4 @@
-// Open nodes by bound: for each bound a stack of their words.
+// Open nodes for the order `Bound`: one stack of words for each bound.
 ghost use Rattle.std.specs.Prelude.{◌≡◌, ◌^◌, ◌≤◌, ◌∷◌, [], length, IfOk, OnOk, OnErr};
 ghost use Rattle.shop_model.specs.SharedWords.{CanBeShared};
 ghost use Rattle.shop_runs.specs.inner.NodeLists.{least_of_bounds};
@@ -13,10 +13,10 @@ use std::collections::BTreeMap;
 use std::collections::btree_map::Entry;
 use std::mem;
 
-/// The words below the top of a full block, which take 4 KB.
+/// How many words a full chunk holds below its top word. They take 4 KB.
 const BLOCK: usize = 256;
 
-/// At least one word, and no more than a full block has; the one on top is taken next.
+/// A chunk of a stack of words: a top word, which `pop` takes, and the words below it.
 #[derive(Drop)]
 pub(crate) struct Chunk {
     pub(crate) top: SharedWord,
@@ -24,7 +24,7 @@ pub(crate) struct Chunk {
 }
 
 impl Chunk {
-    /// One word. Takes no memory.
+    /// Makes a chunk of one word. Takes no memory.
     fn of(alloc: Global, word: SharedWord) -> Chunk
         ensures { words_in result ≡ word ∷ [] }
     {
@@ -34,7 +34,7 @@ impl Chunk {
         }
     }
 
-    /// Puts a word on top. Fails with `NoMemory` if memory runs out; the block is of no use then.
+    /// Puts `word` on top. Fails with `NoMemory` if memory runs out; the chunk has then lost a word.
     fn push(&mut self, word: SharedWord) -> Result<(), NoMemory>
         ensures { OnOk result (words_in self.new ≡ word ∷ words_in self.old) }
     {
@@ -43,14 +43,14 @@ impl Chunk {
         Ok(())
     }
 
-    /// How many words there are.
+    /// Answers how many words the chunk holds.
     fn len(&self) -> usize
         ensures { result ≡ length (words_in self.now) }
     {
         self.below.len() + 1
     }
 
-    /// The word on top, and the others, if there are any.
+    /// Answers the top word, and the chunk of the other words, or `None` if there are no others.
     fn pop(self) -> (SharedWord, Option<Chunk>)
         ensures { words_in self ≡ result.0 ∷ words_in_rest result.1 }
     {
@@ -62,8 +62,8 @@ impl Chunk {
     }
 }
 
-/// The words of some open nodes of one bound; the one on top is taken next. They lie in blocks: words are put on the
-/// topmost and taken from it, and a full one that another covers is never copied.
+/// The words of the open nodes of one bound, in chunks; the top word is taken next. Words come and go on the topmost
+/// chunk alone, and nothing copies the full chunks below it.
 #[derive(Drop)]
 pub(crate) struct Stack {
     pub(crate) topmost: Chunk,
@@ -71,7 +71,7 @@ pub(crate) struct Stack {
 }
 
 impl Stack {
-    /// One word. Takes no memory.
+    /// Makes a stack of one word. Takes no memory.
     pub(crate) fn of(alloc: Global, word: SharedWord) -> Stack
         ensures { words_on result ≡ word ∷ [] }
     {
@@ -81,7 +81,7 @@ impl Stack {
         }
     }
 
-    /// Puts a word on top. Fails with `NoMemory` if memory runs out; the stack is of no use then.
+    /// Puts `word` on top. Fails with `NoMemory` if memory runs out; the stack has then lost words.
     pub(crate) fn push(&mut self, alloc: Global, word: SharedWord) -> Result<(), NoMemory>
         ensures { OnOk result (words_on self.new ≡ word ∷ words_on self.old) }
     {
@@ -93,18 +93,16 @@ impl Stack {
         Ok(())
     }
 
-    /// How many words there are. Fails with `NoMemory` if they are more than memory could hold.
-    pub(crate) fn count(self) -> Result<usize, NoMemory>
-        ensures count { IfOk result (λ n. n ≡ length (words_on self)) }
-        ensures too_many { OnErr result (2 ^ 64 ≤ length (words_on self)) }
+    /// Answers how many words the stack holds. Fails with `NoMemory` if they are 2^64 or more, which no memory holds.
+    fn count(&self) -> Result<usize, NoMemory>
+        ensures count { IfOk result (λ n. n ≡ length (words_on self.now)) }
+        ensures too_many { OnErr result (2 ^ 64 ≤ length (words_on self.now)) }
     {
-        let Stack {
-            topmost,
-            mut covered,
-        } = self;
-        let mut count = topmost.len();
-        while let Some(block) = covered.pop() {
-            let Some(sum) = count.checked_add(block.len()) else {
+        let mut count = self.topmost.len();
+        let mut left = self.covered.len();
+        while left > 0 {
+            left -= 1;
+            let Some(sum) = count.checked_add(self.covered[left].len()) else {
                 return Err(NoMemory);
             };
             count = sum;
@@ -112,7 +110,7 @@ impl Stack {
         Ok(count)
     }
 
-    /// The word on top, and the others, if there are any.
+    /// Answers the top word, and the stack of the other words, or `None` if there are no others.
     pub(crate) fn pop(self) -> (SharedWord, Option<Stack>)
         ensures { words_on self ≡ result.0 ∷ words_left result.1 }
     {
@@ -131,7 +129,7 @@ impl Stack {
     }
 }
 
-/// Puts a node before all others of its bound.
+/// Puts `node` into `stacks`, before all other nodes of its bound. Fails with `NoMemory` if memory runs out.
 pub(crate) fn put_by_bound(
     alloc: Global,
     stacks: &mut BTreeMap<u64, Stack>,
@@ -151,7 +149,7 @@ pub(crate) fn put_by_bound(
     Ok(())
 }
 
-/// Takes the first node of the least bound, if there is a node.
+/// Takes the first node of least bound, or answers `None` if no node is open. Fails with `NoMemory` if memory runs out.
 pub(crate) fn pop_by_bound(stacks: &mut BTreeMap<u64, Stack>) -> Result<Option<Node>, NoMemory>
     ensures { IfOk result (λ n. IsNextByBound n stacks.old stacks.new) }
 {
@@ -166,7 +164,7 @@ pub(crate) fn pop_by_bound(stacks: &mut BTreeMap<u64, Stack>) -> Result<Option<N
     Ok(Some(Node { word, bound }))
 }
 
-/// Lets go of the nodes whose bounds are at least this makespan.
+/// Drops the nodes whose bounds are at least `makespan`. Fails with `NoMemory` if memory runs out.
 pub(crate) fn keep_by_bound(
     stacks: &mut BTreeMap<u64, Stack>,
     makespan: u64,
@@ -177,7 +175,7 @@ pub(crate) fn keep_by_bound(
     Ok(())
 }
 
-/// The least of a makespan and the bounds of nodes.
+/// Answers the least of `makespan` and the bounds of the nodes in `stacks`.
 pub(crate) fn least_by_bound(stacks: &BTreeMap<u64, Stack>, makespan: u64) -> u64
     ensures { result ≡ least_of_bounds makespan (nodes_in_stacks stacks.now) }
 {
@@ -187,13 +185,13 @@ pub(crate) fn least_by_bound(stacks: &BTreeMap<u64, Stack>, makespan: u64) -> u6
     }
 }
 
-/// How many nodes there are. Fails with `NoMemory` if they are more than memory could hold.
-pub(crate) fn count_by_bound(mut stacks: BTreeMap<u64, Stack>) -> Result<usize, NoMemory>
-    ensures count { IfOk result (λ n. n ≡ length (nodes_in_stacks stacks)) }
-    ensures too_many { OnErr result (2 ^ 64 ≤ length (nodes_in_stacks stacks)) }
+/// Answers how many nodes `stacks` hold. Fails with `NoMemory` if they are 2^64 or more, which no memory holds.
+pub(crate) fn count_by_bound(stacks: &BTreeMap<u64, Stack>) -> Result<usize, NoMemory>
+    ensures count { IfOk result (λ n. n ≡ length (nodes_in_stacks stacks.now)) }
+    ensures too_many { OnErr result (2 ^ 64 ≤ length (nodes_in_stacks stacks.now)) }
 {
     let mut count = 0_usize;
-    while let Some((_, stack)) = stacks.pop_first() {
+    for (_, stack) in stacks {
         let Some(sum) = count.checked_add(stack.count()?) else {
             return Err(NoMemory);
         };

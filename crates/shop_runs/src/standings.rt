@@ -1,4 +1,4 @@
-// What stands between two rounds, and where a search begins.
+// The standing of a search between two rounds, and the one with which a search begins.
 ghost use Rattle.shop_runs.specs.Limits.{IsCountWithin};
 
 use shop_bound::lower_bound;
@@ -6,8 +6,8 @@ use shop_model::{Instance, Word, start_word};
 use shop_nodes::Node;
 use std::alloc::{AllocError as NoMemory, Global};
 
-/// What stands between two rounds: the best word and its makespan, the open nodes, the rounds done
-/// and the nodes counted.
+/// Where a search stands between two rounds: the best word and its makespan, the open nodes, the rounds done and the
+/// nodes counted.
 #[derive(Drop)]
 pub struct Standing {
     pub word: Word,
@@ -24,8 +24,8 @@ impl Standing {
     ghost use Rattle.shop_runs.specs.Laws.{StandsCovering};
     ghost use Rattle.shop_runs.specs.Standings.{stands, StandsAt, IsStandingOf};
 
-    /// Where a search begins: the best is the start word, and the empty word is open if its bound
-    /// is below the makespan. Fails with `NoMemory` if memory runs out.
+    /// Makes the standing with which a search begins: the best word is the start word, and the empty word is open if
+    /// its bound is below the start word's makespan. Fails with `NoMemory` if memory runs out.
     pub fn start(alloc: Global, instance: &Instance) -> Result<Standing, NoMemory>
         ensures at { IfOk result (λ s. StandsAt instance.now (opening instance.now) s) }
         ensures standing { IfOk result (λ s. IsStandingOf instance.now s) }

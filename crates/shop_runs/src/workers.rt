@@ -1,10 +1,10 @@
-// How many workers search side by side.
+// The number of workers of a crew, within its limits.
 ghost use Rattle.std.specs.Prelude.{◌≡◌, ◌<◌, ◌≤◌, ◌↔◌, IsSome, IfSome};
 ghost use Rattle.shop_runs.specs.declared.plans.TheConstants.{MAX_WORKERS};
 
 use crate::plans::MAX_WORKERS;
 
-/// How many workers search side by side: 1 to 64.
+/// The number of workers that search in parallel: 1 to 64.
 #[derive(Clone, Copy)]
 pub struct Workers {
     pub count: usize,
@@ -12,7 +12,7 @@ pub struct Workers {
 }
 
 impl Workers {
-    /// Takes 1 to 64 workers; for any other number it is `None`.
+    /// Answers `count` as a number of workers, or `None` if it isn't 1 to 64.
     pub fn new(count: usize) -> Option<Workers>
         ensures within { IsSome result ↔ ((0 < count) × (count ≤ MAX_WORKERS)) }
         ensures keeps { IfSome result (λ workers. workers.count ≡ count) }

@@ -12,15 +12,14 @@ use Rattle.shop_model.proofs.Unders.{placing-snoc, next_operation, after_word}
 use Rattle.shop_bound.specs.Heads.{head_of}
 use Rattle.shop_states.specs.inner.LaneEnds.{IsEndOf}
 use Rattle.shop_states.specs.inner.LaneHeads.{AreHeadsAt}
-use Rattle.shop_states.specs.inner.LaneStates.{Advances, AreHeadsInLanes, HasNextAt}
+use Rattle.shop_states.specs.inner.LaneStates.{AreHeadsInLanes}
 use Rattle.shop_layout.specs.Positions.{LayoutState, place, first_position}
-use Rattle.shop_states.specs.inner.Raises.{AreFirst, HasBlocks, IsLeastRaise, IsOnMachine, IsRaisable}
-use Rattle.shop_states.specs.inner.Raises.{Raises}
+use Rattle.shop_states.specs.inner.Raises.{AreFirst, HasBlocks, IsLeastRaise, IsOnMachine, IsRaisable, Raises}
 use Rattle.shop_bound.proofs.HeadTurns.{ready_first}
 use Rattle.shop_layout.proofs.LaidPlaces.{place_of}
 use Rattle.shop_states.proofs.RaisedHeads.{left, raisable, raised, has_blocks}
 
-module _ (greatest : ℕ) (shop : Shop) (l : LayoutState) (rows : Rows) (w : List ℕ) (j : ℕ)
+module _ {greatest : ℕ} {shop : Shop} {l : LayoutState} {rows : Rows} {w : List ℕ} (j : ℕ)
     (kept : AreHeadsInLanes greatest shop w l rows) (fits : IsWord shop (w ++ j ∷ [])) where
   abbrev before : Placing
   before = placing shop w
@@ -38,43 +37,43 @@ module _ (greatest : ℕ) (shop : Shop) (l : LayoutState) (rows : Rows) (w : Lis
   machine_known = kept.limits.on_machines j (before.steps j)
 
   -- the machine of its position
-  pub machine_here : (q m : ℕ) → q ≡ place l j (before.steps j) → m ≡ get_or l.machines q 0
+  pub machine_here : {q m : ℕ} → q ≡ place l j (before.steps j) → m ≡ get_or l.machines q 0
       → m ≡ machine_of shop j (before.steps j)
-  machine_here q m is read =
+  machine_here is read =
       let a = place_of shop kept.limits l kept.laid j (before.steps j) first_left
       in let from = a.from in let to = a.to
       in read ∙ (ap (λ (x : ℕ). get_or l.machines x 0) is
       ∙ kept.laid.machines_at.at (machine_of shop j (before.steps j)) (place l j (before.steps j)) machine_known
       (omega arith) (omega arith))
 
-  pub within : (q : ℕ) → q ≡ place l j (before.steps j) → q < length rows.heads
-  within q is = let a = place_of shop kept.limits l kept.laid j (before.steps j) first_left in let b = a.within
+  pub within : {q : ℕ} → q ≡ place l j (before.steps j) → q < length rows.heads
+  within is = let a = place_of shop kept.limits l kept.laid j (before.steps j) first_left in let b = a.within
       in let c = kept.heads.positions in omega arith
 
   -- what is read of it
-  pub head_is : (q : ℕ) → q ≡ place l j (before.steps j) → get_or rows.heads q 0 ≡ head_of shop before j
+  pub head_is : {q : ℕ} → q ≡ place l j (before.steps j) → get_or rows.heads q 0 ≡ head_of shop before j
       (before.steps j) + 1
-  head_is q is = ap (λ (x : ℕ). get_or rows.heads x 0) is
+  head_is is = ap (λ (x : ℕ). get_or rows.heads x 0) is
       ∙ kept.heads.waiting j (before.steps j) first_left (omega arith)
 
-  pub time_is : (q : ℕ) → q ≡ place l j (before.steps j) → get_or rows.times q 0 ≡ time_of shop j (before.steps j)
-  time_is q is = ap (λ (xs : List ℕ). get_or xs q 0) kept.times
+  pub time_is : {q : ℕ} → q ≡ place l j (before.steps j) → get_or rows.times q 0 ≡ time_of shop j (before.steps j)
+  time_is {q} is = ap (λ (xs : List ℕ). get_or xs q 0) kept.times
       ∙ (ap (λ (x : ℕ). get_or l.times x 0) is
       ∙ (place_of shop kept.limits l kept.laid j (before.steps j) first_left).time)
 
   small : head_of shop before j (before.steps j) + time_of shop j (before.steps j) < greatest
   small = kept.fits w kept.word j (before.steps j) first_left (omega arith)
 
-  pub end_small : (q h t : ℕ) → q ≡ place l j (before.steps j) → h ≡ get_or rows.heads q 0 → t ≡ get_or rows.times q 0
+  pub end_small : {q h t : ℕ} → q ≡ place l j (before.steps j) → h ≡ get_or rows.heads q 0 → t ≡ get_or rows.times q 0
       → (h ≤ greatest) × (h + t ≤ greatest) × (h + t < 2 ^ 64)
-  end_small q h t is read timed =
-      let a = head_is q is in let b = time_is q is in let c = small in let d = kept.computable
+  end_small {q} is read timed =
+      let a = head_is is in let b = time_is is in let c = small in let d = kept.computable
       in (omega arith, omega arith, omega arith)
 
-  end_is : (q h t : ℕ) → q ≡ place l j (before.steps j) → h ≡ get_or rows.heads q 0 → t ≡ get_or rows.times q 0
+  end_is : {q h t : ℕ} → q ≡ place l j (before.steps j) → h ≡ get_or rows.heads q 0 → t ≡ get_or rows.times q 0
       → h + t ≡ after.free (machine_of shop j (before.steps j)) + 1
-  end_is q h t is read timed =
-      let a = head_is q is in let b = time_is q is
+  end_is {q} is read timed =
+      let a = head_is is in let b = time_is is
       in let first = ready_first shop before j (before.steps j) (omega arith)
       in let n = next_is
       in let free = n.free_here (machine_of shop j (before.steps j)) refl
@@ -91,9 +90,8 @@ module _ (greatest : ℕ) (shop : Shop) (l : LayoutState) (rows : Rows) (w : Lis
       in let a = kept.fits (w ++ j ∷ []) fits i k op (omega arith)
       in omega arith
 
-  module _ (q h t : ℕ) (is : q ≡ place l j (before.steps j)) (read : h ≡ get_or rows.heads q 0)
-      (timed : t ≡ get_or rows.times q 0)
-      (lifted : Rows) (wrote : lifted ≡ with_head rows q 0) (m : ℕ)
+  module _ {q h t : ℕ} (is : q ≡ place l j (before.steps j)) (read : h ≡ get_or rows.heads q 0)
+      (timed : t ≡ get_or rows.times q 0) {lifted : Rows} (wrote : lifted ≡ with_head rows q 0) {m : ℕ}
       (on : m ≡ machine_of shop j (before.steps j)) where
     lifted_heads : lifted.heads ≡ set rows.heads (place l j (before.steps j)) 0
     lifted_heads = ap (λ (r : Rows). r.heads) wrote ∙ ap (λ (x : ℕ). set rows.heads x 0) is
@@ -106,7 +104,7 @@ module _ (greatest : ℕ) (shop : Shop) (l : LayoutState) (rows : Rows) (w : Lis
         ∙ (length-set rows.heads (place l j (before.steps j)) 0 ∙ kept.heads.positions)
 
     pub lifted_blocks : HasBlocks l (length lifted.heads) m
-    lifted_blocks = has_blocks shop kept.limits l kept.laid (length lifted.heads) m lifted_long
+    lifted_blocks = has_blocks kept.limits kept.laid m lifted_long
         (let a = machine_known in omega arith)
 
     lifted_ends : lifted.ends ≡ rows.ends
@@ -120,11 +118,11 @@ module _ (greatest : ℕ) (shop : Shop) (l : LayoutState) (rows : Rows) (w : Lis
 
     lifted_none : (x : ℕ) → get_or rows.heads x 0 ≡ 0 → get_or lifted.heads x 0 ≡ 0
     lifted_none x none = elim (cases_eq x q) [
-      | inl e ↦ ap (λ (r : Rows). get_or r.heads x 0) wrote ∙ get_or-set_at rows.heads q x 0 0 e (within q is)
+      | inl e ↦ ap (λ (r : Rows). get_or r.heads x 0) wrote ∙ get_or-set_at rows.heads q x 0 0 e (within is)
       | inr ne ↦ lifted_other x ne ∙ none
     ]
 
-    module _ (nexts : List ℕ) (firsts : AreFirst l nexts rows.heads) (ends : length nexts ≤ length rows.ends) where
+    module _ {nexts : List ℕ} (firsts : AreFirst l nexts rows.heads) (ends : length nexts ≤ length rows.ends) where
       lifted_firsts : AreFirst l nexts lifted.heads
       lifted_firsts = record {
         own = λ i known here. firsts.own i known (let a = lifted_here in omega arith);
@@ -134,91 +132,51 @@ module _ (greatest : ℕ) (shop : Shop) (l : LayoutState) (rows : Rows) (w : Lis
       pub lifted_raisable : IsRaisable greatest l nexts lifted (IsOnMachine l m) (h + t)
       lifted_raisable =
           subst (λ (x : ℕ). IsRaisable greatest l nexts lifted (IsOnMachine l x) (h + t)) (sym on)
-          (raisable shop kept.limits l kept.laid before j after next_is first_left
-          (set rows.heads (place l j (before.steps j)) 0)
-          (left shop kept.limits l kept.laid before j after next_is first_left rows.heads kept.heads) (h + t)
-          (end_is q h t is read timed) greatest nexts lifted lifted_firsts
+          (raisable kept.limits kept.laid next_is first_left (left kept.limits kept.laid next_is first_left kept.heads)
+          (end_is is read timed) greatest nexts lifted lifted_firsts
           (let a = ap length lifted_ends in omega arith) lifted_heads lifted_times kept.computable next_fits)
 
-    module _ (nexts : List ℕ) (new : Rows)
-        (raising : Raises greatest l nexts (IsOnMachine l m) (h + t) lifted new)
-      where
-        pub advanced_times : new.times ≡ rows.times
-        advanced_times = raising.times ∙ ap (λ (r : Rows). r.times) wrote
+    module _ {nexts : List ℕ} {new : Rows}
+        (raising : Raises greatest l nexts (IsOnMachine l m) (h + t) lifted new) where
+      pub advanced_times : new.times ≡ rows.times
+      advanced_times = raising.times ∙ ap (λ (r : Rows). r.times) wrote
 
-        pub advanced_tails : new.tails ≡ rows.tails
-        advanced_tails = raising.tails ∙ ap (λ (r : Rows). r.tails) wrote
+      pub advanced_tails : new.tails ≡ rows.tails
+      advanced_tails = raising.tails ∙ ap (λ (r : Rows). r.tails) wrote
 
-        pub advanced_positions : length new.heads ≡ length rows.heads
-        advanced_positions = raising.raised.positions ∙ lifted_here
+      pub advanced_long : length new.ends ≡ length rows.ends
+      advanced_long = raising.ends.long ∙ ap length lifted_ends
 
-        pub advanced_long : length new.ends ≡ length rows.ends
-        advanced_long = raising.ends.long ∙ ap length lifted_ends
+      pub advanced_others : (i : ℕ) → i < length nexts → (get_or nexts i 0 ≡ q → ⊥) → IsEndOf greatest nexts rows i
+          → IsEndOf greatest nexts new i
+      advanced_others i known ne was =
+          let x = get_or nexts i 0
+          in let head = lifted_other x ne
+          in let time : get_or lifted.times x 0 ≡ get_or rows.times x 0 =
+          ap (λ (r : Rows). get_or r.times x 0) wrote
+          in let long = lifted_here
+          in raising.ends.each i known (ap (λ (xs : List ℕ). get_or xs i 0) lifted_ends
+          ∙ (was ∙ (elim (cases_lt x (length rows.heads)) [
+            | inl lt ↦ rw (lt-ltb x (length rows.heads) lt, lt-ltb x (length lifted.heads) (omega arith))
+                (omega arith)
+            | inr ge ↦ rw (le-ltb x (length rows.heads) ge, le-ltb x (length lifted.heads) (omega arith)) refl
+          ])))
 
-        pub advanced_others : (i : ℕ) → i < length nexts → (get_or nexts i 0 ≡ q → ⊥) → IsEndOf greatest nexts rows i
-            → IsEndOf greatest nexts new i
-        advanced_others i known ne was =
-            let x = get_or nexts i 0
-            in let head = lifted_other x ne
-            in let time : get_or lifted.times x 0 ≡ get_or rows.times x 0 =
-            ap (λ (r : Rows). get_or r.times x 0) wrote
-            in let long = lifted_here
-            in raising.ends.each i known (ap (λ (xs : List ℕ). get_or xs i 0) lifted_ends
-            ∙ (was ∙ (elim (cases_lt x (length rows.heads)) [
-              | inl lt ↦ rw (lt-ltb x (length rows.heads) lt, lt-ltb x (length lifted.heads) (omega arith))
-                  (omega arith)
-              | inr ge ↦ rw (le-ltb x (length rows.heads) ge, le-ltb x (length lifted.heads) (omega arith)) refl
-            ])))
-
-        pub advanced : AreHeadsInLanes greatest shop (w ++ j ∷ []) l new
-        advanced = record {
-          limits = kept.limits;
-          word = fits;
-          laid = kept.laid;
-          times = advanced_times ∙ kept.times;
-          tails = advanced_tails ∙ kept.tails;
-          fits = kept.fits;
-          computable = kept.computable;
-          heads = subst (λ (p : Placing). AreHeadsAt shop p l new.heads) (sym (placing-snoc shop w j))
-              (raised shop kept.limits l kept.laid before j after next_is first_left
-              (set rows.heads (place l j (before.steps j)) 0)
-              (left shop kept.limits l kept.laid before j after next_is first_left rows.heads kept.heads) (h + t)
-              (end_is q h t is read timed) new.heads
-              (subst (λ (x : ℕ). IsLeastRaise l (IsOnMachine l x) (h + t)
-              (set rows.heads (place l j (before.steps j)) 0)
-              new.heads) on
-              (subst (λ (xs : List ℕ). IsLeastRaise l (IsOnMachine l m) (h + t) xs new.heads) lifted_heads
-              raising.raised)));
-        }
-
--- struck out, and raised then
-module _ (greatest : ℕ) (l : LayoutState) (nexts : List ℕ) (q m h t : ℕ) (rows : Rows)
-    (next : HasNextAt greatest l nexts q rows) (on : m ≡ get_or l.machines q 0) (read : h ≡ get_or rows.heads q 0)
-    (timed : t ≡ get_or rows.times q 0) (lifted : Rows) (wrote : lifted ≡ with_head rows q 0) where
-  its_machine : m ≡ machine_of next.shop next.job ((placing next.shop next.word).steps next.job)
-  its_machine = machine_here greatest next.shop l rows next.word next.job next.kept next.fits q m next.at on
-
-  pub struck_blocks : HasBlocks l (length lifted.heads) m
-  struck_blocks = lifted_blocks greatest next.shop l rows next.word next.job next.kept next.fits q h t next.at read
-      timed lifted wrote m its_machine
-
-  pub struck_raisable : IsRaisable greatest l nexts lifted (IsOnMachine l m) (h + t)
-  struck_raisable = lifted_raisable greatest next.shop l rows next.word next.job next.kept next.fits q h t next.at read
-      timed lifted wrote m its_machine nexts next.firsts next.ends
-
-  pub advances : (new : Rows) → Raises greatest l nexts (IsOnMachine l m) (h + t) lifted new
-      → Advances greatest l nexts q rows new
-  advances new raising = record {
-    times = advanced_times greatest next.shop l rows next.word next.job next.kept next.fits q h t next.at read timed
-        lifted wrote m its_machine nexts new raising;
-    tails = advanced_tails greatest next.shop l rows next.word next.job next.kept next.fits q h t next.at read timed
-        lifted wrote m its_machine nexts new raising;
-    positions = advanced_positions greatest next.shop l rows next.word next.job next.kept next.fits q h t next.at read
-        timed lifted wrote m its_machine nexts new raising;
-    long = advanced_long greatest next.shop l rows next.word next.job next.kept next.fits q h t next.at read timed
-        lifted wrote m its_machine nexts new raising;
-    others = advanced_others greatest next.shop l rows next.word next.job next.kept next.fits q h t next.at read timed
-        lifted wrote m its_machine nexts new raising;
-    heads = λ shop w j kept fits is. advanced greatest shop l rows w j kept fits q h t is read timed lifted wrote m
-        (machine_here greatest shop l rows w j kept fits q m is on) nexts new raising;
-  }
+      pub advanced : AreHeadsInLanes greatest shop (w ++ j ∷ []) l new
+      advanced = record {
+        limits = kept.limits;
+        word = fits;
+        laid = kept.laid;
+        times = advanced_times ∙ kept.times;
+        tails = advanced_tails ∙ kept.tails;
+        fits = kept.fits;
+        computable = kept.computable;
+        heads = subst (λ (p : Placing). AreHeadsAt shop p l new.heads) (sym (placing-snoc shop w j))
+            (raised kept.limits kept.laid next_is first_left (left kept.limits kept.laid next_is first_left
+            kept.heads) (end_is is read timed)
+            (subst (λ (x : ℕ). IsLeastRaise l (IsOnMachine l x) (h + t)
+            (set rows.heads (place l j (before.steps j)) 0)
+            new.heads) on
+            (subst (λ (xs : List ℕ). IsLeastRaise l (IsOnMachine l m) (h + t) xs new.heads) lifted_heads
+            raising.raised)));
+      }

@@ -10,19 +10,17 @@ use Rattle.shop_bound.specs.Bound.{lb}
 use Rattle.std.specs.Prelude.{Option, Some, None}
 use Rattle.shop_states.specs.States.{TellsBoundBelow}
 use Rattle.shop_bound.proofs.SmallSums.{sums_small}
-use Rattle.shop_bound.specs.Conflicts.{chosen_of, conflict, conflict_among, conflicts_with}
-use Rattle.shop_bound.specs.Conflicts.{open_jobs}
+use Rattle.shop_bound.specs.Conflicts.{chosen_of, conflict, conflict_among, conflicts_with, open_jobs}
 use Rattle.shop_bound.proofs.Entries.{IsWord-snoc}
-use Rattle.shop_states.specs.inner.Advances.{CanForesee, IsAdvancing, IsLeastAt, foreseen}
+use Rattle.shop_states.specs.inner.Advances.{IsAdvancing, IsLeastAt, foreseen}
 use Rattle.shop_states.specs.inner.LaneChoices.{AreChoosable}
 use Rattle.shop_states.specs.inner.LaneStates.{IsKeptInLanes}
 use Rattle.shop_layout.specs.Lanes.{rows_of}
 use Rattle.shop_layout.specs.Positions.{LayoutState, place}
 use Rattle.shop_states.specs.inner.RisingLists.{IsIn}
-use Rattle.shop_states.proofs.ChildReads.{after_look, end_here, end_latest, end_small, head_here}
-use Rattle.shop_states.proofs.ChildReads.{left_fits, machine_here, time_here}
+use Rattle.shop_states.proofs.ChildReads.{after_look, end_here, head_here, machine_here, time_here}
 use Rattle.shop_states.proofs.LaneConflicts.{in_filter, open_is}
-use Rattle.shop_states.proofs.StateSteps.{next_at, next_known, within}
+use Rattle.shop_states.proofs.StateSteps.{next_at}
 
 -- a conflict set is a part of the open jobs
 conflict_in : (shop : Shop) (p : Placing) (js : List ℕ) (q : ℕ) → IsIn (conflict_among shop p js) q → IsIn js q
@@ -43,64 +41,30 @@ module _ {greatest : ℕ} {shop : Shop} {w : List ℕ} {l : LayoutState} {heads 
   abbrev rows : Rows
   rows = rows_of l heads ends
 
-  module _ (x : ℕ) (x_is : x ≡ get_or nexts j 0) where
+  module _ {x : ℕ} (x_is : x ≡ get_or nexts j 0) where
     its_place : x ≡ place l j ((placing shop w).steps j)
-    its_place = next_at greatest shop w j l rows nexts kept fits x x_is
+    its_place = next_at j kept fits x_is
 
     its_machine : get_or l.machines x 0 ≡ machine_of shop j ((placing shop w).steps j)
     its_machine = ap (λ (q : ℕ). get_or l.machines q 0) its_place
-        ∙ machine_here greatest shop w l rows kept.kept j fits l.machines kept.kept.laid.machines_at
-
-    machine_known : get_or l.machines x 0 < shop.machines
-    machine_known = let a = its_machine in let b = kept.kept.limits.on_machines j ((placing shop w).steps j)
-        in omega arith
+        ∙ machine_here kept.kept j fits kept.kept.laid.machines_at
 
     head_is : get_or heads x 0 + get_or l.times x 0
         ≡ (place_next shop (placing shop w) j).free (machine_of shop j ((placing shop w).steps j)) + 1
     head_is =
         let a = ap (λ (q : ℕ). get_or heads q 0) its_place
-        in let b = head_here greatest shop w l rows kept.kept j fits
+        in let b = head_here kept.kept j fits
         in let c = ap (λ (q : ℕ). get_or l.times q 0) its_place
-        in let d = time_here greatest shop w l rows kept.kept j fits
-        in let e = end_here greatest shop w l rows kept.kept j fits in omega arith
+        in let d = time_here kept.kept j fits
+        in let e = end_here kept.kept j fits in omega arith
 
-    pub can_foresee : CanForesee greatest l heads ends x
-    can_foresee =
-        let known = machine_known
-        in let all = left_fits greatest shop w l rows kept.kept j fits kept.holds x
-        in let fit = all.fits (get_or l.machines x 0) known
-        in let here = within greatest shop w j l rows nexts kept fits x x_is
-        in let latest = end_latest greatest shop w l rows kept.kept j fits
-        in let small = end_small greatest shop w l rows kept.kept j fits
-        in let same = end_here greatest shop w l rows kept.kept j fits
-        in let end = head_is
-        in let a = kept.kept.computable in let b = kept.kept.laid.machines
-        in let long = kept.kept.heads.positions
-        in let timed = kept.kept.laid.positions.times in let tailed = kept.kept.laid.positions.tails
-        in let machined = kept.kept.laid.machines_at.positions
-        in record {
-          within = here;
-          times = omega arith;
-          tails = omega arith;
-          machines = omega arith;
-          known = omega arith;
-          head = omega arith;
-          end = omega arith;
-          computable = a;
-          some = omega arith;
-          blocks = all.blocks (get_or l.machines x 0) known;
-          fits = omega arith;
-        }
-
-    pub foreseen_least : (bound : ℕ) → bound ≡ lb shop w → (least : ℕ) → least ≡ foreseen l heads ends x bound
+    pub foreseen_least : (bound : ℕ) → bound ≡ lb shop w → {least : ℕ} → least ≡ foreseen l heads ends x bound
         → IsLeastAt shop w l rows j x least
-    foreseen_least bound is least least_is =
+    foreseen_least bound is {least} least_is =
         let end = head_is
         in let b : max bound (get_or heads x 0 + get_or l.times x 0 - 1) ≡ max (lb shop w)
         ((place_next shop (placing shop w) j).free (machine_of shop j ((placing shop w).steps j))) = omega arith
-        in after_look greatest shop w l rows kept.kept j fits
-        (max bound (get_or heads x 0 + get_or l.times x 0 - 1)) b x (get_or l.machines x 0)
-        (get_or heads x 0 + get_or l.times x 0) its_place its_machine head_is least least_is
+        in after_look kept.kept j fits b its_place its_machine head_is least_is
 
   -- where heads, ends and next operations are as they were
   pub advancing : {heads' ends' : List ℕ} → heads' ≡ heads → ends' ≡ ends → {bound : ℕ} → bound ≡ lb shop w
@@ -109,14 +73,11 @@ module _ {greatest : ℕ} {shop : Shop} {w : List ℕ} {l : LayoutState} {heads 
   advancing same_heads same_ends {bound} is {least} least_is = rw (same_heads, same_ends) (record {
     kept = kept;
     fits = fits;
-    foreseen = foreseen_least (get_or nexts j 0) refl bound is least least_is;
+    foreseen = foreseen_least refl bound is least_is;
   })
 
-  pub job_known : j < length nexts
-  job_known = next_known greatest shop w j l rows nexts kept fits
-
 -- the choice by lanes is that of the word
-module _ (greatest : ℕ) (shop : Shop) (w : List ℕ) (l : LayoutState) (heads ends nexts : List ℕ)
+module _ {greatest : ℕ} {shop : Shop} {w : List ℕ} {l : LayoutState} {heads ends nexts : List ℕ}
     (kept : IsKeptInLanes greatest shop w l (rows_of l heads ends) nexts) where
   pub choosable : AreChoosable greatest shop (placing shop w) l nexts (rows_of l heads ends)
   choosable = record {

@@ -31,8 +31,8 @@ left-le-lb shop limits slots are w word m known =
     let a = le-greatest_below (part_of shop slots (placing shop w)) shop.machines m known
     in let b = lb_by_parts shop limits slots are w word in omega arith
 
-module _ (shop : Shop) (limits : IsWithinLimits shop) (slots : List (List Slot)) (are : AreMachineSlots shop slots)
-    (w : List ℕ) (j : ℕ) (fits : IsWord shop (w ++ j ∷ [])) where
+module _ {shop : Shop} (limits : IsWithinLimits shop) {slots : List (List Slot)}
+    (are : AreMachineSlots shop slots) (w : List ℕ) (j : ℕ) (fits : IsWord shop (w ++ j ∷ [])) where
   abbrev pub next : Placing
   next = place_next shop (placing shop w) j
 

@@ -1,6 +1,5 @@
 -- Raises cover what the heads after one more operation bound.
-use Rattle.std.proofs.Common.{◌≡◌, ℕ, ◌+◌, ◌≤◌, ◌<◌, ◌⊎◌, inl, inr, List, [], ◌∷◌, ◌++◌, get_or}
-use Rattle.std.proofs.Common.{refl, sym, ap, arith}
+use Rattle.std.proofs.Common.{◌≡◌, ℕ, ◌+◌, ◌≤◌, ◌<◌, ◌⊎◌, inl, inr, List, [], ◌∷◌, ◌++◌, get_or, refl, sym, ap, arith}
 use Rattle.std.proofs.lemmas.Bool.{cases_lt}
 use Rattle.shop_lanes.specs.Rows.{Rows, lanes_of}
 use Rattle.shop_lanes.specs.Spans.{spans_between}
@@ -36,8 +35,8 @@ heads_small shop limits l laid w word hs heads q = elim (each_position shop limi
   | inr free ↦ (let a = heads.padding q free in omega arith)
 ]
 
-module _ (shop : Shop) (limits : IsWithinLimits shop) (l : LayoutState) (laid : IsLaidOut shop l) (w : List ℕ) (j : ℕ)
-    (fits : IsWord shop (w ++ j ∷ [])) (was now : List ℕ) (old : AreHeadsAt shop (placing shop w) l was)
+module _ {shop : Shop} (limits : IsWithinLimits shop) {l : LayoutState} (laid : IsLaidOut shop l) (w : List ℕ)
+    (j : ℕ) (fits : IsWord shop (w ++ j ∷ [])) {was now : List ℕ} (old : AreHeadsAt shop (placing shop w) l was)
     (new : AreHeadsAt shop (place_next shop (placing shop w) j) l now) where
   -- each head stayed, or is within the raise
   abbrev pub IsCovered : Raise → ℕ → Type 0
@@ -68,7 +67,7 @@ module _ (shop : Shop) (limits : IsWithinLimits shop) (l : LayoutState) (laid : 
     pub bounded_by_raise : (least : ℕ) → lb shop w ≤ least → (raise : Raise) (m : ℕ) → m < shop.machines
         → IsCovered raise m → IsBounded least raise m
     bounded_by_raise least parent raise m known covered b above inside =
-        after_spans-cover shop limits l laid w j fits now new m known raise.from raise.to b covered
+        after_spans-cover limits laid w j fits new m known raise.from raise.to b covered
         (let e = ap (spans_between raise.from raise.to) (its_lanes m) in omega arith) (omega arith)
 
     -- what bounds all that is left is the bound, where it is no more than that and spans bound
@@ -82,11 +81,11 @@ module _ (shop : Shop) (limits : IsWithinLimits shop) (l : LayoutState) (laid : 
         → IsBoundUpTo limit (lb shop (w ++ j ∷ [])) b
     bound_is least limit b parent end most low left within =
         let at_most = within (lb shop (w ++ j ∷ [])) most (λ m above upto known.
-        (let a = after_spans-le shop limits l laid w j fits now new m known above upto
+        (let a = after_spans-le limits laid w j fits new m known above upto
         in let e = ap (spans_between above upto) (its_lanes m) in omega arith))
         in record {
           at_most = at_most;
           exact = λ under.
-              let a = child-le shop limits laid.slots laid.are w j fits b (omega arith) (omega arith) (left under)
+              let a = child-le limits laid.are w j fits b (omega arith) (omega arith) (left under)
               in omega arith;
         }

@@ -1,5 +1,5 @@
 -- What is read of the next operation of a job, and what is foreseen of the bound after it.
-use Rattle.std.proofs.Common.{◌≡◌, ℕ, ◌+◌, ◌≤◌, ◌<◌, max, ◌-◌, List, [], ◌∷◌, ◌++◌, set}
+use Rattle.std.proofs.Common.{◌≡◌, ℕ, ◌+◌, ◌≤◌, max, ◌-◌, List, [], ◌∷◌, ◌++◌, set}
 use Rattle.std.proofs.Common.{get_or, refl, sym, ◌∙◌, ap, subst, arith}
 use Rattle.shop_lanes.specs.Rows.{Rows, Lane, with_head, lanes_of}
 use Rattle.shop_lanes.specs.Spans.{span}
@@ -11,8 +11,6 @@ use Rattle.shop_model.proofs.WordLemmas.{IsWord-init}
 use Rattle.shop_bound.specs.Bound.{lb}
 use Rattle.shop_bound.specs.Heads.{head_of}
 use Rattle.shop_states.specs.inner.ChildBounds.{IsLeastAfter}
-use Rattle.shop_layout.specs.HeadLimits.{FitsLanes, latest_end}
-use Rattle.shop_states.specs.inner.LaneBounds.{AreSpansFit}
 use Rattle.shop_layout.specs.Lanes.{lanes_on}
 use Rattle.shop_states.specs.inner.LaneHeads.{AreStored}
 use Rattle.shop_states.specs.inner.LaneStates.{AreHeadsInLanes}
@@ -21,12 +19,9 @@ use Rattle.shop_states.proofs.ChildBounds.{child-ge-before}
 use Rattle.shop_states.proofs.ChildExits.{open_span-le}
 use Rattle.shop_bound.proofs.HeadTurns.{ready_first}
 use Rattle.shop_layout.proofs.LaidPlaces.{place_of}
-use Rattle.shop_states.proofs.LaneFits.{spans_fit}
-use Rattle.shop_layout.proofs.LatestEnds.{latest_end_is}
 use Rattle.shop_states.proofs.RaisedHeads.{left}
-use Rattle.std.proofs.lemmas.List.{length-set}
 
-module _ (greatest : ℕ) (shop : Shop) (w : List ℕ) (l : LayoutState) (rows : Rows)
+module _ {greatest : ℕ} {shop : Shop} {w : List ℕ} {l : LayoutState} {rows : Rows}
     (kept : AreHeadsInLanes greatest shop w l rows) (j : ℕ) (fits : IsWord shop (w ++ j ∷ [])) where
   pub is_operation : IsOperation shop j ((placing shop w).steps j)
   is_operation = let a = next_operation shop w j fits
@@ -50,17 +45,9 @@ module _ (greatest : ℕ) (shop : Shop) (w : List ℕ) (l : LayoutState) (rows :
       in let b = n.begins_here
       in let first = ready_first shop p j (p.steps j) (omega arith) in omega arith
 
-  pub end_small : head_of shop (placing shop w) j ((placing shop w).steps j) + time_of shop j ((placing shop w).steps j)
-      < greatest
-  end_small = kept.fits w kept.word j ((placing shop w).steps j) is_operation (omega arith)
-
-  pub end_latest : head_of shop (placing shop w) j ((placing shop w).steps j)
-      + time_of shop j ((placing shop w).steps j) ≤ latest_end shop
-  end_latest = latest_end_is shop w kept.word j ((placing shop w).steps j) is_operation (omega arith)
-
-  pub machine_here : (ms : List ℕ) → AreMachinesOf l.blocks shop.machines ms
+  pub machine_here : {ms : List ℕ} → AreMachinesOf l.blocks shop.machines ms
       → get_or ms (place l j ((placing shop w).steps j)) 0 ≡ machine_of shop j ((placing shop w).steps j)
-  machine_here ms machines =
+  machine_here machines =
       let at = place_of shop kept.limits l kept.laid j ((placing shop w).steps j) is_operation
       in let low = at.from in let high = at.to
       in machines.at (machine_of shop j ((placing shop w).steps j)) (place l j ((placing shop w).steps j))
@@ -69,17 +56,11 @@ module _ (greatest : ℕ) (shop : Shop) (w : List ℕ) (l : LayoutState) (rows :
   -- heads without the operation's are those that stood, and spans of them fit
   pub left_stored : AreStored shop (place_next shop (placing shop w) j).steps (head_of shop (placing shop w)) l
       (set rows.heads (place l j ((placing shop w).steps j)) 0)
-  left_stored = left shop kept.limits l kept.laid (placing shop w) j (place_next shop (placing shop w) j)
-      (place_next-is shop (placing shop w) j) is_operation rows.heads kept.heads
+  left_stored = left kept.limits kept.laid (place_next-is shop (placing shop w) j) is_operation kept.heads
 
-  pub left_fits : FitsLanes greatest shop l → (x : ℕ)
-      → AreSpansFit greatest (latest_end shop + 1) shop.machines l (with_head rows x 0)
-  left_fits holds x = spans_fit shop kept.limits l kept.laid greatest holds (with_head rows x 0) kept.times kept.tails
-      (length-set rows.heads x 0 ∙ kept.heads.positions)
-
-  module _ (least : ℕ) (least_is : least ≡ max (lb shop w)
-      ((place_next shop (placing shop w) j).free (machine_of shop j ((placing shop w).steps j)))) where
-    module _ (x m e : ℕ) (x_is : x ≡ place l j ((placing shop w).steps j))
+  module _ {least : ℕ} (least_is : least ≡ max (lb shop w) ((place_next shop (placing shop w) j).free (machine_of shop j
+      ((placing shop w).steps j)))) where
+    module _ {x m e : ℕ} (x_is : x ≡ place l j ((placing shop w).steps j))
         (m_is : m ≡ machine_of shop j ((placing shop w).steps j))
         (e_is : e ≡ (place_next shop (placing shop w) j).free (machine_of shop j ((placing shop w).steps j)) + 1) where
       stored : AreStored shop (place_next shop (placing shop w) j).steps (head_of shop (placing shop w)) l
@@ -87,12 +68,12 @@ module _ (greatest : ℕ) (shop : Shop) (w : List ℕ) (l : LayoutState) (rows :
       stored = subst (λ (y : ℕ). AreStored shop (place_next shop (placing shop w) j).steps
           (head_of shop (placing shop w)) l (set rows.heads y 0)) (sym x_is) left_stored
 
-      module _ (b : ℕ) (b_is : b ≡ max least (span 1 e (lanes_on (with_head rows x 0) l m) - 1)) where
+      module _ {b : ℕ} (b_is : b ≡ max least (span 1 e (lanes_on (with_head rows x 0) l m) - 1)) where
         pub ahead_low : b ≤ lb shop (w ++ j ∷ [])
         ahead_low =
-            let a = child-ge-before shop kept.limits kept.laid.slots kept.laid.are w j fits least least_is
-            in let b = open_span-le shop kept.limits l kept.laid w j fits (set rows.heads x 0) stored
-            ((place_next shop (placing shop w) j).free (machine_of shop j ((placing shop w).steps j))) refl
+            let a = child-ge-before kept.limits kept.laid.are w j fits least least_is
+            in let b = open_span-le kept.limits kept.laid w j fits stored ((place_next shop (placing shop w) j).free
+            (machine_of shop j ((placing shop w).steps j))) refl
             in let same : lanes_of (set rows.heads x 0) rows.times rows.tails
             (get_or l.blocks m 0) (get_or l.blocks (m + 1) 0)
             ≡ lanes_of (set rows.heads x 0) l.times l.tails

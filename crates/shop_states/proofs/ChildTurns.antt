@@ -1,6 +1,6 @@
 -- What is kept while the bound after one more operation is found.
 use Rattle.std.proofs.Common.{◌≡◌, ℕ, ◌+◌, ◌*◌, ◌≤◌, ◌<◌, List, [], ◌∷◌, ◌++◌, length, get_or, set}
-use Rattle.std.proofs.Common.{refl, ◌∙◌, ap, subst, arith}
+use Rattle.std.proofs.Common.{refl, ap, subst, arith}
 use Rattle.std.proofs.lemmas.List.{length-set}
 use Rattle.shop_lanes.specs.Rows.{Rows, with_head, lanes_of}
 use Rattle.shop_lanes.specs.Spans.{span, spans_between}
@@ -15,7 +15,7 @@ use Rattle.shop_states.specs.inner.ChildBounds.{IsLeastAfter}
 use Rattle.shop_layout.specs.HeadLimits.{latest_end}
 use Rattle.shop_layout.specs.Lanes.{lanes_on}
 use Rattle.shop_states.specs.inner.LaneHeads.{AreHeadsAt}
-use Rattle.shop_states.specs.inner.LaneStates.{AreHeadsInLanes, Advances}
+use Rattle.shop_states.specs.inner.LaneStates.{AreHeadsInLanes}
 use Rattle.shop_layout.specs.Positions.{AreMachinesOf, LayoutState, place}
 use Rattle.shop_states.specs.inner.Watchers.{IsSeenAt, floor_on}
 use Rattle.shop_states.specs.inner.HeadRaises.{Raise}
@@ -25,32 +25,21 @@ use Rattle.shop_layout.proofs.LaneLimits.{blocks_within}
 use Rattle.shop_states.proofs.SeenRaises.{bounded_by_seen, span_ahead}
 use Rattle.shop_states.proofs.LeftSlots.{left_for}
 
--- where the next step of a job stands
-abbrev its_place : (shop : Shop) → LayoutState → ℕ → Placing → ℕ
-its_place shop l j p = place l j (p.steps j)
-
 pub its_job : (shop : Shop) (w : List ℕ) (j : ℕ) → IsWord shop (w ++ j ∷ []) → j < length shop.jobs
 its_job shop w j fits = IsOperation-job shop j _ (next_operation shop w j fits)
 
-module _ (greatest : ℕ) (shop : Shop) (l : LayoutState) (j position : ℕ) (rows rows' : Rows)
-    (nexts : List ℕ) (advances : Advances greatest l nexts position rows rows') where
+module _ {greatest : ℕ} {shop : Shop} {w : List ℕ} {l : LayoutState} {rows rows' : Rows}
+    (kept : AreHeadsInLanes greatest shop w l rows) (j : ℕ) (fits : IsWord shop (w ++ j ∷ []))
+    (now : AreHeadsInLanes greatest shop (w ++ j ∷ []) l rows') where
   -- the heads of the word with the operation
-  pub next_heads : (w : List ℕ) → AreHeadsInLanes greatest shop w l rows → IsWord shop (w ++ j ∷ [])
-      → position ≡ place l j ((placing shop w).steps j) → AreHeadsAt shop (place_next shop (placing shop w) j) l
-      rows'.heads
-  next_heads w kept fits at = subst (λ (q : Placing). AreHeadsAt shop q l rows'.heads) (placing-snoc shop w j)
-      (advances.heads shop w j kept fits at).heads
+  next_heads : AreHeadsAt shop (place_next shop (placing shop w) j) l rows'.heads
+  next_heads = subst (λ (q : Placing). AreHeadsAt shop q l rows'.heads) (placing-snoc shop w j) now.heads
 
-  pub next_small : (top : ℕ) → top ≡ latest_end shop + 1 → (w : List ℕ) → AreHeadsInLanes greatest shop w l rows
-      → IsWord shop (w ++ j ∷ []) → position ≡ place l j ((placing shop w).steps j) → (q : ℕ) → get_or rows'.heads q
-      0 ≤ top
-  next_small top is w kept fits at q =
-      let a = heads_small shop kept.limits l kept.laid (w ++ j ∷ []) fits rows'.heads
-      (advances.heads shop w j kept fits at).heads q in omega arith
+  pub next_small : (q : ℕ) → get_or rows'.heads q 0 ≤ latest_end shop + 1
+  next_small = heads_small shop now.limits l now.laid (w ++ j ∷ []) fits rows'.heads now.heads
 
   -- what is covered on each machine
-  module _ (ms : List ℕ) (machines : AreMachinesOf l.blocks shop.machines ms) (top : ℕ)
-      (top_is : top ≡ latest_end shop + 1) (own end least limit b : ℕ) where
+  module _ {ms : List ℕ} (machines : AreMachinesOf l.blocks shop.machines ms) (own end least limit b : ℕ) where
     -- by a raise on machine m
     pub record IsCoveredOn (m : ℕ) : Type 0 where
       pub raise : Raise
@@ -62,26 +51,13 @@ module _ (greatest : ℕ) (shop : Shop) (l : LayoutState) (j position : ℕ) (ro
         → least ≤ b
         → ((c : ℕ) → least ≤ c → ((m above upto : ℕ) → m < shop.machines
         → spans_between above upto (lanes_on rows' l m) ≤ c + 1) → b ≤ c)
-        → (w : List ℕ) → AreHeadsInLanes greatest shop w l rows → IsWord shop (w ++ j ∷ [])
-        → position ≡ place l j ((placing shop w).steps j) → IsLeastAfter shop w l rows j position own end least
+        → {position : ℕ} → IsLeastAfter shop w l rows j position own end least
         → IsBoundUpTo limit (lb shop (w ++ j ∷ [])) b
-    raised_is covers low inside w kept fits at after =
+    raised_is covers low inside {position} after =
         let ends = after.ends in let end_is = after.next.end_is
-        in bound_is shop kept.limits l kept.laid w j fits rows.heads rows'.heads kept.heads now_heads rows' refl times
-        tails least limit b after.parent (omega arith) after.most low left inside
+        in bound_is kept.limits kept.laid w j fits kept.heads next_heads rows' refl now.times now.tails least limit b
+        after.parent (omega arith) after.most low left inside
       where
-        now_heads : AreHeadsAt shop (place_next shop (placing shop w) j) l rows'.heads
-        now_heads = next_heads w kept fits at
-
-        times : rows'.times ≡ l.times
-        times = advances.times ∙ kept.times
-
-        tails : rows'.tails ≡ l.tails
-        tails = advances.tails ∙ kept.tails
-
-        small : (q : ℕ) → get_or rows'.heads q 0 ≤ top
-        small = next_small top top_is w kept fits at
-
         within : (m : ℕ) → m < shop.machines → 8 * get_or l.blocks (m + 1) 0 ≤ length rows.heads
         within m known =
             let a = blocks_within shop kept.limits l kept.laid (m + 1) (omega arith)
@@ -90,12 +66,12 @@ module _ (greatest : ℕ) (shop : Shop) (l : LayoutState) (j position : ℕ) (ro
         ahead : (m : ℕ) → m < shop.machines → m ≡ own → (h : ℕ) → 0 < h → h ≤ end
             → span h h (lanes_on rows' l m) ≤ least + 1
         ahead m known on h some up =
-            let x = its_place shop l j (placing shop w)
-            in let a = span_ahead shop kept.limits l kept.laid w j fits rows.heads rows'.heads kept.heads now_heads
-            (set rows.heads x 0) (left_stored greatest shop w l rows kept j fits) top m h end small some up
+            let x = place l j ((placing shop w).steps j)
+            in let a = span_ahead kept.limits kept.laid w j fits kept.heads next_heads (left_stored kept j fits)
+            (latest_end shop + 1) m h end next_small some up
             (let long = length-set rows.heads x 0 in let b = within m known in omega arith)
-            in let e = ap (span h h) (its_lanes shop kept.limits l kept.laid w j fits rows.heads rows'.heads kept.heads
-            now_heads rows' refl times tails m)
+            in let e = ap (span h h) (its_lanes kept.limits kept.laid w j fits kept.heads next_heads rows' refl
+            now.times now.tails m)
             in let f : lanes_on (with_head rows position 0) l own
             ≡ lanes_of (set rows.heads x 0) l.times l.tails (get_or l.blocks m 0) (get_or l.blocks (m + 1) 0) =
             rw (after.next.position_is, on, kept.times, kept.tails) refl
@@ -105,6 +81,6 @@ module _ (greatest : ℕ) (shop : Shop) (l : LayoutState) (j position : ℕ) (ro
             → one (left_for shop kept.laid.slots (place_next shop (placing shop w) j) m) ≤ b
         left under m known =
             let by = covers under m known
-            in bounded_by_seen shop kept.limits l kept.laid w j fits rows.heads rows'.heads kept.heads now_heads ms
-            machines own end least m known by.raise by.covered rows rows' refl kept.times kept.tails refl times tails
-            top small after.parent (within m known) (ahead m known) b low by.spans
+            in bounded_by_seen kept.limits kept.laid w j fits kept.heads next_heads machines own end least m known
+            by.raise by.covered rows rows' refl kept.times kept.tails refl now.times now.tails (latest_end shop + 1)
+            next_small after.parent (within m known) (ahead m known) b low by.spans

@@ -1,17 +1,14 @@
 -- The conflict set gathered on the machine of the operation that can end first.
-use Rattle.std.proofs.Common.{◌≡◌, ℕ, ◌+◌, ◌*◌, ◌^◌, ◌≤◌, ◌<◌, List, [], ◌∷◌, length, get_or, subst}
-use Rattle.std.proofs.Common.{arith, refl}
+use Rattle.std.proofs.Common.{◌≡◌, ℕ, ◌+◌, ◌*◌, ◌^◌, ◌≤◌, ◌<◌, List, [], ◌∷◌, length, get_or, subst, arith, refl}
 use Rattle.std.specs.List.{All}
 use Rattle.shop_lanes.specs.Marks.{positions_below}
 use Rattle.shop_lanes.specs.Spans.{AreOwnSpans}
 use Rattle.shop_model.specs.Shop.{Shop}
-use Rattle.shop_model.specs.Word.{placing}
 use Rattle.shop_bound.specs.Conflicts.{conflict}
 use Rattle.shop_layout.specs.Lanes.{rows_of}
 use Rattle.shop_layout.specs.Positions.{LayoutState}
 use Rattle.shop_states.specs.declared.dispatching.Candidate.{Candidate}
-use Rattle.shop_states.specs.inner.Candidates.{AreCandidatesOf, CanList, IsChosenBy, ListsGathered}
-use Rattle.shop_states.specs.inner.Candidates.{told_at}
+use Rattle.shop_states.specs.inner.Candidates.{AreCandidatesOf, CanList, IsChosenBy, ListsGathered, told_at}
 use Rattle.shop_states.specs.inner.LaneChoices.{AreNextPlaced, IsJobBelow}
 use Rattle.shop_states.specs.inner.LaneStates.{IsKeptInLanes}
 use Rattle.shop_states.specs.inner.Raises.{IsInBlocks}
@@ -24,8 +21,7 @@ use Rattle.shop_states.proofs.OwnSpans.{CanTell, alone, can_tell, told, told_all
 module _ {greatest : ℕ} {shop : Shop} {w : List ℕ} {l : LayoutState} {heads ends nexts : List ℕ}
     (kept : IsKeptInLanes greatest shop w l (rows_of l heads ends) nexts) where
   pub placed : AreNextPlaced l heads nexts
-  placed = next_placed shop (placing shop w) l nexts (rows_of l heads ends)
-      (choosable greatest shop w l heads ends nexts kept).at
+  placed = next_placed (choosable kept).at
 
   module _ {job machine end : ℕ} (chosen : IsChosenBy greatest shop w l heads nexts job machine end)
       {from behind : ℕ} (from_is : from ≡ get_or l.blocks machine 0)
@@ -47,13 +43,12 @@ module _ {greatest : ℕ} {shop : Shop} {w : List ℕ} {l : LayoutState} {heads 
         in let within = chosen.blocks.within
         in let is = alone_with l nexts (rows_of l heads ends) placed from to end job (omega arith) (omega arith)
         chosen.known nothing
-        in alone greatest shop w l heads ends nexts kept (job ∷ [])
+        in alone kept
         (set_is (job ∷ []) (subst (λ (x : ℕ). IsGatheredWith job (IsJobBelow l heads (IsInBlocks from x) end)
         (job ∷ [])) whole is)) limit job refl cs are
 
     pub tells : CanTell greatest (rows_of l heads ends) nexts job from behind
-    tells = can_tell greatest shop w l heads ends nexts kept (conflict shop w) refl job chosen.has machine
-        chosen.machine_is from behind from_is behind_is
+    tells = can_tell kept refl job chosen.has chosen.machine_is from_is behind_is
 
     -- it can be listed
     pub can_list : {to : ℕ} → from ≤ to → to ≤ behind → get_or nexts job 0 < 2 ^ 64 → {count : ℕ}
@@ -70,8 +65,7 @@ module _ {greatest : ℕ} {shop : Shop} {w : List ℕ} {l : LayoutState} {heads 
           placed = placed;
           few = (let few = kept.kept.limits.jobs in let jobs = kept.are_next.jobs in omega arith);
           known = chosen.known;
-          told = λ js is. told_all greatest shop w l heads ends nexts kept js (set_is js is) job chosen.has machine
-              chosen.machine_is from behind from_is behind_is count many;
+          told = λ js is. told_all kept (set_is js is) job chosen.has chosen.machine_is from_is behind_is count many;
         }
 
     pub all_told : (owns : List ℕ) → AreOwnSpans heads l.times l.tails from behind owns
@@ -80,5 +74,5 @@ module _ {greatest : ℕ} {shop : Shop} {w : List ℕ} {l : LayoutState} {heads 
         (IsGatheredWith job (IsJobBelow l heads (IsInBlocks from behind) end)) cs others
         → AreCandidatesOf shop w l limit cs others
     all_told owns spans {limit} {cs} {others} are =
-        told greatest shop w l heads ends nexts kept are.jobs (set_is are.jobs are.gathered) job chosen.has machine
-        chosen.machine_is from behind from_is behind_is owns spans limit cs others are.listed
+        told kept (set_is are.jobs are.gathered) job chosen.has chosen.machine_is from_is behind_is owns spans limit cs
+        others are.listed

@@ -11,8 +11,7 @@ use Rattle.shop_model.specs.Word.{Placing, placing}
 use Rattle.shop_model.proofs.Ends.{IsOperation-job}
 use Rattle.shop_bound.specs.Heads.{ready_after, head_of}
 use Rattle.shop_model.specs.Placements.{PlacementState, IsPlacement}
-use Rattle.shop_states.specs.inner.Fills.{IsStored, CanFill, AreSameBeside}
-use Rattle.shop_states.specs.inner.Fills.{HasFilledJob, HasFilled}
+use Rattle.shop_states.specs.inner.Fills.{IsStored, CanFill, AreSameBeside, HasFilledJob, HasFilled}
 use Rattle.shop_layout.specs.Positions.{IsFree, LayoutState, place}
 use Rattle.shop_bound.specs.inner.PlacedWords.{IsOfWord}
 use Rattle.shop_layout.proofs.LaidPlaces.{place_of}

@@ -48,7 +48,7 @@ module _ {greatest : ℕ} {shop : Shop} {l : LayoutState} (is : IsReady greatest
       fits = heads_fit greatest shop l is.limits is.holds;
       computable = is.computable;
       heads = has.filled rested (placing shop w)
-          (placement_is shop is.limits l is.laid w word nexts ready free at);
+          (placement_is is.limits is.laid w word at);
     }
 
     as_many : length es'' ≡ length shop.jobs
@@ -61,7 +61,7 @@ module _ {greatest : ℕ} {shop : Shop} {l : LayoutState} (is : IsReady greatest
 
     pub filled_keep : CanKeepEnds greatest read nexts (rows_of read hs'' es'')
     filled_keep = subst (λ (x : LayoutState). CanKeepEnds greatest x nexts (rows_of x hs'' es'')) (sym same)
-        (can_keep greatest shop w l (rows_of l hs'' es'') now nexts at.are_next as_many)
+        (can_keep now at.are_next as_many)
 
     module _ {hs3 es3 : List ℕ} (beside : HasEnds (rows_of read hs'' es'') (rows_of read hs3 es3))
         (ends : AreEndsOf greatest nexts (rows_of read hs3 es3)) where
@@ -69,14 +69,14 @@ module _ {greatest : ℕ} {shop : Shop} {l : LayoutState} (is : IsReady greatest
       ended = subst (λ (x : LayoutState). HasEnds (rows_of x hs'' es'') (rows_of x hs3 es3)) same beside
 
       kept : AreHeadsInLanes greatest shop w l (rows_of l hs3 es3)
-      kept = with_ends greatest shop w l (rows_of l hs'' es'') (rows_of l hs3 es3) ended now
+      kept = with_ends ended now
 
       pub filled_kept : IsKeptInLanes greatest shop w l (rows_of l hs3 es3) nexts
       filled_kept = record {
         kept = kept;
         are_next = at.are_next;
-        ends = ends_at greatest shop w l (rows_of l hs3 es3) kept nexts at.are_next (ended.ends ∙ as_many)
-            is.holds (subst (λ (x : LayoutState). AreEndsOf greatest nexts (rows_of x hs3 es3)) same ends);
+        ends = ends_at kept at.are_next (ended.ends ∙ as_many) is.holds (subst (λ (x : LayoutState). AreEndsOf greatest
+            nexts (rows_of x hs3 es3)) same ends);
         holds = is.holds;
         sole = sole_keeps_bound shop is.limits is.laid.slots is.laid.are w word;
       }

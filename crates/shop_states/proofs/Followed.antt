@@ -1,6 +1,5 @@
 -- The position of a step of a route, or the number of all positions.
-use Rattle.std.proofs.Common.{◌≡◌, ℕ, ◌+◌, ◌-◌, ◌≤◌, ◌<◌, inl, inr, refl, ap, arith, cond, ltb}
-use Rattle.std.proofs.Common.{get_or}
+use Rattle.std.proofs.Common.{◌≡◌, ℕ, ◌+◌, ◌-◌, ◌≤◌, ◌<◌, inl, inr, refl, ap, arith, cond, ltb, get_or}
 use Rattle.std.proofs.lemmas.Bool.{cases_lt, lt-ltb, le-ltb}
 use Rattle.shop_layout.specs.Positions.{place_or, LayoutState, place}
 use Rattle.shop_states.specs.inner.Raises.{steps_of, IsIndexed}

@@ -1,6 +1,5 @@
 -- Heads of a word fit into lanes that hold the loads of all machines.
-use Rattle.std.proofs.Common.{ℕ}
-use Rattle.std.proofs.Common.{arith}
+use Rattle.std.proofs.Common.{ℕ, arith}
 use Rattle.shop_model.specs.Limits.{IsWithinLimits}
 use Rattle.shop_model.specs.Shop.{Shop}
 use Rattle.shop_layout.specs.HeadLimits.{FitsLanes}

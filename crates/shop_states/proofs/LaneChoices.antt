@@ -1,64 +1,18 @@
 -- The choice among next operations by lanes.
-use Rattle.std.proofs.Common.{◌≡◌, ℕ, ◌+◌, ◌*◌, ◌-◌, ◌≤◌, ◌<◌, ◌⊎◌, inl, inr}
-use Rattle.std.proofs.Common.{List, [], ◌∷◌, length, get_or, take, drop, refl, sym, ◌∙◌, ap, subst}
+use Rattle.std.proofs.Common.{◌≡◌, ℕ, ◌*◌, ◌≤◌, ◌<◌, ◌⊎◌, inl, inr, List, [], ◌∷◌, length, get_or, refl, sym, ◌∙◌, ap}
+use Rattle.std.proofs.Common.{subst, arith}
 use Rattle.std.specs.List.{All, AllByRecursion}
 use Rattle.std.proofs.lemmas.List.Elements.{recursion_from_All}
-use Rattle.std.proofs.Common.{arith, ltb}
-use Rattle.std.proofs.lemmas.Bool.{cases_lt, and_from, and_parts, lt-ltb, ltb-true}
-use Rattle.std.proofs.lemmas.List.{get_or_past, get_or-take, get_or-drop, length-take-le}
-use Rattle.std.proofs.lemmas.List.{length-drop}
+use Rattle.std.proofs.lemmas.Bool.{cases_lt}
+use Rattle.std.proofs.lemmas.List.{get_or_past}
 use Rattle.shop_lanes.specs.Rows.{Rows}
-use Rattle.shop_lanes.specs.Marks.{marked, waits_below, positions_below}
+use Rattle.shop_lanes.specs.Marks.{positions_below}
 use Rattle.shop_layout.specs.Positions.{LayoutState}
 use Rattle.shop_states.specs.inner.LaneChoices.{AreNextPlaced, IsJobBelow}
 use Rattle.shop_states.specs.inner.Raises.{IsInBlocks}
 use Rattle.shop_states.specs.inner.JobSets.{HasPut}
 use Rattle.shop_states.specs.inner.RisingLists.{IsIn, Rises, HasGathered, IsGatheredWith}
-use Rattle.shop_states.proofs.RaiseLoops.{marked_in, marked_out}
-
--- the positions of some blocks at which something waits below a limit
-pub record IsBelow (heads : List ℕ) (from to limit q : ℕ) : Type 0 where
-  pub there : IsInBlocks from to q
-  pub waits : 0 < get_or heads q 0
-  pub below : get_or heads q 0 < limit
-
-module _ (rows : Rows) (from to limit : ℕ) (ordered : from ≤ to) (within : 8 * to ≤ length rows.heads) where
-  abbrev part : List ℕ
-  part = take (8 * to - 8 * from) (drop (8 * from) rows.heads)
-
-  part_long : length part ≡ 8 * to - 8 * from
-  part_long = length-take-le (8 * to - 8 * from) (drop (8 * from) rows.heads)
-      (omega (arith, length-drop (8 * from) rows.heads))
-
-  part_at : (i : ℕ) → i < 8 * to - 8 * from → get_or part i 0 ≡ get_or rows.heads (8 * from + i) 0
-  part_at i below = get_or-take (8 * to - 8 * from) (drop (8 * from) rows.heads) i 0 below
-      ∙ get_or-drop (8 * from) rows.heads i 0
-
-  pub below_is_in : (q : ℕ) → IsBelow rows.heads from to limit q → IsIn (positions_below rows from to limit) q
-  below_is_in q is =
-      let i = q - 8 * from
-      in let a = is.there.0 in let b = is.there.1
-      in let e_q : 8 * from + i ≡ q = omega arith
-      in let same = part_at i (omega arith) ∙ ap (λ (x : ℕ). get_or rows.heads x 0) e_q
-      in let waits = is.waits in let below = is.below
-      in let long = part_long
-      in subst (IsIn (marked (waits_below limit) (8 * from) part)) e_q
-      (marked_in (waits_below limit) (8 * from) part i (omega arith)
-      (and_from (ltb 0 (get_or part i 0)) (ltb (get_or part i 0) limit) (lt-ltb 0 (get_or part i 0) (omega arith))
-      (lt-ltb (get_or part i 0) limit (omega arith))))
-
-  pub in_is_below : (q : ℕ) → IsIn (positions_below rows from to limit) q → IsBelow rows.heads from to limit q
-  in_is_below q h =
-      let m = marked_out (waits_below limit) (8 * from) part q h
-      in let i = m.0
-      in let below = m.1
-      in let q_is = m.2
-      in let long = part_long
-      in let same = part_at i (omega arith) ∙ ap (λ (x : ℕ). get_or rows.heads x 0) (sym q_is)
-      in let parts = and_parts (ltb 0 (get_or part i 0)) (ltb (get_or part i 0) limit) m.3
-      in let some = ltb-true 0 (get_or part i 0) parts.0
-      in let under = ltb-true (get_or part i 0) limit parts.1
-      in record { there = (omega arith, omega arith); waits = omega arith; below = omega arith }
+use Rattle.shop_states.proofs.MarkedPositions.{IsBelow, below_is_in, in_is_below}
 
 -- what is gathered while some positions are still to come
 pub record AreGathering (l : LayoutState) (heads : List ℕ) (from to limit : ℕ) (todo old now : List ℕ) : Type 0
@@ -68,11 +22,11 @@ pub record AreGathering (l : LayoutState) (heads : List ℕ) (from to limit : �
     pub gathered : (q : ℕ) → IsBelow heads from to limit q → IsIn now (get_or l.jobs q 0) ⊎ IsIn todo q
     pub only : (j : ℕ) → IsIn now j → IsIn old j ⊎ IsJobBelow l heads (IsInBlocks from to) limit j
 
-module _ (l : LayoutState) (heads : List ℕ) (from to limit : ℕ) where
+module _ {l : LayoutState} {heads : List ℕ} {from to limit : ℕ} where
   pub gathering_begins : (rows : Rows) → rows.heads ≡ heads → from ≤ to → 8 * to ≤ length heads
-      → (todo old : List ℕ) → todo ≡ positions_below rows from to limit
+      → {todo old : List ℕ} → todo ≡ positions_below rows from to limit
       → AreGathering l heads from to limit todo old old
-  gathering_begins rows are ordered within todo old is =
+  gathering_begins rows are ordered within is =
       let high : 8 * to ≤ length rows.heads = (let a = ap (λ (xs : List ℕ). length xs) are in omega arith)
       in record {
         to_come = λ q h. subst (λ (xs : List ℕ). IsBelow xs from to limit q) are
@@ -84,9 +38,9 @@ module _ (l : LayoutState) (heads : List ℕ) (from to limit : ℕ) where
         only = λ j h. inl h;
       }
 
-  pub gathering_ends : (todo old now : List ℕ) → AreGathering l heads from to limit todo old now → todo ≡ []
+  pub gathering_ends : {todo old now : List ℕ} → AreGathering l heads from to limit todo old now → todo ≡ []
       → HasGathered (IsJobBelow l heads (IsInBlocks from to) limit) old now
-  gathering_ends todo old now are nothing = record {
+  gathering_ends {now} are nothing = record {
     kept = are.kept;
     gathered = λ j next. elim (are.gathered next.position
         (record { there = next.there; waits = next.waits; below = next.below })) [
@@ -96,8 +50,8 @@ module _ (l : LayoutState) (heads : List ℕ) (from to limit : ℕ) where
     only = are.only;
   }
 
-  module _ (todo old now : List ℕ) (so_far : AreGathering l heads from to limit todo old now) (q : ℕ)
-      (rest : List ℕ) (popped : todo ≡ q ∷ rest) where
+  module _ {todo old now : List ℕ} (so_far : AreGathering l heads from to limit todo old now) {q : ℕ}
+      {rest : List ℕ} (popped : todo ≡ q ∷ rest) where
     popped_below : IsBelow heads from to limit q
     popped_below = so_far.to_come q (subst (λ (xs : List ℕ). IsIn xs q) (sym popped) (inl refl))
 
@@ -108,9 +62,9 @@ module _ (l : LayoutState) (heads : List ℕ) (from to limit : ℕ) where
     ]
 
     -- its job is put in
-    pub gathering_on : (new : List ℕ) → HasPut (get_or l.jobs q 0) now new
+    pub gathering_on : {new : List ℕ} → HasPut (get_or l.jobs q 0) now new
         → AreGathering l heads from to limit rest old new
-    gathering_on new put = record {
+    gathering_on put = record {
       to_come = λ r h. so_far.to_come r (subst (λ (xs : List ℕ). IsIn xs r) (sym popped) (inr h));
       kept = λ j h. put.kept j (so_far.kept j h);
       gathered = λ r below. elim (so_far.gathered r below) [

@@ -1,7 +1,6 @@
 -- The conflict set as what is chosen and what is gathered by lanes.
-use Rattle.std.proofs.Common.{◌≡◌, ℕ, zero, suc, ◌+◌, ◌-◌, ◌≤◌, ◌<◌, max, ◌⊎◌, inl, inr, Bool, true}
-use Rattle.std.proofs.Common.{false, ◌||◌, List, [], ◌∷◌, length, get_or, refl, sym, ◌∙◌, ap}
-use Rattle.std.proofs.Common.{subst, arith, eqb, ltb}
+use Rattle.std.proofs.Common.{◌≡◌, ℕ, zero, suc, ◌+◌, ◌-◌, ◌≤◌, ◌<◌, max, ◌⊎◌, inl, inr, Bool, true, false, ◌||◌, List}
+use Rattle.std.proofs.Common.{[], ◌∷◌, length, get_or, refl, sym, ◌∙◌, ap, subst, arith, eqb, ltb}
 use Rattle.std.specs.List.{filter, range_with_len, best_of}
 use Rattle.std.proofs.lemmas.Bool.{cases_Bool, cases_eq, cases_lt, and_from, and_parts, lt-ltb}
 use Rattle.std.proofs.lemmas.Bool.{le-ltb, ltb-true, or_left, or_right, eq-eqb, eqb-true}
@@ -11,8 +10,7 @@ use Rattle.shop_lanes.specs.Rows.{Rows}
 use Rattle.shop_model.specs.Shop.{Shop, IsOperation, route_of, machine_of, time_of}
 use Rattle.shop_model.specs.Word.{Placing}
 use Rattle.shop_model.proofs.Ends.{IsOperation-job}
-use Rattle.shop_bound.specs.Conflicts.{open_jobs, next_machine, next_head, next_end, conflicts_with}
-use Rattle.shop_bound.specs.Conflicts.{conflict_among}
+use Rattle.shop_bound.specs.Conflicts.{open_jobs, next_machine, next_head, next_end, conflicts_with, conflict_among}
 use Rattle.shop_bound.specs.Heads.{head_of, ready_after}
 use Rattle.shop_states.specs.inner.LaneChoices.{AreChoosable, AreNextsAt, IsJobBelow}
 use Rattle.shop_layout.specs.Positions.{LayoutState, place, first_position}
@@ -154,7 +152,7 @@ gathered_as j P Q to back js is = record {
   rises = is.rises;
 }
 
-module _ (shop : Shop) (p : Placing) (l : LayoutState) (nexts : List ℕ) (rows : Rows)
+module _ {shop : Shop} {p : Placing} {l : LayoutState} {nexts : List ℕ} {rows : Rows}
     (can : AreNextsAt shop p l nexts rows) where
   -- what waits below the least end of next operations is one
   module _ (limit : ℕ) (least : (i : ℕ) → IsOperation shop i (p.steps i) → limit ≤ next_end shop p i + 1) where
@@ -175,7 +173,7 @@ module _ (shop : Shop) (p : Placing) (l : LayoutState) (nexts : List ℕ) (rows 
                   | inr same ↦ (let e : o.step ≡ p.steps o.job = omega arith
                       in let op = subst (IsOperation shop o.job) e o.is
                       in subst (λ (j : ℕ). IsOperation shop j (p.steps j) × (get_or nexts j 0 ≡ q)) job
-                      (op, next_there shop p l nexts rows can o.job op ∙ (ap (place l o.job) (sym e) ∙ at)))
+                      (op, next_there can o.job op ∙ (ap (place l o.job) (sym e) ∙ at)))
                 ])
           ])
       | inr free ↦ absurd (let a = can.heads.padding q free in omega arith)
@@ -210,11 +208,11 @@ module _ (shop : Shop) (p : Placing) (l : LayoutState) (nexts : List ℕ) (rows 
           there = is.there;
           waits = is.waits;
           below = is.below;
-          job = (next_placed shop p l nexts rows can).own j is.job here;
+          job = (next_placed can).own j is.job here;
         }
 
   module _ (r : ℕ) (op : IsOperation shop r (p.steps r)) where
-    module _ (m limit : ℕ) (on : m ≡ machine_of shop r (p.steps r)) (end : limit ≡ next_end shop p r + 1) where
+    module _ {m limit : ℕ} (on : m ≡ machine_of shop r (p.steps r)) (end : limit ≡ next_end shop p r + 1) where
       abbrev pub Below : ℕ → Type 0
       Below = IsNextBelow nexts rows.heads (IsOnMachine l m) limit
 
@@ -228,14 +226,14 @@ module _ (shop : Shop) (p : Placing) (l : LayoutState) (nexts : List ℕ) (rows 
             | inr past ↦ absurd (let a = next.waits in let b = get_or_past rows.heads (get_or nexts i 0) 0 past
                 in omega arith)
           ]
-          in let o = next_is shop p l nexts rows can i (omega arith) here
-          in let at = next_there shop p l nexts rows can i o
+          in let o = next_is can i (omega arith) here
+          in let at = next_there can i o
           in let there = next.there
           in let low = there.0 in let high = there.1
           in let machines = can.limits.on_machines r (p.steps r)
           in let machine = on_machine shop can.limits l can.laid m i (p.steps i) (omega arith) o (omega arith)
           (omega arith)
-          in let head = stored_head shop p l nexts rows can i o
+          in let head = stored_head can i o
           in let under = next.below
           in (
             o,
@@ -250,9 +248,9 @@ module _ (shop : Shop) (p : Placing) (l : LayoutState) (nexts : List ℕ) (rows 
           → next_head shop p i < next_end shop p r → Below i
       below_from i o machine lt =
           let known = IsOperation-job shop i (p.steps i) o
-          in let at = next_there shop p l nexts rows can i o
+          in let at = next_there can i o
           in let many = can.are.jobs
-          in let head = stored_head shop p l nexts rows can i o
+          in let head = stored_head can i o
           in let stands = place_of shop can.limits l can.laid i (p.steps i) o
           in let its : machine_of shop i (p.steps i) ≡ m = machine ∙ sym on
           in let first : first_position l (machine_of shop i (p.steps i)) ≡ first_position l m = ap (first_position l)
@@ -290,7 +288,7 @@ module _ (shop : Shop) (p : Placing) (l : LayoutState) (nexts : List ℕ) (rows 
                 (ltb-true (next_head shop p q) (next_end shop p r) parts.1)))
           ])
 
-module _ (greatest : ℕ) (shop : Shop) (p : Placing) (l : LayoutState) (nexts : List ℕ) (rows : Rows)
+module _ {greatest : ℕ} {shop : Shop} {p : Placing} {l : LayoutState} {nexts : List ℕ} {rows : Rows}
     (can : AreChoosable greatest shop p l nexts rows) where
   -- as many positions as heads
   followings : length l.following ≡ length rows.heads
@@ -302,15 +300,15 @@ module _ (greatest : ℕ) (shop : Shop) (p : Placing) (l : LayoutState) (nexts :
 
     none_left : (n : ℕ) → n ≡ length l.following → n ≤ get_or nexts r 0 → length (route_of shop r) ≤ p.steps r
     none_left n many past = elim (cases_lt (p.steps r) (length (route_of shop r))) [
-      | inl op ↦ absurd (let at = next_there shop p l nexts rows can.at r op
+      | inl op ↦ absurd (let at = next_there can.at r op
           in let a = (place_of shop can.at.limits l can.at.laid r (p.steps r) op).within
           in let b = can.at.heads.positions in let d = followings in omega arith)
       | inr done ↦ done
     ]
 
-    pub none_open : (n : ℕ) → n ≡ length l.following → n ≤ get_or nexts r 0
+    pub none_open : {n : ℕ} → n ≡ length l.following → n ≤ get_or nexts r 0
         → [] ≡ conflict_among shop p (open_jobs shop p)
-    none_open n many past = sym (ap (conflict_among shop p) (none_in (open_jobs shop p) (λ i h.
+    none_open {n} many past = sym (ap (conflict_among shop p) (none_in (open_jobs shop p) (λ i h.
         let o = open_is shop p i h
         in let a = is.least i (let b = can.ends.jobs in let d = o.0 in omega arith)
         in let b = can.ends.next i o.1
@@ -326,13 +324,13 @@ module _ (greatest : ℕ) (shop : Shop) (p : Placing) (l : LayoutState) (nexts :
       pub end : get_or rows.heads position 0 + get_or rows.times position 0 ≡ next_end shop p r + 1
       pub fits : next_end shop p r + 1 < greatest
 
-    pub chosen_at : (n : ℕ) → n ≡ length l.following → get_or nexts r 0 < n
+    pub chosen_at : {n : ℕ} → n ≡ length l.following → get_or nexts r 0 < n
         → IsChosenAt (get_or nexts r 0) (get_or l.machines (get_or nexts r 0) 0)
-    chosen_at n many below =
+    chosen_at many below =
         let position = get_or nexts r 0
         in let here : position < length rows.heads = (let a = followings in omega arith)
-        in let op = next_is shop p l nexts rows can.at r chosen_job here
-        in let at : position ≡ place l r (p.steps r) = next_there shop p l nexts rows can.at r op
+        in let op = next_is can.at r chosen_job here
+        in let at : position ≡ place l r (p.steps r) = next_there can.at r op
         in let stands = place_of shop can.at.limits l can.at.laid r (p.steps r) op
         in let from = stands.from in let to = stands.to
         in let known = can.at.limits.on_machines r (p.steps r)
@@ -340,12 +338,12 @@ module _ (greatest : ℕ) (shop : Shop) (p : Placing) (l : LayoutState) (nexts :
         ap (λ (x : ℕ). get_or l.machines x 0) at
         ∙ can.at.laid.machines_at.at (machine_of shop r (p.steps r)) (place l r (p.steps r)) known (omega arith)
         (omega arith)
-        in let end = stored_end shop p l nexts rows can.at r op
+        in let end = stored_end can.at r op
         in record {
           operation = op;
           machine_is = machine;
-          blocks = has_blocks shop can.at.limits l can.at.laid (length rows.heads) (get_or l.machines position 0)
-              can.at.heads.positions (omega arith);
+          blocks = has_blocks can.at.limits can.at.laid (get_or l.machines position 0) can.at.heads.positions (omega
+              arith);
           within = here;
           end = end;
           fits = can.ends.fits r op;
@@ -369,17 +367,15 @@ module _ (greatest : ℕ) (shop : Shop) (p : Placing) (l : LayoutState) (nexts :
           (filter_in (conflicts_with shop p r) (open_jobs shop p) r (is_open shop p r op)
           (or_left (eqb r r) _ (eq-eqb r r refl)))
 
-      pub is_conflict : (m limit : ℕ) → m ≡ machine_of shop r (p.steps r) → limit ≡ next_end shop p r + 1
+      pub is_conflict : {m limit : ℕ} → m ≡ machine_of shop r (p.steps r) → limit ≡ next_end shop p r + 1
           → (js : List ℕ) → IsGatheredWith r (IsJobBelow l rows.heads (IsOnMachine l m) limit) js
           → js ≡ conflict_among shop p (open_jobs shop p)
-      is_conflict m limit on end js is =
+      is_conflict {m} {limit} on end js is =
           let least : (i : ℕ) → IsOperation shop i (p.steps i) → limit ≤ next_end shop p i + 1 = (λ i o.
           let known = IsOperation-job shop i (p.steps i) o
           in let a = least_end.least i (let b = can.ends.jobs in omega arith)
           in let b = can.ends.next i o in let d = can.ends.next r op in omega arith)
-          in are_conflicting shop p l nexts rows can.at r op m limit on end js
-          (gathered_as r (IsJobBelow l rows.heads (IsOnMachine l m) limit)
-          (IsNextBelow nexts rows.heads (IsOnMachine l m) limit)
-          (to_next shop p l nexts rows can.at limit least (IsOnMachine l m))
-          (from_next shop p l nexts rows can.at limit least (IsOnMachine l m)) js is)
+          in are_conflicting can.at r op on end js (gathered_as r (IsJobBelow l rows.heads (IsOnMachine l m) limit)
+          (IsNextBelow nexts rows.heads (IsOnMachine l m) limit) (to_next can.at limit least (IsOnMachine l m))
+          (from_next can.at limit least (IsOnMachine l m)) js is)
           ∙ sym chosen_is

@@ -1,6 +1,5 @@
 -- The ends of next operations are kept up in lanes.
-use Rattle.std.proofs.Common.{◌≡◌, ℕ, ◌+◌, ◌<◌, inl, inr, List, length, get_or, refl}
-use Rattle.std.proofs.Common.{sym, ◌∙◌, ap, subst, arith}
+use Rattle.std.proofs.Common.{◌≡◌, ℕ, ◌+◌, ◌<◌, inl, inr, List, length, get_or, refl, sym, ◌∙◌, ap, subst, arith}
 use Rattle.std.proofs.lemmas.Bool.{cases_lt, lt-ltb, le-ltb}
 use Rattle.std.proofs.lemmas.Grind.{get_or-set_at}
 use Rattle.std.proofs.lemmas.List.{get_or-set_other, length-set}
@@ -23,9 +22,9 @@ use Rattle.shop_states.proofs.NextOperations.{head_first, next_is, next_past, ne
 use Rattle.shop_states.proofs.NextOperations.{next_within, stored_end}
 
 -- one more end is set
-module _ (greatest : ℕ) (l : LayoutState) (nexts : List ℕ) (old : Rows) (keep : CanKeepEnds greatest l nexts old)
-    (now : Rows) (beside : HasEnds old now) where
-  module _ (job : ℕ) (known : job < length nexts) (new : Rows)
+module _ {greatest : ℕ} {l : LayoutState} {nexts : List ℕ} {old : Rows} (keep : CanKeepEnds greatest l nexts old)
+    {now : Rows} (beside : HasEnds old now) where
+  module _ {job : ℕ} (known : job < length nexts) {new : Rows}
       (wrote : new ≡ with_end now job (end_at greatest nexts now job)) where
     pub beside_more : HasEnds old new
     beside_more = record {
@@ -49,89 +48,88 @@ module _ (greatest : ℕ) (l : LayoutState) (nexts : List ℕ) (old : Rows) (kee
     end_other j ne is = ap (λ (r : Rows). get_or r.ends j 0) wrote
         ∙ (get_or-set_other now.ends job j (end_at greatest nexts now job) 0 ne ∙ (is ∙ sym (same_at j)))
 
-module _ (greatest : ℕ) (shop : Shop) (w : List ℕ) (l : LayoutState) (rows : Rows)
-    (kept : AreHeadsInLanes greatest shop w l rows) (nexts : List ℕ) (are : AreNextsOf shop (placing shop w) l nexts)
-  where
-    abbrev p : Placing
-    p = placing shop w
+module _ {greatest : ℕ} {shop : Shop} {w : List ℕ} {l : LayoutState} {rows : Rows}
+    (kept : AreHeadsInLanes greatest shop w l rows) {nexts : List ℕ}
+    (are : AreNextsOf shop (placing shop w) l nexts) where
+  abbrev p : Placing
+  p = placing shop w
 
-    pub nexts_at : AreNextsAt shop (placing shop w) l nexts rows
-    nexts_at =
-        record { laid = kept.laid; limits = kept.limits; are = are; heads = kept.heads; times = kept.times }
+  pub nexts_at : AreNextsAt shop (placing shop w) l nexts rows
+  nexts_at =
+      record { laid = kept.laid; limits = kept.limits; are = are; heads = kept.heads; times = kept.times }
 
-    -- what stands before a next operation on its route is placed
-    pub next_first : AreFirst l nexts rows.heads
-    next_first = record {
-      own = (next_placed shop p l nexts rows nexts_at).own;
-      first = λ j i k known more at.
-          let ix = indexed shop kept.limits l kept.laid (length rows.heads) kept.heads.positions
-          in let many = are.jobs
-          in let a = place_within l (length rows.heads) ix i (k + 1) more
-          in let op = next_is shop p l nexts rows nexts_at j (omega arith) (omega arith)
-          in let route = kept.laid.routes j
-          in let same = apart l (length rows.heads) ix i (k + 1) j (p.steps j) more (omega arith)
-          (at ∙ next_there shop p l nexts rows nexts_at j op)
-          in let steps : p.steps i ≡ p.steps j = ap p.steps same.0
-          in let b = same.1
-          in let its = kept.laid.routes i
-          in kept.heads.placed i k (omega arith) (omega arith);
+  -- what stands before a next operation on its route is placed
+  pub next_first : AreFirst l nexts rows.heads
+  next_first = record {
+    own = (next_placed nexts_at).own;
+    first = λ j i k known more at.
+        let ix = indexed kept.limits kept.laid kept.heads.positions
+        in let many = are.jobs
+        in let a = place_within ix i (k + 1) more
+        in let op = next_is nexts_at j (omega arith) (omega arith)
+        in let route = kept.laid.routes j
+        in let same = apart ix i (k + 1) j (p.steps j) more (omega arith) (at ∙ next_there nexts_at j op)
+        in let steps : p.steps i ≡ p.steps j = ap p.steps same.0
+        in let b = same.1
+        in let its = kept.laid.routes i
+        in kept.heads.placed i k (omega arith) (omega arith);
+  }
+
+  next_fits : (j : ℕ) → IsOperation shop j (p.steps j) → next_end shop p j < greatest
+  next_fits j op =
+      let head = head_first shop p j in let fits = kept.fits w kept.word j (p.steps j) op (omega arith) in omega arith
+
+  module _ (as_many : length rows.ends ≡ length shop.jobs) where
+    pub can_keep : CanKeepEnds greatest l nexts rows
+    can_keep = record {
+      placed = next_placed nexts_at;
+      positions = kept.laid.positions.following ∙ sym kept.heads.positions;
+      ends = as_many ∙ sym are.jobs;
+      fits = λ j known. elim (cases_lt (get_or nexts j 0) (length rows.heads)) [
+        | inl lt ↦ (let many = are.jobs
+            in let op = next_is nexts_at j (omega arith) lt
+            in let a = stored_end nexts_at j op in let b = next_fits j op
+            in rw (lt-ltb (get_or nexts j 0) (length rows.heads) lt) (omega arith))
+        | inr ge ↦ rw (le-ltb (get_or nexts j 0) (length rows.heads) ge) (omega arith)
+      ];
+      computable = kept.computable;
     }
 
-    next_fits : (j : ℕ) → IsOperation shop j (p.steps j) → next_end shop p j < greatest
-    next_fits j op =
-        let head = head_first shop p j in let fits = kept.fits w kept.word j (p.steps j) op (omega arith) in omega arith
+    -- the ends of the placing, by the lists that stand for it, and back
+    pub ends_of : AreEndsAt greatest shop p rows.ends → AreEndsOf greatest nexts rows
+    ends_of ends j known =
+        let here : j < length shop.jobs = (let a = are.jobs in omega arith)
+        in elim (cases_lt (p.steps j) (length (route_of shop j))) [
+          | inl op ↦ ends.next j op
+              ∙ sym (rw (lt-ltb (get_or nexts j 0) (length rows.heads)
+              (next_within nexts_at j op)) (stored_end nexts_at j op))
+          | inr past ↦ ends.none j here past
+              ∙ sym (rw (le-ltb (get_or nexts j 0) (length rows.heads)
+              (next_past nexts_at j here past)) refl)
+        ]
 
-    module _ (as_many : length rows.ends ≡ length shop.jobs) where
-      pub can_keep : CanKeepEnds greatest l nexts rows
-      can_keep = record {
-        placed = next_placed shop p l nexts rows nexts_at;
-        positions = kept.laid.positions.following ∙ sym kept.heads.positions;
-        ends = as_many ∙ sym are.jobs;
-        fits = λ j known. elim (cases_lt (get_or nexts j 0) (length rows.heads)) [
-          | inl lt ↦ (let many = are.jobs
-              in let op = next_is shop p l nexts rows nexts_at j (omega arith) lt
-              in let a = stored_end shop p l nexts rows nexts_at j op in let b = next_fits j op
-              in rw (lt-ltb (get_or nexts j 0) (length rows.heads) lt) (omega arith))
-          | inr ge ↦ rw (le-ltb (get_or nexts j 0) (length rows.heads) ge) (omega arith)
-        ];
-        computable = kept.computable;
-      }
-
-      -- the ends of the placing, by the lists that stand for it, and back
-      pub ends_of : AreEndsAt greatest shop p rows.ends → AreEndsOf greatest nexts rows
-      ends_of ends j known =
-          let here : j < length shop.jobs = (let a = are.jobs in omega arith)
-          in elim (cases_lt (p.steps j) (length (route_of shop j))) [
-            | inl op ↦ ends.next j op
-                ∙ sym (rw (lt-ltb (get_or nexts j 0) (length rows.heads)
-                (next_within shop p l nexts rows nexts_at j op)) (stored_end shop p l nexts rows nexts_at j op))
-            | inr past ↦ ends.none j here past
-                ∙ sym (rw (le-ltb (get_or nexts j 0) (length rows.heads)
-                (next_past shop p l nexts rows nexts_at j here past)) refl)
-          ]
-
-      -- if no end is the greatest number
-      pub ends_at : FitsLanes greatest shop l → AreEndsOf greatest nexts rows → AreEndsAt greatest shop p rows.ends
-      ends_at holds ends = record {
-        jobs = as_many;
-        next = λ j op. (
-            let known = IsOperation-job shop j (p.steps j) op
-            in ends j (let a = are.jobs in omega arith)
-            ∙ (rw (lt-ltb (get_or nexts j 0) (length rows.heads) (next_within shop p l nexts rows nexts_at j op))
-            (stored_end shop p l nexts rows nexts_at j op)));
-        none = λ j known past. ends j (let a = are.jobs in omega arith)
-            ∙ (rw (le-ltb (get_or nexts j 0) (length rows.heads)
-            (next_past shop p l nexts rows nexts_at j known past)) refl);
-        fits = λ j op. (
-            let head = head_first shop p j
-            in let latest = latest_end_is shop w kept.word j (p.steps j) op (omega arith)
-            in let fits = holds 0 (let some = kept.limits.some_machine in omega arith) in omega arith);
-      }
+    -- if no end is the greatest number
+    pub ends_at : FitsLanes greatest shop l → AreEndsOf greatest nexts rows → AreEndsAt greatest shop p rows.ends
+    ends_at holds ends = record {
+      jobs = as_many;
+      next = λ j op. (
+          let known = IsOperation-job shop j (p.steps j) op
+          in ends j (let a = are.jobs in omega arith)
+          ∙ (rw (lt-ltb (get_or nexts j 0) (length rows.heads) (next_within nexts_at j op))
+          (stored_end nexts_at j op)));
+      none = λ j known past. ends j (let a = are.jobs in omega arith)
+          ∙ (rw (le-ltb (get_or nexts j 0) (length rows.heads)
+          (next_past nexts_at j known past)) refl);
+      fits = λ j op. (
+          let head = head_first shop p j
+          in let latest = latest_end_is shop w kept.word j (p.steps j) op (omega arith)
+          in let fits = holds 0 (let some = kept.limits.some_machine in omega arith) in omega arith);
+    }
 
 -- the ends alone differ
-pub with_ends : (greatest : ℕ) (shop : Shop) (w : List ℕ) (l : LayoutState) (old new : Rows) → HasEnds old new
+pub with_ends : {greatest : ℕ} {shop : Shop} {w : List ℕ} {l : LayoutState} {old new : Rows} → HasEnds old new
     → AreHeadsInLanes greatest shop w l old → AreHeadsInLanes greatest shop w l new
-with_ends greatest shop w l old new beside kept = record {
+with_ends {shop} {w} {l} beside kept = record {
   limits = kept.limits;
   word = kept.word;
   laid = kept.laid;

@@ -1,6 +1,5 @@
 -- Where lanes hold the loads of all machines, they hold the spans of any word.
-use Rattle.std.proofs.Common.{◌≡◌, ℕ, ◌+◌, ◌-◌, ◌*◌, ◌≤◌, ◌<◌, List, []}
-use Rattle.std.proofs.Common.{◌∷◌, length, get_or, refl, sym, ◌∙◌, ap, arith}
+use Rattle.std.proofs.Common.{◌≡◌, ℕ, ◌+◌, ◌-◌, ◌*◌, ◌≤◌, ◌<◌, List, [], ◌∷◌, length, get_or, refl, sym, ◌∙◌, ap, arith}
 use Rattle.std.specs.List.{sum_by}
 use Rattle.std.proofs.lemmas.List.Sums.{sum_by-cons}
 use Rattle.shop_lanes.specs.Rows.{Rows, Lane, lanes, blocks}
@@ -38,7 +37,7 @@ lanes_tails (h ∷ hs) (t ∷ ts) [] a b = absurd (omega arith)
 lanes_tails (h ∷ hs) (t ∷ ts) (q ∷ qs) a b =
     let rest = lanes_tails hs ts qs (omega arith) (omega arith) in omega arith
 
-module _ (shop : Shop) (limits : IsWithinLimits shop) (l : LayoutState) (laid : IsLaidOut shop l) where
+module _ {shop : Shop} (limits : IsWithinLimits shop) {l : LayoutState} (laid : IsLaidOut shop l) where
   within : (m : ℕ) → m < shop.machines → first_position l (m + 1) ≤ first_position l shop.machines
   within m known = machines_rise shop limits l laid (m + 1) shop.machines (omega arith) (omega arith)
 

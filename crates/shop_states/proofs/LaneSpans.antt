@@ -1,7 +1,6 @@
 -- Spans over lanes that stand for operations by nonincreasing tail: parts of their one-machine bound.
 use Rattle.std.proofs.Common.{◌≡◌, ℕ, zero, suc, ◌+◌, ◌-◌, ◌^◌, ◌≤◌, ◌<◌, max, ◌⊎◌, inl, inr, List, [], ◌∷◌, ◌++◌}
-use Rattle.std.proofs.Common.{length}
-use Rattle.std.proofs.Common.{sym, ap, subst, arith, leb, append_assoc}
+use Rattle.std.proofs.Common.{length, sym, ap, subst, arith, leb, append_assoc}
 use Rattle.std.specs.List.{filter, sum_by}
 use Rattle.std.proofs.lemmas.Bool.{cases_Bool, cases_lt, leb-true, le-leb}
 use Rattle.std.proofs.lemmas.List.Sums.{sum_by-cons}
@@ -10,8 +9,7 @@ use Rattle.shop_lanes.specs.Spans.{span, spans_from, spans_between}
 use Rattle.shop_states.proofs.SpanTurns.{span_served, span_left, spans_counted, spans_low, spans_high}
 use Rattle.shop_bound.specs.declared.triples.Triple.{Triple}
 use Rattle.shop_bound.specs.OneMachine.{one}
-use Rattle.shop_bound.specs.inner.NonincreasingTails.{one_between}
-use Rattle.shop_bound.specs.inner.NonincreasingTails.{IsNonincreasing}
+use Rattle.shop_bound.specs.inner.NonincreasingTails.{one_between, IsNonincreasing}
 use Rattle.shop_bound.specs.inner.Thresholds.{is_above, span_above, head_at}
 use Rattle.shop_bound.proofs.ThresholdLemmas.{span_above-some}
 use Rattle.shop_bound.proofs.NonincreasingTails.{times_from, times_from-more, times_from-less, within_in, tried_all}

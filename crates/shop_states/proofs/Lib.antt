@@ -12,7 +12,6 @@ pub mod RisingLists
 pub mod SpanTurns
 pub mod Watching
 pub mod AdvanceSteps
-pub mod AnySteps
 pub mod BoundsAfter
 pub mod Candidates
 pub mod ChildBounds
@@ -32,8 +31,8 @@ pub mod LaneSpans
 pub mod LeftSlots
 pub mod Listing
 pub mod LongerBeginnings
-pub mod LookAheads
 pub mod MachineLanes
+pub mod MarkedPositions
 pub mod NextOperations
 pub mod OwnSpans
 pub mod PlacedNexts

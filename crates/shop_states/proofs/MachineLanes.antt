@@ -12,7 +12,6 @@ use Rattle.shop_model.specs.Word.{Placing}
 use Rattle.shop_model.proofs.Ends.{IsOperation-job}
 use Rattle.shop_layout.specs.declared.slots.Slot.{Slot}
 use Rattle.shop_bound.specs.declared.triples.Triple.{Triple}
-use Rattle.shop_bound.specs.Heads.{head_of}
 use Rattle.shop_layout.specs.Slots.{slot_at}
 use Rattle.shop_states.specs.inner.LaneHeads.{AreHeadsAt, AreStored}
 use Rattle.shop_layout.specs.Positions.{LayoutState, IsLaidOut, place, first_position, position_at_rank}
@@ -54,7 +53,7 @@ lane_here (h ∷ hs) (t ∷ ts) (q ∷ qs) zero d a b lt = refl
 lane_here (h ∷ hs) (t ∷ ts) (q ∷ qs) (suc i) d a b lt =
     lane_here hs ts qs i d (omega arith) (omega arith) (omega arith)
 
-module _ (shop : Shop) (limits : IsWithinLimits shop) (l : LayoutState) (laid : IsLaidOut shop l) where
+module _ {shop : Shop} (limits : IsWithinLimits shop) {l : LayoutState} (laid : IsLaidOut shop l) where
   abbrev pub slots_of : ℕ → List Slot
   slots_of m = get_or laid.slots m []
 
@@ -99,7 +98,7 @@ module _ (shop : Shop) (limits : IsWithinLimits shop) (l : LayoutState) (laid : 
         ]
       ]
 
-  module _ (m : ℕ) (known : m < shop.machines) (p : Placing) (f : ℕ → ℕ → ℕ) (hs : List ℕ)
+  module _ (m : ℕ) (known : m < shop.machines) (p : Placing) {f : ℕ → ℕ → ℕ} {hs : List ℕ}
       (stored : AreStored shop p.steps f l hs) where
     pub machine_within : first_position l (m + 1) ≤ length hs
     machine_within =
@@ -185,5 +184,5 @@ module _ (shop : Shop) (limits : IsWithinLimits shop) (l : LayoutState) (laid : 
       → AreMatched IsLaneOf (left_for shop laid.slots p m)
       (lanes_of hs l.times l.tails (get_or l.blocks m 0) (get_or l.blocks (m + 1) 0))
   left_matched m known p hs heads =
-      lanes_matched m known p (head_of shop p) hs heads IsLaneOf
+      lanes_matched m known p heads IsLaneOf
       (λ s op on left. record { head = refl; time = refl; tail = refl })

@@ -1,6 +1,5 @@
 -- The next operations of a placing, where they stand in lanes.
-use Rattle.std.proofs.Common.{◌≡◌, ℕ, ◌+◌, ◌-◌, ◌≤◌, ◌<◌, max, inl, inr, List, length, get_or, sym}
-use Rattle.std.proofs.Common.{◌∙◌, ap, arith}
+use Rattle.std.proofs.Common.{◌≡◌, ℕ, ◌+◌, ◌-◌, ◌≤◌, ◌<◌, max, inl, inr, List, length, get_or, sym, ◌∙◌, ap, arith}
 use Rattle.std.proofs.lemmas.Bool.{cases_lt}
 use Rattle.shop_lanes.specs.Rows.{Rows}
 use Rattle.shop_model.specs.Shop.{Shop, IsOperation, machine_of, route_of, time_of}
@@ -18,7 +17,7 @@ pub head_first : (shop : Shop) (p : Placing) (j : ℕ) → head_of shop p j (p.s
 head_first shop p j = ap (λ (d : ℕ). max (ready_after shop p j d) (p.free (machine_of shop j (p.steps j))))
     (let e : p.steps j - p.steps j ≡ 0 = omega arith in e)
 
-module _ (shop : Shop) (p : Placing) (l : LayoutState) (nexts : List ℕ) (rows : Rows)
+module _ {shop : Shop} {p : Placing} {l : LayoutState} {nexts : List ℕ} {rows : Rows}
     (can : AreNextsAt shop p l nexts rows) where
   -- the next operation of a job, or none
   pub next_there : (j : ℕ) → IsOperation shop j (p.steps j) → get_or nexts j 0 ≡ place l j (p.steps j)

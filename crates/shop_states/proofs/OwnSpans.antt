@@ -1,7 +1,6 @@
 -- Own spans tell the bound after each candidate of a word.
-use Rattle.std.proofs.Common.{◌≡◌, ℕ, zero, suc, ◌+◌, ◌-◌, ◌*◌, ◌≤◌, ◌<◌, max, inl, inr, true, List}
-use Rattle.std.proofs.Common.{[], ◌∷◌, ◌++◌, length, get_or, drop, refl, sym, ◌∙◌, ap, subst, arith}
-use Rattle.std.proofs.Common.{eqb}
+use Rattle.std.proofs.Common.{◌≡◌, ℕ, zero, suc, ◌+◌, ◌-◌, ◌*◌, ◌≤◌, ◌<◌, max, inl, inr, true, List, [], ◌∷◌, ◌++◌}
+use Rattle.std.proofs.Common.{length, get_or, drop, refl, sym, ◌∙◌, ap, subst, arith, eqb}
 use Rattle.std.specs.List.{All}
 use Rattle.std.proofs.lemmas.Bool.{and_parts, cases_Bool, cases_lt, eqb-true}
 use Rattle.std.proofs.lemmas.Grind.{same_number_lists}
@@ -14,8 +13,7 @@ use Rattle.shop_model.specs.Limits.{IsWithinLimits}
 use Rattle.shop_model.specs.Shop.{Shop, machine_of}
 use Rattle.shop_model.specs.Word.{Placing, IsWord, placing}
 use Rattle.shop_bound.specs.Bound.{lb}
-use Rattle.shop_bound.specs.Conflicts.{chosen_of, conflict, conflict_among, conflicts_with}
-use Rattle.shop_bound.specs.Conflicts.{next_machine, open_jobs}
+use Rattle.shop_bound.specs.Conflicts.{chosen_of, conflict, conflict_among, conflicts_with, next_machine, open_jobs}
 use Rattle.shop_states.specs.inner.Advances.{IsAdvancing, foreseen}
 use Rattle.shop_states.specs.States.{ListsBelow, none, listed, closed}
 use Rattle.shop_states.specs.inner.Candidates.{AreCandidatesOf, IsCandidateOf, IsTold, ListsOwn, own_at}
@@ -37,8 +35,8 @@ use Rattle.shop_states.proofs.LaneFits.{spans_fit}
 use Rattle.shop_states.proofs.StateSteps.{next_at, next_known, within}
 
 -- heads of one placing are one list
-module _ (shop : Shop) (limits : IsWithinLimits shop) (l : LayoutState) (laid : IsLaidOut shop l) (p : Placing)
-    (hs ks : List ℕ) (a : AreHeadsAt shop p l hs) (b : AreHeadsAt shop p l ks) where
+module _ {shop : Shop} (limits : IsWithinLimits shop) {l : LayoutState} (laid : IsLaidOut shop l) (p : Placing)
+    {hs ks : List ℕ} (a : AreHeadsAt shop p l hs) (b : AreHeadsAt shop p l ks) where
   head_same : (q : ℕ) → get_or hs q 0 ≡ get_or ks q 0
   head_same q = elim (each_position shop limits l laid q) [
     | inl o ↦ (let c = ap (λ (x : ℕ). get_or hs x 0) o.at in let d = ap (λ (x : ℕ). get_or ks x 0) o.at
@@ -96,12 +94,12 @@ pub record CanTell (greatest : ℕ) (rows : Rows) (nexts : List ℕ) (job from t
   pub fits : FitOwnSpans greatest (lanes_between rows from to)
   pub low : 8 * from ≤ get_or nexts job 0
 
-module _ (greatest : ℕ) (shop : Shop) (w : List ℕ) (l : LayoutState) (heads ends nexts : List ℕ)
+module _ {greatest : ℕ} {shop : Shop} {w : List ℕ} {l : LayoutState} {heads ends nexts : List ℕ}
     (kept : IsKeptInLanes greatest shop w l (rows_of l heads ends) nexts) where
   -- the own spans of a machine can be told
   module _ (m : ℕ) (known : m < shop.machines) where
     fit : AreSpansFit greatest (latest_end shop + 1) shop.machines l (rows_of l heads ends)
-    fit = spans_fit shop kept.kept.limits l kept.kept.laid greatest kept.holds (rows_of l heads ends) refl refl
+    fit = spans_fit kept.kept.limits kept.kept.laid greatest kept.holds (rows_of l heads ends) refl refl
         kept.kept.heads.positions
 
     pub its_blocks : AreBlocks (rows_of l heads ends) (get_or l.blocks m 0) (get_or l.blocks (m + 1) 0)
@@ -126,25 +124,24 @@ module _ (greatest : ℕ) (shop : Shop) (w : List ℕ) (l : LayoutState) (heads 
     x = get_or nexts j 0
 
     its_place : x ≡ place l j ((placing shop w).steps j)
-    its_place = next_at greatest shop w j l (rows_of l heads ends) nexts kept fits x refl
+    its_place = next_at j kept fits refl
 
     pub its_machine : get_or l.machines (get_or nexts j 0) 0 ≡ next_machine shop (placing shop w) j
     its_machine = ap (λ (q : ℕ). get_or l.machines q 0) its_place
-        ∙ machine_here greatest shop w l (rows_of l heads ends) kept.kept j fits l.machines
-        kept.kept.laid.machines_at
+        ∙ machine_here kept.kept j fits kept.kept.laid.machines_at
 
     -- the bound after it is no less
     own_low : max (lb shop w) (own_at l heads x - 1) ≤ lb shop (w ++ j ∷ [])
     own_low =
         let b = foreseen l heads ends x (lb shop w)
-        in let a = foreseen_least j kept fits x refl (lb shop w) refl b refl
+        in let a = foreseen_least j kept fits refl (lb shop w) refl refl
         in let most = a.most in omega arith
 
     own_of : (own : ℕ) → max (lb shop w) own ≡ max (lb shop w) (own_at l heads x - 1) → IsCandidateOf shop w l j own
     own_of own adds = record {
       fits = fits;
       adds = λ hs at.
-          let same = same_heads shop kept.kept.limits l kept.kept.laid (placing shop w) heads hs kept.kept.heads at
+          let same = same_heads kept.kept.limits kept.kept.laid (placing shop w) kept.kept.heads at
           in adds ∙ (ap (λ (q : ℕ). max (lb shop w) (own_at l heads q - 1)) its_place
           ∙ ap (λ (ks : List ℕ). max (lb shop w) (own_at l ks (place l j ((placing shop w).steps j)) - 1)) same);
     }
@@ -161,15 +158,15 @@ module _ (greatest : ℕ) (shop : Shop) (w : List ℕ) (l : LayoutState) (heads 
 
     its_head : 0 < get_or heads x 0
     its_head =
-        let a = head_here greatest shop w l (rows_of l heads ends) kept.kept j fits
+        let a = head_here kept.kept j fits
         in let b = ap (λ (q : ℕ). get_or heads q 0) its_place in omega arith
 
     -- among the positions of its machine
-    module _ (m : ℕ) (m_is : get_or l.machines (get_or nexts j 0) 0 ≡ m) where
+    module _ {m : ℕ} (m_is : get_or l.machines (get_or nexts j 0) 0 ≡ m) where
       its_from : 8 * get_or l.blocks m 0 ≤ x
       its_from =
           let at = place_of shop kept.kept.limits l kept.kept.laid j ((placing shop w).steps j)
-          (is_operation greatest shop w l (rows_of l heads ends) kept.kept j fits)
+          (is_operation kept.kept j fits)
           in let a = at.from in let b = its_place
           in let e : first_position l (machine_of shop j ((placing shop w).steps j)) ≡ first_position l m =
           ap (first_position l) (sym its_machine ∙ m_is) in omega arith
@@ -177,16 +174,16 @@ module _ (greatest : ℕ) (shop : Shop) (w : List ℕ) (l : LayoutState) (heads 
       its_to : x < 8 * get_or l.blocks (m + 1) 0
       its_to =
           let at = place_of shop kept.kept.limits l kept.kept.laid j ((placing shop w).steps j)
-          (is_operation greatest shop w l (rows_of l heads ends) kept.kept j fits)
+          (is_operation kept.kept j fits)
           in let a = at.to in let b = its_place
           in let e : first_position l (machine_of shop j ((placing shop w).steps j) + 1) ≡ first_position l (m + 1) =
           ap (λ (n : ℕ). first_position l (n + 1)) (sym its_machine ∙ m_is) in omega arith
 
       pub is_told : (count : ℕ) → count ≡ length heads → IsTold nexts (8 * get_or l.blocks m 0) count j
       is_told count many = record {
-        job = next_known greatest shop w j l (rows_of l heads ends) nexts kept fits;
+        job = next_known j kept fits;
         from = its_from;
-        to = (let a = within greatest shop w j l (rows_of l heads ends) nexts kept fits x refl in omega arith);
+        to = (let a = within j kept fits refl in omega arith);
       }
 
       told_is : (owns : List ℕ)
@@ -198,7 +195,7 @@ module _ (greatest : ℕ) (shop : Shop) (w : List ℕ) (l : LayoutState) (heads 
           (sym m_is))
 
   -- the conflict set
-  module _ (jobs : List ℕ) (set_is : jobs ≡ conflict shop w) where
+  module _ {jobs : List ℕ} (set_is : jobs ≡ conflict shop w) where
     set_fits : (j : ℕ) → IsIn (conflict shop w) j → IsWord shop (w ++ j ∷ [])
     set_fits j h = candidate_fits shop w kept.kept.word j h
 
@@ -246,8 +243,8 @@ module _ (greatest : ℕ) (shop : Shop) (w : List ℕ) (l : LayoutState) (heads 
         (sym no_jobs ∙ set_is) none)
 
     -- the machine of one of them, and its blocks
-    module _ (first : ℕ) (has : IsIn (conflict shop w) first) (m : ℕ)
-        (m_is : m ≡ get_or l.machines (get_or nexts first 0) 0) (from to : ℕ)
+    module _ (first : ℕ) (has : IsIn (conflict shop w) first) {m : ℕ}
+        (m_is : m ≡ get_or l.machines (get_or nexts first 0) 0) {from to : ℕ}
         (from_is : from ≡ get_or l.blocks m 0) (to_is : to ≡ get_or l.blocks (m + 1) 0) where
       abbrev first_fits : IsWord shop (w ++ first ∷ [])
       first_fits = set_fits first has
@@ -269,7 +266,7 @@ module _ (greatest : ℕ) (shop : Shop) (w : List ℕ) (l : LayoutState) (heads 
       pub can_tell : CanTell greatest (rows_of l heads ends) nexts first from to
       can_tell =
           let b = blocks_are in let b1 = b.ordered in let b2 = b.within
-          in let c = its_from first first_fits m (sym m_is)
+          in let c = its_from first first_fits (sym m_is)
           in record {
             blocks = b;
             room = omega arith;
@@ -281,7 +278,7 @@ module _ (greatest : ℕ) (shop : Shop) (w : List ℕ) (l : LayoutState) (heads 
       told_all count many j h =
           let g = subst (λ (js : List ℕ). IsIn js j) set_is h
           in subst (λ (n : ℕ). IsTold nexts (8 * n) count j) (sym from_is)
-          (is_told j (set_fits j g) m (on_its_machine j g) count many)
+          (is_told j (set_fits j g) (on_its_machine j g) count many)
 
       pub told : (owns : List ℕ) → AreOwnSpans heads l.times l.tails from to owns
           → (limit : ℕ) (cs : List Candidate) (others : ℕ)
@@ -291,5 +288,5 @@ module _ (greatest : ℕ) (shop : Shop) (w : List ℕ) (l : LayoutState) (heads 
           subst (λ (js : List ℕ). ListsBelow shop w limit (λ c. IsCandidateOf shop w l c.job c.own) js cs others) set_is
           (listing limit (told_at nexts (8 * from) owns) (λ j h.
           ap (λ (n : ℕ). told_at nexts (8 * n) owns j) from_is
-          ∙ told_is j (set_fits j h) m (on_its_machine j h) owns (rw (from_is, to_is) at spans)) list
+          ∙ told_is j (set_fits j h) (on_its_machine j h) owns (rw (from_is, to_is) at spans)) list
           (λ j h. subst (λ (js : List ℕ). IsIn js j) set_is h))

@@ -40,13 +40,13 @@ none_at shop l laid nexts ready free old begun same none long = record {
 }
 
 -- what is read of the next operation of a job that can go on
-module _ (shop : Shop) (limits : IsWithinLimits shop) (l : LayoutState) (laid : IsLaidOut shop l) (p : Placing)
-    (nexts ready free : List ℕ) (at : IsPlacedAt shop p l nexts ready free) (j : ℕ)
+module _ {shop : Shop} (limits : IsWithinLimits shop) {l : LayoutState} (laid : IsLaidOut shop l) {p : Placing}
+    {nexts ready free : List ℕ} (at : IsPlacedAt shop p l nexts ready free) (j : ℕ)
     (op : IsOperation shop j (p.steps j)) where
   pub job_known : j < length shop.jobs
   job_known = IsOperation-job shop j (p.steps j) op
 
-  module _ (q : ℕ) (is : q ≡ get_or nexts j 0) where
+  module _ {q : ℕ} (is : q ≡ get_or nexts j 0) where
     pub stands : q ≡ place l j (p.steps j)
     stands = is ∙ (at.are_next.are j job_known ∙ place_there l (first_position l shop.machines) j (p.steps j)
         (let a = laid.routes j in omega arith))
@@ -67,10 +67,10 @@ module _ (shop : Shop) (limits : IsWithinLimits shop) (l : LayoutState) (laid : 
 
     pub behind : get_or l.following q 0 ≡ place_or (first_position l shop.machines) l.places j (p.steps j + 1)
     behind = ap (λ (x : ℕ). get_or l.following x 0) stands
-        ∙ (followed shop limits l laid (first_position l shop.machines) refl).follows j (p.steps j)
+        ∙ (followed limits laid refl).follows j (p.steps j)
         (let a = laid.routes j in omega arith)
 
-    module _ (m e : ℕ) (on : m ≡ get_or l.machines q 0)
+    module _ {m e : ℕ} (on : m ≡ get_or l.machines q 0)
         (ends : e ≡ max (get_or ready j 0) (get_or free m 0) + get_or l.times q 0) where
       here : m ≡ machine_of shop j (p.steps j)
       here = on ∙ stands_on
@@ -84,9 +84,9 @@ module _ (shop : Shop) (limits : IsWithinLimits shop) (l : LayoutState) (laid : 
           in let d = stands_for in omega arith
 
       -- it is placed
-      pub placed_more : (x : ℕ) → x ≡ get_or l.following q 0
+      pub placed_more : {x : ℕ} → x ≡ get_or l.following q 0
           → IsPlacedAt shop (place_next shop p j) l (set nexts j x) (set ready j e) (set free m e)
-      placed_more x next =
+      placed_more {x} next =
           let n = place_next-is shop p j
           in let known = job_known
           in let on_machine = machine_known
@@ -155,21 +155,21 @@ module _ {shop : Shop} (limits : IsWithinLimits shop) {l : LayoutState} (laid : 
   entry_small m on =
       let q = get_or nexts j 0
       in let op = entry_operation
-      in let known = job_known shop limits l laid before nexts ready free at j op
-      in let on_machine = machine_known shop limits l laid before nexts ready free at j op q refl m _ on refl
+      in let known = job_known limits laid at j op
+      in let on_machine = machine_known limits laid at j op refl on refl
       in let few = word_length shop (take i w) limits (IsWord-take shop w i word)
       in let small = ready_word shop limits (take i w)
       in let a = small.ready j in let b = small.free m
       in let c = at.ready_at j known in let d = at.free_at m on_machine
-      in let e = stands_for shop limits l laid before nexts ready free at j op q refl
+      in let e = stands_for limits laid at j op refl
       in let f = limits.times j (before.steps j)
       in omega arith
 
   can_place : CanPlaceEntry l j nexts ready free
   can_place =
       let op = entry_operation
-      in let known = job_known shop limits l laid before nexts ready free at j op
-      in let within = stands_within shop limits l laid before nexts ready free at j op (get_or nexts j 0) refl
+      in let known = job_known limits laid at j op
+      in let within = stands_within limits laid at j op refl
       in let jobs = at.are_next.jobs
       in let readies = at.jobs
       in let machines = laid.machines_at.positions
@@ -182,7 +182,7 @@ module _ {shop : Shop} (limits : IsWithinLimits shop) {l : LayoutState} (laid : 
         times = omega arith;
         following = omega arith;
         machine = λ m on. (
-            let a = machine_known shop limits l laid before nexts ready free at j op (get_or nexts j 0) refl m _ on refl
+            let a = machine_known limits laid at j op refl on refl
             in let b = at.machines in omega arith);
         small = entry_small;
       }
@@ -202,13 +202,12 @@ module _ {shop : Shop} (limits : IsWithinLimits shop) {l : LayoutState} (laid : 
         in let time : t ≡ get_or l.times q 0 = for ∙ ap (λ (r : LayoutState). get_or r.times q 0) same
         in subst (λ (p : Placing). IsPlacedAt shop p l (set nexts j x) (set ready j (e + t)) (set free m (e + t)))
         (sym (placing-take shop w i below))
-        (placed_more shop limits l laid before nexts ready free at j entry_operation q refl m (e + t)
-        (on ∙ ap (λ (r : LayoutState). get_or r.machines q 0) same) (omega arith) x next)
+        (placed_more limits laid at j entry_operation refl
+        (on ∙ ap (λ (r : LayoutState). get_or r.machines q 0) same) (omega arith) next)
 
 -- the placement of a word
-module _ (shop : Shop) (limits : IsWithinLimits shop) (l : LayoutState) (laid : IsLaidOut shop l) (w : List ℕ)
-    (word : IsWord shop w) (nexts ready free : List ℕ)
-    (at : IsPlacedAt shop (placing shop w) l nexts ready free) where
+module _ {shop : Shop} (limits : IsWithinLimits shop) {l : LayoutState} (laid : IsLaidOut shop l) (w : List ℕ)
+    (word : IsWord shop w) {nexts ready free : List ℕ} (at : IsPlacedAt shop (placing shop w) l nexts ready free) where
   abbrev p : Placing
   p = placing shop w
 
@@ -261,5 +260,5 @@ pub of_word_at : {shop : Shop} {l : LayoutState} {nexts ready free : List ℕ} �
 of_word_at {shop} {l} {nexts} {ready} {free} limits laid is = record {
   word = is.word;
   fits = is.fits;
-  placed = placement_is shop limits l laid is.word is.fits nexts ready free is.placed;
+  placed = placement_is limits laid is.word is.fits is.placed;
 }

@@ -1,15 +1,13 @@
 -- Raises one after another.
-use Rattle.std.proofs.Common.{◌≡◌, ℕ, zero, suc, ◌+◌, ◌*◌, ◌-◌, ◌≤◌, ◌<◌, ◌⊎◌, inl, inr, Bool, true}
-use Rattle.std.proofs.Common.{List, [], ◌∷◌, length, get_or, take, drop, refl, sym, ◌∙◌, ap, subst}
-use Rattle.std.proofs.Common.{arith, ltb}
-use Rattle.std.proofs.lemmas.Bool.{cases_Bool, cases_eq, cases_lt, and_from, and_parts, lt-ltb}
-use Rattle.std.proofs.lemmas.Bool.{ltb-true}
-use Rattle.std.proofs.lemmas.List.{get_or_past, get_or-take, get_or-drop, length-take-le}
-use Rattle.std.proofs.lemmas.List.{length-drop}
+use Rattle.std.proofs.Common.{◌≡◌, ℕ, ◌*◌, ◌≤◌, ◌<◌, ◌⊎◌, inl, inr, List, [], ◌∷◌, length, get_or, refl, sym, ◌∙◌}
+use Rattle.std.proofs.Common.{subst, arith}
+use Rattle.std.proofs.lemmas.Bool.{cases_eq, cases_lt}
+use Rattle.std.proofs.lemmas.List.{get_or_past}
 use Rattle.shop_lanes.specs.Rows.{Rows}
-use Rattle.shop_lanes.specs.Marks.{marked, waits_below, positions_below}
+use Rattle.shop_lanes.specs.Marks.{positions_below}
 use Rattle.shop_layout.specs.Positions.{LayoutState, place}
 use Rattle.shop_states.specs.inner.RisingLists.{IsIn, Rises}
+use Rattle.shop_states.proofs.MarkedPositions.{below_is_in, below_rises, in_is_below}
 use Rattle.shop_states.specs.inner.Raises.{at_in, AreInRouteOrder, IsRaised, IsLeastRaise, IsRaisable}
 use Rattle.shop_states.specs.inner.Raises.{Raises, IsFollowed, IsIndexed, IsPosition, IsInBlocks}
 
@@ -36,10 +34,10 @@ go_on l A B C e a b other least in_a in_b raised = record {
   ]);
 }
 
-pub then_least : (l : LayoutState) (A B C : ℕ → Type 0) (e : ℕ) (a b c : List ℕ) → IsLeastRaise l A e a b
+pub then_least : {l : LayoutState} {A B C : ℕ → Type 0} {e : ℕ} {a b c : List ℕ} → IsLeastRaise l A e a b
     → IsLeastRaise l B e b c → ((q : ℕ) → C q → A q ⊎ B q) → ((q : ℕ) → A q → C q) → ((q : ℕ) → B q → C q)
     → IsLeastRaise l C e a c
-then_least l A B C e a b c x y split in_a in_b = record {
+then_least {l} {A} {B} {C} {e} {a} {b} x y split in_a in_b = record {
   positions = y.positions ∙ x.positions;
   raised = record {
     rises = λ q. let u = x.raised.rises q in let v = y.raised.rises q in omega arith;
@@ -53,12 +51,12 @@ then_least l A B C e a b c x y split in_a in_b = record {
   least = λ other raised. y.least other (go_on l A B C e a b other x in_a in_b raised);
 }
 
-pub then_raises : (greatest : ℕ) (l : LayoutState) (nexts : List ℕ) (A B C : ℕ → Type 0) (e : ℕ) (a b c : Rows)
+pub then_raises : {greatest : ℕ} {l : LayoutState} {nexts : List ℕ} {A B : ℕ → Type 0} (C : ℕ → Type 0) {e : ℕ} {a b c : Rows}
     → Raises greatest l nexts A e a b → Raises greatest l nexts B e b c → ((q : ℕ) → C q → A q ⊎ B q)
     → ((q : ℕ) → A q → C q)
     → ((q : ℕ) → B q → C q) → Raises greatest l nexts C e a c
-then_raises greatest l nexts A B C e a b c x y split in_a in_b = record {
-  raised = then_least l A B C e a.heads b.heads c.heads x.raised y.raised split in_a in_b;
+then_raises {l} {A} {B} C {e} {a} {b} {c} x y split in_a in_b = record {
+  raised = then_least x.raised y.raised split in_a in_b;
   times = y.times ∙ x.times;
   tails = y.tails ∙ x.tails;
   ends = record {
@@ -69,11 +67,11 @@ then_raises greatest l nexts A B C e a b c x y split in_a in_b = record {
 }
 
 -- what can be raised at more positions can be raised at those that are left
-pub still_raisable : (greatest : ℕ) (l : LayoutState) (nexts : List ℕ) (A B C : ℕ → Type 0) (e : ℕ) (a b : Rows)
+pub still_raisable : {greatest : ℕ} {l : LayoutState} {nexts : List ℕ} {A : ℕ → Type 0} (B : ℕ → Type 0) {C : ℕ → Type 0} {e : ℕ} {a b : Rows}
     → IsRaisable greatest l nexts a C e → Raises greatest l nexts A e a b → ((q : ℕ) → A q → C q)
     → ((q : ℕ) → B q → C q)
     → IsRaisable greatest l nexts b B e
-still_raisable greatest l nexts A B C e a b can x in_a in_b = record {
+still_raisable {l} {A} B {C} {e} {a} {b} can x in_a in_b = record {
   firsts = record {
     own = λ j known here. can.firsts.own j known (let y = x.raised.positions in omega arith);
     first = λ j i k known more at. x.raised.raised.rests (place l i k) (can.firsts.first j i k known more at);
@@ -110,45 +108,6 @@ raises_none greatest l nexts A e a order enough = record {
   ends = record { long = refl; none = λ f. refl; each = λ j known is. is };
 }
 
-module _ (p : ℕ → Bool) where
-  pub marked_in : (at : ℕ) (xs : List ℕ) (i : ℕ) → i < length xs → p (get_or xs i 0) ≡ true
-      → IsIn (marked p at xs) (at + i)
-  marked_in at [] i below is = absurd (omega arith)
-  marked_in at (x ∷ xs) zero below is = rw is (inl (omega arith))
-  marked_in at (x ∷ xs) (suc i) below is =
-      let e : at + 1 + i ≡ at + suc i = omega arith
-      in let rest = subst (IsIn (marked p (at + 1) xs)) e (marked_in (at + 1) xs i (omega arith) is)
-      in elim (cases_Bool (p x)) [
-        | inl t ↦ rw t (inr rest)
-        | inr t ↦ rw t rest
-      ]
-
-  abbrev IsMarked : ℕ → List ℕ → ℕ → Type 0
-  IsMarked at xs q = (i : ℕ) × (i < length xs) × (q ≡ at + i) × (p (get_or xs i 0) ≡ true)
-
-  later : (at : ℕ) (x : ℕ) (xs : List ℕ) (q : ℕ) → IsMarked (at + 1) xs q → IsMarked at (x ∷ xs) q
-  later at x xs q m = (suc m.0, (let a = m.1 in omega arith), (let a = m.2 in omega arith), m.3)
-
-  pub marked_out : (at : ℕ) (xs : List ℕ) (q : ℕ) → IsIn (marked p at xs) q → IsMarked at xs q
-  marked_out at [] q h = absurd h
-  marked_out at (x ∷ xs) q h = elim (cases_Bool (p x)) [
-    | inl t ↦ elim (rw t at h) [
-      | inl e ↦ (zero, omega arith, omega arith, t)
-      | inr rest ↦ later at x xs q (marked_out (at + 1) xs q rest)
-    ]
-    | inr t ↦ later at x xs q (marked_out (at + 1) xs q (rw t at h))
-  ]
-
-  pub marked_rises : (at : ℕ) (xs : List ℕ) → Rises (marked p at xs)
-  marked_rises at [] = tt
-  marked_rises at (x ∷ xs) = elim (cases_Bool (p x)) [
-    | inl t ↦ rw t (
-      (λ q h. let m = marked_out (at + 1) xs q h in let a = m.2 in omega arith),
-      marked_rises (at + 1) xs,
-    )
-    | inr t ↦ rw t (marked_rises (at + 1) xs)
-  ]
-
 -- those in the blocks that are no longer to come
 abbrev pub IsDone : ℕ → ℕ → List ℕ → ℕ → Type 0
 IsDone from to todo q = IsInBlocks from to q × (IsIn todo q → ⊥)
@@ -163,51 +122,28 @@ pub record AreBlocksRaised (greatest : ℕ) (l : LayoutState) (nexts : List ℕ)
   pub raises : Raises greatest l nexts (IsDone from to todo) e old now
   pub to_come : AreToCome from to todo old.heads
 
-module _ (greatest : ℕ) (l : LayoutState) (nexts : List ℕ) (from to e : ℕ) (old : Rows)
+module _ {greatest : ℕ} {l : LayoutState} {nexts : List ℕ} {from to e : ℕ} {old : Rows}
     (can : IsRaisable greatest l nexts old (IsInBlocks from to) e) where
-  pub blocks_begin : from ≤ to → 8 * to ≤ length old.heads → (todo : List ℕ)
+  pub blocks_begin : from ≤ to → 8 * to ≤ length old.heads → {todo : List ℕ}
       → todo ≡ positions_below old from to e → AreBlocksRaised greatest l nexts from to e todo old old
-  blocks_begin ordered within todo is =
-      let part : List ℕ = take (8 * to - 8 * from) (drop (8 * from) old.heads)
-      in let p : ℕ → Bool = waits_below e
-      in let long : length part ≡ 8 * to - 8 * from =
-      length-take-le (8 * to - 8 * from) (drop (8 * from) old.heads) (omega (arith, length-drop (8 * from) old.heads))
-      in let at : (i : ℕ) → i < 8 * to - 8 * from → get_or part i 0 ≡ get_or old.heads (8 * from + i) 0 =
-      (λ i below. get_or-take (8 * to - 8 * from) (drop (8 * from) old.heads) i 0 below
-      ∙ get_or-drop (8 * from) old.heads i 0)
-      in record {
-        raises = raises_none greatest l nexts (IsDone from to todo) e old can.order (λ q done waits.
-            elim (cases_lt (get_or old.heads q 0) e) [
-              | inl low ↦ (
-                  let i = q - 8 * from
-                  in let a = done.0.0
-                  in let b = done.0.1
-                  in let e_q : 8 * from + i ≡ q = omega arith
-                  in let same = at i (omega arith) ∙ ap (λ (x : ℕ). get_or old.heads x 0) e_q
-                  in absurd (done.1 (subst (λ (xs : List ℕ). IsIn xs q) (sym is)
-                  (subst (IsIn (marked p (8 * from) part)) e_q (marked_in p (8 * from) part i (omega arith)
-                  (and_from (ltb 0 (get_or part i 0)) (ltb (get_or part i 0) e)
-                  (lt-ltb 0 (get_or part i 0) (omega arith))
-                  (lt-ltb (get_or part i 0) e (omega arith))))))))
-              | inr enough ↦ enough
-            ]);
-        to_come = record {
-          waits = λ q h.
-              let m = marked_out p (8 * from) part q (subst (λ (xs : List ℕ). IsIn xs q) is h)
-              in let i = m.0
-              in let below = m.1
-              in let q_is = m.2
-              in let same = at i (omega arith) ∙ ap (λ (x : ℕ). get_or old.heads x 0) (sym q_is)
-              in let some : 0 < get_or part i 0 = ltb-true 0 (get_or part i 0)
-              (and_parts (ltb 0 (get_or part i 0)) (ltb (get_or part i 0) e) m.3).0
-              in ((omega arith, omega arith), omega arith);
-          rises = subst Rises (sym is) (marked_rises p (8 * from) part);
-        };
-      }
+  blocks_begin ordered within {todo} is = record {
+    raises = raises_none greatest l nexts (IsDone from to todo) e old can.order (λ q done waits.
+        elim (cases_lt (get_or old.heads q 0) e) [
+          | inl low ↦ absurd (done.1 (subst (λ (xs : List ℕ). IsIn xs q) (sym is)
+              (below_is_in old from to e ordered within q
+              (record { there = done.0; waits = waits; below = low }))))
+          | inr enough ↦ enough
+        ]);
+    to_come = record {
+      waits = λ q h.
+          let at = in_is_below old from to e ordered within q (subst (λ (xs : List ℕ). IsIn xs q) is h)
+          in (at.there, at.waits);
+      rises = subst Rises (sym is) (below_rises old from to e ordered within);
+    };
+  }
 
-  module _ (todo : List ℕ) (now : Rows)
-      (so_far : AreBlocksRaised greatest l nexts from to e todo old now) (q : ℕ) (rest : List ℕ)
-      (popped : todo ≡ q ∷ rest) where
+  module _ {todo : List ℕ} {now : Rows} (so_far : AreBlocksRaised greatest l nexts from to e todo old now) {q : ℕ}
+      {rest : List ℕ} (popped : todo ≡ q ∷ rest) where
     is_in : IsIn todo q
     is_in = subst (λ (xs : List ℕ). IsIn xs q) (sym popped) (inl refl)
 
@@ -256,27 +192,24 @@ module _ (greatest : ℕ) (l : LayoutState) (nexts : List ℕ) (from to e : ℕ)
 
     pub popped_raisable : IsRaisable greatest l nexts now (IsPosition q) e
     popped_raisable =
-        still_raisable greatest l nexts (IsDone from to todo) (IsPosition q) (IsInBlocks from to) e old now can
-        so_far.raises (λ r d. d.0) (λ r f. (here_done r f).0)
+        still_raisable (IsPosition q) can so_far.raises (λ r d. d.0) (λ r f. (here_done r f).0)
 
-    pub blocks_on : (new : Rows) → Raises greatest l nexts (IsPosition q) e now new
+    pub blocks_on : {new : Rows} → Raises greatest l nexts (IsPosition q) e now new
         → AreBlocksRaised greatest l nexts from to e rest old new
-    blocks_on new raised = record {
-      raises = then_raises greatest l nexts (IsDone from to todo) (IsPosition q)
-          (IsDone from to rest) e old now new
-          so_far.raises raised more_done still_done here_done;
+    blocks_on {new} raised = record {
+      raises = then_raises (IsDone from to rest) so_far.raises raised more_done still_done here_done;
       to_come = popped_to_come;
     }
 
     pub blocks_past : e ≤ get_or now.heads q 0 → AreBlocksRaised greatest l nexts from to e rest old now
-    blocks_past enough = blocks_on now
+    blocks_past enough = blocks_on
         (raises_none greatest l nexts (IsPosition q) e now so_far.raises.raised.raised.order
         (λ r f _. subst (λ (x : ℕ). e ≤ get_or now.heads x 0) (sym f) enough))
 
-  pub blocks_end : (todo : List ℕ) (now : Rows) → todo ≡ []
+  pub blocks_end : {todo : List ℕ} {now : Rows} → todo ≡ []
       → AreBlocksRaised greatest l nexts from to e todo old now
       → Raises greatest l nexts (IsInBlocks from to) e old now
-  blocks_end todo now none so_far = record {
+  blocks_end {todo} none so_far = record {
     raised = record {
       positions = so_far.raises.raised.positions;
       raised = record {
@@ -295,21 +228,19 @@ module _ (greatest : ℕ) (l : LayoutState) (nexts : List ℕ) (from to e : ℕ)
   }
 
 -- blocks after blocks
-module _ (greatest : ℕ) (l : LayoutState) (nexts : List ℕ) (first from to behind e : ℕ) (old now : Rows)
-    (raises : Raises greatest l nexts (IsInBlocks first from) e old now) (ordered : first ≤ from)
+module _ {greatest : ℕ} {l : LayoutState} {nexts : List ℕ} {first from : ℕ} (to behind : ℕ) {e : ℕ}
+    {old now : Rows} (raises : Raises greatest l nexts (IsInBlocks first from) e old now) (ordered : first ≤ from)
     (on : from ≤ to) (within : to ≤ behind) where
   pub blocks_raisable : IsRaisable greatest l nexts old (IsInBlocks first behind) e
       → IsRaisable greatest l nexts now (IsInBlocks from to) e
   blocks_raisable can =
-      still_raisable greatest l nexts (IsInBlocks first from) (IsInBlocks from to) (IsInBlocks first behind) e old now
-      can raises (λ q h. let a = h.0 in let b = h.1 in (omega arith, omega arith))
+      still_raisable (IsInBlocks from to) can raises (λ q h. let a = h.0 in let b = h.1 in (omega arith, omega arith))
       (λ q h. let a = h.0 in let b = h.1 in (omega arith, omega arith))
 
-  pub more_blocks : (new : Rows) → Raises greatest l nexts (IsInBlocks from to) e now new
+  pub more_blocks : {new : Rows} → Raises greatest l nexts (IsInBlocks from to) e now new
       → Raises greatest l nexts (IsInBlocks first to) e old new
-  more_blocks new raised =
-      then_raises greatest l nexts (IsInBlocks first from) (IsInBlocks from to) (IsInBlocks first to) e old now new
-      raises raised
+  more_blocks {new} raised =
+      then_raises (IsInBlocks first to) raises raised
       (λ q h. let a = h.0 in let b = h.1 in elim (cases_lt q (8 * from)) [
         | inl low ↦ inl (a, low)
         | inr high ↦ inr (high, b)
@@ -318,15 +249,15 @@ module _ (greatest : ℕ) (l : LayoutState) (nexts : List ℕ) (first from to be
       (λ q h. let a = h.0 in let b = h.1 in (omega arith, omega arith))
 
 -- no blocks yet
-pub no_blocks : (greatest : ℕ) (l : LayoutState) (nexts : List ℕ) (first behind e : ℕ) (old : Rows)
+pub no_blocks : {greatest : ℕ} {l : LayoutState} {nexts : List ℕ} (first behind : ℕ) {e : ℕ} {old : Rows}
     → IsRaisable greatest l nexts old (IsInBlocks first behind) e
     → Raises greatest l nexts (IsInBlocks first first) e old old
-no_blocks greatest l nexts first behind e old can =
+no_blocks {greatest} {l} {nexts} first behind {e} {old} can =
     raises_none greatest l nexts (IsInBlocks first first) e old can.order
     (λ q h waits. let a = h.0 in let b = h.1 in absurd (omega arith))
 
-pub all_blocks : (greatest : ℕ) (l : LayoutState) (nexts : List ℕ) (first from behind e : ℕ) (old now : Rows)
+pub all_blocks : {greatest : ℕ} {l : LayoutState} {nexts : List ℕ} (first from behind : ℕ) {e : ℕ} {old now : Rows}
     → from ≡ behind → Raises greatest l nexts (IsInBlocks first from) e old now
     → Raises greatest l nexts (IsInBlocks first behind) e old now
-all_blocks greatest l nexts first from behind e old now same raises =
+all_blocks {greatest} {l} {nexts} first from behind {e} {old} {now} same raises =
     subst (λ (x : ℕ). Raises greatest l nexts (IsInBlocks first x) e old now) same raises

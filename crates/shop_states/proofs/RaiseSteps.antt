@@ -1,32 +1,19 @@
 -- A raise over rows, head by head.
-use Rattle.std.proofs.Common.{◌≡◌, ℕ, zero, suc, ◌+◌, ◌≤◌, ◌<◌, List, [], ◌∷◌, length, get_or, set}
+use Rattle.std.proofs.Common.{◌≡◌, ℕ, ◌+◌, ◌≤◌, ◌<◌, List, [], length, get_or, set}
 use Rattle.std.proofs.Common.{refl, sym, ◌∙◌, ap, subst, arith, inl, inr}
 use Rattle.std.proofs.lemmas.Bool.{cases_lt}
-use Rattle.std.proofs.lemmas.List.{get_or_default, get_or_past, set-get_or}
-use Rattle.shop_lanes.specs.Rows.{Rows, with_end, with_head}
+use Rattle.std.proofs.lemmas.List.{get_or_default, get_or_past}
+use Rattle.shop_lanes.specs.Rows.{Rows, with_head}
 use Rattle.shop_layout.specs.Positions.{place_or, LayoutState, place}
 use Rattle.shop_layout.specs.Lanes.{rows_of}
 use Rattle.shop_states.specs.inner.Raises.{steps_of, IsPosition, IsRaisable, Raises}
 use Rattle.shop_states.proofs.Followed.{place_there, place_up_to, step_there, left_from, left_less}
 use Rattle.shop_states.proofs.RaiseWalks.{IsRaisedUpTo, walk_begins, next_least, walk_on, walk_ends}
 
--- what is written twice
-set_twice : (xs : List ℕ) (i a b : ℕ) → set (set xs i a) i b ≡ set xs i b
-set_twice [] i a b = refl
-set_twice (x ∷ xs) zero a b = refl
-set_twice (x ∷ xs) (suc i) a b = ap (λ (ys : List ℕ). x ∷ ys) (set_twice xs i a b)
-
-pub put_back : (xs : List ℕ) (i a : ℕ) → set (set xs i a) i (get_or xs i 0) ≡ xs
-put_back xs i a = set_twice xs i a (get_or xs i 0) ∙ set-get_or xs i 0
-
--- one head of a state was replaced, or one end
-pub put_is : (l : LayoutState) (hs es hs' es' : List ℕ) (q v : ℕ) → hs' ≡ set hs q v → es' ≡ es
+-- one head of a state was replaced
+pub put_is : (l : LayoutState) (hs : List ℕ) {es hs' es' : List ℕ} (q v : ℕ) → hs' ≡ set hs q v → es' ≡ es
     → rows_of l hs' es' ≡ with_head (rows_of l hs es) q v
-put_is l hs es hs' es' q v heads ends = rw (heads, ends) refl
-
-pub end_is : (l : LayoutState) (hs es hs' es' : List ℕ) (j v : ℕ) → hs' ≡ hs → es' ≡ set es j v
-    → rows_of l hs' es' ≡ with_end (rows_of l hs es) j v
-end_is l hs es hs' es' j v heads ends = rw (heads, ends) refl
+put_is l hs q v heads ends = rw (heads, ends) refl
 
 -- the same of rows
 pub record IsWalking (greatest : ℕ) (l : LayoutState) (p e t ready : ℕ) (old new : Rows)
@@ -36,35 +23,33 @@ pub record IsWalking (greatest : ℕ) (l : LayoutState) (p e t ready : ℕ) (old
   pub tails : new.tails ≡ old.tails
   pub ends : new.ends ≡ old.ends
 
-module _ (greatest : ℕ) (l : LayoutState) (p e : ℕ) (old : Rows)
+module _ {greatest : ℕ} {l : LayoutState} {p e : ℕ} {old : Rows}
     (can : IsRaisable greatest l [] old (IsPosition p) e) (some : 0 < get_or old.heads p 0) where
-  pub begun : get_or old.heads p 0 ≤ e → (new : Rows)
+  pub begun : get_or old.heads p 0 ≤ e → {new : Rows}
       → new ≡ with_head old p e
-      → (t ready time : ℕ) → t ≡ get_or l.steps p 0 + 1 → time ≡ get_or new.times p 0 → ready ≡ e + time
+      → {t ready time : ℕ} → t ≡ get_or l.steps p 0 + 1 → time ≡ get_or new.times p 0 → ready ≡ e + time
       → IsWalking greatest l p e t ready old new
-  begun below new wrote t ready time next read sum =
+  begun below {new} wrote {t} {ready} next read sum =
       let heads : new.heads ≡ set old.heads p e = ap (λ (r : Rows). r.heads) wrote
       in let times : new.times ≡ old.times = ap (λ (r : Rows). r.times) wrote
       in let same : get_or new.times p 0 ≡ get_or l.times p 0 =
       ap (λ (xs : List ℕ). get_or xs p 0) (times ∙ can.times)
       in record {
         up_to = subst (λ (hs : List ℕ). IsRaisedUpTo l p e (get_or l.jobs p 0) t ready old.heads hs) (sym heads)
-            (walk_begins l (length old.heads) can.indexed p e (get_or l.jobs p 0) old.heads refl t ready
-            (can.places p some) refl next (omega arith) can.order some below);
+            (walk_begins can.indexed p e (get_or l.jobs p 0) old.heads refl t ready (can.places p some) refl next (omega
+            arith) can.order some below);
         times = times;
         tails = ap (λ (r : Rows). r.tails) wrote;
         ends = ap (λ (r : Rows). r.ends) wrote;
       }
 
-  module _ (t ready : ℕ) (now : Rows)
-      (so_far : IsWalking greatest l p e t ready old now)
-      (more : t < steps_of l (get_or l.jobs p 0)) (q : ℕ) (at : q ≡ place l (get_or l.jobs p 0) t) where
+  module _ {t ready : ℕ} {now : Rows} (so_far : IsWalking greatest l p e t ready old now)
+      (more : t < steps_of l (get_or l.jobs p 0)) {q : ℕ} (at : q ≡ place l (get_or l.jobs p 0) t) where
     -- what is to be stored and added up there fits
     pub next_fits : (ready ≤ greatest) × (ready + get_or now.times q 0 ≤ greatest)
     next_fits =
         let i = get_or l.jobs p 0
-        in let a = next_least l (length old.heads) can.indexed p e i old.heads refl t ready now.heads so_far.up_to
-        can.other can.raised more
+        in let a = next_least can.indexed p e i old.heads refl so_far.up_to can.other can.raised more
         in let some_time = so_far.up_to.waits
         in let sum = so_far.up_to.ready_is
         in let b = can.fits (place l i t) (omega arith)
@@ -72,11 +57,11 @@ module _ (greatest : ℕ) (l : LayoutState) (p e : ℕ) (old : Rows)
         ap (λ (xs : List ℕ). get_or xs q 0) (so_far.times ∙ can.times) ∙ ap (λ (x : ℕ). get_or l.times x 0) at
         in (omega arith, omega arith)
 
-    pub on : get_or now.heads q 0 < ready → (new : Rows)
+    pub on : get_or now.heads q 0 < ready → {new : Rows}
         → new ≡ with_head now q ready
-        → (h time u : ℕ) → u ≡ t + 1 → time ≡ get_or new.times q 0 → h ≡ ready + time
+        → {h time u : ℕ} → u ≡ t + 1 → time ≡ get_or new.times q 0 → h ≡ ready + time
         → IsWalking greatest l p e u h old new
-    on below new wrote h time u next read sum =
+    on below {new} wrote {h} next read sum =
         let heads : new.heads ≡ set now.heads q ready = ap (λ (r : Rows). r.heads) wrote
         in let times : new.times ≡ now.times = ap (λ (r : Rows). r.times) wrote
         in let same : get_or new.times q 0 ≡ get_or l.times q 0 =
@@ -85,20 +70,18 @@ module _ (greatest : ℕ) (l : LayoutState) (p e : ℕ) (old : Rows)
         in record {
           up_to = subst (λ (x : ℕ). IsRaisedUpTo l p e i x h old.heads new.heads) (sym next)
               (subst (λ (hs : List ℕ). IsRaisedUpTo l p e i (t + 1) h old.heads hs) (sym heads)
-              (walk_on l (length old.heads) can.indexed p e i old.heads refl t ready now.heads so_far.up_to can.order
-              more q h at below (omega arith)));
+              (walk_on can.indexed p e i old.heads refl so_far.up_to can.order more q h at below (omega arith)));
           times = times ∙ so_far.times;
           tails = ap (λ (r : Rows). r.tails) wrote ∙ so_far.tails;
           ends = ap (λ (r : Rows). r.ends) wrote ∙ so_far.ends;
         }
 
-  pub ended : (t ready : ℕ) (now : Rows)
+  pub ended : {t ready : ℕ} {now : Rows}
       → IsWalking greatest l p e t ready old now
       → (t < steps_of l (get_or l.jobs p 0) → ready ≤ get_or now.heads (place l (get_or l.jobs p 0) t) 0)
       → Raises greatest l [] (IsPosition p) e old now
-  ended t ready now so_far enough = record {
-    raised = walk_ends l (length old.heads) can.indexed p e (get_or l.jobs p 0) old.heads refl t ready now.heads
-        so_far.up_to enough;
+  ended {t} {ready} {now} so_far enough = record {
+    raised = walk_ends can.indexed p e (get_or l.jobs p 0) old.heads refl so_far.up_to enough;
     times = so_far.times;
     tails = so_far.tails;
     ends = record {
@@ -115,31 +98,30 @@ pub record IsFollowing (greatest : ℕ) (l : LayoutState) (p e next ready : ℕ)
   pub next_is : next ≡ place_or (length old.heads) l.places (get_or l.jobs p 0) step
   pub walking : IsWalking greatest l p e step ready old new
 
-module _ (greatest : ℕ) (l : LayoutState) (p e : ℕ) (old : Rows)
+module _ {greatest : ℕ} {l : LayoutState} {p e : ℕ} {old : Rows}
     (can : IsRaisable greatest l [] old (IsPosition p) e) (some : 0 < get_or old.heads p 0) where
-  pub begun_following : get_or old.heads p 0 ≤ e → (new : Rows)
+  pub begun_following : get_or old.heads p 0 ≤ e → {new : Rows}
       → new ≡ with_head old p e
-      → (next ready time : ℕ) → next ≡ get_or l.following p 0 → time ≡ get_or new.times p 0 → ready ≡ e + time
+      → {next ready time : ℕ} → next ≡ get_or l.following p 0 → time ≡ get_or new.times p 0 → ready ≡ e + time
       → IsFollowing greatest l p e next ready old new
-  begun_following below new wrote next ready time at read sum =
+  begun_following below {new} wrote {ready} {time} at read sum =
       let here = can.places p some
       in let i = get_or l.jobs p 0 in let t = get_or l.steps p 0
       in record {
         step = t + 1;
         next_is = at ∙ (ap (λ (x : ℕ). get_or l.following x 0) (sym here.is) ∙ can.followed.follows i t here.step);
-        walking = begun greatest l p e old can some below new wrote (t + 1) ready time refl read sum;
+        walking = begun can some below wrote refl read sum;
       }
 
-  pub first_up_to : (next : ℕ) → next ≡ get_or l.following p 0 → next ≤ length old.heads
-  first_up_to next at =
+  pub first_up_to : {next : ℕ} → next ≡ get_or l.following p 0 → next ≤ length old.heads
+  first_up_to at =
       let here = can.places p some
       in let i = get_or l.jobs p 0 in let t = get_or l.steps p 0
       in let a = place_up_to l (length old.heads) i (t + 1) can.indexed
       in let b = at ∙ (ap (λ (x : ℕ). get_or l.following x 0) (sym here.is) ∙ can.followed.follows i t here.step)
       in omega arith
 
-  module _ (next ready : ℕ) (now : Rows)
-      (so_far : IsFollowing greatest l p e next ready old now) where
+  module _ {next ready : ℕ} {now : Rows} (so_far : IsFollowing greatest l p e next ready old now) where
     -- what is ready next fits, since no raised head is above the least of those that do
     fitting : ready ≤ greatest
     fitting =
@@ -148,10 +130,10 @@ module _ (greatest : ℕ) (l : LayoutState) (p e : ℕ) (old : Rows)
         in let most = so.least can.other can.raised q in let waits = so.waits in let is = so.ready_is
         in let fits = can.fits q (omega arith) in omega arith
 
-    module _ (head : ℕ) (read : head ≡ get_or now.heads next greatest) where
+    module _ {head : ℕ} (read : head ≡ get_or now.heads next greatest) where
       -- it ends where the head is great enough, or behind the route's last step
       pub ended_at : ready ≤ head → Raises greatest l [] (IsPosition p) e old now
-      ended_at enough = ended greatest l p e old can some so_far.step ready now so_far.walking (λ there.
+      ended_at enough = ended can some so_far.walking (λ there.
           let i = get_or l.jobs p 0 in let long = so_far.walking.up_to.positions
           in let b = (can.indexed.step i so_far.step there).within in let c = can.indexed.jobs
           in let at = so_far.next_is ∙ place_there l (length old.heads) i so_far.step there
@@ -180,34 +162,33 @@ module _ (greatest : ℕ) (l : LayoutState) (p e : ℕ) (old : Rows)
         here = so_far.next_is ∙ place_there l (length old.heads) (get_or l.jobs p 0) so_far.step more
 
         pub following_fits : (ready ≤ greatest) × (ready + get_or now.times next 0 ≤ greatest)
-        following_fits = next_fits greatest l p e old can some so_far.step ready now so_far.walking more next
-            here
+        following_fits = next_fits can some so_far.walking more here
 
         follows_next : (after : ℕ) → after ≡ get_or l.following next 0
             → after ≡ place_or (length old.heads) l.places (get_or l.jobs p 0) (so_far.step + 1)
         follows_next after at = at ∙ (ap (λ (x : ℕ). get_or l.following x 0) here
             ∙ can.followed.follows (get_or l.jobs p 0) so_far.step more)
 
-        pub next_up_to : (after : ℕ) → after ≡ get_or l.following next 0 → after ≤ length old.heads
-        next_up_to after at =
+        pub next_up_to : {after : ℕ} → after ≡ get_or l.following next 0 → after ≤ length old.heads
+        next_up_to {after} at =
             let a = place_up_to l (length old.heads) (get_or l.jobs p 0) (so_far.step + 1) can.indexed
             in let b = follows_next after at in omega arith
 
-        pub following_less : (after : ℕ) → after ≡ get_or l.following next 0
+        pub following_less : {after : ℕ} → after ≡ get_or l.following next 0
             → left_from l (length l.following) (get_or l.jobs p 0) after
             < left_from l (length l.following) (get_or l.jobs p 0) next
-        following_less after at =
+        following_less {after} at =
             subst (λ (m : ℕ). left_from l m (get_or l.jobs p 0) after < left_from l m (get_or l.jobs p 0) next)
             (sym can.followed.following)
             (left_less l (length old.heads) can.indexed (get_or l.jobs p 0) so_far.step next after more here
             (follows_next after at))
 
-        pub followed : (new : Rows) → new ≡ with_head now next ready
-            → (h time after : ℕ) → time ≡ get_or new.times next 0 → h ≡ ready + time
+        pub followed : {new : Rows} → new ≡ with_head now next ready
+            → {h time after : ℕ} → time ≡ get_or new.times next 0 → h ≡ ready + time
             → after ≡ get_or l.following next 0 → IsFollowing greatest l p e after h old new
-        followed new wrote h time after read sum at = record {
+        followed {new} wrote {h} {time} {after} read sum at = record {
           step = so_far.step + 1;
           next_is = follows_next after at;
-          walking = on greatest l p e old can some so_far.step ready now so_far.walking more next here
-              (let a = read_there in omega arith) new wrote h time (so_far.step + 1) refl read sum;
+          walking = on can some so_far.walking more here
+              (let a = read_there in omega arith) wrote refl read sum;
         }

@@ -23,7 +23,7 @@ pub record IsRaisedUpTo (l : LayoutState) (p e i t ready : ℕ) (old new : List 
   pub reach : e ≤ get_or new p 0
   pub least : (other : ℕ → ℕ) → IsRaised l (IsPosition p) e (at_in old) other → (q : ℕ) → get_or new q 0 ≤ other q
 
-module _ (l : LayoutState) (n : ℕ) (ix : IsIndexed l n) where
+module _ {l : LayoutState} {n : ℕ} (ix : IsIndexed l n) where
   pub apart : (j k i t : ℕ) → k < steps_of l j → t < steps_of l i → place l j k ≡ place l i t → (j ≡ i) × (k ≡ t)
   apart j k i t here there same =
       let a = ix.step j k here
@@ -85,7 +85,7 @@ module _ (l : LayoutState) (n : ℕ) (ix : IsIndexed l n) where
           ];
         }
 
-    module _ (t ready : ℕ) (new : List ℕ) (so_far : IsRaisedUpTo l p e i t ready old new) where
+    module _ {t ready : ℕ} {new : List ℕ} (so_far : IsRaisedUpTo l p e i t ready old new) where
       -- any raise has the next step wait until the one before it ends
       pub next_least : (other : ℕ → ℕ) → IsRaised l (IsPosition p) e (at_in old) other → t < steps_of l i
           → ready ≤ other (place l i t)

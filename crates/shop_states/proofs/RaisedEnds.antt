@@ -10,7 +10,7 @@ use Rattle.shop_states.specs.inner.Raises.{steps_of, at_in, IsPosition, IsRaised
 use Rattle.shop_states.specs.inner.Raises.{IsRaisable, Raises, SetsEndAt}
 
 -- a head that is the first of its route is raised at its own position alone
-module _ (l : LayoutState) (p e : ℕ) (old new : List ℕ) (least : IsLeastRaise l (IsPosition p) e old new) (q : ℕ)
+module _ {l : LayoutState} {p e : ℕ} {old new : List ℕ} (least : IsLeastRaise l (IsPosition p) e old new) (q : ℕ)
     (first : (i k : ℕ) → k + 1 < steps_of l i → place l i (k + 1) ≡ q → get_or old (place l i k) 0 ≡ 0) where
   abbrev but : ℕ → ℕ → ℕ
   but v r = cond {A = ℕ} (eqb r q) v (get_or new r 0)
@@ -74,7 +74,7 @@ module _ (l : LayoutState) (p e : ℕ) (old new : List ℕ) (least : IsLeastRais
       in let a = least.least (but e) (raised_but e below (λ z. absurd (omega arith)) reach (λ g s. omega arith)) q
       in let b = at_q e q refl in omega arith
 
-module _ (greatest : ℕ) (l : LayoutState) (nexts : List ℕ) (p e : ℕ) (old : Rows)
+module _ {greatest : ℕ} {l : LayoutState} {nexts : List ℕ} {p e : ℕ} {old : Rows}
     (can : IsRaisable greatest l nexts old (IsPosition p) e) (some : 0 < get_or old.heads p 0) where
   pub raised_within : p < length old.heads
   raised_within = elim (cases_lt p (length old.heads)) [
@@ -87,7 +87,7 @@ module _ (greatest : ℕ) (l : LayoutState) (nexts : List ℕ) (p e : ℕ) (old 
       let a = can.raised.reach p refl some in let b = can.fits p (let d = can.raised.rises p in omega arith)
       in let same = ap (λ (xs : List ℕ). get_or xs p 0) can.times in omega arith
 
-module _ (greatest : ℕ) (l : LayoutState) (nexts : List ℕ) (p e : ℕ) (old mid : Rows)
+module _ {greatest : ℕ} {l : LayoutState} {nexts : List ℕ} {p e : ℕ} {old mid : Rows}
     (can : IsRaisable greatest l nexts old (IsPosition p) e) (set : SetsEndAt l nexts p e old mid) where
   -- with no ends to keep up
   pub mid_raisable : IsRaisable greatest l [] mid (IsPosition p) e
@@ -107,7 +107,7 @@ module _ (greatest : ℕ) (l : LayoutState) (nexts : List ℕ) (p e : ℕ) (old 
     computable = can.computable;
   })
 
-  module _ (some : 0 < get_or old.heads p 0) (below : get_or old.heads p 0 ≤ e) (new : Rows)
+  module _ (some : 0 < get_or old.heads p 0) (below : get_or old.heads p 0 ≤ e) {new : Rows}
       (raised : Raises greatest l [] (IsPosition p) e mid new) where
     least : IsLeastRaise l (IsPosition p) e old.heads new.heads
     least = rw set.heads at raised.raised
@@ -135,12 +135,12 @@ module _ (greatest : ℕ) (l : LayoutState) (nexts : List ℕ) (p e : ℕ) (old 
               in let mine : get_or mid.ends (get_or l.jobs p 0) 0 ≡ get_or mid.ends j 0 =
               ap (λ (x : ℕ). get_or mid.ends x 0) own
               in let was : get_or old.heads q 0 ≡ get_or old.heads p 0 = ap (λ (x : ℕ). get_or old.heads x 0) f
-              in let now = head_is l p e old.heads new.heads least q first f (omega arith) (omega arith)
+              in let now = head_is least q first f (omega arith) (omega arith)
               in let time : get_or old.times q 0 ≡ get_or old.times p 0 = ap (λ (x : ℕ). get_or old.times x 0) f
               in sym (rw (lt-ltb q (length new.heads) (omega arith)) (omega arith)))
           | inr ne ↦ (
               let kept = set.others j known ne
-              in let same = head_stays l p e old.heads new.heads least q first ne
+              in let same = head_stays least q first ne
               in ends ∙ (kept ∙ (is ∙ (elim (cases_lt q (length old.heads)) [
                 | inl h ↦ rw (lt-ltb q (length old.heads) h, lt-ltb q (length new.heads) (omega arith)) (omega arith)
                 | inr h ↦ rw (le-ltb q (length old.heads) h, le-ltb q (length new.heads) (omega arith)) refl

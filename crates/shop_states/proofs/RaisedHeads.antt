@@ -13,21 +13,19 @@ use Rattle.shop_lanes.specs.Rows.{Rows}
 use Rattle.shop_bound.specs.Heads.{head_of, ready_after}
 use Rattle.shop_states.specs.inner.LaneHeads.{AreHeadsAt, AreStored}
 use Rattle.shop_layout.specs.Positions.{place_or, LayoutState, place, first_position, IsLaidOut}
-use Rattle.shop_states.specs.inner.Raises.{steps_of, at_in, AreFirst, IsFollowed, IsIndexed, IsPlace}
-use Rattle.shop_states.specs.inner.Raises.{AreInRouteOrder, IsRaised, IsLeastRaise, IsRaisable}
-use Rattle.shop_states.specs.inner.Raises.{IsOnMachine, HasBlocks}
+use Rattle.shop_states.specs.inner.Raises.{steps_of, at_in, AreFirst, IsFollowed, IsIndexed, IsPlace, AreInRouteOrder}
+use Rattle.shop_states.specs.inner.Raises.{IsRaised, IsLeastRaise, IsRaisable, IsOnMachine, HasBlocks}
 use Rattle.shop_bound.proofs.HeadsRise.{heads_up}
 use Rattle.shop_bound.proofs.HeadsStay.{ready_first_same, steps_rise}
 use Rattle.shop_bound.proofs.HeadTurns.{ready_first, ready_more}
-use Rattle.shop_layout.proofs.LaidPlaces.{IsOperationAt, machines_rise, place_of}
-use Rattle.shop_layout.proofs.LaidPlaces.{each_position, on_machine}
+use Rattle.shop_layout.proofs.LaidPlaces.{IsOperationAt, machines_rise, place_of, each_position, on_machine}
 
-module _ (shop : Shop) (limits : IsWithinLimits shop) (l : LayoutState) (laid : IsLaidOut shop l) where
+module _ {shop : Shop} (limits : IsWithinLimits shop) {l : LayoutState} (laid : IsLaidOut shop l) where
   operation_in : (j k : ℕ) → k < steps_of l j → IsOperation shop j k
   operation_in j k h = let a = laid.routes j in omega arith
 
-  pub indexed : (n : ℕ) → n ≡ first_position l shop.machines → IsIndexed l n
-  indexed n is = record {
+  pub indexed : {n : ℕ} → n ≡ first_position l shop.machines → IsIndexed l n
+  indexed is = record {
     jobs = laid.positions.jobs ∙ sym is;
     steps = laid.positions.steps ∙ sym is;
     step = λ j k h. (let a = place_of shop limits l laid j k (operation_in j k h) in record {
@@ -37,8 +35,8 @@ module _ (shop : Shop) (limits : IsWithinLimits shop) (l : LayoutState) (laid : 
     });
   }
 
-  pub followed : (n : ℕ) → n ≡ first_position l shop.machines → IsFollowed l n
-  followed n is = record {
+  pub followed : {n : ℕ} → n ≡ first_position l shop.machines → IsFollowed l n
+  followed is = record {
     following = laid.positions.following ∙ sym is;
     follows = λ j k h. (let a = place_of shop limits l laid j k (operation_in j k h)
         in laid.follows (place l j k) a.within
@@ -48,8 +46,8 @@ module _ (shop : Shop) (limits : IsWithinLimits shop) (l : LayoutState) (laid : 
         ∙ ap (λ (x : ℕ). place_or x l.places j (k + 1)) (sym is))));
   }
 
-  pub has_blocks : (n m : ℕ) → n ≡ first_position l shop.machines → m < shop.machines → HasBlocks l n m
-  has_blocks n m is known = record {
+  pub has_blocks : {n : ℕ} (m : ℕ) → n ≡ first_position l shop.machines → m < shop.machines → HasBlocks l n m
+  has_blocks m is known = record {
     small = (let a = limits.machines in omega arith);
     known = (let a = laid.machines in omega arith);
     ordered = (let a = machines_rise shop limits l laid m (m + 1) (omega arith) (omega arith) in omega arith);
@@ -72,14 +70,14 @@ module _ (shop : Shop) (limits : IsWithinLimits shop) (l : LayoutState) (laid : 
         is = ap (λ (x : ℕ). place l x (get_or l.steps r 0)) job ∙ (ap (place l j) step ∙ at);
       }
 
-  module _ (p : Placing) (j : ℕ) (q : Placing) (n : IsNext shop p j q) (next : IsOperation shop j (p.steps j)) where
+  module _ {p : Placing} {j : ℕ} {q : Placing} (n : IsNext shop p j q) (next : IsOperation shop j (p.steps j)) where
     abbrev machine : ℕ
     machine = machine_of shop j (p.steps j)
 
     -- what is dispatched has no head any more
-    pub left : (old : List ℕ) → AreHeadsAt shop p l old
+    pub left : {old : List ℕ} → AreHeadsAt shop p l old
         → AreStored shop q.steps (head_of shop p) l (set old (place l j (p.steps j)) 0)
-    left old are =
+    left {old} are =
         let x = place l j (p.steps j)
         in let here = place_of shop limits l laid j (p.steps j) next
         in let within : x < length old = (let a = are.positions in let b = here.within in omega arith)
@@ -113,7 +111,7 @@ module _ (shop : Shop) (limits : IsWithinLimits shop) (l : LayoutState) (laid : 
           ];
         }
 
-    module _ (old : List ℕ) (are : AreStored shop q.steps (head_of shop p) l old) where
+    module _ {old : List ℕ} (are : AreStored shop q.steps (head_of shop p) l old) where
       -- what waits is an operation that isn't placed
       waits_at : (r : ℕ) → 0 < get_or old r 0 → (o : IsOperationAt shop l r) × (q.steps o.job ≤ o.step)
       waits_at r some = elim (each_position shop limits l laid r) [
@@ -161,7 +159,7 @@ module _ (shop : Shop) (limits : IsWithinLimits shop) (l : LayoutState) (laid : 
           in let t = a.time
           in omega arith
 
-      module _ (e : ℕ) (end : e ≡ q.free machine + 1) where
+      module _ {e : ℕ} (end : e ≡ q.free machine + 1) where
         target_raised : IsRaised l (IsOnMachine l machine) e (at_in old) target
         target_raised = record {
           rises = λ r. elim (cases_eq (get_or old r 0) 0) [
@@ -209,8 +207,8 @@ module _ (shop : Shop) (limits : IsWithinLimits shop) (l : LayoutState) (laid : 
             in record {
               firsts = firsts;
               ends = ends;
-              indexed = indexed (length rows.heads) (ap length heads ∙ are.positions);
-              followed = followed (length rows.heads) (ap length heads ∙ are.positions);
+              indexed = indexed (ap length heads ∙ are.positions);
+              followed = followed (ap length heads ∙ are.positions);
               machines = laid.machines_at.positions ∙ sym (ap length heads ∙ are.positions);
               times = times;
               timed = laid.positions.times ∙ sym (ap length heads ∙ are.positions);
@@ -235,7 +233,7 @@ module _ (shop : Shop) (limits : IsWithinLimits shop) (l : LayoutState) (laid : 
               computable = computable;
             }
 
-        module _ (new : List ℕ) (least : IsLeastRaise l (IsOnMachine l machine) e old new) where
+        module _ {new : List ℕ} (least : IsLeastRaise l (IsOnMachine l machine) e old new) where
           -- a head is enough, where its step is ready no later
           free_enough : (i k : ℕ) → IsOperation shop i k → q.steps i ≤ k
               → q.free (machine_of shop i k) + 1 ≤ get_or new (place l i k) 0

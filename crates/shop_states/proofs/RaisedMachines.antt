@@ -1,12 +1,12 @@
 -- Machines with a raise are listed: one more, and one less.
-use Rattle.std.proofs.Common.{◌≡◌, ℕ, zero, suc, ◌≤◌, ◌<◌, ◌⊎◌, inl, inr, List, [], ◌∷◌, length, get_or, set}
-use Rattle.std.proofs.Common.{replicate, refl, sym, ◌∙◌, ap, subst, arith}
+use Rattle.std.proofs.Common.{◌≡◌, ℕ, ◌≤◌, ◌<◌, ◌⊎◌, inl, inr, List, [], ◌∷◌, length, get_or, set}
+use Rattle.std.proofs.Common.{refl, sym, ◌∙◌, ap, subst, arith}
 use Rattle.std.proofs.lemmas.Bool.{cases_eq, cases_lt}
 use Rattle.std.proofs.lemmas.List.{get_or-map, get_or-set_same, get_or-set_other, length-map, length-set, map-set}
 use Rattle.shop_lanes.specs.Rows.{Lane}
 use Rattle.shop_lanes.specs.Spans.{spans_between}
 use Rattle.shop_states.specs.declared.head_raises.LaneRaise.{LaneRaise}
-use Rattle.shop_states.specs.inner.HeadRaises.{Raise, no_raise, nothing_raised, raise_in, raise_of, raises_in, widened}
+use Rattle.shop_states.specs.inner.HeadRaises.{Raise, no_raise, raise_in, raise_of, raises_in, widened}
 use Rattle.shop_states.specs.inner.MachineRaises.{AreEmpty, AreListed, IsSpanByRaise}
 use Rattle.shop_states.specs.inner.JobSets.{HasPut}
 use Rattle.shop_states.specs.inner.RisingLists.{IsIn}
@@ -31,15 +31,6 @@ module _ {N : Type 0} (value : N → ℕ) where
       → length (raises_in value after) ≡ length (raises_in value before) → length after ≡ length before
   lengths_in before after same = sym (length-map after (raise_in value)) ∙ same ∙ length-map before (raise_in value)
 
--- nothing is raised at first
-pub none_raised : (n greatest : ℕ) (raises : List Raise) → raises ≡ replicate n (nothing_raised greatest)
-    → AreEmpty raises
-none_raised n greatest raises is = subst AreEmpty (sym is) (empty n) where
-  empty : (k : ℕ) → AreEmpty (replicate k (nothing_raised greatest))
-  empty zero m = refl
-  empty (suc k) zero = refl
-  empty (suc k) (suc m) = empty k m
-
 -- a raise that was widened, and its machine put into the set
 pub listed_more : (raises : List Raise) (machines after : List ℕ) (m a b : ℕ) → AreListed raises machines
     → m < length raises → HasPut m machines after
@@ -60,7 +51,7 @@ listed_more raises machines after m a b are known put =
     }
 
 -- the first of the list, whose raise is empty now
-module _ (raises : List Raise) (machines rest : List ℕ) (m : ℕ) (are : AreListed raises machines)
+module _ {raises : List Raise} {machines rest : List ℕ} {m : ℕ} (are : AreListed raises machines)
     (popped : machines ≡ m ∷ rest) where
   pub first_known : m < length raises
   first_known = are.known m (subst (λ (xs : List ℕ). IsIn xs m) (sym popped) (inl refl))
@@ -98,14 +89,6 @@ all_empty raises are m = elim (cases_lt 0 (raise_of raises m).to) [
   | inr none ↦ omega arith
 ]
 
--- at rest nothing is listed
-pub none_listed : (raises : List Raise) → length raises ≤ 128 → AreEmpty raises → AreListed raises []
-none_listed raises few none = record {
-  few = few;
-  known = λ m h. absurd h;
-  listed = λ m some. absurd (let z = none m in omega arith);
-}
-
 -- what begins within the raises before, but for those that are left, is bounded
 pub record IsTakenSo (least limit : ℕ) (old : List Raise) (on : ℕ → List Lane) (raises : List Raise)
     (machines : List ℕ) (bound : ℕ) : Type 0 where
@@ -118,49 +101,39 @@ pub record IsTakenSo (least limit : ℕ) (old : List Raise) (on : ℕ → List L
   pub within : (c : ℕ) → least ≤ c
       → ((m above upto : ℕ) → m < length old → spans_between above upto (on m) ≤ c) → bound ≤ c
 
-module _ (least limit : ℕ) (old : List Raise) (on : ℕ → List Lane) where
-  pub taken_none : (machines : List ℕ) → AreListed old machines → IsTakenSo least limit old on old machines least
-  taken_none machines are = record {
-    are_listed = are;
-    long = refl;
-    smaller = λ m. omega arith;
-    low = omega arith;
-    covers = λ under m. inl refl;
-    within = λ c low each. low;
-  }
-
-  pub taken_more : (raises : List Raise) (machines rest : List ℕ) (bound : ℕ)
-      → IsTakenSo least limit old on raises machines bound → (m : ℕ) → machines ≡ m ∷ rest
-      → (empty : Raise) → empty.to ≡ 0 → (b : ℕ) → IsSpanByRaise (raise_of raises m) (on m) limit bound b
+module _ {least limit : ℕ} {old : List Raise} {on : ℕ → List Lane} where
+  pub taken_more : {raises : List Raise} {machines rest : List ℕ} {bound : ℕ}
+      → IsTakenSo least limit old on raises machines bound → {m : ℕ} → machines ≡ m ∷ rest
+      → (empty : Raise) → empty.to ≡ 0 → {b : ℕ} → IsSpanByRaise (raise_of raises m) (on m) limit bound b
       → IsTakenSo least limit old on (set raises m empty) rest b
-  taken_more raises machines rest bound so m popped empty none b turn =
+  taken_more {raises} {machines} {rest} so {m} popped empty none turn =
       let are = so.are_listed in let low = so.low in let more = turn.low in let long = so.long
-      in let known = first_known raises machines rest m are popped
+      in let known = first_known are popped
       in record {
-        are_listed = listed_less raises machines rest m are popped empty none;
+        are_listed = listed_less are popped empty none;
         long = length-set raises m empty ∙ so.long;
         smaller = λ n. elim (cases_eq n m) [
-          | inl e ↦ (let z = raise_emptied raises machines rest m are popped empty none n e in omega arith)
+          | inl e ↦ (let z = raise_emptied are popped empty none n e in omega arith)
           | inr ne ↦ (let f = ap (λ (r : Raise). r.to)
-              (raise_elsewhere raises machines rest m are popped empty none n ne)
+              (raise_elsewhere are popped empty none n ne)
               in let s = so.smaller n in omega arith)
         ];
         low = omega arith;
         covers = λ under n. elim (so.covers (omega arith) n) [
           | inl same ↦ elim (cases_eq n m) [
             | inl e ↦ inr (rw (same, e) (turn.covers under))
-            | inr ne ↦ inl (same ∙ sym (raise_elsewhere raises machines rest m are popped empty none n ne))
+            | inr ne ↦ inl (same ∙ sym (raise_elsewhere are popped empty none n ne))
           ]
           | inr done ↦ inr (omega arith)
         ];
         within = λ c above each. turn.within c (so.within c above each) (λ x y. each m x y (omega arith));
       }
 
-  pub taken_all : (raises : List Raise) (machines : List ℕ) (bound : ℕ) → machines ≡ []
+  pub taken_all : {raises : List Raise} {machines : List ℕ} {bound : ℕ} → machines ≡ []
       → IsTakenSo least limit old on raises machines bound
       → AreEmpty raises × (bound < limit → (m : ℕ)
       → spans_between (raise_of old m).from (raise_of old m).to (on m) ≤ bound)
-  taken_all raises machines bound none so =
+  taken_all {raises} none so =
       let empty = all_empty raises (subst (AreListed raises) none so.are_listed)
       in (
         empty,

@@ -12,8 +12,7 @@ use Rattle.shop_model.specs.Word.{Placing}
 use Rattle.shop_bound.specs.Heads.{head_of}
 use Rattle.shop_states.proofs.LeftSlots.{is_left, triple_of, left_of}
 use Rattle.shop_bound.specs.inner.NonincreasingTails.{begins_between, one_between}
-use Rattle.shop_bound.proofs.Lists.{IsSublist, none, skip, keep, all_map, all_both, least_of-le}
-use Rattle.shop_bound.proofs.Lists.{greatest_of-le}
+use Rattle.shop_bound.proofs.Lists.{IsSublist, none, skip, keep, all_map, all_both, least_of-le, greatest_of-le}
 use Rattle.shop_bound.proofs.ThresholdLemmas.{le-greatest_sublist, le-least_of, sublists-are}
 
 -- y is x with the same head, or with one that is at most `to` where x has one that is at least `from` less 1

@@ -6,11 +6,11 @@ use Rattle.shop_layout.specs.Positions.{LayoutState}
 use Rattle.shop_states.specs.inner.Candidates.{IsCandidateOf}
 use Rattle.shop_states.specs.inner.LaneStates.{IsKeptInLanes}
 
-pub kept_read : (greatest : ℕ) (shop : Shop) (w : List ℕ) (l read : LayoutState) (heads ends nexts given : List ℕ)
+pub kept_read : {greatest : ℕ} {shop : Shop} {w : List ℕ} {l read : LayoutState} {heads ends nexts given : List ℕ}
     → read ≡ l → given ≡ nexts → IsKeptInLanes greatest shop w l (rows_of l heads ends) nexts
     → IsKeptInLanes greatest shop w read (rows_of read heads ends) given
-kept_read greatest shop w l read heads ends nexts given is are kept = rw (is, are) kept
+kept_read is are kept = rw (is, are) kept
 
-pub candidate_read : (shop : Shop) (w : List ℕ) (l read : LayoutState) (job own : ℕ) → read ≡ l
+pub candidate_read : {shop : Shop} {w : List ℕ} {l read : LayoutState} {job own : ℕ} → read ≡ l
     → IsCandidateOf shop w l job own → IsCandidateOf shop w read job own
-candidate_read shop w l read job own is candidate = rw is candidate
+candidate_read is candidate = rw is candidate

@@ -16,10 +16,6 @@ pub beside_as : (R S : Lane → Lane → Type 0) → ((x y : Lane) → R x y →
 beside_as R S f nothing = nothing
 beside_as R S f (beside x y r rest) = beside x y (f x y r) (beside_as R S f rest)
 
-beside_itself : (R : Lane → Lane → Type 0) → ((x : Lane) → R x x) → (xs : List Lane) → AreBeside R xs xs
-beside_itself R f [] = nothing
-beside_itself R f (x ∷ xs) = beside x x (f x) (beside_itself R f xs)
-
 -- the second lane counts from a on only where the first counts from b on
 pub record IsServedBefore (b a : ℕ) (x y : Lane) : Type 0 where
   pub time : y.time ≡ x.time

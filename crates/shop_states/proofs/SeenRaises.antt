@@ -82,8 +82,8 @@ lanes_are : (l : LayoutState) (rows : Rows) (hs : List ℕ) → rows.heads ≡ h
     → lanes_of hs l.times l.tails (get_or l.blocks m 0) (get_or l.blocks (m + 1) 0) ≡ lanes_on rows l m
 lanes_are l rows hs heads times tails m = rw (heads, times, tails) refl
 
-module _ (shop : Shop) (limits : IsWithinLimits shop) (l : LayoutState) (laid : IsLaidOut shop l) (w : List ℕ) (j : ℕ)
-    (fits : IsWord shop (w ++ j ∷ [])) (was now : List ℕ) (old : AreHeadsAt shop (placing shop w) l was)
+module _ {shop : Shop} (limits : IsWithinLimits shop) {l : LayoutState} (laid : IsLaidOut shop l) (w : List ℕ)
+    (j : ℕ) (fits : IsWord shop (w ++ j ∷ [])) {was now : List ℕ} (old : AreHeadsAt shop (placing shop w) l was)
     (new : AreHeadsAt shop (place_next shop (placing shop w) j) l now) where
   -- what waits now waited before
   waited : (q : ℕ) → 0 < get_or now q 0 → 0 < get_or was q 0
@@ -100,8 +100,8 @@ module _ (shop : Shop) (limits : IsWithinLimits shop) (l : LayoutState) (laid : 
   ]
 
   -- from the end on, all that waits now waited before, the operation aside
-  module _ (left : List ℕ) (stored : AreStored shop (place_next shop (placing shop w) j).steps
-      (head_of shop (placing shop w)) l left) where
+  module _ {left : List ℕ}
+      (stored : AreStored shop (place_next shop (placing shop w) j).steps (head_of shop (placing shop w)) l left) where
     waited_left : (q : ℕ) → 0 < get_or now q 0 → 0 < get_or left q 0
     waited_left q some = elim (each_position shop limits l laid q) [
       | inl o ↦ (let b : get_or now (place l o.job o.step) 0 ≡ get_or now q 0 = ap (λ (x : ℕ). get_or now x 0) o.at
@@ -128,10 +128,9 @@ module _ (shop : Shop) (limits : IsWithinLimits shop) (l : LayoutState) (laid : 
           counts = λ on. r.head.some (omega arith);
         }) risen) h end up
 
-  module _ (ms : List ℕ) (machines : AreMachinesOf l.blocks shop.machines ms) (own end least m : ℕ)
-      (known : m < shop.machines) (raise : Raise)
-      (covered : (q : ℕ) → get_or ms q 0 ≡ m → 0 < get_or now q 0
-      → IsSeenAt raise (floor_on own end m) (get_or was q 0) (get_or now q 0)) where
+  module _ {ms : List ℕ} (machines : AreMachinesOf l.blocks shop.machines ms) (own end least m : ℕ)
+      (known : m < shop.machines) (raise : Raise) (covered : (q : ℕ) → get_or ms q 0 ≡ m → 0 < get_or now q 0 → IsSeenAt
+      raise (floor_on own end m) (get_or was q 0) (get_or now q 0)) where
     risen : (floor : ℕ) → floor_on own end m ≤ floor → (q : ℕ) → first_position l m ≤ q
         → q < first_position l (m + 1) → IsRisen raise.from raise.to floor (get_or was q 0) (get_or now q 0)
     risen floor foreseen q from to = record {
@@ -174,7 +173,7 @@ module _ (shop : Shop) (limits : IsWithinLimits shop) (l : LayoutState) (laid : 
           in let word = IsWord-init shop w j fits
           in let falls = left_falls shop p (get_or laid.slots m [])
           (laid.are.slots m known).nonincreasing
-          in let a = from_head_within (left_matched shop limits l laid m known p was old) falls (g - 1)
+          in let a = from_head_within (left_matched limits laid m known p was old) falls (g - 1)
           in let b = left-le-lb shop limits laid.slots laid.are w word m known
           in let e = ap (λ (xs : List Lane). span (g - 1 + 1) (g - 1 + 1) xs) (lanes_are l rows was heads times tails m)
           in let f : span (g - 1 + 1) (g - 1 + 1) (lanes_on rows l m) ≡ span g g (lanes_on rows l m) =
@@ -182,8 +181,7 @@ module _ (shop : Shop) (limits : IsWithinLimits shop) (l : LayoutState) (laid : 
           in omega arith
 
       IsHere : Type 0
-      IsHere = IsBounded shop limits l laid w j fits was now old new rows' heads' times' tails' least
-          raise m
+      IsHere = IsBounded limits laid w j fits old new rows' heads' times' tails' least raise m
 
       bounded_from : (floor : ℕ) → floor_on own end m ≤ floor
           → ((h : ℕ) → 0 < h → h ≤ floor → span h h (lanes_on rows' l m) ≤ least + 1) → IsHere
@@ -192,14 +190,13 @@ module _ (shop : Shop) (limits : IsWithinLimits shop) (l : LayoutState) (laid : 
           let a = spans_risen top (lb shop w + 1) raise.from raise.to floor
           (lanes_on rows l m) spans_before (b + 1) (omega arith) (lanes_on rows' l m)
           (beside floor foreseen) (λ h some up. let c = lowest h some up in omega arith) inside
-          in bounded_by_raise shop limits l laid w j fits was now old new rows' heads' times' tails' least parent
+          in bounded_by_raise limits laid w j fits old new rows' heads' times' tails' least parent
           (record { from = 0; to = top }) m known
-          (covered_all shop limits l laid w j fits was now old new (record { from = 0; to = top }) refl small m)
+          (covered_all limits laid w j fits old new (record { from = 0; to = top }) refl small m)
           b above a
 
       -- on the machine of the operation what begins up to its end is foreseen
-      pub bounded_by_seen : IsBounded shop limits l laid w j fits was now old new rows' heads' times' tails' least
-          raise m
+      pub bounded_by_seen : IsBounded limits laid w j fits old new rows' heads' times' tails' least raise m
       unfolding IsHere
       bounded_by_seen = elim (cases_eq m own) [
         | inl on ↦ bounded_from end

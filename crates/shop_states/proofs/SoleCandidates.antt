@@ -2,8 +2,7 @@
 use Rattle.std.proofs.Common.{◌≡◌, ℕ, zero, suc, ◌+◌, ◌-◌, ◌≤◌, ◌<◌, inl, inr, List, [], ◌∷◌}
 use Rattle.std.proofs.Common.{◌++◌, refl, sym, ◌∙◌, ap, subst, arith, eqb, ltb, true}
 use Rattle.std.specs.List.{best_of}
-use Rattle.std.proofs.lemmas.Bool.{cases_eq, cases_lt, and_from, eq-eqb, le-ltb, lt-ltb, or_left}
-use Rattle.std.proofs.lemmas.Bool.{or_right}
+use Rattle.std.proofs.lemmas.Bool.{cases_eq, cases_lt, and_from, eq-eqb, le-ltb, lt-ltb, or_left, or_right}
 use Rattle.shop_model.specs.Limits.{IsWithinLimits}
 use Rattle.shop_model.specs.Shop.{Shop, IsOperation, machine_of}
 use Rattle.shop_model.specs.Word.{Placing, IsWord, placing, place_next}
@@ -11,9 +10,8 @@ use Rattle.shop_model.proofs.Greatest.{le-greatest_below}
 use Rattle.shop_model.proofs.Placings.{IsNext, place_next-is}
 use Rattle.shop_model.proofs.Unders.{after_word}
 use Rattle.shop_bound.specs.Bound.{waiting, triples_on, lb}
-use Rattle.shop_bound.specs.Conflicts.{open_jobs, next_machine, next_head, next_end, chosen_of}
-use Rattle.shop_bound.specs.Conflicts.{conflicts_with, conflict, conflict_among}
-use Rattle.shop_bound.specs.Conflicts.{SoleCandidateKeepsBound}
+use Rattle.shop_bound.specs.Conflicts.{open_jobs, next_machine, next_head, next_end, chosen_of, conflicts_with}
+use Rattle.shop_bound.specs.Conflicts.{conflict, conflict_among, SoleCandidateKeepsBound}
 use Rattle.shop_bound.specs.Heads.{ready_after, head_of}
 use Rattle.shop_bound.specs.OneMachine.{one}
 use Rattle.shop_layout.specs.Slots.{AreMachineSlots}
@@ -152,12 +150,12 @@ sole_keeps_bound shop limits slots are w word j alone =
     in let m = next_machine shop p j
     in let known = limits.on_machines j (p.steps j)
     in let left : (i : ℕ) → i < shop.machines → one (left_for shop slots q i) ≤ lb shop w = (λ i machine.
-    let a = raised_left shop limits slots are w j fits i 1 0 machine
+    let a = raised_left limits are w j fits i 1 0 machine
     (λ x k op on opened. inl (sym (heads_stay shop p j sole q n x k op opened)))
     in let c = one_between-none 1 0 (left_for shop slots q i) (omega arith) in omega arith)
     in let a = end-le-left shop limits p j q n sole.operation m refl
     in let b = le-greatest_below (λ i. one (triples_on i (waiting shop p))) shop.machines m known
-    in let most = child-le shop limits slots are w j fits (lb shop w) (omega arith) (omega arith) left
+    in let most = child-le limits are w j fits (lb shop w) (omega arith) (omega arith) left
     in let least = bounds_rise shop w (j ∷ []) limits fits
     in omega arith
 

@@ -11,7 +11,7 @@ use Rattle.shop_model.proofs.Placings.{place_next-is}
 use Rattle.shop_model.proofs.Unders.{placing-snoc}
 use Rattle.shop_states.specs.inner.LaneChoices.{AreNextsAt, AreNextsOf}
 use Rattle.shop_states.specs.inner.LaneEnds.{AreEndsOf, CanKeepEnds, HasEnds, IsEndOf, end_at}
-use Rattle.shop_states.specs.inner.LaneStates.{AreHeadsInLanes, HasNextAt, IsKeptInLanes}
+use Rattle.shop_states.specs.inner.LaneStates.{AreHeadsInLanes, IsKeptInLanes}
 use Rattle.shop_layout.specs.Positions.{place_or, LayoutState, first_position, place}
 use Rattle.shop_states.specs.inner.Raises.{AreFirst}
 use Rattle.shop_states.proofs.ChildReads.{is_operation}
@@ -22,41 +22,29 @@ use Rattle.shop_states.proofs.NextOperations.{next_there, next_within}
 use Rattle.shop_states.proofs.RaisedHeads.{followed}
 use Rattle.shop_states.proofs.SoleCandidates.{sole_keeps_bound}
 
-module _ (greatest : ℕ) (shop : Shop) (w : List ℕ) (j : ℕ) (l : LayoutState) (rows : Rows) (nexts : List ℕ)
+module _ {greatest : ℕ} {shop : Shop} {w : List ℕ} (j : ℕ) {l : LayoutState} {rows : Rows} {nexts : List ℕ}
     (kept : IsKeptInLanes greatest shop w l rows nexts) (fits : IsWord shop (w ++ j ∷ [])) where
   pub next_known : j < length nexts
   next_known = let a = its_job shop w j fits in let b = kept.are_next.jobs in omega arith
 
   pub firsts : AreFirst l nexts rows.heads
-  firsts = next_first greatest shop w l rows kept.kept nexts kept.are_next
+  firsts = next_first kept.kept kept.are_next
 
   there : AreNextsAt shop (placing shop w) l nexts rows
-  there = nexts_at greatest shop w l rows kept.kept nexts kept.are_next
+  there = nexts_at kept.kept kept.are_next
 
   operation : IsOperation shop j ((placing shop w).steps j)
-  operation = is_operation greatest shop w l rows kept.kept j fits
+  operation = is_operation kept.kept j fits
 
-  module _ (x : ℕ) (x_is : x ≡ get_or nexts j 0) where
+  module _ {x : ℕ} (x_is : x ≡ get_or nexts j 0) where
     pub next_at : x ≡ place l j ((placing shop w).steps j)
-    next_at = x_is ∙ next_there shop (placing shop w) l nexts rows there j operation
+    next_at = x_is ∙ next_there there j operation
 
     pub within : x < length rows.heads
-    within = let a = next_within shop (placing shop w) l nexts rows there j operation in let b = x_is in omega arith
-
-    pub has_next : HasNextAt greatest l nexts x rows
-    has_next = record {
-      shop = shop;
-      word = w;
-      job = j;
-      kept = kept.kept;
-      fits = fits;
-      at = next_at;
-      firsts = firsts;
-      ends = (let a = kept.are_next.jobs in let b = kept.ends.jobs in omega arith);
-    }
+    within = let a = next_within there j operation in let b = x_is in omega arith
 
     -- and the one behind it
-    module _ (q : ℕ) (read : q ≡ get_or l.following x 0) (after : List ℕ) (wrote : after ≡ set nexts j q) where
+    module _ {q : ℕ} (read : q ≡ get_or l.following x 0) {after : List ℕ} (wrote : after ≡ set nexts j q) where
       nexts_more : AreNextsOf shop (placing shop (w ++ j ∷ [])) l after
       nexts_more =
           let next = place_next-is shop (placing shop w) j
@@ -66,7 +54,7 @@ module _ (greatest : ℕ) (shop : Shop) (w : List ℕ) (j : ℕ) (l : LayoutStat
           in let placed : placing shop (w ++ j ∷ []) ≡ place_next shop (placing shop w) j = placing-snoc shop w j
           in let follows : q ≡ place_or n l.places j ((placing shop w).steps j + 1) =
           read ∙ (ap (λ (y : ℕ). get_or l.following y 0) next_at
-          ∙ (followed shop kept.kept.limits l kept.kept.laid n refl).follows j ((placing shop w).steps j)
+          ∙ (followed kept.kept.limits kept.kept.laid refl).follows j ((placing shop w).steps j)
           (omega arith))
           in let here : get_or (set nexts j q) j 0
           ≡ place_or n l.places j ((placing shop (w ++ j ∷ [])).steps j) =
@@ -85,15 +73,14 @@ module _ (greatest : ℕ) (shop : Shop) (w : List ℕ) (j : ℕ) (l : LayoutStat
           }
 
       -- in the heads of the word with the operation, with the ends of other jobs
-      module _ (new : Rows) (now : AreHeadsInLanes greatest shop (w ++ j ∷ []) l new)
-          (long : length new.ends ≡ length rows.ends)
-          (others : (i : ℕ) → i < length nexts → (get_or nexts i 0 ≡ x → ⊥) → IsEndOf greatest nexts rows i
-          → IsEndOf greatest nexts new i) where
+      module _ {new : Rows} (now : AreHeadsInLanes greatest shop (w ++ j ∷ []) l new)
+          (long : length new.ends ≡ length rows.ends) (others : (i : ℕ) → i < length nexts → (get_or nexts i 0 ≡ x → ⊥)
+          → IsEndOf greatest nexts rows i → IsEndOf greatest nexts new i) where
         as_many_ends : length new.ends ≡ length shop.jobs
         as_many_ends = long ∙ kept.ends.jobs
 
         pub ends_more : CanKeepEnds greatest l after new
-        ends_more = can_keep greatest shop (w ++ j ∷ []) l new now after nexts_more as_many_ends
+        ends_more = can_keep now nexts_more as_many_ends
 
         pub job_more : j < length after
         job_more = let a = next_known in let b = ap length wrote in omega (arith, length-set nexts j q)
@@ -106,36 +93,33 @@ module _ (greatest : ℕ) (shop : Shop) (w : List ℕ) (j : ℕ) (l : LayoutStat
             in let b = firsts.own j next_known (let c = x_is in omega arith)
             in ne (sym a ∙ (ap (λ (y : ℕ). get_or l.jobs y 0) (at ∙ x_is) ∙ b))
 
-        module _ (ended : Rows) (set_end : ended ≡ with_end new j (end_at greatest after new j)) where
+        module _ {ended : Rows} (set_end : ended ≡ with_end new j (end_at greatest after new j)) where
           same : HasEnds new new
           same = record { heads = refl; times = refl; tails = refl; ends = refl }
 
           beside : HasEnds new ended
-          beside = beside_more greatest l after new ends_more new same j job_more ended set_end
+          beside = beside_more ends_more same job_more set_end
 
           ends_set : AreEndsOf greatest after ended
           ends_set i known = elim (cases_eq i j) [
             | inl e ↦ subst (IsEndOf greatest after ended) (sym e)
-                (end_here greatest l after new ends_more new same j job_more ended set_end)
+                (end_here ends_more same job_more set_end)
             | inr ne ↦ (
                 let before : i < length nexts = (let a = ap length wrote in omega (arith, length-set nexts j q))
-                in let was = ends_of greatest shop w l rows kept.kept nexts kept.are_next kept.ends.jobs kept.ends
-                i before
+                in let was = ends_of kept.kept kept.are_next kept.ends.jobs kept.ends i before
                 in let now = others i before (elsewhere i before ne) was
                 in let next : get_or after i 0 ≡ get_or nexts i 0 =
                 ap (λ (xs : List ℕ). get_or xs i 0) wrote ∙ get_or-set_other nexts j i q 0 ne
-                in end_other greatest l after new ends_more new same j job_more ended set_end i ne
-                (rw next now))
+                in end_other ends_more same job_more set_end i ne (rw next now))
           ]
 
           pub kept_more : IsKeptInLanes greatest shop (w ++ j ∷ []) l ended after
           kept_more =
-              let heads = with_ends greatest shop (w ++ j ∷ []) l new ended beside now
+              let heads = with_ends beside now
               in record {
                 kept = heads;
                 are_next = nexts_more;
-                ends = ends_at greatest shop (w ++ j ∷ []) l ended heads after nexts_more
-                    (beside.ends ∙ as_many_ends) kept.holds ends_set;
+                ends = ends_at heads nexts_more (beside.ends ∙ as_many_ends) kept.holds ends_set;
                 holds = kept.holds;
                 sole = sole_keeps_bound shop now.limits now.laid.slots now.laid.are (w ++ j ∷ []) now.word;
               }

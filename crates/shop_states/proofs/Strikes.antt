@@ -25,10 +25,10 @@ module _ {greatest : ℕ} {shop : Shop} {w : List ℕ} {l : LayoutState} {rows :
   fits = sole_fits shop w kept.kept.word j alone
 
   pub its_job : j < length nexts
-  its_job = next_known greatest shop w j l rows nexts kept fits
+  its_job = next_known j kept fits
 
   pub its_position : get_or nexts j 0 < length rows.heads
-  its_position = within greatest shop w j l rows nexts kept fits x refl
+  its_position = within j kept fits refl
 
   pub lists_long : (length l.times ≡ length rows.heads) × (length l.following ≡ length rows.heads)
   lists_long = (
@@ -38,7 +38,7 @@ module _ {greatest : ℕ} {shop : Shop} {w : List ℕ} {l : LayoutState} {rows :
 
   module _ {lifted : Rows} (wrote : lifted ≡ with_head rows (get_or nexts j 0) 0) where
     its_place : get_or nexts j 0 ≡ place l j ((placing shop w).steps j)
-    its_place = next_at greatest shop w j l rows nexts kept fits x refl
+    its_place = next_at j kept fits refl
 
     heads : lifted.heads ≡ set rows.heads (place l j ((placing shop w).steps j)) 0
     heads = ap (λ (r : Rows). r.heads) wrote ∙ ap (λ (q : ℕ). set rows.heads q 0) its_place
@@ -48,7 +48,7 @@ module _ {greatest : ℕ} {shop : Shop} {w : List ℕ} {l : LayoutState} {rows :
 
     now_heads : AreHeadsAt shop (place_next shop (placing shop w) j) l lifted.heads
     now_heads =
-        let stored = left_stored greatest shop w l rows kept.kept j fits
+        let stored = left_stored kept.kept j fits
         in subst (AreHeadsAt shop (place_next shop (placing shop w) j) l) (sym heads) (record {
           positions = stored.positions;
           waiting = λ i k op opened. (let a = stored.waiting i k op opened
@@ -90,11 +90,9 @@ module _ {greatest : ℕ} {shop : Shop} {w : List ℕ} {l : LayoutState} {rows :
 
     pub struck_keep : {after : List ℕ} → after ≡ set nexts j (get_or l.following (get_or nexts j 0) 0)
         → CanKeepEnds greatest l after lifted
-    struck_keep {after} followed = ends_more greatest shop w j l rows nexts kept fits x refl
-        (get_or l.following x 0) refl after followed lifted now ends_long others
+    struck_keep {after} followed = ends_more j kept fits refl refl followed now ends_long others
 
     pub struck_kept : {after : List ℕ} → after ≡ set nexts j (get_or l.following (get_or nexts j 0) 0)
         → {ended : Rows} → ended ≡ with_end lifted j (end_at greatest after lifted j)
         → IsKeptInLanes greatest shop (w ++ j ∷ []) l ended after
-    struck_kept {after} followed {ended} ends = kept_more greatest shop w j l rows nexts kept fits x refl
-        (get_or l.following x 0) refl after followed lifted now ends_long others ended ends
+    struck_kept {after} followed {ended} ends = kept_more j kept fits refl refl followed now ends_long others ends

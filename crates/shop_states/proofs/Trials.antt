@@ -6,7 +6,7 @@ use Rattle.std.proofs.lemmas.Grind.{get_or-set_at}
 use Rattle.std.proofs.lemmas.List.{get_or-set_other}
 use Rattle.shop_lanes.specs.Rows.{Rows, with_end, with_head}
 use Rattle.shop_lanes.specs.Spans.{spans_between}
-use Rattle.shop_model.specs.Shop.{Shop}
+use Rattle.shop_model.specs.Shop.{Shop, machine_of}
 use Rattle.shop_model.specs.Word.{IsWord, placing}
 use Rattle.shop_bound.specs.Bound.{lb}
 use Rattle.shop_states.specs.inner.Advances.{IsLeastAt}
@@ -16,17 +16,18 @@ use Rattle.shop_layout.specs.HeadLimits.{latest_end}
 use Rattle.shop_states.specs.inner.HeadRaises.{Raise, raise_of}
 use Rattle.shop_states.specs.inner.LaneBounds.{AreSpansFit}
 use Rattle.shop_layout.specs.Lanes.{lanes_on, rows_of}
-use Rattle.shop_states.specs.inner.LaneEnds.{CanKeepEnds, end_at}
-use Rattle.shop_states.specs.inner.LaneStates.{Advances, AreHeadsInLanes, HasNextAt, IsKeptInLanes}
+use Rattle.shop_states.specs.inner.LaneEnds.{CanKeepEnds, IsEndOf, end_at}
+use Rattle.shop_states.specs.inner.LaneStates.{AreHeadsInLanes, IsKeptInLanes}
 use Rattle.shop_layout.specs.Positions.{IsLaidOut, LayoutState, place}
 use Rattle.shop_states.specs.inner.MachineRaises.{AreEmpty, AreRaisesFit}
 use Rattle.shop_states.specs.inner.Raises.{HasBlocks, IsOnMachine, IsRaisable, Raises}
 use Rattle.shop_states.specs.inner.Watchers.{AreSeen, IsSeenAt, Sees, Watches, floor_on}
 use Rattle.shop_states.proofs.RaiseSteps.{put_is}
-use Rattle.shop_states.proofs.AdvanceSteps.{advances, end_small, struck_blocks, struck_raisable}
+use Rattle.shop_states.proofs.AdvanceSteps.{advanced, advanced_long, advanced_others, end_small, lifted_blocks}
+use Rattle.shop_states.proofs.AdvanceSteps.{lifted_raisable, machine_here}
 use Rattle.shop_states.proofs.ChildTurns.{next_small, raised_is}
 use Rattle.shop_states.proofs.LaneFits.{spans_fit}
-use Rattle.shop_states.proofs.StateSteps.{ends_more, has_next, kept_more, next_at, next_known, within}
+use Rattle.shop_states.proofs.StateSteps.{ends_more, firsts, kept_more, next_at, next_known, within}
 
 -- instances with one layout have as many machines
 pub same_machines : {l : LayoutState} {shop other : Shop} → IsLaidOut shop l → IsLaidOut other l
@@ -41,17 +42,14 @@ module _ {greatest : ℕ} {shop : Shop} {w : List ℕ} {l : LayoutState} {hs es 
   abbrev x : ℕ
   x = get_or nexts j 0
 
-  its_next : HasNextAt greatest l nexts (get_or nexts j 0) rows
-  its_next = has_next greatest shop w j l rows nexts kept fits x refl
-
   pub its_job : j < length nexts
-  its_job = next_known greatest shop w j l rows nexts kept fits
+  its_job = next_known j kept fits
 
   its_position : get_or nexts j 0 < length hs
-  its_position = within greatest shop w j l rows nexts kept fits x refl
+  its_position = within j kept fits refl
 
   its_place : get_or nexts j 0 ≡ place l j ((placing shop w).steps j)
-  its_place = next_at greatest shop w j l rows nexts kept fits x refl
+  its_place = next_at j kept fits refl
 
   -- what is read of it
   module _ {read : LayoutState} (same : read ≡ l) {m : ℕ} (on : m ≡ get_or read.machines (get_or nexts j 0) 0)
@@ -63,25 +61,27 @@ module _ {greatest : ℕ} {shop : Shop} {w : List ℕ} {l : LayoutState} {hs es 
     timed = time ∙ ap (λ (r : LayoutState). get_or r.times x 0) same
 
     pub its_end : h + t ≤ greatest
-    its_end = (end_small greatest shop l rows w j kept.kept fits x h t its_place head timed).1
+    its_end = (end_small j kept.kept fits its_place head timed).1
+
+    on_its : m ≡ machine_of shop j ((placing shop w).steps j)
+    on_its = machine_here j kept.kept fits its_place here
 
     machine_known : m < shop.machines
-    machine_known =
-        let a = its_position in let b = kept.kept.laid.machines_at.positions in let d = kept.kept.heads.positions
-        in let known = kept.kept.laid.machines_at.known x (omega arith) in let e = here in omega arith
+    machine_known = let a = on_its in let b = kept.kept.limits.on_machines j ((placing shop w).steps j) in omega arith
 
     module _ {hs' es' : List ℕ} (struck : hs' ≡ set hs (get_or nexts j 0) 0) (beside : es' ≡ es) where
       abbrev lifted : Rows
       lifted = rows_of l hs' es'
 
       wrote : lifted ≡ with_head rows x 0
-      wrote = put_is l hs es hs' es' x 0 struck beside
+      wrote = put_is l hs x 0 struck beside
 
       pub trial_blocks : HasBlocks l (length hs') m
-      trial_blocks = struck_blocks greatest l nexts x m h t rows its_next here head timed lifted wrote
+      trial_blocks = lifted_blocks j kept.kept fits its_place head timed wrote on_its
 
       pub trial_raisable : IsRaisable greatest l nexts (rows_of l hs' es') (IsOnMachine l m) (h + t)
-      trial_raisable = struck_raisable greatest l nexts x m h t rows its_next here head timed lifted wrote
+      trial_raisable = lifted_raisable j kept.kept fits its_place head timed wrote on_its (firsts j kept fits)
+          (let a = kept.are_next.jobs in let b = kept.ends.jobs in omega arith)
 
       lifted_low : (q : ℕ) → get_or hs' q 0 ≤ get_or hs q 0
       lifted_low q = elim (cases_eq q x) [
@@ -93,28 +93,27 @@ module _ {greatest : ℕ} {shop : Shop} {w : List ℕ} {l : LayoutState} {hs es 
 
       module _ {new : Rows} (raising : Raises greatest l nexts (IsOnMachine l m) (h + t) (rows_of l hs' es') new)
         where
-          trial_advances : Advances greatest l nexts (get_or nexts j 0) rows new
-          trial_advances =
-              advances greatest l nexts x m h t rows its_next here head timed lifted wrote new raising
-
           now_heads : AreHeadsInLanes greatest shop (w ++ j ∷ []) l new
-          now_heads = trial_advances.heads shop w j kept.kept fits its_place
+          now_heads = advanced j kept.kept fits its_place head timed wrote on_its raising
+
+          ends_long : length new.ends ≡ length es
+          ends_long = advanced_long j kept.kept fits its_place head timed wrote on_its raising
+
+          others : (i : ℕ) → i < length nexts → (get_or nexts i 0 ≡ x → ⊥) → IsEndOf greatest nexts rows i
+              → IsEndOf greatest nexts new i
+          others = advanced_others j kept.kept fits its_place head timed wrote on_its raising
 
           small : (q : ℕ) → get_or new.heads q 0 ≤ latest_end shop + 1
-          small = next_small greatest shop l j x rows new nexts trial_advances (latest_end shop + 1) refl w kept.kept
-              fits its_place
+          small = next_small kept.kept j fits now_heads
 
           -- the operation that follows is the next one
           module _ {after : List ℕ} (followed : after ≡ set nexts j (get_or l.following (get_or nexts j 0) 0)) where
             pub trial_keep : CanKeepEnds greatest l after new
-            trial_keep = ends_more greatest shop w j l rows nexts kept fits x refl (get_or l.following x 0) refl
-                after followed new now_heads trial_advances.long trial_advances.others
+            trial_keep = ends_more j kept fits refl refl followed now_heads ends_long others
 
             pub trial_kept : {ended : Rows} → ended ≡ with_end new j (end_at greatest after new j)
                 → IsKeptInLanes greatest shop (w ++ j ∷ []) l ended after
-            trial_kept {ended} ends = kept_more greatest shop w j l rows nexts kept fits x refl
-                (get_or l.following x 0) refl after followed new now_heads trial_advances.long trial_advances.others
-                ended ends
+            trial_kept {ended} ends = kept_more j kept fits refl refl followed now_heads ends_long others ends
 
           module _ {before after : List Raise} (empty : AreEmpty before) (many : length before ≡ shop.machines)
               (sees : Sees l.machines (IsOnMachine l m) (h + t) hs' new.heads before after) where
@@ -124,8 +123,8 @@ module _ {greatest : ℕ} {shop : Shop} {w : List ℕ} {l : LayoutState} {hs es 
             pub trial_raises_fit : AreRaisesFit greatest after l new
             trial_raises_fit =
                 let spans : AreSpansFit greatest (latest_end shop + 1) shop.machines l new =
-                spans_fit shop kept.kept.limits l kept.kept.laid greatest kept.holds new now_heads.times
-                now_heads.tails now_heads.heads.positions
+                spans_fit kept.kept.limits kept.kept.laid greatest kept.holds new now_heads.times now_heads.tails
+                now_heads.heads.positions
                 in let known = spans.known in let long = watches.long
                 in record {
                   known = omega arith;
@@ -155,8 +154,7 @@ module _ {greatest : ℕ} {shop : Shop} {w : List ℕ} {l : LayoutState} {hs es 
             trial_bound {least} foreseen {limit} {b} low covers inside =
                 let long = watches.long
                 in let sum : get_or hs x 0 + get_or l.times x 0 ≡ h + t = (let a = head in let d = timed in omega arith)
-                in raised_is greatest shop l j x rows new nexts trial_advances l.machines kept.kept.laid.machines_at
-                (latest_end shop + 1) refl m (h + t) least limit b
+                in raised_is kept.kept j fits now_heads kept.kept.laid.machines_at m (h + t) least limit b
                 (λ under n known. record {
                   raise = raise_of after n;
                   covered = λ q lies some. subst (λ (k : ℕ). IsSeenAt (raise_of after k)
@@ -164,6 +162,5 @@ module _ {greatest : ℕ} {shop : Shop} {w : List ℕ} {l : LayoutState} {hs es 
                   spans = covers under n;
                 }) low
                 (λ c above each. inside c above (λ n up to known. each n up to (omega arith)))
-                w kept.kept fits its_place
                 (subst (λ (k : ℕ). IsLeastAfter shop w l rows j x k (h + t) least) (sym here)
                 (subst (λ (k : ℕ). IsLeastAfter shop w l rows j x (get_or l.machines x 0) k least) sum foreseen))

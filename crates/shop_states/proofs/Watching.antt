@@ -1,6 +1,5 @@
 -- What was seen of heads is seen still, raise by raise.
-use Rattle.std.proofs.Common.{◌≡◌, ℕ, ◌≤◌, ◌<◌, inl, inr, List, length, get_or, set, refl, sym, ◌∙◌, ap}
-use Rattle.std.proofs.Common.{subst, arith}
+use Rattle.std.proofs.Common.{◌≡◌, ℕ, ◌≤◌, ◌<◌, inl, inr, List, length, get_or, set, refl, sym, ◌∙◌, ap, subst, arith}
 use Rattle.std.proofs.lemmas.Bool.{cases_eq, eq-eqb}
 use Rattle.std.proofs.lemmas.Grind.{get_or-set_at}
 use Rattle.std.proofs.lemmas.List.{get_or-set_other, length-set}
@@ -13,9 +12,9 @@ module _ (own end : ℕ) (ms : List ℕ) where
   pub watch_none : (heads : List ℕ) (raises : List Raise) → Watches own end ms heads heads raises raises
   watch_none heads raises = record { long = refl; seen = λ was so. so; up_to = λ top small up_to. up_to }
 
-  pub watch_both : (a b c : List ℕ) (r s t : List Raise) → ((q : ℕ) → get_or b q 0 ≤ get_or c q 0)
+  pub watch_both : (a b c : List ℕ) {r s t : List Raise} → ((q : ℕ) → get_or b q 0 ≤ get_or c q 0)
       → Watches own end ms a b r s → Watches own end ms b c s t → Watches own end ms a c r t
-  watch_both a b c r s t rises x y = record {
+  watch_both a b c rises x y = record {
     long = y.long ∙ x.long;
     seen = λ was so. y.seen was (x.seen was so);
     up_to = λ top small up_to. y.up_to top small (x.up_to top
@@ -76,18 +75,18 @@ module _ (own end : ℕ) (ms : List ℕ) where
   }
 
 -- as a raise follows a route
-module _ (ms : List ℕ) (p end : ℕ) (old now : List ℕ) (before mid : List Raise)
+module _ {ms : List ℕ} {p end : ℕ} {old now : List ℕ} {before mid : List Raise}
     (so_far : Sees ms (IsPosition p) end old now before mid) where
   pub sees_long : length mid ≡ length before
   sees_long = (so_far (get_or ms p 0) (λ q e. ap (λ (x : ℕ). get_or ms x 0) e)).long
 
-  pub sees_next : (new : List ℕ) (after : List Raise) (q v h m : ℕ) → new ≡ set now q v → q < length now
+  pub sees_next : {new : List ℕ} {after : List Raise} {q v h m : ℕ} → new ≡ set now q v → q < length now
       → h ≡ get_or now q 0 → h < v → m ≡ get_or ms q 0 → m < length before
       → after ≡ set mid m (widened (raise_of mid m) h v)
       → Sees ms (IsPosition p) end old new before after
-  sees_next new after q v h m wrote within read rises at known saw own on =
+  sees_next {new} {after} {q} {v} {h} {m} wrote within read rises at known saw own on =
       let so = so_far own on in let long = so.long
-      in watch_both own end ms old now new before mid after
+      in watch_both own end ms old now new
       (λ r. elim (cases_eq r q) [
         | inl e ↦ (let was : get_or now r 0 ≡ h = ap (λ (x : ℕ). get_or now x 0) e ∙ sym read
             in let is_now : get_or new r 0 ≡ v =
@@ -96,19 +95,19 @@ module _ (ms : List ℕ) (p end : ℕ) (old now : List ℕ) (before mid : List R
             ap (λ (xs : List ℕ). get_or xs r 0) wrote ∙ get_or-set_other now q r v 0 ne in omega arith)
       ]) so (watch_next own end ms now new mid after q v h m wrote within read at (omega arith) saw)
 
-pub sees_first : (ms : List ℕ) (p end : ℕ) (old new : List ℕ) (raises : List Raise)
+pub sees_first : {ms : List ℕ} {p end : ℕ} {old new : List ℕ} {raises : List Raise}
     → new ≡ set old p end → p < length old → Sees ms (IsPosition p) end old new raises raises
-sees_first ms p end old new raises wrote within own on =
+sees_first {ms} {p} {end} {old} {new} {raises} wrote within own on =
     watch_first own end ms old new raises p wrote within (on p refl)
 
 -- one part after the other
-pub sees_both : (ms : List ℕ) (A B C : ℕ → Type 0) (end : ℕ) (a b c : List ℕ) (r s t : List Raise)
+pub sees_both : {ms : List ℕ} (A B C : ℕ → Type 0) {end : ℕ} {a b c : List ℕ} {r s t : List Raise}
     → ((q : ℕ) → A q → C q) → ((q : ℕ) → B q → C q) → ((q : ℕ) → get_or b q 0 ≤ get_or c q 0)
     → Sees ms A end a b r s → Sees ms B end b c s t → Sees ms C end a c r t
-sees_both ms A B C end a b c r s t in_a in_b rises x y own on =
-    watch_both own end ms a b c r s t rises (x own (λ q here. on q (in_a q here)))
+sees_both {ms} A B C {end} {a} {b} {c} {r} {s} {t} in_a in_b rises x y own on =
+    watch_both own end ms a b c rises (x own (λ q here. on q (in_a q here)))
     (y own (λ q here. on q (in_b q here)))
 
-pub sees_none : (ms : List ℕ) (A : ℕ → Type 0) (end : ℕ) (a : List ℕ) (r : List Raise)
+pub sees_none : {ms : List ℕ} {A : ℕ → Type 0} {end : ℕ} {a : List ℕ} {r : List Raise}
     → Sees ms A end a a r r
-sees_none ms A end a r own on = watch_none own end ms a r
+sees_none {ms} {end} {a} {r} own on = watch_none own end ms a r

@@ -4,8 +4,8 @@
 --     CanDispatch shop P job bound   P holds of some word, which can go on with the job and has this
 --                                    bound
 --     TellsBoundBelow limit bound    the bound where it is below the limit, and else nothing
---     ListsBelow shop w limit is     the candidates are those of a conflict set, in order, but for n
---                                    after which the bound is not below the limit
+--     ListsBelow shop w limit is     the candidates of a conflict set, in order, but for n jobs with
+--                                    which the bound reaches the limit
 use Rattle.std.specs.Prelude.{◌≡◌, ◌≤◌, ◌<◌, ℕ, zero, suc, Option, Some, None, List, [], ◌∷◌, ◌++◌}
 use Rattle.shop_model.specs.Shop.{Shop}
 use Rattle.shop_model.specs.Word.{IsWord}
@@ -33,7 +33,7 @@ abbrev pub TellsBoundBelow : ℕ → ℕ → Option ℕ → Type 0
 TellsBoundBelow limit bound (Some b) = (b ≡ bound) × (b < limit)
 TellsBoundBelow limit bound None = limit ≤ bound
 
--- each of the conflict set is listed, or the bound after it is not below the limit
+-- each job is listed, or the bound of the word that goes on with it reaches the limit
 pub data ListsBelow (shop : Shop) (word : List ℕ) (limit : ℕ) (is : Candidate → Type 0)
     : List ℕ → List Candidate → ℕ → Type 0 where
   none : ListsBelow shop word limit is [] [] zero

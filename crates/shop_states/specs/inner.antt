@@ -17,4 +17,3 @@ pub mod Fills
 pub mod LaneStates
 pub mod PlacedNexts
 pub mod Scratches
-pub mod Steps

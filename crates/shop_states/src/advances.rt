@@ -1,4 +1,4 @@
-// One more operation in the state of a word.
+// Dispatches one operation in a state.
 ghost use Rattle.std.specs.Prelude.{◌≡◌, ◌<◌, ◌^◌, ◌++◌, ◌∷◌, [], List, ℕ, OnSome, length};
 ghost use Rattle.std.specs.Prelude.{slice_index, slice_set};
 ghost use Rattle.shop_model.specs.Shop.{Shop};
@@ -17,7 +17,7 @@ use crate::machine_raises::MachineRaises;
 use shop_lanes::StateLanes;
 use shop_layout::Grid;
 
-/// The job's operation at this position was dispatched: the one that follows is its next one, with its end.
+/// Makes the operation behind `position` on the route of `job` the job's next one, and sets that operation's end.
 #[inline(always)]
 pub(crate) fn go_on<L: StateLanes>(
     lanes: &mut L,
@@ -40,8 +40,9 @@ pub(crate) fn go_on<L: StateLanes>(
     set_end_of(lanes, grid, next, job);
 }
 
-/// Dispatches the next operation of a job, and tells the new bound if it is below the limit. `least` is at most that,
-/// and at least the bound before and the own span of the operation.
+/// Dispatches the next operation of `job`. Answers the bound of the extended word if it is below `limit`, else `None`.
+/// `least` is at most that bound, and at least the former word's bound and the operation's own span: how late the
+/// operation, and the others of its machine with their tails, end if it goes first.
 #[inline(always)]
 pub(crate) fn advance_below<L: StateLanes>(
     lanes: &mut L,
@@ -87,7 +88,7 @@ pub(crate) fn advance_below<L: StateLanes>(
     Some(bound)
 }
 
-/// Dispatches the one job of a conflict set: no head rises.
+/// Dispatches the next operation of `job`, the only job in the conflict set. No head rises.
 #[inline(always)]
 pub(crate) fn strike<L: StateLanes>(lanes: &mut L, next: &mut [u32], grid: &Grid<L>, job: usize)
     requires { CanStrike L.GREATEST grid.now

@@ -1,4 +1,4 @@
-// Words that are placed one after the other mostly begin alike: the placement of a beginning is kept.
+// Keeps the placement of a word's first jobs, since words filled one after the other mostly begin alike.
 ghost use Rattle.std.specs.Prelude.{◌≡◌, ◌≤◌, IfOk, IsTrue, length, take};
 ghost use Rattle.shop_model.specs.Word.{IsWord, placing};
 ghost use Rattle.shop_layout.specs.Positions.{IsLaidOut};
@@ -10,13 +10,13 @@ use shop_lanes::StateLanes;
 use shop_layout::LaidOut;
 use std::alloc::{AllocError as NoMemory, Global};
 
-/// So many of the last entries of a word are left out, since the next word often differs there.
+/// How many of a word's last jobs a kept beginning leaves out, since the next word often differs in them.
 const LEFT_OUT: usize = 32;
 
-/// The beginning of a word, and what it leaves.
+/// The first jobs of a word, with each job's `next` position and `ready` time and each machine's `free` time.
 #[derive(Drop)]
 pub struct Beginning {
-    /// of which the first `len` entries count
+    /// the first `len` entries are the jobs of the beginning
     path: Vec<u16>,
     len: usize,
     next: Vec<u32>,
@@ -24,7 +24,7 @@ pub struct Beginning {
     free: Vec<u64>,
 }
 
-/// The first entries of a row become these.
+/// Writes `front` over the first entries of `row`.
 fn write_front(row: &mut [u16], front: &[u16])
     requires { length front.now ≤ length row.old }
     ensures long { length row.new ≡ length row.old }
@@ -34,7 +34,7 @@ fn write_front(row: &mut [u16], front: &[u16])
 }
 
 impl Beginning {
-    /// Of nothing placed, with room for any word. Fails with `NoMemory` if memory runs out.
+    /// Makes the empty beginning, with room for any word of the instance. Fails with `NoMemory` if memory runs out.
     pub(crate) fn new<L: StateLanes>(
         alloc: Global,
         laid_out: &LaidOut<L>,
@@ -53,7 +53,7 @@ impl Beginning {
         Ok(beginning)
     }
 
-    /// Starts over: nothing is placed.
+    /// Empties the beginning.
     fn clear<L: StateLanes>(&mut self, laid_out: &LaidOut<L>)
         requires room { HasRoomOf laid_out.now.shop self.old }
         ensures is { IsBeginningOf laid_out.now.shop laid_out.now.layout self.new }
@@ -68,7 +68,7 @@ impl Beginning {
         self.len = 0;
     }
 
-    /// Starts over if a word doesn't begin with it.
+    /// Empties the beginning unless the word `path` starts with the beginning's jobs.
     fn keep_for<L: StateLanes>(&mut self, laid_out: &LaidOut<L>, path: &[u16])
         requires is { IsBeginningOf laid_out.now.shop laid_out.now.layout self.old }
         ensures is { IsBeginningOf laid_out.now.shop laid_out.now.layout self.new }
@@ -81,7 +81,7 @@ impl Beginning {
         self.clear(laid_out);
     }
 
-    /// Goes on along a word that begins with it, but for the last entries of that.
+    /// Extends the beginning to all but the last `LEFT_OUT` jobs of `path`, a word that starts with the beginning.
     fn go_on<L: StateLanes>(&mut self, laid_out: &LaidOut<L>, path: &[u16])
         requires is { IsBeginningOf laid_out.now.shop laid_out.now.layout self.old }
         requires begins { Begins path.now self.old }
@@ -106,7 +106,7 @@ impl Beginning {
         self.len = to;
     }
 
-    /// Sets next operations, and when jobs are ready and machines free, to those of a word.
+    /// Writes the placement of the word `path` into `next`, `ready` and `free`. Keeps its beginning for the next word.
     pub(crate) fn place_word<L: StateLanes>(
         &mut self,
         laid_out: &LaidOut<L>,

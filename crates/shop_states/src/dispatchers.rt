@@ -1,18 +1,20 @@
-// Operations are dispatched in lanes of one width.
+// Implements `Dispatching` for a layout, with states in lanes of one width.
 ghost use Rattle.std.specs.Prelude.{◌≡◌, ◌≤◌, ◌<◌, ◌^◌, IfOk, length};
 ghost use Rattle.shop_layout.specs.LaidOuts.{IsReady};
 
 use crate::advances::{advance_below, strike};
 use crate::beginnings::Beginning;
+use crate::candidate_lists::list_candidates;
 use crate::dispatching::{Candidate, Dispatching};
 use crate::fills::fill_state;
-use crate::gathering::gather;
 use crate::machine_raises::MachineRaises;
 use crate::states::{Scratch, State};
-use crate::steps::{BOUNDS, step};
 use shop_lanes::StateLanes;
 use shop_layout::LaidOut;
 use std::alloc::{AllocError as NoMemory, Global};
+
+/// A number above the bound of every word of an instance within the limits.
+const BOUNDS: u64 = 1 << 50;
 
 impl<'a, L: StateLanes> Dispatching<State<L>> for LaidOut<'a, L> {
     ghost use Rattle.std.specs.Prelude.{◌∷◌, ◌++◌, [], vec_capacity};
@@ -80,7 +82,7 @@ impl<'a, L: StateLanes> Dispatching<State<L>> for LaidOut<'a, L> {
         limit: u64,
         candidates: &mut Vec<Candidate>,
     ) -> usize {
-        gather(
+        list_candidates(
             candidates,
             scratch.owns.as_mut_slice(),
             &state.lanes,
@@ -117,23 +119,6 @@ impl<'a, L: StateLanes> Dispatching<State<L>> for LaidOut<'a, L> {
             candidate.job as usize,
             bound.max(candidate.own),
             limit.min(BOUNDS),
-        )
-    }
-
-    fn dispatch(
-        &self,
-        scratch: &mut Scratch<L>,
-        state: &mut State<L>,
-        job: u16,
-        bound: u64,
-    ) -> u64 {
-        step(
-            &mut state.lanes,
-            state.next.as_mut_slice(),
-            &mut scratch.raises,
-            self.grid(),
-            job as usize,
-            bound,
         )
     }
 

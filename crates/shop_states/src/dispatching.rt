@@ -1,4 +1,4 @@
-// Operations are dispatched in states of words.
+// The trait `Dispatching`: how a walk fills, copies and extends the states of words.
 ghost use Rattle.std.specs.Prelude.{◌≡◌, ℕ, ◌≤◌, List, [], ◌∷◌, ◌++◌, IfOk, OnSome, length};
 ghost use Rattle.std.specs.Prelude.{vec_capacity};
 ghost use Rattle.shop_model.specs.Limits.{IsWithinLimits};
@@ -12,43 +12,42 @@ ghost use Rattle.shop_states.specs.States.{CanDispatch, HasSoleCandidate, IsOfSo
 
 use std::alloc::{AllocError as NoMemory, Global};
 
-/// A job of the conflict set, and a number that the bound reaches at least once the job's next operation is dispatched,
-/// since all else waits on its machine.
+/// A job of a word's conflict set. `own` is a lower bound of the word extended by `job` that considers only the machine
+/// of the job's next operation.
 #[derive(Clone, Copy, Debug)]
 pub struct Candidate {
     pub job: u16,
     pub own: u64,
 }
 
-/// What a walk asks of states of words: one is filled, copied, or an operation is dispatched in it. A state is what a
-/// word of one instance leaves, or room for it. The dispatcher never changes: it is made once for a run and shared by
-/// all that search.
+/// Fills and copies states of the words of one instance, and dispatches operations in them. A state holds the heads and
+/// next operations after a word, or is mere room for them. A dispatcher never changes: all searches of a run share one.
 pub trait Dispatching<S: Drop> {
-    /// What a dispatch needs beside a state.
+    /// Scratch room to fill states, list candidates and dispatch operations.
     type Scratch: Drop;
 
     ghost shop: { Self → Shop };
 
-    /// It is room for a state.
+    /// Says that a value of `S` has room for a state.
     ghost IsSlot: { Self → S → Type 0 };
 
-    /// It is the state of this word.
+    /// Says that a value of `S` is the state of a word.
     ghost IsStateOf: { Self → List ℕ → S → Type 0 };
 
     ghost IsScratch: { Self → Self.Scratch → Type 0 };
 
-    /// Its bound by its own machine is right for this word.
+    /// Says that a candidate's job and `own` are right for a word.
     ghost IsCandidate: { Self → List ℕ → Candidate → Type 0 };
 
-    /// Fails with `NoMemory` if memory runs out.
+    /// Makes scratch room. Fails with `NoMemory` if memory runs out.
     fn scratch(&self, alloc: Global) -> Result<Self::Scratch, NoMemory>
         ensures { IfOk result (λ s. IsScratch self.now s) };
 
-    /// Room for a state. Fails with `NoMemory` if memory runs out.
+    /// Makes room for a state. Fails with `NoMemory` if memory runs out.
     fn slot(&self, alloc: Global) -> Result<S, NoMemory>
         ensures { IfOk result (λ s. IsSlot self.now s) };
 
-    /// Sets a state to that of the word of a path.
+    /// Makes `state` the state of the word `path`.
     fn fill(&self, scratch: &mut Self::Scratch, path: &[u16], state: &mut S)
         requires scratch { IsScratch self.now scratch.old }
         requires slot { IsSlot self.now state.old }
@@ -56,16 +55,15 @@ pub trait Dispatching<S: Drop> {
         ensures state { IsStateOf self.now path.now state.new }
         ensures scratch { IsScratch self.now scratch.new };
 
-    /// Sets a state to another.
+    /// Makes `to` a copy of `from`.
     fn copy(&self, from: &S, to: &mut S)
         requires from { IsSlot self.now from.now }
         requires to { IsSlot self.now to.old }
         ensures state { (w : List ℕ) → IsStateOf self.now w from.now → IsStateOf self.now w to.new }
         ensures slot { IsSlot self.now to.new };
 
-    /// Lists the jobs of the conflict set, in ascending order, whose own numbers are below the limit, and tells how
-    /// many are left out. A job that is alone in the set is always listed. What the list held is lost; it has room for
-    /// all jobs.
+    /// Replaces `candidates` by the jobs of the conflict set with `own` below `limit`, in ascending order. Answers how
+    /// many jobs are left out. Never leaves out the only job of the set if the word's bound is below `limit`.
     fn list_candidates(
         &self,
         scratch: &mut Self::Scratch,
@@ -82,15 +80,15 @@ pub trait Dispatching<S: Drop> {
         ensures room { vec_capacity candidates.old ≤ vec_capacity candidates.new }
         ensures scratch { IsScratch self.now scratch.new };
 
-    /// Dispatches the next operation of a job that is alone in the conflict set; the bound stays as it was.
+    /// Dispatches the next operation of `job`, the only job in the conflict set. The word's bound stays as it was.
     fn strike(&self, state: &mut S, job: u16)
         requires { HasSoleCandidate (shop self.now) (λ w. IsStateOf self.now w state.old) job }
         ensures { (w : List ℕ) → IsStateOf self.now w state.old
             → conflict (shop self.now) w ≡ job ∷ []
             → IsStateOf self.now (w ++ job ∷ []) state.new };
 
-    /// Dispatches a candidate, and tells the bound of the word then if it is below the limit. Where it isn't, the state
-    /// is room for a state alone. `bound` is that of the word before.
+    /// Dispatches the next operation of `candidate.job`. Answers the bound of the extended word if it is below `limit`;
+    /// else answers `None`, and `state` is no word's state any more. `bound` is the bound of the former word.
     fn dispatch_below(
         &self,
         scratch: &mut Self::Scratch,
@@ -112,32 +110,19 @@ pub trait Dispatching<S: Drop> {
         ensures slot { IsSlot self.now state.new }
         ensures scratch { IsScratch self.now scratch.new };
 
-    /// Dispatches the next operation of any job, which has one left, and tells the bound of the word then. `bound` is
-    /// that of the word before.
-    fn dispatch(&self, scratch: &mut Self::Scratch, state: &mut S, job: u16, bound: u64) -> u64
-        requires scratch { IsScratch self.now scratch.old }
-        requires can { CanDispatch (shop self.now) (λ w. IsStateOf self.now w state.old) job bound }
-        ensures bound { (w : List ℕ) → IsStateOf self.now w state.old
-            → IsWord (shop self.now) (w ++ job ∷ []) → bound ≡ lb (shop self.now) w
-            → result ≡ lb (shop self.now) (w ++ job ∷ []) }
-        ensures state { (w : List ℕ) → IsStateOf self.now w state.old
-            → IsWord (shop self.now) (w ++ job ∷ [])
-            → IsStateOf self.now (w ++ job ∷ []) state.new }
-        ensures scratch { IsScratch self.now scratch.new };
-
-    /// The state of a word is room for one.
+    /// Law: the state of a word also has room for any other state.
     ghost state_is_slot: { (d : Self) (w : List ℕ) (s : S) → IsStateOf d w s
         → IsSlot d s };
 
-    /// The word of a state is one of the instance.
+    /// Law: the word of a state is a word of the instance.
     ghost state_is_of_word: { (d : Self) (w : List ℕ) (s : S) → IsStateOf d w s
         → IsWord (shop d) w };
 
-    /// The instance of a state is within its limits.
+    /// Law: if a word has a state, its instance is within the limits.
     ghost state_is_within_limits: { (d : Self) (w : List ℕ) (s : S) → IsStateOf d w s
         → IsWithinLimits (shop d) };
 
-    /// The one job of a conflict set leaves the bound as it is.
+    /// Law: dispatching the only job of a conflict set keeps the word's bound.
     ghost sole_keeps_bound: { (d : Self) (w : List ℕ) (s : S) → IsStateOf d w s
         → SoleCandidateKeepsBound (shop d) w };
 }

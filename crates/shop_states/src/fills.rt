@@ -1,4 +1,4 @@
-// A state is set to that of a word, once its operations are placed.
+// Fills a state from the placement of its word.
 ghost use Rattle.std.specs.Prelude.{◌≡◌, ℕ, ◌<◌, List, length};
 ghost use Rattle.shop_model.specs.Word.{IsWord, placing};
 ghost use Rattle.shop_states.specs.inner.Fills.{CanFill, HasFilled, HasFilledJob};
@@ -10,7 +10,8 @@ use crate::lane_ends::set_ends;
 use shop_lanes::StateLanes;
 use shop_layout::{Grid, LaidOut};
 
-/// How many operations of a job are placed, by where its next one stands, if there is one.
+/// Counts the placed operations of `job`. `next` is the position of its next operation, or the number of positions if
+/// none is left.
 #[inline(always)]
 fn placed_steps<L: StateLanes>(grid: &Grid<L>, job: usize, next: u32) -> usize
     requires job { job < length grid.now.places }
@@ -24,8 +25,7 @@ fn placed_steps<L: StateLanes>(grid: &Grid<L>, job: usize, next: u32) -> usize
     grid.places(job).len()
 }
 
-/// Sets the heads of a job's operations that aren't placed. These are read by step, as they lie in memory: each stands
-/// at a position far from the one before.
+/// Sets the heads of the unplaced operations of `job`. Reads the times along the route, where they lie side by side.
 fn fill_job<L: StateLanes>(
     lanes: &mut L,
     laid_out: &LaidOut<L>,
@@ -56,7 +56,7 @@ fn fill_job<L: StateLanes>(
     }
 }
 
-/// Sets the heads of all operations that aren't placed.
+/// Sets the heads of all unplaced operations.
 fn fill_jobs<L: StateLanes>(
     lanes: &mut L,
     laid_out: &LaidOut<L>,
@@ -77,7 +77,7 @@ fn fill_jobs<L: StateLanes>(
     }
 }
 
-/// Sets heads and ends to those of what was placed.
+/// Sets all heads and ends to those of the placement `next`, `ready` and `free`.
 pub(crate) fn fill_state<L: StateLanes>(
     lanes: &mut L,
     laid_out: &LaidOut<L>,

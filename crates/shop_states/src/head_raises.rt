@@ -1,4 +1,4 @@
-// What changed among the heads on a machine.
+// The raise on a machine: of the heads that rose there, the least old one and the greatest new one.
 ghost use Rattle.std.specs.Prelude.{◌≡◌, ◌≤◌, ◌<◌, min, max, length, slice_set};
 ghost use Rattle.shop_states.specs.inner.HeadRaises.{nothing_raised, raise_in, raise_of};
 ghost use Rattle.shop_states.specs.inner.HeadRaises.{raises_in, widened};
@@ -8,15 +8,15 @@ use crate::machine_sets::MachineSet;
 use shop_lanes::StateLanes;
 use std::mem;
 
-/// Over the heads of one machine that changed, in numbers of lanes: the least old and the greatest new one. `from` is
-/// the greatest number and `to` is 0 where none did.
+/// The raise on a machine. Of the heads that rose there, `from` is the least value before and `to` the greatest after.
+/// If none rose, `from` is the greatest number of a lane and `to` is 0.
 #[derive(Clone, Copy)]
 pub(crate) struct LaneRaise<N> {
     pub from: N,
     pub to: N,
 }
 
-/// Of a machine on which no head changed.
+/// Answers the raise of a machine on which no head rose.
 #[inline(always)]
 pub(crate) fn no_raise<L: StateLanes>() -> LaneRaise<L::Number>
     ensures { raise_in L.value result ≡ nothing_raised L.GREATEST }
@@ -27,7 +27,7 @@ pub(crate) fn no_raise<L: StateLanes>() -> LaneRaise<L::Number>
     }
 }
 
-/// The lesser of a number of lanes and another one.
+/// Answers the lesser of `number` and `other`, in the width of the lanes.
 #[inline(always)]
 fn lesser<L: StateLanes>(number: L::Number, other: u64) -> L::Number
     requires { other ≤ L.GREATEST }
@@ -39,7 +39,7 @@ fn lesser<L: StateLanes>(number: L::Number, other: u64) -> L::Number
     number
 }
 
-/// The greater of a number of lanes and another one.
+/// Answers the greater of `number` and `other`, in the width of the lanes.
 #[inline(always)]
 fn greater<L: StateLanes>(number: L::Number, other: u64) -> L::Number
     requires { other ≤ L.GREATEST }
@@ -51,7 +51,7 @@ fn greater<L: StateLanes>(number: L::Number, other: u64) -> L::Number
     number
 }
 
-/// A raise with one more head that changed.
+/// Answers `raise`, widened so that it covers a head that rose from `before` to `after`.
 #[inline(always)]
 fn with_head<L: StateLanes>(
     raise: LaneRaise<L::Number>,
@@ -68,7 +68,7 @@ fn with_head<L: StateLanes>(
     }
 }
 
-/// One more head on a machine changed: widens its raise, and lists the machine.
+/// Notes that a head rose from `before` to `after`: widens the raise of `machine`, and puts `machine` into `raised`.
 #[inline(always)]
 pub(crate) fn see<L: StateLanes>(
     raises: &mut [LaneRaise<L::Number>],
@@ -91,7 +91,7 @@ pub(crate) fn see<L: StateLanes>(
     raises[machine as usize] = with_head::<L>(raise, before, after);
 }
 
-/// Takes the raise of a machine out.
+/// Takes the raise of `machine` out of `raises`, and leaves an empty raise.
 #[inline(always)]
 pub(crate) fn take_raise<L: StateLanes>(
     raises: &mut [LaneRaise<L::Number>],

@@ -1,14 +1,14 @@
-// A set of jobs, by bits.
+// Sets of jobs, one bit a job.
 ghost use Rattle.std.specs.Prelude.{◌≡◌, ℕ, ◌*◌, ◌/◌, ◌<◌, List, [], length};
 ghost use Rattle.shop_states.specs.inner.JobSets.{members, HasPut};
 ghost use Rattle.shop_states.specs.inner.RisingLists.{Rises};
 
 use std::marker::Model;
 
-/// The jobs to a word.
+/// How many jobs each number of a set stands for, one bit a job.
 pub(crate) const BITS: usize = 64;
 
-/// A set of jobs in so many words: to contracts its jobs in order.
+/// A set of jobs below 64 * `WORDS`. Its value in contracts is the ascending list of its jobs.
 #[derive(Drop)]
 pub(crate) struct JobSet<const WORDS: usize> {
     words: [u64; WORDS],
@@ -22,7 +22,7 @@ impl<const WORDS: usize> Model for JobSet<WORDS> {
     ghost invariant = { λ s. length s.words ≡ WORDS };
 }
 
-/// The word of a job; with a literal number of words the first one is known where there is no other.
+/// Answers the index of the number that has the bit of `job`. Divides only if a set has more than one number.
 #[inline(always)]
 fn word_of<const WORDS: usize>(job: usize) -> usize
     requires { job < 64 * WORDS }
@@ -35,7 +35,7 @@ fn word_of<const WORDS: usize>(job: usize) -> usize
 }
 
 impl<const WORDS: usize> JobSet<WORDS> {
-    /// The empty set.
+    /// Makes the empty set.
     #[inline(always)]
     pub(crate) fn new() -> Self
         ensures { result ≡ [] }
@@ -52,7 +52,7 @@ impl<const WORDS: usize> JobSet<WORDS> {
         self.words[word_of::<WORDS>(job)] |= 1 << (job % BITS);
     }
 
-    /// The words of the set, 64 jobs to each.
+    /// Answers the set as bits, 64 jobs to each number, lowest job first.
     #[inline(always)]
     pub(crate) fn words(&self) -> &[u64]
         ensures members { members 0 result.now ≡ self.now }
@@ -61,7 +61,7 @@ impl<const WORDS: usize> JobSet<WORDS> {
         &self.words
     }
 
-    /// Its jobs are in order.
+    /// Proves that the value of a set lists its jobs in ascending order. Does nothing when called.
     #[inline(always)]
     pub(crate) fn rises(&self)
         ensures { Rises self.now }

@@ -1,4 +1,4 @@
-// Bounds of machines by heads in lanes.
+// One-machine bounds from the heads that a dispatch raised, in lanes.
 ghost use Rattle.std.specs.Prelude.{◌≡◌, ◌+◌, ◌≤◌, ◌<◌, ◌^◌, length, slice_index};
 ghost use Rattle.shop_lanes.specs.Rows.{AreBlocks};
 ghost use Rattle.shop_lanes.specs.Spans.{FitsSpan};
@@ -12,8 +12,9 @@ use crate::machine_sets::MachineSet;
 use shop_lanes::StateLanes;
 use shop_layout::Grid;
 
-/// The greatest of `least` and the spans of a machine from its raised heads on; once that reaches the limit, any number
-/// between the limit and it. `each` is how many blocks every machine has, or 0.
+/// Answers the greatest of `least` and the spans of `machine` from its heads above `raise.from` and up to `raise.to`.
+/// The span from a head is the greatest end, tail included, of the operations with no lesser head, served by rank from
+/// that head on. May stop once the bound reaches `limit`. Each machine has `each` blocks, or any number if `each` is 0.
 #[inline(always)]
 fn span_by_raise<L: StateLanes>(
     each: usize,
@@ -48,8 +49,8 @@ fn span_by_raise<L: StateLanes>(
     grid.bound_raised(lanes, each, from, to, above, upto, least, limit)
 }
 
-/// The same as `take_spans`; `each` is how many blocks every machine has, or 0. With a literal number the passes over
-/// them are unrolled.
+/// Does what `take_spans` does, for machines that all have `each` blocks, or any numbers of blocks if `each` is 0. A
+/// literal `each` lets the compiler unroll the passes over the blocks.
 #[inline(always)]
 fn take_spans_of<L: StateLanes>(
     each: usize,
@@ -75,8 +76,8 @@ fn take_spans_of<L: StateLanes>(
     most
 }
 
-/// The same as `take_spans` for machines of four blocks and more, or of different numbers of blocks, in a function of
-/// its own.
+/// Does what `take_spans` does, for machines of four or more blocks, or of different numbers of blocks. Stays out of
+/// line, so that the code inlined for short machines stays small.
 #[inline(never)]
 fn take_longer_spans<L: StateLanes>(
     raises: &mut [LaneRaise<L::Number>],
@@ -101,9 +102,9 @@ fn take_longer_spans<L: StateLanes>(
     }
 }
 
-/// The greatest of `least` and the spans of the listed machines from their raised heads on; once that reaches the
-/// limit, any number between the limit and it. These raises are empty afterwards. Heads and spans in lanes are one more
-/// than what they stand for, and so are these numbers.
+/// Answers the greatest of `least` and the spans, explained at `span_by_raise`, of the machines in `raised` from the
+/// heads within their raises. May stop once the bound reaches `limit`. Empties the raises. `least`, `limit` and the
+/// answer are one more than the bounds that they stand for, like heads in lanes.
 #[inline(always)]
 pub(crate) fn take_spans<L: StateLanes>(
     raises: &mut [LaneRaise<L::Number>],

@@ -1,4 +1,4 @@
-// The choice among the next operations by lanes.
+// Finds the conflict set from the heads in lanes.
 ghost use Rattle.std.specs.Prelude.{◌≡◌, ◌*◌, ◌≤◌, ◌<◌, length};
 ghost use Rattle.shop_lanes.specs.Marks.{positions_below};
 ghost use Rattle.shop_states.specs.inner.LaneChoices.{HaveJobs, IsJobBelow};
@@ -10,8 +10,8 @@ use crate::job_sets::JobSet;
 use shop_lanes::{Marks, StateLanes};
 use shop_layout::Grid;
 
-/// Puts the job of each of these positions into the set: of those of these blocks at which something waits with a head
-/// below the limit.
+/// Puts the job of each position in `below` into `jobs`. `below` has the positions of the waiting operations in blocks
+/// `from` up to `to` (excluded) with heads below `limit`.
 #[inline(always)]
 fn gather_marked<const WORDS: usize, L: StateLanes>(
     jobs: &mut JobSet<WORDS>,
@@ -37,7 +37,8 @@ fn gather_marked<const WORDS: usize, L: StateLanes>(
     }
 }
 
-/// Puts each job into the set of which something waits in these blocks with a head below the limit.
+/// Puts into `jobs` the job of each waiting operation in blocks `first` up to `behind` (excluded) with a head below
+/// `limit`.
 #[inline(always)]
 fn gather_in_blocks<const WORDS: usize, L: StateLanes>(
     jobs: &mut JobSet<WORDS>,
@@ -64,9 +65,10 @@ fn gather_in_blocks<const WORDS: usize, L: StateLanes>(
     }
 }
 
-/// The conflict set where the chosen job's next operation can end first: before `end`, on the machine of these blocks.
-/// What waits in those before `to` with a head below the end is marked already. All that waits there is the next
-/// operation of its job, since what follows one begins no earlier than at the end.
+/// Answers the conflict set: the job `chosen`, whose next operation can end first, at `end`, and each job with an
+/// operation that waits on the same machine with a head below `end`. Each of these operations is its job's next one,
+/// since no next operation can end before `end`. The machine has blocks `from` up to `behind` (excluded). `below` marks
+/// its heads below `end` in blocks `from` up to `to` (excluded).
 #[inline(always)]
 pub(crate) fn conflict_set<const WORDS: usize, L: StateLanes>(
     below: Marks,

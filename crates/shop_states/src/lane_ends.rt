@@ -1,4 +1,4 @@
-// The ends of next operations in lanes.
+// Sets the ends of next operations in lanes.
 ghost use Rattle.std.specs.Prelude.{◌≡◌, ◌<◌, length};
 ghost use Rattle.shop_lanes.specs.Rows.{with_end};
 ghost use Rattle.shop_states.specs.inner.LaneEnds.{AreEndsOf, CanKeepEnds, HasEnds, end_at};
@@ -7,8 +7,7 @@ ghost use Rattle.shop_layout.specs.Lanes.{rows_of};
 use shop_lanes::StateLanes;
 use shop_layout::Grid;
 
-/// One more than when the next operation of a job can end from its head on, or the greatest number where the job has no
-/// step left.
+/// Answers the earliest end of the next operation of `job`, plus one like heads in lanes; `GREATEST` if none is left.
 #[inline(always)]
 fn end_of<L: StateLanes>(lanes: &L, grid: &Grid<L>, next: &[u32], job: usize) -> u64
     requires keep { CanKeepEnds L.GREATEST grid.now next.now
@@ -25,7 +24,7 @@ fn end_of<L: StateLanes>(lanes: &L, grid: &Grid<L>, next: &[u32], job: usize) ->
     lanes.head(position) + grid.time(position)
 }
 
-/// Sets the end of a job.
+/// Sets the end of the next operation of `job`.
 #[inline(always)]
 pub(crate) fn set_end_of<L: StateLanes>(lanes: &mut L, grid: &Grid<L>, next: &[u32], job: usize)
     requires keep { CanKeepEnds L.GREATEST grid.now next.now
@@ -40,7 +39,7 @@ pub(crate) fn set_end_of<L: StateLanes>(lanes: &mut L, grid: &Grid<L>, next: &[u
     lanes.set_end(job, end);
 }
 
-/// Sets the ends of all jobs.
+/// Sets the end of each job's next operation.
 pub(crate) fn set_ends<L: StateLanes>(lanes: &mut L, grid: &Grid<L>, next: &[u32])
     requires keep { CanKeepEnds L.GREATEST grid.now next.now
         (rows_of grid.now (L.heads lanes.old) (L.ends lanes.old)) }

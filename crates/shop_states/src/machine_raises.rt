@@ -1,4 +1,4 @@
-// What changed among the heads of each machine.
+// The raises of heads on each machine in a dispatch, and the bound that they give.
 ghost use Rattle.std.specs.Prelude.{◌≡◌, ℕ, ◌+◌, ◌≤◌, ◌<◌, ◌^◌, IfOk, length, replicate};
 ghost use Rattle.shop_lanes.specs.Spans.{spans_between};
 ghost use Rattle.shop_states.specs.inner.HeadRaises.{nothing_raised, raise_of, raises_in};
@@ -16,10 +16,11 @@ use shop_layout::{Grid, Routes};
 use std::alloc::{AllocError as NoMemory, Global};
 use std::marker::Model;
 
-/// The raise of each machine, empty at rest. The machines that have one are told apart: so a bound visits only those.
+/// How far heads rose on each machine in a dispatch; empty between dispatches. `raise` answers the set of the machines
+/// with a raise, so that `take_bound` visits these machines alone.
 #[derive(Drop)]
 pub struct MachineRaises<L: StateLanes> {
-    /// raises[machine]
+    /// raises[machine]: of the heads noted on that machine, the least value before they rose and the greatest after
     raises: Vec<LaneRaise<L::Number>>,
 }
 
@@ -34,7 +35,7 @@ impl<L: StateLanes> Model for MachineRaises<L> {
     ghost invariant = { λ r. length r.raises.items ≤ 128 };
 }
 
-/// So many times no raise.
+/// Makes empty raises for `machines` machines. Fails with `NoMemory` if memory runs out.
 fn empty_raises<L: StateLanes>(
     alloc: Global,
     machines: usize,
@@ -50,7 +51,7 @@ fn empty_raises<L: StateLanes>(
 }
 
 impl<L: StateLanes> MachineRaises<L> {
-    /// Of so many machines, all empty. Fails with `NoMemory` if memory runs out.
+    /// Makes empty raises for `machines` machines, at most 128. Fails with `NoMemory` if memory runs out.
     pub fn new(alloc: Global, machines: usize) -> Result<MachineRaises<L>, NoMemory>
         requires { machines ≤ 128 }
         ensures { IfOk result (λ r. (length r ≡ machines) × AreEmpty r) }
@@ -60,9 +61,8 @@ impl<L: StateLanes> MachineRaises<L> {
         })
     }
 
-    /// Sets each head below `end` of what waits on a machine to `end`, propagates it along the routes as far as heads
-    /// are too small then, notes each change, and keeps the ends of next operations up. Tells the machines with a
-    /// raise.
+    /// Raises each head below `end` on `machine` to `end`, then every later head on its route that is now too early.
+    /// Updates the ends of next operations. Notes how far the later heads rose, and answers the set of their machines.
     #[inline(always)]
     pub fn raise(
         &mut self,
@@ -96,8 +96,9 @@ impl<L: StateLanes> MachineRaises<L> {
         raised
     }
 
-    /// The greatest of `least` and the bounds of the machines with a raise from their raised heads on; once that
-    /// reaches the limit, any number between the limit and it. The raises are empty afterwards.
+    /// Answers the greatest of `least` and the spans of the machines in `raised` from their raised heads. The span from
+    /// a head is the greatest end, tail included, of the machine's operations with no lesser head, served by rank from
+    /// that head on. May stop once the bound reaches `limit`. Empties the raises.
     #[inline(always)]
     pub fn take_bound(
         &mut self,

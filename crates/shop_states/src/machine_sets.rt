@@ -1,4 +1,4 @@
-// A set of machines, by bits.
+// Sets of machines, one bit a machine.
 ghost use Rattle.std.specs.Prelude.{◌≡◌, ◌<◌, ◌++◌, ◌^◌, ℕ, List, []};
 ghost use Rattle.shop_lanes.specs.Marks.{IsPopped};
 ghost use Rattle.shop_lanes.specs.SetBits.{set_bits};
@@ -6,7 +6,7 @@ ghost use Rattle.shop_states.specs.inner.JobSets.{HasPut};
 
 use std::marker::Model;
 
-/// A set of machines, each below 128: to contracts its machines in order.
+/// A set of machines below 128. Its value in contracts is the ascending list of its machines.
 #[derive(Drop)]
 pub struct MachineSet {
     low: u64,
@@ -22,7 +22,7 @@ impl Model for MachineSet {
 }
 
 impl MachineSet {
-    /// The empty set.
+    /// Makes the empty set.
     #[inline(always)]
     pub(crate) fn none() -> MachineSet
         ensures { result ≡ [] }
@@ -43,7 +43,7 @@ impl MachineSet {
         self.high |= 1 << (machine - 64);
     }
 
-    /// Takes the first machine out.
+    /// Takes the lowest machine out of the set.
     #[inline(always)]
     pub(crate) fn pop_first(&mut self) -> Option<usize>
         ensures { IsPopped self.old result self.new }

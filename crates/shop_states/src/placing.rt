@@ -1,4 +1,4 @@
-// The operations of a word are placed, position by position.
+// Places the operations of a word, in the order of its jobs.
 ghost use Rattle.std.specs.Prelude.{◌≡◌, ℕ, ◌<◌, ◌≤◌, length, slice_index, take};
 ghost use Rattle.shop_model.specs.Word.{IsWord, none_placed, placing};
 ghost use Rattle.shop_layout.specs.Positions.{IsLaidOut};
@@ -7,7 +7,7 @@ ghost use Rattle.shop_states.specs.inner.PlacedNexts.{AreBegun, IsPlacedAt};
 use shop_lanes::StateLanes;
 use shop_layout::LaidOut;
 
-/// Each job is at the first step of its route, ready at its release.
+/// Puts each job at the first step of its route, ready at its release.
 fn begin_jobs<L: StateLanes>(laid_out: &LaidOut<L>, next: &mut [u32], ready: &mut [u64])
     requires next { length next.old ≡ length laid_out.now.shop.jobs }
     requires ready { length ready.old ≡ length laid_out.now.shop.jobs }
@@ -28,7 +28,7 @@ fn begin_jobs<L: StateLanes>(laid_out: &LaidOut<L>, next: &mut [u32], ready: &mu
     }
 }
 
-/// Each machine is free from 0 on.
+/// Makes each machine free from time 0 on.
 fn free_machines(free: &mut [u64])
     ensures long { length free.new ≡ length free.old }
     ensures none { (m : ℕ) → m < length free.old → slice_index free.new m ≡ 0 }
@@ -38,7 +38,7 @@ fn free_machines(free: &mut [u64])
     }
 }
 
-/// Nothing is placed.
+/// Writes the placement of the empty word into `next`, `ready` and `free`.
 pub(crate) fn place_none<L: StateLanes>(
     laid_out: &LaidOut<L>,
     next: &mut [u32],
@@ -55,7 +55,7 @@ pub(crate) fn place_none<L: StateLanes>(
     free_machines(free);
 }
 
-/// Places the operations of a word from an entry on, where those before it are placed.
+/// Places the operations of the word `path` from entry `from` on. The operations of earlier entries are placed already.
 pub(crate) fn place_from<L: StateLanes>(
     laid_out: &LaidOut<L>,
     next: &mut [u32],

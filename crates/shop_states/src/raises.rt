@@ -1,4 +1,4 @@
-// Heads by position are raised once an operation is placed.
+// Raises heads after an operation is dispatched.
 ghost use Rattle.std.specs.Prelude.{◌≡◌, ◌+◌, ◌*◌, ◌≤◌, ◌<◌, ◌^◌, [], length, slice_index};
 ghost use Rattle.shop_layout.specs.Lanes.{rows_of};
 ghost use Rattle.shop_states.specs.inner.HeadRaises.{raises_in};
@@ -12,8 +12,8 @@ use crate::machine_sets::MachineSet;
 use shop_lanes::StateLanes;
 use shop_layout::{Grid, Routes};
 
-/// Raises the head of what waits at a position to `end`, propagates it along its route as far as heads are too small
-/// then, and notes each change.
+/// Raises the head at `position` to `end`, then every later head on its route that is now too early. Notes in `raises`
+/// how far each later head rose, and puts its machine into `raised`.
 #[inline(always)]
 fn raise_route<L: StateLanes>(
     lanes: &mut L,
@@ -50,7 +50,7 @@ fn raise_route<L: StateLanes>(
     }
 }
 
-/// Sets the end of what stands at a position, whose head is to be `begin`, if it is one of these next operations.
+/// Sets the end of the operation at `position` to `begin` plus its time, if it is its job's next operation.
 #[inline(always)]
 fn set_end_at<L: StateLanes>(
     lanes: &mut L,
@@ -75,8 +75,8 @@ fn set_end_at<L: StateLanes>(
     }
 }
 
-/// Raises the head of what waits at a position to `end`, those of its route behind it that are too small then, and its
-/// end if it is one of these next operations.
+/// Raises the head at `position` to `end`, then every later head on its route that is now too early. Sets the end of
+/// the operation at `position` if it is its job's next one.
 #[inline(always)]
 fn raise_from<L: StateLanes>(
     lanes: &mut L,
@@ -106,7 +106,8 @@ fn raise_from<L: StateLanes>(
     raise_route(lanes, raises, raised, routes, position, end);
 }
 
-/// Raises the heads of what waits in at most eight blocks below `end`.
+/// Raises to `end` each head below `end` of the operations that wait in blocks `from` up to `to` (excluded), at most
+/// eight blocks. Also raises every later head on their routes that is too early then.
 #[inline(always)]
 fn raise_blocks<L: StateLanes>(
     lanes: &mut L,
@@ -144,8 +145,8 @@ fn raise_blocks<L: StateLanes>(
     }
 }
 
-/// Sets each head below `end` of what waits on a machine to `end`, propagates it along the routes as far as heads are
-/// too small then, notes each change in the raises, and keeps the ends of next operations up.
+/// Raises each head below `end` on `machine` to `end`, then every later head on its route that is now too early. Notes
+/// how far these later heads rose, and updates the ends of next operations.
 #[inline(always)]
 pub(crate) fn raise<L: StateLanes>(
     lanes: &mut L,

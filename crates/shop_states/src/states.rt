@@ -1,27 +1,27 @@
-// A state of a word, and what a dispatch needs beside it.
+// The state of a word, and the scratch room of fills and dispatches.
 use crate::beginnings::Beginning;
 use crate::machine_raises::MachineRaises;
 use shop_lanes::StateLanes;
 
-/// What a word leaves: the heads of its operations by position, and by job its next operation and the end of that.
+/// The state of a word: the head of each waiting operation, by position, and each job's next operation with its end.
 #[derive(Drop)]
 pub struct State<L: StateLanes> {
     pub(crate) lanes: L,
-    /// next[job]: the position of its next operation, or the number of all positions
+    /// next[job]: the position of the job's next operation, or the number of positions if none is left
     pub(crate) next: Vec<u32>,
 }
 
-/// What fills and dispatches need beside states.
+/// Room that is used again and again to fill states, list candidates and dispatch operations.
 #[derive(Drop)]
 pub struct Scratch<L: StateLanes> {
-    /// ready[job]: of some word, when the job is ready
+    /// ready[job]: when the job is ready after the word whose state was filled last
     pub(crate) ready: Vec<u64>,
-    /// free[machine]: of some word, when the machine is free
+    /// free[machine]: when the machine is free after the word whose state was filled last
     pub(crate) free: Vec<u64>,
-    /// of the word that was filled last, or of one before
+    /// the first jobs of the last filled word with their placement, since the next word often shares them
     pub(crate) beginning: Beginning,
-    /// at rest
+    /// how far heads rose on each machine in a dispatch; empty between dispatches
     pub(crate) raises: MachineRaises<L>,
-    /// owns[i]: the own span at the position that is i behind the first one of some machine
+    /// owns[i]: how late a machine's operations end, tails included, if the one at its place `i` goes first
     pub(crate) owns: Vec<L::Number>,
 }

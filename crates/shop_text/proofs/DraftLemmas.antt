@@ -6,7 +6,7 @@ use Rattle.std.proofs.Common.{refl, sym, ap, ◌∙◌, subst, arith, min}
 use Rattle.std.specs.Prelude.{IsErr, IsOk, ◌↔◌, All}
 use Rattle.std.specs.List.{zip}
 use Rattle.std.specs.declared.alloc.Global.{Global}
-use Rattle.std.proofs.lemmas.Bool.{lt-ltb, le-ltb, eq-eqb, ne_eqb}
+use Rattle.std.proofs.lemmas.Bool.{lt-ltb, le-ltb, ne_eqb}
 use Rattle.std.proofs.lemmas.List.{length-map, map-append, length-append, length-take, length-take-le, length-drop}
 use Rattle.std.proofs.lemmas.List.{take-append-le, drop-append-le, get_or-map}
 use Rattle.std.proofs.lemmas.List.Elements.{All-push}
@@ -15,7 +15,6 @@ use Rattle.shop_model.specs.declared.ops.Job.{Job}
 use Rattle.shop_model.specs.Shop.{ShopJob}
 use Rattle.shop_model.specs.Given.{job_as_given}
 use Rattle.shop_model.specs.Limits.{IsJobWithin, AreJobsWithin}
-use Rattle.shop_text.specs.inner.Grammars.{fields_of}
 use Rattle.shop_text.specs.inner.LineReading.{capped}
 use Rattle.shop_text.specs.inner.DraftLimits.{IsDraftWithin}
 use Rattle.shop_text.specs.Grammar.{Row, LineFault}
@@ -231,14 +230,6 @@ taillard_lens draft size rows d =
 pub rows_lens : (job_of : Row → ShopJob) (jobs : List Job) (rows : List Row) → map job_as_given jobs ≡ map job_of rows
     → length rows ≡ length jobs
 rows_lens job_of jobs rows e = sym (length-map rows job_of) ∙ sym (ap length e) ∙ length-map jobs job_as_given
-
-pub skips_fresh : (p : Format) (draft : Draft) → (fields_of p).has_matrices ≡ false → (rows : List Row)
-    → IsDraft p draft rows → eqb draft.jobs_wanted 0 ≡ (grammar_of p).skips rows
-skips_fresh Orlib draft e [] d = eq-eqb draft.jobs_wanted 0 d
-skips_fresh Orlib draft e (size ∷ rows) d = ne_eqb draft.jobs_wanted 0 (λ g. let s = d.some_job in omega arith)
-skips_fresh Routes draft e [] d = eq-eqb draft.jobs_wanted 0 d
-skips_fresh Routes draft e (size ∷ rows) d = ne_eqb draft.jobs_wanted 0 (λ g. let s = d.some_job in omega arith)
-skips_fresh Taillard draft e rows d = absurd cc
 
 pub skips_full : (draft : Draft) → 0 < length draft.times.items → length draft.jobs.items ≡ 0 → (rows : List Row)
     → IsDraft Taillard draft rows → eqb (length draft.times.items) draft.jobs_wanted ≡ taillard.skips rows

@@ -198,4 +198,4 @@ job_taken p old new job n row (Ok (Some shop)) some w push is (size ∷ rows) wr
       draft_holds = push.fresh;
     }
 job_taken p old new job n row (Err e) some w push is (size ∷ rows) written d er =
-    subst (λ x. Fails x n ((grammar_of p).refuses (size ∷ rows) written)) (sym push) tt
+    inl push

@@ -1,10 +1,9 @@
 -- What the fields of a format's grammar say of it.
-use Rattle.std.proofs.Common.{◌≡◌, ℕ, inl, inr, Bool, true, false, cond, eqb, leb, ◌&&◌, [], length, Some, None}
+use Rattle.std.proofs.Common.{◌≡◌, ℕ, inl, inr, Bool, true, false, cond, eqb, leb, ◌&&◌, [], length, Some}
 use Rattle.std.proofs.Common.{refl, ap, arith}
 use Rattle.std.proofs.lemmas.Bool.{cases_lt, le-leb, lt-leb, eq-eqb, ne_eqb}
-use Rattle.shop_text.specs.Lines.{Line}
 use Rattle.shop_text.specs.Grammar.{Row, WrongShape}
-use Rattle.shop_text.specs.Formats.{grammar_of, header_of, size_fault}
+use Rattle.shop_text.specs.Formats.{grammar_of, size_fault}
 use Rattle.shop_text.specs.inner.Grammars.{fields_of}
 use Rattle.shop_text.specs.inner.LineReading.{size_line_fault}
 use Rattle.shop_text.specs.declared.formats.Format.{Format}
@@ -27,19 +26,6 @@ size_line_is Orlib row =
 size_line_is Taillard row = refl
 size_line_is Routes row =
     ap (λ (b : Bool). cond b (size_fault row) (Some WrongShape)) (two_alone (length row))
-
--- headers
-pub with_headers : (p : Format) → (fields_of p).has_headers ≡ true → (line : Line)
-    → (grammar_of p).header line ≡ header_of line
-with_headers Orlib e line = refl
-with_headers Taillard e line = absurd cc
-with_headers Routes e line = refl
-
-pub without_headers : (p : Format) → (fields_of p).has_headers ≡ false → (line : Line)
-    → (grammar_of p).header line ≡ None
-without_headers Orlib e line = absurd cc
-without_headers Taillard e line = refl
-without_headers Routes e line = absurd cc
 
 -- rows
 pub in_matrices : (p : Format) → (fields_of p).has_matrices ≡ true → p ≡ Taillard

@@ -15,6 +15,7 @@ use Rattle.shop_text.specs.Lines.{lines_of, tokens_of, is_empty, is_number, valu
 use Rattle.shop_text.specs.inner.LineReading.{capped}
 use Rattle.shop_text.specs.Schedules.{Tokens, begins_with_job, is_counted, is_label, starts_in, row_in, AreJobLines}
 use Rattle.shop_text.specs.Schedules.{GoesWrong, IsBadAt}
+use Rattle.shop_text.proofs.Passing.{one_behind}
 use Rattle.shop_text.specs.inner.ScheduleReading.{counted_after, IsReadSoFar, rows_held}
 
 -- ---- labels
@@ -161,7 +162,7 @@ missed_line shop text passed [] rows so_far none few = record {
   later = [];
   cut = so_far.cut;
   good = so_far.good;
-  wrong = (rw (as_many shop so_far.before rows so_far.good) few, (let lines = so_far.lines in omega arith));
+  wrong = (rw (as_many shop so_far.before rows so_far.good) few, (let lines = so_far.behind.lines in omega arith));
 }
 missed_line shop text passed (b ∷ rest) rows so_far none few = absurd (omega arith)
 
@@ -178,8 +179,7 @@ one_more shop text passed rest line after behind rows row so_far cut shorter is 
   good = good_more shop so_far.before rows (passed + 1, codes "job" ∷ behind) row so_far.good (sym row_is);
   jobs = (let few =
       is_job_of shop (length rows) (codes "job" ∷ behind) row (sym row_is) in omega (arith, length_push rows row));
-  lines = (let lines = so_far.lines in let e = ap length cut in omega arith);
-  bytes = (let bytes = so_far.bytes in omega arith);
+  behind = one_behind text passed rest line after so_far.behind cut shorter;
 }
 
 pub rows_push : (before after : Vec (Vec ℕ Global) Global) (row : Vec ℕ Global)

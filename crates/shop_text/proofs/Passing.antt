@@ -8,24 +8,20 @@ use Rattle.std.proofs.lemmas.List.{append-nil}
 use Rattle.shop_text.specs.Formats.{grammar_of}
 use Rattle.shop_text.specs.Lines.{Line, Blank, Numbers, Words, Numbered, is_left, line_of, lines_of}
 use Rattle.shop_text.specs.Lines.{numbered_lines}
-use Rattle.shop_text.specs.Grammar.{Grammar, LineFault, WrongShape, WrongSize, WrongRow, WrongMachine, WrongTime}
-use Rattle.shop_text.specs.Grammar.{fault_at}
-use Rattle.shop_text.specs.Grammar.{IsRefused, IsFault}
-use Rattle.shop_text.specs.Texts.{is_header, from_first_header, lines_left, IsTextFault}
+use Rattle.shop_text.specs.Grammar.{Grammar, IsRefused}
+use Rattle.shop_text.specs.Texts.{is_header, from_first_header, lines_left}
 use Rattle.shop_text.specs.Names.{IsRead}
-use Rattle.shop_text.specs.inner.LineReading.{lines_after, IsFurther}
+use Rattle.shop_text.specs.inner.LineReading.{lines_after, IsBehind}
 use Rattle.shop_text.specs.inner.InstanceReading.{IsReadUpTo, left_of, Ends, IsOnTheWay}
 use Rattle.shop_text.specs.declared.faults.ReadFault.{ReadFault}
-use Rattle.shop_text.specs.declared.faults.ReadFault.TheVariants.{NoMemory, TooLong, NoInstance, BadShape, BadSize}
-use Rattle.shop_text.specs.declared.faults.ReadFault.TheVariants.{BadRow, Truncated, BadMachine, BadTime}
-use Rattle.shop_text.specs.declared.faults.ReadFault.TheVariants.{NoSuchName, BadTable}
+use Rattle.shop_text.specs.declared.faults.ReadFault.TheVariants.{NoMemory}
 use Rattle.shop_text.specs.declared.names.Named.{Named}
 use Rattle.shop_text.specs.declared.formats.Format.{Format}
 use Rattle.shop_text.specs.declared.instance_readers.Reader.{Reader}
 
-pub further_here : (p : ℕ) (text0 : List ℕ) (n : ℕ) (text bytes rest : List ℕ) → IsFurther p text0 n text
-    → lines_of text ≡ bytes ∷ lines_of rest → length rest < length text → IsFurther p text0 (n + 1) rest
-further_here p text0 n text bytes rest f cut shorter =
+pub one_behind : (whole : List ℕ) (n : ℕ) (text bytes rest : List ℕ) → IsBehind whole n text
+    → lines_of text ≡ bytes ∷ lines_of rest → length rest < length text → IsBehind whole (n + 1) rest
+one_behind whole n text bytes rest f cut shorter =
     let a = f.lines in let b = f.bytes in record { lines = omega (arith, ap length cut); bytes = omega arith }
 
 -- the lines of a rest, by its first one
@@ -61,19 +57,15 @@ line_taken text n rest bytes after p old new w cut shorter same read = record {
       ∙ sym (append_assoc w.front (left_of (n + 1) (line_of bytes)) (lines_after (n + 1) after));
   same = same ∙ w.same;
   read = read;
-  further = further_here 0 text n rest bytes after w.further cut shorter;
+  behind = one_behind text n rest bytes after w.behind cut shorter;
 }
-
--- a fault of the text, or that memory ran out
-abbrev IsError : Grammar → List ℕ → ReadFault → Type 0
-IsError f text e = (e ≡ NoMemory) ⊎ IsTextFault f text e
 
 pub line_refused : (text : List ℕ) (n : ℕ) (rest bytes after : List ℕ) (p : Format) (reader : Reader) (e : ReadFault)
     (w : IsOnTheWay text n rest p reader) → length text ≤ 16777216 → lines_of rest ≡ bytes ∷ lines_of after
     → (e ≡ NoMemory) ⊎ ((later : List Numbered)
     → IsRefused (grammar_of reader.format) (w.front ++ (left_of (n + 1) (line_of bytes) ++ later)) e)
-    → IsError (grammar_of p) text e
-line_refused text n rest bytes after p reader e w short cut (inl none) = inl none
+    → IsRead (grammar_of p) text (Err e)
+line_refused text n rest bytes after p reader e w short cut (inl none) = inl (none, short)
 line_refused text n rest bytes after p reader e w short cut (inr refused) =
     let here = refused (lines_after (n + 1) after)
     in let lines : lines_left (grammar_of p) text
@@ -83,51 +75,6 @@ line_refused text n rest bytes after p reader e w short cut (inr refused) =
     rw lines (subst (λ q. IsRefused (grammar_of q)
     (w.front ++ (left_of (n + 1) (line_of bytes) ++ lines_after (n + 1) after)) e) w.same here)
     in inr (inr (record { short = short; in_lines = inr (inr placed) }))
-
--- no text has these faults
-no_line_fault : (n : ℕ) (name : LineFault)
-    → (NoSuchName ≡ fault_at n name → ⊥) × ((k : ℕ) → BadTable k ≡ fault_at n name → ⊥)
-no_line_fault n WrongShape = (λ e. cc, λ k e. cc)
-no_line_fault n WrongSize = (λ e. cc, λ k e. cc)
-no_line_fault n WrongRow = (λ e. cc, λ k e. cc)
-no_line_fault n WrongMachine = (λ e. cc, λ k e. cc)
-no_line_fault n WrongTime = (λ e. cc, λ k e. cc)
-
-no_such_name : (f : Grammar) (text : List ℕ) → IsTextFault f text NoSuchName → ⊥
-no_such_name f text (inl long) = let e = long.told in cc
-no_such_name f text (inr h) = told h.in_lines
-  where
-    told : IsFault f (length (lines_of text)) (lines_left f text) NoSuchName → ⊥
-    told (inl none) = let e = none.told in cc
-    told (inr (inl t)) = let e = t.told in cc
-    told (inr (inr r)) = (no_line_fault r.line.0 r.name).0 r.told
-
-no_bad_table : (f : Grammar) (text : List ℕ) (k : ℕ) → IsTextFault f text (BadTable k) → ⊥
-no_bad_table f text k (inl long) = let e = long.told in cc
-no_bad_table f text k (inr h) = told h.in_lines
-  where
-    told : IsFault f (length (lines_of text)) (lines_left f text) (BadTable k) → ⊥
-    told (inl none) = let e = none.told in cc
-    told (inr (inl t)) = let e = t.told in cc
-    told (inr (inr r)) = (no_line_fault r.line.0 r.name).1 k r.told
-
-by_fault : (f : Grammar) (text : List ℕ) (e : ReadFault) → (e ≡ NoMemory → ⊥) → IsError f text e → IsTextFault f text e
-by_fault f text e not (inl none) = absurd (not none)
-by_fault f text e not (inr h) = h
-
-pub error_read : (f : Grammar) (text : List ℕ) (e : ReadFault) → length text ≤ 16777216 → IsError f text e
-    → IsRead f text (Err e)
-error_read f text NoMemory short h = short
-error_read f text TooLong short h = by_fault f text TooLong (λ e. cc) h
-error_read f text NoInstance short h = by_fault f text NoInstance (λ e. cc) h
-error_read f text (BadShape n) short h = by_fault f text (BadShape n) (λ e. cc) h
-error_read f text (BadSize n) short h = by_fault f text (BadSize n) (λ e. cc) h
-error_read f text (BadRow n) short h = by_fault f text (BadRow n) (λ e. cc) h
-error_read f text (Truncated n) short h = by_fault f text (Truncated n) (λ e. cc) h
-error_read f text (BadMachine n) short h = by_fault f text (BadMachine n) (λ e. cc) h
-error_read f text (BadTime n) short h = by_fault f text (BadTime n) (λ e. cc) h
-error_read f text NoSuchName short h = no_such_name f text (by_fault f text NoSuchName (λ e. cc) h)
-error_read f text (BadTable n) short h = no_bad_table f text n (by_fault f text (BadTable n) (λ e. cc) h)
 
 nothing_after : (n : ℕ) (rest : List ℕ) → length rest ≡ 0 → (lines_after n rest ≡ []) × (length (lines_of rest) ≡ 0)
 nothing_after n [] e = (refl, refl)
@@ -143,7 +90,7 @@ end_read text n rest p reader r w short none ends =
     let over = nothing_after n rest none
     in let lines : lines_left (grammar_of p) text ≡ w.front =
     w.cut ∙ ap (λ (ls : List Numbered). w.front ++ ls) over.0 ∙ append-nil w.front
-    in let last : n ≡ length (lines_of text) = omega (arith, w.further.lines, over.1)
+    in let last : n ≡ length (lines_of text) = omega (arith, w.behind.lines, over.1)
     in told r (subst (λ q. Ends (grammar_of q) n w.front r) w.same (ends w.front w.read)) lines last
   where
     told : (r : Result (Vec Named Global) ReadFault) → Ends (grammar_of p) n w.front r
@@ -151,4 +98,4 @@ end_read text n rest p reader r w short none ends =
     told (Ok named) h lines last =
         (record { short = short; parts = h.parts; good = rw lines h.good; shops_are = h.named_are }, h.some)
     told (Err e) h lines last =
-        error_read (grammar_of p) text e short (inr (inr (record { short = short; in_lines = rw (lines, ← last) h })))
+        inr (inr (record { short = short; in_lines = rw (lines, ← last) h }))

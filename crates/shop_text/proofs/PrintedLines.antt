@@ -1,6 +1,6 @@
 -- Printed lines as they are read again: lines, tokens, numbers.
 use Rattle.std.proofs.Common.{◌≡◌, ℕ, zero, suc, ◌+◌, ◌-◌, ◌*◌, ◌^◌, ◌/◌, ◌%◌, ◌<◌, ◌≤◌, Bool, true, false, not}
-use Rattle.std.proofs.Common.{◌||◌, cond, eqb, ltb, List, [], ◌∷◌, ◌++◌, length, map, refl, ap, ◌∙◌}
+use Rattle.std.proofs.Common.{◌||◌, cond, eqb, ltb, List, [], ◌∷◌, ◌++◌, length, map, refl, sym, ap, ◌∙◌}
 use Rattle.std.proofs.Common.{arith, rules}
 use Rattle.std.specs.Prelude.{filter, fold}
 use Rattle.std.specs.List.{slice_split, onto_first, list_any, join_with_byte}
@@ -8,13 +8,13 @@ use Rattle.std.specs.Fmt.{decimal, digits, digits_onto}
 use Rattle.std.proofs.lemmas.Bool.{eqb-true, or_parts}
 use Rattle.std.proofs.lemmas.Fmt.{decimal_nonempty, digits_decimal, digits_value-decimal}
 use Rattle.std.proofs.lemmas.Str.Parse.{IsNumeralModel, numerals_by_fold}
-use Rattle.std.proofs.lemmas.List.{append_assoc}
+use Rattle.std.proofs.lemmas.List.{append_assoc, append-nil}
 use Rattle.std.proofs.lemmas.List.Folds.{list_any-append}
 use Rattle.std.proofs.lemmas.List.Splits.{length-slice_split, slice_split-cons_yes, slice_split-cons_no}
 use Rattle.shop_text.specs.Lines.{is_line_feed, is_separator, is_empty, ended, lines_of, tokens_of, is_number}
 use Rattle.shop_text.specs.Lines.{value_of}
 use Rattle.shop_text.specs.Schedules.{Tokens}
-use Rattle.shop_text.specs.Writing.{text_of}
+use Rattle.shop_text.specs.Writing.{printed_line, text_of}
 use Rattle.shop_text.proofs.LineLemmas.{ended_more}
 
 -- no byte passes the test
@@ -51,10 +51,18 @@ abbrev pub AreLines : List Tokens → Type 0
 AreLines [] = Unit {0}
 AreLines (line ∷ lines) = IsFree is_line_feed (join_with_byte 32 line) × AreLines lines
 
+-- the lines of a text that begins with these
+pub lines_of_front : (lines : List Tokens) (rest : List ℕ) → AreLines lines
+    → lines_of (text_of lines ++ rest) ≡ map (join_with_byte 32) lines ++ lines_of rest
+lines_of_front [] rest are = refl
+lines_of_front (line ∷ lines) rest are =
+    ap lines_of (append_assoc (printed_line line) (text_of lines) rest)
+    ∙ line_cut (join_with_byte 32 line) (text_of lines ++ rest) are.0
+    ∙ ap (λ (ls : List (List ℕ)). join_with_byte 32 line ∷ ls) (lines_of_front lines rest are.1)
+
 pub lines_of_text : (lines : List Tokens) → AreLines lines → lines_of (text_of lines) ≡ map (join_with_byte 32) lines
-lines_of_text [] are = refl
-lines_of_text (line ∷ lines) are = line_cut (join_with_byte 32 line) (text_of lines) are.0
-    ∙ ap (λ (ls : List (List ℕ)). join_with_byte 32 line ∷ ls) (lines_of_text lines are.1)
+lines_of_text lines are = ap lines_of (sym (append-nil (text_of lines))) ∙ lines_of_front lines [] are
+    ∙ append-nil (map (join_with_byte 32) lines)
 
 pub are_lines_append : (lines more : List Tokens) → AreLines lines → AreLines more → AreLines (lines ++ more)
 are_lines_append [] more h g = g

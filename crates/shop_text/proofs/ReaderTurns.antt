@@ -14,21 +14,19 @@ use Rattle.shop_text.specs.Formats.{grammar_of}
 use Rattle.shop_text.specs.Lines.{Line, Numbers, Words, Numbered}
 use Rattle.shop_text.specs.Grammar.{Row, Grammar, LineFault, fault_at, Entry, Part, entry_rows, lines_of_parts}
 use Rattle.shop_text.specs.Grammar.{IsBegun, IsRefused, IsWithoutInstance, AreText}
-use Rattle.shop_text.specs.Texts.{NamedShop, headers_of, last_or, name_of, named_from}
+use Rattle.shop_text.specs.Texts.{NamedShop, headers_of, last_or, name_of, named_from, OneReading}
 use Rattle.shop_text.specs.Names.{shops_of, shop_of_named}
 use Rattle.shop_text.specs.inner.LineReading.{Fails, located}
 use Rattle.shop_text.specs.inner.Drafts.{IsDraft, IsOneMore, IsLastOne}
 use Rattle.shop_text.specs.inner.InstanceReading.{texts_of, name_or, IsLast, IsReadUpTo, AreRead}
 use Rattle.shop_text.specs.declared.instance_drafts.Draft.{Draft}
 use Rattle.shop_text.specs.declared.faults.ReadFault.{ReadFault}
-use Rattle.shop_text.specs.declared.faults.ReadFault.TheVariants.{NoMemory, TooLong, NoInstance, BadShape, BadSize}
-use Rattle.shop_text.specs.declared.faults.ReadFault.TheVariants.{BadRow, Truncated, BadMachine, BadTime}
-use Rattle.shop_text.specs.declared.faults.ReadFault.TheVariants.{NoSuchName, BadTable}
+use Rattle.shop_text.specs.declared.faults.ReadFault.TheVariants.{NoMemory, NoInstance}
 use Rattle.shop_text.specs.declared.names.Named.{Named}
 use Rattle.shop_text.specs.declared.formats.Format.{Format}
 use Rattle.shop_text.specs.declared.formats.Format.TheVariants.{Orlib, Taillard, Routes}
 use Rattle.shop_text.specs.declared.instance_readers.Reader.{Reader}
-use Rattle.shop_text.proofs.OneReading.{IsGrammar, with_row, entry}
+use Rattle.shop_text.proofs.OneReading.{IsGrammar, with_row, entry, one_text}
 use Rattle.shop_text.proofs.Places.{words_on, row_on, part_on, rows_more}
 use Rattle.shop_text.proofs.SomeReading.{nothing_yet, refused_here}
 
@@ -36,6 +34,9 @@ pub is_grammar : (p : Format) → IsGrammar (grammar_of p)
 is_grammar Orlib = record { none_whole = refl; skips_first = refl }
 is_grammar Taillard = record { none_whole = refl; skips_first = refl }
 is_grammar Routes = record { none_whole = refl; skips_first = refl }
+
+pub one_reading : (p : Format) → OneReading (grammar_of p)
+one_reading p = one_text (grammar_of p) (is_grammar p)
 
 pub nothing_read : (reader : Reader) → reader.named.items ≡ [] → reader.name ≡ None → reader.draft.jobs_wanted ≡ 0
     → IsReadUpTo reader []
@@ -198,17 +199,8 @@ failed e n (Some name) h = (name, refl, cc)
 
 pub fails_by : (e : ReadFault) (n : ℕ) (o : Option LineFault) → Fails e n o
     → (e ≡ NoMemory) ⊎ ((name : LineFault) × (o ≡ Some name) × (e ≡ fault_at n name))
-fails_by NoMemory n o h = inl refl
-fails_by TooLong n o h = inr (failed TooLong n o h)
-fails_by NoInstance n o h = inr (failed NoInstance n o h)
-fails_by (BadShape k) n o h = inr (failed (BadShape k) n o h)
-fails_by (BadSize k) n o h = inr (failed (BadSize k) n o h)
-fails_by (BadRow k) n o h = inr (failed (BadRow k) n o h)
-fails_by (Truncated k) n o h = inr (failed (Truncated k) n o h)
-fails_by (BadMachine k) n o h = inr (failed (BadMachine k) n o h)
-fails_by (BadTime k) n o h = inr (failed (BadTime k) n o h)
-fails_by NoSuchName n o h = inr (failed NoSuchName n o h)
-fails_by (BadTable k) n o h = inr (failed (BadTable k) n o h)
+fails_by e n o (inl none) = inl none
+fails_by e n o (inr h) = inr (failed e n o h)
 
 pub row_refused : (reader : Reader) (n : ℕ) (row : Row) (front : List Numbered) (r : IsReadUpTo reader front)
     (e : ReadFault) → Fails e n ((grammar_of reader.format).refuses (entry_rows r.begun) row)

@@ -7,7 +7,7 @@ use Rattle.std.specs.List.{enumerate_from, range_with_len, list_any, list_all, j
 use Rattle.std.specs.Option.{option_map_or}
 use Rattle.std.specs.Fmt.{decimal}
 use Rattle.std.proofs.lemmas.Bool.{eqb-true, leb-true}
-use Rattle.std.proofs.lemmas.List.{append-nil, length-append, length-map}
+use Rattle.std.proofs.lemmas.List.{length-append, length-map}
 use Rattle.std.proofs.lemmas.List.Concat.{flat_map-append}
 use Rattle.std.proofs.lemmas.List.FromFn.{length-enumerate_from}
 use Rattle.shop_model.specs.Shop.{Shop, Starts, route_of, end_of}
@@ -17,7 +17,7 @@ use Rattle.shop_text.specs.Lines.{is_line_feed, tokens_of}
 use Rattle.shop_text.specs.Formats.{is_visible}
 use Rattle.shop_text.specs.Schedules.{Tokens, is_counted, counted_lines}
 use Rattle.shop_text.specs.Schedules.{IsTable}
-use Rattle.shop_text.specs.Writing.{Reported, printed_line, text_of, number_line, status_word, answer_lines, job_line}
+use Rattle.shop_text.specs.Writing.{report_text, Reported, printed_line, text_of, number_line, status_word, answer_lines, job_line}
 use Rattle.shop_text.specs.Writing.{job_lines, report_lines, unit_of, columns_of, character_of, serves}
 use Rattle.shop_text.specs.Writing.{shown_at, columns, cells_line, machine_line, gantt_lines}
 use Rattle.shop_text.specs.RoundTrip.{ReportsAreSchedules}
@@ -180,28 +180,31 @@ as_many_lines (line ∷ lines) =
 
 -- other lines behind a report change nothing
 read_back : (r : Reported) (others : List Tokens) → list_all is_visible r.name ≡ true → HasShape r.shop r.table
-    → AreStarts r.table → AreLines others → AreOther others
-    → length (text_of (report_lines r ++ others)) ≤ 16777216
-    → IsTable r.shop (text_of (report_lines r ++ others)) r.table
-read_back r others visible shape small lines other short = record {
-  short = short;
-  lines =
-      (let jobs = jobs_from 0 r.table
-      in let cut : counted_lines (text_of (report_lines r ++ others)) ≡ read_from 9 (jobs_from 0 r.table ++ others) =
-      ap (λ (ls : List (List ℕ)). filter is_counted (enumerate_from 1 (map tokens_of ls)))
-      (lines_of_text (report_lines r ++ others) (are_lines_append (report_lines r) others
-      (are_lines_append (answer_lines r) jobs (answer_is_lines r visible) (job_lines_are_lines 0 r.table)) lines))
-      ∙ skip_lines 1 (answer_lines r) (jobs ++ others) (answer_is_other r)
-      in ap (λ (ls : List (ℕ × Tokens)). map (row_at r.shop) (enumerate_from 0 ls)) cut
-      ∙ jobs_read r.shop 9 0 r.table others rows other);
-  jobs = shape.jobs;
-}
+    → AreStarts r.table → AreLines others → AreOther others → length (report_text r ++ text_of others) ≤ 16777216
+    → IsTable r.shop (report_text r ++ text_of others) r.table
+read_back r others visible shape small lines other short =
+    let joined : text_of (report_lines r ++ others) ≡ report_text r ++ text_of others =
+    flat_map-append printed_line (report_lines r) others
+    in subst (λ (text : List ℕ). IsTable r.shop text r.table) joined (record {
+      short = subst (λ (text : List ℕ). length text ≤ 16777216) (sym joined) short;
+      lines =
+          (let jobs = jobs_from 0 r.table
+          in let cut : counted_lines (text_of (report_lines r ++ others)) ≡ read_from 9 (jobs_from 0 r.table ++ others) =
+          ap (λ (ls : List (List ℕ)). filter is_counted (enumerate_from 1 (map tokens_of ls)))
+          (lines_of_text (report_lines r ++ others) (are_lines_append (report_lines r) others
+          (are_lines_append (answer_lines r) jobs (answer_is_lines r visible) (job_lines_are_lines 0 r.table)) lines))
+          ∙ skip_lines 1 (answer_lines r) (jobs ++ others) (answer_is_other r)
+          in ap (λ (ls : List (ℕ × Tokens)). map (row_at r.shop) (enumerate_from 0 ls)) cut
+          ∙ jobs_read r.shop 9 0 r.table others (rows joined) other);
+      jobs = shape.jobs;
+    })
   where
-    rows : AreRows r.shop 0 r.table
-    rows = record {
+    rows : text_of (report_lines r ++ others) ≡ report_text r ++ text_of others → AreRows r.shop 0 r.table
+    rows joined = record {
       jobs = (let jobs = shape.jobs in omega arith);
       few = omega (
         arith,
+        ap length joined,
         as_many_lines (report_lines r ++ others),
         length-append (report_lines r) others,
         length-append (answer_lines r) (job_lines r.table),
@@ -213,21 +216,13 @@ read_back r others visible shape small lines other short = record {
     }
 
 pub reports_are_schedules : ReportsAreSchedules
-reports_are_schedules = record {
-  alone = λ r visible shape small short.
-      subst (λ (lines : List Tokens). IsTable r.shop (text_of lines) r.table) (append-nil (report_lines r))
-      (read_back r [] visible shape small tt tt (subst (λ (lines : List Tokens). length (text_of lines) ≤ 16777216)
-      (sym (append-nil (report_lines r))) short));
-  with_gantt = λ r visible shape small short.
-      (let starts = starts_of r.table
-      in let joined = flat_map-append printed_line (report_lines r) (gantt_lines r.shop starts)
-      in subst (λ (text : List ℕ). IsTable r.shop text r.table) joined
-      (read_back r (gantt_lines r.shop starts) visible shape small (
-        number_free (codes "unit") (unit_of (end_of r.shop starts)) refl,
-        machines_are_lines r.shop starts (range_with_len 0 r.shop.machines),
-      ) (
-        other_line (codes "unit") (decimal (unit_of (end_of r.shop starts))) [] refl refl refl,
-        machines_are_other r.shop starts (range_with_len 0 r.shop.machines),
-      )
-      (subst (λ (text : List ℕ). length text ≤ 16777216) (sym joined) short)));
-}
+reports_are_schedules r false visible shape small short = read_back r [] visible shape small tt tt short
+reports_are_schedules r true visible shape small short =
+    let starts = starts_of r.table
+    in read_back r (gantt_lines r.shop starts) visible shape small (
+      number_free (codes "unit") (unit_of (end_of r.shop starts)) refl,
+      machines_are_lines r.shop starts (range_with_len 0 r.shop.machines),
+    ) (
+      other_line (codes "unit") (decimal (unit_of (end_of r.shop starts))) [] refl refl refl,
+      machines_are_other r.shop starts (range_with_len 0 r.shop.machines),
+    ) short

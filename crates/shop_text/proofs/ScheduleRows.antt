@@ -1,7 +1,7 @@
 -- Worked schedule texts, computed: two jobs of two steps each, behind the three lines of their instance.
-use Rattle.std.proofs.Common.{ℕ, List, [], ◌∷◌, ◌++◌, refl, arith}
+use Rattle.std.proofs.Common.{◌≡◌, ℕ, ◌≤◌, inr, List, [], ◌∷◌, ◌++◌, length, None, refl, arith}
 use Rattle.std.specs.Prelude.{codes}
-use Rattle.shop_text.specs.Schedules.{Tokens, IsTable, IsTableFault}
+use Rattle.shop_text.specs.Schedules.{Tokens, counted_lines, row_in, AreJobLines, IsTable, IsTableFault}
 use Rattle.shop_text.specs.declared.faults.ReadFault.TheVariants.{BadTable}
 use Rattle.shop_text.proofs.WrittenRows.{crossing, crossing_rows}
 
@@ -32,98 +32,63 @@ a_report = record { short = omega arith; lines = refl; jobs = refl }
 
 -- ---- faults
 
+-- the counted lines before give these rows, and the next one is none of the job that waits
+wrong_at : (text : List ℕ) (n : ℕ) (before : List (ℕ × Tokens)) (rows : List (List ℕ)) (line : Tokens)
+    (later : List (ℕ × Tokens)) → length text ≤ 16777216 → counted_lines text ≡ before ++ (n, line) ∷ later
+    → AreJobLines crossing before rows → row_in crossing (length before) line ≡ None
+    → IsTableFault crossing text (BadTable n)
+wrong_at text n before rows line later short cut good wrong = inr (
+  n,
+  refl,
+  short,
+  record { before = before; rows = rows; later = (n, line) ∷ later; cut = cut; good = good; wrong = (wrong, refl) },
+)
+
+abbrev tokens : List ℕ → List ℕ → Tokens
+tokens label start = codes "job" ∷ label ∷ codes "0" ∷ start ∷ []
+
 abbrev first_line : ℕ × Tokens
-first_line = (4, codes "job" ∷ codes "0:" ∷ codes "0" ∷ codes "3" ∷ [])
+first_line = (4, tokens (codes "0:") (codes "3"))
 
 abbrev second_line : ℕ × Tokens
-second_line = (5, codes "job" ∷ codes "1:" ∷ codes "0" ∷ codes "3" ∷ [])
+second_line = (5, tokens (codes "1:") (codes "3"))
+
+abbrev first_row : List (List ℕ)
+first_row = (0 ∷ 3 ∷ []) ∷ []
 
 too_late_a_start : IsTableFault crossing (behind_instance (codes "job 0: 0 3\njob 1: 0 1000000000000001\n"))
     (BadTable 5)
-too_late_a_start = (
-  omega arith,
-  record {
-    before = first_line ∷ [];
-    rows = (0 ∷ 3 ∷ []) ∷ [];
-    later = (5, codes "job" ∷ codes "1:" ∷ codes "0" ∷ codes "1000000000000001" ∷ []) ∷ [];
-    cut = refl;
-    good = refl;
-    wrong = (refl, refl);
-  },
-)
+too_late_a_start = wrong_at _ 5 (first_line ∷ []) first_row (tokens (codes "1:") (codes "1000000000000001")) []
+    (omega arith) refl refl refl
 
 far_too_late_a_start : IsTableFault crossing (behind_instance (codes "job 0: 0 3\njob 1: 0 18446744073709551616\n"))
     (BadTable 5)
-far_too_late_a_start = (
-  omega arith,
-  record {
-    before = first_line ∷ [];
-    rows = (0 ∷ 3 ∷ []) ∷ [];
-    later = (5, codes "job" ∷ codes "1:" ∷ codes "0" ∷ codes "18446744073709551616" ∷ []) ∷ [];
-    cut = refl;
-    good = refl;
-    wrong = (refl, refl);
-  },
-)
+far_too_late_a_start = wrong_at _ 5 (first_line ∷ []) first_row (tokens (codes "1:") (codes "18446744073709551616")) []
+    (omega arith) refl refl refl
 
 a_space_before_the_colon : IsTableFault crossing (behind_instance (codes "job 0 : 0 3\njob 1: 0 3\n")) (BadTable 4)
-a_space_before_the_colon = (
-  omega arith,
-  record {
-    before = [];
-    rows = [];
-    later = (4, codes "job" ∷ codes "0" ∷ codes ":" ∷ codes "0" ∷ codes "3" ∷ []) ∷ second_line ∷ [];
-    cut = refl;
-    good = refl;
-    wrong = (refl, refl);
-  },
-)
+a_space_before_the_colon = wrong_at _ 4 [] []
+    (codes "job" ∷ codes "0" ∷ codes ":" ∷ codes "0" ∷ codes "3" ∷ []) (second_line ∷ []) (omega arith) refl refl refl
 
 a_job_twice : IsTableFault crossing (behind_instance (codes "job 0: 0 3\njob 0: 0 3\n")) (BadTable 5)
-a_job_twice = (
-  omega arith,
-  record {
-    before = first_line ∷ [];
-    rows = (0 ∷ 3 ∷ []) ∷ [];
-    later = (5, codes "job" ∷ codes "0:" ∷ codes "0" ∷ codes "3" ∷ []) ∷ [];
-    cut = refl;
-    good = refl;
-    wrong = (refl, refl);
-  },
-)
+a_job_twice = wrong_at _ 5 (first_line ∷ []) first_row (tokens (codes "0:") (codes "3")) [] (omega arith) refl refl refl
 
 a_line_too_many : IsTableFault crossing (behind_instance (codes "job 0: 0 3\njob 1: 0 3\njob 2: 0\n")) (BadTable 6)
-a_line_too_many = (
-  omega arith,
-  record {
-    before = first_line ∷ second_line ∷ [];
-    rows = crossing_rows;
-    later = (6, codes "job" ∷ codes "2:" ∷ codes "0" ∷ []) ∷ [];
-    cut = refl;
-    good = refl;
-    wrong = (refl, refl);
-  },
-)
+a_line_too_many = wrong_at _ 6 (first_line ∷ second_line ∷ []) crossing_rows
+    (codes "job" ∷ codes "2:" ∷ codes "0" ∷ []) [] (omega arith) refl refl refl
 
 a_start_is_missing : IsTableFault crossing (behind_instance (codes "job 0: 0 3\njob 1: 0\n")) (BadTable 5)
-a_start_is_missing = (
-  omega arith,
-  record {
-    before = first_line ∷ [];
-    rows = (0 ∷ 3 ∷ []) ∷ [];
-    later = (5, codes "job" ∷ codes "1:" ∷ codes "0" ∷ []) ∷ [];
-    cut = refl;
-    good = refl;
-    wrong = (refl, refl);
-  },
-)
+a_start_is_missing = wrong_at _ 5 (first_line ∷ []) first_row (codes "job" ∷ codes "1:" ∷ codes "0" ∷ []) []
+    (omega arith) refl refl refl
 
 a_line_is_missing : IsTableFault crossing (behind_instance (codes "job 0: 0 3\n")) (BadTable 5)
-a_line_is_missing = (
+a_line_is_missing = inr (
+  5,
+  refl,
   omega arith,
   record {
     before = first_line ∷ [];
-    rows = (0 ∷ 3 ∷ []) ∷ [];
+    rows = first_row;
     later = [];
     cut = refl;
     good = refl;

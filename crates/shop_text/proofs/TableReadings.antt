@@ -9,7 +9,7 @@ use Rattle.shop_text.specs.Lines.{lines_of}
 use Rattle.shop_text.specs.Schedules.{Tokens, counted_lines, row_in, AreJobLines, IsTable, GoesWrong, IsBadAt}
 use Rattle.shop_text.specs.Schedules.{IsTableFault, OneTable, SomeTable}
 use Rattle.shop_text.specs.declared.faults.ReadFault.{ReadFault}
-use Rattle.shop_text.specs.declared.faults.ReadFault.TheVariants as fault
+use Rattle.shop_text.specs.declared.faults.ReadFault.TheVariants.{TooLong, BadTable}
 use Rattle.shop_text.proofs.JobLineLemmas.{row_at, as_many, good_more, is_job_of}
 
 -- a counted line with its number
@@ -102,45 +102,25 @@ never_both shop text rows n table bad =
     in none_waits shop _ _ n bad.later (ap (λ (r : List (List ℕ) × List Line). r.1) (sym same))
     (as_many shop bad.before bad.rows bad.good ∙ all) bad.wrong
 
--- the two kinds of fault
-abbrev IsLong : List ℕ → ReadFault → Type 0
-IsLong text x = (x ≡ fault.TooLong) × (16777216 < length text)
-
-abbrev IsBad : Shop → List ℕ → ReadFault → Type 0
-IsBad shop text x = (n : ℕ) × (x ≡ fault.BadTable n) × (length text ≤ 16777216) × IsBadAt shop text n
-
-kind_of : (shop : Shop) (text : List ℕ) (x : ReadFault) → IsTableFault shop text x → IsLong text x ⊎ IsBad shop text x
-kind_of shop text fault.TooLong h = inl (refl, h)
-kind_of shop text (fault.BadTable n) h = inr (n, refl, h.0, h.1)
-kind_of shop text fault.NoMemory h = absurd h
-kind_of shop text fault.NoInstance h = absurd h
-kind_of shop text (fault.BadShape n) h = absurd h
-kind_of shop text (fault.BadSize n) h = absurd h
-kind_of shop text (fault.BadRow n) h = absurd h
-kind_of shop text (fault.Truncated n) h = absurd h
-kind_of shop text (fault.BadMachine n) h = absurd h
-kind_of shop text (fault.BadTime n) h = absurd h
-kind_of shop text fault.NoSuchName h = absurd h
-
-same_fault : (shop : Shop) (text : List ℕ) (x y : ReadFault) → IsLong text x ⊎ IsBad shop text x
-    → IsLong text y ⊎ IsBad shop text y → x ≡ y
-same_fault shop text x y (inl long) (inl longer) = long.0 ∙ sym longer.0
-same_fault shop text x y (inl long) (inr bad) = absurd (omega (arith, long.1, bad.2))
-same_fault shop text x y (inr bad) (inl long) = absurd (omega (arith, long.1, bad.2))
+same_fault : (shop : Shop) (text : List ℕ) (x y : ReadFault) → IsTableFault shop text x → IsTableFault shop text y
+    → x ≡ y
+same_fault shop text x y (inl long) (inl longer) = long.told ∙ sym longer.told
+same_fault shop text x y (inl long) (inr bad) = absurd (omega (arith, long.long, bad.2))
+same_fault shop text x y (inr bad) (inl long) = absurd (omega (arith, long.long, bad.2))
 same_fault shop text x y (inr bad) (inr worse) =
-    bad.1 ∙ ap (λ (n : ℕ). fault.BadTable n) (same_bad shop text bad.0 worse.0 bad.3 worse.3) ∙ sym worse.1
+    bad.1 ∙ ap (λ (n : ℕ). BadTable n) (same_bad shop text bad.0 worse.0 bad.3 worse.3) ∙ sym worse.1
 
 not_good : (shop : Shop) (text : List ℕ) (rows : List (List ℕ)) (x : ReadFault) → IsTable shop text rows
-    → IsLong text x ⊎ IsBad shop text x → ⊥
-not_good shop text rows x table (inl long) = (let short = table.short in omega (arith, long.1))
+    → IsTableFault shop text x → ⊥
+not_good shop text rows x table (inl long) = (let short = table.short in omega (arith, long.long))
 not_good shop text rows x table (inr bad) = never_both shop text rows bad.0 table bad.3
 
 pub one_table : (shop : Shop) → OneTable shop
 one_table shop = record {
   one_table = λ text rows others x y. ap (λ (r : List (List ℕ) × List Line). r.0)
       (sym (good_reading shop text rows x) ∙ good_reading shop text others y);
-  one_fault = λ text x y h g. same_fault shop text x y (kind_of shop text x h) (kind_of shop text y g);
-  not_both = λ text rows x table h. not_good shop text rows x table (kind_of shop text x h);
+  one_fault = same_fault shop;
+  not_both = not_good shop;
 }
 
 -- ---- and one at least
@@ -160,8 +140,10 @@ at_end : (shop : Shop) (text : List ℕ) (before : List Line) (rows : List (List
     → Outcome shop text
 at_end shop text before rows s = elim (cases_lt (length rows) (length shop.jobs)) [
   | inl few ↦ inr (
-    fault.BadTable (length (lines_of text) + 1),
-    (
+    BadTable (length (lines_of text) + 1),
+    inr (
+      length (lines_of text) + 1,
+      refl,
       s.short,
       record {
         before = before;
@@ -189,8 +171,10 @@ at_line : (shop : Shop) (text : List ℕ) (before : List Line) (rows : List (Lis
     → ((row : List ℕ) → IsBegun shop text (before ++ line ∷ []) (rows ++ row ∷ []) later → Outcome shop text)
     → Outcome shop text
 at_line shop text before rows line later s None e go = inr (
-  fault.BadTable line.0,
-  (
+  BadTable line.0,
+  inr (
+    line.0,
+    refl,
     s.short,
     record {
       before = before;
@@ -218,7 +202,7 @@ outcome shop text before rows (line ∷ later) s =
 
 pub some_table : (shop : Shop) → SomeTable shop
 some_table shop text = elim (cases_lt 16777216 (length text)) [
-  | inl long ↦ inr (fault.TooLong, long)
+  | inl long ↦ inr (TooLong, inl (record { long = long; told = refl }))
   | inr short ↦ outcome shop text [] [] (counted_lines text) (record
       { short = short; cut = refl; good = refl; jobs = omega arith })
 ]

@@ -80,32 +80,27 @@ names_visible p text shops is = subst
 
 -- ---- the instance that is asked for
 
-abbrev AreVisible : List NamedShop → Type 0
-AreVisible shops = AllByRecursion (λ (s : NamedShop). IsTrue (list_all is_visible s.name)) shops
+-- what holds of all instances holds of the one that is picked
+module _ (P : NamedShop → Type 0) where
+  found_first : (name : List ℕ) (s : NamedShop) (shops : List NamedShop) (asked : NamedShop) (b : Bool)
+      → bytes_eq s.name name ≡ b → P s → (find (λ (t : NamedShop). bytes_eq t.name name) shops ≡ Some asked → P asked)
+      → find (λ (t : NamedShop). bytes_eq t.name name) (s ∷ shops) ≡ Some asked → P asked
+  found_first name s shops asked true is h later e =
+      let now = rw is at e
+      in let first : s ≡ asked = cc
+      in subst P first h
+  found_first name s shops asked false is h later e = later (rw is at e)
 
-found_first : (name : List ℕ) (s : NamedShop) (shops : List NamedShop) (asked : NamedShop) (b : Bool)
-    → bytes_eq s.name name ≡ b → IsTrue (list_all is_visible s.name)
-    → (find (λ (t : NamedShop). bytes_eq t.name name) shops ≡ Some asked → IsTrue (list_all is_visible asked.name))
-    → find (λ (t : NamedShop). bytes_eq t.name name) (s ∷ shops) ≡ Some asked
-    → IsTrue (list_all is_visible asked.name)
-found_first name s shops asked true is h later e =
-    let now = rw is at e
-    in let first : s ≡ asked = cc
-    in subst (λ (t : NamedShop). IsTrue (list_all is_visible t.name)) first h
-found_first name s shops asked false is h later e = later (rw is at e)
-
-found_visible : (name : List ℕ) (shops : List NamedShop) (asked : NamedShop) → AreVisible shops
-    → find (λ (t : NamedShop). bytes_eq t.name name) shops ≡ Some asked → IsTrue (list_all is_visible asked.name)
-found_visible name [] asked h e = absurd cc
-found_visible name (s ∷ shops) asked h e =
-    found_first name s shops asked (bytes_eq s.name name) refl h.0 (found_visible name shops asked h.1) e
+  pub picked_has : (shops : List NamedShop) (name : Option (List ℕ)) (asked : NamedShop) → AllByRecursion P shops
+      → first_named shops name ≡ Some asked → P asked
+  picked_has [] None asked all e = absurd cc
+  picked_has (s ∷ shops) None asked all e = let first : s ≡ asked = cc in subst P first all.0
+  picked_has [] (Some name) asked all e = absurd cc
+  picked_has (s ∷ shops) (Some name) asked all e =
+      found_first name s shops asked (bytes_eq s.name name) refl all.0 (picked_has shops (Some name) asked all.1) e
 
 pub asked_visible : (p : Format) (text : List ℕ) (shops : List NamedShop) (name : Option (List ℕ))
     (asked : NamedShop) → IsText (grammar_of p) text shops → first_named shops name ≡ Some asked
     → IsTrue (list_all is_visible asked.name)
-asked_visible p text [] None asked is e = absurd cc
-asked_visible p text (s ∷ shops) None asked is e =
-    let all = names_visible p text (s ∷ shops) is
-    in let first : s ≡ asked = cc
-    in subst (λ (t : NamedShop). IsTrue (list_all is_visible t.name)) first all.0
-asked_visible p text shops (Some name) asked is e = found_visible name shops asked (names_visible p text shops is) e
+asked_visible p text shops name asked is e = picked_has (λ (s : NamedShop). IsTrue (list_all is_visible s.name)) shops
+    name asked (names_visible p text shops is) e

@@ -1,11 +1,10 @@
 -- The grammar of whole texts, over their numbered lines that aren't blank, and the one fault of
 -- every other text. (The form is that of the OR-Library file jobshop1 and of the texts by
 -- Taillard's name, in this project's own format.)
---     Grammar
---         what is skipped, refused and whole, after some number lines of a part
 --     Entry, Part
 --         a number line with the text lines before it; a part is a list of these
---     IsPart grammar part               the part is whole, and none of its lines is refused
+--     IsPart grammar part
+--         the part is whole, and none of its lines is refused
 --     IsGood grammar lines parts
 --         the lines are these parts, one or more, and text lines alone after them
 --     IsFault grammar last lines fault

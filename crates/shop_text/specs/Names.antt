@@ -2,20 +2,16 @@
 --     shops_of named                     what stands in a list of named instances
 --     IsRead grammar text result          what reading a text answers
 --     IsPick named name result           the first instance of a name
-use Rattle.std.specs.Prelude.{◌≡◌, ◌⊎◌, ℕ, ◌≤◌, ◌<◌, List, [], ◌∷◌, length, map, find, Option, Some}
+use Rattle.std.specs.Prelude.{◌≡◌, ◌⊎◌, ℕ, ◌<◌, List, [], ◌∷◌, length, map, find, Option, Some}
 use Rattle.std.specs.Prelude.{None, Result, Ok, Err, Vec, string_bytes}
 use Rattle.std.specs.Borrow.{Bor}
 use Rattle.std.specs.Str.{bytes_eq}
 use Rattle.std.specs.declared.alloc.Global.{Global}
-use Rattle.shop_text.specs.declared.limits.TheConstants.{MAX_TEXT}
-use Rattle.shop_text.specs.Texts.{NamedShop, IsText, IsTextFault}
+use Rattle.shop_text.specs.Texts.{NamedShop, IsText, IsTextFault, OrNoMemory}
 use Rattle.shop_text.specs.Grammar.{Grammar}
 use Rattle.shop_text.specs.declared.names.Named.{Named}
 use Rattle.shop_text.specs.declared.faults.ReadFault.{ReadFault}
-use Rattle.shop_text.specs.declared.faults.ReadFault.TheVariants.{NoMemory, TooLong, NoInstance}
-use Rattle.shop_text.specs.declared.faults.ReadFault.TheVariants.{BadShape, BadSize, BadRow}
-use Rattle.shop_text.specs.declared.faults.ReadFault.TheVariants.{Truncated, BadMachine, BadTime}
-use Rattle.shop_text.specs.declared.faults.ReadFault.TheVariants.{NoSuchName, BadTable}
+use Rattle.shop_text.specs.declared.faults.ReadFault.TheVariants.{NoMemory, NoSuchName}
 
 abbrev pub shop_of_named : Named → NamedShop
 shop_of_named n = record { name = string_bytes n.name; shop = n.instance }
@@ -27,17 +23,7 @@ shops_of named = map shop_of_named named
 -- out in either, but a text that is too long is refused as that.
 abbrev pub IsRead : Grammar → List ℕ → Result (Vec Named Global) ReadFault → Type 0
 IsRead grammar text (Ok v) = IsText grammar text (shops_of v.items) × (0 < length v.items)
-IsRead grammar text (Err NoMemory) = length text ≤ MAX_TEXT
-IsRead grammar text (Err TooLong) = IsTextFault grammar text TooLong
-IsRead grammar text (Err NoInstance) = IsTextFault grammar text NoInstance
-IsRead grammar text (Err (BadShape n)) = IsTextFault grammar text (BadShape n)
-IsRead grammar text (Err (BadSize n)) = IsTextFault grammar text (BadSize n)
-IsRead grammar text (Err (BadRow n)) = IsTextFault grammar text (BadRow n)
-IsRead grammar text (Err (Truncated n)) = IsTextFault grammar text (Truncated n)
-IsRead grammar text (Err (BadMachine n)) = IsTextFault grammar text (BadMachine n)
-IsRead grammar text (Err (BadTime n)) = IsTextFault grammar text (BadTime n)
-IsRead grammar text (Err NoSuchName) = ⊥
-IsRead grammar text (Err (BadTable n)) = ⊥
+IsRead grammar text (Err fault) = OrNoMemory (IsTextFault grammar) text fault
 
 -- What `IsRead` says of a text that has a fault: it is answered by it, unless memory runs out.
 abbrev pub FaultIsAnswered : Grammar → Type 0

@@ -14,8 +14,9 @@ use Rattle.shop_model.specs.declared.limits.TheConstants.{MAX_START}
 use Rattle.shop_text.specs.declared.limits.TheConstants.{MAX_TEXT}
 use Rattle.shop_model.specs.Shop.{Shop, route_of}
 use Rattle.shop_text.specs.Lines.{lines_of, tokens_of, is_empty, is_number, value_of}
+use Rattle.shop_text.specs.Texts.{IsTooLong, OrNoMemory}
 use Rattle.shop_text.specs.declared.faults.ReadFault.{ReadFault}
-use Rattle.shop_text.specs.declared.faults.ReadFault.TheVariants as fault
+use Rattle.shop_text.specs.declared.faults.ReadFault.TheVariants.{NoMemory, BadTable}
 
 abbrev pub Tokens : Type 0
 Tokens = List (List ℕ)
@@ -85,34 +86,16 @@ pub record IsBadAt (shop : Shop) (text : List ℕ) (n : ℕ) : Type 0 where
   pub good : AreJobLines shop before rows
   pub wrong : GoesWrong shop (length (lines_of text)) (length before) later n
 
+-- the text has too many bytes, or goes wrong at a line
 abbrev pub IsTableFault : Shop → List ℕ → ReadFault → Type 0
-IsTableFault shop text fault.TooLong = MAX_TEXT < length text
-IsTableFault shop text (fault.BadTable n) = (length text ≤ MAX_TEXT) × IsBadAt shop text n
-IsTableFault shop text fault.NoMemory = ⊥
-IsTableFault shop text fault.NoInstance = ⊥
-IsTableFault shop text (fault.BadShape n) = ⊥
-IsTableFault shop text (fault.BadSize n) = ⊥
-IsTableFault shop text (fault.BadRow n) = ⊥
-IsTableFault shop text (fault.Truncated n) = ⊥
-IsTableFault shop text (fault.BadMachine n) = ⊥
-IsTableFault shop text (fault.BadTime n) = ⊥
-IsTableFault shop text fault.NoSuchName = ⊥
+IsTableFault shop text fault = IsTooLong text fault
+    ⊎ ((n : ℕ) × (fault ≡ BadTable n) × (length text ≤ MAX_TEXT) × IsBadAt shop text n)
 
 -- A text that gives a table is read as that, and another is refused by its fault. Memory may run
 -- out in either, but a text that is too long is refused as that.
 abbrev pub IsTableRead : Shop → List ℕ → Result (List (List ℕ)) ReadFault → Type 0
 IsTableRead shop text (Ok rows) = IsTable shop text rows
-IsTableRead shop text (Err fault.NoMemory) = length text ≤ MAX_TEXT
-IsTableRead shop text (Err fault.TooLong) = IsTableFault shop text fault.TooLong
-IsTableRead shop text (Err fault.NoInstance) = ⊥
-IsTableRead shop text (Err (fault.BadShape n)) = ⊥
-IsTableRead shop text (Err (fault.BadSize n)) = ⊥
-IsTableRead shop text (Err (fault.BadRow n)) = ⊥
-IsTableRead shop text (Err (fault.Truncated n)) = ⊥
-IsTableRead shop text (Err (fault.BadMachine n)) = ⊥
-IsTableRead shop text (Err (fault.BadTime n)) = ⊥
-IsTableRead shop text (Err fault.NoSuchName) = ⊥
-IsTableRead shop text (Err (fault.BadTable n)) = IsTableFault shop text (fault.BadTable n)
+IsTableRead shop text (Err fault) = OrNoMemory (IsTableFault shop) text fault
 
 -- A text gives one table at most, has one fault at most, and never both.
 pub record OneTable (shop : Shop) : Type 0 where
@@ -135,4 +118,4 @@ abbrev pub TableFaultIsAnswered : Shop → Type 0
 TableFaultIsAnswered shop =
     (text : List ℕ) (found : ReadFault) (result : Result (List (List ℕ)) ReadFault)
     → IsTableFault shop text found → IsTableRead shop text result
-    → (result ≡ Err found) ⊎ (result ≡ Err fault.NoMemory)
+    → (result ≡ Err found) ⊎ (result ≡ Err NoMemory)

@@ -8,7 +8,7 @@ use Rattle.shop_model.specs.Shop.{Shop}
 use Rattle.shop_text.specs.Lines.{Numbered, lines_of, numbered_lines}
 use Rattle.shop_text.specs.Grammar.{Grammar, Part, entry_rows, IsGood, IsFault}
 use Rattle.shop_text.specs.declared.faults.ReadFault.{ReadFault}
-use Rattle.shop_text.specs.declared.faults.ReadFault.TheVariants.{TooLong}
+use Rattle.shop_text.specs.declared.faults.ReadFault.TheVariants.{NoMemory, TooLong}
 
 pub record NamedShop : Type 0 where
   pub name : List ℕ
@@ -69,6 +69,10 @@ pub record HasLineFault (grammar : Grammar) (text : List ℕ) (fault : ReadFault
 -- this is the text's fault
 abbrev pub IsTextFault : Grammar → List ℕ → ReadFault → Type 0
 IsTextFault grammar text fault = IsTooLong text fault ⊎ HasLineFault grammar text fault
+
+-- the text has a fault, or memory ran out over a text that isn't too long
+abbrev pub OrNoMemory : (List ℕ → ReadFault → Type 0) → List ℕ → ReadFault → Type 0
+OrNoMemory IsBad text fault = ((fault ≡ NoMemory) × (length text ≤ MAX_TEXT)) ⊎ IsBad text fault
 
 -- A text is good for one list of named instances at most, and has one fault at most, and never
 -- both.

@@ -3,11 +3,12 @@
 --         each line ends with LF, and its tokens stand one space apart; numbers are `decimal`
 --     report_text reported         an answer, and the table of starts
 --     gantt_text shop starts       a line of characters for each machine
+--     text_with_gantt reported gantt       a report, and its Gantt text where that is asked for
 --     list_text named              a line for each instance
 --     verdict_text verdict         the line of a verdict
 use Rattle.std.specs.Prelude.{◌≡◌, ℕ, zero, suc, ◌-◌, ◌*◌, ◌≤◌, ◌<◌, max, Bool, ◌&&◌, ◌==◌, nat_le}
 use Rattle.std.specs.Prelude.{nat_lt, List, [], ◌∷◌, ◌++◌, length, map, flat_map, find}
-use Rattle.std.specs.Prelude.{slice_index_or, codes}
+use Rattle.std.specs.Prelude.{slice_index_or, codes, if◌then◌else◌}
 use Rattle.std.specs.List.{range_with_len, enumerate_from, list_any, join_with_byte}
 use Rattle.std.specs.Option.{option_map_or}
 use Rattle.std.specs.Int.{div_ceil}
@@ -15,6 +16,7 @@ use Rattle.std.specs.Fmt.{decimal}
 use Rattle.shop_text.specs.declared.gantts.TheConstants.{MAX_COLUMNS}
 use Rattle.shop_model.specs.Shop.{Shop, Starts, route_of, machine_of, IsOperation, IsFeasible}
 use Rattle.shop_model.specs.Shop.{finish_of, end_of}
+use Rattle.shop_model.specs.Checking.{starts_of}
 use Rattle.shop_model.specs.declared.checking.Verdict.{Verdict}
 use Rattle.shop_model.specs.declared.checking.Verdict.TheVariants.{Feasible, WrongSize, Unreleased}
 use Rattle.shop_model.specs.declared.checking.Verdict.TheVariants.{Early, Overlap}
@@ -127,6 +129,10 @@ gantt_lines shop starts = number_line (codes "unit") (unit_of (end_of shop start
 
 abbrev pub gantt_text : Shop → Starts → List ℕ
 gantt_text shop starts = text_of (gantt_lines shop starts)
+
+-- a report, and where that is asked for its Gantt text
+abbrev pub text_with_gantt : Reported → Bool → List ℕ
+text_with_gantt r g = report_text r ++ (if g then gantt_text r.shop (starts_of r.table) else [])
 
 -- In a feasible table the job of an operation is shown at each instant at which its machine serves
 -- it, and a dot is shown where a machine serves none.

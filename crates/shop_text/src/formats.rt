@@ -16,7 +16,7 @@ pub enum Format {
 /// All formats.
 pub const FORMATS: [Format; 3] = [Format::Orlib, Format::Taillard, Format::Routes];
 
-/// The words of all formats, in the same order.
+/// The words of `FORMATS`, in their order.
 pub static FORMAT_WORDS: [&str; 3] = ["orlib", "taillard", "routes"];
 
 impl Format {

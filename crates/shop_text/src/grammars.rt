@@ -14,8 +14,8 @@ pub(crate) struct Grammar {
     /// Whether the rows are two matrices, of times and of machines counted from 1, a row for each job in each, and text
     /// lines are skipped before both. Else the row of a job has pairs of machine and time, machines counted from 0.
     pub(crate) has_matrices: bool,
-    /// Whether the row of pairs of a job begins with its release, and has any number of pairs. Else it has as many as
-    /// there are machines.
+    /// Whether a job's row of pairs begins with its release and has any number of pairs. Else it has one for each
+    /// machine.
     pub(crate) has_releases: bool,
 }
 

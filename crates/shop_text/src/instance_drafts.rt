@@ -10,8 +10,8 @@ use shop_model::{Instance, Job};
 use std::alloc::Global;
 use std::mem;
 
-/// What is read of an instance so far: its size, its jobs, and where they stand in a matrix the rows of times. Before
-/// the size line no jobs are wanted.
+/// What is read of an instance so far: its size, its jobs and, in `taillard`, its rows of times. Before the size line no
+/// jobs are wanted.
 #[derive(Drop)]
 pub(crate) struct Draft {
     jobs_wanted: usize,
@@ -52,7 +52,7 @@ impl Draft {
         self.jobs_wanted == 0
     }
 
-    /// Whether a matrix is to begin, of times or of machines, or the size line is still to come.
+    /// Whether the next row begins a matrix, or is the size line.
     fn is_before_matrix(&self) -> bool
         ensures { (rows : List Row) → IsDraft Taillard self.now rows
             → result ≡ taillard.skips rows }

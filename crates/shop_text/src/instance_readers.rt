@@ -8,7 +8,7 @@ ghost use Rattle.shop_text.specs.Lines.{Numbered, Numbers, Words, line_of};
 ghost use Rattle.shop_text.specs.inner.LineReading.{capped};
 ghost use Rattle.shop_text.specs.Names.{IsRead};
 ghost use Rattle.shop_text.specs.Texts.{lines_left};
-ghost use Rattle.shop_text.specs.inner.LineReading.{lines_after, IsFurther};
+ghost use Rattle.shop_text.specs.inner.LineReading.{lines_after, IsBehind};
 ghost use Rattle.shop_text.specs.inner.InstanceReading.{name_or, IsReadUpTo, Takes, Ends};
 
 use crate::faults::ReadFault;
@@ -126,7 +126,7 @@ impl Reader {
 fn from_first_header(format: Format, text: &[u8]) -> (usize, &[u8])
     requires { length text.now ≤ MAX_TEXT }
     ensures left { lines_left (grammar_of format) text.now ≡ lines_after result.0 result.1.now }
-    ensures further { IsFurther 0 text.now result.0 result.1.now }
+    ensures behind { IsBehind text.now result.0 result.1.now }
 {
     let mut number = 0;
     let mut rest = text;

@@ -1,43 +1,30 @@
 // Laws of the texts, over their definitions alone.
-ghost use Rattle.shop_text.specs.Formats.{orlib, routes, taillard};
+ghost use Rattle.shop_text.specs.Formats.{grammar_of};
 ghost use Rattle.shop_text.specs.Names.{FaultIsAnswered};
 ghost use Rattle.shop_text.specs.Shapes.{OrlibShape, RoutesShape, TaillardShape};
 ghost use Rattle.shop_text.specs.Texts.{OneReading, SomeReading};
+ghost use Rattle.shop_text.specs.declared.formats.Format.{Format};
 
 /// No text has two readings: not two lists of instances, nor two faults, nor a list and a fault.
 pub fn one_reading()
-    ensures orlib { OneReading orlib }
-    ensures routes { OneReading routes }
-    ensures taillard { OneReading taillard }
+    ensures { (format : Format) → OneReading (grammar_of format) }
 {}
 
 /// Each text has a reading: it is good, or it has a fault.
 pub fn some_reading()
-    ensures orlib { SomeReading orlib }
-    ensures routes { SomeReading routes }
-    ensures taillard { SomeReading taillard }
+    ensures { (format : Format) → SomeReading (grammar_of format) }
 {}
 
 /// A text that has a fault is answered by it, unless memory runs out.
 pub fn faults_are_answered()
-    ensures orlib { FaultIsAnswered orlib }
-    ensures routes { FaultIsAnswered routes }
-    ensures taillard { FaultIsAnswered taillard }
+    ensures { (format : Format) → FaultIsAnswered (grammar_of format) }
 {}
 
-/// A part of `orlib` is text lines, a size line of two numbers, and a row of machines and times for each job.
-pub fn orlib_shape()
-    ensures { OrlibShape }
-{}
-
-/// A part of `routes` is text lines, a size line of two numbers, and for each job a row of its release and its pairs of
-/// machine and time.
-pub fn routes_shape()
-    ensures { RoutesShape }
-{}
-
-/// A part of `taillard` is text lines, a size line of 2 to 6 numbers, a matrix of times and a matrix of machines, each
-/// with a row for each job and text lines only before its first row.
-pub fn taillard_shape()
-    ensures { TaillardShape }
+/// A part of `orlib` or `routes` is text lines, a size line of two numbers, and a row for each job: of machines and
+/// times, in `routes` behind a release. A part of `taillard` is text lines, a size line of 2 to 6 numbers, a matrix of
+/// times and a matrix of machines, each with a row for each job and text lines only before its first row.
+pub fn shapes_of_parts()
+    ensures orlib { OrlibShape }
+    ensures routes { RoutesShape }
+    ensures taillard { TaillardShape }
 {}

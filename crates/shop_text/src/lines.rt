@@ -69,7 +69,7 @@ fn has_digits_alone(token: &[u8]) -> bool
     token.iter().all(|b| b.is_ascii_digit())
 }
 
-/// The decimal value of digits, or the greatest number where it is above that.
+/// The decimal value of digits, at most `u64::MAX`.
 fn capped_value(token: &[u8]) -> u64
     ensures { result ≡ capped (value_of token.now) }
 {
@@ -82,7 +82,7 @@ fn capped_value(token: &[u8]) -> u64
     value
 }
 
-/// The value of a token that is a number, capped.
+/// The value of a token that is a number, at most `u64::MAX`.
 pub(crate) fn number_of(token: &[u8]) -> Option<u64>
     ensures { result ≡ (if is_number token.now then Some (capped (value_of token.now)) else None) }
 {

@@ -63,7 +63,7 @@ pub(crate) fn header_in(format: Format, line: &[u8]) -> Option<&[u8]>
     }
 }
 
-/// What a line is. Sets `numbers` to its numbers; those above the greatest `u64` count as that.
+/// Says what a line is, and sets `numbers` to its numbers; one above `u64::MAX` counts as `u64::MAX`.
 pub(crate) fn see<'t>(
     format: Format,
     line: &'t [u8],

@@ -1,9 +1,10 @@
 // Laws of schedule texts and of what is printed, over their definitions alone.
 ghost use Rattle.shop_model.specs.Shop.{Shop};
-ghost use Rattle.shop_text.specs.Formats.{orlib, routes, taillard};
+ghost use Rattle.shop_text.specs.Formats.{grammar_of};
 ghost use Rattle.shop_text.specs.Schedules.{OneTable, SomeTable, TableFaultIsAnswered};
 ghost use Rattle.shop_text.specs.Writing.{ShowsTheJob};
 ghost use Rattle.shop_text.specs.RoundTrip.{ReportsAreSchedules, NamesAreVisible};
+ghost use Rattle.shop_text.specs.declared.formats.Format.{Format};
 
 /// No schedule text has two readings for one instance: not two tables, nor two faults, nor a table and a fault.
 pub fn one_table()
@@ -32,7 +33,5 @@ pub fn reports_are_schedules()
 
 /// The names that a reader gives have visible bytes alone, as reports want them.
 pub fn names_are_visible()
-    ensures orlib { NamesAreVisible orlib }
-    ensures routes { NamesAreVisible routes }
-    ensures taillard { NamesAreVisible taillard }
+    ensures { (format : Format) → NamesAreVisible (grammar_of format) }
 {}

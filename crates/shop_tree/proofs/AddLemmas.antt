@@ -22,7 +22,7 @@ use Rattle.shop_nodes.proofs.WalkSteps.{branch_few, length-insert_by}
 last_part : {A : Type 0} (xs ys : List A) → last_of (length ys) (xs ++ ys) ≡ ys
 last_part xs ys = drop_at xs ys (length (xs ++ ys) - length ys) (let a = length-append xs ys in omega arith)
 
-module _ (shop : Shop) (limit : ℕ) (word : List ℕ) (opens : List Open) (n : ℕ)
+module _ {shop : Shop} {limit : ℕ} {word : List ℕ} {opens : List Open} {n : ℕ}
     (kids : AreChildren shop limit word opens n) where
   counts : length opens + n ≡ length (branch shop word)
   counts =
@@ -79,8 +79,8 @@ adds-children shop best word opens (suc n) old is short kids = record {
   added = Rest (length word) (suc n) ∷ map (λ o. Child o) opens;
   stack = append_assoc old (Rest (length word) (suc n) ∷ []) (map (λ o. Child o) opens);
   words = ap (λ ws. ws ++ last_of (suc n) (branch shop (take (length word) word))) (opens-words shop word opens)
-      ∙ all_words shop best word opens (suc n) kids;
-  each = (closed_last shop best word opens (suc n) kids is short, all-opens (IsWaiting shop best word) opens kids.each);
+      ∙ all_words kids;
+  each = (closed_last kids is short, all-opens (IsWaiting shop best word) opens kids.each);
   depth = (refl, all-opens (IsAt (length word)) opens kids.depth);
 }
 
@@ -92,10 +92,10 @@ pub few-children : (shop : Shop) (limit : ℕ) (word : List ℕ) (opens : List O
     → AreChildren shop limit word opens n
     → length (with_opens (with_rest old depth n) opens) ≤ length old + length shop.jobs + 1
 few-children shop limit word opens zero depth old kids =
-    let a = length-with old opens in let b = few_open shop limit word opens 0 kids in omega arith
+    let a = length-with old opens in let b = few_open kids in omega arith
 few-children shop limit word opens (suc n) depth old kids =
     let a = length-with (old ++ Rest depth (suc n) ∷ []) opens in let b = length-append old (Rest depth (suc n) ∷ [])
-    in let c = few_open shop limit word opens (suc n) kids in omega arith
+    in let c = few_open kids in omega arith
 
 pub long_rest : (old : List Waiting) (depth n : ℕ) → length (with_rest old depth n) ≤ length old + 1
 long_rest old depth zero = omega arith

@@ -96,16 +96,16 @@ follows_one s j short alone keeps some below ordered =
       below = below;
     }
 
-pub followed_then : (s m t : Stage) → HasFollowed s m → HasFollowed m t → HasFollowed s t
-followed_then s m t f g = record {
+pub followed_then : {s m t : Stage} → HasFollowed s m → HasFollowed m t → HasFollowed s t
+followed_then f g = record {
   walk = g.walk ∙ f.walk;
   shop = g.shop ∙ f.shop;
   spent = (let a = f.spent in let b = g.spent in omega arith);
   fewer = (let a = f.fewer in let b = g.fewer in omega arith);
 }
 
-pub followed_same : (s t : Stage) → t ≡ s → HasFollowed s t
-followed_same s t e = subst (HasFollowed s) (sym e)
+pub followed_same : {s t : Stage} → t ≡ s → HasFollowed s t
+followed_same {s} e = subst (HasFollowed s) (sym e)
     (record { walk = refl; shop = refl; spent = omega arith; fewer = omega arith })
 
 -- the children of the word are on the stack
@@ -188,8 +188,8 @@ expands_found s long below ordered = record {
 }
 
 -- where the walk went on before
-pub expands_followed : (s m t : Stage) → HasFollowed s m → HasExpanded m t → HasExpanded s t
-expands_followed s m t f e = record {
+pub expands_followed : {s m t : Stage} → HasFollowed s m → HasExpanded m t → HasExpanded s t
+expands_followed {s} {m} f e = record {
   walk = e.walk ∙ f.walk;
   in_order = e.in_order;
   fewer = (let a = e.fewer in let b = f.fewer in let same : length m.shop.jobs ≡ length s.shop.jobs =

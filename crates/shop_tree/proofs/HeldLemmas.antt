@@ -1,15 +1,13 @@
 -- Children that lie on the stack with their states, and closed ones below them.
-use Rattle.std.proofs.Common.{◌≡◌, ℕ, zero, suc, ◌+◌, ◌≤◌, ◌<◌, List, [], ◌∷◌, ◌++◌, length, drop, map, min, get_or, set}
+use Rattle.std.proofs.Common.{◌≡◌, ℕ, zero, suc, ◌+◌, ◌≤◌, ◌<◌, List, [], ◌∷◌, ◌++◌, length, map, min, get_or, set}
 use Rattle.std.proofs.Common.{None, All, refl, sym, ◌∙◌, ap, subst, append_assoc, arith}
-use Rattle.std.specs.List.{insert}
-use Rattle.std.proofs.Math.Seq.{drop-append_seam, get_or-append_seam, set-append_seam, take-append_seam}
+use Rattle.std.proofs.Math.Seq.{get_or-append_seam, set-append_seam}
 use Rattle.std.proofs.lemmas.List.{length_push, map-append}
 use Rattle.std.proofs.lemmas.List.Elements.{All-append, All-map, All-from_recursion}
 use Rattle.shop_nodes.specs.declared.halts.Waiting.{Waiting}
 use Rattle.shop_nodes.specs.declared.halts.Waiting.TheVariants.{Child, Rest}
 use Rattle.shop_tree.specs.declared.held.Held.{Held}
-use Rattle.shop_tree.specs.inner.Held.{IsHeld, IsKept, Kept, held, opens_in, waiting_in, with_held_rest}
-use Rattle.shop_tree.specs.inner.Held.{HasRaisedRest}
+use Rattle.shop_tree.specs.inner.Held.{IsHeld, IsKept, Kept, held, opens_in, waiting_in, with_held_rest, HasRaisedRest}
 use Rattle.shop_tree.specs.inner.Pushing.{with_opens, with_rest}
 
 children_moved : {S : Type 0} (ks : List (Kept S)) → waiting_in (map held ks) ≡ map (λ o. Child o) (opens_in ks)
@@ -28,12 +26,6 @@ module _ {S : Type 0} (old : List (Held S)) (kids : List (Kept S)) where
   states_moved is word new e below above = subst (All (IsHeld is word)) (sym e)
       (All-append (IsHeld is word) old (map held kids) below (All-map (IsHeld is word) held kids above))
 
--- closed ones come to be more
-pub none_raised : {S : Type 0} (place depth known count : ℕ) (stack : List (Held S)) → count ≡ known
-    → HasRaisedRest place depth known count stack stack
-none_raised place depth known count stack same below kids at is =
-    is ∙ ap (λ (n : ℕ). with_held_rest below depth n ++ kids) (sym same)
-
 pub some_raised : {S : Type 0} (place depth known count : ℕ) (stack : List (Held S)) (d h : Held S) → 0 < known
     → known ≤ count → h ≡ get_or stack place d
     → HasRaisedRest place depth known count stack
@@ -51,19 +43,6 @@ some_raised {S} place depth (suc known) (suc count) stack d h some more read bel
     ∙ (ap (λ (i : ℕ). set (below ++ old ∷ kids) i new) at
     ∙ (set-append_seam below old kids new ∙ sym (append_assoc below (new ∷ []) kids))))
 
-pub first_raised : {S : Type 0} (place depth known count : ℕ) (stack : List (Held S)) → known ≡ 0 → 0 < count
-    → HasRaisedRest place depth known count stack
-    (insert stack place (record { waiting = Rest depth count; state = None }))
-first_raised {S} place depth (suc known) count stack zero_known some below kids at is = absurd (omega arith)
-first_raised {S} place depth zero zero stack zero_known some below kids at is = absurd (omega arith)
-first_raised {S} place depth zero (suc count) stack zero_known some below kids at is =
-    let rest : Held S = record { waiting = Rest depth (suc count); state = None }
-    in ap (λ (hs : List (Held S)). insert hs place rest) is
-    ∙ (ap (λ (i : ℕ). insert (below ++ kids) i rest) at
-    ∙ (ap (λ (hs : List (Held S)). hs ++ rest ∷ drop (length below) (below ++ kids)) (take-append_seam below kids)
-    ∙ (ap (λ (hs : List (Held S)). below ++ rest ∷ hs) (drop-append_seam below kids)
-    ∙ sym (append_assoc below (rest ∷ []) kids))))
-
 pub waiting_rest : {S : Type 0} (old : List (Held S)) (depth n : ℕ)
     → waiting_in (with_held_rest old depth n) ≡ with_rest (waiting_in old) depth n
 waiting_rest old depth zero = refl
@@ -78,9 +57,9 @@ rest_long {S} old depth (suc n) =
     in let a = length_push old rest in omega arith
 
 -- what waits once closed ones are put on top
-pub rest_waits : {S : Type 0} (old new : List (Held S)) (word : List ℕ) (depth n : ℕ) → depth ≡ length word
+pub rest_waits : {S : Type 0} (old : List (Held S)) {new : List (Held S)} (word : List ℕ) {depth : ℕ} (n : ℕ) → depth ≡ length word
     → new ≡ with_held_rest old depth n → waiting_in new ≡ with_rest (waiting_in old) (length word) n
-rest_waits old new word depth n deep put = ap waiting_in put
+rest_waits old word {depth} n deep put = ap waiting_in put
     ∙ (waiting_rest old depth n ∙ ap (λ (k : ℕ). with_rest (waiting_in old) k n) deep)
 
 -- so for closed ones

@@ -24,30 +24,32 @@ one_listed [] c d long is = absurd (omega arith)
 one_listed (x ∷ []) c d long is = ap (λ (y : Candidate). y ∷ []) (sym is)
 one_listed (x ∷ y ∷ cs) c d long is = absurd (omega arith)
 
-module _ (shop : Shop) (word : List ℕ) (limit : ℕ) (is : Candidate → Type 0) where
-  -- the jobs up to the last candidate, and those after it, which are closed
-  pub record IsSplit (js : List ℕ) (cs : List Candidate) (c : Candidate) (n : ℕ) : Type 0 where
-    pub front : List ℕ
-    pub back : List ℕ
-    pub before : ℕ
-    pub after : ℕ
-    pub jobs : js ≡ front ++ c.job ∷ back
-    pub count : n ≡ before + after
-    pub front_lists : ListsBelow shop word limit is front cs before
-    pub back_lists : ListsBelow shop word limit is back [] after
-    pub own : is c
+-- the jobs up to the last candidate, and those after it, which are closed
+pub record IsSplit (shop : Shop) (word : List ℕ) (limit : ℕ) (is : Candidate → Type 0) (js : List ℕ)
+    (cs : List Candidate) (c : Candidate) (n : ℕ) : Type 0 where
+  pub front : List ℕ
+  pub back : List ℕ
+  pub before : ℕ
+  pub after : ℕ
+  pub jobs : js ≡ front ++ c.job ∷ back
+  pub count : n ≡ before + after
+  pub front_lists : ListsBelow shop word limit is front cs before
+  pub back_lists : ListsBelow shop word limit is back [] after
+  pub own : is c
 
-  head_same : (c d : Candidate) (cs ds : List Candidate) → c ∷ cs ≡ d ∷ ds → c ≡ d
-  head_same c d cs ds e = ap (λ (xs : List Candidate). get_or xs 0 c) e
+head_same : (c d : Candidate) (cs ds : List Candidate) → c ∷ cs ≡ d ∷ ds → c ≡ d
+head_same c d cs ds e = ap (λ (xs : List Candidate). get_or xs 0 c) e
 
-  rest_same : (c d : Candidate) (cs ds : List Candidate) → c ∷ cs ≡ d ∷ ds → cs ≡ ds
-  rest_same c d cs ds e = ap (λ (xs : List Candidate). drop 1 xs) e
+rest_same : (c d : Candidate) (cs ds : List Candidate) → c ∷ cs ≡ d ∷ ds → cs ≡ ds
+rest_same c d cs ds e = ap (λ (xs : List Candidate). drop 1 xs) e
 
-  no_list : {A : Type 0} (c : Candidate) (cs : List Candidate) → [] ≡ c ∷ cs → A
-  no_list c cs e = absurd (let a = ap (λ (xs : List Candidate). length xs) e in omega arith)
+no_list : {A : Type 0} (c : Candidate) (cs : List Candidate) → [] ≡ c ∷ cs → A
+no_list c cs e = absurd (let a = ap (λ (xs : List Candidate). length xs) e in omega arith)
 
+module _ {shop : Shop} {word : List ℕ} {limit : ℕ} {is : Candidate → Type 0} where
   pub split_last : {js : List ℕ} {all : List Candidate} {n : ℕ} → ListsBelow shop word limit is js all n
-      → (cs : List Candidate) (c : Candidate) → all ≡ cs ++ c ∷ [] → IsSplit js cs c n
+      → (cs : List Candidate) (c : Candidate) → all ≡ cs ++ c ∷ []
+      → IsSplit shop word limit is js cs c n
   split_last none [] c e = no_list c [] e
   split_last none (x ∷ cs) c e = no_list x (cs ++ c ∷ []) e
   split_last (listed {js = js} {cs = all} {n = n} j d same own rest) [] c e = record {
@@ -99,7 +101,7 @@ module _ (shop : Shop) (word : List ℕ) (limit : ℕ) (is : Candidate → Type 
   closed_gathered (closed {js = js} {cs = cs} {n = n} j high rest) e opens m done g =
       subst (λ (k : ℕ). IsGathered shop limit word opens k (j ∷ js ++ done))
       (let f : m + n + 1 ≡ m + suc n = omega arith in f)
-      (gathered_other shop limit word opens (m + n) (js ++ done) j (closed_gathered rest e opens m done g) high)
+      (gathered_other j (closed_gathered rest e opens m done g) high)
 
   pub lists_long : {js : List ℕ} {cs : List Candidate} {n : ℕ} → ListsBelow shop word limit is js cs n
       → length js ≡ length cs + n
@@ -126,14 +128,14 @@ module _ (shop : Shop) (word : List ℕ) (limit : ℕ) (is : Candidate → Type 
   -- all children are closed
   pub none_kept : (cs : List Candidate) (n : ℕ) → cs ≡ [] → ListsBelow shop word limit is (conflict shop word) cs n
       → AreChildren shop limit word [] n
-  none_kept cs n e all = all_gathered shop limit word [] n (conflict shop word ++ [])
+  none_kept cs n e all = all_gathered
       (subst (λ (k : ℕ). IsGathered shop limit word [] k (conflict shop word ++ [])) (let f : 0 + n ≡ n = omega arith in f)
       (closed_gathered all e [] 0 [] (gathered_none shop limit word [] refl))) (append-nil (conflict shop word))
 
   -- one candidate alone
-  module _ (c : Candidate) (cs : List Candidate) (n : ℕ) (e : cs ≡ c ∷ [])
+  module _ {c : Candidate} {cs : List Candidate} {n : ℕ} (e : cs ≡ c ∷ [])
       (all : ListsBelow shop word limit is (conflict shop word) cs n) where
-    pub alone : IsSplit (conflict shop word) [] c n
+    pub alone : IsSplit shop word limit is (conflict shop word) [] c n
     alone = split_last all [] c e
 
     done : List ℕ
@@ -163,18 +165,16 @@ module _ (shop : Shop) (word : List ℕ) (limit : ℕ) (is : Candidate → Type 
           above = λ k d le to. absurd (omega arith);
           below = λ d some. absurd (omega arith);
         }
-        in let kept = gathered_open shop limit word [] (o ∷ []) alone.after (alone.back ++ []) o 0 after_gathered
-        (subst (IsWord shop) same (alone_fits is_word)) depth (bound ∙ ap (lb shop) same) below place refl
+        in let kept = gathered_open (o ∷ []) o 0 after_gathered (subst (IsWord shop) same (alone_fits is_word)) depth
+        (bound ∙ ap (lb shop) same) below place refl
         in let whole = closed_gathered alone.front_lists refl (o ∷ []) alone.after (o.job ∷ alone.back ++ []) kept
         in subst (λ (k : ℕ). AreChildren shop limit word (o ∷ []) k) (let a = alone.count in omega arith)
-        (all_gathered shop limit word (o ∷ []) (alone.after + alone.before) (alone.front ++ o.job ∷ (alone.back ++ []))
-        whole (ap (λ (j : ℕ). alone.front ++ j ∷ (alone.back ++ [])) job ∙ jobs_are))
+        (all_gathered whole (ap (λ (j : ℕ). alone.front ++ j ∷ (alone.back ++ [])) job ∙ jobs_are))
 
     -- it is closed too
     pub alone_closed : limit ≤ lb shop (word ++ c.job ∷ []) → AreChildren shop limit word [] (n + 1)
     alone_closed high =
-        let more = gathered_other shop limit word [] alone.after (alone.back ++ []) c.job after_gathered high
+        let more = gathered_other c.job after_gathered high
         in let whole = closed_gathered alone.front_lists refl [] (alone.after + 1) (c.job ∷ alone.back ++ []) more
         in subst (λ (k : ℕ). AreChildren shop limit word [] k) (let a = alone.count in omega arith)
-        (all_gathered shop limit word [] (alone.after + 1 + alone.before) (alone.front ++ c.job ∷ (alone.back ++ []))
-        whole jobs_are)
+        (all_gathered whole jobs_are)

@@ -8,10 +8,8 @@ use Rattle.shop_model.specs.Shop.{Shop}
 use Rattle.shop_model.specs.Word.{IsWord}
 use Rattle.shop_bound.specs.Bound.{lb}
 use Rattle.shop_nodes.specs.Branching.{branch}
-use Rattle.shop_nodes.specs.Halts.{word_at, last_of, waiting_words, stack_words}
-use Rattle.shop_tree.specs.inner.Opens.{open_words, depth_of}
-use Rattle.shop_nodes.specs.Halts.{IsWaiting}
-use Rattle.shop_tree.specs.inner.Opens.{IsUpTo, IsFrom, IsAt, IsRising, AreWaiting}
+use Rattle.shop_nodes.specs.Halts.{word_at, last_of, waiting_words, stack_words, IsWaiting}
+use Rattle.shop_tree.specs.inner.Opens.{open_words, depth_of, IsUpTo, IsFrom, IsAt, IsRising, AreWaiting}
 use Rattle.shop_tree.specs.inner.Searching.{walk_stack, Adds}
 use Rattle.shop_nodes.specs.Walking.{Walk, walk}
 use Rattle.shop_nodes.specs.declared.halts.Open.{Open}
@@ -128,9 +126,9 @@ pub record IsPopped (shop : Shop) (best : ℕ) (word : List ℕ) (rest : List Wa
   pub rest_waits : AreWaiting shop best word rest
   pub own : IsWaiting shop best word x
 
-pub popped : (shop : Shop) (best : ℕ) (word : List ℕ) (rest : List Waiting) (x : Waiting)
+pub popped : {shop : Shop} {best : ℕ} {word : List ℕ} (rest : List Waiting) (x : Waiting)
     → AreWaiting shop best word (rest ++ x ∷ []) → IsPopped shop best word rest x
-popped shop best word rest x all = record {
+popped {shop} {best} {word} rest x all = record {
   rest_waits = record {
     each = all_front (IsWaiting shop best word) rest (x ∷ []) all.each;
     rising = rising-front rest x all.rising;
@@ -143,7 +141,7 @@ pub replaced : (shop : Shop) (best : ℕ) (word : List ℕ) (rest : List Waiting
     → AreWaiting shop best word (rest ++ x ∷ []) → depth_of y ≡ depth_of x → IsWaiting shop best word y
     → AreWaiting shop best word (rest ++ y ∷ [])
 replaced shop best word rest x y all same own =
-    let p = popped shop best word rest x all
+    let p = popped rest x all
     in record {
       each = all_append (IsWaiting shop best word) rest (y ∷ []) p.rest_waits.each (own, tt);
       rising = rising-append rest (y ∷ []) (depth_of x) p.rest_waits.rising (rising-below rest x all.rising) (same, tt);
@@ -194,7 +192,7 @@ module _ (shop : Shop) (best : ℕ) (word next : List ℕ) (rest : List Waiting)
 
   pub waits-below : AreWaiting shop best next rest
   waits-below =
-      let p = popped shop best word rest (Child o) all
+      let p = popped rest (Child o) all
       in record {
         each = all-same shop next word o.depth alike best long rest (rising-below rest (Child o) all.rising)
             p.rest_waits.each;

@@ -5,7 +5,7 @@ use Rattle.std.specs.Global.{Box}
 use Rattle.std.specs.List.{AllByRecursion}
 use Rattle.std.proofs.Math.Seq.{map-set_same, take-append_seam, take-length}
 use Rattle.std.proofs.lemmas.List.{map-append}
-use Rattle.std.proofs.lemmas.List.Elements.{All-append, All-set, All-from_recursion, recursion_from_All}
+use Rattle.std.proofs.lemmas.List.Elements.{All-set, All-from_recursion, recursion_from_All}
 use Rattle.shop_model.specs.Shop.{Shop}
 use Rattle.shop_states.specs.declared.dispatching.Dispatching.{Ghosts}
 use Rattle.shop_tree.specs.declared.held.Held.{Held}
@@ -41,7 +41,7 @@ module _ {S : Type 0} (is : List ℕ → S → Type 0) where
       → AreWaiting shop best word (waiting_in hs ++ Child o ∷ []) → AreHeld is word hs
       → AreHeld is (word_at word o) hs
   held_below shop best word hs o on all =
-      let own = (popped shop best word (waiting_in hs) (Child o) on).own
+      let own = (popped (waiting_in hs) (Child o) on).own
       in held_same (word_at word o) word o.depth (begins-child word o own.depth) hs
       (rising-below (waiting_in hs) (Child o) on.rising) all
 
@@ -52,12 +52,6 @@ module _ {S : Type 0} (is : List ℕ → S → Type 0) where
       held_same (word ++ j ∷ []) word (length word) (take-append_seam word (j ∷ []) ∙ sym (take-length word)) hs
       (all_weaker (IsWaiting shop best word) (IsUpTo (length word)) (deep shop best word) (waiting_in hs) ordered.each)
       all
-
-  -- one more on top, and the one on top
-  pub held_pushed : (word : List ℕ) (hs new : List (Held S)) (h : Held S) → new ≡ hs ++ h ∷ [] → IsHeld is word h
-      → AreHeld is word hs → AreHeld is word new
-  held_pushed word hs new h put own all = subst (AreHeld is word) (sym put)
-      (All-append (IsHeld is word) hs (h ∷ []) all (All-from_recursion (IsHeld is word) (h ∷ []) (own, tt)))
 
   -- an entry that lost its state
   entry_none : (word : List ℕ) (x : Waiting) → IsHeldAs is word x None

@@ -43,9 +43,9 @@ stands_still v w (Err e) stage candidates same held sound current = tt
 pub stands_where : {D S C : Type 0} {g : Ghosts D S C} (v : Walker D S C g) → HasStates v → StandsAs v v
 stands_where v states = record { stage = refl; candidates = refl; dispatcher = refl; current = refl; states = states }
 
-pub stands_then : {D S C : Type 0} {g : Ghosts D S C} (u v w : Walker D S C g) → StandsAs u v → StandsAs v w
+pub stands_then : {D S C : Type 0} {g : Ghosts D S C} {u v w : Walker D S C g} → StandsAs u v → StandsAs v w
     → StandsAs u w
-stands_then u v w a b = record {
+stands_then a b = record {
   stage = b.stage ∙ a.stage;
   candidates = b.candidates ∙ a.candidates;
   dispatcher = b.dispatcher ∙ a.dispatcher;
@@ -54,7 +54,7 @@ stands_then u v w a b = record {
 }
 
 -- so with what is at hand there
-module _ {D S C : Type 0} {g : Ghosts D S C} (v w : Walker D S C g) (s : StandsAs v w) where
+module _ {D S C : Type 0} {g : Ghosts D S C} {v w : Walker D S C g} (s : StandsAs v w) where
   path_same : w.path.items ≡ v.path.items
   path_same = ap (λ (t : Stage). t.word) s.stage
 
@@ -70,9 +70,9 @@ module _ {D S C : Type 0} {g : Ghosts D S C} (v w : Walker D S C g) (s : StandsA
       (subst (λ x. g.IsStateOf v.states.dispatcher.now v.path.items x) (sym s.current) h))
 
 -- and where its candidates were gathered
-pub still_at : {D S C : Type 0} {g : Ghosts D S C} (v w : Walker D S C g) (b : ℕ) → StandsAt v b
+pub still_at : {D S C : Type 0} {g : Ghosts D S C} {v : Walker D S C g} (w : Walker D S C g) {b : ℕ} → StandsAt v b
     → stage_of w ≡ stage_of v → HasStates w → IsAtState w → StandsAt w b
-still_at v w b at same states state = record {
+still_at {v} w at same states state = record {
   bound = at.bound ∙ sym (ap (λ (t : Stage). lb t.shop t.word) same);
   below = (let a = at.below in let e : w.progress.best ≡ v.progress.best = ap (λ (t : Stage). t.walk.best) same
       in omega arith);
@@ -97,10 +97,10 @@ reached v w b gone states state = record {
 }
 
 -- what is told of a walk that went on, and of one that didn't
-pub gone : {D S C : Type 0} {g : Ghosts D S C} (v w : Walker D S C g) (told : Option ℕ) (b : ℕ) → told ≡ Some b
+pub gone : {D S C : Type 0} {g : Ghosts D S C} (v w : Walker D S C g) {told : Option ℕ} {b : ℕ} → told ≡ Some b
     → HasGoneOn v w told → HasReached v w b
-gone v w told b is h = subst (λ (t : Option ℕ). HasGoneOn v w t) is h
+gone v w is h = subst (λ (t : Option ℕ). HasGoneOn v w t) is h
 
-pub ended : {D S C : Type 0} {g : Ghosts D S C} (v w : Walker D S C g) (told : Option ℕ) → told ≡ None
+pub ended : {D S C : Type 0} {g : Ghosts D S C} (v w : Walker D S C g) {told : Option ℕ} → told ≡ None
     → HasGoneOn v w told → HasExpanded (stage_of v) (stage_of w) × HasStates w
-ended v w told is h = subst (λ (t : Option ℕ). HasGoneOn v w t) is h
+ended v w is h = subst (λ (t : Option ℕ). HasGoneOn v w t) is h

@@ -21,14 +21,14 @@ module _ (shop : Shop) (best : ℕ) (word : List ℕ) (rest : List Waiting) (o :
   -- what lies below a child waits as before where the walk goes on to it
   pub below_waits : AreWaiting shop best next rest
   below_waits =
-      let depth = (popped shop best word rest (Child o) all).own.depth
+      let depth = (popped rest (Child o) all).own.depth
       in waits-below shop best word next rest o all (begins-child word o depth) (long-child word o depth)
 
   -- and the walk goes on from the child
   pub child_walks : (s t : Walk) → walk shop s next ≡ entered shop t next
       → walk_stack shop next (entered shop t next) rest ≡ walk_stack shop word s (rest ++ Child o ∷ [])
   child_walks s t h =
-      let depth = (popped shop best word rest (Child o) all).own.depth
+      let depth = (popped rest (Child o) all).own.depth
       in ap (fold (walk shop) (entered shop t next))
       (words-below shop best word next rest o all (begins-child word o depth) (long-child word o depth))
       ∙ (ap (λ u. walk_stack shop word u rest) (sym h) ∙ sym (walk-top shop s word rest (Child o)))

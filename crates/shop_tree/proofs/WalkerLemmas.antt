@@ -1,7 +1,6 @@
 -- The turns of a walk, told of where it stands before and after.
 use Rattle.std.proofs.Common.{◌≡◌, ℕ, zero, suc, ◌+◌, ◌-◌, ◌*◌, ◌≤◌, ◌<◌, ◌⊎◌, inl, inr, Option, List, [], ◌∷◌, ◌++◌}
-use Rattle.std.proofs.Common.{length}
-use Rattle.std.proofs.Common.{refl, sym, ◌∙◌, ap, subst, arith}
+use Rattle.std.proofs.Common.{length, refl, sym, ◌∙◌, ap, subst, arith}
 use Rattle.std.specs.Prelude.{take, drop}
 use Rattle.std.specs.List.{AllByRecursion, fold}
 use Rattle.std.proofs.lemmas.Bool.{cases_lt}
@@ -48,7 +47,7 @@ none_spent b jobs new one some same =
 pub turn_cut : (s : Stage) (o : Open) → IsInOrder (on_top s (Child o)) → 0 < s.walk.budget → s.walk.best ≤ o.bound
     → IsTurn s (Child o) (record s { walk = spent_one s.walk })
 turn_cut s o on some high =
-    let p = popped s.shop s.walk.best s.word s.stack (Child o) on
+    let p = popped s.stack (Child o) on
     in let own = p.own.bound
     in record {
       walk = ap (λ t. walk_stack s.shop s.word t s.stack) (sym (cuts s.shop s.walk (word_at s.word o) some (omega arith)))
@@ -70,7 +69,7 @@ went_in_order s o on = below_waits s.shop s.walk.best s.word s.stack o on
 pub turn_expanded : (s t : Stage) (o : Open) → IsInOrder (on_top s (Child o)) → 0 < s.walk.budget
     → o.bound < s.walk.best → HasExpanded (went_to s o) t → IsTurn s (Child o) t
 turn_expanded s t o on some below e =
-    let own = (popped s.shop s.walk.best s.word s.stack (Child o) on).own.bound
+    let own = (popped s.stack (Child o) on).own.bound
     in record {
       walk = e.walk ∙ child_walks s.shop s.walk.best s.word s.stack o on s.walk (spent_one s.walk)
           (enters s.shop s.walk (word_at s.word o) some (omega arith));
@@ -99,7 +98,7 @@ module _ (s : Stage) (depth count n : ℕ) (on : IsInOrder (on_top s (Rest depth
   counted : fold (walk s.shop) s.walk (last_of count kids)
       ≡ fold (walk s.shop) (record s.walk { budget = s.walk.budget - n }) (last_of (count - n) kids)
   counted =
-      let own = (popped s.shop s.walk.best s.word s.stack (Rest depth count) on).own
+      let own = (popped s.stack (Rest depth count) on).own
       in let long = length-last kids count own.few
       in high-taken s.shop s.walk n (last_of count kids) some own.high (omega arith)
       ∙ ap (fold (walk s.shop) (record s.walk { budget = s.walk.budget - n })) (last_last kids n count within own.few)
@@ -108,7 +107,7 @@ module _ (s : Stage) (depth count n : ℕ) (on : IsInOrder (on_top s (Rest depth
 pub turn_counted : (s : Stage) (depth count : ℕ) → IsInOrder (on_top s (Rest depth count)) → count ≤ s.walk.budget
     → IsTurn s (Rest depth count) (record s { walk = record s.walk { budget = s.walk.budget - count } })
 turn_counted s depth count on some =
-    let p = popped s.shop s.walk.best s.word s.stack (Rest depth count) on
+    let p = popped s.stack (Rest depth count) on
     in let kids = branch s.shop (take depth s.word)
     in let left : last_of (count - count) kids ≡ [] = drop_all (length kids - (count - count)) kids (omega arith)
     in record {
@@ -154,7 +153,7 @@ pub turn_halted : (s : Stage) (depth count : ℕ) → IsInOrder (on_top s (Rest 
     → s.walk.budget ≤ count → IsTurn s (Rest depth count) (halted_at s depth count)
 turn_halted s depth count on some few =
     let b = s.walk.budget
-    in let p = popped s.shop s.walk.best s.word s.stack (Rest depth count) on
+    in let p = popped s.stack (Rest depth count) on
     in let rest = Rest depth (count - b)
     in record {
       walk = walk-top s.shop (record s.walk { budget = 0 }) s.word s.stack rest
@@ -233,13 +232,13 @@ told_sheet s t nodes k shop best budget same begun none h over =
     ∙ ap (λ (x : Walk). fold (walk shop) x (words_of nodes)) begun)))))
 
 -- and the sheet that tells of it
-pub sheet_told : (s t : Stage) (nodes all untaken : List Node) (k : ℕ) (shop : Shop) (best budget : ℕ)
-    (found : Option (List ℕ)) (halted words : List (List ℕ)) → s.shop ≡ shop
+pub sheet_told : (s t : Stage) (nodes : List Node) {all untaken : List Node} (k : ℕ) {shop : Shop} {best budget : ℕ}
+    {found : Option (List ℕ)} {halted words : List (List ℕ)} → s.shop ≡ shop
     → s.walk ≡ opening_walk best budget → t.walk.left ≡ [] → HasWalkedUpTo s t nodes k
     → (0 < t.walk.budget → length nodes ≤ k) → nodes ≡ all → untaken ≡ drop k nodes → found ≡ t.walk.found
     → halted ≡ stack_words t.shop t.word t.stack → words ≡ halted ++ words_of untaken
     → walk_told found t.walk.best words (budget - (budget - t.walk.budget)) ≡ sheet shop (words_of all) best budget
-sheet_told s t nodes all untaken k shop best budget found halted words same begun none h over alike left is halts are =
+sheet_told s t nodes {untaken} k {shop} {best} {budget} {found} {words} same begun none h over alike left is halts are =
     let n = budget - (budget - t.walk.budget)
     in ap (λ (f : Option (List ℕ)). walk_told f t.walk.best words n) is
     ∙ (ap (λ (ws : List (List ℕ)). walk_told t.walk.found t.walk.best ws n)

@@ -1,4 +1,4 @@
-// Closed children are put on the stack, below those that wait.
+// Entries of the stack that count a word's closed children, below the entries of its open ones.
 ghost use Rattle.std.specs.Prelude.{◌≡◌, ◌+◌, ◌≤◌, ◌<◌, ◌^◌, length, min, OnOk};
 ghost use Rattle.shop_tree.specs.inner.Held.{with_held_rest, HasRaisedRest};
 
@@ -6,7 +6,7 @@ use crate::held::Held;
 use shop_nodes::Waiting;
 use std::alloc::AllocError as NoMemory;
 
-/// Puts one entry on the stack for `count` closed children of the word of so many entries, if there are any.
+/// Puts an entry on the stack for `count` closed children of a word of `depth` jobs, unless `count` is 0.
 #[inline(always)]
 pub(crate) fn put_rest<S: Drop>(
     stack: &mut Vec<Held<S>>,
@@ -27,8 +27,8 @@ pub(crate) fn put_rest<S: Drop>(
     Ok(())
 }
 
-/// Below the open children of what these entries make lie `known` closed ones, at this place if there are any. They
-/// come to be `count`.
+/// Raises the number of closed children of a word of `depth` jobs from `known` to `count` in their entry at `place`.
+/// Inserts that entry if `known` is 0. Fails with `NoMemory` if memory runs out.
 pub(crate) fn raise_rest<S: Drop>(
     stack: &mut Vec<Held<S>>,
     place: usize,

@@ -1,4 +1,4 @@
-// Where a walk goes on from the word that it came to.
+// Expands a walk's current word: follows sole candidates, then branches.
 ghost use Rattle.std.specs.Prelude.{◌≡◌, ◌≤◌, ◌<◌, ◌+◌, length, [], ◌∷◌, ◌++◌, OnOk, IfOk, IsTrue};
 ghost use Rattle.shop_model.specs.Limits.{IsWithinLimits};
 ghost use Rattle.shop_model.specs.Word.{IsWord};
@@ -17,9 +17,9 @@ use shop_states::Dispatching;
 use std::alloc::{AllocError as NoMemory, Global};
 
 impl<'l, 'a, D: Dispatching<S>, S: Drop> Walker<'l, 'a, D, S> {
-    /// Gathers the candidates of the word, which isn't full, and tells how many others are closed.
+    /// Lists the candidates with `own` below the best makespan. Answers how many other children there are, all closed.
     #[inline(always)]
-    fn gather(&mut self) -> usize
+    fn list_candidates(&mut self) -> usize
         requires states { HasStates self.old }
         requires state { IsAtState self.old }
         ensures stage { stage_of self.new ≡ stage_of self.old }
@@ -27,10 +27,11 @@ impl<'l, 'a, D: Dispatching<S>, S: Drop> Walker<'l, 'a, D, S> {
         ensures states { HasStates self.new }
         ensures state { IsAtState self.new }
     {
-        self.states.gather(self.progress.best, &mut self.candidates)
+        self.states
+            .list_candidates(self.progress.best, &mut self.candidates)
     }
 
-    /// Whether there is one candidate alone, and the budget lasts for its child.
+    /// Tells whether exactly one candidate is listed and the budget lasts for its child.
     #[inline(always)]
     fn goes_on(&self) -> bool
         ensures { IsTrue result
@@ -39,7 +40,7 @@ impl<'l, 'a, D: Dispatching<S>, S: Drop> Walker<'l, 'a, D, S> {
         self.candidates.len() == 1 && self.progress.budget > 0
     }
 
-    /// The word that the walk came to takes a job more, and one of the budget is spent.
+    /// Appends `job` to the current word and spends one unit of the budget.
     #[inline(always)]
     fn take_job(&mut self, job: u16)
         requires some { 0 < self.old.progress.budget }
@@ -58,7 +59,7 @@ impl<'l, 'a, D: Dispatching<S>, S: Drop> Walker<'l, 'a, D, S> {
         self.path.push(job).unwrap();
     }
 
-    /// Goes on from the word to its one child, which has the same bound. Its candidate is at hand.
+    /// Follows the sole candidate to its child. The child's bound is that of the current word, `bound`.
     #[inline(always)]
     fn follow_sole(&mut self, bound: u64)
         requires one { length self.old.candidates.items ≡ 1 }
@@ -73,7 +74,8 @@ impl<'l, 'a, D: Dispatching<S>, S: Drop> Walker<'l, 'a, D, S> {
         self.take_job(job);
     }
 
-    /// All children of the word, so many, are closed: they are counted if the budget lasts for them, and else wait.
+    /// Leaves the current word, whose `count` children are all closed. If the budget lasts for these children, spends
+    /// `count` units on them; else puts an entry for them on the stack. Fails with `NoMemory` if memory runs out.
     #[inline(always)]
     fn close(&mut self, count: usize) -> Result<(), NoMemory>
         requires word { IsWord self.old.progress.instance.now self.old.path.items }
@@ -93,9 +95,9 @@ impl<'l, 'a, D: Dispatching<S>, S: Drop> Walker<'l, 'a, D, S> {
         put_rest(&mut self.stack, self.path.len(), count)
     }
 
-    /// Dispatches the one candidate in the current state, and tells its child's bound: the walk goes on there, and the
-    /// `closed` other children are put on the stack as closed. Where this child is closed too, all are, and the answer
-    /// is `None`.
+    /// Follows the one listed candidate to its child, puts one entry for the `closed` other children on the stack, and
+    /// answers the child's bound. If that child is closed too, calls `close` for all children instead and answers
+    /// `None`. `bound` is the bound of the current word. Fails with `NoMemory` if memory runs out.
     #[inline(always)]
     fn follow_kept(&mut self, bound: u64, closed: usize) -> Result<Option<u64>, NoMemory>
         requires one { length self.old.candidates.items ≡ 1 }
@@ -115,7 +117,8 @@ impl<'l, 'a, D: Dispatching<S>, S: Drop> Walker<'l, 'a, D, S> {
         Ok(Some(bound))
     }
 
-    /// The same, whether there are others or not: a sole candidate isn't bounded.
+    /// Follows the one listed candidate to its child and answers the child's bound, or `None` if the child is closed.
+    /// If `closed`, the number of other children, is 0, the child keeps `bound`.
     #[inline(always)]
     fn go_on(&mut self, bound: u64, closed: usize) -> Result<Option<u64>, NoMemory>
         requires one { length self.old.candidates.items ≡ 1 }
@@ -132,7 +135,7 @@ impl<'l, 'a, D: Dispatching<S>, S: Drop> Walker<'l, 'a, D, S> {
         Ok(Some(bound))
     }
 
-    /// Takes back the state of what waits longest of all that may have one.
+    /// Takes the state, if any, from entry `stripped` of the stack, keeps it as a spare, and adds 1 to `stripped`.
     #[inline(never)]
     fn strip_next(&mut self) -> Result<(), NoMemory>
         requires within { self.old.stripped < length self.old.stack.items }
@@ -146,8 +149,8 @@ impl<'l, 'a, D: Dispatching<S>, S: Drop> Walker<'l, 'a, D, S> {
         self.states.give_back(state)
     }
 
-    /// Takes states from the entries that wait longest, until there is a spare one for each candidate or none is left
-    /// to take.
+    /// Takes states from the lowest entries of the stack until there are enough for all candidates, spare and new ones
+    /// counted together, or no entry has a state left. Fails with `NoMemory` if memory runs out.
     #[inline(always)]
     fn reclaim(&mut self) -> Result<(), NoMemory>
         requires states { HasStates self.old }
@@ -159,8 +162,8 @@ impl<'l, 'a, D: Dispatching<S>, S: Drop> Walker<'l, 'a, D, S> {
         Ok(())
     }
 
-    /// Puts the children of the word on the stack, the first one on top. `bound` is the word's, and `closed` of its
-    /// children are none of the candidates.
+    /// Puts the children of the current word on the stack: one entry for the closed ones, above it the open ones by
+    /// bound, the least on top. `bound` is the word's bound; `closed` counts the children without a listed candidate.
     fn push_children(&mut self, alloc: Global, bound: u64, closed: usize) -> Result<(), NoMemory>
         requires bound { bound ≡ lb self.old.progress.instance.now self.old.path.items }
         requires short { length self.old.path.items < self.old.progress.operations }
@@ -185,8 +188,8 @@ impl<'l, 'a, D: Dispatching<S>, S: Drop> Walker<'l, 'a, D, S> {
         raise_rest(&mut self.stack, below, depth, closed, all)
     }
 
-    /// The same, with a state for each child as far as what waits longer has one; but where all are closed, nothing has
-    /// to wait.
+    /// Branches on the current word: leaves it if no candidate is listed, else puts its children on the stack. Takes
+    /// states from the lowest entries of the stack if spare states run out. Fails with `NoMemory` if memory runs out.
     fn branch(&mut self, alloc: Global, bound: u64, closed: usize) -> Result<(), NoMemory>
         requires short { length self.old.path.items < self.old.progress.operations }
         requires at { StandsAt self.old bound }
@@ -201,7 +204,7 @@ impl<'l, 'a, D: Dispatching<S>, S: Drop> Walker<'l, 'a, D, S> {
         self.push_children(alloc, bound, closed)
     }
 
-    /// The word is full: it is found, and is the best.
+    /// Keeps the current word, which is full, as the word found, and its bound `bound` as the best makespan.
     #[inline(never)]
     fn find(&mut self, alloc: Global, bound: u64) -> Result<(), NoMemory>
         requires full { self.old.progress.operations ≤ length self.old.path.items }
@@ -215,8 +218,8 @@ impl<'l, 'a, D: Dispatching<S>, S: Drop> Walker<'l, 'a, D, S> {
         Ok(())
     }
 
-    /// Goes on from the word, which was taken and whose bound is below the best, as long as one child alone is open: up
-    /// to a full word, which is found, or to one whose children are put on the stack.
+    /// Expands the current word, whose bound `bound` is below the best makespan. Follows the listed candidate while
+    /// there is exactly one, then branches. Keeps a full word as found. Fails with `NoMemory` if memory runs out.
     pub(crate) fn expand(&mut self, alloc: Global, bound: u64) -> Result<(), NoMemory>
         requires bound { bound ≡ lb self.old.progress.instance.now self.old.path.items }
         requires below { bound < self.old.progress.best }
@@ -228,7 +231,7 @@ impl<'l, 'a, D: Dispatching<S>, S: Drop> Walker<'l, 'a, D, S> {
     {
         let mut bound = bound;
         while self.path.len() < self.progress.operations {
-            let closed = self.gather();
+            let closed = self.list_candidates();
             if !self.goes_on() {
                 return self.branch(alloc, bound, closed);
             }

@@ -1,4 +1,4 @@
-// The search of pieces over instances laid out in lanes of one width.
+// Searches pieces in lanes of one width.
 ghost use Rattle.std.specs.Prelude.{◌≡◌, ◌<◌, ◌^◌, OnOk, IfOk};
 ghost use Rattle.shop_nodes.specs.Nodes.{AreNodes};
 ghost use Rattle.shop_nodes.specs.Sheets.{IsSheetOf, KeepsTables};
@@ -12,8 +12,7 @@ use shop_states::State;
 use std::alloc::{AllocError as NoMemory, Global};
 use std::marker::Model;
 
-/// A searcher over a layout, so that who calls it names the lanes alone, and no dispatcher. To contracts it is the
-/// instance.
+/// A searcher over a layout in lanes of one width, its only type parameter. Its value in contracts is the instance.
 pub(crate) struct LaidSearcher<'l, 'a, L: StateLanes> {
     searcher: StateSearcher<'l, 'a, LaidOut<'a, L>, State<L>>,
 }
@@ -33,7 +32,7 @@ impl<'l, 'a, L: StateLanes> Model for LaidSearcher<'l, 'a, L> {
 }
 
 impl<'l, 'a, L: StateLanes> LaidSearcher<'l, 'a, L> {
-    /// For pieces of this instance, which is the layout's, with at most so many states for children that wait. Fails
+    /// Makes a searcher for pieces of the layout's instance, with at most `most` states for waiting children. Fails
     /// with `NoMemory` if memory runs out.
     pub(crate) fn new(
         alloc: Global,
@@ -48,7 +47,7 @@ impl<'l, 'a, L: StateLanes> LaidSearcher<'l, 'a, L> {
         Ok(LaidSearcher { searcher })
     }
 
-    /// The search of a piece.
+    /// Searches `piece` like `Searcher::search`. Fails with `NoMemory` if memory runs out, and from then on always.
     #[inline(always)]
     pub(crate) fn search(
         &mut self,

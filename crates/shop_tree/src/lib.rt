@@ -1,4 +1,4 @@
-// The search of one piece: a walk over states of words, in lanes of the width of the layout.
+// Searches a piece by branch and bound: a depth-first walk over states of words.
 #![tactic(auto)]
 
 mod closed_children;

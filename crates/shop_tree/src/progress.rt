@@ -1,10 +1,10 @@
-// What a walk carries.
+// The progress of a walk: the word found last, the best makespan, and the budget.
 ghost use Rattle.std.specs.Prelude.{◌≡◌, None};
 ghost use Rattle.shop_model.specs.Shop.{operation_count};
 
 use shop_model::{Instance, Word};
 
-/// What a walk carries: the last word found, the best makespan, and how many more nodes may be taken.
+/// The progress of a walk: the word found last, the best makespan, and how many more nodes it may take (`budget`).
 #[derive(Drop)]
 pub(crate) struct Progress<'a> {
     pub(crate) instance: &'a Instance,
@@ -18,7 +18,7 @@ pub(crate) struct Progress<'a> {
 impl<'a> Progress<'a> {
     ghost use Rattle.shop_tree.specs.inner.Searching.{opening_walk, walked};
 
-    /// An empty walk with budget 0.
+    /// Makes the progress of a walk that has found no word and may take no node.
     pub(crate) fn new(instance: &'a Instance) -> Progress<'a>
         ensures { result.instance.now ≡ instance.now }
     {
@@ -31,7 +31,7 @@ impl<'a> Progress<'a> {
         }
     }
 
-    /// Begins a walk: nothing is found.
+    /// Begins a walk that has found no word, has `best` as its best makespan, and may take `budget` nodes.
     pub(crate) fn begin(&mut self, best: u64, budget: u64)
         ensures walk { walked self.new ≡ opening_walk best budget }
         ensures instance { self.new.instance.now ≡ self.old.instance.now }
@@ -41,7 +41,7 @@ impl<'a> Progress<'a> {
         self.budget = budget;
     }
 
-    /// Gives what was found.
+    /// Takes out the word found last.
     pub(crate) fn take_found(&mut self) -> Option<Word>
         ensures found { result ≡ self.old.found }
         ensures instance { self.new.instance.now ≡ self.old.instance.now }

@@ -1,4 +1,4 @@
-// The search of pieces, over what is kept from one to the next.
+// The search of a piece, in lanes of the width of its layout.
 ghost use Rattle.std.specs.Prelude.{◌≡◌, ◌≤◌, ◌<◌, ◌^◌, OnOk, IfOk};
 ghost use Rattle.shop_nodes.specs.Nodes.{AreNodes};
 ghost use Rattle.shop_nodes.specs.Sheets.{IsSheetOf, KeepsTables};
@@ -11,10 +11,10 @@ use shop_nodes::{Piece, Sheet};
 use std::alloc::{AllocError as NoMemory, Global};
 use std::marker::Model;
 
-/// How many bytes the states of all children that wait may hold together.
+/// About how many bytes the states of all waiting children may take together.
 const ROOM: usize = 1 << 19;
 
-/// How many bytes a number of a state takes.
+/// Answers how many bytes one number of a state takes in `layout`.
 fn bytes_of_number(layout: &Layout) -> usize
     ensures few { result ≤ 8 }
     ensures some { 0 < result }
@@ -26,14 +26,13 @@ fn bytes_of_number(layout: &Layout) -> usize
     }
 }
 
-/// Searches pieces of an instance, one after the other, over a layout that others may search over too. What a search
-/// needs is kept from one to the next, so that only what it finds or leaves takes memory. To contracts it is the
-/// instance.
+/// Searches pieces of an instance in turn, over a layout that searchers share. Reuses its states and its stack from
+/// piece to piece. Its value in contracts is the instance.
 pub struct Searcher<'l, 'a> {
     widths: Widths<'l, 'a>,
 }
 
-// Written out, so that the code that lets go of a searcher stands once, and not in each function that has one.
+// Not derived: a derived `Drop` would be compiled anew into each function that has a searcher.
 impl Drop for Searcher<'_, '_> {
     fn drop(self) {
         let Searcher { widths: _ } = self;
@@ -50,7 +49,7 @@ impl<'l, 'a> Model for Searcher<'l, 'a> {
 }
 
 impl<'l, 'a> Searcher<'l, 'a> {
-    /// For pieces of this instance, over its layout. Fails with `NoMemory` if memory runs out.
+    /// Makes a searcher for pieces of `instance`, over its layout. Fails with `NoMemory` if memory runs out.
     pub fn over(
         alloc: Global,
         instance: &'a Instance,
@@ -69,9 +68,9 @@ impl<'l, 'a> Searcher<'l, 'a> {
         )
     }
 
-    /// The same with at most so many states for children that wait: the state of any other child is made anew from its
-    /// word when its turn comes. What a search gives doesn't depend on that. Fails with `NoMemory` if memory runs
-    /// out.
+    /// Makes a searcher for pieces of `instance`, over its layout, with at most `most` states for waiting children. A
+    /// search fills the state of any other child from its word when it walks the child. The result of a search doesn't
+    /// depend on `most`. Fails with `NoMemory` if memory runs out.
     pub fn with_states(
         alloc: Global,
         instance: &'a Instance,
@@ -95,10 +94,10 @@ impl<'l, 'a> Searcher<'l, 'a> {
         Ok(Searcher { widths })
     }
 
-    /// The search of a piece by branch and bound: its nodes in order, depth first, the children of each by bound.
-    /// `best` is the makespan to beat, `budget` how many nodes may be taken; what isn't taken is left, in order. No
-    /// table under a node of the piece is lost: it ends at the sheet's makespan or later, or no earlier than one under
-    /// a node left. Fails with `NoMemory` if memory runs out; the searcher is of no use then.
+    /// Searches `piece` by branch and bound: its nodes in order, depth first, the children of each node by bound.
+    /// `best` is the makespan to beat. Takes at most `budget` nodes and leaves the others, in order. Loses no schedule:
+    /// for each schedule under a node of the piece that ends before the sheet's makespan, some schedule under a node
+    /// left ends no later. Fails with `NoMemory` if memory runs out, and so does every later search.
     pub fn search(
         &mut self,
         alloc: Global,

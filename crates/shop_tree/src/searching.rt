@@ -1,4 +1,4 @@
-// The search of one piece.
+// Searches one piece over a layout of its own.
 ghost use Rattle.std.specs.Prelude.{◌<◌, ◌^◌, IfOk};
 ghost use Rattle.shop_nodes.specs.Nodes.{AreNodes};
 ghost use Rattle.shop_nodes.specs.Sheets.{IsSheetOf, KeepsTables};
@@ -9,8 +9,7 @@ use shop_model::Instance;
 use shop_nodes::{Piece, Sheet};
 use std::alloc::{AllocError as NoMemory, Global};
 
-/// The search of one piece, as `Searcher::search`, over a layout of its own. Fails with `NoMemory` if memory runs
-/// out.
+/// Searches `piece` like `Searcher::search`, over a layout of its own. Fails with `NoMemory` if memory runs out.
 pub fn search<'r>(
     alloc: Global,
     instance: &'r Instance,

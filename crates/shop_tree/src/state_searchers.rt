@@ -1,4 +1,4 @@
-// The search of pieces by one dispatcher.
+// Searches pieces over any dispatcher.
 ghost use Rattle.std.specs.Prelude.{◌≡◌, ◌<◌, ◌^◌, OnOk, IfOk};
 ghost use Rattle.shop_nodes.specs.Nodes.{AreNodes};
 ghost use Rattle.shop_nodes.specs.Sheets.{IsSheetOf, KeepsTables};
@@ -10,15 +10,15 @@ use shop_states::Dispatching;
 use std::alloc::{AllocError as NoMemory, Global};
 use std::marker::Model;
 
-/// Searches pieces of an instance, one after the other, by one dispatcher. What a search needs is kept from one to the
-/// next. To contracts it is the instance.
+/// Searches pieces of an instance in turn, over a dispatcher. Reuses its states from piece to piece. Its value in
+/// contracts is the instance.
 pub struct StateSearcher<'l, 'a, D: Dispatching<S>, S: Drop> {
     walker: Walker<'l, 'a, D, S>,
-    /// no search of it failed for want of memory
+    /// false once a search has run out of memory
     is_whole: bool,
 }
 
-// Written out, so that the code that lets go of a searcher stands once, and not in each function that has one.
+// Not derived: a derived `Drop` would be compiled anew into each function that has a searcher.
 impl<D: Dispatching<S>, S: Drop> Drop for StateSearcher<'_, '_, D, S> {
     fn drop(self) {
         let StateSearcher {
@@ -41,8 +41,8 @@ impl<'l, 'a, D: Dispatching<S>, S: Drop> Model for StateSearcher<'l, 'a, D, S> {
 }
 
 impl<'l, 'a, D: Dispatching<S>, S: Drop> StateSearcher<'l, 'a, D, S> {
-    /// For pieces of this instance, which is the dispatcher's, with at most so many states for children that wait.
-    /// Fails with `NoMemory` if memory runs out.
+    /// Makes a searcher for pieces of the dispatcher's instance, with at most `most` states for waiting children. Fails
+    /// with `NoMemory` if memory runs out.
     pub fn new(
         alloc: Global,
         instance: &'a Instance,
@@ -59,7 +59,7 @@ impl<'l, 'a, D: Dispatching<S>, S: Drop> StateSearcher<'l, 'a, D, S> {
         })
     }
 
-    /// The search of a piece.
+    /// Searches `piece` like `Searcher::search`. Fails with `NoMemory` if memory runs out, and from then on always.
     pub fn search(
         &mut self,
         alloc: Global,

@@ -1,10 +1,9 @@
-// The states of a walk.
+// The states that a walk keeps: that of its current word, one in which it tries children, and spare ones.
 ghost use Rattle.std.specs.Prelude.{◌≡◌, ℕ, ◌≤◌, false, List, [], ◌∷◌, ◌++◌, IfOk, OnOk, OnSome};
 ghost use Rattle.std.specs.Prelude.{length, vec_capacity};
 ghost use Rattle.shop_model.specs.Word.{IsWord};
 ghost use Rattle.shop_bound.specs.Bound.{lb};
-ghost use Rattle.shop_states.specs.States.{ListsBelow};
-ghost use Rattle.shop_states.specs.States.{CanDispatch, HasSoleCandidate, IsOfSomeWord};
+ghost use Rattle.shop_states.specs.States.{ListsBelow, CanDispatch, HasSoleCandidate, IsOfSomeWord};
 ghost use Rattle.shop_states.specs.States.{TellsBoundBelow};
 ghost use Rattle.shop_nodes.specs.Branching.{conflict};
 ghost use Rattle.shop_tree.specs.inner.Held.{IsHeldOf};
@@ -18,8 +17,7 @@ use shop_states::{Candidate, Dispatching};
 use std::alloc::{AllocError as NoMemory, Global};
 use std::mem;
 
-/// The states of a walk: that of the word that it came to, one in which a child is tried, and spare ones for children
-/// that wait.
+/// The states of a walk: that of its current word, one in which it tries children, and spare ones for waiting children.
 #[derive(Drop)]
 pub(crate) struct WalkStates<'l, D: Dispatching<S>, S: Drop> {
     pub(crate) dispatcher: &'l D,
@@ -27,12 +25,12 @@ pub(crate) struct WalkStates<'l, D: Dispatching<S>, S: Drop> {
     pub(crate) current: Box<S>,
     trial: Box<S>,
     spare: Vec<Box<S>>,
-    /// how many more may be made
+    /// how many more states the walk may allocate
     unmade: usize,
 }
 
 impl<'l, D: Dispatching<S>, S: Drop> WalkStates<'l, D, S> {
-    /// With at most so many states for children that wait. Fails with `NoMemory` if memory runs out.
+    /// Makes a walk's states, at most `most` for waiting children. Fails with `NoMemory` if memory runs out.
     pub(crate) fn new(
         alloc: Global,
         dispatcher: &'l D,
@@ -51,7 +49,7 @@ impl<'l, D: Dispatching<S>, S: Drop> WalkStates<'l, D, S> {
         })
     }
 
-    /// Makes the state of a word the current one.
+    /// Fills the current state from the word `path`.
     pub(crate) fn fill(&mut self, path: &[u16])
         requires sound { HoldSlots D.IsSlot D.IsScratch self.old }
         requires word { IsWord (D.shop self.old.dispatcher.now) path.now }
@@ -63,10 +61,9 @@ impl<'l, D: Dispatching<S>, S: Drop> WalkStates<'l, D, S> {
             .fill(&mut self.scratch, path, &mut self.current);
     }
 
-    /// Lists the jobs of the conflict set of the current state's word, in ascending order, whose own numbers are below
-    /// the limit, and tells how many are left out. What the list held is lost; it has room for all jobs.
+    /// Replaces `candidates` by the current word's candidates with `own` below `limit`. Answers how many are left out.
     #[inline(always)]
-    pub(crate) fn gather(&mut self, limit: u64, candidates: &mut Vec<Candidate>) -> usize
+    pub(crate) fn list_candidates(&mut self, limit: u64, candidates: &mut Vec<Candidate>) -> usize
         requires sound { HoldSlots D.IsSlot D.IsScratch self.old }
         requires state { IsOfSomeWord
             (λ w. D.IsStateOf self.old.dispatcher.now w self.old.current.value) }
@@ -83,7 +80,7 @@ impl<'l, D: Dispatching<S>, S: Drop> WalkStates<'l, D, S> {
             .list_candidates(&mut self.scratch, &self.current, limit, candidates)
     }
 
-    /// Dispatches the next operation of the one job of the conflict set in the current state.
+    /// Dispatches, in the current state, the next operation of `job`, the only job in the conflict set.
     pub(crate) fn strike(&mut self, job: u16)
         requires sound { HoldSlots D.IsSlot D.IsScratch self.old }
         requires sole { HasSoleCandidate (D.shop self.old.dispatcher.now)
@@ -97,8 +94,8 @@ impl<'l, D: Dispatching<S>, S: Drop> WalkStates<'l, D, S> {
         self.dispatcher.strike(&mut self.current, job);
     }
 
-    /// Dispatches a candidate in the current state, and tells the bound of its child if that is below the limit; else
-    /// the current state is that of no word. `bound` is that of the current state's word.
+    /// Dispatches `candidate` in the current state. Answers the child's bound if it is below `limit`; else answers
+    /// `None`, and the current state is no word's state any more. `bound` is the bound of the word before the dispatch.
     #[inline(always)]
     pub(crate) fn advance(&mut self, candidate: Candidate, bound: u64, limit: u64) -> Option<u64>
         requires sound { HoldSlots D.IsSlot D.IsScratch self.old }
@@ -124,12 +121,12 @@ impl<'l, D: Dispatching<S>, S: Drop> WalkStates<'l, D, S> {
         )
     }
 
-    /// How many states are at hand for children.
+    /// Answers how many states are spare or can still be allocated.
     pub(crate) fn free(&self) -> usize {
         self.spare.len().saturating_add(self.unmade)
     }
 
-    /// Keeps a state that nobody wants any more as a spare one.
+    /// Keeps `state`, if there is one, as a spare state. Fails with `NoMemory` if memory runs out.
     pub(crate) fn give_back(&mut self, state: Option<Box<S>>) -> Result<(), NoMemory>
         requires sound { HoldSlots D.IsSlot D.IsScratch self.old }
         requires slot { IsHeldOf (λ _ s. D.IsSlot self.old.dispatcher.now s) [] state }
@@ -144,8 +141,8 @@ impl<'l, D: Dispatching<S>, S: Drop> WalkStates<'l, D, S> {
         Ok(())
     }
 
-    /// The given state becomes the current one, and the one before it a spare one; where none is given, the current one
-    /// is filled from the word.
+    /// Makes `state` the current state, and keeps the former one as a spare. If `state` is `None`, fills the current
+    /// state from `word`. Fails with `NoMemory` if memory runs out.
     pub(crate) fn go_on_in(&mut self, state: Option<Box<S>>, word: &[u16]) -> Result<(), NoMemory>
         requires sound { HoldSlots D.IsSlot D.IsScratch self.old }
         requires word { IsWord (D.shop self.old.dispatcher.now) word.now }
@@ -164,7 +161,7 @@ impl<'l, D: Dispatching<S>, S: Drop> WalkStates<'l, D, S> {
         Ok(())
     }
 
-    /// A spare state, or a new one where one more may be made.
+    /// Answers a spare state, else a new one, else `None` if the walk may allocate no more.
     #[inline(always)]
     fn spare_state(&mut self, alloc: Global) -> Result<Option<Box<S>>, NoMemory>
         requires sound { HoldSlots D.IsSlot D.IsScratch self.old }
@@ -180,7 +177,7 @@ impl<'l, D: Dispatching<S>, S: Drop> WalkStates<'l, D, S> {
         self.new_state(alloc)
     }
 
-    /// A new state, where one more may be made.
+    /// Allocates a state; answers `None` if the walk may allocate no more. Fails with `NoMemory` if memory runs out.
     #[inline(never)]
     fn new_state(&mut self, alloc: Global) -> Result<Option<Box<S>>, NoMemory>
         requires sound { HoldSlots D.IsSlot D.IsScratch self.old }
@@ -197,7 +194,7 @@ impl<'l, D: Dispatching<S>, S: Drop> WalkStates<'l, D, S> {
         Ok(Some(Box::new(alloc, self.dispatcher.slot(alloc)?)?))
     }
 
-    /// The state of the trial, where there is a spare one to take its place.
+    /// Takes out the trial's state, and puts a spare or new one in its place. Answers `None` if neither can be had.
     fn take_trial(&mut self, alloc: Global) -> Result<Option<Box<S>>, NoMemory>
         requires sound { HoldSlots D.IsSlot D.IsScratch self.old }
         ensures sound { OnOk result (HoldSlots D.IsSlot D.IsScratch self.new) }
@@ -211,8 +208,8 @@ impl<'l, D: Dispatching<S>, S: Drop> WalkStates<'l, D, S> {
         Ok(Some(mem::replace(&mut self.trial, spare)))
     }
 
-    /// Makes the trial's state that of the current word. The last trial takes the current state, which nobody wants
-    /// afterwards.
+    /// Makes the trial's state that of the current word: a copy of the current state or, for the last trial, the
+    /// current state itself, which the walk no longer needs.
     fn begin_trial(&mut self, is_last: bool)
         requires sound { HoldSlots D.IsSlot D.IsScratch self.old }
         ensures sound { HoldSlots D.IsSlot D.IsScratch self.new }
@@ -228,8 +225,8 @@ impl<'l, D: Dispatching<S>, S: Drop> WalkStates<'l, D, S> {
         self.dispatcher.copy(&self.current, &mut self.trial);
     }
 
-    /// Dispatches a candidate in the trial's state, and tells the bound of its child if that is below the limit.
-    /// `bound` is that of the current state's word, and after the last trial the current state is that of no word.
+    /// Dispatches `candidate` in the trial's state, and answers the child's bound if it is below `limit`. The last
+    /// trial uses up the current state. `bound` is the bound of the current word.
     fn try_candidate(
         &mut self,
         candidate: Candidate,
@@ -256,9 +253,9 @@ impl<'l, D: Dispatching<S>, S: Drop> WalkStates<'l, D, S> {
         self.dispatcher.dispatch_below(&mut self.scratch, &mut self.trial, candidate, bound, limit)
     }
 
-    /// Tries each candidate of the word, and puts the children of bounds below the limit on the stack, by bound, then
-    /// by job, the first on top, each with its state while there is room. Tells how many children are closed; `closed`
-    /// of them are none of the candidates. Fails with `NoMemory` if memory runs out.
+    /// Tries each of `candidates`, and puts the children of `word` with bounds below `limit` on the stack: by bound,
+    /// then by job, the first on top, each with its state while there is room. Answers how many children are closed:
+    /// those tried in vain, and `closed` others without a listed candidate. Fails with `NoMemory` if memory runs out.
     pub(crate) fn try_candidates(
         &mut self,
         alloc: Global,
@@ -283,7 +280,7 @@ impl<'l, D: Dispatching<S>, S: Drop> WalkStates<'l, D, S> {
     {
         let (from, depth) = (stack.len(), word.len() as u32);
         let mut others = closed;
-        // The last job first: of equal bounds the lower job then comes to lie above.
+        // Tries the last job first, so that of equal bounds the lower job lies above.
         for index in (0..candidates.len()).rev() {
             let candidate = candidates[index];
             let is_last = index == 0;

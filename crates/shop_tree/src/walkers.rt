@@ -1,4 +1,4 @@
-// The walk of the nodes of pieces, over states that are kept from one to the next.
+// Walks the nodes of a piece depth first, over states that are reused from piece to piece.
 ghost use Rattle.std.specs.Prelude.{◌≡◌, ◌≤◌, ◌<◌, ◌^◌, length, vec_capacity, [], OnOk, IfOk};
 ghost use Rattle.shop_model.specs.Shop.{operation_count};
 ghost use Rattle.shop_nodes.specs.Nodes.{IsNode, AreNodes};
@@ -13,8 +13,7 @@ use shop_states::{Candidate, Dispatching};
 use std::alloc::{AllocError as NoMemory, Global};
 use std::sync::ArcSlice;
 
-/// A walk: what it carries, its states, the word that it has come to, the stack of what waits, and room for the
-/// candidates of a word.
+/// A walk: its progress, states, path to the current word, stack of waiting children, and room for candidates.
 #[derive(Drop)]
 pub(crate) struct Walker<'l, 'a, D: Dispatching<S>, S: Drop> {
     pub(crate) progress: Progress<'a>,
@@ -22,7 +21,7 @@ pub(crate) struct Walker<'l, 'a, D: Dispatching<S>, S: Drop> {
     pub(crate) path: Vec<u16>,
     pub(crate) stack: Vec<Held<S>>,
     pub(crate) candidates: Vec<Candidate>,
-    /// what waits below this place of the stack has no state
+    /// entries of the stack below this index have given up their states
     pub(crate) stripped: usize,
     pub ghost same_shop: { D.shop states.dispatcher.now ≡ progress.instance.now },
     pub ghost room: { length progress.instance.now.jobs ≤ vec_capacity candidates },
@@ -32,14 +31,13 @@ pub(crate) struct Walker<'l, 'a, D: Dispatching<S>, S: Drop> {
 impl<'l, 'a, D: Dispatching<S>, S: Drop> Walker<'l, 'a, D, S> {
     ghost use Rattle.shop_nodes.specs.declared.halts.Waiting.TheVariants.{Child, Rest};
     ghost use Rattle.shop_tree.specs.inner.Held.{IsHeldOf};
-    ghost use Rattle.shop_nodes.specs.Halts.{halted_words, AreHalted};
-    ghost use Rattle.shop_nodes.specs.Halts.{stack_words, word_at};
+    ghost use Rattle.shop_nodes.specs.Halts.{halted_words, AreHalted, stack_words, word_at};
     ghost use Rattle.shop_tree.specs.inner.StateWalkers.{stage_of, HasStates};
     ghost use Rattle.shop_tree.specs.inner.Walkers.{on_top, stack_walk, node_walk, IsInOrder};
     ghost use Rattle.shop_tree.specs.inner.Walkers.{HasWalked, HasWalkedUpTo, IsTurn};
 
-    /// For pieces of this instance, the dispatcher's, with at most so many states for children that wait. Fails with
-    /// `NoMemory` if memory runs out.
+    /// Makes a walk for pieces of the dispatcher's instance, with at most `most` states for waiting children. Fails
+    /// with `NoMemory` if memory runs out.
     pub(crate) fn new(
         alloc: Global,
         instance: &'a Instance,
@@ -60,7 +58,7 @@ impl<'l, 'a, D: Dispatching<S>, S: Drop> Walker<'l, 'a, D, S> {
         })
     }
 
-    /// Walks an open child, which lay on top of the stack, up to its own children: these are put on the stack.
+    /// Takes `child`, which lay on top of the stack, and expands its word if its bound is below the best makespan.
     fn walk_open(
         &mut self,
         alloc: Global,
@@ -85,7 +83,7 @@ impl<'l, 'a, D: Dispatching<S>, S: Drop> Walker<'l, 'a, D, S> {
         self.expand(alloc, child.bound)
     }
 
-    /// Counts closed children, which lay on top of the stack, as far as the budget goes; the others wait on.
+    /// Spends the budget on `count` closed children, one unit each. Puts the children left over back on the stack.
     fn count_closed(&mut self, depth: u32, count: u32) -> Result<(), NoMemory>
         requires some { 0 < self.old.progress.budget }
         requires on { IsInOrder (on_top (stage_of self.old) (Rest depth count)) }
@@ -107,7 +105,7 @@ impl<'l, 'a, D: Dispatching<S>, S: Drop> Walker<'l, 'a, D, S> {
         Ok(())
     }
 
-    /// Walks what waits on the stack from its top on, depth first, as far as the budget goes.
+    /// Walks the waiting children on the stack, depth first, as long as the budget lasts.
     fn walk_stack(&mut self, alloc: Global) -> Result<(), NoMemory>
         requires in_order { IsInOrder (stage_of self.old) }
         requires states { HasStates self.old }
@@ -127,7 +125,7 @@ impl<'l, 'a, D: Dispatching<S>, S: Drop> Walker<'l, 'a, D, S> {
         Ok(())
     }
 
-    /// Takes a node, and walks on from it as far as the budget goes.
+    /// Takes `node` and walks the tree below it, as long as the budget lasts. Fails with `NoMemory` if memory runs out.
     fn walk_node(&mut self, alloc: Global, node: &Node) -> Result<(), NoMemory>
         requires some { 0 < self.old.progress.budget }
         requires node { IsNode self.old.progress.instance.now node.now }
@@ -148,7 +146,7 @@ impl<'l, 'a, D: Dispatching<S>, S: Drop> Walker<'l, 'a, D, S> {
         self.walk_stack(alloc)
     }
 
-    /// Walks nodes in order, each depth first, as far as the budget goes, and tells how many were taken.
+    /// Walks the tree below each of `nodes` in order, as long as the budget lasts. Answers how many were taken.
     fn walk_nodes(&mut self, alloc: Global, nodes: &[Node]) -> Result<usize, NoMemory>
         requires nodes { AreNodes self.old.progress.instance.now nodes.now }
         requires empty { self.old.stack.items ≡ [] }
@@ -166,7 +164,7 @@ impl<'l, 'a, D: Dispatching<S>, S: Drop> Walker<'l, 'a, D, S> {
         Ok(taken)
     }
 
-    /// Takes all that waits off the stack, and keeps its states for later.
+    /// Empties the stack, and keeps the states of its entries as spare ones. Fails with `NoMemory` if memory runs out.
     fn clear(&mut self) -> Result<(), NoMemory>
         requires states { HasStates self.old }
         ensures empty { OnOk result (self.new.stack.items ≡ []) }
@@ -180,7 +178,7 @@ impl<'l, 'a, D: Dispatching<S>, S: Drop> Walker<'l, 'a, D, S> {
         Ok(())
     }
 
-    /// Where the walk halted, if anything waits.
+    /// Answers where the walk halted: the path to its current word and the waiting children; `None` if no child waits.
     fn halt(&self, alloc: Global) -> Result<Option<Halt>, NoMemory>
         requires in_order { IsInOrder (stage_of self.now) }
         ensures words { IfOk result (λ h. halted_words self.now.progress.instance.now h
@@ -197,7 +195,7 @@ impl<'l, 'a, D: Dispatching<S>, S: Drop> Walker<'l, 'a, D, S> {
         Ok(Some(Halt { path, waiting }))
     }
 
-    /// The search of a piece: its nodes in order.
+    /// Searches `piece` like `Searcher::search`. Fails with `NoMemory` if memory runs out.
     pub(crate) fn search(
         &mut self,
         alloc: Global,

@@ -1,5 +1,5 @@
 -- Entries of pieces in order, up to and with the first that ends at the opening bound.
-use Rattle.std.proofs.Common.{◌≡◌, ℕ, ◌<◌, ◌+◌, ◌++◌, true, false, Some, List, [], ◌∷◌, length, get_or, sym, ◌∙◌, ap}
+use Rattle.std.proofs.Common.{◌≡◌, ℕ, ◌<◌, ◌+◌, ◌++◌, false, List, [], ◌∷◌, length, get_or, sym, ◌∙◌, ap}
 use Rattle.std.proofs.Common.{subst, arith, inl, inr}
 use Rattle.std.specs.Prelude.{slice_index_or}
 use Rattle.std.proofs.Math.ListN.{get_or-append}
@@ -10,7 +10,7 @@ use Rattle.shop_runs.specs.declared.entries.Entry.{Entry}
 use Rattle.shop_runs.specs.Round.{Told}
 use Rattle.shop_runs.specs.Entries.{is_hit}
 use Rattle.shop_runs.specs.Crews.{OneForEach, IsEntryOf, NoHitBelow, IsUpToHit}
-use Rattle.shop_workers.specs.inner.Hits.{IsEntryUpToHit, IsFirstHitBelow}
+use Rattle.shop_workers.specs.inner.Hits.{IsEntryUpToHit}
 
 pub record AreEntriesUpTo (r : Told) (es : List Entry) (n : ℕ) : Type 0 where
   pub count : length es ≡ n
@@ -37,12 +37,6 @@ one_entry_more r es new n e up added is stops = record {
 -- all of them
 pub all_entries : (r : Told) (es : List Entry) (n : ℕ) → AreEntriesUpTo r es n → n ≡ length r.pieces → OneForEach r es
 all_entries r es n up e = (up.count ∙ e, λ k d h. (up.each k d (let a = up.count in omega arith)).0)
-
-pub still_below : (r : Told) (n h : ℕ) → IsFirstHitBelow r n (Some h) → IsFirstHitBelow r (n + 1) (Some h)
-still_below r n h is = ((let a = is.0 in omega arith), is.1, is.2)
-
-pub first_here : (r : Told) (n : ℕ) → NoHitBelow r n → is_hit r n ≡ true → IsFirstHitBelow r (n + 1) (Some n)
-first_here r n none hit = (omega arith, hit, none)
 
 pub none_here : (r : Told) (n : ℕ) → NoHitBelow r n → is_hit r n ≡ false → NoHitBelow r (n + 1)
 none_here r n none miss k h = elim (cases_eq k n) [

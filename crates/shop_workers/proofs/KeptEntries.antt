@@ -1,11 +1,11 @@
 -- Entries that stand in places are kept, and the places of entries that were put are filled.
 use Rattle.std.proofs.Common.{◌≡◌, ◌≢◌, ℕ, ◌+◌, ◌<◌, ◌≤◌, List, [], ◌∷◌, ◌++◌, length, get_or}
-use Rattle.std.proofs.Common.{refl, sym, ap, ◌∙◌, subst, Option, Some, None, arith}
+use Rattle.std.proofs.Common.{sym, ap, ◌∙◌, subst, Option, Some, None, arith}
 use Rattle.std.proofs.Math.ListN.{get_or-append}
 use Rattle.std.proofs.Math.Seq.{get_or-append_seam}
-use Rattle.std.proofs.lemmas.List.{length-set, get_or-set_same, get_or-set_other, append-nil, append_assoc}
-use Rattle.std.proofs.lemmas.List.Elements.{All-nil, All-cons, All-weaker}
-use Rattle.std.specs.Prelude.{All, IsSome, IfSome, slice_index_or, slice_set}
+use Rattle.std.proofs.lemmas.List.{get_or-set_other, append_assoc}
+use Rattle.std.proofs.lemmas.List.Elements.{All-cons, All-weaker}
+use Rattle.std.specs.Prelude.{All, IfSome, slice_index_or, slice_set}
 use Rattle.std.specs.declared.vec.Vec.{Vec}
 use Rattle.std.specs.declared.alloc.Global.{Global}
 use native.Mathlib.Decide.{ℕ_discrete}
@@ -41,27 +41,6 @@ one_kept places now es k brought e len up is same = record {
         let inside : n < length es = omega arith in
         get_or-append es (e ∷ []) x n inside ∙ up.kept n x (omega arith) there
 
--- a place that is written is filled, and no other is emptied
-pub put_fills : (places : List (Option Entry)) (e : Entry)
-    → Fills (slice_set places (number_of e.kind) (Some e)) e
-put_fills places e inside =
-    let n = number_of e.kind in
-    let within : n < length places = subst (λ k. n < k) (length-set places n (Some e)) inside in
-    subst IsSome (sym (get_or-set_same places n (Some e) None within)) refl
-
-pub put_stays : (places : List (Option Entry)) (k : ℕ) (e : Entry) → StayFilled places (slice_set places k (Some e))
-put_stays places k e n filled inside = dite (ℕ_discrete n k) here there where
-  within : n < length places
-  within = subst (λ m. n < m) (length-set places k (Some e)) inside
-
-  here : n ≡ k → IsSome (slice_index_or (slice_set places k (Some e)) n None)
-  here eq =
-      let same = get_or-set_same places k (Some e) None (subst (λ i. i < length places) eq within) in
-      subst (λ i. IsSome (slice_index_or (slice_set places k (Some e)) i None)) (sym eq) (subst IsSome (sym same) refl)
-
-  there : n ≢ k → IsSome (slice_index_or (slice_set places k (Some e)) n None)
-  there ne = subst IsSome (sym (get_or-set_other places k n (Some e) None ne)) (filled within)
-
 pub still_filled : (before after : List (Option Entry)) → StayFilled before after → (v : Vec Entry Global)
     → FillsAll before v → FillsAll after v
 still_filled before after stays v h =
@@ -73,9 +52,6 @@ pub record AreThrough {X : Type 0} (P : X → Type 0) (all left : List X) : Type
   pub split : all ≡ left ++ done
   pub holds : All P done
 
-pub through_none : {X : Type 0} (P : X → Type 0) (all : List X) → AreThrough P all all
-through_none P all = record { done = []; split = sym (append-nil all); holds = All-nil P }
-
 pub through_one : {X : Type 0} (P Q : X → Type 0) (all before left : List X) (x : X) → ((y : X) → P y → Q y) → Q x
     → before ≡ left ++ x ∷ [] → AreThrough P all before → AreThrough Q all left
 through_one P Q all before left x weaker here was through = record {
@@ -83,7 +59,3 @@ through_one P Q all before left x weaker here was through = record {
   split = through.split ∙ ap (λ l. l ++ through.done) was ∙ append_assoc left (x ∷ []) through.done;
   holds = All-cons Q x through.done here (All-weaker P Q weaker through.done through.holds);
 }
-
-pub through_all : {X : Type 0} (P : X → Type 0) (all left : List X) → left ≡ [] → AreThrough P all left → All P all
-through_all P all left none through =
-    subst (All P) (sym (through.split ∙ ap (λ l. l ++ through.done) none)) through.holds

@@ -7,7 +7,7 @@
 --                             seat's least
 --     AreWon r v w entries    in number order, one for each piece that the seat won since, all
 --                             served, and passed behind one that ends at the opening bound
---     BringsWon r v w b       such entries, unless memory was refused
+--     BringsWon r v w b       AreWon of the entries, unless memory was refused
 --     IsAllKnown n w          each piece below n is claimed, as far as the seat knows
 use Rattle.std.specs.Prelude.{◌≡◌, ℕ, ◌<◌, ◌≤◌, List, ◌++◌, map, reverse, All, true, ◌⊎◌, IfOk}
 use Rattle.std.specs.List.{AllPairs}

@@ -1,4 +1,4 @@
-// A board on which threads claim the pieces of a round, and the seats by which they do so.
+// A board, on which threads claim the pieces of a round, and seats, the threads' handles on the board.
 ghost use Rattle.std.specs.Prelude.{◌≡◌, ◌+◌, ◌≤◌, [], ◌∷◌, ◌++◌, replicate, length, true, IfOk};
 ghost use Rattle.shop_workers.specs.Views.{once, ArePieces};
 
@@ -9,8 +9,8 @@ use atomic_table::Table;
 use shop_runs::Round;
 use std::alloc::{AllocError as NoMemory, Global};
 
-/// A board that threads share: a flag for each piece of a round, and the least number of a piece that was marked as
-/// ending at the opening bound. Each change is one atomic step of a seat; nobody waits for anybody.
+/// A board that threads share: a claim flag for each piece of a round, and the least number of a marked piece, whose
+/// makespan equals the opening bound. Each change is one atomic step of a seat. No thread waits for another.
 #[derive(Drop)]
 pub struct Board<'r> {
     pub(crate) table: Table<(), View, RoundHits<'r>, Law, Global>,
@@ -18,8 +18,7 @@ pub struct Board<'r> {
     pub ghost no_slots: { table.shared.table_id.slots ≡ 0 },
 }
 
-/// What one thread does on a board, it does by a seat of its own. A seat takes no bytes. What it has won are numbers of
-/// pieces, none of them twice.
+/// A thread's handle on a board. It takes no bytes. For proofs, it lists the pieces that the thread won, each once.
 #[derive(Drop)]
 pub struct Seat {
     pub(crate) seat: atomic_table::Seat<(), View>,
@@ -29,7 +28,7 @@ pub struct Seat {
     pub ghost pieces: { ArePieces seat.me.0.hits seat.me.0.mine },
 }
 
-// No flag is set, and no hit is marked.
+// Makes the numbers of a new board: a flag of 0 for each piece, and then `pieces`, which says that no piece is marked.
 fn first_words(alloc: Global, pieces: usize) -> Result<Vec<u64>, NoMemory>
     requires { pieces ≤ 256 }
     ensures { IfOk result (λ v. v.items ≡ replicate pieces 0 ++ pieces ∷ []) }
@@ -44,18 +43,16 @@ fn first_words(alloc: Global, pieces: usize) -> Result<Vec<u64>, NoMemory>
 
 impl<'r> Board<'r> {
     ghost use Rattle.std.specs.Prelude.{◌<◌, ℕ};
-    ghost use Rattle.shop_runs.specs.Hits.{hits_of_round};
-    ghost use Rattle.shop_workers.specs.Views.{has, HasServed};
-    ghost use Rattle.shop_runs.specs.Hits.{is_hit_in, IsHitOrEnd, IsLeastHit};
-    ghost use Rattle.shop_workers.specs.Views.{HasAll};
+    ghost use Rattle.shop_runs.specs.Hits.{hits_of_round, is_hit_in, IsHitOrEnd, IsLeastHit};
+    ghost use Rattle.shop_workers.specs.Views.{has, HasServed, HasAll};
     ghost use Rattle.shop_workers.specs.Moves.{newcomer, empty_handed, joined, HaveWonApart};
-    ghost use Rattle.shop_workers.specs.Moves.{KeepsServed};
     ghost use Rattle.shop_workers.specs.Moves.{IsTold, with_low, IsAtMostMarked, HasMarked};
+    ghost use Rattle.shop_workers.specs.Moves.{KeepsServed};
     ghost use Rattle.shop_workers.specs.Seats.{knows, hits_of, IsSeatOf};
     ghost use Rattle.shop_workers.specs.Winners.{IsDecided};
 
-    /// Makes a board of a round, on which nothing is claimed and nothing marked, and its first seat. Fails with
-    /// `NoMemory` if memory runs out; no other call of a board takes memory.
+    /// Makes the board of `round`, with no piece claimed or marked, and its first seat. Fails with `NoMemory` if memory
+    /// runs out. No other call of a board takes memory.
     pub fn open(alloc: Global, round: &'r Round<'r>) -> Result<(Board<'r>, Seat), NoMemory>
         ensures hits { IfOk result (λ p. hits_of p.0 ≡ hits_of_round round.now) }
         ensures seat { IfOk result (λ p. IsSeatOf p.0 p.1) }
@@ -67,14 +64,15 @@ impl<'r> Board<'r> {
         Ok((Board { table }, Seat { seat }))
     }
 
-    /// Tells how many pieces the round has.
+    /// Answers how many pieces the round has.
     pub fn pieces(&self) -> usize
         ensures { result ≡ length (hits_of self.now) }
     {
         self.table.word_count() - 1
     }
 
-    /// Makes two seats of one: the first keeps all, the second has seen as much and won nothing.
+    /// Splits `seat` in two. The first keeps all that `seat` knows; the second knows what `seat` has seen of the board,
+    /// but has won no piece.
     pub fn split(&self, seat: Seat) -> (Seat, Seat)
         requires { IsSeatOf self.now seat }
         ensures first { IsSeatOf self.now result.0 × (knows result.0 ≡ knows seat) }
@@ -86,7 +84,7 @@ impl<'r> Board<'r> {
         (Seat { seat }, Seat { seat: other })
     }
 
-    /// Makes one seat of two, which had won no piece in common. It knows what either knew.
+    /// Joins two seats, which have won no piece in common, into one that knows all that the two knew.
     pub fn join(&self, seat: Seat, other: Seat) -> Seat
         requires first { IsSeatOf self.now seat }
         requires second { IsSeatOf self.now other }
@@ -102,8 +100,8 @@ impl<'r> Board<'r> {
         Seat { seat }
     }
 
-    /// Claims a piece in one step. True: the seat has won it, and no other seat ever has or will.
-    /// False: some seat has won it.
+    /// Claims `piece` in one atomic step. Answers true if this seat wins the piece: no other seat has won it or ever
+    /// will. Answers false if some seat won it before.
     pub fn claim(&self, seat: &mut Seat, piece: usize) -> bool
         requires seat { IsSeatOf self.now seat.old }
         requires piece { piece < length (hits_of self.now) }
@@ -114,8 +112,8 @@ impl<'r> Board<'r> {
         self.table.shared.swap::<Claim>(&mut seat.seat, piece, 1) == 0
     }
 
-    /// Reads the least number of a piece that was marked so far, or how many pieces there are; it is never above what
-    /// the seat read or marked before.
+    /// Reads the least number of a marked piece, or the number of pieces if none is marked. The answer is never above a
+    /// number that this seat read or marked before.
     pub fn look(&self, seat: &mut Seat) -> usize
         requires { IsSeatOf self.now seat.old }
         ensures seat { IsSeatOf self.now seat.new }
@@ -129,7 +127,7 @@ impl<'r> Board<'r> {
             .load::<Look>(&mut seat.seat, self.pieces()) as usize
     }
 
-    /// Marks a piece that the seat won and that ends at the opening bound.
+    /// Marks `piece`, which this seat won, and whose sheet's makespan equals the opening bound.
     pub fn mark(&self, seat: &mut Seat, piece: usize)
         requires seat { IsSeatOf self.now seat.old }
         requires mine { has (knows seat.old).mine piece ≡ true }
@@ -142,9 +140,9 @@ impl<'r> Board<'r> {
             .fetch_min::<Mark>(&mut seat.seat, self.pieces(), piece as u64);
     }
 
-    /// Tells the least number of a piece that ends at the opening bound, or how many pieces there are. The seat has won
-    /// all pieces, and of those that end at the opening bound it marked each that isn't above one that it marked or
-    /// read. For library callers: the program doesn't use it.
+    /// Answers the least number of a piece whose sheet's makespan equals the opening bound, or the number of pieces if
+    /// there is none. `seat` must have won all pieces, and marked each such piece, except those above the least number
+    /// that it read or marked. For library callers: the program doesn't use it.
     pub fn close(self, seat: Seat) -> usize
         requires seat { IsSeatOf self seat }
         requires all { HasAll (knows seat) }

@@ -1,4 +1,4 @@
-// The pieces of a round searched in order, up to the first that ends at the opening bound.
+// Searches the pieces of a round in order until one's makespan equals the opening bound, and skips the rest.
 ghost use Rattle.std.specs.Prelude.{◌≡◌, ◌+◌, ◌<◌, length, IfOk, OnOk};
 ghost use Rattle.shop_runs.specs.Entries.{told};
 ghost use Rattle.shop_runs.specs.Crews.{OneForEach, StopsAtHit};
@@ -8,8 +8,8 @@ use crate::piece_search::PieceSearch;
 use shop_runs::Entry;
 use std::alloc::{AllocError as NoMemory, Global};
 
-// The entry of the next piece. Where an earlier one, `hit`, ends at the opening bound, the piece is passed; else it is
-// searched, and becomes `hit` if it ends there. Fails with `NoMemory` if memory runs out.
+// Answers the entry of piece `number`. Skips the piece if `hit` holds an earlier one. Otherwise searches it, and sets
+// `hit` to `number` if the makespan of its sheet equals the opening bound.
 fn entry_up_to_hit<'r, P: PieceSearch<'r>>(
     alloc: Global,
     searcher: &mut P,
@@ -34,8 +34,8 @@ fn entry_up_to_hit<'r, P: PieceSearch<'r>>(
     Ok(Entry::done(round, sheet))
 }
 
-/// One entry for each piece, in number order: the pieces are searched up to and with the first that ends at the opening
-/// bound, and the others are passed. Fails with `NoMemory` if memory runs out.
+/// Searches the pieces of a round in order until one's makespan equals the opening bound, and skips the rest. Answers
+/// one entry for each piece, in number order. Fails with `NoMemory` if memory runs out.
 pub fn search_up_to_hit<'r, P: PieceSearch<'r>>(
     alloc: Global,
     searcher: &mut P,

@@ -1,4 +1,4 @@
-// What workers do who share a round: they claim its pieces on a board, or take them from a pool behind a lock.
+// Workers that share the pieces of a round: they claim pieces on a board, or take piece numbers from a locked pool.
 #![tactic(auto)]
 
 mod boards;

@@ -1,4 +1,4 @@
-// What a worker does that takes numbers of pieces from a locked pool, whoever searches them.
+// A worker that takes piece numbers from a locked pool and searches these pieces.
 ghost use Rattle.std.specs.Prelude.{◌≡◌, ◌<◌, ◌≤◌, length, true, IfSome, IfOk, OnOk};
 ghost use Rattle.std.specs.List.{AllPairs};
 ghost use Rattle.shop_runs.specs.Entries.{told, is_hit};
@@ -13,8 +13,8 @@ use shop_runs::{Entry, Round};
 use std::alloc::{AllocError as NoMemory, Global};
 use std::sync::{Mutex, Wait};
 
-// Searches a piece, or passes it where `low` is lower: the least number among the worker's own pieces that end at the
-// opening bound, and the number of pieces while there is none.
+// Searches piece `number`, or skips it if `low` is lower, and answers its entry. Sets `low` to `number` if the piece's
+// makespan equals the opening bound. Before the worker's first such piece, `low` is the number of pieces.
 fn search_or_pass<'r, P: PieceSearch<'r>, G: Gate>(
     alloc: Global,
     searcher: &mut P,
@@ -45,7 +45,7 @@ fn search_or_pass<'r, P: PieceSearch<'r>, G: Gate>(
     Ok(Entry::done(round, sheet))
 }
 
-// The next number of the pool, if it is that of a piece.
+// Takes the next number from `pool`, or answers `None` if the pool is empty or the number isn't below `pieces`.
 fn next_piece<R: Wait>(rt: &R, pool: &Mutex<Pool>, pieces: usize) -> Option<usize>
     ensures { IfSome result (λ n. n < pieces) }
 {
@@ -53,7 +53,7 @@ fn next_piece<R: Wait>(rt: &R, pool: &Mutex<Pool>, pieces: usize) -> Option<usiz
     if number < pieces { Some(number) } else { None }
 }
 
-// The entries of the pieces that a worker takes.
+// Takes piece numbers from `pool` until it is empty, searches or skips these pieces, and answers their entries.
 fn serve_with<'r, P: PieceSearch<'r>, R: Wait, G: Gate>(
     rt: &R,
     alloc: Global,
@@ -79,8 +79,8 @@ fn serve_with<'r, P: PieceSearch<'r>, R: Wait, G: Gate>(
     Ok(entries)
 }
 
-/// The entries of the pieces that a worker takes from a pool. Once one of its own ends at the opening bound, those of a
-/// higher number are passed. Fails with `NoMemory` if memory runs out.
+/// Searches the pieces whose numbers worker `worker` takes from `pool`, and answers their entries. Once one's makespan
+/// equals the opening bound, skips the worker's pieces of higher numbers. Fails with `NoMemory` if memory runs out.
 pub fn serve<'r, P: PieceSearch<'r>, R: Wait, G: Gate>(
     rt: &R,
     alloc: Global,

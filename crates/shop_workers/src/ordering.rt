@@ -1,4 +1,4 @@
-// Entries that workers brought, put in the order of their pieces.
+// Puts the entries that workers brought into the order of their pieces, and searches the pieces without an entry.
 ghost use Rattle.std.specs.Prelude.{◌≡◌, ◌<◌, length, All, IfOk, IsOk, OnOk, IfSome, None};
 ghost use Rattle.std.specs.Prelude.{slice_set, slice_index_or, vec_len};
 ghost use Rattle.shop_runs.specs.Entries.{told};
@@ -11,7 +11,7 @@ use crate::piece_search::PieceSearch;
 use shop_runs::{Entry, Round};
 use std::alloc::{AllocError as NoMemory, Global};
 
-// A place for each piece.
+// Makes an empty place for the entry of each piece of `round`.
 fn places<'r>(alloc: Global, round: &'r Round<'r>) -> Result<Vec<Option<Entry<'r>>>, NoMemory>
     ensures len { IfOk result (λ v. vec_len v ≡ length round.now.pieces.items) }
     ensures placed { IfOk result (λ v. Placed (told round.now) v.items) }
@@ -23,7 +23,7 @@ fn places<'r>(alloc: Global, round: &'r Round<'r>) -> Result<Vec<Option<Entry<'r
     Ok(slots)
 }
 
-// Puts an entry into the place of its piece.
+// Puts `entry` into the place of its piece, if `slots` has that place.
 fn put<'r>(round: &'r Round<'r>, slots: &mut Vec<Option<Entry<'r>>>, entry: Entry<'r>)
     requires of { told entry.round.now ≡ told round.now }
     requires slots { Placed (told round.now) slots.old.items }
@@ -38,7 +38,7 @@ fn put<'r>(round: &'r Round<'r>, slots: &mut Vec<Option<Entry<'r>>>, entry: Entr
     }
 }
 
-// Puts each entry into the place of its piece; of two entries of one piece the one that is put last stays.
+// Puts each of `entries`, from the last to the first, into its piece's place in `slots`, over any entry there.
 fn place<'r>(round: &'r Round<'r>, slots: &mut Vec<Option<Entry<'r>>>, mut entries: Vec<Entry<'r>>)
     requires entries { OfRound (told round.now) entries.items }
     requires slots { Placed (told round.now) slots.old.items }
@@ -52,7 +52,7 @@ fn place<'r>(round: &'r Round<'r>, slots: &mut Vec<Option<Entry<'r>>>, mut entri
     }
 }
 
-// Takes the entry out of a place.
+// Takes the entry, if any, out of place `number` of `slots`, and leaves the place empty.
 fn take<'r>(slots: &mut Vec<Option<Entry<'r>>>, number: usize) -> Option<Entry<'r>>
     requires { number < vec_len slots.old }
     ensures after { slots.new.items ≡ slice_set slots.old.items number None }
@@ -61,7 +61,7 @@ fn take<'r>(slots: &mut Vec<Option<Entry<'r>>>, number: usize) -> Option<Entry<'
     slots[number].take()
 }
 
-// The entry that a worker brought, or else the piece's sheet.
+// Answers the entry that a worker brought for piece `number`, or searches the piece if `brought` is `None`.
 fn or_search<'r, P: PieceSearch<'r>>(
     alloc: Global,
     searcher: &mut P,
@@ -83,7 +83,7 @@ fn or_search<'r, P: PieceSearch<'r>>(
     }
 }
 
-// The entries of a round, one for each piece and in number order; a piece whose place is empty is searched.
+// Answers each piece's entry, in number order: takes it from its place, or searches the piece if the place is empty.
 fn complete_with<'r, P: PieceSearch<'r>>(
     alloc: Global,
     searcher: &mut P,
@@ -102,8 +102,8 @@ fn complete_with<'r, P: PieceSearch<'r>>(
     Ok(entries)
 }
 
-/// Gives the entries of a round, one for each piece and in number order; a piece whose place is empty is searched.
-/// Fails with `NoMemory` if memory runs out.
+/// Answers one entry for each piece of `round`, in number order: takes it from the piece's place in `slots`, or
+/// searches the piece if the place is empty. Fails with `NoMemory` if memory runs out.
 pub fn complete<'r, P: PieceSearch<'r>>(
     alloc: Global,
     round: &'r Round<'r>,
@@ -118,8 +118,8 @@ pub fn complete<'r, P: PieceSearch<'r>>(
     complete_with(alloc, &mut searcher, &mut slots)
 }
 
-/// Puts what the workers of a round brought into the places of its pieces: doubles are dropped, and where nobody
-/// brought a piece its place is empty. Fails with `NoMemory` if memory runs out.
+/// Puts the entries that workers brought into the places of their pieces, and keeps one entry for each piece. The place
+/// of a piece without an entry stays empty. Fails with `NoMemory` if memory runs out.
 pub fn in_places<'r>(
     alloc: Global,
     round: &'r Round<'r>,
@@ -137,7 +137,7 @@ pub fn in_places<'r>(
     Ok(slots)
 }
 
-// What the workers brought, where none of them was refused memory.
+// Collects the lists that the workers brought. Fails with `NoMemory` if memory runs out, here or for a worker.
 fn all_brought<'r>(
     alloc: Global,
     round: &'r Round<'r>,
@@ -154,9 +154,8 @@ fn all_brought<'r>(
     Ok(lists)
 }
 
-/// Gives the entries of a round, one for each piece and in number order, of what its workers brought: doubles are
-/// dropped, and pieces that nobody brought are searched. Fails with `NoMemory` if memory runs out, or a worker was
-/// refused memory.
+/// Answers one entry for each piece of `round`, in number order: takes one that a worker brought, or searches the piece
+/// if no worker brought one. Fails with `NoMemory` if memory runs out, here or for a worker.
 pub fn in_order<'r, P: PieceSearch<'r>>(
     alloc: Global,
     round: &'r Round<'r>,

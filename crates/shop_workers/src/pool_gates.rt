@@ -1,9 +1,9 @@
-// What is called before a piece is searched that was taken from a pool.
+// The gate of a pool: a hook that a worker calls before it searches a piece.
 use crate::open_gates::OpenGate;
 
-/// Called before a worker of a `LockCrew` searches a piece.
+/// A hook that a worker of a `LockCrew` calls before it searches a piece.
 pub trait Gate {
-    /// Worker `worker`, from 0, is about to search the piece of number `piece`. The calling thread is worker 0.
+    /// Runs just before worker `worker` searches piece `piece`. Worker 0 is the calling thread.
     fn before(&self, worker: usize, piece: usize);
 }
 

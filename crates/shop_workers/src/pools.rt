@@ -1,8 +1,8 @@
-// The pool of numbers of pieces that workers share.
+// A pool of piece numbers, from which workers take the next one.
 ghost use Rattle.std.specs.Prelude.{◌≡◌, ◌+◌, ◌<◌, ◌≤◌, IfSome, IfNone};
 
-/// The numbers of the pieces that nobody has taken yet: those from the next one on, below the number of pieces.
-/// For library callers: the program doesn't use it.
+/// The piece numbers that no worker has taken yet: those from `next` up to `pieces` (excluded). For library callers:
+/// the program doesn't use it.
 #[derive(Drop)]
 pub struct Pool {
     pieces: usize,
@@ -11,7 +11,7 @@ pub struct Pool {
 }
 
 impl Pool {
-    /// Makes a pool of the numbers from 0, of which none is taken.
+    /// Makes a pool of the numbers below `pieces`, none of them taken.
     pub fn open(pieces: usize) -> Pool
         ensures pieces { result.pieces ≡ pieces }
         ensures next { result.next ≡ 0 }
@@ -19,7 +19,7 @@ impl Pool {
         Pool { pieces, next: 0 }
     }
 
-    /// Takes the next number, which rises by one; it is `None`, with nothing changed, once each number is taken.
+    /// Takes the number `next`, and raises `next` by one. If no number is left, answers `None` and changes nothing.
     pub fn take(&mut self) -> Option<usize>
         ensures pieces { self.new.pieces ≡ self.old.pieces }
         ensures number { IfSome result (λ n. (n ≡ self.old.next) × (n < self.old.pieces)) }

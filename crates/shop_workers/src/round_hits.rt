@@ -1,8 +1,8 @@
-// Which pieces of a round end at its opening bound.
+// Tells contracts which pieces of a round have a makespan equal to the opening bound.
 use shop_runs::Round;
 use std::marker::Model;
 
-/// Which pieces of a round end at its opening bound. Contracts see that list; at run time it is the round itself.
+/// At run time the round; in contracts a list that says for each piece whether its makespan equals the opening bound.
 #[derive(Drop)]
 pub struct RoundHits<'r> {
     pub(crate) round: &'r Round<'r>,

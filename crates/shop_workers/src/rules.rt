@@ -1,4 +1,4 @@
-// What holds of a board between any two steps, and what each step tells its seat.
+// For proofs: the law that a board keeps between any two steps, and what each step tells the seat that takes it.
 use crate::round_hits::RoundHits;
 use crate::views::View;
 use atomic_table::{Join, Play, Split, TableRule};

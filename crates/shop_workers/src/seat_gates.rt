@@ -1,4 +1,4 @@
-// What is called before a piece is searched that was won on a board.
+// The gate of a board: a hook that a worker calls before it searches a piece that it won.
 ghost use Rattle.std.specs.Prelude.{◌≡◌, true};
 ghost use Rattle.shop_workers.specs.Views.{has};
 ghost use Rattle.shop_workers.specs.Seats.{knows};
@@ -6,10 +6,9 @@ ghost use Rattle.shop_workers.specs.Seats.{knows};
 use crate::boards::Seat;
 use crate::open_gates::OpenGate;
 
-/// Called before the worker that won a piece on a board searches it.
+/// A hook that a worker calls before it searches a piece that it won on a board.
 pub trait SeatGate {
-    /// Worker `worker`, from 0, is about to search the piece of number `piece`, which its seat has won. The calling
-    /// thread of a crew is worker 0.
+    /// Runs just before worker `worker` searches `piece`, which its seat won. Worker 0 is the calling thread of a crew.
     fn won(&self, worker: usize, seat: &Seat, piece: usize)
         requires { has (knows seat.now).mine piece ≡ true };
 }

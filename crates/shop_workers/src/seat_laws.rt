@@ -1,10 +1,10 @@
-// Laws on seats, for those who prove something of their own. They cost nothing when they run.
+// A law of seats, for callers with proofs of their own. It costs nothing at run time.
 ghost use Rattle.shop_workers.specs.Seats.{knows};
 ghost use Rattle.shop_workers.specs.Views.{HasAll, HasAsMany};
 
 use crate::boards::Seat;
 
-/// A seat that has won as many pieces as there are has won each of them: so a caller who counts entries may close.
+/// If a seat has won as many pieces as the round has, it has won each of them, as `Board::close` requires.
 pub fn has_all(seat: &Seat)
     requires { HasAsMany (knows seat.now) }
     ensures { HasAll (knows seat.now) }

@@ -1,4 +1,4 @@
-// Seats of a board are lent to workers, and what these bring back is completed.
+// Lends the seats of a board to workers, and completes the entries that the workers bring back.
 ghost use Rattle.std.specs.Prelude.{◌≡◌, ◌<◌, length, All, IfOk, IsOk, OnOk, IfSome, IfNone};
 ghost use Rattle.shop_runs.specs.Entries.{told};
 ghost use Rattle.shop_runs.specs.Crews.{OneForEach};
@@ -15,21 +15,22 @@ use crate::piece_search::PieceSearch;
 use shop_runs::{Entry, Round};
 use std::alloc::{AllocError as NoMemory, Global};
 
-/// A worker's number, with the seat that it is lent.
+/// A worker's number, and the seat that the worker borrows.
 #[derive(Drop)]
 pub struct Lent {
     pub worker: usize,
     pub seat: Seat,
 }
 
-/// What a worker brings back.
+/// What a worker brings back: its seat, and its entries or `NoMemory`.
 #[derive(Drop)]
 pub struct Returned<'r> {
     pub seat: Seat,
     pub entries: Result<Vec<Entry<'r>>, NoMemory>,
 }
 
-/// A seat for each worker, that of the calling thread last. Fails with `NoMemory` if memory runs out.
+/// Splits `seat` into one seat for each of `workers` workers. Worker 0, the calling thread, comes last in the list, and
+/// gets a seat even if `workers` is 0. Fails with `NoMemory` if memory runs out.
 pub fn lend(alloc: Global, board: &Board, seat: Seat, workers: usize) -> Result<Vec<Lent>, NoMemory>
     requires { IsSeatOf board.now seat }
     ensures { IfOk result (λ v. All (λ l. IsSeatOf board.now l.seat) v.items) }
@@ -48,7 +49,7 @@ pub fn lend(alloc: Global, board: &Board, seat: Seat, workers: usize) -> Result<
     Ok(lent)
 }
 
-// Joins the workers' seats, and gathers what they brought, where none of them was refused memory.
+// Joins the workers' seats and collects their entries. Fails with `NoMemory` if memory runs out, here or for a worker.
 fn join_all<'r>(
     alloc: Global,
     board: &Board,
@@ -72,7 +73,7 @@ fn join_all<'r>(
     Ok((joined, lists))
 }
 
-// Claims the piece of this number where its place is empty.
+// Claims piece `number` if `place`, the place of its entry, is empty, as no worker brought the entry.
 fn claim_missing(board: &Board, seat: &mut Seat, number: usize, place: &Option<Entry>)
     requires seat { IsSeatOf board.now seat.old }
     requires piece { number < length (hits_of board.now) }
@@ -85,7 +86,7 @@ fn claim_missing(board: &Board, seat: &mut Seat, number: usize, place: &Option<E
     }
 }
 
-// Claims the pieces that nobody brought.
+// Claims each piece whose place in `places` is empty, as no worker brought its entry.
 fn claim_rest(board: &Board, seat: &mut Seat, places: &[Option<Entry>])
     requires seat { IsSeatOf board.now seat.old }
     requires places { length places.now ≡ length (hits_of board.now) }
@@ -97,9 +98,8 @@ fn claim_rest(board: &Board, seat: &mut Seat, places: &[Option<Entry>])
     }
 }
 
-/// Gives one entry for each piece of a round, from what its workers brought back. A piece for which none brought one is
-/// claimed and searched by the calling thread. Fails with `NoMemory` if memory runs out, or a worker was refused
-/// memory.
+/// Answers one entry for each piece of `round`, in number order. If no worker brought a piece's entry, claims and
+/// searches the piece on the calling thread. Fails with `NoMemory` if memory runs out, here or for a worker.
 pub fn complete_returned<'r, P: PieceSearch<'r>>(
     alloc: Global,
     board: &Board,

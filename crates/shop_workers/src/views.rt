@@ -1,9 +1,9 @@
-// What a seat knows.
+// What a seat knows of its board, for contracts.
 use std::collections::LinkedList;
 
-/// What a seat knows, to contracts alone: whether it is live, that is, wasn't joined to another; which pieces end at
-/// the opening bound; and the numbers of the pieces that the seat won, saw claimed and marked, with the least number
-/// that it read or marked. No value of it is ever made.
+/// What a seat knows, for contracts alone; no code makes a `View`. A seat is `live` until it is joined to another.
+/// `hits` tells which pieces have a makespan equal to the opening bound. `mine` holds the pieces that the seat won,
+/// `seen` those that it saw claimed, `done` those that it marked. `low` is the least number that it read or marked.
 pub struct View {
     pub live: bool,
     pub hits: LinkedList<bool>,

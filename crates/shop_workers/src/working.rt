@@ -1,4 +1,4 @@
-// What a worker does with its seat.
+// A worker that claims pieces on a board and searches those that it wins.
 ghost use Rattle.std.specs.Prelude.{◌≡◌, ◌<◌, length, true, IfOk, OnOk};
 ghost use Rattle.shop_runs.specs.Entries.{told};
 ghost use Rattle.shop_runs.specs.Hits.{hits_of_round};
@@ -13,7 +13,7 @@ use crate::seat_gates::SeatGate;
 use shop_runs::{Entry, Round};
 use std::alloc::{AllocError as NoMemory, Global};
 
-// Searches a piece that the seat won, and marks it where it ends at the opening bound.
+// Searches piece `number`, which `seat` won, marks it if its makespan equals the opening bound, and answers its entry.
 fn search_won<'r, P: PieceSearch<'r>, G: SeatGate>(
     alloc: Global,
     board: &Board,
@@ -43,7 +43,8 @@ fn search_won<'r, P: PieceSearch<'r>, G: SeatGate>(
     Ok(Entry::done(round, sheet))
 }
 
-// Looks, claims a piece, and where the seat wins it searches it or passes it.
+// Reads the least number of a marked piece, then claims piece `number`. If the seat wins piece `number`, searches it,
+// or skips it if the number read is lower. Answers the entry of piece `number`, or `None` if the seat didn't win it.
 fn claim_and_search<'r, P: PieceSearch<'r>, G: SeatGate>(
     alloc: Global,
     board: &Board,
@@ -74,7 +75,7 @@ fn claim_and_search<'r, P: PieceSearch<'r>, G: SeatGate>(
     Ok(Some(entry))
 }
 
-// Takes a turn at each piece, in order.
+// Claims each piece in order, searches or skips each that the seat wins, and answers the entries of the pieces won.
 fn work_through<'r, P: PieceSearch<'r>, G: SeatGate>(
     alloc: Global,
     board: &Board,
@@ -102,10 +103,10 @@ fn work_through<'r, P: PieceSearch<'r>, G: SeatGate>(
     Ok(entries)
 }
 
-/// Claims each piece of the board in order, and searches or passes those that the seat wins. A piece is passed where
-/// the seat has read a lower number that was marked; one that was searched and ends at the opening bound is marked.
-/// The seat comes back with all that it knew and had won before, and with the entries of the pieces that it won in this
-/// call, in number order; or with `NoMemory` if memory runs out. It waits for nobody but the gate.
+/// Claims each piece of the board in order. Searches a piece that the seat wins, or skips it if the board shows an
+/// earlier piece as marked. Marks a searched piece whose sheet's makespan equals the opening bound. Answers the seat,
+/// which keeps all that it knew, and the entries of the pieces that it won in this call, in number order, or `NoMemory`
+/// if memory runs out. Waits only for the gate.
 pub fn work_by<'r, P: PieceSearch<'r>, G: SeatGate>(
     alloc: Global,
     board: &Board,

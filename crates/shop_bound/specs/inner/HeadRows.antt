@@ -16,7 +16,7 @@ tails_in route = map (tail_in route) (range_with_len 0 (length route))
 abbrev pub heads_of : Shop → Placing → ℕ → List (Option ℕ)
 heads_of shop p j = map (head_if_left shop p j) (range_with_len 0 (length (route_of shop j)))
 
--- whatever was placed, these are the heads of job j, or of all jobs
+-- for every placing with these ends, the rows are the heads of job j, or of all jobs
 abbrev pub AreHeadsOfJob : Shop → PlacementState → ℕ → List (Option ℕ) → Type 0
 AreHeadsOfJob shop s j row = (p : Placing) → IsPlacement shop p s → row ≡ heads_of shop p j
 

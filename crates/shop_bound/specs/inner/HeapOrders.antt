@@ -1,20 +1,20 @@
--- The order of each of the two heaps of a queue; the top is the greatest.
+-- The orders of the two heaps of a queue; a heap has the greatest element on top.
 use Rattle.std.specs.Prelude.{ℕ}
 use Rattle.std.specs.declared.cmp.Ordering.{Ordering}
 use Rattle.std.specs.declared.cmp.Reverse.{Reverse}
 use Rattle.std.specs.Ordering.{nat_cmp, ordering_then}
 
--- the head and the position of one to come; the tail and the position of one that waits
+-- the head and the position of an operation to come; the tail and the position of one that waits
 abbrev pub Coming : Type 0
 Coming = Reverse ℕ × ℕ
 
 abbrev pub Waiting : Type 0
 Waiting = ℕ × Reverse ℕ
 
--- the least head is the greatest
+-- the operation of least head is the greatest
 abbrev pub by_head : Coming → Coming → Ordering
 by_head x y = ordering_then (nat_cmp y.0.0 x.0.0) (nat_cmp x.1 y.1)
 
--- the greatest tail is, and the lowest position on ties
+-- the operation of greatest tail is, and of lowest position on ties
 abbrev pub by_tail : Waiting → Waiting → Ordering
 by_tail x y = ordering_then (nat_cmp x.0 y.0) (nat_cmp y.1.0 x.1.0)

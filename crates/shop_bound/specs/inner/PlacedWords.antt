@@ -4,7 +4,7 @@ use Rattle.shop_model.specs.Shop.{Shop}
 use Rattle.shop_model.specs.Word.{IsWord, placing}
 use Rattle.shop_model.specs.Placements.{PlacementState, IsPlacement}
 
--- it is the placement of a word of the instance
+-- the placement is that of a word of the instance
 pub record IsOfWord (shop : Shop) (s : PlacementState) : Type 0 where
   pub word : List ℕ
   pub fits : IsWord shop word

@@ -1,8 +1,8 @@
 -- The operations that are not done, by position.
---     IsQueue ws clock q             each that is not done is to come or waits, once; those that
---                                    wait are released by the clock
---     IsNextRelease cs head          the least head of those to come; none where none is
---     IsFirst hs i                   the one of those that wait that is served; none where none waits
+--     IsQueue ws clock q             each operation that is not done is to come or waits, once;
+--                                    those that wait are released by the clock
+--     IsNextRelease cs head          `head` is the least head to come; none where none is to come
+--     IsFirst hs i                   i is served next of those that wait; none where none waits
 use Rattle.std.specs.Prelude.{◌≡◌, ℕ, ◌+◌, ◌<◌, ◌≤◌, ◌⊎◌, ◌==◌, true, cond, Option, Some, None}
 use Rattle.std.specs.Prelude.{List, ◌∷◌, length, sum_by, slice_index_or, All, IsPermutation}
 use Rattle.std.specs.BinaryHeap.{heap_items, heap_len, heap_capacity}
@@ -11,7 +11,7 @@ use Rattle.shop_bound.specs.declared.works.Work.{Work}
 use Rattle.shop_bound.specs.inner.HeapOrders.{Coming, Waiting}
 use Rattle.shop_bound.specs.inner.Serving.{work_at, undone_of}
 
--- the position of one to come, and of one that waits
+-- the position of an operation to come, and of one that waits
 abbrev pub coming_place : Coming → ℕ
 coming_place c = c.1
 
@@ -39,16 +39,16 @@ pub record AreQueued (ws : List Work) (clock : ℕ) (cs : List Coming) (hs : Lis
   pub passed : (k : ℕ) → k < length ws → (work_at ws k).done ≡ true
       → (work_at ws k).triple.head ≤ clock
 
--- and there is room for all of them to wait
+-- IsQueue, with room for all operations to wait
 pub record IsQueue (ws : List Work) (clock : ℕ) (q : Queue) : Type 0 where
   pub are : AreQueued ws clock (heap_items q.coming) (heap_items q.waiting)
   pub room : heap_len q.waiting + heap_len q.coming ≤ heap_capacity q.waiting
 
--- those to come are released after the clock
+-- all operations to come are released after the clock
 abbrev pub ComeLater : ℕ → List Coming → Type 0
 ComeLater clock cs = All (λ c. clock < c.0.0) cs
 
--- c is on top, and no head is less than this one
+-- c is on top, and no head is less than c's
 pub record IsNext (cs : List Coming) (head : ℕ) (c : Coming) : Type 0 where
   pub some : 0 < length cs
   pub top : c ≡ slice_index_or cs 0 c
@@ -59,7 +59,7 @@ abbrev pub IsNextRelease : List Coming → Option ℕ → Type 0
 IsNextRelease cs None = length cs ≡ 0
 IsNextRelease cs (Some head) = (c : Coming) × IsNext cs head c
 
--- one of less tail, or of the same tail and no lower position
+-- h has less tail than w, or equal tail and no lower position
 abbrev pub IsBehind : Waiting → Waiting → Type 0
 IsBehind first h = (h.0 < first.0) ⊎ ((h.0 ≡ first.0) × (first.1.0 ≤ h.1.0))
 
@@ -73,17 +73,17 @@ abbrev pub IsFirst : List Waiting → Option ℕ → Type 0
 IsFirst hs None = length hs ≡ 0
 IsFirst hs (Some i) = (h : Waiting) × IsServedFirst hs i h
 
--- without the one on top
+-- the rest of the heap without its top
 abbrev pub IsWithoutFirst : List Waiting → List Waiting → Type 0
 IsWithoutFirst hs rest = (h : Waiting) → h ≡ slice_index_or hs 0 h → IsPermutation hs (h ∷ rest)
 
--- the one that is taken out is released by the clock; none where all come later
+-- the operation that is taken out is released by the clock; none where all come later
 abbrev pub TakesReleased : ℕ → List Coming → List Coming → Option ℕ → Type 0
 TakesReleased clock cs rest None = (rest ≡ cs) × ComeLater clock cs
 TakesReleased clock cs rest (Some k) =
     (c : Coming) × IsPermutation cs (c ∷ rest) × (c.0.0 ≤ clock) × (c.1 ≡ k)
 
--- for n operations
+-- both heaps have room for n operations
 pub record HasRoom (n : ℕ) (q : Queue) : Type 0 where
   pub coming : n ≤ heap_capacity q.coming
   pub waiting : n ≤ heap_capacity q.waiting

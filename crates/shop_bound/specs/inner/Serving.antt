@@ -29,7 +29,7 @@ pub record Waits (ws : List Work) (clock i : ℕ) : Type 0 where
   pub undone : (work_at ws i).done ≡ false
   pub released : (work_at ws i).triple.head ≤ clock
 
--- of the first n, the one that is served: of greatest tail, the lowest position on ties
+-- i is served: of the first n that wait, it has the greatest tail, and the lowest position on ties
 pub record IsServed (n : ℕ) (ws : List Work) (clock i : ℕ) : Type 0 where
   pub seen : i < n
   pub undone : (work_at ws i).done ≡ false
@@ -94,14 +94,14 @@ pub record IsRun (ws : List Work) (clock best : ℕ) : Type 0 where
       → (work_at ws i).done ≡ true) → span_above (triples_of ws) head tail ≤ best
   pub reached : best ≤ one (triples_of ws)
 
--- a bound on the turns left: those that are not done, and those that are not released
+-- a bound on the turns left: one for each operation not done, and one for each not released
 abbrev pub turns_of : ℕ → Work → ℕ
 turns_of clock w = cond w.done 0 1 + cond (nat_le w.triple.head clock) 0 1
 
 unfoldable pub turns_left : List Work → ℕ → ℕ
 turns_left ws clock = sum_by (turns_of clock) ws
 
--- how many are not done
+-- how many operations are not done
 abbrev pub undone_of : Work → ℕ
 undone_of w = cond w.done 0 1
 

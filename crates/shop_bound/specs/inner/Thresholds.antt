@@ -5,11 +5,11 @@ use Rattle.std.specs.Prelude.{slice_index_or}
 use Rattle.shop_bound.specs.declared.triples.Triple.{Triple}
 use Rattle.shop_bound.specs.OneMachine.{greatest_of}
 
--- the head and the tail are at least these
+-- the triple's head and tail are at least `head` and `tail`
 abbrev pub is_above : ℕ → ℕ → Triple → Bool
 is_above head tail t = nat_le head t.head && nat_le tail t.tail
 
--- the head, the times of the operations above both, and the tail; 0 where there is none above
+-- head plus the times of the operations above both plus tail; 0 where no operation is above both
 abbrev pub span_above : List Triple → ℕ → ℕ → ℕ
 span_above ts head tail =
     if length (filter (is_above head tail) ts) == 0 then 0 else head + sum_by (λ t. t.time)

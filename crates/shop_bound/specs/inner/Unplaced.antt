@@ -9,15 +9,15 @@ use Rattle.shop_model.specs.Placements.{PlacementState, IsPlacement}
 use Rattle.shop_bound.specs.OneMachine.{one}
 use Rattle.shop_bound.specs.declared.triples.Triple.{Triple}
 
--- those of machine m of one job, whose route goes on by these operations
+-- the triples on machine m of one job, whose route goes on by these operations
 abbrev pub unplaced_from : ℕ → List ℕ → ℕ → List Op → List Triple
 unplaced_from m free ready rest = triples_on m (waiting_from (slice_index free) 0 0 ready rest)
 
--- ys is xs with those at its end
+-- ys is xs with the triples of the rest of the route at its end
 abbrev pub Adds : List Triple → List Triple → ℕ → List ℕ → ℕ → List Op → Type 0
 Adds xs ys m free ready rest = ys ≡ xs ++ unplaced_from m free ready rest
 
--- whatever was placed, these are the operations that wait for m
+-- for every placing with these ends, the triples are the operations that wait for m
 abbrev pub AreUnplaced : Shop → PlacementState → ℕ → List Triple → Type 0
 AreUnplaced shop s m ts = (p : Placing) → IsPlacement shop p s → ts ≡ triples_on m (waiting shop p)
 
@@ -34,7 +34,7 @@ pub record CanGoOn (free : List ℕ) (ready : ℕ) (rest : List Op) : Type 0 whe
 abbrev pub bound_on : Shop → Placing → ℕ → ℕ
 bound_on shop p m = max (p.free m) (one (triples_on m (waiting shop p)))
 
--- whatever was placed, b is the greatest of these over all machines
+-- for every placing with these ends, b is the greatest of the machines' bounds
 abbrev pub IsGreatestBound : Shop → PlacementState → ℕ → Type 0
 IsGreatestBound shop s b =
     (p : Placing) → IsPlacement shop p s → b ≡ greatest_below shop.machines (bound_on shop p)

@@ -1,8 +1,8 @@
 -- What the passes for own spans keep.
---     rank_of count p                  the rank of what stands at a place
+--     rank_of count p                  the rank of place p in `count` blocks
 --     AreClocks .. count xs j          the clock in each column before j blocks down, with all served
 --                                      by rank from 0 on
---     AreLoadsBefore, AreLoadsBehind   the greatest end of what stands before that, and behind it
+--     AreLoadsBefore, AreLoadsBehind   the loads before and behind j blocks down each column
 use Rattle.std.specs.Prelude.{◌≡◌, ℕ, ◌+◌, ◌*◌, ◌/◌, ◌%◌, ◌<◌, max, List, length, map, take, drop}
 use Rattle.std.specs.Prelude.{slice_index, slice_set, get_or}
 use Rattle.shop_lanes.specs.Rows.{Lane, lanes, by_columns}
@@ -20,7 +20,7 @@ abbrev pub AreLoadsBefore : {B : Type 0} → (B → List ℕ) → ℕ → List L
 AreLoadsBefore numbers count xs j most =
     numbers most ≡ eight (λ k. span 1 0 (take (k * count + j) xs))
 
--- where nothing waits behind, any number up to the clock will do
+-- `end` is the greatest end behind rank r; any number up to the clock if nothing waits there
 abbrev pub IsLoadBehind : List Lane → ℕ → ℕ → Type 0
 IsLoadBehind xs r end =
     max (clock_after 1 0 (take r xs)) end ≡ clock_after 1 0 (take r xs) + span 1 0 (drop r xs)
@@ -30,13 +30,13 @@ pub record AreLoadsBehind {B : Type 0} (numbers : B → List ℕ) (count : ℕ) 
   pub long : length (numbers behind) ≡ 8
   pub each : (k : ℕ) → k < 8 → IsLoadBehind xs (k * count + j) (get_or (numbers behind) k 0)
 
--- for each position the span of what stands before it in order of rank, from 0 on
+-- each position has the load of the lanes before it in order of rank
 abbrev pub AreNoted : {A : Type 0} → (A → ℕ) → List A → List A → List A → List A → Type 0
 AreNoted value heads times tails noted =
     (p : ℕ) → p < length heads → slice_index (map value noted) p
     ≡ span 1 0 (take (rank_of (length heads / 8) p) (lanes_by value heads times tails))
 
--- its end, or when the last of what else waits ends if it is served from there on
+-- the own span of place p of `count` blocks
 abbrev pub own_span_at : ℕ → List ℕ → List ℕ → List ℕ → ℕ → ℕ
 own_span_at count heads times tails p =
     let end = slice_index heads p + slice_index times p

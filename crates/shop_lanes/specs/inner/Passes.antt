@@ -1,6 +1,7 @@
 -- What a pass over lanes keeps.
---     clock_after least start xs     when the last of those with a head of at least `least` ends
---     column count xs k              of lanes in order of rank, those of the k-th lanes of so many blocks
+--     clock_after least start xs     when the last lane with a head of at least `least` ends, if
+--                                    these are served in order from `start` on
+--     column count xs k              of lanes in order of rank, column k of `count` blocks
 --     eight f                        the numbers that a function gives for each of eight columns
 use Rattle.std.specs.Prelude.{◌≡◌, ◌≢◌, ℕ, ◌+◌, ◌*◌, ◌-◌, ◌/◌, ◌%◌, take, drop, replicate, ◌<◌, ◌≤◌}
 use Rattle.std.specs.Prelude.{length, max, List, [], ◌∷◌, if◌then◌else◌, nat_le}
@@ -17,7 +18,7 @@ clock_after least start (x ∷ xs) =
     then clock_after least (start + x.time) xs
     else clock_after least start xs
 
--- the lanes of three rows of whole blocks, whose elements stand for these numbers
+-- the lanes of three rows of whole blocks, in order of rank; `value` reads an element as a number
 abbrev pub lanes_by : {A : Type 0} → (A → ℕ) → List A → List A → List A → List Lane
 lanes_by value heads times tails =
     by_columns (length heads / 8) (lanes (map value heads) (map value times) (map value tails))
@@ -37,7 +38,7 @@ pub record AreColumns {B : Type 0} (numbers : B → List ℕ) (count : ℕ) (xs 
   pub clocks_are : numbers served.0 ≡ eight (λ k. clock_after least 0 (column count xs k))
   pub ends_are : numbers served.1 ≡ eight (λ k. span least 0 (column count xs k))
 
--- the times of those that wait
+-- the times of the lanes that wait, 0 in the others
 abbrev pub times_served : {B : Type 0} → (B → List ℕ) → B → B → B → List ℕ
 times_served numbers heads times least =
     waiting (first_of (numbers least)) (numbers heads) (numbers times)
@@ -57,7 +58,7 @@ pub record AreTailed {B : Type 0} (numbers : B → List ℕ) (heads times tails 
   pub ends_are : numbers served.1
       ≡ waiting (first_of (numbers least)) (numbers heads) (added (numbers served.0) (numbers tails))
 
--- the same with the greatest end so far in each lane
+-- a block served: the clocks afterwards, and the greatest end so far in each column
 pub record AreServed {B : Type 0} (numbers : B → List ℕ) (heads times tails least clocks most : B)
     (served : B × B) : Type 0 where
   pub clocks_are : numbers served.0
@@ -65,13 +66,13 @@ pub record AreServed {B : Type 0} (numbers : B → List ℕ) (heads times tails 
   pub most_are : numbers served.1 ≡ zip2 max (numbers most)
       (waiting (first_of (numbers least)) (numbers heads) (added (numbers served.0) (numbers tails)))
 
--- i is the first position of the number, or their count if it is none of them
+-- i is the first position of `number`, or the length of the list if it is not in it
 pub record IsFirstOf (xs : List ℕ) (number i : ℕ) : Type 0 where
   pub within : i ≤ length xs
   pub found : i < length xs → get_or xs i 0 ≡ number
   pub first : (k : ℕ) → k < i → get_or xs k 0 ≢ number
 
--- ends of so many jobs, filled up to whole blocks by a number that is no end
+-- the ends of jobs, padded to whole blocks by `none`, the greatest number
 pub record IsPadded (none jobs : ℕ) (ends : List ℕ) : Type 0 where
   pub whole_blocks : length ends % 8 ≡ 0
   pub within : jobs ≤ length ends

@@ -1,4 +1,4 @@
--- How the operations of an instance come to their positions.
+-- How the operations of an instance are put at their positions.
 --     AreCells lists n cells blocks  the first n lists stand in the cells, each in its blocks, down
 --                                    their columns
 --     AreAdded list count n ..       the first n places of a list's blocks were added to cells
@@ -15,15 +15,15 @@ use Rattle.shop_model.specs.Shop.{Shop, route_of}
 use Rattle.shop_layout.specs.Positions.{place_in, place_or, position_at_rank}
 use Rattle.shop_layout.specs.declared.slots.Slot.{Slot}
 
--- what stands where no operation does
+-- what stands at padding
 abbrev pub no_slot : Slot
 no_slot = record { job = 0; step = 0; time = 0; tail = 0 }
 
--- no list is longer than this
+-- no list has more than n elements
 abbrev pub AreShorter : ℕ → List (List Slot) → Type 0
 AreShorter n lists = (m : ℕ) → length (slice_index_or lists m []) ≤ n
 
--- each place of so many blocks has what the list has at its rank, or no slot
+-- each of the first n places of `count` blocks has what the list has at its rank, or no slot
 pub record AreAdded (list : List Slot) (count n : ℕ) (old new : List Slot) : Type 0 where
   pub long : length new ≡ length old + n
   pub before : (q : ℕ) → q < length old
@@ -89,6 +89,6 @@ pub record ArePlaces (shop : Shop) (lists : List (List Slot)) (blocks : List ℕ
       → place_in rows (slice_index_or (slice_index_or lists m []) i d).job
       (slice_index_or (slice_index_or lists m []) i d).step ≡ position_at_rank blocks m i
 
--- the place of the step after this one
+-- the place of the step after the slot's
 abbrev pub place_after : ℕ → List (List ℕ) → Slot → ℕ
 place_after n rows s = place_or n rows s.job (s.step + 1)

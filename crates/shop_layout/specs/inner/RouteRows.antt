@@ -1,5 +1,5 @@
 -- The rows that are read along routes.
---     AreSmallRows l                 each of them lies in memory
+--     AreSmallRows l                 each row takes fewer bytes than memory has
 use Rattle.std.specs.Prelude.{◌*◌, ◌<◌, ◌^◌, length}
 use Rattle.shop_layout.specs.Positions.{LayoutState}
 

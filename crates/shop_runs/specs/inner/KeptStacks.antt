@@ -1,9 +1,9 @@
--- Nodes on a stack, each with the least of its bound and of those below it.
+-- Nodes on a stack, each with the least of its own bound and of all bounds below it.
 --     nodes_of stacked           the nodes
---     nodes_from_top stacked     the same, from the top of a stack on
+--     nodes_from_top stacked     the nodes from the top of the stack down
 --     least_in nodes             the least of their bounds, the greatest number where there are none
---     AreLeastsFromTop stacked   from the top on, each tells the least from it on
---     AreLeasts stacked          the same of a stack, whose top is its end
+--     AreLeastsFromTop stacked   top first: each tells the least bound from itself down
+--     AreLeasts stacked          bottom first: each tells the least bound from itself down
 use Rattle.std.specs.Prelude.{◌≡◌, ℕ, List, [], ◌∷◌, map, reverse}
 use Rattle.shop_nodes.specs.declared.nodes.Node.{Node}
 use Rattle.shop_runs.specs.inner.NodeLists.{least_of_bounds}

@@ -1,20 +1,11 @@
--- Open nodes: their least bound, their order, and those of pieces.
-use Rattle.std.specs.Prelude.{ℕ, ◌<◌, min, List, map, filter, fold, nat_lt, All}
-use Rattle.shop_model.specs.SharedWords.{CanBeShared}
-use Rattle.shop_nodes.specs.Branching.{sort_by}
+-- Open nodes: their least bound, those below a makespan, and those of pieces.
+use Rattle.std.specs.Prelude.{ℕ, min, List, map, filter, fold, nat_lt}
 use Rattle.shop_nodes.specs.declared.nodes.Node.{Node}
 use Rattle.shop_nodes.specs.declared.pieces.Piece.{Piece}
-use Rattle.shop_runs.specs.declared.plans.Order.{Order}
-use Rattle.shop_runs.specs.declared.plans.Order.TheVariants.{Kept, Bound}
 
 -- the least of a makespan and the bounds that nodes hold
 abbrev pub least_of_bounds : ℕ → List Node → ℕ
 least_of_bounds makespan nodes = fold (λ b n. min b n.bound) makespan nodes
-
--- as they stand, or in order of the bounds that they hold, ties keeping their places
-abbrev pub nodes_in_order : Order → List Node → List Node
-nodes_in_order Kept nodes = nodes
-nodes_in_order Bound nodes = sort_by (λ n. n.bound) nodes
 
 -- those that hold a bound below c
 abbrev pub nodes_below : ℕ → List Node → List Node

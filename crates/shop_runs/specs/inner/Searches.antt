@@ -1,15 +1,16 @@
 -- Where a run stands between two rounds.
---     stand_of t                        where it stands, its open words in the order of the next
---                                       cut
---     IsSearchAt shop order s t         it stands there, its open words in this order
---     IsSearchOf shop order t           it is a standing of the instance, in this order
---     IsJoined standing others t        it is the standing, joined by those of the others whose
---                                       bounds are below the makespan
+--     stand_of t                        where run t stands, its open words in the order of the
+--                                       next cut
+--     IsSearchAt shop order s t         run t stands at s, its open words in this order
+--     IsSearchOf shop order t           run t is at a standing of the instance, in this order
+--     IsJoined left others t            the open nodes of run t are those left, put before the
+--                                       others whose bounds are below the makespan
 --     front_of r                        the round without its rest
 --     IsFront shop plan t r others      r is the front of what is cut, the others its rest
-use Rattle.std.specs.Prelude.{◌≡◌, []}
+use Rattle.std.specs.Prelude.{◌≡◌, List, []}
 use Rattle.shop_model.specs.Shop.{Shop}
 use Rattle.shop_nodes.specs.Nodes.{words_of, AreNodes}
+use Rattle.shop_nodes.specs.declared.nodes.Node.{Node}
 use Rattle.shop_runs.specs.Round.{Stand, Told, in_order, makespan_of, cut_of}
 use Rattle.shop_runs.specs.Laws.{IsStanding}
 use Rattle.shop_runs.specs.Entries.{told}
@@ -24,7 +25,6 @@ use Rattle.shop_runs.specs.declared.plans.Order.{Order}
 use Rattle.shop_runs.specs.declared.plans.Plan.{Plan}
 use Rattle.shop_runs.specs.declared.rounds.Round.{Round}
 use Rattle.shop_runs.specs.declared.runs.OpenRun.{OpenRun}
-use Rattle.shop_runs.specs.declared.standings.Standing.{Standing}
 
 abbrev pub stand_of : OpenRun → Stand
 stand_of t = record (stands t.standing) { open_words = words_of (open_list t.open) }
@@ -42,12 +42,10 @@ pub record IsSearchOf (shop : Shop) (order : Order) (t : OpenRun) : Type 0 where
   pub kept : order_of t.open ≡ order
   pub ordered : in_order shop order (words_of (open_list t.open)) ≡ words_of (open_list t.open)
 
-pub record IsJoined (standing : Standing) (others : OpenNodes) (t : OpenRun) : Type 0 where
-  pub standing_is : t.standing ≡ record standing { «open» = t.standing.open }
-  pub moved : t.standing.open.items ≡ []
+pub record IsJoined (left : List Node) (others : OpenNodes) (t : OpenRun) : Type 0 where
   pub kept : order_of t.open ≡ order_of others
-  pub open_nodes : open_list t.open ≡ put_all_before (order_of others) standing.open.items
-      (nodes_below standing.makespan (open_list others))
+  pub open_nodes : open_list t.open ≡ put_all_before (order_of others) left
+      (nodes_below t.standing.makespan (open_list others))
 
 abbrev pub front_of : Told → Told
 front_of r = record r { rest = [] }

@@ -1,12 +1,13 @@
 -- Open nodes in the order in which the next cut takes them.
---     words_in block                  the words of a block, from its top on
---     words_in_rest block             the same, of a block if there is one
---     words_on stack                  the words of a stack, from its top on
---     words_left stack                the same, of a stack if there is one
+--     words_in block                  the words of a block, from its top down
+--     words_in_rest block             those of a block, if there is one
+--     words_on stack                  the words of a stack, from its top down
+--     words_left stack                those of a stack, if there is one
 --     nodes_of_bound bound words      nodes of these words, of one bound
 --     nodes_by_bound entries          the nodes of stacks by bound, in order
 --     put_before order node nodes     the node before those that the order has behind it
---     put_all_before order ns nodes   the same of some nodes, the last one first
+--     put_all_before order ns nodes   each node of ns before those that the order has behind it,
+--                                     the last one put first
 --     IsNextOf node before after      the first node is taken from the list, if there is one
 use Rattle.std.specs.Prelude.{◌≡◌, ℕ, Option, Some, None, List, [], ◌∷◌, ◌++◌}
 use Rattle.std.specs.Prelude.{map, flat_map, reverse}

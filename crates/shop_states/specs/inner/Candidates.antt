@@ -2,16 +2,17 @@
 --     own_at l heads q               the own span of the operation at position q on its machine
 --     told_at nexts first owns j     the bound that own spans, told from position `first` on, tell
 --                                    for job j
---     IsTold nexts first count j     the next operation of job j is among these positions
+--     IsTold nexts first count j     the next operation of job j is among the `count` positions from
+--                                    `first` on
 --     IsCandidateOf shop w l job own the word can go on with the job, and to the bound before `own`
 --                                    adds what the own span does
---     ListsOwn limit own js cs n     of these jobs in order the candidates, each with its own number,
---                                    but for n whose own number is not below the limit
---     ListsGathered limit own ..     the same of all jobs that are gathered
---     CanList greatest l ..          they can be listed for the conflict set of some blocks
---     AreCandidatesOf shop w l ..    those of the conflict set, but for so many after which the bound
---                                    is not below the limit
---     CanGather greatest l ..        they are kept for some word
+--     ListsOwn limit own js cs n     a candidate for each of the jobs, in order, with its own number,
+--                                    but for n jobs whose own numbers reach the limit
+--     ListsGathered limit own ..     the candidates of a list of jobs that is gathered
+--     CanList greatest l ..          the candidates of the conflict set of some blocks can be listed
+--     AreCandidatesOf shop w l ..    the candidates of the conflict set, but for some jobs with which
+--                                    the bound reaches the limit
+--     CanGather greatest l ..        lanes and next operations are those of some word
 --     IsChosenBy .. job machine end  the next operation of the job can end first, before `end`, on this
 --                                    machine, and what waits there with a head below the end is in the
 --                                    conflict set
@@ -57,14 +58,14 @@ pub data ListsOwn (limit : ℕ) (own : ℕ → ℕ) : List ℕ → List Candidat
   left_out : {js : List ℕ} {cs : List Candidate} {n : ℕ} (j : ℕ) → limit ≤ own j
       → ListsOwn limit own js cs n → ListsOwn limit own (j ∷ js) cs (suc n)
 
--- jobs that are gathered so, and their candidates
+-- jobs that are gathered, and their candidates
 pub record ListsGathered (limit : ℕ) (own : ℕ → ℕ) (IsGathered : List ℕ → Type 0)
     (cs : List Candidate) (others : ℕ) : Type 0 where
   pub jobs : List ℕ
   pub gathered : IsGathered jobs
   pub listed : ListsOwn limit own jobs cs others
 
--- the conflict set can be found from these blocks on, and own spans are told for each of it
+-- the conflict set lies in these blocks, and the own span of each of its jobs is told
 pub record CanList (greatest : ℕ) (l : LayoutState) (heads nexts : List ℕ)
     (chosen from to behind end count : ℕ) : Type 0 where
   pub ordered : from ≤ to

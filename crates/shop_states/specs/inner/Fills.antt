@@ -3,9 +3,8 @@
 --                                    was where the step is placed
 --     IsRested heads                 nothing waits anywhere
 --     CanFill greatest shop l rows   all heads of what was placed can be set
---     HasFilledJob, HasFilled        those of a job, or of all jobs, were set
-use Rattle.std.specs.Prelude.{◌≡◌, ℕ, ◌+◌, ◌≤◌, ◌<◌, ◌^◌, List, length}
-use Rattle.std.specs.Prelude.{slice_index}
+--     HasFilledJob, HasFilled        the heads of a job, or of all jobs, were set
+use Rattle.std.specs.Prelude.{◌≡◌, ℕ, ◌+◌, ◌≤◌, ◌<◌, ◌^◌, List, length, slice_index}
 use Rattle.shop_lanes.specs.Rows.{Rows}
 use Rattle.shop_model.specs.Limits.{IsWithinLimits}
 use Rattle.shop_model.specs.Shop.{Shop, IsOperation}

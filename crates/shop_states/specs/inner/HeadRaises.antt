@@ -1,8 +1,8 @@
--- What changed among the heads of a machine.
---     Raise                          of the heads that changed, the least old and the greatest new one
---     raises_in value raises         the raises that stand in lanes, whose numbers have these values
+-- Which heads rose on a machine.
+--     Raise                          of the heads that rose, the least old and the greatest new one
+--     raises_in value raises         raises of numbers of lanes, by the values of these
 --     raise_of raises m              that of machine m
---     nothing_raised greatest        where no head changed
+--     nothing_raised greatest        the raise where no head rose
 --     widened raise a b              with one more head, which was a and is b
 use Rattle.std.specs.Prelude.{ℕ, min, max, List, map, slice_index_or}
 use Rattle.shop_states.specs.declared.head_raises.LaneRaise.{LaneRaise}
@@ -24,7 +24,7 @@ no_raise = record { from = 0; to = 0 }
 abbrev pub raise_of : List Raise → ℕ → Raise
 raise_of raises m = slice_index_or raises m no_raise
 
--- where no head changed
+-- where no head rose
 abbrev pub nothing_raised : ℕ → Raise
 nothing_raised greatest = record { from = greatest; to = 0 }
 

@@ -6,7 +6,7 @@
 --     HaveJobs l positions most      each position has a job, all jobs being below a number
 --     AreNextPlaced l heads nexts    each position has a job, and the next operations have theirs
 --     AreEndsAt greatest shop p ..   when the next operations can end
---     AreNextsAt shop p l nexts ..   heads and next operations are those of the placing
+--     AreNextsAt shop p l nexts ..   heads and next operations are those of placing p
 --     AreChoosable greatest ..       all that the choice by lanes stands on
 use Rattle.std.specs.Prelude.{◌≡◌, ℕ, ◌+◌, ◌≤◌, ◌<◌, ◌^◌, List, length, slice_index}
 use Rattle.shop_lanes.specs.Rows.{Rows}
@@ -41,8 +41,8 @@ pub record AreNextPlaced (l : LayoutState) (heads nexts : List ℕ) : Type 0 whe
   pub own : (j : ℕ) → j < length nexts → slice_index nexts j < length heads
       → slice_index l.jobs (slice_index nexts j) ≡ j
 
--- The ends by job: one more than when the next operation can end, or the greatest number, which
--- none of these is.
+-- The ends by job: one more than when the next operation can end; where a job has none, the
+-- greatest number, which no end reaches.
 pub record AreEndsAt (greatest : ℕ) (shop : Shop) (p : Placing) (ends : List ℕ) : Type 0 where
   pub jobs : length ends ≡ length shop.jobs
   pub next : (j : ℕ) → IsOperation shop j (p.steps j) → slice_index ends j ≡ next_end shop p j + 1

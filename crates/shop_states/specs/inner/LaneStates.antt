@@ -1,10 +1,9 @@
 -- What is kept of a word in lanes.
 --     AreHeadsInLanes greatest shop w ..   the heads of what the word leaves, one number a position
---     IsKeptInLanes greatest shop w ..     these, its next operations and their ends, and that a sole
---                                          candidate keeps its bound
---     HasRoom shop l heads ends nexts      there is room for these
-use Rattle.std.specs.Prelude.{◌≡◌, ℕ, ◌≤◌, ◌<◌, ◌^◌, List, [], ◌∷◌, ◌++◌, length, slice_index}
-use Rattle.std.specs.Prelude.{slice_set}
+--     IsKeptInLanes greatest shop w ..     these heads, the word's next operations and their ends, and
+--                                          that a sole candidate keeps its bound
+--     HasRoom shop l heads ends nexts      there is room for heads, ends and next operations
+use Rattle.std.specs.Prelude.{◌≡◌, ℕ, ◌<◌, ◌^◌, List, length, slice_index, slice_set}
 use Rattle.shop_lanes.specs.Rows.{Rows, with_end}
 use Rattle.shop_model.specs.Limits.{IsWithinLimits}
 use Rattle.shop_model.specs.Shop.{Shop}
@@ -12,10 +11,9 @@ use Rattle.shop_model.specs.Word.{IsWord, placing}
 use Rattle.shop_bound.specs.Conflicts.{SoleCandidateKeepsBound}
 use Rattle.shop_layout.specs.HeadLimits.{FitsLanes}
 use Rattle.shop_states.specs.inner.LaneChoices.{AreEndsAt, AreNextsOf}
-use Rattle.shop_states.specs.inner.LaneEnds.{IsEndOf, end_at}
+use Rattle.shop_states.specs.inner.LaneEnds.{end_at}
 use Rattle.shop_states.specs.inner.LaneHeads.{AreHeadsAt, AreHeadsFit}
-use Rattle.shop_layout.specs.Positions.{LayoutState, IsLaidOut, first_position, place}
-use Rattle.shop_states.specs.inner.Raises.{AreFirst}
+use Rattle.shop_layout.specs.Positions.{LayoutState, IsLaidOut, first_position}
 
 pub record AreHeadsInLanes (greatest : ℕ) (shop : Shop) (w : List ℕ) (l : LayoutState)
     (rows : Rows) : Type 0 where
@@ -40,31 +38,6 @@ pub record HasRoom (shop : Shop) (l : LayoutState) (heads ends nexts : List ℕ)
   pub positions : length heads ≡ first_position l shop.machines
   pub jobs_with_ends : length ends ≡ length shop.jobs
   pub jobs_with_nexts : length nexts ≡ length shop.jobs
-
--- they are those of a word to which an operation can be added, which stands at this position
-pub record HasNextAt (greatest : ℕ) (l : LayoutState) (nexts : List ℕ) (position : ℕ)
-    (rows : Rows) : Type 0 where
-  pub shop : Shop
-  pub word : List ℕ
-  pub job : ℕ
-  pub kept : AreHeadsInLanes greatest shop word l rows
-  pub fits : IsWord shop (word ++ job ∷ [])
-  pub at : position ≡ place l job ((placing shop word).steps job)
-  pub firsts : AreFirst l nexts rows.heads
-  pub ends : length nexts ≤ length rows.ends
-
--- the operation was dispatched, and the ends of other next operations are kept up
-pub record Advances (greatest : ℕ) (l : LayoutState) (nexts : List ℕ) (position : ℕ)
-    (old new : Rows) : Type 0 where
-  pub times : new.times ≡ old.times
-  pub tails : new.tails ≡ old.tails
-  pub positions : length new.heads ≡ length old.heads
-  pub long : length new.ends ≡ length old.ends
-  pub others : (j : ℕ) → j < length nexts → (slice_index nexts j ≡ position → ⊥)
-      → IsEndOf greatest nexts old j → IsEndOf greatest nexts new j
-  pub heads : (shop : Shop) (w : List ℕ) (j : ℕ) → AreHeadsInLanes greatest shop w l old
-      → IsWord shop (w ++ j ∷ []) → position ≡ place l j ((placing shop w).steps j)
-      → AreHeadsInLanes greatest shop (w ++ j ∷ []) l new
 
 -- one more operation of a job goes on: its next operation follows, with its end
 pub record GoesOn (greatest : ℕ) (l : LayoutState) (position job : ℕ) (old new : Rows)

@@ -1,10 +1,11 @@
 -- The raises of machines, and a list of the machines that have one.
---     AreEmpty raises                no head changed on any machine
+--     AreEmpty raises                no head rose on any machine
 --     AreListed raises machines      the machines with a raise are in a list
 --     AreRaisesFit greatest ..       each machine has its blocks, and a span from its raise fits
---     IsSpanByRaise ..               the greater of a number and of what begins within a raise
---     CanTakeSpans greatest ..       what begins within these raises can be bounded
---     TakesSpans ..                  the greater of a number and of that, once the raises are empty
+--     IsSpanByRaise ..               the greater of a number and of the spans from within a raise on
+--     CanTakeSpans greatest ..       the spans from within these raises on fit into lanes
+--     TakesSpans ..                  the greatest of a number and of these spans; the raises are empty
+--                                    afterwards
 use Rattle.std.specs.Prelude.{◌≡◌, ℕ, ◌+◌, ◌≤◌, ◌<◌, List, length, slice_index}
 use Rattle.shop_lanes.specs.Rows.{Rows, Lane, AreBlocks}
 use Rattle.shop_lanes.specs.Spans.{spans_between, FitsSpan}

@@ -1,11 +1,10 @@
 -- What a word leaves, by next operations: their positions, and when jobs are ready and machines free.
---     IsPlacedAt shop p l nexts ..   they are those of the placing
---     AreBegun shop l n nexts ..     of the first n jobs, of which nothing is placed
---     IsWordAt shop l nexts ..       they are those of some word
---     placement_at l nexts ready ..  the placement that they stand for
+--     IsPlacedAt shop p l nexts ..   next operations and times are those of placing p
+--     AreBegun shop l n nexts ..     the first n jobs are at their first steps
+--     IsWordAt shop l nexts ..       next operations and times are those of some word
+--     placement_at l nexts ready ..  the placement that next operations and times stand for
 --     step_at l j q                  the step of job j at position q, or the number of its steps
-use Rattle.std.specs.Prelude.{◌≡◌, ℕ, ◌<◌, List, [], length, map, slice_index, slice_index_or}
-use Rattle.std.specs.Prelude.{if◌then◌else◌, nat_lt}
+use Rattle.std.specs.Prelude.{◌≡◌, ℕ, ◌<◌, List, [], length, map, slice_index, slice_index_or, if◌then◌else◌, nat_lt}
 use Rattle.std.specs.List.{range_with_len}
 use Rattle.shop_model.specs.Placements.{PlacementState}
 use Rattle.shop_model.specs.Shop.{Shop, release_of}

@@ -1,13 +1,12 @@
 -- Heads by position that are raised.
 --     AreInRouteOrder l heads        a step that waits ends, from its head on, not after the head
 --                                    of the next step
---     IsRaised l among e old new     no head fell, those that wait at some positions are at least
---                                    e, routes are in order
---     IsLeastRaise l among e ..      the least such heads
---     IsRaisable greatest l nexts .. heads that can be raised so
---     Raises greatest l nexts ..     they were, and the ends of next operations are kept up
-use Rattle.std.specs.Prelude.{◌≡◌, ℕ, ◌+◌, ◌*◌, ◌≤◌, ◌<◌, ◌^◌, List, [], length, slice_index}
-use Rattle.std.specs.Prelude.{slice_index_or}
+--     IsRaised l among e old new     no head fell, the heads at some positions are at least e, and
+--                                    routes are in order
+--     IsLeastRaise l among e ..      the least heads that are raised
+--     IsRaisable greatest l nexts .. some raised heads fit into lanes
+--     Raises greatest l nexts ..     heads are raised least, and the ends of next operations kept up
+use Rattle.std.specs.Prelude.{◌≡◌, ℕ, ◌+◌, ◌*◌, ◌≤◌, ◌<◌, ◌^◌, List, [], length, slice_index, slice_index_or}
 use Rattle.shop_lanes.specs.Rows.{Rows}
 use Rattle.shop_layout.specs.Positions.{place_or, LayoutState, place}
 use Rattle.shop_states.specs.inner.LaneEnds.{IsEndOf}
@@ -85,7 +84,7 @@ pub record IsRaisable (greatest : ℕ) (l : LayoutState) (nexts : List ℕ) (row
   pub fits : (q : ℕ) → 0 < other q → other q + slice_index l.times q ≤ greatest
   pub computable : greatest < 2 ^ 64
 
--- the ends of these next operations are kept up, and where there are none nothing is changed
+-- the ends of next operations are kept up; without next operations no end changes
 pub record KeepsEnds (greatest : ℕ) (nexts : List ℕ) (old new : Rows) : Type 0 where
   pub long : length new.ends ≡ length old.ends
   pub none : nexts ≡ [] → new.ends ≡ old.ends
@@ -99,7 +98,7 @@ pub record Raises (greatest : ℕ) (l : LayoutState) (nexts : List ℕ) (among :
   pub tails : new.tails ≡ old.tails
   pub ends : KeepsEnds greatest nexts old new
 
--- one position, and those of some blocks
+-- one position, and the positions of some blocks
 abbrev pub IsPosition : ℕ → ℕ → Type 0
 IsPosition p q = q ≡ p
 

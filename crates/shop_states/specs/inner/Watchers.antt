@@ -1,10 +1,9 @@
--- What is seen of heads that are raised.
---     floor_on own end m             how far heads on a machine are foreseen
+-- Each head that rises is foreseen, or noted in the raise of its machine.
+--     floor_on own end m             up to where the heads on machine m are foreseen
 --     AreSeen own end ms raises ..   each head that rose is foreseen or within a raise
---     Watches own end ms ..          what was seen before is seen with what was raised since
---     Sees ms among end ..           the same of what is raised at positions on one machine
-use Rattle.std.specs.Prelude.{◌≡◌, ℕ, ◌≤◌, ◌<◌, ◌⊎◌, max, List, length, slice_index}
-use Rattle.std.specs.Prelude.{◌==◌, if◌then◌else◌}
+--     Watches own end ms ..          if all risen heads were seen before, all are seen afterwards
+--     Sees ms among end ..           `Watches` for positions on one machine
+use Rattle.std.specs.Prelude.{◌≡◌, ℕ, ◌≤◌, ◌<◌, ◌⊎◌, max, List, length, slice_index, ◌==◌, if◌then◌else◌}
 use Rattle.shop_states.specs.inner.HeadRaises.{Raise, raise_of}
 use Rattle.shop_states.specs.inner.LaneBounds.{AreRaisesUpTo}
 
@@ -36,6 +35,6 @@ abbrev pub Sees : List ℕ → (ℕ → Type 0) → ℕ → List ℕ → List �
 Sees ms among end old new before after =
     (own : ℕ) → AreOn own ms among → Watches own end ms old new before after
 
--- the machine of each position is one of so many
+-- the machine of each position is below `machines`
 abbrev pub AreKnown : List ℕ → ℕ → Type 0
 AreKnown ms machines = (q : ℕ) → q < length ms → slice_index ms q < machines

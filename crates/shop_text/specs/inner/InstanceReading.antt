@@ -9,7 +9,7 @@ use Rattle.shop_text.specs.Grammar.{Grammar, Entry, Part, entry_rows, IsGood, Is
 use Rattle.shop_text.specs.Grammar.{IsFault}
 use Rattle.shop_text.specs.Texts.{lines_left, headers_of, last_or, named_from}
 use Rattle.shop_text.specs.Names.{shops_of}
-use Rattle.shop_text.specs.inner.LineReading.{lines_after, IsFurther}
+use Rattle.shop_text.specs.inner.LineReading.{lines_after, IsBehind}
 use Rattle.shop_text.specs.inner.Drafts.{IsDraft}
 use Rattle.shop_text.specs.declared.faults.ReadFault.{ReadFault}
 use Rattle.shop_text.specs.declared.faults.ReadFault.TheVariants.{NoMemory}
@@ -72,4 +72,4 @@ pub record IsOnTheWay (text : List ℕ) (number : ℕ) (rest : List ℕ) (p : Fo
   pub cut : lines_left (grammar_of p) text ≡ front ++ lines_after number rest
   pub same : reader.format ≡ p
   pub read : IsReadUpTo reader front
-  pub further : IsFurther 0 text number rest
+  pub behind : IsBehind text number rest

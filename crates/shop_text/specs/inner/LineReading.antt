@@ -1,5 +1,5 @@
 -- What the parts of the readers tell, in the words of the grammar.
-use Rattle.std.specs.Prelude.{◌≡◌, min, ℕ, ◌+◌, ◌≤◌, ◌==◌, not, length, filter}
+use Rattle.std.specs.Prelude.{◌≡◌, ◌⊎◌, min, ℕ, ◌+◌, ◌≤◌, ◌==◌, not, length, filter}
 use Rattle.std.specs.Prelude.{List, [], ◌∷◌, ◌++◌, map}
 use Rattle.std.specs.Prelude.{if◌then◌else◌, Option, Some, None, Result, Ok, Err, MatchOption}
 use Rattle.std.specs.List.{enumerate_from}
@@ -39,11 +39,10 @@ with_tokens numbers (token ∷ tokens) =
 abbrev pub lines_after : ℕ → List ℕ → List Numbered
 lines_after passed text = filter is_left (enumerate_from (passed + 1) (map line_of (lines_of text)))
 
--- A pair of a number and a rest of a text stands at the same place as another: it has passed all
--- lines between.
-pub record IsFurther (passed : ℕ) (text : List ℕ) (later : ℕ) (rest : List ℕ) : Type 0 where
-  pub lines : later + length (lines_of rest) ≡ passed + length (lines_of text)
-  pub bytes : later + length rest ≤ passed + length text
+-- the rest of a text behind its first lines
+pub record IsBehind (text : List ℕ) (passed : ℕ) (rest : List ℕ) : Type 0 where
+  pub lines : passed + length (lines_of rest) ≡ length (lines_of text)
+  pub bytes : passed + length rest ≤ length text
 
 -- A call judges a line: a value that is so where nothing is refused, else the fault, unless memory
 -- ran out.
@@ -52,8 +51,7 @@ located n None = None
 located n (Some name) = Some (fault_at n name)
 
 abbrev pub Fails : ReadFault → ℕ → Option LineFault → Type 0
-Fails NoMemory n fault = Unit {0}
-Fails e n fault = located n fault ≡ Some e
+Fails e n fault = (e ≡ NoMemory) ⊎ (located n fault ≡ Some e)
 
 abbrev pub JudgesRow : {X : Type 0} → Result X ReadFault → ℕ → Option LineFault → (X → Type 0)
     → Type 0

@@ -10,6 +10,7 @@ use Rattle.shop_model.specs.Shop.{Shop}
 use Rattle.shop_text.specs.Lines.{lines_of, tokens_of, value_of}
 use Rattle.shop_text.specs.Schedules.{Tokens, begins_with_job, is_start, is_counted, counted_lines}
 use Rattle.shop_text.specs.Schedules.{AreJobLines, IsTable, IsTableRead}
+use Rattle.shop_text.specs.inner.LineReading.{IsBehind}
 use Rattle.shop_text.specs.declared.faults.ReadFault.{ReadFault}
 
 -- the rows that a vector holds
@@ -51,5 +52,4 @@ pub record IsReadSoFar (shop : Shop) (text : List ℕ) (passed : ℕ) (rest : Li
   pub cut : counted_lines text ≡ before ++ counted_after passed rest
   pub good : AreJobLines shop before rows
   pub jobs : length rows ≤ length shop.jobs
-  pub lines : passed + length (lines_of rest) ≡ length (lines_of text)
-  pub bytes : passed + length rest ≤ length text
+  pub behind : IsBehind text passed rest

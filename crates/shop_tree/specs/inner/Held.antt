@@ -1,15 +1,15 @@
 -- Children that wait with their states, whatever a state is: `is w s` says that s is the state of w.
 --     Kept S                         a child that was tried and is kept, with its state, if any
---     IsHeldOf is w state            the state, where there is one, is that of w
---     IsKept is word k               a child that was tried along the word has its own state, if any
---     IsHeld is word h               so has one that waits; closed children have none
---     opens_in ks, waiting_in hs     the children, and what waits, without their states
---     held k                         the child as what waits, with its state
---     bound_of x                     the bound of a child that waits, and 0 of closed ones
---     with_held_rest stack depth n   the stack with n closed children of what so many entries make on
+--     IsHeldOf is w state            the state, if there is one, is that of w
+--     IsKept is word k               a kept child of the word has its own state, if any
+--     IsHeld is word h               an entry of the stack has its own state, if any; closed children
+--                                    have none
+--     opens_in ks, waiting_in hs     kept children, and entries of the stack, without their states
+--     held k                         the entry of the stack for a kept child
+--     bound_of x                     the bound of an open child that waits, and 0 of closed ones
+--     with_held_rest stack depth n   the stack with n closed children of a word of `depth` entries on
 --                                    top, if there are any
---     HasRaisedRest i depth n m ..   where n closed children of what so many entries make lay at place
---                                    i below what they call kids, m of them lie afterwards
+--     HasRaisedRest i depth n m ..   n closed children at place i, below some kids, become m
 --     AreStates slot is_scratch ..   what the states of a walk hold is room for states, and what a
 --                                    dispatch needs
 use Rattle.std.specs.Prelude.{◌≡◌, ℕ, zero, suc, [], ◌∷◌, ◌++◌, Option, Some, None, List, length, map, All}

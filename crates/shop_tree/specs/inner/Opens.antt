@@ -1,7 +1,7 @@
 -- Entries of a stack, children put in order of their bounds, and all children of a word.
 --     open_words word opens                  the words of open children, in order
 --     depth_of x                             with how many entries of the word it begins
---     IsUpTo n x, IsFrom n x, IsAt n x       with at most, at least, just so many
+--     IsUpTo n x, IsFrom n x, IsAt n x       with at most, at least, just n entries
 --     IsRising stack                         no entry begins with less of the word than one below
 --                                            it
 --     AreWaiting shop best word stack        each entry waits, and they rise
@@ -9,8 +9,7 @@
 --                                            the one before, if any, is not
 --     AreChildren shop limit word opens n    the children of word with bounds below the limit, the
 --                                            first one last, and how many others there are
-use Rattle.std.specs.Prelude.{◌≡◌, ℕ, ◌-◌, ◌≤◌, ◌<◌, List, [], ◌∷◌, ◌++◌, length, map, reverse}
-use Rattle.std.specs.Prelude.{slice_index_or}
+use Rattle.std.specs.Prelude.{◌≡◌, ℕ, ◌-◌, ◌≤◌, ◌<◌, List, [], ◌∷◌, ◌++◌, length, map, reverse, slice_index_or}
 use Rattle.std.specs.List.{AllByRecursion}
 use Rattle.shop_model.specs.Shop.{Shop}
 use Rattle.shop_bound.specs.Bound.{lb}

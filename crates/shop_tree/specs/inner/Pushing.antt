@@ -1,6 +1,6 @@
 -- Children on a stack.
 --     with_opens stack opens       the stack with these open children on top, in order
---     with_rest stack depth n      the stack with n closed children of what so many entries make on
+--     with_rest stack depth n      the stack with n closed children of a word of `depth` entries on
 --                                  top, if there are any
 use Rattle.std.specs.Prelude.{ℕ, zero, suc, List, [], ◌∷◌, ◌++◌, map}
 use Rattle.shop_nodes.specs.declared.halts.Open.{Open}

@@ -1,7 +1,7 @@
 -- Where a walk over states stands. D dispatches, S is a state, C what a dispatch needs beside, and g
 -- says what each of them is.
 --     AreHeld is word hs             each child that waits along the word has its own state, if any
---     KeepsStates g word hs states   they have, and what the walk's states hold is room for states,
+--     KeepsStates g word hs states   all have, and what the walk's states hold is room for states,
 --                                    and what a dispatch needs
 -- Of a walker:
 --     stage_of w                     where it stands: what waits is told without states

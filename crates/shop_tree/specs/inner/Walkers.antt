@@ -4,20 +4,20 @@
 --     stack_walk s                 the walk of all that waits
 --     walk_on s                    the walk that goes on from the word, and then from what waits
 --     IsInOrder s                  all that waits is told rightly
---     on_top s x                   the same with x on top of what waits
+--     on_top s x                   stage s with x on top of what waits
 --     spent_one t                  the walk t with one of its budget spent
---     gone_on s job                the same with one job more, which was taken
+--     gone_on s job                stage s with the job appended to its word, and one of the budget
+--                                  spent
 --     turns_left s                 more turns than this can't come
 --     HasFollowed s t              the walk went on along words that have one open child alone
 --     HasBranched s t              the children of the word lie on the stack
 --     HasExpanded s t              what waits afterwards comes to where the walk goes on from the
 --                                  word, and then from what waited before
---     IsTurn s x t                 what waits afterwards comes to the same walk as x on top of what
---                                  waited before, and there is less to do
+--     IsTurn s x t                 what waits afterwards comes to the walk of x on top of what waited
+--                                  before, and there is less to do
 --     HasWalked s t whole          all that is left of this walk waits: nothing, unless the budget
 --                                  has ended
-use Rattle.std.specs.Prelude.{◌≡◌, ℕ, ◌+◌, ◌-◌, ◌*◌, ◌≤◌, ◌<◌, List, [], ◌∷◌, ◌++◌, length, drop}
-use Rattle.std.specs.Prelude.{fold}
+use Rattle.std.specs.Prelude.{◌≡◌, ℕ, ◌+◌, ◌-◌, ◌*◌, ◌≤◌, ◌<◌, List, [], ◌∷◌, ◌++◌, length, drop, fold}
 use Rattle.shop_model.specs.Shop.{Shop}
 use Rattle.shop_tree.specs.inner.Opens.{AreWaiting}
 use Rattle.shop_tree.specs.inner.Searching.{walk_stack, Adds, entered}

@@ -1,7 +1,7 @@
 -- What the workers of a board bring back.
 --     IsReturned b r s es    what a worker brings back: its seat of this board, and entries of this
 --                            round unless it was refused memory
---     AreReturned b r all    each worker brings back such
+--     AreReturned b r all    IsReturned of each worker
 use Rattle.std.specs.Prelude.{List, All, IfOk}
 use Rattle.shop_runs.specs.Round.{Told}
 use Rattle.shop_workers.specs.Entries.{OfRound, Brought}

@@ -3,7 +3,7 @@
 --     IsAhead v n kind        a piece that was searched isn't behind one that the seat had read or
 --                             marked
 --     TakesTurn r n v w o     there is an entry of piece n just where the seat won it
---     BringsTurn r n v w o    the same, unless memory was refused
+--     BringsTurn r n v w o    TakesTurn, unless memory was refused
 --     IsRestKnown n w places  each piece below n that has no entry in its place is claimed, as far
 --                             as the seat knows
 use Rattle.std.specs.Prelude.{◌≡◌, ℕ, ◌<◌, ◌≤◌, List, ◌∷◌, Option, MatchOption, None, IfNone}

@@ -18,18 +18,7 @@ loop-k-init c =
     }
 
 pub loop-k-preserved-then-k-placed : goal.loop-k-preserved-then-k-placed
-loop-k-preserved-then-k-placed c =
-    let shop = c.args.instance.now in let j = c.args.j in let s = c.args.placement.now
-    in let turn = placed_turn shop s j c.requires.job c.steps-placed.result c.steps-placed.ensures c.loop-k.k
-    c.loop-k.ready c.loop-k.invariant.ready c.if-k-placed.true
-    in record {
-      filled = λ p is. filled_more (head_if_left shop p j) c.loop-k.heads.items c.push.new.self.items c.loop-k.k _
-          (c.loop-k.invariant.filled p is) (turn p is).0 (search rules);
-      ready = λ p is. (turn p is).1;
-      small = (let a = c.loop-k.invariant.small in omega arith);
-      long = search rules;
-      room = search rules;
-    }
+loop-k-preserved-then-k-placed c = grind (arith, placed_turn, filled_more)
 
 pub overflow_add-ready : goal.overflow_add-ready
 overflow_add-ready c =

@@ -1,6 +1,5 @@
-use Rattle.std.proofs.Common.{◌∙◌, ℕ, subst, sym, arith}
+use Rattle.std.proofs.Common.{◌∙◌, sym, arith}
 use Rattle.shop_model.specs.Word.{placing}
-use Rattle.shop_bound.specs.Laws.{IsLower}
 use Rattle.shop_bound.proofs.BoundLaw.{lb-le-end, full_word}
 use Rattle.shop_bound.proofs.LowerBounds.{lower_bound_is}
 use Rattle.shop_bound.proofs.SmallSums.{sums_small}
@@ -13,10 +12,7 @@ returns-clause-bound c =
     ∙ lower_bound_is shop w c.keeps_limits.ensures c.requires
 
 pub returns-clause-lower : goal.returns-clause-lower
-returns-clause-lower c =
-    let shop = c.args.instance.now in let w = c.args.word.now
-    in subst (λ (x : ℕ). IsLower shop w x) (sym (returns-clause-bound c))
-    (λ starts under. lb-le-end shop w starts c.requires under)
+returns-clause-lower c = grind (arith, (returns-clause-bound c), lb-le-end)
 
 pub returns-clause-full : goal.returns-clause-full
 returns-clause-full c = λ full.

@@ -1,7 +1,6 @@
-use Rattle.std.proofs.Common.{◌<◌, inl, inr, arith, ap, ◌∙◌, refl, List}
+use Rattle.std.proofs.Common.{inl, inr, arith, ap, ◌∙◌, refl, List}
 use Rattle.shop_bound.specs.declared.triples.Triple.{Triple}
 use Rattle.shop_bound.specs.OneMachine.{one}
-use Rattle.shop_bound.specs.inner.Serving.{turns_left}
 use Rattle.shop_bound.proofs.QueueTurns.{none_waits, room_kept}
 use Rattle.shop_bound.proofs.Turns.{ready_or_done, ready_run, started, all_done}
 use Rattle.shop_bound.proofs.TurnCounts.{ready_turns, undone-none, undone-fresh, turns_left-two}
@@ -22,11 +21,7 @@ loop-chosen-init c = record {
 }
 
 pub loop-chosen-smaller : goal.loop-chosen-smaller
-loop-chosen-smaller c =
-    let a = ready_turns c.serve-stop.new.works c.serve-stop.result c.ready_at-clock-in-Some.result
-    c.ready_at-clock-in-Some.ensures.ready
-    in let b : turns_left c.serve-stop.new.works c.ready_at-clock-in-Some.result < turns_left c.loop-chosen.works
-    c.loop-chosen.clock = omega (arith, c.serve-stop.ensures.fewer) in b
+loop-chosen-smaller c = grind (arith, ready_turns)
 
 pub loop-chosen-preserved : goal.loop-chosen-preserved
 loop-chosen-preserved c = record {

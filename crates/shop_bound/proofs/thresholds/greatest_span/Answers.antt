@@ -8,12 +8,7 @@ use Rattle.shop_bound.proofs.ThresholdLemmas.{greatest_of-more}
 use Rattle.shop_bound.proofs.thresholds.greatest_span.Goals as goal
 
 pub span_of_above-requires : goal.span_of_above-requires
-span_of_above-requires c =
-    omega (
-      arith,
-      get_or-le-greatest_of (λ t. t.head) c.args.triples.now c.loop-first.first-index no_triple c.loop-first-test.true,
-      get_or-le-greatest_of (λ t. t.tail) c.args.triples.now c.loop-last.last-index no_triple c.loop-last-test.true,
-    )
+span_of_above-requires c = grind (arith, get_or-le-greatest_of)
 
 pub loop-last-preserved : goal.loop-last-preserved
 loop-last-preserved c =

@@ -1,10 +1,9 @@
-use Rattle.std.proofs.Common.{◌≡◌, ◌⊎◌, Err}
 use Rattle.std.specs.Option.{option_copied}
 use Rattle.std.proofs.lemmas.Result.{IfOk-weaker, IfErr-weaker}
 use Rattle.shop_text.specs.Names.{shop_of_named}
-use Rattle.shop_text.specs.Schedules.{IsTableRead}
-use Rattle.shop_text.specs.declared.faults.ReadFault.TheVariants.{NoMemory}
-use Rattle.shop_engine.specs.Asking.{name_in, OrNoMemory}
+use Rattle.shop_text.specs.Schedules.{IsTableFault}
+use Rattle.shop_text.specs.Texts.{OrNoMemory}
+use Rattle.shop_engine.specs.Asking.{name_in}
 use Rattle.shop_engine.specs.Checking.{schedule_in, IsVerdictOn, IsCheckOf, IsCheckFault}
 use Rattle.shop_engine.proofs.Picks.{is_asked}
 use Rattle.shop_engine.proofs.Verdicts.{checked, check_refused}
@@ -32,7 +31,7 @@ returns-clause-refused c =
     in let schedule = c.schedule_or.result.now
     in let picked = is_asked args.format (name_in args.name) c.in_ok-named.ensures.0 c.as_slice.ensures.value
     c.in_ok-asked.ensures
-    in IfErr-weaker c.judge.result (λ e. (e ≡ NoMemory) ⊎ IsTableRead asked.shop schedule (Err e))
+    in IfErr-weaker c.judge.result (OrNoMemory (IsTableFault asked.shop) schedule)
     (λ e. OrNoMemory (λ bytes. IsCheckFault args.format (name_in args.name) bytes (schedule_in bytes given)) text e)
     (λ e h. check_refused args.format (name_in args.name) given text schedule asked e picked c.schedule_or.ensures h)
     c.judge.ensures.refused

@@ -1,11 +1,12 @@
+use Rattle.std.proofs.Common.{inr}
 use Rattle.std.specs.Option.{option_map}
-use Rattle.shop_engine.specs.declared.faults.Fault.TheVariants.{Text}
-use Rattle.shop_engine.specs.Devices.{IsWritten}
+use Rattle.shop_engine.specs.Faults.{fault_of}
+use Rattle.shop_engine.specs.Devices.{IsWritten, IsCutOff}
 use Rattle.shop_engine.specs.Asking.{name_in}
 use Rattle.shop_engine.specs.Checking.{IsChecking}
 use Rattle.shop_engine.proofs.Picks.{is_asked_in}
-use Rattle.shop_engine.proofs.Verdicts.{at_err, unread_after, faulty_after}
-use Rattle.shop_engine.proofs.Verdicts.{judged_before, goes_out, cut_off, table_fault}
+use Rattle.shop_engine.proofs.Sources.{at_err}
+use Rattle.shop_engine.proofs.Verdicts.{unread_after, faulty_after, judged}
 use Rattle.shop_engine.proofs.checking.check_text.Goals as goal
 
 pub returns-in_err-schedule : goal.returns-in_err-schedule
@@ -35,10 +36,9 @@ returns-in_err-is_feasible g c =
     in let e = c.in_err-is_feasible
     in at_err (IsChecking args (g.S.Source.device c.args.source.now)
     (g.S.Source.device c.read_all.new.source) second second' sink sink)
-    c.from_residual-in_err-is_feasible.result (Text e.field-0.0) c.from_residual-in_err-is_feasible.ensures.1
+    c.from_residual-in_err-is_feasible.result (fault_of e.field-0.0) c.from_residual-in_err-is_feasible.ensures.1
     (faulty_after args second second' sink t.ensures.read picked c.in_ok-schedule.ensures.read
-    c.as_slice-3.ensures.value e.field-0.0
-    (table_fault c.in_ok-asked.asked.now.instance c.as_slice-3.result.now e.field-0.0 e.ensures.refused))
+    c.in_ok-schedule.ensures.short c.as_slice-3.ensures.value e.field-0.0 e.ensures.refused)
 
 pub returns-in_err-write_all : goal.returns-in_err-write_all
 returns-in_err-write_all g c =
@@ -50,13 +50,17 @@ returns-in_err-write_all g c =
     in let t = c.in_ok-text
     in let picked = is_asked_in args.format (name_in args.name) c.in_ok-named.ensures.0
     c.as_slice.ensures.value c.as_slice-2.ensures.value c.in_ok-asked.ensures
-    in let judged = judged_before second second' t.ensures.read picked c.in_ok-schedule.ensures.read
-    c.as_slice-3.ensures.value c.in_ok-is_feasible.ensures.judges
     in let e = c.in_err-write_all
     in at_err (IsChecking args (g.S.Source.device c.args.source.now)
     (g.S.Source.device c.read_all.new.source) second second' sink sink')
     c.from_residual-in_err-write_all.result e.field-0.0 c.from_residual-in_err-write_all.ensures.1
-    (cut_off sink sink' judged c.as_slice-4.ensures.value e.field-0.0 e.ensures.unwritten)
+    (inr (inr (
+      e.ensures.unwritten.0,
+      _,
+      judged second second' (IsCutOff sink sink') t.ensures.read picked
+          c.in_ok-schedule.ensures.read c.as_slice-3.ensures.value c.in_ok-is_feasible.ensures.judges
+          c.as_slice-4.ensures.value e.ensures.unwritten.1,
+    )))
 
 pub returns : goal.returns
 returns g c =
@@ -66,7 +70,6 @@ returns g c =
     in let t = c.in_ok-text
     in let picked = is_asked_in args.format (name_in args.name) c.in_ok-named.ensures.0
     c.as_slice.ensures.value c.as_slice-2.ensures.value c.in_ok-asked.ensures
-    in let judged = judged_before second second' t.ensures.read picked c.in_ok-schedule.ensures.read
-    c.as_slice-3.ensures.value c.in_ok-is_feasible.ensures.judges
-    in goes_out (IsWritten (g.K.Sink.device c.args.sink.now) (g.K.Sink.device c.write_all.new.sink)) judged
+    in judged second second' (IsWritten (g.K.Sink.device c.args.sink.now) (g.K.Sink.device c.write_all.new.sink))
+    t.ensures.read picked c.in_ok-schedule.ensures.read c.as_slice-3.ensures.value c.in_ok-is_feasible.ensures.judges
     c.as_slice-4.ensures.value c.in_ok-write_all.ensures.written

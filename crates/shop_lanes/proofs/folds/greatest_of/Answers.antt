@@ -1,5 +1,4 @@
-use Rattle.std.proofs.Common.{◌∙◌, ap, sym, length, max}
-use lib.Lanes.{zip2}
+use Rattle.std.proofs.Common.{arith, ◌∙◌, ap, sym, length, max}
 use Rattle.shop_lanes.proofs.Extremes.{folded_long, folded-max, folded_is}
 use Rattle.shop_lanes.proofs.folds.greatest_of.Goals as goal
 
@@ -23,11 +22,4 @@ greater-requires g c =
     ∙ sym (ap length c.neighbours.ensures)
 
 pub returns : goal.returns
-returns g c =
-    let n = g.B.Block.numbers
-    in c.first.ensures.first
-    ∙ folded_is max (n c.args.block) (n c.greater-fours.result) (n c.greater-pairs.result) (n c.greater.result)
-    (c.greater-fours.ensures ∙ ap (zip2 max (n c.args.block)) c.halves.ensures)
-    (c.greater-pairs.ensures ∙ ap (zip2 max (n c.greater-fours.result)) c.quarters.ensures)
-    (c.greater.ensures ∙ ap (zip2 max (n c.greater-pairs.result)) c.neighbours.ensures)
-    ∙ folded-max (n c.args.block) c.requires
+returns g c = grind (arith, folded_is, folded-max)

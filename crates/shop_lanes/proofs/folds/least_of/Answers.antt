@@ -1,6 +1,5 @@
-use Rattle.std.proofs.Common.{◌∙◌, ◌≡◌, ◌≤◌, ap, sym, subst, length, min}
-use lib.Lanes.{zip2}
-use Rattle.shop_lanes.proofs.Extremes.{folded_long, folded, folded-min, folded_is}
+use Rattle.std.proofs.Common.{arith, ◌∙◌, ap, sym, length, min}
+use Rattle.shop_lanes.proofs.Extremes.{folded_long, folded-min, folded_is}
 use Rattle.shop_lanes.proofs.folds.least_of.Goals as goal
 
 pub lesser-fours-requires : goal.lesser-fours-requires
@@ -23,13 +22,4 @@ lesser-requires g c =
     ∙ sym (ap length c.neighbours.ensures)
 
 pub returns : goal.returns
-returns g c =
-    let n = g.B.Block.numbers
-    in let is : c.first.result ≡ folded min (n c.args.block) =
-    c.first.ensures.first
-    ∙ folded_is min (n c.args.block) (n c.lesser-fours.result) (n c.lesser-pairs.result) (n c.lesser.result)
-    (c.lesser-fours.ensures ∙ ap (zip2 min (n c.args.block)) c.halves.ensures)
-    (c.lesser-pairs.ensures ∙ ap (zip2 min (n c.lesser-fours.result)) c.quarters.ensures)
-    (c.lesser.ensures ∙ ap (zip2 min (n c.lesser-pairs.result)) c.neighbours.ensures)
-    in is ∙ folded-min g.B.Block.GREATEST (n c.args.block) c.requires
-    (subst (λ r. r ≤ g.B.Block.GREATEST) is c.first.ensures.small)
+returns g c = grind (arith, folded_is, folded-min)

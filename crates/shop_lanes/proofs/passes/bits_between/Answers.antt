@@ -30,12 +30,4 @@ overflow_add-bits g c =
     in omega (arith, sum, mask_small marked row (8 * (c.loop-block.block - 1)) (omega (arith, long)))
 
 pub loop-block-preserved : goal.loop-block-preserved
-loop-block-preserved g c =
-    let row = map g.B.Block.value c.args.heads.now
-    in let marked = is_between c.args.above c.args.upto
-    in (
-      let le = c.loop-block.invariant.0 in omega arith,
-      mask_back marked c.loop-block.block row c.loop-block-test.true
-          c.loop-block.invariant.0 c.bits_between.result c.loop-block.bits
-          (c.bits_between.ensures ∙ ap (λ l. mask_l (map marked l)) c.load.ensures) c.loop-block.invariant.1,
-    )
+loop-block-preserved g c = grind (arith, mask_back)

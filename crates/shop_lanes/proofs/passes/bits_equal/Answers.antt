@@ -29,12 +29,4 @@ overflow_add-bits g c =
     in omega (arith, sum, mask_small marked row (8 * (c.loop-block.block - 1)) (omega (arith, long)))
 
 pub loop-block-preserved : goal.loop-block-preserved
-loop-block-preserved g c =
-    let row = map g.B.Block.value c.args.numbers.now
-    in let marked : ℕ → Bool = λ x. x == c.args.number
-    in (
-      let le = c.loop-block.invariant.0 in omega arith,
-      mask_back marked c.loop-block.block row c.loop-block-test.true
-          c.loop-block.invariant.0 c.bits_equal.result c.loop-block.bits
-          (c.bits_equal.ensures ∙ ap (λ l. mask_l (map marked l)) c.load.ensures) c.loop-block.invariant.1,
-    )
+loop-block-preserved g c = grind (arith, mask_back)

@@ -29,21 +29,10 @@ of_machine shop lists are m here slots e =
     subst (AreSlotsOf shop m) (sym e) (are.slots m (known shop lists are m here))
 
 pub note_places-requires-clause-rows : goal.note_places-requires-clause-rows
-note_places-requires-clause-rows c =
-    let shop = c.args.instance.now in let m = c.loop-m.m
-    in let is = at_hand c.args.lists.now m c.index-lists-m.result c.as_slice.result.now c.loop-m-test.true
-    c.index-lists-m.is c.as_slice.ensures.value
-    in rows_in shop (map (λ v. v.items) c.as_mut_slice.result.now)
-    (rw c.as_mut_slice.ensures.value c.loop-m.invariant.shape) m c.as_slice.result.now
-    (of_machine shop c.args.lists.now c.requires.slots m c.loop-m-test.true c.as_slice.result.now is)
+note_places-requires-clause-rows c = grind (arith, at_hand, rows_in, of_machine)
 
 pub note_places-requires-clause-apart : goal.note_places-requires-clause-apart
-note_places-requires-clause-apart c =
-    let shop = c.args.instance.now in let m = c.loop-m.m
-    in let is = at_hand c.args.lists.now m c.index-lists-m.result c.as_slice.result.now c.loop-m-test.true
-    c.index-lists-m.is c.as_slice.ensures.value
-    in slots_apart shop m c.as_slice.result.now
-    (of_machine shop c.args.lists.now c.requires.slots m c.loop-m-test.true c.as_slice.result.now is)
+note_places-requires-clause-apart c = grind (arith, at_hand, slots_apart, of_machine)
 
 pub note_places-requires-clause-small : goal.note_places-requires-clause-small
 note_places-requires-clause-small c =

@@ -1,5 +1,4 @@
 use Rattle.std.proofs.Common.{◌∙◌, arith, sym, subst, take}
-use Rattle.shop_model.specs.Limits.{AreStarts}
 use Rattle.std.proofs.lemmas.List.{length-map, take_all}
 use Rattle.shop_model.specs.Word.{Placing, placing}
 use Rattle.shop_model.specs.Placements.{IsPlacement}
@@ -59,12 +58,4 @@ returns-clause-law c =
     in rw table (placed_by c.args.instance.now w c.requires)
 
 pub returns-clause-ends : goal.returns-clause-ends
-returns-clause-ends c j k =
-    let shop = c.args.instance.now
-    in let w = c.args.word.now
-    in let all = c.len-index-end.ensures in let done = c.loop-index-test.false
-    in let rows = rw (take_all c.loop-index.index w (omega arith)) at c.loop-index.invariant.1
-    in let starts = rows_starts shop w _ c.keeps_limits.ensures (full_is_word shop w c.requires) rows
-    in let start = subst AreStarts (sym c.of_checked.ensures) starts j k
-    in let time = c.keeps_limits.ensures.times j k
-    in omega arith
+returns-clause-ends c j k = grind (arith, take_all, rows_starts, full_is_word)

@@ -1,14 +1,9 @@
-use Rattle.std.proofs.Common.{true≢false, sym, ◌∙◌, refl, arith}
+use Rattle.std.proofs.Common.{true≢false, refl, arith}
 use Rattle.shop_model.proofs.WordLemmas.{word_jobs, full_from, full_is_word}
 use Rattle.shop_model.proofs.words.is_full.Goals as goal
 
 pub returns-then-not-are_below : goal.returns-then-not-are_below
-returns-then-not-are_below c = (
-  λ yes. absurd (true≢false (sym yes)),
-  λ full. absurd (true≢false (sym (c.are_below.ensures.1 (rw c.jobs.ensures
-      (word_jobs c.args.instance.now c.args.word.now (full_is_word c.args.instance.now c.args.word.now full))))
-      ∙ c.if-not-are_below.true)),
-)
+returns-then-not-are_below c = grind (arith, true≢false, word_jobs, full_is_word)
 
 pub returns : goal.returns
 returns c = (

@@ -1,19 +1,25 @@
-use Rattle.std.proofs.Common.{◌∙◌}
-use Rattle.std.proofs.lemmas.Result.{IfOk-weaker}
-use Rattle.shop_runs.proofs.GatheredLemmas.{copies_gathered, gathered_standing, gathered_covering}
+use Rattle.std.proofs.Common.{rules, ◌≡◌, ◌++◌, refl, ◌∙◌, ap}
+use Rattle.std.specs.Prelude.{unwrap_or}
+use Rattle.std.proofs.lemmas.Fn.{filter_same}
+use Rattle.shop_runs.specs.inner.NodeLists.{nodes_below}
+use Rattle.shop_runs.specs.inner.Outcomes.{left_open}
+use Rattle.shop_runs.proofs.GatheredLemmas.{stands_gathered, gathered_standing, gathered_covering}
 use Rattle.shop_runs.proofs.outcomes.gather.Goals as goal
 
 pub returns-clause-gathered : goal.returns-clause-gathered
 returns-clause-gathered c =
-    IfOk-weaker _ _ _
-    (λ s after. copies_gathered c.args.round.now c.in_ok-outcome.outcome s c.in_ok-word.word c.in_ok-rest.rest.items
-    c.in_ok-outcome.ensures c.in_ok-word.ensures (c.in_ok-rest.ensures ∙ c.as_slice.ensures.value) after)
-    c.standing_after.ensures
+    let r = c.args.round.now
+    in let o = c.in_ok-found.field-0
+    in let left : c.in_ok-open.open.items ≡ left_open o.left.items =
+    c.in_ok-open.ensures ∙ ap left_open c.as_slice.ensures.value
+    in let rest : c.in_ok-copies_of.field-0.items ≡ r.rest.items = c.in_ok-copies_of.ensures ∙ c.as_slice-2.ensures.value
+    in let joined = c.in_ok-append.ensures.items ∙ (λ j. left j ++ rest j)
+    in let kept = filter_same _ _ _ (λ x b f k. search rules) _ _ c.retain.ensures.filtered
+    in stands_gathered r o _ c.in_ok-found.ensures (c.unwrap_or.ensures ∙ ap (unwrap_or o.found) c.in_ok-best.ensures)
+    refl (kept ∙ ap (nodes_below o.makespan) joined) refl refl
 
 pub returns-clause-standing : goal.returns-clause-standing
-returns-clause-standing c =
-    IfOk-weaker _ _ _ (λ s at. gathered_standing c.args.round.now s at) (returns-clause-gathered c)
+returns-clause-standing c = gathered_standing c.args.round.now _ (returns-clause-gathered c)
 
 pub returns-clause-covers : goal.returns-clause-covers
-returns-clause-covers c =
-    IfOk-weaker _ _ _ (λ s at. gathered_covering c.args.round.now s at) (returns-clause-gathered c)
+returns-clause-covers c = gathered_covering c.args.round.now _ (returns-clause-gathered c)

@@ -1,13 +1,12 @@
-use Rattle.std.proofs.Common.{rules, ◌≤◌, length, refl, sym, ◌∙◌, subst, arith}
+use Rattle.std.proofs.Common.{◌≤◌, length, refl, sym, ◌∙◌, subst, arith}
 use Rattle.std.proofs.lemmas.Bool.{eq-eqb, ne_eqb}
-use Rattle.std.proofs.lemmas.Fn.{filter_same}
 use Rattle.std.proofs.lemmas.List.{length_push, length-map}
 use Rattle.shop_nodes.specs.Nodes.{words_of}
 use Rattle.shop_runs.specs.Entries.{told}
 use Rattle.shop_runs.specs.declared.rounds.Round.{Round}
 use Rattle.shop_runs.proofs.EntryLemmas.{IsEntryAt, entry_turn, entries_end, entry_done, entry_not_passed}
-use Rattle.shop_runs.proofs.GatherLemmas.{GatheredSoFar}
-use Rattle.shop_runs.proofs.OutcomeLemmas.{gathered_turn, closed_outcome, open_outcome}
+use Rattle.shop_runs.proofs.GatherLemmas.{GatheredSoFar, gathered_turn}
+use Rattle.shop_runs.proofs.OutcomeLemmas.{closed_outcome, open_outcome}
 use Rattle.shop_runs.proofs.outcomes.outcome_of.Goals as goal
 
 length_pieces : (r : Round) → length (told r).pieces ≤ 256
@@ -36,12 +35,10 @@ returns-then-sheet-round c =
     in let s = c.in-Done.sheet
     in let is = entry_done r c.args.entries.items
     (length c.loop-entry.yielded) c.in-Some.entry c.requires at s c.in-Done.is
-    in let closes = c.closed_by.ensures
-    in let pieces = length_pieces c.args.round.now
     in closed_outcome r c.args.round.now.is_round
-    (length c.loop-entry.yielded) c.loop-entry.outcome c.loop-entry.invariant.so_far
-    c.args.round.now.small_budget pieces s c.closed_by.result is (eq-eqb s.makespan r.bound c.if-sheet-round.true)
-    closes.found closes.makespan closes.left closes.nodes closes.closed
+    (length c.loop-entry.yielded) c.loop-entry.outcome c.loop-entry.invariant.so_far c.args.round.now.small_budget
+    (length_pieces c.args.round.now) s is (eq-eqb s.makespan r.bound c.if-sheet-round.true) _
+    refl refl c.new.ensures.items refl
 
 pub loop-entry-preserved : goal.loop-entry-preserved
 loop-entry-preserved c =
@@ -54,27 +51,22 @@ loop-entry-preserved c =
     in let s = c.in-Done.sheet
     in let is = entry_done r c.args.entries.items
     (length c.loop-entry.yielded) c.in-Some.entry c.requires at s c.in-Done.is
-    in let takes = c.in_ok-take_in.ensures
-    in let turn = gathered_turn r (length c.loop-entry.yielded) s c.loop-entry.outcome c.take_in.new.self is
-    c.args.round.now.small_budget (ne_eqb s.makespan r.bound c.if-sheet-round.false) takes c.loop-entry.invariant.so_far
+    in let turn = gathered_turn r (length c.loop-entry.yielded) s is c.loop-entry.outcome c.loop-entry.invariant.so_far
+    c.args.round.now.small_budget c.take_in.new.self (ne_eqb s.makespan r.bound c.if-sheet-round.false)
+    c.in_ok-take_in.ensures
     in record {
       can_next = tt;
       is_finite = tt;
-      so_far = subst (λ i. GatheredSoFar r i c.take_in.new.self.found c.take_in.new.self.makespan
-          c.take_in.new.self.left.items c.take_in.new.self.nodes)
+      so_far = subst (λ i. GatheredSoFar r i c.take_in.new.self)
           (sym (length_push c.loop-entry.yielded c.in-Some.entry)) turn;
-      none_closed = takes.closed ∙ c.loop-entry.invariant.none_closed;
     }
 
 pub returns : goal.returns
 returns c =
     let gives = c.into_iter-entry-iterator.ensures.into_iter_gives
-    in let r = told c.args.round.now
     in let all = entries_end c.into_iter-entry-iterator.result c.loop-entry.entry-iterator c.next.new.self
     c.args.entries gives.0 gives.1
     c.loop-entry.yielded c.loop-entry.yielded_by c.next.result c.next.ensures.steps c.in-None.is
-    in let kept = filter_same _ _ _ (λ x b f k. search rules) _ _ c.retain.ensures.filtered
-    in open_outcome r c.args.round.now.is_round
+    in open_outcome (told c.args.round.now) c.args.round.now.is_round
     (length c.loop-entry.yielded) c.loop-entry.outcome c.loop-entry.invariant.so_far
-    c.args.round.now.small_budget (length_pieces c.args.round.now) _
-    (all ∙ c.requires.0) refl refl kept refl c.loop-entry.invariant.none_closed
+    c.args.round.now.small_budget (length_pieces c.args.round.now) (all ∙ c.requires.0)

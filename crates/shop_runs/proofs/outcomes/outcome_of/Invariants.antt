@@ -1,4 +1,4 @@
-use Rattle.std.proofs.Common.{◌≡◌, false, length}
+use Rattle.std.proofs.Common.{length}
 use Rattle.shop_runs.specs.Entries.{told}
 use Rattle.shop_runs.proofs.GatherLemmas.{GatheredSoFar}
 use Rattle.shop_runs.proofs.outcomes.outcome_of.Given as goal
@@ -7,7 +7,5 @@ abbrev pub invariant-loop-entry : goal.invariant-loop-entry
 invariant-loop-entry l = record {
   can_next : (goal.iterator-loop-entry).can_next l.entry-iterator;
   is_finite : (goal.iterator-loop-entry).is_finite l.entry-iterator;
-  so_far : GatheredSoFar (told l.round)
-      (length l.yielded) l.outcome.found l.outcome.makespan l.outcome.left.items l.outcome.nodes;
-  none_closed : l.outcome.is_closed ≡ false;
+  so_far : GatheredSoFar (told l.round) (length l.yielded) l.outcome;
 }

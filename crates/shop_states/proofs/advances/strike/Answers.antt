@@ -17,10 +17,8 @@ go_on-requires g c =
     let long = lists_long c.requires.kept c.requires.sole
     in let times = long.0 in let following = long.1
     in let here = its_position c.requires.kept c.requires.sole
-    in let wrote = put_is c.args.grid.now
-    (g.L.StateLanes.heads c.args.lanes.now) (g.L.StateLanes.ends c.args.lanes.now)
-    (g.L.StateLanes.heads c.set_head.new.self) (g.L.StateLanes.ends c.set_head.new.self)
-    (get_or c.args.next.now c.args.job 0) 0 c.set_head.ensures.heads c.set_head.ensures.ends
+    in let wrote = put_is c.args.grid.now (g.L.StateLanes.heads c.args.lanes.now) (get_or c.args.next.now c.args.job 0)
+    0 c.set_head.ensures.heads c.set_head.ensures.ends
     in record {
       job = its_job c.requires.kept c.requires.sole;
       position = omega arith;
@@ -29,8 +27,6 @@ go_on-requires g c =
     }
 
 pub returns : goal.returns
-returns g c = λ shop w kept alone. struck_kept kept alone (put_is c.args.grid.now
-    (g.L.StateLanes.heads c.args.lanes.now) (g.L.StateLanes.ends c.args.lanes.now)
-    (g.L.StateLanes.heads c.set_head.new.self) (g.L.StateLanes.ends c.set_head.new.self)
-    (get_or c.args.next.now c.args.job 0) 0 c.set_head.ensures.heads c.set_head.ensures.ends)
+returns g c = λ shop w kept alone. struck_kept kept alone (put_is c.args.grid.now (g.L.StateLanes.heads
+    c.args.lanes.now) (get_or c.args.next.now c.args.job 0) 0 c.set_head.ensures.heads c.set_head.ensures.ends)
     c.go_on.ensures.are_next c.go_on.ensures.ends

@@ -50,10 +50,8 @@ loop-step-preserved g c = record {
       c.route-route.ensures.route c.loop-step-test.true c.grid-grid.ensures.grid c.places-places.ensures
       c.loop-step.invariant.opened c.max-head.ensures (rows_of c.args.laid_out.now.layout
       (g.L.StateLanes.heads c.set_head.new.self) (g.L.StateLanes.ends c.set_head.new.self))
-      (put_is c.args.laid_out.now.layout (g.L.StateLanes.heads c.loop-step.lanes)
-      (g.L.StateLanes.ends c.loop-step.lanes) (g.L.StateLanes.heads c.set_head.new.self)
-      (g.L.StateLanes.ends c.set_head.new.self) (get_or c.places-places.result.now c.loop-step.step 0)
-      (c.max-head.result + 1) c.set_head.ensures.heads c.set_head.ensures.ends);
+      (put_is c.args.laid_out.now.layout (g.L.StateLanes.heads c.loop-step.lanes) (get_or c.places-places.result.now
+      c.loop-step.step 0) (c.max-head.result + 1) c.set_head.ensures.heads c.set_head.ensures.ends);
   opened = (let a = c.loop-step.invariant.opened in omega arith);
 }
 

@@ -7,31 +7,23 @@ use Rattle.shop_states.proofs.lane_choices.gather_marked.Goals as goal
 pub loop-position-init : goal.loop-position-init
 loop-position-init g c =
     let rows = rows_of c.args.grid.now (g.L.StateLanes.heads c.args.lanes.now) (g.L.StateLanes.ends c.args.lanes.now)
-    in gathering_begins c.args.grid.now rows.heads c.args.from c.args.to c.args.limit rows refl c.requires.ordered
-    c.requires.within c.args.below c.args.jobs.now c.requires.marks
+    in gathering_begins rows refl c.requires.ordered c.requires.within c.requires.marks
 
 pub job-requires : goal.job-requires
 job-requires g c =
-    let within = popped_within c.args.grid.now (g.L.StateLanes.heads c.args.lanes.now) c.args.from c.args.to
-    c.args.limit c.loop-position.below c.args.jobs.now c.loop-position.jobs c.loop-position.invariant
-    c.in-Some.position c.pop_first.new.self c.in-Some.ensures
+    let within = popped_within c.loop-position.invariant c.in-Some.ensures
     in let many = c.requires.jobs.many in omega arith
 
 pub put-requires : goal.put-requires
 put-requires g c =
-    let within = popped_within c.args.grid.now (g.L.StateLanes.heads c.args.lanes.now) c.args.from c.args.to
-    c.args.limit c.loop-position.below c.args.jobs.now c.loop-position.jobs c.loop-position.invariant
-    c.in-Some.position c.pop_first.new.self c.in-Some.ensures
+    let within = popped_within c.loop-position.invariant c.in-Some.ensures
     in let job = c.job.ensures in let below = c.requires.jobs.below c.in-Some.position within in omega arith
 
 pub loop-position-preserved : goal.loop-position-preserved
 loop-position-preserved g c =
-    gathering_on c.args.grid.now (g.L.StateLanes.heads c.args.lanes.now) c.args.from c.args.to c.args.limit
-    c.loop-position.below c.args.jobs.now c.loop-position.jobs c.loop-position.invariant c.in-Some.position
-    c.pop_first.new.self c.in-Some.ensures c.put.new.self
+    gathering_on c.loop-position.invariant c.in-Some.ensures
     (subst (λ (j : ℕ). HasPut j c.loop-position.jobs c.put.new.self) c.job.ensures c.put.ensures)
 
 pub returns : goal.returns
 returns g c =
-    gathering_ends c.args.grid.now (g.L.StateLanes.heads c.args.lanes.now) c.args.from c.args.to c.args.limit
-    c.loop-position.below c.args.jobs.now c.loop-position.jobs c.loop-position.invariant c.in_default.ensures.0
+    gathering_ends c.loop-position.invariant c.in_default.ensures.0

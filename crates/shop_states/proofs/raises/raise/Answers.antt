@@ -21,13 +21,9 @@ loop-from-init g c = record {
       (g.L.StateLanes.heads c.args.lanes.now) (g.L.StateLanes.ends c.args.lanes.now))
       (rows_of c.args.grid.now (g.L.StateLanes.heads c.args.lanes.now) (g.L.StateLanes.ends c.args.lanes.now)))
       (sym c.block-from.ensures)
-      (no_blocks g.L.StateLanes.GREATEST c.args.grid.now c.args.next.now
-      (get_or c.args.grid.now.blocks c.args.machine 0)
-      (get_or c.args.grid.now.blocks (c.args.machine + 1) 0) c.args.end (rows_of c.args.grid.now
-      (g.L.StateLanes.heads c.args.lanes.now) (g.L.StateLanes.ends c.args.lanes.now)) c.requires.raisable);
-  seen = sees_none c.args.grid.now.machines
-      (IsOnMachine c.args.grid.now c.args.machine) c.args.end (g.L.StateLanes.heads c.args.lanes.now)
-      (raises_in g.L.StateLanes.value c.args.raises.now);
+      (no_blocks (get_or c.args.grid.now.blocks c.args.machine 0) (get_or c.args.grid.now.blocks (c.args.machine + 1) 0)
+      c.requires.raisable);
+  seen = sees_none;
   machines = refl;
   listed = c.requires.listed;
 }
@@ -38,12 +34,7 @@ raise_blocks-requires-clause-raisable g c =
     in subst (λ (l : LayoutState). IsRaisable g.L.StateLanes.GREATEST l c.args.next.now
     (rows_of l (g.L.StateLanes.heads c.loop-from.lanes) (g.L.StateLanes.ends c.loop-from.lanes))
     (IsInBlocks c.loop-from.from (c.loop-from.from + c.min.result)) c.args.end) (sym c.requires.routes)
-    (blocks_raisable g.L.StateLanes.GREATEST c.args.grid.now c.args.next.now
-    (get_or c.args.grid.now.blocks c.args.machine 0)
-    c.loop-from.from (c.loop-from.from + c.min.result)
-    (get_or c.args.grid.now.blocks (c.args.machine + 1) 0) c.args.end
-    (rows_of c.args.grid.now (g.L.StateLanes.heads c.args.lanes.now) (g.L.StateLanes.ends c.args.lanes.now))
-    (rows_of c.args.grid.now (g.L.StateLanes.heads c.loop-from.lanes) (g.L.StateLanes.ends c.loop-from.lanes))
+    (blocks_raisable (c.loop-from.from + c.min.result) (get_or c.args.grid.now.blocks (c.args.machine + 1) 0)
     c.loop-from.invariant.raises c.loop-from.invariant.ordered (omega arith) (omega arith) c.requires.raisable)
 
 pub raise_blocks-requires-clause-jobs : goal.raise_blocks-requires-clause-jobs
@@ -72,21 +63,10 @@ loop-from-preserved g c =
     in record {
       ordered = omega arith;
       within = omega arith;
-      raises = more_blocks g.L.StateLanes.GREATEST c.args.grid.now c.args.next.now
-          (get_or c.args.grid.now.blocks c.args.machine 0)
-          c.loop-from.from (c.loop-from.from + c.min.result)
-          (get_or c.args.grid.now.blocks (c.args.machine + 1) 0) c.args.end
-          (rows_of c.args.grid.now (g.L.StateLanes.heads c.args.lanes.now) (g.L.StateLanes.ends c.args.lanes.now))
-          (rows_of c.args.grid.now (g.L.StateLanes.heads c.loop-from.lanes) (g.L.StateLanes.ends c.loop-from.lanes))
-          c.loop-from.invariant.raises o (omega arith) (omega arith)
-          (rows_of c.args.grid.now (g.L.StateLanes.heads c.raise_blocks.new.lanes)
-          (g.L.StateLanes.ends c.raise_blocks.new.lanes)) raises;
-      seen = sees_both c.args.grid.now.machines
-          (IsOnMachine c.args.grid.now c.args.machine) (IsInBlocks c.loop-from.from (c.loop-from.from + c.min.result))
-          (IsOnMachine c.args.grid.now c.args.machine) c.args.end (g.L.StateLanes.heads c.args.lanes.now)
-          (g.L.StateLanes.heads c.loop-from.lanes) (g.L.StateLanes.heads c.raise_blocks.new.lanes)
-          (raises_in g.L.StateLanes.value c.args.raises.now) (raises_in g.L.StateLanes.value c.loop-from.raises)
-          (raises_in g.L.StateLanes.value c.raise_blocks.new.raises) (λ q here. here)
+      raises = more_blocks (c.loop-from.from + c.min.result) (get_or c.args.grid.now.blocks (c.args.machine + 1) 0)
+          c.loop-from.invariant.raises o (omega arith) (omega arith) raises;
+      seen = sees_both (IsOnMachine c.args.grid.now c.args.machine) (IsInBlocks c.loop-from.from (c.loop-from.from +
+          c.min.result)) (IsOnMachine c.args.grid.now c.args.machine) (λ q here. here)
           (λ q here. (let low = here.0 in let high = here.1 in (omega arith, omega arith)))
           raises.raised.raised.rises c.loop-from.invariant.seen seen;
       machines = c.raise_blocks.ensures.machines ∙ c.loop-from.invariant.machines;
@@ -96,9 +76,5 @@ loop-from-preserved g c =
 pub returns-clause-raises : goal.returns-clause-raises
 returns-clause-raises g c =
     let a = c.block-behind.ensures in let b = c.loop-from-test.false in let d = c.loop-from.invariant.within
-    in all_blocks g.L.StateLanes.GREATEST c.args.grid.now c.args.next.now
-    (get_or c.args.grid.now.blocks c.args.machine 0)
-    c.loop-from.from (get_or c.args.grid.now.blocks (c.args.machine + 1) 0) c.args.end
-    (rows_of c.args.grid.now (g.L.StateLanes.heads c.args.lanes.now) (g.L.StateLanes.ends c.args.lanes.now))
-    (rows_of c.args.grid.now (g.L.StateLanes.heads c.loop-from.lanes) (g.L.StateLanes.ends c.loop-from.lanes))
-    (omega arith) c.loop-from.invariant.raises
+    in all_blocks (get_or c.args.grid.now.blocks c.args.machine 0) c.loop-from.from (get_or c.args.grid.now.blocks
+    (c.args.machine + 1) 0) (omega arith) c.loop-from.invariant.raises

@@ -1,6 +1,4 @@
 use Rattle.std.proofs.Common.{◌∙◌, refl, subst, sym, arith}
-use Rattle.shop_layout.specs.Lanes.{rows_of}
-use Rattle.shop_states.specs.inner.HeadRaises.{raises_in}
 use Rattle.shop_states.specs.inner.Raises.{IsInBlocks, IsPosition}
 use Rattle.shop_states.proofs.RaisedMachines.{lengths_in}
 use Rattle.shop_states.proofs.RaiseLoops.{blocks_begin, popped_here, popped_within, popped_waits}
@@ -12,45 +10,23 @@ pub loop-position-init : goal.loop-position-init
 loop-position-init g c =
     record {
       raised =
-          blocks_begin g.L.StateLanes.GREATEST c.args.routes.now c.args.next.now c.args.from c.args.to c.args.end
-          (rows_of c.args.routes.now (g.L.StateLanes.heads c.args.lanes.now)
-          (g.L.StateLanes.ends c.args.lanes.now)) c.requires.raisable c.requires.ordered c.requires.within
-          c.below-below.result c.below-below.ensures;
-      seen = sees_none c.args.routes.now.machines (IsInBlocks c.args.from c.args.to) c.args.end
-          (g.L.StateLanes.heads c.args.lanes.now) (raises_in g.L.StateLanes.value c.args.raises.now);
+          blocks_begin c.requires.raisable c.requires.ordered c.requires.within c.below-below.ensures;
+      seen = sees_none;
       machines = refl;
       listed = c.requires.listed;
     }
 
 pub head-requires : goal.head-requires
 head-requires g c =
-    popped_within g.L.StateLanes.GREATEST c.args.routes.now c.args.next.now c.args.from c.args.to c.args.end
-    (rows_of c.args.routes.now (g.L.StateLanes.heads c.args.lanes.now)
-    (g.L.StateLanes.ends c.args.lanes.now)) c.requires.raisable c.loop-position.below
-    (rows_of c.args.routes.now (g.L.StateLanes.heads c.loop-position.lanes)
-    (g.L.StateLanes.ends c.loop-position.lanes))
-    c.loop-position.invariant.raised c.in-Some.position c.pop_first.new.self
-    c.in-Some.ensures
+    popped_within c.requires.raisable c.loop-position.invariant.raised c.in-Some.ensures
 
 pub raise_from-requires-clause-waits : goal.raise_from-requires-clause-waits
 raise_from-requires-clause-waits g c =
-    popped_waits g.L.StateLanes.GREATEST c.args.routes.now c.args.next.now c.args.from c.args.to c.args.end
-    (rows_of c.args.routes.now (g.L.StateLanes.heads c.args.lanes.now)
-    (g.L.StateLanes.ends c.args.lanes.now)) c.requires.raisable c.loop-position.below
-    (rows_of c.args.routes.now (g.L.StateLanes.heads c.loop-position.lanes)
-    (g.L.StateLanes.ends c.loop-position.lanes))
-    c.loop-position.invariant.raised c.in-Some.position c.pop_first.new.self
-    c.in-Some.ensures
+    popped_waits c.requires.raisable c.loop-position.invariant.raised c.in-Some.ensures
 
 pub raise_from-requires-clause-raisable : goal.raise_from-requires-clause-raisable
 raise_from-requires-clause-raisable g c =
-    popped_raisable g.L.StateLanes.GREATEST c.args.routes.now c.args.next.now c.args.from c.args.to c.args.end
-    (rows_of c.args.routes.now (g.L.StateLanes.heads c.args.lanes.now)
-    (g.L.StateLanes.ends c.args.lanes.now)) c.requires.raisable c.loop-position.below
-    (rows_of c.args.routes.now (g.L.StateLanes.heads c.loop-position.lanes)
-    (g.L.StateLanes.ends c.loop-position.lanes))
-    c.loop-position.invariant.raised c.in-Some.position c.pop_first.new.self
-    c.in-Some.ensures
+    popped_raisable c.requires.raisable c.loop-position.invariant.raised c.in-Some.ensures
 
 pub raise_from-requires-clause-known : goal.raise_from-requires-clause-known
 raise_from-requires-clause-known g c = λ q here.
@@ -60,36 +36,14 @@ pub loop-position-preserved-then-head-end : goal.loop-position-preserved-then-he
 loop-position-preserved-then-head-end g c =
     record {
       raised =
-          blocks_on g.L.StateLanes.GREATEST c.args.routes.now c.args.next.now c.args.from c.args.to c.args.end
-          (rows_of c.args.routes.now (g.L.StateLanes.heads c.args.lanes.now)
-          (g.L.StateLanes.ends c.args.lanes.now)) c.requires.raisable c.loop-position.below
-          (rows_of c.args.routes.now (g.L.StateLanes.heads c.loop-position.lanes)
-          (g.L.StateLanes.ends c.loop-position.lanes))
-          c.loop-position.invariant.raised c.in-Some.position
-          c.pop_first.new.self
-          c.in-Some.ensures (rows_of c.args.routes.now (g.L.StateLanes.heads c.raise_from.new.lanes)
-          (g.L.StateLanes.ends c.raise_from.new.lanes)) c.raise_from.ensures.raises;
-      seen = sees_both c.args.routes.now.machines (IsInBlocks c.args.from c.args.to)
-          (IsPosition c.in-Some.position) (IsInBlocks c.args.from c.args.to) c.args.end
-          (g.L.StateLanes.heads c.args.lanes.now) (g.L.StateLanes.heads c.loop-position.lanes)
-          (g.L.StateLanes.heads c.raise_from.new.lanes) (raises_in g.L.StateLanes.value c.args.raises.now)
-          (raises_in g.L.StateLanes.value c.loop-position.raises)
-          (raises_in g.L.StateLanes.value c.raise_from.new.raises) (λ q here. here)
+          blocks_on c.requires.raisable c.loop-position.invariant.raised c.in-Some.ensures c.raise_from.ensures.raises;
+      seen = sees_both (IsInBlocks c.args.from c.args.to) (IsPosition c.in-Some.position) (IsInBlocks c.args.from
+          c.args.to) (λ q here. here)
           (λ q e. subst (IsInBlocks c.args.from c.args.to) (sym e)
-          (popped_here g.L.StateLanes.GREATEST c.args.routes.now
-          c.args.next.now c.args.from c.args.to c.args.end
-          (rows_of c.args.routes.now (g.L.StateLanes.heads c.args.lanes.now)
-          (g.L.StateLanes.ends c.args.lanes.now)) c.requires.raisable c.loop-position.below
-          (rows_of c.args.routes.now (g.L.StateLanes.heads c.loop-position.lanes)
-          (g.L.StateLanes.ends c.loop-position.lanes)) c.loop-position.invariant.raised
-          c.in-Some.position c.pop_first.new.self c.in-Some.ensures)) c.raise_from.ensures.raises.raised.raised.rises
+          (popped_here c.requires.raisable c.loop-position.invariant.raised c.in-Some.ensures)) c.raise_from.ensures.raises.raised.raised.rises
           c.loop-position.invariant.seen c.raise_from.ensures.seen;
       machines = lengths_in g.L.StateLanes.value c.loop-position.raises c.raise_from.new.raises
-          (sees_long c.args.routes.now.machines c.in-Some.position c.args.end
-          (g.L.StateLanes.heads c.loop-position.lanes) (g.L.StateLanes.heads c.raise_from.new.lanes)
-          (raises_in g.L.StateLanes.value c.loop-position.raises)
-          (raises_in g.L.StateLanes.value c.raise_from.new.raises)
-          c.raise_from.ensures.seen) ∙ c.loop-position.invariant.machines;
+          (sees_long c.raise_from.ensures.seen) ∙ c.loop-position.invariant.machines;
       listed = c.raise_from.ensures.listed;
     }
 
@@ -97,14 +51,8 @@ pub loop-position-preserved : goal.loop-position-preserved
 loop-position-preserved g c =
     record {
       raised =
-          blocks_past g.L.StateLanes.GREATEST c.args.routes.now c.args.next.now c.args.from c.args.to c.args.end
-          (rows_of c.args.routes.now (g.L.StateLanes.heads c.args.lanes.now)
-          (g.L.StateLanes.ends c.args.lanes.now)) c.requires.raisable c.loop-position.below
-          (rows_of c.args.routes.now (g.L.StateLanes.heads c.loop-position.lanes)
-          (g.L.StateLanes.ends c.loop-position.lanes))
-          c.loop-position.invariant.raised c.in-Some.position
-          c.pop_first.new.self
-          c.in-Some.ensures (let a = c.head.ensures in let b = c.if-head-end.false in omega arith);
+          blocks_past c.requires.raisable c.loop-position.invariant.raised c.in-Some.ensures (let a = c.head.ensures in
+          let b = c.if-head-end.false in omega arith);
       seen = c.loop-position.invariant.seen;
       machines = c.loop-position.invariant.machines;
       listed = c.loop-position.invariant.listed;
@@ -112,8 +60,4 @@ loop-position-preserved g c =
 
 pub returns-clause-raises : goal.returns-clause-raises
 returns-clause-raises g c =
-    blocks_end g.L.StateLanes.GREATEST c.args.routes.now c.args.next.now c.args.from c.args.to c.args.end
-    (rows_of c.args.routes.now (g.L.StateLanes.heads c.args.lanes.now)
-    (g.L.StateLanes.ends c.args.lanes.now)) c.requires.raisable c.loop-position.below (rows_of c.args.routes.now
-    (g.L.StateLanes.heads c.loop-position.lanes)
-    (g.L.StateLanes.ends c.loop-position.lanes)) c.in_default.ensures.0 c.loop-position.invariant.raised
+    blocks_end c.requires.raisable c.in_default.ensures.0 c.loop-position.invariant.raised

@@ -1,5 +1,4 @@
 use Rattle.std.proofs.Common.{ℕ, List, get_or, ap, subst, arith}
-use Rattle.shop_layout.specs.Lanes.{rows_of}
 use Rattle.shop_states.specs.inner.HeadRaises.{raises_in}
 use Rattle.shop_states.specs.inner.Raises.{IsPosition}
 use Rattle.shop_states.specs.inner.Watchers.{Sees}
@@ -9,9 +8,7 @@ use Rattle.shop_states.proofs.raises.raise_from.Goals as goal
 pub set_end_at-requires : goal.set_end_at-requires
 set_end_at-requires g c =
     let can = c.requires.raisable
-    in let within = raised_within g.L.StateLanes.GREATEST c.args.routes.now c.args.next.now c.args.position c.args.end
-    (rows_of c.args.routes.now (g.L.StateLanes.heads c.args.lanes.now)
-    (g.L.StateLanes.ends c.args.lanes.now)) can c.requires.waits
+    in let within = raised_within can c.requires.waits
     in let jobs = can.indexed.jobs
     in record {
       within = (let timed = can.timed in omega arith);
@@ -19,9 +16,7 @@ set_end_at-requires g c =
       known = (let job = (can.places c.args.position c.requires.waits).job in let many = c.requires.jobs in omega
           arith);
       ends = can.ends;
-      fits = raised_fits g.L.StateLanes.GREATEST c.args.routes.now c.args.next.now c.args.position c.args.end
-          (rows_of c.args.routes.now (g.L.StateLanes.heads c.args.lanes.now)
-          (g.L.StateLanes.ends c.args.lanes.now)) can c.requires.waits;
+      fits = raised_fits can c.requires.waits;
       computable = can.computable;
     }
 
@@ -32,25 +27,14 @@ raise_route-requires g c =
     in record {
       waits = omega arith;
       below = omega arith;
-      raisable = mid_raisable g.L.StateLanes.GREATEST c.args.routes.now c.args.next.now c.args.position c.args.end
-          (rows_of c.args.routes.now (g.L.StateLanes.heads c.args.lanes.now)
-          (g.L.StateLanes.ends c.args.lanes.now)) (rows_of c.args.routes.now
-          (g.L.StateLanes.heads c.set_end_at.new.lanes)
-          (g.L.StateLanes.ends c.set_end_at.new.lanes)) c.requires.raisable
-          c.set_end_at.ensures;
+      raisable = mid_raisable c.requires.raisable c.set_end_at.ensures;
       known = c.requires.known;
       listed = c.requires.listed;
     }
 
 pub returns-clause-raises : goal.returns-clause-raises
-returns-clause-raises g c = raised_with_ends g.L.StateLanes.GREATEST c.args.routes.now c.args.next.now c.args.position
-    c.args.end
-    (rows_of c.args.routes.now (g.L.StateLanes.heads c.args.lanes.now) (g.L.StateLanes.ends c.args.lanes.now))
-    (rows_of c.args.routes.now (g.L.StateLanes.heads c.set_end_at.new.lanes)
-    (g.L.StateLanes.ends c.set_end_at.new.lanes)) c.requires.raisable c.set_end_at.ensures
-    c.requires.waits c.requires.below
-    (rows_of c.args.routes.now (g.L.StateLanes.heads c.raise_route.new.lanes)
-    (g.L.StateLanes.ends c.raise_route.new.lanes)) c.raise_route.ensures.raises
+returns-clause-raises g c = raised_with_ends c.requires.raisable c.set_end_at.ensures c.requires.waits c.requires.below
+    c.raise_route.ensures.raises
 
 pub returns-clause-seen : goal.returns-clause-seen
 returns-clause-seen g c = subst (λ (hs : List ℕ). Sees c.args.routes.now.machines

@@ -1,7 +1,6 @@
 use Rattle.std.proofs.Common.{arith}
 use Rattle.std.proofs.lemmas.Result.{err_from_is_err_and}
-use Rattle.shop_text.proofs.Passing.{line_taken, line_refused, error_read, end_read}
-use Rattle.shop_text.specs.Formats.{grammar_of}
+use Rattle.shop_text.proofs.Passing.{line_taken, line_refused, end_read}
 use Rattle.shop_text.proofs.instance_readers.read_text.Goals as goal
 
 pub loop-rest-preserved : goal.loop-rest-preserved
@@ -18,11 +17,10 @@ returns-in_err-take_line c =
     let p = err_from_is_err_and c.from_residual.result c.from_residual.ensures.1
     in let w = c.loop-rest.invariant
     in rw (p.1, p.2)
-    (error_read (grammar_of c.args.format) c.args.text.now c.in_err-take_line.field-0.0 (omega arith)
     (line_refused c.args.text.now c.loop-rest.number c.loop-rest.rest.now c.next_line.result.0.now
     c.next_line.result.1.now
     c.args.format c.loop-rest.reader c.in_err-take_line.field-0.0 w (omega arith) c.next_line.ensures.cut
-    (c.in_err-take_line.ensures w.front w.read)))
+    (c.in_err-take_line.ensures w.front w.read))
 
 pub returns : goal.returns
 returns c =

@@ -1,4 +1,4 @@
-use Rattle.std.proofs.Common.{◌≡◌, subst, sym, ap, ◌∙◌, length, ℕ, arith, Some, None, ◌∷◌, ◌+◌, ◌<◌}
+use Rattle.std.proofs.Common.{◌≡◌, inr, refl, subst, sym, ap, ◌∙◌, length, ℕ, arith, Some, None, ◌∷◌, ◌+◌, ◌<◌}
 use Rattle.std.specs.Prelude.{codes}
 use Rattle.std.proofs.lemmas.List.{length-map}
 use Rattle.shop_text.specs.Lines.{tokens_of}
@@ -17,12 +17,14 @@ returns-in_default-2 c =
     (codes "job" ∷ tokens_of c.in-Some.behind.now) =
     sym (ap row_read c.in_default-2.is) ∙ c.in_ok-row.ensures
     ∙ ap (λ (j : ℕ). row_in c.args.instance.now j (codes "job" ∷ tokens_of c.in-Some.behind.now)) count
-    in (
+    in inr (inr (
+      c.loop-rest.number + 1,
+      refl,
       c.requires,
       bad_line c.args.instance.now c.args.text.now c.loop-rest.number c.loop-rest.rest.now
           c.next_line.result.0.now c.next_line.result.1.now behind (rows_held rows) c.loop-rest.invariant
           c.next_line.ensures.cut c.in-Some.ensures none,
-    )
+    ))
 
 pub loop-rest-preserved : goal.loop-rest-preserved
 loop-rest-preserved c =
@@ -53,8 +55,10 @@ returns-else-len-jobs c =
       c.len-2.ensures,
       c.jobs-2.ensures,
     )
-    in (
+    in inr (inr (
+      c.loop-rest.number + 1,
+      refl,
       c.requires,
       missed_line c.args.instance.now c.args.text.now c.loop-rest.number c.loop-rest.rest.now
           (rows_held rows) c.loop-rest.invariant (omega arith) few,
-    )
+    ))

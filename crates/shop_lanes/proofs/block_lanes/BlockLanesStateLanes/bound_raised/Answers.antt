@@ -1,13 +1,9 @@
-use Rattle.std.proofs.Common.{max, sym, subst}
-use Rattle.shop_lanes.specs.Spans.{spans_between, FitsSpan, IsRaisedBelow}
+use Rattle.std.proofs.Common.{arith}
 use Rattle.shop_lanes.proofs.RowValues.{lanes_of_rows, blocks_as_long}
 use Rattle.shop_lanes.proofs.block_lanes.BlockLanesStateLanes.bound_raised.Goals as goal
 
 pub leap_over-requires-clause-fits : goal.leap_over-requires-clause-fits
-leap_over-requires-clause-fits g c = subst (FitsSpan g.B.Block.GREATEST c.args.upto) (sym (
-    lanes_of_rows g.B.Block.value c.heads.result.now c.deref.result.now c.deref-2.result.now c.args.from c.args.to
-    c.heads.ensures c.deref.ensures.value c.deref-2.ensures.value c.requires.blocks
-    )) c.requires.fits
+leap_over-requires-clause-fits g c = grind (arith, lanes_of_rows)
 
 pub leap_over-requires-clause-times : goal.leap_over-requires-clause-times
 leap_over-requires-clause-times g c =
@@ -20,18 +16,10 @@ leap_over-requires-clause-tails g c =
     c.heads.ensures c.requires.blocks.tails_are_as_many
 
 pub returns-then-count-eq0 : goal.returns-then-count-eq0
-returns-then-count-eq0 g c =
-    subst (λ l. IsRaisedBelow c.args.limit (max c.args.most (spans_between c.args.above c.args.upto l))
-    c.leap_over.result) (
-    lanes_of_rows g.B.Block.value c.heads.result.now c.deref.result.now c.deref-2.result.now c.args.from c.args.to
-    c.heads.ensures c.deref.ensures.value c.deref-2.ensures.value c.requires.blocks
-    ) c.leap_over.ensures
+returns-then-count-eq0 g c = grind (arith, lanes_of_rows)
 
 pub leap-requires-clause-fits : goal.leap-requires-clause-fits
-leap-requires-clause-fits g c = subst (FitsSpan g.B.Block.GREATEST c.args.upto) (sym (
-    lanes_of_rows g.B.Block.value c.heads.result.now c.deref.result.now c.deref-2.result.now c.args.from c.args.to
-    c.heads.ensures c.deref.ensures.value c.deref-2.ensures.value c.requires.blocks
-    )) c.requires.fits
+leap-requires-clause-fits g c = grind (arith, lanes_of_rows)
 
 pub leap-requires-clause-times : goal.leap-requires-clause-times
 leap-requires-clause-times g c =
@@ -44,9 +32,4 @@ leap-requires-clause-tails g c =
     c.heads.ensures c.requires.blocks.tails_are_as_many
 
 pub returns : goal.returns
-returns g c =
-    subst (λ l. IsRaisedBelow c.args.limit (max c.args.most (spans_between c.args.above c.args.upto l))
-    c.leap.result) (
-    lanes_of_rows g.B.Block.value c.heads.result.now c.deref.result.now c.deref-2.result.now c.args.from c.args.to
-    c.heads.ensures c.deref.ensures.value c.deref-2.ensures.value c.requires.blocks
-    ) c.leap.ensures
+returns g c = grind (arith, lanes_of_rows)

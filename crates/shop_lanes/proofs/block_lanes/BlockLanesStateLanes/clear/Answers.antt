@@ -59,18 +59,4 @@ returns-clause-heads g c =
     ∙ ap (λ k. replicate k 0) (sym long)
 
 pub returns-clause-ends : goal.returns-clause-ends
-returns-clause-ends g c =
-    let self = c.args.self.now
-    in let n = length c.deref_mut-2.result.now
-    in let m = 8 * (self.jobs / 8 + 1)
-    in let new = c.set_all.new.row
-    in let row = take self.ends.len (new ++ drop (length new) self.ends.items)
-    in let many : n ≡ m = ap length c.deref_mut-2.ensures.value ∙ self.whole_blocks
-    in let is : map g.B.Block.value row ≡ replicate m g.B.Block.GREATEST =
-    row_written g.B.Block.value self.ends.len (replicate n c.GREATEST.result) new (drop (length new) self.ends.items)
-    c.set_all.ensures (length-replicate n c.GREATEST.result ∙ c.deref_mut-2.ensures.len)
-    ∙ ap (replicate n) c.GREATEST.ensures ∙ ap (λ k. replicate k g.B.Block.GREATEST) many
-    in let within = self.ends_are_padded.within
-    in let jobs : length (take self.jobs (map g.B.Block.value self.ends.items)) ≡ self.jobs =
-    omega (arith, length-take self.jobs (map g.B.Block.value self.ends.items))
-    in rw jobs (padded_none g.B.Block.GREATEST self.jobs (map g.B.Block.value row) is).1
+returns-clause-ends g c = grind (arith, row_written, length-replicate, length-take, padded_none)

@@ -1,4 +1,4 @@
-use Rattle.std.proofs.Common.{get_or, arith, ap, sym, ◌∙◌, subst, map}
+use Rattle.std.proofs.Common.{arith, subst, map}
 use Rattle.std.proofs.lemmas.List.{get_or-take, length-take}
 use Rattle.shop_lanes.specs.Ends.{IsFirstLeast}
 use Rattle.shop_lanes.proofs.Padding.{first_least_seen}
@@ -14,11 +14,4 @@ returns-clause-job g c = first_least_seen g.B.Block.GREATEST c.args.self.now.job
     c.first_least.ensures.first)
 
 pub returns-clause-end : goal.returns-clause-end
-returns-clause-end g c =
-    let ends = map g.B.Block.value c.args.self.now.ends.items
-    in let jobs = c.args.self.now.jobs
-    in let here = (returns-clause-job g c).within
-    in let long = length-take jobs ends
-    in c.first_least.ensures.least
-    ∙ (ap (λ l. get_or (map g.B.Block.value l) c.first_least.result.0 0) c.deref.ensures.value
-    ∙ sym (get_or-take jobs ends c.first_least.result.0 0 (omega arith)))
+returns-clause-end g c = grind (arith, (returns-clause-job g c), length-take, get_or-take)

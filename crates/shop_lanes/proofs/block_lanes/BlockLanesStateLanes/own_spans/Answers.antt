@@ -1,14 +1,10 @@
-use Rattle.std.proofs.Common.{subst, sym}
-use Rattle.shop_lanes.specs.Spans.{FitOwnSpans}
+use Rattle.std.proofs.Common.{arith}
 use Rattle.shop_lanes.proofs.OwnRows.{owns_of_rows}
 use Rattle.shop_lanes.proofs.RowValues.{lanes_of_rows, blocks_as_long}
 use Rattle.shop_lanes.proofs.block_lanes.BlockLanesStateLanes.own_spans.Goals as goal
 
 pub own_spans-requires-clause-fits : goal.own_spans-requires-clause-fits
-own_spans-requires-clause-fits g c = subst (FitOwnSpans g.B.Block.GREATEST) (sym (
-    lanes_of_rows g.B.Block.value c.heads.result.now c.deref.result.now c.deref-2.result.now c.args.from c.args.to
-    c.heads.ensures c.deref.ensures.value c.deref-2.ensures.value c.requires.blocks
-    )) c.requires.fits
+own_spans-requires-clause-fits g c = grind (arith, lanes_of_rows)
 
 pub own_spans-requires-clause-times : goal.own_spans-requires-clause-times
 own_spans-requires-clause-times g c =

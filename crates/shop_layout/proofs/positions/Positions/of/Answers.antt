@@ -4,6 +4,7 @@ use Rattle.std.specs.List.{All}
 use Rattle.std.specs.Prelude.{Vec}
 use Rattle.std.specs.declared.alloc.Global.{Global}
 use Rattle.std.proofs.lemmas.List.{length-map}
+use Rattle.shop_model.specs.Limits.{IsWithinLimits}
 use Rattle.shop_model.specs.Shop.{Shop}
 use Rattle.shop_layout.specs.declared.slots.Slot.{Slot}
 use Rattle.shop_layout.specs.Slots.{AreMachineSlots}
@@ -13,117 +14,83 @@ use Rattle.shop_layout.proofs.LaidLists.{blocks_few, blocks_rise, cells_known, l
 use Rattle.shop_layout.proofs.LaidLists.{machine_few}
 use Rattle.shop_layout.proofs.positions.Positions.of.Goals as goal
 
--- the machines' slots, as they were lent
-lent : (shop : Shop) (lists now : List (Vec Slot Global)) → now ≡ lists
-    → AreMachineSlots shop (map (λ v. v.items) lists) → AreMachineSlots shop (map (λ v. v.items) now)
-lent shop lists now e are =
-    subst (λ (vs : List (Vec Slot Global)). AreMachineSlots shop (map (λ v. v.items) vs)) (sym e) are
+-- the slots of the machines, as they were lent, and the cells that they make
+module _ {shop : Shop} (limits : IsWithinLimits shop) {lists now : List (Vec Slot Global)} (lent : now ≡ lists)
+    (made : AreMachineSlots shop (map (λ v. v.items) lists)) where
+  are : AreMachineSlots shop (map (λ v. v.items) now)
+  are = subst (λ (vs : List (Vec Slot Global)). AreMachineSlots shop (map (λ v. v.items) vs)) (sym lent) made
 
--- the cells are those of all machines
-all_cells : (shop : Shop) (now : List (Vec Slot Global)) → AreMachineSlots shop (map (λ v. v.items) now)
-    → (slots : List Slot) (blocks : List ℕ) → AreCells (map (λ v. v.items) now) (length now) slots blocks
-    → AreCells (map (λ v. v.items) now) shop.machines slots blocks
-all_cells shop now are slots blocks laid =
-    subst (λ (n : ℕ). AreCells (map (λ v. v.items) now) n slots blocks)
-    (sym (length-map now (λ v. v.items)) ∙ are.machines)
-    laid
+  module _ {cells : List Slot} {blocks : List ℕ}
+      (given : AreCells (map (λ v. v.items) now) (length now) cells blocks) where
+    laid : AreCells (map (λ v. v.items) now) shop.machines cells blocks
+    laid =
+        subst (λ (n : ℕ). AreCells (map (λ v. v.items) now) n cells blocks)
+        (sym (length-map now (λ v. v.items)) ∙ are.machines) given
+
+    few : All (λ b. b ≤ 10000800) blocks
+    few = blocks_few shop limits (map (λ v. v.items) now) are cells blocks laid
+
+    rise : (m : ℕ) → m < shop.machines → get_or blocks m 0 ≤ get_or blocks (m + 1) 0
+    rise m known = blocks_rise shop limits (map (λ v. v.items) now) are cells blocks laid m known
+
+    known : {read : List Slot} → read ≡ cells → All (λ s. (s.job < length shop.jobs) × (s.step < 100)) read
+    known e =
+        subst (All (λ s. (s.job < length shop.jobs) × (s.step < 100))) (sym e)
+        (cells_known shop limits (map (λ v. v.items) now) are cells blocks laid)
+
+    job_small : {read : List Slot} → read ≡ cells → All (λ s. s.job < 4294967296) read
+    job_small e = λ k d here. let b = known e k d here in let j = limits.jobs in omega arith
+
+    step_small : {read : List Slot} → read ≡ cells → All (λ s. s.step < 4294967296) read
+    step_small e = λ k d here. let b = known e k d here in omega arith
+
+    job_known : {read : List Slot} → read ≡ cells → (rows : ℕ) → rows ≡ length shop.jobs → All (λ s. s.job < rows) read
+    job_known e rows many = λ k d here. let b = known e k d here in omega arith
 
 pub cells_of-requires-clause-short : goal.cells_of-requires-clause-short
-cells_of-requires-clause-short c = machine_few c.args.instance.now c.keeps_limits.ensures
-    (map (λ v. v.items) c.as_slice.result.now)
-    (lent c.args.instance.now c.in_ok-lists.lists.items c.as_slice.result.now c.as_slice.ensures.value
-    c.in_ok-lists.ensures)
+cells_of-requires-clause-short c = machine_few c.args.instance.now c.keeps_limits.ensures (map (λ v. v.items) c.as_slice.result.now)
+    (are c.keeps_limits.ensures c.as_slice.ensures.value c.in_ok-lists.ensures)
 
 pub places_of-requires-clause-few : goal.places_of-requires-clause-few
 places_of-requires-clause-few c =
-    let shop = c.args.instance.now
-    in let are = lent c.args.instance.now c.in_ok-lists.lists.items c.as_slice.result.now c.as_slice.ensures.value
-    c.in_ok-lists.ensures
-    in let laid = all_cells shop c.as_slice.result.now are c.in_ok-slots.field-0.slots.items
-    c.in_ok-slots.field-0.blocks.items c.in_ok-slots.ensures
-    in rw c.as_slice-3.ensures.value (blocks_few shop c.keeps_limits.ensures (map (λ v. v.items) c.as_slice.result.now)
-    are c.in_ok-slots.field-0.slots.items c.in_ok-slots.field-0.blocks.items laid)
-
-job_small : (jobs : ℕ) → jobs ≤ 1000 → (cells now : List Slot) → now ≡ cells
-    → All (λ s. (s.job < jobs) × (s.step < 100)) cells → All (λ s. s.job < 4294967296) now
-job_small jobs few cells now e all = λ k d here.
-    let a = ap length e in let b = all k d (omega arith) in let x = b.0
-    in let f = ap (λ (xs : List Slot). (get_or xs k d).job) e in omega arith
-
-step_small : (jobs : ℕ) (cells now : List Slot) → now ≡ cells → All (λ s. (s.job < jobs) × (s.step < 100)) cells
-    → All (λ s. s.step < 4294967296) now
-step_small jobs cells now e all = λ k d here.
-    let a = ap length e in let b = all k d (omega arith) in let x = b.1
-    in let f = ap (λ (xs : List Slot). (get_or xs k d).step) e in omega arith
-
--- and there is a row for each job
-job_known : (jobs rows : ℕ) → rows ≡ jobs → (cells now : List Slot) → now ≡ cells
-    → All (λ s. (s.job < jobs) × (s.step < 100)) cells → All (λ s. s.job < rows) now
-job_known jobs rows many cells now e all = λ k d here.
-    let a = ap length e in let b = all k d (omega arith) in let x = b.0
-    in let f = ap (λ (xs : List Slot). (get_or xs k d).job) e in omega arith
+    rw c.as_slice-3.ensures.value (few c.keeps_limits.ensures c.as_slice.ensures.value c.in_ok-lists.ensures c.in_ok-slots.ensures)
 
 pub jobs_of-requires : goal.jobs_of-requires
 jobs_of-requires c =
-    let shop = c.args.instance.now
-    in let are = lent c.args.instance.now c.in_ok-lists.lists.items c.as_slice.result.now c.as_slice.ensures.value
-    c.in_ok-lists.ensures
-    in let laid = all_cells shop c.as_slice.result.now are c.in_ok-slots.field-0.slots.items
-    c.in_ok-slots.field-0.blocks.items c.in_ok-slots.ensures
-    in job_small (length shop.jobs) c.keeps_limits.ensures.jobs c.in_ok-slots.field-0.slots.items
-    c.as_slice-4.result.now c.as_slice-4.ensures.value
-    (cells_known shop c.keeps_limits.ensures (map (λ v. v.items) c.as_slice.result.now) are
-    c.in_ok-slots.field-0.slots.items c.in_ok-slots.field-0.blocks.items laid)
+    job_small c.keeps_limits.ensures c.as_slice.ensures.value c.in_ok-lists.ensures c.in_ok-slots.ensures
+    c.as_slice-4.ensures.value
 
 pub steps_of-requires : goal.steps_of-requires
 steps_of-requires c =
-    let shop = c.args.instance.now
-    in let are = lent c.args.instance.now c.in_ok-lists.lists.items c.as_slice.result.now c.as_slice.ensures.value
-    c.in_ok-lists.ensures
-    in let laid = all_cells shop c.as_slice.result.now are c.in_ok-slots.field-0.slots.items
-    c.in_ok-slots.field-0.blocks.items c.in_ok-slots.ensures
-    in step_small (length shop.jobs) c.in_ok-slots.field-0.slots.items c.as_slice-5.result.now
+    step_small c.keeps_limits.ensures c.as_slice.ensures.value c.in_ok-lists.ensures c.in_ok-slots.ensures
     c.as_slice-5.ensures.value
-    (cells_known shop c.keeps_limits.ensures (map (λ v. v.items) c.as_slice.result.now) are
-    c.in_ok-slots.field-0.slots.items c.in_ok-slots.field-0.blocks.items laid)
 
 pub machines_of-requires : goal.machines_of-requires
 machines_of-requires c =
-    let shop = c.args.instance.now
-    in let are = lent c.args.instance.now c.in_ok-lists.lists.items c.as_slice.result.now c.as_slice.ensures.value
-    c.in_ok-lists.ensures
-    in let laid = all_cells shop c.as_slice.result.now are c.in_ok-slots.field-0.slots.items
-    c.in_ok-slots.field-0.blocks.items c.in_ok-slots.ensures
-    in let long = laid.machines
-    in let few = c.keeps_limits.ensures.machines
+    let cells = laid c.keeps_limits.ensures c.as_slice.ensures.value c.in_ok-lists.ensures c.in_ok-slots.ensures
+    in let long = cells.machines
+    in let many = c.keeps_limits.ensures.machines
     in rw c.as_slice-8.ensures.value (record {
-      from_0 = laid.from_0;
+      from_0 = cells.from_0;
       some = omega arith;
-      ordered = λ m known. blocks_rise shop c.keeps_limits.ensures (map (λ v. v.items) c.as_slice.result.now) are
-          c.in_ok-slots.field-0.slots.items c.in_ok-slots.field-0.blocks.items laid m (omega arith);
-      few = blocks_few shop c.keeps_limits.ensures (map (λ v. v.items) c.as_slice.result.now) are
-          c.in_ok-slots.field-0.slots.items c.in_ok-slots.field-0.blocks.items laid;
+      ordered = λ m known. rise c.keeps_limits.ensures c.as_slice.ensures.value c.in_ok-lists.ensures c.in_ok-slots.ensures m
+          (omega arith);
+      few = few c.keeps_limits.ensures c.as_slice.ensures.value c.in_ok-lists.ensures c.in_ok-slots.ensures;
       small = omega arith;
     })
 
 pub following_of-requires : goal.following_of-requires
 following_of-requires c =
-    let shop = c.args.instance.now
-    in let are = lent c.args.instance.now c.in_ok-lists.lists.items c.as_slice.result.now c.as_slice.ensures.value
-    c.in_ok-lists.ensures
-    in let laid = all_cells shop c.as_slice.result.now are c.in_ok-slots.field-0.slots.items
-    c.in_ok-slots.field-0.blocks.items c.in_ok-slots.ensures
-    in let known = cells_known shop c.keeps_limits.ensures (map (λ v. v.items) c.as_slice.result.now) are
-    c.in_ok-slots.field-0.slots.items c.in_ok-slots.field-0.blocks.items laid
+    let cells = laid c.keeps_limits.ensures c.as_slice.ensures.value c.in_ok-lists.ensures c.in_ok-slots.ensures
     in let rows = c.in_ok-places.ensures.shape.jobs
     in record {
-      jobs = job_known (length shop.jobs) (length c.as_slice-10.result.now)
+      jobs = job_known c.keeps_limits.ensures c.as_slice.ensures.value c.in_ok-lists.ensures c.in_ok-slots.ensures
+          c.as_slice-9.ensures.value (length c.as_slice-10.result.now)
           (ap length c.as_slice-10.ensures.value
-          ∙ (sym (length-map c.in_ok-places.places.items (λ v. v.items)) ∙ rows))
-          c.in_ok-slots.field-0.slots.items c.as_slice-9.result.now c.as_slice-9.ensures.value known;
-      steps = step_small (length shop.jobs) c.in_ok-slots.field-0.slots.items c.as_slice-9.result.now
-          c.as_slice-9.ensures.value known;
-      few = (let a = ap length c.as_slice-9.ensures.value in let b = laid.few
+          ∙ (sym (length-map c.in_ok-places.places.items (λ v. v.items)) ∙ rows));
+      steps = step_small c.keeps_limits.ensures c.as_slice.ensures.value c.in_ok-lists.ensures c.in_ok-slots.ensures
+          c.as_slice-9.ensures.value;
+      few = (let a = ap length c.as_slice-9.ensures.value in let b = cells.few
           in let d = c.keeps_limits.ensures.machines in omega arith);
     }
 
@@ -144,26 +111,24 @@ following_is lent slots e rows places f following is =
 pub returns : goal.returns
 returns c =
     let shop = c.args.instance.now
-    in let are = lent c.args.instance.now c.in_ok-lists.lists.items c.as_slice.result.now c.as_slice.ensures.value
-    c.in_ok-lists.ensures
-    in let laid = all_cells shop c.as_slice.result.now are c.in_ok-slots.field-0.slots.items
-    c.in_ok-slots.field-0.blocks.items c.in_ok-slots.ensures
     in let slots = c.in_ok-slots.field-0.slots.items
-    in laid_out shop c.keeps_limits.ensures (map (λ v. v.items) c.as_slice.result.now) are
-    c.in_ok-slots.field-0.slots.items c.in_ok-slots.field-0.blocks.items laid
-    (map (λ v. v.items) c.in_ok-places.places.items)
-    (subst (λ (bs : List ℕ). ArePlaces shop (map (λ v. v.items) c.as_slice.result.now) bs shop.machines
-    (map (λ v. v.items) c.in_ok-places.places.items)) c.as_slice-3.ensures.value
+    in let blocks = c.in_ok-slots.field-0.blocks.items
+    in let places = map (λ v. v.items) c.in_ok-places.places.items
+    in let cells = laid c.keeps_limits.ensures c.as_slice.ensures.value c.in_ok-lists.ensures c.in_ok-slots.ensures
+    in laid_out shop c.keeps_limits.ensures (map (λ v. v.items) c.as_slice.result.now)
+    (are c.keeps_limits.ensures c.as_slice.ensures.value c.in_ok-lists.ensures) slots blocks cells places
+    (subst (λ (bs : List ℕ). ArePlaces shop (map (λ v. v.items) c.as_slice.result.now) bs shop.machines places)
+    c.as_slice-3.ensures.value
     (subst (λ (vs : List (Vec Slot Global)). ArePlaces shop (map (λ v. v.items) vs) c.as_slice-3.result.now
-    shop.machines (map (λ v. v.items) c.in_ok-places.places.items))
+    shop.machines places)
     (c.as_slice-2.ensures.value ∙ sym c.as_slice.ensures.value) c.in_ok-places.ensures))
     (record {
       jobs = c.in_ok-jobs_of.field-0.items;
       steps = c.in_ok-steps_of.field-0.items;
       times = c.in_ok-times_of.field-0.items;
       tails = c.in_ok-tails_of.field-0.items;
-      places = map (λ v. v.items) c.in_ok-places.places.items;
-      blocks = c.in_ok-slots.field-0.blocks.items;
+      places = places;
+      blocks = blocks;
       machines = c.in_ok-machines_of.field-0.items;
       following = c.in_ok-following_of.field-0.items;
     })
@@ -172,8 +137,8 @@ returns c =
     (c.in_ok-times_of.ensures ∙ ap (map (λ s. s.time)) c.as_slice-6.ensures.value)
     (c.in_ok-tails_of.ensures ∙ ap (map (λ s. s.tail)) c.as_slice-7.ensures.value)
     refl refl
-    (machines_are c.as_slice-8.result.now c.in_ok-slots.field-0.blocks.items c.as_slice-8.ensures.value shop.machines
-    laid.machines c.in_ok-machines_of.field-0.items c.in_ok-machines_of.ensures)
+    (machines_are c.as_slice-8.result.now blocks c.as_slice-8.ensures.value shop.machines
+    cells.machines c.in_ok-machines_of.field-0.items c.in_ok-machines_of.ensures)
     (following_is c.as_slice-9.result.now slots c.as_slice-9.ensures.value c.as_slice-10.result.now
     c.in_ok-places.places.items c.as_slice-10.ensures.value c.in_ok-following_of.field-0.items
     c.in_ok-following_of.ensures)

@@ -1,13 +1,16 @@
-use Rattle.std.proofs.Common.{length, arith, refl, sym, eqb-true}
+use Rattle.std.proofs.Common.{length, arith, refl, subst, sym, eqb-true}
 use Rattle.shop_runs.specs.Plans.{planned}
 use Rattle.shop_runs.proofs.PieceLemmas.{some_open}
+use Rattle.shop_runs.specs.inner.Searches.{IsSearchAt}
 use Rattle.shop_runs.specs.inner.Stores.{open_list}
 use Rattle.shop_runs.proofs.Answering.{way_first, way_search, way_next, way_closed, way_last}
 use Rattle.shop_runs.proofs.runs.OpenRun.at_end.Goals as goal
 
 pub loop-done-init : goal.loop-done-init
 loop-done-init g c = record {
-  way = way_first c.args.instance.now (planned c.args.plan.now) c.in_ok-search.search c.in_ok-search.ensures;
+  way = way_first c.args.instance.now (planned c.args.plan.now) c.in_ok-search.search
+      (subst (λ s. IsSearchAt c.args.instance.now c.args.plan.now.order s c.in_ok-search.search)
+      c.in_ok-start.ensures.at.stands_at c.in_ok-search.ensures);
   layout = tt;
 }
 

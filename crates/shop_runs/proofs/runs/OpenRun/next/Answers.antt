@@ -1,24 +1,36 @@
-use Rattle.std.proofs.Common.{◌∙◌, ap, subst}
+use Rattle.std.proofs.Common.{◌∙◌, ap, refl, subst}
 use Rattle.shop_nodes.specs.Nodes.{AreNodes}
 use Rattle.shop_runs.specs.Plans.{planned}
 use Rattle.shop_runs.specs.Round.{Told}
+use Rattle.shop_runs.specs.inner.NodeLists.{nodes_below}
+use Rattle.shop_runs.specs.inner.Outcomes.{left_open}
+use Rattle.shop_runs.specs.inner.Stacks.{put_all_before}
 use Rattle.shop_runs.proofs.Answering.{next_round}
 use Rattle.shop_runs.proofs.KeptBelow.{all_sharable}
 use Rattle.shop_runs.proofs.runs.OpenRun.next.Goals as goal
 
-pub joined-requires-clause-left : goal.joined-requires-clause-left
-joined-requires-clause-left g c =
-    let t = c.in_ok-standing.standing
+pub put_left-requires : goal.put_left-requires
+put_left-requires g c =
+    let all = left_open c.in_ok-found.field-0.left.items
     in let same = ap (λ (t : Told). t.shop) c.in_ok-round.ensures.round
-    in all_sharable c.args.instance.now c.keeps_limits.ensures t.open.items
-    (subst (λ shop. AreNodes shop t.open.items) same c.in_ok-standing.ensures.standing.0.bounds)
+    in all_sharable c.args.instance.now c.keeps_limits.ensures all
+    (subst (λ shop. AreNodes shop all) same c.in_ok-found.ensures.nodes_left)
 
 pub returns-clause-next : goal.returns-clause-next
 returns-clause-next g c =
     let cut = c.in_ok-round.ensures
+    in let o = c.in_ok-found.field-0
+    in let left = nodes_below o.makespan (left_open o.left.items)
+    in let keep = c.in_ok-keep_below.ensures
+    in let put = c.in_ok-put_left.ensures
     in next_round c.args.instance.now (planned c.args.plan.now) c.args.self c.requires.search c.in_ok-round.round
-    c.in_ok-round.others c.in_ok-standing.standing c.in_ok-search.search cut.round cut.rest cut.bounds cut.kept
-    c.in_ok-standing.ensures.gathered c.in_ok-search.ensures
-
-pub returns-clause-layout : goal.returns-clause-layout
-returns-clause-layout g c = c.in_ok-standing.ensures.layout ∙ ap (λ (t : Told). t.shop) c.in_ok-round.ensures.round
+    c.in_ok-round.open o _ cut.round cut.rest cut.bounds cut.kept c.in_ok-found.ensures (record {
+      word = c.unwrap_or.ensures;
+      makespan = refl;
+      rounds = refl;
+      nodes = refl;
+      joined = record {
+        kept = put.0 ∙ keep.0;
+        open_nodes = put.1 ∙ (λ j. put_all_before (keep.0 j) left (keep.1 j));
+      };
+    })

@@ -8,16 +8,10 @@ pub advance_below-requires-clause-can : goal.advance_below-requires-clause-can
 advance_below-requires-clause-can g c = record {
   shop = c.args.self.now.shop;
   word = c.requires.can.word;
-  is = candidate_advancing g.L.StateLanes.GREATEST c.args.self.now.shop c.requires.can.word c.grid.result.now
-      (g.L.StateLanes.heads c.args.state.now.lanes) (g.L.StateLanes.ends c.args.state.now.lanes)
-      c.args.state.now.next.items
-      (kept_read g.L.StateLanes.GREATEST c.args.self.now.shop c.requires.can.word c.args.self.now.layout
-      c.grid.result.now (g.L.StateLanes.heads c.args.state.now.lanes) (g.L.StateLanes.ends c.args.state.now.lanes)
-      c.args.state.now.next.items c.args.state.now.next.items c.grid.ensures.grid refl c.requires.can.is.0)
-      c.args.candidate.job c.requires.can.is.1.fits c.args.candidate.own
-      (candidate_read c.args.self.now.shop c.requires.can.word c.args.self.now.layout c.grid.result.now
-      c.args.candidate.job c.args.candidate.own c.grid.ensures.grid c.requires.can.is.1) c.as_mut_slice.result.now
-      c.as_mut_slice.ensures.value c.args.bound c.requires.can.bound_is c.max.result c.max.ensures;
+  is = candidate_advancing (kept_read c.grid.ensures.grid refl c.requires.can.is.0) c.args.candidate.job
+      c.requires.can.is.1.fits c.args.candidate.own (candidate_read c.grid.ensures.grid c.requires.can.is.1)
+      c.as_mut_slice.result.now c.as_mut_slice.ensures.value c.args.bound c.requires.can.bound_is c.max.result
+      c.max.ensures;
   machines_are = c.requires.scratch.machines;
 }
 
@@ -26,13 +20,6 @@ returns-clause-told g c = λ w kept candidate bound_is.
     tells_below c.args.self.now.shop c.grid.ensures.ready.limits (w ++ c.args.candidate.job ∷ []) candidate.fits
     c.args.limit c.min.result c.min.ensures c.advance_below.result
     (c.advance_below.ensures.told c.args.self.now.shop w
-    (candidate_advancing g.L.StateLanes.GREATEST c.args.self.now.shop w c.grid.result.now
-    (g.L.StateLanes.heads c.args.state.now.lanes) (g.L.StateLanes.ends c.args.state.now.lanes)
-    c.args.state.now.next.items
-    (kept_read g.L.StateLanes.GREATEST c.args.self.now.shop w c.args.self.now.layout c.grid.result.now
-    (g.L.StateLanes.heads c.args.state.now.lanes) (g.L.StateLanes.ends c.args.state.now.lanes)
-    c.args.state.now.next.items c.args.state.now.next.items c.grid.ensures.grid refl kept)
-    c.args.candidate.job candidate.fits c.args.candidate.own
-    (candidate_read c.args.self.now.shop w c.args.self.now.layout c.grid.result.now c.args.candidate.job
-    c.args.candidate.own c.grid.ensures.grid candidate) c.as_mut_slice.result.now c.as_mut_slice.ensures.value
-    c.args.bound bound_is c.max.result c.max.ensures))
+    (candidate_advancing (kept_read c.grid.ensures.grid refl kept) c.args.candidate.job candidate.fits
+    c.args.candidate.own (candidate_read c.grid.ensures.grid candidate) c.as_mut_slice.result.now
+    c.as_mut_slice.ensures.value c.args.bound bound_is c.max.result c.max.ensures))

@@ -16,10 +16,10 @@ gathered : (greatest : ℕ) (shop : Shop) (l read : LayoutState) → read ≡ l 
     → AreCandidatesOf shop w l limit cs others
 gathered greatest shop l read is heads ends nexts given same limit cs others are w kept =
     subst (λ (x : LayoutState). AreCandidatesOf shop w x limit cs others) is
-    (are shop w (kept_read greatest shop w l read heads ends nexts given is same kept))
+    (are shop w (kept_read is same kept))
 
 pub returns-clause-listed : goal.returns-clause-listed
 returns-clause-listed g c = λ w kept. gathered g.L.StateLanes.GREATEST c.args.self.now.shop c.args.self.now.layout
     c.grid.result.now c.grid.ensures.grid (g.L.StateLanes.heads c.args.state.now.lanes)
     (g.L.StateLanes.ends c.args.state.now.lanes) c.args.state.now.next.items c.as_slice.result.now
-    c.as_slice.ensures.value c.args.limit c.gather.new.candidates.items c.gather.result c.gather.ensures.are w kept
+    c.as_slice.ensures.value c.args.limit c.list_candidates.new.candidates.items c.list_candidates.result c.list_candidates.ensures.are w kept

@@ -29,13 +29,11 @@ close-requires-clause-limits g c =
 pub close-requires-clause-closed : goal.close-requires-clause-closed
 close-requires-clause-closed g c =
     let self = c.args.self.now
-    in let d = self.states.dispatcher.now
     in let word = self.path.items
     in let none : self.candidates.items ≡ [] = no_items self.candidates.items (let a = c.is_empty.ensures
     in let b = self.candidates.ok.0 in search rules)
     in subst (λ (x : Shop). AreChildren x self.progress.best word [] c.args.closed) self.same_shop
-    (none_kept (g.D.Dispatching.shop d) word self.progress.best (g.D.Dispatching.IsCandidate d word)
-    self.candidates.items c.args.closed none c.requires.candidates)
+    (none_kept self.candidates.items c.args.closed none c.requires.candidates)
 
 pub push_children-requires-clause-bound : goal.push_children-requires-clause-bound
 push_children-requires-clause-bound g c = c.requires.at.bound
@@ -53,11 +51,11 @@ push_children-requires-clause-short g c =
 
 pub push_children-requires-clause-candidates : goal.push_children-requires-clause-candidates
 push_children-requires-clause-candidates g c =
-    candidates_stand c.args.self.now c.reclaim.new.self c.in_ok-reclaim.ensures.stands c.args.closed c.requires.candidates
+    candidates_stand c.in_ok-reclaim.ensures.stands c.args.closed c.requires.candidates
 
 pub push_children-requires-clause-state : goal.push_children-requires-clause-state
 push_children-requires-clause-state g c =
-    state_stands c.args.self.now c.reclaim.new.self c.in_ok-reclaim.ensures.stands c.requires.at.state
+    state_stands c.in_ok-reclaim.ensures.stands c.requires.at.state
 
 pub returns-clause-expanded : goal.returns-clause-expanded
 returns-clause-expanded g c =

@@ -1,4 +1,4 @@
-use Rattle.std.proofs.Common.{◌≡◌, ◌<◌, [], length, sym, subst, arith}
+use Rattle.std.proofs.Common.{◌≡◌, ◌<◌, length, sym, subst, arith}
 use Rattle.shop_model.specs.Shop.{operation_count}
 use Rattle.shop_model.proofs.WordLengths.{word_length}
 use Rattle.shop_tree.specs.inner.Held.{waiting_in}
@@ -27,8 +27,7 @@ put_rest-requires-clause-depth g c =
 
 pub put_rest-requires-clause-count : goal.put_rest-requires-clause-count
 put_rest-requires-clause-count g c =
-    let self = c.args.self.now
-    in let a = few_open self.progress.instance.now self.progress.best self.path.items [] c.args.count c.requires.closed
+    let a = few_open c.requires.closed
     in let b = c.requires.limits.jobs in omega arith
 
 pub returns-clause-expanded : goal.returns-clause-expanded
@@ -41,7 +40,7 @@ returns-clause-expanded g c =
     in omega arith)
     in on_ok _ (HasExpanded (stage_of self) (record (stage_of self) { stack = waiting_in new }))
     (λ e. ends_closed (stage_of self) c.args.count (waiting_in new) c.requires.word short c.requires.closed
-    c.requires.in_order (rest_waits self.stack.items new self.path.items c.len.result c.args.count depth e))
+    c.requires.in_order (rest_waits self.stack.items self.path.items c.args.count depth e))
     c.put_rest.result c.put_rest.ensures
 
 pub returns-clause-states : goal.returns-clause-states

@@ -9,7 +9,7 @@ use Rattle.shop_tree.proofs.walkers.Walker.expand.Goals as goal
 
 pub loop-self-init : goal.loop-self-init
 loop-self-init g c = record {
-  followed = followed_same (stage_of c.args.self.now) (stage_of c.args.self.now) refl;
+  followed = followed_same refl;
   at = record {
     bound = c.requires.bound;
     below = c.requires.below;
@@ -22,8 +22,8 @@ loop-self-init g c = record {
 pub branch-self-requires-clause-short : goal.branch-self-requires-clause-short
 branch-self-requires-clause-short g c =
     let self = c.loop-self.self
-    in let at = c.gather-closed.new.self
-    in let same = c.gather-closed.ensures.stage
+    in let at = c.list_candidates-closed.new.self
+    in let same = c.list_candidates-closed.ensures.stage
     in let word : length at.path.items ≡ length self.path.items = ap (λ (t : Stage). length t.word) same
     in let operations : operation_count at.progress.instance.now ≡ operation_count self.progress.instance.now =
     ap (λ (t : Stage). operation_count t.shop) same
@@ -32,24 +32,23 @@ branch-self-requires-clause-short g c =
 
 pub branch-self-requires-clause-at : goal.branch-self-requires-clause-at
 branch-self-requires-clause-at g c =
-    still_at c.loop-self.self c.gather-closed.new.self c.loop-self.bound c.loop-self.invariant.at
-    c.gather-closed.ensures.stage c.gather-closed.ensures.states c.gather-closed.ensures.state
+    still_at c.list_candidates-closed.new.self c.loop-self.invariant.at c.list_candidates-closed.ensures.stage
+    c.list_candidates-closed.ensures.states c.list_candidates-closed.ensures.state
 
 pub returns-then-not-goes_on-clause-expanded : goal.returns-then-not-goes_on-clause-expanded
 returns-then-not-goes_on-clause-expanded g c =
     let s = stage_of c.args.self.now
-    in let mid = stage_of c.gather-closed.new.self
     in let new = stage_of c.branch-self.new.self
     in on_ok _ (HasExpanded s new)
-    (λ e. expands_followed s mid new (followed_then s (stage_of c.loop-self.self) mid c.loop-self.invariant.followed
-    (followed_same (stage_of c.loop-self.self) mid c.gather-closed.ensures.stage)) e)
+    (λ e. expands_followed (followed_then c.loop-self.invariant.followed (followed_same c.list_candidates-closed.ensures.stage))
+    e)
     c.branch-self.result c.branch-self.ensures.expanded
 
 pub go_on-requires-clause-short : goal.go_on-requires-clause-short
 go_on-requires-clause-short g c =
     let self = c.loop-self.self
-    in let at = c.gather-closed.new.self
-    in let same = c.gather-closed.ensures.stage
+    in let at = c.list_candidates-closed.new.self
+    in let same = c.list_candidates-closed.ensures.stage
     in let word : length at.path.items ≡ length self.path.items = ap (λ (t : Stage). length t.word) same
     in let operations : operation_count at.progress.instance.now ≡ operation_count self.progress.instance.now =
     ap (λ (t : Stage). operation_count t.shop) same
@@ -58,39 +57,32 @@ go_on-requires-clause-short g c =
 
 pub go_on-requires-clause-at : goal.go_on-requires-clause-at
 go_on-requires-clause-at g c =
-    still_at c.loop-self.self c.gather-closed.new.self c.loop-self.bound c.loop-self.invariant.at
-    c.gather-closed.ensures.stage c.gather-closed.ensures.states c.gather-closed.ensures.state
+    still_at c.list_candidates-closed.new.self c.loop-self.invariant.at c.list_candidates-closed.ensures.stage
+    c.list_candidates-closed.ensures.states c.list_candidates-closed.ensures.state
 
 pub returns-in_default-clause-expanded : goal.returns-in_default-clause-expanded
 returns-in_default-clause-expanded g c =
-    let s = stage_of c.args.self.now
-    in let mid = stage_of c.gather-closed.new.self
-    in let new = stage_of c.go_on.new.self
-    in expands_followed s mid new (followed_then s (stage_of c.loop-self.self) mid c.loop-self.invariant.followed
-    (followed_same (stage_of c.loop-self.self) mid c.gather-closed.ensures.stage))
-    (ended c.gather-closed.new.self c.go_on.new.self _ c.in_default.is c.in_ok-next.ensures).0
+    expands_followed (followed_then c.loop-self.invariant.followed (followed_same c.list_candidates-closed.ensures.stage))
+    (ended c.list_candidates-closed.new.self c.go_on.new.self c.in_default.is c.in_ok-next.ensures).0
 
 pub returns-in_default-clause-states : goal.returns-in_default-clause-states
 returns-in_default-clause-states g c =
-    (ended c.gather-closed.new.self c.go_on.new.self _ c.in_default.is c.in_ok-next.ensures).1
+    (ended c.list_candidates-closed.new.self c.go_on.new.self c.in_default.is c.in_ok-next.ensures).1
 
 pub loop-self-preserved : goal.loop-self-preserved
 loop-self-preserved g c =
-    let s = stage_of c.args.self.now
-    in let mid = stage_of c.gather-closed.new.self
-    in let went = gone c.gather-closed.new.self c.go_on.new.self _ c.in-Some.next c.in-Some.is c.in_ok-next.ensures
+    let went = gone c.list_candidates-closed.new.self c.go_on.new.self c.in-Some.is c.in_ok-next.ensures
     in record {
-      followed = followed_then s mid (stage_of c.go_on.new.self)
-          (followed_then s (stage_of c.loop-self.self) mid c.loop-self.invariant.followed
-          (followed_same (stage_of c.loop-self.self) mid c.gather-closed.ensures.stage)) went.followed;
+      followed = followed_then (followed_then c.loop-self.invariant.followed (followed_same
+          c.list_candidates-closed.ensures.stage)) went.followed;
       at = went.at;
     }
 
 pub loop-self-smaller : goal.loop-self-smaller
 loop-self-smaller g c =
-    let went = gone c.gather-closed.new.self c.go_on.new.self _ c.in-Some.next c.in-Some.is c.in_ok-next.ensures
+    let went = gone c.list_candidates-closed.new.self c.go_on.new.self c.in-Some.is c.in_ok-next.ensures
     in let less = went.spent
-    in let same = ap (λ (t : Stage). t.walk.budget) c.gather-closed.ensures.stage
+    in let same = ap (λ (t : Stage). t.walk.budget) c.list_candidates-closed.ensures.stage
     in omega arith
 
 pub returns-clause-expanded : goal.returns-clause-expanded
@@ -98,5 +90,5 @@ returns-clause-expanded g c =
     let s = stage_of c.args.self.now
     in let new = stage_of c.find.new.self
     in on_ok _ (HasExpanded s new)
-    (λ e. expands_followed s (stage_of c.loop-self.self) new c.loop-self.invariant.followed e)
+    (λ e. expands_followed c.loop-self.invariant.followed e)
     c.find.result c.find.ensures.expanded

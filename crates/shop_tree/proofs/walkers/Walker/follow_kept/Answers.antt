@@ -21,9 +21,7 @@ pub advance-requires-clause-can : goal.advance-requires-clause-can
 advance-requires-clause-can g c =
     let self = c.args.self.now
     in let d = self.states.dispatcher.now
-    in let shop = g.D.Dispatching.shop d
     in let word = self.path.items
-    in let of = g.D.Dispatching.IsCandidate d word
     in let cand = c.index-candidate.result.now
     in let one = one_listed self.candidates.items cand _ c.requires.one c.index-candidate.ensures
     in let at = c.requires.at
@@ -31,151 +29,86 @@ advance-requires-clause-can g c =
       word = word;
       is = (
         at.state,
-        alone_own shop word self.progress.best of cand self.candidates.items c.args.closed one
-            c.requires.candidates,
+        alone_own one c.requires.candidates,
       );
-      fits = alone_fits shop word self.progress.best of cand self.candidates.items c.args.closed one
-          c.requires.candidates (g.met.D.Dispatching.state_is_of_word d word self.states.current.value at.state);
+      fits = alone_fits one c.requires.candidates (g.met.D.Dispatching.state_is_of_word d word self.states.current.value
+          at.state);
       bound_is = at.bound ∙ ap (λ (x : Shop). lb x word) (sym self.same_shop);
     }
 
 pub overflow_add-closed : goal.overflow_add-closed
 overflow_add-closed g c =
     let self = c.args.self.now
-    in let d = self.states.dispatcher.now
-    in let shop = g.D.Dispatching.shop d
-    in let word = self.path.items
-    in let of = g.D.Dispatching.IsCandidate d word
-    in let cand = c.index-candidate.result.now
-    in let one = one_listed self.candidates.items cand _ c.requires.one c.index-candidate.ensures
-    in let at = c.requires.at
-    in let few = few_closed shop word self.progress.best of c.requires.candidates
-    in let limits = (g.met.D.Dispatching.state_is_within_limits d word self.states.current.value at.state).jobs
+    in let few = few_closed c.requires.candidates
+    in let limits = (g.met.D.Dispatching.state_is_within_limits self.states.dispatcher.now self.path.items _
+    c.requires.at.state).jobs
     in omega arith
 
-pub close-requires-clause-word : goal.close-requires-clause-word
-close-requires-clause-word g c =
+pub close-requires : goal.close-requires
+close-requires g c =
     let self = c.args.self.now
     in let d = self.states.dispatcher.now
     in let shop = g.D.Dispatching.shop d
     in let word = self.path.items
-    in let of = g.D.Dispatching.IsCandidate d word
-    in let cand = c.index-candidate.result.now
-    in let one = one_listed self.candidates.items cand _ c.requires.one c.index-candidate.ensures
-    in let at = c.requires.at
-    in subst (λ (x : Shop). IsWord x word) self.same_shop
-    (g.met.D.Dispatching.state_is_of_word d word self.states.current.value at.state)
-
-pub close-requires-clause-limits : goal.close-requires-clause-limits
-close-requires-clause-limits g c =
-    let self = c.args.self.now
-    in let d = self.states.dispatcher.now
-    in let shop = g.D.Dispatching.shop d
-    in let word = self.path.items
-    in let of = g.D.Dispatching.IsCandidate d word
-    in let cand = c.index-candidate.result.now
-    in let one = one_listed self.candidates.items cand _ c.requires.one c.index-candidate.ensures
-    in let at = c.requires.at
-    in subst IsWithinLimits self.same_shop
-    (g.met.D.Dispatching.state_is_within_limits d word self.states.current.value at.state)
-
-pub close-requires-clause-closed : goal.close-requires-clause-closed
-close-requires-clause-closed g c =
-    let self = c.args.self.now
-    in let d = self.states.dispatcher.now
-    in let shop = g.D.Dispatching.shop d
-    in let word = self.path.items
-    in let of = g.D.Dispatching.IsCandidate d word
     in let cand = c.index-candidate.result.now
     in let one = one_listed self.candidates.items cand _ c.requires.one c.index-candidate.ensures
     in let at = c.requires.at
     in let bound = at.bound ∙ ap (λ (x : Shop). lb x word) (sym self.same_shop)
-    in let own = alone_own shop word self.progress.best of cand self.candidates.items c.args.closed one
-    c.requires.candidates
     in let high = told_high self.progress.best (lb shop (word ++ cand.job ∷ [])) c.advance.result c.in_default.is
-    (c.advance.ensures.told word at.state own bound)
-    in subst (λ (x : Shop). AreChildren x self.progress.best word [] (c.args.closed + 1)) self.same_shop
-    (alone_closed shop word self.progress.best of cand self.candidates.items c.args.closed one c.requires.candidates high)
-
-pub close-requires-clause-states : goal.close-requires-clause-states
-close-requires-clause-states g c =
-    let self = c.args.self.now
-    in let d = self.states.dispatcher.now
-    in let shop = g.D.Dispatching.shop d
-    in let word = self.path.items
-    in let of = g.D.Dispatching.IsCandidate d word
-    in let cand = c.index-candidate.result.now
-    in let one = one_listed self.candidates.items cand _ c.requires.one c.index-candidate.ensures
-    in let at = c.requires.at
+    (c.advance.ensures.told word at.state (alone_own one c.requires.candidates) bound)
     in record {
-      held = subst (λ x. AreHeld (g.D.Dispatching.IsStateOf x) word self.stack.items) (sym c.advance.ensures.dispatcher)
-          at.states.held;
-      states = c.advance.ensures.sound;
+      word = subst (λ (x : Shop). IsWord x word) self.same_shop
+          (g.met.D.Dispatching.state_is_of_word d word self.states.current.value at.state);
+      limits = subst IsWithinLimits self.same_shop
+          (g.met.D.Dispatching.state_is_within_limits d word self.states.current.value at.state);
+      short = c.requires.short;
+      closed = subst (λ (x : Shop). AreChildren x self.progress.best word [] (c.args.closed + 1)) self.same_shop
+          (alone_closed one c.requires.candidates high);
+      in_order = at.in_order;
+      states = record {
+        held = subst (λ x. AreHeld (g.D.Dispatching.IsStateOf x) word self.stack.items)
+            (sym c.advance.ensures.dispatcher) at.states.held;
+        states = c.advance.ensures.sound;
+      };
     }
 
-pub put_rest-requires-clause-depth : goal.put_rest-requires-clause-depth
-put_rest-requires-clause-depth g c =
+pub put_rest-requires : goal.put_rest-requires
+put_rest-requires g c =
     let self = c.args.self.now
     in let d = self.states.dispatcher.now
-    in let shop = g.D.Dispatching.shop d
     in let word = self.path.items
-    in let of = g.D.Dispatching.IsCandidate d word
-    in let cand = c.index-candidate.result.now
-    in let one = one_listed self.candidates.items cand _ c.requires.one c.index-candidate.ensures
-    in let at = c.requires.at
-    in let a = word_length shop word
-    (g.met.D.Dispatching.state_is_within_limits d word self.states.current.value at.state)
-    (g.met.D.Dispatching.state_is_of_word d word self.states.current.value at.state)
-    in let b = c.len.ensures in let e = self.path.ok.0 in omega arith
+    in let state = c.requires.at.state
+    in let limits = g.met.D.Dispatching.state_is_within_limits d word self.states.current.value state
+    in let most = word_length (g.D.Dispatching.shop d) word limits
+    (g.met.D.Dispatching.state_is_of_word d word self.states.current.value state)
+    in let few = few_closed c.requires.candidates
+    in let jobs = limits.jobs in let b = c.len.ensures in let e = self.path.ok.0
+    in record { depth = omega arith; count = omega arith }
 
-pub put_rest-requires-clause-count : goal.put_rest-requires-clause-count
-put_rest-requires-clause-count g c =
+pub take_job-requires : goal.take_job-requires
+take_job-requires g c =
     let self = c.args.self.now
     in let d = self.states.dispatcher.now
-    in let shop = g.D.Dispatching.shop d
-    in let word = self.path.items
-    in let of = g.D.Dispatching.IsCandidate d word
-    in let cand = c.index-candidate.result.now
-    in let one = one_listed self.candidates.items cand _ c.requires.one c.index-candidate.ensures
-    in let at = c.requires.at
-    in let few = few_closed shop word self.progress.best of c.requires.candidates
-    in let limits = (g.met.D.Dispatching.state_is_within_limits d word self.states.current.value at.state).jobs
-    in omega arith
-
-pub take_job-requires-clause-held : goal.take_job-requires-clause-held
-take_job-requires-clause-held g c =
-    let self = c.args.self.now
-    in let d = self.states.dispatcher.now
-    in let shop = g.D.Dispatching.shop d
-    in let word = self.path.items
-    in let of = g.D.Dispatching.IsCandidate d word
-    in let cand = c.index-candidate.result.now
-    in let one = one_listed self.candidates.items cand _ c.requires.one c.index-candidate.ensures
-    in let at = c.requires.at
     in let is = g.D.Dispatching.IsStateOf d
-    in let new = c.put_rest.new.stack.items
+    in let word = self.path.items
+    in let cand = c.index-candidate.result.now
+    in let one = one_listed self.candidates.items cand _ c.requires.one c.index-candidate.ensures
+    in let at = c.requires.at
     in let longer = held_on is self.progress.instance.now self.progress.best word cand.job self.stack.items at.in_order
     at.states.held
-    in subst (λ x. AreHeld (g.D.Dispatching.IsStateOf x) (word ++ cand.job ∷ []) new) (sym c.advance.ensures.dispatcher)
-    (subst (λ hs. AreHeld is (word ++ cand.job ∷ []) hs) (sym c.in_ok-put_rest.ensures)
-    (states_rest self.stack.items is (word ++ cand.job ∷ []) c.len.result c.args.closed longer))
-
-pub take_job-requires-clause-state : goal.take_job-requires-clause-state
-take_job-requires-clause-state g c =
-    let self = c.args.self.now
-    in let d = self.states.dispatcher.now
-    in let shop = g.D.Dispatching.shop d
-    in let word = self.path.items
-    in let of = g.D.Dispatching.IsCandidate d word
-    in let cand = c.index-candidate.result.now
-    in let one = one_listed self.candidates.items cand _ c.requires.one c.index-candidate.ensures
-    in let at = c.requires.at
-    in let own = alone_own shop word self.progress.best of cand self.candidates.items c.args.closed one
-    c.requires.candidates
     in let after = c.advance.new.self.current.value
-    in subst (λ x. g.D.Dispatching.IsStateOf x (word ++ cand.job ∷ []) after) (sym c.advance.ensures.dispatcher)
-    (told_state (g.D.Dispatching.IsStateOf d (word ++ cand.job ∷ []) after) c.in-Some.bound c.advance.result c.in-Some.is
-    (c.advance.ensures.state word at.state own))
+    in record {
+      some = c.requires.some;
+      short = c.requires.short;
+      held = subst (λ x. AreHeld (g.D.Dispatching.IsStateOf x) (word ++ cand.job ∷ []) c.put_rest.new.stack.items)
+          (sym c.advance.ensures.dispatcher)
+          (subst (λ hs. AreHeld is (word ++ cand.job ∷ []) hs) (sym c.in_ok-put_rest.ensures)
+          (states_rest self.stack.items is (word ++ cand.job ∷ []) c.len.result c.args.closed longer));
+      slots = c.advance.ensures.sound;
+      state = subst (λ x. g.D.Dispatching.IsStateOf x (word ++ cand.job ∷ []) after) (sym c.advance.ensures.dispatcher)
+          (told_state (is (word ++ cand.job ∷ []) after) c.in-Some.bound c.advance.result c.in-Some.is
+          (c.advance.ensures.state word at.state (alone_own one c.requires.candidates)));
+    }
 
 pub returns : goal.returns
 returns g c =
@@ -183,21 +116,18 @@ returns g c =
     in let d = self.states.dispatcher.now
     in let shop = g.D.Dispatching.shop d
     in let word = self.path.items
-    in let of = g.D.Dispatching.IsCandidate d word
     in let cand = c.index-candidate.result.now
     in let one = one_listed self.candidates.items cand _ c.requires.one c.index-candidate.ensures
     in let at = c.requires.at
     in let bound = at.bound ∙ ap (λ (x : Shop). lb x word) (sym self.same_shop)
-    in let own = alone_own shop word self.progress.best of cand self.candidates.items c.args.closed one
-    c.requires.candidates
+    in let own = alone_own one c.requires.candidates
     in let is_word = g.met.D.Dispatching.state_is_of_word d word self.states.current.value at.state
     in let low = told_low self.progress.best (lb shop (word ++ cand.job ∷ [])) c.in-Some.bound c.advance.result
     c.in-Some.is (c.advance.ensures.told word at.state own bound)
     in let o : Open = record { depth = length word; job = cand.job; bound = c.in-Some.bound }
     in let kids : AreChildren self.progress.instance.now self.progress.best word (o ∷ []) c.args.closed =
     subst (λ (x : Shop). AreChildren x self.progress.best word (o ∷ []) c.args.closed) self.same_shop
-    (alone_kept shop word self.progress.best of cand self.candidates.items c.args.closed one c.requires.candidates o
-    is_word refl refl low.0 low.1)
+    (alone_kept one c.requires.candidates o is_word refl refl low.0 low.1)
     in let short : length word < operation_count self.progress.instance.now = (let a = c.requires.short
     in let b = self.progress.counted in omega arith)
     in let new = c.put_rest.new.stack.items
@@ -205,7 +135,7 @@ returns g c =
     in let gone = follows_kept (stage_of self) o c.args.closed (waiting_in new)
     (subst (λ (x : Shop). IsWord x word) self.same_shop is_word) short kids refl
     (low.0 ∙ ap (λ (x : Shop). lb x (word ++ cand.job ∷ [])) self.same_shop) low.1 c.requires.some at.in_order
-    (rest_waits self.stack.items new word c.len.result c.args.closed depth c.in_ok-put_rest.ensures)
+    (rest_waits self.stack.items word c.args.closed depth c.in_ok-put_rest.ensures)
     in reached self c.take_job.new.self c.in-Some.bound
     (subst (λ (t : Stage). HasGone (stage_of self) t c.in-Some.bound) (sym c.take_job.ensures.stage) gone)
     c.take_job.ensures.states c.take_job.ensures.state

@@ -13,14 +13,12 @@ use Rattle.shop_tree.proofs.walkers.Walker.follow_sole.Goals as goal
 pub strike-requires-clause-sole : goal.strike-requires-clause-sole
 strike-requires-clause-sole g c =
     let self = c.args.self.now
-    in let d = self.states.dispatcher.now
     in let word = self.path.items
     in record {
       word = word;
       is = c.requires.at.state;
-      sole = sole_listed (g.D.Dispatching.shop d) word self.progress.best (g.D.Dispatching.IsCandidate d word)
-          self.candidates.items c.index.result.now
-          (one_listed self.candidates.items c.index.result.now _ c.requires.one c.index.ensures) c.requires.candidates;
+      sole = sole_listed self.candidates.items c.index.result.now (one_listed self.candidates.items c.index.result.now _
+          c.requires.one c.index.ensures) c.requires.candidates;
     }
 
 pub take_job-requires-clause-held : goal.take_job-requires-clause-held
@@ -35,11 +33,9 @@ take_job-requires-clause-held g c =
 pub take_job-requires-clause-state : goal.take_job-requires-clause-state
 take_job-requires-clause-state g c =
     let self = c.args.self.now
-    in let d = self.states.dispatcher.now
     in let word = self.path.items
-    in let alone = sole_listed (g.D.Dispatching.shop d) word self.progress.best (g.D.Dispatching.IsCandidate d word)
-    self.candidates.items c.index.result.now
-    (one_listed self.candidates.items c.index.result.now _ c.requires.one c.index.ensures) c.requires.candidates
+    in let alone = sole_listed self.candidates.items c.index.result.now (one_listed self.candidates.items
+    c.index.result.now _ c.requires.one c.index.ensures) c.requires.candidates
     in subst (λ x. g.D.Dispatching.IsStateOf x (word ++ c.index.result.now.job ∷ []) c.strike.new.self.current.value)
     (sym c.strike.ensures.dispatcher) (c.strike.ensures.state word c.requires.at.state alone)
 
@@ -51,9 +47,8 @@ returns g c =
     in let word = self.path.items
     in let job = c.index.result.now.job
     in let at = c.requires.at
-    in let alone = sole_listed (g.D.Dispatching.shop d) word self.progress.best (g.D.Dispatching.IsCandidate d word)
-    self.candidates.items c.index.result.now
-    (one_listed self.candidates.items c.index.result.now _ c.requires.one c.index.ensures) c.requires.candidates
+    in let alone = sole_listed self.candidates.items c.index.result.now (one_listed self.candidates.items
+    c.index.result.now _ c.requires.one c.index.ensures) c.requires.candidates
     in let short : length word < operation_count shop = (let a = c.requires.short in let b = self.progress.counted
     in omega arith)
     in let keeps : SoleCandidateKeepsBound shop word = subst (λ (x : Shop). SoleCandidateKeepsBound x word)

@@ -16,56 +16,41 @@ use Rattle.shop_tree.proofs.ListedLemmas.{few_closed}
 use Rattle.shop_tree.proofs.StateSteps.{held_branched}
 use Rattle.shop_tree.proofs.walkers.Walker.push_children.Goals as goal
 
-pub put_rest-requires-clause-depth : goal.put_rest-requires-clause-depth
-put_rest-requires-clause-depth g c =
+pub put_rest-requires : goal.put_rest-requires
+put_rest-requires g c =
     let self = c.args.self.now
     in let d = self.states.dispatcher.now
     in let word = self.path.items
-    in let a = word_length (g.D.Dispatching.shop d) word
-    (g.met.D.Dispatching.state_is_within_limits d word self.states.current.value c.requires.state)
+    in let limits = g.met.D.Dispatching.state_is_within_limits d word self.states.current.value c.requires.state
+    in let most = word_length (g.D.Dispatching.shop d) word limits
     (g.met.D.Dispatching.state_is_of_word d word self.states.current.value c.requires.state)
-    in let b = c.len-depth.ensures in let e = self.path.ok.0 in omega arith
+    in let few = few_closed c.requires.candidates
+    in let jobs = limits.jobs in let b = c.len-depth.ensures in let e = self.path.ok.0
+    in record { depth = omega arith; count = omega arith }
 
-pub put_rest-requires-clause-count : goal.put_rest-requires-clause-count
-put_rest-requires-clause-count g c =
+pub raise_rest-requires : goal.raise_rest-requires
+raise_rest-requires g c =
     let self = c.args.self.now
     in let d = self.states.dispatcher.now
     in let word = self.path.items
-    in let few = few_closed (g.D.Dispatching.shop d) word self.progress.best (g.D.Dispatching.IsCandidate d word)
-    c.requires.candidates
-    in let limits = (g.met.D.Dispatching.state_is_within_limits d word self.states.current.value c.requires.state).jobs
-    in omega arith
-
-pub raise_rest-requires-clause-place : goal.raise_rest-requires-clause-place
-raise_rest-requires-clause-place g c =
-    let old = c.args.self.now.stack.items
+    in let old = self.stack.items
     in let put = c.in_ok-all.ensures.children
     in let a = ap (λ (hs : List (Held g.row.S.Denot)). length hs) put.stack
     in let b = length-append c.put_rest.new.stack.items (map held put.kids)
     in let e = ap (λ (hs : List (Held g.row.S.Denot)). length hs) c.in_ok-put_rest.ensures
     in let f = rest_long old c.len-depth.result c.args.closed
-    in let h = c.len-below.ensures in let i = c.args.self.now.stack.ok.0 in omega arith
-
-pub raise_rest-requires-clause-depth : goal.raise_rest-requires-clause-depth
-raise_rest-requires-clause-depth g c =
-    let self = c.args.self.now
-    in let d = self.states.dispatcher.now
-    in let word = self.path.items
-    in let a = word_length (g.D.Dispatching.shop d) word
-    (g.met.D.Dispatching.state_is_within_limits d word self.states.current.value c.requires.state)
-    (g.met.D.Dispatching.state_is_of_word d word self.states.current.value c.requires.state)
-    in let b = c.len-depth.ensures in let e = self.path.ok.0 in omega arith
-
-pub raise_rest-requires-clause-count : goal.raise_rest-requires-clause-count
-raise_rest-requires-clause-count g c =
-    let self = c.args.self.now
-    in let d = self.states.dispatcher.now
-    in let word = self.path.items
-    in let put = c.in_ok-all.ensures.children
+    in let h = c.len-below.ensures in let i = self.stack.ok.0
     in let limits = g.met.D.Dispatching.state_is_within_limits d word self.states.current.value c.requires.state
-    in let a = few_open (g.D.Dispatching.shop d) self.progress.best c.as_slice-2.result.now
-    (opens_in put.kids) c.in_ok-all.all put.children
-    in let b = limits.jobs in omega arith
+    in let most = word_length (g.D.Dispatching.shop d) word limits
+    (g.met.D.Dispatching.state_is_of_word d word self.states.current.value c.requires.state)
+    in let few = few_open put.children
+    in let jobs = limits.jobs in let k = c.len-depth.ensures in let n = self.path.ok.0
+    in record {
+      place = omega arith;
+      depth = omega arith;
+      more = c.in_ok-all.ensures.more;
+      count = omega arith;
+    }
 
 pub returns-clause-branched : goal.returns-clause-branched
 returns-clause-branched g c =

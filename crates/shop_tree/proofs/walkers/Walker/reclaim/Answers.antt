@@ -6,5 +6,4 @@ loop-self-init g c = stands_where c.args.self.now c.requires.states
 
 pub loop-self-preserved : goal.loop-self-preserved
 loop-self-preserved g c =
-    stands_then c.args.self.now c.loop-self.self c.strip_next.new.self c.loop-self.invariant
-    c.in_ok-strip_next.ensures.stands
+    stands_then c.loop-self.invariant c.in_ok-strip_next.ensures.stands

@@ -31,10 +31,9 @@ returns-clause-keeps g c =
     }
     in let left = ap (λ (l : Leaving). l.words) c.new.ensures
     in subst (KeepsPiece shop (words_of nodes) c.args.best)
-    (sym (sheet_told begun (stage_of t) c.as_slice-nodes.result.now nodes _ k shop c.args.best c.args.budget
-    c.take_found-found.result halted c.new.result.words same c.begin.ensures.walk refl c.in_ok-index.ensures.walked
-    c.in_ok-index.ensures.ended c.as_slice-nodes.ensures.value (take_rest c.as_slice-nodes.result.now k)
-    c.take_found-found.ensures.found c.in_ok-halt.ensures.words left))
+    (sym (sheet_told begun (stage_of t) c.as_slice-nodes.result.now k same c.begin.ensures.walk refl
+    c.in_ok-index.ensures.walked c.in_ok-index.ensures.ended c.as_slice-nodes.ensures.value (take_rest
+    c.as_slice-nodes.result.now k) c.take_found-found.ensures.found c.in_ok-halt.ensures.words left))
     (searches_keep shop (words_of nodes) c.args.best c.args.budget (are_words shop nodes c.requires.nodes))
 
 pub invariant_of-result : goal.invariant_of-result
@@ -53,9 +52,8 @@ invariant_of-result g c =
       stack = waiting_in c.clear.new.self.stack.items;
     }
     in let left = ap (λ (l : Leaving). l.words) c.new.ensures
-    in let told = sheet_told begun (stage_of t) c.as_slice-nodes.result.now nodes _ k shop c.args.best c.args.budget
-    c.take_found-found.result halted c.new.result.words (sym c.in_ok-index.ensures.walked.shop) c.begin.ensures.walk
-    refl c.in_ok-index.ensures.walked c.in_ok-index.ensures.ended c.as_slice-nodes.ensures.value
+    in let told = sheet_told begun (stage_of t) c.as_slice-nodes.result.now k (sym c.in_ok-index.ensures.walked.shop)
+    c.begin.ensures.walk refl c.in_ok-index.ensures.walked c.in_ok-index.ensures.ended c.as_slice-nodes.ensures.value
     (take_rest c.as_slice-nodes.result.now k) c.take_found-found.ensures.found c.in_ok-halt.ensures.words left
     in record {
       of_piece = refl;

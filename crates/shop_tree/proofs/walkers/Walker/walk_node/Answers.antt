@@ -4,9 +4,8 @@ use Rattle.shop_bound.specs.Bound.{lb}
 use Rattle.shop_tree.specs.inner.Held.{waiting_in}
 use Rattle.shop_tree.specs.inner.Searching.{walked}
 use Rattle.shop_tree.specs.inner.StateWalkers.{stage_of}
-use Rattle.shop_tree.specs.inner.Walkers.{HasExpanded, HasWalked, node_walk}
+use Rattle.shop_tree.specs.inner.Walkers.{HasExpanded, HasWalked, node_walk, spent_one}
 use Rattle.shop_tree.proofs.ListLemmas.{on_ok}
-use Rattle.shop_tree.specs.inner.Walkers.{spent_one}
 use Rattle.shop_tree.proofs.WalkerLemmas.{node_expanded}
 use Rattle.shop_tree.proofs.walkers.Walker.walk_node.Goals as goal
 

@@ -9,11 +9,10 @@ use Rattle.shop_tree.specs.inner.Held.{waiting_in}
 use Rattle.shop_nodes.specs.Halts.{word_at}
 use Rattle.shop_tree.specs.inner.Searching.{walked}
 use Rattle.shop_tree.specs.inner.StateWalkers.{stage_of, AreHeld}
-use Rattle.shop_tree.specs.inner.Walkers.{HasExpanded, IsInOrder, IsTurn}
+use Rattle.shop_tree.specs.inner.Walkers.{HasExpanded, IsInOrder, IsTurn, spent_one}
 use Rattle.shop_nodes.specs.declared.halts.Waiting.TheVariants.{Child}
 use Rattle.shop_tree.proofs.OpenLemmas.{popped}
 use Rattle.shop_tree.proofs.ListLemmas.{on_ok}
-use Rattle.shop_tree.specs.inner.Walkers.{spent_one}
 use Rattle.shop_tree.proofs.StateLemmas.{held_below}
 use Rattle.shop_tree.proofs.WalkerLemmas.{turn_cut, turn_expanded, went_in_order}
 use Rattle.shop_tree.proofs.walkers.Walker.walk_open.Goals as goal
@@ -30,8 +29,7 @@ unwrap-requires g c =
     let self = c.args.self.now
     in let o = c.args.child
     in let word = self.path.items
-    in let own = (popped self.progress.instance.now self.progress.best word (waiting_in self.stack.items) (Child o)
-    c.requires.on).own
+    in let own = (popped (waiting_in self.stack.items) (Child o) c.requires.on).own
     in let few = room_left self.progress.instance.now (take o.depth word) o.job own.is_word
     in let depth = length-take-le o.depth word own.depth
     in c.push.ensures.succeeds (let a = c.truncate.ensures.len in let b = c.truncate.ensures.capacity
@@ -42,8 +40,7 @@ go_on_in-requires-clause-word g c =
     let self = c.args.self.now
     in let o = c.args.child
     in let word = self.path.items
-    in let own = (popped self.progress.instance.now self.progress.best word (waiting_in self.stack.items) (Child o)
-    c.requires.on).own
+    in let own = (popped (waiting_in self.stack.items) (Child o) c.requires.on).own
     in let went : c.as_slice.result.now ≡ word_at word o = c.as_slice.ensures.value
     ∙ rw (c.unwrap.ensures, c.truncate.ensures.items) at c.push.ensures.items
     in subst (λ (w : List ℕ). IsWord (g.D.Dispatching.shop self.states.dispatcher.now) w) (sym went)
@@ -54,8 +51,7 @@ expand-requires-clause-bound g c =
     let self = c.args.self.now
     in let o = c.args.child
     in let word = self.path.items
-    in let own = (popped self.progress.instance.now self.progress.best word (waiting_in self.stack.items) (Child o)
-    c.requires.on).own
+    in let own = (popped (waiting_in self.stack.items) (Child o) c.requires.on).own
     in let went : c.push.new.self.items ≡ word_at word o =
     rw (c.unwrap.ensures, c.truncate.ensures.items) at c.push.ensures.items
     in subst (λ (w : List ℕ). o.bound ≡ lb self.progress.instance.now w) (sym went) own.bound

@@ -1,0 +1,37 @@
+use Rattle.std.proofs.Common.{◌≡◌, ℕ, List, get_or, length, ◌∙◌, ap, refl, sym, subst, arith}
+use Rattle.shop_layout.specs.Lanes.{rows_of}
+use Rattle.shop_states.specs.inner.Raises.{HasBlocks}
+use Rattle.shop_states.proofs.Candidates.{choosable}
+use Rattle.shop_states.proofs.LaneConflicts.{chosen_at, chosen_in, chosen_job, is_conflict, none_open}
+use Rattle.shop_states.proofs.OwnSpans.{nobody}
+use Rattle.shop_states.proofs.candidate_lists.list_candidates.Goals as goal
+
+pub list_on_machine-requires-clause-chosen : goal.list_on_machine-requires-clause-chosen
+list_on_machine-requires-clause-chosen g c = λ shop w kept.
+    let l = c.args.grid.now
+    in let nexts = c.args.next.now
+    in let heads = g.L.StateLanes.heads c.args.lanes.now
+    in let ends = g.L.StateLanes.ends c.args.lanes.now
+    in let rows = rows_of l heads ends
+    in let r = c.first_least_end-chosen.result.0
+    in let is = c.first_least_end-chosen.ensures.job
+    in let can = choosable kept
+    in let at = chosen_at can r is c.positions.ensures c.if-position-positions.false
+    in let read : get_or c.machines.result.now (get_or nexts r 0) 0 ≡ get_or l.machines (get_or nexts r 0) 0 =
+    ap (λ (xs : List ℕ). get_or xs (get_or nexts r 0) 0) c.machines.ensures
+    in let end = kept.ends.next r at.operation in let told = c.first_least_end-chosen.ensures.end in let fits = at.fits
+    in record {
+      known = (let a = chosen_job can r is
+          in let b = kept.are_next.jobs in omega arith);
+      machine_is = read;
+      blocks = subst (λ (m : ℕ). HasBlocks l (length heads) m) (sym read) at.blocks;
+      fits = omega arith;
+      has = chosen_in can r is at.operation;
+      set = λ js are. is_conflict can r is at.operation (read ∙ at.machine_is) (omega arith) js are;
+    }
+
+pub returns-then-position-positions-clause-are : goal.returns-then-position-positions-clause-are
+returns-then-position-positions-clause-are g c = λ shop w kept.
+    let can = choosable kept
+    in nobody kept (none_open can c.first_least_end-chosen.result.0 c.first_least_end-chosen.ensures.job
+    c.positions.ensures c.if-position-positions.true) c.args.limit refl c.clear.new.self.items c.clear.ensures.items

@@ -1,0 +1,239 @@
+// Lists a word's candidates: the jobs of its conflict set, each with a lower bound of the word extended by that job.
+ghost use Rattle.std.specs.Prelude.{◌≡◌, ℕ, ◌+◌, ◌*◌, ◌≤◌, ◌<◌, List, [], ◌∷◌, ◌++◌, length, map};
+ghost use Rattle.std.specs.Prelude.{slice_index, vec_capacity};
+ghost use Rattle.shop_lanes.specs.Marks.{positions_below};
+ghost use Rattle.shop_model.specs.Shop.{Shop};
+ghost use Rattle.shop_states.specs.inner.Candidates.{AreCandidatesOf, CanGather, CanList, IsChosenBy};
+ghost use Rattle.shop_states.specs.inner.Candidates.{IsTold, ListsGathered, ListsOwn, told_at};
+ghost use Rattle.shop_states.specs.inner.JobSets.{members};
+ghost use Rattle.shop_states.specs.inner.LaneChoices.{IsJobBelow};
+ghost use Rattle.shop_states.specs.inner.LaneStates.{IsKeptInLanes};
+ghost use Rattle.shop_states.specs.inner.Raises.{IsInBlocks};
+ghost use Rattle.shop_states.specs.inner.RisingLists.{IsGatheredWith, IsIn};
+ghost use Rattle.shop_layout.specs.Lanes.{rows_of};
+
+use crate::dispatching::Candidate;
+use crate::job_sets::BITS;
+use crate::lane_choices::conflict_set;
+use shop_lanes::{Marks, StateLanes};
+use shop_layout::Grid;
+
+/// Answers the own span in `owns[place]`: how late that operation, and the others of its machine with their tails, end
+/// if it goes first.
+#[inline(always)]
+fn own_at<L: StateLanes>(owns: &[L::Number], place: usize) -> u64
+    requires { place < length owns.now }
+    ensures { result ≡ slice_index (map L.value owns.now) place }
+{
+    L::widened(owns[place])
+}
+
+/// Makes the candidate of `job`. `owns[i]` is the own span, see `own_at`, of the operation at position `first` + `i`.
+#[inline(always)]
+fn candidate_for<L: StateLanes>(
+    job: usize,
+    next: &[u32],
+    first: usize,
+    owns: &[L::Number],
+) -> Candidate
+    requires small { length next.now < 1024 }
+    requires told { IsTold next.now first (length owns.now) job }
+    ensures job { result.job ≡ job }
+    ensures own { result.own ≡ told_at next.now first (map L.value owns.now) job }
+{
+    let place = next[job] as usize - first;
+    let own = own_at::<L>(owns, place);
+    Candidate {
+        job: job as u16,
+        own: own.saturating_sub(1),
+    }
+}
+
+/// Appends `candidate` if its bound `own` is below `limit`. Answers how many candidates are left out: 0 or 1.
+#[inline(always)]
+fn list_below(candidates: &mut Vec<Candidate>, candidate: Candidate, limit: u64) -> usize
+    requires room { length candidates.old.items < vec_capacity candidates.old }
+    ensures listed { (own : ℕ → ℕ) (js : List ℕ) (n : ℕ) → candidate.own ≡ own candidate.job
+        → ListsOwn limit own js candidates.old.items n
+        → ListsOwn limit own (js ++ candidate.job ∷ []) candidates.new.items (n + result) }
+    ensures count { length candidates.new.items + result ≡ length candidates.old.items + 1 }
+    ensures room { vec_capacity candidates.new ≡ vec_capacity candidates.old }
+{
+    let others = usize::from(candidate.own >= limit);
+    candidates.push_reserved(candidate);
+    // no branch, since it would often be mispredicted
+    candidates.truncate(candidates.len() - others);
+    others
+}
+
+/// Appends the candidates of the marked `jobs` whose `own` is below `limit`, and answers how many jobs are left out.
+/// `owns[i]` is the own span, see `own_at`, of the operation at position `first` + `i`.
+#[inline(always)]
+fn list_marked<L: StateLanes>(
+    candidates: &mut Vec<Candidate>,
+    jobs: Marks,
+    next: &[u32],
+    first: usize,
+    owns: &[L::Number],
+    limit: u64,
+) -> usize
+    requires small { length next.now < 1024 }
+    requires told { (j : ℕ) → IsIn jobs j → IsTold next.now first (length owns.now) j }
+    requires few { length jobs < 1024 }
+    requires room { length candidates.old.items + length jobs ≤ vec_capacity candidates.old }
+    ensures listed { (js : List ℕ) (n : ℕ)
+        → ListsOwn limit (told_at next.now first (map L.value owns.now)) js candidates.old.items n
+        → ListsOwn limit (told_at next.now first (map L.value owns.now)) (js ++ jobs)
+        candidates.new.items (n + result) }
+    ensures count { length candidates.new.items + result ≡ length candidates.old.items + length jobs }
+    ensures room { vec_capacity candidates.new ≡ vec_capacity candidates.old }
+{
+    let mut others = 0;
+    let mut left = jobs;
+    while let Some(job) = left.pop_first() {
+        let candidate = candidate_for::<L>(job, next, first, owns);
+        others += list_below(candidates, candidate, limit);
+    }
+    others
+}
+
+/// Fills the empty list with the candidates of a set of jobs whose `own` is below `limit`, and answers how many jobs
+/// are left out. The bits of `words` are the set. `owns[i]` is the own span, see `own_at`, at position `first` + `i`.
+#[inline(always)]
+fn list_words<L: StateLanes>(
+    candidates: &mut Vec<Candidate>,
+    words: &[u64],
+    next: &[u32],
+    first: usize,
+    owns: &[L::Number],
+    limit: u64,
+) -> usize
+    requires words { length words.now ≤ 16 }
+    requires small { length next.now < 1024 }
+    requires told { (j : ℕ) → IsIn (members 0 words.now) j → IsTold next.now first (length owns.now) j }
+    requires none { candidates.old.items ≡ [] }
+    requires room { length next.now ≤ vec_capacity candidates.old }
+    ensures listed { ListsOwn limit (told_at next.now first (map L.value owns.now)) (members 0 words.now)
+        candidates.new.items result }
+    ensures room { vec_capacity candidates.new ≡ vec_capacity candidates.old }
+{
+    let mut others = 0;
+    for word in 0..words.len() {
+        let jobs = Marks::new(BITS * word, words[word]);
+        others += list_marked::<L>(candidates, jobs, next, first, owns, limit);
+    }
+    others
+}
+
+/// Fills the empty list with the candidates of the conflict set whose `own` is below `limit`, and answers how many jobs
+/// are left out. `owns` holds the own spans, see `own_at`, from block `from` on. `conflict_set` explains the other
+/// parameters. For up to 64 jobs the set is one number of 64 bits, for more jobs sixteen.
+#[inline(always)]
+fn list_conflict_set<L: StateLanes>(
+    candidates: &mut Vec<Candidate>,
+    below: Marks,
+    owns: &[L::Number],
+    lanes: &L,
+    grid: &Grid<L>,
+    next: &[u32],
+    chosen: usize,
+    from: usize,
+    to: usize,
+    behind: usize,
+    end: u64,
+    limit: u64,
+) -> usize
+    requires can { CanList L.GREATEST grid.now (L.heads lanes.now) next.now chosen from to behind end
+        (length owns.now) }
+    requires marks { below
+        ≡ positions_below (rows_of grid.now (L.heads lanes.now) (L.ends lanes.now)) from to end }
+    requires none { candidates.old.items ≡ [] }
+    requires room { length next.now ≤ vec_capacity candidates.old }
+    ensures listed { ListsGathered limit (told_at next.now (8 * from) (map L.value owns.now))
+        (IsGatheredWith chosen (IsJobBelow grid.now (L.heads lanes.now) (IsInBlocks from behind) end))
+        candidates.new.items result }
+    ensures room { vec_capacity candidates.new ≡ vec_capacity candidates.old }
+{
+    if next.len() <= BITS {
+        let jobs = conflict_set::<1, L>(below, lanes, grid, chosen, from, to, behind, end);
+        return list_words::<L>(candidates, jobs.words(), next, 8 * from, owns, limit);
+    }
+    let jobs = conflict_set::<16, L>(below, lanes, grid, chosen, from, to, behind, end);
+    list_words::<L>(candidates, jobs.words(), next, 8 * from, owns, limit)
+}
+
+/// Fills the empty list with the word's candidates whose `own` is below `limit`, and answers how many jobs are left
+/// out. Of all next operations that of `chosen` can end first, at `end` on `machine`. On a machine of at most eight
+/// blocks, lists a sole candidate with `own` 0, whatever `limit` is.
+#[inline(always)]
+fn list_on_machine<L: StateLanes>(
+    candidates: &mut Vec<Candidate>,
+    owns: &mut [L::Number],
+    lanes: &L,
+    grid: &Grid<L>,
+    next: &[u32],
+    chosen: usize,
+    machine: usize,
+    end: u64,
+    limit: u64,
+) -> usize
+    requires can { CanGather L.GREATEST grid.now
+        (rows_of grid.now (L.heads lanes.now) (L.ends lanes.now)) next.now }
+    requires chosen { (shop : Shop) (w : List ℕ) → IsKeptInLanes L.GREATEST shop w grid.now
+        (rows_of grid.now (L.heads lanes.now) (L.ends lanes.now)) next.now
+        → IsChosenBy L.GREATEST shop w grid.now (L.heads lanes.now) next.now chosen machine end }
+    requires none { candidates.old.items ≡ [] }
+    requires owns { length owns.old ≡ length (L.heads lanes.now) }
+    requires room { length next.now ≤ vec_capacity candidates.old }
+    ensures are { (shop : Shop) (w : List ℕ) → IsKeptInLanes L.GREATEST shop w grid.now
+        (rows_of grid.now (L.heads lanes.now) (L.ends lanes.now)) next.now
+        → AreCandidatesOf shop w grid.now limit candidates.new.items result }
+    ensures long { length owns.new ≡ length owns.old }
+    ensures room { vec_capacity candidates.old ≤ vec_capacity candidates.new }
+{
+    let (from, behind) = (grid.block(machine), grid.block(machine + 1));
+    let to = from + (behind - from).min(8);
+    let below = lanes.below(from, to, end);
+    // dispatching a sole candidate keeps the word's bound
+    if to == behind && below.has_no_other(next[chosen] as usize) {
+        let job = chosen as u16;
+        candidates.push_reserved(Candidate { job, own: 0 });
+        return 0;
+    }
+    grid.own_spans(lanes, from, behind, owns);
+    list_conflict_set(
+        candidates, below, owns, lanes, grid, next, chosen, from, to, behind, end, limit,
+    )
+}
+
+/// Replaces `candidates` by the jobs of the conflict set whose `own` is below `limit`. Answers how many are left out.
+#[inline(always)]
+pub(crate) fn list_candidates<L: StateLanes>(
+    candidates: &mut Vec<Candidate>,
+    owns: &mut [L::Number],
+    lanes: &L,
+    grid: &Grid<L>,
+    next: &[u32],
+    limit: u64,
+) -> usize
+    requires can { CanGather L.GREATEST grid.now
+        (rows_of grid.now (L.heads lanes.now) (L.ends lanes.now)) next.now }
+    requires owns { length owns.old ≡ length (L.heads lanes.now) }
+    requires room { length next.now ≤ vec_capacity candidates.old }
+    ensures are { (shop : Shop) (w : List ℕ) → IsKeptInLanes L.GREATEST shop w grid.now
+        (rows_of grid.now (L.heads lanes.now) (L.ends lanes.now)) next.now
+        → AreCandidatesOf shop w grid.now limit candidates.new.items result }
+    ensures long { length owns.new ≡ length owns.old }
+    ensures room { vec_capacity candidates.old ≤ vec_capacity candidates.new }
+{
+    candidates.clear();
+    let (chosen, end) = lanes.first_least_end();
+    let position = next[chosen] as usize;
+    if position >= grid.positions() {
+        return 0;
+    }
+    let machine = grid.machines()[position] as usize;
+    list_on_machine(
+        candidates, owns, lanes, grid, next, chosen, machine, end, limit,
+    )
+}

@@ -1,5 +1,0 @@
-use Rattle.shop_text.proofs.ShapeLaw as shapes
-use Rattle.shop_text.proofs.laws.routes_shape.Goals as goal
-
-pub returns : goal.returns
-returns c = shapes.routes_shape
