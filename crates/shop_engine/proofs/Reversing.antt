@@ -4,7 +4,8 @@ use Rattle.std.proofs.Common.{sym, ap, ◌∙◌, subst, arith, reverse}
 use Rattle.std.proofs.lemmas.List.{get_or-reverse, length-reverse, reverse-reverse}
 use Rattle.shop_model.specs.declared.ops.Op.{Op}
 use Rattle.shop_model.specs.Shop.{Shop, ShopJob, Starts, no_job, no_op, release_of, route_of, op_of, machine_of, time_of}
-use Rattle.shop_model.specs.Shop.{IsOperation, IsFeasible, finish_of, AreDifferent}
+use Rattle.shop_model.specs.Shop.{IsOperation, IsFeasible, finish_of}
+use Rattle.shop_model.proofs.Ends.{AreDifferent}
 use Rattle.shop_model.proofs.Ends.{le-end_of, end_of-le}
 use Rattle.shop_engine.specs.Easier.{EndsBy}
 use Rattle.shop_engine.specs.Reversing.{reversed_job, reversed, ReversingAsksTheSame}

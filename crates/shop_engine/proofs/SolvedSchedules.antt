@@ -4,7 +4,8 @@ use Rattle.std.proofs.Common.{Option, Some, sym, ap, ◌∙◌, subst, arith}
 use Rattle.std.specs.Prelude.{IsTrue}
 use Rattle.std.specs.List.{list_all}
 use Rattle.std.proofs.lemmas.List.{append-nil}
-use Rattle.shop_model.specs.Shop.{Shop, Starts, IsFeasible, AreDifferent}
+use Rattle.shop_model.specs.Shop.{Shop, Starts, IsFeasible}
+use Rattle.shop_model.proofs.Ends.{AreDifferent}
 use Rattle.shop_model.specs.Limits.{AreStarts}
 use Rattle.shop_model.specs.Checking.{EndsAt, IsVerdict, IsBefore, IsFirstEarly, IsFirstOverlap, starts_of}
 use Rattle.shop_model.specs.declared.checking.Verdict.{Verdict}

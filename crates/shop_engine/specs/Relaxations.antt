@@ -4,7 +4,6 @@
 use Rattle.std.specs.Prelude.{◌≡◌, ℕ, ◌+◌, ◌≤◌, ◌<◌, List, ◌∷◌, ◌++◌}
 use Rattle.shop_model.specs.declared.ops.Op.{Op}
 use Rattle.shop_model.specs.Shop.{Shop, ShopJob, release_of, machine_of, time_of, IsOperation}
-use Rattle.shop_model.specs.Shop.{AreDifferent}
 use Rattle.shop_engine.specs.Easier.{AsksNoMore}
 
 -- Step k of job j stands for step `step j k` of job `job j`: no two for one, and those of a job in
@@ -15,7 +14,7 @@ pub record IsRelaxation (easy hard : Shop) : Type 0 where
   pub operations : (j k : ℕ) → IsOperation easy j k → IsOperation hard (job j) (step j k)
   pub in_order : (j k : ℕ) → IsOperation easy j (k + 1) → step j k < step j (k + 1)
   pub different : (j k i l : ℕ) → IsOperation easy j k → IsOperation easy i l
-      → AreDifferent j k i l → AreDifferent (job j) (step j k) (job i) (step i l)
+      → ((j ≡ i) × (k ≡ l) → ⊥) → (job j ≡ job i) × (step j k ≡ step i l) → ⊥
   pub times : (j k : ℕ) → IsOperation easy j k → time_of easy j k ≤ time_of hard (job j) (step j k)
   pub releases : (j : ℕ) → IsOperation easy j 0 → release_of easy j ≤ release_of hard (job j)
   pub machines : (j k i l : ℕ) → IsOperation easy j k → IsOperation easy i l

@@ -4,9 +4,13 @@ use Rattle.std.proofs.Common.{add-one}
 use Rattle.std.proofs.lemmas.Bool.{cases_eq, cases_lt}
 use Rattle.std.proofs.lemmas.List.{get_or_past}
 use Rattle.shop_model.specs.Shop.{Shop, Starts, route_of, machine_of, IsOperation}
-use Rattle.shop_model.specs.Shop.{IsFeasible, finish_of, AreDifferent, end_of, greatest_below}
+use Rattle.shop_model.specs.Shop.{IsFeasible, finish_of, end_of, greatest_below}
 use Rattle.shop_model.specs.Checking.{NoneEarly}
 use Rattle.shop_model.proofs.Greatest.{le-greatest_below, greatest_below-le}
+
+-- (j, k) and (i, l) are two different places
+abbrev pub AreDifferent : ℕ → ℕ → ℕ → ℕ → Type 0
+AreDifferent j k i l = (j ≡ i) × (k ≡ l) → ⊥
 
 -- an operation is one of a job
 pub IsOperation-job : (shop : Shop) (i l : ℕ) → IsOperation shop i l → i < length shop.jobs

@@ -3,7 +3,8 @@ use Rattle.std.proofs.Common.{◌≡◌, ℕ, zero, suc, ◌+◌, ◌≤◌, ◌
 use Rattle.std.proofs.Common.{sym, ◌∙◌, ap, subst, arith, add-one, cond, ltb}
 use Rattle.std.proofs.lemmas.Bool.{cases_eq, cases_lt}
 use Rattle.shop_model.specs.Shop.{Shop, Starts, machine_of, time_of, IsOperation, IsFeasible}
-use Rattle.shop_model.specs.Shop.{finish_of, AreDifferent, end_of}
+use Rattle.shop_model.specs.Shop.{finish_of, end_of}
+use Rattle.shop_model.proofs.Ends.{AreDifferent}
 use Rattle.shop_model.specs.Word.{Placing, place_next, with_value}
 use Rattle.shop_model.specs.Checking.{earliest_of, NoneEarly}
 use Rattle.shop_model.proofs.Ends.{le-end_of, end_of-le, feasible-in_time, feasible_from}

@@ -62,10 +62,6 @@ Starts = ℕ → ℕ → ℕ
 abbrev pub finish_of : Shop → Starts → ℕ → ℕ → ℕ
 finish_of shop starts j k = starts j k + time_of shop j k
 
--- (j, k) and (i, l) are two different places
-abbrev pub AreDifferent : ℕ → ℕ → ℕ → ℕ → Type 0
-AreDifferent j k i l = (j ≡ i) × (k ≡ l) → ⊥
-
 pub record IsFeasible (shop : Shop) (starts : Starts) : Type 0 where
   -- no job begins before its release
   pub released : (j : ℕ) → IsOperation shop j 0 → release_of shop j ≤ starts j 0
@@ -74,7 +70,7 @@ pub record IsFeasible (shop : Shop) (starts : Starts) : Type 0 where
       → finish_of shop starts j k ≤ starts j (k + 1)
   -- of any two different operations of one machine one ends not later than the other begins
   pub apart : (j k i l : ℕ) → IsOperation shop j k → IsOperation shop i l
-      → machine_of shop j k ≡ machine_of shop i l → AreDifferent j k i l
+      → machine_of shop j k ≡ machine_of shop i l → ((j ≡ i) × (k ≡ l) → ⊥)
       → (finish_of shop starts j k ≤ starts i l) ⊎ (finish_of shop starts i l ≤ starts j k)
 
 -- the greatest of f 0, .. f (n - 1), and 0 where n is 0

@@ -7,7 +7,8 @@ use Rattle.shop_nodes.specs.Laws.{LosesNoTable}
 use Rattle.std.proofs.lemmas.List.{length-append}
 use Rattle.std.proofs.lemmas.Bool.{cases_Bool, cases_eq, cases_lt, eq-eqb, ltb-true, ltb-false, lt-ltb, true≢false}
 use Rattle.std.proofs.lemmas.Bool.{or_right}
-use Rattle.shop_model.specs.Shop.{Shop, Starts, route_of, machine_of, IsOperation, IsFeasible, finish_of, AreDifferent}
+use Rattle.shop_model.specs.Shop.{Shop, Starts, route_of, machine_of, IsOperation, IsFeasible, finish_of}
+use Rattle.shop_model.proofs.Ends.{AreDifferent}
 use Rattle.shop_model.specs.Shop.{end_of}
 use Rattle.shop_model.specs.Word.{Placing, placing, count_of, IsWord, IsFull, IsUnder}
 use Rattle.shop_model.proofs.WordLemmas.{count_of-snoc_same, count_of-snoc_other}

@@ -5,7 +5,7 @@ use Rattle.std.specs.List.{AllByRecursion, filter, flat_map, range_with_len, bes
 use Rattle.std.proofs.lemmas.Bool.{cases_eq, eqb-true, eq-eqb}
 use Rattle.shop_model.specs.declared.ops.Op.{Op}
 use Rattle.shop_model.specs.Shop.{Shop, Starts, route_of, machine_of, time_of, IsOperation, IsFeasible, finish_of}
-use Rattle.shop_model.specs.Shop.{AreDifferent}
+use Rattle.shop_model.proofs.Ends.{AreDifferent}
 use Rattle.shop_model.specs.Word.{Placing}
 use Rattle.shop_model.proofs.Ends.{IsOperation-job}
 use Rattle.shop_model.proofs.Placings.{Follows}
