@@ -1,5 +1,5 @@
 //! The same search as the program's, in plain Rust without proofs, and the best that is known: the yardstick that
-//! `bench/run` measures against.
+//! `bench/beside` measures against.
 //!
 //!     baseline solve [--format F] [--name N] [--rounds R] [--budget B] [--piece K] [--order O] [--workers W] FILE
 //!     baseline list [--format F] FILE
