@@ -16,4 +16,5 @@ pub mod PlacedTables
 pub mod Merging
 pub mod SwappedPairs
 pub mod SpanLemmas
+pub mod ClearSpanLemmas
 pub mod SoonestStarts

@@ -1,5 +1,5 @@
 -- Spans in turn are apart, and so are the operations that they stand for.
-use Rattle.std.proofs.Common.{◌≡◌, ℕ, zero, suc, ◌+◌, ◌≤◌, ◌<◌, ◌⊎◌, inl, inr, List, [], ◌∷◌, ◌++◌, length, map, take}
+use Rattle.std.proofs.Common.{◌≡◌, ℕ, zero, suc, ◌+◌, ◌≤◌, ◌<◌, inl, inr, List, [], ◌∷◌, ◌++◌, length, map, take}
 use Rattle.std.proofs.Common.{get_or, slice_index_or, sym, ◌∙◌, ap, subst, arith, All}
 use Rattle.std.specs.List.{range_with_len, flat_map, AllPairs, AllByRecursion, sum_by}
 use Rattle.std.proofs.lemmas.Bool.{cases_eq}
@@ -14,11 +14,8 @@ use Rattle.shop_model.specs.Shop.{Shop, route_of, IsOperation}
 use Rattle.shop_model.specs.Checking.{starts_of, IsBefore}
 use Rattle.shop_model.specs.inner.FirstFaults.{AllApart}
 use Rattle.shop_model.specs.inner.Spans.{span_at, spans_at, spans_of, IsInTurn, AreInTurn}
+use Rattle.shop_model.specs.inner.ClearSpans.{ArePartedSpans}
 use Rattle.shop_model.proofs.Ends.{IsOperation-job}
-
--- two spans on one machine don't overlap
-abbrev pub ArePartedSpans : Occupied → Occupied → Type 0
-ArePartedSpans a b = a.machine ≡ b.machine → (a.finish ≤ b.start) ⊎ (b.finish ≤ a.start)
 
 -- no span ends before it begins
 abbrev pub IsForward : Occupied → Type 0
@@ -46,7 +43,7 @@ in_turn_far xs turns forward k (suc l) d before below =
           (in_turn_far xs turns forward k l d (omega arith) (omega arith)) next
     ]
 
-in_turn_parted : (a b : Occupied) → IsInTurn a b → ArePartedSpans a b
+pub in_turn_parted : (a b : Occupied) → IsInTurn a b → ArePartedSpans a b
 in_turn_parted a b turn same = elim turn [ inl h ↦ absurd (omega arith) | inr h ↦ inl h.1 ]
 
 pub parted_pairs : (xs : List Occupied) → AreInTurn xs → All IsForward xs → AllPairs ArePartedSpans xs
@@ -138,11 +135,16 @@ module _ (shop : Shop) (rows : List (List ℕ)) where
       = ap (λ (xs : List ℕ). length (flat_map part xs)) all
       in omega arith
 
-  pub apart_from_pairs : AllPairs ArePartedSpans (spans_of shop rows) → AllApart shop (starts_of rows)
-  apart_from_pairs all j k i l op other before same =
+  -- what holds of each pair of spans holds of those of two operations
+  pub of_operations : (S : Occupied → Occupied → Type 0) → AllPairs S (spans_of shop rows) → (j k i l : ℕ)
+      → IsOperation shop j k → IsOperation shop i l → IsBefore j k i l → S (span j k) (span i l)
+  of_operations S all j k i l op other before =
       let d : Occupied = record { machine = 0; start = 0; finish = 0 }
-      in (rw (span_in_place j k d op, span_in_place i l d other)
-      at (all (place j k) (place i l) d (place_before j k i l op other before) (place_below i l other))) same
+      in rw (span_in_place j k d op, span_in_place i l d other)
+      at (all (place j k) (place i l) d (place_before j k i l op other before) (place_below i l other))
+
+  pub apart_from_pairs : AllPairs ArePartedSpans (spans_of shop rows) → AllApart shop (starts_of rows)
+  apart_from_pairs all j k i l op other before same = of_operations ArePartedSpans all j k i l op other before same
 
   -- no span ends before it begins
   pub spans_forward : All IsForward (spans_of shop rows)

@@ -1,5 +1,6 @@
 pub mod Steps
 pub mod Spans
+pub mod ClearSpans
 pub mod FirstFaults
 pub mod NonePlaced
 pub mod ClearPlacements

@@ -7,7 +7,7 @@ ghost use Rattle.shop_model.specs.inner.FirstFaults.{TellsFirstEarly};
 use crate::instances::Instance;
 use crate::ops::OperationId;
 use crate::overlaps::first_overlap;
-use crate::spans::are_in_turn_sorted;
+use crate::sorted_overlaps::first_overlap_sorted;
 use crate::steps::{early_step, last_finish};
 use crate::tables::Table;
 use std::alloc::{AllocError as NoMemory, Global};
@@ -116,18 +116,22 @@ pub fn check(instance: &Instance, table: &Table) -> Verdict
     }
 }
 
-/// As `check`, by sorting the operations: it takes memory, and far less time for a large feasible table. Fails with
-/// `NoMemory` if memory runs out.
+/// As `check`, by sorting the operations: it takes memory, and time in proportion to n log n for n operations, whatever
+/// the verdict. Fails with `NoMemory` if memory runs out.
 pub fn check_quickly(alloc: Global, instance: &Instance, table: &Table) -> Result<Verdict, NoMemory>
     ensures { IfOk result (λ v. IsChecked instance.now table.now v) }
 {
-    if has_shape(instance, table)
-        && first_early(instance, table).is_none()
-        && are_in_turn_sorted(alloc, instance, table)?
-    {
-        return Ok(Verdict::Feasible {
-            makespan: makespan(instance, table),
-        });
+    if !has_shape(instance, table) || first_early(instance, table).is_some() {
+        return Ok(check(instance, table));
     }
-    Ok(check(instance, table))
+    Ok(match first_overlap_sorted(alloc, instance, table)? {
+        Some((first, second)) => Verdict::Overlap {
+            machine: instance.route(first.job)[first.step].machine,
+            first,
+            second,
+        },
+        None => Verdict::Feasible {
+            makespan: makespan(instance, table),
+        },
+    })
 }

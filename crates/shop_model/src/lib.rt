@@ -10,6 +10,7 @@ mod overlaps;
 mod placements;
 mod placing;
 mod shared_words;
+mod sorted_overlaps;
 mod spans;
 mod steps;
 mod tables;

@@ -12,7 +12,12 @@ use crate::steps::{are_clear, clash_from};
 use crate::tables::Table;
 
 /// The first operation after (j, k) that it overlaps with.
-fn first_overlap_with(instance: &Instance, table: &Table, j: usize, k: usize) -> Option<OperationId>
+pub(crate) fn first_overlap_with(
+    instance: &Instance,
+    table: &Table,
+    j: usize,
+    k: usize,
+) -> Option<OperationId>
     requires shape { HasShape instance.now table.now }
     requires operation { IsOperation instance.now j k }
     ensures { TellsFirstAfter instance.now (starts_of table.now) j k result }

@@ -1,9 +1,9 @@
 // When each machine is taken, sorted by machine and by start.
-ghost use Rattle.std.specs.Prelude.{◌≡◌, ◌↔◌, ◌++◌, IsTrue, IfOk, OnOk};
+ghost use Rattle.std.specs.Prelude.{◌≡◌, ◌<◌, ◌⊎◌, ◌↔◌, ◌++◌, length, IsTrue, IfOk, OnOk};
 ghost use Rattle.shop_model.specs.inner.Steps.{AreSmall};
-ghost use Rattle.shop_model.specs.Checking.{HasShape, starts_of};
-ghost use Rattle.shop_model.specs.inner.FirstFaults.{AllApart};
-ghost use Rattle.shop_model.specs.inner.Spans.{spans_at, spans_of, AreInTurn};
+ghost use Rattle.shop_model.specs.Checking.{HasShape};
+ghost use Rattle.shop_model.specs.inner.Spans.{spans_at, spans_of, IsInTurn, AreInTurn};
+ghost use Rattle.shop_model.specs.inner.ClearSpans.{EndsNotAfter, IsBetween, AreInOrder, AreClearOf};
 
 use crate::instances::Instance;
 use crate::ops::Op;
@@ -13,9 +13,9 @@ use std::alloc::{AllocError as NoMemory, Global};
 /// An operation in a table: from when to when it takes its machine.
 #[derive(Clone, Copy, PartialEq, Eq, PartialOrd, Ord)]
 pub(crate) struct Occupied {
-    machine: usize,
-    start: u64,
-    finish: u64,
+    pub(crate) machine: usize,
+    pub(crate) start: u64,
+    pub(crate) finish: u64,
 }
 
 /// Adds the spans of one job.
@@ -34,7 +34,11 @@ fn push_spans(spans: &mut Vec<Occupied>, route: &[Op], row: &[u64]) -> Result<()
 }
 
 /// The spans of all operations, job by job.
-fn spans(alloc: Global, instance: &Instance, table: &Table) -> Result<Vec<Occupied>, NoMemory>
+pub(crate) fn spans(
+    alloc: Global,
+    instance: &Instance,
+    table: &Table,
+) -> Result<Vec<Occupied>, NoMemory>
     requires { HasShape instance.now table.now }
     ensures { IfOk result (λ v. v.items ≡ spans_of instance.now table.now) }
 {
@@ -45,31 +49,67 @@ fn spans(alloc: Global, instance: &Instance, table: &Table) -> Result<Vec<Occupi
     Ok(spans)
 }
 
-/// Whether each span is on a lower machine than the next, or on the same one and ends before the next begins.
-fn are_in_turn(spans: &[Occupied]) -> bool
+/// Whether one span is on a lower machine than the other, or on the same one and ends before the other begins.
+fn is_in_turn(one: &Occupied, other: &Occupied) -> bool
+    ensures { IsTrue result ↔ IsInTurn one.now other.now }
+{
+    one.machine < other.machine || one.machine == other.machine && one.finish <= other.start
+}
+
+/// Whether each span is in turn with the next.
+pub(crate) fn are_in_turn(spans: &[Occupied]) -> bool
     ensures { IsTrue result ↔ AreInTurn spans.now }
 {
     for k in 1..spans.len() {
-        let one = spans[k - 1];
-        let next = spans[k];
-        if one.machine > next.machine || one.machine == next.machine && next.start < one.finish {
+        if !is_in_turn(&spans[k - 1], &spans[k]) {
             return false;
         }
     }
     true
 }
 
-/// Whether, sorted by machine and start, each operation ends before the next one of its machine begins. Then no two
-/// overlap.
-pub(crate) fn are_in_turn_sorted(
-    alloc: Global,
-    instance: &Instance,
-    table: &Table,
-) -> Result<bool, NoMemory>
-    requires { HasShape instance.now table.now }
-    ensures { IfOk result (λ b. IsTrue b → AllApart instance.now (starts_of table.now)) }
+/// Of two spans the one on the higher machine, and of one machine the one that ends last.
+fn last_to_end(one: &Occupied, other: &Occupied) -> Occupied
+    ensures choice { (result ≡ one.now) ⊎ (result ≡ other.now) }
+    ensures one { EndsNotAfter one.now result }
+    ensures other { EndsNotAfter other.now result }
 {
-    let mut spans = spans(alloc, instance, table)?;
-    spans.sort()?;
-    Ok(are_in_turn(spans.as_slice()))
+    if one.machine < other.machine || one.machine == other.machine && one.finish < other.finish {
+        *other
+    } else {
+        *one
+    }
+}
+
+/// Whether span k of sorted spans overlaps with no other: `latest` ends last of those before it.
+fn is_clear(latest: &Occupied, spans: &[Occupied], k: usize) -> bool
+    requires { k < length spans.now }
+    ensures { IsTrue result ↔ IsBetween latest.now spans.now k }
+{
+    is_in_turn(latest, &spans[k]) && (k + 1 == spans.len() || is_in_turn(&spans[k], &spans[k + 1]))
+}
+
+/// Keeps, of spans that are sorted, those that overlap with no other, in one pass and in place. A span overlaps with an
+/// earlier one if it begins before the latest end so far on its machine, and with a later one if the next span of its
+/// machine begins before it ends. Both tests are exact, since of spans that begin at once those of time 0 come first.
+pub(crate) fn keep_clear(spans: &mut Vec<Occupied>)
+    requires { AreInOrder spans.old.items }
+    ensures { AreClearOf spans.old.items spans.new.items }
+{
+    let mut count = 0;
+    let mut latest = Occupied {
+        machine: 0,
+        start: 0,
+        finish: 0,
+    };
+    for k in 0..spans.len() {
+        let one = spans[k];
+        let is_kept = is_clear(&latest, spans.as_slice(), k);
+        latest = last_to_end(&latest, &one);
+        if is_kept {
+            spans[count] = one;
+            count += 1;
+        }
+    }
+    spans.truncate(count);
 }

@@ -1,0 +1,38 @@
+use Rattle.std.proofs.lemmas.List.Sorted.{All-permutation}
+use Rattle.std.proofs.Common.{arith, get_or, ◌+◌}
+use Rattle.shop_model.specs.inner.Spans.{spans_of}
+use Rattle.shop_model.specs.inner.ClearSpans.{ArePartedSpans}
+use Rattle.shop_model.proofs.SwappedPairs.{AllPairs-permutation}
+use Rattle.shop_model.proofs.SpanLemmas.{IsForward, parted_both_ways, parted_pairs, apart_from_pairs, spans_forward}
+use Rattle.shop_model.proofs.ClearSpanLemmas.{AreClearPair, clear_both_ways, clear_pairs, apart_from_clear}
+use Rattle.shop_model.proofs.ClearSpanLemmas.{begins_from_sort}
+use Rattle.shop_model.proofs.sorted_overlaps.first_overlap_sorted.Goals as goal
+
+pub returns-then-are_in_turn : goal.returns-then-are_in_turn
+returns-then-are_in_turn c =
+    let shop = c.args.instance.now
+    in let rows = c.args.table.now
+    in let sorted = c.sort.new.self.items
+    in let moved = rw c.in_ok-spans.ensures at c.in_ok-sort.ensures.permutation
+    in let turns = rw c.as_slice.ensures.value at (c.are_in_turn.ensures.0 c.if-are_in_turn.true)
+    in let forward = All-permutation IsForward (spans_of shop rows) sorted moved (spans_forward shop rows)
+    in apart_from_pairs shop rows
+    (AllPairs-permutation ArePartedSpans parted_both_ways (spans_of shop rows) sorted moved
+    (parted_pairs sorted turns forward))
+
+pub keep_clear-requires : goal.keep_clear-requires
+keep_clear-requires c k d below =
+    let sorted = c.sort.new.self.items
+    in begins_from_sort (get_or sorted k d) (get_or sorted (k + 1) d)
+    (c.in_ok-sort.ensures.sorted k d (omega arith) below)
+
+pub first_unclear_overlap-requires-clause-apart : goal.first_unclear_overlap-requires-clause-apart
+first_unclear_overlap-requires-clause-apart c =
+    let shop = c.args.instance.now
+    in let rows = c.args.table.now
+    in let sorted = c.sort.new.self.items
+    in let moved = rw c.in_ok-spans.ensures at c.in_ok-sort.ensures.permutation
+    in rw c.as_slice-2.ensures.value
+    (apart_from_clear shop rows sorted c.keep_clear.new.spans.items
+    (AllPairs-permutation (AreClearPair sorted) (clear_both_ways sorted) (spans_of shop rows) sorted moved
+    (clear_pairs sorted)) c.keep_clear.ensures)

@@ -1,0 +1,100 @@
+// The first operations that overlap, found by sorting.
+ghost use Rattle.std.specs.Prelude.{◌<◌, IfOk, length};
+ghost use Rattle.shop_model.specs.Shop.{IsOperation};
+ghost use Rattle.shop_model.specs.Checking.{HasShape, starts_of};
+ghost use Rattle.shop_model.specs.inner.FirstFaults.{TellsFirstAfter, TellsFirstOverlapOf};
+ghost use Rattle.shop_model.specs.inner.FirstFaults.{TellsFirstOverlap};
+ghost use Rattle.shop_model.specs.inner.ClearSpans.{AreOfApart};
+
+use crate::instances::Instance;
+use crate::ops::OperationId;
+use crate::overlaps::first_overlap_with;
+use crate::spans::{Occupied, are_in_turn, keep_clear, spans};
+use crate::tables::Table;
+use std::alloc::{AllocError as NoMemory, Global};
+
+/// The first operation after (j, k) that it overlaps with. If the span of (j, k) is one of the clear ones, there is
+/// none, and only a binary search is needed.
+fn first_overlap_unless_clear(
+    instance: &Instance,
+    table: &Table,
+    clear: &[Occupied],
+    j: usize,
+    k: usize,
+) -> Option<OperationId>
+    requires shape { HasShape instance.now table.now }
+    requires apart { AreOfApart instance.now table.now clear.now }
+    requires operation { IsOperation instance.now j k }
+    ensures { TellsFirstAfter instance.now (starts_of table.now) j k result }
+{
+    let operation = instance.route(j)[k];
+    let start = table.row(j)[k];
+    let span = Occupied {
+        machine: operation.machine,
+        start,
+        finish: start + operation.time,
+    };
+    if clear.binary_search(&span).is_ok() {
+        return None;
+    }
+    first_overlap_with(instance, table, j, k)
+}
+
+/// The first step of job j that overlaps with a later operation, and the first such operation.
+fn first_unclear_overlap_of(
+    instance: &Instance,
+    table: &Table,
+    clear: &[Occupied],
+    j: usize,
+) -> Option<(usize, OperationId)>
+    requires shape { HasShape instance.now table.now }
+    requires apart { AreOfApart instance.now table.now clear.now }
+    requires job { j < length instance.now.jobs }
+    ensures { TellsFirstOverlapOf instance.now (starts_of table.now) j result }
+{
+    for k in 0..instance.route(j).len() {
+        if let Some(second) = first_overlap_unless_clear(instance, table, clear, j, k) {
+            return Some((k, second));
+        }
+    }
+    None
+}
+
+/// The first pair of operations that overlap. If all clear spans are given, the first operation whose span isn't among
+/// them overlaps with another one, which comes later, since all operations before are clear. So one binary search
+/// fails, and one pass through all operations finds the second of the pair.
+fn first_unclear_overlap(
+    instance: &Instance,
+    table: &Table,
+    clear: &[Occupied],
+) -> Option<(OperationId, OperationId)>
+    requires shape { HasShape instance.now table.now }
+    requires apart { AreOfApart instance.now table.now clear.now }
+    ensures { TellsFirstOverlap instance.now (starts_of table.now) result }
+{
+    for j in 0..instance.jobs() {
+        if let Some((k, second)) = first_unclear_overlap_of(instance, table, clear, j) {
+            return Some((OperationId { job: j, step: k }, second));
+        }
+    }
+    None
+}
+
+/// The first pair of operations that overlap: none if, sorted by machine and start, each operation ends before the next
+/// one of its machine begins. At most n log n steps for n operations. Fails with `NoMemory` if memory runs out.
+pub(crate) fn first_overlap_sorted(
+    alloc: Global,
+    instance: &Instance,
+    table: &Table,
+) -> Result<Option<(OperationId, OperationId)>, NoMemory>
+    requires { HasShape instance.now table.now }
+    ensures { IfOk result (λ o. TellsFirstOverlap instance.now (starts_of table.now) o) }
+{
+    let mut spans = spans(alloc, instance, table)?;
+    spans.sort()?;
+    if are_in_turn(spans.as_slice()) {
+        return Ok(None);
+    }
+    keep_clear(&mut spans);
+    Ok(first_unclear_overlap(instance, table, spans.as_slice()))
+}
