@@ -1,4 +1,4 @@
-// Tests of bounds, of desks, of branching and of the search of one piece.
+// Tests of bounds, of desks, of branching, of the search of one piece and of verdicts.
 #![tactic(auto)]
 
 #[cfg(test)]
@@ -13,5 +13,7 @@ mod instances;
 mod machines;
 #[cfg(test)]
 mod searches;
+#[cfg(test)]
+mod verdicts;
 #[cfg(test)]
 mod words;

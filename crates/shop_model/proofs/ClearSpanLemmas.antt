@@ -1,6 +1,7 @@
 -- Spans that are clear of all others: how a pass finds them, and that their operations are apart.
 use Rattle.std.proofs.Common.{◌≡◌, ℕ, zero, suc, ◌+◌, ◌≤◌, ◌<◌, inl, inr, List, length, refl}
-use Rattle.std.proofs.Common.{get_or, set, sym, ◌∙◌, ap, subst, arith, add-one, Ordering, Less, Equal, Greater, true, false, Result, Ok, Err}
+use Rattle.std.proofs.Common.{get_or, set, sym, ◌∙◌, ap, subst, arith, add-one, true, false, Result, Ok, Err}
+use Rattle.std.proofs.Common.{Ordering, Less, Equal, Greater}
 use Rattle.std.specs.List.{AllPairs, HoldsAt}
 use Rattle.std.specs.List.Sorted.{IsSearchInRange}
 use Rattle.std.specs.Result.{is_ok, IfOk}
@@ -39,8 +40,8 @@ turn_far : (xs : List Occupied) → AreInOrder xs → (a d : Occupied) (k n : �
 turn_far xs order a d k zero before below turn = absurd (omega arith)
 turn_far xs order a d k (suc n) before below turn = elim (cases_eq k n) [
   | inl e ↦ rw (e, add-one) at turn
-  | inr ne ↦ turn_on a (get_or xs n d) (get_or xs (suc n) d) (turn_far xs order a d k n (omega arith) (omega arith) turn)
-      (rw add-one at (order n d (omega arith)))
+  | inr ne ↦ turn_on a (get_or xs n d) (get_or xs (suc n) d)
+      (turn_far xs order a d k n (omega arith) (omega arith) turn) (rw add-one at (order n d (omega arith)))
 ]
 
 module _ (xs ys : List Occupied) (k count : ℕ) (latest one last : Occupied)
