@@ -9,6 +9,7 @@ pub mod LatestEnds
 pub mod MachineLoads
 pub mod NotedPlaces
 pub mod Ranks
+pub mod RouteLegs
 pub mod SlotFacts
 pub mod SlotLemmas
 pub mod SlotLists

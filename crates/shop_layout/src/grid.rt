@@ -6,7 +6,9 @@ ghost use Rattle.shop_lanes.specs.Spans.{AreOwnSpans, FitOwnSpans, FitsSpan, IsR
 ghost use Rattle.shop_lanes.specs.Spans.{spans_between};
 ghost use Rattle.shop_layout.specs.Lanes.{rows_of};
 ghost use Rattle.shop_layout.specs.Positions.{AreEven};
+ghost use Rattle.shop_layout.specs.inner.RouteRows.{AreBelow};
 
+use crate::legs::Leg;
 use crate::positions::Positions;
 use crate::routes::Routes;
 use shop_lanes::StateLanes;
@@ -20,11 +22,15 @@ pub struct Grid<L: StateLanes> {
     fixed: L::Fixed,
     /// the number of blocks of each machine, or 0 if not all machines have equally many
     blocks_each: usize,
+    /// the legs of each job's route
+    legs: Vec<Vec<Leg>>,
 }
 
 impl<L: StateLanes> Model for Grid<L> {
     ghost use Rattle.std.specs.Prelude.{◌≡◌};
     ghost use Rattle.shop_layout.specs.Positions.{AreEven, LayoutState};
+    ghost use Rattle.shop_layout.specs.inner.RouteRows.{AreLegs};
+    ghost use Rattle.shop_layout.specs.inner.Vectors.{items_in};
 
     ghost Value = { LayoutState };
 
@@ -32,7 +38,8 @@ impl<L: StateLanes> Model for Grid<L> {
 
     ghost invariant = { λ g. (L.times g.fixed ≡ g.positions.times)
         × (L.tails g.fixed ≡ g.positions.tails)
-        × AreEven g.positions.blocks g.blocks_each };
+        × AreEven g.positions.blocks g.blocks_each
+        × AreLegs g.positions (items_in g.legs.items) };
 }
 
 /// Answers the number of blocks of each machine, or 0 if not all machines have equally many.
@@ -54,27 +61,32 @@ fn even_blocks(blocks: &[u32]) -> usize
 }
 
 impl<L: StateLanes> Grid<L> {
-    /// Makes a grid of `positions`, with their times and tails in lanes. Fails with `NoMemory` if memory runs out.
+    /// Makes a grid of `positions`, with their times and tails in lanes, and the legs of each route. Fails with
+    /// `NoMemory` if memory runs out.
     pub(crate) fn of(alloc: Global, positions: Positions) -> Result<Grid<L>, NoMemory>
         requires times { All (λ t. t ≤ L.GREATEST) positions.times }
         requires tails { All (λ t. t ≤ L.GREATEST) positions.tails }
+        requires machined { All (AreBelow (length positions.machines)) positions.places }
+        requires timed { All (AreBelow (length positions.times)) positions.places }
         ensures { IfOk result (λ g. g ≡ positions) }
     {
         let fixed = L::fixed(alloc, positions.times(), positions.tails())?;
         let blocks_each = even_blocks(positions.blocks());
+        let legs = positions.legs(alloc)?;
         Ok(Grid {
             positions,
             fixed,
             blocks_each,
+            legs,
         })
     }
 
-    /// The rows of the layout that a walk along a route reads: jobs, machines, times and next positions.
+    /// The rows of the layout that a walk along a route reads.
     #[inline(always)]
     pub fn routes(&self) -> Routes
         ensures { result ≡ self.now }
     {
-        Routes::of(&self.positions)
+        Routes::of(&self.positions, self.legs.as_slice())
     }
 
     /// The job of the operation at `position`.

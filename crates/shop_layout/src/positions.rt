@@ -1,10 +1,13 @@
 // `Positions`: the operations of an instance by position.
-ghost use Rattle.std.specs.Prelude.{◌≡◌, ◌<◌, IfOk, length, slice_index};
+ghost use Rattle.std.specs.Prelude.{◌≡◌, ◌<◌, All, IfOk, length, slice_index};
 ghost use Rattle.shop_layout.specs.Positions.{IsLaidOut};
+ghost use Rattle.shop_layout.specs.inner.RouteRows.{AreBelow, AreLegs};
+ghost use Rattle.shop_layout.specs.inner.Vectors.{items_in};
 
 use crate::layings::{
     Cells, cells_of, following_of, jobs_of, machines_of, places_of, steps_of, tails_of, times_of,
 };
+use crate::legs::{Leg, legs_of};
 use crate::slots::machine_slots;
 use shop_model::Instance;
 use std::alloc::{AllocError as NoMemory, Global};
@@ -104,5 +107,19 @@ impl Positions {
         ensures { result.now ≡ self.now.blocks }
     {
         self.blocks.as_slice()
+    }
+
+    /// The legs of each job's route. Fails with `NoMemory` if memory runs out.
+    pub(crate) fn legs(&self, alloc: Global) -> Result<Vec<Vec<Leg>>, NoMemory>
+        requires machined { All (AreBelow (length self.now.machines)) self.now.places }
+        requires timed { All (AreBelow (length self.now.times)) self.now.places }
+        ensures { IfOk result (λ v. AreLegs self.now (items_in v.items)) }
+    {
+        legs_of(
+            alloc,
+            self.places.as_slice(),
+            self.machines.as_slice(),
+            self.times.as_slice(),
+        )
     }
 }

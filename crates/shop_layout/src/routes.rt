@@ -1,6 +1,10 @@
 // `Routes`: the rows of a layout that a walk along a route reads.
-ghost use Rattle.std.specs.Prelude.{◌≡◌, ◌<◌, length, slice_index};
+ghost use Rattle.std.specs.Prelude.{◌≡◌, ◌+◌, ◌<◌, [], drop, length, slice_index, slice_index_or};
+ghost use Rattle.shop_layout.specs.Legs.{legs_on};
+ghost use Rattle.shop_layout.specs.inner.RouteRows.{AreLegs};
+ghost use Rattle.shop_layout.specs.inner.Vectors.{items_in};
 
+use crate::legs::{Leg, legs_behind};
 use crate::positions::Positions;
 use std::marker::Model;
 
@@ -11,39 +15,47 @@ pub struct Routes<'a> {
     /// the layout, which only proofs read
     positions: &'a Positions,
     jobs: &'a [u32],
+    steps: &'a [u32],
     machines: &'a [u32],
     times: &'a [u64],
     following: &'a [u32],
+    legs: &'a [Vec<Leg>],
 }
 
 impl<'a> Model for Routes<'a> {
     ghost use Rattle.std.specs.Prelude.{◌≡◌};
     ghost use Rattle.shop_layout.specs.Positions.{LayoutState};
-    ghost use Rattle.shop_layout.specs.inner.RouteRows.{AreSmallRows};
+    ghost use Rattle.shop_layout.specs.inner.RouteRows.{AreLegs, AreSmallRows};
+    ghost use Rattle.shop_layout.specs.inner.Vectors.{items_in};
 
     ghost Value = { LayoutState };
 
     ghost view = { λ r. r.positions.now };
 
     ghost invariant = { λ r. (r.jobs.now ≡ r.positions.now.jobs)
+        × (r.steps.now ≡ r.positions.now.steps)
         × (r.machines.now ≡ r.positions.now.machines)
         × (r.times.now ≡ r.positions.now.times)
         × (r.following.now ≡ r.positions.now.following)
+        × AreLegs r.positions.now (items_in r.legs.now)
         × AreSmallRows r.positions.now };
 }
 
 impl<'a> Routes<'a> {
-    /// Looks up the rows of the layout `positions`.
+    /// Looks up the rows of the layout `positions`, whose routes have these legs.
     #[inline(always)]
-    pub(crate) fn of(positions: &'a Positions) -> Routes<'a>
+    pub(crate) fn of(positions: &'a Positions, legs: &'a [Vec<Leg>]) -> Routes<'a>
+        requires { AreLegs positions.now (items_in legs.now) }
         ensures { result ≡ positions.now }
     {
         Routes {
             positions,
             jobs: positions.jobs.as_slice(),
+            steps: positions.steps.as_slice(),
             machines: positions.machines.as_slice(),
             times: positions.times.as_slice(),
             following: positions.following.as_slice(),
+            legs,
         }
     }
 
@@ -85,5 +97,21 @@ impl<'a> Routes<'a> {
     {
         let following = self.following;
         following[position] as usize
+    }
+
+    /// The legs of the route behind the operation at `position`, in order.
+    #[inline(always)]
+    pub fn behind(&self, position: usize) -> &'a [Leg]
+        requires job { position < length self.now.jobs }
+        requires step { position < length self.now.steps }
+        requires known { slice_index self.now.jobs position < length self.now.places }
+        requires within { slice_index self.now.steps position
+            < length (slice_index_or self.now.places (slice_index self.now.jobs position) []) }
+        ensures { result.now ≡ drop (slice_index self.now.steps position + 1)
+            (legs_on self.now (slice_index self.now.jobs position)) }
+    {
+        let (legs, steps) = (self.legs, self.steps);
+        let route = legs[self.job(position)].as_slice();
+        legs_behind(route, steps[position] as usize)
     }
 }

@@ -1,13 +1,13 @@
 -- A raise over rows, head by head.
-use Rattle.std.proofs.Common.{◌≡◌, ℕ, ◌+◌, ◌≤◌, ◌<◌, List, [], length, get_or, set}
-use Rattle.std.proofs.Common.{refl, sym, ◌∙◌, ap, subst, arith, inl, inr}
-use Rattle.std.proofs.lemmas.Bool.{cases_lt}
-use Rattle.std.proofs.lemmas.List.{get_or_default, get_or_past}
+use Rattle.std.proofs.Common.{◌≡◌, ℕ, ◌+◌, ◌-◌, ◌≤◌, ◌<◌, List, [], drop, length, get_or, set}
+use Rattle.std.proofs.Common.{refl, sym, ◌∙◌, ap, subst, arith}
+use Rattle.std.proofs.lemmas.List.{get_or-drop, get_or-map, length-drop, length-map}
 use Rattle.shop_lanes.specs.Rows.{Rows, with_head}
-use Rattle.shop_layout.specs.Positions.{place_or, LayoutState, place}
+use Rattle.shop_layout.specs.declared.legs.Leg.{Leg}
+use Rattle.shop_layout.specs.Legs.{leg_of, legs_on}
+use Rattle.shop_layout.specs.Positions.{LayoutState, place}
 use Rattle.shop_layout.specs.Lanes.{rows_of}
 use Rattle.shop_states.specs.inner.Raises.{steps_of, IsPosition, IsRaisable, Raises}
-use Rattle.shop_states.proofs.Followed.{place_there, place_up_to, step_there, left_from, left_less}
 use Rattle.shop_states.proofs.RaiseWalks.{IsRaisedUpTo, walk_begins, next_least, walk_on, walk_ends}
 
 -- one head of a state was replaced
@@ -91,104 +91,74 @@ module _ {greatest : ℕ} {l : LayoutState} {p e : ℕ} {old : Rows}
     };
   }
 
--- so far a raise has followed the route up to a position
-pub record IsFollowing (greatest : ℕ) (l : LayoutState) (p e next ready : ℕ) (old new : Rows)
-    : Type 0 where
-  pub step : ℕ
-  pub next_is : next ≡ place_or (length old.heads) l.places (get_or l.jobs p 0) step
-  pub walking : IsWalking greatest l p e step ready old new
-
+-- the steps of the route behind position p, leg by leg
 module _ {greatest : ℕ} {l : LayoutState} {p e : ℕ} {old : Rows}
     (can : IsRaisable greatest l [] old (IsPosition p) e) (some : 0 < get_or old.heads p 0) where
-  pub begun_following : get_or old.heads p 0 ≤ e → {new : Rows}
+  pub begun_legs : get_or old.heads p 0 ≤ e → {new : Rows}
       → new ≡ with_head old p e
-      → {next ready time : ℕ} → next ≡ get_or l.following p 0 → time ≡ get_or new.times p 0 → ready ≡ e + time
-      → IsFollowing greatest l p e next ready old new
-  begun_following below {new} wrote {ready} {time} at read sum =
-      let here = can.places p some
-      in let i = get_or l.jobs p 0 in let t = get_or l.steps p 0
-      in record {
-        step = t + 1;
-        next_is = at ∙ (ap (λ (x : ℕ). get_or l.following x 0) (sym here.is) ∙ can.followed.follows i t here.step);
-        walking = begun can some below wrote refl read sum;
-      }
+      → {ready time : ℕ} → time ≡ get_or new.times p 0 → ready ≡ e + time
+      → IsWalking greatest l p e (get_or l.steps p 0 + 1 + 0) ready old new
+  begun_legs below wrote read sum = begun can some below wrote (omega arith) read sum
 
-  pub first_up_to : {next : ℕ} → next ≡ get_or l.following p 0 → next ≤ length old.heads
-  first_up_to at =
-      let here = can.places p some
-      in let i = get_or l.jobs p 0 in let t = get_or l.steps p 0
-      in let a = place_up_to l (length old.heads) i (t + 1) can.indexed
-      in let b = at ∙ (ap (λ (x : ℕ). get_or l.following x 0) (sym here.is) ∙ can.followed.follows i t here.step)
-      in omega arith
+  module _ {legs : List Leg} (are : legs ≡ drop (get_or l.steps p 0 + 1) (legs_on l (get_or l.jobs p 0))) where
+    legs_long : length legs ≡ steps_of l (get_or l.jobs p 0) - (get_or l.steps p 0 + 1)
+    legs_long =
+        let long = length-drop (get_or l.steps p 0 + 1) (legs_on l (get_or l.jobs p 0))
+        in let many = length-map (get_or l.places (get_or l.jobs p 0) []) (leg_of l.machines l.times)
+        in let a = ap length are in omega arith
 
-  module _ {next ready : ℕ} {now : Rows} (so_far : IsFollowing greatest l p e next ready old now) where
-    -- what is ready next fits, since no raised head is above the least of those that do
-    fitting : ready ≤ greatest
-    fitting =
-        let so = so_far.walking.up_to
-        in let q = place l (get_or l.jobs p 0) so.before
-        in let most = so.least can.other can.raised q in let waits = so.waits in let is = so.ready_is
-        in let fits = can.fits q (omega arith) in omega arith
+    module _ {n ready : ℕ} {now : Rows}
+        (so_far : IsWalking greatest l p e (get_or l.steps p 0 + 1 + n) ready old now) where
+      -- it ends behind the route's last leg
+      pub ended_behind : length legs ≤ n → Raises greatest l [] (IsPosition p) e old now
+      ended_behind past = ended can some so_far (λ there. absurd (let a = legs_long in omega arith))
 
-    module _ {head : ℕ} (read : head ≡ get_or now.heads next greatest) where
-      -- it ends where the head is great enough, or behind the route's last step
-      pub ended_at : ready ≤ head → Raises greatest l [] (IsPosition p) e old now
-      ended_at enough = ended can some so_far.walking (λ there.
-          let i = get_or l.jobs p 0 in let long = so_far.walking.up_to.positions
-          in let b = (can.indexed.step i so_far.step there).within in let c = can.indexed.jobs
-          in let at = so_far.next_is ∙ place_there l (length old.heads) i so_far.step there
-          in let same : get_or now.heads next 0 ≡ get_or now.heads (place l i so_far.step) 0 =
-          ap (λ (x : ℕ). get_or now.heads x 0) at
-          in let one = get_or_default now.heads next greatest 0 (omega arith) in omega arith)
+      module _ (d : Leg) (here : n < length legs) where
+        abbrev leg : Leg
+        leg = get_or legs n d
 
-      module _ (below : head < ready) where
-        -- the head behind the last position isn't below what is ready
-        pub is_there : next < length old.heads
-        is_there = elim (cases_lt next (length old.heads)) [
-          | inl here ↦ here
-          | inr past ↦ absurd (let long = so_far.walking.up_to.positions in let fits = fitting
-              in let b = get_or_past now.heads next greatest (omega arith) in omega arith)
-        ]
+        more : get_or l.steps p 0 + 1 + n < steps_of l (get_or l.jobs p 0)
+        more = let a = legs_long in omega arith
 
-        pub read_there : head ≡ get_or now.heads next 0
-        read_there = let a = is_there in let long = so_far.walking.up_to.positions
-            in read ∙ get_or_default now.heads next greatest 0 (omega arith)
+        leg_is : leg ≡ leg_of l.machines l.times (place l (get_or l.jobs p 0) (get_or l.steps p 0 + 1 + n))
+        leg_is = ap (λ (xs : List Leg). get_or xs n d) are
+            ∙ (get_or-drop (get_or l.steps p 0 + 1) (legs_on l (get_or l.jobs p 0)) n d
+            ∙ get_or-map (leg_of l.machines l.times) (get_or l.places (get_or l.jobs p 0) [])
+            (get_or l.steps p 0 + 1 + n) 0 d more)
 
-        more : so_far.step < steps_of l (get_or l.jobs p 0)
-        more = let a = is_there in let b = so_far.next_is
-            in step_there l (length old.heads) (get_or l.jobs p 0) so_far.step (omega arith)
+        stands : leg.position ≡ place l (get_or l.jobs p 0) (get_or l.steps p 0 + 1 + n)
+        stands = ap (λ (x : Leg). x.position) leg_is
 
-        here : next ≡ place l (get_or l.jobs p 0) so_far.step
-        here = so_far.next_is ∙ place_there l (length old.heads) (get_or l.jobs p 0) so_far.step more
+        pub leg_machine : leg.machine ≡ get_or l.machines leg.position 0
+        leg_machine = ap (λ (x : Leg). x.machine) leg_is ∙ ap (λ (q : ℕ). get_or l.machines q 0) (sym stands)
 
-        pub following_fits : (ready ≤ greatest) × (ready + get_or now.times next 0 ≤ greatest)
-        following_fits = next_fits can some so_far.walking more here
+        leg_time : leg.time ≡ get_or l.times leg.position 0
+        leg_time = ap (λ (x : Leg). x.time) leg_is ∙ ap (λ (q : ℕ). get_or l.times q 0) (sym stands)
 
-        follows_next : (after : ℕ) → after ≡ get_or l.following next 0
-            → after ≡ place_or (length old.heads) l.places (get_or l.jobs p 0) (so_far.step + 1)
-        follows_next after at = at ∙ (ap (λ (x : ℕ). get_or l.following x 0) here
-            ∙ can.followed.follows (get_or l.jobs p 0) so_far.step more)
+        pub leg_within : leg.position < length old.heads
+        leg_within = let a = (can.indexed.step (get_or l.jobs p 0) (get_or l.steps p 0 + 1 + n) more).within
+            in let b = can.indexed.jobs in let c = stands in omega arith
 
-        pub next_up_to : {after : ℕ} → after ≡ get_or l.following next 0 → after ≤ length old.heads
-        next_up_to {after} at =
-            let a = place_up_to l (length old.heads) (get_or l.jobs p 0) (so_far.step + 1) can.indexed
-            in let b = follows_next after at in omega arith
+        pub leg_fits : (ready ≤ greatest) × (ready + leg.time ≤ greatest)
+        leg_fits =
+            let fits = next_fits can some so_far more stands
+            in let low = fits.0 in let high = fits.1 in let time = leg_time
+            in let same : get_or now.times leg.position 0 ≡ get_or l.times leg.position 0 =
+            ap (λ (xs : List ℕ). get_or xs leg.position 0) (so_far.times ∙ can.times)
+            in (omega arith, omega arith)
 
-        pub following_less : {after : ℕ} → after ≡ get_or l.following next 0
-            → left_from l (length l.following) (get_or l.jobs p 0) after
-            < left_from l (length l.following) (get_or l.jobs p 0) next
-        following_less {after} at =
-            subst (λ (m : ℕ). left_from l m (get_or l.jobs p 0) after < left_from l m (get_or l.jobs p 0) next)
-            (sym can.followed.following)
-            (left_less l (length old.heads) can.indexed (get_or l.jobs p 0) so_far.step next after more here
-            (follows_next after at))
+        pub on_leg : get_or now.heads leg.position 0 < ready → {new : Rows}
+            → new ≡ with_head now leg.position ready
+            → {h : ℕ} → h ≡ ready + leg.time
+            → IsWalking greatest l p e (get_or l.steps p 0 + 1 + (n + 1)) h old new
+        on_leg below {new} wrote sum =
+            let times : new.times ≡ now.times = ap (λ (r : Rows). r.times) wrote
+            in on can some so_far more stands below wrote (omega arith)
+            (leg_time ∙ ap (λ (xs : List ℕ). get_or xs leg.position 0) (sym (times ∙ (so_far.times ∙ can.times)))) sum
 
-        pub followed : {new : Rows} → new ≡ with_head now next ready
-            → {h time after : ℕ} → time ≡ get_or new.times next 0 → h ≡ ready + time
-            → after ≡ get_or l.following next 0 → IsFollowing greatest l p e after h old new
-        followed {new} wrote {h} {time} {after} read sum at = record {
-          step = so_far.step + 1;
-          next_is = follows_next after at;
-          walking = on can some so_far.walking more here
-              (let a = read_there in omega arith) wrote refl read sum;
-        }
+        -- it ends where the head is great enough
+        pub ended_at : ready ≤ get_or now.heads leg.position 0 → Raises greatest l [] (IsPosition p) e old now
+        ended_at enough = ended can some so_far (λ there.
+            let same : get_or now.heads leg.position 0
+            ≡ get_or now.heads (place l (get_or l.jobs p 0) (get_or l.steps p 0 + 1 + n)) 0 =
+            ap (λ (q : ℕ). get_or now.heads q 0) stands in omega arith)

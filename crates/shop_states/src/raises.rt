@@ -13,7 +13,8 @@ use shop_lanes::StateLanes;
 use shop_layout::{Grid, Routes};
 
 /// Raises the head at `position` to `end`, then every later head on its route that is now too early. Notes in `raises`
-/// how far each later head rose, and puts its machine into `raised`.
+/// how far each later head rose, and puts its machine into `raised`. Takes a step for each head that rises; the legs of
+/// a route lie side by side, so that no step waits until the one before it has read where the next operation stands.
 #[inline(always)]
 fn raise_route<L: StateLanes>(
     lanes: &mut L,
@@ -39,14 +40,16 @@ fn raise_route<L: StateLanes>(
 {
     lanes.set_head(position, end);
     let mut ready = end + routes.time(position);
-    let mut next = routes.following(position);
-    let mut head = lanes.head_or_greatest(next);
-    while head < ready {
-        lanes.set_head(next, ready);
-        see::<L>(raises, raised, routes.machine(next), head, ready);
-        ready += routes.time(next);
-        next = routes.following(next);
-        head = lanes.head_or_greatest(next);
+    let legs = routes.behind(position);
+    for leg in legs {
+        let here = leg.position as usize;
+        let head = lanes.head(here);
+        if ready <= head {
+            return;
+        }
+        lanes.set_head(here, ready);
+        see::<L>(raises, raised, leg.machine, head, ready);
+        ready += leg.time;
     }
 }
 

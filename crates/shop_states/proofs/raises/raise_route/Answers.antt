@@ -1,123 +1,92 @@
-use Rattle.std.proofs.Common.{◌∙◌, ap, refl, arith, length, length-set}
+use Rattle.std.proofs.Common.{get_or, arith, refl}
 use Rattle.std.proofs.lemmas.List.{length-map}
+use Rattle.shop_layout.specs.declared.legs.Leg.{Leg}
 use Rattle.shop_states.specs.inner.HeadRaises.{raise_in}
 use Rattle.shop_states.proofs.RaisedMachines.{lengths_in}
-use Rattle.shop_states.proofs.RaiseSteps.{begun_following, ended_at, followed, following_fits, following_less}
-use Rattle.shop_states.proofs.RaiseSteps.{first_up_to, is_there, next_up_to, put_is, read_there}
+use Rattle.shop_states.proofs.RaiseSteps.{begun_legs, ended_at, ended_behind, leg_fits, leg_machine, leg_within, on_leg}
+use Rattle.shop_states.proofs.RaiseSteps.{put_is}
 use Rattle.shop_states.proofs.RaisedEnds.{raised_within}
 use Rattle.shop_states.proofs.Watching.{sees_first, sees_long, sees_next}
 use Rattle.shop_states.proofs.raises.raise_route.Goals as goal
 
-pub time-requires : goal.time-requires
-time-requires g c =
-    let within = raised_within c.requires.raisable c.requires.waits
-    in let timed = c.requires.raisable.timed in omega arith
+-- what is read of a leg behind the last
+abbrev no_leg : Leg
+no_leg = record { position = 0; machine = 0; time = 0 }
 
-pub loop-head-init : goal.loop-head-init
-loop-head-init g c =
-    let within = raised_within c.requires.raisable c.requires.waits
-    in record {
-      following = begun_following c.requires.raisable c.requires.waits c.requires.below (put_is c.args.routes.now
-          (g.L.StateLanes.heads c.args.lanes.now) c.args.position c.args.end c.set_head.ensures.heads
-          c.set_head.ensures.ends) c.following-next.ensures c.time.ensures refl;
-      seen = sees_first c.set_head.ensures.heads within;
-      read = c.head_or_greatest-head.ensures;
-      listed = c.requires.listed;
-    }
+pub loop-leg-init : goal.loop-leg-init
+loop-leg-init g c = record {
+  walking = begun_legs c.requires.raisable c.requires.waits c.requires.below (put_is c.args.routes.now
+      (g.L.StateLanes.heads c.args.lanes.now) c.args.position c.args.end c.set_head.ensures.heads
+      c.set_head.ensures.ends) c.time.ensures refl;
+  seen = sees_first c.set_head.ensures.heads (raised_within c.requires.raisable c.requires.waits);
+  listed = c.requires.listed;
+}
+
+pub head-head-requires : goal.head-head-requires
+head-head-requires g c =
+    let within = leg_within c.requires.raisable c.requires.waits c.behind-legs.ensures c.loop-leg.invariant.walking
+    no_leg c.loop-leg-test.true
+    in let long = c.loop-leg.invariant.walking.up_to.positions in omega arith
+
+pub set_head-requires-in-loop-leg-clause-in_range : goal.set_head-requires-in-loop-leg-clause-in_range
+set_head-requires-in-loop-leg-clause-in_range g c =
+    let within = leg_within c.requires.raisable c.requires.waits c.behind-legs.ensures c.loop-leg.invariant.walking
+    no_leg c.loop-leg-test.true
+    in let long = c.loop-leg.invariant.walking.up_to.positions in omega arith
+
+pub set_head-requires-in-loop-leg-clause-fits : goal.set_head-requires-in-loop-leg-clause-fits
+set_head-requires-in-loop-leg-clause-fits g c = (leg_fits c.requires.raisable c.requires.waits c.behind-legs.ensures
+    c.loop-leg.invariant.walking no_leg c.loop-leg-test.true).0
+
+pub see-requires-clause-fits : goal.see-requires-clause-fits
+see-requires-clause-fits g c = (leg_fits c.requires.raisable c.requires.waits c.behind-legs.ensures
+    c.loop-leg.invariant.walking no_leg c.loop-leg-test.true).0
+
+pub overflow_add-ready-in-loop-leg : goal.overflow_add-ready-in-loop-leg
+overflow_add-ready-in-loop-leg g c =
+    let fits = (leg_fits c.requires.raisable c.requires.waits c.behind-legs.ensures c.loop-leg.invariant.walking no_leg
+    c.loop-leg-test.true).1
+    in let computable = c.requires.raisable.computable in omega arith
 
 pub see-requires-clause-known : goal.see-requires-clause-known
 see-requires-clause-known g c =
-    let long = lengths_in g.L.StateLanes.value c.args.raises.now c.loop-head.raises
-    (sees_long c.loop-head.invariant.seen)
-    in let there = is_there c.requires.raisable c.requires.waits c.loop-head.invariant.following
-    c.loop-head.invariant.read c.loop-head-test.true
-    in let machines = c.requires.raisable.machines in let following = c.requires.raisable.followed.following
-    in let read = c.machine.ensures
-    in let known = c.requires.known c.loop-head.next (omega arith)
+    let long = lengths_in g.L.StateLanes.value c.args.raises.now c.loop-leg.raises
+    (sees_long c.loop-leg.invariant.seen)
+    in let within = leg_within c.requires.raisable c.requires.waits c.behind-legs.ensures c.loop-leg.invariant.walking
+    no_leg c.loop-leg-test.true
+    in let machine = leg_machine c.requires.raisable c.requires.waits c.behind-legs.ensures
+    c.loop-leg.invariant.walking no_leg c.loop-leg-test.true
+    in let machines = c.requires.raisable.machines
+    in let known = c.requires.known (get_or c.behind-legs.result.now c.loop-leg.leg-index no_leg).position (omega arith)
     in omega arith
 
-pub machine-requires : goal.machine-requires
-machine-requires g c =
-    let there = is_there c.requires.raisable c.requires.waits c.loop-head.invariant.following c.loop-head.invariant.read
-    c.loop-head-test.true
-    in let machines = c.requires.raisable.machines in let following = c.requires.raisable.followed.following
-    in omega arith
-
-pub set_head-requires-in-loop-head-clause-fits : goal.set_head-requires-in-loop-head-clause-fits
-set_head-requires-in-loop-head-clause-fits g c =
-    (following_fits c.requires.raisable c.requires.waits c.loop-head.invariant.following c.loop-head.invariant.read
-    c.loop-head-test.true).0
-
-pub see-requires-clause-fits : goal.see-requires-clause-fits
-see-requires-clause-fits g c = (following_fits c.requires.raisable c.requires.waits c.loop-head.invariant.following
-    c.loop-head.invariant.read c.loop-head-test.true).0
-
-pub time-ready-requires : goal.time-ready-requires
-time-ready-requires g c =
-    let there = is_there c.requires.raisable c.requires.waits c.loop-head.invariant.following c.loop-head.invariant.read
-    c.loop-head-test.true
-    in let following = c.requires.raisable.followed.following in let timed = c.requires.raisable.timed
-    in omega arith
-
-pub overflow_add-ready-in-loop-head : goal.overflow_add-ready-in-loop-head
-overflow_add-ready-in-loop-head g c =
-    let fits = (following_fits c.requires.raisable c.requires.waits c.loop-head.invariant.following
-    c.loop-head.invariant.read c.loop-head-test.true).1
-    in let computable = c.requires.raisable.computable
-    in let time = c.time-ready.ensures in omega arith
-
-pub loop-head-smaller : goal.loop-head-smaller
-loop-head-smaller g c = following_less c.requires.raisable c.requires.waits c.loop-head.invariant.following
-    c.loop-head.invariant.read c.loop-head-test.true c.following-next-in-loop-head.ensures
-
-pub loop-head-preserved : goal.loop-head-preserved
-loop-head-preserved g c =
-    let there = is_there c.requires.raisable c.requires.waits c.loop-head.invariant.following c.loop-head.invariant.read
-    c.loop-head-test.true
-    in let below = c.loop-head-test.true
-    in let machines = c.requires.raisable.machines in let following = c.requires.raisable.followed.following
-    in let long = c.loop-head.invariant.following.walking.up_to.positions
-    in let read = c.machine.ensures
-    in let known = c.requires.known c.loop-head.next (omega arith)
+pub loop-leg-preserved : goal.loop-leg-preserved
+loop-leg-preserved g c =
+    let leg : Leg = get_or c.behind-legs.result.now c.loop-leg.leg-index no_leg
+    in let within = leg_within c.requires.raisable c.requires.waits c.behind-legs.ensures c.loop-leg.invariant.walking
+    no_leg c.loop-leg-test.true
+    in let machine = leg_machine c.requires.raisable c.requires.waits c.behind-legs.ensures
+    c.loop-leg.invariant.walking no_leg c.loop-leg-test.true
+    in let below = c.if-ready-head.false
+    in let read = c.head-head.ensures
+    in let machines = c.requires.raisable.machines
+    in let long = c.loop-leg.invariant.walking.up_to.positions
+    in let known = c.requires.known leg.position (omega arith)
     in let many = length-map c.args.raises.now (raise_in g.L.StateLanes.value)
     in record {
-      following = followed c.requires.raisable c.requires.waits c.loop-head.invariant.following
-          c.loop-head.invariant.read c.loop-head-test.true (put_is c.args.routes.now (g.L.StateLanes.heads
-          c.loop-head.lanes) c.loop-head.next c.loop-head.ready c.set_head-in-loop-head.ensures.heads
-          c.set_head-in-loop-head.ensures.ends) c.time-ready.ensures refl c.following-next-in-loop-head.ensures;
-      seen = sees_next c.loop-head.invariant.seen c.set_head-in-loop-head.ensures.heads (omega arith) (read_there
-          c.requires.raisable c.requires.waits c.loop-head.invariant.following c.loop-head.invariant.read
-          c.loop-head-test.true) c.loop-head-test.true read (omega arith) c.see.ensures.raises;
-      read = c.head_or_greatest-head-in-loop-head.ensures;
+      walking = on_leg c.requires.raisable c.requires.waits c.behind-legs.ensures c.loop-leg.invariant.walking no_leg
+          c.loop-leg-test.true (omega arith) (put_is c.args.routes.now (g.L.StateLanes.heads c.loop-leg.lanes)
+          leg.position c.loop-leg.ready c.set_head-in-loop-leg.ensures.heads c.set_head-in-loop-leg.ensures.ends) refl;
+      seen = sees_next c.loop-leg.invariant.seen c.set_head-in-loop-leg.ensures.heads (omega arith) read below machine
+          (omega arith) c.see.ensures.raises;
       listed = c.see.ensures.listed;
     }
 
+pub returns-then-ready-head-clause-raises : goal.returns-then-ready-head-clause-raises
+returns-then-ready-head-clause-raises g c = ended_at c.requires.raisable c.requires.waits c.behind-legs.ensures
+    c.loop-leg.invariant.walking no_leg c.loop-leg-test.true
+    (let read = c.head-head.ensures in let enough = c.if-ready-head.true in omega arith)
+
 pub returns-clause-raises : goal.returns-clause-raises
-returns-clause-raises g c = ended_at c.requires.raisable c.requires.waits c.loop-head.invariant.following
-    c.loop-head.invariant.read c.loop-head-test.false
-
-pub set_head-requires-in-loop-head-clause-in_range : goal.set_head-requires-in-loop-head-clause-in_range
-set_head-requires-in-loop-head-clause-in_range g c =
-    let there = is_there c.requires.raisable c.requires.waits c.loop-head.invariant.following c.loop-head.invariant.read
-    c.loop-head-test.true
-    in let long = c.loop-head.invariant.following.walking.up_to.positions in omega arith
-
-pub following-next-requires-in-loop-head : goal.following-next-requires-in-loop-head
-following-next-requires-in-loop-head g c =
-    let there = is_there c.requires.raisable c.requires.waits c.loop-head.invariant.following c.loop-head.invariant.read
-    c.loop-head-test.true
-    in let following = c.requires.raisable.followed.following in omega arith
-
-pub head_or_greatest-head-requires : goal.head_or_greatest-head-requires
-head_or_greatest-head-requires g c =
-    let known = first_up_to c.requires.raisable c.requires.waits c.following-next.ensures
-    in let long = ap length c.set_head.ensures.heads
-    ∙ length-set (g.L.StateLanes.heads c.args.lanes.now) c.args.position c.args.end in omega arith
-
-pub head_or_greatest-head-requires-in-loop-head : goal.head_or_greatest-head-requires-in-loop-head
-head_or_greatest-head-requires-in-loop-head g c =
-    let known = next_up_to c.requires.raisable c.requires.waits c.loop-head.invariant.following
-    c.loop-head.invariant.read c.loop-head-test.true c.following-next-in-loop-head.ensures
-    in let before = c.loop-head.invariant.following.walking.up_to.positions
-    in let long = ap length c.set_head-in-loop-head.ensures.heads
-    ∙ length-set (g.L.StateLanes.heads c.loop-head.lanes) c.loop-head.next c.loop-head.ready in omega arith
+returns-clause-raises g c = ended_behind c.requires.raisable c.requires.waits c.behind-legs.ensures
+    c.loop-leg.invariant.walking c.loop-leg-test.false

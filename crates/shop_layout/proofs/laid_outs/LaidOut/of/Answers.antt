@@ -1,4 +1,5 @@
 use Rattle.shop_layout.proofs.LaneLimits.{tails_fit, times_fit}
+use Rattle.shop_layout.proofs.RouteLegs.{machines_below, times_below}
 use Rattle.shop_layout.proofs.laid_outs.LaidOut.of.Goals as goal
 
 pub of-requires-clause-times : goal.of-requires-clause-times
@@ -10,3 +11,10 @@ pub of-requires-clause-tails : goal.of-requires-clause-tails
 of-requires-clause-tails g c =
     let ready = c.requires
     in tails_fit g.L.StateLanes.GREATEST c.args.instance.now ready.limits c.args.positions ready.laid ready.holds
+
+pub of-requires-clause-machined : goal.of-requires-clause-machined
+of-requires-clause-machined g c =
+    machines_below c.args.instance.now c.requires.limits c.args.positions c.requires.laid
+
+pub of-requires-clause-timed : goal.of-requires-clause-timed
+of-requires-clause-timed g c = times_below c.args.instance.now c.requires.limits c.args.positions c.requires.laid
