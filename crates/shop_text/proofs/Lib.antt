@@ -1,5 +1,6 @@
 pub mod FormatWords
 pub mod LineLemmas
+pub mod DigitLemmas
 pub mod Seeing
 pub mod Pairs
 pub mod Capping

@@ -1,5 +1,5 @@
 // The lines of a text, and the tokens and numbers of a line.
-ghost use Rattle.std.specs.Prelude.{◌≡◌, ◌<◌, ◌∷◌, [], not, length, position};
+ghost use Rattle.std.specs.Prelude.{◌≡◌, ◌<◌, ◌≤◌, ◌∷◌, [], not, length, position};
 ghost use Rattle.std.specs.Prelude.{MatchOption, Some, None};
 ghost use Rattle.std.specs.Prelude.{if◌then◌else◌};
 ghost use Rattle.shop_text.specs.Lines.{lines_of, tokens_of, is_line_feed, is_separator};
@@ -82,11 +82,32 @@ fn capped_value(token: &[u8]) -> u64
     value
 }
 
+/// The most digits whose value is sure to be below 2^64.
+const SHORT_TOKEN: usize = 19;
+
+/// The value of a short token that is a number. It is read in one pass, up to the first byte that is no digit, and no
+/// step of it can overflow.
+fn short_number(token: &[u8]) -> Option<u64>
+    requires { length token.now ≤ SHORT_TOKEN }
+    ensures { result ≡ (if is_number token.now then Some (capped (value_of token.now)) else None) }
+{
+    let mut value: u64 = 0;
+    for b in token {
+        if !b.is_ascii_digit() {
+            return None;
+        }
+        value = 10 * value + u64::from(*b - b'0');
+    }
+    Some(value)
+}
+
 /// The value of a token that is a number, at most `u64::MAX`.
 pub(crate) fn number_of(token: &[u8]) -> Option<u64>
     ensures { result ≡ (if is_number token.now then Some (capped (value_of token.now)) else None) }
 {
-    if has_digits_alone(token) {
+    if token.len() <= SHORT_TOKEN {
+        short_number(token)
+    } else if has_digits_alone(token) {
         Some(capped_value(token))
     } else {
         None
