@@ -1,6 +1,18 @@
--- The value of up to 19 digits fits into 64 bits.
-use Rattle.std.proofs.Common.{◌≡◌, ℕ, ◌+◌, ◌*◌, ◌^◌, ◌<◌, ◌≤◌, refl, arith}
+-- Digits at the front of a text.
+use Rattle.std.proofs.Common.{◌≡◌, ℕ, zero, suc, ◌+◌, ◌-◌, ◌*◌, ◌^◌, ◌<◌, ◌≤◌, true, false, not}
+use Rattle.std.proofs.Common.{List, [], ◌∷◌, length, get_or, take, drop, Some, None, refl, sym, ap, ◌∙◌}
+use Rattle.std.proofs.Common.{arith, take_all}
+use Rattle.std.specs.Prelude.{position}
+use Rattle.std.specs.Char.{is_ascii_digit}
+use Rattle.std.specs.List.{position_or_len}
 use Rattle.std.proofs.Math.Nat.{pow-le-pow_right}
+use Rattle.std.proofs.lemmas.Bool.{and_parts, lt-ltb, le-ltb}
+use Rattle.std.proofs.lemmas.Bool.Decides.{nat_tests}
+use Rattle.std.proofs.lemmas.List.Sums.{position_or_len_is}
+use Rattle.shop_text.specs.Lines.{is_number, value_of, is_separator}
+use Rattle.shop_text.specs.inner.LineReading.{capped, number_in, AreLeadingDigits, IsNumberCut}
+use Rattle.shop_text.proofs.Capping.{capped_same}
+use Rattle.shop_text.proofs.LineLemmas.{tokens_at, tokens_to_end}
 
 -- behind at most 18 digits there is room for one more
 pub room_for_digit : (i value : ℕ) → i < 19 → value < 10 ^ i → 10 * value + 9 < 18446744073709551616
@@ -8,3 +20,72 @@ room_for_digit i value few below =
     let most : 10 ^ i ≤ 10 ^ 18 = pow-le-pow_right {n = 10} (omega arith) {i = i} {j = 18} (omega arith)
     in let limit : 10 ^ 18 ≡ 1000000000000000000 = refl
     in omega arith
+
+-- ---- where the digits end
+
+digit_is_none : (b : ℕ) → is_ascii_digit b ≡ true → is_separator b ≡ false
+digit_is_none b e = grind (arith, nat_tests)
+
+pub before_digits_end : (text : List ℕ) (n : ℕ) → is_number (take n text) ≡ true → n ≤ length text → (k : ℕ) → k < n
+    → is_separator (get_or text k 0) ≡ false
+before_digits_end text zero e h k lt = absurd (omega arith)
+before_digits_end [] (suc n) e h k lt = absurd (omega arith)
+before_digits_end (b ∷ text) (suc n) e h zero lt =
+    digit_is_none b (and_parts (is_ascii_digit b) (is_number (take n text)) e).0
+before_digits_end (b ∷ text) (suc n) e h (suc k) lt =
+    before_digits_end text n (and_parts (is_ascii_digit b) (is_number (take n text)) e).1 (omega arith) k (omega arith)
+
+-- the digits end the text
+pub no_end : (text : List ℕ) (n : ℕ) → is_number (take n text) ≡ true → n ≡ length text
+    → position is_separator text ≡ None
+no_end text n e h =
+    let at : position_or_len is_separator text ≡ n = position_or_len_is is_separator text n 0 (omega arith)
+    (before_digits_end text n e (omega arith)) (λ lt. absurd (omega arith))
+    in rw (le-ltb (position_or_len is_separator text) (length text) (omega arith)) refl
+
+-- or a separator stands behind them
+pub end_here : (text : List ℕ) (n : ℕ) → is_number (take n text) ≡ true → n < length text
+    → is_separator (get_or text n 0) ≡ true → position is_separator text ≡ Some n
+end_here text n e h here =
+    let at : position_or_len is_separator text ≡ n = position_or_len_is is_separator text n 0 (omega arith)
+    (before_digits_end text n e (omega arith)) (λ lt. here)
+    in rw (lt-ltb (position_or_len is_separator text) (length text) (omega arith)) (ap (λ (i : ℕ). Some i) at)
+
+-- ---- a number cut off
+
+-- digits that fit have the value that was read
+value_fits : (token : List ℕ) (value : ℕ) → is_number token ≡ true → value ≡ value_of token
+    → value < 18446744073709551616 → Some value ≡ number_in token
+value_fits token value are is fits =
+    rw are (ap (λ (n : ℕ). Some n) (sym (capped_same value (omega arith)) ∙ ap capped is))
+
+pub cut_to_end : (line : List ℕ) (start value n : ℕ) → position (λ b. not (is_separator b)) line ≡ Some start
+    → AreLeadingDigits (take (length line - start) (drop start line)) value n
+    → n ≡ length (take (length line - start) (drop start line))
+    → IsNumberCut line (Some value)
+    (take (length (take (length line - start) (drop start line)) - length
+    (take (length line - start) (drop start line)))
+    (drop (length (take (length line - start) (drop start line))) (take (length line - start) (drop start line))))
+cut_to_end line start value n e l h =
+    let rest = take (length line - start) (drop start line)
+    in let whole : take n rest ≡ rest = take_all n rest (omega arith)
+    in (
+      rest,
+      tokens_to_end line start e (no_end rest n l.are h),
+      value_fits rest value (sym (ap is_number whole) ∙ l.are) (l.is ∙ ap value_of whole) l.fits,
+    )
+
+pub cut_at : (line : List ℕ) (start value n : ℕ) → position (λ b. not (is_separator b)) line ≡ Some start
+    → AreLeadingDigits (take (length line - start) (drop start line)) value n
+    → n < length (take (length line - start) (drop start line))
+    → is_separator (get_or (take (length line - start) (drop start line)) n 0) ≡ true
+    → IsNumberCut line (Some value)
+    (take (length (take (length line - start) (drop start line)) - (n + 1))
+    (drop (n + 1) (take (length line - start) (drop start line))))
+cut_at line start value n e l h here =
+    let rest = take (length line - start) (drop start line)
+    in (
+      take n rest,
+      tokens_at line start n e (end_here rest n l.are h here),
+      value_fits (take n rest) value l.are l.is l.fits,
+    )

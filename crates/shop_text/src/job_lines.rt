@@ -1,11 +1,12 @@
 // The lines of jobs in a schedule text.
-ghost use Rattle.std.specs.Prelude.{◌≡◌, ◌≤◌, ◌∷◌, codes};
+ghost use Rattle.std.specs.Prelude.{◌≡◌, ◌≤◌, ℕ, List, ◌∷◌, codes};
 ghost use Rattle.std.specs.Str.{bytes_eq};
 ghost use Rattle.shop_text.specs.Lines.{tokens_of};
 ghost use Rattle.shop_text.specs.Schedules.{is_label, starts_of_tokens, row_in};
+ghost use Rattle.shop_text.specs.inner.LineReading.{number_in};
 ghost use Rattle.shop_text.specs.inner.ScheduleReading.{FollowsJob, IsStartOf, IsRowRead};
 
-use crate::lines::{next_token, number_of};
+use crate::lines::{next_number, next_token, number_of};
 use shop_model::{Instance, MAX_JOBS, MAX_START};
 use std::alloc::{AllocError as NoMemory, Global};
 
@@ -44,11 +45,11 @@ fn names_job(j: usize, token: &[u8]) -> bool
     }
 }
 
-/// The start that a token gives, if it is a number of at most `MAX_START`.
-fn start_of(token: &[u8]) -> Option<u64>
-    ensures { IsStartOf token.now result }
+/// The start that a token gives, from the number that it is: a number of at most `MAX_START`.
+fn start_of(number: Option<u64>) -> Option<u64>
+    ensures { (token : List ℕ) → number ≡ number_in token → IsStartOf token result }
 {
-    match number_of(token) {
+    match number {
         Some(start) if start <= MAX_START => Some(start),
         _ => None,
     }
@@ -60,11 +61,11 @@ fn starts_behind(alloc: Global, steps: usize, behind: &[u8]) -> Result<Option<Ve
 {
     let mut starts = Vec::with_capacity(alloc, steps)?;
     let mut rest = behind;
-    while let Some((token, after)) = next_token(rest) {
+    while let Some((number, after)) = next_number(rest) {
         if starts.len() == steps {
             return Ok(None);
         }
-        let Some(start) = start_of(token) else {
+        let Some(start) = start_of(number) else {
             return Ok(None);
         };
         starts.push(start).unwrap();

@@ -1,10 +1,9 @@
 // The lines of a text, and the tokens and numbers of a line.
-ghost use Rattle.std.specs.Prelude.{◌≡◌, ◌<◌, ◌≤◌, ◌∷◌, [], not, length, position};
-ghost use Rattle.std.specs.Prelude.{MatchOption, Some, None};
-ghost use Rattle.std.specs.Prelude.{if◌then◌else◌};
+ghost use Rattle.std.specs.Prelude.{◌≡◌, ◌<◌, ◌∷◌, [], not, length, position};
+ghost use Rattle.std.specs.Prelude.{MatchOption};
 ghost use Rattle.shop_text.specs.Lines.{lines_of, tokens_of, is_line_feed, is_separator};
 ghost use Rattle.shop_text.specs.Lines.{is_number, value_of};
-ghost use Rattle.shop_text.specs.inner.LineReading.{capped};
+ghost use Rattle.shop_text.specs.inner.LineReading.{capped, number_in, AreLeadingDigits, IsNumberCut};
 
 /// Where the first line end is.
 fn line_end(text: &[u8]) -> Option<usize>
@@ -83,33 +82,65 @@ fn capped_value(token: &[u8]) -> u64
 }
 
 /// The most digits whose value is sure to be below 2^64.
-const SHORT_TOKEN: usize = 19;
+const SAFE_DIGITS: usize = 19;
 
-/// The value of a short token that is a number. It is read in one pass, up to the first byte that is no digit, and no
-/// step of it can overflow.
-fn short_number(token: &[u8]) -> Option<u64>
-    requires { length token.now ≤ SHORT_TOKEN }
-    ensures { result ≡ (if is_number token.now then Some (capped (value_of token.now)) else None) }
+/// The value of the digits at the front of a text, up to 19 of them, and how many they are. Each byte is looked at
+/// once, and no sum can overflow.
+fn leading_digits(text: &[u8]) -> (u64, usize)
+    ensures { AreLeadingDigits text.now result.0 result.1 }
 {
+    let most = text.len().min(SAFE_DIGITS);
     let mut value: u64 = 0;
-    for b in token {
+    for i in 0..most {
+        let b = text[i];
         if !b.is_ascii_digit() {
-            return None;
+            return (value, i);
         }
-        value = 10 * value + u64::from(*b - b'0');
+        value = 10 * value + u64::from(b - b'0');
     }
-    Some(value)
+    (value, most)
 }
 
-/// The value of a token that is a number, at most `u64::MAX`.
+/// The value of a token that is a number, at most `u64::MAX`. Only a token of more than 19 digits is gone through again.
 pub(crate) fn number_of(token: &[u8]) -> Option<u64>
-    ensures { result ≡ (if is_number token.now then Some (capped (value_of token.now)) else None) }
+    ensures { result ≡ number_in token.now }
 {
-    if token.len() <= SHORT_TOKEN {
-        short_number(token)
-    } else if has_digits_alone(token) {
+    let (value, digits) = leading_digits(token);
+    if digits == token.len() {
+        Some(value)
+    } else if digits == SAFE_DIGITS && has_digits_alone(token) {
         Some(capped_value(token))
     } else {
         None
     }
+}
+
+/// The first token of a line, as the number that it is if it is one, and what follows the separator after it.
+fn next_long_number(line: &[u8]) -> Option<(Option<u64>, &[u8])>
+    ensures cut { MatchOption result (tokens_of line.now ≡ []) (λ t. IsNumberCut line.now t.0 t.1.now) }
+    ensures shorter { MatchOption result (Unit {0}) (λ t. length t.1.now < length line.now) }
+{
+    match next_token(line) {
+        Some((token, rest)) => Some((number_of(token), rest)),
+        None => None,
+    }
+}
+
+/// As `next_long_number`, but a number of at most 19 digits is read and its end found in one pass.
+pub(crate) fn next_number(line: &[u8]) -> Option<(Option<u64>, &[u8])>
+    ensures cut { MatchOption result (tokens_of line.now ≡ []) (λ t. IsNumberCut line.now t.0 t.1.now) }
+    ensures shorter { MatchOption result (Unit {0}) (λ t. length t.1.now < length line.now) }
+{
+    let Some(start) = token_start(line) else {
+        return None;
+    };
+    let rest = &line[start..];
+    let (value, end) = leading_digits(rest);
+    if end == rest.len() {
+        return Some((Some(value), &rest[rest.len()..]));
+    }
+    if is_between_tokens(rest[end]) {
+        return Some((Some(value), &rest[end + 1..]));
+    }
+    next_long_number(line)
 }

@@ -8,7 +8,7 @@ ghost use Rattle.shop_text.specs.Formats.{header_of, is_visible};
 ghost use Rattle.shop_text.specs.inner.LineReading.{Tells};
 
 use crate::formats::Format;
-use crate::lines::{next_token, number_of};
+use crate::lines::{next_number, next_token};
 use std::alloc::{AllocError as NoMemory, Global};
 
 /// What a line is: blank, numbers alone, or text, with the name of an instance if it gives one.
@@ -73,8 +73,8 @@ pub(crate) fn see<'t>(
 {
     numbers.clear();
     let mut rest = line;
-    while let Some((token, after)) = next_token(rest) {
-        let Some(number) = number_of(token) else {
+    while let Some((number, after)) = next_number(rest) {
+        let Some(number) = number else {
             return Ok(Seen::Words(header_in(format, line)));
         };
         numbers.push(number)?;

@@ -1,10 +1,12 @@
 -- What the parts of the readers tell, in the words of the grammar.
-use Rattle.std.specs.Prelude.{◌≡◌, ◌⊎◌, min, ℕ, ◌+◌, ◌≤◌, ◌==◌, not, length, filter}
+use Rattle.std.specs.Prelude.{◌≡◌, ◌⊎◌, min, ℕ, ◌+◌, ◌<◌, ◌≤◌, ◌==◌, true, false, not, length}
+use Rattle.std.specs.Prelude.{filter, take, get_or}
 use Rattle.std.specs.Prelude.{List, [], ◌∷◌, ◌++◌, map}
 use Rattle.std.specs.Prelude.{if◌then◌else◌, Option, Some, None, Result, Ok, Err, MatchOption}
 use Rattle.std.specs.List.{enumerate_from}
+use Rattle.std.specs.Char.{is_ascii_digit}
 use Rattle.shop_text.specs.Lines.{Line, Blank, Numbers, Words, Numbered, is_left, line_of, lines_of}
-use Rattle.shop_text.specs.Lines.{is_number, value_of}
+use Rattle.shop_text.specs.Lines.{is_number, value_of, tokens_of}
 use Rattle.shop_text.specs.Grammar.{LineFault, WrongShape, WrongRow, fault_at, Row}
 use Rattle.shop_text.specs.Formats.{grammar_of, is_between, jobs_in, machines_in, size_fault}
 use Rattle.shop_text.specs.Formats.{times_fault, machines_fault}
@@ -17,6 +19,24 @@ use Rattle.shop_text.specs.declared.seen_lines.Seen.TheVariants as seen
 -- a number as a reader holds it: all that is above the greatest is that
 abbrev pub capped : ℕ → ℕ
 capped n = min n 18446744073709551615
+
+-- the number that a token is, as a reader holds it, if it is one
+abbrev pub number_in : List ℕ → Option ℕ
+number_in token = if is_number token then Some (capped (value_of token)) else None
+
+-- The digits that a text begins with, 19 at most, and their value.
+pub record AreLeadingDigits (text : List ℕ) (value digits : ℕ) : Type 0 where
+  pub few : digits ≤ 19
+  pub within : digits ≤ length text
+  pub are : is_number (take digits text) ≡ true
+  pub is : value ≡ value_of (take digits text)
+  pub fits : value < 18446744073709551616
+  pub over : digits < 19 → digits < length text → is_ascii_digit (get_or text digits 0) ≡ false
+
+-- The first token of a line was cut off, and this is its number, if it is one.
+abbrev pub IsNumberCut : List ℕ → Option ℕ → List ℕ → Type 0
+IsNumberCut line number rest = (token : List ℕ) × (tokens_of line ≡ token ∷ tokens_of rest)
+    × (number ≡ number_in token)
 
 -- What was seen tells the line: its numbers, all that is above the greatest being that, and the
 -- name that it gives.

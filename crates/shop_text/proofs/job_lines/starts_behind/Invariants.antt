@@ -5,8 +5,8 @@ use Rattle.shop_text.specs.Lines.{tokens_of, value_of}
 use Rattle.shop_text.specs.Schedules.{is_start}
 use Rattle.shop_text.proofs.job_lines.starts_behind.Given as goal
 
-abbrev pub invariant-loop-token : goal.invariant-loop-token
-invariant-loop-token l = record {
+abbrev pub invariant-loop-number : goal.invariant-loop-number
+invariant-loop-number l = record {
   count : length l.starts.items + length (tokens_of l.rest) ≡ length (tokens_of l.behind);
   passed : list_all is_start (tokens_of l.rest) ≡ list_all is_start (tokens_of l.behind);
   values : l.starts.items ++ map value_of (tokens_of l.rest) ≡ map value_of (tokens_of l.behind);
@@ -14,5 +14,5 @@ invariant-loop-token l = record {
   within : length l.starts.items ≤ l.steps;
 }
 
-abbrev pub decreases-loop-token : goal.decreases-loop-token
-decreases-loop-token l = length l.rest
+abbrev pub decreases-loop-number : goal.decreases-loop-number
+decreases-loop-number l = length l.rest

@@ -1,12 +1,12 @@
 use Rattle.std.proofs.Common.{arith}
 use Rattle.shop_text.proofs.DigitLemmas.{room_for_digit}
-use Rattle.shop_text.proofs.lines.short_number.Goals as goal
+use Rattle.shop_text.proofs.lines.leading_digits.Goals as goal
 
 pub overflow_mul-value : goal.overflow_mul-value
 overflow_mul-value c =
-    let room = room_for_digit c.loop-b.b-index c.loop-b.value (omega arith) c.loop-b.invariant.fits in omega arith
+    let room = room_for_digit c.loop-i.i c.loop-i.value (omega arith) c.loop-i.invariant.fits in omega arith
 
 pub overflow_add-value : goal.overflow_add-value
 overflow_add-value c =
-    let room = room_for_digit c.loop-b.b-index c.loop-b.value (omega arith) c.loop-b.invariant.fits
+    let room = room_for_digit c.loop-i.i c.loop-i.value (omega arith) c.loop-i.invariant.fits
     in omega (arith, c.if-not-is_ascii_digit.ensures.cases.1)

@@ -1,0 +1,11 @@
+use Rattle.std.proofs.Common.{◌≡◌, ℕ, ◌<◌, ◌^◌, List, true, take}
+use Rattle.shop_text.specs.Lines.{is_number, value_of}
+use Rattle.shop_text.proofs.lines.leading_digits.Given as goal
+
+pub record IsReadTo (text : List ℕ) (i value : ℕ) : Type 0 where
+  pub digits : is_number (take i text) ≡ true
+  pub is : value ≡ value_of (take i text)
+  pub fits : value < 10 ^ i
+
+abbrev pub invariant-loop-i : goal.invariant-loop-i
+invariant-loop-i l = IsReadTo l.text l.i l.value
