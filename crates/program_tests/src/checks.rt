@@ -79,7 +79,7 @@ fn lists_and_verdicts(rt: HostRuntime) {
 }
 
 /// Schedules behind `CROSSING`: when the schedule ends, or which line is refused.
-static SCHEDULES: [(&str, Result<u64, usize>); 12] = [
+static SCHEDULES: [(&str, Result<u64, usize>); 20] = [
     ("job 0: 0 3\njob 1: 0 3\n", Ok(7)),
     (
         "job 0: 0 3\njob 1: 0 1000000000000000\n",
@@ -90,6 +90,14 @@ static SCHEDULES: [(&str, Result<u64, usize>); 12] = [
     ("\n\tjob 0: 0  3 \r\n  job 1: 0 003", Ok(7)),
     ("job 0: 0 3\njob 1: 0 1000000000000001\n", Err(5)),
     ("job 0: 0 3\njob 1: 0 18446744073709551616\n", Err(5)),
+    ("job 0: 0 18446744073709551619\njob 1: 0 3\n", Err(4)),
+    ("job 0: 0 0000000000000000003\njob 1: 0 3\n", Ok(7)),
+    ("job 0: 0 00000000000000000003\njob 1: 0 3\n", Ok(7)),
+    ("job 0: 0 000000000000000000x\njob 1: 0 3\n", Err(4)),
+    ("job 0: 0 0000000000000000000x\njob 1: 0 3\n", Err(4)),
+    ("job 0000000000000000000: 0 3\njob 1: 0 3\n", Ok(7)),
+    ("job 00000000000000000000: 0 3\njob 1: 0 3\n", Ok(7)),
+    ("job 18446744073709551616: 0 3\njob 1: 0 3\n", Err(4)),
     ("job 0 : 0 3\njob 1: 0 3\n", Err(4)),
     ("job 0: 0 3\njob 0: 0 3\n", Err(5)),
     ("job 0: 0 3\njob 1: 0 3\njob 2: 0\n", Err(6)),

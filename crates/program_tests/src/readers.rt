@@ -168,6 +168,44 @@ fn long_numbers_and_a_text_too_long(rt: HostRuntime) {
     assert_read(&rt, rt.alloc(), Format::Orlib, blanks.as_slice(), "TooLong");
 }
 
+/// What stands behind some zeros as the time of the one operation, and what is then read. The last two values are above
+/// 2^64 by 7 and by 1,000,000,000.
+static BEHIND_ZEROS: [(&str, &str); 18] = [
+    ("7", "[1 1 | 0 0:7]"),
+    ("7\t", "[1 1 | 0 0:7]"),
+    ("7 \r", "[1 1 | 0 0:7]"),
+    ("7\r", "[1 1 | 0 0:7]"),
+    ("1000000000", "[1 1 | 0 0:1000000000]"),
+    ("1000000001", "BadTime { line: 2 }"),
+    ("0x7", "BadRow { line: 2 }"),
+    ("7x", "BadRow { line: 2 }"),
+    ("/", "BadRow { line: 2 }"),
+    (":", "BadRow { line: 2 }"),
+    ("-7", "BadRow { line: 2 }"),
+    ("0 7", "BadRow { line: 2 }"),
+    ("9999999999999999999", "BadTime { line: 2 }"),
+    ("10000000000000000000", "BadTime { line: 2 }"),
+    ("18446744073709551615", "BadTime { line: 2 }"),
+    ("18446744073709551616", "BadTime { line: 2 }"),
+    ("18446744073709551623", "BadTime { line: 2 }"),
+    ("18446744074709551616", "BadTime { line: 2 }"),
+];
+
+#[test]
+fn numbers_of_one_byte_to_fifty(rt: HostRuntime) {
+    let alloc = rt.alloc();
+    for count in 0..31 {
+        let zeros = "0".repeat(alloc, count).expect(&rt, "memory");
+        for (digits, wanted) in &BEHIND_ZEROS {
+            let text = format!(in alloc; "1 1\n0 {zeros}{digits}\n").expect(&rt, "memory");
+            assert_read(&rt, alloc, Format::Orlib, text.as_bytes(), wanted);
+        }
+        let at_the_end = format!(in alloc; "1 1\n{zeros}0 {zeros}7").expect(&rt, "memory");
+        let wanted = "[1 1 | 0 0:7]";
+        assert_read(&rt, alloc, Format::Orlib, at_the_end.as_bytes(), wanted);
+    }
+}
+
 fn assert_said(rt: &impl Abort, alloc: Global, fault: &Fault, wanted: &str) {
     let said = format!(in alloc; "{fault}").expect(rt, "memory");
     assert_told(rt, said.as_str(), wanted, 0);
