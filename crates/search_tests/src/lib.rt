@@ -10,7 +10,11 @@ mod desks;
 #[cfg(test)]
 mod instances;
 #[cfg(test)]
+mod long_machines;
+#[cfg(test)]
 mod machines;
+#[cfg(test)]
+mod numbers;
 #[cfg(test)]
 mod searches;
 #[cfg(test)]

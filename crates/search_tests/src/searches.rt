@@ -26,7 +26,7 @@ fn two_nodes(
 }
 
 /// The piece of one word or two.
-fn piece_of(rt: &impl Abort, alloc: Global, instance: &Instance, words: &[&str]) -> Piece
+pub fn piece_of(rt: &impl Abort, alloc: Global, instance: &Instance, words: &[&str]) -> Piece
     ensures { AreNodes instance.now result.nodes.items }
 {
     match words {

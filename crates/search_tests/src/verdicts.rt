@@ -1,24 +1,8 @@
 // Verdicts on made schedules: `check_quickly`, which sorts, says what `check` says, which compares all pairs of jobs.
+use crate::numbers::Numbers;
 use shop_model::{Instance, Job, Op, Table, Verdict, check, check_quickly};
 use std::alloc::Global;
 use std::process::Abort;
-
-/// Pseudo-random numbers: a linear congruential generator with Knuth's multiplier.
-#[derive(Drop)]
-struct Numbers {
-    state: u64,
-}
-
-impl Numbers {
-    /// The next number, from 0 up to `most`.
-    fn up_to(&mut self, most: u32) -> u64 {
-        self.state = self
-            .state
-            .wrapping_mul(6_364_136_223_846_793_005)
-            .wrapping_add(1);
-        (self.state >> 33) % (most as u64 + 1)
-    }
-}
 
 /// Jobs and their starts, and when each of four machines is free.
 struct Made {
@@ -28,8 +12,8 @@ struct Made {
 }
 
 impl Made {
-    /// Adds a job of at most five operations with times of 0 to 3, on any machines. One in `care + 1` operations doesn't
-    /// wait for its machine, and one in 501 begins before the one ahead of it has ended.
+    /// Adds a job of at most five operations with times of 0 to 3, on any machines. One in `care + 1` operations
+    /// doesn't wait for its machine, and one in 501 begins before the one ahead of it has ended.
     fn push_job(&mut self, rt: &impl Abort, alloc: Global, numbers: &mut Numbers, care: u32) {
         let release = numbers.up_to(3);
         let mut route = Vec::new(alloc);

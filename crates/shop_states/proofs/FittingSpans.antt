@@ -6,7 +6,7 @@ use Rattle.shop_lanes.specs.Rows.{Lane, Rows, lanes_between}
 use Rattle.shop_lanes.specs.Spans.{FitsSpan, greatest_by, span, spans_between, spans_from}
 use Rattle.shop_states.proofs.SpanTurns.{span_left, span_served, spans_counted, spans_high, spans_low}
 
-span_within : (least start : ℕ) (xs : List Lane)
+pub span_within : (least start : ℕ) (xs : List Lane)
     → span least start xs ≤ start + sum_by (λ x. x.time) xs + greatest_by (λ x. x.tail) xs
 span_within least start [] = omega arith
 span_within least start (x ∷ xs) =

@@ -13,6 +13,7 @@ pub mod SpanTurns
 pub mod Watching
 pub mod AdvanceSteps
 pub mod BoundsAfter
+pub mod CeilingLemmas
 pub mod Candidates
 pub mod ChildBounds
 pub mod ChildExits

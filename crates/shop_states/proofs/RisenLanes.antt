@@ -48,10 +48,14 @@ pub record IsRisen (from to floor : ℕ) (a b : ℕ) : Type 0 where
   pub some : 0 < b → 0 < a
   pub risen : 0 < b → (b ≤ a) ⊎ (((from ≤ max a floor) × (b ≤ to)) ⊎ (b ≤ floor))
 
-pub record IsRisenLane (from to floor : ℕ) (x y : Lane) : Type 0 where
+-- lanes of one operation, whose heads are related
+pub record IsLaneBeside (R : ℕ → ℕ → Type 0) (x y : Lane) : Type 0 where
   pub time : y.time ≡ x.time
   pub tail : y.tail ≡ x.tail
-  pub head : IsRisen from to floor x.head y.head
+  pub head : R x.head y.head
+
+abbrev pub IsRisenLane : ℕ → ℕ → ℕ → Lane → Lane → Type 0
+IsRisenLane from to floor = IsLaneBeside (IsRisen from to floor)
 
 -- of fewer lanes no more
 spans_fewer : (above upto : ℕ) (all : List Lane) (x : Lane) (xs : List Lane)
@@ -121,17 +125,17 @@ module _ (top u from to floor : ℕ) (xs : List Lane) (before : AreUpTo top u xs
     pub spans_risen : spans_between from to ys ≤ b → spans_between 0 top ys ≤ b
     spans_risen inside = spans_risen_of ys inside
 
--- lanes of rows whose heads rose
-pub lanes_risen : (from to floor : ℕ) (hs hs' ts qs : List ℕ) → length ts ≡ length hs → length qs ≡ length hs
-    → length hs' ≡ length hs → ((i : ℕ) → i < length hs → IsRisen from to floor (get_or hs i 0) (get_or hs' i 0))
-    → AreBeside (IsRisenLane from to floor) (lanes hs ts qs) (lanes hs' ts qs)
-lanes_risen from to floor [] [] ts qs a b c each = nothing
-lanes_risen from to floor [] (h' ∷ hs') ts qs a b c each = absurd (omega arith)
-lanes_risen from to floor (h ∷ hs) [] ts qs a b c each = absurd (omega arith)
-lanes_risen from to floor (h ∷ hs) (h' ∷ hs') [] qs a b c each = absurd (omega arith)
-lanes_risen from to floor (h ∷ hs) (h' ∷ hs') (t ∷ ts) [] a b c each = absurd (omega arith)
-lanes_risen from to floor (h ∷ hs) (h' ∷ hs') (t ∷ ts) (q ∷ qs) a b c each =
+-- lanes of rows whose heads are related
+pub lanes_beside : (R : ℕ → ℕ → Type 0) (hs hs' ts qs : List ℕ) → length ts ≡ length hs → length qs ≡ length hs
+    → length hs' ≡ length hs → ((i : ℕ) → i < length hs → R (get_or hs i 0) (get_or hs' i 0))
+    → AreBeside (IsLaneBeside R) (lanes hs ts qs) (lanes hs' ts qs)
+lanes_beside R [] [] ts qs a b c each = nothing
+lanes_beside R [] (h' ∷ hs') ts qs a b c each = absurd (omega arith)
+lanes_beside R (h ∷ hs) [] ts qs a b c each = absurd (omega arith)
+lanes_beside R (h ∷ hs) (h' ∷ hs') [] qs a b c each = absurd (omega arith)
+lanes_beside R (h ∷ hs) (h' ∷ hs') (t ∷ ts) [] a b c each = absurd (omega arith)
+lanes_beside R (h ∷ hs) (h' ∷ hs') (t ∷ ts) (q ∷ qs) a b c each =
     beside (record { head = h; time = t; tail = q }) (record { head = h'; time = t; tail = q })
     (record { time = refl; tail = refl; head = each zero (omega arith) })
-    (lanes_risen from to floor hs hs' ts qs (omega arith) (omega arith) (omega arith)
+    (lanes_beside R hs hs' ts qs (omega arith) (omega arith) (omega arith)
     (λ i here. each (suc i) (omega arith)))

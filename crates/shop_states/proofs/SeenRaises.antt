@@ -23,18 +23,19 @@ use Rattle.shop_states.proofs.ChildRaises.{IsBounded, bounded_by_raise, covered_
 use Rattle.shop_bound.proofs.HeadsStay.{steps_rise}
 use Rattle.shop_layout.proofs.LaidPlaces.{each_position}
 use Rattle.shop_layout.proofs.MachineLoads.{block_at}
-use Rattle.shop_states.proofs.RisenLanes.{AreBeside, AreUpTo, IsRisen, IsRisenLane, IsServedBefore}
-use Rattle.shop_states.proofs.RisenLanes.{beside_as, lanes_risen, span_beside, spans_risen}
+use Rattle.shop_states.proofs.RisenLanes.{AreBeside, AreUpTo, IsLaneBeside, IsRisen, IsRisenLane, IsServedBefore}
+use Rattle.shop_states.proofs.RisenLanes.{beside_as, lanes_beside, span_beside, spans_risen}
 use Rattle.shop_states.proofs.LaneSpans.{from_head_within}
 use Rattle.shop_states.proofs.MachineLanes.{left_matched}
 use Rattle.shop_states.proofs.LeftSlots.{left_falls}
 
--- lanes of the same blocks of rows whose heads rose there
-blocks_risen : (from to floor first end : ℕ) (hs hs' ts qs : List ℕ) → length ts ≡ length hs → length qs ≡ length hs
+-- lanes of the same blocks of rows whose heads are related there
+pub blocks_beside : (R : ℕ → ℕ → Type 0) (first end : ℕ) (hs hs' ts qs : List ℕ)
+    → length ts ≡ length hs → length qs ≡ length hs
     → length hs' ≡ length hs → 8 * end ≤ length hs
-    → ((q : ℕ) → 8 * first ≤ q → q < 8 * end → IsRisen from to floor (get_or hs q 0) (get_or hs' q 0))
-    → AreBeside (IsRisenLane from to floor) (lanes_of hs ts qs first end) (lanes_of hs' ts qs first end)
-blocks_risen from to floor first end hs hs' ts qs a b c within each =
+    → ((q : ℕ) → 8 * first ≤ q → q < 8 * end → R (get_or hs q 0) (get_or hs' q 0))
+    → AreBeside (IsLaneBeside R) (lanes_of hs ts qs first end) (lanes_of hs' ts qs first end)
+blocks_beside R first end hs hs' ts qs a b c within each =
     let n = end - first
     in let whole = λ (xs : List ℕ) (e : 8 * end ≤ length xs). length-blocks first end xs e ∙ eights
     in let lh : length (blocks first end hs) ≡ 8 * n = whole hs within
@@ -45,7 +46,7 @@ blocks_risen from to floor first end hs hs' ts qs a b c within each =
     in let rh' = length-by_columns n (blocks first end hs') lh'
     in let rt = length-by_columns n (blocks first end ts) lt
     in let rq = length-by_columns n (blocks first end qs) lq
-    in let risen = lanes_risen from to floor (by_columns n (blocks first end hs)) (by_columns n (blocks first end hs'))
+    in let risen = lanes_beside R (by_columns n (blocks first end hs)) (by_columns n (blocks first end hs'))
     (by_columns n (blocks first end ts)) (by_columns n (blocks first end qs)) (rt ∙ sym rh) (rq ∙ sym rh) (rh' ∙ sym rh)
     (λ i here.
     let q = place_at_rank n i
@@ -53,12 +54,12 @@ blocks_risen from to floor first end hs hs' ts qs a b c within each =
     in let fits = place_fits n i inside
     in let old = by_columns-at n (blocks first end hs) lh i 0 inside ∙ block_at hs first end q (omega (arith, fits))
     in let new = by_columns-at n (blocks first end hs') lh' i 0 inside ∙ block_at hs' first end q (omega (arith, fits))
-    in subst (λ (x : ℕ). IsRisen from to floor x (get_or (by_columns n (blocks first end hs')) i 0)) (sym old)
-    (subst (IsRisen from to floor (get_or hs (8 * first + q) 0)) (sym new)
+    in subst (λ (x : ℕ). R x (get_or (by_columns n (blocks first end hs')) i 0)) (sym old)
+    (subst (R (get_or hs (8 * first + q) 0)) (sym new)
     (each (8 * first + q) (omega arith) (omega (arith, fits)))))
-    in subst (λ (xs : List Lane). AreBeside (IsRisenLane from to floor) xs (lanes_of hs' ts qs first end))
+    in subst (λ (xs : List Lane). AreBeside (IsLaneBeside R) xs (lanes_of hs' ts qs first end))
     (by_both hs lh lt lq a b)
-    (subst (AreBeside (IsRisenLane from to floor)
+    (subst (AreBeside (IsLaneBeside R)
     (lanes (by_columns n (blocks first end hs)) (by_columns n (blocks first end ts))
     (by_columns n (blocks first end qs))))
     (by_both hs' lh' lt lq (a ∙ sym c) (b ∙ sym c)) risen)
@@ -118,7 +119,8 @@ module _ {shop : Shop} (limits : IsWithinLimits shop) {l : LayoutState} (laid : 
         → span h h (lanes_of now l.times l.tails (get_or l.blocks m 0) (get_or l.blocks (m + 1) 0))
         ≤ span 1 end (lanes_of left l.times l.tails (get_or l.blocks m 0) (get_or l.blocks (m + 1) 0))
     span_ahead top m h end small some up within =
-        let risen = blocks_risen 0 0 top (get_or l.blocks m 0) (get_or l.blocks (m + 1) 0) left now l.times l.tails
+        let risen = blocks_beside (IsRisen 0 0 top)
+        (get_or l.blocks m 0) (get_or l.blocks (m + 1) 0) left now l.times l.tails
         (laid.positions.times ∙ sym stored.positions) (laid.positions.tails ∙ sym stored.positions)
         (new.positions ∙ sym stored.positions) within
         (λ q a b. record { some = waited_left q; risen = λ there. inr (inr (small q)) })
@@ -153,7 +155,7 @@ module _ {shop : Shop} (limits : IsWithinLimits shop) {l : LayoutState} (laid : 
       beside : (floor : ℕ) → floor_on own end m ≤ floor
           → AreBeside (IsRisenLane raise.from raise.to floor) (lanes_on rows l m) (lanes_on rows' l m)
       beside floor foreseen =
-          let a = blocks_risen raise.from raise.to floor
+          let a = blocks_beside (IsRisen raise.from raise.to floor)
           (get_or l.blocks m 0) (get_or l.blocks (m + 1) 0) was now l.times l.tails
           (laid.positions.times ∙ sym old.positions) (laid.positions.tails ∙ sym old.positions)
           (new.positions ∙ sym old.positions) within (risen floor foreseen)

@@ -10,6 +10,7 @@ use Rattle.shop_model.specs.Shop.{Shop, machine_of}
 use Rattle.shop_model.specs.Word.{IsWord, placing}
 use Rattle.shop_bound.specs.Bound.{lb}
 use Rattle.shop_states.specs.inner.Advances.{IsLeastAt}
+use Rattle.shop_states.specs.inner.Ceilings.{AreCeilings, HasTop, RiseFor}
 use Rattle.shop_states.specs.inner.ChildBounds.{IsLeastAfter}
 use Rattle.shop_states.specs.inner.BoundsUpTo.{IsBoundUpTo}
 use Rattle.shop_layout.specs.HeadLimits.{latest_end}
@@ -25,6 +26,7 @@ use Rattle.shop_states.specs.inner.Watchers.{AreSeen, IsSeenAt, Sees, Watches, f
 use Rattle.shop_states.proofs.RaiseSteps.{put_is}
 use Rattle.shop_states.proofs.AdvanceSteps.{advanced, advanced_long, advanced_others, end_small, lifted_blocks}
 use Rattle.shop_states.proofs.AdvanceSteps.{lifted_raisable, machine_here}
+use Rattle.shop_states.proofs.CeilingLemmas.{ceilings_lifted, heads_top, raise_lifted, struck_lifted}
 use Rattle.shop_states.proofs.ChildTurns.{next_small, raised_is}
 use Rattle.shop_states.proofs.LaneFits.{spans_fit}
 use Rattle.shop_states.proofs.StateSteps.{ends_more, firsts, kept_more, next_at, next_known, within}
@@ -105,6 +107,15 @@ module _ {greatest : ℕ} {shop : Shop} {w : List ℕ} {l : LayoutState} {hs es 
 
           small : (q : ℕ) → get_or new.heads q 0 ≤ latest_end shop + 1
           small = next_small kept.kept j fits now_heads
+
+          pub trial_top : {machines : ℕ} → machines ≡ shop.machines → HasTop greatest machines l new
+          trial_top same = heads_top now_heads kept.holds same
+
+          pub trial_ceilings : {cs cs' : List ℕ} → RiseFor l m (h + t) hs' cs cs' → AreCeilings l (rows_of l hs es) cs
+              → AreCeilings l new cs'
+          trial_ceilings rise are = ceilings_lifted l rows new (trial_top refl) raising.times raising.tails rise.by
+              (struck_lifted struck its_position (raise_lifted trial_raisable.order raising.raised rise.by rise.reach))
+              rise.lifted are
 
           -- the operation that follows is the next one
           module _ {after : List ℕ} (followed : after ≡ set nexts j (get_or l.following (get_or nexts j 0) 0)) where

@@ -12,6 +12,7 @@ pub mod Advances
 pub mod Beginnings
 pub mod BoundsUpTo
 pub mod Candidates
+pub mod Ceilings
 pub mod ChildBounds
 pub mod Fills
 pub mod LaneStates

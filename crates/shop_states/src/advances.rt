@@ -7,11 +7,14 @@ ghost use Rattle.shop_bound.specs.Bound.{lb};
 ghost use Rattle.shop_bound.specs.Conflicts.{conflict};
 ghost use Rattle.shop_states.specs.States.{TellsBoundBelow};
 ghost use Rattle.shop_states.specs.inner.Advances.{CanAdvance, CanStrike, HasSameRoom, IsAdvancing};
+ghost use Rattle.shop_states.specs.inner.Ceilings.{AreCeilings};
 ghost use Rattle.shop_states.specs.inner.LaneEnds.{CanKeepEnds};
 ghost use Rattle.shop_states.specs.inner.LaneStates.{GoesOn, IsKeptInLanes};
 ghost use Rattle.shop_layout.specs.Lanes.{rows_of};
 ghost use Rattle.shop_states.specs.inner.MachineRaises.{AreEmpty};
 
+use crate::ceiling_spans::rise_for;
+use crate::ceilings::Ceilings;
 use crate::lane_ends::set_end_of;
 use crate::machine_raises::MachineRaises;
 use shop_lanes::StateLanes;
@@ -48,6 +51,7 @@ pub(crate) fn advance_below<L: StateLanes>(
     lanes: &mut L,
     next: &mut [u32],
     raises: &mut MachineRaises<L>,
+    ceilings: &mut Ceilings,
     grid: &Grid<L>,
     job: usize,
     least: u64,
@@ -58,6 +62,8 @@ pub(crate) fn advance_below<L: StateLanes>(
         (length raises.old) }
     requires at_rest { AreEmpty raises.old }
     requires limit { limit < 2 ^ 63 }
+    requires ceilings { AreCeilings grid.now
+        (rows_of grid.now (L.heads lanes.old) (L.ends lanes.old)) ceilings.old }
     ensures told { (shop : Shop) (w : List ℕ) → IsAdvancing L.GREATEST shop w grid.now
         (rows_of grid.now (L.heads lanes.old) (L.ends lanes.old)) next.old job least
         → TellsBoundBelow limit (lb shop (w ++ job ∷ [])) result }
@@ -70,6 +76,8 @@ pub(crate) fn advance_below<L: StateLanes>(
         (rows_of grid.now (L.heads lanes.new) (L.ends lanes.new)) next.old next.new }
     ensures machines { length raises.new ≡ length raises.old }
     ensures rest { AreEmpty raises.new }
+    ensures ceilings { AreCeilings grid.now
+        (rows_of grid.now (L.heads lanes.new) (L.ends lanes.new)) ceilings.new }
 {
     if limit <= least {
         return None;
@@ -79,8 +87,9 @@ pub(crate) fn advance_below<L: StateLanes>(
     let machine = routes.machine(position) as usize;
     let end = lanes.head(position) + routes.time(position);
     lanes.set_head(position, 0);
+    rise_for(ceilings, lanes, grid, machine, end);
     let raised = raises.raise(lanes, grid, &routes, next, machine, end);
-    let bound = raises.take_bound(raised, lanes, grid, least, limit);
+    let bound = raises.take_bound(raised, ceilings, lanes, grid, least, limit);
     if limit <= bound {
         return None;
     }
@@ -93,7 +102,9 @@ pub(crate) fn advance_below<L: StateLanes>(
 pub(crate) fn strike<L: StateLanes>(lanes: &mut L, next: &mut [u32], grid: &Grid<L>, job: usize)
     requires { CanStrike L.GREATEST grid.now
         (rows_of grid.now (L.heads lanes.old) (L.ends lanes.old)) next.old job }
-    ensures { (shop : Shop) (w : List ℕ) → IsKeptInLanes L.GREATEST shop w grid.now
+    ensures heads { L.heads lanes.new
+        ≡ slice_set (L.heads lanes.old) (slice_index next.old job) 0 }
+    ensures state { (shop : Shop) (w : List ℕ) → IsKeptInLanes L.GREATEST shop w grid.now
         (rows_of grid.now (L.heads lanes.old) (L.ends lanes.old)) next.old
         → conflict shop w ≡ job ∷ []
         → IsKeptInLanes L.GREATEST shop (w ++ job ∷ []) grid.now

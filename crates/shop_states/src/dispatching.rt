@@ -110,6 +110,13 @@ pub trait Dispatching<S: Drop> {
         ensures slot { IsSlot self.now state.new }
         ensures scratch { IsScratch self.now scratch.new };
 
+    /// Prepares `state`, that of a word with this bound, for dispatches of `count` candidates in copies of it: numbers
+    /// that each copy would find anew may be found beforehand. It stays the state of its word.
+    fn prepare_copies(&self, _state: &mut S, _bound: u64, _count: usize)
+        requires { IsOfSomeWord (λ w. IsStateOf self.now w _state.old) }
+        ensures { (w : List ℕ) → IsStateOf self.now w _state.old → IsStateOf self.now w _state.new }
+    {}
+
     /// Law: the state of a word also has room for any other state.
     ghost state_is_slot: { (d : Self) (w : List ℕ) (s : S) → IsStateOf d w s
         → IsSlot d s };

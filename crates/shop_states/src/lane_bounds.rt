@@ -4,9 +4,12 @@ ghost use Rattle.shop_lanes.specs.Rows.{AreBlocks};
 ghost use Rattle.shop_lanes.specs.Spans.{FitsSpan};
 ghost use Rattle.shop_layout.specs.Lanes.{lanes_on, rows_of};
 ghost use Rattle.shop_layout.specs.Positions.{AreEven};
+ghost use Rattle.shop_states.specs.inner.Ceilings.{AreCeilings, HasTop};
 ghost use Rattle.shop_states.specs.inner.HeadRaises.{raise_in, raises_in};
 ghost use Rattle.shop_states.specs.inner.MachineRaises.{CanTakeSpans, IsSpanByRaise, TakesSpans};
 
+use crate::ceiling_spans::take_spans_under;
+use crate::ceilings::Ceilings;
 use crate::head_raises::{LaneRaise, take_raise};
 use crate::machine_sets::MachineSet;
 use shop_lanes::StateLanes;
@@ -16,7 +19,7 @@ use shop_layout::Grid;
 /// The span from a head is the greatest end, tail included, of the operations with no lesser head, served by rank from
 /// that head on. May stop once the bound reaches `limit`. Each machine has `each` blocks, or any number if `each` is 0.
 #[inline(always)]
-fn span_by_raise<L: StateLanes>(
+pub(crate) fn span_by_raise<L: StateLanes>(
     each: usize,
     lanes: &L,
     grid: &Grid<L>,
@@ -82,6 +85,7 @@ fn take_spans_of<L: StateLanes>(
 fn take_longer_spans<L: StateLanes>(
     raises: &mut [LaneRaise<L::Number>],
     raised: MachineSet,
+    ceilings: &mut Ceilings,
     lanes: &L,
     grid: &Grid<L>,
     least: u64,
@@ -89,8 +93,14 @@ fn take_longer_spans<L: StateLanes>(
 ) -> u64
     requires can { CanTakeSpans L.GREATEST (raises_in L.value raises.old) raised grid.now
         (rows_of grid.now (L.heads lanes.now) (L.ends lanes.now)) least }
-    ensures { TakesSpans grid.now (rows_of grid.now (L.heads lanes.now) (L.ends lanes.now))
+    requires top { HasTop L.GREATEST (length raises.old) grid.now
+        (rows_of grid.now (L.heads lanes.now) (L.ends lanes.now)) }
+    requires ceilings { AreCeilings grid.now
+        (rows_of grid.now (L.heads lanes.now) (L.ends lanes.now)) ceilings.old }
+    ensures spans { TakesSpans grid.now (rows_of grid.now (L.heads lanes.now) (L.ends lanes.now))
         (raises_in L.value raises.old) (raises_in L.value raises.new) least limit result }
+    ensures ceilings { AreCeilings grid.now
+        (rows_of grid.now (L.heads lanes.now) (L.ends lanes.now)) ceilings.new }
 {
     match grid.blocks_each() {
         4 => take_spans_of(4, raises, raised, lanes, grid, least, limit),
@@ -98,17 +108,22 @@ fn take_longer_spans<L: StateLanes>(
         6 => take_spans_of(6, raises, raised, lanes, grid, least, limit),
         7 => take_spans_of(7, raises, raised, lanes, grid, least, limit),
         8 => take_spans_of(8, raises, raised, lanes, grid, least, limit),
+        _ if ceilings.len() == raises.len() => {
+            take_spans_under(ceilings, raises, raised, lanes, grid, least, limit)
+        }
         _ => take_spans_of(0, raises, raised, lanes, grid, least, limit),
     }
 }
 
 /// Answers the greatest of `least` and the spans, explained at `span_by_raise`, of the machines in `raised` from the
-/// heads within their raises. May stop once the bound reaches `limit`. Empties the raises. `least`, `limit` and the
+/// heads within their raises. May stop once the bound reaches `limit`. Empties the raises. Where ceilings are known,
+/// they are asked first, and kept up. `least`, `limit` and the
 /// answer are one more than the bounds that they stand for, like heads in lanes.
 #[inline(always)]
 pub(crate) fn take_spans<L: StateLanes>(
     raises: &mut [LaneRaise<L::Number>],
     raised: MachineSet,
+    ceilings: &mut Ceilings,
     lanes: &L,
     grid: &Grid<L>,
     least: u64,
@@ -116,13 +131,19 @@ pub(crate) fn take_spans<L: StateLanes>(
 ) -> u64
     requires can { CanTakeSpans L.GREATEST (raises_in L.value raises.old) raised grid.now
         (rows_of grid.now (L.heads lanes.now) (L.ends lanes.now)) least }
-    ensures { TakesSpans grid.now (rows_of grid.now (L.heads lanes.now) (L.ends lanes.now))
+    requires top { HasTop L.GREATEST (length raises.old) grid.now
+        (rows_of grid.now (L.heads lanes.now) (L.ends lanes.now)) }
+    requires ceilings { AreCeilings grid.now
+        (rows_of grid.now (L.heads lanes.now) (L.ends lanes.now)) ceilings.old }
+    ensures spans { TakesSpans grid.now (rows_of grid.now (L.heads lanes.now) (L.ends lanes.now))
         (raises_in L.value raises.old) (raises_in L.value raises.new) least limit result }
+    ensures ceilings { AreCeilings grid.now
+        (rows_of grid.now (L.heads lanes.now) (L.ends lanes.now)) ceilings.new }
 {
     match grid.blocks_each() {
         1 => take_spans_of(1, raises, raised, lanes, grid, least, limit),
         2 => take_spans_of(2, raises, raised, lanes, grid, least, limit),
         3 => take_spans_of(3, raises, raised, lanes, grid, least, limit),
-        _ => take_longer_spans(raises, raised, lanes, grid, least, limit),
+        _ => take_longer_spans(raises, raised, ceilings, lanes, grid, least, limit),
     }
 }

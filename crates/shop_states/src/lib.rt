@@ -4,6 +4,8 @@
 mod advances;
 mod beginnings;
 mod candidate_lists;
+mod ceiling_spans;
+mod ceilings;
 mod dispatchers;
 mod dispatching;
 mod fills;

@@ -1,12 +1,14 @@
 // The raises of heads on each machine in a dispatch, and the bound that they give.
 ghost use Rattle.std.specs.Prelude.{◌≡◌, ℕ, ◌+◌, ◌≤◌, ◌<◌, ◌^◌, IfOk, length, replicate};
 ghost use Rattle.shop_lanes.specs.Spans.{spans_between};
+ghost use Rattle.shop_states.specs.inner.Ceilings.{AreCeilings, HasTop};
 ghost use Rattle.shop_states.specs.inner.HeadRaises.{nothing_raised, raise_of, raises_in};
 ghost use Rattle.shop_layout.specs.Lanes.{lanes_on, rows_of};
 ghost use Rattle.shop_states.specs.inner.MachineRaises.{AreEmpty, AreListed, AreRaisesFit};
 ghost use Rattle.shop_states.specs.inner.Raises.{HasBlocks, IsOnMachine, IsRaisable, Raises};
 ghost use Rattle.shop_states.specs.inner.Watchers.{AreKnown, Sees};
 
+use crate::ceilings::Ceilings;
 use crate::head_raises::{LaneRaise, no_raise};
 use crate::lane_bounds::take_spans;
 use crate::machine_sets::MachineSet;
@@ -98,11 +100,13 @@ impl<L: StateLanes> MachineRaises<L> {
 
     /// Answers the greatest of `least` and the spans of the machines in `raised` from their raised heads. The span from
     /// a head is the greatest end, tail included, of the machine's operations with no lesser head, served by rank from
-    /// that head on. May stop once the bound reaches `limit`. Empties the raises.
+    /// that head on. May stop once the bound reaches `limit`. Empties the raises, and keeps
+    /// up the ceilings.
     #[inline(always)]
     pub fn take_bound(
         &mut self,
         raised: MachineSet,
+        ceilings: &mut Ceilings,
         lanes: &L,
         grid: &Grid<L>,
         least: u64,
@@ -115,6 +119,10 @@ impl<L: StateLanes> MachineRaises<L> {
         requires tails { length grid.now.tails ≡ length grid.now.times }
         requires fits { AreRaisesFit L.GREATEST self.old grid.now
             (rows_of grid.now (L.heads lanes.now) (L.ends lanes.now)) }
+        requires top { HasTop L.GREATEST (length self.old) grid.now
+            (rows_of grid.now (L.heads lanes.now) (L.ends lanes.now)) }
+        requires ceilings { AreCeilings grid.now
+            (rows_of grid.now (L.heads lanes.now) (L.ends lanes.now)) ceilings.old }
         ensures long { length self.new ≡ length self.old }
         ensures empty { AreEmpty self.new }
         ensures least { least ≤ result }
@@ -122,6 +130,8 @@ impl<L: StateLanes> MachineRaises<L> {
             (raise_of self.old m).to
             (lanes_on (rows_of grid.now (L.heads lanes.now) (L.ends lanes.now)) grid.now m)
             ≤ result + 1 }
+        ensures ceilings { AreCeilings grid.now
+            (rows_of grid.now (L.heads lanes.now) (L.ends lanes.now)) ceilings.new }
         ensures within { (c : ℕ) → least ≤ c → ((m above upto : ℕ) → m < length self.old
             → spans_between above upto
             (lanes_on (rows_of grid.now (L.heads lanes.now) (L.ends lanes.now)) grid.now m) ≤ c + 1)
@@ -129,7 +139,7 @@ impl<L: StateLanes> MachineRaises<L> {
     {
         let raises = self.raises.as_mut_slice();
         let most = (least + 1).min(L::GREATEST);
-        let spans = take_spans(raises, raised, lanes, grid, most, limit + 1);
+        let spans = take_spans(raises, raised, ceilings, lanes, grid, most, limit + 1);
         least.max(spans.saturating_sub(1))
     }
 }

@@ -1,14 +1,18 @@
 // The state of a word, and the scratch room of fills and dispatches.
 use crate::beginnings::Beginning;
+use crate::ceilings::Ceilings;
 use crate::machine_raises::MachineRaises;
 use shop_lanes::StateLanes;
 
-/// The state of a word: the head of each waiting operation, by position, and each job's next operation with its end.
+/// The state of a word: the head of each waiting operation, by position, each job's next operation with its end, and
+/// the ceilings of long machines.
 #[derive(Drop)]
 pub struct State<L: StateLanes> {
     pub(crate) lanes: L,
     /// next[job]: the position of the job's next operation, or the number of positions if none is left
     pub(crate) next: Vec<u32>,
+    /// what no span of a machine exceeds, where machines are long and it is known
+    pub(crate) ceilings: Ceilings,
 }
 
 /// Room that is used again and again to fill states, list candidates and dispatch operations.

@@ -101,7 +101,8 @@ fn leading_digits(text: &[u8]) -> (u64, usize)
     (value, most)
 }
 
-/// The value of a token that is a number, at most `u64::MAX`. Only a token of more than 19 digits is gone through again.
+/// The value of a token that is a number, at most `u64::MAX`. Only a token of more than 19 digits is gone through
+/// again.
 pub(crate) fn number_of(token: &[u8]) -> Option<u64>
     ensures { result ≡ number_in token.now }
 {

@@ -253,6 +253,20 @@ impl<'l, D: Dispatching<S>, S: Drop> WalkStates<'l, D, S> {
         self.dispatcher.dispatch_below(&mut self.scratch, &mut self.trial, candidate, bound, limit)
     }
 
+    /// Prepares the current state, that of a word with this bound, for trials of `count` candidates in copies of it.
+    #[inline(always)]
+    fn prepare_copies(&mut self, bound: u64, count: usize)
+        requires sound { HoldSlots D.IsSlot D.IsScratch self.old }
+        requires state { IsOfSomeWord
+            (λ w. D.IsStateOf self.old.dispatcher.now w self.old.current.value) }
+        ensures sound { HoldSlots D.IsSlot D.IsScratch self.new }
+        ensures state { (w : List ℕ) → D.IsStateOf self.old.dispatcher.now w self.old.current.value
+            → D.IsStateOf self.old.dispatcher.now w self.new.current.value }
+        ensures dispatcher { self.new.dispatcher.now ≡ self.old.dispatcher.now }
+    {
+        self.dispatcher.prepare_copies(&mut self.current, bound, count);
+    }
+
     /// Tries each of `candidates`, and puts the children of `word` with bounds below `limit` on the stack: by bound,
     /// then by job, the first on top, each with its state while there is room. Answers how many children are closed:
     /// those tried in vain, and `closed` others without a listed candidate. Fails with `NoMemory` if memory runs out.
@@ -278,6 +292,7 @@ impl<'l, D: Dispatching<S>, S: Drop> WalkStates<'l, D, S> {
         ensures more { IfOk result (λ n. closed ≤ n) }
         ensures dispatcher { self.new.dispatcher.now ≡ self.old.dispatcher.now }
     {
+        self.prepare_copies(bound, candidates.len());
         let (from, depth) = (stack.len(), word.len() as u32);
         let mut others = closed;
         // Tries the last job first, so that of equal bounds the lower job lies above.

@@ -19,15 +19,21 @@ overflow_cast-depth g c =
     in omega arith
 
 pub loop-index-init : goal.loop-index-init
-loop-index-init g c = record {
-  kids = [];
-  stack = sym (append-nil _);
-  trying = trying_begins c.requires.listed c.requires.state;
-  bound = c.requires.bound;
-  more = omega arith;
-  sound = c.requires.sound;
-  same = refl;
-}
+loop-index-init g c =
+    let word = c.args.word.now
+    in let same = c.prepare_copies.ensures.dispatcher
+    in record {
+      kids = [];
+      stack = sym (append-nil _);
+      trying = subst (λ x. IsTrying (g.D.Dispatching.IsStateOf x) (g.D.Dispatching.IsCandidate x word)
+          (g.D.Dispatching.shop x) c.args.limit word c.args.candidates.now (length c.args.candidates.now) []
+          c.args.closed c.prepare_copies.new.self.current.value) (sym same)
+          (trying_begins c.requires.listed (c.prepare_copies.ensures.state word c.requires.state));
+      bound = c.requires.bound ∙ ap (λ x. lb (g.D.Dispatching.shop x) word) (sym same);
+      more = omega arith;
+      sound = c.prepare_copies.ensures.sound;
+      same = same;
+    }
 
 pub overflow_add-others : goal.overflow_add-others
 overflow_add-others g c =

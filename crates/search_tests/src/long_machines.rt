@@ -1,0 +1,73 @@
+// Searches on long machines, whose ceilings are kept, and on shorter ones: each node left has the bound that
+// `lower_bound` finds of its word.
+ghost use Rattle.std.specs.Prelude.{◌≤◌};
+
+use crate::numbers::Numbers;
+use crate::searches::piece_of;
+use shop_bound::lower_bound;
+use shop_model::{Instance, Job, Op, fits};
+use shop_tree::search;
+use std::alloc::Global;
+use std::process::Abort;
+
+/// How many jobs, machines, operations of each job, and the greatest time.
+type Shape = (usize, u32, usize, u32);
+
+/// From 58 to 90 operations a machine, of 11 machines or more; wide lanes; and few jobs, whose conflict sets are small.
+static SHAPES: [Shape; 7] = [
+    (10, 12, 70, 9),
+    (10, 12, 85, 9),
+    (10, 12, 88, 9),
+    (11, 12, 98, 9),
+    (10, 11, 99, 9),
+    (11, 12, 98, 2_000),
+    (3, 12, 90, 9),
+];
+
+/// An instance of this shape, each operation on any machine and for any time up to the greatest.
+fn made(rt: &impl Abort, alloc: Global, numbers: &mut Numbers, shape: &Shape) -> Instance {
+    let (count, machines, steps, most) = *shape;
+    let mut jobs = Vec::new(alloc);
+    for _ in 0..count {
+        let mut route = Vec::new(alloc);
+        for _ in 0..steps {
+            let machine = numbers.up_to(machines.saturating_sub(1)) as usize;
+            let time = numbers.up_to(most);
+            route.push(Op { machine, time }).expect(rt, "memory");
+        }
+        let release = numbers.up_to(5);
+        jobs.push(Job { release, route }).expect(rt, "memory");
+    }
+    match Instance::of_jobs(machines as usize, jobs) {
+        Ok(instance) => instance,
+        Err(_) => panic!(rt; "an instance within the limits"),
+    }
+}
+
+/// Asserts the bounds of the nodes that a search of the whole instance leaves at this budget.
+fn assert_bounds(rt: &impl Abort, alloc: Global, instance: &Instance, budget: u64)
+    requires { budget ≤ 100 }
+{
+    let piece = piece_of(rt, alloc, instance, &[""]);
+    let sheet = search(alloc, instance, &piece, 1_000_000, budget).expect(rt, "memory");
+    let left = sheet.left.nodes(alloc).expect(rt, "memory");
+    assert!(rt; !left.is_empty());
+    for node in &left {
+        assert!(rt; fits(instance, &node.word));
+        let bound = lower_bound(alloc, instance, &node.word).expect(rt, "memory");
+        assert_eq!(rt; node.bound, bound);
+    }
+}
+
+#[test]
+fn bounds_of_nodes_left(rt: HostRuntime) {
+    let mut numbers = Numbers { state: 5 };
+    for shape in &SHAPES {
+        for _ in 0..3 {
+            let instance = made(&rt, rt.alloc(), &mut numbers, shape);
+            assert_bounds(&rt, rt.alloc(), &instance, 1);
+            assert_bounds(&rt, rt.alloc(), &instance, 12);
+            assert_bounds(&rt, rt.alloc(), &instance, 60);
+        }
+    }
+}
