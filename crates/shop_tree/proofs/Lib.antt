@@ -11,3 +11,4 @@ mod TrialLemmas
 mod WalkerLemmas
 mod StateLemmas
 mod StateSteps
+mod StripLemmas

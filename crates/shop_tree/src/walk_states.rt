@@ -8,10 +8,10 @@ ghost use Rattle.shop_states.specs.States.{TellsBoundBelow};
 ghost use Rattle.shop_nodes.specs.Branching.{conflict};
 ghost use Rattle.shop_tree.specs.inner.Held.{IsHeldOf};
 ghost use Rattle.shop_tree.specs.inner.Slots.{HoldSlots};
-ghost use Rattle.shop_tree.specs.inner.Tried.{HasPutChildren};
+ghost use Rattle.shop_tree.specs.inner.Tried.{AreSlotsFrom, HasMadeRoom, HasPutChildren};
 
 use crate::held::Held;
-use crate::open_children::put;
+use crate::open_children::{put, strip_top};
 use shop_nodes::Open;
 use shop_states::{Candidate, Dispatching};
 use std::alloc::{AllocError as NoMemory, Global};
@@ -132,6 +132,7 @@ impl<'l, D: Dispatching<S>, S: Drop> WalkStates<'l, D, S> {
         requires slot { IsHeldOf (λ _ s. D.IsSlot self.old.dispatcher.now s) [] state }
         ensures sound { OnOk result (HoldSlots D.IsSlot D.IsScratch self.new) }
         ensures current { OnOk result (self.new.current.value ≡ self.old.current.value) }
+        ensures trial { OnOk result (self.new.trial.value ≡ self.old.trial.value) }
         ensures dispatcher { self.new.dispatcher.now ≡ self.old.dispatcher.now }
     {
         let Some(state) = state else {
@@ -264,7 +265,33 @@ impl<'l, D: Dispatching<S>, S: Drop> WalkStates<'l, D, S> {
             → D.IsStateOf self.old.dispatcher.now w self.new.current.value }
         ensures dispatcher { self.new.dispatcher.now ≡ self.old.dispatcher.now }
     {
-        self.dispatcher.prepare_copies(&mut self.current, bound, count);
+        self.dispatcher
+            .prepare_copies(&mut self.current, bound, count);
+    }
+
+    /// Where no state can be had any more, takes that of the topmost sibling, for a child of this bound that goes above
+    /// it. So at least the child that is walked next isn't filled from its word. Siblings stand from index `from` on.
+    /// Fails with `NoMemory` if memory runs out.
+    #[inline(always)]
+    fn make_room(
+        &mut self,
+        stack: &mut Vec<Held<S>>,
+        from: usize,
+        bound: u64,
+    ) -> Result<(), NoMemory>
+        requires sound { HoldSlots D.IsSlot D.IsScratch self.old }
+        requires slots { AreSlotsFrom (D.IsSlot self.old.dispatcher.now) from stack.old.items }
+        ensures sound { OnOk result (HoldSlots D.IsSlot D.IsScratch self.new) }
+        ensures stripped { HasMadeRoom from stack.old.items stack.new.items }
+        ensures current { OnOk result (self.new.current.value ≡ self.old.current.value) }
+        ensures trial { OnOk result (self.new.trial.value ≡ self.old.trial.value) }
+        ensures dispatcher { self.new.dispatcher.now ≡ self.old.dispatcher.now }
+    {
+        if self.free() > 0 {
+            return Ok(());
+        }
+        let state = strip_top(stack, from, bound);
+        self.give_back(state)
     }
 
     /// Tries each of `candidates`, and puts the children of `word` with bounds below `limit` on the stack: by bound,
@@ -304,6 +331,7 @@ impl<'l, D: Dispatching<S>, S: Drop> WalkStates<'l, D, S> {
                 continue;
             };
             let job = candidate.job;
+            self.make_room(stack, from, bound)?;
             let state = self.take_trial(alloc)?;
             put(stack, from, Open { depth, job, bound }, state)?;
         }

@@ -1,10 +1,12 @@
-use Rattle.std.proofs.Common.{◌+◌, ◌<◌, ◌-◌, [], ◌∷◌, ◌++◌, List, get_or, refl, sym, ◌∙◌, ap, subst}
+use Rattle.std.proofs.Common.{◌≡◌, ◌+◌, ◌<◌, ◌-◌, [], ◌∷◌, ◌++◌, List, get_or, sym, ◌∙◌, ap, subst}
 use Rattle.std.proofs.Common.{append-nil, arith, length}
 use Rattle.std.specs.List.{insert}
+use Rattle.std.specs.Prelude.{OnSome}
 use Rattle.shop_model.proofs.WordLengths.{word_length}
 use Rattle.shop_bound.specs.Bound.{lb}
 use Rattle.shop_tree.specs.inner.Held.{Kept}
-use Rattle.shop_tree.specs.inner.Tried.{HasPutChildren}
+use Rattle.shop_tree.specs.inner.Tried.{AreSlotsFrom, HasPutChildren}
+use Rattle.shop_tree.proofs.StripLemmas.{are_slots, stripped, trying_stripped}
 use Rattle.shop_tree.proofs.AddLemmas.{conflict_few}
 use Rattle.shop_tree.proofs.TrialLemmas.{IsTrying, trying_begins, next_own, next_fits, turn_counted}
 use Rattle.shop_tree.proofs.TrialLemmas.{turn_kept, told_high, tried_child, still_wanted, all_tried}
@@ -85,6 +87,17 @@ loop-index-preserved-in_default g c =
       same = same ∙ now.same;
     }
 
+pub make_room-requires-clause-slots : goal.make_room-requires-clause-slots
+make_room-requires-clause-slots g c =
+    let now = c.loop-index.invariant
+    in let d = c.loop-index.self.dispatcher.now
+    in let same = c.try_candidate.ensures.dispatcher
+    in subst (λ x. AreSlotsFrom (g.D.Dispatching.IsSlot x) c.len-from.result c.loop-index.stack.items) (sym same)
+    (are_slots c.args.stack.now.items now.kids c.len-from.result
+    (let a = c.len-from.ensures in let b = c.args.stack.now.ok.0 in omega arith) c.loop-index.stack.items now.stack
+    (g.D.Dispatching.IsStateOf d) c.args.word.now now.trying.states (g.D.Dispatching.IsSlot d)
+    (λ w s. g.met.D.Dispatching.state_is_slot d w s))
+
 pub loop-index-preserved : goal.loop-index-preserved
 loop-index-preserved g c =
     let now = c.loop-index.invariant
@@ -98,24 +111,33 @@ loop-index-preserved g c =
     in let state = now.trying.wanted some
     in let own = next_own some now.trying
     in let child = tried_child is (g.D.Dispatching.shop d) word c.args.limit job c.in-Some.bound c.try_candidate.result
-    c.try_candidate.new.self.trial.value c.in_ok-state.state c.in-Some.is
-    (c.try_candidate.ensures.told word state own now.bound) (c.try_candidate.ensures.state word state own)
+    c.make_room.new.self.trial.value c.in_ok-state.state c.in-Some.is
+    (c.try_candidate.ensures.told word state own now.bound)
+    (subst (λ s. OnSome c.try_candidate.result (is (word ++ job ∷ []) s)) (sym c.in_ok-make_room.ensures.trial)
+    (c.try_candidate.ensures.state word state own))
     c.in_ok-state.ensures.taken
-    in let put = c.in_ok-put.ensures c.args.stack.now.items now.kids
-    (let a = c.len-from.ensures in let b = c.args.stack.now.ok.0 in omega arith) now.stack
+    in let e : c.len-from.result ≡ length c.args.stack.now.items =
+    (let a = c.len-from.ensures in let b = c.args.stack.now.ok.0 in omega arith)
+    in let made = c.make_room.ensures.stripped
+    in let less = stripped c.args.stack.now.items now.kids c.len-from.result e c.loop-index.stack.items now.stack is
+    word now.trying.states c.make_room.new.stack.items made.0 made.1
+    in let put = c.in_ok-put.ensures c.args.stack.now.items less.left e less.put
     in let left = c.take_trial.new.self.current.value
-    in let kids : List (Kept g.row.S.Denot) = insert now.kids put.at (record {
+    in let kids : List (Kept g.row.S.Denot) = insert less.left put.at (record {
       «open» = record { depth = length word; job = job; bound = c.in-Some.bound };
       state = c.in_ok-state.state;
     })
-    in let same = c.take_trial.ensures.dispatcher ∙ c.try_candidate.ensures.dispatcher
+    in let same = c.take_trial.ensures.dispatcher
+    ∙ (c.make_room.ensures.dispatcher ∙ c.try_candidate.ensures.dispatcher)
     in record {
       kids = kids;
       stack = put.put;
       trying = subst (λ x. IsTrying (g.D.Dispatching.IsStateOf x) (g.D.Dispatching.IsCandidate x word)
           (g.D.Dispatching.shop x) c.args.limit word cs (i - 1) kids c.loop-index.others left) (sym same)
-          (turn_kept some now.trying left (g.met.D.Dispatching.state_is_of_word d word _ state) child put
-          (still_wanted (is word) i (λ e. c.take_trial.ensures.current ∙ c.try_candidate.ensures.current e) state));
+          (turn_kept some (trying_stripped now.trying less.opens less.states) left
+          (g.met.D.Dispatching.state_is_of_word d word _ state) child put
+          (still_wanted (is word) i (λ f. c.take_trial.ensures.current
+          ∙ (c.in_ok-make_room.ensures.current ∙ c.try_candidate.ensures.current f)) state));
       bound = now.bound ∙ ap (λ x. lb (g.D.Dispatching.shop x) word) (sym same);
       more = now.more;
       sound = c.in_ok-state.ensures.sound;
