@@ -13,7 +13,8 @@ use std::process::Abort;
 /// How many jobs, machines, operations of each job, and the greatest time.
 type Shape = (usize, u32, usize, u32);
 
-/// From 58 to 90 operations a machine, of 11 machines or more; wide lanes; and few jobs, whose conflict sets are small.
+/// From 58 to 90 operations a machine, of 11 machines or more, with wide lanes too; and three jobs, whose conflict sets
+/// are small.
 static SHAPES: [Shape; 7] = [
     (10, 12, 70, 9),
     (10, 12, 85, 9),
@@ -24,8 +25,18 @@ static SHAPES: [Shape; 7] = [
     (3, 12, 90, 9),
 ];
 
-/// An instance of this shape, each operation on any machine and for any time up to the greatest.
-fn made(rt: &impl Abort, alloc: Global, numbers: &mut Numbers, shape: &Shape) -> Instance {
+/// The latest releases: ceilings are kept where all jobs are released at time 0.
+static LATEST: [u32; 2] = [0, 5];
+
+/// An instance of this shape, each operation on any machine and for any time up to the greatest, each job released at
+/// any time up to `latest`.
+fn made(
+    rt: &impl Abort,
+    alloc: Global,
+    numbers: &mut Numbers,
+    shape: &Shape,
+    latest: u32,
+) -> Instance {
     let (count, machines, steps, most) = *shape;
     let mut jobs = Vec::new(alloc);
     for _ in 0..count {
@@ -35,7 +46,7 @@ fn made(rt: &impl Abort, alloc: Global, numbers: &mut Numbers, shape: &Shape) ->
             let time = numbers.up_to(most);
             route.push(Op { machine, time }).expect(rt, "memory");
         }
-        let release = numbers.up_to(5);
+        let release = numbers.up_to(latest);
         jobs.push(Job { release, route }).expect(rt, "memory");
     }
     match Instance::of_jobs(machines as usize, jobs) {
@@ -63,11 +74,13 @@ fn assert_bounds(rt: &impl Abort, alloc: Global, instance: &Instance, budget: u6
 fn bounds_of_nodes_left(rt: HostRuntime) {
     let mut numbers = Numbers { state: 5 };
     for shape in &SHAPES {
-        for _ in 0..3 {
-            let instance = made(&rt, rt.alloc(), &mut numbers, shape);
-            assert_bounds(&rt, rt.alloc(), &instance, 1);
-            assert_bounds(&rt, rt.alloc(), &instance, 12);
-            assert_bounds(&rt, rt.alloc(), &instance, 60);
+        for latest in &LATEST {
+            for _ in 0..3 {
+                let instance = made(&rt, rt.alloc(), &mut numbers, shape, *latest);
+                assert_bounds(&rt, rt.alloc(), &instance, 1);
+                assert_bounds(&rt, rt.alloc(), &instance, 12);
+                assert_bounds(&rt, rt.alloc(), &instance, 60);
+            }
         }
     }
 }

@@ -13,6 +13,7 @@ use crate::machine_raises::MachineRaises;
 use crate::states::{Scratch, State};
 use shop_lanes::StateLanes;
 use shop_layout::LaidOut;
+use shop_model::Instance;
 use std::alloc::{AllocError as NoMemory, Global};
 
 /// A number above the bound of every word of an instance within the limits.
@@ -30,15 +31,28 @@ const SEVERAL: usize = 12;
 /// dispatches take less.
 const MANY: usize = 4;
 
-/// Whether there are several machines, with `LONG` positions or more on average.
-fn has_long_machines<L: StateLanes>(laid_out: &LaidOut<L>) -> bool {
+/// Whether all jobs are released at time 0. Where releases lie apart, so do heads, and ceilings take too many leaps.
+fn are_released(instance: &Instance) -> bool {
+    for job in 0..instance.jobs() {
+        if instance.release(job) > 0 {
+            return false;
+        }
+    }
+    true
+}
+
+/// Whether states keep ceilings: there are several machines, with `LONG` positions or more on average, and all jobs are
+/// released at time 0.
+fn keeps_ceilings<L: StateLanes>(laid_out: &LaidOut<L>) -> bool {
     let machines = laid_out.instance().machines();
-    machines >= SEVERAL && laid_out.grid().positions() / LONG >= machines
+    machines >= SEVERAL
+        && laid_out.grid().positions() / LONG >= machines
+        && are_released(laid_out.instance())
 }
 
 /// The number of machines for which a state has room for ceilings.
 fn machines_with_ceilings<L: StateLanes>(laid_out: &LaidOut<L>) -> usize {
-    if has_long_machines(laid_out) {
+    if keeps_ceilings(laid_out) {
         return laid_out.instance().machines();
     }
     0
@@ -162,7 +176,7 @@ impl<'a, L: StateLanes> Dispatching<State<L>> for LaidOut<'a, L> {
 
     #[inline(always)]
     fn prepare_copies(&self, state: &mut State<L>, bound: u64, count: usize) {
-        if count >= MANY && state.ceilings.len() == 0 && has_long_machines(self) {
+        if count >= MANY && state.ceilings.len() == 0 && keeps_ceilings(self) {
             let machines = self.instance().machines();
             find_ceilings(
                 &mut state.ceilings,
