@@ -1,70 +1,117 @@
--- The legs of a route, read from the row of its job.
-use Rattle.std.proofs.Common.{◌≡◌, ℕ, ◌+◌, ◌*◌, ◌<◌, List, [], ◌∷◌, ◌++◌, get_or, length, map, take}
-use Rattle.std.proofs.Common.{sym, ◌∙◌, ap, subst, arith}
-use Rattle.std.specs.List.{All}
+-- The legs of all routes, and where those of each route stand among them.
+use Rattle.std.proofs.Common.{◌≡◌, ℕ, ◌+◌, ◌*◌, ◌^◌, ◌≤◌, ◌<◌, List, [], ◌∷◌, ◌++◌, drop, get_or, length, map, take}
+use Rattle.std.proofs.Common.{sym, ◌∙◌, ap, subst, arith, inl, inr}
+use Rattle.std.specs.List.{All, flat_map}
 use Rattle.std.specs.Prelude.{Vec}
 use Rattle.std.specs.declared.alloc.Global.{Global}
-use Rattle.std.proofs.lemmas.List.{get_or-map, get_or_default, length-map, map-append, take_more}
+use Rattle.std.proofs.lemmas.Bool.{cases_lt}
+use Rattle.std.proofs.lemmas.List.{flat_map_more, get_or_append_left, get_or-map, get_or_default, get_or_push}
+use Rattle.std.proofs.lemmas.List.{length-append, length-map, take-append-drop, take_more}
+use Rattle.std.proofs.lemmas.List.Concat.{flat_map-append, get_or-flat_map}
 use Rattle.shop_model.specs.Limits.{IsWithinLimits}
 use Rattle.shop_model.specs.Shop.{Shop, route_of}
 use Rattle.shop_layout.specs.declared.legs.Leg.{Leg}
-use Rattle.shop_layout.specs.Legs.{leg_of, legs_on}
+use Rattle.shop_layout.specs.Legs.{all_legs, end_of, leg_index, leg_of, route_legs}
 use Rattle.shop_layout.specs.Positions.{IsLaidOut, LayoutState, place}
-use Rattle.shop_layout.specs.inner.RouteRows.{AreBelow, AreLegs}
+use Rattle.shop_layout.specs.inner.RouteRows.{AreBehind, AreBelow, AreFirsts, IsBehind}
 use Rattle.shop_layout.proofs.LaidPlaces.{place_of}
 
-module _ (l : LayoutState) (legs : List (Vec Leg Global)) (are : AreLegs l (map (λ v. v.items) legs)) where
-  pub many_legs : length legs ≡ length l.places
-  many_legs = sym (length-map legs (λ v. v.items))
-      ∙ (ap length are ∙ length-map l.places (map (leg_of l.machines l.times)))
+module _ (rows : List (Vec ℕ Global)) (j : ℕ) (row : Vec ℕ Global) (places : List ℕ) (here : j < length rows)
+    (is : row ≡ get_or rows j row) (read : places ≡ row.items) where
+  abbrev all : List (List ℕ)
+  all = map (λ v. v.items) rows
 
-  pub legs_read : (j : ℕ) (row : Vec Leg Global) → j < length l.places → row ≡ get_or legs j row
-      → row.items ≡ legs_on l j
-  legs_read j row known is =
-      ap (λ v. v.items) is
-      ∙ (sym (get_or-map (λ v. v.items) legs j row [] (let a = many_legs in omega arith))
-      ∙ (ap (λ (rows : List (List Leg)). get_or rows j []) are
-      ∙ get_or-map (map (leg_of l.machines l.times)) l.places j [] [] known))
+  there : get_or all j [] ≡ row.items
+  there = get_or-map (λ v. v.items) rows j row [] here ∙ ap (λ v. v.items) (sym is)
 
-  -- the row of a job, as it was read
-  pub row_is : (j : ℕ) (row : Vec Leg Global) (route : List Leg) → j < length l.places → row ≡ get_or legs j row
-      → route ≡ row.items → route ≡ legs_on l j
-  row_is j row route known is read = read ∙ legs_read j row known is
+  -- a row of places, as it was read
+  pub row_below : (n : ℕ) → All (AreBelow n) (map (λ v. v.items) rows) → AreBelow n places
+  row_below n below = subst (AreBelow n) (sym (read ∙ sym there))
+      (below j [] (omega (arith, here, length-map rows (λ v. v.items))))
 
-  pub row_long : (j : ℕ) (row : Vec Leg Global) (route : List Leg) → j < length l.places → row ≡ get_or legs j row
-      → route ≡ row.items → length route ≡ length (get_or l.places j [])
-  row_long j row route known is read =
-      ap length (row_is j row route known is read) ∙ length-map (get_or l.places j []) (leg_of l.machines l.times)
+  -- the legs of one more row
+  pub legs_more : (f : List ℕ → List Leg) {old new : List Leg} → old ≡ flat_map f (take j (map (λ v. v.items) rows))
+      → new ≡ old ++ f places → new ≡ flat_map f (take (j + 1) (map (λ v. v.items) rows))
+  legs_more f so_far added =
+      let taken : take (j + 1) all ≡ take j all ++ get_or all j [] ∷ [] =
+      take_more all j [] (omega (arith, here, length-map rows (λ v. v.items)))
+      in added
+      ∙ (ap (λ xs. xs ++ f places) so_far
+      ∙ (ap (λ (ps : List ℕ). flat_map f (take j all) ++ f ps) (read ∙ sym there)
+      ∙ (flat_map_more f [] (take j all) (get_or all j [])
+      ∙ ap (flat_map f) (sym taken))))
 
--- a row of places, as it was read
-pub row_below : (n : ℕ) (rows : List (Vec ℕ Global)) → All (AreBelow n) (map (λ v. v.items) rows) → (j : ℕ)
-    (row : Vec ℕ Global) (places : List ℕ) → j < length rows → row ≡ get_or rows j row → places ≡ row.items
-    → AreBelow n places
-row_below n rows below j row places here is read =
-    let there : get_or (map (λ v. v.items) rows) j [] ≡ row.items =
-    get_or-map (λ v. v.items) rows j row [] here ∙ ap (λ v. v.items) (sym is)
-    in subst (AreBelow n) (sym (read ∙ sym there))
-    (below j [] (omega (arith, here, length-map rows (λ v. v.items))))
+-- where one more row begins
+pub firsts_more : (f : List ℕ → List Leg) (all : List (List ℕ)) (j : ℕ) {legs : List Leg} (old : List ℕ) {new : List ℕ}
+    {n : ℕ} → length old ≡ j → ((i : ℕ) → i < j → get_or old i 0 ≡ length (flat_map f (take i all)))
+    → legs ≡ flat_map f (take j all) → n ≡ length legs → new ≡ old ++ n ∷ []
+    → (i : ℕ) → i < j + 1 → get_or new i 0 ≡ length (flat_map f (take i all))
+firsts_more f all j {legs} old {new} {n} long each so_far count pushed i here = elim (cases_lt i j) [
+  | inl before ↦ ap (λ (xs : List ℕ). get_or xs i 0) pushed
+      ∙ (get_or_append_left old (n ∷ []) 0 i (omega (arith, long, before)) ∙ each i before)
+  | inr last ↦ (let same : i ≡ j = omega arith
+      in ap (λ (xs : List ℕ). get_or xs i 0) pushed
+      ∙ (get_or_push old n 0 i (long ∙ sym same) ∙ (count ∙ (ap length so_far
+      ∙ ap (λ (k : ℕ). length (flat_map f (take k all))) (sym same)))))
+]
 
--- the legs of one more row
-pub legs_more : (leg : ℕ → Leg) (rows : List (Vec ℕ Global)) (j : ℕ) (row : Vec ℕ Global) (places : List ℕ)
-    (old new : List (Vec Leg Global)) (more : Vec Leg Global) → j < length rows → row ≡ get_or rows j row
-    → places ≡ row.items → map (λ v. v.items) old ≡ map (map leg) (take j (map (λ v. v.items) rows))
-    → more.items ≡ map leg places → new ≡ old ++ more ∷ []
-    → map (λ v. v.items) new ≡ map (map leg) (take (j + 1) (map (λ v. v.items) rows))
-legs_more leg rows j row places old new more here is read so_far made pushed =
-    let all : List (List ℕ) = map (λ v. v.items) rows
-    in let there : get_or all j [] ≡ row.items =
-    get_or-map (λ v. v.items) rows j row [] here ∙ ap (λ v. v.items) (sym is)
-    in let next : more.items ≡ map leg (get_or all j []) = made ∙ ap (map leg) (read ∙ sym there)
-    in let taken : take (j + 1) all ≡ take j all ++ get_or all j [] ∷ [] =
-    take_more all j [] (omega (arith, here, length-map rows (λ v. v.items)))
-    in ap (map (λ v. v.items)) pushed
-    ∙ (map-append (λ v. v.items) old (more ∷ [])
-    ∙ (ap (λ xs. xs ++ more.items ∷ []) so_far
-    ∙ (ap (λ (x : List Leg). map (map leg) (take j all) ++ x ∷ []) next
-    ∙ (sym (map-append (map leg) (take j all) (get_or all j [] ∷ []))
-    ∙ ap (map (map leg)) (sym taken)))))
+module _ (l : LayoutState) where
+  abbrev legs_on : List ℕ → List Leg
+  legs_on = route_legs l.machines l.times (length l.following)
+
+  route_long : (places : List ℕ) → length (legs_on places) ≡ length places + 1
+  route_long places = length-append (map (leg_of l.machines l.times) places) (end_of (length l.following) ∷ [])
+      ∙ ap (λ (n : ℕ). n + 1) (length-map places (leg_of l.machines l.times))
+
+  module _ (j : ℕ) (known : j < length l.places) where
+    abbrev places : List ℕ
+    places = get_or l.places j []
+
+    -- the legs of a route stand among those of all
+    pub index_known : (k : ℕ) → k ≤ length (get_or l.places j []) → leg_index l j k < length (all_legs l)
+    index_known k here =
+        let long = route_long places
+        in let split : length (all_legs l) ≡ length (flat_map legs_on (take (j + 1) l.places))
+        + length (flat_map legs_on (drop (j + 1) l.places)) =
+        ap (λ (rows : List (List ℕ)). length (flat_map legs_on rows)) (sym (take-append-drop (j + 1) l.places))
+        ∙ (ap length (flat_map-append legs_on (take (j + 1) l.places) (drop (j + 1) l.places))
+        ∙ length-append (flat_map legs_on (take (j + 1) l.places)) (flat_map legs_on (drop (j + 1) l.places)))
+        in let more : length (flat_map legs_on (take (j + 1) l.places))
+        ≡ length (flat_map legs_on (take j l.places)) + length (legs_on places) =
+        ap (λ (rows : List (List ℕ)). length (flat_map legs_on rows)) (take_more l.places j [] known)
+        ∙ (ap length (sym (flat_map_more legs_on [] (take j l.places) places))
+        ∙ length-append (flat_map legs_on (take j l.places)) (legs_on places))
+        in omega arith
+
+    pub leg_here : (k : ℕ) (d : Leg) → k < length (get_or l.places j [])
+        → get_or (all_legs l) (leg_index l j k) d ≡ leg_of l.machines l.times (place l j k)
+    leg_here k d here =
+        let long = route_long places
+        in get_or-flat_map legs_on l.places j k [] d known (omega arith)
+        ∙ (get_or_append_left (map (leg_of l.machines l.times) places) (end_of (length l.following) ∷ []) d k
+        (omega (arith, here, length-map places (leg_of l.machines l.times)))
+        ∙ get_or-map (leg_of l.machines l.times) places k 0 d here)
+
+    -- behind them stands the end of the route
+    pub leg_behind : (k : ℕ) (d : Leg) → k ≡ length (get_or l.places j [])
+        → get_or (all_legs l) (leg_index l j k) d ≡ end_of (length l.following)
+    leg_behind k d last =
+        let long = route_long places
+        in get_or-flat_map legs_on l.places j k [] d known (omega arith)
+        ∙ get_or_push (map (leg_of l.machines l.times) places) (end_of (length l.following)) d k
+        (length-map places (leg_of l.machines l.times) ∙ sym last)
+
+  pub behind_is : {firsts behind : List ℕ} → AreFirsts (route_legs l.machines l.times (length l.following)) l.places firsts
+      → AreBehind l.jobs l.steps firsts behind → length (all_legs l) < 2 ^ 64 → IsBehind l behind
+  behind_is {firsts} {behind} begin are small = record {
+    long = are.long;
+    each = λ q here job step.
+        let j = get_or l.jobs q 0 in let k = get_or l.steps q 0
+        in let a = are.each q (omega (arith, here, are.long))
+        in let b = begin.each j (omega (arith, job, begin.long))
+        in let c = index_known j job (k + 1) (omega arith)
+        in omega arith;
+  }
 
 -- the places of all steps are positions
 module _ (shop : Shop) (limits : IsWithinLimits shop) (l : LayoutState) (laid : IsLaidOut shop l) where
@@ -84,3 +131,12 @@ module _ (shop : Shop) (limits : IsWithinLimits shop) (l : LayoutState) (laid : 
 
   pub times_below : All (AreBelow (length l.times)) l.places
   times_below = places_below (length l.times) laid.positions.times
+
+  pub jobs_below : AreBelow (length l.places) l.jobs
+  jobs_below q d here =
+      let a = laid.known q (omega (arith, here, laid.positions.jobs))
+      in let read : get_or l.jobs q d ≡ get_or l.jobs q 0 = get_or_default l.jobs q d 0 here
+      in omega (arith, a, read, laid.jobs)
+
+  pub as_many_steps : length l.steps ≡ length l.jobs
+  as_many_steps = laid.positions.steps ∙ sym laid.positions.jobs

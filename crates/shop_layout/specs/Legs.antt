@@ -1,7 +1,11 @@
--- The legs of routes: position, machine and time of each step, in order.
+-- The legs of all routes: position, machine and time of each step, route after route, and behind each
+-- route its end.
 --     leg_of machines times q        the leg of the operation at position q
---     legs_on l j                    the legs of job j
-use Rattle.std.specs.Prelude.{ℕ, List, [], map, slice_index, slice_index_or}
+--     end_of n                       the end of a route, where there are n positions
+--     route_legs machines times ..   the legs of a route whose steps stand at some places, and its end
+--     all_legs l                     those of all routes
+--     leg_index l j k                where leg k of job j stands among them
+use Rattle.std.specs.Prelude.{ℕ, ◌+◌, List, [], ◌∷◌, ◌++◌, flat_map, length, map, slice_index, take}
 use Rattle.shop_layout.specs.Positions.{LayoutState}
 use Rattle.shop_layout.specs.declared.legs.Leg.{Leg}
 
@@ -9,5 +13,15 @@ abbrev pub leg_of : List ℕ → List ℕ → ℕ → Leg
 leg_of machines times q =
     record { position = q; machine = slice_index machines q; time = slice_index times q }
 
-abbrev pub legs_on : LayoutState → ℕ → List Leg
-legs_on l j = map (leg_of l.machines l.times) (slice_index_or l.places j [])
+abbrev pub end_of : ℕ → Leg
+end_of n = record { position = n; machine = 0; time = 0 }
+
+abbrev pub route_legs : List ℕ → List ℕ → ℕ → List ℕ → List Leg
+route_legs machines times n places = map (leg_of machines times) places ++ end_of n ∷ []
+
+abbrev pub all_legs : LayoutState → List Leg
+all_legs l = flat_map (route_legs l.machines l.times (length l.following)) l.places
+
+abbrev pub leg_index : LayoutState → ℕ → ℕ → ℕ
+leg_index l j k =
+    length (flat_map (route_legs l.machines l.times (length l.following)) (take j l.places)) + k

@@ -8,7 +8,7 @@ ghost use Rattle.shop_layout.specs.Lanes.{rows_of};
 ghost use Rattle.shop_layout.specs.Positions.{AreEven};
 ghost use Rattle.shop_layout.specs.inner.RouteRows.{AreBelow};
 
-use crate::legs::Leg;
+use crate::legs::{Leg, Legs};
 use crate::positions::Positions;
 use crate::routes::Routes;
 use shop_lanes::StateLanes;
@@ -22,15 +22,17 @@ pub struct Grid<L: StateLanes> {
     fixed: L::Fixed,
     /// the number of blocks of each machine, or 0 if not all machines have equally many
     blocks_each: usize,
-    /// the legs of each job's route
-    legs: Vec<Vec<Leg>>,
+    /// the legs of all routes
+    legs: Vec<Leg>,
+    /// at each position, where the legs behind its operation begin
+    behind: Vec<usize>,
 }
 
 impl<L: StateLanes> Model for Grid<L> {
     ghost use Rattle.std.specs.Prelude.{◌≡◌};
     ghost use Rattle.shop_layout.specs.Positions.{AreEven, LayoutState};
-    ghost use Rattle.shop_layout.specs.inner.RouteRows.{AreLegs};
-    ghost use Rattle.shop_layout.specs.inner.Vectors.{items_in};
+    ghost use Rattle.shop_layout.specs.Legs.{all_legs};
+    ghost use Rattle.shop_layout.specs.inner.RouteRows.{IsBehind};
 
     ghost Value = { LayoutState };
 
@@ -39,7 +41,8 @@ impl<L: StateLanes> Model for Grid<L> {
     ghost invariant = { λ g. (L.times g.fixed ≡ g.positions.times)
         × (L.tails g.fixed ≡ g.positions.tails)
         × AreEven g.positions.blocks g.blocks_each
-        × AreLegs g.positions (items_in g.legs.items) };
+        × (g.legs.items ≡ all_legs g.positions)
+        × IsBehind g.positions g.behind.items };
 }
 
 /// Answers the number of blocks of each machine, or 0 if not all machines have equally many.
@@ -61,23 +64,28 @@ fn even_blocks(blocks: &[u32]) -> usize
 }
 
 impl<L: StateLanes> Grid<L> {
-    /// Makes a grid of `positions`, with their times and tails in lanes, and the legs of each route. Fails with
+    /// Makes a grid of `positions`, with their times and tails in lanes, and the legs of all routes. Fails with
     /// `NoMemory` if memory runs out.
     pub(crate) fn of(alloc: Global, positions: Positions) -> Result<Grid<L>, NoMemory>
         requires times { All (λ t. t ≤ L.GREATEST) positions.times }
         requires tails { All (λ t. t ≤ L.GREATEST) positions.tails }
         requires machined { All (AreBelow (length positions.machines)) positions.places }
         requires timed { All (AreBelow (length positions.times)) positions.places }
+        requires known { AreBelow (length positions.places) positions.jobs }
+        requires steps { length positions.steps ≡ length positions.jobs }
         ensures { IfOk result (λ g. g ≡ positions) }
     {
         let fixed = L::fixed(alloc, positions.times(), positions.tails())?;
         let blocks_each = even_blocks(positions.blocks());
         let legs = positions.legs(alloc)?;
+        let behind = positions.behind(alloc, &legs)?;
+        let Legs { legs, firsts: _ } = legs;
         Ok(Grid {
             positions,
             fixed,
             blocks_each,
             legs,
+            behind,
         })
     }
 
@@ -86,7 +94,11 @@ impl<L: StateLanes> Grid<L> {
     pub fn routes(&self) -> Routes
         ensures { result ≡ self.now }
     {
-        Routes::of(&self.positions, self.legs.as_slice())
+        Routes::of(
+            &self.positions,
+            self.legs.as_slice(),
+            self.behind.as_slice(),
+        )
     }
 
     /// The job of the operation at `position`.

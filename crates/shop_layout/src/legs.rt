@@ -1,13 +1,14 @@
 // `Leg`: a step of a route, as a walk along the route reads it.
-ghost use Rattle.std.specs.Prelude.{◌≡◌, ◌+◌, ◌<◌, All, IfOk, drop, length, map};
-ghost use Rattle.shop_layout.specs.Legs.{leg_of};
-ghost use Rattle.shop_layout.specs.inner.RouteRows.{AreBelow};
+ghost use Rattle.std.specs.Prelude.{◌≡◌, ◌<◌, ◌++◌, All, IfOk, OnOk, flat_map, length};
+ghost use Rattle.shop_layout.specs.Legs.{route_legs};
+ghost use Rattle.shop_layout.specs.inner.RouteRows.{AreBehind, AreBelow, AreFirsts};
 ghost use Rattle.shop_layout.specs.inner.Vectors.{items_in};
 
 use std::alloc::{AllocError as NoMemory, Global};
 
-/// A step of a route: its position, its machine and its time. A walk along a route reads its legs side by side in
-/// memory, where rows by position would have it look up each step at another place.
+/// A step of a route, its position, its machine and its time; or the end of a route, at the position behind all others.
+/// A walk along a route reads its legs side by side in memory, where rows by position would have it look up each step at
+/// another place.
 #[derive(Clone, Copy)]
 pub struct Leg {
     pub position: u32,
@@ -15,18 +16,27 @@ pub struct Leg {
     pub time: u64,
 }
 
-/// The legs of the route whose steps stand at the positions `places`, in order.
-fn legs_along(
-    alloc: Global,
+/// The legs of all routes, route after route, each with its end, and where the legs of each job begin among them.
+#[derive(Drop)]
+pub(crate) struct Legs {
+    pub(crate) legs: Vec<Leg>,
+    pub(crate) firsts: Vec<usize>,
+}
+
+/// Adds the legs of the route whose steps stand at the positions `places`, in order, and then its end. There are `end`
+/// positions. Fails with `NoMemory` if memory runs out.
+fn add_route(
+    legs: &mut Vec<Leg>,
     places: &[u32],
     machines: &[u32],
     times: &[u64],
-) -> Result<Vec<Leg>, NoMemory>
+    end: u32,
+) -> Result<(), NoMemory>
     requires machines { AreBelow (length machines.now) places.now }
     requires times { AreBelow (length times.now) places.now }
-    ensures { IfOk result (λ v. v.items ≡ map (leg_of machines.now times.now) places.now) }
+    ensures { OnOk result (legs.new.items
+        ≡ legs.old.items ++ route_legs machines.now times.now end places.now) }
 {
-    let mut legs = Vec::with_capacity(alloc, places.len())?;
     for place in places {
         let position = *place as usize;
         legs.push(Leg {
@@ -35,34 +45,55 @@ fn legs_along(
             time: times[position],
         })?;
     }
-    Ok(legs)
+    legs.push(Leg {
+        position: end,
+        machine: 0,
+        time: 0,
+    })?;
+    Ok(())
 }
 
-/// The legs of each job's route. `places` has the position of each step of each job; `machines` and `times` are by
-/// position. A leg takes 16 bytes. Fails with `NoMemory` if memory runs out.
+/// The legs of all routes. `places` has the position of each step of each job; `machines` and `times` are by position,
+/// and there are `end` positions. A leg takes 16 bytes. Fails with `NoMemory` if memory runs out.
 pub(crate) fn legs_of(
     alloc: Global,
     places: &[Vec<u32>],
     machines: &[u32],
     times: &[u64],
-) -> Result<Vec<Vec<Leg>>, NoMemory>
+    end: u32,
+) -> Result<Legs, NoMemory>
     requires machines { All (AreBelow (length machines.now)) (items_in places.now) }
     requires times { All (AreBelow (length times.now)) (items_in places.now) }
-    ensures { IfOk result (λ v. items_in v.items
-        ≡ map (map (leg_of machines.now times.now)) (items_in places.now)) }
+    ensures legs { IfOk result (λ v. v.legs.items
+        ≡ flat_map (route_legs machines.now times.now end) (items_in places.now)) }
+    ensures firsts { IfOk result (λ v. AreFirsts (route_legs machines.now times.now end)
+        (items_in places.now) v.firsts.items) }
 {
-    let mut legs = Vec::with_capacity(alloc, places.len())?;
+    let mut legs = Vec::with_capacity(alloc, machines.len().saturating_add(places.len()))?;
+    let mut firsts = Vec::with_capacity(alloc, places.len())?;
     for j in 0..places.len() {
-        legs.push(legs_along(alloc, places[j].as_slice(), machines, times)?)?;
+        firsts.push(legs.len())?;
+        add_route(&mut legs, places[j].as_slice(), machines, times, end)?;
     }
-    Ok(legs)
+    Ok(Legs { legs, firsts })
 }
 
-/// The legs of `route` behind `step`, in order.
-#[inline(always)]
-pub(crate) fn legs_behind(route: &[Leg], step: usize) -> &[Leg]
-    requires { step < length route.now }
-    ensures { result.now ≡ drop (step + 1) route.now }
+/// At each position where the legs behind its operation begin. `jobs` and `steps` are by position, and `firsts` tells
+/// for each job where its legs begin. Fails with `NoMemory` if memory runs out.
+pub(crate) fn behind_of(
+    alloc: Global,
+    jobs: &[u32],
+    steps: &[u32],
+    firsts: &[usize],
+) -> Result<Vec<usize>, NoMemory>
+    requires jobs { AreBelow (length firsts.now) jobs.now }
+    requires steps { length steps.now ≡ length jobs.now }
+    ensures { IfOk result (λ v. AreBehind jobs.now steps.now firsts.now v.items) }
 {
-    &route[step + 1..]
+    let mut behind = Vec::with_capacity(alloc, jobs.len())?;
+    for position in 0..jobs.len() {
+        let first = firsts[jobs[position] as usize];
+        behind.push(first.wrapping_add(steps[position] as usize + 1))?;
+    }
+    Ok(behind)
 }

@@ -1,13 +1,13 @@
 // `Positions`: the operations of an instance by position.
 ghost use Rattle.std.specs.Prelude.{◌≡◌, ◌<◌, All, IfOk, length, slice_index};
 ghost use Rattle.shop_layout.specs.Positions.{IsLaidOut};
-ghost use Rattle.shop_layout.specs.inner.RouteRows.{AreBelow, AreLegs};
-ghost use Rattle.shop_layout.specs.inner.Vectors.{items_in};
+ghost use Rattle.shop_layout.specs.Legs.{all_legs, route_legs};
+ghost use Rattle.shop_layout.specs.inner.RouteRows.{AreBelow, AreFirsts, IsBehind};
 
 use crate::layings::{
     Cells, cells_of, following_of, jobs_of, machines_of, places_of, steps_of, tails_of, times_of,
 };
-use crate::legs::{Leg, legs_of};
+use crate::legs::{Legs, behind_of, legs_of};
 use crate::slots::machine_slots;
 use shop_model::Instance;
 use std::alloc::{AllocError as NoMemory, Global};
@@ -109,17 +109,39 @@ impl Positions {
         self.blocks.as_slice()
     }
 
-    /// The legs of each job's route. Fails with `NoMemory` if memory runs out.
-    pub(crate) fn legs(&self, alloc: Global) -> Result<Vec<Vec<Leg>>, NoMemory>
+    /// The legs of all routes. Fails with `NoMemory` if memory runs out.
+    pub(crate) fn legs(&self, alloc: Global) -> Result<Legs, NoMemory>
         requires machined { All (AreBelow (length self.now.machines)) self.now.places }
         requires timed { All (AreBelow (length self.now.times)) self.now.places }
-        ensures { IfOk result (λ v. AreLegs self.now (items_in v.items)) }
+        ensures legs { IfOk result (λ v. v.legs.items ≡ all_legs self.now) }
+        ensures firsts { IfOk result (λ v. AreFirsts
+            (route_legs self.now.machines self.now.times (length self.now.following))
+            self.now.places v.firsts.items) }
     {
         legs_of(
             alloc,
             self.places.as_slice(),
             self.machines.as_slice(),
             self.times.as_slice(),
+            self.end,
+        )
+    }
+
+    /// At each position where the legs behind its operation begin. Fails with `NoMemory` if memory runs out.
+    pub(crate) fn behind(&self, alloc: Global, legs: &Legs) -> Result<Vec<usize>, NoMemory>
+        requires legs { legs.now.legs.items ≡ all_legs self.now }
+        requires firsts { AreFirsts
+            (route_legs self.now.machines self.now.times (length self.now.following))
+            self.now.places legs.now.firsts.items }
+        requires known { AreBelow (length self.now.places) self.now.jobs }
+        requires steps { length self.now.steps ≡ length self.now.jobs }
+        ensures { IfOk result (λ v. IsBehind self.now v.items) }
+    {
+        behind_of(
+            alloc,
+            self.jobs.as_slice(),
+            self.steps.as_slice(),
+            legs.firsts.as_slice(),
         )
     }
 }

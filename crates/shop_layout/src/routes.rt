@@ -1,10 +1,9 @@
 // `Routes`: the rows of a layout that a walk along a route reads.
-ghost use Rattle.std.specs.Prelude.{◌≡◌, ◌+◌, ◌<◌, [], drop, length, slice_index, slice_index_or};
-ghost use Rattle.shop_layout.specs.Legs.{legs_on};
-ghost use Rattle.shop_layout.specs.inner.RouteRows.{AreLegs};
-ghost use Rattle.shop_layout.specs.inner.Vectors.{items_in};
+ghost use Rattle.std.specs.Prelude.{◌≡◌, ◌+◌, ◌<◌, ◌^◌, [], length, slice_index, slice_index_or};
+ghost use Rattle.shop_layout.specs.Legs.{all_legs, end_of, leg_index};
+ghost use Rattle.shop_layout.specs.inner.RouteRows.{IsBehind};
 
-use crate::legs::{Leg, legs_behind};
+use crate::legs::Leg;
 use crate::positions::Positions;
 use std::marker::Model;
 
@@ -15,47 +14,49 @@ pub struct Routes<'a> {
     /// the layout, which only proofs read
     positions: &'a Positions,
     jobs: &'a [u32],
-    steps: &'a [u32],
     machines: &'a [u32],
     times: &'a [u64],
     following: &'a [u32],
-    legs: &'a [Vec<Leg>],
+    legs: &'a [Leg],
+    behind: &'a [usize],
 }
 
 impl<'a> Model for Routes<'a> {
     ghost use Rattle.std.specs.Prelude.{◌≡◌};
     ghost use Rattle.shop_layout.specs.Positions.{LayoutState};
-    ghost use Rattle.shop_layout.specs.inner.RouteRows.{AreLegs, AreSmallRows};
-    ghost use Rattle.shop_layout.specs.inner.Vectors.{items_in};
+    ghost use Rattle.shop_layout.specs.Legs.{all_legs};
+    ghost use Rattle.shop_layout.specs.inner.RouteRows.{AreSmallRows, IsBehind};
 
     ghost Value = { LayoutState };
 
     ghost view = { λ r. r.positions.now };
 
     ghost invariant = { λ r. (r.jobs.now ≡ r.positions.now.jobs)
-        × (r.steps.now ≡ r.positions.now.steps)
         × (r.machines.now ≡ r.positions.now.machines)
         × (r.times.now ≡ r.positions.now.times)
         × (r.following.now ≡ r.positions.now.following)
-        × AreLegs r.positions.now (items_in r.legs.now)
+        × (r.legs.now ≡ all_legs r.positions.now)
+        × IsBehind r.positions.now r.behind.now
         × AreSmallRows r.positions.now };
 }
 
 impl<'a> Routes<'a> {
-    /// Looks up the rows of the layout `positions`, whose routes have these legs.
+    /// Looks up the rows of the layout `positions`, with the legs of all routes, and at each position where the legs
+    /// behind its operation begin.
     #[inline(always)]
-    pub(crate) fn of(positions: &'a Positions, legs: &'a [Vec<Leg>]) -> Routes<'a>
-        requires { AreLegs positions.now (items_in legs.now) }
+    pub(crate) fn of(positions: &'a Positions, legs: &'a [Leg], behind: &'a [usize]) -> Routes<'a>
+        requires legs { legs.now ≡ all_legs positions.now }
+        requires behind { IsBehind positions.now behind.now }
         ensures { result ≡ positions.now }
     {
         Routes {
             positions,
             jobs: positions.jobs.as_slice(),
-            steps: positions.steps.as_slice(),
             machines: positions.machines.as_slice(),
             times: positions.times.as_slice(),
             following: positions.following.as_slice(),
             legs,
+            behind,
         }
     }
 
@@ -99,19 +100,29 @@ impl<'a> Routes<'a> {
         following[position] as usize
     }
 
-    /// The legs of the route behind the operation at `position`, in order.
+    /// The index of the leg behind the operation at `position`, or of the end of its route if it is the last one. Later
+    /// legs of the route follow it.
     #[inline(always)]
-    pub fn behind(&self, position: usize) -> &'a [Leg]
+    pub fn behind(&self, position: usize) -> usize
         requires job { position < length self.now.jobs }
-        requires step { position < length self.now.steps }
         requires known { slice_index self.now.jobs position < length self.now.places }
         requires within { slice_index self.now.steps position
             < length (slice_index_or self.now.places (slice_index self.now.jobs position) []) }
-        ensures { result.now ≡ drop (slice_index self.now.steps position + 1)
-            (legs_on self.now (slice_index self.now.jobs position)) }
+        ensures index { result ≡ leg_index self.now (slice_index self.now.jobs position)
+            (slice_index self.now.steps position + 1) }
+        ensures few { length (all_legs self.now) < 2 ^ 64 }
     {
-        let (legs, steps) = (self.legs, self.steps);
-        let route = legs[self.job(position)].as_slice();
-        legs_behind(route, steps[position] as usize)
+        let behind = self.behind;
+        behind[position]
+    }
+
+    /// The leg at `index`, or the end of a route.
+    #[inline(always)]
+    pub fn leg(&self, index: usize) -> Leg
+        requires { index < length (all_legs self.now) }
+        ensures { result ≡ slice_index_or (all_legs self.now) index (end_of 0) }
+    {
+        let legs = self.legs;
+        legs[index]
     }
 }

@@ -1,13 +1,16 @@
 -- A raise over rows, head by head.
-use Rattle.std.proofs.Common.{◌≡◌, ℕ, ◌+◌, ◌-◌, ◌≤◌, ◌<◌, List, [], drop, length, get_or, set}
-use Rattle.std.proofs.Common.{refl, sym, ◌∙◌, ap, subst, arith}
-use Rattle.std.proofs.lemmas.List.{get_or-drop, get_or-map, length-drop, length-map}
+use Rattle.std.proofs.Common.{◌≡◌, ℕ, ◌+◌, ◌≤◌, ◌<◌, List, [], length, get_or, set}
+use Rattle.std.proofs.Common.{refl, sym, ◌∙◌, ap, subst, arith, inl, inr}
+use Rattle.std.proofs.lemmas.Bool.{cases_lt}
+use Rattle.std.proofs.lemmas.List.{get_or_default, get_or_past}
 use Rattle.shop_lanes.specs.Rows.{Rows, with_head}
 use Rattle.shop_layout.specs.declared.legs.Leg.{Leg}
-use Rattle.shop_layout.specs.Legs.{leg_of, legs_on}
-use Rattle.shop_layout.specs.Positions.{LayoutState, place}
+use Rattle.shop_layout.specs.Legs.{all_legs, end_of, leg_index, leg_of}
+use Rattle.shop_layout.specs.Positions.{place_or, LayoutState, place}
 use Rattle.shop_layout.specs.Lanes.{rows_of}
 use Rattle.shop_states.specs.inner.Raises.{steps_of, IsPosition, IsRaisable, Raises}
+use Rattle.shop_layout.proofs.RouteLegs.{index_known, leg_behind, leg_here}
+use Rattle.shop_states.proofs.Followed.{place_past, place_there}
 use Rattle.shop_states.proofs.RaiseWalks.{IsRaisedUpTo, walk_begins, next_least, walk_on, walk_ends}
 
 -- one head of a state was replaced
@@ -91,74 +94,128 @@ module _ {greatest : ℕ} {l : LayoutState} {p e : ℕ} {old : Rows}
     };
   }
 
--- the steps of the route behind position p, leg by leg
+-- so far a raise has followed the route of position p up to a leg
+pub record IsFollowing (greatest : ℕ) (l : LayoutState) (p e index ready : ℕ) (old new : Rows) : Type 0 where
+  pub step : ℕ
+  pub known : step ≤ steps_of l (get_or l.jobs p 0)
+  pub index_is : index ≡ leg_index l (get_or l.jobs p 0) step
+  pub walking : IsWalking greatest l p e step ready old new
+
 module _ {greatest : ℕ} {l : LayoutState} {p e : ℕ} {old : Rows}
     (can : IsRaisable greatest l [] old (IsPosition p) e) (some : 0 < get_or old.heads p 0) where
-  pub begun_legs : get_or old.heads p 0 ≤ e → {new : Rows}
+  abbrev job : ℕ
+  job = get_or l.jobs p 0
+
+  pub begun_following : get_or old.heads p 0 ≤ e → {new : Rows}
       → new ≡ with_head old p e
-      → {ready time : ℕ} → time ≡ get_or new.times p 0 → ready ≡ e + time
-      → IsWalking greatest l p e (get_or l.steps p 0 + 1 + 0) ready old new
-  begun_legs below wrote read sum = begun can some below wrote (omega arith) read sum
+      → {index ready time : ℕ} → index ≡ leg_index l (get_or l.jobs p 0) (get_or l.steps p 0 + 1)
+      → time ≡ get_or new.times p 0 → ready ≡ e + time
+      → IsFollowing greatest l p e index ready old new
+  begun_following below wrote at read sum = record {
+    step = get_or l.steps p 0 + 1;
+    known = (let here = (can.places p some).step in omega arith);
+    index_is = at;
+    walking = begun can some below wrote refl read sum;
+  }
 
-  module _ {legs : List Leg} (are : legs ≡ drop (get_or l.steps p 0 + 1) (legs_on l (get_or l.jobs p 0))) where
-    legs_long : length legs ≡ steps_of l (get_or l.jobs p 0) - (get_or l.steps p 0 + 1)
-    legs_long =
-        let long = length-drop (get_or l.steps p 0 + 1) (legs_on l (get_or l.jobs p 0))
-        in let many = length-map (get_or l.places (get_or l.jobs p 0) []) (leg_of l.machines l.times)
-        in let a = ap length are in omega arith
+  module _ {index ready : ℕ} {now : Rows} (so_far : IsFollowing greatest l p e index ready old now) where
+    -- a leg of the route, or its end, is among all
+    pub leg_known : index < length (all_legs l)
+    leg_known = let at = so_far.index_is
+        in let a = index_known l job (can.places p some).job so_far.step so_far.known in omega arith
 
-    module _ {n ready : ℕ} {now : Rows}
-        (so_far : IsWalking greatest l p e (get_or l.steps p 0 + 1 + n) ready old now) where
-      -- it ends behind the route's last leg
-      pub ended_behind : length legs ≤ n → Raises greatest l [] (IsPosition p) e old now
-      ended_behind past = ended can some so_far (λ there. absurd (let a = legs_long in omega arith))
+    module _ {leg : Leg} (is : leg ≡ get_or (all_legs l) index (end_of 0)) where
+      read : leg ≡ get_or (all_legs l) (leg_index l job so_far.step) (end_of 0)
+      read = is ∙ ap (λ (i : ℕ). get_or (all_legs l) i (end_of 0)) so_far.index_is
 
-      module _ (d : Leg) (here : n < length legs) where
-        abbrev leg : Leg
-        leg = get_or legs n d
+      stands : leg.position ≡ place_or (length old.heads) l.places job so_far.step
+      stands = elim (cases_lt so_far.step (steps_of l job)) [
+        | inl here ↦ ap (λ (x : Leg). x.position)
+            (read ∙ leg_here l job (can.places p some).job so_far.step (end_of 0) here)
+            ∙ sym (place_there l (length old.heads) job so_far.step here)
+        | inr past ↦ ap (λ (x : Leg). x.position)
+            (read ∙ leg_behind l job (can.places p some).job so_far.step (end_of 0)
+            (let known = so_far.known in omega arith))
+            ∙ (can.followed.following ∙ sym (place_past l (length old.heads) job so_far.step past))
+      ]
 
-        more : get_or l.steps p 0 + 1 + n < steps_of l (get_or l.jobs p 0)
-        more = let a = legs_long in omega arith
+      pub position_up_to : leg.position ≤ length now.heads
+      position_up_to =
+          let at = stands in let long = so_far.walking.up_to.positions
+          in elim (cases_lt so_far.step (steps_of l job)) [
+            | inl here ↦ (let a = place_there l (length old.heads) job so_far.step here
+                in let b = (can.indexed.step job so_far.step here).within in let c = can.indexed.jobs in omega arith)
+            | inr past ↦ (let a = place_past l (length old.heads) job so_far.step past in omega arith)
+          ]
 
-        leg_is : leg ≡ leg_of l.machines l.times (place l (get_or l.jobs p 0) (get_or l.steps p 0 + 1 + n))
-        leg_is = ap (λ (xs : List Leg). get_or xs n d) are
-            ∙ (get_or-drop (get_or l.steps p 0 + 1) (legs_on l (get_or l.jobs p 0)) n d
-            ∙ get_or-map (leg_of l.machines l.times) (get_or l.places (get_or l.jobs p 0) [])
-            (get_or l.steps p 0 + 1 + n) 0 d more)
+      -- what is ready next fits, since no raised head is above the least of those that do
+      fitting : ready ≤ greatest
+      fitting =
+          let so = so_far.walking.up_to
+          in let q = place l job so.before
+          in let most = so.least can.other can.raised q in let waits = so.waits in let is = so.ready_is
+          in let fits = can.fits q (omega arith) in omega arith
 
-        stands : leg.position ≡ place l (get_or l.jobs p 0) (get_or l.steps p 0 + 1 + n)
-        stands = ap (λ (x : Leg). x.position) leg_is
+      module _ {head : ℕ} (looked : head ≡ get_or now.heads leg.position greatest) where
+        -- it ends where the head is great enough, or at the end of the route
+        pub ended_at : ready ≤ head → Raises greatest l [] (IsPosition p) e old now
+        ended_at enough = ended can some so_far.walking (λ there.
+            let long = so_far.walking.up_to.positions
+            in let b = (can.indexed.step job so_far.step there).within in let c = can.indexed.jobs
+            in let at = stands ∙ place_there l (length old.heads) job so_far.step there
+            in let same : get_or now.heads leg.position 0 ≡ get_or now.heads (place l job so_far.step) 0 =
+            ap (λ (x : ℕ). get_or now.heads x 0) at
+            in let one = get_or_default now.heads leg.position greatest 0 (omega arith) in omega arith)
 
-        pub leg_machine : leg.machine ≡ get_or l.machines leg.position 0
-        leg_machine = ap (λ (x : Leg). x.machine) leg_is ∙ ap (λ (q : ℕ). get_or l.machines q 0) (sym stands)
+        module _ (below : head < ready) where
+          -- the head behind the last position isn't below what is ready
+          pub is_there : leg.position < length old.heads
+          is_there = elim (cases_lt leg.position (length old.heads)) [
+            | inl here ↦ here
+            | inr past ↦ absurd (let long = so_far.walking.up_to.positions in let fits = fitting
+                in let b = get_or_past now.heads leg.position greatest (omega arith) in omega arith)
+          ]
 
-        leg_time : leg.time ≡ get_or l.times leg.position 0
-        leg_time = ap (λ (x : Leg). x.time) leg_is ∙ ap (λ (q : ℕ). get_or l.times q 0) (sym stands)
+          pub read_there : head ≡ get_or now.heads leg.position 0
+          read_there = let a = is_there in let long = so_far.walking.up_to.positions
+              in looked ∙ get_or_default now.heads leg.position greatest 0 (omega arith)
 
-        pub leg_within : leg.position < length old.heads
-        leg_within = let a = (can.indexed.step (get_or l.jobs p 0) (get_or l.steps p 0 + 1 + n) more).within
-            in let b = can.indexed.jobs in let c = stands in omega arith
+          more : so_far.step < steps_of l job
+          more = elim (cases_lt so_far.step (steps_of l job)) [
+            | inl here ↦ here
+            | inr past ↦ absurd (let a = is_there in let b = stands
+                in let c = place_past l (length old.heads) job so_far.step past in omega arith)
+          ]
 
-        pub leg_fits : (ready ≤ greatest) × (ready + leg.time ≤ greatest)
-        leg_fits =
-            let fits = next_fits can some so_far more stands
-            in let low = fits.0 in let high = fits.1 in let time = leg_time
-            in let same : get_or now.times leg.position 0 ≡ get_or l.times leg.position 0 =
-            ap (λ (xs : List ℕ). get_or xs leg.position 0) (so_far.times ∙ can.times)
-            in (omega arith, omega arith)
+          here : leg.position ≡ place l job so_far.step
+          here = stands ∙ place_there l (length old.heads) job so_far.step more
 
-        pub on_leg : get_or now.heads leg.position 0 < ready → {new : Rows}
-            → new ≡ with_head now leg.position ready
-            → {h : ℕ} → h ≡ ready + leg.time
-            → IsWalking greatest l p e (get_or l.steps p 0 + 1 + (n + 1)) h old new
-        on_leg below {new} wrote sum =
-            let times : new.times ≡ now.times = ap (λ (r : Rows). r.times) wrote
-            in on can some so_far more stands below wrote (omega arith)
-            (leg_time ∙ ap (λ (xs : List ℕ). get_or xs leg.position 0) (sym (times ∙ (so_far.times ∙ can.times)))) sum
+          leg_is : leg ≡ leg_of l.machines l.times (place l job so_far.step)
+          leg_is = read ∙ leg_here l job (can.places p some).job so_far.step (end_of 0) more
 
-        -- it ends where the head is great enough
-        pub ended_at : ready ≤ get_or now.heads leg.position 0 → Raises greatest l [] (IsPosition p) e old now
-        ended_at enough = ended can some so_far (λ there.
-            let same : get_or now.heads leg.position 0
-            ≡ get_or now.heads (place l (get_or l.jobs p 0) (get_or l.steps p 0 + 1 + n)) 0 =
-            ap (λ (q : ℕ). get_or now.heads q 0) stands in omega arith)
+          pub leg_machine : leg.machine ≡ get_or l.machines leg.position 0
+          leg_machine = ap (λ (x : Leg). x.machine) leg_is ∙ ap (λ (q : ℕ). get_or l.machines q 0) (sym here)
+
+          leg_time : leg.time ≡ get_or l.times leg.position 0
+          leg_time = ap (λ (x : Leg). x.time) leg_is ∙ ap (λ (q : ℕ). get_or l.times q 0) (sym here)
+
+          pub leg_fits : (ready ≤ greatest) × (ready + leg.time ≤ greatest)
+          leg_fits =
+              let fits = next_fits can some so_far.walking more here
+              in let low = fits.0 in let high = fits.1 in let time = leg_time
+              in let same : get_or now.times leg.position 0 ≡ get_or l.times leg.position 0 =
+              ap (λ (xs : List ℕ). get_or xs leg.position 0) (so_far.walking.times ∙ can.times)
+              in (omega arith, omega arith)
+
+          pub followed : {new : Rows} → new ≡ with_head now leg.position ready → {h : ℕ} → h ≡ ready + leg.time
+              → IsFollowing greatest l p e (index + 1) h old new
+          followed {new} wrote sum =
+              let times : new.times ≡ now.times = ap (λ (r : Rows). r.times) wrote
+              in record {
+                step = so_far.step + 1;
+                known = (let a = more in omega arith);
+                index_is = (let at = so_far.index_is in omega arith);
+                walking = on can some so_far.walking more here (let a = read_there in omega arith) wrote refl
+                    (leg_time ∙ ap (λ (xs : List ℕ). get_or xs leg.position 0)
+                    (sym (times ∙ (so_far.walking.times ∙ can.times)))) sum;
+              }

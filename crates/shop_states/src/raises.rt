@@ -14,7 +14,8 @@ use shop_layout::{Grid, Routes};
 
 /// Raises the head at `position` to `end`, then every later head on its route that is now too early. Notes in `raises`
 /// how far each later head rose, and puts its machine into `raised`. Takes a step for each head that rises; the legs of
-/// a route lie side by side, so that no step waits until the one before it has read where the next operation stands.
+/// a route lie side by side, so that no step waits until the one before it has read where the next operation stands. At
+/// the end of a route the head is the greatest number, and the raise stops.
 #[inline(always)]
 fn raise_route<L: StateLanes>(
     lanes: &mut L,
@@ -40,16 +41,18 @@ fn raise_route<L: StateLanes>(
 {
     lanes.set_head(position, end);
     let mut ready = end + routes.time(position);
-    let legs = routes.behind(position);
-    for leg in legs {
+    let mut index = routes.behind(position);
+    loop {
+        let leg = routes.leg(index);
         let here = leg.position as usize;
-        let head = lanes.head(here);
+        let head = lanes.head_or_greatest(here);
         if ready <= head {
             return;
         }
         lanes.set_head(here, ready);
         see::<L>(raises, raised, leg.machine, head, ready);
         ready += leg.time;
+        index += 1;
     }
 }
 

@@ -1,9 +1,12 @@
 -- The rows that are read along routes.
 --     AreSmallRows l                 each row takes fewer bytes than memory has
 --     AreBelow n places              each place is one of n positions
---     AreLegs l legs                 the legs of each job
-use Rattle.std.specs.Prelude.{◌≡◌, ℕ, ◌*◌, ◌<◌, ◌^◌, All, List, length, map}
-use Rattle.shop_layout.specs.Legs.{leg_of}
+--     AreFirsts legs places firsts   where the legs of each job begin among those of all
+--     AreBehind jobs steps firsts .. at each position where the legs behind its operation begin
+--     IsBehind l behind              the same of a layout, where an operation stands
+use Rattle.std.specs.Prelude.{◌≡◌, ℕ, ◌+◌, ◌*◌, ◌%◌, ◌<◌, ◌^◌, All, List, [], flat_map, length, take}
+use Rattle.std.specs.Prelude.{slice_index, slice_index_or}
+use Rattle.shop_layout.specs.Legs.{leg_index}
 use Rattle.shop_layout.specs.Positions.{LayoutState}
 use Rattle.shop_layout.specs.declared.legs.Leg.{Leg}
 
@@ -16,5 +19,17 @@ pub record AreSmallRows (l : LayoutState) : Type 0 where
 abbrev pub AreBelow : ℕ → List ℕ → Type 0
 AreBelow n places = All (λ p. p < n) places
 
-abbrev pub AreLegs : LayoutState → List (List Leg) → Type 0
-AreLegs l legs = legs ≡ map (map (leg_of l.machines l.times)) l.places
+pub record AreFirsts (legs : List ℕ → List Leg) (places : List (List ℕ)) (firsts : List ℕ) : Type 0 where
+  pub long : length firsts ≡ length places
+  pub each : (j : ℕ) → j < length firsts → slice_index firsts j ≡ length (flat_map legs (take j places))
+
+pub record AreBehind (jobs steps firsts behind : List ℕ) : Type 0 where
+  pub long : length behind ≡ length jobs
+  pub each : (q : ℕ) → q < length behind → slice_index behind q
+      ≡ (slice_index firsts (slice_index jobs q) + (slice_index steps q + 1)) % 2 ^ 64
+
+pub record IsBehind (l : LayoutState) (behind : List ℕ) : Type 0 where
+  pub long : length behind ≡ length l.jobs
+  pub each : (q : ℕ) → q < length l.jobs → slice_index l.jobs q < length l.places
+      → slice_index l.steps q < length (slice_index_or l.places (slice_index l.jobs q) [])
+      → slice_index behind q ≡ leg_index l (slice_index l.jobs q) (slice_index l.steps q + 1)

@@ -1,16 +1,16 @@
-use Rattle.std.proofs.Common.{◌+◌, get_or}
+use Rattle.std.proofs.Common.{◌-◌, length}
 use Rattle.shop_layout.specs.Lanes.{rows_of}
+use Rattle.shop_layout.specs.Legs.{all_legs}
 use Rattle.shop_states.specs.inner.HeadRaises.{raises_in}
 use Rattle.shop_states.specs.inner.Raises.{IsPosition}
 use Rattle.shop_states.specs.inner.MachineRaises.{AreListed}
 use Rattle.shop_states.specs.inner.Watchers.{Sees}
-use Rattle.shop_states.proofs.RaiseSteps.{IsWalking}
+use Rattle.shop_states.proofs.RaiseSteps.{IsFollowing}
 use Rattle.shop_states.proofs.raises.raise_route.Given as goal
 
-abbrev pub invariant-loop-leg : goal.invariant-loop-leg
-invariant-loop-leg g l = record {
-  walking : IsWalking g.L.StateLanes.GREATEST l.routes l.position l.end
-      (get_or l.routes.steps l.position 0 + 1 + l.leg-index) l.ready
+abbrev pub invariant-loop-ready : goal.invariant-loop-ready
+invariant-loop-ready g l = record {
+  following : IsFollowing g.L.StateLanes.GREATEST l.routes l.position l.end l.index l.ready
       (rows_of l.routes (g.L.StateLanes.heads l.fn.lanes) (g.L.StateLanes.ends l.fn.lanes))
       (rows_of l.routes (g.L.StateLanes.heads l.lanes) (g.L.StateLanes.ends l.lanes));
   seen : Sees l.routes.machines (IsPosition l.position) l.end
@@ -18,3 +18,6 @@ invariant-loop-leg g l = record {
       (raises_in g.L.StateLanes.value l.raises);
   listed : AreListed (raises_in g.L.StateLanes.value l.raises) l.raised;
 }
+
+abbrev pub decreases-loop-ready : goal.decreases-loop-ready
+decreases-loop-ready g l = length (all_legs l.routes) - l.index

@@ -1,5 +1,5 @@
 use Rattle.shop_layout.proofs.LaneLimits.{tails_fit, times_fit}
-use Rattle.shop_layout.proofs.RouteLegs.{machines_below, times_below}
+use Rattle.shop_layout.proofs.RouteLegs.{as_many_steps, jobs_below, machines_below, times_below}
 use Rattle.shop_layout.proofs.laid_outs.LaidOut.of.Goals as goal
 
 pub of-requires-clause-times : goal.of-requires-clause-times
@@ -18,3 +18,9 @@ of-requires-clause-machined g c =
 
 pub of-requires-clause-timed : goal.of-requires-clause-timed
 of-requires-clause-timed g c = times_below c.args.instance.now c.requires.limits c.args.positions c.requires.laid
+
+pub of-requires-clause-known : goal.of-requires-clause-known
+of-requires-clause-known g c = jobs_below c.args.instance.now c.requires.limits c.args.positions c.requires.laid
+
+pub of-requires-clause-steps : goal.of-requires-clause-steps
+of-requires-clause-steps g c = as_many_steps c.args.instance.now c.requires.limits c.args.positions c.requires.laid

@@ -1,6 +1,0 @@
-use Rattle.std.proofs.Common.{◌≡◌, map, take}
-use Rattle.shop_layout.specs.Legs.{leg_of}
-use Rattle.shop_layout.proofs.legs.legs_along.Given as goal
-
-abbrev pub invariant-loop-place : goal.invariant-loop-place
-invariant-loop-place l = l.legs.items ≡ map (leg_of l.machines l.times) (take l.place-index l.places)
