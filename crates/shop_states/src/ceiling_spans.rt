@@ -67,6 +67,26 @@ fn least_head<L: StateLanes>(lanes: &L, from: usize, to: usize, most: u64) -> u6
     least
 }
 
+/// Does what `rise_for` does, for ceilings that are known. Stays out of line, so that the code of a dispatch, most of
+/// which keep no ceilings, stays small.
+#[inline(never)]
+fn rise_known<L: StateLanes>(
+    ceilings: &mut Ceilings,
+    lanes: &L,
+    grid: &Grid<L>,
+    machine: usize,
+    end: u64,
+)
+    requires machine { HasBlocks grid.now (length (L.heads lanes.now)) machine }
+    requires positions { length grid.now.following ≡ length (L.heads lanes.now) }
+    ensures { RiseFor grid.now machine end (L.heads lanes.now) ceilings.old ceilings.new }
+{
+    if ceilings.has_any() {
+        let (from, to) = positions_of(grid, machine);
+        ceilings.rise(end - least_head(lanes, from, to, end));
+    }
+}
+
 /// Raises the ceilings, if they are known, by as much as any head rises where all heads on `machine` are raised to
 /// `end` at least, and what follows on their routes as far as it has to. A head rises by no more than the one that it
 /// follows, so none rises by more than `end` less the least head of the machine.
@@ -82,9 +102,8 @@ pub(crate) fn rise_for<L: StateLanes>(
     requires positions { length grid.now.following ≡ length (L.heads lanes.now) }
     ensures { RiseFor grid.now machine end (L.heads lanes.now) ceilings.old ceilings.new }
 {
-    if ceilings.has_any() {
-        let (from, to) = positions_of(grid, machine);
-        ceilings.rise(end - least_head(lanes, from, to, end));
+    if ceilings.len() > 0 {
+        rise_known(ceilings, lanes, grid, machine, end);
     }
 }
 
