@@ -117,8 +117,8 @@ fn take_longer_spans<L: StateLanes>(
 
 /// Answers the greatest of `least` and the spans, explained at `span_by_raise`, of the machines in `raised` from the
 /// heads within their raises. May stop once the bound reaches `limit`. Empties the raises. Where ceilings are known,
-/// they are asked first, and kept up. `least`, `limit` and the
-/// answer are one more than the bounds that they stand for, like heads in lanes.
+/// they are asked first, and kept up. `least`, `limit` and the answer are one more than the bounds that they stand for,
+/// like heads in lanes.
 #[inline(always)]
 pub(crate) fn take_spans<L: StateLanes>(
     raises: &mut [LaneRaise<L::Number>],

@@ -100,8 +100,8 @@ impl<L: StateLanes> MachineRaises<L> {
 
     /// Answers the greatest of `least` and the spans of the machines in `raised` from their raised heads. The span from
     /// a head is the greatest end, tail included, of the machine's operations with no lesser head, served by rank from
-    /// that head on. May stop once the bound reaches `limit`. Empties the raises, and keeps
-    /// up the ceilings.
+    /// that head on. May stop once the bound reaches `limit`. Empties the raises, and keeps up the ceilings, so that no
+    /// span exceeds that of its machine.
     #[inline(always)]
     pub fn take_bound(
         &mut self,
