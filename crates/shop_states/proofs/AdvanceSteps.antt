@@ -21,19 +21,19 @@ use Rattle.shop_states.proofs.RaisedHeads.{left, raisable, raised, has_blocks}
 
 module _ {greatest : ℕ} {shop : Shop} {l : LayoutState} {rows : Rows} {w : List ℕ} (j : ℕ)
     (kept : AreHeadsInLanes greatest shop w l rows) (fits : IsWord shop (w ++ j ∷ [])) where
-  abbrev before : Placing
+  abbrev pub before : Placing
   before = placing shop w
 
-  abbrev after : Placing
+  abbrev pub after : Placing
   after = place_next shop before j
 
-  next_is : IsNext shop before j after
+  pub next_is : IsNext shop before j after
   next_is = place_next-is shop before j
 
-  first_left : IsOperation shop j (before.steps j)
+  pub first_left : IsOperation shop j (before.steps j)
   first_left = let a = next_operation shop w j fits in let b = (after_word shop w kept.word).steps j in omega arith
 
-  machine_known : machine_of shop j (before.steps j) < shop.machines
+  pub machine_known : machine_of shop j (before.steps j) < shop.machines
   machine_known = kept.limits.on_machines j (before.steps j)
 
   -- the machine of its position
@@ -70,7 +70,7 @@ module _ {greatest : ℕ} {shop : Shop} {l : LayoutState} {rows : Rows} {w : Lis
       let a = head_is is in let b = time_is is in let c = small in let d = kept.computable
       in (omega arith, omega arith, omega arith)
 
-  end_is : {q h t : ℕ} → q ≡ place l j (before.steps j) → h ≡ get_or rows.heads q 0 → t ≡ get_or rows.times q 0
+  pub end_is : {q h t : ℕ} → q ≡ place l j (before.steps j) → h ≡ get_or rows.heads q 0 → t ≡ get_or rows.times q 0
       → h + t ≡ after.free (machine_of shop j (before.steps j)) + 1
   end_is {q} is read timed =
       let a = head_is is in let b = time_is is
@@ -80,7 +80,7 @@ module _ {greatest : ℕ} {shop : Shop} {l : LayoutState} {rows : Rows} {w : Lis
       in let begins = n.begins_here
       in omega arith
 
-  next_fits : (i k : ℕ) → IsOperation shop i k → after.steps i ≤ k
+  pub next_fits : (i k : ℕ) → IsOperation shop i k → after.steps i ≤ k
       → head_of shop after i k + time_of shop i k < greatest
   next_fits i k op opened =
       let e = placing-snoc shop w j

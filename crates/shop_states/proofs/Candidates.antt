@@ -49,7 +49,7 @@ module _ {greatest : ℕ} {shop : Shop} {w : List ℕ} {l : LayoutState} {heads 
     its_machine = ap (λ (q : ℕ). get_or l.machines q 0) its_place
         ∙ machine_here kept.kept j fits kept.kept.laid.machines_at
 
-    head_is : get_or heads x 0 + get_or l.times x 0
+    pub head_is : get_or heads x 0 + get_or l.times x 0
         ≡ (place_next shop (placing shop w) j).free (machine_of shop j ((placing shop w).steps j)) + 1
     head_is =
         let a = ap (λ (q : ℕ). get_or heads q 0) its_place

@@ -32,11 +32,31 @@ module _ {greatest : ℕ} {shop : Shop} {w : List ℕ} {l : LayoutState} {rows r
     (kept : AreHeadsInLanes greatest shop w l rows) (j : ℕ) (fits : IsWord shop (w ++ j ∷ []))
     (now : AreHeadsInLanes greatest shop (w ++ j ∷ []) l rows') where
   -- the heads of the word with the operation
-  next_heads : AreHeadsAt shop (place_next shop (placing shop w) j) l rows'.heads
+  pub next_heads : AreHeadsAt shop (place_next shop (placing shop w) j) l rows'.heads
   next_heads = subst (λ (q : Placing). AreHeadsAt shop q l rows'.heads) (placing-snoc shop w j) now.heads
 
   pub next_small : (q : ℕ) → get_or rows'.heads q 0 ≤ latest_end shop + 1
   next_small = heads_small shop now.limits l now.laid (w ++ j ∷ []) fits rows'.heads now.heads
+
+  within : (m : ℕ) → m < shop.machines → 8 * get_or l.blocks (m + 1) 0 ≤ length rows.heads
+  within m known =
+      let a = blocks_within shop kept.limits l kept.laid (m + 1) (omega arith)
+      in let c = kept.heads.positions in let d = kept.laid.positions.times in omega arith
+
+  -- on the operation's own machine, what begins up to its end is foreseen
+  pub its_ahead : {position own end least : ℕ} → IsLeastAfter shop w l rows j position own end least → (m : ℕ)
+      → m < shop.machines → m ≡ own → (h : ℕ) → 0 < h → h ≤ end → span h h (lanes_on rows' l m) ≤ least + 1
+  its_ahead {position} {own} {end} {least} after m known on h some up =
+      let x = place l j ((placing shop w).steps j)
+      in let a = span_ahead kept.limits kept.laid w j fits kept.heads next_heads (left_stored kept j fits)
+      (latest_end shop + 1) m h end next_small some up
+      (let long = length-set rows.heads x 0 in let b = within m known in omega arith)
+      in let e = ap (span h h) (its_lanes kept.limits kept.laid w j fits kept.heads next_heads rows' refl
+      now.times now.tails m)
+      in let f : lanes_on (with_head rows position 0) l own
+      ≡ lanes_of (set rows.heads x 0) l.times l.tails (get_or l.blocks m 0) (get_or l.blocks (m + 1) 0) =
+      rw (after.next.position_is, on, kept.times, kept.tails) refl
+      in let g = ap (span 1 end) f in let ahead = after.ahead in omega arith
 
   -- what is covered on each machine
   module _ {ms : List ℕ} (machines : AreMachinesOf l.blocks shop.machines ms) (own end least limit b : ℕ) where
@@ -58,29 +78,10 @@ module _ {greatest : ℕ} {shop : Shop} {w : List ℕ} {l : LayoutState} {rows r
         in bound_is kept.limits kept.laid w j fits kept.heads next_heads rows' refl now.times now.tails least limit b
         after.parent (omega arith) after.most low left inside
       where
-        within : (m : ℕ) → m < shop.machines → 8 * get_or l.blocks (m + 1) 0 ≤ length rows.heads
-        within m known =
-            let a = blocks_within shop kept.limits l kept.laid (m + 1) (omega arith)
-            in let c = kept.heads.positions in let d = kept.laid.positions.times in omega arith
-
-        ahead : (m : ℕ) → m < shop.machines → m ≡ own → (h : ℕ) → 0 < h → h ≤ end
-            → span h h (lanes_on rows' l m) ≤ least + 1
-        ahead m known on h some up =
-            let x = place l j ((placing shop w).steps j)
-            in let a = span_ahead kept.limits kept.laid w j fits kept.heads next_heads (left_stored kept j fits)
-            (latest_end shop + 1) m h end next_small some up
-            (let long = length-set rows.heads x 0 in let b = within m known in omega arith)
-            in let e = ap (span h h) (its_lanes kept.limits kept.laid w j fits kept.heads next_heads rows' refl
-            now.times now.tails m)
-            in let f : lanes_on (with_head rows position 0) l own
-            ≡ lanes_of (set rows.heads x 0) l.times l.tails (get_or l.blocks m 0) (get_or l.blocks (m + 1) 0) =
-            rw (after.next.position_is, on, kept.times, kept.tails) refl
-            in let g = ap (span 1 end) f in let ahead = after.ahead in omega arith
-
         left : b < limit → (m : ℕ) → m < shop.machines
             → one (left_for shop kept.laid.slots (place_next shop (placing shop w) j) m) ≤ b
         left under m known =
             let by = covers under m known
             in bounded_by_seen kept.limits kept.laid w j fits kept.heads next_heads machines own end least m known
             by.raise by.covered rows rows' refl kept.times kept.tails refl now.times now.tails (latest_end shop + 1)
-            next_small after.parent (within m known) (ahead m known) b low by.spans
+            next_small after.parent (within m known) (its_ahead after m known) b low by.spans

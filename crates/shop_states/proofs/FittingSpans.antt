@@ -1,5 +1,5 @@
 -- Spans of lanes whose times and greatest tail fit.
-use Rattle.std.proofs.Common.{◌≡◌, ℕ, ◌+◌, ◌≤◌, inl, inr, List, [], ◌∷◌, refl, arith, sum_by}
+use Rattle.std.proofs.Common.{◌≡◌, ℕ, ◌+◌, ◌≤◌, ◌<◌, inl, inr, List, [], ◌∷◌, refl, arith, sum_by}
 use Rattle.std.proofs.lemmas.Bool.{cases_lt}
 use Rattle.std.proofs.lemmas.List.Sums.{sum_by-cons}
 use Rattle.shop_lanes.specs.Rows.{Lane, Rows, lanes_between}
@@ -35,3 +35,22 @@ spans_within limit above upto all fits (x ∷ xs) =
 pub spans_same : (above upto : ℕ) (rows : Rows) (from to a b : ℕ) → from ≡ a → to ≡ b
     → spans_between above upto (lanes_between rows from to) ≡ spans_between above upto (lanes_between rows a b)
 spans_same above upto rows from to a b e f = rw (e, f) refl
+
+-- what bounds each span that begins between two moments bounds all of them
+spans_each_of : (c above upto : ℕ) (all : List Lane) → ((h : ℕ) → above < h → h ≤ upto → span h h all ≤ c)
+    → (xs : List Lane) → spans_from above upto all xs ≤ c
+spans_each_of c above upto all each [] = omega arith
+spans_each_of c above upto all each (x ∷ xs) =
+    let rest = spans_each_of c above upto all each xs
+    in elim (cases_lt above x.head) [
+      | inl after ↦ elim (cases_lt upto x.head) [
+        | inl high ↦ (let e = spans_high above upto all x xs high in omega arith)
+        | inr here ↦ (let e = spans_counted above upto all x xs after here
+            in let own = each x.head after here in omega arith)
+      ]
+      | inr low ↦ (let e = spans_low above upto all x xs low in omega arith)
+    ]
+
+pub spans_each : (c above upto : ℕ) (xs : List Lane) → ((h : ℕ) → above < h → h ≤ upto → span h h xs ≤ c)
+    → spans_between above upto xs ≤ c
+spans_each c above upto xs each = spans_each_of c above upto xs each xs

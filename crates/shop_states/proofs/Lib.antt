@@ -12,6 +12,7 @@ pub mod RisingLists
 pub mod SpanTurns
 pub mod Watching
 pub mod AdvanceSteps
+pub mod BehindRaises
 pub mod BoundsAfter
 pub mod CeilingLemmas
 pub mod Candidates
@@ -19,7 +20,9 @@ pub mod ChildBounds
 pub mod ChildExits
 pub mod ChildRaises
 pub mod ChildReads
+pub mod ChildTargets
 pub mod ChildTurns
+pub mod ChildrenBounds
 pub mod ConflictSets
 pub mod FillTurns
 pub mod FilledStates
@@ -29,7 +32,10 @@ pub mod LaneConflicts
 pub mod LaneEnds
 pub mod LaneFits
 pub mod LaneSpans
+pub mod LateHeads
+pub mod LateSpans
 pub mod LeftSlots
+pub mod ListedCandidates
 pub mod Listing
 pub mod LongerBeginnings
 pub mod MachineLanes

@@ -60,7 +60,7 @@ on_its shop p c i t = elim (cases_Bool (eqb i c)) [
   | inr e ↦ eqb-true (next_machine shop p i) (next_machine shop p c) (and_parts _ _ (rw e at t)).0
 ]
 
-on_one : (shop : Shop) (p : Placing) (js : List ℕ) (i k : ℕ) → IsIn (conflict_among shop p js) i
+pub on_one : (shop : Shop) (p : Placing) (js : List ℕ) (i k : ℕ) → IsIn (conflict_among shop p js) i
     → IsIn (conflict_among shop p js) k → next_machine shop p i ≡ next_machine shop p k
 on_one shop p [] i k h g = absurd h
 on_one shop p (j ∷ js) i k h g =

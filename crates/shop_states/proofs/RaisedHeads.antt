@@ -21,7 +21,7 @@ use Rattle.shop_bound.proofs.HeadTurns.{ready_first, ready_more}
 use Rattle.shop_layout.proofs.LaidPlaces.{IsOperationAt, machines_rise, place_of, each_position, on_machine}
 
 module _ {shop : Shop} (limits : IsWithinLimits shop) {l : LayoutState} (laid : IsLaidOut shop l) where
-  operation_in : (j k : ℕ) → k < steps_of l j → IsOperation shop j k
+  pub operation_in : (j k : ℕ) → k < steps_of l j → IsOperation shop j k
   operation_in j k h = let a = laid.routes j in omega arith
 
   pub indexed : {n : ℕ} → n ≡ first_position l shop.machines → IsIndexed l n
@@ -70,6 +70,32 @@ module _ {shop : Shop} (limits : IsWithinLimits shop) {l : LayoutState} (laid : 
         is = ap (λ (x : ℕ). place l x (get_or l.steps r 0)) job ∙ (ap (place l j) step ∙ at);
       }
 
+  -- the heads of what is placed
+  module _ (p : Placing) {hs : List ℕ} (are : AreHeadsAt shop p l hs) where
+    pub head_waits_at : (r : ℕ) → 0 < get_or hs r 0 → (o : IsOperationAt shop l r) × (p.steps o.job ≤ o.step)
+    head_waits_at r some = elim (each_position shop limits l laid r) [
+      | inl o ↦ elim (cases_lt o.step (p.steps o.job)) [
+        | inl before ↦ (let a = are.placed o.job o.step o.is before
+            in let b : get_or hs (place l o.job o.step) 0 ≡ get_or hs r 0 = ap (λ (x : ℕ). get_or hs x 0) o.at
+            in absurd (omega arith))
+        | inr opened ↦ (o, opened)
+      ]
+      | inr free ↦ (let a = are.padding r free in absurd (omega arith))
+    ]
+
+    pub heads_in_order : AreInRouteOrder l (at_in hs)
+    heads_in_order i k two some =
+        let op = operation_in i (k + 1) two
+        in let op_k : IsOperation shop i k = omega arith
+        in elim (cases_lt k (p.steps i)) [
+          | inl before ↦ (let a = are.placed i k op_k before in absurd (omega arith))
+          | inr opened ↦ (let x = are.waiting i k op_k opened
+              in let y = are.waiting i (k + 1) op (omega arith)
+              in let z = ready_more shop p i k opened
+              in let t = (place_of shop limits l laid i k op_k).time
+              in omega arith)
+        ]
+
   module _ {p : Placing} {j : ℕ} {q : Placing} (n : IsNext shop p j q) (next : IsOperation shop j (p.steps j)) where
     abbrev machine : ℕ
     machine = machine_of shop j (p.steps j)
@@ -113,7 +139,7 @@ module _ {shop : Shop} (limits : IsWithinLimits shop) {l : LayoutState} (laid : 
 
     module _ {old : List ℕ} (are : AreStored shop q.steps (head_of shop p) l old) where
       -- what waits is an operation that isn't placed
-      waits_at : (r : ℕ) → 0 < get_or old r 0 → (o : IsOperationAt shop l r) × (q.steps o.job ≤ o.step)
+      pub waits_at : (r : ℕ) → 0 < get_or old r 0 → (o : IsOperationAt shop l r) × (q.steps o.job ≤ o.step)
       waits_at r some = elim (each_position shop limits l laid r) [
         | inl o ↦ elim (cases_lt o.step (q.steps o.job)) [
           | inl before ↦ (let a = are.placed o.job o.step o.is before
@@ -125,14 +151,14 @@ module _ {shop : Shop} (limits : IsWithinLimits shop) {l : LayoutState} (laid : 
       ]
 
       -- the new head of what waits, and one more
-      abbrev target : ℕ → ℕ
+      abbrev pub target : ℕ → ℕ
       target r = cond {A = ℕ} (ltb 0 (get_or old r 0))
           (head_of shop q (get_or l.jobs r 0) (get_or l.steps r 0) + 1) 0
 
-      target_none : (r : ℕ) → get_or old r 0 ≡ 0 → target r ≡ 0
+      pub target_none : (r : ℕ) → get_or old r 0 ≡ 0 → target r ≡ 0
       target_none r none = rw (le-ltb 0 (get_or old r 0) (omega arith)) refl
 
-      target_at : (i k : ℕ) → IsOperation shop i k → q.steps i ≤ k → target (place l i k) ≡ head_of shop q i k + 1
+      pub target_at : (i k : ℕ) → IsOperation shop i k → q.steps i ≤ k → target (place l i k) ≡ head_of shop q i k + 1
       target_at i k op opened =
           let a = place_of shop limits l laid i k op
           in let w = are.waiting i k op opened
@@ -140,7 +166,7 @@ module _ {shop : Shop} (limits : IsWithinLimits shop) {l : LayoutState} (laid : 
           (ap (λ (x : ℕ). head_of shop q x (get_or l.steps (place l i k) 0) + 1) a.job
           ∙ ap (λ (x : ℕ). head_of shop q i x + 1) a.step)
 
-      in_order : AreInRouteOrder l (at_in old)
+      pub in_order : AreInRouteOrder l (at_in old)
       in_order i k two some =
           let op = operation_in i (k + 1) two
           in let op_k : IsOperation shop i k = omega arith
@@ -160,7 +186,7 @@ module _ {shop : Shop} (limits : IsWithinLimits shop) {l : LayoutState} (laid : 
           in omega arith
 
       module _ {e : ℕ} (end : e ≡ q.free machine + 1) where
-        target_raised : IsRaised l (IsOnMachine l machine) e (at_in old) target
+        pub target_raised : IsRaised l (IsOnMachine l machine) e (at_in old) target
         target_raised = record {
           rises = λ r. elim (cases_eq (get_or old r 0) 0) [
             | inl z ↦ omega arith
@@ -233,13 +259,14 @@ module _ {shop : Shop} (limits : IsWithinLimits shop) {l : LayoutState} (laid : 
               computable = computable;
             }
 
-        module _ {new : List ℕ} (least : IsLeastRaise l (IsOnMachine l machine) e old new) where
+        -- heads that are raised are no lower than those of what is left
+        module _ {new : ℕ → ℕ} (up : IsRaised l (IsOnMachine l machine) e (at_in old) new) where
           -- a head is enough, where its step is ready no later
           free_enough : (i k : ℕ) → IsOperation shop i k → q.steps i ≤ k
-              → q.free (machine_of shop i k) + 1 ≤ get_or new (place l i k) 0
+              → q.free (machine_of shop i k) + 1 ≤ new (place l i k)
           free_enough i k op opened =
               let w = are.waiting i k op opened
-              in let rises = least.raised.rises (place l i k)
+              in let rises = up.rises (place l i k)
               in let m = machine_of shop i k
               in elim (cases_eq m machine) [
                 | inl f ↦ (let at = place_of shop limits l laid i k op
@@ -247,7 +274,7 @@ module _ {shop : Shop} (limits : IsWithinLimits shop) {l : LayoutState} (laid : 
                     in let high : first_position l (m + 1) ≡ first_position l (machine + 1) = ap
                     (λ (x : ℕ). first_position l (x + 1)) f
                     in let a = at.from in let b = at.to
-                    in let c = least.raised.reach (place l i k) (omega arith, omega arith) (omega arith)
+                    in let c = up.reach (place l i k) (omega arith, omega arith) (omega arith)
                     in let same : q.free m ≡ q.free machine = ap q.free f
                     in omega arith)
                 | inr ne ↦ (let a = n.free_other m ne in omega arith)
@@ -255,10 +282,10 @@ module _ {shop : Shop} (limits : IsWithinLimits shop) {l : LayoutState} (laid : 
 
           -- step by step from the first that isn't placed
           ready_enough : (i d k : ℕ) → q.steps i + d ≡ k → IsOperation shop i k
-              → ready_after shop q i (k - q.steps i) + 1 ≤ get_or new (place l i k) 0
+              → ready_after shop q i (k - q.steps i) + 1 ≤ new (place l i k)
           ready_enough i zero k is op =
               let w = are.waiting i k op (omega arith)
-              in let rises = least.raised.rises (place l i k)
+              in let rises = up.rises (place l i k)
               in let first = ready_first shop q i k (omega arith)
               in let a = ready_first_same shop p j q n i
               in let f : q.steps i - p.steps i ≡ k - p.steps i = omega arith
@@ -271,22 +298,34 @@ module _ {shop : Shop} (limits : IsWithinLimits shop) {l : LayoutState} (laid : 
               in let before = ready_enough i d b refl op_b
               in let free = free_enough i b op_b (omega arith)
               in let long = laid.routes i
-              in let o = least.raised.order i b (omega arith) (omega arith)
+              in let o = up.order i b (omega arith) (omega arith)
               in let t = (place_of shop limits l laid i b op_b).time
               in let more = ready_more shop q i b (omega arith)
               in let now = ap (λ (x : ℕ). ready_after shop q i (x - q.steps i)) f
-              in let at : get_or new (place l i k) 0 ≡ get_or new (place l i (b + 1)) 0 =
-              ap (λ (x : ℕ). get_or new (place l i x) 0) f
+              in let at : new (place l i k) ≡ new (place l i (b + 1)) = ap (λ (x : ℕ). new (place l i x)) f
               in omega arith
 
+          pub target_least : (r : ℕ) → target r ≤ new r
+          target_least r = elim (cases_eq (get_or old r 0) 0) [
+            | inl z ↦ (let a = target_none r z in omega arith)
+            | inr nz ↦ (let w = waits_at r (omega arith) in let o = w.0
+                in let b = target_at o.job o.step o.is w.1
+                in let c = ready_enough o.job (o.step - q.steps o.job) o.step (let d = w.1 in omega arith) o.is
+                in let d = free_enough o.job o.step o.is w.1
+                in let f : target (place l o.job o.step) ≡ target r = ap target o.at
+                in let g : new (place l o.job o.step) ≡ new r = ap new o.at
+                in omega arith)
+          ]
+
+        module _ {new : List ℕ} (least : IsLeastRaise l (IsOnMachine l machine) e old new) where
           pub raised : AreHeadsAt shop q l new
           raised = record {
             positions = least.positions ∙ are.positions;
             waiting = λ i k op opened.
                 let a = least.least target target_raised (place l i k)
                 in let b = target_at i k op opened
-                in let c = ready_enough i (k - q.steps i) k (omega arith) op
-                in let d = free_enough i k op opened
+                in let c = ready_enough least.raised i (k - q.steps i) k (omega arith) op
+                in let d = free_enough least.raised i k op opened
                 in omega arith;
             placed = λ i k op before. least.raised.rests (place l i k) (are.placed i k op before);
             padding = λ r free. least.raised.rests r (are.padding r free);

@@ -2,6 +2,7 @@
 use Rattle.std.proofs.Common.{◌≡◌, ℕ, ◌≤◌, ◌<◌, ◌⊎◌, inl, inr, List, [], ◌∷◌, length, get_or, set}
 use Rattle.std.proofs.Common.{refl, sym, ◌∙◌, ap, subst, arith}
 use Rattle.std.proofs.lemmas.Bool.{cases_eq, cases_lt}
+use Rattle.std.proofs.lemmas.Grind.{get_or-set_at}
 use Rattle.std.proofs.lemmas.List.{get_or-map, get_or-set_same, get_or-set_other, length-map, length-set, map-set}
 use Rattle.shop_lanes.specs.Rows.{Lane}
 use Rattle.shop_lanes.specs.Spans.{spans_between}
@@ -129,6 +130,33 @@ module _ {least limit : ℕ} {old : List Raise} {on : ℕ → List Lane} where
         within = λ c above each. turn.within c (so.within c above each) (λ x y. each m x y (omega arith));
       }
 
+  -- a machine is passed whose spans were bounded before
+  pub taken_passed : {raises : List Raise} {machines rest : List ℕ} {bound : ℕ}
+      → IsTakenSo least limit old on raises machines bound → {m : ℕ} → machines ≡ m ∷ rest
+      → (empty : Raise) → empty.to ≡ 0
+      → spans_between (raise_of old m).from (raise_of old m).to (on m) ≤ bound
+      → IsTakenSo least limit old on (set raises m empty) rest bound
+  taken_passed {raises} {machines} {rest} so {m} popped empty none under =
+      let are = so.are_listed
+      in record {
+        are_listed = listed_less are popped empty none;
+        long = length-set raises m empty ∙ so.long;
+        smaller = λ n. elim (cases_eq n m) [
+          | inl e ↦ (let z = raise_emptied are popped empty none n e in omega arith)
+          | inr ne ↦ (let f = ap (λ (r : Raise). r.to) (raise_elsewhere are popped empty none n ne)
+              in let s = so.smaller n in omega arith)
+        ];
+        low = so.low;
+        covers = λ below n. elim (so.covers below n) [
+          | inl same ↦ elim (cases_eq n m) [
+            | inl e ↦ inr (rw e under)
+            | inr ne ↦ inl (same ∙ sym (raise_elsewhere are popped empty none n ne))
+          ]
+          | inr done ↦ inr done
+        ];
+        within = so.within;
+      }
+
   pub taken_all : {raises : List Raise} {machines : List ℕ} {bound : ℕ} → machines ≡ []
       → IsTakenSo least limit old on raises machines bound
       → AreEmpty raises × (bound < limit → (m : ℕ)
@@ -138,6 +166,93 @@ module _ {least limit : ℕ} {old : List Raise} {on : ℕ → List Lane} where
       in (
         empty,
         λ under m. elim (so.covers under m) [
+          | inl same ↦ (let z = empty m
+              in let e = ap (λ (r : Raise). r.to) same
+              in let nothing = spans-none (raise_of old m).from (raise_of old m).to (on m) (on m) (omega arith)
+              in omega arith)
+          | inr done ↦ done
+        ],
+      )
+
+-- what begins within the raises before, but for those that are left, is no more than a number for each machine
+pub record IsFoundSo (least : ℕ) (old : List Raise) (on : ℕ → List Lane) (raises : List Raise)
+    (machines cs : List ℕ) (greatest : ℕ) : Type 0 where
+  pub are_listed : AreListed raises machines
+  pub long : length raises ≡ length old
+  pub smaller : (m : ℕ) → (raise_of raises m).to ≤ (raise_of old m).to
+  pub low : least ≤ greatest
+  pub least_of : (m : ℕ) → m < length cs → least ≤ get_or cs m 0
+  pub covers : (m : ℕ) → m < length cs → (raise_of old m ≡ raise_of raises m)
+      ⊎ (spans_between (raise_of old m).from (raise_of old m).to (on m) ≤ get_or cs m 0)
+  pub most : (m : ℕ) → m < length cs → get_or cs m 0 ≤ greatest
+
+module _ {least : ℕ} {old : List Raise} {on : ℕ → List Lane} where
+  pub found_begins : {machines cs : List ℕ} → AreListed old machines → ((m : ℕ) → m < length cs → get_or cs m 0 ≡ least)
+      → IsFoundSo least old on old machines cs least
+  found_begins listed all = record {
+    are_listed = listed;
+    long = refl;
+    smaller = λ m. omega arith;
+    low = omega arith;
+    least_of = λ m here. (let a = all m here in omega arith);
+    covers = λ m here. inl refl;
+    most = λ m here. (let a = all m here in omega arith);
+  }
+
+  pub found_more : {raises : List Raise} {machines rest cs cs' : List ℕ} {greatest : ℕ}
+      → IsFoundSo least old on raises machines cs greatest → {m : ℕ} → machines ≡ m ∷ rest
+      → (empty : Raise) → empty.to ≡ 0 → (c : ℕ) → cs' ≡ set cs m c → m < length cs
+      → spans_between (raise_of raises m).from (raise_of raises m).to (on m) ≤ c
+      → get_or cs m 0 ≤ c
+      → {now : ℕ} → greatest ≤ now → c ≤ now
+      → IsFoundSo least old on (set raises m empty) rest cs' now
+  found_more {raises} {machines} {rest} {cs} {cs'} so {m} popped empty none c wrote here spans above more kept =
+      let are = so.are_listed
+      in let many = ap length wrote ∙ length-set cs m c
+      in record {
+        are_listed = listed_less are popped empty none;
+        long = length-set raises m empty ∙ so.long;
+        smaller = λ n. elim (cases_eq n m) [
+          | inl e ↦ (let z = raise_emptied are popped empty none n e in omega arith)
+          | inr ne ↦ (let f = ap (λ (r : Raise). r.to) (raise_elsewhere are popped empty none n ne)
+              in let s = so.smaller n in omega arith)
+        ];
+        low = (let a = so.low in omega arith);
+        least_of = λ n there. elim (cases_eq n m) [
+          | inl e ↦ (let a = at_m n e in let b = so.least_of m here in omega arith)
+          | inr ne ↦ (let a = elsewhere n ne in let b = so.least_of n (omega arith) in omega arith)
+        ];
+        covers = λ n there. elim (cases_eq n m) [
+          | inl e ↦ (let a = at_m n e in elim (so.covers n (omega arith)) [
+            | inl same ↦ inr (rw (same, e) (let b = at_m m refl in omega arith))
+            | inr done ↦ inr (let b = ap (λ (k : ℕ). get_or cs k 0) e in omega arith)
+          ])
+          | inr ne ↦ (let a = elsewhere n ne in elim (so.covers n (omega arith)) [
+            | inl same ↦ inl (same ∙ sym (raise_elsewhere are popped empty none n ne))
+            | inr done ↦ inr (omega arith)
+          ])
+        ];
+        most = λ n there. elim (cases_eq n m) [
+          | inl e ↦ (let a = at_m n e in omega arith)
+          | inr ne ↦ (let a = elsewhere n ne in let b = so.most n (omega arith) in omega arith)
+        ];
+      }
+    where
+      at_m : (n : ℕ) → n ≡ m → get_or cs' n 0 ≡ c
+      at_m n e = ap (λ (xs : List ℕ). get_or xs n 0) wrote ∙ get_or-set_at cs m n c 0 e here
+
+      elsewhere : (n : ℕ) → (n ≡ m → ⊥) → get_or cs' n 0 ≡ get_or cs n 0
+      elsewhere n ne = ap (λ (xs : List ℕ). get_or xs n 0) wrote ∙ get_or-set_other cs m n c 0 ne
+
+  pub found_all : {raises : List Raise} {machines cs : List ℕ} {greatest : ℕ} → machines ≡ []
+      → IsFoundSo least old on raises machines cs greatest
+      → AreEmpty raises × ((m : ℕ) → m < length cs
+      → spans_between (raise_of old m).from (raise_of old m).to (on m) ≤ get_or cs m 0)
+  found_all {raises} none so =
+      let empty = all_empty raises (subst (AreListed raises) none so.are_listed)
+      in (
+        empty,
+        λ m here. elim (so.covers m here) [
           | inl same ↦ (let z = empty m
               in let e = ap (λ (r : Raise). r.to) same
               in let nothing = spans-none (raise_of old m).from (raise_of old m).to (on m) (on m) (omega arith)

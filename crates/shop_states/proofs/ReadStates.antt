@@ -14,3 +14,10 @@ kept_read is are kept = rw (is, are) kept
 pub candidate_read : {shop : Shop} {w : List ℕ} {l read : LayoutState} {job own : ℕ} → read ≡ l
     → IsCandidateOf shop w l job own → IsCandidateOf shop w read job own
 candidate_read is candidate = rw is candidate
+
+-- or copied
+pub kept_copied : {greatest : ℕ} {shop : Shop} {w : List ℕ} {l read : LayoutState}
+    {heads ends nexts copied finished given : List ℕ} → read ≡ l → copied ≡ heads → finished ≡ ends → given ≡ nexts
+    → IsKeptInLanes greatest shop w l (rows_of l heads ends) nexts
+    → IsKeptInLanes greatest shop w read (rows_of read copied finished) given
+kept_copied is same_heads same_ends are kept = rw (is, same_heads, same_ends, are) kept

@@ -77,8 +77,25 @@ blocks_beside R first end hs hs' ts qs a b c within each =
         (lt ∙ sym lk) (lq ∙ sym lk)
         ∙ ap (λ (xs : List Lane). by_columns (end - first) xs) (lanes-blocks ks ts qs first end et eq)
 
+-- no span of a machine is above the bound of the word
+pub word_spans : {shop : Shop} → (limits : IsWithinLimits shop) → {l : LayoutState} → (laid : IsLaidOut shop l)
+    → (w : List ℕ) → IsWord shop w → {hs : List ℕ} → AreHeadsAt shop (placing shop w) l hs → (m : ℕ)
+    → m < shop.machines → (g : ℕ) → 0 < g
+    → span g g (lanes_of hs l.times l.tails (get_or l.blocks m 0) (get_or l.blocks (m + 1) 0)) ≤ lb shop w + 1
+word_spans {shop} limits {l} laid w word {hs} heads m known g some =
+    let p = placing shop w
+    in let falls = left_falls shop p (get_or laid.slots m []) (laid.are.slots m known).nonincreasing
+    in let a = from_head_within (left_matched limits laid m known p hs heads) falls (g - 1)
+    in let b = left-le-lb shop limits laid.slots laid.are w word m known
+    in let e : span (g - 1 + 1) (g - 1 + 1) (lanes_of hs l.times l.tails (get_or l.blocks m 0)
+    (get_or l.blocks (m + 1) 0)) ≡ span g g (lanes_of hs l.times l.tails (get_or l.blocks m 0)
+    (get_or l.blocks (m + 1) 0)) =
+    ap (λ (n : ℕ). span n n (lanes_of hs l.times l.tails (get_or l.blocks m 0) (get_or l.blocks (m + 1) 0)))
+    (omega arith)
+    in omega arith
+
 -- the lanes of a machine by what stands in the rows
-lanes_are : (l : LayoutState) (rows : Rows) (hs : List ℕ) → rows.heads ≡ hs → rows.times ≡ l.times
+pub lanes_are : (l : LayoutState) (rows : Rows) (hs : List ℕ) → rows.heads ≡ hs → rows.times ≡ l.times
     → rows.tails ≡ l.tails → (m : ℕ)
     → lanes_of hs l.times l.tails (get_or l.blocks m 0) (get_or l.blocks (m + 1) 0) ≡ lanes_on rows l m
 lanes_are l rows hs heads times tails m = rw (heads, times, tails) refl
@@ -171,15 +188,8 @@ module _ {shop : Shop} (limits : IsWithinLimits shop) {l : LayoutState} (laid : 
       -- no span before was above the bound before
       spans_before : AreUpTo top (lb shop w + 1) (lanes_on rows l m)
       spans_before g some high =
-          let p = placing shop w
-          in let word = IsWord-init shop w j fits
-          in let falls = left_falls shop p (get_or laid.slots m [])
-          (laid.are.slots m known).nonincreasing
-          in let a = from_head_within (left_matched limits laid m known p was old) falls (g - 1)
-          in let b = left-le-lb shop limits laid.slots laid.are w word m known
-          in let e = ap (λ (xs : List Lane). span (g - 1 + 1) (g - 1 + 1) xs) (lanes_are l rows was heads times tails m)
-          in let f : span (g - 1 + 1) (g - 1 + 1) (lanes_on rows l m) ≡ span g g (lanes_on rows l m) =
-          ap (λ (n : ℕ). span n n (lanes_on rows l m)) (omega arith)
+          let a = word_spans limits laid w (IsWord-init shop w j fits) old m known g some
+          in let e = ap (λ (xs : List Lane). span g g xs) (lanes_are l rows was heads times tails m)
           in omega arith
 
       IsHere : Type 0

@@ -1,16 +1,16 @@
 -- An operation is struck out and its end raises heads: what is known of the bound then, and what is kept.
-use Rattle.std.proofs.Common.{◌≡◌, ℕ, ◌+◌, ◌≤◌, ◌<◌, inl, inr, List, [], ◌∷◌, ◌++◌, length}
+use Rattle.std.proofs.Common.{◌≡◌, ℕ, ◌+◌, ◌≤◌, ◌<◌, max, min, inl, inr, List, [], ◌∷◌, ◌++◌, length}
 use Rattle.std.proofs.Common.{get_or, set, refl, sym, ◌∙◌, ap, subst, arith}
-use Rattle.std.proofs.lemmas.Bool.{cases_eq}
+use Rattle.std.proofs.lemmas.Bool.{cases_eq, cases_lt, eq-eqb, ne_eqb}
 use Rattle.std.proofs.lemmas.Grind.{get_or-set_at}
 use Rattle.std.proofs.lemmas.List.{get_or-set_other}
 use Rattle.shop_lanes.specs.Rows.{Rows, with_end, with_head}
 use Rattle.shop_lanes.specs.Spans.{spans_between}
 use Rattle.shop_model.specs.Shop.{Shop, machine_of}
-use Rattle.shop_model.specs.Word.{IsWord, placing}
+use Rattle.shop_model.specs.Word.{IsWord, place_next, placing}
 use Rattle.shop_bound.specs.Bound.{lb}
-use Rattle.shop_states.specs.inner.Advances.{IsLeastAt}
-use Rattle.shop_states.specs.inner.Ceilings.{AreCeilings, HasTop, RiseFor}
+use Rattle.shop_states.specs.inner.Advances.{IsAdvancing, IsLeastAt}
+use Rattle.shop_states.specs.inner.Ceilings.{AreChildCeilings, AreUnder}
 use Rattle.shop_states.specs.inner.ChildBounds.{IsLeastAfter}
 use Rattle.shop_states.specs.inner.BoundsUpTo.{IsBoundUpTo}
 use Rattle.shop_layout.specs.HeadLimits.{latest_end}
@@ -26,8 +26,8 @@ use Rattle.shop_states.specs.inner.Watchers.{AreSeen, IsSeenAt, Sees, Watches, f
 use Rattle.shop_states.proofs.RaiseSteps.{put_is}
 use Rattle.shop_states.proofs.AdvanceSteps.{advanced, advanced_long, advanced_others, end_small, lifted_blocks}
 use Rattle.shop_states.proofs.AdvanceSteps.{lifted_raisable, machine_here}
-use Rattle.shop_states.proofs.CeilingLemmas.{ceilings_lifted, heads_top, raise_lifted, struck_lifted}
-use Rattle.shop_states.proofs.ChildTurns.{next_small, raised_is}
+use Rattle.shop_states.proofs.ChildTurns.{its_ahead, next_heads, next_small, raised_is}
+use Rattle.shop_states.proofs.FittingSpans.{span_within, spans_each}
 use Rattle.shop_states.proofs.LaneFits.{spans_fit}
 use Rattle.shop_states.proofs.StateSteps.{ends_more, firsts, kept_more, next_at, next_known, within}
 
@@ -95,7 +95,7 @@ module _ {greatest : ℕ} {shop : Shop} {w : List ℕ} {l : LayoutState} {hs es 
 
       module _ {new : Rows} (raising : Raises greatest l nexts (IsOnMachine l m) (h + t) (rows_of l hs' es') new)
         where
-          now_heads : AreHeadsInLanes greatest shop (w ++ j ∷ []) l new
+          pub now_heads : AreHeadsInLanes greatest shop (w ++ j ∷ []) l new
           now_heads = advanced j kept.kept fits its_place head timed wrote on_its raising
 
           ends_long : length new.ends ≡ length es
@@ -108,15 +108,6 @@ module _ {greatest : ℕ} {shop : Shop} {w : List ℕ} {l : LayoutState} {hs es 
           small : (q : ℕ) → get_or new.heads q 0 ≤ latest_end shop + 1
           small = next_small kept.kept j fits now_heads
 
-          pub trial_top : {machines : ℕ} → machines ≡ shop.machines → HasTop greatest machines l new
-          trial_top same = heads_top now_heads kept.holds same
-
-          pub trial_ceilings : {cs cs' : List ℕ} → RiseFor l m (h + t) hs' cs cs' → AreCeilings l (rows_of l hs es) cs
-              → AreCeilings l new cs'
-          trial_ceilings rise are = ceilings_lifted l rows new (trial_top refl) raising.times raising.tails rise.by
-              (struck_lifted struck its_position (raise_lifted trial_raisable.order raising.raised rise.by rise.reach))
-              rise.lifted are
-
           -- the operation that follows is the next one
           module _ {after : List ℕ} (followed : after ≡ set nexts j (get_or l.following (get_or nexts j 0) 0)) where
             pub trial_keep : CanKeepEnds greatest l after new
@@ -128,8 +119,8 @@ module _ {greatest : ℕ} {shop : Shop} {w : List ℕ} {l : LayoutState} {hs es 
 
           module _ {before after : List Raise} (empty : AreEmpty before) (many : length before ≡ shop.machines)
               (sees : Sees l.machines (IsOnMachine l m) (h + t) hs' new.heads before after) where
-            watches : Watches m (h + t) l.machines hs' new.heads before after
-            watches = sees m (λ q there. kept.kept.laid.machines_at.at m q machine_known there.0 there.1)
+            watches : Watches (floor_on m (h + t)) l.machines hs' new.heads before after
+            watches = sees.watches m (λ q there. kept.kept.laid.machines_at.at m q machine_known there.0 there.1)
 
             pub trial_raises_fit : AreRaisesFit greatest after l new
             trial_raises_fit =
@@ -152,7 +143,7 @@ module _ {greatest : ℕ} {shop : Shop} {w : List ℕ} {l : LayoutState} {hs es 
                       in omega arith;
                 }
 
-            seen : AreSeen m (h + t) l.machines after hs new.heads
+            seen : AreSeen (floor_on m (h + t)) l.machines after hs new.heads
             seen = watches.seen hs (λ q. inl (let a = lifted_low q in omega arith))
 
             pub trial_bound : {least : ℕ} → IsLeastAt shop w l rows j (get_or nexts j 0) least → {limit b : ℕ}
@@ -175,3 +166,27 @@ module _ {greatest : ℕ} {shop : Shop} {w : List ℕ} {l : LayoutState} {hs es 
                 (λ c above each. inside c above (λ n up to known. each n up to (omega arith)))
                 (subst (λ (k : ℕ). IsLeastAfter shop w l rows j x k (h + t) least) (sym here)
                 (subst (λ (k : ℕ). IsLeastAfter shop w l rows j x (get_or l.machines x 0) k least) sum foreseen))
+
+-- the ceilings of a child bound what begins within the raises of its dispatch
+module _ {greatest : ℕ} {shop : Shop} {w : List ℕ} {l : LayoutState} {rows : Rows} {nexts : List ℕ} {j least : ℕ}
+    (advancing : IsAdvancing greatest shop w l rows nexts j least) (ceilings : List ℕ)
+    (are : AreChildCeilings shop w l j ceilings) {now : Rows} (kept : AreHeadsInLanes greatest shop (w ++ j ∷ []) l now)
+    (raises : List Raise) (fits : AreRaisesFit greatest raises l now) where
+  pub trial_under : length raises ≡ shop.machines → AreUnder ceilings raises l now (min (least + 1) greatest)
+  trial_under many m here known =
+      let own = machine_of shop j ((placing shop w).steps j)
+      in let end = (place_next shop (placing shop w) j).free own + 1
+      in let after = advancing.foreseen in let ends = after.ends in let end_is = after.next.end_is
+      in let fit = fits.fits m known in let most = (raise_of raises m).to
+      in spans_each (max (min (least + 1) greatest) (get_or ceilings m 0)) (raise_of raises m).from (raise_of raises m).to
+      (lanes_on now l m) (λ h above up. elim (cases_lt (floor_on own end m) h) [
+        | inl later ↦ (let c = are now (next_heads advancing.kept.kept j advancing.fits kept) kept.times kept.tails m here
+            (omega arith) h later in omega arith)
+        | inr early ↦ elim (cases_eq m own) [
+          | inl on ↦ (let all : floor_on own end m ≡ end = rw (eq-eqb m own on) refl
+              in let ahead = its_ahead advancing.kept.kept j advancing.fits kept after m (omega arith)
+              (on ∙ sym after.next.machine_is) h (omega arith) (omega arith)
+              in let whole = span_within h h (lanes_on now l m) in omega arith)
+          | inr off ↦ (let none : floor_on own end m ≡ 0 = rw (ne_eqb m own off) refl in absurd (omega arith))
+        ]
+      ])

@@ -3,10 +3,14 @@
 --     HasSoleCandidate shop P job    P holds of some word whose conflict set is one job
 --     CanDispatch shop P job bound   P holds of some word, which can go on with the job and has this
 --                                    bound
+--     HasListed shop P is cs bound   P holds of some word of this bound, whose candidates with own
+--                                    numbers below some limit these are
+--     Settles shop w bound top cs    the child by a candidate is bounded by the greater of the word's
+--                                    bound and its own number, where `top` is no more than that
 --     TellsBoundBelow limit bound    the bound where it is below the limit, and else nothing
 --     ListsBelow shop w limit is     the candidates of a conflict set, in order, but for n jobs with
 --                                    which the bound reaches the limit
-use Rattle.std.specs.Prelude.{◌≡◌, ◌≤◌, ◌<◌, ℕ, zero, suc, Option, Some, None, List, [], ◌∷◌, ◌++◌}
+use Rattle.std.specs.Prelude.{◌≡◌, ◌≤◌, ◌<◌, ℕ, zero, suc, max, Option, Some, None, List, [], ◌∷◌, ◌++◌, All}
 use Rattle.shop_model.specs.Shop.{Shop}
 use Rattle.shop_model.specs.Word.{IsWord}
 use Rattle.shop_bound.specs.Bound.{lb}
@@ -41,3 +45,17 @@ pub data ListsBelow (shop : Shop) (word : List ℕ) (limit : ℕ) (is : Candidat
       → ListsBelow shop word limit is js cs n → ListsBelow shop word limit is (j ∷ js) (c ∷ cs) n
   closed : {js : List ℕ} {cs : List Candidate} {n : ℕ} (j : ℕ) → limit ≤ lb shop (word ++ j ∷ [])
       → ListsBelow shop word limit is js cs n → ListsBelow shop word limit is (j ∷ js) cs (suc n)
+
+-- some word's candidates
+pub record HasListed (shop : Shop) (P : List ℕ → Type 0) (is : List ℕ → Candidate → Type 0)
+    (cs : List Candidate) (bound : ℕ) : Type 0 where
+  pub word : List ℕ
+  pub is_word : P word
+  pub limit : ℕ
+  pub others : ℕ
+  pub listed : ListsBelow shop word limit (is word) (conflict shop word) cs others
+  pub bound_is : bound ≡ lb shop word
+
+abbrev pub Settles : Shop → List ℕ → ℕ → ℕ → List Candidate → Type 0
+Settles shop w bound top cs = All (λ c. top ≤ max bound c.own
+    → lb shop (w ++ c.job ∷ []) ≡ max bound c.own) cs

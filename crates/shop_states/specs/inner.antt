@@ -17,4 +17,5 @@ pub mod ChildBounds
 pub mod Fills
 pub mod LaneStates
 pub mod PlacedNexts
+pub mod Siblings
 pub mod Scratches

@@ -7,14 +7,11 @@ ghost use Rattle.shop_bound.specs.Bound.{lb};
 ghost use Rattle.shop_bound.specs.Conflicts.{conflict};
 ghost use Rattle.shop_states.specs.States.{TellsBoundBelow};
 ghost use Rattle.shop_states.specs.inner.Advances.{CanAdvance, CanStrike, HasSameRoom, IsAdvancing};
-ghost use Rattle.shop_states.specs.inner.Ceilings.{AreCeilings};
 ghost use Rattle.shop_states.specs.inner.LaneEnds.{CanKeepEnds};
 ghost use Rattle.shop_states.specs.inner.LaneStates.{GoesOn, IsKeptInLanes};
 ghost use Rattle.shop_layout.specs.Lanes.{rows_of};
 ghost use Rattle.shop_states.specs.inner.MachineRaises.{AreEmpty};
 
-use crate::ceiling_spans::rise_for;
-use crate::ceilings::Ceilings;
 use crate::lane_ends::set_end_of;
 use crate::machine_raises::MachineRaises;
 use shop_lanes::StateLanes;
@@ -45,13 +42,14 @@ pub(crate) fn go_on<L: StateLanes>(
 
 /// Dispatches the next operation of `job`. Answers the bound of the extended word if it is below `limit`, else `None`.
 /// `least` is at most that bound, and at least the former word's bound and the operation's own span: how late the
-/// operation, and the others of its machine with their tails, end if it goes first.
+/// operation, and the others of its machine with their tails, end if it goes first. `ceilings` has, by machine, one more
+/// than what the extended word's operations there bound at most, or is empty.
 #[inline(always)]
 pub(crate) fn advance_below<L: StateLanes>(
     lanes: &mut L,
     next: &mut [u32],
     raises: &mut MachineRaises<L>,
-    ceilings: &mut Ceilings,
+    ceilings: &[u64],
     grid: &Grid<L>,
     job: usize,
     least: u64,
@@ -59,11 +57,9 @@ pub(crate) fn advance_below<L: StateLanes>(
 ) -> Option<u64>
     requires can { CanAdvance L.GREATEST grid.now
         (rows_of grid.now (L.heads lanes.old) (L.ends lanes.old)) next.old job least
-        (length raises.old) }
+        (length raises.old) ceilings.now }
     requires at_rest { AreEmpty raises.old }
     requires limit { limit < 2 ^ 63 }
-    requires ceilings { AreCeilings grid.now
-        (rows_of grid.now (L.heads lanes.old) (L.ends lanes.old)) ceilings.old }
     ensures told { (shop : Shop) (w : List ℕ) → IsAdvancing L.GREATEST shop w grid.now
         (rows_of grid.now (L.heads lanes.old) (L.ends lanes.old)) next.old job least
         → TellsBoundBelow limit (lb shop (w ++ job ∷ [])) result }
@@ -76,8 +72,6 @@ pub(crate) fn advance_below<L: StateLanes>(
         (rows_of grid.now (L.heads lanes.new) (L.ends lanes.new)) next.old next.new }
     ensures machines { length raises.new ≡ length raises.old }
     ensures rest { AreEmpty raises.new }
-    ensures ceilings { AreCeilings grid.now
-        (rows_of grid.now (L.heads lanes.new) (L.ends lanes.new)) ceilings.new }
 {
     if limit <= least {
         return None;
@@ -87,7 +81,6 @@ pub(crate) fn advance_below<L: StateLanes>(
     let machine = routes.machine(position) as usize;
     let end = lanes.head(position) + routes.time(position);
     lanes.set_head(position, 0);
-    rise_for(ceilings, lanes, grid, machine, end);
     let raised = raises.raise(lanes, grid, &routes, next, machine, end);
     let bound = raises.take_bound(raised, ceilings, lanes, grid, least, limit);
     if limit <= bound {
@@ -102,9 +95,7 @@ pub(crate) fn advance_below<L: StateLanes>(
 pub(crate) fn strike<L: StateLanes>(lanes: &mut L, next: &mut [u32], grid: &Grid<L>, job: usize)
     requires { CanStrike L.GREATEST grid.now
         (rows_of grid.now (L.heads lanes.old) (L.ends lanes.old)) next.old job }
-    ensures heads { L.heads lanes.new
-        ≡ slice_set (L.heads lanes.old) (slice_index next.old job) 0 }
-    ensures state { (shop : Shop) (w : List ℕ) → IsKeptInLanes L.GREATEST shop w grid.now
+    ensures { (shop : Shop) (w : List ℕ) → IsKeptInLanes L.GREATEST shop w grid.now
         (rows_of grid.now (L.heads lanes.old) (L.ends lanes.old)) next.old
         → conflict shop w ≡ job ∷ []
         → IsKeptInLanes L.GREATEST shop (w ++ job ∷ []) grid.now

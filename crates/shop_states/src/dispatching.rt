@@ -1,5 +1,5 @@
 // The trait `Dispatching`: how a walk fills, copies and extends the states of words.
-ghost use Rattle.std.specs.Prelude.{◌≡◌, ℕ, ◌≤◌, List, [], ◌∷◌, ◌++◌, IfOk, OnSome, length};
+ghost use Rattle.std.specs.Prelude.{◌≡◌, ℕ, ◌≤◌, List, [], ◌∷◌, ◌++◌, All, IfOk, IfSome, OnSome, length};
 ghost use Rattle.std.specs.Prelude.{vec_capacity};
 ghost use Rattle.shop_model.specs.Limits.{IsWithinLimits};
 ghost use Rattle.shop_model.specs.Shop.{Shop};
@@ -8,7 +8,8 @@ ghost use Rattle.shop_bound.specs.Bound.{lb};
 ghost use Rattle.shop_bound.specs.Conflicts.{conflict, SoleCandidateKeepsBound};
 ghost use Rattle.shop_states.specs.States.{TellsBoundBelow};
 ghost use Rattle.shop_states.specs.declared.dispatching.Candidate.{Candidate};
-ghost use Rattle.shop_states.specs.States.{CanDispatch, HasSoleCandidate, IsOfSomeWord, ListsBelow};
+ghost use Rattle.shop_states.specs.States.{CanDispatch, HasListed, HasSoleCandidate, IsOfSomeWord};
+ghost use Rattle.shop_states.specs.States.{ListsBelow, Settles};
 
 use std::alloc::{AllocError as NoMemory, Global};
 
@@ -38,6 +39,9 @@ pub trait Dispatching<S: Drop> {
 
     /// Says that a candidate's job and `own` are right for a word.
     ghost IsCandidate: { Self → List ℕ → Candidate → Type 0 };
+
+    /// Says that scratch room holds what bounds the child of a word by a job.
+    ghost KnowsChild: { Self → Self.Scratch → List ℕ → ℕ → Type 0 } = { λ _ _ _ _. Unit {0} };
 
     /// Makes scratch room. Fails with `NoMemory` if memory runs out.
     fn scratch(&self, alloc: Global) -> Result<Self::Scratch, NoMemory>
@@ -108,14 +112,69 @@ pub trait Dispatching<S: Drop> {
             → IsCandidate self.now w candidate
             → OnSome result (IsStateOf self.now (w ++ candidate.job ∷ []) state.new) }
         ensures slot { IsSlot self.now state.new }
-        ensures scratch { IsScratch self.now scratch.new };
+        ensures scratch { IsScratch self.now scratch.new }
+        ensures kept { (w : List ℕ) (j : ℕ) → KnowsChild self.now scratch.old w j
+            → KnowsChild self.now scratch.new w j };
 
-    /// Prepares `state`, that of a word with this bound, for dispatches of `count` candidates in copies of it: numbers
-    /// that each copy would find anew may be found beforehand. It stays the state of its word.
-    fn prepare_copies(&self, _state: &mut S, _bound: u64, _count: usize)
-        requires { IsOfSomeWord (λ w. IsStateOf self.now w _state.old) }
-        ensures { (w : List ℕ) → IsStateOf self.now w _state.old → IsStateOf self.now w _state.new }
-    {}
+    /// Bounds the children of the word of `state` by `candidates`, as `list_candidates` lists them, before any of them
+    /// is dispatched. Answers a number such that each child of a candidate with `own` or `bound`, the word's bound, no
+    /// less has the greater of these two as its bound; or `None` where this isn't worth while. `room` is used up. What
+    /// is found stays in `scratch`, for `dispatch_child_below`.
+    fn bound_children(
+        &self,
+        _scratch: &mut Self::Scratch,
+        _state: &S,
+        _room: &mut S,
+        _candidates: &[Candidate],
+        _bound: u64,
+    ) -> Option<u64>
+        requires scratch { IsScratch self.now _scratch.old }
+        requires room { IsSlot self.now _room.old }
+        requires can { HasListed (shop self.now) (λ w. IsStateOf self.now w _state.now)
+            (IsCandidate self.now) _candidates.now _bound }
+        ensures settled { IfSome result (λ top. (w : List ℕ) (limit others : ℕ)
+            → IsStateOf self.now w _state.now → _bound ≡ lb (shop self.now) w
+            → ListsBelow (shop self.now) w limit (IsCandidate self.now w)
+            (conflict (shop self.now) w) _candidates.now others
+            → Settles (shop self.now) w _bound top _candidates.now) }
+        ensures known { IfSome result (λ top. (w : List ℕ) (limit others : ℕ)
+            → IsStateOf self.now w _state.now → _bound ≡ lb (shop self.now) w
+            → ListsBelow (shop self.now) w limit (IsCandidate self.now w)
+            (conflict (shop self.now) w) _candidates.now others
+            → All (λ c. KnowsChild self.now _scratch.new w c.job) _candidates.now) }
+        ensures room { IsSlot self.now _room.new }
+        ensures scratch { IsScratch self.now _scratch.new }
+    {
+        None
+    }
+
+    /// Does what `dispatch_below` does, after `bound_children` told something of the word's children.
+    fn dispatch_child_below(
+        &self,
+        scratch: &mut Self::Scratch,
+        state: &mut S,
+        candidate: Candidate,
+        bound: u64,
+        limit: u64,
+    ) -> Option<u64>
+        requires scratch { IsScratch self.now scratch.old }
+        requires can { CanDispatch (shop self.now)
+            (λ w. IsStateOf self.now w state.old × IsCandidate self.now w candidate
+            × KnowsChild self.now scratch.old w candidate.job)
+            candidate.job bound }
+        ensures told { (w : List ℕ) → IsStateOf self.now w state.old
+            → IsCandidate self.now w candidate → bound ≡ lb (shop self.now) w
+            → TellsBoundBelow limit (lb (shop self.now) (w ++ candidate.job ∷ [])) result }
+        ensures state { (w : List ℕ) → IsStateOf self.now w state.old
+            → IsCandidate self.now w candidate
+            → OnSome result (IsStateOf self.now (w ++ candidate.job ∷ []) state.new) }
+        ensures slot { IsSlot self.now state.new }
+        ensures scratch { IsScratch self.now scratch.new }
+        ensures kept { (w : List ℕ) (j : ℕ) → KnowsChild self.now scratch.old w j
+            → KnowsChild self.now scratch.new w j }
+    {
+        self.dispatch_below(scratch, state, candidate, bound, limit)
+    }
 
     /// Law: the state of a word also has room for any other state.
     ghost state_is_slot: { (d : Self) (w : List ℕ) (s : S) → IsStateOf d w s

@@ -4,8 +4,6 @@
 mod advances;
 mod beginnings;
 mod candidate_lists;
-mod ceiling_spans;
-mod ceilings;
 mod dispatchers;
 mod dispatching;
 mod fills;
@@ -18,6 +16,7 @@ mod machine_raises;
 mod machine_sets;
 mod placing;
 mod raises;
+mod siblings;
 mod states;
 
 pub use dispatching::{Candidate, Dispatching};

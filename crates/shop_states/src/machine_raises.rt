@@ -1,18 +1,20 @@
 // The raises of heads on each machine in a dispatch, and the bound that they give.
-ghost use Rattle.std.specs.Prelude.{◌≡◌, ℕ, ◌+◌, ◌≤◌, ◌<◌, ◌^◌, IfOk, length, replicate};
+ghost use Rattle.std.specs.Prelude.{◌≡◌, ℕ, ◌+◌, ◌≤◌, ◌<◌, ◌^◌, IfOk, length, min, replicate};
 ghost use Rattle.shop_lanes.specs.Spans.{spans_between};
-ghost use Rattle.shop_states.specs.inner.Ceilings.{AreCeilings, HasTop};
+ghost use Rattle.shop_states.specs.inner.Ceilings.{AreUnder};
 ghost use Rattle.shop_states.specs.inner.HeadRaises.{nothing_raised, raise_of, raises_in};
 ghost use Rattle.shop_layout.specs.Lanes.{lanes_on, rows_of};
-ghost use Rattle.shop_states.specs.inner.MachineRaises.{AreEmpty, AreListed, AreRaisesFit};
+ghost use Rattle.shop_states.specs.inner.MachineRaises.{AreEmpty, AreListed, AreRaisesFit, CanTakeSpans};
 ghost use Rattle.shop_states.specs.inner.Raises.{HasBlocks, IsOnMachine, IsRaisable, Raises};
-ghost use Rattle.shop_states.specs.inner.Watchers.{AreKnown, Sees};
+ghost use Rattle.shop_states.specs.inner.Siblings.{BoundsRaises, CanRaiseBehind, IsLateIn};
+ghost use Rattle.shop_states.specs.inner.Siblings.{RaisesBehind};
+ghost use Rattle.shop_states.specs.inner.Watchers.{AreKnown, Sees, Watches, no_floor};
 
-use crate::ceilings::Ceilings;
 use crate::head_raises::{LaneRaise, no_raise};
-use crate::lane_bounds::take_spans;
+use crate::lane_bounds::{take_ceilings, take_spans};
 use crate::machine_sets::MachineSet;
 use crate::raises::raise;
+use crate::siblings::{Latest, raise_late};
 use shop_lanes::StateLanes;
 use shop_layout::{Grid, Routes};
 use std::alloc::{AllocError as NoMemory, Global};
@@ -100,13 +102,13 @@ impl<L: StateLanes> MachineRaises<L> {
 
     /// Answers the greatest of `least` and the spans of the machines in `raised` from their raised heads. The span from
     /// a head is the greatest end, tail included, of the machine's operations with no lesser head, served by rank from
-    /// that head on. May stop once the bound reaches `limit`. Empties the raises, and keeps up the ceilings, so that no
-    /// span exceeds that of its machine.
+    /// that head on. May stop once the bound reaches `limit`. Empties the raises. A machine whose ceiling, if it has one,
+    /// is at most one more than the bound so far is passed.
     #[inline(always)]
     pub fn take_bound(
         &mut self,
         raised: MachineSet,
-        ceilings: &mut Ceilings,
+        ceilings: &[u64],
         lanes: &L,
         grid: &Grid<L>,
         least: u64,
@@ -119,10 +121,8 @@ impl<L: StateLanes> MachineRaises<L> {
         requires tails { length grid.now.tails ≡ length grid.now.times }
         requires fits { AreRaisesFit L.GREATEST self.old grid.now
             (rows_of grid.now (L.heads lanes.now) (L.ends lanes.now)) }
-        requires top { HasTop L.GREATEST (length self.old) grid.now
-            (rows_of grid.now (L.heads lanes.now) (L.ends lanes.now)) }
-        requires ceilings { AreCeilings grid.now
-            (rows_of grid.now (L.heads lanes.now) (L.ends lanes.now)) ceilings.old }
+        requires under { AreUnder ceilings.now self.old grid.now
+            (rows_of grid.now (L.heads lanes.now) (L.ends lanes.now)) (min (least + 1) L.GREATEST) }
         ensures long { length self.new ≡ length self.old }
         ensures empty { AreEmpty self.new }
         ensures least { least ≤ result }
@@ -130,8 +130,6 @@ impl<L: StateLanes> MachineRaises<L> {
             (raise_of self.old m).to
             (lanes_on (rows_of grid.now (L.heads lanes.now) (L.ends lanes.now)) grid.now m)
             ≤ result + 1 }
-        ensures ceilings { AreCeilings grid.now
-            (rows_of grid.now (L.heads lanes.now) (L.ends lanes.now)) ceilings.new }
         ensures within { (c : ℕ) → least ≤ c → ((m above upto : ℕ) → m < length self.old
             → spans_between above upto
             (lanes_on (rows_of grid.now (L.heads lanes.now) (L.ends lanes.now)) grid.now m) ≤ c + 1)
@@ -141,5 +139,67 @@ impl<L: StateLanes> MachineRaises<L> {
         let most = (least + 1).min(L::GREATEST);
         let spans = take_spans(raises, raised, ceilings, lanes, grid, most, limit + 1);
         least.max(spans.saturating_sub(1))
+    }
+
+    /// Raises heads behind what waits at positions `from` up to `to` (excluded), as `siblings::raise_late` does. Answers
+    /// the set of machines on which heads rose.
+    #[inline(always)]
+    pub(crate) fn raise_late(
+        &mut self,
+        lanes: &mut L,
+        routes: &Routes,
+        from: usize,
+        to: usize,
+        last: usize,
+        latest: Latest,
+    ) -> MachineSet
+        requires at_rest { AreEmpty self.old }
+        requires ordered { from ≤ to }
+        requires within { to ≤ length (L.heads lanes.old) }
+        requires second { latest.second ≤ latest.end }
+        requires can { CanRaiseBehind L.GREATEST routes.now
+            (rows_of routes.now (L.heads lanes.old) (L.ends lanes.old)) (IsLateIn from to last latest.end latest.second) }
+        requires known { AreKnown routes.now.machines (length self.old) }
+        ensures raises { RaisesBehind routes.now (IsLateIn from to last latest.end latest.second)
+            (rows_of routes.now (L.heads lanes.old) (L.ends lanes.old))
+            (rows_of routes.now (L.heads lanes.new) (L.ends lanes.new)) }
+        ensures noted { Watches no_floor routes.now.machines (L.heads lanes.old) (L.heads lanes.new)
+            self.old self.new }
+        ensures listed { AreListed self.new result }
+        ensures machines { length self.new ≡ length self.old }
+    {
+        let mut raised = MachineSet::none();
+        let raises = self.raises.as_mut_slice();
+        raise_late(lanes, raises, &mut raised, routes, from, to, last, latest);
+        raised
+    }
+
+    /// Writes into `ceilings`, for each machine, one more than the greatest of `least` and its spans from the heads
+    /// within its raise, or the greatest number where that reaches `limit`. Answers one less than the greatest of these
+    /// numbers. Empties the raises.
+    #[inline(always)]
+    pub(crate) fn take_ceilings(
+        &mut self,
+        raised: MachineSet,
+        ceilings: &mut [u64],
+        lanes: &L,
+        grid: &Grid<L>,
+        least: u64,
+        limit: u64,
+    ) -> u64
+        requires least { least < 2 ^ 63 }
+        requires can { CanTakeSpans L.GREATEST self.old raised grid.now
+            (rows_of grid.now (L.heads lanes.now) (L.ends lanes.now)) (min (least + 1) L.GREATEST) }
+        requires room { length ceilings.old ≡ length self.old }
+        requires computable { L.GREATEST < 2 ^ 64 }
+        ensures bounds { (b : ℕ) → b ≡ result + 1 → BoundsRaises grid.now
+            (rows_of grid.now (L.heads lanes.now) (L.ends lanes.now))
+            self.old self.new ceilings.new (least + 1) b }
+        ensures long { length ceilings.new ≡ length ceilings.old }
+    {
+        let raises = self.raises.as_mut_slice();
+        let limit = limit.saturating_add(1);
+        let most = take_ceilings(raises, raised, ceilings, lanes, grid, least + 1, limit);
+        most - 1
     }
 }

@@ -4,7 +4,7 @@ ghost use Rattle.shop_layout.specs.Lanes.{rows_of};
 ghost use Rattle.shop_states.specs.inner.HeadRaises.{raises_in};
 ghost use Rattle.shop_states.specs.inner.Raises.{HasBlocks, IsInBlocks, IsPosition, IsRaisable};
 ghost use Rattle.shop_states.specs.inner.Raises.{IsOnMachine, Raises, SetsEndAt};
-ghost use Rattle.shop_states.specs.inner.Watchers.{AreKnown, Sees};
+ghost use Rattle.shop_states.specs.inner.Watchers.{AreKnown, Notes, Sees, Watches, no_floor};
 ghost use Rattle.shop_states.specs.inner.MachineRaises.{AreListed};
 
 use crate::head_raises::{LaneRaise, see};
@@ -17,7 +17,7 @@ use shop_layout::{Grid, Routes};
 /// a route lie side by side, so that no step waits until the one before it has read where the next operation stands. At
 /// the end of a route the head is the greatest number, and the raise stops.
 #[inline(always)]
-fn raise_route<L: StateLanes>(
+pub(crate) fn raise_route<L: StateLanes>(
     lanes: &mut L,
     raises: &mut [LaneRaise<L::Number>],
     raised: &mut MachineSet,
@@ -35,6 +35,9 @@ fn raise_route<L: StateLanes>(
         (rows_of routes.now (L.heads lanes.old) (L.ends lanes.old))
         (rows_of routes.now (L.heads lanes.new) (L.ends lanes.new)) }
     ensures seen { Sees routes.now.machines (IsPosition position) end
+        (L.heads lanes.old) (L.heads lanes.new) (raises_in L.value raises.old)
+        (raises_in L.value raises.new) }
+    ensures noted { Notes routes.now.machines position end
         (L.heads lanes.old) (L.heads lanes.new) (raises_in L.value raises.old)
         (raises_in L.value raises.new) }
     ensures listed { AreListed (raises_in L.value raises.new) raised.new }

@@ -1,18 +1,14 @@
 // The state of a word, and the scratch room of fills and dispatches.
 use crate::beginnings::Beginning;
-use crate::ceilings::Ceilings;
 use crate::machine_raises::MachineRaises;
 use shop_lanes::StateLanes;
 
-/// The state of a word: the head of each waiting operation, by position, each job's next operation with its end, and
-/// the ceilings of long machines.
+/// The state of a word: the head of each waiting operation, by position, and each job's next operation with its end.
 #[derive(Drop)]
 pub struct State<L: StateLanes> {
     pub(crate) lanes: L,
     /// next[job]: the position of the job's next operation, or the number of positions if none is left
     pub(crate) next: Vec<u32>,
-    /// what no span of a machine exceeds, where machines are long and it is known
-    pub(crate) ceilings: Ceilings,
 }
 
 /// Room that is used again and again to fill states, list candidates and dispatch operations.
@@ -28,4 +24,6 @@ pub struct Scratch<L: StateLanes> {
     pub(crate) raises: MachineRaises<L>,
     /// owns[i]: how late a machine's operations end, tails included, if the one at its place `i` goes first
     pub(crate) owns: Vec<L::Number>,
+    /// ceilings[machine]: one more than a bound that no child of the word looked at last exceeds on that machine
+    pub(crate) ceilings: Vec<u64>,
 }

@@ -1,7 +1,8 @@
 -- A state goes on by one operation.
 --     IsAdvancing greatest shop w ..   the word w can go on with the job, and `least` lies between
 --                                      what is foreseen of the longer word's bound and that bound
---     CanAdvance greatest l rows ..    some word is kept in lanes that can go on so
+--     CanAdvance greatest l rows ..    some word is kept in lanes that can go on so, to a word whose
+--                                      spans are no more than these ceilings
 --     CanStrike greatest l rows ..     some word is kept in lanes whose conflict set is one job
 --     foreseen l heads ends q least    the end of that operation and what else waits there from it on
 --     HasSameRoom old new ..           as many heads, ends and next operations as before
@@ -11,6 +12,7 @@ use Rattle.shop_lanes.specs.Spans.{span}
 use Rattle.shop_model.specs.Shop.{Shop}
 use Rattle.shop_model.specs.Word.{IsWord}
 use Rattle.shop_bound.specs.Conflicts.{conflict}
+use Rattle.shop_states.specs.inner.Ceilings.{AreChildCeilings}
 use Rattle.shop_states.specs.inner.ChildBounds.{IsLeastAfter}
 use Rattle.shop_layout.specs.Lanes.{lanes_on, rows_of}
 use Rattle.shop_states.specs.inner.LaneStates.{IsKeptInLanes}
@@ -29,11 +31,12 @@ pub record IsAdvancing (greatest : ℕ) (shop : Shop) (w : List ℕ) (l : Layout
   pub foreseen : IsLeastAt shop w l rows job (slice_index nexts job) least
 
 pub record CanAdvance (greatest : ℕ) (l : LayoutState) (rows : Rows) (nexts : List ℕ)
-    (job least machines : ℕ) : Type 0 where
+    (job least machines : ℕ) (ceilings : List ℕ) : Type 0 where
   pub shop : Shop
   pub word : List ℕ
   pub is : IsAdvancing greatest shop word l rows nexts job least
   pub machines_are : machines ≡ shop.machines
+  pub ceilings_are : AreChildCeilings shop word l job ceilings
 
 pub record HasSameRoom (old new : Rows) (before after : List ℕ) : Type 0 where
   pub positions : length new.heads ≡ length old.heads

@@ -1,6 +1,7 @@
 -- What a dispatch needs beside a state.
 --     IsScratchOf shop l ready ..    room for the times of jobs and machines, a beginning of a word,
---                                    raises at rest, an own span for each position
+--                                    raises at rest, an own span for each position, a ceiling for
+--                                    each machine
 use Rattle.std.specs.Prelude.{◌≡◌, ℕ, List, length}
 use Rattle.shop_model.specs.Shop.{Shop}
 use Rattle.shop_layout.specs.Positions.{LayoutState}
@@ -10,10 +11,11 @@ use Rattle.shop_states.specs.declared.beginnings.Beginning.{Beginning}
 use Rattle.shop_states.specs.inner.Beginnings.{IsBeginningOf}
 
 pub record IsScratchOf (shop : Shop) (l : LayoutState) (ready free : ℕ) (beginning : Beginning)
-    (raises : List Raise) (owns : ℕ) : Type 0 where
+    (raises : List Raise) (owns numbers : ℕ) : Type 0 where
   pub jobs_ready : ready ≡ length shop.jobs
   pub machines_free : free ≡ shop.machines
   pub begun : IsBeginningOf shop l beginning
   pub machines : length raises ≡ shop.machines
   pub at_rest : AreEmpty raises
   pub positions : owns ≡ length l.following
+  pub ceilings : numbers ≡ shop.machines

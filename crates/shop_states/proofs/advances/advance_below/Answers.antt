@@ -1,8 +1,5 @@
 use Rattle.std.proofs.Common.{◌∙◌, refl, arith}
-use Rattle.shop_layout.specs.Lanes.{rows_of}
-use Rattle.shop_states.proofs.CeilingLemmas.{ceilings_beside}
-use Rattle.shop_states.proofs.Trials.{its_end, its_job, trial_blocks, trial_bound, trial_ceilings, trial_keep}
-use Rattle.shop_states.proofs.Trials.{trial_top}
+use Rattle.shop_states.proofs.Trials.{its_end, its_job, now_heads, trial_blocks, trial_bound, trial_keep, trial_under}
 use Rattle.shop_states.proofs.Trials.{trial_kept, trial_raisable, same_machines, trial_raises_fit}
 use Rattle.shop_states.proofs.advances.advance_below.Goals as goal
 
@@ -78,24 +75,14 @@ returns-clause-state g c = λ shop w kept fits. trial_kept kept c.args.job fits 
     c.raise-raised.ensures.raises c.go_on.ensures.are_next
     c.go_on.ensures.ends
 
-pub rise_for-requires-clause-machine : goal.rise_for-requires-clause-machine
-rise_for-requires-clause-machine g c = trial_blocks c.requires.can.is.kept c.args.job c.requires.can.is.fits
+pub take_bound-bound-requires-clause-under : goal.take_bound-bound-requires-clause-under
+take_bound-bound-requires-clause-under g c =
+    let now = now_heads c.requires.can.is.kept c.args.job c.requires.can.is.fits c.routes-routes.ensures
+    c.machine-machine.ensures c.head.ensures c.time.ensures c.set_head.ensures.heads c.set_head.ensures.ends
+    c.raise-raised.ensures.raises
+    in trial_under c.requires.can.is c.args.ceilings.now c.requires.can.ceilings_are now c.raise-raised.new.self
+    (trial_raises_fit c.requires.can.is.kept c.args.job c.requires.can.is.fits
     c.routes-routes.ensures c.machine-machine.ensures c.head.ensures c.time.ensures
-    c.set_head.ensures.heads c.set_head.ensures.ends
-
-pub take_bound-bound-requires-clause-top : goal.take_bound-bound-requires-clause-top
-take_bound-bound-requires-clause-top g c = trial_top c.requires.can.is.kept c.args.job c.requires.can.is.fits
-    c.routes-routes.ensures c.machine-machine.ensures c.head.ensures c.time.ensures
-    c.set_head.ensures.heads c.set_head.ensures.ends
-    c.raise-raised.ensures.raises (c.raise-raised.ensures.machines ∙ c.requires.can.machines_are)
-
-pub take_bound-bound-requires-clause-ceilings : goal.take_bound-bound-requires-clause-ceilings
-take_bound-bound-requires-clause-ceilings g c = trial_ceilings c.requires.can.is.kept c.args.job c.requires.can.is.fits
-    c.routes-routes.ensures c.machine-machine.ensures c.head.ensures c.time.ensures
-    c.set_head.ensures.heads c.set_head.ensures.ends
-    c.raise-raised.ensures.raises c.rise_for.ensures c.requires.ceilings
-
-pub returns-clause-ceilings : goal.returns-clause-ceilings
-returns-clause-ceilings g c = ceilings_beside c.args.grid.now (rows_of c.args.grid.now
-    (g.L.StateLanes.heads c.raise-raised.new.lanes) (g.L.StateLanes.ends c.raise-raised.new.lanes))
-    c.take_bound-bound.new.ceilings _ _ c.go_on.ensures.ends c.take_bound-bound.ensures.ceilings
+    c.set_head.ensures.heads c.set_head.ensures.ends c.raise-raised.ensures.raises c.requires.at_rest
+    c.requires.can.machines_are c.raise-raised.ensures.seen)
+    (c.raise-raised.ensures.machines ∙ c.requires.can.machines_are)

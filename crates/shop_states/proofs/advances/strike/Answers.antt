@@ -26,7 +26,7 @@ go_on-requires g c =
       keep = struck_keep c.requires.kept c.requires.sole wrote refl;
     }
 
-pub returns-clause-state : goal.returns-clause-state
-returns-clause-state g c = λ shop w kept alone. struck_kept kept alone (put_is c.args.grid.now (g.L.StateLanes.heads
+pub returns : goal.returns
+returns g c = λ shop w kept alone. struck_kept kept alone (put_is c.args.grid.now (g.L.StateLanes.heads
     c.args.lanes.now) (get_or c.args.next.now c.args.job 0) 0 c.set_head.ensures.heads c.set_head.ensures.ends)
     c.go_on.ensures.are_next c.go_on.ensures.ends

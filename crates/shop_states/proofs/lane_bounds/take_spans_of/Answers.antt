@@ -3,7 +3,7 @@ use Rattle.std.proofs.lemmas.List.{length-map}
 use Rattle.shop_layout.specs.Lanes.{rows_of, lanes_on}
 use Rattle.shop_states.specs.inner.HeadRaises.{Raise, nothing_raised, raise_in, raises_in}
 use Rattle.shop_states.specs.inner.MachineRaises.{IsSpanByRaise}
-use Rattle.shop_states.proofs.RaisedMachines.{IsTakenSo, first_known, taken_all, taken_more}
+use Rattle.shop_states.proofs.RaisedMachines.{IsTakenSo, first_known, taken_all, taken_more, taken_passed}
 use Rattle.shop_states.proofs.lane_bounds.take_spans_of.Goals as goal
 
 pub take_raise-raise-requires : goal.take_raise-raise-requires
@@ -34,8 +34,8 @@ span_by_raise-most-requires g c =
       fits = omega arith;
     }
 
-pub loop-machine-preserved : goal.loop-machine-preserved
-loop-machine-preserved g c =
+pub loop-machine-preserved-then-not-is_under : goal.loop-machine-preserved-then-not-is_under
+loop-machine-preserved-then-not-is_under g c =
     let on = lanes_on (rows_of c.args.grid.now (g.L.StateLanes.heads c.args.lanes.now)
     (g.L.StateLanes.ends c.args.lanes.now)) c.args.grid.now
     in let old = raises_in g.L.StateLanes.value c.args.raises.now
@@ -46,6 +46,23 @@ loop-machine-preserved g c =
           (subst (λ (r : Raise). IsSpanByRaise r (on c.in-Some.machine) c.args.limit c.loop-machine.most
           c.span_by_raise-most.result) c.take_raise-raise.ensures.raise c.span_by_raise-most.ensures.spans));
       fits = c.span_by_raise-most.ensures.fits;
+    }
+
+pub loop-machine-preserved : goal.loop-machine-preserved
+loop-machine-preserved g c =
+    let on = lanes_on (rows_of c.args.grid.now (g.L.StateLanes.heads c.args.lanes.now)
+    (g.L.StateLanes.ends c.args.lanes.now)) c.args.grid.now
+    in let old = raises_in g.L.StateLanes.value c.args.raises.now
+    in let so = c.loop-machine.invariant.taken
+    in let few = c.is_under.ensures c.if-not-is_under.false
+    in let here = few.0 in let most = few.1 in let low = so.low in let long = so.long
+    in let known = first_known so.are_listed c.in-Some.ensures
+    in let spans = c.requires.under c.in-Some.machine here (omega arith)
+    in record {
+      taken = subst (λ (rs : List Raise). IsTakenSo c.args.least c.args.limit old on rs c.pop_first.new.self
+          c.loop-machine.most) (sym c.take_raise-raise.ensures.empty)
+          (taken_passed so c.in-Some.ensures (nothing_raised g.L.StateLanes.GREATEST) refl (omega arith));
+      fits = c.loop-machine.invariant.fits;
     }
 
 pub returns : goal.returns

@@ -5,7 +5,7 @@ use Rattle.shop_states.proofs.RaisedMachines.{lengths_in}
 use Rattle.shop_states.proofs.RaiseSteps.{begun_following, ended_at, followed, is_there, leg_fits, leg_known, leg_machine}
 use Rattle.shop_states.proofs.RaiseSteps.{position_up_to, put_is, read_there}
 use Rattle.shop_states.proofs.RaisedEnds.{raised_within}
-use Rattle.shop_states.proofs.Watching.{sees_first, sees_long, sees_next}
+use Rattle.shop_states.proofs.Watching.{notes_first, notes_next, sees_first, sees_long, sees_next}
 use Rattle.shop_states.proofs.raises.raise_route.Goals as goal
 
 pub loop-ready-init : goal.loop-ready-init
@@ -14,6 +14,7 @@ loop-ready-init g c = record {
       (g.L.StateLanes.heads c.args.lanes.now) c.args.position c.args.end c.set_head.ensures.heads
       c.set_head.ensures.ends) c.behind-index.ensures.index c.time.ensures refl;
   seen = sees_first c.set_head.ensures.heads (raised_within c.requires.raisable c.requires.waits);
+  noted = notes_first c.set_head.ensures.heads (raised_within c.requires.raisable c.requires.waits);
   listed = c.requires.listed;
 }
 
@@ -88,5 +89,9 @@ loop-ready-preserved g c =
           c.requires.raisable c.requires.waits c.loop-ready.invariant.following c.leg-leg.ensures
           c.head_or_greatest-head.ensures c.if-ready-head.false) c.if-ready-head.false machine (omega arith)
           c.see.ensures.raises;
+      noted = notes_next c.loop-ready.ready c.loop-ready.invariant.noted (sees_long c.loop-ready.invariant.seen)
+          c.set_head-in-loop-ready.ensures.heads (omega arith) (read_there
+          c.requires.raisable c.requires.waits c.loop-ready.invariant.following c.leg-leg.ensures
+          c.head_or_greatest-head.ensures c.if-ready-head.false) machine (omega arith) c.see.ensures.raises;
       listed = c.see.ensures.listed;
     }

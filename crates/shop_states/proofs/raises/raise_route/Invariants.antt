@@ -4,7 +4,7 @@ use Rattle.shop_layout.specs.Legs.{all_legs}
 use Rattle.shop_states.specs.inner.HeadRaises.{raises_in}
 use Rattle.shop_states.specs.inner.Raises.{IsPosition}
 use Rattle.shop_states.specs.inner.MachineRaises.{AreListed}
-use Rattle.shop_states.specs.inner.Watchers.{Sees}
+use Rattle.shop_states.specs.inner.Watchers.{Notes, Sees}
 use Rattle.shop_states.proofs.RaiseSteps.{IsFollowing}
 use Rattle.shop_states.proofs.raises.raise_route.Given as goal
 
@@ -14,6 +14,9 @@ invariant-loop-ready g l = record {
       (rows_of l.routes (g.L.StateLanes.heads l.fn.lanes) (g.L.StateLanes.ends l.fn.lanes))
       (rows_of l.routes (g.L.StateLanes.heads l.lanes) (g.L.StateLanes.ends l.lanes));
   seen : Sees l.routes.machines (IsPosition l.position) l.end
+      (g.L.StateLanes.heads l.fn.lanes) (g.L.StateLanes.heads l.lanes) (raises_in g.L.StateLanes.value l.fn.raises)
+      (raises_in g.L.StateLanes.value l.raises);
+  noted : Notes l.routes.machines l.position l.end
       (g.L.StateLanes.heads l.fn.lanes) (g.L.StateLanes.heads l.lanes) (raises_in g.L.StateLanes.value l.fn.raises)
       (raises_in g.L.StateLanes.value l.raises);
   listed : AreListed (raises_in g.L.StateLanes.value l.raises) l.raised;

@@ -1,7 +1,5 @@
 use Rattle.std.proofs.Common.{◌∙◌, ap, length, refl, sym}
 use Rattle.shop_layout.proofs.Written.{written_vec}
-use Rattle.shop_layout.specs.Lanes.{rows_of}
-use Rattle.shop_states.proofs.CeilingLemmas.{no_ceilings}
 use Rattle.shop_states.proofs.ReadStates.{kept_read}
 use Rattle.shop_states.proofs.dispatchers.LaidOutDispatchingState.fill.Goals as goal
 
@@ -10,8 +8,4 @@ returns-clause-state g c =
     let nexts = written_vec c.args.state.now.next c.as_mut_slice-next.result.now c.place_word.new.next
     c.as_mut_slice-next.ensures.value (c.place_word.ensures.placed.are_next.jobs
     ∙ (sym c.requires.slot.jobs_with_nexts ∙ sym (ap length c.as_mut_slice-next.ensures.value)))
-    in (
-      kept_read refl nexts (c.fill_state.ensures c.args.path.now c.requires.word c.place_word.ensures.placed),
-      no_ceilings c.args.self.now.layout (rows_of c.args.self.now.layout (g.L.StateLanes.heads c.fill_state.new.lanes)
-          (g.L.StateLanes.ends c.fill_state.new.lanes)) c.forget.ensures,
-    )
+    in kept_read refl nexts (c.fill_state.ensures c.args.path.now c.requires.word c.place_word.ensures.placed)

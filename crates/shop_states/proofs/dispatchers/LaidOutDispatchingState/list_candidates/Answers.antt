@@ -22,4 +22,4 @@ pub returns-clause-listed : goal.returns-clause-listed
 returns-clause-listed g c = λ w kept. gathered g.L.StateLanes.GREATEST c.args.self.now.shop c.args.self.now.layout
     c.grid.result.now c.grid.ensures.grid (g.L.StateLanes.heads c.args.state.now.lanes)
     (g.L.StateLanes.ends c.args.state.now.lanes) c.args.state.now.next.items c.as_slice.result.now
-    c.as_slice.ensures.value c.args.limit c.list_candidates.new.candidates.items c.list_candidates.result c.list_candidates.ensures.are w kept.0
+    c.as_slice.ensures.value c.args.limit c.list_candidates.new.candidates.items c.list_candidates.result c.list_candidates.ensures.are w kept

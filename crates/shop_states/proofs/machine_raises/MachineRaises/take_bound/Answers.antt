@@ -12,7 +12,7 @@ returns-clause-covers g c = λ under m.
     in let covers = subst (λ (rs : List Raise). spans_between (raise_of rs m).from (raise_of rs m).to
     (lanes_on (rows_of c.args.grid.now (g.L.StateLanes.heads c.args.lanes.now)
     (g.L.StateLanes.ends c.args.lanes.now)) c.args.grid.now m) ≤ c.take_spans-spans.result) read
-    (c.take_spans-spans.ensures.spans.covers (omega arith) m)
+    (c.take_spans-spans.ensures.covers (omega arith) m)
     in omega arith
 
 pub returns-clause-within : goal.returns-clause-within
@@ -21,6 +21,6 @@ returns-clause-within g c = λ b above each.
     ap (raises_in g.L.StateLanes.value) c.as_mut_slice-raises.ensures.value ∙ c.self.view_is
     in let long = ap length read
     in let less = c.saturating_sub.ensures in let most = c.max.ensures in let first = c.min-most.ensures
-    in let within = c.take_spans-spans.ensures.spans.within (b + 1) (omega arith)
+    in let within = c.take_spans-spans.ensures.within (b + 1) (omega arith)
     (λ m x y known. each m x y (omega arith))
     in omega arith

@@ -1,0 +1,357 @@
+-- Heads behind operations of a machine are raised, one operation after the other.
+use Rattle.std.proofs.Common.{◌≡◌, ℕ, ◌+◌, ◌≤◌, ◌<◌, ◌⊎◌, inl, inr, List, [], length, get_or, refl, sym, ◌∙◌, ap, subst}
+use Rattle.std.proofs.Common.{arith}
+use Rattle.std.proofs.lemmas.Bool.{cases_eq, cases_lt}
+use Rattle.std.proofs.lemmas.List.{get_or_default, get_or_past}
+use Rattle.shop_lanes.specs.Rows.{Rows}
+use Rattle.shop_layout.specs.declared.legs.Leg.{Leg}
+use Rattle.shop_layout.specs.Legs.{all_legs, end_of, leg_index, leg_of}
+use Rattle.shop_layout.specs.Positions.{LayoutState, place, place_or}
+use Rattle.shop_layout.proofs.RouteLegs.{index_known, leg_behind, leg_here}
+use Rattle.shop_states.specs.inner.Raises.{AreInRouteOrder, IsFollowed, IsIndexed, IsPlace, IsPosition, IsRaisable}
+use Rattle.shop_states.specs.inner.Raises.{IsRaised, Raises, at_in, steps_of}
+use Rattle.shop_states.specs.inner.Siblings.{CanRaiseBehind, IsEndAt, IsLateIn, IsRaisedBehind, RaisesBehind}
+use Rattle.shop_states.proofs.Followed.{place_past, place_there}
+use Rattle.shop_states.proofs.RaiseWalks.{apart}
+
+-- nothing more is raised
+pub behind_same : {l : LayoutState} {at : ℕ → ℕ → Type 0} (rows : Rows) → AreInRouteOrder l (at_in rows.heads)
+    → ((j k e : ℕ) → k + 1 < steps_of l j → at (place l j k) e → 0 < get_or rows.heads (place l j k) 0
+    → e + get_or l.times (place l j k) 0 ≤ get_or rows.heads (place l j (k + 1)) 0)
+    → RaisesBehind l at rows rows
+behind_same rows order enough = record {
+  positions = refl;
+  raised = record { rises = λ q. omega arith; rests = λ q none. none; order = order; behind = enough };
+  least = λ other raised q. raised.rises q;
+  times = refl;
+  tails = refl;
+  ends = refl;
+}
+
+-- one after the other
+module _ {l : LayoutState} {A B C : ℕ → ℕ → Type 0} {a b : Rows} (x : RaisesBehind l A a b)
+    (in_a : (q e : ℕ) → A q e → C q e) (in_b : (q e : ℕ) → B q e → C q e) where
+  waited : (q : ℕ) → 0 < get_or b.heads q 0 → 0 < get_or a.heads q 0
+  waited q some = elim (cases_eq (get_or a.heads q 0) 0) [
+    | inl none ↦ (let z = x.raised.rests q none in absurd (omega arith))
+    | inr yes' ↦ omega arith
+  ]
+
+  -- what is raised in the end is raised still, and no less
+  still_raised : (other : ℕ → ℕ) → IsRaisedBehind l C (at_in a.heads) other → IsRaisedBehind l B (at_in b.heads) other
+  still_raised other raised = record {
+    rises = x.least other (record {
+      rises = raised.rises;
+      rests = raised.rests;
+      order = raised.order;
+      behind = λ j k e two at waits. raised.behind j k e two (in_a (place l j k) e at) waits;
+    });
+    rests = λ q none. raised.rests q (let y = x.raised.rises q in omega arith);
+    order = raised.order;
+    behind = λ j k e two at waits. raised.behind j k e two (in_b (place l j k) e at) (waited (place l j k) waits);
+  }
+
+  pub still_can : {greatest : ℕ} → CanRaiseBehind greatest l a C → CanRaiseBehind greatest l b B
+  still_can can = record {
+    indexed = subst (λ (n : ℕ). IsIndexed l n) (sym x.positions) can.indexed;
+    followed = subst (λ (n : ℕ). IsFollowed l n) (sym x.positions) can.followed;
+    machines = can.machines ∙ sym x.positions;
+    times = x.times ∙ can.times;
+    timed = can.timed ∙ sym x.positions;
+    places = λ q waits. can.places q (waited q waits);
+    order = x.raised.order;
+    other = can.other;
+    raised = still_raised can.other can.raised;
+    fits = can.fits;
+    ends = λ q e at waits. can.ends q e (in_b q e at) (waited q waits);
+    computable = can.computable;
+  }
+
+  pub then_behind : {c : Rows} → RaisesBehind l B b c → ((q e : ℕ) → C q e → A q e ⊎ B q e) → RaisesBehind l C a c
+  then_behind {c} y split = record {
+    positions = y.positions ∙ x.positions;
+    raised = record {
+      rises = λ q. let u = x.raised.rises q in let v = y.raised.rises q in omega arith;
+      rests = λ q none. y.raised.rests q (x.raised.rests q none);
+      order = y.raised.order;
+      behind = λ j k e two at waits. elim (split (place l j k) e at) [
+        | inl before ↦ (let u = x.raised.behind j k e two before waits in let v = y.raised.rises (place l j (k + 1))
+            in omega arith)
+        | inr now ↦ y.raised.behind j k e two now (let u = x.raised.rises (place l j k) in omega arith)
+      ];
+    };
+    least = λ other raised. y.least other (still_raised other raised);
+    times = y.times ∙ x.times;
+    tails = y.tails ∙ x.tails;
+    ends = y.ends ∙ x.ends;
+  }
+
+-- behind one operation
+module _ {greatest : ℕ} {l : LayoutState} {rows : Rows} {p free : ℕ}
+    (can : CanRaiseBehind greatest l rows (IsEndAt p free)) (some : 0 < get_or rows.heads p 0) where
+  abbrev job : ℕ
+  job = get_or l.jobs p 0
+
+  abbrev step : ℕ
+  step = get_or l.steps p 0
+
+  pub its_place : IsPlace l p
+  its_place = can.places p some
+
+  pub its_within : p < length rows.heads
+  its_within = elim (cases_lt p (length rows.heads)) [
+    | inl there ↦ there
+    | inr past ↦ absurd (let a = get_or_past rows.heads p 0 past in omega arith)
+  ]
+
+  pub its_end : free + get_or l.times p 0 ≤ greatest
+  its_end = can.ends p free (refl, refl) some
+
+  module _ {index : ℕ} (index_is : index ≡ leg_index l job (step + 1)) where
+    pub its_leg : index < length (all_legs l)
+    its_leg = let a = index_known l job its_place.job (step + 1) (let b = its_place.step in omega arith) in omega arith
+
+    module _ {leg : Leg} (is : leg ≡ get_or (all_legs l) index (end_of 0)) where
+      read : leg ≡ get_or (all_legs l) (leg_index l job (step + 1)) (end_of 0)
+      read = is ∙ ap (λ (i : ℕ). get_or (all_legs l) i (end_of 0)) index_is
+
+      stands : leg.position ≡ place_or (length rows.heads) l.places job (step + 1)
+      stands = elim (cases_lt (step + 1) (steps_of l job)) [
+        | inl here ↦ ap (λ (x : Leg). x.position)
+            (read ∙ leg_here l job its_place.job (step + 1) (end_of 0) here)
+            ∙ sym (place_there l (length rows.heads) job (step + 1) here)
+        | inr past ↦ ap (λ (x : Leg). x.position)
+            (read ∙ leg_behind l job its_place.job (step + 1) (end_of 0)
+            (let known = its_place.step in omega arith))
+            ∙ (can.followed.following ∙ sym (place_past l (length rows.heads) job (step + 1) past))
+      ]
+
+      pub leg_up_to : leg.position ≤ length rows.heads
+      leg_up_to =
+          let at = stands
+          in elim (cases_lt (step + 1) (steps_of l job)) [
+            | inl here ↦ (let a = place_there l (length rows.heads) job (step + 1) here
+                in let b = (can.indexed.step job (step + 1) here).within in let c = can.indexed.jobs in omega arith)
+            | inr past ↦ (let a = place_past l (length rows.heads) job (step + 1) past in omega arith)
+          ]
+
+      -- where the next operation on the route stands, if there is one
+      next_at : step + 1 < steps_of l job → leg.position ≡ place l job (step + 1)
+      next_at more = stands ∙ place_there l (length rows.heads) job (step + 1) more
+
+      next_within : step + 1 < steps_of l job → leg.position < length rows.heads
+      next_within more = let a = next_at more in let b = (can.indexed.step job (step + 1) more).within
+          in let c = can.indexed.jobs in omega arith
+
+      -- what follows position p is what follows this job and step
+      followed_here : (j k : ℕ) → k + 1 < steps_of l j → place l j k ≡ p
+          → (step + 1 < steps_of l job) × (place l j (k + 1) ≡ leg.position)
+      followed_here j k two at =
+          let z = apart can.indexed j k job step (omega arith) its_place.step (at ∙ sym its_place.is)
+          in let same : steps_of l j ≡ steps_of l job = ap (steps_of l) z.0
+          in let k_is = z.1
+          in let more : step + 1 < steps_of l job = omega arith
+          in (
+            more,
+            ap (λ (x : ℕ). place l x (k + 1)) z.0
+                ∙ (ap (λ (x : ℕ). place l job (x + 1)) k_is ∙ sym (next_at more)),
+          )
+
+      module _ {head ready : ℕ} (looked : head ≡ get_or rows.heads leg.position greatest)
+          (sum : ready ≡ free + get_or l.times p 0) where
+        -- the next operation is late enough, or there is none
+        pub late_enough : ready ≤ head → RaisesBehind l (IsEndAt p free) rows rows
+        late_enough enough = behind_same rows can.order (λ j k e two at waits.
+            let next = followed_here j k two at.0
+            in let there = next_within next.0
+            in let one = get_or_default rows.heads leg.position greatest 0 there
+            in let now : get_or rows.heads (place l j (k + 1)) 0 ≡ get_or rows.heads leg.position 0 =
+            ap (λ (x : ℕ). get_or rows.heads x 0) next.1
+            in let time : get_or l.times (place l j k) 0 ≡ get_or l.times p 0 =
+            ap (λ (x : ℕ). get_or l.times x 0) at.0
+            in let e_is = at.1 in omega arith)
+
+        module _ (below : head < ready) where
+          pub next_there : leg.position < length rows.heads
+          next_there = elim (cases_lt leg.position (length rows.heads)) [
+            | inl there ↦ there
+            | inr past ↦ absurd (let a = get_or_past rows.heads leg.position greatest past in let b = its_end
+                in omega arith)
+          ]
+
+          pub next_read : head ≡ get_or rows.heads leg.position 0
+          next_read = looked ∙ get_or_default rows.heads leg.position greatest 0 next_there
+
+          more : step + 1 < steps_of l job
+          more = elim (cases_lt (step + 1) (steps_of l job)) [
+            | inl here ↦ here
+            | inr past ↦ absurd (let a = next_there in let b = stands
+                in let c = place_past l (length rows.heads) job (step + 1) past in omega arith)
+          ]
+
+          pub next_machine : leg.machine ≡ get_or l.machines leg.position 0
+          next_machine = ap (λ (x : Leg). x.machine)
+              (read ∙ leg_here l job its_place.job (step + 1) (end_of 0) more)
+              ∙ ap (λ (q : ℕ). get_or l.machines q 0) (sym (next_at more))
+
+          pub next_waits : 0 < get_or rows.heads leg.position 0
+          next_waits =
+              let at : get_or rows.heads (place l job step) 0 ≡ get_or rows.heads p 0 =
+              ap (λ (x : ℕ). get_or rows.heads x 0) its_place.is
+              in let o = can.order job step more (omega arith)
+              in let next : get_or rows.heads leg.position 0 ≡ get_or rows.heads (place l job (step + 1)) 0 =
+              ap (λ (x : ℕ). get_or rows.heads x 0) (next_at more)
+              in omega arith
+
+          -- any heads that are raised behind the operation are so at the next one
+          raised_there : (other : ℕ → ℕ) → IsRaisedBehind l (IsEndAt p free) (at_in rows.heads) other
+              → IsRaised l (IsPosition leg.position) ready (at_in rows.heads) other
+          raised_there other raised = record {
+            rises = raised.rises;
+            rests = raised.rests;
+            order = raised.order;
+            reach = λ q is waits.
+                let at : get_or rows.heads (place l job step) 0 ≡ get_or rows.heads p 0 =
+                ap (λ (x : ℕ). get_or rows.heads x 0) its_place.is
+                in let b = raised.behind job step free more (its_place.is, refl) (omega arith)
+                in let time : get_or l.times (place l job step) 0 ≡ get_or l.times p 0 =
+                ap (λ (x : ℕ). get_or l.times x 0) its_place.is
+                in let there : other q ≡ other (place l job (step + 1)) = ap other (is ∙ next_at more)
+                in omega arith;
+          }
+
+          pub next_raisable : IsRaisable greatest l [] rows (IsPosition leg.position) ready
+          next_raisable = record {
+            firsts = record {
+              own = λ j known here. absurd (omega arith);
+              first = λ j i k known more at. absurd (omega arith);
+            };
+            ends = omega arith;
+            indexed = can.indexed;
+            followed = can.followed;
+            machines = can.machines;
+            times = can.times;
+            timed = can.timed;
+            places = can.places;
+            order = can.order;
+            other = can.other;
+            raised = raised_there can.other can.raised;
+            fits = can.fits;
+            computable = can.computable;
+          }
+
+          pub raised_behind : {new : Rows} → Raises greatest l [] (IsPosition leg.position) ready rows new
+              → RaisesBehind l (IsEndAt p free) rows new
+          raised_behind {new} raises = record {
+            positions = raises.raised.positions;
+            raised = record {
+              rises = raises.raised.raised.rises;
+              rests = raises.raised.raised.rests;
+              order = raises.raised.raised.order;
+              behind = λ j k e two at waits.
+                  let next = followed_here j k two at.0
+                  in let reach = raises.raised.raised.reach leg.position refl next_waits
+                  in let now : get_or new.heads (place l j (k + 1)) 0 ≡ get_or new.heads leg.position 0 =
+                  ap (λ (x : ℕ). get_or new.heads x 0) next.1
+                  in let time : get_or l.times (place l j k) 0 ≡ get_or l.times p 0 =
+                  ap (λ (x : ℕ). get_or l.times x 0) at.0
+                  in let e_is = at.1 in omega arith;
+            };
+            least = λ other raised. raises.raised.least other (raised_there other raised);
+            times = raises.times;
+            tails = raises.tails;
+            ends = raises.ends.none refl;
+          }
+
+-- behind all positions of a machine, one after the other
+module _ {l : LayoutState} {from last end second : ℕ} where
+  pub late_begins : {greatest to : ℕ} (rows : Rows) → CanRaiseBehind greatest l rows (IsLateIn from to last end second)
+      → RaisesBehind l (IsLateIn from from last end second) rows rows
+  late_begins rows can = behind_same rows can.order (λ j k e two at waits. let a = at.0 in let b = at.1
+      in absurd (omega arith))
+
+  module _ {old now : Rows} {p : ℕ} (so_far : RaisesBehind l (IsLateIn from p last end second) old now) (low : from ≤ p)
+    where
+      earlier : (q e : ℕ) → IsLateIn from p last end second q e → IsLateIn from (p + 1) last end second q e
+      earlier q e at = (at.0, let b = at.1 in omega arith, at.2)
+
+      module _ {free : ℕ} (free_is : ((p ≡ last) × (free ≡ second)) ⊎ ((p ≡ last → ⊥) × (free ≡ end)))
+        where
+          here : (q e : ℕ) → IsEndAt p free q e → IsLateIn from (p + 1) last end second q e
+          here q e at = (
+            let a = at.0 in omega arith,
+            let a = at.0 in omega arith,
+            elim free_is [
+              | inl it ↦ inl (at.0 ∙ it.0, at.1 ∙ it.1)
+              | inr other ↦ inr (λ is. other.0 (sym at.0 ∙ is), at.1 ∙ other.1)
+            ],
+          )
+
+          split : (q e : ℕ) → IsLateIn from (p + 1) last end second q e
+              → IsLateIn from p last end second q e ⊎ IsEndAt p free q e
+          split q e at = elim (cases_eq q p) [
+            | inr ne ↦ inl (at.0, let b = at.1 in omega arith, at.2)
+            | inl is ↦ inr (
+              is,
+              elim at.2 [
+                | inl it ↦ elim free_is [
+                  | inl own ↦ it.1 ∙ sym own.1
+                  | inr other ↦ absurd (other.0 (sym is ∙ it.0))
+                ]
+                | inr other ↦ elim free_is [
+                  | inl own ↦ absurd (other.0 (is ∙ own.0))
+                  | inr it ↦ other.1 ∙ sym it.1
+                ]
+              ],
+            )
+          ]
+
+          pub late_can : {greatest to : ℕ} → p < to → CanRaiseBehind greatest l old (IsLateIn from to last end second)
+              → CanRaiseBehind greatest l now (IsEndAt p free)
+          late_can {greatest} {to} within can =
+              still_can so_far (λ q e at. (at.0, let b = at.1 in omega arith, at.2))
+              (λ q e at. let h = here q e at in (h.0, let b = h.1 in omega arith, h.2)) can
+
+          pub late_on : {new : Rows} → RaisesBehind l (IsEndAt p free) now new
+              → RaisesBehind l (IsLateIn from (p + 1) last end second) old new
+          late_on raises = then_behind so_far earlier here raises split
+
+      -- nothing waits there, or it begins late enough
+      pub late_past : second ≤ end → (get_or now.heads p 0 ≡ 0) ⊎ (end ≤ get_or now.heads p 0)
+          → RaisesBehind l (IsLateIn from (p + 1) last end second) old now
+      late_past low_second enough = record {
+        positions = so_far.positions;
+        raised = record {
+          rises = so_far.raised.rises;
+          rests = so_far.raised.rests;
+          order = so_far.raised.order;
+          behind = λ j k e two at waits. elim (cases_eq (place l j k) p) [
+            | inr ne ↦ so_far.raised.behind j k e two (at.0, let b = at.1 in omega arith, at.2) waits
+            | inl is ↦ (let now_there : get_or now.heads (place l j k) 0 ≡ get_or now.heads p 0 =
+                ap (λ (x : ℕ). get_or now.heads x 0) is
+                in let rises = so_far.raised.rises (place l j k)
+                in let most : e ≤ end = elim at.2 [
+                  | inl it ↦ (let s = it.1 in omega arith)
+                  | inr it ↦ (let s = it.1 in omega arith)
+                ]
+                in elim enough [
+                  | inl none ↦ absurd (omega arith)
+                  | inr late ↦ (let o = so_far.raised.order j k two (omega arith) in omega arith)
+                ])
+          ];
+        };
+        least = λ other raised. so_far.least other (record {
+          rises = raised.rises;
+          rests = raised.rests;
+          order = raised.order;
+          behind = λ j k e two at waits. raised.behind j k e two (earlier (place l j k) e at) waits;
+        });
+        times = so_far.times;
+        tails = so_far.tails;
+        ends = so_far.ends;
+      }
+
+pub late_ends : {l : LayoutState} {from p to last end second : ℕ} {old now : Rows} → p ≡ to
+    → RaisesBehind l (IsLateIn from p last end second) old now → RaisesBehind l (IsLateIn from to last end second) old now
+late_ends {l} {from} {p} {to} {last} {end} {second} {old} {now} is so_far =
+    subst (λ (n : ℕ). RaisesBehind l (IsLateIn from n last end second) old now) is so_far

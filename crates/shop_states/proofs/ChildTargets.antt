@@ -1,0 +1,172 @@
+-- The heads that a child of a word has, before any list of them is at hand.
+use Rattle.std.proofs.Common.{◌≡◌, ℕ, zero, suc, ◌+◌, ◌≤◌, ◌<◌, inl, inr, List, [], ◌∷◌, ◌++◌, length, get_or, set}
+use Rattle.std.proofs.Common.{refl, sym, ◌∙◌, ap, subst, arith}
+use Rattle.std.proofs.lemmas.Bool.{cases_eq, cases_lt}
+use Rattle.std.proofs.lemmas.List.{get_or_append_left, get_or_past, get_or-set_other, length-append}
+use Rattle.std.proofs.lemmas.Grind.{get_or-set_at}
+use Rattle.std.proofs.Math.Seq.{get_or-append_seam}
+use Rattle.shop_lanes.specs.Rows.{Rows}
+use Rattle.shop_model.specs.Shop.{Shop, IsOperation, machine_of, time_of}
+use Rattle.shop_model.specs.Word.{IsWord, Placing, place_next, placing}
+use Rattle.shop_model.proofs.Unders.{placing-snoc}
+use Rattle.shop_bound.specs.Heads.{head_of}
+use Rattle.shop_layout.specs.HeadLimits.{latest_end}
+use Rattle.shop_layout.specs.Positions.{LayoutState, first_position, place}
+use Rattle.shop_layout.proofs.LaidPlaces.{IsOperationAt, each_position, place_of}
+use Rattle.shop_layout.proofs.LatestEnds.{latest_end_is}
+use Rattle.shop_states.specs.inner.LaneHeads.{AreHeadsAt, AreStored}
+use Rattle.shop_states.specs.inner.LaneStates.{AreHeadsInLanes}
+use Rattle.shop_states.specs.inner.Raises.{AreInRouteOrder, IsOnMachine, IsRaised, at_in}
+use Rattle.shop_states.proofs.AdvanceSteps.{first_left, next_fits, next_is, within}
+use Rattle.shop_states.proofs.ChildReads.{left_stored}
+use Rattle.shop_states.proofs.RaisedHeads.{in_order, target, target_at, target_least, target_none, target_raised, waits_at}
+
+-- the list of the first values of a function
+abbrev values : (ℕ → ℕ) → ℕ → List ℕ
+values f zero = []
+values f (suc n) = values f n ++ f n ∷ []
+
+length-values : (f : ℕ → ℕ) (n : ℕ) → length (values f n) ≡ n
+length-values f zero = refl
+length-values f (suc n) = let a = length-append (values f n) (f n ∷ []) in let b = length-values f n in omega arith
+
+values_at : (f : ℕ → ℕ) (n i : ℕ) → i < n → get_or (values f n) i 0 ≡ f i
+values_at f zero i within = absurd (omega arith)
+values_at f (suc n) i within = let long = length-values f n in elim (cases_lt i n) [
+  | inl before ↦ get_or_append_left (values f n) (f n ∷ []) 0 i (omega arith) ∙ values_at f n i before
+  | inr last ↦ (let e : i ≡ length (values f n) = omega arith
+      in let here : i ≡ n = omega arith
+      in ap (λ (k : ℕ). get_or (values f n ++ f n ∷ []) k 0) e
+      ∙ (get_or-append_seam (values f n) (f n) [] 0 ∙ ap f (sym here)))
+]
+
+module _ {greatest : ℕ} {shop : Shop} {w : List ℕ} {l : LayoutState} {rows : Rows}
+    (kept : AreHeadsInLanes greatest shop w l rows) (j : ℕ) (fits : IsWord shop (w ++ j ∷ [])) where
+  pub its_within : place l j ((placing shop w).steps j) < length rows.heads
+  its_within = within j kept fits refl
+
+  pub struck_here : (q : ℕ) → q ≡ place l j ((placing shop w).steps j)
+      → get_or (set rows.heads (place l j ((placing shop w).steps j)) 0) q 0 ≡ 0
+  struck_here q e = get_or-set_at rows.heads (place l j ((placing shop w).steps j)) q 0 0 e its_within
+
+  pub struck_other : (q : ℕ) → (q ≡ place l j ((placing shop w).steps j) → ⊥)
+      → get_or (set rows.heads (place l j ((placing shop w).steps j)) 0) q 0 ≡ get_or rows.heads q 0
+  struck_other q ne = get_or-set_other rows.heads (place l j ((placing shop w).steps j)) q 0 0 ne
+
+  pub struck_low : (q : ℕ) → get_or (set rows.heads (place l j ((placing shop w).steps j)) 0) q 0 ≤ get_or rows.heads q 0
+  struck_low q = elim (cases_eq q (place l j ((placing shop w).steps j))) [
+    | inl e ↦ (let a = struck_here q e in omega arith)
+    | inr ne ↦ (let a = struck_other q ne in omega arith)
+  ]
+
+  stored : AreStored shop (place_next shop (placing shop w) j).steps (head_of shop (placing shop w)) l
+      (set rows.heads (place l j ((placing shop w).steps j)) 0)
+  stored = left_stored kept j fits
+
+  -- the head of what is left at a position
+  pub child_head : ℕ → ℕ
+  child_head = target kept.limits kept.laid (next_is j kept fits) (first_left j kept fits) stored
+
+  pub child_raised : IsRaised l (IsOnMachine l (machine_of shop j ((placing shop w).steps j)))
+      ((place_next shop (placing shop w) j).free (machine_of shop j ((placing shop w).steps j)) + 1)
+      (at_in (set rows.heads (place l j ((placing shop w).steps j)) 0)) child_head
+  unfolding child_head
+  child_raised = target_raised kept.limits kept.laid (next_is j kept fits) (first_left j kept fits) stored refl
+
+  pub struck_order : AreInRouteOrder l (at_in (set rows.heads (place l j ((placing shop w).steps j)) 0))
+  struck_order = in_order kept.limits kept.laid (next_is j kept fits) (first_left j kept fits) stored
+
+  nothing : (q : ℕ) → get_or (set rows.heads (place l j ((placing shop w).steps j)) 0) q 0 ≡ 0 → child_head q ≡ 0
+  unfolding child_head
+  nothing = target_none kept.limits kept.laid (next_is j kept fits) (first_left j kept fits) stored
+
+  least_head : (other : ℕ → ℕ) → IsRaised l (IsOnMachine l (machine_of shop j ((placing shop w).steps j)))
+      ((place_next shop (placing shop w) j).free (machine_of shop j ((placing shop w).steps j)) + 1)
+      (at_in (set rows.heads (place l j ((placing shop w).steps j)) 0)) other
+      → (q : ℕ) → child_head q ≤ other q
+  unfolding child_head
+  least_head other raised =
+      target_least kept.limits kept.laid (next_is j kept fits) (first_left j kept fits) stored refl raised
+
+  -- an operation that is left stands where a head is
+  left_at : (q : ℕ) → 0 < child_head q → (o : IsOperationAt shop l q)
+      × ((place_next shop (placing shop w) j).steps o.job ≤ o.step)
+  unfolding child_head
+  left_at q some = elim (cases_eq (get_or (set rows.heads (place l j ((placing shop w).steps j)) 0) q 0) 0) [
+    | inl none ↦ (let a = target_none kept.limits kept.laid (next_is j kept fits) (first_left j kept fits) stored q none
+        in absurd (omega arith))
+    | inr waits ↦ waits_at kept.limits kept.laid (next_is j kept fits) (first_left j kept fits) stored q (omega arith)
+  ]
+
+  head_at : (i k : ℕ) → IsOperation shop i k → (place_next shop (placing shop w) j).steps i ≤ k
+      → child_head (place l i k) ≡ head_of shop (place_next shop (placing shop w) j) i k + 1
+  unfolding child_head
+  head_at = target_at kept.limits kept.laid (next_is j kept fits) (first_left j kept fits) stored
+
+  pub child_fits : (q : ℕ) → 0 < child_head q → child_head q + get_or l.times q 0 ≤ greatest
+  child_fits q some =
+      let left = left_at q some in let o = left.0
+      in let head = head_at o.job o.step o.is left.1
+      in let same : child_head (place l o.job o.step) ≡ child_head q = ap child_head o.at
+      in let time = (place_of shop kept.limits l kept.laid o.job o.step o.is).time
+      in let at : get_or l.times (place l o.job o.step) 0 ≡ get_or l.times q 0 = ap (λ (x : ℕ). get_or l.times x 0) o.at
+      in let fit = next_fits j kept fits o.job o.step o.is left.1 in omega arith
+
+  pub child_small : (q : ℕ) → child_head q ≤ latest_end shop + 1
+  child_small q = elim (cases_lt 0 (child_head q)) [
+    | inr none ↦ omega arith
+    | inl some ↦ (
+        let left = left_at q some in let o = left.0
+        in let head = head_at o.job o.step o.is left.1
+        in let same : child_head (place l o.job o.step) ≡ child_head q = ap child_head o.at
+        in let is = placing-snoc shop w j
+        in let steps : (placing shop (w ++ j ∷ [])).steps o.job
+        ≡ (place_next shop (placing shop w) j).steps o.job = ap (λ (p : Placing). p.steps o.job) is
+        in let heads : head_of shop (placing shop (w ++ j ∷ [])) o.job o.step
+        ≡ head_of shop (place_next shop (placing shop w) j) o.job o.step =
+        ap (λ (p : Placing). head_of shop p o.job o.step) is
+        in let open' = left.1
+        in let low = latest_end_is shop (w ++ j ∷ []) fits o.job o.step o.is (omega arith)
+        in omega arith)
+  ]
+
+  -- a list of these heads, and that any list of the child's heads has no greater ones than raised heads
+  pub child_heads : List ℕ
+  child_heads = values child_head (first_position l shop.machines)
+
+  pub child_heads_are : AreHeadsAt shop (place_next shop (placing shop w) j) l child_heads
+  unfolding child_heads
+  child_heads_are =
+      let n = first_position l shop.machines
+      in record {
+        positions = length-values child_head n;
+        waiting = λ i k op opened.
+            values_at child_head n (place l i k) (place_of shop kept.limits l kept.laid i k op).within
+            ∙ head_at i k op opened;
+        placed = λ i k op before.
+            values_at child_head n (place l i k) (place_of shop kept.limits l kept.laid i k op).within
+            ∙ nothing (place l i k) (stored.placed i k op before);
+        padding = λ q free. elim (cases_lt q n) [
+          | inl here ↦ values_at child_head n q here ∙ nothing q (stored.padding q free)
+          | inr past ↦ (let long = length-values child_head n
+              in get_or_past (values child_head n) q 0 (omega arith))
+        ];
+      }
+
+  pub heads_least : {now : List ℕ} → AreHeadsAt shop (place_next shop (placing shop w) j) l now → (other : ℕ → ℕ)
+      → IsRaised l (IsOnMachine l (machine_of shop j ((placing shop w).steps j)))
+      ((place_next shop (placing shop w) j).free (machine_of shop j ((placing shop w).steps j)) + 1)
+      (at_in (set rows.heads (place l j ((placing shop w).steps j)) 0)) other
+      → (q : ℕ) → get_or now q 0 ≤ other q
+  heads_least {now} are other raised q = elim (each_position shop kept.limits l kept.laid q) [
+    | inl o ↦ (let at : get_or now (place l o.job o.step) 0 ≡ get_or now q 0 = ap (λ (x : ℕ). get_or now x 0) o.at
+        in elim (cases_lt o.step ((place_next shop (placing shop w) j).steps o.job)) [
+          | inl before ↦ (let a = are.placed o.job o.step o.is before in omega arith)
+          | inr opened ↦ (let a = are.waiting o.job o.step o.is opened
+              in let b = head_at o.job o.step o.is opened
+              in let c = least_head other raised q
+              in let d : child_head (place l o.job o.step) ≡ child_head q = ap child_head o.at
+              in omega arith)
+        ])
+    | inr free ↦ (let a = are.padding q free in omega arith)
+  ]

@@ -1,0 +1,112 @@
+-- What is known of the children of a word once heads are raised as if their machine were free late.
+use Rattle.std.proofs.Common.{◌≡◌, ℕ, ◌+◌, ◌*◌, ◌^◌, ◌≤◌, ◌<◌, inl, inr, List, [], ◌∷◌, ◌++◌, length, get_or, min}
+use Rattle.std.proofs.Common.{refl, sym, ◌∙◌, ap, subst, arith}
+use Rattle.shop_lanes.specs.Rows.{Rows}
+use Rattle.shop_model.specs.Shop.{Shop, machine_of}
+use Rattle.shop_model.specs.Word.{IsWord, placing}
+use Rattle.shop_bound.specs.Bound.{lb}
+use Rattle.shop_bound.proofs.SmallSums.{sums_small}
+use Rattle.shop_layout.specs.HeadLimits.{latest_end}
+use Rattle.shop_layout.specs.Lanes.{lanes_on, rows_of}
+use Rattle.shop_layout.specs.Positions.{LayoutState}
+use Rattle.shop_layout.proofs.LaneLimits.{blocks_within}
+use Rattle.shop_layout.proofs.LaidPlaces.{machines_rise}
+use Rattle.shop_states.specs.declared.dispatching.Candidate.{Candidate}
+use Rattle.shop_states.specs.declared.siblings.Latest.{Latest}
+use Rattle.shop_states.specs.inner.Advances.{IsAdvancing}
+use Rattle.shop_states.specs.inner.Ceilings.{AreChildCeilings, IsCeiling}
+use Rattle.shop_states.specs.inner.HeadRaises.{Raise, raise_of}
+use Rattle.shop_states.specs.inner.LaneStates.{IsKeptInLanes}
+use Rattle.shop_states.specs.inner.MachineRaises.{AreEmpty, AreListed, AreRaisesFit, CanTakeSpans}
+use Rattle.shop_states.specs.inner.Raises.{HasBlocks}
+use Rattle.shop_states.specs.inner.Siblings.{AreLatest, AreSiblings, BoundsRaises, CanRaiseBehind, IsAmong}
+use Rattle.shop_states.specs.inner.Siblings.{IsLateIn, RaisesBehind}
+use Rattle.shop_states.specs.inner.Siblings.{end_by, job_at}
+use Rattle.shop_states.specs.inner.Watchers.{AreSeen, IsSeenAt, Watches, no_floor}
+use Rattle.shop_states.proofs.LaneFits.{spans_fit}
+use Rattle.shop_states.proofs.LateHeads.{can_late, its_word, now_small}
+use Rattle.shop_states.proofs.LateSpans.{child_ceilings, late_ceiling, settled}
+use Rattle.shop_states.proofs.OwnSpans.{its_machine}
+use Rattle.shop_states.proofs.RaisedHeads.{has_blocks}
+
+module _ {greatest : ℕ} {shop : Shop} {w : List ℕ} {l : LayoutState} {hs es nexts : List ℕ}
+    (kept : IsKeptInLanes greatest shop w l (rows_of l hs es) nexts) {cs : List Candidate}
+    (siblings : AreSiblings shop w cs) {t : Latest} (latest : AreLatest (end_by hs l.times nexts) cs t) {m : ℕ}
+    (m_is : m ≡ get_or l.machines (get_or nexts t.job 0) 0) where
+  -- the machine of all
+  pub machine_is : m ≡ machine_of shop t.job ((placing shop w).steps t.job)
+  machine_is = m_is ∙ its_machine kept t.job (its_word kept siblings latest.last)
+
+  pub machine_known : m < shop.machines
+  machine_known = let a = machine_is in let b = kept.kept.limits.on_machines t.job ((placing shop w).steps t.job)
+      in omega arith
+
+  pub machine_blocks : HasBlocks l (length hs) m
+  machine_blocks = has_blocks kept.kept.limits kept.kept.laid m kept.kept.heads.positions machine_known
+
+  pub bound_small : lb shop w < 2 ^ 49
+  bound_small = (sums_small shop kept.kept.limits w kept.kept.word).bound
+
+  its_from : {from : ℕ} → from ≡ 8 * get_or l.blocks m 0
+      → from ≡ 8 * get_or l.blocks (machine_of shop t.job ((placing shop w).steps t.job)) 0
+  its_from is = is ∙ ap (λ (n : ℕ). 8 * get_or l.blocks n 0) machine_is
+
+  its_to : {to : ℕ} → to ≡ 8 * get_or l.blocks (m + 1) 0
+      → to ≡ 8 * get_or l.blocks (machine_of shop t.job ((placing shop w).steps t.job) + 1) 0
+  its_to is = is ∙ ap (λ (n : ℕ). 8 * get_or l.blocks (n + 1) 0) machine_is
+
+  pub children_can : {from to : ℕ} → from ≡ 8 * get_or l.blocks m 0 → to ≡ 8 * get_or l.blocks (m + 1) 0
+      → CanRaiseBehind greatest l (rows_of l hs es) (IsLateIn from to (get_or nexts t.job 0) t.end t.second)
+  children_can from_is to_is = can_late kept siblings latest (its_from from_is) (its_to to_is)
+
+  module _ {from to : ℕ} (from_is : from ≡ 8 * get_or l.blocks m 0) (to_is : to ≡ 8 * get_or l.blocks (m + 1) 0)
+      {now : Rows}
+      (raises : RaisesBehind l (IsLateIn from to (get_or nexts t.job 0) t.end t.second) (rows_of l hs es) now) where
+
+    module _ {before after : List Raise} (empty : AreEmpty before) (many : length before ≡ shop.machines)
+        (noted : Watches no_floor l.machines hs now.heads before after) where
+      seen : AreSeen no_floor l.machines after hs now.heads
+      seen = noted.seen hs (λ q. inl (omega arith))
+
+      pub late_raises_fit : AreRaisesFit greatest after l now
+      late_raises_fit =
+          let spans = spans_fit kept.kept.limits kept.kept.laid greatest kept.holds now raises.times raises.tails
+          (raises.positions ∙ kept.kept.heads.positions)
+          in let known = spans.known in let long = noted.long
+          in let up_to = noted.up_to (latest_end shop + 1) (now_small kept siblings latest (its_from from_is) (its_to to_is) raises)
+          (λ k here. let e = empty k in omega arith)
+          in record {
+            known = omega arith;
+            blocks = λ n there. spans.blocks n (omega arith);
+            below = λ n there. (let a = spans.below n (omega arith) in let b = up_to n there in omega arith);
+            fits = λ n there. (let a = spans.fits n (omega arith) in let b = up_to n there in omega arith);
+          }
+
+      module _ {bound b : ℕ} (bound_is : bound ≡ lb shop w) {ceilings : List ℕ} {rest : List Raise}
+          (bounds : BoundsRaises l now after rest ceilings (bound + 1) b) where
+        ceiling : (n : ℕ) → n < length ceilings → n < shop.machines → IsCeiling (get_or ceilings n 0) (lanes_on now l n)
+        ceiling n here known =
+            let above = bounds.least_of n here
+            in late_ceiling kept siblings latest (its_from from_is) (its_to to_is) raises n known (raise_of after n)
+            (λ q on. elim (seen q) [
+              | inl still ↦ inl (omega arith)
+              | inr rose ↦ (let f = rose.0 in let u = rose.1
+                  in let same_from = ap (λ (k : ℕ). (raise_of after k).from) on
+                  in let same_to = ap (λ (k : ℕ). (raise_of after k).to) on
+                  in inr (omega arith, omega arith))
+            ])
+            (get_or ceilings n 0) (omega arith) (bounds.covers n here)
+
+        among : (i : ℕ) → i < length cs → IsAmong cs (job_at cs i)
+        among i here = record { at = i; within = here; is = refl }
+
+        pub children_known : (i : ℕ) → i < length cs → AreChildCeilings shop w l (job_at cs i) ceilings
+        children_known i here =
+            child_ceilings kept siblings latest (its_from from_is) (its_to to_is) raises ceilings ceiling (among i here)
+
+        pub children_settled : length ceilings ≡ shop.machines → (i least : ℕ) → i < length cs
+            → IsAdvancing greatest shop w l (rows_of l hs es) nexts (job_at cs i) least → b ≤ least + 1
+            → lb shop (w ++ job_at cs i ∷ []) ≡ least
+        children_settled all i least here advancing enough =
+            settled advancing ceilings (children_known i here) all
+            (λ n there. let most = bounds.most n there in omega arith)

@@ -1,0 +1,379 @@
+-- The heads of a word, raised behind the operations of its candidates' machine as if that were free late: that lanes
+-- have room for them, and that no child's heads are higher, but where its own operation delays them.
+use Rattle.std.proofs.Common.{◌≡◌, ℕ, ◌+◌, ◌*◌, ◌≤◌, ◌<◌, ◌⊎◌, max, inl, inr, List, [], ◌∷◌, ◌++◌, length, get_or, set}
+use Rattle.std.proofs.Common.{refl, sym, ◌∙◌, ap, subst, arith, cond, eqb, ltb}
+use Rattle.std.proofs.lemmas.Bool.{cases_eq, cases_lt, eq-eqb, le-ltb, lt-ltb, ne_eqb}
+use Rattle.shop_lanes.specs.Rows.{Rows}
+use Rattle.shop_model.specs.Shop.{Shop, IsOperation, machine_of}
+use Rattle.shop_model.specs.Word.{IsWord, place_next, placing}
+use Rattle.shop_layout.specs.HeadLimits.{latest_end}
+use Rattle.shop_layout.specs.Lanes.{rows_of}
+use Rattle.shop_layout.specs.Positions.{LayoutState, first_position, place}
+use Rattle.shop_layout.proofs.LaidPlaces.{place_of}
+use Rattle.shop_states.specs.declared.dispatching.Candidate.{Candidate}
+use Rattle.shop_states.specs.declared.siblings.Latest.{Latest}
+use Rattle.shop_states.specs.inner.LaneHeads.{AreHeadsAt}
+use Rattle.shop_states.specs.inner.LaneStates.{IsKeptInLanes}
+use Rattle.shop_states.specs.inner.Raises.{AreInRouteOrder, IsOnMachine, IsRaised, at_in, steps_of}
+use Rattle.shop_states.specs.inner.Siblings.{AreLatest, AreSiblings, CanEnd, CanRaiseBehind, IsAmong, IsLateIn}
+use Rattle.shop_states.specs.inner.Siblings.{IsRaisedBehind, RaisesBehind, end_by, job_at}
+use Rattle.shop_states.specs.inner.Watchers.{floor_on}
+use Rattle.shop_states.proofs.AdvanceSteps.{end_small}
+use Rattle.shop_states.proofs.Candidates.{head_is}
+use Rattle.shop_states.proofs.ChildRaises.{heads_small}
+use Rattle.shop_states.proofs.ChildReads.{head_here, is_operation}
+use Rattle.shop_states.proofs.ChildTargets.{child_fits, child_head, child_raised, child_small, heads_least}
+use Rattle.shop_states.proofs.ChildTargets.{struck_here, struck_low, struck_order, struck_other}
+use Rattle.shop_states.proofs.RaisedHeads.{followed, head_waits_at, heads_in_order, indexed, is_place, operation_in}
+use Rattle.shop_states.proofs.StateSteps.{next_at, next_known, within}
+
+module _ {greatest : ℕ} {shop : Shop} {w : List ℕ} {l : LayoutState} {hs es nexts : List ℕ}
+    (kept : IsKeptInLanes greatest shop w l (rows_of l hs es) nexts) {cs : List Candidate}
+    (siblings : AreSiblings shop w cs) where
+  -- each of the candidates
+  module _ {j : ℕ} (among : IsAmong cs j) where
+    pub its_word : IsWord shop (w ++ j ∷ [])
+    its_word = subst (λ (i : ℕ). IsWord shop (w ++ i ∷ [])) among.is (siblings.fits among.at among.within)
+
+    pub its_place : get_or nexts j 0 ≡ place l j ((placing shop w).steps j)
+    its_place = next_at j kept its_word refl
+
+    -- its end, and one higher
+    pub its_end : end_by hs l.times nexts j
+        ≡ (place_next shop (placing shop w) j).free (machine_of shop j ((placing shop w).steps j)) + 1
+    its_end = head_is j kept its_word refl
+
+    pub can_end : CanEnd greatest l hs nexts j
+    can_end = record {
+      job = next_known j kept its_word;
+      position = within j kept its_word refl;
+      timed = (let a = within j kept its_word refl in let b = kept.kept.laid.positions.times
+          in let c = kept.kept.heads.positions in omega arith);
+      fits = (end_small j kept.kept its_word its_place refl refl).1;
+      computable = kept.kept.computable;
+    }
+
+  pub same_machine : (j k : ℕ) → IsAmong cs j → IsAmong cs k
+      → machine_of shop j ((placing shop w).steps j) ≡ machine_of shop k ((placing shop w).steps k)
+  same_machine j k a b = subst (λ (i : ℕ). machine_of shop i ((placing shop w).steps i)
+      ≡ machine_of shop k ((placing shop w).steps k)) a.is
+      (subst (λ (i : ℕ). machine_of shop (job_at cs a.at) ((placing shop w).steps (job_at cs a.at))
+      ≡ machine_of shop i ((placing shop w).steps i)) b.is (siblings.machine a.at b.at a.within b.within))
+
+  module _ {t : Latest} (latest : AreLatest (end_by hs l.times nexts) cs t) where
+    abbrev machine : ℕ
+    machine = machine_of shop t.job ((placing shop w).steps t.job)
+
+    abbrev last : ℕ
+    last = get_or nexts t.job 0
+
+    pub second_low : t.second ≤ t.end
+    second_low = elim latest.second [
+      | inl none ↦ omega arith
+      | inr some ↦ (let j = some.0 in let a = some.1.0 in let is = some.1.1.1
+          in let each = latest.each a.at a.within
+          in let same : end_by hs l.times nexts (job_at cs a.at) ≡ end_by hs l.times nexts j =
+          ap (end_by hs l.times nexts) a.is in omega arith)
+    ]
+
+    -- some heads that are late enough behind the last candidate
+    record IsBeside (b : ℕ → ℕ) : Type 0 where
+      rests : (q : ℕ) → get_or hs q 0 ≡ 0 → b q ≡ 0
+      order : AreInRouteOrder l b
+      here : get_or hs last 0 ≤ b last
+      second : t.second ≤ b last
+      fits : (q : ℕ) → 0 < b q → b q + get_or l.times q 0 ≤ greatest
+      small : (q : ℕ) → b q ≤ latest_end shop + 1
+
+    -- the word's own, where there is no other candidate
+    own_beside : t.second ≡ 0 → IsBeside (at_in hs)
+    own_beside none = record {
+      rests = λ q z. z;
+      order = heads_in_order kept.kept.limits kept.kept.laid (placing shop w) kept.kept.heads;
+      here = omega arith;
+      second = omega arith;
+      fits = λ q some.
+          let at = head_waits_at kept.kept.limits kept.kept.laid (placing shop w) kept.kept.heads q some in let o = at.0
+          in let head = kept.kept.heads.waiting o.job o.step o.is at.1
+          in let same : get_or hs (place l o.job o.step) 0 ≡ get_or hs q 0 = ap (λ (x : ℕ). get_or hs x 0) o.at
+          in let time = (place_of shop kept.kept.limits l kept.kept.laid o.job o.step o.is).time
+          in let there : get_or l.times (place l o.job o.step) 0 ≡ get_or l.times q 0 =
+          ap (λ (x : ℕ). get_or l.times x 0) o.at
+          in let fit = kept.kept.fits w kept.kept.word o.job o.step o.is at.1 in omega arith;
+      small = heads_small shop kept.kept.limits l kept.kept.laid w kept.kept.word hs kept.kept.heads;
+    }
+
+    last_waits : 0 < get_or hs last 0
+    last_waits =
+        let a = head_here kept.kept t.job (its_word latest.last)
+        in let b = ap (λ (q : ℕ). get_or hs q 0) (its_place latest.last) in omega arith
+
+    its_operation : {j : ℕ} → (among : IsAmong cs j) → IsOperation shop j ((placing shop w).steps j)
+    its_operation {j} among = is_operation kept.kept j (its_word among)
+
+    -- its position is one of the machine
+    on_its : (m : ℕ) → m ≡ machine → IsOnMachine l m last
+    on_its m is =
+        let at = place_of shop kept.kept.limits l kept.kept.laid t.job ((placing shop w).steps t.job)
+        (its_operation latest.last)
+        in let low = at.from in let high = at.to in let place = its_place latest.last
+        in let a : first_position l m ≡ first_position l machine = ap (first_position l) is
+        in let b : first_position l (m + 1) ≡ first_position l (machine + 1) =
+        ap (λ (n : ℕ). first_position l (n + 1)) is
+        in (omega arith, omega arith)
+
+    -- jobs apart stand apart
+    apart : (j : ℕ) → IsAmong cs j → (j ≡ t.job → ⊥) → last ≡ place l j ((placing shop w).steps j) → ⊥
+    apart j among differs same =
+        let a = place_of shop kept.kept.limits l kept.kept.laid t.job ((placing shop w).steps t.job)
+        (its_operation latest.last)
+        in let b = place_of shop kept.kept.limits l kept.kept.laid j ((placing shop w).steps j) (its_operation among)
+        in differs (sym b.job ∙ (ap (λ (q : ℕ). get_or l.jobs q 0) (sym same ∙ its_place latest.last) ∙ a.job))
+
+    -- the child's by the candidate that ends last of the others
+    other_beside : (j : ℕ) → (among : IsAmong cs j) → (j ≡ t.job → ⊥) → t.second ≡ end_by hs l.times nexts j
+        → IsBeside (child_head kept.kept j (its_word among))
+    other_beside j among differs is =
+        let fits = its_word among
+        in let raised = child_raised kept.kept j fits
+        in let struck = struck_other kept.kept j fits last (apart j among differs)
+        in let rises = raised.rises last
+        in let some = last_waits
+        in let end = its_end among
+        in let reach = raised.reach last (on_its (machine_of shop j ((placing shop w).steps j))
+        (same_machine j t.job among latest.last)) (omega arith)
+        in record {
+          rests = λ q none. raised.rests q (let low = struck_low kept.kept j fits q in omega arith);
+          order = raised.order;
+          here = omega arith;
+          second = omega arith;
+          fits = child_fits kept.kept j fits;
+          small = child_small kept.kept j fits;
+        }
+
+    beside : (b : ℕ → ℕ) × IsBeside b
+    beside = elim latest.second [
+      | inl none ↦ (at_in hs, own_beside none)
+      | inr some ↦ (
+        child_head kept.kept some.0 (its_word some.1.0),
+        other_beside some.0 some.1.0 some.1.1.0 some.1.1.1,
+      )
+    ]
+
+    -- the greater of these and of the heads after the candidate that ends last
+    of_last : ℕ → ℕ
+    of_last = child_head kept.kept t.job (its_word latest.last)
+
+    late_head : ℕ → ℕ
+    late_head q = max (of_last q) (beside.0 q)
+
+    module _ {from to : ℕ} (from_is : from ≡ 8 * get_or l.blocks machine 0)
+        (to_is : to ≡ 8 * get_or l.blocks (machine + 1) 0) where
+      last_raised : IsRaised l (IsOnMachine l machine) t.end
+          (at_in (set hs (place l t.job ((placing shop w).steps t.job)) 0)) of_last
+      unfolding of_last
+      last_raised = subst (λ (e : ℕ). IsRaised l (IsOnMachine l machine) e
+          (at_in (set hs (place l t.job ((placing shop w).steps t.job)) 0))
+          (child_head kept.kept t.job (its_word latest.last)))
+          (sym (latest.end ∙ its_end latest.last)) (child_raised kept.kept t.job (its_word latest.last))
+
+      -- what waits elsewhere than at its position
+      waits_there : (q : ℕ) → (q ≡ last → ⊥)
+          → get_or (set hs (place l t.job ((placing shop w).steps t.job)) 0) q 0 ≡ get_or hs q 0
+      waits_there q ne = struck_other kept.kept t.job (its_word latest.last) q (λ is.
+          ne (is ∙ sym (its_place latest.last)))
+
+      late_raised : IsRaisedBehind l (IsLateIn from to last t.end t.second) (at_in hs) late_head
+      unfolding late_head
+      late_raised =
+          let b = beside.1
+          in record {
+            rises = λ q. elim (cases_eq q last) [
+              | inl is ↦ (let here = b.here in let x = ap (λ (p : ℕ). get_or hs p 0) is in let y = ap beside.0 is
+                  in omega arith)
+              | inr ne ↦ (let rises = last_raised.rises q in let same = waits_there q ne in omega arith)
+            ];
+            rests = λ q none.
+                let low = struck_low kept.kept t.job (its_word latest.last) q
+                in let x = last_raised.rests q (omega arith) in let y = b.rests q none in omega arith;
+            order = λ j k two some. elim (cases_lt 0 (of_last (place l j k))) [
+              | inl first ↦ (let x = last_raised.order j k two first
+                  in elim (cases_lt 0 (beside.0 (place l j k))) [
+                    | inl second ↦ (let y = b.order j k two second in omega arith)
+                    | inr none ↦ omega arith
+                  ])
+              | inr none ↦ (let y = b.order j k two (omega arith) in omega arith)
+            ];
+            behind = λ j k e two at waits. elim at.2 [
+              | inl it ↦ (let here = b.here in let second = b.second in let e_is = it.1
+                  in let x = ap (λ (p : ℕ). get_or hs p 0) it.0 in let y = ap beside.0 it.0
+                  in let o = b.order j k two (omega arith) in omega arith)
+              | inr it ↦ (let same = waits_there (place l j k) it.0 in let e_is = it.1
+                  in let low = at.0 in let high = at.1
+                  in let reach = last_raised.reach (place l j k) (omega arith, omega arith) (omega arith)
+                  in let up = last_raised.rises (place l j k)
+                  in let o = last_raised.order j k two (omega arith) in omega arith)
+            ];
+          }
+
+      late_fits : (q : ℕ) → 0 < late_head q → late_head q + get_or l.times q 0 ≤ greatest
+      unfolding late_head of_last
+      late_fits q some =
+          let b = beside.1
+          in elim (cases_lt 0 (of_last q)) [
+            | inl first ↦ (let x = child_fits kept.kept t.job (its_word latest.last) q first
+                in elim (cases_lt 0 (beside.0 q)) [
+                  | inl second ↦ (let y = b.fits q second in omega arith)
+                  | inr none ↦ omega arith
+                ])
+            | inr none ↦ (let y = b.fits q (omega arith) in omega arith)
+          ]
+
+      late_small : (q : ℕ) → late_head q ≤ latest_end shop + 1
+      unfolding late_head of_last
+      late_small q = let x = child_small kept.kept t.job (its_word latest.last) q in let y = beside.1.small q in omega arith
+
+      -- an operation that begins when the machine is free ends in time
+      ends_fit : (q e : ℕ) → IsLateIn from to last t.end t.second q e → 0 < get_or hs q 0
+          → e + get_or l.times q 0 ≤ greatest
+      unfolding late_head
+      ends_fit q e at waits =
+          let b = beside.1
+          in elim at.2 [
+            | inl it ↦ (let here = b.here in let second = b.second in let e_is = it.1
+                in let x = ap (λ (p : ℕ). get_or hs p 0) it.0 in let y = ap beside.0 it.0
+                in let f = late_fits q (omega arith) in omega arith)
+            | inr it ↦ (let same = waits_there q it.0 in let e_is = it.1 in let low = at.0 in let high = at.1
+                in let reach = last_raised.reach q (omega arith, omega arith) (omega arith)
+                in let up = last_raised.rises q
+                in let f = late_fits q (omega arith) in omega arith)
+          ]
+
+      pub can_late : CanRaiseBehind greatest l (rows_of l hs es) (IsLateIn from to last t.end t.second)
+      can_late =
+          let limits = kept.kept.limits in let laid = kept.kept.laid in let heads = kept.kept.heads
+          in record {
+            indexed = indexed limits laid heads.positions;
+            followed = followed limits laid heads.positions;
+            machines = laid.machines_at.positions ∙ sym heads.positions;
+            times = refl;
+            timed = laid.positions.times ∙ sym heads.positions;
+            places = λ q some.
+                let at = head_waits_at limits laid (placing shop w) heads q some
+                in is_place limits laid at.0.job at.0.step q at.0.is at.0.at;
+            order = heads_in_order limits laid (placing shop w) heads;
+            other = late_head;
+            raised = late_raised;
+            fits = late_fits;
+            ends = ends_fit;
+            computable = kept.kept.computable;
+          }
+
+      -- the raised heads
+      module _ {now : Rows} (raises : RaisesBehind l (IsLateIn from to last t.end t.second) (rows_of l hs es) now) where
+        pub now_small : (q : ℕ) → get_or now.heads q 0 ≤ latest_end shop + 1
+        now_small q = let a = raises.least late_head late_raised q in let b = late_small q in omega arith
+
+        -- no head of a child is higher, but on the machine up to the end of its own operation
+        module _ {j : ℕ} (among : IsAmong cs j) where
+          child_other : ℕ → ℕ
+          child_other q = cond {A = ℕ} (ltb 0 (get_or (set hs (place l j ((placing shop w).steps j)) 0) q 0))
+              (max (get_or now.heads q 0) (floor_on machine (end_by hs l.times nexts j) (get_or l.machines q 0))) 0
+
+          other_some : (q : ℕ) → 0 < get_or (set hs (place l j ((placing shop w).steps j)) 0) q 0 → child_other q
+              ≡ max (get_or now.heads q 0) (floor_on machine (end_by hs l.times nexts j) (get_or l.machines q 0))
+          unfolding child_other
+          other_some q some = rw (lt-ltb 0 (get_or (set hs (place l j ((placing shop w).steps j)) 0) q 0) some) refl
+
+          other_none : (q : ℕ) → get_or (set hs (place l j ((placing shop w).steps j)) 0) q 0 ≡ 0 → child_other q ≡ 0
+          unfolding child_other
+          other_none q none = rw (le-ltb 0 (get_or (set hs (place l j ((placing shop w).steps j)) 0) q 0) (omega arith))
+              refl
+
+          struck_some : (q : ℕ) → 0 < child_other q → 0 < get_or (set hs (place l j ((placing shop w).steps j)) 0) q 0
+          struck_some q some = elim (cases_eq (get_or (set hs (place l j ((placing shop w).steps j)) 0) q 0) 0) [
+            | inl none ↦ (let z = other_none q none in absurd (omega arith))
+            | inr more ↦ omega arith
+          ]
+
+          -- what waits on the machine is raised behind its end
+          delayed : (i k : ℕ) → k + 1 < steps_of l i
+              → 0 < get_or (set hs (place l j ((placing shop w).steps j)) 0) (place l i k) 0
+              → floor_on machine (end_by hs l.times nexts j) (get_or l.machines (place l i k) 0)
+              + get_or l.times (place l i k) 0 ≤ get_or now.heads (place l i (k + 1)) 0
+          delayed i k two some =
+              let q = place l i k
+              in let op = operation_in kept.kept.limits kept.kept.laid i (k + 1) two
+              in let op_k : IsOperation shop i k = omega arith
+              in let at = place_of shop kept.kept.limits l kept.kept.laid i k op_k
+              in let low = struck_low kept.kept j (its_word among) q
+              in let rises = raises.raised.rises q
+              in let order = raises.raised.order i k two (omega arith)
+              in elim (cases_eq (get_or l.machines q 0) machine) [
+                | inr off ↦ (let none : floor_on machine (end_by hs l.times nexts j) (get_or l.machines q 0) ≡ 0 =
+                    rw (ne_eqb (get_or l.machines q 0) machine off) refl in omega arith)
+                | inl on ↦ (let all : floor_on machine (end_by hs l.times nexts j) (get_or l.machines q 0)
+                    ≡ end_by hs l.times nexts j = rw (eq-eqb (get_or l.machines q 0) machine on) refl
+                    in let own = kept.kept.laid.machines_at.at (machine_of shop i k) q
+                    (kept.kept.limits.on_machines i k) at.from at.to
+                    in let a : first_position l (machine_of shop i k) ≡ first_position l machine =
+                    ap (first_position l) (sym own ∙ on)
+                    in let b : first_position l (machine_of shop i k + 1) ≡ first_position l (machine + 1) =
+                    ap (λ (n : ℕ). first_position l (n + 1)) (sym own ∙ on)
+                    in let from' = at.from in let to' = at.to
+                    in let ends : end_by hs l.times nexts (job_at cs among.at) ≡ end_by hs l.times nexts j =
+                    ap (end_by hs l.times nexts) among.is
+                    in elim (cases_eq q last) [
+                      | inr ne ↦ (let late = raises.raised.behind i k t.end two (omega arith, omega arith, inr (ne, refl))
+                          (omega arith)
+                          in let each = latest.each among.at among.within in omega arith)
+                      | inl is ↦ (let late = raises.raised.behind i k t.second two
+                          (omega arith, omega arith, inl (is, refl)) (omega arith)
+                          in let differs : job_at cs among.at ≡ t.job → ⊥ = λ same. (
+                          let here : q ≡ place l j ((placing shop w).steps j) = is ∙ (its_place latest.last
+                          ∙ ap (λ (x : ℕ). place l x ((placing shop w).steps x)) (sym same ∙ among.is))
+                          in let none = struck_here kept.kept j (its_word among) q here in omega arith)
+                          in let other = latest.others among.at among.within differs in omega arith)
+                    ])
+              ]
+
+          other_raised : IsRaised l (IsOnMachine l (machine_of shop j ((placing shop w).steps j)))
+              ((place_next shop (placing shop w) j).free (machine_of shop j ((placing shop w).steps j)) + 1)
+              (at_in (set hs (place l j ((placing shop w).steps j)) 0)) child_other
+          other_raised = record {
+            rises = λ q. elim (cases_lt 0 (get_or (set hs (place l j ((placing shop w).steps j)) 0) q 0)) [
+              | inl some ↦ (let is = other_some q some in let low = struck_low kept.kept j (its_word among) q
+                  in let rises = raises.raised.rises q in omega arith)
+              | inr none ↦ omega arith
+            ];
+            rests = other_none;
+            order = λ i k two some.
+                let waits = struck_some (place l i k) some
+                in let next = struck_order kept.kept j (its_word among) i k two waits
+                in let a = other_some (place l i k) waits in let b = other_some (place l i (k + 1)) (omega arith)
+                in let late = delayed i k two waits
+                in let low = struck_low kept.kept j (its_word among) (place l i k)
+                in let rises = raises.raised.rises (place l i k)
+                in let order = raises.raised.order i k two (omega arith)
+                in omega arith;
+            reach = λ q here some.
+                let a = other_some q some
+                in let m = machine_of shop j ((placing shop w).steps j)
+                in let own = kept.kept.laid.machines_at.at m q (kept.kept.limits.on_machines j ((placing shop w).steps j))
+                here.0 here.1
+                in let on : get_or l.machines q 0 ≡ machine = own ∙ same_machine j t.job among latest.last
+                in let all : floor_on machine (end_by hs l.times nexts j) (get_or l.machines q 0)
+                ≡ end_by hs l.times nexts j = rw (eq-eqb (get_or l.machines q 0) machine on) refl
+                in let end = its_end among
+                in omega arith;
+          }
+
+          pub child_low : {heads : List ℕ} → AreHeadsAt shop (place_next shop (placing shop w) j) l heads → (q : ℕ)
+              → get_or heads q 0
+              ≤ max (get_or now.heads q 0) (floor_on machine (end_by hs l.times nexts j) (get_or l.machines q 0))
+          child_low {heads} are q =
+              let least = heads_least kept.kept j (its_word among) are child_other other_raised q
+              in elim (cases_lt 0 (get_or (set hs (place l j ((placing shop w).steps j)) 0) q 0)) [
+                | inl some ↦ (let is = other_some q some in omega arith)
+                | inr none ↦ (let is = other_none q (omega arith) in omega arith)
+              ]

@@ -1,0 +1,121 @@
+use Rattle.std.proofs.Common.{◌≡◌, ℕ, ◌+◌, ◌≤◌, ◌∙◌, List, ap, length, min, refl, sym, subst, arith}
+use Rattle.shop_states.proofs.ChildrenBounds.{bound_small, children_can, children_known, children_settled}
+use Rattle.shop_states.proofs.ChildrenBounds.{late_raises_fit, machine_blocks}
+use Rattle.shop_states.proofs.LateHeads.{can_end, second_low}
+use Rattle.shop_states.proofs.Trials.{same_machines}
+use Rattle.shop_states.proofs.siblings.bound_children.Goals as goal
+
+pub latest_of-latest-requires-clause-can : goal.latest_of-latest-requires-clause-can
+latest_of-latest-requires-clause-can g c = λ i here. rw c.routes-routes.ensures
+    (can_end c.requires.can.kept c.requires.can.siblings (record { at = i; within = here; is = refl }))
+
+pub offset_bounds-next-latest : goal.offset_bounds-next-latest
+offset_bounds-next-latest g c =
+    let end = can_end c.requires.can.kept c.requires.can.siblings c.latest_of-latest.ensures.last
+    in let job = end.job in omega arith
+
+pub bounds-next-latest : goal.bounds-next-latest
+bounds-next-latest g c = (can_end c.requires.can.kept c.requires.can.siblings c.latest_of-latest.ensures.last).job
+
+pub machine-machine-requires : goal.machine-machine-requires
+machine-machine-requires g c =
+    let end = can_end c.requires.can.kept c.requires.can.siblings c.latest_of-latest.ensures.last
+    in let position = end.position in let kept = c.requires.can.kept.kept
+    in let heads = kept.heads.positions in let machines = kept.laid.machines_at.positions
+    in rw c.routes-routes.ensures (omega arith)
+
+pub positions_of-from-requires : goal.positions_of-from-requires
+positions_of-from-requires g c =
+    let latest = rw c.routes-routes.ensures at c.latest_of-latest.ensures
+    in let on = rw c.routes-routes.ensures at c.machine-machine.ensures
+    in let blocks = machine_blocks c.requires.can.kept c.requires.can.siblings latest on
+    in let small = blocks.small in let within = blocks.within
+    in let heads = c.requires.can.kept.kept.heads.positions
+    in let following = c.requires.can.kept.kept.laid.positions.following
+    in record { small = omega arith; known = blocks.known; ordered = blocks.ordered; within = omega arith }
+
+pub raise_late-raised-requires-clause-ordered : goal.raise_late-raised-requires-clause-ordered
+raise_late-raised-requires-clause-ordered g c =
+    let latest = rw c.routes-routes.ensures at c.latest_of-latest.ensures
+    in let on = rw c.routes-routes.ensures at c.machine-machine.ensures
+    in let ordered = (machine_blocks c.requires.can.kept c.requires.can.siblings latest on).ordered
+    in let first = c.positions_of-from.ensures.first in let behind = c.positions_of-from.ensures.behind in omega arith
+
+pub raise_late-raised-requires-clause-within : goal.raise_late-raised-requires-clause-within
+raise_late-raised-requires-clause-within g c =
+    let latest = rw c.routes-routes.ensures at c.latest_of-latest.ensures
+    in let on = rw c.routes-routes.ensures at c.machine-machine.ensures
+    in let within = (machine_blocks c.requires.can.kept c.requires.can.siblings latest on).within
+    in let behind = c.positions_of-from.ensures.behind in omega arith
+
+pub raise_late-raised-requires-clause-second : goal.raise_late-raised-requires-clause-second
+raise_late-raised-requires-clause-second g c =
+    let latest = rw c.routes-routes.ensures at c.latest_of-latest.ensures
+    in second_low c.requires.can.kept c.requires.can.siblings latest
+
+pub raise_late-raised-requires-clause-can : goal.raise_late-raised-requires-clause-can
+raise_late-raised-requires-clause-can g c =
+    let latest = rw c.routes-routes.ensures at c.latest_of-latest.ensures
+    in let on = rw c.routes-routes.ensures at c.machine-machine.ensures
+    in rw c.routes-routes.ensures (children_can c.requires.can.kept c.requires.can.siblings latest on
+    c.positions_of-from.ensures.first c.positions_of-from.ensures.behind)
+
+pub raise_late-raised-requires-clause-known : goal.raise_late-raised-requires-clause-known
+raise_late-raised-requires-clause-known g c = rw c.routes-routes.ensures (λ q here.
+    let a = c.requires.can.kept.kept.laid.machines_at.known q here in let b = c.requires.can.machines_are in omega arith)
+
+pub take_ceilings-requires-clause-least : goal.take_ceilings-requires-clause-least
+take_ceilings-requires-clause-least g c =
+    let latest = rw c.routes-routes.ensures at c.latest_of-latest.ensures
+    in let on = rw c.routes-routes.ensures at c.machine-machine.ensures
+    in let small = bound_small c.requires.can.kept c.requires.can.siblings latest on
+    in let is = c.requires.can.bound_is in omega arith
+
+pub take_ceilings-requires-clause-can : goal.take_ceilings-requires-clause-can
+take_ceilings-requires-clause-can g c =
+    let latest = rw c.routes-routes.ensures at c.latest_of-latest.ensures
+    in let on = rw c.routes-routes.ensures at c.machine-machine.ensures
+    in let raises = rw c.routes-routes.ensures at c.raise_late-raised.ensures.raises
+    in let noted = rw c.routes-routes.ensures at c.raise_late-raised.ensures.noted
+    in let kept = c.requires.can.kept.kept
+    in let long = raises.positions in let heads = kept.heads.positions
+    in let times = kept.laid.positions.times in let tails = kept.laid.positions.tails
+    in record {
+      listed = c.raise_late-raised.ensures.listed;
+      least_fits = omega arith;
+      times = omega arith;
+      tails = omega arith;
+      fits = late_raises_fit c.requires.can.kept c.requires.can.siblings latest on c.positions_of-from.ensures.first
+          c.positions_of-from.ensures.behind raises c.requires.at_rest c.requires.can.machines_are noted;
+    }
+
+pub returns-clause-known : goal.returns-clause-known
+returns-clause-known g c = λ shop w kept siblings bound_is i here.
+    let latest = rw c.routes-routes.ensures at c.latest_of-latest.ensures
+    in let on = rw c.routes-routes.ensures at c.machine-machine.ensures
+    in let raises = rw c.routes-routes.ensures at c.raise_late-raised.ensures.raises
+    in let noted = rw c.routes-routes.ensures at c.raise_late-raised.ensures.noted
+    in children_known kept siblings latest on c.positions_of-from.ensures.first c.positions_of-from.ensures.behind
+    raises c.requires.at_rest (c.requires.can.machines_are ∙ same_machines c.requires.can.kept.kept.laid
+    kept.kept.laid) noted bound_is (c.take_ceilings.ensures.bounds (c.take_ceilings.result + 1) refl) i here
+
+pub returns-clause-settled : goal.returns-clause-settled
+returns-clause-settled g c = λ shop w kept siblings bound_is i least here advancing enough.
+    let latest = rw c.routes-routes.ensures at c.latest_of-latest.ensures
+    in let on = rw c.routes-routes.ensures at c.machine-machine.ensures
+    in let raises = rw c.routes-routes.ensures at c.raise_late-raised.ensures.raises
+    in let noted = rw c.routes-routes.ensures at c.raise_late-raised.ensures.noted
+    in let many = c.requires.can.machines_are ∙ same_machines c.requires.can.kept.kept.laid kept.kept.laid
+    in children_settled kept siblings latest on c.positions_of-from.ensures.first c.positions_of-from.ensures.behind
+    raises c.requires.at_rest many noted bound_is (c.take_ceilings.ensures.bounds (c.take_ceilings.result + 1) refl)
+    (c.take_ceilings.ensures.long ∙ (c.requires.room ∙ many)) i least here advancing (omega arith)
+
+pub returns-clause-machines : goal.returns-clause-machines
+returns-clause-machines g c = (c.take_ceilings.ensures.bounds (c.take_ceilings.result + 1) refl).long
+    ∙ c.raise_late-raised.ensures.machines
+
+pub returns-clause-positions : goal.returns-clause-positions
+returns-clause-positions g c = (rw c.routes-routes.ensures at c.raise_late-raised.ensures.raises).positions
+
+pub returns-clause-ends : goal.returns-clause-ends
+returns-clause-ends g c = (rw c.routes-routes.ensures at c.raise_late-raised.ensures.raises).ends

@@ -1,0 +1,93 @@
+use Rattle.std.proofs.Common.{refl, arith}
+use Rattle.std.proofs.lemmas.List.{length-map}
+use Rattle.shop_states.specs.inner.HeadRaises.{raise_in}
+use Rattle.shop_states.proofs.BehindRaises.{its_end, its_leg, its_place, its_within, late_enough, leg_up_to}
+use Rattle.shop_states.proofs.BehindRaises.{next_machine, next_raisable, next_read, next_there, next_waits}
+use Rattle.shop_states.proofs.BehindRaises.{raised_behind}
+use Rattle.shop_states.proofs.RaisedMachines.{lengths_in}
+use Rattle.shop_states.proofs.Watching.{noted_behind, sees_long, watch_none}
+use Rattle.shop_states.specs.inner.Watchers.{no_floor}
+use Rattle.shop_states.proofs.siblings.raise_behind.Given as given
+use Rattle.shop_states.proofs.siblings.raise_behind.Goals as goal
+
+pub time-requires : goal.time-requires
+time-requires g c = let within = its_within c.requires.can c.requires.waits in let timed = c.requires.can.timed
+    in omega arith
+
+pub overflow_add-ready : goal.overflow_add-ready
+overflow_add-ready g c =
+    let end = its_end c.requires.can c.requires.waits in let small = c.requires.can.computable
+    in let time = c.time.ensures in omega arith
+
+pub behind-requires : goal.behind-requires
+behind-requires g c =
+    let place = its_place c.requires.can c.requires.waits
+    in let within = its_within c.requires.can c.requires.waits in let jobs = c.requires.can.indexed.jobs
+    in record { job = omega arith; known = place.job; within = place.step }
+
+pub leg-leg-requires : goal.leg-leg-requires
+leg-leg-requires g c = its_leg c.requires.can c.requires.waits c.behind.ensures.index
+
+pub head_or_greatest-head-requires : goal.head_or_greatest-head-requires
+head_or_greatest-head-requires g c = leg_up_to c.requires.can c.requires.waits c.behind.ensures.index c.leg-leg.ensures
+
+pub returns-then-ready-head-clause-raises : goal.returns-then-ready-head-clause-raises
+returns-then-ready-head-clause-raises g c = late_enough c.requires.can c.requires.waits c.behind.ensures.index
+    c.leg-leg.ensures c.head_or_greatest-head.ensures (let time = c.time.ensures in omega arith) c.if-ready-head.true
+
+pub returns-then-ready-head-clause-noted : goal.returns-then-ready-head-clause-noted
+returns-then-ready-head-clause-noted g c = watch_none no_floor _ _ _
+
+pub see-requires-clause-known : goal.see-requires-clause-known
+see-requires-clause-known g c =
+    let many = length-map c.args.raises.now (raise_in g.L.StateLanes.value)
+    in let time = c.time.ensures
+    in let there = next_there c.requires.can c.requires.waits c.behind.ensures.index c.leg-leg.ensures
+    c.head_or_greatest-head.ensures (omega arith) c.if-ready-head.false
+    in let machine = next_machine c.requires.can c.requires.waits c.behind.ensures.index c.leg-leg.ensures
+    c.head_or_greatest-head.ensures (omega arith) c.if-ready-head.false
+    in let machines = c.requires.can.machines
+    in let known = c.requires.known c.leg-leg.result.position (omega arith) in omega arith
+
+pub see-requires-clause-fits : goal.see-requires-clause-fits
+see-requires-clause-fits g c =
+    let end = its_end c.requires.can c.requires.waits in let time = c.time.ensures in omega arith
+
+pub raise_route-requires : goal.raise_route-requires
+raise_route-requires g c =
+    let time = c.time.ensures
+    in let read = next_read c.requires.can c.requires.waits c.behind.ensures.index c.leg-leg.ensures
+    c.head_or_greatest-head.ensures (omega arith) c.if-ready-head.false
+    in let below = c.if-ready-head.false
+    in let many = c.see.auto.raises
+    in record {
+      waits = next_waits c.requires.can c.requires.waits c.behind.ensures.index c.leg-leg.ensures
+          c.head_or_greatest-head.ensures (omega arith) c.if-ready-head.false;
+      below = omega arith;
+      raisable = next_raisable c.requires.can c.requires.waits c.behind.ensures.index c.leg-leg.ensures
+          c.head_or_greatest-head.ensures (omega arith) c.if-ready-head.false;
+      known = λ q here. let known = c.requires.known q here in omega arith;
+      listed = c.see.ensures.listed;
+    }
+
+pub returns-clause-raises : goal.returns-clause-raises
+returns-clause-raises g c = let time = c.time.ensures
+    in raised_behind c.requires.can c.requires.waits c.behind.ensures.index c.leg-leg.ensures
+    c.head_or_greatest-head.ensures (omega arith) c.if-ready-head.false c.raise_route.ensures.raises
+
+pub returns-clause-noted : goal.returns-clause-noted
+returns-clause-noted g c =
+    let time = c.time.ensures
+    in let there = next_there c.requires.can c.requires.waits c.behind.ensures.index c.leg-leg.ensures
+    c.head_or_greatest-head.ensures (omega arith) c.if-ready-head.false
+    in let machine = next_machine c.requires.can c.requires.waits c.behind.ensures.index c.leg-leg.ensures
+    c.head_or_greatest-head.ensures (omega arith) c.if-ready-head.false
+    in let waits = next_waits c.requires.can c.requires.waits c.behind.ensures.index c.leg-leg.ensures
+    c.head_or_greatest-head.ensures (omega arith) c.if-ready-head.false
+    in let many = length-map c.args.raises.now (raise_in g.L.StateLanes.value)
+    in let machines = c.requires.can.machines
+    in let known = c.requires.known c.leg-leg.result.position (omega arith)
+    in noted_behind c.raise_route.ensures.noted c.raise_route.ensures.seen c.see.ensures.raises machine (omega arith)
+    (next_read c.requires.can c.requires.waits c.behind.ensures.index c.leg-leg.ensures
+    c.head_or_greatest-head.ensures (omega arith) c.if-ready-head.false)
+    (c.raise_route.ensures.raises.raised.raised.reach c.leg-leg.result.position refl waits)

@@ -1,0 +1,280 @@
+// What bounds the children of a word before any of them is dispatched. The children dispatch operations of one machine,
+// and each delays what else waits there until its operation ends, at most until the latest of these ends. So heads that
+// are raised as if all of these operations had to wait until then are no lower than those of any child, and neither are
+// spans from them: one pass over the machines whose heads rose tells of nearly all children what each would be told
+// anew.
+ghost use Rattle.std.specs.Prelude.{◌≡◌, ℕ, ◌+◌, ◌*◌, ◌^◌, ◌≤◌, ◌<◌, ◌⊎◌, List, ◌∷◌, ◌++◌, [], IsTrue, false, length, slice_index};
+ghost use Rattle.shop_model.specs.Shop.{Shop};
+ghost use Rattle.shop_bound.specs.Bound.{lb};
+ghost use Rattle.shop_layout.specs.Lanes.{rows_of};
+ghost use Rattle.shop_states.specs.inner.Advances.{IsAdvancing};
+ghost use Rattle.shop_states.specs.inner.Ceilings.{AreChildCeilings};
+ghost use Rattle.shop_states.specs.inner.HeadRaises.{raises_in};
+ghost use Rattle.shop_states.specs.inner.LaneStates.{IsKeptInLanes};
+ghost use Rattle.shop_states.specs.inner.MachineRaises.{AreEmpty, AreListed};
+ghost use Rattle.shop_states.specs.inner.Siblings.{AreLatest, AreSiblings, CanBoundChildren, CanEnd};
+ghost use Rattle.shop_states.specs.inner.Siblings.{CanRaiseBehind, IsAmong, IsEndAt, IsLateIn};
+ghost use Rattle.shop_states.specs.inner.Siblings.{RaisesBehind, end_by, job_at};
+ghost use Rattle.shop_states.specs.inner.Watchers.{AreKnown, Watches, no_floor};
+
+use crate::dispatching::Candidate;
+use crate::head_raises::{LaneRaise, see};
+use crate::machine_raises::MachineRaises;
+use crate::machine_sets::MachineSet;
+use crate::raises::raise_route;
+use shop_lanes::StateLanes;
+use shop_layout::{Grid, Routes};
+
+/// Of some candidates, all on one machine: the job whose operation ends last, when that ends, and when the last of the
+/// other jobs' operations ends, or 0 if there are no other jobs. Ends are one higher, like heads in lanes.
+#[derive(Clone, Copy)]
+pub(crate) struct Latest {
+    pub job: usize,
+    pub end: u64,
+    pub second: u64,
+}
+
+/// When the next operation of `job` ends if it goes first, one higher like heads in lanes.
+#[inline(always)]
+fn end_of<L: StateLanes>(lanes: &L, routes: &Routes, next: &[u32], job: usize) -> u64
+    requires { CanEnd L.GREATEST routes.now (L.heads lanes.now) next.now job }
+    ensures end { result ≡ end_by (L.heads lanes.now) routes.now.times next.now job }
+    ensures fits { result ≤ L.GREATEST }
+{
+    let position = next[job] as usize;
+    lanes.head(position) + routes.time(position)
+}
+
+/// The candidate whose operation ends last, by its job, and when it ends.
+fn last_of<L: StateLanes>(
+    candidates: &[Candidate],
+    lanes: &L,
+    routes: &Routes,
+    next: &[u32],
+) -> (usize, u64)
+    requires some { 0 < length candidates.now }
+    requires can { (i : ℕ) → i < length candidates.now
+        → CanEnd L.GREATEST routes.now (L.heads lanes.now) next.now (job_at candidates.now i) }
+    ensures among { IsAmong candidates.now result.0 }
+    ensures end { result.1 ≡ end_by (L.heads lanes.now) routes.now.times next.now result.0 }
+    ensures each { (i : ℕ) → i < length candidates.now
+        → end_by (L.heads lanes.now) routes.now.times next.now (job_at candidates.now i) ≤ result.1 }
+{
+    let mut last = candidates[0].job as usize;
+    let mut end = end_of(lanes, routes, next, last);
+    for index in 1..candidates.len() {
+        let job = candidates[index].job as usize;
+        let its = end_of(lanes, routes, next, job);
+        if its > end {
+            last = job;
+            end = its;
+        }
+    }
+    (last, end)
+}
+
+/// When the last of the operations of other jobs than `last` ends, or 0 if there are no others.
+fn second_of<L: StateLanes>(
+    candidates: &[Candidate],
+    lanes: &L,
+    routes: &Routes,
+    next: &[u32],
+    last: usize,
+) -> u64
+    requires { (i : ℕ) → i < length candidates.now
+        → CanEnd L.GREATEST routes.now (L.heads lanes.now) next.now (job_at candidates.now i) }
+    ensures is { (result ≡ 0) ⊎ ((j : ℕ) × (IsAmong candidates.now j × ((j ≡ last → ⊥)
+        × (result ≡ end_by (L.heads lanes.now) routes.now.times next.now j)))) }
+    ensures others { (i : ℕ) → i < length candidates.now → (job_at candidates.now i ≡ last → ⊥)
+        → end_by (L.heads lanes.now) routes.now.times next.now (job_at candidates.now i) ≤ result }
+{
+    let mut second = 0;
+    for index in 0..candidates.len() {
+        let job = candidates[index].job as usize;
+        if job != last {
+            let its = end_of(lanes, routes, next, job);
+            if its > second {
+                second = its;
+            }
+        }
+    }
+    second
+}
+
+/// Finds which of `candidates`, one at least, ends last, and when the others end.
+fn latest_of<L: StateLanes>(
+    candidates: &[Candidate],
+    lanes: &L,
+    routes: &Routes,
+    next: &[u32],
+) -> Latest
+    requires some { 0 < length candidates.now }
+    requires can { (i : ℕ) → i < length candidates.now
+        → CanEnd L.GREATEST routes.now (L.heads lanes.now) next.now (job_at candidates.now i) }
+    ensures { AreLatest (end_by (L.heads lanes.now) routes.now.times next.now) candidates.now result }
+{
+    let (job, end) = last_of(candidates, lanes, routes, next);
+    let second = second_of(candidates, lanes, routes, next, job);
+    Latest { job, end, second }
+}
+
+/// Raises each later head on the route of the operation at `position` that is too early if its machine is free from
+/// `free` on and not before. Notes how far these heads rose. The operation's own head stays.
+#[inline(always)]
+fn raise_behind<L: StateLanes>(
+    lanes: &mut L,
+    raises: &mut [LaneRaise<L::Number>],
+    raised: &mut MachineSet,
+    routes: &Routes,
+    position: usize,
+    free: u64,
+)
+    requires waits { 0 < slice_index (L.heads lanes.old) position }
+    requires can { CanRaiseBehind L.GREATEST routes.now
+        (rows_of routes.now (L.heads lanes.old) (L.ends lanes.old)) (IsEndAt position free) }
+    requires known { AreKnown routes.now.machines (length raises.old) }
+    requires listed { AreListed (raises_in L.value raises.old) raised.old }
+    ensures raises { RaisesBehind routes.now (IsEndAt position free)
+        (rows_of routes.now (L.heads lanes.old) (L.ends lanes.old))
+        (rows_of routes.now (L.heads lanes.new) (L.ends lanes.new)) }
+    ensures noted { Watches no_floor routes.now.machines (L.heads lanes.old) (L.heads lanes.new)
+        (raises_in L.value raises.old) (raises_in L.value raises.new) }
+    ensures listed { AreListed (raises_in L.value raises.new) raised.new }
+    ensures machines { length raises.new ≡ length raises.old }
+{
+    let ready = free + routes.time(position);
+    let leg = routes.leg(routes.behind(position));
+    let first = leg.position as usize;
+    let head = lanes.head_or_greatest(first);
+    if ready <= head {
+        return;
+    }
+    see::<L>(raises, raised, leg.machine, head, ready);
+    raise_route(lanes, raises, raised, routes, first, ready);
+}
+
+/// Tells whether something waits with this head, and would begin before `end`.
+#[inline(always)]
+fn is_delayed(head: u64, end: u64) -> bool
+    ensures yes { IsTrue result → (0 < head) × (head < end) }
+    ensures no { result ≡ false → (head ≡ 0) ⊎ (end ≤ head) }
+{
+    head > 0 && head < end
+}
+
+/// Until when a candidate may keep the machine from what waits at `position`.
+#[inline(always)]
+fn free_at(position: usize, last: usize, latest: Latest) -> u64
+    ensures { ((position ≡ last) × (result ≡ latest.second))
+        ⊎ ((position ≡ last → ⊥) × (result ≡ latest.end)) }
+{
+    if position == last {
+        return latest.second;
+    }
+    latest.end
+}
+
+/// Raises the heads behind all that waits at positions `from` up to `to` (excluded), those of one machine, as far as any
+/// candidate delays it: until the latest end, and what waits at `last`, which is that of the candidate that ends last,
+/// until the second. Notes how far heads rose. No head of a child is higher, but where its own operation delays it.
+pub(crate) fn raise_late<L: StateLanes>(
+    lanes: &mut L,
+    raises: &mut [LaneRaise<L::Number>],
+    raised: &mut MachineSet,
+    routes: &Routes,
+    from: usize,
+    to: usize,
+    last: usize,
+    latest: Latest,
+)
+    requires ordered { from ≤ to }
+    requires within { to ≤ length (L.heads lanes.old) }
+    requires second { latest.second ≤ latest.end }
+    requires can { CanRaiseBehind L.GREATEST routes.now
+        (rows_of routes.now (L.heads lanes.old) (L.ends lanes.old)) (IsLateIn from to last latest.end latest.second) }
+    requires known { AreKnown routes.now.machines (length raises.old) }
+    requires listed { AreListed (raises_in L.value raises.old) raised.old }
+    ensures raises { RaisesBehind routes.now (IsLateIn from to last latest.end latest.second)
+        (rows_of routes.now (L.heads lanes.old) (L.ends lanes.old))
+        (rows_of routes.now (L.heads lanes.new) (L.ends lanes.new)) }
+    ensures noted { Watches no_floor routes.now.machines (L.heads lanes.old) (L.heads lanes.new)
+        (raises_in L.value raises.old) (raises_in L.value raises.new) }
+    ensures listed { AreListed (raises_in L.value raises.new) raised.new }
+    ensures machines { length raises.new ≡ length raises.old }
+{
+    for position in from..to {
+        if is_delayed(lanes.head(position), latest.end) {
+            let free = free_at(position, last, latest);
+            raise_behind(lanes, raises, raised, routes, position, free);
+        }
+    }
+}
+
+/// The first position of `machine`, and the position behind its last one. No block lies behind the last position.
+fn positions_of<L: StateLanes>(grid: &Grid<L>, machine: usize) -> (usize, usize)
+    requires small { machine + 1 < 2 ^ 64 }
+    requires known { machine + 1 < length grid.now.blocks }
+    requires ordered { slice_index grid.now.blocks machine ≤ slice_index grid.now.blocks (machine + 1) }
+    requires within { 8 * slice_index grid.now.blocks (machine + 1) ≤ length grid.now.following }
+    ensures first { result.0 ≡ 8 * slice_index grid.now.blocks machine }
+    ensures behind { result.1 ≡ 8 * slice_index grid.now.blocks (machine + 1) }
+{
+    let blocks = grid.positions() / 8;
+    let first = grid.block(machine).min(blocks);
+    let behind = grid.block(machine + 1).min(blocks);
+    (8 * first, 8 * behind)
+}
+
+/// The greatest bound by the own machine of a candidate alone, no less than `bound`.
+fn greatest_own(candidates: &[Candidate], bound: u64) -> u64 {
+    candidates
+        .iter()
+        .map(|candidate| candidate.own)
+        .fold(bound, u64::max)
+}
+
+/// Finds for each machine a number that bounds what any child of a word by one of `candidates` comes to there, and
+/// answers the greatest of them, or one above all that the candidates' own numbers tell. `lanes` holds the word's heads
+/// and is used up; `next` has the word's next operations, and `bound` is its bound. The numbers, one higher, go into
+/// `ceilings`.
+#[inline(never)]
+pub(crate) fn bound_children<L: StateLanes>(
+    lanes: &mut L,
+    raises: &mut MachineRaises<L>,
+    ceilings: &mut [u64],
+    grid: &Grid<L>,
+    next: &[u32],
+    candidates: &[Candidate],
+    bound: u64,
+) -> u64
+    requires at_rest { AreEmpty raises.old }
+    requires room { length ceilings.old ≡ length raises.old }
+    requires some { 0 < length candidates.now }
+    requires can { CanBoundChildren L.GREATEST grid.now
+        (rows_of grid.now (L.heads lanes.old) (L.ends lanes.old)) next.now candidates.now bound
+        (length raises.old) }
+    ensures known { (shop : Shop) (w : List ℕ) → IsKeptInLanes L.GREATEST shop w grid.now
+        (rows_of grid.now (L.heads lanes.old) (L.ends lanes.old)) next.now
+        → AreSiblings shop w candidates.now → bound ≡ lb shop w → (i : ℕ) → i < length candidates.now
+        → AreChildCeilings shop w grid.now (job_at candidates.now i) ceilings.new }
+    ensures settled { (shop : Shop) (w : List ℕ) → IsKeptInLanes L.GREATEST shop w grid.now
+        (rows_of grid.now (L.heads lanes.old) (L.ends lanes.old)) next.now
+        → AreSiblings shop w candidates.now → bound ≡ lb shop w → (i least : ℕ) → i < length candidates.now
+        → IsAdvancing L.GREATEST shop w grid.now
+        (rows_of grid.now (L.heads lanes.old) (L.ends lanes.old)) next.now (job_at candidates.now i) least
+        → result ≤ least → lb shop (w ++ job_at candidates.now i ∷ []) ≡ least }
+    ensures long { length ceilings.new ≡ length ceilings.old }
+    ensures positions { length (L.heads lanes.new) ≡ length (L.heads lanes.old) }
+    ensures ends { L.ends lanes.new ≡ L.ends lanes.old }
+    ensures machines { length raises.new ≡ length raises.old }
+    ensures rest { AreEmpty raises.new }
+{
+    let routes = grid.routes();
+    let latest = latest_of(candidates, lanes, &routes, next);
+    let last = next[latest.job] as usize;
+    let machine = routes.machine(last) as usize;
+    let (from, to) = positions_of(grid, machine);
+    let raised = raises.raise_late(lanes, &routes, from, to, last, latest);
+    let limit = greatest_own(candidates, bound).saturating_add(2);
+    raises.take_ceilings(raised, ceilings, lanes, grid, bound, limit)
+}
