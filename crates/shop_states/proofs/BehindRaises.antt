@@ -1,11 +1,11 @@
 -- Heads behind operations of a machine are raised, one operation after the other.
-use Rattle.std.proofs.Common.{◌≡◌, ℕ, ◌+◌, ◌≤◌, ◌<◌, ◌⊎◌, inl, inr, List, [], length, get_or, refl, sym, ◌∙◌, ap, subst}
+use Rattle.std.proofs.Common.{◌≡◌, ℕ, ◌+◌, ◌≤◌, ◌<◌, ◌⊎◌, inl, inr, [], length, get_or, refl, sym, ◌∙◌, ap, subst}
 use Rattle.std.proofs.Common.{arith}
 use Rattle.std.proofs.lemmas.Bool.{cases_eq, cases_lt}
 use Rattle.std.proofs.lemmas.List.{get_or_default, get_or_past}
 use Rattle.shop_lanes.specs.Rows.{Rows}
 use Rattle.shop_layout.specs.declared.legs.Leg.{Leg}
-use Rattle.shop_layout.specs.Legs.{all_legs, end_of, leg_index, leg_of}
+use Rattle.shop_layout.specs.Legs.{all_legs, end_of, leg_index}
 use Rattle.shop_layout.specs.Positions.{LayoutState, place, place_or}
 use Rattle.shop_layout.proofs.RouteLegs.{index_known, leg_behind, leg_here}
 use Rattle.shop_states.specs.inner.Raises.{AreInRouteOrder, IsFollowed, IsIndexed, IsPlace, IsPosition, IsRaisable}

@@ -1,21 +1,12 @@
 -- Ceilings of spans, read off the spans from heads.
-use Rattle.std.proofs.Common.{◌≡◌, ℕ, ◌+◌, ◌*◌, ◌≤◌, ◌<◌, inl, inr, List, [], ◌∷◌, length, get_or}
-use Rattle.std.proofs.Common.{refl, sym, ◌∙◌, ap, subst, arith}
+use Rattle.std.proofs.Common.{◌≡◌, ℕ, ◌+◌, ◌≤◌, ◌<◌, inl, inr, List}
+use Rattle.std.proofs.Common.{refl, ◌∙◌, arith}
 use Rattle.std.proofs.lemmas.Bool.{cases_lt}
-use Rattle.shop_lanes.specs.Rows.{Lane, Rows}
-use Rattle.shop_lanes.specs.Spans.{FitsSpan, span, spans_between}
+use Rattle.shop_lanes.specs.Rows.{Lane}
+use Rattle.shop_lanes.specs.Spans.{span, spans_between}
 use Rattle.shop_lanes.proofs.LeapTurns.{least_among, least_head, least_head_le, same_span, span_falls}
-use Rattle.shop_layout.specs.Lanes.{lanes_on}
-use Rattle.shop_layout.specs.HeadLimits.{FitsLanes, latest_end}
-use Rattle.shop_layout.specs.Positions.{LayoutState}
-use Rattle.shop_model.specs.Shop.{Shop}
 use Rattle.shop_states.specs.inner.Ceilings.{IsCeiling}
-use Rattle.shop_states.specs.inner.LaneStates.{AreHeadsInLanes}
-use Rattle.shop_states.proofs.ChildRaises.{heads_small}
-use Rattle.shop_states.proofs.LaneFits.{spans_fit}
-use Rattle.shop_states.proofs.FittingSpans.{span_within}
 use Rattle.shop_states.proofs.RisenLanes.{AreBeside, IsLaneBeside, beside, nothing}
-use Rattle.shop_states.proofs.SeenRaises.{blocks_beside}
 use Rattle.shop_states.proofs.SpanTurns.{span_left}
 
 -- no head is above a number

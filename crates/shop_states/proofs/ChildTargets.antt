@@ -1,12 +1,12 @@
 -- The heads that a child of a word has, before any list of them is at hand.
 use Rattle.std.proofs.Common.{◌≡◌, ℕ, zero, suc, ◌+◌, ◌≤◌, ◌<◌, inl, inr, List, [], ◌∷◌, ◌++◌, length, get_or, set}
-use Rattle.std.proofs.Common.{refl, sym, ◌∙◌, ap, subst, arith}
+use Rattle.std.proofs.Common.{refl, sym, ◌∙◌, ap, arith}
 use Rattle.std.proofs.lemmas.Bool.{cases_eq, cases_lt}
 use Rattle.std.proofs.lemmas.List.{get_or_append_left, get_or_past, get_or-set_other, length-append}
 use Rattle.std.proofs.lemmas.Grind.{get_or-set_at}
 use Rattle.std.proofs.Math.Seq.{get_or-append_seam}
 use Rattle.shop_lanes.specs.Rows.{Rows}
-use Rattle.shop_model.specs.Shop.{Shop, IsOperation, machine_of, time_of}
+use Rattle.shop_model.specs.Shop.{Shop, IsOperation, machine_of}
 use Rattle.shop_model.specs.Word.{IsWord, Placing, place_next, placing}
 use Rattle.shop_model.proofs.Unders.{placing-snoc}
 use Rattle.shop_bound.specs.Heads.{head_of}

@@ -1,28 +1,26 @@
 -- What is known of the children of a word once heads are raised as if their machine were free late.
-use Rattle.std.proofs.Common.{◌≡◌, ℕ, ◌+◌, ◌*◌, ◌^◌, ◌≤◌, ◌<◌, inl, inr, List, [], ◌∷◌, ◌++◌, length, get_or, min}
-use Rattle.std.proofs.Common.{refl, sym, ◌∙◌, ap, subst, arith}
+use Rattle.std.proofs.Common.{◌≡◌, ℕ, ◌+◌, ◌*◌, ◌^◌, ◌≤◌, ◌<◌, inl, inr, List, [], ◌∷◌, ◌++◌, length, get_or}
+use Rattle.std.proofs.Common.{refl, ◌∙◌, ap, arith}
 use Rattle.shop_lanes.specs.Rows.{Rows}
 use Rattle.shop_model.specs.Shop.{Shop, machine_of}
-use Rattle.shop_model.specs.Word.{IsWord, placing}
+use Rattle.shop_model.specs.Word.{placing}
 use Rattle.shop_bound.specs.Bound.{lb}
 use Rattle.shop_bound.proofs.SmallSums.{sums_small}
 use Rattle.shop_layout.specs.HeadLimits.{latest_end}
 use Rattle.shop_layout.specs.Lanes.{lanes_on, rows_of}
 use Rattle.shop_layout.specs.Positions.{LayoutState}
-use Rattle.shop_layout.proofs.LaneLimits.{blocks_within}
-use Rattle.shop_layout.proofs.LaidPlaces.{machines_rise}
 use Rattle.shop_states.specs.declared.dispatching.Candidate.{Candidate}
 use Rattle.shop_states.specs.declared.siblings.Latest.{Latest}
 use Rattle.shop_states.specs.inner.Advances.{IsAdvancing}
 use Rattle.shop_states.specs.inner.Ceilings.{AreChildCeilings, IsCeiling}
 use Rattle.shop_states.specs.inner.HeadRaises.{Raise, raise_of}
 use Rattle.shop_states.specs.inner.LaneStates.{IsKeptInLanes}
-use Rattle.shop_states.specs.inner.MachineRaises.{AreEmpty, AreListed, AreRaisesFit, CanTakeSpans}
+use Rattle.shop_states.specs.inner.MachineRaises.{AreEmpty, AreRaisesFit}
 use Rattle.shop_states.specs.inner.Raises.{HasBlocks}
 use Rattle.shop_states.specs.inner.Siblings.{AreLatest, AreSiblings, BoundsRaises, CanRaiseBehind, IsAmong}
 use Rattle.shop_states.specs.inner.Siblings.{IsLateIn, RaisesBehind}
 use Rattle.shop_states.specs.inner.Siblings.{end_by, job_at}
-use Rattle.shop_states.specs.inner.Watchers.{AreSeen, IsSeenAt, Watches, no_floor}
+use Rattle.shop_states.specs.inner.Watchers.{AreSeen, Watches, no_floor}
 use Rattle.shop_states.proofs.LaneFits.{spans_fit}
 use Rattle.shop_states.proofs.LateHeads.{can_late, its_word, now_small}
 use Rattle.shop_states.proofs.LateSpans.{child_ceilings, late_ceiling, settled}
@@ -62,7 +60,6 @@ module _ {greatest : ℕ} {shop : Shop} {w : List ℕ} {l : LayoutState} {hs es 
   module _ {from to : ℕ} (from_is : from ≡ 8 * get_or l.blocks m 0) (to_is : to ≡ 8 * get_or l.blocks (m + 1) 0)
       {now : Rows}
       (raises : RaisesBehind l (IsLateIn from to (get_or nexts t.job 0) t.end t.second) (rows_of l hs es) now) where
-
     module _ {before after : List Raise} (empty : AreEmpty before) (many : length before ≡ shop.machines)
         (noted : Watches no_floor l.machines hs now.heads before after) where
       seen : AreSeen no_floor l.machines after hs now.heads

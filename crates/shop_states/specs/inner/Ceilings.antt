@@ -5,7 +5,7 @@
 --                                    operation on
 --     AreUnder cs raises l rows ..   what begins within the raise of a machine with a number is no
 --                                    more than that, or than `least`
-use Rattle.std.specs.Prelude.{◌≡◌, ℕ, ◌+◌, ◌≤◌, ◌<◌, max, List, [], ◌∷◌, ◌++◌, length, slice_index}
+use Rattle.std.specs.Prelude.{◌≡◌, ℕ, ◌+◌, ◌≤◌, ◌<◌, max, List, length, slice_index}
 use Rattle.shop_lanes.specs.Rows.{Lane, Rows}
 use Rattle.shop_lanes.specs.Spans.{span, spans_between}
 use Rattle.shop_layout.specs.Lanes.{lanes_on}

@@ -1,6 +1,5 @@
-use Rattle.std.proofs.Common.{ℕ, ◌+◌, ◌≤◌, ◌<◌, ◌∙◌, inl, inr, List, ap, arith, get_or, length, subst, sym, refl, set}
+use Rattle.std.proofs.Common.{◌<◌, ◌∙◌, inl, inr, List, ap, arith, length, subst, sym, refl, set}
 use Rattle.std.proofs.lemmas.List.{length-map, length-set}
-use Rattle.shop_lanes.specs.Spans.{spans_between}
 use Rattle.shop_layout.specs.Lanes.{rows_of, lanes_on}
 use Rattle.shop_states.specs.inner.HeadRaises.{Raise, nothing_raised, raise_in, raise_of, raises_in}
 use Rattle.shop_states.specs.inner.MachineRaises.{IsSpanByRaise}

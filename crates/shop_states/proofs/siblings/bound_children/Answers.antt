@@ -1,4 +1,4 @@
-use Rattle.std.proofs.Common.{◌≡◌, ℕ, ◌+◌, ◌≤◌, ◌∙◌, List, ap, length, min, refl, sym, subst, arith}
+use Rattle.std.proofs.Common.{◌+◌, ◌∙◌, refl, arith}
 use Rattle.shop_states.proofs.ChildrenBounds.{bound_small, children_can, children_known, children_settled}
 use Rattle.shop_states.proofs.ChildrenBounds.{late_raises_fit, machine_blocks}
 use Rattle.shop_states.proofs.LateHeads.{can_end, second_low}

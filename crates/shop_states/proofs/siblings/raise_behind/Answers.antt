@@ -4,10 +4,8 @@ use Rattle.shop_states.specs.inner.HeadRaises.{raise_in}
 use Rattle.shop_states.proofs.BehindRaises.{its_end, its_leg, its_place, its_within, late_enough, leg_up_to}
 use Rattle.shop_states.proofs.BehindRaises.{next_machine, next_raisable, next_read, next_there, next_waits}
 use Rattle.shop_states.proofs.BehindRaises.{raised_behind}
-use Rattle.shop_states.proofs.RaisedMachines.{lengths_in}
-use Rattle.shop_states.proofs.Watching.{noted_behind, sees_long, watch_none}
+use Rattle.shop_states.proofs.Watching.{noted_behind, watch_none}
 use Rattle.shop_states.specs.inner.Watchers.{no_floor}
-use Rattle.shop_states.proofs.siblings.raise_behind.Given as given
 use Rattle.shop_states.proofs.siblings.raise_behind.Goals as goal
 
 pub time-requires : goal.time-requires

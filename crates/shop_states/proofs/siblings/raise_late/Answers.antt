@@ -1,6 +1,5 @@
 use Rattle.std.proofs.Common.{◌∙◌, inl, inr, refl, arith}
 use Rattle.shop_layout.specs.Lanes.{rows_of}
-use Rattle.shop_states.specs.inner.HeadRaises.{raises_in}
 use Rattle.shop_states.specs.inner.Watchers.{no_floor}
 use Rattle.shop_states.proofs.BehindRaises.{late_begins, late_can, late_ends, late_on, late_past}
 use Rattle.shop_states.proofs.Watching.{watch_both, watch_none}
