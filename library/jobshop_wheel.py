@@ -1,5 +1,5 @@
-"""Makes a wheel of the module and the shared library, for pip: `pip install ./library` in a checkout where library/build
-was run, or `pip install PREFIX/lib/jobshop` of an install. Needs nothing but Python, and no network."""
+"""Makes a wheel of the module and the shared library, for pip: by `pip install ./library` in a checkout where
+library/build was run, or by `pip install PREFIX/lib/jobshop` of an install. Needs Python alone, and no network."""
 
 import base64
 import ctypes
