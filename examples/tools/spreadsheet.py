@@ -8,7 +8,9 @@ The sheet is UTF-8, with commas, semicolons or tabs between fields. A first line
 a line with the names of its columns it has a row for each step, the steps of a job in order: job, machine, hours, and
 in the first row of a job its release (the hour before which it can't begin) or nothing. The names of columns may be in
 any case, and other columns are left out: `routes` names these on standard error, and names that differ by case alone.
-Hours are written 2, 1.5, 1,25 or 1:30. Jobs and machines are numbered as they come.
+Hours are written 2, 1.5, 1,25 or 1:30. Jobs and machines are numbered as they come. A unit of the instance is half an
+hour, or with --units-an-hour N an N-th of an hour, the same in all calls. With --start 7:45 the list has times of the
+day, those of the next day from 24:00 on.
 """
 
 import argparse
@@ -27,10 +29,10 @@ HOURS = re.compile(r"([0-9]{1,9})(?:[.,]([0-9]{1,2})|:([0-5][0-9]))?")
 
 
 class Words(argparse.ArgumentParser):
-    """The words of a call; a faulty one is told how it is called."""
+    """The words of a call. Faulty ones are told what the script takes."""
 
     def error(self, message):
-        sys.exit(f"{__doc__}\n{self.format_usage()}{message}")
+        sys.exit(f"{__doc__}\n{message}")
 
 
 def hours_in(field):
@@ -162,10 +164,8 @@ def words_given():
     words.add_argument("what", choices=("routes", "names", "list"), help=argparse.SUPPRESS)
     words.add_argument("sheet", help=argparse.SUPPRESS)
     words.add_argument("report", nargs="?", help=argparse.SUPPRESS)
-    words.add_argument("--units-an-hour", type=int, default=2, metavar="N",
-                       help="the program's units in an hour (2: a unit is half an hour), the same in all calls")
-    words.add_argument("--start", metavar="H:MM",
-                       help="when hour 0 is: list then prints times of day, those of the next day from 24:00 on")
+    words.add_argument("--units-an-hour", type=int, default=2, metavar="N", help="2 if it isn't given")
+    words.add_argument("--start", metavar="H:MM", help="the time of the day at hour 0")
     words = words.parse_args()
     if (words.what == "list") != (words.report is not None):
         sys.exit(__doc__)
