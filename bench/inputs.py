@@ -37,6 +37,8 @@ TEXTS = {
     "random 15 x 15": lambda: random_text(15, 15, 1),
     "random 20 x 15": lambda: random_text(20, 15, 2),
     "random 50 x 15": lambda: random_text(50, 15, 4),
+    "random 70 x 12": lambda: random_text(70, 12, 15),
+    "random 100 x 20": lambda: random_text(100, 20, 16),
     "random 200 x 15": lambda: random_text(200, 15, 5),
     "random 1000 x 100": lambda: random_text(1000, 100, 3),
     "one machine": lambda: text_of_one_machine(1000, 100, 6),

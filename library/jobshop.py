@@ -1,18 +1,27 @@
 """An exact solver of the job shop whose answers are proved: the library behind the program `jobshop`, for Python.
 
     import jobshop
-    text = open("ft06.txt").read()
-    report = jobshop.solve(text)
+    text = open("ft10.txt", "rb").read()
+    report = jobshop.solve(text, rounds=100, budget=1000, order="bound")
     print(report.makespan, report.bound, report.is_optimal, report.starts)
     verdict = jobshop.check(text, report.starts)
     print(verdict.makespan, verdict.fault)
 
-A text is `str` or bytes in a format of the program, and never a path. The text of a report and the line of a verdict
-are those that the program prints, byte for byte. A text that is refused raises `Refused`. A call keeps nothing, and
-lets other threads run.
+This plan takes seconds up to some 50 x 15; the default plan of `solve` may take hours.
 
-Ctrl-C ends the wait for `solve` with KeyboardInterrupt. The search itself can't be stopped: it goes on in a thread of
-its own until it is done or Python ends. To stop a search while Python goes on, run the program `jobshop` instead.
+A text is `str` or bytes, and never a path. Its format is "orlib" (the default), "taillard" or "routes". An instance may
+also be a list: for each job its steps in order, as pairs of machine (from 0) and time. (`routes` makes a text of such a
+list, with releases too.) A schedule is a text, or a list with the starts of each job. Times and releases are whole
+numbers from 0 to 1,000,000,000.
+
+    report = jobshop.solve([[(0, 3), (1, 2)], [(1, 2), (0, 4)]])
+
+The text of a report and the line of a verdict are those that the program prints, byte for byte. A text that is refused
+raises `Refused`. A call keeps nothing, and lets other threads run.
+
+Ctrl-C ends the wait for `solve` with KeyboardInterrupt, and a process that ends waits for no search. The search itself
+can't be stopped: it goes on in a thread of its own until it is done or Python ends. To stop a search while Python goes
+on, run the program `jobshop` instead.
 
 The shared library is looked for beside this file, in a folder lib above it, or where JOBSHOP_LIBRARY says.
 """
@@ -20,14 +29,18 @@ The shared library is looked for beside this file, in a folder lib above it, or 
 import ctypes
 import operator
 import os
+import threading
 from _thread import start_new_thread
 from collections.abc import Iterable
 from pathlib import Path
-from queue import SimpleQueue
-from threading import current_thread, main_thread
+from queue import Empty, SimpleQueue
 from typing import NamedTuple, Optional, Union
 
+__all__ = ["Fault", "Instance", "Refused", "Report", "Verdict", "check", "instances", "routes", "solve"]
+
 Text = Union[str, bytes, bytearray, memoryview]
+# the steps of each job, as pairs of machine and time
+Jobs = Iterable[Iterable[tuple[int, int]]]
 # the starts of each job
 Starts = Iterable[Iterable[int]]
 
@@ -38,6 +51,7 @@ TOO_SMALL = 100
 BAD_ARGUMENT = 101
 # JOBSHOP_LONGEST_REPORT of jobshop.h
 LONGEST_REPORT = 1_800_000
+HALF_A_SECOND = 0.5
 WORDS = {
     1: "out of memory",
     3: "text too long",
@@ -54,18 +68,22 @@ WORDS = {
 
 
 class Refused(ValueError):
-    """A text is refused: `kind` is the number of the refusal and `line` its line, or None where it has none."""
+    """A text is refused: `kind` is the number of the refusal and `line` its line, or None where it has none. The
+    message ends with a hint where a text is the path of a file."""
 
-    def __init__(self, kind: int, line: Optional[int] = None) -> None:
+    def __init__(self, kind: int, line: Optional[int] = None, hint: str = "") -> None:
         self.kind = kind
         self.line = line or None
-        super().__init__(kind, line)
+        self.hint = hint
+        super().__init__(kind, line, hint)
 
     def __str__(self) -> str:
-        return f"error {self.kind}: " + (f"line {self.line}: " if self.line else "") + WORDS[self.kind]
+        return f"error {self.kind}: " + (f"line {self.line}: " if self.line else "") + WORDS[self.kind] + self.hint
 
 
 class Instance(NamedTuple):
+    """An instance of a text: its name, or without one its number from 1; its jobs and its machines."""
+
     name: str
     jobs: int
     machines: int
@@ -84,10 +102,14 @@ class Fault(NamedTuple):
 
 
 class Verdict(NamedTuple):
-    """The verdict of `check`: is the schedule feasible, and the line that the program prints, as `feasible 55`."""
+    """The verdict of `check`: is the schedule feasible, and the line that the program prints, as `feasible 55`. As a
+    condition it is true where the schedule is feasible."""
 
     is_feasible: bool
     line: str
+
+    def __bool__(self) -> bool:
+        return self.is_feasible
 
     @property
     def makespan(self) -> Optional[int]:
@@ -107,7 +129,8 @@ class Verdict(NamedTuple):
 
 
 class Report(NamedTuple):
-    """The report of `solve`: its text as the program prints it, and its numbers."""
+    """The report of `solve`: its text as the program prints it, and its numbers. No schedule ends before `bound`, and
+    where it `is_optimal` none before `makespan`; `starts` has those of each job's steps."""
 
     text: str
     name: str
@@ -194,14 +217,28 @@ def _schedule(schedule):
     return _bytes(schedule)
 
 
+def _instance(text, format):
+    """The number of a format, and an instance's text in it, with its length; a list of jobs is written as `routes`."""
+    number = _number_of(format, FORMATS)
+    if isinstance(text, Iterable) and not isinstance(text, TEXTS):
+        text, number = routes(text), FORMATS.index("routes")
+    return number, _bytes(text)
+
+
+def _hint(texts):
+    """What a refusal says besides, where a text is the path of a file."""
+    path = next((text for text in texts if isinstance(text, str) and os.path.isfile(text)), None)
+    return "" if path is None else f" ({path!r} is a file: give what it holds, not its path)"
+
+
 def _number_of(word, words):
     if word not in words:
         raise ValueError(f"{word!r} is none of {', '.join(words)}")
     return words.index(word)
 
 
-def _answer(length, call, *arguments):
-    """The outcome of a call and its answer, for which a room of this length is enough."""
+def _answer(length, texts, call, *arguments):
+    """The outcome of a call on these texts and its answer, for which a room of this length is enough."""
     room = ctypes.create_string_buffer(length)
     outcome = call(*arguments, room, length)
     if outcome.status == BAD_ARGUMENT:
@@ -209,47 +246,75 @@ def _answer(length, call, *arguments):
     if outcome.status == TOO_SMALL:
         raise RuntimeError(f"the answer has {outcome.length} bytes, and its room {length}")
     if outcome.status:
-        raise Refused(outcome.status, outcome.line)
+        raise Refused(outcome.status, outcome.line, _hint(texts))
     return outcome, ctypes.string_at(room, outcome.length).decode()
 
 
+def _is_awaited():
+    """Is this a thread for which a process that ends would wait?"""
+    main = threading.main_thread()
+    is_ending = getattr(threading, "_SHUTTING_DOWN", False) or not main.is_alive()
+    return is_ending and threading.current_thread() is not main
+
+
 def _apart(call):
-    """The call; in the main thread, which it would keep from Ctrl-C, a thread of its own makes it."""
+    """The call, made in a thread that nobody waits for: Ctrl-C ends the wait for its outcome, and so does the end of
+    the process, which ends the thread that waits."""
 
     def begin(*arguments):
         outcomes = SimpleQueue()
         start_new_thread(lambda: outcomes.put(call(*arguments)), ())
-        return outcomes.get()
+        while True:
+            try:
+                return outcomes.get(timeout=HALF_A_SECOND)
+            except Empty:
+                if _is_awaited():
+                    raise SystemExit from None
 
-    return begin if current_thread() is main_thread() else call
+    return begin
+
+
+def routes(jobs: Jobs, releases: Iterable[int] = ()) -> str:
+    """The text of an instance in the format "routes": for each job its steps in order, as pairs of machine (from 0) and
+    time. The releases are those of the first jobs, in order; each other job's is 0."""
+    rows = [[operator.index(number) for machine, time in route for number in (machine, time)] for route in jobs]
+    machines = 1 + max((machine for row in rows for machine in row[::2]), default=0)
+    earliest = [operator.index(release) for release in releases]
+    if len(earliest) > len(rows):
+        raise ValueError(f"{len(earliest)} releases of {len(rows)} jobs")
+    earliest += [0] * (len(rows) - len(earliest))
+    lines = (" ".join(map(str, [release, *row])) for release, row in zip(earliest, rows))
+    return "\n".join([f"{len(rows)} {machines}", *lines, ""])
 
 
 def instances(text: Text, format: str = "orlib") -> list[Instance]:
-    """The instances of a text, as `list` prints them."""
-    text, length = _bytes(text)
+    """The instances of a text, as `list` prints them. The format is "orlib", "taillard" or "routes"."""
+    given, (text, length) = text, _bytes(text)
     # an instance has at least 6 bytes, as "1 1\n0\n", and then a line of at most 12, as "2000000 1 1\n"
     room = 2 * length + 64
-    _, lines = _answer(room, _library.jobshop_list, _number_of(format, FORMATS), text, length)
+    _, lines = _answer(room, [given], _library.jobshop_list, _number_of(format, FORMATS), text, length)
     rows = (line.split(" ") for line in lines.splitlines())
     return [Instance(name, int(jobs), int(machines)) for name, jobs, machines in rows]
 
 
 def check(
-    text: Text,
+    text: Union[Text, Jobs],
     schedule: Union[Text, Starts, None] = None,
     *,
     name: Optional[Text] = None,
     format: str = "orlib",
 ) -> Verdict:
-    """Judges a schedule of the text's first instance, or of the one with this name. The schedule is a text, or a list
-    with the starts of each job; without one the text has its lines, too."""
-    arguments = [_number_of(format, FORMATS), *_name(name), *_bytes(text), *_schedule(schedule)]
-    outcome, line = _answer(256, _library.jobshop_check, *arguments)
+    """Judges a schedule of the text's first instance, or of the one with this name; the format is "orlib", "taillard"
+    or "routes". The instance may also be a list of jobs, each a list of pairs of machine and time. The schedule is a
+    text with a line `job 0: 0 3` for each job, or a list with the starts of each job; without one the instance's text
+    has these lines, too. Times and starts are whole numbers, starts up to 10^15."""
+    given, (number, instance) = [text, schedule], _instance(text, format)
+    outcome, line = _answer(256, given, _library.jobshop_check, number, *_name(name), *instance, *_schedule(schedule))
     return Verdict(outcome.feasible, line.rstrip("\n"))
 
 
 def solve(
-    text: Text,
+    text: Union[Text, Jobs],
     rounds: int = 1000,
     budget: int = 100_000,
     piece: int = 1,
@@ -259,17 +324,24 @@ def solve(
     name: Optional[Text] = None,
     format: str = "orlib",
 ) -> Report:
-    """Searches for a schedule of least makespan by a plan, with one worker, and reports the best one found with a
-    proved lower bound."""
+    """Searches for a schedule of least makespan, with one worker, and reports the best one found with a proved lower
+    bound. The instance is the text's first one, or the one with this name; the format is "orlib", "taillard" or
+    "routes". It may also be a list of jobs, each a list of pairs of machine and time.
+
+    The plan says how long the search may go on: at most `rounds` (0 to 100,000), each of up to 256 pieces of `piece`
+    open nodes (1 to 1,000), each of which may take `budget` nodes (1 to 10,000,000). The order "bound" takes open nodes
+    of least bound first, "kept" as they stand. The default plan may look at 25 billion nodes and take hours:
+    `rounds=100, budget=1000, order="bound"` takes seconds up to some 50 x 15. With `gantt` the report's text ends with
+    a chart."""
     numbers = (rounds, 100_000), (budget, 10_000_000), (piece, 1_000)
     if any(not 0 <= number <= most for number, most in numbers):
         raise ValueError("an option is out of range")
     options = _Options(rounds, budget, piece, _number_of(order, ORDERS), gantt)
-    text, length = _bytes(text)
-    arguments = [_number_of(format, FORMATS), *_name(name), ctypes.byref(options), text, length]
+    number, instance = _instance(text, format)
+    arguments = [number, *_name(name), ctypes.byref(options), *instance]
     # a step has at least 4 bytes in the text and at most 17 in the report, a name is part of the text
-    room = min(5 * length + 65_536, LONGEST_REPORT) + length
-    return _read(_answer(room, _apart(_library.jobshop_solve), *arguments)[1])
+    room = min(5 * instance[1] + 65_536, LONGEST_REPORT) + instance[1]
+    return _read(_answer(room, [text], _apart(_library.jobshop_solve), *arguments)[1])
 
 
 def _read(report):

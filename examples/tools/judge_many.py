@@ -33,7 +33,8 @@ path, count = sys.argv[1:]
 if not count.strip("0").isdecimal():
     sys.exit(f"COUNT is {count!r} and not a number from 1 on")
 try:
-    sys.path.insert(0, str(Path(__file__).resolve().parents[2] / "library"))
+    # of the checkout or the install that this file lies in
+    sys.path += [str(top / name) for top in Path(__file__).resolve().parents for name in ("library", "lib/jobshop")]
     import jobshop
 
     text, numbers = Path(path).read_bytes(), random.Random(1)

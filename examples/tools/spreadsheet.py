@@ -4,12 +4,16 @@
     python3 spreadsheet.py names SHEET.csv           the names of its machines and jobs, beside their numbers
     python3 spreadsheet.py list SHEET.csv REPORT     each step of the report's schedule, as CSV
 
-The sheet is UTF-8, with commas or semicolons between fields. Below a line with the names of its columns it has a row
-for each step, the steps of a job in order: job, machine, hours, and in the first row of a job its release (the hour
-before which it can't begin) or nothing. Hours are written 2, 1.5, 1,25 or 1:30. The program knows whole numbers alone:
-here a unit is half an hour. Jobs and machines are numbered as they come.
+The sheet is UTF-8, with commas, semicolons or tabs between fields. A first line `sep=;`, as of Excel, is skipped. Below
+a line with the names of its columns it has a row for each step, the steps of a job in order: job, machine, hours, and
+in the first row of a job its release (the hour before which it can't begin) or nothing. The names of columns may be in
+any case, and other columns are left out: `routes` names these on standard error, and names that differ by case alone.
+Hours are written 2, 1.5, 1,25 or 1:30. Jobs and machines are numbered as they come. A unit of the instance is half an
+hour, or with --units-an-hour N an N-th of an hour, the same in all calls. With --start 7:45 the list has times of the
+day, those of the next day from 24:00 on.
 """
 
+import argparse
 import csv
 import re
 import sys
@@ -18,22 +22,34 @@ from pathlib import Path
 
 from texts import lines_of, value
 
-UNITS_AN_HOUR = 2
 COLUMNS = ("job", "machine", "hours")
+MARKS = "\t;,"
 # three digits behind a mark might be meant as thousands
 HOURS = re.compile(r"([0-9]{1,9})(?:[.,]([0-9]{1,2})|:([0-5][0-9]))?")
 
 
-def units(hours):
-    """The units in a number of hours; an empty field is 0."""
-    found = HOURS.fullmatch(hours or "0")
+class Words(argparse.ArgumentParser):
+    """The words of a call. Faulty ones are told what the script takes."""
+
+    def error(self, message):
+        sys.exit(f"{__doc__}\n{message}")
+
+
+def hours_in(field):
+    """The hours in a field; an empty one has 0."""
+    found = HOURS.fullmatch(field or "0")
     if not found:
-        raise ValueError(f"{hours!r} is no number of hours: write 1000, 1.5, 1,25 or 1:30")
+        raise ValueError(f"{field!r} is no number of hours: write 1000, 1.5, 1,25 or 1:30")
     whole, part, minutes = found.groups(default="0")
-    count = (Fraction(f"{whole}.{part}") + Fraction(int(minutes), 60)) * UNITS_AN_HOUR
+    return Fraction(f"{whole}.{part}") + Fraction(int(minutes), 60)
+
+
+def units(field, units_an_hour):
+    """The units in a field of hours."""
+    count = hours_in(field) * units_an_hour
     if count.denominator != 1:
-        needed = UNITS_AN_HOUR * count.denominator
-        raise ValueError(f"{hours} hours are no whole number of units: set UNITS_AN_HOUR = {needed} in spreadsheet.py")
+        needed = units_an_hour * count.denominator
+        raise ValueError(f"{field} hours are no whole number of units: add --units-an-hour {needed}")
     return count.numerator
 
 
@@ -45,40 +61,70 @@ def fields_of(line, mark):
     return [field.strip() for field in fields]
 
 
-def add_step(jobs, machines, row):
+def columns_of(fields):
+    """The names of the columns, in small letters."""
+    columns = [field.lower() for field in fields]
+    for column in COLUMNS:
+        if column not in columns:
+            raise ValueError(f"no column is named {column}")
+    for column in (*COLUMNS, "release"):
+        if columns.count(column) > 1:
+            raise ValueError(f"two columns are named {column}")
+    return columns
+
+
+def add_step(jobs, machines, row, units_an_hour):
     """Adds the step of a row to its job: a release, and the machine and the units of each step."""
     for column in COLUMNS:
         if not row.get(column):
             raise ValueError(f"{column} is empty")
-    release = units(row.get("release"))
+    release = units(row.get("release"), units_an_hour)
     first, steps = jobs.setdefault(row["job"], (release, []))
     if row.get("release") and release != first:
         raise ValueError(f"job {row['job']} has another release in its first row")
-    steps.append((row["machine"], units(row["hours"])))
+    steps.append((row["machine"], units(row["hours"], units_an_hour)))
     machines.setdefault(row["machine"], len(machines))
 
 
-def read(path):
-    """The jobs of a sheet by name, and the number of each machine."""
-    with open(path, encoding="utf-8-sig") as file:
-        lines = file.readlines() or [""]
-    mark, columns, jobs, machines = ";" if ";" in lines[0] else ",", [], {}, {}
-    for number, line in enumerate(lines, 1):
+def lines_in(path):
+    """The lines of a sheet, each with its number."""
+    try:
+        with open(path, encoding="utf-8-sig") as file:
+            return list(enumerate(file, 1))
+    except UnicodeDecodeError:
+        raise ValueError("it isn't UTF-8: save it as CSV UTF-8") from None
+
+
+def read(path, units_an_hour):
+    """The jobs of a sheet by name, the number of each machine, and the names of its columns."""
+    lines, columns, jobs, machines = lines_in(path), None, {}, {}
+    mark = lines[0][1][4] if lines and re.fullmatch(r"sep=[\t;,]\s*", lines[0][1], re.IGNORECASE) else None
+    lines = lines[1:] if mark else lines or [(1, "")]
+    mark = mark or max(MARKS, key=lines[0][1].count)
+    for number, line in lines:
         try:
             fields = fields_of(line, mark)
-            if number == 1:
-                columns = fields
-                if missing := [column for column in COLUMNS if column not in columns]:
-                    raise ValueError(f"no column is named {missing[0]}")
+            if columns is None:
+                columns = columns_of(fields)
             elif len(fields) > len(columns):
-                raise ValueError("more fields than line 1 has")
+                raise ValueError(f"more fields than line {lines[0][0]} has")
             elif any(fields):
-                add_step(jobs, machines, dict(zip(columns, fields)))
+                add_step(jobs, machines, dict(zip(columns, fields)), units_an_hour)
         except ValueError as fault:
             raise ValueError(f"line {number}: {fault}") from None
     if not jobs:
-        raise ValueError("no row stands below the first line")
-    return jobs, machines
+        raise ValueError("no row stands below the line with the names of columns")
+    return jobs, machines, columns
+
+
+def remarks(jobs, machines, columns):
+    """What may not be meant: columns that are left out, and names that differ by case alone."""
+    yield from (f"column {it} is left out" for it in columns if it and it not in (*COLUMNS, "release"))
+    for what, names in (("jobs", jobs), ("machines", machines)):
+        alike = {}
+        for name in names:
+            alike.setdefault(name.casefold(), []).append(name)
+        yield from (f"{what} {' and '.join(it)} differ by case alone" for it in alike.values() if len(it) > 1)
 
 
 def routes(jobs, machines):
@@ -92,25 +138,57 @@ def names(jobs, machines):
     yield from (f"job {number}: {name}" for number, name in enumerate(jobs))
 
 
-def listed(jobs, report):
+def shown(unit, units_an_hour, start):
+    """A time as hours, or from a start of the day on as the time of day."""
+    if start is None:
+        return unit / units_an_hour
+    minutes = (start + Fraction(unit, units_an_hour)) * 60
+    if minutes.denominator != 1:
+        raise ValueError("with --start a unit has to be a whole number of minutes")
+    return f"{minutes.numerator // 60}:{minutes.numerator % 60:02}"
+
+
+def listed(jobs, report, units_an_hour, start):
     starts = [list(map(value, line[2:])) for line in lines_of(report) if line[0] == b"job"]
     if [len(row) for row in starts] != [len(steps) for _, steps in jobs.values()]:
         raise ValueError("no report on the jobs of this sheet")
     yield ["job", "step", "machine", "start", "end"]
     for (job, (_, steps)), row in zip(jobs.items(), starts):
-        for step, ((machine, time), start) in enumerate(zip(steps, row)):
-            yield [job, step, machine, start / UNITS_AN_HOUR, (start + time) / UNITS_AN_HOUR]
+        for step, ((machine, time), begin) in enumerate(zip(steps, row)):
+            yield [job, step, machine, *(shown(it, units_an_hour, start) for it in (begin, begin + time))]
 
 
-words = sys.argv[1:]
-if [*words[:1], len(words)] not in [["routes", 2], ["names", 2], ["list", 3]]:
-    sys.exit(__doc__)
-try:
-    jobs, machines = read(words[1])
-    if words[0] == "list":
-        rows = list(listed(jobs, Path(words[2]).read_bytes()))
-        csv.writer(sys.stdout, lineterminator="\n").writerows(rows)
-    else:
-        print(*(routes if words[0] == "routes" else names)(jobs, machines), sep="\n")
-except (OSError, ValueError) as fault:
-    sys.exit(f"{' '.join(words[1:])}: {fault}")
+def words_given():
+    words = Words(usage="python3 spreadsheet.py [OPTIONS] routes|names|list SHEET.csv [REPORT]", description=__doc__)
+    words.formatter_class = argparse.RawDescriptionHelpFormatter
+    words.add_argument("what", choices=("routes", "names", "list"), help=argparse.SUPPRESS)
+    words.add_argument("sheet", help=argparse.SUPPRESS)
+    words.add_argument("report", nargs="?", help=argparse.SUPPRESS)
+    words.add_argument("--units-an-hour", type=int, default=2, metavar="N", help="2 if it isn't given")
+    words.add_argument("--start", metavar="H:MM", help="the time of the day at hour 0")
+    words = words.parse_args()
+    if (words.what == "list") != (words.report is not None):
+        sys.exit(__doc__)
+    return words
+
+
+def main():
+    words = words_given()
+    try:
+        if words.units_an_hour < 1:
+            raise ValueError("--units-an-hour is at least 1")
+        start = None if words.start is None else hours_in(words.start)
+        jobs, machines, columns = read(words.sheet, words.units_an_hour)
+        if words.what == "list":
+            rows = list(listed(jobs, Path(words.report).read_bytes(), words.units_an_hour, start))
+            csv.writer(sys.stdout, lineterminator="\n").writerows(rows)
+            return
+        print(*(routes if words.what == "routes" else names)(jobs, machines), sep="\n")
+        if words.what == "routes":
+            for remark in remarks(jobs, machines, columns):
+                print(f"{words.sheet}: {remark}", file=sys.stderr)
+    except (OSError, ValueError) as fault:
+        sys.exit(f"{' '.join(filter(None, [words.sheet, words.report]))}: {fault}")
+
+
+main()

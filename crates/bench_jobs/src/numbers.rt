@@ -1,4 +1,4 @@
-// The numbers that instances and schedules are made of.
+// The random numbers that instances and schedules are made of.
 ghost use Rattle.std.specs.Prelude.{◌<◌};
 
 use std::alloc::{AllocError, Global};

@@ -79,7 +79,7 @@ impl Draft {
         self.begin_last_at(jobs.1, makespan);
     }
 
-    /// The schedule as a text.
+    /// Writes the schedule as a text. Fails with `AllocError` if memory runs out.
     fn text(&self, alloc: Global) -> Result<String, AllocError> {
         let mut text = String::new(alloc);
         for (job, row) in self.rows.iter().enumerate() {
@@ -93,7 +93,7 @@ impl Draft {
     }
 }
 
-/// The step of this number of a job.
+/// Answers step `step` of `job`, or `None` if there is none.
 fn step_of(instance: &Instance, job: usize, step: usize) -> Option<Step> {
     instance.routes.get(job)?.get(step).copied()
 }
@@ -113,7 +113,8 @@ fn late_jobs(instance: &Instance) -> Option<(usize, usize)> {
     Some((other, last))
 }
 
-/// The text of a schedule that places the steps one after the other, of the jobs in a random order each time.
+/// Makes the text of a schedule that places the first steps of all jobs, then the second ones, and so on, each time
+/// with the jobs in a random order.
 pub fn random_schedule(
     alloc: Global,
     numbers: &mut Numbers,

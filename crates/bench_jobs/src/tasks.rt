@@ -1,15 +1,15 @@
-// What each kind of work consists of.
+// The tasks that each kind of work consists of.
 use shop_engine::Order;
 use shop_engine::Order::{Bound, Kept};
 
-/// What is done with fresh random instances.
+/// A task on fresh random instances.
 #[derive(Clone, Copy)]
 pub enum Task {
-    /// Each instance is solved, in so many rounds of this budget.
+    /// Each instance is solved, by a plan of rounds, budget and order.
     Solve(u64, u64, Order),
-    /// The same with long routes over three machines.
+    /// Each instance of long routes over three machines is solved, by a plan of rounds, budget and order.
     SolveLongRoutes(u64, u64, Order),
-    /// Schedules of one instance are judged, which are feasible.
+    /// Feasible schedules of one instance are judged.
     CheckFeasible,
     /// Schedules of one instance are judged, in which an operation begins too early.
     CheckEarly,

@@ -1,4 +1,4 @@
-// The work of a kind.
+// Does the work of a kind, and digests what the engine answers.
 use crate::digests::Digest;
 use crate::instances::{Size, random_instance, random_text, text_of_long_routes, write_instance};
 use crate::numbers::Numbers;
@@ -11,15 +11,15 @@ use shop_engine::{
 use shop_round::Alone;
 use std::alloc::Global;
 
-/// What makes the inputs, and the digest of the outputs so far.
+/// The work of a kind: the numbers that its inputs are made of, and the digest of all answers so far.
 #[derive(Drop)]
-struct Desk {
+struct Workload {
     numbers: Numbers,
     digest: Digest,
 }
 
-impl Desk {
-    /// Adds the report on an instance text, of a run of so many rounds of this budget, one node in a piece.
+impl Workload {
+    /// Adds the report on an instance text, by a plan of `rounds`, `budget` and `order`, with one node in a piece.
     fn solve(
         &mut self,
         alloc: Global,
@@ -39,7 +39,7 @@ impl Desk {
         Ok(())
     }
 
-    /// Adds the reports on so many random instances of this size.
+    /// Adds the reports on `count` random instances of `size`.
     fn solve_random(
         &mut self,
         alloc: Global,
@@ -54,7 +54,7 @@ impl Desk {
         Ok(())
     }
 
-    /// Adds the reports on so many instances of long routes.
+    /// Adds the reports on `count` instances of long routes.
     fn solve_long_routes(
         &mut self,
         alloc: Global,
@@ -69,7 +69,7 @@ impl Desk {
         Ok(())
     }
 
-    /// Adds the verdicts on so many schedules of a random instance of this size.
+    /// Adds the verdicts on `count` schedules of a random instance of `size`.
     fn check(&mut self, alloc: Global, size: Size, count: usize, fault: Fault) -> Result<()> {
         let instance = random_instance(alloc, &mut self.numbers, size)?;
         let mut text = String::new(alloc);
@@ -88,7 +88,7 @@ impl Desk {
         Ok(())
     }
 
-    /// Adds the list of so many random instances of this size.
+    /// Adds the list of `count` random instances of `size`.
     fn list(&mut self, alloc: Global, size: Size, count: usize) -> Result<()> {
         let text = random_text(alloc, &mut self.numbers, size, count)?;
         let args = ListArgs {
@@ -115,13 +115,14 @@ impl Desk {
     }
 }
 
-/// The digest of what the engine answers to the tasks of a kind, whose inputs a seed makes.
+/// Does the tasks of `kind` on inputs made from `seed`, and answers the digest of what the engine answers. Fails if
+/// there is no such kind, or with the engine's fault.
 pub fn digest_of(alloc: Global, kind: &str, seed: u64) -> Result<u64> {
     let is_known = TASKS.iter().any(|task| task.0 == kind);
     if !is_known {
         bail!("no kind of work of that name");
     }
-    let mut desk = Desk {
+    let mut workload = Workload {
         numbers: Numbers::new(seed),
         digest: Digest::new(),
     };
@@ -131,8 +132,8 @@ pub fn digest_of(alloc: Global, kind: &str, seed: u64) -> Result<u64> {
                 jobs: *jobs,
                 machines: *machines,
             };
-            desk.work(alloc, size, *count, *task)?;
+            workload.work(alloc, size, *count, *task)?;
         }
     }
-    Ok(desk.digest.word)
+    Ok(workload.digest.word)
 }

@@ -1,7 +1,7 @@
 // Lists, verdicts on schedules that stand behind their instances, and refusals.
 use crate::runs::{CROSSING, GAP, RELEASED, TAILLARD, TWO_EXAMPLES, ZEROS, says};
 
-/// The whole report of `CROSSING`, with another makespan.
+/// The whole report of `CROSSING`, with a makespan that isn't its schedule's.
 pub const CHANGED: &str =
     "instance 1\nsize 2 2\nmakespan 3\nbound 7\nstatus optimal\nopen 0\nrounds 1\nnodes 6\njob 0: 0 3\n\
     job 1: 0 3\nunit 1\nmachine 0 |0001111|\nmachine 1 |11.00..|\n";
@@ -78,7 +78,7 @@ fn lists_and_verdicts(rt: HostRuntime) {
     }
 }
 
-/// Schedules behind `CROSSING`: when the schedule ends, or which line is refused.
+/// Schedules behind `CROSSING`, each with when it ends, or which line is refused.
 static SCHEDULES: [(&str, Result<u64, usize>); 20] = [
     ("job 0: 0 3\njob 1: 0 3\n", Ok(7)),
     (

@@ -1,4 +1,4 @@
-// Command lines that are faulty.
+// Tests of faulty command lines.
 use crate::runs::{CROSSING, Ended, run};
 
 static FAULTS: [&str; 10] = [
@@ -14,7 +14,7 @@ static FAULTS: [&str; 10] = [
     "draw file file",
 ];
 
-/// Whether a run ended with status 2, printed nothing and said why.
+/// Tells whether a run ended with status 2, printed nothing and said why.
 fn is_refused(ended: &Ended) -> bool {
     ended.status == 2 && ended.out.bytes().is_empty() && !ended.err.bytes().is_empty()
 }

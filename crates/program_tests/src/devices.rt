@@ -13,7 +13,7 @@ use std::io;
 use std::io::{ErrorKind, Read, Write};
 use std::process::Abort;
 
-/// A reader of one byte a call, or of as many as there is room for, that fails once, at the call of this number.
+/// A reader of one byte a call, or of as many as there is room for, that fails once, at call `fails_at`.
 #[derive(Drop)]
 struct Reader<'t> {
     left: &'t [u8],
@@ -55,7 +55,7 @@ impl<'t> Read for Reader<'t> {
     }
 }
 
-/// A writer of one byte a call into memory that fails once, at the call of this number.
+/// A writer of one byte a call into memory that fails once, at call `fails_at`.
 #[derive(Drop)]
 struct Writer {
     held: Vec<u8>,
@@ -81,7 +81,7 @@ impl Write for Writer {
     }
 }
 
-/// An engine of the program.
+/// The engines of the program, each with its arguments.
 #[derive(Clone, Copy)]
 enum Engine {
     List,
@@ -89,7 +89,7 @@ enum Engine {
     Solve,
 }
 
-/// Verdicts on schedules, from an instance and maybe a schedule beside it.
+/// Runs the engine of `check` on an instance, with a schedule beside it if one is given.
 fn check<S: Source, T: Source, K: Sink>(
     alloc: Global,
     source: &mut S,
@@ -146,7 +146,7 @@ static RUNS: [Run; 3] = [
     ),
 ];
 
-/// What is answered and written at a call of a device.
+/// What an engine answers and what it has written.
 type Answer<'t> = (Result<(), Fault>, &'t [u8]);
 
 fn assert_answer(rt: &impl Abort, call: u64, told: Answer, wanted: Answer) {
@@ -157,12 +157,13 @@ fn assert_calls(rt: &impl Abort, calls: u64, wanted: u64) {
     assert_eq!(rt; calls, wanted);
 }
 
-/// Memory for what an engine writes.
+/// Makes the memory into which an engine writes.
 fn room(rt: &impl Abort, alloc: Global) -> Memory {
     Memory::with_room(alloc, 1_024).expect(rt, "memory")
 }
 
-/// What is wanted where a source fails at this call, and is at its end after so many: a refusal, or what is written.
+/// Answers what is wanted of a source that fails at call `call` and is at its end after `calls` calls: a failed read,
+/// or what is written.
 fn read_answer(call: u64, calls: u64, written: &'static str) -> Answer<'static> {
     if call <= calls {
         (Err(Fault::ReadFailed), b"".as_slice())
@@ -171,7 +172,7 @@ fn read_answer(call: u64, calls: u64, written: &'static str) -> Answer<'static> 
     }
 }
 
-/// Runs an engine on a slow reader that fails at this call, or is read to its end.
+/// Asserts what an engine does on a slow reader that fails at call `call`, or is read to its end.
 fn assert_read(rt: &impl Abort, alloc: Global, row: &Run, call: u64) {
     let (engine, text, written) = *row;
     let mut reader = Reader::slow(text, call);
@@ -196,7 +197,7 @@ fn a_reader_fails_at_each_call(rt: HostRuntime) {
     }
 }
 
-/// Runs an engine on a slow writer that fails at this call, or takes all.
+/// Asserts what an engine does on a slow writer that fails at call `call`, or takes all.
 fn assert_written(rt: &impl Abort, alloc: Global, row: &Run, call: u64) {
     let (engine, text, written) = *row;
     let mut writer = Writer {
@@ -241,7 +242,7 @@ fn assert_too_long(rt: &impl Abort, answer: Answer, reader: &Reader) {
     assert!(rt; reader.left.len() == 99);
 }
 
-/// More bytes than a text may have.
+/// Makes a text of more bytes than a text may have.
 fn too_long(rt: &impl Abort, alloc: Global) -> Vec<u8> {
     vec![in alloc; b' '; 16_777_216 + 100].expect(rt, "memory")
 }
@@ -269,7 +270,7 @@ fn a_schedule_that_does_not_end_is_left(rt: HostRuntime) {
     assert_too_long(&rt, (answer, sink.bytes()), &reader);
 }
 
-/// Judges the schedule of a changed report beside its instance, from a reader that fails at this call.
+/// Asserts the verdict on a changed report beside its instance, from a reader that fails at call `call`.
 fn assert_schedule(rt: &impl Abort, alloc: Global, call: u64) {
     let mut reader = Reader::slow(CHANGED, call);
     let mut sink = room(rt, alloc);
@@ -293,7 +294,7 @@ fn a_schedule_fails_at_each_call(rt: HostRuntime) {
     }
 }
 
-/// Asserts the fault of an instance whose reader fails at this call, with nothing read of the schedule.
+/// Asserts the fault of an instance whose reader fails at call `call`, with nothing read of the schedule.
 fn assert_unread(rt: &impl Abort, alloc: Global, text: &str, call: u64, fault: Fault) {
     let mut reader = Reader::slow(CHANGED, 0);
     let mut sink = room(rt, alloc);

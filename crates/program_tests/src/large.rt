@@ -20,14 +20,14 @@ fn six_jobs_of_fisher_and_thompson(rt: HostRuntime) {
     report_begins(&rt, "solve", FT06, optimal);
 }
 
-/// Jobs of one operation each, all of this time on machine 0.
+/// Makes the text of `jobs` jobs of one operation each, all of `time` on machine 0.
 fn one_machine(rt: &impl Abort, alloc: Global, jobs: usize, time: u64) -> String {
     let rows = format!(in alloc; "0 {time}\n").expect(rt, "memory");
     let rows = rows.as_str().repeat(alloc, jobs).expect(rt, "memory");
     format!(in alloc; "{jobs} 1\n{rows}").expect(rt, "memory")
 }
 
-/// The report on them up to its chart: they stand one behind the other.
+/// Makes the report on these jobs up to its chart: they stand one behind the other.
 fn one_behind_the_other(
     rt: &impl Abort,
     alloc: Global,

@@ -6,7 +6,7 @@ use std::alloc::Global;
 use std::fmt::Write;
 use std::process::Abort;
 
-/// Adds a job: its release and its operations.
+/// Adds the release and the operations of a job to what is told.
 fn tell_job(rt: &impl Abort, told: &mut String, release: u64, route: &[Op]) {
     write!(told, " | {release}").expect(rt, "memory");
     for op in route {
@@ -14,7 +14,7 @@ fn tell_job(rt: &impl Abort, told: &mut String, release: u64, route: &[Op]) {
     }
 }
 
-/// Adds NAME MACHINES, then each job.
+/// Adds the name, the number of machines and each job of an instance to what is told.
 fn tell_named(rt: &impl Abort, told: &mut String, named: &Named) {
     let instance = &named.instance;
     write!(told, "[{} {}", named.name, instance.machines()).expect(rt, "memory");
@@ -24,7 +24,7 @@ fn tell_named(rt: &impl Abort, told: &mut String, named: &Named) {
     told.push_str("]").expect(rt, "memory");
 }
 
-/// Each instance, or the fault.
+/// Tells each instance that was read, or the fault.
 fn told_of(rt: &impl Abort, alloc: Global, answer: &Result<Vec<Named>, ReadFault>) -> String {
     let mut told = String::new(alloc);
     match answer {
@@ -42,7 +42,7 @@ fn assert_told(rt: &impl Abort, told: &str, wanted: &str, bytes: usize) {
     assert_eq!(rt; told, wanted, "a text of {bytes} bytes");
 }
 
-/// Asserts what is read of a text in this format.
+/// Asserts what is read of a text in `format`.
 pub fn assert_read(rt: &impl Abort, alloc: Global, format: Format, text: &[u8], wanted: &str) {
     let answer = match format {
         Format::Orlib => read_orlib(alloc, text),
@@ -53,7 +53,7 @@ pub fn assert_read(rt: &impl Abort, alloc: Global, format: Format, text: &[u8], 
     assert_told(rt, told.as_str(), wanted, text.len());
 }
 
-/// Asserts what is read of each text in this format.
+/// Asserts what is read of each text in `format`.
 fn assert_each_read(rt: &impl Abort, alloc: Global, format: Format, rows: &[(&[u8], &str)]) {
     for (text, wanted) in rows {
         assert_read(rt, alloc, format, text, wanted);
@@ -153,7 +153,7 @@ fn texts_of_each_format(rt: HostRuntime) {
     assert_each_read(&rt, rt.alloc(), Format::Routes, &ROUTES);
 }
 
-/// An instance of one operation, whose time is 9,999 of one digit and then another.
+/// Asserts what is read of an instance of one operation, whose time is 9,999 of one digit and then another.
 fn assert_long(rt: &impl Abort, alloc: Global, digit: &str, last: &str, wanted: &str) {
     let digits = digit.repeat(alloc, 9_999).expect(rt, "memory");
     let text = format!(in alloc; "1 1\n0 {digits}{last}\n").expect(rt, "memory");

@@ -11,7 +11,7 @@ use std::thread::Threads;
 /// Two jobs that cross two machines.
 pub const CROSSING: &str = "2 2\n0 3 1 2\n1 2 0 4\n";
 
-/// The first bound is below the least makespan; a last step takes no time.
+/// Two jobs on three machines, whose first bound is below the least makespan; a last step takes no time.
 pub const GAP: &str = "2 3\n0 5 1 3 2 0\n1 1 0 1 2 6\n";
 
 /// Two jobs with several steps of time 0.
@@ -30,7 +30,7 @@ pub const TWO_EXAMPLES: &str =
     0 3 1 2\r\n 1 2 0 4\r\n +++++\r\n \
     instance gap\r\n +++++\r\n Second, 2x3\r\n 2 3\r\n 0 5 1 3 2 0\r\n 1 1 0 1 2 6\r\n";
 
-/// What a run of the program left.
+/// How a run of the program ended: its status, and what it wrote.
 #[derive(Drop)]
 pub struct Ended {
     pub status: u8,
@@ -38,7 +38,7 @@ pub struct Ended {
     pub err: Memory,
 }
 
-/// The words of a command line, the program's name first.
+/// Splits a command line into its words, and puts the program's name first.
 fn words_of<R: AllocGlobal + Abort>(rt: &R, line: &str) -> Vec<String> {
     let alloc = rt.alloc();
     let name = "jobshop".to_string(alloc).expect(rt, "memory");
@@ -69,7 +69,7 @@ pub fn run<R: Files + Threads + Sync + AllocGlobal + Abort>(rt: &R, line: &str, 
     Ended { status, out, err }
 }
 
-/// The status of a run that says this.
+/// Answers the status of a run that says `said`.
 fn status_of(said: &str) -> u8 {
     if said.starts_with("error ") {
         3
@@ -104,7 +104,7 @@ pub fn says<R: Files + Threads + Sync + AllocGlobal + Abort>(
     assert_said(rt, &ended, line, said);
 }
 
-/// The `check` in the same format of the same instance as a `solve`.
+/// Answers the command line of `check` for the format and the instance of a `solve`.
 fn check_of<R: AllocGlobal + Abort>(rt: &R, solve: &str) -> String {
     let mut check = "check".to_string(rt.alloc()).expect(rt, "memory");
     let mut is_kept = false;
@@ -118,7 +118,7 @@ fn check_of<R: AllocGlobal + Abort>(rt: &R, solve: &str) -> String {
     check
 }
 
-/// The instance text, and behind it the schedule of a report.
+/// Puts the schedule of a report behind an instance text.
 fn with_schedule<R: AllocGlobal + Abort>(rt: &R, text: &str, report: &str) -> String {
     let mut schedule = text.to_string(rt.alloc()).expect(rt, "memory");
     for line in report.lines() {
@@ -130,7 +130,7 @@ fn with_schedule<R: AllocGlobal + Abort>(rt: &R, text: &str, report: &str) -> St
     schedule
 }
 
-/// What `check` has to say of the schedule of a report.
+/// Answers what `check` has to say of the schedule of a report.
 fn verdict_of<R: AllocGlobal + Abort>(rt: &R, report: &str) -> String {
     let makespan = report
         .lines()
@@ -166,7 +166,7 @@ pub fn reports<R: Files + Threads + Sync + AllocGlobal + Abort>(
     is_judged_feasible(rt, line, text, report);
 }
 
-/// The report of a run that succeeded, which begins so.
+/// Answers the report of a run that succeeded, and asserts that it begins with `wanted`.
 fn report_of<R: AllocGlobal + Abort>(rt: &R, ended: &Ended, wanted: &str) -> String {
     assert!(rt;
         ended.out.bytes().starts_with(wanted.as_bytes()),
@@ -176,7 +176,8 @@ fn report_of<R: AllocGlobal + Abort>(rt: &R, ended: &Ended, wanted: &str) -> Str
     String::from_utf8_lossy(rt.alloc(), ended.out.bytes()).expect(rt, "memory")
 }
 
-/// Asserts that the report of a `solve` begins so, and that `check` judges its schedule feasible. Returns its length.
+/// Asserts how the report of a `solve` begins, and that `check` judges its schedule feasible. Answers the report's
+/// length.
 pub fn report_begins<R: Files + Threads + Sync + AllocGlobal + Abort>(
     rt: &R,
     line: &str,

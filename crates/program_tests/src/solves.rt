@@ -52,7 +52,7 @@ fn whole_reports(rt: HostRuntime) {
 /// Options of `solve`, the makespan, the bound, the open nodes, the rounds and the nodes, and the starts of each job.
 type Report = (&'static str, [u64; 5], &'static str);
 
-/// The report of an instance of this size.
+/// Makes the whole report of an instance of `size` from its row.
 fn report_of<R: AllocGlobal + Abort>(rt: &R, size: &str, row: &Report) -> String {
     let (_, [makespan, bound, open, rounds, nodes], starts) = *row;
     let status = if open == 0 { "optimal" } else { "open" };
@@ -67,7 +67,7 @@ fn report_of<R: AllocGlobal + Abort>(rt: &R, size: &str, row: &Report) -> String
     report
 }
 
-/// Asserts the reports of an instance of this size, with more options.
+/// Asserts the reports of an instance of `size`, by the options of each row.
 fn each_reports<R: Files + Threads + Sync + AllocGlobal + Abort>(
     rt: &R,
     text: &str,
@@ -93,12 +93,12 @@ static OF_CROSSING: [Report; 3] = [
 
 static OF_ZEROS: [Report; 1] = [("", [5, 5, 0, 1, 8], ": 0 4 5\n: 0 0 5")];
 
-/// The bounds in the text are false, and not trusted.
+/// Reports on `TAILLARD`, whose text has false bounds: they aren't trusted.
 static OF_TAILLARD: [Report; 1] = [("", [7, 7, 0, 1, 6], ": 0 3\n: 0 3")];
 
 static OF_RELEASED: [Report; 1] = [("--rounds 0", [11, 10, 1, 0, 0], ": 0 3\n: 5 7\n:")];
 
-/// The start schedules end at their bounds.
+/// Reports whose start schedules end at their bounds.
 static OF_TWO: [Report; 1] = [("", [5, 5, 0, 0, 0], ": 0\n: 5")];
 
 static OF_ONE: [Report; 1] = [("", [9, 9, 0, 0, 0], ": 0 4 4")];
@@ -131,7 +131,7 @@ static ROUNDS: [Report; 4] = [
 /// Four jobs, of which two are short, in the format `routes`.
 const SHORT_JOBS: &str = "4 3\n0 0 5 1 3\n1 0 1 2 6\n0 1 1\n0 1 1\n";
 
-/// Their start schedule, and what is found with the open nodes as they are kept and by bound.
+/// The start schedule of `SHORT_JOBS`. Those below it are found in the order kept and by bound.
 const IN_TURN: &str = ": 0 5\n: 5 6\n: 8\n: 9";
 
 const KEPT: &str = ": 2 7\n: 1 2\n: 0\n: 1";

@@ -10,7 +10,7 @@ use std::alloc::Global;
 use std::fmt::Write;
 use std::process::Abort;
 
-/// The node of the word of these digits.
+/// Makes the node of the word whose jobs are `digits`.
 pub fn node_of(rt: &impl Abort, alloc: Global, instance: &Instance, digits: &str) -> Node
     ensures { IsNode instance.now result }
 {

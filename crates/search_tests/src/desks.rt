@@ -8,7 +8,7 @@ use shop_model::{Instance, Word, fits};
 use std::alloc::Global;
 use std::process::Abort;
 
-/// Whether a job has an operation left after what is dispatched.
+/// Tells whether a job has an operation left after what is dispatched.
 fn has_next(rt: &impl Abort, alloc: Global, instance: &Instance, desk: &Desk, job: usize) -> bool
     ensures { IsTrue result → IsWord instance.now (desk.now.word ++ job ∷ []) }
 {
@@ -49,10 +49,10 @@ fn take_step(
     }
 }
 
-/// The job that is dispatched, or none where the last operation is taken back, and the bound then.
+/// A step of a desk: the job that is dispatched, or none if the last operation is taken back; and the bound after it.
 type Step = (Option<usize>, u64);
 
-/// Asserts the bound of a new desk, and that behind each step.
+/// Asserts the bound of a new desk, and the bound after each step.
 fn assert_steps(rt: &impl Abort, alloc: Global, instance: &Instance, first: u64, steps: &[Step]) {
     let mut desk = Desk::new(alloc, instance).expect(rt, "memory");
     assert_eq!(rt; desk.bound(), first);

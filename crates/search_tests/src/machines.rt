@@ -9,7 +9,7 @@ use shop_model::{Instance, Op, fits};
 use std::alloc::Global;
 use std::process::Abort;
 
-/// The greatest head, the sum of the times and the greatest tail, if the sum is no greater than a number may be.
+/// Answers the greatest head, the sum of the times and the greatest tail; `None` if the sum overflows.
 fn parts_of_extent(triples: &[Triple]) -> Option<(u64, u64, u64)>
     ensures { IfSome result (λ p. (p.0 ≡ greatest_of (λ t. t.head) triples.now)
         × (p.1 ≡ sum_by (λ t. t.time) triples.now)
@@ -26,7 +26,7 @@ fn parts_of_extent(triples: &[Triple]) -> Option<(u64, u64, u64)>
     ))
 }
 
-/// Whether these are small enough for a one-machine bound.
+/// Tells whether head, times and tail are together small enough for a one-machine bound.
 fn is_small(triples: &[Triple]) -> bool
     ensures { IsTrue result → IsSmall triples.now }
 {
@@ -36,7 +36,7 @@ fn is_small(triples: &[Triple]) -> bool
     }
 }
 
-/// Asserts the bound by thresholds and by Jackson's schedule. Returns the turns of the schedule.
+/// Asserts the bound by thresholds and by Jackson's schedule, and answers the turns of the schedule.
 fn bounded(rt: &impl Abort, alloc: Global, triples: &[Triple], bound: u64) -> u64 {
     assert!(rt; is_small(triples));
     let mut jackson = Jackson::with_room(alloc, triples.len()).expect(rt, "memory");
@@ -47,7 +47,7 @@ fn bounded(rt: &impl Abort, alloc: Global, triples: &[Triple], bound: u64) -> u6
     jackson.turns()
 }
 
-/// Operations with these heads, times and tails.
+/// Makes operations of rows with head, time and tail.
 fn triples_of(rt: &impl Abort, alloc: Global, rows: &[(u64, u64, u64)]) -> Vec<Triple> {
     let mut triples = Vec::new(alloc);
     for &(head, time, tail) in rows {
@@ -98,7 +98,7 @@ fn add_triples(
     }
 }
 
-/// The operations of a machine, before any is placed.
+/// Lists the operations of a machine, of which none is placed.
 fn on_machine(rt: &impl Abort, alloc: Global, instance: &Instance, machine: usize) -> Vec<Triple> {
     let nothing = word_of(rt, alloc, "");
     assert!(rt; fits(instance, &nothing));

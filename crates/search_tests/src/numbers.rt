@@ -1,4 +1,4 @@
-// Numbers to make instances and schedules of.
+// Random numbers, of which instances and schedules are made.
 
 /// Pseudo-random numbers: a linear congruential generator with Knuth's multiplier.
 #[derive(Drop)]
@@ -7,7 +7,7 @@ pub struct Numbers {
 }
 
 impl Numbers {
-    /// The next number, from 0 up to `most`.
+    /// Answers the next number, from 0 up to `most`.
     pub fn up_to(&mut self, most: u32) -> u64 {
         self.state = self
             .state

@@ -25,7 +25,7 @@ fn two_nodes(
     Piece::new(0, vec![in alloc; first, second].expect(rt, "memory"))
 }
 
-/// The piece of one word or two.
+/// Makes the piece of one word or two.
 pub fn piece_of(rt: &impl Abort, alloc: Global, instance: &Instance, words: &[&str]) -> Piece
     ensures { AreNodes instance.now result.nodes.items }
 {
@@ -39,7 +39,7 @@ pub fn piece_of(rt: &impl Abort, alloc: Global, instance: &Instance, words: &[&s
     }
 }
 
-/// The makespan, the nodes taken, the word found, and the nodes left with their bounds.
+/// Tells a sheet: its makespan, the nodes taken, the word found, and the nodes left with their bounds.
 fn told_of(rt: &impl Abort, alloc: Global, sheet: &Sheet) -> String {
     let mut told = format!(in alloc; "{} {} ", sheet.makespan, sheet.taken).expect(rt, "memory");
     if let Some(word) = &sheet.found {

@@ -4,7 +4,7 @@ use shop_model::{Instance, Job, Op, Table, Verdict, check, check_quickly};
 use std::alloc::Global;
 use std::process::Abort;
 
-/// Jobs and their starts, and when each of four machines is free.
+/// A schedule that is being made: jobs with their starts, and when each of four machines is free.
 struct Made {
     jobs: Vec<Job>,
     rows: Vec<Vec<u64>>,
@@ -39,7 +39,7 @@ impl Made {
     }
 }
 
-/// Both verdicts on a made schedule of one to eight jobs, which have to agree.
+/// Makes a schedule of one to eight jobs, asserts that both verdicts on it agree, and answers the verdict.
 fn verdict(rt: &impl Abort, alloc: Global, numbers: &mut Numbers, care: u32) -> Verdict {
     let mut made = Made {
         jobs: Vec::new(alloc),

@@ -5,7 +5,7 @@ use std::alloc::Global;
 use std::fmt::Write;
 use std::process::Abort;
 
-/// The word of these digits.
+/// Makes the word whose jobs are `digits`.
 pub fn word_of(rt: &impl Abort, alloc: Global, digits: &str) -> Word {
     let mut jobs = Vec::new(alloc);
     for digit in digits.bytes() {
@@ -15,14 +15,14 @@ pub fn word_of(rt: &impl Abort, alloc: Global, digits: &str) -> Word {
     Word::of_jobs(jobs)
 }
 
-/// Adds the digits of a word.
+/// Adds the digits of a word to what is told.
 pub fn tell_word(rt: &impl Abort, text: &mut String, word: &Word) {
     for job in word.jobs() {
         write!(text, "{job}").expect(rt, "memory");
     }
 }
 
-/// Adds the digits and the bound of each node.
+/// Adds the digits and the bound of each node to what is told.
 pub fn tell_nodes(rt: &impl Abort, text: &mut String, nodes: &[Node]) {
     for node in nodes {
         text.push_str(" ").expect(rt, "memory");
@@ -31,7 +31,7 @@ pub fn tell_nodes(rt: &impl Abort, text: &mut String, nodes: &[Node]) {
     }
 }
 
-/// Asserts what is told of a case.
+/// Asserts what is told of a case, and names the case if it is another.
 pub fn assert_told(rt: &impl Abort, case: &str, told: &str, wanted: &str) {
     assert_eq!(rt; told, wanted, "{case}");
 }

@@ -2,7 +2,7 @@
 ghost use Rattle.std.specs.Prelude.{◌≡◌, ◌++◌, ◌∷◌, [], ◌<◌, IfOk, length};
 ghost use Rattle.shop_model.specs.Word.{IsWord};
 ghost use Rattle.shop_bound.specs.Bound.{lb};
-ghost use Rattle.shop_bound.specs.Desks.{IsUndone, IsWordOfShop, goes_on, nothing_dispatched};
+ghost use Rattle.shop_bound.specs.Desks.{IsUndone, IsWordOfShop, with_dispatch, nothing_dispatched};
 
 use crate::lower::BoundRoom;
 use shop_model::{Instance, Placement};
@@ -64,7 +64,7 @@ impl<'a> Desk<'a> {
     /// Dispatches the next operation of `job`. Requires a job, counted from 0, with an operation left. Takes no memory.
     pub fn dispatch(&mut self, job: usize)
         requires { IsWord self.old.shop (self.old.word ++ job ∷ []) }
-        ensures { self.new ≡ goes_on self.old job }
+        ensures { self.new ≡ with_dispatch self.old job }
     {
         let step = self.placement.steps(job);
         let machine = self.instance.route(job)[step].machine;

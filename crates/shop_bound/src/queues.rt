@@ -59,7 +59,7 @@ impl Queue {
     }
 
     /// The waiting operation to serve: the one of greatest tail, of lowest position on ties; `None` if none waits.
-    pub(crate) fn first(&self) -> Option<usize>
+    pub(crate) fn next_to_serve(&self) -> Option<usize>
         ensures { IsFirst (heap_items self.now.waiting) result }
     {
         match self.waiting.peek() {
@@ -96,7 +96,7 @@ impl Queue {
         }
     }
 
-    /// Takes the operation that `first` answers, which has ended, out of the waiting operations.
+    /// Takes the operation that `next_to_serve` answers, which has ended, out of the waiting operations.
     pub(crate) fn finish(&mut self)
         requires { 0 < heap_len self.old.waiting }
         ensures first { IsWithoutFirst (heap_items self.old.waiting) (heap_items self.new.waiting) }

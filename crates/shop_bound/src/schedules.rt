@@ -36,7 +36,7 @@ fn ready_at(works: &[Work], queue: &mut Queue, clock: u64) -> u64
     ensures room { KeepsRoom queue.old queue.new }
 {
     queue.release(works, clock);
-    if queue.first().is_some() {
+    if queue.next_to_serve().is_some() {
         return clock;
     }
     let Some(release) = queue.next_release() else {
@@ -104,7 +104,7 @@ fn schedule(works: &mut [Work], queue: &mut Queue) -> Outcome
     let mut best = 0;
     let mut turns = 0;
     let mut clock = ready_at(works, queue, 0);
-    while let Some(chosen) = queue.first() {
+    while let Some(chosen) = queue.next_to_serve() {
         let stop = serve(works, queue, clock, chosen, &mut best);
         clock = ready_at(works, queue, stop);
         turns += 1;

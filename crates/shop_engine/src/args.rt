@@ -2,20 +2,20 @@
 use shop_runs::Plan;
 use shop_text::Format;
 
-/// The arguments of `list`.
+/// The arguments of `list`: how the text is written.
 #[derive(Clone, Copy)]
 pub struct ListArgs {
     pub format: Format,
 }
 
-/// The arguments of `check`: the instance is the first one where no name is given.
+/// The arguments of `check`. Without a name it takes the first instance of the text.
 #[derive(Drop)]
 pub struct CheckArgs {
     pub format: Format,
     pub name: Option<String>,
 }
 
-/// The arguments of `solve`: the instance is the first one where no name is given.
+/// The arguments of `solve`. Without a name it takes the first instance of the text.
 #[derive(Drop)]
 pub struct SolveArgs {
     pub format: Format,

@@ -17,7 +17,8 @@ use shop_model::{Instance, Verdict, check_quickly};
 use shop_text::{ReadFault, read, read_table, verdict_line};
 use std::alloc::Global;
 
-/// Whether the table of a schedule text is feasible, and the line of the verdict.
+/// Judges the table of a schedule text: tells whether it is feasible, and answers the line of the verdict. Fails with
+/// the fault of the schedule text, or with `NoMemory` if memory runs out.
 fn judge(alloc: Global, instance: &Instance, schedule: &[u8]) -> Result<(bool, Vec<u8>), ReadFault>
     ensures judges { IfOk result (λ r. IsVerdictOn instance.now schedule.now r.0 r.1.items) }
     ensures refused { IfErr result (OrNoMemory (IsTableFault instance.now) schedule.now) }
@@ -31,7 +32,7 @@ fn judge(alloc: Global, instance: &Instance, schedule: &[u8]) -> Result<(bool, V
     }
 }
 
-/// The schedule text: what is given, or else the instance text itself.
+/// Answers the schedule text: `schedule` if it is given, else the instance text itself.
 fn schedule_or<'t>(schedule: Option<&'t [u8]>, text: &'t [u8]) -> &'t [u8]
     ensures { result.now ≡ schedule_in text.now (option_copied schedule.entry) }
 {
@@ -41,9 +42,9 @@ fn schedule_or<'t>(schedule: Option<&'t [u8]>, text: &'t [u8]) -> &'t [u8]
     }
 }
 
-/// Whether a schedule text is feasible for the instance that is asked for in an instance text, and the line of the
-/// verdict; without a schedule text it stands in the instance text itself. Reads and writes no device. For library
-/// callers: the program doesn't use it.
+/// Judges a schedule for the instance of `text` that the arguments name: tells whether it is feasible, and answers the
+/// line of the verdict. Without `schedule`, the schedule stands in the instance text itself. Reads and writes no
+/// device. For library callers: the program doesn't use `check_bytes`.
 ///
 /// Fails with the fault of the instance text, with `NoSuchName`, or with the fault of the schedule text. Fails with
 /// `NoMemory` if memory runs out.
@@ -64,7 +65,8 @@ pub fn check_bytes(
     judge(alloc, &asked.instance, schedule_or(schedule, text))
 }
 
-/// The schedule text: that of the second source, or where there is none the instance text.
+/// Answers the schedule text: all of the second source, or the instance text if there is none. Fails if the source
+/// does, with `TooLong` above `MAX_TEXT` bytes, or with `NoMemory` if memory runs out.
 fn schedule_of<T: Source>(
     alloc: Global,
     text: Vec<u8>,
@@ -83,9 +85,11 @@ fn schedule_of<T: Source>(
     }
 }
 
-/// Writes the verdict on a schedule for an instance of a source, and returns whether it is feasible. The schedule is
-/// read from a second source, after the instance is picked; without one it stands in the instance text itself.
-/// Nothing is written before the line is made.
+/// Writes the verdict on a schedule for an instance of `source`, and tells whether the schedule is feasible. Reads the
+/// schedule from the second source, `schedule`, once the instance is picked; without one the schedule stands in the
+/// instance text itself. Writes nothing before the line is made.
+///
+/// Fails as `check_bytes` does, and with `ReadFailed` or `WriteFailed` if a device fails.
 pub fn check_text<S: Source, T: Source, K: Sink>(
     alloc: Global,
     source: &mut S,

@@ -3,17 +3,17 @@ ghost use Rattle.std.specs.Prelude.{◌≡◌, ◌<◌, ◌≤◌, length, IfOk,
 ghost use Rattle.std.specs.Io.KnownBytes.{ReadConsumes, WriteAppends};
 ghost use Rattle.shop_engine.specs.Devices.{Device, Counts, TellsEnd, GoesOn};
 
-/// A source or a sink failed.
+/// The failure of a source or a sink.
 #[derive(Clone, Copy, Debug, PartialEq, Eq)]
 pub struct DeviceFailed;
 
-/// Where bytes come from.
+/// A source of bytes, such as a file or standard input.
 pub trait Source {
-    /// The bytes that it has left, where they are known, and how often it has failed and told its end.
+    /// The bytes that the source has left, where they are known, and how often it has failed and told its end.
     ghost device: { Self → Device };
 
-    /// Reads some bytes to the front of the buffer, and says how many: none only at the end, or where the buffer is
-    /// empty. Where the source fails, nothing is read.
+    /// Reads some bytes to the front of `buffer`, and answers how many: none only at the end, or if `buffer` is empty.
+    /// Reads nothing if the source fails.
     fn read(&mut self, buffer: &mut [u8]) -> Result<usize, DeviceFailed>
         ensures bound { IfOk result (λ n. n ≤ length buffer.new) }
         ensures bytes { ReadConsumes (device self.old).bytes (device self.new).bytes
@@ -24,13 +24,13 @@ pub trait Source {
         ensures no_end { IfErr result (λ _. GoesOn (device self.old) (device self.new)) };
 }
 
-/// Where bytes go.
+/// A sink of bytes, such as a file or standard output.
 pub trait Sink {
-    /// The bytes that it holds, where they are known, and how often it has failed.
+    /// The bytes that the sink holds, where they are known, and how often it has failed.
     ghost device: { Self → Device };
 
-    /// Writes some bytes from the front of the buffer, and says how many: none only where the buffer is empty.
-    /// Where the sink fails, nothing is written.
+    /// Writes some bytes from the front of `buffer`, and answers how many: none only if `buffer` is empty. Writes
+    /// nothing if the sink fails.
     fn write(&mut self, buffer: &[u8]) -> Result<usize, DeviceFailed>
         ensures bound { IfOk result (λ n. n ≤ length buffer.now) }
         ensures some { IfOk result (λ n. 0 < length buffer.now → 0 < n) }

@@ -1,4 +1,4 @@
-// Laws of the engines, over what their contracts say.
+// Laws of the engines, stated on what their contracts say.
 ghost use Rattle.shop_engine.specs.Limits.{AreLimits};
 ghost use Rattle.shop_engine.specs.OneReport.{OneReport};
 ghost use Rattle.shop_engine.specs.Refusing.{ListingRefuses, CheckingRefuses, SolvingRefuses};
@@ -12,13 +12,13 @@ pub fn refused_texts_are_answered()
     ensures solve { SolvingRefuses }
 {}
 
-/// A text is right for one report alone: it can't be read as another answer.
+/// A printed text is right for one report alone, so nobody can read another answer in it.
 pub fn one_report()
     ensures { OneReport }
 {}
 
-/// The report of two jobs that cross: from the bytes of their text the definitions give the bytes of the report, and no
-/// others.
+/// One run computed: from the bytes of a text of two jobs that cross, the definitions give the bytes of its report, and
+/// no others.
 pub fn one_whole_run()
     ensures { OneWholeRun }
 {}

@@ -11,8 +11,8 @@ use crate::transfers::{read_all, write_all};
 use shop_text::{ReadFault, listing, read};
 use std::alloc::Global;
 
-/// The list of the instances of a text: a line for each, with its name, its jobs and its machines. Reads and writes no
-/// device.
+/// Lists the instances of `text`: a line for each, with its name and the numbers of its jobs and machines. Reads and
+/// writes no device.
 ///
 /// Fails with the fault of the text. Fails with `NoMemory` if memory runs out.
 pub fn list_bytes(alloc: Global, text: &[u8], args: &ListArgs) -> Result<Vec<u8>, ReadFault>
@@ -24,8 +24,9 @@ pub fn list_bytes(alloc: Global, text: &[u8], args: &ListArgs) -> Result<Vec<u8>
     Ok(listing(alloc, named.as_slice())?)
 }
 
-/// Writes the list of the instances of a source, as `list_bytes` makes it. Nothing is written before all lines are
-/// made.
+/// Writes the list of the instances of `source`, as `list_bytes` makes it. Writes nothing before all lines are made.
+///
+/// Fails as `list_bytes` does, and with `ReadFailed` or `WriteFailed` if a device fails.
 pub fn list_text<S: Source, K: Sink>(
     alloc: Global,
     source: &mut S,

@@ -23,12 +23,12 @@ use shop_text::{Named, ReadFault, Report, gantt, read, report};
 use std::alloc::{AllocError as NoMemory, Global};
 use std::mem;
 
-/// A `u64` is below 2^64. (A fact for proofs; the call does nothing.)
+/// States for proofs: a `u64` is below 2^64. Does nothing.
 fn is_word(number: u64)
     ensures { number < 2 ^ 64 }
 {}
 
-/// The report of an answer.
+/// Makes the report of `answer`. Fails with `NoMemory` if memory runs out.
 fn report_of(alloc: Global, asked: &Named, answer: &Answer) -> Result<Vec<u8>, NoMemory>
     requires { HasShape asked.now.instance answer.now.table }
     ensures written { IfOk result (λ v.
@@ -53,7 +53,7 @@ fn report_of(alloc: Global, asked: &Named, answer: &Answer) -> Result<Vec<u8>, N
     report(alloc, &told)
 }
 
-/// The report of an answer, with its Gantt text where that is asked for.
+/// Makes the report of `answer`, with its Gantt text if `with_gantt`. Fails with `NoMemory` if memory runs out.
 fn text_of(
     alloc: Global,
     asked: &Named,
@@ -74,12 +74,12 @@ fn text_of(
     Ok(text)
 }
 
-/// The report of the best schedule that a plan finds for an instance, with any crew, and its Gantt text where that is
-/// asked for; beside it the answer of the run. The schedule is feasible and ends at the printed makespan, no feasible
-/// schedule ends before the printed bound, and where the status is optimal none ends before the makespan.
+/// Searches an instance by `plan` with any crew. Answers the report of the best schedule found, with its Gantt text if
+/// `with_gantt`, and the answer of the run. The schedule is feasible and ends at the printed makespan, no feasible
+/// schedule ends before the printed bound, and if the status is optimal none ends before the makespan.
 ///
-/// The report is itself a schedule text of the instance, if it has no more than `MAX_TEXT` bytes. Fails with
-/// `NoMemory` if memory runs out.
+/// The report is itself a schedule text of the instance, if it has no more than `MAX_TEXT` bytes. Fails with `NoMemory`
+/// if memory runs out.
 pub fn solve_instance<R, C: Crew<R>>(
     rt: &R,
     alloc: Global,
@@ -102,7 +102,8 @@ pub fn solve_instance<R, C: Crew<R>>(
     Ok((text, answer))
 }
 
-/// The report that `solve_bytes` gives, and beside it the answer of the run, of which nothing is claimed.
+/// Makes the report that `solve_bytes` gives. The answer of the run comes beside it, and nothing is claimed of that.
+/// Fails as `solve_bytes` does.
 fn solve<R, C: Crew<R>>(
     rt: &R,
     alloc: Global,
@@ -124,7 +125,8 @@ fn solve<R, C: Crew<R>>(
     Ok(solve_instance(rt, alloc, asked, &args.plan, args.gantt, crew)?)
 }
 
-/// The report as `solve_instance` makes it, of the instance that is asked for in a text. Reads and writes no device.
+/// Searches the instance of `text` that the arguments name, and answers the report that `solve_instance` makes. Reads
+/// and writes no device.
 ///
 /// `check_bytes` of the same text finds the report feasible, with the printed makespan, if the report has no more than
 /// `MAX_TEXT` bytes. Fails with the fault of the text, or with `NoSuchName`. Fails with `NoMemory` if memory runs out.
@@ -148,9 +150,10 @@ pub fn solve_bytes<R, C: Crew<R>>(
     Ok(report)
 }
 
-/// Writes the report that `solve_bytes` makes of the text of a source. Nothing is written before the search ends.
+/// Writes the report that `solve_bytes` makes of the text of `source`. Writes nothing before the search ends. Fails as
+/// `solve_bytes` does, and with `ReadFailed` or `WriteFailed` if a device fails.
 ///
-/// The open nodes are not freed, which takes a step for each: the call is for a program that ends with its report.
+/// The open nodes are not freed, which would take a step for each: the call is for a program that ends with its report.
 pub fn solve_text<R, S: Source, K: Sink, C: Crew<R>>(
     rt: &R,
     alloc: Global,

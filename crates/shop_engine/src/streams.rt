@@ -5,8 +5,8 @@ ghost use Rattle.shop_engine.specs.Devices.{Device};
 use crate::devices::{DeviceFailed, Sink, Source};
 use std::io::{Read, Write};
 
-/// A source over a reader, such as a file, standard input or a slice of bytes. Each read is one read of the reader: one
-/// that fails, even if only interrupted, is a failure and isn't tried again.
+/// A source over a reader, such as a file, standard input or a slice of bytes. Each read is one read of the reader. A
+/// read that fails, even if only interrupted, is a failure and isn't tried again.
 #[derive(Drop)]
 pub struct Reading<R: Read + Drop> {
     reader: R,
@@ -15,7 +15,7 @@ pub struct Reading<R: Read + Drop> {
 }
 
 impl<R: Read + Drop> Reading<R> {
-    /// A source that hasn't failed yet, nor told its end.
+    /// Makes a source over `reader` that hasn't failed yet, nor told its end.
     pub fn new(reader: R) -> Reading<R>
         ensures { result ≡ record { reader = reader; failures = 0; ends = 0 } }
     {
@@ -50,8 +50,8 @@ impl<R: Read + Drop> Source for Reading<R> {
     }
 }
 
-/// A sink over a writer, such as a file or standard output. Each write is one write of the writer: one that fails, or
-/// takes none of some bytes, is a failure and isn't tried again.
+/// A sink over a writer, such as a file or standard output. Each write is one write of the writer. A write that fails,
+/// or takes none of some bytes, is a failure and isn't tried again.
 #[derive(Drop)]
 pub struct Writing<W: Write + Drop> {
     writer: W,
@@ -59,7 +59,7 @@ pub struct Writing<W: Write + Drop> {
 }
 
 impl<W: Write + Drop> Writing<W> {
-    /// A sink that hasn't failed yet.
+    /// Makes a sink over `writer` that hasn't failed yet.
     pub fn new(writer: W) -> Writing<W>
         ensures { result ≡ record { writer = writer; failures = 0 } }
     {

@@ -1,4 +1,4 @@
-// Whole texts from sources and to sinks.
+// Reads whole texts from sources and writes them to sinks.
 ghost use Rattle.std.specs.Prelude.{◌≤◌, length, IfOk, IfErr, OnOk};
 ghost use Rattle.shop_text.specs.declared.limits.TheConstants.{MAX_TEXT};
 ghost use Rattle.shop_engine.specs.Devices.{Device, IsReadToEnd, IsUnread, IsWritten, IsUnwritten};
@@ -8,8 +8,9 @@ use crate::faults::Fault;
 use shop_text::MAX_TEXT;
 use std::alloc::Global;
 
-/// All bytes of a source up to its end, after which it isn't read again. Fails with `ReadFailed` if the source fails,
-/// and with `TooLong` after the first byte above `MAX_TEXT`. Fails with `NoMemory` if memory runs out.
+/// Reads all bytes of `source` up to its end, and doesn't read again once the end is told. Fails with `ReadFailed` if
+/// the source fails, and with `TooLong` after the first byte above `MAX_TEXT`. Fails with `NoMemory` if memory runs
+/// out.
 pub fn read_all<S: Source>(alloc: Global, source: &mut S) -> Result<Vec<u8>, Fault>
     ensures short { IfOk result (λ text. length text.items ≤ MAX_TEXT) }
     ensures read { IfOk result (λ text.

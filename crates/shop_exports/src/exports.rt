@@ -1,6 +1,7 @@
 // The functions that C calls. Each makes one of the engine's calls over bytes, with one worker, and writes the answer
-// into the caller's room. Formats are 0 for `orlib`, 1 for `taillard` and 2 for `routes`; without a name the first
-// instance is meant. Where a call doesn't end as `DONE`, the room is as it was.
+// into the caller's room. Formats are 0 for `orlib`, 1 for `taillard` and 2 for `routes`; without a name a call takes
+// the first instance. A call that doesn't end with `DONE` leaves the room as it was. Failures are told by the status of
+// the result.
 ghost use Rattle.std.specs.Option.{option_copied};
 ghost use Rattle.shop_exports.specs.Exports.{ListsFor, ChecksWith, ChecksFor, SolvesWith};
 ghost use Rattle.shop_exports.specs.Exports.{SolvesFor};
@@ -31,7 +32,7 @@ pub extern "C" fn shop_exports_list(
     }
 }
 
-/// Gives the line of the verdict on a schedule; where none is given, it stands in the text.
+/// Writes the line of the verdict on a schedule into `room`; without `schedule` the schedule stands in `text`.
 fn give_verdict(
     alloc: Global,
     args: &CheckArgs,
@@ -48,7 +49,7 @@ fn give_verdict(
     }
 }
 
-/// Judges a schedule, as `check` does; where none is given, it stands in the text.
+/// Judges a schedule, as `check` does; unless `is_apart`, the schedule stands in `text`.
 #[unsafe(no_mangle)]
 pub extern "C" fn shop_exports_check(
     alloc: Global,
@@ -69,7 +70,7 @@ pub extern "C" fn shop_exports_check(
     }
 }
 
-/// Gives the report of the best schedule that a plan finds.
+/// Writes the report of the best schedule that a plan finds into `room`.
 fn give_report(alloc: Global, args: &SolveArgs, text: &[u8], room: &mut [u8]) -> CallResult
     ensures { SolvesWith args.now text.now room.old room.new result }
 {

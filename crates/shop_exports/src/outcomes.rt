@@ -14,7 +14,7 @@ pub const TOO_SMALL: u32 = 100;
 pub const BAD_ARGUMENT: u32 = 101;
 
 /// How a call ended: `DONE`, `TOO_SMALL`, `BAD_ARGUMENT` or the number of the refusal; whether the schedule is
-/// feasible; the line of the refusal, or 0 where it has none; the length of the text, whether it fits or not.
+/// feasible; the line of the refusal, or 0 if it has none; and the length of the text, whether it fits or not.
 #[repr(C)]
 #[derive(Clone, Copy)]
 pub struct CallResult {
@@ -24,7 +24,7 @@ pub struct CallResult {
     pub length: usize,
 }
 
-/// The number of a refusal.
+/// Answers the number of a refusal.
 fn status_of(fault: ReadFault) -> u32
     ensures { result ≡ status_of fault }
 {
@@ -43,7 +43,7 @@ fn status_of(fault: ReadFault) -> u32
     }
 }
 
-/// The line of a refusal, or 0 where it has none.
+/// Answers the line of a refusal, or 0 if it has none.
 fn line_of(fault: ReadFault) -> usize
     ensures { result ≡ line_of fault }
 {
@@ -60,7 +60,7 @@ fn line_of(fault: ReadFault) -> usize
     }
 }
 
-/// The outcome of a refusal.
+/// Makes the result of a refused call.
 pub(crate) fn refused(fault: ReadFault) -> CallResult
     ensures { result ≡ is_refused fault }
 {
@@ -72,7 +72,7 @@ pub(crate) fn refused(fault: ReadFault) -> CallResult
     }
 }
 
-/// The outcome where an argument is faulty.
+/// Makes the result of a call with a faulty argument.
 pub(crate) fn faulty() -> CallResult
     ensures { result ≡ is_faulty }
 {
@@ -84,7 +84,7 @@ pub(crate) fn faulty() -> CallResult
     }
 }
 
-/// Puts a text at the front of the room, if it fits.
+/// Writes `text` to the front of `room` if it fits, and makes the result of the call.
 pub(crate) fn give(room: &mut [u8], text: &[u8], feasible: bool) -> CallResult
     ensures { IsGiven feasible text.now room.old room.new result }
 {

@@ -1,4 +1,4 @@
-// What a caller asks for, in numbers and bytes, and the arguments that it makes.
+// Turns the numbers and bytes of a caller into arguments of the engine.
 ghost use Rattle.std.specs.Prelude.{◌≡◌, IfOk, IfErr, MatchOption};
 ghost use Rattle.std.specs.Option.{option_copied};
 ghost use Rattle.shop_engine.specs.Asking.{name_in};
@@ -26,7 +26,7 @@ pub struct Options {
     pub gantt: bool,
 }
 
-/// The format of this number.
+/// Answers the format of the number `code`; `None` if there is none.
 pub(crate) fn format_of(code: u32) -> Option<Format>
     ensures { MatchOption result (IsNoFormat code) (λ format. format_code format ≡ code) }
 {
@@ -38,7 +38,7 @@ pub(crate) fn format_of(code: u32) -> Option<Format>
     }
 }
 
-/// The order of this number.
+/// Answers the order of the number `code`; `None` if there is none.
 fn order_of(code: u32) -> Option<Order>
     ensures { MatchOption result (IsNoOrder code) (λ order. order_code order ≡ code) }
 {
@@ -49,7 +49,7 @@ fn order_of(code: u32) -> Option<Order>
     }
 }
 
-/// The plan of these options.
+/// Makes the plan of `options`; `None` outside the limits.
 fn plan_of(options: &Options) -> Option<Plan>
     ensures { MatchOption result (IsFaultyPlan options.now) (IsPlanOf options.now) }
 {
@@ -57,14 +57,14 @@ fn plan_of(options: &Options) -> Option<Plan>
     Plan::ordered(options.rounds, options.budget, options.piece, order)
 }
 
-/// The bytes, if they are given.
+/// Answers `bytes` if they are given, else `None`.
 pub(crate) fn given<'b>(is_given: bool, bytes: &'b [u8]) -> Option<&'b [u8]>
     ensures { option_copied result ≡ bytes_given is_given bytes.now }
 {
     if is_given { Some(bytes) } else { None }
 }
 
-/// The name that is given, if one is.
+/// Reads the name, if one is given. Fails if it isn't UTF-8, or if memory runs out.
 fn name_of(alloc: Global, is_named: bool, name: &[u8]) -> Result<Option<String>, CallResult>
     ensures named { IfOk result (λ own. name_in own ≡ bytes_given is_named name.now) }
     ensures unnamed { IfErr result (IsUnasked (IsNoName is_named name.now)) }
@@ -81,7 +81,7 @@ fn name_of(alloc: Global, is_named: bool, name: &[u8]) -> Result<Option<String>,
     }
 }
 
-/// The arguments of a check.
+/// Makes the arguments of a check. Fails if a number or the name is faulty, or if memory runs out.
 pub(crate) fn check_args(
     alloc: Global,
     format: u32,
@@ -98,7 +98,7 @@ pub(crate) fn check_args(
     Ok(CheckArgs { format, name })
 }
 
-/// The arguments of a search.
+/// Makes the arguments of a search. Fails if a number, an option or the name is faulty, or if memory runs out.
 pub(crate) fn solve_args(
     alloc: Global,
     format: u32,

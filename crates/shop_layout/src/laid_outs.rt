@@ -9,7 +9,7 @@ use shop_model::Instance;
 use std::alloc::{AllocError as NoMemory, Global};
 use std::marker::Model;
 
-/// An instance, and its operations by position with times and tails in lanes of one width.
+/// An instance with its layout in lanes of one width.
 pub struct LaidOut<'a, L: StateLanes> {
     instance: &'a Instance,
     grid: Grid<L>,

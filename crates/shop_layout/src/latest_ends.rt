@@ -50,7 +50,7 @@ fn load_of_blocks(times: &[u64], tails: &[u64], from: usize, to: usize) -> u64
     load_of(&times[8 * from..8 * to], &tails[8 * from..8 * to])
 }
 
-/// The greatest, over machines, of total time plus greatest tail.
+/// Answers the greatest, over machines, of total time plus greatest tail.
 pub(crate) fn greatest_load(layout: &Positions, instance: &Instance) -> u64
     requires { IsLaidOut instance.now layout.now }
     ensures each { (m : ℕ) → m < instance.now.machines → load_on layout.now m ≤ result }

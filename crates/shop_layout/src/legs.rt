@@ -53,8 +53,8 @@ fn add_route(
     Ok(())
 }
 
-/// The legs of all routes. `places` has the position of each step of each job; `machines` and `times` are by position,
-/// and there are `end` positions. A leg takes 16 bytes. Fails with `NoMemory` if memory runs out.
+/// Makes the legs of all routes. `places` has the position of each step of each job; `machines` and `times` are by
+/// position, and there are `end` positions. A leg takes 16 bytes. Fails with `NoMemory` if memory runs out.
 pub(crate) fn legs_of(
     alloc: Global,
     places: &[Vec<u32>],
@@ -78,8 +78,8 @@ pub(crate) fn legs_of(
     Ok(Legs { legs, firsts })
 }
 
-/// At each position where the legs behind its operation begin. `jobs` and `steps` are by position, and `firsts` tells
-/// for each job where its legs begin. Fails with `NoMemory` if memory runs out.
+/// Finds, for each position, where the legs behind its operation begin. `jobs` and `steps` are by position, and
+/// `firsts` tells for each job where its legs begin. Fails with `NoMemory` if memory runs out.
 pub(crate) fn behind_of(
     alloc: Global,
     jobs: &[u32],

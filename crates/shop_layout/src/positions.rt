@@ -109,7 +109,7 @@ impl Positions {
         self.blocks.as_slice()
     }
 
-    /// The legs of all routes. Fails with `NoMemory` if memory runs out.
+    /// Makes the legs of all routes. Fails with `NoMemory` if memory runs out.
     pub(crate) fn legs(&self, alloc: Global) -> Result<Legs, NoMemory>
         requires machined { All (AreBelow (length self.now.machines)) self.now.places }
         requires timed { All (AreBelow (length self.now.times)) self.now.places }
@@ -127,7 +127,7 @@ impl Positions {
         )
     }
 
-    /// At each position where the legs behind its operation begin. Fails with `NoMemory` if memory runs out.
+    /// Finds, for each position, where the legs behind its operation begin. Fails with `NoMemory` if memory runs out.
     pub(crate) fn behind(&self, alloc: Global, legs: &Legs) -> Result<Vec<usize>, NoMemory>
         requires legs { legs.now.legs.items ≡ all_legs self.now }
         requires firsts { AreFirsts

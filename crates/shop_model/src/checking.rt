@@ -1,4 +1,4 @@
-// The verdict on a table: feasible, and when it ends, or its first fault.
+// The verdict on a table: its makespan if it is feasible, else its first fault.
 ghost use Rattle.std.specs.Prelude.{◌≡◌, ℕ, ◌↔◌, IsTrue, IfOk};
 ghost use Rattle.shop_model.specs.Shop.{end_of};
 ghost use Rattle.shop_model.specs.Checking.{HasShape, starts_of, EndsAt, IsVerdict, IsChecked};
@@ -12,14 +12,15 @@ use crate::steps::{early_step, last_finish};
 use crate::tables::Table;
 use std::alloc::{AllocError as NoMemory, Global};
 
-/// What `check` finds of a table: that it is feasible, or its first fault.
+/// The verdict of `check` on a table: its makespan, or its first fault.
 #[derive(Clone, Copy, Debug, PartialEq, Eq)]
 pub enum Verdict {
-    /// It is feasible, and its last operation ends at `makespan` (0 where the instance has no operation).
+    /// The table is feasible. Its last operation ends at `makespan`, in units of time; 0 if the instance has no
+    /// operation.
     Feasible {
         makespan: u64,
     },
-    /// It has not one start for each operation of the instance, or it has others.
+    /// The table lacks a start for an operation of the instance, or has a start too many.
     WrongSize,
     /// The job begins before its release.
     Unreleased {
@@ -30,8 +31,8 @@ pub enum Verdict {
         job: usize,
         step: usize,
     },
-    /// Of two operations of one machine neither ends before the other begins; `first` stands before `second` by job and
-    /// step. An operation of time 0 may not stand strictly inside another.
+    /// Two operations of one machine overlap: neither ends before the other begins. `first` stands before `second` by
+    /// job and step. An operation of time 0 overlaps another if it stands strictly inside it.
     Overlap {
         machine: usize,
         first: OperationId,
@@ -39,7 +40,7 @@ pub enum Verdict {
     },
 }
 
-/// Whether the table has a start for each operation, and no other.
+/// Tells whether `table` has one start for each operation of `instance`, and no other.
 fn has_shape(instance: &Instance, table: &Table) -> bool
     ensures { IsTrue result ↔ HasShape instance.now table.now }
 {
@@ -54,7 +55,8 @@ fn has_shape(instance: &Instance, table: &Table) -> bool
     true
 }
 
-/// The first operation that begins too early.
+/// Finds the first operation, by job and step, that begins before its job's release or before the step before it ends;
+/// `None` if there is none.
 fn first_early(instance: &Instance, table: &Table) -> Option<OperationId>
     requires { HasShape instance.now table.now }
     ensures { TellsFirstEarly instance.now (starts_of table.now) result }
@@ -67,7 +69,7 @@ fn first_early(instance: &Instance, table: &Table) -> Option<OperationId>
     None
 }
 
-/// When the last operation of a table ends, in units of time; 0 where the instance has no operation. The table has a
+/// Answers when the last operation of `table` ends, in units of time; 0 if the instance has no operation. Requires one
 /// start for each operation, and no other.
 pub fn makespan(instance: &Instance, table: &Table) -> u64
     requires { HasShape instance.now table.now }
@@ -80,9 +82,9 @@ pub fn makespan(instance: &Instance, table: &Table) -> u64
     end
 }
 
-/// Whether the table is feasible for the instance (disjunctive model), and when it ends; else its first fault. A wrong
-/// size comes first, then steps that begin too early, in order of job and step, then overlaps, in order of the pair.
-/// Takes no memory, and time in proportion to the pairs of jobs times the length of a route.
+/// Judges `table` as a schedule of `instance` (disjunctive model): answers its makespan if it is feasible, else its
+/// first fault. A wrong size comes first, then steps that begin too early, in order of job and step, then overlaps, in
+/// order of the pair. Takes no memory, and time in proportion to the pairs of jobs times the length of a route.
 pub fn check(instance: &Instance, table: &Table) -> Verdict
     // What the verdict says is so.
     ensures verdict { IsVerdict instance.now table.now result }
@@ -116,8 +118,8 @@ pub fn check(instance: &Instance, table: &Table) -> Verdict
     }
 }
 
-/// As `check`, by sorting the operations: it takes memory, and time in proportion to n log n for n operations, whatever
-/// the verdict. Fails with `NoMemory` if memory runs out.
+/// Gives the verdict of `check` by sorting the operations: n operations take n log n steps, whatever the verdict. Fails
+/// with `NoMemory` if memory runs out.
 pub fn check_quickly(alloc: Global, instance: &Instance, table: &Table) -> Result<Verdict, NoMemory>
     ensures { IfOk result (λ v. IsChecked instance.now table.now v) }
 {

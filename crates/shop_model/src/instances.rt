@@ -11,7 +11,7 @@ use crate::ops::{Job, Op};
 use std::alloc::{AllocError as NoMemory, Global};
 use std::marker::Model;
 
-/// The list that an instance was given.
+/// The list that an instance was made of: rows without releases, or jobs.
 #[derive(Drop)]
 enum Given {
     Rows(Vec<Vec<Op>>),
@@ -30,7 +30,7 @@ pub struct JobsFault {
     pub jobs: Vec<Job>,
 }
 
-/// Whether each operation is on one of the machines and takes no longer than the limit.
+/// Tells whether each operation of `route` is on one of `machines` machines and takes at most `MAX_TIME`.
 fn is_route_within(machines: usize, route: &[Op]) -> bool
     ensures { IsTrue result ↔ IsRouteWithin machines route.now }
 {
@@ -39,7 +39,7 @@ fn is_route_within(machines: usize, route: &[Op]) -> bool
         .all(|o| o.machine < machines && o.time <= MAX_TIME)
 }
 
-/// Whether rows are within the limits, and each as long as there are machines.
+/// Tells whether `rows` are within the limits, each with as many operations as there are machines.
 fn are_rows_within(machines: usize, rows: &[Vec<Op>]) -> bool
     ensures { IsTrue result ↔ AreRowsWithin machines rows.now }
 {
@@ -54,7 +54,7 @@ fn are_rows_within(machines: usize, rows: &[Vec<Op>]) -> bool
     true
 }
 
-/// Whether a job's release, the number of its operations and each of them are within the limits.
+/// Tells whether the release of `job`, the number of its operations and each operation are within the limits.
 fn is_job_within(machines: usize, job: &Job) -> bool
     ensures { IsTrue result ↔ IsJobWithin machines job.now }
 {
@@ -63,7 +63,7 @@ fn is_job_within(machines: usize, job: &Job) -> bool
         && is_route_within(machines, job.route.as_slice())
 }
 
-/// Whether jobs are within the limits.
+/// Tells whether the number of `jobs` and each job are within the limits.
 fn are_jobs_within(machines: usize, jobs: &[Job]) -> bool
     ensures { IsTrue result ↔ AreJobsWithin machines jobs.now }
 {
@@ -78,9 +78,9 @@ fn are_jobs_within(machines: usize, jobs: &[Job]) -> bool
     true
 }
 
-/// An instance of the job shop (disjunctive model): a number of machines, and jobs with a release and a route each. It
-/// is within the limits of `MAX_JOBS` and the other constants. It keeps the list that it was given, so making it takes
-/// no memory.
+/// An instance of the job shop (disjunctive model): a number of machines, and jobs with a release and a route each, all
+/// within the limits of `MAX_JOBS` and the other constants. An instance keeps the list that it was made of, so making
+/// one takes no memory.
 pub struct Instance {
     machine_count: usize,
     given: Given,
@@ -109,8 +109,8 @@ impl Model for Instance {
 }
 
 impl Instance {
-    /// The instance of these rows, one a job, each released at 0. The caller knows that they are within the limits. For
-    /// library callers: the program doesn't use it.
+    /// Makes the instance of `rows`, one for each job, all released at 0. Requires rows within the limits. For library
+    /// callers: the program doesn't use `of_checked`.
     pub fn of_checked(machines: usize, rows: Vec<Vec<Op>>) -> Instance
         requires { AreRowsWithin machines rows.items }
         ensures { result ≡ shop_of_rows machines rows.items }
@@ -121,10 +121,10 @@ impl Instance {
         }
     }
 
-    /// The instance of these rows, one a job, each released at 0: 1 to 100 machines, 1 to 1,000 rows, each with just as
-    /// many operations as there are machines, on machines that there are and with times of 0 to 1,000,000,000. A job
-    /// may visit a machine twice and miss another. Outside these limits the rows come back. For library callers: the
-    /// program doesn't use it.
+    /// Makes the instance of `rows`, one for each job, all released at 0. Takes 1 to 100 machines and 1 to 1,000 rows,
+    /// each with as many operations as there are machines; machines count from 0, and times are 0 to 1,000,000,000. A
+    /// job may visit a machine twice and miss another. Fails outside these limits, and hands the rows back. For library
+    /// callers: the program doesn't use `new`.
     pub fn new(machines: usize, rows: Vec<Vec<Op>>) -> Result<Instance, SizeFault>
         ensures refused { IsErr result ↔ (AreRowsWithin machines rows.items → ⊥) }
         ensures ok { IfOk result (λ i. i ≡ shop_of_rows machines rows.items) }
@@ -137,8 +137,8 @@ impl Instance {
         }
     }
 
-    /// The instance of these jobs: as `new`, but with releases of 0 to 1,000,000,000, and with routes of any length
-    /// from 0 to 100. Outside these limits the jobs come back.
+    /// Makes the instance of `jobs`, with the limits of `new`, releases of 0 to 1,000,000,000, and routes of 0 to 100
+    /// operations. Fails outside these limits, and hands the jobs back.
     pub fn of_jobs(machines: usize, jobs: Vec<Job>) -> Result<Instance, JobsFault>
         ensures refused { IsErr result ↔ (AreJobsWithin machines jobs.items → ⊥) }
         ensures ok { IfOk result (λ i. i ≡ shop_of_jobs machines jobs.items) }
@@ -154,14 +154,14 @@ impl Instance {
         }
     }
 
-    /// Each instance is within the limits. (A fact for proofs; the call does nothing.)
+    /// States for proofs: each instance is within the limits. Does nothing.
     pub fn keeps_limits(&self)
         ensures { IsWithinLimits self.now }
     {
         let _given = &self.given;
     }
 
-    /// How many jobs there are.
+    /// The number of jobs, 1 to 1,000.
     pub fn jobs(&self) -> usize
         ensures { result ≡ length self.now.jobs }
     {
@@ -171,14 +171,14 @@ impl Instance {
         }
     }
 
-    /// How many machines there are.
+    /// The number of machines, 1 to 100.
     pub fn machines(&self) -> usize
         ensures { result ≡ self.now.machines }
     {
         self.machine_count
     }
 
-    /// How many operations all routes have together: at most 100,000.
+    /// Counts the operations of all routes: at most 100,000.
     pub fn operations(&self) -> usize
         ensures count { result ≡ operation_count self.now }
         ensures limit { result ≤ MAX_JOBS * MAX_STEPS }
@@ -190,7 +190,7 @@ impl Instance {
         count
     }
 
-    /// The operations of job j, in order; j is one of the jobs.
+    /// The operations of job `j`, in order. Requires a job of the instance, counted from 0.
     pub fn route(&self, j: usize) -> &[Op]
         requires { j < length self.now.jobs }
         ensures route { result.now ≡ route_of self.now j }
@@ -202,7 +202,7 @@ impl Instance {
         }
     }
 
-    /// When job j is released, in units of time; j is one of the jobs.
+    /// The release of job `j`, in units of time. Requires a job of the instance, counted from 0.
     pub fn release(&self, j: usize) -> u64
         requires { j < length self.now.jobs }
         ensures { result ≡ release_of self.now j }
@@ -213,7 +213,7 @@ impl Instance {
         }
     }
 
-    /// When each job is released, in order, in units of time. Fails with `NoMemory` if memory runs out.
+    /// Lists the releases of the jobs, in order, in units of time. Fails with `NoMemory` if memory runs out.
     pub fn releases(&self, alloc: Global) -> Result<Vec<u64>, NoMemory>
         ensures { IfOk result (λ v. v.items ≡ releases_of self.now) }
     {

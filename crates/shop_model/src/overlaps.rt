@@ -11,7 +11,8 @@ use crate::ops::OperationId;
 use crate::steps::{are_clear, clash_from};
 use crate::tables::Table;
 
-/// The first operation after (j, k) that it overlaps with.
+/// Finds the first operation after step `k` of job `j`, by job and step, that overlaps with it; `None` if there is
+/// none.
 pub(crate) fn first_overlap_with(
     instance: &Instance,
     table: &Table,
@@ -41,7 +42,7 @@ pub(crate) fn first_overlap_with(
     None
 }
 
-/// Whether no operation of job j overlaps with one of a later job.
+/// Tells whether no operation of job `j` overlaps with one of a later job. Requires that no operation begins too early.
 fn is_job_apart(instance: &Instance, table: &Table, j: usize) -> bool
     requires shape { HasShape instance.now table.now }
     requires in_time { NoneEarly instance.now (starts_of table.now) }
@@ -58,7 +59,8 @@ fn is_job_apart(instance: &Instance, table: &Table, j: usize) -> bool
     true
 }
 
-/// The first step of job j that overlaps with a later operation, and the first such operation.
+/// Finds the first step of job `j` that overlaps with a later operation, and the first such operation; `None` if there
+/// is none.
 fn first_overlap_of(instance: &Instance, table: &Table, j: usize) -> Option<(usize, OperationId)>
     requires shape { HasShape instance.now table.now }
     requires job { j < length instance.now.jobs }
@@ -72,7 +74,8 @@ fn first_overlap_of(instance: &Instance, table: &Table, j: usize) -> Option<(usi
     None
 }
 
-/// The first pair of operations that overlap.
+/// Finds the first pair of operations that overlap; `None` if there is none. Requires that no operation begins too
+/// early.
 pub(crate) fn first_overlap(
     instance: &Instance,
     table: &Table,

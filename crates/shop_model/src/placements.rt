@@ -32,7 +32,7 @@ impl Model for Placement {
 }
 
 impl Placement {
-    /// The placement of no operation. Fails with `NoMemory` if memory runs out.
+    /// Makes the placement of no operation. Fails with `NoMemory` if memory runs out.
     pub fn none(alloc: Global, instance: &Instance) -> Result<Placement, NoMemory>
         ensures { IfOk result (λ s. IsPlacement instance.now (none_placed instance.now) s) }
     {
@@ -42,8 +42,8 @@ impl Placement {
         Ok(Placement { steps, ready, free })
     }
 
-    /// The placement of a word that fits the instance: its operations in its order, each as soon as its job and its
-    /// machine can. Fails with `NoMemory` if memory runs out.
+    /// Makes the placement of `word`, which fits `instance`: places its operations in its order, each as soon as its
+    /// job and its machine are free. Fails with `NoMemory` if memory runs out.
     pub fn of(alloc: Global, instance: &Instance, word: &Word) -> Result<Placement, NoMemory>
         requires { IsWord instance.now word.now }
         ensures { IfOk result (λ s. IsPlacement instance.now (placing instance.now word.now) s) }
@@ -53,7 +53,7 @@ impl Placement {
         Ok(placement)
     }
 
-    /// Becomes the placement of a list of jobs that fits the instance, whatever was placed before. Takes no memory.
+    /// Replaces the placement by that of `jobs`, a word of `instance`, whatever was placed before. Takes no memory.
     pub fn set_to(&mut self, instance: &Instance, jobs: &[u16])
         requires places { HasPlaces instance.now self.old }
         requires word { IsWord instance.now jobs.now }
@@ -107,7 +107,8 @@ impl Placement {
         }
     }
 
-    /// Places the next step of job j as soon as the job and its machine can, and returns when it begins.
+    /// Places the next step of job `j` as soon as the job and the step's machine are free, and answers when the step
+    /// begins. Requires a job with a step left.
     pub fn place_next(&mut self, instance: &Instance, j: usize) -> u64
         requires { HasNext instance.now j self.old }
         ensures placed { PlacesNext instance.now j self.old self.new }
@@ -123,8 +124,8 @@ impl Placement {
         start
     }
 
-    /// Takes back the last step of job j that is placed. Before that step was placed the job was ready, and the step's
-    /// machine free, at these times.
+    /// Takes back the last placed step of job `j`. Before this step was placed, the job was ready at `ready`, and the
+    /// step's machine was free at `free`. Requires a job with a placed step.
     pub fn take_back(&mut self, instance: &Instance, j: usize, ready: u64, free: u64)
         requires { HasLast instance.now j self.old }
         ensures { TakesBack instance.now j ready free self.old self.new }
@@ -136,7 +137,7 @@ impl Placement {
         self.free[op.machine] = free;
     }
 
-    /// How many steps of the job are placed.
+    /// The number of steps of `job` that are placed.
     pub fn steps(&self, job: usize) -> usize
         requires { job < length self.now.steps }
         ensures { result ≡ slice_index self.now.steps job }

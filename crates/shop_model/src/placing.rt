@@ -10,7 +10,7 @@ use crate::tables::Table;
 use crate::words::Word;
 use std::alloc::{AllocError as NoMemory, Global};
 
-/// An empty row for each job, with room for its steps.
+/// Makes an empty row for each job, with room for its steps. Fails with `NoMemory` if memory runs out.
 fn empty_rows(alloc: Global, instance: &Instance) -> Result<Vec<Vec<u64>>, NoMemory>
     ensures { IfOk result (λ v. map (λ r. r.items) v.items ≡ no_starts instance.now) }
 {
@@ -21,9 +21,9 @@ fn empty_rows(alloc: Global, instance: &Instance) -> Result<Vec<Vec<u64>>, NoMem
     Ok(rows)
 }
 
-/// The table that a full word places: each operation, in the order of the word, begins at the greater of the end of the
-/// step before it (its job's release if there is none) and the ends of the operations before it on its machine
-/// (semi-active schedule). Fails with `NoMemory` if memory runs out.
+/// Makes the table that `word`, a full word, places: in the order of the word, each operation begins at the greater of
+/// the end of the step before it (its job's release if there is none) and the ends of the operations before it on its
+/// machine (semi-active schedule). Fails with `NoMemory` if memory runs out.
 pub fn place(alloc: Global, instance: &Instance, word: &Word) -> Result<Table, NoMemory>
     requires { IsFull instance.now word.now }
     ensures table { IfOk result (λ t. t ≡ rows_of instance.now (placed instance.now word.now)) }

@@ -31,7 +31,7 @@ impl Model for SharedWord {
 }
 
 impl SharedWord {
-    /// The word of this path. Fails with `NoMemory` if memory runs out.
+    /// Makes the word of all jobs of `path`, at most 100,000. Fails with `NoMemory` if memory runs out.
     pub fn of_path(alloc: Global, path: &[u16]) -> Result<SharedWord, NoMemory>
         requires { length path.now ≤ MAX_JOBS * MAX_STEPS }
         ensures { IfOk result (λ w. w ≡ path.now) }
@@ -45,7 +45,7 @@ impl SharedWord {
         })
     }
 
-    /// The word of these jobs. Fails with `NoMemory` if memory runs out.
+    /// Makes the word of `jobs`, with a path of its own. Fails with `NoMemory` if memory runs out.
     pub(crate) fn of_jobs(alloc: Global, jobs: &[usize]) -> Result<SharedWord, NoMemory>
         requires { CanBeShared jobs.now }
         ensures { IfOk result (λ w. w ≡ jobs.now) }
@@ -82,7 +82,7 @@ impl SharedWord {
         })
     }
 
-    /// How many jobs the word has.
+    /// The number of jobs of the word.
     pub fn len(&self) -> usize
         ensures { result ≡ length self.now }
     {
@@ -93,7 +93,7 @@ impl SharedWord {
         }
     }
 
-    /// The job at an index.
+    /// The job at `index`, which is below the number of jobs.
     pub fn job(&self, index: usize) -> usize
         requires { index < length self.now }
         ensures { result ≡ slice_index self.now index }
@@ -107,7 +107,7 @@ impl SharedWord {
         last as usize
     }
 
-    /// Sets a list to the jobs of the word. Fails with `NoMemory` if memory runs out.
+    /// Replaces `list` by the jobs of the word. Fails with `NoMemory` if memory runs out.
     pub fn write_to(&self, list: &mut Vec<u16>) -> Result<(), NoMemory>
         ensures list { OnOk result (list.new.items ≡ self.now) }
         ensures room { vec_capacity list.old ≤ vec_capacity list.new }

@@ -13,8 +13,8 @@ use crate::spans::{Occupied, are_in_turn, keep_clear, spans};
 use crate::tables::Table;
 use std::alloc::{AllocError as NoMemory, Global};
 
-/// The first operation after (j, k) that it overlaps with. If the span of (j, k) is one of the clear ones, there is
-/// none, and only a binary search is needed.
+/// Finds the first operation after step `k` of job `j` that overlaps with it; `None` if there is none. A binary search
+/// in `clear`, sorted spans that overlap with no other, answers `None` if it finds the operation's span.
 fn first_overlap_unless_clear(
     instance: &Instance,
     table: &Table,
@@ -40,7 +40,8 @@ fn first_overlap_unless_clear(
     first_overlap_with(instance, table, j, k)
 }
 
-/// The first step of job j that overlaps with a later operation, and the first such operation.
+/// Finds the first step of job `j` that overlaps with a later operation, and the first such operation; `None` if there
+/// is none. Passes steps whose spans are in `clear`.
 fn first_unclear_overlap_of(
     instance: &Instance,
     table: &Table,
@@ -60,9 +61,9 @@ fn first_unclear_overlap_of(
     None
 }
 
-/// The first pair of operations that overlap. If all clear spans are given, the first operation whose span isn't among
-/// them overlaps with another one, which comes later, since all operations before are clear. So one binary search
-/// fails, and one pass through all operations finds the second of the pair.
+/// Finds the first pair of operations that overlap; `None` if there is none. If `clear` has all clear spans, the first
+/// operation whose span it lacks overlaps with another one, which comes later, since all operations before are clear.
+/// So one binary search fails, and one pass through all operations finds the second of the pair.
 fn first_unclear_overlap(
     instance: &Instance,
     table: &Table,
@@ -80,8 +81,9 @@ fn first_unclear_overlap(
     None
 }
 
-/// The first pair of operations that overlap: none if, sorted by machine and start, each operation ends before the next
-/// one of its machine begins. At most n log n steps for n operations. Fails with `NoMemory` if memory runs out.
+/// Finds the first pair of operations that overlap: none if, sorted by machine and start, each operation ends before
+/// the next one of its machine begins. n operations take at most n log n steps. Fails with `NoMemory` if memory runs
+/// out.
 pub(crate) fn first_overlap_sorted(
     alloc: Global,
     instance: &Instance,

@@ -1,4 +1,4 @@
-// When each machine is taken, sorted by machine and by start.
+// The spans of a table: when each machine is taken, sorted by machine and by start.
 ghost use Rattle.std.specs.Prelude.{◌≡◌, ◌<◌, ◌⊎◌, ◌↔◌, ◌++◌, length, IsTrue, IfOk, OnOk};
 ghost use Rattle.shop_model.specs.inner.Steps.{AreSmall};
 ghost use Rattle.shop_model.specs.Checking.{HasShape};
@@ -10,7 +10,7 @@ use crate::ops::Op;
 use crate::tables::Table;
 use std::alloc::{AllocError as NoMemory, Global};
 
-/// An operation in a table: from when to when it takes its machine.
+/// The span of an operation in a table: its machine, and from when to when the operation takes it.
 #[derive(Clone, Copy, PartialEq, Eq, PartialOrd, Ord)]
 pub(crate) struct Occupied {
     pub(crate) machine: usize,
@@ -18,7 +18,8 @@ pub(crate) struct Occupied {
     pub(crate) finish: u64,
 }
 
-/// Adds the spans of one job.
+/// Adds the spans of the job with this `route` and these starts, `row`, to `spans`. Fails with `NoMemory` if memory
+/// runs out.
 fn push_spans(spans: &mut Vec<Occupied>, route: &[Op], row: &[u64]) -> Result<(), NoMemory>
     requires { AreSmall route.now row.now }
     ensures { OnOk result (spans.new.items ≡ spans.old.items ++ spans_at route.now row.now) }
@@ -33,7 +34,7 @@ fn push_spans(spans: &mut Vec<Occupied>, route: &[Op], row: &[u64]) -> Result<()
     Ok(())
 }
 
-/// The spans of all operations, job by job.
+/// Lists the spans of all operations, job by job. Fails with `NoMemory` if memory runs out.
 pub(crate) fn spans(
     alloc: Global,
     instance: &Instance,
@@ -49,14 +50,14 @@ pub(crate) fn spans(
     Ok(spans)
 }
 
-/// Whether one span is on a lower machine than the other, or on the same one and ends before the other begins.
+/// Tells whether span `one` is on a lower machine than `other`, or on its machine and ends before `other` begins.
 fn is_in_turn(one: &Occupied, other: &Occupied) -> bool
     ensures { IsTrue result ↔ IsInTurn one.now other.now }
 {
     one.machine < other.machine || one.machine == other.machine && one.finish <= other.start
 }
 
-/// Whether each span is in turn with the next.
+/// Tells whether each span is in turn with the next one, as `is_in_turn` says.
 pub(crate) fn are_in_turn(spans: &[Occupied]) -> bool
     ensures { IsTrue result ↔ AreInTurn spans.now }
 {
@@ -68,7 +69,7 @@ pub(crate) fn are_in_turn(spans: &[Occupied]) -> bool
     true
 }
 
-/// Of two spans the one on the higher machine, and of one machine the one that ends last.
+/// Answers which of two spans is on the higher machine; of one machine, which ends last.
 fn last_to_end(one: &Occupied, other: &Occupied) -> Occupied
     ensures choice { (result ≡ one.now) ⊎ (result ≡ other.now) }
     ensures one { EndsNotAfter one.now result }
@@ -81,7 +82,8 @@ fn last_to_end(one: &Occupied, other: &Occupied) -> Occupied
     }
 }
 
-/// Whether span k of sorted spans overlaps with no other: `latest` ends last of those before it.
+/// Tells whether span `k` of the sorted `spans` overlaps with no other. `latest` is the one that ends last of those
+/// before it.
 fn is_clear(latest: &Occupied, spans: &[Occupied], k: usize) -> bool
     requires { k < length spans.now }
     ensures { IsTrue result ↔ IsBetween latest.now spans.now k }
@@ -89,7 +91,7 @@ fn is_clear(latest: &Occupied, spans: &[Occupied], k: usize) -> bool
     is_in_turn(latest, &spans[k]) && (k + 1 == spans.len() || is_in_turn(&spans[k], &spans[k + 1]))
 }
 
-/// Keeps, of spans that are sorted, those that overlap with no other, in one pass and in place. A span overlaps with an
+/// Keeps those of the sorted `spans` that overlap with no other, in one pass and in place. A span overlaps with an
 /// earlier one if it begins before the latest end so far on its machine, and with a later one if the next span of its
 /// machine begins before it ends. Both tests are exact, since of spans that begin at once those of time 0 come first.
 pub(crate) fn keep_clear(spans: &mut Vec<Occupied>)

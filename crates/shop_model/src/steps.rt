@@ -6,7 +6,7 @@ ghost use Rattle.shop_model.specs.inner.Steps.{TellsFirstClash, end_at};
 use crate::limits::{MAX_START, MAX_TIME};
 use crate::ops::Op;
 
-/// The first step that begins too early.
+/// Finds the first step that begins before `release` or before the step before it ends; `None` if there is none.
 pub(crate) fn early_step(release: u64, route: &[Op], row: &[u64]) -> Option<usize>
     requires { AreSmall route.now row.now }
     ensures { TellsEarlyStep release route.now row.now result }
@@ -22,7 +22,8 @@ pub(crate) fn early_step(release: u64, route: &[Op], row: &[u64]) -> Option<usiz
     None
 }
 
-/// The first step, from this one on, that isn't clear of what is on the machine from start to finish.
+/// Finds the first step, from step `from` on, that overlaps with an operation on `machine` from `start` to `finish`;
+/// `None` if there is none.
 pub(crate) fn clash_from(
     machine: usize,
     start: u64,
@@ -42,9 +43,9 @@ pub(crate) fn clash_from(
     None
 }
 
-/// Whether no step of one job overlaps with a step of the other on its machine. Each job keeps its steps in order, so
-/// that of two steps the one that ends first is clear of all that the other job does later: one pass through both will
-/// do.
+/// Tells whether no step of one job overlaps with a step of another job on its machine. Each job does its steps in
+/// order. So of two steps the one that ends first is clear of all that the other job does later, and one pass through
+/// both jobs is enough.
 pub(crate) fn are_clear(route: &[Op], row: &[u64], others: &[Op], other_row: &[u64]) -> bool
     requires small { AreSmall route.now row.now }
     requires others_small { AreSmall others.now other_row.now }
@@ -69,7 +70,7 @@ pub(crate) fn are_clear(route: &[Op], row: &[u64], others: &[Op], other_row: &[u
     true
 }
 
-/// When the last of the steps ends.
+/// Answers when the last step ends; 0 if `route` is empty.
 pub(crate) fn last_finish(route: &[Op], row: &[u64]) -> u64
     requires { AreSmall route.now row.now }
     ensures end { result ≡ end_at route.now row.now }

@@ -23,7 +23,7 @@ impl Model for Table {
     ghost invariant = { λ a. AreStarts (map (λ r. r.items) a.rows.items) };
 }
 
-/// Whether no start of the row is over its limit.
+/// Tells whether no start of `row` is over `MAX_START`.
 fn is_row_within(row: &[u64]) -> bool
     ensures { IsTrue result ↔ All (λ s. s ≤ MAX_START) row.now }
 {
@@ -31,7 +31,7 @@ fn is_row_within(row: &[u64]) -> bool
 }
 
 impl Table {
-    /// The table of these rows. The caller knows that no start is over `MAX_START`.
+    /// Makes the table of `rows`, one for each job. Requires starts of at most `MAX_START`.
     pub fn of_checked(rows: Vec<Vec<u64>>) -> Table
         requires { AreStarts (map (λ r. r.items) rows.items) }
         ensures { result ≡ map (λ r. r.items) rows.items }
@@ -39,7 +39,7 @@ impl Table {
         Table { rows }
     }
 
-    /// The table of these rows, or `None` where a start is over `MAX_START`.
+    /// Makes the table of `rows`, one for each job; `None` if a start is over `MAX_START`.
     pub fn new(rows: Vec<Vec<u64>>) -> Option<Table>
         ensures none { IsNone result ↔ (AreStarts (map (λ r. r.items) rows.items) → ⊥) }
         ensures some { IfSome result (λ t. t ≡ map (λ r. r.items) rows.items) }
@@ -52,22 +52,22 @@ impl Table {
         Some(Table::of_checked(rows))
     }
 
-    /// No start of a table is over `MAX_START`. (A fact for proofs; the call does nothing.)
+    /// States for proofs: no start of a table is over `MAX_START`. Does nothing.
     pub fn keeps_limits(&self)
         ensures { AreStarts self.now }
     {
         let _rows = &self.rows;
     }
 
-    /// How many rows there are.
+    /// The number of rows.
     pub fn len(&self) -> usize
         ensures { result ≡ length self.now }
     {
         self.rows.len()
     }
 
-    /// When step k of job j begins, or `None` where the table has no such start. For library callers: the program
-    /// doesn't use it.
+    /// Answers when step `k` of job `j` begins, in units of time; `None` if the table has no such start. For library
+    /// callers: the program doesn't use `start`.
     pub fn start(&self, j: usize, k: usize) -> Option<u64>
         ensures { result ≡ slice_get (slice_index_or self.now j []) k }
     {
@@ -77,7 +77,7 @@ impl Table {
         self.row(j).get(k).copied()
     }
 
-    /// The starts of job j, in order of its steps; the table has a row for it.
+    /// The starts of job `j`, in order of its steps. Requires a job with a row in the table.
     pub fn row(&self, j: usize) -> &[u64]
         requires { j < length self.now }
         ensures row { result.now ≡ slice_index_or self.now j [] }

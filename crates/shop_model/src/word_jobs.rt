@@ -5,7 +5,7 @@ ghost use Rattle.std.specs.Iterator.{YieldsFirst, item_count};
 use crate::words::Word;
 use std::marker::Model;
 
-/// The jobs of a word in order, seen as the list of those that are still to come.
+/// An iterator over the jobs of a word, in order. Contracts see the list of the jobs that are still to come.
 #[derive(Drop)]
 pub struct Jobs<'w> {
     word: &'w Word,
@@ -23,7 +23,7 @@ impl<'w> Model for Jobs<'w> {
 }
 
 impl<'w> Jobs<'w> {
-    /// All jobs of a word.
+    /// Begins before the first job of `word`.
     pub(crate) fn of(word: &'w Word) -> Jobs<'w>
         ensures { result ≡ word.now }
     {

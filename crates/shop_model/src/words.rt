@@ -10,7 +10,7 @@ use crate::word_jobs::Jobs;
 use std::alloc::{AllocError as NoMemory, Global};
 use std::marker::Model;
 
-/// The jobs of a word: a list of its own, or what it shares with other words.
+/// The jobs of a word: a list of its own, or a path that it shares with other words.
 #[derive(Drop)]
 enum Entries {
     Listed(Vec<usize>),
@@ -23,7 +23,7 @@ pub struct Word {
     entries: Entries,
 }
 
-// Written out, so that the code that lets go of a word stands once, and not in each function that has one.
+// Written by hand so that code that drops a word calls this one function and does not branch itself.
 impl Drop for Word {
     fn drop(self) {
         let Word { entries: _ } = self;
@@ -40,7 +40,7 @@ impl Model for Word {
 }
 
 impl Word {
-    /// The word of just these jobs. Takes no memory.
+    /// Makes the word of `jobs`. Takes no memory.
     pub fn of_jobs(jobs: Vec<usize>) -> Word
         ensures { result ≡ jobs.items }
     {
@@ -49,7 +49,7 @@ impl Word {
         }
     }
 
-    /// The same word as one that shares its jobs. Takes no memory.
+    /// Makes a word that shares its jobs. Takes no memory.
     pub fn of_shared(word: SharedWord) -> Word
         ensures { result ≡ word }
     {
@@ -58,7 +58,7 @@ impl Word {
         }
     }
 
-    /// How many jobs the word has.
+    /// The number of jobs of the word.
     pub fn len(&self) -> usize
         ensures { result ≡ length self.now }
     {
@@ -68,7 +68,7 @@ impl Word {
         }
     }
 
-    /// The job at an index.
+    /// The job at `index`, which is below the number of jobs.
     pub fn job(&self, index: usize) -> usize
         requires { index < length self.now }
         ensures { result ≡ slice_index self.now index }
@@ -86,8 +86,8 @@ impl Word {
         Jobs::of(self)
     }
 
-    /// The word as one that shares its jobs. Takes memory only where it has a list of its own. Fails with `NoMemory`
-    /// if memory runs out.
+    /// Turns the word into one that shares its jobs. Takes memory only if the word has a list of its own. Fails with
+    /// `NoMemory` if memory runs out.
     pub fn into_shared(self, alloc: Global) -> Result<SharedWord, NoMemory>
         requires { CanBeShared self }
         ensures { IfOk result (λ w. w ≡ self) }
@@ -99,7 +99,7 @@ impl Word {
         }
     }
 
-    /// Sets a list to the jobs of the word. Fails with `NoMemory` if memory runs out.
+    /// Replaces `list` by the jobs of the word. Fails with `NoMemory` if memory runs out.
     pub fn write_to(&self, list: &mut Vec<u16>) -> Result<(), NoMemory>
         requires { CanBeShared self.now }
         ensures list { OnOk result (list.new.items ≡ self.now) }
@@ -111,7 +111,7 @@ impl Word {
         }
     }
 
-    /// The same word once more, with the same jobs where they are shared. Fails with `NoMemory` if memory runs out.
+    /// Copies the word; shared jobs stay shared. Fails with `NoMemory` if memory runs out.
     pub fn copied(&self, alloc: Global) -> Result<Word, NoMemory>
         ensures { IfOk result (λ w. w ≡ self.now) }
     {
@@ -122,7 +122,7 @@ impl Word {
     }
 }
 
-/// Sets a list of jobs in 16 bits to these.
+/// Replaces `list` by `jobs`, in 16 bits each. Fails with `NoMemory` if memory runs out.
 pub(crate) fn set_jobs(list: &mut Vec<u16>, jobs: &[usize]) -> Result<(), NoMemory>
     requires { CanBeShared jobs.now }
     ensures list { OnOk result (list.new.items ≡ jobs.now) }
@@ -136,7 +136,7 @@ pub(crate) fn set_jobs(list: &mut Vec<u16>, jobs: &[usize]) -> Result<(), NoMemo
     Ok(())
 }
 
-/// How often the job stands in the word.
+/// Counts how often `job` stands in `word`.
 fn count(word: &Word, job: usize) -> usize
     ensures { result ≡ count_of job word.now }
 {
@@ -149,15 +149,15 @@ fn count(word: &Word, job: usize) -> usize
     count
 }
 
-/// Whether each entry is one of the jobs.
+/// Tells whether each entry of `word` is below `jobs`.
 fn are_below(jobs: usize, word: &Word) -> bool
     ensures { IsTrue result ↔ All (λ j. j < jobs) word.now }
 {
     word.jobs().all(|j| j < jobs)
 }
 
-/// Whether the word fits the instance: each entry is one of its jobs, and none stands in it more often than its route
-/// is long. Takes no memory. For library callers: the program doesn't use it.
+/// Tells whether `word` is a word of `instance`: each entry is one of its jobs, and no job stands there more often than
+/// its route is long. Takes no memory. For library callers: the program doesn't use `fits`.
 pub fn fits(instance: &Instance, word: &Word) -> bool
     ensures { IsTrue result ↔ IsWord instance.now word.now }
 {
@@ -172,8 +172,8 @@ pub fn fits(instance: &Instance, word: &Word) -> bool
     true
 }
 
-/// Whether the word is full: each job of the instance stands in it just as often as its route is long, and no other.
-/// Takes no memory. For library callers: the program doesn't use it.
+/// Tells whether `word` is full: each job of the instance stands there as often as its route is long, and no other
+/// entry does. Takes no memory. For library callers: the program doesn't use `is_full`.
 pub fn is_full(instance: &Instance, word: &Word) -> bool
     ensures { IsTrue result ↔ IsFull instance.now word.now }
 {
@@ -188,7 +188,7 @@ pub fn is_full(instance: &Instance, word: &Word) -> bool
     true
 }
 
-/// The start word: job 0 for all its steps, then job 1, and so on. Fails with `NoMemory` if memory runs out.
+/// Makes the start word: job 0 for all its steps, then job 1, and so on. Fails with `NoMemory` if memory runs out.
 pub fn start_word(alloc: Global, instance: &Instance) -> Result<Word, NoMemory>
     ensures { IfOk result (λ w. w ≡ start_jobs instance.now) }
 {

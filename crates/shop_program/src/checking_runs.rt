@@ -1,4 +1,4 @@
-// Runs of `list` and `check`, on files or on the source that they are given.
+// Runs `list` and `check` on the files that are named, or on the source.
 ghost use Rattle.shop_program.specs.Commands.{Streams, IsRunOn, ListsFrom, ChecksFrom};
 
 use crate::files::{Files, open_given};
@@ -6,7 +6,8 @@ use crate::statuses::{DONE, status_of_check};
 use shop_engine::{CheckArgs, Fault, ListArgs, Sink, Source, check_text, list_text};
 use std::alloc::Global;
 
-/// Lists the instances of a source. Returns the exit status.
+/// Lists the instances of `source`, and answers the exit status. Fails with the fault of a text, with `ReadFailed` or
+/// `WriteFailed` if a device fails, or with `NoMemory` if memory runs out.
 fn list_from<S: Source, K: Sink>(
     alloc: Global,
     args: &ListArgs,
@@ -20,7 +21,8 @@ fn list_from<S: Source, K: Sink>(
     Ok(DONE)
 }
 
-/// Runs `list`. Returns the exit status.
+/// Runs `list` on `file`, or on `source` without one, and answers the exit status. Fails with the fault of a text, with
+/// `ReadFailed` or `WriteFailed` if a device fails, or with `NoMemory` if memory runs out.
 pub fn run_list<R: Files + AllocGlobal, S: Source, K: Sink>(
     rt: &R,
     args: &ListArgs,
@@ -39,7 +41,9 @@ pub fn run_list<R: Files + AllocGlobal, S: Source, K: Sink>(
     }
 }
 
-/// Judges the schedule of a file, if a path is given, or else of the source. Returns the exit status.
+/// Judges the schedule of a file, or without its path that of the instance text, and answers the exit status. Fails
+/// with the fault of a text, with `ReadFailed` or `WriteFailed` if a device fails, or with `NoMemory` if memory runs
+/// out.
 fn check_from<R: Files + AllocGlobal, S: Source, K: Sink>(
     rt: &R,
     args: &CheckArgs,
@@ -55,7 +59,8 @@ fn check_from<R: Files + AllocGlobal, S: Source, K: Sink>(
     Ok(status_of_check(is_feasible))
 }
 
-/// Runs `check`. Returns the exit status.
+/// Runs `check` on `file`, or on `source` without one, and answers the exit status. Fails with the fault of a text,
+/// with `ReadFailed` or `WriteFailed` if a device fails, or with `NoMemory` if memory runs out.
 pub fn run_check<R: Files + AllocGlobal, S: Source, K: Sink>(
     rt: &R,
     args: &CheckArgs,

@@ -1,4 +1,4 @@
-// The command line as clap's builder makes it.
+// Makes the command line by clap's builder.
 ghost use Rattle.std.specs.Prelude.{IfOk, codes};
 ghost use Rattle.clap.specs.Words.{App, Rule, new_app, with_rule, with_subcommand};
 ghost use Rattle.clap.specs.declared.builder.value_parser.ValueParser.TheVariants.{Names};
@@ -16,10 +16,10 @@ use shop_runs::{MAX_BUDGET, MAX_PIECE, MAX_ROUNDS, MAX_WORKERS};
 use shop_text::FORMAT_WORDS;
 use std::alloc::{AllocError as NoMemory, Global};
 
-/// The orders in which a round takes the open nodes.
+/// The words of the orders in which a round takes the open nodes.
 static ORDERS: [&str; 2] = ["kept", "bound"];
 
-/// A command without arguments, of this name and with this help.
+/// Makes a command without arguments, with its name and its help.
 fn described<'a>(alloc: Global, name: &'a str, help: &Help) -> Command<'a>
     ensures { IsCommandOf (new_app name.entry.now) result }
 {
@@ -28,7 +28,7 @@ fn described<'a>(alloc: Global, name: &'a str, help: &Help) -> Command<'a>
         .after_help(help.end)
 }
 
-/// The command with one more argument, unless memory has run out.
+/// Adds an argument to a command, unless memory has run out.
 fn add_arg<'a>(
     command: Result<Command<'a>, NoMemory>,
     arg: Arg<'a>,
@@ -39,7 +39,7 @@ fn add_arg<'a>(
     command?.arg(arg)
 }
 
-/// The command with one more subcommand, unless memory has run out.
+/// Adds a subcommand to a command, unless memory has run out.
 fn add_subcommand<'a>(
     command: Result<Command<'a>, NoMemory>,
     subcommand: Result<Command<'a>, NoMemory>,
@@ -51,14 +51,14 @@ fn add_subcommand<'a>(
     command?.subcommand(subcommand?)
 }
 
-/// An option that takes a value.
+/// Makes an option that takes a value.
 fn option<'a>(alloc: Global, id: &'a str, value: &'a str, help: &'a str) -> Arg<'a>
     ensures { IsArgOf (option_rule id.entry.now) result }
 {
     Arg::new(alloc, id).long(id).value_name(value).help(help)
 }
 
-/// An option that takes a number from `least` to `most`, by default this one.
+/// Makes an option that takes a number from `least` to `most`.
 fn number<'a>(
     alloc: Global,
     id: &'a str,
@@ -74,7 +74,7 @@ fn number<'a>(
         .default_value(default)
 }
 
-/// An option that takes one of some words, by default this one.
+/// Makes an option that takes one of `words`.
 fn choice<'a>(
     alloc: Global,
     id: &'a str,
@@ -90,7 +90,7 @@ fn choice<'a>(
         .default_value(default)
 }
 
-/// A flag.
+/// Makes an option without a value.
 fn flag<'a>(alloc: Global, id: &'a str, help: &'a str) -> Arg<'a>
     ensures { IsArgOf (flag_rule id.entry.now) result }
 {
@@ -100,14 +100,14 @@ fn flag<'a>(alloc: Global, id: &'a str, help: &'a str) -> Arg<'a>
         .help(help)
 }
 
-/// A path that may be given.
+/// Makes an argument for a path, which may be left out.
 fn path<'a>(alloc: Global, id: &'a str, help: &'a str) -> Arg<'a>
     ensures { IsArgOf (path_rule id.entry.now) result }
 {
     Arg::new(alloc, id).value_name(id).help(help)
 }
 
-/// `--format`, which takes one of these words.
+/// Makes `--format`, which takes one of the words `formats`.
 fn format<'a>(alloc: Global, formats: &'a [&'a str]) -> Arg<'a>
     ensures { IsArgOf (format_rule (Names formats.entry)) result }
 {
@@ -142,7 +142,7 @@ fn file<'a>(alloc: Global) -> Arg<'a>
     )
 }
 
-/// `list`: the instances of a text.
+/// Makes the command `list`. Fails with `NoMemory` if memory runs out.
 fn list<'a>(alloc: Global, formats: &'a [&'a str]) -> Result<Command<'a>, NoMemory>
     ensures { IfOk result (IsCommandOf (list_command (Names formats.entry))) }
 {
@@ -151,7 +151,7 @@ fn list<'a>(alloc: Global, formats: &'a [&'a str]) -> Result<Command<'a>, NoMemo
     add_arg(formatted, file(alloc))
 }
 
-/// `check`: judges a schedule.
+/// Makes the command `check`. Fails with `NoMemory` if memory runs out.
 fn check<'a>(alloc: Global, formats: &'a [&'a str]) -> Result<Command<'a>, NoMemory>
     ensures { IfOk result (IsCommandOf (check_command (Names formats.entry))) }
 {
@@ -167,7 +167,7 @@ fn check<'a>(alloc: Global, formats: &'a [&'a str]) -> Result<Command<'a>, NoMem
     add_arg(filed, schedule)
 }
 
-/// A command with the options of a plan: rounds, budget, piece and order.
+/// Adds the options of a plan to a command: rounds, budget, piece and order.
 fn with_plan<'a>(
     alloc: Global,
     command: Result<Command<'a>, NoMemory>,
@@ -214,7 +214,7 @@ fn with_plan<'a>(
     add_arg(with_piece, order)
 }
 
-/// `solve`: searches a least makespan.
+/// Makes the command `solve`. Fails with `NoMemory` if memory runs out.
 fn solve<'a>(
     alloc: Global,
     formats: &'a [&'a str],
@@ -244,21 +244,21 @@ fn solve<'a>(
     add_arg(drawn, file(alloc))
 }
 
-/// The words of the formats.
+/// Answers the words of the formats.
 fn format_choices<'a>() -> &'a [&'a str]
     ensures { IsChoice format_words (Names result) }
 {
     FORMAT_WORDS.as_slice()
 }
 
-/// The words of the orders.
+/// Answers the words of the orders.
 fn order_choices<'a>() -> &'a [&'a str]
     ensures { IsChoice order_words (Names result) }
 {
     ORDERS.as_slice()
 }
 
-/// The whole command line. Fails with `NoMemory` if memory runs out.
+/// Makes the whole command line. Fails with `NoMemory` if memory runs out.
 pub fn command<'a>(alloc: Global) -> Result<Command<'a>, NoMemory>
     ensures { IfOk result IsCommandLine }
 {

@@ -1,4 +1,4 @@
-// Entry points: the program over its words and its streams.
+// Runs the program on its words and its streams.
 ghost use Rattle.std.specs.Prelude.{map, string_bytes, IfErr};
 ghost use Rattle.shop_program.specs.Commands.{Streams};
 ghost use Rattle.shop_program.specs.Running.{IsNoWords, IsEnd, IsStart};
@@ -13,8 +13,8 @@ use std::env::args;
 use std::io::ErrorKind;
 use std::rt::Env;
 
-/// The words of the process, the program's name first. Where there are none, `err` is told why, and the exit status is 2
-/// (a word isn't UTF-8) or 5 (memory ran out).
+/// Answers the words of the process, the program's name first. Without them says why on `err`, and fails with the exit
+/// status: 2 (a word isn't UTF-8) or 5 (memory ran out).
 fn words_of<R: Env + AllocGlobal, E: Sink>(rt: &R, err: &mut E) -> Result<Vec<String>, u8>
     ensures { IfErr result IsNoWords }
 {
@@ -29,9 +29,9 @@ fn words_of<R: Env + AllocGlobal, E: Sink>(rt: &R, err: &mut E) -> Result<Vec<St
     }
 }
 
-/// Runs the program on the words of a command line, the program's name first: it reads files or the source, writes to
-/// `out`, and says faults on `err`; `crews` makes who searches, by the number of workers that is asked for. The exit
-/// status: 0 done, 1 infeasible, 2 a faulty command line, 3 a text refused, 4 a read or write that failed, 5 no memory.
+/// Runs the program on the words of a command line, the program's name first. Reads files or `source`, writes to `out`,
+/// and says faults on `err`; `crews` makes the crew of as many workers as the words ask for. Answers the exit status: 0
+/// done, 1 infeasible, 2 a faulty command line, 3 a text refused, 4 a read or write that failed, 5 no memory.
 pub fn program<R: Files + AllocGlobal, C: MakesCrew<R>, S: Source, K: Sink, E: Sink>(
     rt: &R,
     crews: &C,
@@ -55,7 +55,8 @@ pub fn program<R: Files + AllocGlobal, C: MakesCrew<R>, S: Source, K: Sink, E: S
     }
 }
 
-/// Runs the program on the words of the process. Words that aren't UTF-8 are a fault of the command line.
+/// Runs the program on the words of the process, and answers the exit status. A word that isn't UTF-8 is a fault of the
+/// command line.
 pub fn start<R: Env + Files + AllocGlobal, C: MakesCrew<R>, S: Source, K: Sink, E: Sink>(
     rt: &R,
     crews: &C,

@@ -1,4 +1,4 @@
-// Files, and who opens them.
+// Opens files.
 ghost use Rattle.std.specs.Prelude.{◌≡◌, ℕ, List, Option, ⊤, IfOk, IfErr};
 ghost use Rattle.std.specs.Option.{option_map};
 ghost use Rattle.std.specs.Result.{result_ok};
@@ -10,14 +10,14 @@ use shop_engine::{DeviceFailed, Fault, Reading, Source};
 use std::fs::File;
 use std::rt;
 
-/// Who opens files.
+/// Opens the files that a command line names.
 pub trait Files {
     type File: Source + Drop;
 
     /// What opening a path may give: a file as it stands then, or none where it can't be opened.
     ghost opens: { Self → List ℕ → Option Device → Type 0 };
 
-    /// Opens the file at a path. Fails where it can't be opened.
+    /// Opens the file at `path`. Fails if it can't be opened.
     fn open(&self, path: &str) -> Result<Self::File, DeviceFailed>
         ensures { opens self.now path.now (option_map Self.File.device (result_ok result)) };
 }
@@ -36,7 +36,7 @@ impl<R: rt::Files> Files for R {
     }
 }
 
-/// Opens the file at a path, if one is given; one that can't be opened is a failed read.
+/// Opens the file at `path`, if a path is given. Fails with `ReadFailed` if the file can't be opened.
 pub fn open_given<R: Files>(rt: &R, path: &Option<String>) -> Result<Option<R::File>, Fault>
     ensures opened { IfOk result (λ file.
         IsGiven (R.opens rt.now) path.now (option_map R.File.device file)) }

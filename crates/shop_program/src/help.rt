@@ -66,7 +66,7 @@ until it has taken as many nodes as its budget, and what it leaves stays open. W
 optimal; else it is open, and a search of more rounds or a greater budget may end lower.
 
 The first round takes at most as many nodes as the budget, each other one 256 times as many: by the default plan some
-25 billion, which may take hours. An interrupted run prints nothing, so begin with '--order bound --rounds 100
+25 billion, which may take hours. An interrupted search prints nothing, so begin with '--order bound --rounds 100
 --budget 1000', which takes seconds up to some 50 x 15.
 
 Examples:

@@ -42,7 +42,7 @@ impl<T: Drop> From<AllocFailed<T>> for LineFault {
     }
 }
 
-/// The fault of matches that lack what the command asks for.
+/// Makes the fault of matches that lack what the command asks for.
 pub fn misread(alloc: Global) -> LineFault {
     match Command::new(alloc, "jobshop").error(ErrorKind::InvalidValue, "a value is missing") {
         Ok(fault) => LineFault::Usage(fault),

@@ -1,4 +1,4 @@
-// The values that clap's matches have.
+// Reads the values in clap's matches.
 ghost use Rattle.std.specs.Prelude.{◌≡◌, ◌<◌, ◌^◌, ℕ, IfOk, IfErr, option_map, string_bytes};
 ghost use Rattle.clap.specs.Words.{found_of, rows_of};
 ghost use Rattle.shop_text.specs.Formats.{word_of};
@@ -14,7 +14,7 @@ use shop_runs::Order;
 use shop_text::Format;
 use std::alloc::{AllocError as NoMemory, Global};
 
-/// The format.
+/// Reads the format. Fails if the matches lack it, or with `NoMemory` if memory runs out.
 pub fn format_in(alloc: Global, found: &ArgMatches) -> Result<Format, LineFault>
     ensures ok { IfOk result (λ format.
         HasText (rows_of (found_of found.now)) (codes "format") (word_of format)) }
@@ -30,7 +30,7 @@ pub fn format_in(alloc: Global, found: &ArgMatches) -> Result<Format, LineFault>
     }
 }
 
-/// The order.
+/// Reads the order of open nodes. Fails if the matches lack it, or with `NoMemory` if memory runs out.
 pub fn order_in(alloc: Global, found: &ArgMatches) -> Result<Order, LineFault>
     ensures ok { IfOk result (λ order.
         HasText (rows_of (found_of found.now)) (codes "order") (order_word order)) }
@@ -47,7 +47,7 @@ pub fn order_in(alloc: Global, found: &ArgMatches) -> Result<Order, LineFault>
     }
 }
 
-/// A number.
+/// Reads the number of the option `id`. Fails if the matches lack it, or with `NoMemory` if memory runs out.
 pub fn number_in(alloc: Global, found: &ArgMatches, id: &str) -> Result<u64, LineFault>
     ensures ok { IfOk result (HasNumber (rows_of (found_of found.now)) id.now) }
     ensures err { IfErr result (UnlessNoMemory ((n : ℕ) → n < 2 ^ 64
@@ -59,14 +59,14 @@ pub fn number_in(alloc: Global, found: &ArgMatches, id: &str) -> Result<u64, Lin
     }
 }
 
-/// A flag.
+/// Tells whether the flag `id` is set.
 pub fn flag_in(found: &ArgMatches, id: &str) -> bool
     ensures { HasFlag (rows_of (found_of found.now)) id.now result }
 {
     found.get_flag(id)
 }
 
-/// A text that may be missing. Fails with `NoMemory` if memory runs out.
+/// Reads the text of the argument `id`; `None` if it is left out. Fails with `NoMemory` if memory runs out.
 pub fn text_in(alloc: Global, found: &ArgMatches, id: &str) -> Result<Option<String>, NoMemory>
     ensures { IfOk result (λ text.
         MayHave (rows_of (found_of found.now)) id.now (option_map string_bytes text)) }

@@ -1,4 +1,4 @@
-// From the words of a command line to its arguments.
+// Reads the arguments of a command line from its words.
 ghost use Rattle.std.specs.Prelude.{IfOk, IfErr, map, codes, string_bytes};
 ghost use Rattle.clap.specs.Words.{found_of, rows_of};
 ghost use Rattle.shop_program.specs.CommandLine.{IsArgs, IsLineOf, IsUnread, HasPlan};
@@ -15,7 +15,7 @@ use shop_engine::{CheckArgs, ListArgs, SolveArgs};
 use shop_runs::{Plan, Workers};
 use std::alloc::Global;
 
-/// The arguments of `list`.
+/// Reads the arguments of `list` from clap's matches. Fails if these lack one, or with `NoMemory` if memory runs out.
 fn list_args(alloc: Global, found: &ArgMatches) -> Result<Args, LineFault>
     ensures ok { IfOk result (IsArgs (codes "list") (rows_of (found_of found.now))) }
     ensures err { IfErr result (UnlessNoMemory ((args : Args)
@@ -28,7 +28,7 @@ fn list_args(alloc: Global, found: &ArgMatches) -> Result<Args, LineFault>
     Ok(Args::List { args, file })
 }
 
-/// The arguments of `check`.
+/// Reads the arguments of `check` from clap's matches. Fails if these lack one, or with `NoMemory` if memory runs out.
 fn check_args(alloc: Global, found: &ArgMatches) -> Result<Args, LineFault>
     ensures ok { IfOk result (IsArgs (codes "check") (rows_of (found_of found.now))) }
     ensures err { IfErr result (UnlessNoMemory ((args : Args)
@@ -47,7 +47,7 @@ fn check_args(alloc: Global, found: &ArgMatches) -> Result<Args, LineFault>
     })
 }
 
-/// The plan of `solve`.
+/// Reads the plan of `solve` from clap's matches. Fails if these lack a part, or with `NoMemory` if memory runs out.
 fn plan_in(alloc: Global, found: &ArgMatches) -> Result<Plan, LineFault>
     ensures ok { IfOk result (HasPlan (rows_of (found_of found.now))) }
     ensures err { IfErr result (UnlessNoMemory ((plan : Plan)
@@ -63,7 +63,7 @@ fn plan_in(alloc: Global, found: &ArgMatches) -> Result<Plan, LineFault>
     }
 }
 
-/// The arguments of `solve`.
+/// Reads the arguments of `solve` from clap's matches. Fails if these lack one, or with `NoMemory` if memory runs out.
 fn solve_args(alloc: Global, found: &ArgMatches) -> Result<Args, LineFault>
     ensures ok { IfOk result (IsArgs (codes "solve") (rows_of (found_of found.now))) }
     ensures err { IfErr result (UnlessNoMemory ((args : Args)
@@ -91,10 +91,10 @@ fn solve_args(alloc: Global, found: &ArgMatches) -> Result<Args, LineFault>
     })
 }
 
-/// What a command line asks for, whose words begin with the program's name: the command, and the values that clap reads
-/// of the words, each number within its limits.
+/// Reads what a command line asks for, whose words begin with the program's name: the command, and the values that clap
+/// reads of the words, each number within its limits.
 ///
-/// Refused as `NoMemory` if memory runs out, or as `Usage` with clap's fault; a call for help is one too.
+/// Fails with `Usage` and clap's fault (a call for help is one too), or with `NoMemory` if memory runs out.
 pub fn args_of(alloc: Global, words: &[String]) -> Result<Args, LineFault>
     ensures ok { IfOk result (IsLineOf (map string_bytes words.now)) }
     ensures err { IfErr result (UnlessNoMemory (IsUnread (map string_bytes words.now))) }

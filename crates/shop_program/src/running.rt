@@ -1,4 +1,4 @@
-// Runs of the commands, on files or on the source that they are given.
+// Runs the commands on the files that are named, or on the source.
 ghost use Rattle.shop_program.specs.Commands.{Streams, IsRunOn};
 ghost use Rattle.shop_program.specs.Running.{IsCommandRun, HasSolved, SolvesFrom};
 
@@ -9,7 +9,8 @@ use crate::statuses::DONE;
 use shop_engine::{Fault, Sink, SolveArgs, Source, solve_text};
 use shop_runs::{MakesCrew, Workers};
 
-/// Solves with a crew of `workers`. Every crew gives the same report.
+/// Solves with a crew of `workers`; every crew gives the same report. Fails with the fault of a text, with `ReadFailed`
+/// or `WriteFailed` if a device fails, or with `NoMemory` if memory runs out.
 fn solve_by<R: AllocGlobal, C: MakesCrew<R>, S: Source, K: Sink>(
     rt: &R,
     crews: &C,
@@ -26,7 +27,8 @@ fn solve_by<R: AllocGlobal, C: MakesCrew<R>, S: Source, K: Sink>(
     solve_text(rt, rt.alloc(), source, out, args, &mut crew)
 }
 
-/// Solves an instance of a source. Returns the exit status.
+/// Solves an instance of `source`, and answers the exit status. Fails with the fault of a text, with `ReadFailed` or
+/// `WriteFailed` if a device fails, or with `NoMemory` if memory runs out.
 fn solve_from<R: AllocGlobal, C: MakesCrew<R>, S: Source, K: Sink>(
     rt: &R,
     crews: &C,
@@ -43,7 +45,8 @@ fn solve_from<R: AllocGlobal, C: MakesCrew<R>, S: Source, K: Sink>(
     Ok(DONE)
 }
 
-/// Runs `solve`. Returns the exit status.
+/// Runs `solve` on `file`, or on `source` without one, and answers the exit status. Fails with the fault of a text,
+/// with `ReadFailed` or `WriteFailed` if a device fails, or with `NoMemory` if memory runs out.
 fn run_solve<R: Files + AllocGlobal, C: MakesCrew<R>, S: Source, K: Sink>(
     rt: &R,
     crews: &C,
@@ -65,8 +68,9 @@ fn run_solve<R: Files + AllocGlobal, C: MakesCrew<R>, S: Source, K: Sink>(
     }
 }
 
-/// Runs what a command line asks for, on the files that it names or on the source, and writes to `out`; `crews` makes
-/// who searches. The exit status: 1 where `check` finds the schedule infeasible, else 0; or why it was refused.
+/// Runs what a command line asks for on the files that it names, or on `source`, and writes to `out`; `crews` makes the
+/// crew that searches. Answers the exit status: 1 if `check` finds the schedule infeasible, else 0. Fails with the
+/// fault of a text, with `ReadFailed` or `WriteFailed` if a device fails, or with `NoMemory` if memory runs out.
 pub fn run_args<R: Files + AllocGlobal, C: MakesCrew<R>, S: Source, K: Sink>(
     rt: &R,
     crews: &C,

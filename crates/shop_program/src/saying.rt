@@ -1,4 +1,4 @@
-// What goes to standard error. Saying takes no memory, so a fault is said also where memory has run out.
+// Says faults on standard error. Saying takes no memory, so a fault is said also when memory has run out.
 ghost use Rattle.std.specs.Prelude.{◌≡◌};
 ghost use Rattle.shop_program.specs.Statuses.{status_of, status_of_line};
 
@@ -29,7 +29,7 @@ fn say<K: Sink, D: Display + Drop>(err: &mut K, text: D) {
     let _ = write!(pieces, "{text}");
 }
 
-/// Says a fault on one line. Returns the exit status.
+/// Says `fault` on one line, and answers the exit status.
 pub fn say_fault<K: Sink>(err: &mut K, fault: Fault) -> u8
     ensures { result ≡ status_of fault }
 {
@@ -38,14 +38,14 @@ pub fn say_fault<K: Sink>(err: &mut K, fault: Fault) -> u8
     status_of_fault(&fault)
 }
 
-/// Says that memory ran out. Returns the exit status.
+/// Says that memory ran out, and answers the exit status.
 pub fn say_no_memory<K: Sink>(err: &mut K) -> u8
     ensures { result ≡ 5 }
 {
     say_fault(err, Fault::NoMemory)
 }
 
-/// Says that a word of the command line isn't text. Returns the exit status.
+/// Says that a word of the command line isn't UTF-8, and answers the exit status.
 pub fn say_no_text<K: Sink>(err: &mut K) -> u8
     ensures { result ≡ 2 }
 {
@@ -53,7 +53,7 @@ pub fn say_no_text<K: Sink>(err: &mut K) -> u8
     COMMAND_LINE
 }
 
-/// Says clap's text of a fault of the command line, or that memory ran out. Returns the exit status.
+/// Says clap's text of a fault of the command line, or that memory ran out, and answers the exit status.
 pub fn say_line_fault<K: Sink>(err: &mut K, fault: LineFault) -> u8
     ensures { result ≡ status_of_line fault }
 {

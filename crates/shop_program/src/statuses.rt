@@ -4,7 +4,7 @@ ghost use Rattle.shop_program.specs.Statuses.{status_of, status_of_verdict};
 
 use shop_engine::Fault;
 
-/// Done.
+/// The run did what was asked.
 pub const DONE: u8 = 0;
 
 /// The schedule is infeasible.
@@ -22,7 +22,7 @@ pub const FAILED: u8 = 4;
 /// Memory ran out.
 pub const NO_MEMORY: u8 = 5;
 
-/// The exit status of a fault.
+/// Answers the exit status of `fault`.
 pub fn status_of_fault(fault: &Fault) -> u8
     ensures { result ≡ status_of fault.now }
 {
@@ -33,7 +33,7 @@ pub fn status_of_fault(fault: &Fault) -> u8
     }
 }
 
-/// The exit status of a verdict.
+/// Answers the exit status of a verdict.
 pub fn status_of_check(is_feasible: bool) -> u8
     ensures { result ≡ status_of_verdict is_feasible }
 {

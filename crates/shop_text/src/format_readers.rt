@@ -8,39 +8,40 @@ use crate::instance_readers::read_text;
 use crate::names::Named;
 use std::alloc::Global;
 
-/// The instances of a text in this format: see `read_orlib`, `read_taillard` and `read_routes`.
+/// Reads the instances of `text` in `format`, as `read_orlib`, `read_taillard` and `read_routes` say, and fails as they
+/// do.
 pub fn read(alloc: Global, format: Format, text: &[u8]) -> Result<Vec<Named>, ReadFault>
     ensures { IsRead (grammar_of format) text.now result }
 {
     read_text(alloc, format, text)
 }
 
-/// The instances of a text in the form of the OR-Library file `jobshop1`, with their names; at least one.
+/// Reads the instances of `text`, at least one, in the form of the OR-Library file `jobshop1`. The name of an instance
+/// is that of the last line `instance NAME` before it, else its number, from 1.
 ///
-/// Fails with `TooLong` above 16,777,216 bytes, and else with the fault of the first faulty line. The name of an
-/// instance is that of the last line `instance NAME` before it, else its number, from 1. Fails with `NoMemory` if memory
-/// runs out. For library callers: the program doesn't use it.
+/// Fails with `TooLong` above 16,777,216 bytes, and else with the fault of the first faulty line. Fails with `NoMemory`
+/// if memory runs out. For library callers: the program doesn't use `read_orlib`.
 pub fn read_orlib(alloc: Global, text: &[u8]) -> Result<Vec<Named>, ReadFault>
     ensures { IsRead orlib text.now result }
 {
     read_text(alloc, Format::Orlib, text)
 }
 
-/// The instances of a text in the form that goes by Taillard's name: a size line, a row of times for each job and a row
-/// of machines for each job, machines counted from 1; at least one instance. Their names are their numbers, from 1.
+/// Reads the instances of `text`, at least one, in the form that goes by Taillard's name: a size line, a row of times
+/// for each job, and a row of machines for each job, counted from 1. Numbers behind jobs and machines in a size line
+/// are skipped. The names of instances are their numbers, from 1.
 ///
-/// Faults are as for `read_orlib`. Numbers behind jobs and machines in a size line are skipped. For library callers: the
-/// program doesn't use it.
+/// Fails as `read_orlib` does. For library callers: the program doesn't use `read_taillard`.
 pub fn read_taillard(alloc: Global, text: &[u8]) -> Result<Vec<Named>, ReadFault>
     ensures { IsRead taillard text.now result }
 {
     read_text(alloc, Format::Taillard, text)
 }
 
-/// The instances of a text in the format `routes`, with their names; at least one.
+/// Reads the instances of `text`, at least one, in the format `routes`: that of `read_orlib`, except that the row of a
+/// job is its release, 0 to 1,000,000,000, and then 0 to 100 pairs of machine and time.
 ///
-/// As `read_orlib`, except that the row of a job is its release, 0 to 1,000,000,000, and then 0 to 100 pairs of machine
-/// and time. For library callers: the program doesn't use it.
+/// Fails as `read_orlib` does. For library callers: the program doesn't use `read_routes`.
 pub fn read_routes(alloc: Global, text: &[u8]) -> Result<Vec<Named>, ReadFault>
     ensures { IsRead routes text.now result }
 {

@@ -7,9 +7,9 @@ ghost use Rattle.shop_text.specs.Formats.{word_of, IsNoWord};
 pub enum Format {
     /// The form of the OR-Library file `jobshop1`: a machine and a time for each machine.
     Orlib,
-    /// The form that goes by Taillard's name: a matrix of times, then one of machines.
+    /// The form that goes by Taillard's name: a matrix of times, then a matrix of machines.
     Taillard,
-    /// As `Orlib`, with a release before the pairs of machine and time, of which there may be 0 to 100.
+    /// The form of `Orlib`, with a release before the pairs of machine and time, of which each job may have 0 to 100.
     Routes,
 }
 
@@ -20,7 +20,7 @@ pub const FORMATS: [Format; 3] = [Format::Orlib, Format::Taillard, Format::Route
 pub static FORMAT_WORDS: [&str; 3] = ["orlib", "taillard", "routes"];
 
 impl Format {
-    /// The word for the format on a command line.
+    /// Answers the word for the format on a command line.
     pub fn word(self) -> &'static str
         ensures { result.now ≡ word_of self }
     {
@@ -31,7 +31,7 @@ impl Format {
         }
     }
 
-    /// The format of this word; `None` where it is the word of none.
+    /// Finds the format whose word is `word`; `None` if there is none.
     pub fn of_word(word: &str) -> Option<Format>
         ensures { MatchOption result (IsNoWord word.now) (λ format. word_of format ≡ word.now) }
     {

@@ -10,7 +10,7 @@ use shop_model::{Instance, Table};
 /// The characters of jobs 0 to 61; all later jobs have `#`.
 const CHARACTERS: &[u8; 62] = b"0123456789ABCDEFGHIJKLMNOPQRSTUVWXYZabcdefghijklmnopqrstuvwxyz";
 
-/// The character of job j.
+/// Answers the character of job `j`.
 fn character(j: usize) -> u8
     ensures { result ≡ character_of j }
 {
@@ -21,7 +21,7 @@ fn character(j: usize) -> u8
     }
 }
 
-/// Shows a character in the columns from `from` to before `to`.
+/// Writes `character` into the columns from `from` up to `to` (excluded).
 fn show(cells: &mut [u8], from: usize, to: usize, character: u8)
     requires order { from ≤ to }
     requires within { to ≤ length cells.old }
@@ -32,7 +32,8 @@ fn show(cells: &mut [u8], from: usize, to: usize, character: u8)
     }
 }
 
-/// Shows job j in the columns at whose instants the machine serves it.
+/// Writes the character of job `j` into the columns at whose instants `machine` serves the job. A column is `unit`
+/// units of time.
 fn show_job(
     cells: &mut [u8],
     unit: u64,
@@ -59,7 +60,8 @@ fn show_job(
     }
 }
 
-/// Shows in each column the job that the machine serves at the column's instant, and a dot where it serves none.
+/// Writes into each column the character of the job that `machine` serves at the column's instant, or a dot if it
+/// serves none. Requires a feasible table, in which a machine serves one job at a time.
 pub(crate) fn show_machine(
     cells: &mut [u8],
     unit: u64,

@@ -12,7 +12,7 @@ use std::alloc::{AllocError as NoMemory, Global};
 /// The most columns of a Gantt text.
 const MAX_COLUMNS: u64 = 72;
 
-/// How many units of time a column stands for.
+/// Answers for how many units of time a column stands: the least number with at most 72 columns.
 fn unit(makespan: u64) -> u64
     ensures unit { result ≡ unit_of makespan }
     ensures some { 0 < result }
@@ -21,7 +21,7 @@ fn unit(makespan: u64) -> u64
     if unit < 1 { 1 } else { unit }
 }
 
-/// Writes the line of a machine.
+/// Writes the line of `machine` with the columns `cells`. Fails with `NoMemory` if memory runs out.
 fn write_machine(
     out: &mut Vec<u8>,
     alloc: Global,
@@ -36,9 +36,9 @@ fn write_machine(
     out.extend_from_slice(b"|\n")
 }
 
-/// The Gantt text of a feasible table: a unit of time, and for each machine a line of at most 72 columns. Column c
-/// shows the job that the machine serves c units after 0, or a dot; operations of time 0 never show. Fails with
-/// `NoMemory` if memory runs out.
+/// Makes the Gantt text of `table`, a feasible one: a line with the unit of time, and for each machine a line of at
+/// most 72 columns. Column c shows the job that the machine serves c units after 0, or a dot; operations of time 0
+/// never show. Fails with `NoMemory` if memory runs out.
 pub fn gantt(alloc: Global, instance: &Instance, table: &Table) -> Result<Vec<u8>, NoMemory>
     requires shape { HasShape instance.now table.now }
     requires feasible { IsFeasible instance.now (starts_of table.now) }

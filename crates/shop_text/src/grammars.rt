@@ -1,4 +1,4 @@
-// What the formats of instance texts differ in.
+// The grammars of instance texts: what their formats differ in.
 ghost use Rattle.std.specs.Prelude.{◌≡◌};
 ghost use Rattle.shop_text.specs.inner.Grammars.{fields_of};
 
@@ -7,9 +7,9 @@ use crate::formats::Format;
 /// The grammar of a format: what its size lines, its rows and its text lines are.
 #[derive(Clone, Copy)]
 pub(crate) struct Grammar {
-    /// The most numbers of a size line; those behind jobs and machines are ignored.
+    /// The most numbers of a size line; numbers behind jobs and machines are ignored.
     pub(crate) most_in_size: usize,
-    /// Whether a text line `instance NAME` is a header. Else headers are text lines like others.
+    /// Whether a text line `instance NAME` names an instance; else it is a text line like others.
     pub(crate) has_headers: bool,
     /// Whether the rows are two matrices, of times and of machines counted from 1, a row for each job in each, and text
     /// lines are skipped before both. Else the row of a job has pairs of machine and time, machines counted from 0.
@@ -20,7 +20,7 @@ pub(crate) struct Grammar {
 }
 
 impl Format {
-    /// The grammar of the format.
+    /// Answers the grammar of the format.
     pub(crate) fn grammar(self) -> Grammar
         ensures { result ≡ fields_of self }
     {

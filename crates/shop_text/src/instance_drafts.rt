@@ -33,7 +33,7 @@ impl Draft {
     ghost use Rattle.shop_text.specs.declared.formats.Format.TheVariants.{Taillard};
     ghost use Rattle.std.specs.Prelude.{vec_len, IfOk};
 
-    /// The draft of an instance of which no line is read.
+    /// Makes the draft of an instance of which no line is read.
     pub(crate) fn new(alloc: Global) -> Draft
         ensures { result.jobs_wanted ≡ 0 }
     {
@@ -45,14 +45,14 @@ impl Draft {
         }
     }
 
-    /// Whether the size line is still to come.
+    /// Tells whether the size line is still to come.
     pub(crate) fn is_fresh(&self) -> bool
         ensures { result ≡ (self.now.jobs_wanted == 0) }
     {
         self.jobs_wanted == 0
     }
 
-    /// Whether the next row begins a matrix, or is the size line.
+    /// Tells whether the next row begins a matrix or is the size line.
     fn is_before_matrix(&self) -> bool
         ensures { (rows : List Row) → IsDraft Taillard self.now rows
             → result ≡ taillard.skips rows }
@@ -60,7 +60,7 @@ impl Draft {
         self.times.is_empty() || self.jobs.is_empty() && self.times.len() == self.jobs_wanted
     }
 
-    /// Whether a text line is skipped at this place of the instance.
+    /// Tells whether `format` skips a text line at this place of the instance.
     pub(crate) fn skips_text(&self, format: Format) -> bool
         ensures { (rows : List Row) → IsDraft format self.now rows
             → result ≡ (grammar_of format).skips rows }
@@ -72,14 +72,15 @@ impl Draft {
         }
     }
 
-    /// Whether the next row is one of times.
+    /// Tells whether the next row is one of times.
     fn wants_times(&self, format: Format) -> bool
         ensures { result ≡ wants_times format self.now.jobs_wanted (vec_len self.now.times) }
     {
         format.grammar().has_matrices && self.times.len() < self.jobs_wanted
     }
 
-    /// The job of a row.
+    /// Reads the job of the number line `row`, which is line `line` of the text. Fails with the first fault of the row,
+    /// or with `NoMemory` if memory runs out.
     fn job_of(
         &self,
         alloc: Global,
@@ -108,7 +109,8 @@ impl Draft {
         }
     }
 
-    /// Adds a job. With the last one it returns the instance, and the draft is empty again.
+    /// Adds `job`. If the job is the last one, answers the instance, and the draft is empty again. Fails with
+    /// `NoMemory` if memory runs out.
     fn push_job(&mut self, alloc: Global, job: Job) -> Result<Option<Instance>, ReadFault>
         requires some { 0 < self.old.jobs_wanted }
         requires within { IsJobWithin self.old.machines job }
@@ -124,7 +126,8 @@ impl Draft {
         Ok(Some(Instance::of_jobs(self.machines, jobs).unwrap()))
     }
 
-    /// Reads a number line. Returns the instance if this was its last row; fails with the fault of the line.
+    /// Reads the number line `row`. Answers the instance if this was its last row. Fails with the fault of the line, or
+    /// with `NoMemory` if memory runs out.
     pub(crate) fn take_row(
         &mut self,
         alloc: Global,

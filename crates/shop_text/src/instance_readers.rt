@@ -1,4 +1,4 @@
-// Instance texts, line by line.
+// Reads an instance text line by line.
 ghost use Rattle.std.specs.Prelude.{◌≡◌, ℕ, ◌≤◌, List, [], length, map};
 ghost use Rattle.std.specs.Prelude.{MatchOption, Some, None, IfOk};
 ghost use Rattle.std.specs.Prelude.{string_bytes};
@@ -29,7 +29,7 @@ struct Reader {
     draft: Draft,
 }
 
-/// The name of an instance, or its number where it has none.
+/// Answers `name`, or `number` in digits if there is no name. Fails with `NoMemory` if memory runs out.
 fn name_or_number(alloc: Global, name: Option<String>, number: usize) -> Result<String, NoMemory>
     ensures { IfOk result (λ s. string_bytes s ≡ name_or (decimal number) name) }
 {
@@ -40,7 +40,7 @@ fn name_or_number(alloc: Global, name: Option<String>, number: usize) -> Result<
 }
 
 impl Reader {
-    /// A reader that has read no line.
+    /// Makes a reader that has read no line.
     fn new(alloc: Global, format: Format) -> Reader
         ensures same { result.format ≡ format }
         ensures nothing { IsReadUpTo result [] }
@@ -53,7 +53,8 @@ impl Reader {
         }
     }
 
-    /// Reads a text line, and keeps the name that it gives, if any.
+    /// Reads a text line, and keeps the name that it gives, if any. Fails with `BadRow` if the line stands between
+    /// rows, or with `NoMemory` if memory runs out.
     fn take_words(
         &mut self,
         alloc: Global,
@@ -74,7 +75,7 @@ impl Reader {
         Ok(())
     }
 
-    /// Reads a number line.
+    /// Reads a number line. Fails with the fault of the line, or with `NoMemory` if memory runs out.
     fn take_numbers(&mut self, alloc: Global, line: usize, row: &[u64]) -> Result<(), ReadFault>
         ensures { (front : List Numbered) (written : List ℕ) → IsReadUpTo self.old front
             → row.now ≡ map capped written
@@ -87,7 +88,8 @@ impl Reader {
         Ok(())
     }
 
-    /// Reads a line; `numbers` is room for its numbers.
+    /// Reads a line; `numbers` is room for its numbers. Fails with the fault of the line, or with `NoMemory` if memory
+    /// runs out.
     fn take_line(
         &mut self,
         alloc: Global,
@@ -105,7 +107,8 @@ impl Reader {
         }
     }
 
-    /// The instances at the end of the text, whose last line has this number.
+    /// Answers the instances at the end of the text, whose last line has the number `last`. Fails if the text ends
+    /// inside an instance or has none.
     fn finish(self, last: usize) -> Result<Vec<Named>, ReadFault>
         requires { last ≤ MAX_TEXT }
         ensures { (lines : List Numbered) → IsReadUpTo self lines
@@ -122,7 +125,8 @@ impl Reader {
     }
 }
 
-/// The text from its first header on, with the number of lines before that; the whole text if it has no header.
+/// Answers the number of lines before the first header, and the text from there on; 0 and the whole text if it has no
+/// header.
 fn from_first_header(format: Format, text: &[u8]) -> (usize, &[u8])
     requires { length text.now ≤ MAX_TEXT }
     ensures left { lines_left (grammar_of format) text.now ≡ lines_after result.0 result.1.now }
@@ -141,7 +145,8 @@ fn from_first_header(format: Format, text: &[u8]) -> (usize, &[u8])
     (0, text)
 }
 
-/// The instances of a text, with their names.
+/// Reads the instances of `text`, with their names. Fails with the one fault of the text, or with `NoMemory` if memory
+/// runs out.
 pub(crate) fn read_text(alloc: Global, format: Format, text: &[u8]) -> Result<Vec<Named>, ReadFault>
     ensures { IsRead (grammar_of format) text.now result }
 {

@@ -10,14 +10,14 @@ use crate::lines::{next_number, next_token, number_of};
 use shop_model::{Instance, MAX_JOBS, MAX_START};
 use std::alloc::{AllocError as NoMemory, Global};
 
-/// Whether the token begins the line of a job.
+/// Tells whether `token` is the word `job`, which begins the line of a job.
 fn is_job(token: &[u8]) -> bool
     ensures { result ≡ bytes_eq token.now (codes "job") }
 {
     token == b"job".as_slice()
 }
 
-/// The rest of a line behind its first token, if that is `job`.
+/// Answers the rest of a line behind its first token if this is `job`, else `None`.
 pub(crate) fn after_job(line: &[u8]) -> Option<&[u8]>
     ensures { FollowsJob (tokens_of line.now) result }
 {
@@ -27,7 +27,7 @@ pub(crate) fn after_job(line: &[u8]) -> Option<&[u8]>
     }
 }
 
-/// Whether the token is the number of job j with a colon behind it.
+/// Tells whether `token` is the number of job `j` with a colon behind it.
 fn names_job(j: usize, token: &[u8]) -> bool
     requires { j ≤ MAX_JOBS }
     ensures { result ≡ is_label j token.now }
@@ -45,7 +45,7 @@ fn names_job(j: usize, token: &[u8]) -> bool
     }
 }
 
-/// The start that a token gives, from the number that it is: a number of at most `MAX_START`.
+/// Answers `number` if it is a start, which is at most `MAX_START`; else `None`.
 fn start_of(number: Option<u64>) -> Option<u64>
     ensures { (token : List ℕ) → number ≡ number_in token → IsStartOf token result }
 {
@@ -55,7 +55,8 @@ fn start_of(number: Option<u64>) -> Option<u64>
     }
 }
 
-/// The starts that follow the label of a line, if they are just as many as the job has steps.
+/// Reads the starts behind the label of a line; `None` unless they are `steps` starts and nothing else. Fails with
+/// `NoMemory` if memory runs out.
 fn starts_behind(alloc: Global, steps: usize, behind: &[u8]) -> Result<Option<Vec<u64>>, NoMemory>
     ensures { IsRowRead result (starts_of_tokens steps (tokens_of behind.now)) }
 {
@@ -77,7 +78,8 @@ fn starts_behind(alloc: Global, steps: usize, behind: &[u8]) -> Result<Option<Ve
     Ok(Some(starts))
 }
 
-/// The starts of job j, if this is the rest of a line of job j behind the token `job`.
+/// Reads the starts of job `j` from `behind`, the rest of a line behind the token `job`; `None` if this is no line of
+/// job `j`. Fails with `NoMemory` if memory runs out.
 pub(crate) fn row_behind(
     alloc: Global,
     instance: &Instance,

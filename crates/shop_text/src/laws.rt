@@ -1,4 +1,4 @@
-// Laws of the texts, over their definitions alone.
+// Laws of instance texts, stated on their definitions alone.
 ghost use Rattle.shop_text.specs.Formats.{grammar_of};
 ghost use Rattle.shop_text.specs.Names.{FaultIsAnswered};
 ghost use Rattle.shop_text.specs.Shapes.{OrlibShape, RoutesShape, TaillardShape};
@@ -15,7 +15,7 @@ pub fn some_reading()
     ensures { (format : Format) → SomeReading (grammar_of format) }
 {}
 
-/// A text that has a fault is answered by it, unless memory runs out.
+/// The readers answer a text that has a fault by this fault, unless memory runs out.
 pub fn faults_are_answered()
     ensures { (format : Format) → FaultIsAnswered (grammar_of format) }
 {}

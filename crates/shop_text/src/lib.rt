@@ -34,7 +34,7 @@ pub use reports::Report;
 pub use schedules::read_table;
 pub use std::alloc::AllocError as NoMemory;
 pub use table_laws::{
-    columns_show_the_job, names_are_visible, one_table, reports_are_schedules, some_table,
-    table_faults_are_answered,
+    columns_show_the_job, names_are_visible, one_table_reading, reports_are_schedules,
+    some_table_reading, table_faults_are_answered,
 };
 pub use verdict_lines::{listing, verdict_line};

@@ -5,14 +5,14 @@ ghost use Rattle.shop_text.specs.Lines.{lines_of, tokens_of, is_line_feed, is_se
 ghost use Rattle.shop_text.specs.Lines.{is_number, value_of};
 ghost use Rattle.shop_text.specs.inner.LineReading.{capped, number_in, AreLeadingDigits, IsNumberCut};
 
-/// Where the first line end is.
+/// Finds the first line end; `None` if there is none.
 fn line_end(text: &[u8]) -> Option<usize>
     ensures { result ≡ position is_line_feed text.now }
 {
     text.iter().position(|b| *b == b'\n')
 }
 
-/// The first line of a text that isn't empty, and the text after it.
+/// Splits a text that isn't empty into its first line and the text behind the line.
 pub(crate) fn next_line(text: &[u8]) -> (&[u8], &[u8])
     requires { 0 < length text.now }
     ensures cut { lines_of text.now ≡ result.0.now ∷ lines_of result.1.now }
@@ -24,28 +24,28 @@ pub(crate) fn next_line(text: &[u8]) -> (&[u8], &[u8])
     }
 }
 
-/// Whether this byte stands between tokens.
+/// Tells whether the byte `b` separates tokens.
 fn is_between_tokens(b: u8) -> bool
     ensures { result ≡ is_separator b }
 {
     b == b' ' || b == b'\t' || b == b'\r'
 }
 
-/// Where the first token begins.
+/// Finds where the first token begins; `None` if the line is blank.
 fn token_start(line: &[u8]) -> Option<usize>
     ensures { result ≡ position (λ b. not (is_separator b)) line.now }
 {
     line.iter().position(|b| !is_between_tokens(*b))
 }
 
-/// Where the first separator is.
+/// Finds the first separator; `None` if there is none.
 fn token_end(line: &[u8]) -> Option<usize>
     ensures { result ≡ position is_separator line.now }
 {
     line.iter().position(|b| is_between_tokens(*b))
 }
 
-/// The first token of a line, and what follows the separator after it.
+/// Splits a line into its first token and what follows the separator after it; `None` if the line is blank.
 pub(crate) fn next_token(line: &[u8]) -> Option<(&[u8], &[u8])>
     ensures cut { MatchOption result (tokens_of line.now ≡ [])
         (λ t. tokens_of line.now ≡ t.0.now ∷ tokens_of t.1.now) }
@@ -61,14 +61,14 @@ pub(crate) fn next_token(line: &[u8]) -> Option<(&[u8], &[u8])>
     }
 }
 
-/// Whether a token has decimal digits alone.
+/// Tells whether `token` has decimal digits alone.
 fn has_digits_alone(token: &[u8]) -> bool
     ensures { result ≡ is_number token.now }
 {
     token.iter().all(|b| b.is_ascii_digit())
 }
 
-/// The decimal value of digits, at most `u64::MAX`.
+/// Answers the decimal value of the digits of `token`, or `u64::MAX` if that is less.
 fn capped_value(token: &[u8]) -> u64
     ensures { result ≡ capped (value_of token.now) }
 {
@@ -84,8 +84,8 @@ fn capped_value(token: &[u8]) -> u64
 /// The most digits whose value is sure to be below 2^64.
 const SAFE_DIGITS: usize = 19;
 
-/// The value of the digits at the front of a text, up to 19 of them, and how many they are. Each byte is looked at
-/// once, and no sum can overflow.
+/// Answers the value of the digits at the front of `text`, of up to 19, and their number. Looks at each byte once, and
+/// no sum can overflow.
 fn leading_digits(text: &[u8]) -> (u64, usize)
     ensures { AreLeadingDigits text.now result.0 result.1 }
 {
@@ -101,8 +101,8 @@ fn leading_digits(text: &[u8]) -> (u64, usize)
     (value, most)
 }
 
-/// The value of a token that is a number, at most `u64::MAX`. Only a token of more than 19 digits is gone through
-/// again.
+/// Answers the value of `token`, or `u64::MAX` if that is less; `None` if it is no number. Only a token of more than 19
+/// digits is gone through again.
 pub(crate) fn number_of(token: &[u8]) -> Option<u64>
     ensures { result ≡ number_in token.now }
 {
@@ -116,7 +116,8 @@ pub(crate) fn number_of(token: &[u8]) -> Option<u64>
     }
 }
 
-/// The first token of a line, as the number that it is if it is one, and what follows the separator after it.
+/// Reads the first token of a line: answers its value, or `None` if it is no number, and what follows the separator
+/// after it. Answers `None` alone if the line is blank.
 fn next_long_number(line: &[u8]) -> Option<(Option<u64>, &[u8])>
     ensures cut { MatchOption result (tokens_of line.now ≡ []) (λ t. IsNumberCut line.now t.0 t.1.now) }
     ensures shorter { MatchOption result (Unit {0}) (λ t. length t.1.now < length line.now) }
@@ -127,7 +128,8 @@ fn next_long_number(line: &[u8]) -> Option<(Option<u64>, &[u8])>
     }
 }
 
-/// As `next_long_number`, but a number of at most 19 digits is read and its end found in one pass.
+/// Reads the first token of a line, as `next_long_number` does. Reads a number of at most 19 digits, and finds its end,
+/// in one pass.
 pub(crate) fn next_number(line: &[u8]) -> Option<(Option<u64>, &[u8])>
     ensures cut { MatchOption result (tokens_of line.now ≡ []) (λ t. IsNumberCut line.now t.0 t.1.now) }
     ensures shorter { MatchOption result (Unit {0}) (λ t. length t.1.now < length line.now) }

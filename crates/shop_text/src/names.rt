@@ -1,4 +1,4 @@
-// Named instances, and the one that is asked for.
+// Named instances, and the choice of one of them.
 ghost use Rattle.std.specs.Prelude.{◌<◌, length};
 ghost use Rattle.std.specs.Option.{option_copied};
 ghost use Rattle.shop_text.specs.Names.{IsPick};
@@ -13,8 +13,8 @@ pub struct Named {
     pub instance: Instance,
 }
 
-/// The first instance of this name, or the first one where no name is given. Fails with `NoSuchName` if no instance has
-/// the name.
+/// Answers the first instance of the name, or the first one if no name is given. Fails with `NoSuchName` if no instance
+/// has the name.
 pub fn pick<'t>(named: &'t [Named], name: Option<&str>) -> Result<&'t Named, ReadFault>
     requires { 0 < length named.now }
     ensures { IsPick named.now (option_copied name.entry) result }

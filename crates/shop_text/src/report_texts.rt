@@ -10,21 +10,21 @@ use crate::reports::Report;
 use shop_model::Table;
 use std::alloc::{AllocError as NoMemory, Global};
 
-/// Writes a word and a number as a line.
+/// Writes a word and a number as a line. Fails with `NoMemory` if memory runs out.
 pub(crate) fn write_number(out: &mut String, word: &str, number: u64) -> Result<(), NoMemory>
     ensures { AddsLine result out.old out.new (number_line word.now number) }
 {
     writeln!(out, "{word} {number}")
 }
 
-/// Writes two words as a line.
+/// Writes two words as a line. Fails with `NoMemory` if memory runs out.
 fn write_words(out: &mut String, word: &str, value: &str) -> Result<(), NoMemory>
     ensures { AddsLine result out.old out.new (word.now ∷ value.now ∷ []) }
 {
     writeln!(out, "{word} {value}")
 }
 
-/// Writes the numbers of jobs and machines as a line.
+/// Writes the numbers of jobs and machines as a line. Fails with `NoMemory` if memory runs out.
 fn write_size(out: &mut String, jobs: usize, machines: usize) -> Result<(), NoMemory>
     ensures { AddsLine result out.old out.new
         (codes "size" ∷ decimal jobs ∷ decimal machines ∷ []) }
@@ -32,14 +32,14 @@ fn write_size(out: &mut String, jobs: usize, machines: usize) -> Result<(), NoMe
     writeln!(out, "size {jobs} {machines}")
 }
 
-/// The status of a report, by the number of open nodes.
+/// Answers the status of a report: `optimal` if no node is open, else `open`.
 fn status(open_nodes: usize) -> &'static str
     ensures { result.now ≡ status_word open_nodes }
 {
     if open_nodes == 0 { "optimal" } else { "open" }
 }
 
-/// Writes the lines before those of the jobs.
+/// Writes the lines before those of the jobs. Fails with `NoMemory` if memory runs out.
 fn write_answer(out: &mut String, report: &Report) -> Result<(), NoMemory>
     ensures { AddsLines result out.old out.new (answer_lines (reported report.now)) }
 {
@@ -53,7 +53,7 @@ fn write_answer(out: &mut String, report: &Report) -> Result<(), NoMemory>
     write_number(out, "nodes", report.nodes)
 }
 
-/// Writes the line of job j.
+/// Writes the line of job `j`. Fails with `NoMemory` if memory runs out.
 fn write_job(out: &mut String, j: usize, starts: &[u64]) -> Result<(), NoMemory>
     ensures { AddsLine result out.old out.new (job_line j starts.now) }
 {
@@ -64,7 +64,7 @@ fn write_job(out: &mut String, j: usize, starts: &[u64]) -> Result<(), NoMemory>
     writeln!(out)
 }
 
-/// Writes a line for each job.
+/// Writes a line for each job. Fails with `NoMemory` if memory runs out.
 fn write_jobs(out: &mut String, table: &Table) -> Result<(), NoMemory>
     ensures { AddsLines result out.old out.new (job_lines table.now) }
 {
@@ -74,8 +74,8 @@ fn write_jobs(out: &mut String, table: &Table) -> Result<(), NoMemory>
     Ok(())
 }
 
-/// The report as text: what the search answers, and a line for each job with the starts of its steps. The status is
-/// `optimal` where no node is open, else `open`. Fails with `NoMemory` if memory runs out.
+/// Makes the text of `report`: what the search answers, and a line for each job with the starts of its steps. The
+/// status is `optimal` if no node is open, else `open`. Fails with `NoMemory` if memory runs out.
 pub fn report(alloc: Global, report: &Report) -> Result<Vec<u8>, NoMemory>
     requires { HasShape report.now.instance.now report.now.table.now }
     ensures { IfOk result (λ v. v.items ≡ report_text (reported report.now)) }

@@ -1,9 +1,9 @@
 // Reports.
 use shop_model::{Instance, Table};
 
-/// What a report tells of a search: the name of the instance, and the instance; its best table, which has the
-/// instance's shape, and the table's makespan; a lower bound on the makespan of all tables; how many nodes are open; and
-/// the rounds done and the nodes counted in them.
+/// What a report tells of a search: the instance and its name; the best table found, which has the instance's shape,
+/// and its makespan; a lower bound on the makespan of all feasible tables; the number of open nodes; the rounds done,
+/// and the nodes counted in them.
 #[derive(Drop)]
 pub struct Report<'t> {
     pub name: &'t str,

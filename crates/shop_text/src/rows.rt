@@ -13,7 +13,8 @@ use crate::faults::ReadFault;
 use shop_model::{Job, MAX_JOBS, MAX_MACHINES, MAX_STEPS, MAX_TIME, Op};
 use std::alloc::Global;
 
-/// The jobs and machines of a size line of at most `most` numbers.
+/// Reads the numbers of jobs and machines from a size line of two to `most` numbers. Fails with `BadShape` if it has
+/// others, or with `BadSize` if jobs or machines are outside the limits.
 pub(crate) fn size_of(most: usize, line: usize, row: &[u64]) -> Result<(usize, usize), ReadFault>
     ensures judged { JudgesRow result line (size_line_fault most row.now) (IsSizeIn row.now) }
     ensures within { IfOk result (λ size. IsSize size.0 size.1) }
@@ -29,7 +30,8 @@ pub(crate) fn size_of(most: usize, line: usize, row: &[u64]) -> Result<(usize, u
     Ok((jobs as usize, machines as usize))
 }
 
-/// The operations of a row of pairs of machine and time. Fails with the first fault from the left.
+/// Reads the operations of a row of pairs of machine and time. Fails with the first fault from the left, or with
+/// `NoMemory` if memory runs out.
 fn route_of(
     alloc: Global,
     line: usize,
@@ -62,7 +64,8 @@ fn route_of(
     Ok(route)
 }
 
-/// The job of a row of pairs, a machine and a time for each machine.
+/// Reads the job of a row with a pair of machine and time for each machine. Fails with the fault of the row, or with
+/// `NoMemory` if memory runs out.
 pub(crate) fn job_of_pairs(
     alloc: Global,
     line: usize,
@@ -81,7 +84,8 @@ pub(crate) fn job_of_pairs(
     Ok(Job { release: 0, route })
 }
 
-/// The job of a row of its release and then a machine and a time for each step.
+/// Reads the job of a row with its release and then a pair of machine and time for each step. Fails with the fault of
+/// the row, or with `NoMemory` if memory runs out.
 pub(crate) fn job_of_release(
     alloc: Global,
     line: usize,
@@ -104,7 +108,7 @@ pub(crate) fn job_of_release(
     Ok(Job { release, route })
 }
 
-/// Whether each time is within the limit.
+/// Tells whether each time in `row` is at most `MAX_TIME`.
 fn are_times(row: &[u64]) -> bool
     ensures tested { result ≡ list_all (λ time. nat_le time MAX_TIME) row.now }
     ensures each { IsTrue result ↔ All (λ time. time ≤ MAX_TIME) row.now }
@@ -112,7 +116,7 @@ fn are_times(row: &[u64]) -> bool
     row.iter().all(|time| *time <= MAX_TIME)
 }
 
-/// A row of times.
+/// Reads a row of times, one for each machine. Fails with the fault of the row, or with `NoMemory` if memory runs out.
 pub(crate) fn times_of(
     alloc: Global,
     line: usize,
@@ -134,7 +138,8 @@ pub(crate) fn times_of(
     Ok(times)
 }
 
-/// The job of a row of times and its row of machines, which count from 1.
+/// Makes the job of a row of times and its row of machines, which count from 1. Fails with the fault of the row of
+/// machines, or with `NoMemory` if memory runs out.
 pub(crate) fn job_of_machines(
     alloc: Global,
     line: usize,

@@ -1,4 +1,4 @@
-// Schedule texts: the table that they give.
+// Reads the table of a schedule text.
 ghost use Rattle.std.specs.Prelude.{ℕ, ◌≤◌, length};
 ghost use Rattle.shop_text.specs.Schedules.{IsTableRead};
 ghost use Rattle.shop_text.specs.inner.ScheduleReading.{AreRowsRead};
@@ -10,7 +10,8 @@ use crate::lines::next_line;
 use shop_model::{Instance, Table};
 use std::alloc::Global;
 
-/// The rows of the lines that begin with `job`.
+/// Reads the rows of the lines that begin with `job`. Fails with `BadTable` at the first faulty one, or with `NoMemory`
+/// if memory runs out.
 fn rows_in(alloc: Global, instance: &Instance, text: &[u8]) -> Result<Vec<Vec<u64>>, ReadFault>
     requires { length text.now ≤ MAX_TEXT }
     ensures { AreRowsRead instance.now text.now result }
@@ -37,9 +38,9 @@ fn rows_in(alloc: Global, instance: &Instance, text: &[u8]) -> Result<Vec<Vec<u6
     }
 }
 
-/// The table of a schedule text: the lines whose first token is `job`, one for each job of the instance, in order.
-/// Other lines are skipped, so a report is a schedule text. Fails with `TooLong` above 16,777,216 bytes, and with
-/// `BadTable` at the first line of a job that is faulty or one too many; where a job's line is missing, the line of the
+/// Reads the table of a schedule text from the lines whose first token is `job`, one for each job of `instance`, in
+/// order. Skips other lines, so a report is a schedule text. Fails with `TooLong` above 16,777,216 bytes, and with
+/// `BadTable` at the first line of a job that is faulty or one too many; if a job's line is missing, the line of the
 /// fault is one more than the text has. Fails with `NoMemory` if memory runs out.
 pub fn read_table(alloc: Global, instance: &Instance, text: &[u8]) -> Result<Table, ReadFault>
     ensures { IsTableRead instance.now text.now result }

@@ -1,4 +1,4 @@
-// What one line of an instance text is.
+// Tells what one line of an instance text is.
 ghost use Rattle.std.specs.Prelude.{◌≡◌, ◌∷◌, [], Some, None, MatchOption, IfOk, codes};
 ghost use Rattle.std.specs.List.{list_all};
 ghost use Rattle.std.specs.Str.{bytes_eq};
@@ -19,21 +19,21 @@ pub(crate) enum Seen<'t> {
     Words(Option<&'t [u8]>),
 }
 
-/// Whether the bytes are those that a name may have.
+/// Tells whether `token` has bytes from 33 to 126 alone, as a name does.
 fn is_name(token: &[u8]) -> bool
     ensures { result ≡ list_all is_visible token.now }
 {
     token.iter().all(|b| 33 <= *b && *b <= 126)
 }
 
-/// Whether the token announces an instance.
+/// Tells whether `token` is the word `instance`.
 fn is_keyword(token: &[u8]) -> bool
     ensures { result ≡ bytes_eq token.now (codes "instance") }
 {
     token == b"instance".as_slice()
 }
 
-/// The name that a line gives to an instance, where names are given by headers.
+/// Answers the name in a line `instance NAME`; `None` if the line is another.
 fn name_in(line: &[u8]) -> Option<&[u8]>
     ensures { MatchOption result (header_of (Words (tokens_of line.now)) ≡ None)
         (λ n. header_of (Words (tokens_of line.now)) ≡ Some n.now) }
@@ -51,7 +51,7 @@ fn name_in(line: &[u8]) -> Option<&[u8]>
     }
 }
 
-/// The name that a text line gives to an instance in this format.
+/// Answers the name that a text line gives to an instance in `format`; `None` if it gives none.
 pub(crate) fn header_in(format: Format, line: &[u8]) -> Option<&[u8]>
     ensures { MatchOption result ((grammar_of format).header (Words (tokens_of line.now)) ≡ None)
         (λ n. (grammar_of format).header (Words (tokens_of line.now)) ≡ Some n.now) }
@@ -63,7 +63,8 @@ pub(crate) fn header_in(format: Format, line: &[u8]) -> Option<&[u8]>
     }
 }
 
-/// Says what a line is, and sets `numbers` to its numbers; one above `u64::MAX` counts as `u64::MAX`.
+/// Tells what `line` is, and replaces `numbers` by its numbers; a number above `u64::MAX` counts as `u64::MAX`. Fails
+/// with `NoMemory` if memory runs out.
 pub(crate) fn see<'t>(
     format: Format,
     line: &'t [u8],

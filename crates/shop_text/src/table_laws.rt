@@ -1,4 +1,4 @@
-// Laws of schedule texts and of what is printed, over their definitions alone.
+// Laws of schedule texts and of what is printed, stated on their definitions alone.
 ghost use Rattle.shop_model.specs.Shop.{Shop};
 ghost use Rattle.shop_text.specs.Formats.{grammar_of};
 ghost use Rattle.shop_text.specs.Schedules.{OneTable, SomeTable, TableFaultIsAnswered};
@@ -7,16 +7,16 @@ ghost use Rattle.shop_text.specs.RoundTrip.{ReportsAreSchedules, NamesAreVisible
 ghost use Rattle.shop_text.specs.declared.formats.Format.{Format};
 
 /// No schedule text has two readings for one instance: not two tables, nor two faults, nor a table and a fault.
-pub fn one_table()
+pub fn one_table_reading()
     ensures { (shop : Shop) → OneTable shop }
 {}
 
 /// Each schedule text has a reading for each instance: it gives a table, or has a fault.
-pub fn some_table()
+pub fn some_table_reading()
     ensures { (shop : Shop) → SomeTable shop }
 {}
 
-/// A schedule text that has a fault is answered by it, unless memory runs out.
+/// `read_table` answers a schedule text that has a fault by this fault, unless memory runs out.
 pub fn table_faults_are_answered()
     ensures { (shop : Shop) → TableFaultIsAnswered shop }
 {}

@@ -8,7 +8,7 @@ use crate::names::Named;
 use shop_model::Verdict;
 use std::alloc::{AllocError as NoMemory, Global};
 
-/// Writes the line of an instance.
+/// Writes the line of an instance. Fails with `NoMemory` if memory runs out.
 fn write_instance(out: &mut String, named: &Named) -> Result<(), NoMemory>
     ensures { AddsLine result out.old out.new (instance_line (shop_of_named named.now)) }
 {
@@ -18,8 +18,8 @@ fn write_instance(out: &mut String, named: &Named) -> Result<(), NoMemory>
     writeln!(out, "{name} {jobs} {machines}")
 }
 
-/// A line for each instance: its name, its number of jobs and its number of machines. Fails with `NoMemory` if memory
-/// runs out.
+/// Makes a line for each instance: its name, its number of jobs and its number of machines. Fails with `NoMemory` if
+/// memory runs out.
 pub fn listing(alloc: Global, named: &[Named]) -> Result<Vec<u8>, NoMemory>
     ensures { IfOk result (λ v. v.items ≡ list_text (shops_of named.now)) }
 {
@@ -30,7 +30,7 @@ pub fn listing(alloc: Global, named: &[Named]) -> Result<Vec<u8>, NoMemory>
     Ok(out.into_bytes())
 }
 
-/// The verdict as a line.
+/// Makes the line of `verdict`. Fails with `NoMemory` if memory runs out.
 fn verdict_string(alloc: Global, verdict: &Verdict) -> Result<String, NoMemory>
     ensures { IfOk result (λ s. string_bytes s ≡ verdict_text verdict.now) }
 {
@@ -59,7 +59,7 @@ fn verdict_string(alloc: Global, verdict: &Verdict) -> Result<String, NoMemory>
     }
 }
 
-/// The verdict as a line of bytes. Fails with `NoMemory` if memory runs out.
+/// Makes the line of `verdict`, as bytes. Fails with `NoMemory` if memory runs out.
 pub fn verdict_line(alloc: Global, verdict: &Verdict) -> Result<Vec<u8>, NoMemory>
     ensures { IfOk result (λ v. v.items ≡ verdict_text verdict.now) }
 {
