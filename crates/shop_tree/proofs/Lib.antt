@@ -12,3 +12,4 @@ mod WalkerLemmas
 mod StateLemmas
 mod StateSteps
 mod StripLemmas
+mod SiblingLemmas

@@ -24,11 +24,11 @@ held_slot is slot law w (Some b) of = law w b.value of
 -- the children on top of a stack
 module _ {S : Type 0} (below : List (Held S)) (kids : List (Kept S)) (from : ℕ) (e : from ≡ length below)
     (stack : List (Held S)) (top : stack ≡ below ++ map held kids) where
-  many : length stack ≡ from + length kids
+  pub many : length stack ≡ from + length kids
   many = let a = ap length top in let b = length-append below (map held kids)
       in let c = length-map kids (held {S = S}) in omega arith
 
-  at_kid : (i : ℕ) → from ≤ i → i < length stack → (d : Held S) (k : Kept S)
+  pub at_kid : (i : ℕ) → from ≤ i → i < length stack → (d : Held S) (k : Kept S)
       → get_or stack i d ≡ held (get_or kids (i - from) k)
   at_kid i low high d k =
       let n = i - from

@@ -9,6 +9,7 @@ mod open_children;
 mod progress;
 mod searchers;
 mod searching;
+mod siblings;
 mod state_searchers;
 mod walk_states;
 mod walkers;

@@ -1,10 +1,10 @@
 // The states that a walk keeps: that of its current word, one in which it tries children, and spare ones.
-ghost use Rattle.std.specs.Prelude.{◌≡◌, ℕ, ◌≤◌, false, List, [], ◌∷◌, ◌++◌, IfOk, OnOk, OnSome};
-ghost use Rattle.std.specs.Prelude.{length, vec_capacity};
+ghost use Rattle.std.specs.Prelude.{◌≡◌, ℕ, ◌≤◌, false, IsTrue, List, [], ◌∷◌, ◌++◌, All, length, vec_capacity};
+ghost use Rattle.std.specs.Prelude.{IfOk, IfSome, OnOk, OnSome};
 ghost use Rattle.shop_model.specs.Word.{IsWord};
 ghost use Rattle.shop_bound.specs.Bound.{lb};
 ghost use Rattle.shop_states.specs.States.{ListsBelow, CanDispatch, HasSoleCandidate, IsOfSomeWord};
-ghost use Rattle.shop_states.specs.States.{TellsBoundBelow};
+ghost use Rattle.shop_states.specs.States.{HasListed, Settles, TellsBoundBelow};
 ghost use Rattle.shop_nodes.specs.Branching.{conflict};
 ghost use Rattle.shop_tree.specs.inner.Held.{IsHeldOf};
 ghost use Rattle.shop_tree.specs.inner.Slots.{HoldSlots};
@@ -133,6 +133,7 @@ impl<'l, D: Dispatching<S>, S: Drop> WalkStates<'l, D, S> {
         ensures sound { OnOk result (HoldSlots D.IsSlot D.IsScratch self.new) }
         ensures current { OnOk result (self.new.current.value ≡ self.old.current.value) }
         ensures trial { OnOk result (self.new.trial.value ≡ self.old.trial.value) }
+        ensures scratch { OnOk result (self.new.scratch ≡ self.old.scratch) }
         ensures dispatcher { self.new.dispatcher.now ≡ self.old.dispatcher.now }
     {
         let Some(state) = state else {
@@ -170,6 +171,7 @@ impl<'l, D: Dispatching<S>, S: Drop> WalkStates<'l, D, S> {
         ensures slot { IfOk result (IsHeldOf (λ _ s. D.IsSlot self.old.dispatcher.now s) []) }
         ensures current { self.new.current.value ≡ self.old.current.value }
         ensures trial { self.new.trial.value ≡ self.old.trial.value }
+        ensures scratch { self.new.scratch ≡ self.old.scratch }
         ensures dispatcher { self.new.dispatcher.now ≡ self.old.dispatcher.now }
     {
         if let Some(state) = self.spare.pop() {
@@ -186,6 +188,7 @@ impl<'l, D: Dispatching<S>, S: Drop> WalkStates<'l, D, S> {
         ensures slot { IfOk result (IsHeldOf (λ _ s. D.IsSlot self.old.dispatcher.now s) []) }
         ensures current { self.new.current.value ≡ self.old.current.value }
         ensures trial { self.new.trial.value ≡ self.old.trial.value }
+        ensures scratch { self.new.scratch ≡ self.old.scratch }
         ensures dispatcher { self.new.dispatcher.now ≡ self.old.dispatcher.now }
     {
         if self.unmade == 0 {
@@ -196,17 +199,31 @@ impl<'l, D: Dispatching<S>, S: Drop> WalkStates<'l, D, S> {
     }
 
     /// Takes out the trial's state, and puts a spare or new one in its place. Answers `None` if neither can be had.
-    fn take_trial(&mut self, alloc: Global) -> Result<Option<Box<S>>, NoMemory>
+    pub(crate) fn take_trial(&mut self, alloc: Global) -> Result<Option<Box<S>>, NoMemory>
         requires sound { HoldSlots D.IsSlot D.IsScratch self.old }
         ensures sound { OnOk result (HoldSlots D.IsSlot D.IsScratch self.new) }
         ensures taken { IfOk result (IsHeldOf (λ _ s. s ≡ self.old.trial.value) []) }
         ensures current { self.new.current.value ≡ self.old.current.value }
+        ensures scratch { self.new.scratch ≡ self.old.scratch }
         ensures dispatcher { self.new.dispatcher.now ≡ self.old.dispatcher.now }
     {
         let Some(spare) = self.spare_state(alloc)? else {
             return Ok(None);
         };
         Ok(Some(mem::replace(&mut self.trial, spare)))
+    }
+
+    /// Takes out the current state, and puts a spare or new one in its place. Answers `None` if neither can be had.
+    pub(crate) fn take_current(&mut self, alloc: Global) -> Result<Option<Box<S>>, NoMemory>
+        requires sound { HoldSlots D.IsSlot D.IsScratch self.old }
+        ensures sound { OnOk result (HoldSlots D.IsSlot D.IsScratch self.new) }
+        ensures taken { IfOk result (IsHeldOf (λ _ s. s ≡ self.old.current.value) []) }
+        ensures dispatcher { self.new.dispatcher.now ≡ self.old.dispatcher.now }
+    {
+        let Some(spare) = self.spare_state(alloc)? else {
+            return Ok(None);
+        };
+        Ok(Some(mem::replace(&mut self.current, spare)))
     }
 
     /// Makes the trial's state that of the current word: a copy of the current state or, for the last trial, the
@@ -254,26 +271,111 @@ impl<'l, D: Dispatching<S>, S: Drop> WalkStates<'l, D, S> {
         self.dispatcher.dispatch_below(&mut self.scratch, &mut self.trial, candidate, bound, limit)
     }
 
-    /// Prepares the current state, that of a word with this bound, for trials of `count` candidates in copies of it.
+    /// Bounds the children of the current word by `candidates`, as `Dispatching::bound_children` does. Uses up the
+    /// trial's state. `bound` is the bound of the current word.
     #[inline(always)]
-    fn prepare_copies(&mut self, bound: u64, count: usize)
+    fn bound_children(&mut self, candidates: &[Candidate], bound: u64) -> Option<u64>
         requires sound { HoldSlots D.IsSlot D.IsScratch self.old }
-        requires state { IsOfSomeWord
-            (λ w. D.IsStateOf self.old.dispatcher.now w self.old.current.value) }
+        requires can { HasListed (D.shop self.old.dispatcher.now)
+            (λ w. D.IsStateOf self.old.dispatcher.now w self.old.current.value)
+            (D.IsCandidate self.old.dispatcher.now) candidates.now bound }
         ensures sound { HoldSlots D.IsSlot D.IsScratch self.new }
-        ensures state { (w : List ℕ) → D.IsStateOf self.old.dispatcher.now w self.old.current.value
-            → D.IsStateOf self.old.dispatcher.now w self.new.current.value }
+        ensures settled { IfSome result (λ top. (w : List ℕ) (limit others : ℕ)
+            → D.IsStateOf self.old.dispatcher.now w self.old.current.value
+            → bound ≡ lb (D.shop self.old.dispatcher.now) w
+            → ListsBelow (D.shop self.old.dispatcher.now) w limit (D.IsCandidate self.old.dispatcher.now w)
+            (conflict (D.shop self.old.dispatcher.now) w) candidates.now others
+            → Settles (D.shop self.old.dispatcher.now) w bound top candidates.now) }
+        ensures known { IfSome result (λ top. (w : List ℕ) (limit others : ℕ)
+            → D.IsStateOf self.old.dispatcher.now w self.old.current.value
+            → bound ≡ lb (D.shop self.old.dispatcher.now) w
+            → ListsBelow (D.shop self.old.dispatcher.now) w limit (D.IsCandidate self.old.dispatcher.now w)
+            (conflict (D.shop self.old.dispatcher.now) w) candidates.now others
+            → All (λ c. D.KnowsChild self.old.dispatcher.now self.new.scratch w c.job) candidates.now) }
+        ensures current { self.new.current.value ≡ self.old.current.value }
         ensures dispatcher { self.new.dispatcher.now ≡ self.old.dispatcher.now }
     {
-        self.dispatcher
-            .prepare_copies(&mut self.current, bound, count);
+        self.dispatcher.bound_children(
+            &mut self.scratch,
+            &self.current,
+            &mut self.trial,
+            candidates,
+            bound,
+        )
+    }
+
+    /// Dispatches `candidate` in a copy of the current state, the trial's, after `bound_children`. Answers the child's
+    /// bound if it is below `limit`. `bound` is the bound of the current word.
+    pub(crate) fn try_child(&mut self, candidate: Candidate, bound: u64, limit: u64) -> Option<u64>
+        requires sound { HoldSlots D.IsSlot D.IsScratch self.old }
+        requires can { CanDispatch (D.shop self.old.dispatcher.now)
+            (λ w. D.IsStateOf self.old.dispatcher.now w self.old.current.value
+            × D.IsCandidate self.old.dispatcher.now w candidate
+            × D.KnowsChild self.old.dispatcher.now self.old.scratch w candidate.job) candidate.job bound }
+        ensures sound { HoldSlots D.IsSlot D.IsScratch self.new }
+        ensures told { (w : List ℕ) → D.IsStateOf self.old.dispatcher.now w self.old.current.value
+            → D.IsCandidate self.old.dispatcher.now w candidate → bound ≡ lb (D.shop self.old.dispatcher.now) w
+            → TellsBoundBelow limit (lb (D.shop self.old.dispatcher.now) (w ++ candidate.job ∷ [])) result }
+        ensures state { (w : List ℕ) → D.IsStateOf self.old.dispatcher.now w self.old.current.value
+            → D.IsCandidate self.old.dispatcher.now w candidate
+            → OnSome result (D.IsStateOf self.old.dispatcher.now (w ++ candidate.job ∷ [])
+            self.new.trial.value) }
+        ensures kept { (w : List ℕ) (j : ℕ)
+            → D.KnowsChild self.old.dispatcher.now self.old.scratch w j
+            → D.KnowsChild self.old.dispatcher.now self.new.scratch w j }
+        ensures current { self.new.current.value ≡ self.old.current.value }
+        ensures dispatcher { self.new.dispatcher.now ≡ self.old.dispatcher.now }
+    {
+        self.dispatcher.copy(&self.current, &mut self.trial);
+        self.dispatcher.dispatch_child_below(
+            &mut self.scratch,
+            &mut self.trial,
+            candidate,
+            bound,
+            limit,
+        )
+    }
+
+    /// Dispatches the candidate with this `job` in the current state itself, after `bound_children`. Answers whether
+    /// the child's bound is below `limit`; else the current state may be no word's state any more. `bound` is the bound
+    /// of the word before the dispatch.
+    pub(crate) fn advance_to(
+        &mut self,
+        job: u16,
+        candidates: &[Candidate],
+        bound: u64,
+        limit: u64,
+    ) -> bool
+        requires sound { HoldSlots D.IsSlot D.IsScratch self.old }
+        requires can { All (λ c. CanDispatch (D.shop self.old.dispatcher.now)
+            (λ w. D.IsStateOf self.old.dispatcher.now w self.old.current.value
+            × D.IsCandidate self.old.dispatcher.now w c
+            × D.KnowsChild self.old.dispatcher.now self.old.scratch w c.job) c.job bound) candidates.now }
+        ensures sound { HoldSlots D.IsSlot D.IsScratch self.new }
+        ensures state { IsTrue result → (w : List ℕ)
+            → D.IsStateOf self.old.dispatcher.now w self.old.current.value
+            → All (D.IsCandidate self.old.dispatcher.now w) candidates.now
+            → D.IsStateOf self.old.dispatcher.now (w ++ job ∷ []) self.new.current.value }
+        ensures dispatcher { self.new.dispatcher.now ≡ self.old.dispatcher.now }
+    {
+        for index in 0..candidates.len() {
+            let candidate = candidates[index];
+            if candidate.job == job {
+                let (scratch, state) = (&mut self.scratch, &mut self.current);
+                return self
+                    .dispatcher
+                    .dispatch_child_below(scratch, state, candidate, bound, limit)
+                    .is_some();
+            }
+        }
+        false
     }
 
     /// Where no state can be had any more, takes that of the topmost sibling, for a child of this bound that goes above
     /// it. So at least the child that is walked next isn't filled from its word. Siblings stand from index `from` on.
     /// Fails with `NoMemory` if memory runs out.
     #[inline(always)]
-    fn make_room(
+    pub(crate) fn make_room(
         &mut self,
         stack: &mut Vec<Held<S>>,
         from: usize,
@@ -285,6 +387,7 @@ impl<'l, D: Dispatching<S>, S: Drop> WalkStates<'l, D, S> {
         ensures stripped { HasMadeRoom from stack.old.items stack.new.items }
         ensures current { OnOk result (self.new.current.value ≡ self.old.current.value) }
         ensures trial { OnOk result (self.new.trial.value ≡ self.old.trial.value) }
+        ensures scratch { OnOk result (self.new.scratch ≡ self.old.scratch) }
         ensures dispatcher { self.new.dispatcher.now ≡ self.old.dispatcher.now }
     {
         if self.free() > 0 {
@@ -296,7 +399,8 @@ impl<'l, D: Dispatching<S>, S: Drop> WalkStates<'l, D, S> {
 
     /// Tries each of `candidates`, and puts the children of `word` with bounds below `limit` on the stack: by bound,
     /// then by job, the first on top, each with its state while there is room. Answers how many children are closed:
-    /// those tried in vain, and `closed` others without a listed candidate. Fails with `NoMemory` if memory runs out.
+    /// those tried in vain, and `closed` others without a listed candidate. Where the dispatcher bounds all children at
+    /// once, `settle_candidates` goes on in place of the trials. Fails with `NoMemory` if memory runs out.
     pub(crate) fn try_candidates(
         &mut self,
         alloc: Global,
@@ -319,7 +423,11 @@ impl<'l, D: Dispatching<S>, S: Drop> WalkStates<'l, D, S> {
         ensures more { IfOk result (λ n. closed ≤ n) }
         ensures dispatcher { self.new.dispatcher.now ≡ self.old.dispatcher.now }
     {
-        self.prepare_copies(bound, candidates.len());
+        if let Some(top) = self.bound_children(candidates, bound) {
+            return self.settle_candidates(
+                alloc, stack, candidates, closed, word, bound, limit, top,
+            );
+        }
         let (from, depth) = (stack.len(), word.len() as u32);
         let mut others = closed;
         // Tries the last job first, so that of equal bounds the lower job lies above.

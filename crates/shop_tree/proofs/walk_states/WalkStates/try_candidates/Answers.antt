@@ -1,9 +1,10 @@
-use Rattle.std.proofs.Common.{◌≡◌, ◌+◌, ◌<◌, ◌-◌, [], ◌∷◌, ◌++◌, List, get_or, sym, ◌∙◌, ap, subst}
+use Rattle.std.proofs.Common.{◌≡◌, All, ◌+◌, ◌<◌, ◌-◌, [], ◌∷◌, ◌++◌, List, get_or, sym, ◌∙◌, ap, subst}
 use Rattle.std.proofs.Common.{append-nil, arith, length}
 use Rattle.std.specs.List.{insert}
 use Rattle.std.specs.Prelude.{OnSome}
 use Rattle.shop_model.proofs.WordLengths.{word_length}
 use Rattle.shop_bound.specs.Bound.{lb}
+use Rattle.shop_states.specs.States.{Settles}
 use Rattle.shop_tree.specs.inner.Held.{Kept}
 use Rattle.shop_tree.specs.inner.Tried.{AreSlotsFrom, HasPutChildren}
 use Rattle.shop_tree.proofs.StripLemmas.{are_slots, stripped, trying_stripped}
@@ -20,20 +21,36 @@ overflow_cast-depth g c =
     (g.met.D.Dispatching.state_is_of_word d c.args.word.now _ c.requires.state)
     in omega arith
 
+pub settle_candidates-requires-clause-settled : goal.settle_candidates-requires-clause-settled
+settle_candidates-requires-clause-settled g c =
+    subst (λ x. Settles (g.D.Dispatching.shop x) c.args.word.now c.args.bound c.in-Some.top c.args.candidates.now)
+    (sym c.bound_children.ensures.dispatcher)
+    (c.in-Some.ensures.settled c.args.word.now c.args.limit c.args.closed c.requires.state c.requires.bound
+    c.requires.listed)
+
+pub settle_candidates-requires-clause-known : goal.settle_candidates-requires-clause-known
+settle_candidates-requires-clause-known g c =
+    subst (λ x. All (λ k. g.D.Dispatching.KnowsChild x c.bound_children.new.self.scratch c.args.word.now k.job)
+    c.args.candidates.now) (sym c.bound_children.ensures.dispatcher)
+    (c.in-Some.ensures.known c.args.word.now c.args.limit c.args.closed c.requires.state c.requires.bound
+    c.requires.listed)
+
 pub loop-index-init : goal.loop-index-init
 loop-index-init g c =
     let word = c.args.word.now
-    in let same = c.prepare_copies.ensures.dispatcher
+    in let same = c.bound_children.ensures.dispatcher
     in record {
       kids = [];
       stack = sym (append-nil _);
       trying = subst (λ x. IsTrying (g.D.Dispatching.IsStateOf x) (g.D.Dispatching.IsCandidate x word)
           (g.D.Dispatching.shop x) c.args.limit word c.args.candidates.now (length c.args.candidates.now) []
-          c.args.closed c.prepare_copies.new.self.current.value) (sym same)
-          (trying_begins c.requires.listed (c.prepare_copies.ensures.state word c.requires.state));
+          c.args.closed c.bound_children.new.self.current.value) (sym same)
+          (trying_begins c.requires.listed
+          (subst (λ s. g.D.Dispatching.IsStateOf c.args.self.now.dispatcher.now word s)
+          (sym c.bound_children.ensures.current) c.requires.state));
       bound = c.requires.bound ∙ ap (λ x. lb (g.D.Dispatching.shop x) word) (sym same);
       more = omega arith;
-      sound = c.prepare_copies.ensures.sound;
+      sound = c.bound_children.ensures.sound;
       same = same;
     }
 
@@ -60,8 +77,8 @@ try_candidate-requires-clause-can g c =
       bound_is = now.bound;
     }
 
-pub loop-index-preserved-in_default : goal.loop-index-preserved-in_default
-loop-index-preserved-in_default g c =
+pub loop-index-preserved-in_default-try_candidate : goal.loop-index-preserved-in_default-try_candidate
+loop-index-preserved-in_default-try_candidate g c =
     let now = c.loop-index.invariant
     in let d = c.loop-index.self.dispatcher.now
     in let word = c.args.word.now
@@ -71,7 +88,7 @@ loop-index-preserved-in_default g c =
     in let job = (get_or cs (i - 1) (record { job = 0; own = 0 })).job
     in let state = now.trying.wanted some
     in let high = told_high c.args.limit (lb (g.D.Dispatching.shop d) (word ++ job ∷ [])) c.try_candidate.result
-    c.in_default.is (c.try_candidate.ensures.told word state (next_own some now.trying) now.bound)
+    c.in_default-try_candidate.is (c.try_candidate.ensures.told word state (next_own some now.trying) now.bound)
     in let left = c.try_candidate.new.self.current.value
     in let same = c.try_candidate.ensures.dispatcher
     in record {
@@ -110,8 +127,8 @@ loop-index-preserved g c =
     in let job = (get_or cs (i - 1) (record { job = 0; own = 0 })).job
     in let state = now.trying.wanted some
     in let own = next_own some now.trying
-    in let child = tried_child is (g.D.Dispatching.shop d) word c.args.limit job c.in-Some.bound c.try_candidate.result
-    c.make_room.new.self.trial.value c.in_ok-state.state c.in-Some.is
+    in let child = tried_child is (g.D.Dispatching.shop d) word c.args.limit job c.in-Some-try_candidate.bound
+    c.try_candidate.result c.make_room.new.self.trial.value c.in_ok-state.state c.in-Some-try_candidate.is
     (c.try_candidate.ensures.told word state own now.bound)
     (subst (λ s. OnSome c.try_candidate.result (is (word ++ job ∷ []) s)) (sym c.in_ok-make_room.ensures.trial)
     (c.try_candidate.ensures.state word state own))
@@ -124,7 +141,7 @@ loop-index-preserved g c =
     in let put = c.in_ok-put.ensures c.args.stack.now.items less.left e less.put
     in let left = c.take_trial.new.self.current.value
     in let kids : List (Kept g.row.S.Denot) = insert less.left put.at (record {
-      «open» = record { depth = length word; job = job; bound = c.in-Some.bound };
+      «open» = record { depth = length word; job = job; bound = c.in-Some-try_candidate.bound };
       state = c.in_ok-state.state;
     })
     in let same = c.take_trial.ensures.dispatcher

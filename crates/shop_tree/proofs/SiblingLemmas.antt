@@ -1,0 +1,133 @@
+-- Children that are settled without a trial, and the one on top of the stack, which is given the current state.
+use Rattle.std.proofs.Common.{◌≡◌, ℕ, zero, suc, ◌-◌, ◌≤◌, ◌<◌, List, [], ◌∷◌, ◌++◌, length, map, get_or, set, take}
+use Rattle.std.proofs.Common.{max, All, None, inl, inr, refl, sym, ◌∙◌, ap, subst, arith}
+use Rattle.std.proofs.Math.Seq.{map-set_same, take-length}
+use Rattle.std.proofs.lemmas.List.{get_or-map, length-map, map-set, set-append_right}
+use Rattle.std.proofs.lemmas.List.Elements.{All-set, All-from_recursion}
+use Rattle.shop_model.specs.Shop.{Shop}
+use Rattle.shop_model.specs.Word.{IsWord}
+use Rattle.shop_bound.specs.Bound.{lb}
+use Rattle.shop_states.specs.States.{CanDispatch, ListsBelow, Settles}
+use Rattle.shop_states.specs.States.ListsBelow.{none, listed, closed}
+use Rattle.shop_states.specs.declared.dispatching.Candidate.{Candidate}
+use Rattle.shop_nodes.specs.Branching.{conflict}
+use Rattle.shop_nodes.specs.Halts.{word_at}
+use Rattle.shop_nodes.specs.declared.halts.Open.{Open}
+use Rattle.shop_nodes.specs.declared.halts.Waiting.{Waiting}
+use Rattle.shop_nodes.specs.declared.halts.Waiting.TheVariants.{Child, Rest}
+use Rattle.shop_nodes.proofs.ChildrenLemmas.{child-word}
+use Rattle.shop_tree.specs.declared.held.Held.{Held}
+use Rattle.shop_tree.specs.inner.Held.{IsHeldOf, IsKept, Kept, held, opens_in}
+use Rattle.shop_tree.specs.inner.Opens.{AreChildren}
+use Rattle.shop_tree.specs.inner.Tried.{HasGiven, HasPutChildren, IsChildBelow}
+use Rattle.shop_tree.proofs.StripLemmas.{at_kid, many}
+
+-- the bound of a settled child
+pub settled_bound : (shop : Shop) (word : List ℕ) (bound top : ℕ) (cs : List Candidate)
+    → Settles shop word bound top cs → (k : ℕ) (d : Candidate) → k < length cs → (b : ℕ)
+    → b ≡ max bound (get_or cs k d).own → top ≤ b → lb shop (word ++ (get_or cs k d).job ∷ []) ≡ b
+settled_bound shop word bound top cs settles k d within b is low =
+    settles k d within (subst (λ (n : ℕ). top ≤ n) is low) ∙ sym is
+
+-- it is put without a state
+pub settled_child : {S : Type 0} (is : List ℕ → S → Type 0) (shop : Shop) (word : List ℕ) (limit job b : ℕ)
+    → lb shop (word ++ job ∷ []) ≡ b → b < limit → IsChildBelow is shop word limit job
+    (record { «open» = record { depth = length word; job = job; bound = b }; state = None })
+settled_child is shop word limit job b told low =
+    record { depth = refl; job_is = refl; bound = sym told; below = low; state = tt }
+
+-- a candidate among the jobs that are listed beside closed ones
+pub record IsListed (is : Candidate → Type 0) (js : List ℕ) (c : Candidate) : Type 0 where
+  pub front : List ℕ
+  pub back : List ℕ
+  pub jobs : js ≡ front ++ c.job ∷ back
+  pub own : is c
+
+pub listed_at : {shop : Shop} {word : List ℕ} {limit : ℕ} {is : Candidate → Type 0} {js : List ℕ} {cs : List Candidate}
+    {n : ℕ} → ListsBelow shop word limit is js cs n → (k : ℕ) (d : Candidate) → k < length cs
+    → IsListed is js (get_or cs k d)
+listed_at none k d within = absurd (omega arith)
+listed_at (listed {js = js} j c same own rest) zero d within = record {
+  front = [];
+  back = js;
+  jobs = ap (λ (i : ℕ). i ∷ js) (sym same);
+  own = own;
+}
+listed_at (listed {js = js} j c same own rest) (suc k) d within =
+    let s = listed_at rest k d (omega arith)
+    in record {
+      front = j ∷ s.front;
+      back = s.back;
+      jobs = ap (λ (ks : List ℕ). j ∷ ks) s.jobs;
+      own = s.own;
+    }
+listed_at (closed {js = js} j high rest) k d within =
+    let s = listed_at rest k d within
+    in record {
+      front = j ∷ s.front;
+      back = s.back;
+      jobs = ap (λ (ks : List ℕ). j ∷ ks) s.jobs;
+      own = s.own;
+    }
+
+-- each listed candidate can be dispatched
+pub can_each : {shop : Shop} {word : List ℕ} {limit n bound : ℕ} {of : Candidate → Type 0} {cs : List Candidate}
+    (P : Candidate → List ℕ → Type 0) → ListsBelow shop word limit of (conflict shop word) cs n → IsWord shop word
+    → bound ≡ lb shop word → ((k : ℕ) (d : Candidate) → k < length cs → of (get_or cs k d) → P (get_or cs k d) word)
+    → All (λ c. CanDispatch shop (P c) c.job bound) cs
+can_each {shop} {word} {cs = cs} P lists is_word bound_is each k d within =
+    let s = listed_at lists k d within
+    in record {
+      word = word;
+      is = each k d within s.own;
+      fits = child-word shop word is_word s.front s.back (get_or cs k d).job (sym s.jobs);
+      bound_is = bound_is;
+    }
+
+pub own_each : {shop : Shop} {word : List ℕ} {limit n : ℕ} {of : Candidate → Type 0} {cs : List Candidate}
+    → ListsBelow shop word limit of (conflict shop word) cs n → All of cs
+own_each lists k d within = (listed_at lists k d within).own
+
+-- the open child of an entry
+child_same : (o p : Open) → Child o ≡ Child p → o ≡ p
+child_same o p e = ap (λ (x : Waiting). elim x [ Child q ↦ q | Rest depth count ↦ o ]) e
+
+-- the child on top is given a state
+pub put_given : {S : Type 0} (is : List ℕ → S → Type 0) (shop : Shop) (limit : ℕ) (word : List ℕ)
+    (old mid new : List (Held S)) (n from : ℕ) → from ≡ length old → HasPutChildren is shop limit word old mid n
+    → HasGiven is word from mid new → HasPutChildren is shop limit word old new n
+put_given is shop limit word old mid new n from e put (inl same) =
+    subst (λ (hs : List (Held _)). HasPutChildren is shop limit word old hs n) (sym same) put
+put_given {S} is shop limit word old mid new n from e put (inr (child, (state, at))) =
+    let i = length mid - 1
+    in let k = i - from
+    in let bare : Kept S = record { «open» = child; state = None }
+    in let given : Kept S = record { «open» = child; state = state }
+    in let own = get_or put.kids k bare
+    in let long = many old put.kids from e mid put.stack
+    in let low = at.on_top.within
+    in let within : k < length put.kids = omega arith
+    in let there = at_kid old put.kids from e mid put.stack i (omega arith) (omega arith) (held bare) bare
+    in let is_own : own.open ≡ child = child_same own.open child
+    (sym (ap (λ (h : Held S). h.waiting) there) ∙ at.on_top.is (held bare))
+    in let opened : get_or (opens_in put.kids) k child ≡ own.open =
+    get_or-map (λ (p : Kept S). p.open) put.kids k bare child within
+    in let depth : child.depth ≡ length word =
+    subst (λ (o : Open). o.depth ≡ length word) (opened ∙ is_own)
+    (All-from_recursion (λ (o : Open). o.depth ≡ length word) (opens_in put.kids) put.children.depth k child
+    (let a = length-map put.kids (λ (p : Kept S). p.open) in omega arith))
+    in let word_is : word ++ child.job ∷ [] ≡ word_at word child =
+    sym (ap (λ (m : ℕ). take m word ++ child.job ∷ []) depth
+    ∙ ap (λ (w : List ℕ). w ++ child.job ∷ []) (take-length word))
+    in let kids = set put.kids k given
+    in let opens : opens_in kids ≡ opens_in put.kids =
+    map-set_same (λ (p : Kept S). p.open) put.kids k given bare (sym is_own)
+    in record {
+      kids = kids;
+      stack = at.given ∙ (ap (λ (xs : List (Held S)). set xs i (held given)) put.stack
+          ∙ (set-append_right old (map held put.kids) from i (held given) (sym e) (omega arith)
+          ∙ ap (λ (xs : List (Held S)). old ++ xs) (sym (map-set (held {S = S}) put.kids k given))));
+      children = subst (λ (os : List Open). AreChildren shop limit word os n) (sym opens) put.children;
+      states = All-set (IsKept is word) put.kids k given
+          (subst (λ (w : List ℕ). IsHeldOf is w state) word_is at.own) put.states;
+    }

@@ -1,0 +1,118 @@
+// Children of a word of which most are bounded at once: those that are settled are put on the stack without a trial.
+ghost use Rattle.std.specs.Prelude.{◌≡◌, ℕ, ◌≤◌, List, [], ◌∷◌, ◌++◌, All, IfOk, OnOk};
+ghost use Rattle.shop_bound.specs.Bound.{lb};
+ghost use Rattle.shop_states.specs.States.{CanDispatch, ListsBelow, Settles};
+ghost use Rattle.shop_nodes.specs.Branching.{conflict};
+ghost use Rattle.shop_tree.specs.inner.Slots.{HoldSlots};
+ghost use Rattle.shop_tree.specs.inner.Tried.{HasGiven, HasPutChildren};
+
+use crate::held::Held;
+use crate::open_children::{bare_top, put};
+use crate::walk_states::WalkStates;
+use shop_nodes::Open;
+use shop_states::{Candidate, Dispatching};
+use std::alloc::{AllocError as NoMemory, Global};
+
+impl<'l, D: Dispatching<S>, S: Drop> WalkStates<'l, D, S> {
+    /// Gives the child on top of the stack its state, if it lies from index `from` on and has none: dispatches it in
+    /// the current state itself, which nobody else wants any more. Where no other state can be had to take the place of
+    /// the current one, the child stays without. `bound` is the bound of the current word, and the child's bound is
+    /// below `limit`. Fails with `NoMemory` if memory runs out.
+    fn give_current(
+        &mut self,
+        alloc: Global,
+        stack: &mut Vec<Held<S>>,
+        from: usize,
+        candidates: &[Candidate],
+        bound: u64,
+        limit: u64,
+    ) -> Result<(), NoMemory>
+        requires sound { HoldSlots D.IsSlot D.IsScratch self.old }
+        requires can { All (λ c. CanDispatch (D.shop self.old.dispatcher.now)
+            (λ w. D.IsStateOf self.old.dispatcher.now w self.old.current.value
+            × D.IsCandidate self.old.dispatcher.now w c
+            × D.KnowsChild self.old.dispatcher.now self.old.scratch w c.job) c.job bound) candidates.now }
+        ensures sound { OnOk result (HoldSlots D.IsSlot D.IsScratch self.new) }
+        ensures given { OnOk result ((w : List ℕ)
+            → D.IsStateOf self.old.dispatcher.now w self.old.current.value
+            → All (D.IsCandidate self.old.dispatcher.now w) candidates.now
+            → HasGiven (D.IsStateOf self.old.dispatcher.now) w from stack.old.items stack.new.items) }
+        ensures dispatcher { self.new.dispatcher.now ≡ self.old.dispatcher.now }
+    {
+        let Some(child) = bare_top(stack, from) else {
+            return Ok(());
+        };
+        if !self.advance_to(child.job, candidates, bound, limit) {
+            return Ok(());
+        }
+        let top = stack.len() - 1;
+        stack[top].state = self.take_current(alloc)?;
+        Ok(())
+    }
+
+    /// Does what `try_candidates` does, after `bound_children` answered `top`. A child is settled if `bound` or its own
+    /// number reaches `top`: the greater of the two is its bound then, as a trial would find. So it is put on the stack
+    /// without a trial, and without a state: its turn may never come, and if it comes, its state is filled from its
+    /// word. Only the child that ends on top, which is walked next, is given one, by a dispatch in the current state.
+    /// The children that aren't settled are tried in copies, since the current state is needed to the end.
+    #[inline(never)]
+    pub(crate) fn settle_candidates(
+        &mut self,
+        alloc: Global,
+        stack: &mut Vec<Held<S>>,
+        candidates: &[Candidate],
+        closed: usize,
+        word: &[u16],
+        bound: u64,
+        limit: u64,
+        top: u64,
+    ) -> Result<usize, NoMemory>
+        requires sound { HoldSlots D.IsSlot D.IsScratch self.old }
+        requires state { D.IsStateOf self.old.dispatcher.now word.now self.old.current.value }
+        requires bound { bound ≡ lb (D.shop self.old.dispatcher.now) word.now }
+        requires listed { ListsBelow (D.shop self.old.dispatcher.now) word.now limit
+            (D.IsCandidate self.old.dispatcher.now word.now)
+            (conflict (D.shop self.old.dispatcher.now) word.now) candidates.now closed }
+        requires settled { Settles (D.shop self.old.dispatcher.now) word.now bound top
+            candidates.now }
+        requires known { All
+            (λ c. D.KnowsChild self.old.dispatcher.now self.old.scratch word.now c.job)
+            candidates.now }
+        ensures sound { OnOk result (HoldSlots D.IsSlot D.IsScratch self.new) }
+        ensures children { IfOk result (λ n. HasPutChildren (D.IsStateOf self.old.dispatcher.now)
+            (D.shop self.old.dispatcher.now) limit word.now stack.old.items stack.new.items n) }
+        ensures more { IfOk result (λ n. closed ≤ n) }
+        ensures dispatcher { self.new.dispatcher.now ≡ self.old.dispatcher.now }
+    {
+        let (from, depth) = (stack.len(), word.len() as u32);
+        let mut others = closed;
+        // The last job first, as in `try_candidates`.
+        for index in (0..candidates.len()).rev() {
+            let candidate = candidates[index];
+            let job = candidate.job;
+            let settled = bound.max(candidate.own);
+            if top <= settled {
+                if settled < limit {
+                    let child = Open {
+                        depth,
+                        job,
+                        bound: settled,
+                    };
+                    put(stack, from, child, None)?;
+                } else {
+                    others += 1;
+                }
+                continue;
+            }
+            let Some(bound) = self.try_child(candidate, bound, limit) else {
+                others += 1;
+                continue;
+            };
+            self.make_room(stack, from, bound)?;
+            let state = self.take_trial(alloc)?;
+            put(stack, from, Open { depth, job, bound }, state)?;
+        }
+        self.give_current(alloc, stack, from, candidates, bound, limit)?;
+        Ok(others)
+    }
+}
