@@ -6,6 +6,7 @@ from instances import (
     long_text,
     random_routes,
     schedule_of,
+    schedule_with_late_overlap,
     text_of,
     text_of_long_routes,
     text_of_one_machine,
@@ -30,6 +31,11 @@ def text_with_schedule(jobs, machines, seed):
     return text_of("large", routes, machines) + schedule_of(routes, machines)
 
 
+def text_with_late_overlap(jobs, machines, seed):
+    routes = random_routes(jobs, machines, seed)
+    return text_of("large", routes, machines) + schedule_with_late_overlap(routes, machines)
+
+
 TEXTS = {
     "ft06": lambda: example("ft06"),
     "ft10": lambda: example("ft10"),
@@ -38,6 +44,7 @@ TEXTS = {
     "random 20 x 15": lambda: random_text(20, 15, 2),
     "random 50 x 15": lambda: random_text(50, 15, 4),
     "random 70 x 12": lambda: random_text(70, 12, 15),
+    "random 80 x 12": lambda: random_text(80, 12, 17),
     "random 100 x 20": lambda: random_text(100, 20, 16),
     "random 200 x 15": lambda: random_text(200, 15, 5),
     "random 1000 x 100": lambda: random_text(1000, 100, 3),
@@ -46,6 +53,8 @@ TEXTS = {
     "500 to and fro": lambda: text_to_and_fro(500, 16, 8),
     "11 long routes": lambda: text_of_long_routes(11, 9),
     "16 MB": lambda: long_text(LONGEST_TEXT),
+    "a megabyte": lambda: long_text(1_000_000),
+    "late overlap": lambda: text_with_late_overlap(1000, 100, 3),
     "1000 x 100": lambda: text_with_schedule(1000, 100, 3),
 }
 

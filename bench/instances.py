@@ -62,8 +62,10 @@ def text_of_one_machine(jobs, steps, seed):
     return text_of_routes(1, [(0, [(0, 1 + numbers.below(99)) for _ in range(steps)]) for _ in range(jobs)])
 
 
-def schedule_of(routes, machines):
-    """A feasible schedule: the operations placed step by step, each as early as the ones before it let it."""
+def starts_of(routes, machines):
+    """The starts of a feasible schedule, the operations placed step by step, each as early as the ones before it let
+    it; and the job and the step of the last one that waits for its machine."""
+    last = None
     ready = [0] * len(routes)
     free = [0] * machines
     starts = [[] for _ in routes]
@@ -71,9 +73,27 @@ def schedule_of(routes, machines):
         for job, route in enumerate(routes):
             machine, time = route[step]
             start = max(ready[job], free[machine])
+            if free[machine] > ready[job]:
+                last = (job, step)
             starts[job].append(start)
             ready[job] = free[machine] = start + time
+    return starts, last
+
+
+def lines_of(starts):
     return "".join(f"job {j}: {' '.join(map(str, row))}\n" for j, row in enumerate(starts))
+
+
+def schedule_of(routes, machines):
+    """A feasible schedule."""
+    return lines_of(starts_of(routes, machines)[0])
+
+
+def schedule_with_late_overlap(routes, machines):
+    """A schedule in which the operation that waits last begins one unit too early: no other two overlap."""
+    starts, (job, step) = starts_of(routes, machines)
+    starts[job][step] -= 1
+    return lines_of(starts)
 
 
 def long_text(limit):

@@ -1,5 +1,5 @@
-// Searches on long machines, whose ceilings are kept, and on shorter ones: each node left has the bound that
-// `lower_bound` finds of its word.
+// Searches whose children are bounded together, and one by one: each node left has the bound that `lower_bound` finds
+// of its word.
 ghost use Rattle.std.specs.Prelude.{◌≤◌};
 
 use crate::numbers::Numbers;
@@ -13,20 +13,25 @@ use std::process::Abort;
 /// How many jobs, machines, operations of each job, and the greatest time.
 type Shape = (usize, u32, usize, u32);
 
-/// From 58 to 90 operations a machine, of 11 machines or more, with wide lanes too; and three jobs, whose conflict sets
-/// are small.
-static SHAPES: [Shape; 7] = [
+/// From 58 to 90 operations a machine, with wide lanes too; three jobs and five, whose conflict sets have from two to
+/// five candidates; many jobs on few machines, to which routes come back; and equal times, or none.
+static SHAPES: [Shape; 12] = [
     (10, 12, 70, 9),
-    (10, 12, 85, 9),
     (10, 12, 88, 9),
     (11, 12, 98, 9),
-    (10, 11, 99, 9),
     (11, 12, 98, 2_000),
     (3, 12, 90, 9),
+    (5, 3, 40, 9),
+    (40, 5, 6, 9),
+    (60, 3, 8, 9),
+    (60, 3, 8, 20_000),
+    (30, 2, 12, 1),
+    (25, 6, 6, 0),
+    (70, 1, 3, 9),
 ];
 
-/// The latest releases: ceilings are kept where all jobs are released at time 0.
-static LATEST: [u32; 2] = [0, 5];
+/// The latest releases.
+static LATEST: [u32; 3] = [0, 5, 60];
 
 /// An instance of this shape, each operation on any machine and for any time up to the greatest, each job released at
 /// any time up to `latest`.
