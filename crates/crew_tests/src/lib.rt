@@ -6,6 +6,8 @@ mod boards;
 #[cfg(test)]
 mod closing;
 #[cfg(test)]
+mod counts;
+#[cfg(test)]
 mod crews;
 #[cfg(test)]
 mod gates;
