@@ -6,6 +6,8 @@ mod bounds;
 #[cfg(test)]
 mod branches;
 #[cfg(test)]
+mod deep_walks;
+#[cfg(test)]
 mod desks;
 #[cfg(test)]
 mod instances;

@@ -11,7 +11,7 @@ use std::alloc::Global;
 use std::process::Abort;
 
 /// How many jobs, machines, operations of each job, and the greatest time.
-type Shape = (usize, u32, usize, u32);
+pub type Shape = (usize, u32, usize, u32);
 
 /// From 58 to 90 operations a machine, of 11 machines or more, with wide lanes too; and three jobs, whose conflict sets
 /// are small.
@@ -30,7 +30,7 @@ static LATEST: [u32; 2] = [0, 5];
 
 /// An instance of this shape, each operation on any machine and for any time up to the greatest, each job released at
 /// any time up to `latest`.
-fn made(
+pub fn made(
     rt: &impl Abort,
     alloc: Global,
     numbers: &mut Numbers,
