@@ -6,8 +6,6 @@ mod boards;
 #[cfg(test)]
 mod closing;
 #[cfg(test)]
-mod counts;
-#[cfg(test)]
 mod crews;
 #[cfg(test)]
 mod gates;
@@ -17,5 +15,7 @@ mod instances;
 mod rounds;
 #[cfg(test)]
 mod runs;
+#[cfg(test)]
+mod sharing;
 #[cfg(test)]
 mod telling;

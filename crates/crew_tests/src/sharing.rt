@@ -5,17 +5,13 @@ use crate::instances::{FT06, instance_of};
 use crate::rounds::{RoundTest, after_round, in_third_round, next_round};
 use crate::telling::{assert_entries, assert_number};
 use shop_board::{BoardCrew, LockCrew};
-use shop_nodes::Sheet;
 use shop_round::PieceSearcher;
 use shop_runs::{Plan, Round, Standing};
-use shop_workers::{
-    Board, Gate, OpenGate, PieceSearch, Pool, Returned, Seat, SeatGate, complete_returned,
-    in_order, search_up_to_hit, serve, work_by,
-};
-use std::alloc::{AllocError as NoMemory, Global};
+use shop_workers::{Board, Gate, Returned, Seat, SeatGate, complete_returned};
+use std::alloc::Global;
 use std::process::Abort;
+use std::sync::Wait;
 use std::sync::atomic::{AtomicUsize, Ordering};
-use std::sync::{Mutex, Wait};
 use std::thread;
 use std::thread::Threads;
 
@@ -135,81 +131,21 @@ fn all_workers_begin_and_each_piece_is_searched_once(rt: HostRuntime) {
     }
 }
 
-// A searcher that answers want of memory where it is to search a piece once more.
-#[derive(Drop)]
-struct Once<'r> {
-    searcher: PieceSearcher<'r>,
-    are_searched: [bool; 3],
-}
+// What nobody brought, here all pieces of the third round, is claimed and searched.
+struct NothingBrought;
 
-impl<'r> PieceSearch<'r> for Once<'r> {
-    ghost searched = { λ s. s.searcher };
-
-    fn over(round: &'r Round<'r>) -> Once<'r> {
-        Once {
-            searcher: PieceSearcher::over(round),
-            are_searched: [false; 3],
-        }
-    }
-
-    fn round(&self) -> &'r Round<'r> {
-        self.searcher.round()
-    }
-
-    fn search(&mut self, alloc: Global, number: usize) -> Result<Sheet<'r>, NoMemory> {
-        if number >= 3 || self.are_searched[number] {
-            return Err(NoMemory);
-        }
-        self.are_searched[number] = true;
-        self.searcher.search(alloc, number)
-    }
-}
-
-// All pieces of the third round, of which the first ends at the opening bound.
-const ALL_SEARCHED: &str = "10 1 0, 12 2 0, 14 2 0, ";
-
-const PASSED_BEHIND_HIT: &str = "10 1 0, by 0, by 0, ";
-
-// One worker alone, in each way to work.
-struct OneWorker;
-
-impl<R: Abort + Wait> RoundTest<R> for OneWorker {
+impl<R: Abort> RoundTest<R> for NothingBrought {
     ghost ready = { Unit {0} };
 
     fn run<'r>(&self, rt: &R, alloc: Global, round: &'r Round<'r>) {
-        let mut searcher = Once::over(round);
-        let entries = search_up_to_hit(alloc, &mut searcher).expect(rt, "memory");
-        assert_entries(rt, alloc, &entries, PASSED_BEHIND_HIT);
-        let pool = Mutex::new(Pool::open(round.pieces.len()));
-        let entries = serve::<Once<'r>, R, OpenGate>(rt, alloc, round, &pool, &OpenGate, 0);
-        assert_entries(rt, alloc, &entries.expect(rt, "memory"), PASSED_BEHIND_HIT);
-        let (board, seat) = Board::open(alloc, round).expect(rt, "memory");
-        let (_, entries) = work_by::<Once<'r>, OpenGate>(alloc, &board, seat, round, 0, &OpenGate);
-        assert_entries(rt, alloc, &entries.expect(rt, "memory"), PASSED_BEHIND_HIT);
-    }
-}
-
-#[test]
-fn a_worker_searches_no_piece_twice(rt: HostRuntime) {
-    in_third_round(&rt, rt.alloc(), &OneWorker);
-}
-
-// What nobody brought is searched, and on a board claimed: here all pieces.
-struct Missing;
-
-impl<R: Abort> RoundTest<R> for Missing {
-    ghost ready = { Unit {0} };
-
-    fn run<'r>(&self, rt: &R, alloc: Global, round: &'r Round<'r>) {
-        let entries = in_order::<Once<'r>>(alloc, round, Vec::new(alloc)).expect(rt, "memory");
-        assert_entries(rt, alloc, &entries, ALL_SEARCHED);
         let (board, seat) = Board::open(alloc, round).expect(rt, "memory");
         assert_number(rt, board.pieces(), 3);
         let (seat, mut other) = board.split(seat);
         let entries = Ok(Vec::new(alloc));
         let returned = vec![in alloc; Returned { seat, entries }].expect(rt, "memory");
-        let entries = complete_returned::<Once<'r>>(alloc, &board, round, returned);
-        assert_entries(rt, alloc, &entries.expect(rt, "memory"), ALL_SEARCHED);
+        let completed = complete_returned::<PieceSearcher<'r>>(alloc, &board, round, returned);
+        let entries = completed.expect(rt, "memory");
+        assert_entries(rt, alloc, &entries, "10 1 0, 12 2 0, 14 2 0, ");
         let (first, second) = (board.claim(&mut other, 0), board.claim(&mut other, 1));
         let third = board.claim(&mut other, 2);
         assert!(rt; !first && !second && !third);
@@ -217,6 +153,6 @@ impl<R: Abort> RoundTest<R> for Missing {
 }
 
 #[test]
-fn pieces_that_nobody_brought_are_searched_and_claimed(rt: HostRuntime) {
-    in_third_round(&rt, rt.alloc(), &Missing);
+fn pieces_that_nobody_brought_are_claimed_and_searched(rt: HostRuntime) {
+    in_third_round(&rt, rt.alloc(), &NothingBrought);
 }
