@@ -6,8 +6,6 @@ mod bounds;
 #[cfg(test)]
 mod branches;
 #[cfg(test)]
-mod deep_walks;
-#[cfg(test)]
 mod desks;
 #[cfg(test)]
 mod instances;

@@ -11,7 +11,7 @@ use std::alloc::Global;
 use std::process::Abort;
 
 /// How many jobs, machines, operations of each job, and the greatest time.
-pub type Shape = (usize, u32, usize, u32);
+type Shape = (usize, u32, usize, u32);
 
 /// From 58 to 90 operations a machine, of 11 machines or more, with wide lanes too; and three jobs, whose conflict sets
 /// are small.
@@ -30,7 +30,7 @@ static LATEST: [u32; 2] = [0, 5];
 
 /// An instance of this shape, each operation on any machine and for any time up to the greatest, each job released at
 /// any time up to `latest`.
-pub fn made(
+fn made(
     rt: &impl Abort,
     alloc: Global,
     numbers: &mut Numbers,
@@ -57,7 +57,7 @@ pub fn made(
 
 /// Asserts the bounds of the nodes that a search of the whole instance leaves at this budget.
 fn assert_bounds(rt: &impl Abort, alloc: Global, instance: &Instance, budget: u64)
-    requires { budget ≤ 100 }
+    requires { budget ≤ 1000 }
 {
     let piece = piece_of(rt, alloc, instance, &[""]);
     let sheet = search(alloc, instance, &piece, 1_000_000, budget).expect(rt, "memory");
@@ -82,5 +82,15 @@ fn bounds_of_nodes_left(rt: HostRuntime) {
                 assert_bounds(&rt, rt.alloc(), &instance, 60);
             }
         }
+    }
+}
+
+/// Of a walk to the end of 270 operations, also closed children that lie deep are listed.
+#[test]
+fn bounds_of_nodes_left_deep(rt: HostRuntime) {
+    let mut numbers = Numbers { state: 5 };
+    for latest in &LATEST {
+        let instance = made(&rt, rt.alloc(), &mut numbers, &(3, 12, 90, 9), *latest);
+        assert_bounds(&rt, rt.alloc(), &instance, 400);
     }
 }
