@@ -15,7 +15,7 @@
  *                           the next N where it is one of these, and so on; none once one waited two seconds in vain
  *     REFUSE_LOG=FILE       the file gets one line: the allocations, how many of them were refused, the same of
  *                           threads, which the system may refuse too, the bytes that were asked for in all, the most
- *                           started threads alive at a time, and the calls of read and of write
+ *                           started threads alive at a time, the calls of read and of write, and the peak in KB
  */
 #define _GNU_SOURCE
 #include <dlfcn.h>
@@ -26,6 +26,7 @@
 #include <stdint.h>
 #include <stdio.h>
 #include <stdlib.h>
+#include <string.h>
 #include <sys/syscall.h>
 #include <unistd.h>
 
@@ -171,13 +172,25 @@ ssize_t write(int file, const void *buffer, size_t size) {
     return syscall(SYS_write, file, buffer, size);
 }
 
+/* The most memory that the process had at a time, in KB: not that of whoever started it, as in its usage. */
+static long peak(void) {
+    char text[4096];
+    int file = open("/proc/self/status", O_RDONLY);
+    if (file < 0) return 0;
+    long length = syscall(SYS_read, file, text, sizeof text - 1);
+    close(file);
+    text[length < 0 ? 0 : length] = 0;
+    const char *line = strstr(text, "VmHWM:");
+    return line ? atol(line + 6) : 0;
+}
+
 static void write_log(void) {
     if (!log_name) return;
     is_ready = 0;
     char line[200];
-    int length = snprintf(line, sizeof line, "%ld %ld %ld %ld %ld %ld %ld %ld\n", (long)allocations.count,
+    int length = snprintf(line, sizeof line, "%ld %ld %ld %ld %ld %ld %ld %ld %ld\n", (long)allocations.count,
                           (long)allocations.refused, (long)threads.count, (long)threads.refused, (long)bytes,
-                          (long)most_alive, (long)reads, (long)writes);
+                          (long)most_alive, (long)reads, (long)writes, peak());
     int file = open(log_name, O_WRONLY | O_CREAT | O_TRUNC, 0644);
     if (file < 0) return;
     ssize_t written = write(file, line, (size_t)length);

@@ -20,6 +20,7 @@ class Counted(NamedTuple):
     most_threads_alive: int
     reads: int
     writes: int
+    peak_kilobytes: int
 
 
 class Refusing:

@@ -16,4 +16,6 @@ mod rounds;
 #[cfg(test)]
 mod runs;
 #[cfg(test)]
+mod sharing;
+#[cfg(test)]
 mod telling;

@@ -12,7 +12,7 @@ use std::alloc::Global;
 use std::process::Abort;
 
 // The next round of a standing that has an open node and a round left.
-fn next_round<'r>(
+pub fn next_round<'r>(
     rt: &impl Abort,
     alloc: Global,
     instance: &'r Instance,
@@ -26,7 +26,8 @@ fn next_round<'r>(
     Round::cut(alloc, instance, plan, standing).expect(rt, "memory")
 }
 
-fn after_round(
+// The standing behind the next round.
+pub fn after_round(
     rt: &impl Abort,
     alloc: Global,
     instance: &Instance,

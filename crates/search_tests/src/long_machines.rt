@@ -62,7 +62,7 @@ fn made(
 
 /// Asserts the bounds of the nodes that a search of the whole instance leaves at this budget.
 fn assert_bounds(rt: &impl Abort, alloc: Global, instance: &Instance, budget: u64)
-    requires { budget ≤ 100 }
+    requires { budget ≤ 1000 }
 {
     let piece = piece_of(rt, alloc, instance, &[""]);
     let sheet = search(alloc, instance, &piece, 1_000_000, budget).expect(rt, "memory");
@@ -87,5 +87,15 @@ fn bounds_of_nodes_left(rt: HostRuntime) {
                 assert_bounds(&rt, rt.alloc(), &instance, 60);
             }
         }
+    }
+}
+
+/// Of a walk to the end of 270 operations, also closed children that lie deep are listed.
+#[test]
+fn bounds_of_nodes_left_deep(rt: HostRuntime) {
+    let mut numbers = Numbers { state: 5 };
+    for latest in &LATEST {
+        let instance = made(&rt, rt.alloc(), &mut numbers, &(3, 12, 90, 9), *latest);
+        assert_bounds(&rt, rt.alloc(), &instance, 400);
     }
 }

@@ -1,5 +1,6 @@
 -- The limits of the code, in numbers, and that accepted texts keep them.
---     AreLimits              of instances, schedules and texts, of plans and rounds, and of workers
+--     AreLimits              of instances, schedules and texts, of plans and rounds, of workers, and of
+--                            Gantt texts
 --     TextsKeepTheLimits     each instance of a good text is within the limits
 use Rattle.std.specs.Prelude.{◌≡◌, ℕ, List}
 use Rattle.std.specs.List.{AllByRecursion}
@@ -9,7 +10,7 @@ use Rattle.shop_model.specs.declared.limits.TheConstants.{MAX_TIME, MAX_START}
 use Rattle.shop_text.specs.Formats.{grammar_of}
 use Rattle.shop_text.specs.Texts.{NamedShop, IsText}
 use Rattle.shop_text.specs.declared.formats.Format.{Format}
-use Rattle.shop_text.specs.declared.limits.TheConstants.{MAX_TEXT}
+use Rattle.shop_text.specs.declared.limits.TheConstants.{MAX_COLUMNS, MAX_TEXT}
 use Rattle.shop_runs.specs.declared.plans.TheConstants.{MAX_ROUNDS, MAX_BUDGET, MAX_PIECE}
 use Rattle.shop_runs.specs.declared.plans.TheConstants.{MAX_PIECES, MAX_WORKERS}
 
@@ -27,6 +28,8 @@ pub record AreLimits : Type 0 where
   pub piece : MAX_PIECE ≡ 1000
   pub pieces : MAX_PIECES ≡ 256
   pub workers : MAX_WORKERS ≡ 64
+  -- of a Gantt text
+  pub columns : MAX_COLUMNS ≡ 72
 
 abbrev pub TextsKeepTheLimits : Type 0
 TextsKeepTheLimits = (format : Format) (text : List ℕ) (shops : List NamedShop)

@@ -13,7 +13,6 @@ use Rattle.std.specs.List.{range_with_len, enumerate_from, list_any, join_with_b
 use Rattle.std.specs.Option.{option_map_or}
 use Rattle.std.specs.Int.{div_ceil}
 use Rattle.std.specs.Fmt.{decimal}
-use Rattle.shop_text.specs.declared.gantts.TheConstants.{MAX_COLUMNS}
 use Rattle.shop_model.specs.Shop.{Shop, Starts, route_of, machine_of, IsOperation, IsFeasible}
 use Rattle.shop_model.specs.Shop.{finish_of, end_of}
 use Rattle.shop_model.specs.Checking.{starts_of}
@@ -77,10 +76,9 @@ report_text r = text_of (report_lines r)
 
 -- ---- Gantt texts
 
--- how much time a column stands for: the least unit such that there are no more columns than the
--- limit
+-- how much time a column stands for: the least unit such that there are at most 72 columns
 abbrev pub unit_of : ℕ → ℕ
-unit_of makespan = max 1 (div_ceil makespan MAX_COLUMNS)
+unit_of makespan = max 1 (div_ceil makespan 72)
 
 abbrev pub columns_of : ℕ → ℕ
 columns_of makespan = div_ceil makespan (unit_of makespan)

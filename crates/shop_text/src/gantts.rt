@@ -6,11 +6,9 @@ ghost use Rattle.shop_text.specs.Writing.{unit_of, gantt_text};
 ghost use Rattle.shop_text.specs.inner.Printing.{cells_text};
 
 use crate::gantt_lines::show_machine;
+use crate::limits::MAX_COLUMNS;
 use shop_model::{Instance, Table, makespan};
 use std::alloc::{AllocError as NoMemory, Global};
-
-/// The most columns of a Gantt text.
-const MAX_COLUMNS: u64 = 72;
 
 /// Answers for how many units of time a column stands: the least number with at most 72 columns.
 fn unit(makespan: u64) -> u64

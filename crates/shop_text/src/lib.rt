@@ -27,7 +27,7 @@ pub use format_readers::{read, read_orlib, read_routes, read_taillard};
 pub use formats::{FORMAT_WORDS, FORMATS, Format};
 pub use gantts::gantt;
 pub use laws::{faults_are_answered, one_reading, shapes_of_parts, some_reading};
-pub use limits::MAX_TEXT;
+pub use limits::{MAX_COLUMNS, MAX_TEXT};
 pub use names::{Named, pick};
 pub use report_texts::report;
 pub use reports::Report;

@@ -1,0 +1,158 @@
+// Who is at work and how often a piece is searched, by either crew; and pieces that no worker brought.
+ghost use Rattle.std.specs.Thread.{IsSync};
+
+use crate::instances::{FT06, instance_of};
+use crate::rounds::{RoundTest, after_round, in_third_round, next_round};
+use crate::telling::{assert_entries, assert_number};
+use shop_board::{BoardCrew, LockCrew};
+use shop_round::PieceSearcher;
+use shop_runs::{Plan, Round, Standing};
+use shop_workers::{Board, Gate, Returned, Seat, SeatGate, complete_returned};
+use std::alloc::Global;
+use std::process::Abort;
+use std::sync::Wait;
+use std::sync::atomic::{AtomicUsize, Ordering};
+use std::thread;
+use std::thread::Threads;
+
+// Counts the searches of each piece, and holds each worker at its first one until all workers are there, for 10,000,000
+// turns at most. `met` counts the workers that saw all others there.
+#[derive(Drop)]
+struct Counting {
+    searches: Vec<AtomicUsize>,
+    first_calls: Vec<AtomicUsize>,
+    there: AtomicUsize,
+    met: AtomicUsize,
+}
+
+fn zeros(rt: &impl Abort, alloc: Global, count: usize) -> Vec<AtomicUsize> {
+    let mut numbers = Vec::new(alloc);
+    for _ in 0..count {
+        numbers.push(AtomicUsize::new(0)).expect(rt, "memory");
+    }
+    numbers
+}
+
+impl Counting {
+    fn new(rt: &impl Abort, alloc: Global, workers: usize, pieces: usize) -> Counting {
+        Counting {
+            searches: zeros(rt, alloc, pieces),
+            first_calls: zeros(rt, alloc, workers),
+            there: AtomicUsize::new(0),
+            met: AtomicUsize::new(0),
+        }
+    }
+
+    fn wait_for_all(&self) {
+        for _ in 0..10_000_000 {
+            if self.there.load(Ordering::SeqCst) >= self.first_calls.len() {
+                self.met.fetch_add(1, Ordering::SeqCst);
+                return;
+            }
+            thread::yield_now();
+        }
+    }
+
+    fn note(&self, worker: usize, piece: usize) {
+        if let Some(searches) = self.searches.get(piece) {
+            searches.fetch_add(1, Ordering::SeqCst);
+        }
+        let Some(calls) = self.first_calls.get(worker) else {
+            return;
+        };
+        if calls.swap(1, Ordering::SeqCst) == 0 {
+            self.there.fetch_add(1, Ordering::SeqCst);
+            self.wait_for_all();
+        }
+    }
+
+    fn assert_shared(&self, rt: &impl Abort) {
+        for searches in &self.searches {
+            assert_number(rt, searches.load(Ordering::SeqCst), 1);
+        }
+        assert_number(rt, self.met.load(Ordering::SeqCst), self.first_calls.len());
+    }
+}
+
+impl Gate for Counting {
+    fn before(&self, worker: usize, piece: usize) {
+        self.note(worker, piece);
+    }
+}
+
+impl SeatGate for Counting {
+    fn won(&self, worker: usize, _seat: &Seat, piece: usize) {
+        self.note(worker, piece);
+    }
+}
+
+// So many workers share a round of at least as many pieces, none of which ends at the opening bound.
+#[derive(Drop)]
+struct Shared {
+    workers: usize,
+}
+
+impl<R: Abort + Threads + Wait + Sync> RoundTest<R> for Shared {
+    ghost ready = { IsSync R.row };
+
+    fn run<'r>(&self, rt: &R, alloc: Global, round: &'r Round<'r>) {
+        let pieces = round.pieces.len();
+        assert!(rt; self.workers <= pieces);
+        let gate = Counting::new(rt, alloc, self.workers, pieces);
+        let lock = LockCrew::new(self.workers, gate).expect(rt, "workers");
+        let entries = lock.search_round(rt, alloc, round).expect(rt, "memory");
+        assert_number(rt, entries.len(), pieces);
+        lock.gate().assert_shared(rt);
+        let gate = Counting::new(rt, alloc, self.workers, pieces);
+        let board = BoardCrew::new(self.workers, gate).expect(rt, "workers");
+        let entries = board.search_round(rt, alloc, round).expect(rt, "memory");
+        assert_number(rt, entries.len(), pieces);
+        board.gate().assert_shared(rt);
+    }
+}
+
+// Lends the second round of `FT06` to a test. No schedule ends before 55, so none at its opening bound.
+fn in_many_pieces<R: Abort, T: RoundTest<R>>(rt: &R, alloc: Global, test: &T)
+    requires { T.ready }
+{
+    let instance = instance_of(rt, alloc, FT06);
+    let plan = Plan::new(2, 20, 1).expect(rt, "a plan");
+    let start = Standing::start(alloc, &instance).expect(rt, "memory");
+    let first = after_round(rt, alloc, &instance, &plan, start);
+    let round = next_round(rt, alloc, &instance, &plan, first);
+    assert!(rt; round.bound < 55);
+    test.run(rt, alloc, &round);
+}
+
+#[test]
+fn all_workers_begin_and_each_piece_is_searched_once(rt: HostRuntime) {
+    for workers in [1, 2, 3, 8] {
+        in_many_pieces(&rt, rt.alloc(), &Shared { workers });
+    }
+}
+
+// What nobody brought, here all pieces of the third round, is claimed and searched.
+struct NothingBrought;
+
+impl<R: Abort> RoundTest<R> for NothingBrought {
+    ghost ready = { Unit {0} };
+
+    fn run<'r>(&self, rt: &R, alloc: Global, round: &'r Round<'r>) {
+        let (board, seat) = Board::open(alloc, round).expect(rt, "memory");
+        assert_number(rt, board.pieces(), 3);
+        let (seat, mut other) = board.split(seat);
+        let entries = Ok(Vec::new(alloc));
+        let returned = vec![in alloc; Returned { seat, entries }].expect(rt, "memory");
+        let completed = complete_returned::<PieceSearcher<'r>>(alloc, &board, round, returned);
+        let entries = completed.expect(rt, "memory");
+        assert_entries(rt, alloc, &entries, "10 1 0, 12 2 0, 14 2 0, ");
+        let (first, second) = (board.claim(&mut other, 0), board.claim(&mut other, 1));
+        let third = board.claim(&mut other, 2);
+        assert!(rt; !first && !second && !third);
+    }
+}
+
+#[test]
+fn pieces_that_nobody_brought_are_claimed_and_searched(rt: HostRuntime) {
+    in_third_round(&rt, rt.alloc(), &NothingBrought);
+}
