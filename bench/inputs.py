@@ -13,7 +13,7 @@ from instances import (
     text_of_spaced_jobs,
     text_to_and_fro,
 )
-from programs import TOP
+from programs import HERE, TOP
 
 LONGEST_TEXT = 16_777_216
 
@@ -40,6 +40,7 @@ TEXTS = {
     "ft06": lambda: example("ft06"),
     "ft10": lambda: example("ft10"),
     "la01": lambda: example("la01"),
+    "jobshop1": lambda: (HERE / "jobshop1.txt").read_text(),
     "random 15 x 15": lambda: random_text(15, 15, 1),
     "random 20 x 15": lambda: random_text(20, 15, 2),
     "random 50 x 15": lambda: random_text(50, 15, 4),

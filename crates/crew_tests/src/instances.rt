@@ -13,6 +13,15 @@ pub const GAP: &str = "2 3\n0 0 5 1 3 2 0\n0 1 1 0 1 2 6\n";
 /// Two jobs with several steps of time 0.
 pub const ZEROS: &str = "2 3\n0 0 4 1 1 2 0\n0 1 0 2 5 0 0\n";
 
+/// Fisher and Thompson's instance of six jobs on six machines. Its least makespan is 55.
+pub const FT06: &str = "6 6\n\
+    0 2 1 0 3 1 6 3 7 5 3 4 6\n\
+    0 1 8 2 5 4 10 5 10 0 10 3 4\n\
+    0 2 5 3 4 5 8 0 9 1 1 4 7\n\
+    0 1 5 0 5 2 5 3 3 4 8 5 9\n\
+    0 2 9 1 3 4 5 5 4 0 3 3 1\n\
+    0 1 3 3 3 5 9 0 10 4 4 2 1\n";
+
 /// The two orders of open nodes find different schedules.
 pub const SHORT_JOBS: &str = "4 3\n0 0 5 1 3\n1 0 1 2 6\n0 1 1\n0 1 1\n";
 

@@ -2,6 +2,8 @@
 #![tactic(auto)]
 
 #[cfg(test)]
+mod board_runs;
+#[cfg(test)]
 mod boards;
 #[cfg(test)]
 mod closing;

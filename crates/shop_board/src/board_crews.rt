@@ -11,8 +11,8 @@ use shop_workers::{OpenGate, SeatGate};
 use std::alloc::{AllocError as NoMemory, Global};
 use std::thread::Threads;
 
-/// A crew whose workers claim pieces on a board. Worker 0 is the calling thread. A search may wait for the other
-/// workers, and joins all of them before it returns.
+/// A crew whose workers claim pieces on a board. Each has a thread of its own where one can start, and a lone worker is
+/// the calling thread. A search waits for its workers, and joins all of them before it returns.
 #[derive(Drop)]
 pub struct BoardCrew<G> {
     workers: Workers,
@@ -48,8 +48,9 @@ impl<G> BoardCrew<G> {
 }
 
 impl<G: SeatGate + Sync> BoardCrew<G> {
-    /// Does what `Crew::search` does, for a crew with a gate of any type: answers one entry for each piece of `round`,
-    /// in number order. Fails with `NoMemory` if memory runs out. Joins all workers before it returns or fails.
+    /// Does what `Crew::search` does, for a crew with a gate of any type, and by all its workers however short `round`
+    /// is: answers one entry for each piece, in number order. Fails with `NoMemory` if memory runs out. Joins all
+    /// workers before it returns or fails.
     pub fn search_round<'r, R: Threads + Sync>(
         &self,
         rt: &R,
@@ -62,6 +63,21 @@ impl<G: SeatGate + Sync> BoardCrew<G> {
     }
 }
 
+// For each further worker a round has to hold as much work as this: nodes times operations of the instance.
+const WORK_OF_A_WORKER: u64 = 64_000;
+
+// Answers how many of `workers` workers are worth their threads in `round`. To start a thread and to wait for it takes
+// some 50 microseconds. A piece whose budget is small takes a few nanoseconds for each of its nodes and each operation of
+// the instance, since it fills a state with all operations before it searches.
+fn worth_starting(round: &Round, workers: usize) -> usize
+    ensures { result ≤ workers }
+{
+    let nodes = round.budget * round.pieces.len() as u64;
+    let work = nodes * round.instance.operations() as u64;
+    let others = (work / WORK_OF_A_WORKER) as usize;
+    workers.min(others + 1)
+}
+
 impl<R: Threads + Sync> Crew<R> for BoardCrew<OpenGate> {
     ghost ready = { IsSync R.row };
 
@@ -71,6 +87,7 @@ impl<R: Threads + Sync> Crew<R> for BoardCrew<OpenGate> {
         alloc: Global,
         round: &'r Round<'r>,
     ) -> Result<Vec<Entry<'r>>, NoMemory> {
-        self.search_round(rt, alloc, round)
+        let workers = worth_starting(round, self.workers.count);
+        search_claimed(rt, alloc, round, workers, &self.gate)
     }
 }

@@ -8,11 +8,11 @@ ghost use Rattle.shop_workers.specs.Seats.{knows, hits_of, IsSeatOf};
 ghost use Rattle.shop_workers.specs.Works.{Grows, IsAllKnown, BringsWon};
 ghost use Rattle.shop_workers.specs.inner.Returns.{IsReturned, AreReturned};
 
+use crate::waiting::map_waiting;
 use shop_round::PieceSearcher;
 use shop_runs::{Entry, Round};
 use shop_workers::{Board, Lent, Returned, Seat, SeatGate, complete_returned, lend, work_by};
 use std::alloc::{AllocError as NoMemory, Global};
-use std::thread;
 use std::thread::Threads;
 
 /// Claims each piece of the board in order. Searches a piece that the seat wins, or skips it if the makespan of an
@@ -37,7 +37,7 @@ pub fn work<'r, G: SeatGate>(
     work_by::<PieceSearcher<'r>, G>(alloc, board, seat, round, worker, gate)
 }
 
-// Runs each worker in `lent` on a thread of its own if one can start, and the last worker on the calling thread.
+// Runs each worker in `lent` on a thread of its own if one can start, and a lone worker on the calling thread.
 fn work_all<'r, R: Threads + Sync, G: SeatGate + Sync>(
     rt: &R,
     alloc: Global,
@@ -58,12 +58,13 @@ fn work_all<'r, R: Threads + Sync, G: SeatGate + Sync>(
         let (seat, entries) = work(alloc, board, lent.seat, round, lent.worker, gate);
         Returned { seat, entries }
     };
-    thread::map_vec(rt, lent, &worker)
+    map_waiting(rt, alloc, lent, &worker)
 }
 
 /// Searches `round` by `workers` workers (fewer if it has fewer pieces) that claim its pieces on a board. Answers one
-/// entry for each piece, in number order. If a thread can't start, the other threads do its work; the calling thread
-/// claims and searches the pieces for which no worker brought an entry. Fails with `NoMemory` if memory runs out.
+/// entry for each piece, in number order. Each worker has a thread of its own, for which the calling thread waits; a lone
+/// worker, and one whose thread can't start, works on the calling thread. That one also claims and searches the pieces
+/// for which no worker brought an entry. Fails with `NoMemory` if memory runs out.
 pub fn search_claimed<'r, R: Threads + Sync, G: SeatGate + Sync>(
     rt: &R,
     alloc: Global,

@@ -4,6 +4,7 @@
 mod board_crews;
 mod board_search;
 mod lock_crews;
+mod waiting;
 mod worker_crews;
 
 pub use board_crews::BoardCrew;

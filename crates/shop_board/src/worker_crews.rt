@@ -28,7 +28,7 @@ impl<R: Threads + Sync> Crew<R> for WorkerCrew {
     ) -> Result<Vec<Entry<'r>>, NoMemory> {
         match self {
             WorkerCrew::One(alone) => alone.search_round(alloc, round),
-            WorkerCrew::Several(crew) => crew.search_round(rt, alloc, round),
+            WorkerCrew::Several(crew) => crew.search(rt, alloc, round),
         }
     }
 }

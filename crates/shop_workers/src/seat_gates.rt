@@ -8,7 +8,7 @@ use crate::open_gates::OpenGate;
 
 /// A hook that a worker calls before it searches a piece that it won on a board.
 pub trait SeatGate {
-    /// Runs just before worker `worker` searches `piece`, which its seat won. Worker 0 is the calling thread of a crew.
+    /// Runs just before worker `worker` searches `piece`, which its seat won. A crew numbers its workers from 0.
     fn won(&self, worker: usize, seat: &Seat, piece: usize)
         requires { has (knows seat.now).mine piece ≡ true };
 }

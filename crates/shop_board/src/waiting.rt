@@ -1,0 +1,69 @@
+// Calls on threads that are made by a thread which computes nothing.
+ghost use Rattle.std.specs.Prelude.{◌≡◌, ◌∷◌, [], vec_len, IfOk};
+ghost use Rattle.std.specs.Fork.{AcceptsJobs, GivesJobs};
+ghost use Rattle.std.specs.Fork.Halves.{GivesFor};
+ghost use denote.Param.Send.{IsSync, IsSend};
+
+use std::alloc::{AllocError as NoMemory, Global};
+use std::thread;
+use std::thread::Threads;
+
+// Calls `f` at `job`.
+fn call<J: Drop, X: Drop, F: Fn(J) -> X>(f: &F, job: J) -> X
+    requires { AcceptsJobs F.Fn f.now (job ∷ []) }
+    ensures { GivesFor F.Fn f.now (job ∷ []) (result ∷ []) }
+{
+    f(job)
+}
+
+// Starts a thread that calls `f` at the last of `jobs`, then those for the others, and waits for all of them.
+#[cycle(starts)]
+fn start_each<R: Threads + Sync, J: Send + Drop, X: Send + Drop, F: Fn(J) -> X + Sync>(
+    rt: &R,
+    alloc: Global,
+    mut jobs: Vec<J>,
+    f: &F,
+) -> Result<Vec<X>, NoMemory>
+    requires { AcceptsJobs F.Fn f.now jobs.items }
+    ensures { IfOk result (λ v. GivesFor F.Fn f.now jobs.items v.items) }
+{
+    let Some(job) = jobs.pop() else {
+        return Ok(Vec::new(alloc));
+    };
+    let last = move || -> X
+        requires { IsSync F.row × IsSend J.row × IsSend X.row
+            × AcceptsJobs F.Fn f.now (job ∷ []) }
+        ensures { GivesFor F.Fn f.entry.now (job ∷ []) (result ∷ []) }
+    { call(f, job) };
+    let others = move || -> Result<Vec<X>, NoMemory>
+        requires { IsSync R.row × IsSync F.row × IsSend J.row × IsSend X.row
+            × AcceptsJobs F.Fn f.now jobs.items }
+        ensures { IfOk result (λ v. GivesFor F.Fn f.entry.now jobs.items v.items) }
+    { start_each(rt, alloc, jobs, f) };
+    let (found, all) = thread::join(rt, last, others);
+    let mut all = all?;
+    all.push(found)?;
+    Ok(all)
+}
+
+/// Calls `f` at each of `jobs`, on a thread of its own where one can start, and answers the results in order. A lone job
+/// is done on the calling thread. Else the calling thread starts one thread after the other, and then waits for all of
+/// them. It computes nothing meanwhile: a new thread may be laid on the processor of the one that starts it, and begins
+/// late where that one goes on. A job for which no thread can start is done on the calling thread, once those threads
+/// have ended that it started after it. Each job takes some of the calling thread's stack. Fails with `NoMemory` if
+/// memory runs out.
+pub fn map_waiting<R: Threads + Sync, J: Send + Drop, X: Send + Drop, F: Fn(J) -> X + Sync>(
+    rt: &R,
+    alloc: Global,
+    jobs: Vec<J>,
+    f: &F,
+) -> Result<Vec<X>, NoMemory>
+    requires { AcceptsJobs F.Fn f.now jobs.items }
+    ensures len { IfOk result (λ v. vec_len v ≡ vec_len jobs) }
+    ensures each { IfOk result (λ v. GivesJobs F.Fn f.now jobs.items v.items) }
+{
+    if jobs.len() < 2 {
+        return thread::map_vec(rt, jobs, f);
+    }
+    start_each(rt, alloc, jobs, f)
+}
