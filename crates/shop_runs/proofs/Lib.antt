@@ -24,6 +24,7 @@ pub mod TreeSizes
 pub mod Ending
 pub mod CoverRows
 pub mod StackLemmas
+mod BoundRowLemmas
 pub mod StoreLemmas
 pub mod KeptLemmas
 pub mod FrontLemmas

@@ -49,7 +49,7 @@ all_above k b [] h a = tt
 all_above k b (y ∷ ks) h a = ((let l = less_from b y a.0 in omega arith), all_above k b ks h a.1)
 
 -- a node goes past those of lower bounds
-insert_past : (n : Node) (b : ℕ) (ws : List (List ℕ)) (rest : List Node) → b < n.bound
+pub insert_past : (n : Node) (b : ℕ) (ws : List (List ℕ)) (rest : List Node) → b < n.bound
     → insert_by (λ m. m.bound) n (nodes_of_bound b ws ++ rest)
     ≡ nodes_of_bound b ws ++ insert_by (λ m. m.bound) n rest
 insert_past n b [] rest h = refl
@@ -116,7 +116,7 @@ next_is before after rest k s w (Some t) is above words back =
     (sym (back ∙ put_first rest k t (recursion_from_All (IsLtBy nat_cmp k) (keys_of rest) above))))
 
 -- nodes of one bound are below a makespan or not together
-below_one : (c b : ℕ) (ws : List (List ℕ))
+pub below_one : (c b : ℕ) (ws : List (List ℕ))
     → nodes_below c (nodes_of_bound b ws) ≡ cond (ltb b c) (nodes_of_bound b ws) []
 below_one c b [] = elim (cases_Bool (ltb b c)) [ inl e ↦ rw e refl | inr e ↦ rw e refl ]
 below_one c b (w ∷ ws) = elim (cases_Bool (ltb b c)) [
@@ -148,12 +148,12 @@ below_is c (e ∷ es) =
     ]
 
 -- the least bound of nodes whose bounds are c or more
-least_all : (c : ℕ) (ns : List Node) → AllByRecursion (λ n. c ≤ n.bound) ns → least_of_bounds c ns ≡ c
+pub least_all : (c : ℕ) (ns : List Node) → AllByRecursion (λ n. c ≤ n.bound) ns → least_of_bounds c ns ≡ c
 least_all c [] a = refl
 least_all c (n ∷ ns) a = (let e : min c n.bound ≡ c = (let h = a.0 in omega arith)
     in ap (λ b. least_of_bounds b ns) e ∙ least_all c ns a.1)
 
-bounds_all : (c b : ℕ) (ws : List (List ℕ)) (rest : List Node) → c ≤ b → AllByRecursion (λ n. c ≤ n.bound) rest
+pub bounds_all : (c b : ℕ) (ws : List (List ℕ)) (rest : List Node) → c ≤ b → AllByRecursion (λ n. c ≤ n.bound) rest
     → AllByRecursion (λ n. c ≤ n.bound) (nodes_of_bound b ws ++ rest)
 bounds_all c b [] rest h a = a
 bounds_all c b (w ∷ ws) rest h a = (h, bounds_all c b ws rest h a)
@@ -172,7 +172,7 @@ lower_keys c b [] h a = tt
 lower_keys c b (k ∷ ks) h a = ((let l = a.0 in omega arith), lower_keys c b ks h a.1)
 
 -- the words of a stack below its top
-abbrev words_under : Stack → List (List ℕ)
+abbrev pub words_under : Stack → List (List ℕ)
 words_under s = reverse s.topmost.below.items ++ flat_map words_in (reverse s.covered.items)
 
 -- the least bound is that of the first stack

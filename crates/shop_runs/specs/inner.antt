@@ -3,6 +3,7 @@ pub mod Outcomes
 pub mod Closing
 pub mod KeptStacks
 pub mod OpenNodes
+pub mod BoundRows
 pub mod Searches
 pub mod Stacks
 pub mod Stores

@@ -1,6 +1,7 @@
 // Plans, rounds and their outcomes, the contract of a crew, and runs of rounds by any crew.
 #![tactic(auto)]
 
+mod bound_rows;
 mod crews;
 mod entries;
 mod kept_nodes;

@@ -5,6 +5,7 @@ ghost use Rattle.shop_runs.specs.inner.NodeLists.{least_of_bounds, nodes_below};
 ghost use Rattle.shop_runs.specs.inner.OpenNodes.{AreBelow, AreSharable};
 ghost use Rattle.shop_runs.specs.inner.Outcomes.{left_open};
 
+use crate::bound_rows::BoundRow;
 use crate::kept_nodes::KeptNode;
 use crate::kept_stacks::KeptStack;
 use crate::plans::Order;
@@ -15,11 +16,16 @@ use shop_nodes::{Left, Node};
 use std::alloc::{AllocError as NoMemory, Global};
 use std::collections::BTreeMap;
 
+/// Bounds up to here may stand in a row, which then takes some 5 MB.
+const MOST_IN_ROW: u64 = 65_536;
+
 /// Open nodes in the order in which the next round takes them: one stack for `Kept`, and one stack of words per bound
-/// for `Bound`. The time to put or take a node hardly grows with the number of open nodes.
+/// for `Bound`, in a row where the bounds are small and else in a map. The time to put or take a node hardly grows with
+/// the number of open nodes.
 #[derive(Drop)]
 pub(crate) enum OpenNodes {
     AsKept(KeptStack),
+    InRow(BoundRow),
     ByBound(BTreeMap<u64, Stack>),
 }
 
@@ -27,14 +33,20 @@ impl OpenNodes {
     ghost use Rattle.shop_runs.specs.inner.Stores.{open_list, order_of, IsPut, ArePut, IsTaken};
     ghost use Rattle.shop_runs.specs.inner.Stores.{IsKeptBelow, HasPopped};
 
-    /// Makes an empty store, which will hold open nodes in `order`.
-    pub(crate) fn new(alloc: Global, order: Order) -> OpenNodes
+    /// Makes an empty store, which will hold open nodes of bounds below `makespan` in `order`.
+    pub(crate) fn new(alloc: Global, order: Order, makespan: u64) -> OpenNodes
         ensures none { open_list result ≡ [] }
         ensures order { order_of result ≡ order }
     {
         match order {
             Order::Kept => OpenNodes::AsKept(KeptStack::new(alloc)),
-            Order::Bound => OpenNodes::ByBound(BTreeMap::new(alloc)),
+            Order::Bound => {
+                if makespan <= MOST_IN_ROW {
+                    OpenNodes::InRow(BoundRow::new(alloc))
+                } else {
+                    OpenNodes::ByBound(BTreeMap::new(alloc))
+                }
+            }
         }
     }
 
@@ -46,6 +58,7 @@ impl OpenNodes {
     {
         match self {
             OpenNodes::AsKept(nodes) => nodes.push(KeptNode::of(alloc, node)?),
+            OpenNodes::InRow(nodes) => nodes.put(alloc, node),
             OpenNodes::ByBound(stacks) => put_by_bound(alloc, stacks, node),
         }
     }
@@ -97,6 +110,7 @@ impl OpenNodes {
     {
         match self {
             OpenNodes::AsKept(nodes) => Ok(nodes.pop()),
+            OpenNodes::InRow(nodes) => Ok(nodes.pop()),
             OpenNodes::ByBound(stacks) => pop_by_bound(stacks),
         }
     }
@@ -107,7 +121,7 @@ impl OpenNodes {
     {
         match self {
             OpenNodes::AsKept(nodes) => most.min(nodes.len()),
-            OpenNodes::ByBound(_) => 0,
+            OpenNodes::InRow(_) | OpenNodes::ByBound(_) => 0,
         }
     }
 
@@ -139,6 +153,10 @@ impl OpenNodes {
                 nodes.keep_below(makespan);
                 Ok(())
             }
+            OpenNodes::InRow(nodes) => {
+                nodes.keep_below(makespan);
+                Ok(())
+            }
             OpenNodes::ByBound(stacks) => keep_by_bound(stacks, makespan),
         }
     }
@@ -149,6 +167,7 @@ impl OpenNodes {
     {
         match self {
             OpenNodes::AsKept(nodes) => nodes.least_bound(makespan),
+            OpenNodes::InRow(nodes) => nodes.least_bound(makespan),
             OpenNodes::ByBound(stacks) => least_by_bound(stacks, makespan),
         }
     }
@@ -160,6 +179,7 @@ impl OpenNodes {
     {
         match self {
             OpenNodes::AsKept(nodes) => Ok(nodes.len()),
+            OpenNodes::InRow(nodes) => nodes.count(),
             OpenNodes::ByBound(stacks) => count_by_bound(stacks),
         }
     }
@@ -170,6 +190,7 @@ impl OpenNodes {
     {
         match self {
             OpenNodes::AsKept(nodes) => nodes.is_empty(),
+            OpenNodes::InRow(nodes) => nodes.is_empty(),
             OpenNodes::ByBound(stacks) => stacks.is_empty(),
         }
     }

@@ -94,7 +94,7 @@ impl Stack {
     }
 
     /// Answers how many words the stack holds. Fails with `NoMemory` if they are 2^64 or more, which no memory holds.
-    fn count(&self) -> Result<usize, NoMemory>
+    pub(crate) fn count(&self) -> Result<usize, NoMemory>
         ensures count { IfOk result (λ n. n ≡ length (words_on self.now)) }
         ensures too_many { OnErr result (2 ^ 64 ≤ length (words_on self.now)) }
     {

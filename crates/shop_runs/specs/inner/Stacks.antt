@@ -5,11 +5,12 @@
 --     words_left stack                those of a stack, if there is one
 --     nodes_of_bound bound words      nodes of these words, of one bound
 --     nodes_by_bound entries          the nodes of stacks by bound, in order
+--     nodes_in_row bound stacks       the nodes of a row of stacks, the first one of this bound
 --     put_before order node nodes     the node before those that the order has behind it
 --     put_all_before order ns nodes   each node of ns before those that the order has behind it,
 --                                     the last one put first
 --     IsNextOf node before after      the first node is taken from the list, if there is one
-use Rattle.std.specs.Prelude.{◌≡◌, ℕ, Option, Some, None, List, [], ◌∷◌, ◌++◌}
+use Rattle.std.specs.Prelude.{◌≡◌, ℕ, suc, Option, Some, None, List, [], ◌∷◌, ◌++◌}
 use Rattle.std.specs.Prelude.{map, flat_map, reverse}
 use Rattle.std.specs.BTreeMap.{BTreeMap}
 use Rattle.shop_nodes.specs.Branching.{insert_by}
@@ -40,6 +41,11 @@ nodes_of_bound bound words = map (λ w. record { word = w; bound = bound }) word
 abbrev pub nodes_by_bound : List (ℕ × Stack) → List Node
 nodes_by_bound [] = []
 nodes_by_bound (e ∷ es) = nodes_of_bound e.0 (words_on e.1) ++ nodes_by_bound es
+
+abbrev pub nodes_in_row : ℕ → List (Option Stack) → List Node
+nodes_in_row bound [] = []
+nodes_in_row bound (s ∷ stacks) =
+    nodes_of_bound bound (words_left s) ++ nodes_in_row (suc bound) stacks
 
 abbrev pub nodes_in_stacks : BTreeMap ℕ Stack → List Node
 nodes_in_stacks stacks = nodes_by_bound stacks.entries

@@ -9,7 +9,7 @@
 use Rattle.std.specs.Prelude.{◌≡◌, ℕ, Option, List, take, drop}
 use Rattle.shop_nodes.specs.declared.nodes.Node.{Node}
 use Rattle.shop_runs.specs.declared.open_nodes.OpenNodes.{OpenNodes}
-use Rattle.shop_runs.specs.declared.open_nodes.OpenNodes.TheVariants.{AsKept, ByBound}
+use Rattle.shop_runs.specs.declared.open_nodes.OpenNodes.TheVariants.{AsKept, InRow, ByBound}
 use Rattle.shop_runs.specs.declared.plans.Order.{Order}
 use Rattle.shop_runs.specs.declared.plans.Order.TheVariants.{Kept, Bound}
 use Rattle.shop_runs.specs.inner.NodeLists.{nodes_below}
@@ -17,10 +17,12 @@ use Rattle.shop_runs.specs.inner.Stacks.{nodes_in_stacks, put_before, put_all_be
 
 abbrev pub open_list : OpenNodes → List Node
 open_list (AsKept nodes) = nodes
+open_list (InRow nodes) = nodes
 open_list (ByBound stacks) = nodes_in_stacks stacks
 
 abbrev pub order_of : OpenNodes → Order
 order_of (AsKept nodes) = Kept
+order_of (InRow nodes) = Bound
 order_of (ByBound stacks) = Bound
 
 abbrev pub IsPut : Node → OpenNodes → OpenNodes → Type 0

@@ -1,0 +1,38 @@
+use Rattle.std.proofs.Common.{rules, arith, ◌+◌, ◌≡◌, ◌≤◌, ◌∷◌, ◌∙◌, ap, sym}
+use Rattle.std.specs.Prelude.{slice_index_or}
+use Rattle.std.proofs.lemmas.Result.{on_ok_weaker}
+use Rattle.shop_nodes.specs.Branching.{insert_by}
+use Rattle.shop_nodes.specs.declared.nodes.Node.{Node}
+use Rattle.shop_runs.specs.inner.BoundRows.{AreEmptyBelow}
+use Rattle.shop_runs.specs.inner.Stacks.{words_left, nodes_in_row}
+use Rattle.shop_runs.proofs.BoundRowLemmas.{lower_empty, still_empty, put_at}
+use Rattle.shop_runs.proofs.bound_rows.BoundRow.put.Goals as goal
+
+pub invariant_of-self-2 : goal.invariant_of-self-2
+invariant_of-self-2 c =
+    let first = c.self.inside.first
+    in let low = c.min-self-inside.result
+    in let os = c.reach.new.stacks.items
+    in let at : AreEmptyBelow first os = c.in_ok-reach.ensures.empty first c.self.invariant
+    in let less : low ≤ first = search rules
+    in let before : low ≤ c.args.node.bound = search rules
+    in (
+      search rules,
+      still_empty 0 low c.args.node.bound os c.push_at.new.place before (lower_empty 0 first low os less at.1),
+    )
+
+pub returns : goal.returns
+returns c =
+    let os = c.reach.new.stacks.items
+    in let bound = c.args.node.bound
+    in let o = c.push_at.new.place
+    in let now = c.index_mut.result.now
+    in let there : slice_index_or os bound now ≡ now = search rules
+    in let same : 0 + bound ≡ bound = omega arith
+    in on_ok_weaker c.push_at.result (λ pushed.
+    let top : words_left o ≡ c.args.node.word ∷ words_left (slice_index_or os bound now) =
+    pushed ∙ (λ i. c.in_ok-word.ensures i ∷ words_left (sym there i))
+    in put_at 0 bound os c.args.node.word o now (search rules) top
+    ∙ (ap (λ b. insert_by (λ (n : Node). n.bound) (record { word = c.args.node.word; bound = b }) (nodes_in_row 0 os)) same
+    ∙ ap (insert_by (λ (n : Node). n.bound) c.args.node) (c.in_ok-reach.ensures.nodes ∙ c.self.view_is)))
+    c.push_at.ensures

@@ -1,0 +1,25 @@
+-- A row of stacks, each with the words of one bound.
+--     AreEmptyBelow n stacks        there are n places or more, and no stack before the n-th
+--     StaysEmpty before after       where there was none before the n-th place, there is none
+--     IsFirstFrom stacks n first    no stack from the n-th place up to the first, which has one or
+--                                   is the end
+--     TakesTop word before after    the top word is taken from the stack at a place, if there is one
+use Rattle.std.specs.Prelude.{◌≡◌, ℕ, ◌<◌, ◌≤◌, List, [], ◌∷◌, Option, Some, None, IsSome, length, take, drop}
+use Rattle.std.specs.Prelude.{slice_index_or}
+use Rattle.shop_runs.specs.declared.stacks.Stack.{Stack}
+use Rattle.shop_runs.specs.inner.Stacks.{words_left, nodes_in_row}
+
+abbrev pub AreEmptyBelow : ℕ → List (Option Stack) → Type 0
+AreEmptyBelow n stacks = (n ≤ length stacks) × (nodes_in_row 0 (take n stacks) ≡ [])
+
+abbrev pub StaysEmpty : List (Option Stack) → List (Option Stack) → Type 0
+StaysEmpty before after = (n : ℕ) → AreEmptyBelow n before → AreEmptyBelow n after
+
+abbrev pub IsFirstFrom : List (Option Stack) → ℕ → ℕ → Type 0
+IsFirstFrom stacks n first = (n ≤ first) × (first ≤ length stacks)
+    × (nodes_in_row n (drop n stacks) ≡ nodes_in_row first (drop first stacks))
+    × (first < length stacks → IsSome (slice_index_or stacks first None))
+
+abbrev pub TakesTop : Option (List ℕ) → Option Stack → Option Stack → Type 0
+TakesTop None before after = (before ≡ None) × (after ≡ None)
+TakesTop (Some word) before after = words_left before ≡ word ∷ words_left after
