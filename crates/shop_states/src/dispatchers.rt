@@ -14,19 +14,11 @@ use shop_lanes::StateLanes;
 use shop_layout::LaidOut;
 use std::alloc::{AllocError as NoMemory, Global};
 
-/// A number that is above the bound of every word of an instance within the limits.
+/// A number above the bound of every word of an instance within the limits.
 const BOUNDS: u64 = 1 << 50;
 
-/// From so many jobs on machines are taken for long.
-const LONG: usize = 20;
-
-/// Answers from how many candidates on their children are bounded together first, in an instance of `jobs` jobs: of
-/// fewer, their trials take less time, each of which goes through machines that are the longer the more jobs there are.
-fn least_siblings(jobs: usize) -> usize
-    ensures { 0 < result }
-{
-    if jobs < LONG { 4 } else { 3 }
-}
+/// From so many candidates on their children are bounded together first: of fewer, the trials take less.
+const MANY: usize = 4;
 
 impl<'a, L: StateLanes> Dispatching<State<L>> for LaidOut<'a, L> {
     ghost use Rattle.std.specs.Prelude.{◌∷◌, ◌++◌, [], vec_capacity};
@@ -149,7 +141,7 @@ impl<'a, L: StateLanes> Dispatching<State<L>> for LaidOut<'a, L> {
         candidates: &[Candidate],
         bound: u64,
     ) -> Option<u64> {
-        if candidates.len() < least_siblings(state.next.len()) {
+        if candidates.len() < MANY {
             return None;
         }
         room.lanes.copy_from(&state.lanes);
