@@ -14,7 +14,7 @@ use shop_lanes::StateLanes;
 use shop_layout::LaidOut;
 use std::alloc::{AllocError as NoMemory, Global};
 
-/// A number above the bound of every word of an instance within the limits.
+/// A number that is above the bound of every word of an instance within the limits.
 const BOUNDS: u64 = 1 << 50;
 
 /// From so many candidates on their children are bounded together first: of fewer, the trials take less.

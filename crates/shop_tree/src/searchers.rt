@@ -11,7 +11,7 @@ use shop_nodes::{Piece, Sheet};
 use std::alloc::{AllocError as NoMemory, Global};
 use std::marker::Model;
 
-/// About how many bytes the states of all waiting children may take together.
+/// The number of bytes, roughly, that the states of all waiting children may take together.
 const ROOM: usize = 1 << 19;
 
 /// Answers how many bytes one number of a state takes in `layout`.

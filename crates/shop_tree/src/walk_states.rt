@@ -371,9 +371,9 @@ impl<'l, D: Dispatching<S>, S: Drop> WalkStates<'l, D, S> {
         false
     }
 
-    /// Where no state can be had any more, takes that of the topmost sibling, for a child of this bound that goes above
-    /// it. So at least the child that is walked next isn't filled from its word. Siblings stand from index `from` on.
-    /// Fails with `NoMemory` if memory runs out.
+    /// If no state is spare and none may be allocated, takes the state of the topmost sibling, for a child of the bound
+    /// `bound` that goes above that sibling. So at least the child that is walked next keeps a state. Siblings lie from
+    /// index `from` of the stack on. Fails with `NoMemory` if memory runs out.
     #[inline(always)]
     pub(crate) fn make_room(
         &mut self,
