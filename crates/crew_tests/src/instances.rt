@@ -25,11 +25,6 @@ pub const FT06: &str = "6 6\n\
 /// The two orders of open nodes find different schedules.
 pub const SHORT_JOBS: &str = "4 3\n0 0 5 1 3\n1 0 1 2 6\n0 1 1\n0 1 1\n";
 
-/// Fisher and Thompson's six jobs on six machines.
-pub const FT06: &str =
-    "6 6\n0 2 1 0 3 1 6 3 7 5 3 4 6\n0 1 8 2 5 4 10 5 10 0 10 3 4\n0 2 5 3 4 5 8 0 9 1 1 4 7\n\
-    0 1 5 0 5 2 5 3 3 4 8 5 9\n0 2 9 1 3 4 5 5 4 0 3 3 1\n0 1 3 3 3 5 9 0 10 4 4 2 1\n";
-
 /// The instance of a text.
 pub fn instance_of(rt: &impl Abort, alloc: Global, text: &str) -> Instance {
     let mut named = read_routes(alloc, text.as_bytes()).expect(rt, "an instance");
