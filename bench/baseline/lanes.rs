@@ -51,8 +51,8 @@ pub trait Lane: SimdElement + Ord + Add<Output = Self> + Sub<Output = Self> + Se
     fn load(row: Row<Self>, from: Self) -> Self;
 
     /// By lane: when the operation ends that waits there, and what else waits is served from then on, the greatest end,
-    /// tails included. In `sums` is left by lane, of what waits, the times up to it and its tail.
-    fn own_spans(row: Row<Self>, sums: &mut [Block<Self>], spans: &mut [Block<Self>]);
+    /// tails included.
+    fn own_spans(row: Row<Self>, spans: &mut [Block<Self>]);
 }
 
 /// In each lane the sum of the lanes up to it.
@@ -197,35 +197,35 @@ macro_rules! lane {
                 for ((heads, times), tails) in row.heads.iter().zip(row.times).zip(row.tails) {
                     let is_served = heads.simd_ge(from);
                     sums += is_served.select(*times, zero);
-                    greatest = greatest.simd_max(is_served.select(sums + *tails, zero));
+                    // where nothing is served that is when the last one before ended
+                    greatest = greatest.simd_max(sums + is_served.select(*tails, zero));
                 }
                 // what stands in the lanes before is no more than an end in it
                 (greatest + (sums_up_to!(sums) - sums)).reduce_max()
             }
 
             #[inline(always)]
-            fn own_spans(row: Row<Self>, sums: &mut [Block<Self>], spans: &mut [Block<Self>]) {
+            fn own_spans(row: Row<Self>, spans: &mut [Block<Self>]) {
                 let zero = Block::splat(0);
-                let mut sum = zero;
-                for (((heads, times), tails), sums) in row.heads.iter().zip(row.times).zip(row.tails).zip(&mut *sums) {
-                    sum += heads.simd_ne(zero).select(*times, zero);
-                    *sums = sum + *tails;
-                }
-                let lanes_before = sums_up_to!(sum) - sum;
+                let mut sums = zero;
                 let mut greatest = zero;
-                for (heads, sums) in row.heads.iter().zip(&mut *sums) {
-                    *sums = heads.simd_ne(zero).select(*sums + lanes_before, zero);
-                    greatest = greatest.simd_max(*sums);
+                for (((heads, times), tails), span) in row.heads.iter().zip(row.times).zip(row.tails).zip(&mut *spans) {
+                    *span = greatest;
+                    let waits = heads.simd_ne(zero);
+                    sums += waits.select(*times, zero);
+                    greatest = greatest.simd_max(sums + waits.select(*tails, zero));
                 }
-                let mut before = greatest_before!(greatest);
-                for (sums, span) in sums.iter().zip(&mut *spans) {
-                    *span = before;
-                    before = before.simd_max(*sums);
-                }
-                let mut behind = greatest_behind!(greatest);
-                for (((heads, times), sums), span) in row.heads.iter().zip(row.times).zip(&*sums).zip(spans).rev() {
-                    *span = *heads + *times + span.simd_max(behind.saturating_sub(*times));
-                    behind = behind.simd_max(*sums);
+                let lanes_before = sums_up_to!(sums) - sums;
+                let ends = lanes_before + greatest;
+                let before = greatest_before!(ends);
+                let mut behind = greatest_behind!(ends);
+                let mut clocks = lanes_before + sums;
+                for (((heads, times), tails), span) in row.heads.iter().zip(row.times).zip(row.tails).zip(spans).rev() {
+                    let waits = heads.simd_ne(zero);
+                    let first = before.simd_max(lanes_before + *span);
+                    *span = *heads + *times + first.simd_max(behind.saturating_sub(*times));
+                    behind = behind.simd_max(clocks + waits.select(*tails, zero));
+                    clocks -= waits.select(*times, zero);
                 }
             }
         }

@@ -190,6 +190,15 @@ module _ {count : ℕ} {hs ts qs : List ℕ} {all : List Lane} (c : AreColumnsOf
       tails_eight : tails ≡ eight (λ k. get_or qs (8 * j + k) 0)
       tails_eight = tails_are ∙ block_eight j qs (omega (arith, c.tails_long))
 
+      pub heads_long : length heads ≡ 8
+      heads_long = ap length heads_eight
+
+      pub times_long : length times ≡ 8
+      times_long = ap length times_eight
+
+      pub tails_long : length tails ≡ 8
+      tails_long = ap length tails_eight
+
       served_eight : served ≡ eight (λ k. added_by k j)
       served_eight = grind (arith, least_at, heads_eight, times_eight)
 

@@ -1,8 +1,8 @@
 -- The passes for own spans: down the columns, and back.
 use Rattle.std.proofs.Common.{◌≡◌, ℕ, suc, ◌+◌, ◌-◌, ◌*◌, ◌<◌, ◌≤◌, max, Bool, true, false, cond, leb}
 use Rattle.std.proofs.Common.{List, ◌∷◌, length, take, drop, set, get_or, ap, sym, ◌∙◌, arith, subst}
-use Rattle.std.proofs.Common.{replicate, inl, inr, length-set}
-use Rattle.std.proofs.Math.Seq.{drop-cons}
+use Rattle.std.proofs.Common.{replicate, inl, inr, length-set, ◌%◌, ◌/◌}
+use Rattle.std.proofs.Math.Seq.{drop-cons, take-add}
 use Rattle.std.proofs.lemmas.Bool.{cases_lt}
 use Rattle.std.proofs.lemmas.Simd.{get_or-zip2, length-zip2, length-put_chunk, get_or-put_chunk_below}
 use Rattle.std.proofs.lemmas.Simd.{get_or-put_chunk_at, get_or-put_chunk_above}
@@ -14,10 +14,11 @@ use Rattle.shop_lanes.specs.inner.OwnSpans.{rank_of, IsLoadBehind, own_span_at}
 use Rattle.shop_lanes.specs.inner.Passes.{clock_after, eight}
 use Rattle.shop_lanes.proofs.Columns.{rank_fits, rank_below, rank_of_parts, by_columns-of, by_columns-set}
 use Rattle.shop_lanes.proofs.Columns.{length-by_columns, lanes-by_columns}
-use Rattle.shop_lanes.proofs.ColumnTurns.{AreColumnsOf, IsServedTo, front_of, fronts, as_eight, eight_same}
+use Rattle.shop_lanes.proofs.ColumnTurns.{AreColumnsOf, IsServedTo, front_of, fronts, part_of, as_eight, eight_same}
 use Rattle.shop_lanes.proofs.ColumnTurns.{in_eight, eight_fit, block_eight, work_next, work_small, tail_small}
 use Rattle.shop_lanes.proofs.LaneLists.{lane_at}
-use Rattle.shop_lanes.proofs.Loads.{span_from_start}
+use Rattle.shop_lanes.proofs.Loads.{span_from_start, load-append, work-append, load_le}
+use Rattle.shop_lanes.proofs.SpanParts.{greatest_part}
 use Rattle.shop_lanes.proofs.OwnPositions.{own_in_order, own_fits, own_at}
 
 -- what stands at a place, in order of rank
@@ -113,12 +114,12 @@ module _ (n : ℕ) (owns v new : List ℕ) (eight_long : length v ≡ 8) (room :
 -- the way down as far as block j
 pub record IsNotedTo (count : ℕ) (all : List Lane) (j : ℕ) (clocks most owns : List ℕ) : Type 0 where
   pub long : length owns ≡ 8 * count
-  pub served : IsServedTo 1 (front_of count all) j clocks most
-  pub noted : (p : ℕ) → p < 8 * j → get_or owns p 0 ≡ span 1 0 (take (rank_of count p) all)
+  pub served : IsServedTo 1 (part_of count all) j clocks most
+  pub noted : (p : ℕ) → p < 8 * j → get_or owns p 0 ≡ span 1 0 (part_of count all (p % 8) (p / 8))
 
 pub note_more : {count : ℕ} {all : List Lane} {j : ℕ} → j < count → {clocks most owns after later new : List ℕ}
     → IsNotedTo count all j clocks most owns → new ≡ put_chunk (8 * j) owns most
-    → IsServedTo 1 (front_of count all) (j + 1) after later → IsNotedTo count all (j + 1) after later new
+    → IsServedTo 1 (part_of count all) (j + 1) after later → IsNotedTo count all (j + 1) after later new
 note_more {count} {all} {j} lt {clocks} {most} {owns} {after} {later} {new} so_far new_is served =
     let eight_long : length most ≡ 8 = ap length so_far.served.most_are
     in let room : 8 * (j + 1) ≤ length owns = omega (arith, so_far.long, lt)
@@ -135,9 +136,9 @@ note_more {count} {all} {j} lt {clocks} {most} {owns} {after} {later} {new} so_f
             in ap (λ n. get_or new n 0) (sym is)
             ∙ stored_at j owns most new eight_long room new_is k k_lt
             ∙ ap (λ l. get_or l k 0) so_far.served.most_are
-            ∙ in_eight (λ i. span 1 0 (front_of count all i j)) k k_lt
-            ∙ ap (λ r. span 1 0 (take r all)) (sym (rank_of_parts count k j k_lt))
-            ∙ ap (λ n. span 1 0 (take (rank_of count n) all)) is
+            ∙ in_eight (λ i. span 1 0 (part_of count all i j)) k k_lt
+            ∙ ap (λ i. span 1 0 (part_of count all i j)) (omega (arith, is, k_lt))
+            ∙ ap (λ i. span 1 0 (part_of count all (p % 8) i)) (omega (arith, is, k_lt))
       ];
     }
 
@@ -149,14 +150,14 @@ pub record IsBackTo (count : ℕ) (hs ts qs : List ℕ) (all : List Lane) (j : �
   pub clocks_are : clocks ≡ eight (λ k. clock_after 1 0 (front_of count all k j))
   pub behind_long : length behind ≡ 8
   pub behind_are : (k : ℕ) → k < 8 → IsLoadBehind all (k * count + j) (get_or behind k 0)
-  pub noted : (p : ℕ) → p < 8 * j → get_or owns p 0 ≡ span 1 0 (take (rank_of count p) all)
+  pub noted : (p : ℕ) → p < 8 * j → get_or owns p 0 ≡ span 1 0 (part_of count all (p % 8) (p / 8))
   pub done : (p : ℕ) → 8 * j ≤ p → p < 8 * count → 0 < get_or hs p 0
       → get_or owns p 0 ≡ own_span_at count hs ts qs p
 
 -- one lane more of what stands behind
 module _ (W T Z t q rest tail : ℕ) (rest_is : max t tail ≡ t + rest) where
   behind_numbers : (on : Bool) → W + cond on t 0 ≡ T → max T Z ≡ T + rest
-      → max W (max Z (cond on (T + q) 0)) ≡ W + cond on (max (0 + t + q) tail) rest
+      → max W (max Z (T + cond on q 0)) ≡ W + cond on (max (0 + t + q) tail) rest
   behind_numbers true e z = omega (arith, e, z, rest_is)
   behind_numbers false e z = omega (arith, e, z)
 
@@ -164,10 +165,12 @@ module _ {count : ℕ} {hs ts qs : List ℕ} {rows : List Lane} (cols : AreColum
     (fits : FitOwnSpans limit rows) where
   -- block j, as it is read and bounded
   module _ (j : ℕ) {n : ℕ} (next : n ≡ j + 1) {clocks behind owns : List ℕ}
-      (so_far_n : IsBackTo count hs ts qs rows n clocks behind owns) {heads times tails before one : List ℕ}
+      (so_far_n : IsBackTo count hs ts qs rows n clocks behind owns) {heads times tails noted one : List ℕ}
       (heads_are : heads ≡ take 8 (drop (8 * j) hs)) (times_are : times ≡ take 8 (drop (8 * j) ts))
-      (tails_are : tails ≡ take 8 (drop (8 * j) qs)) (before_is : before ≡ take 8 (drop (8 * j) owns))
-      (one_is : one ≡ replicate 8 1) where
+      (tails_are : tails ≡ take 8 (drop (8 * j) qs)) (noted_is : noted ≡ take 8 (drop (8 * j) owns))
+      (one_is : one ≡ replicate 8 1) {begins before : List ℕ}
+      (begins_are : begins ≡ eight (λ k. clock_after 1 0 (take (k * count + 0) rows)))
+      (before_are : before ≡ eight (λ k. span 1 0 (take (k * count) rows))) where
     so_far : IsBackTo count hs ts qs rows (j + 1) clocks behind owns
     so_far = subst (λ m. IsBackTo count hs ts qs rows m clocks behind owns) next so_far_n
 
@@ -183,171 +186,246 @@ module _ {count : ℕ} {hs ts qs : List ℕ} {rows : List Lane} (cols : AreColum
     tails_eight : tails ≡ eight (λ k. get_or qs (8 * j + k) 0)
     tails_eight = tails_are ∙ block_eight j qs (omega (arith, cols.tails_long, j_lt))
 
-    before_eight : before ≡ eight (λ k. get_or owns (8 * j + k) 0)
-    before_eight = before_is ∙ block_eight j owns (omega (arith, so_far.long, j_lt))
+    pub heads_eight_long : length heads ≡ 8
+    heads_eight_long = ap length heads_eight
 
-    behind_eight : behind ≡ eight (λ k. get_or behind k 0)
-    behind_eight = as_eight behind so_far.behind_long
+    begins_eight : begins ≡ eight (λ k. clock_after 1 0 (take (k * count) rows))
+    begins_eight =
+        begins_are
+        ∙ eight_same (λ k. clock_after 1 0 (take (k * count + 0) rows)) (λ k. clock_after 1 0 (take (k * count) rows))
+        (λ k lt. ap (λ m. clock_after 1 0 (take m rows)) (omega arith))
 
-    noted_here : (k : ℕ) → k < 8
-        → get_or owns (8 * j + k) 0 ≡ span 1 0 (take (rank_of count (8 * j + k)) rows)
-    noted_here k lt = so_far.noted (8 * j + k) (omega (arith, lt))
-
-    behind_here : (k : ℕ) → k < 8 → IsLoadBehind rows (suc (rank_of count (8 * j + k))) (get_or behind k 0)
-    behind_here k lt =
-        let r = rank_of_parts count k j lt
-        in let on : k * count + (j + 1) ≡ suc (rank_of count (8 * j + k)) = omega (arith, r)
-        in subst (λ n. IsLoadBehind rows n (get_or behind k 0)) on (so_far.behind_are k lt)
-
-    here_fits : (k : ℕ) → k < 8
-        → (get_or hs (8 * j + k) 0 + get_or ts (8 * j + k) 0 ≤ limit)
-        × (get_or hs (8 * j + k) 0 + get_or ts (8 * j + k) 0
-        + max (get_or owns (8 * j + k) 0) (get_or behind k 0 - get_or ts (8 * j + k) 0) ≤ limit)
-    here_fits k lt =
-        own_fits_at cols (8 * j + k) (omega (arith, lt, j_lt))
-        (get_or owns (8 * j + k) 0) (get_or behind k 0) (noted_here k lt) (behind_here k lt) limit fits
-
-    pub begins_fit : AddsFit limit heads times
-    begins_fit =
-        subst (λ l. AddsFit limit l times) (sym heads_eight)
-        (subst (AddsFit limit (eight (λ k. get_or hs (8 * j + k) 0))) (sym times_eight)
-        (eight_fit limit (λ k. get_or hs (8 * j + k) 0) (λ k. get_or ts (8 * j + k) 0) (λ k lt. (here_fits k lt).0)))
-
-    own_rest : zip2 max before (lessened behind times)
-        ≡ eight (λ k. max (get_or owns (8 * j + k) 0) (get_or behind k 0 - get_or ts (8 * j + k) 0))
-    own_rest = grind (arith, before_eight, behind_eight, times_eight)
-
-    own_begins : added heads times ≡ eight (λ k. get_or hs (8 * j + k) 0 + get_or ts (8 * j + k) 0)
-    own_begins =
-        ap (λ l. added l times) heads_eight ∙ ap (added (eight (λ k. get_or hs (8 * j + k) 0))) times_eight
-
-    pub ends_fit : AddsFit limit (added heads times) (zip2 max before (lessened behind times))
-    ends_fit =
-        subst (λ l. AddsFit limit l (zip2 max before (lessened behind times))) (sym own_begins)
-        (subst (AddsFit limit (eight (λ k. get_or hs (8 * j + k) 0 + get_or ts (8 * j + k) 0))) (sym own_rest)
-        (eight_fit limit (λ k. get_or hs (8 * j + k) 0 + get_or ts (8 * j + k) 0)
-        (λ k. max (get_or owns (8 * j + k) 0) (get_or behind k 0 - get_or ts (8 * j + k) 0))
-        (λ k lt. (here_fits k lt).1)))
-
-    front_next : (k : ℕ) → k < 8
-        → clock_after 1 0 (front_of count rows k (suc j))
-        ≡ clock_after 1 0 (front_of count rows k j)
-        + cond (leb 1 (get_or hs (8 * j + k) 0)) (get_or ts (8 * j + k) 0) 0
-    front_next k lt = work_next cols (fronts cols) 1 k j lt j_lt
-
-    clocks_eight : clocks ≡ eight (λ k. clock_after 1 0 (front_of count rows k (suc j)))
-    clocks_eight = grind arith
-
-    pub tails_fit : AddsFit limit clocks tails
-    tails_fit =
-        subst (λ l. AddsFit limit l tails) (sym clocks_eight)
-        (subst (AddsFit limit (eight (λ k. clock_after 1 0 (front_of count rows k (suc j))))) (sym tails_eight)
-        (eight_fit limit (λ k. clock_after 1 0 (front_of count rows k (suc j))) (λ k. get_or qs (8 * j + k) 0)
+    noted_eight : noted ≡ eight (λ k. span 1 0 (part_of count rows k j))
+    noted_eight =
+        noted_is ∙ block_eight j owns (omega (arith, so_far.long, j_lt))
+        ∙ eight_same (λ k. get_or owns (8 * j + k) 0) (λ k. span 1 0 (part_of count rows k j))
         (λ k lt.
-        let small = work_small cols (fronts cols) 1 limit fits.whole k (suc j)
-        in let tail = tail_small cols k j lt j_lt
-        in omega (arith, small, tail))))
+        so_far.noted (8 * j + k) (omega (arith, lt))
+        ∙ ap (λ i. span 1 0 (part_of count rows i ((8 * j + k) / 8))) (omega (arith, lt))
+        ∙ ap (λ i. span 1 0 (part_of count rows k i)) (omega (arith, lt)))
 
-    one_at : get_or one 0 0 ≡ 1
-    one_at = ap (λ l. get_or l 0 0) one_is
+    -- the clock of the columns before, and what is served of this one
+    front_work : (k : ℕ) → clock_after 1 0 (front_of count rows k j)
+        ≡ clock_after 1 0 (take (k * count) rows) + clock_after 1 0 (part_of count rows k j)
+    front_work k =
+        ap (clock_after 1 0) (take-add (k * count) j rows)
+        ∙ work-append 1 (take (k * count) rows) (part_of count rows k j)
 
-    abbrev own_of : ℕ → ℕ
-    own_of k = get_or hs (8 * j + k) 0 + get_or ts (8 * j + k) 0
-        + max (get_or owns (8 * j + k) 0) (get_or behind k 0 - get_or ts (8 * j + k) 0)
+    front_load : (k : ℕ) → span 1 0 (front_of count rows k j)
+        ≡ max (span 1 0 (take (k * count) rows))
+        (clock_after 1 0 (take (k * count) rows) + span 1 0 (part_of count rows k j))
+    front_load k =
+        ap (span 1 0) (take-add (k * count) j rows)
+        ∙ load-append 1 (take (k * count) rows) (part_of count rows k j)
 
-    pub own_eight : {own : List ℕ} → own ≡ added (added heads times) (zip2 max before (lessened behind times))
-        → own ≡ eight own_of
-    own_eight told = grind (arith, own_begins, own_rest)
+    pub noted_fit : AddsFit limit begins noted
+    noted_fit =
+        subst (λ l. AddsFit limit l noted) (sym begins_eight)
+        (subst (AddsFit limit (eight (λ k. clock_after 1 0 (take (k * count) rows)))) (sym noted_eight)
+        (eight_fit limit (λ k. clock_after 1 0 (take (k * count) rows)) (λ k. span 1 0 (part_of count rows k j))
+        (λ k lt.
+        let work = front_work k
+        in let small = work_small cols (fronts cols) 1 limit fits.whole k j
+        in let load = load_le 1 (part_of count rows k j)
+        in let tail = greatest_part (λ x. x.tail) j (k * count) rows
+        in omega (arith, work, small, load, tail))))
 
-    pub late_eight : {sums late : List ℕ} → sums ≡ added clocks tails → late ≡ waiting (get_or one 0 0) heads sums
-        → late ≡ eight (λ k. cond (leb 1 (get_or hs (8 * j + k) 0))
-        (clock_after 1 0 (front_of count rows k (suc j)) + get_or qs (8 * j + k) 0) 0)
-    late_eight {sums} sums_are late_is = grind (arith, one_at, heads_eight, clocks_eight, tails_eight)
+    pub begun_long : {begun : List ℕ} → begun ≡ added begins noted → length begun ≡ 8
+    begun_long told =
+        ap length (told ∙ ap (λ l. added l noted) begins_eight
+        ∙ ap (added (eight (λ k. clock_after 1 0 (take (k * count) rows)))) noted_eight)
 
-    pub served_eight : {served : List ℕ} → served ≡ waiting (get_or one 0 0) heads times
-        → served ≡ eight (λ k. cond (leb 1 (get_or hs (8 * j + k) 0)) (get_or ts (8 * j + k) 0) 0)
-    served_eight told = grind (arith, one_at, heads_eight, times_eight)
+    module _ {begun first : List ℕ} (begun_is : begun ≡ added begins noted) (first_is : first ≡ zip2 max before begun)
+      where
+        behind_eight : behind ≡ eight (λ k. get_or behind k 0)
+        behind_eight = as_eight behind so_far.behind_long
 
-    module _ {own : List ℕ} (own_told : own ≡ added (added heads times) (zip2 max before (lessened behind times)))
-        {sums late : List ℕ} (sums_are : sums ≡ added clocks tails)
-        (late_is : late ≡ waiting (get_or one 0 0) heads sums)
-        {served : List ℕ} (served_is : served ≡ waiting (get_or one 0 0) heads times)
-        {new more less : List ℕ} (new_is : new ≡ put_chunk (8 * j) owns own) (more_is : more ≡ zip2 max behind late)
-        (less_is : less ≡ lessened clocks served) where
-      own_long : length own ≡ 8
-      own_long = ap length (own_eight own_told)
+        first_fronts : first ≡ eight (λ k. span 1 0 (front_of count rows k j))
+        first_fronts =
+            first_is
+            ∙ ap (zip2 max before) (begun_is ∙ ap (λ l. added l noted) begins_eight
+            ∙ ap (added (eight (λ k. clock_after 1 0 (take (k * count) rows)))) noted_eight)
+            ∙ ap (λ l. zip2 max l (eight (λ k. clock_after 1 0 (take (k * count) rows)
+            + span 1 0 (part_of count rows k j)))) before_are
+            ∙ eight_same (λ k. max (span 1 0 (take (k * count) rows)) (clock_after 1 0 (take (k * count) rows)
+            + span 1 0 (part_of count rows k j))) (λ k. span 1 0 (front_of count rows k j))
+            (λ k lt. sym (front_load k))
 
-      late_long : length late ≡ 8
-      late_long = ap length (late_eight sums_are late_is)
+        pub first_long : length first ≡ 8
+        first_long = ap length first_fronts
 
-      less_eight : less ≡ eight (λ k. clock_after 1 0 (front_of count rows k j))
-      less_eight =
-          less_is
-          ∙ ap (λ l. lessened l served) clocks_eight
-          ∙ ap (lessened (eight (λ k. clock_after 1 0 (front_of count rows k (suc j))))) (served_eight served_is)
-          ∙ eight_same
-          (λ k. clock_after 1 0 (front_of count rows k (suc j))
-          - cond (leb 1 (get_or hs (8 * j + k) 0)) (get_or ts (8 * j + k) 0) 0)
-          (λ k. clock_after 1 0 (front_of count rows k j))
-          (λ k lt. let next = front_next k lt in omega (arith, next))
+        first_eight : first ≡ eight (λ k. get_or first k 0)
+        first_eight = as_eight first first_long
 
-      behind_next : (k : ℕ) → k < 8 → IsLoadBehind rows (k * count + j) (get_or more k 0)
-      behind_next k lt =
-          let r = k * count + j
-          in let below = rank_below count k j lt j_lt
-          in let x = lane_at hs ts qs (8 * j + k)
-          in let on : k * count + (j + 1) ≡ suc r = omega arith
-          in let front_on : k * count + suc j ≡ suc r = omega arith
-          in let split : drop r rows ≡ x ∷ drop (suc r) rows =
-          drop-cons rows r x (omega (arith, below, cols.long))
-          ∙ ap (λ y. y ∷ drop (suc r) rows) (cols.at k j lt j_lt x)
-          in let number : get_or more k 0 ≡ max (get_or behind k 0) (cond (leb 1 (get_or hs (8 * j + k) 0))
-          (clock_after 1 0 (take (suc r) rows) + get_or qs (8 * j + k) 0) 0) =
-          ap (λ l. get_or l k 0) more_is
-          ∙ get_or-zip2 max behind late k 0 0 0 (omega (arith, lt, so_far.behind_long)) (omega (arith, lt, late_long))
-          ∙ ap (λ l. max (get_or behind k 0) (get_or l k 0)) (late_eight sums_are late_is)
-          ∙ ap (max (get_or behind k 0)) (in_eight (λ i. cond (leb 1 (get_or hs (8 * j + i) 0))
-          (clock_after 1 0 (front_of count rows i (suc j)) + get_or qs (8 * j + i) 0) 0) k lt)
-          ∙ ap (λ n. max (get_or behind k 0) (cond (leb 1 (get_or hs (8 * j + k) 0))
-          (clock_after 1 0 (take n rows) + get_or qs (8 * j + k) 0) 0)) front_on
-          in let clock : clock_after 1 0 (take r rows)
-          + cond (leb 1 (get_or hs (8 * j + k) 0)) (get_or ts (8 * j + k) 0) 0
-          ≡ clock_after 1 0 (take (suc r) rows) =
-          sym (front_next k lt) ∙ ap (λ n. clock_after 1 0 (take n rows)) front_on
-          in let later = span_from_start 1 (0 + get_or ts (8 * j + k) 0) (drop (suc r) rows)
-          in let behind_is : IsLoadBehind rows (suc r) (get_or behind k 0) =
-          subst (λ n. IsLoadBehind rows n (get_or behind k 0)) on (so_far.behind_are k lt)
-          in grind (arith, r, below, x, on, front_on, split, number, clock, later, behind_is, behind_numbers)
+        first_here : (k : ℕ) → k < 8 → get_or first k 0 ≡ span 1 0 (take (rank_of count (8 * j + k)) rows)
+        first_here k lt =
+            ap (λ l. get_or l k 0) first_fronts
+            ∙ in_eight (λ i. span 1 0 (front_of count rows i j)) k lt
+            ∙ ap (λ r. span 1 0 (take r rows)) (sym (rank_of_parts count k j lt))
 
-      pub back_more : IsBackTo count hs ts qs rows j less more new
-      back_more =
-          let room : 8 * (j + 1) ≤ length owns = omega (arith, so_far.long, j_lt)
-          in record {
-            within = omega (arith, j_lt);
-            long = stored_long j owns own new own_long room new_is ∙ so_far.long;
-            clocks_are = less_eight;
-            behind_long = ap length more_is ∙ length-zip2 max behind late (so_far.behind_long ∙ sym late_long)
-                ∙ so_far.behind_long;
-            behind_are = behind_next;
-            noted = λ p lt. stored_before j owns own new own_long room new_is p lt
-                ∙ so_far.noted p (omega (arith, lt));
-            done = λ p from lt waits. elim (cases_lt p (8 * (j + 1))) [
-              | inl within ↦
-                  let k : ℕ = p - 8 * j
-                  in let is : 8 * j + k ≡ p = omega (arith, from)
-                  in let k_lt : k < 8 = omega (arith, from, within)
-                  in let own_here = own_is_at cols (8 * j + k)
-                  (omega (arith, k_lt, j_lt)) (get_or owns (8 * j + k) 0) (get_or behind k 0)
-                  (noted_here k k_lt) (behind_here k k_lt)
-                  (subst (λ n. 0 < get_or hs n 0) (sym is) waits)
-                  in ap (λ n. get_or new n 0) (sym is)
-                  ∙ stored_at j owns own new own_long room new_is k k_lt
-                  ∙ ap (λ l. get_or l k 0) (own_eight own_told)
-                  ∙ in_eight own_of k k_lt
-                  ∙ own_here
-                  ∙ ap (own_span_at count hs ts qs) is
-              | inr past ↦
-                  stored_behind j owns own new own_long room new_is p past
-                  ∙ so_far.done p past lt waits
-            ];
-          }
+        behind_here : (k : ℕ) → k < 8 → IsLoadBehind rows (suc (rank_of count (8 * j + k))) (get_or behind k 0)
+        behind_here k lt =
+            let r = rank_of_parts count k j lt
+            in let on : k * count + (j + 1) ≡ suc (rank_of count (8 * j + k)) = omega (arith, r)
+            in subst (λ n. IsLoadBehind rows n (get_or behind k 0)) on (so_far.behind_are k lt)
+
+        here_fits : (k : ℕ) → k < 8
+            → (get_or hs (8 * j + k) 0 + get_or ts (8 * j + k) 0 ≤ limit)
+            × (get_or hs (8 * j + k) 0 + get_or ts (8 * j + k) 0
+            + max (get_or first k 0) (get_or behind k 0 - get_or ts (8 * j + k) 0) ≤ limit)
+        here_fits k lt =
+            own_fits_at cols (8 * j + k) (omega (arith, lt, j_lt))
+            (get_or first k 0) (get_or behind k 0) (first_here k lt) (behind_here k lt) limit fits
+
+        pub begins_fit : AddsFit limit heads times
+        begins_fit =
+            subst (λ l. AddsFit limit l times) (sym heads_eight)
+            (subst (AddsFit limit (eight (λ k. get_or hs (8 * j + k) 0))) (sym times_eight)
+            (eight_fit limit (λ k. get_or hs (8 * j + k) 0) (λ k. get_or ts (8 * j + k) 0) (λ k lt. (here_fits k lt).0)))
+
+        own_rest : zip2 max first (lessened behind times)
+            ≡ eight (λ k. max (get_or first k 0) (get_or behind k 0 - get_or ts (8 * j + k) 0))
+        own_rest = grind (arith, first_eight, behind_eight, times_eight)
+
+        own_begins : added heads times ≡ eight (λ k. get_or hs (8 * j + k) 0 + get_or ts (8 * j + k) 0)
+        own_begins =
+            ap (λ l. added l times) heads_eight ∙ ap (added (eight (λ k. get_or hs (8 * j + k) 0))) times_eight
+
+        pub ends_fit : AddsFit limit (added heads times) (zip2 max first (lessened behind times))
+        ends_fit =
+            subst (λ l. AddsFit limit l (zip2 max first (lessened behind times))) (sym own_begins)
+            (subst (AddsFit limit (eight (λ k. get_or hs (8 * j + k) 0 + get_or ts (8 * j + k) 0))) (sym own_rest)
+            (eight_fit limit (λ k. get_or hs (8 * j + k) 0 + get_or ts (8 * j + k) 0)
+            (λ k. max (get_or first k 0) (get_or behind k 0 - get_or ts (8 * j + k) 0))
+            (λ k lt. (here_fits k lt).1)))
+
+        front_next : (k : ℕ) → k < 8
+            → clock_after 1 0 (front_of count rows k (suc j))
+            ≡ clock_after 1 0 (front_of count rows k j)
+            + cond (leb 1 (get_or hs (8 * j + k) 0)) (get_or ts (8 * j + k) 0) 0
+        front_next k lt = work_next cols (fronts cols) 1 k j lt j_lt
+
+        clocks_eight : clocks ≡ eight (λ k. clock_after 1 0 (front_of count rows k (suc j)))
+        clocks_eight = grind arith
+
+        one_at : get_or one 0 0 ≡ 1
+        one_at = ap (λ l. get_or l 0 0) one_is
+
+        abbrev served_tails : List ℕ
+        served_tails = waiting (get_or one 0 0) heads tails
+
+        served_tails_eight : served_tails ≡ eight (λ k. cond (leb 1 (get_or hs (8 * j + k) 0)) (get_or qs (8 * j + k) 0) 0)
+        served_tails_eight = grind (arith, one_at, heads_eight, tails_eight)
+
+        pub tails_fit : {waits : List ℕ} → waits ≡ served_tails → AddsFit limit clocks waits
+        tails_fit waits_are =
+            subst (AddsFit limit clocks) (sym waits_are) (subst (λ l. AddsFit limit l served_tails) (sym clocks_eight)
+            (subst (AddsFit limit (eight (λ k. clock_after 1 0 (front_of count rows k (suc j))))) (sym served_tails_eight)
+            (eight_fit limit (λ k. clock_after 1 0 (front_of count rows k (suc j)))
+            (λ k. cond (leb 1 (get_or hs (8 * j + k) 0)) (get_or qs (8 * j + k) 0) 0)
+            (λ k lt.
+            let small = work_small cols (fronts cols) 1 limit fits.whole k (suc j)
+            in let tail = tail_small cols k j lt j_lt
+            in grind (arith, small, tail)))))
+
+        abbrev own_of : ℕ → ℕ
+        own_of k = get_or hs (8 * j + k) 0 + get_or ts (8 * j + k) 0
+            + max (get_or first k 0) (get_or behind k 0 - get_or ts (8 * j + k) 0)
+
+        pub own_eight : {own : List ℕ} → own ≡ added (added heads times) (zip2 max first (lessened behind times))
+            → own ≡ eight own_of
+        own_eight told = grind (arith, own_begins, own_rest)
+
+        pub late_eight : {waits late : List ℕ} → waits ≡ served_tails → late ≡ added clocks waits
+            → late ≡ eight (λ k. clock_after 1 0 (front_of count rows k (suc j))
+            + cond (leb 1 (get_or hs (8 * j + k) 0)) (get_or qs (8 * j + k) 0) 0)
+        late_eight waits_are late_is =
+            late_is ∙ ap (added clocks) waits_are ∙ ap (λ l. added l served_tails) clocks_eight
+            ∙ ap (added (eight (λ k. clock_after 1 0 (front_of count rows k (suc j))))) served_tails_eight
+
+        pub served_eight : {served : List ℕ} → served ≡ waiting (get_or one 0 0) heads times
+            → served ≡ eight (λ k. cond (leb 1 (get_or hs (8 * j + k) 0)) (get_or ts (8 * j + k) 0) 0)
+        served_eight told = grind (arith, one_at, heads_eight, times_eight)
+
+        module _ {own : List ℕ} (own_told : own ≡ added (added heads times) (zip2 max first (lessened behind times)))
+            {waits late : List ℕ} (waits_are : waits ≡ served_tails) (late_is : late ≡ added clocks waits)
+            {served : List ℕ} (served_is : served ≡ waiting (get_or one 0 0) heads times)
+            {new more less : List ℕ} (new_is : new ≡ put_chunk (8 * j) owns own) (more_is : more ≡ zip2 max behind late)
+            (less_is : less ≡ lessened clocks served) where
+          own_long : length own ≡ 8
+          own_long = ap length (own_eight own_told)
+
+          late_long : length late ≡ 8
+          late_long = ap length (late_eight waits_are late_is)
+
+          less_eight : less ≡ eight (λ k. clock_after 1 0 (front_of count rows k j))
+          less_eight =
+              less_is
+              ∙ ap (λ l. lessened l served) clocks_eight
+              ∙ ap (lessened (eight (λ k. clock_after 1 0 (front_of count rows k (suc j))))) (served_eight served_is)
+              ∙ eight_same
+              (λ k. clock_after 1 0 (front_of count rows k (suc j))
+              - cond (leb 1 (get_or hs (8 * j + k) 0)) (get_or ts (8 * j + k) 0) 0)
+              (λ k. clock_after 1 0 (front_of count rows k j))
+              (λ k lt. let next = front_next k lt in omega (arith, next))
+
+          behind_next : (k : ℕ) → k < 8 → IsLoadBehind rows (k * count + j) (get_or more k 0)
+          behind_next k lt =
+              let r = k * count + j
+              in let below = rank_below count k j lt j_lt
+              in let x = lane_at hs ts qs (8 * j + k)
+              in let on : k * count + (j + 1) ≡ suc r = omega arith
+              in let front_on : k * count + suc j ≡ suc r = omega arith
+              in let split : drop r rows ≡ x ∷ drop (suc r) rows =
+              drop-cons rows r x (omega (arith, below, cols.long))
+              ∙ ap (λ y. y ∷ drop (suc r) rows) (cols.at k j lt j_lt x)
+              in let number : get_or more k 0 ≡ max (get_or behind k 0) (clock_after 1 0 (take (suc r) rows)
+              + cond (leb 1 (get_or hs (8 * j + k) 0)) (get_or qs (8 * j + k) 0) 0) =
+              ap (λ l. get_or l k 0) more_is
+              ∙ get_or-zip2 max behind late k 0 0 0 (omega (arith, lt, so_far.behind_long)) (omega (arith, lt, late_long))
+              ∙ ap (λ l. max (get_or behind k 0) (get_or l k 0)) (late_eight waits_are late_is)
+              ∙ ap (max (get_or behind k 0)) (in_eight (λ i. clock_after 1 0 (front_of count rows i (suc j))
+              + cond (leb 1 (get_or hs (8 * j + i) 0)) (get_or qs (8 * j + i) 0) 0) k lt)
+              ∙ ap (λ n. max (get_or behind k 0) (clock_after 1 0 (take n rows)
+              + cond (leb 1 (get_or hs (8 * j + k) 0)) (get_or qs (8 * j + k) 0) 0)) front_on
+              in let clock : clock_after 1 0 (take r rows)
+              + cond (leb 1 (get_or hs (8 * j + k) 0)) (get_or ts (8 * j + k) 0) 0
+              ≡ clock_after 1 0 (take (suc r) rows) =
+              sym (front_next k lt) ∙ ap (λ n. clock_after 1 0 (take n rows)) front_on
+              in let later = span_from_start 1 (0 + get_or ts (8 * j + k) 0) (drop (suc r) rows)
+              in let behind_is : IsLoadBehind rows (suc r) (get_or behind k 0) =
+              subst (λ n. IsLoadBehind rows n (get_or behind k 0)) on (so_far.behind_are k lt)
+              in grind (arith, r, below, x, on, front_on, split, number, clock, later, behind_is, behind_numbers)
+
+          pub back_more : IsBackTo count hs ts qs rows j less more new
+          back_more =
+              let room : 8 * (j + 1) ≤ length owns = omega (arith, so_far.long, j_lt)
+              in record {
+                within = omega (arith, j_lt);
+                long = stored_long j owns own new own_long room new_is ∙ so_far.long;
+                clocks_are = less_eight;
+                behind_long = ap length more_is ∙ length-zip2 max behind late (so_far.behind_long ∙ sym late_long)
+                    ∙ so_far.behind_long;
+                behind_are = behind_next;
+                noted = λ p lt. stored_before j owns own new own_long room new_is p lt
+                    ∙ so_far.noted p (omega (arith, lt));
+                done = λ p from lt waits. elim (cases_lt p (8 * (j + 1))) [
+                  | inl within ↦
+                      let k : ℕ = p - 8 * j
+                      in let is : 8 * j + k ≡ p = omega (arith, from)
+                      in let k_lt : k < 8 = omega (arith, from, within)
+                      in let own_here = own_is_at cols (8 * j + k)
+                      (omega (arith, k_lt, j_lt)) (get_or first k 0) (get_or behind k 0)
+                      (first_here k k_lt) (behind_here k k_lt)
+                      (subst (λ n. 0 < get_or hs n 0) (sym is) waits)
+                      in ap (λ n. get_or new n 0) (sym is)
+                      ∙ stored_at j owns own new own_long room new_is k k_lt
+                      ∙ ap (λ l. get_or l k 0) (own_eight own_told)
+                      ∙ in_eight own_of k k_lt
+                      ∙ own_here
+                      ∙ ap (own_span_at count hs ts qs) is
+                  | inr past ↦
+                      stored_behind j owns own new own_long room new_is p past
+                      ∙ so_far.done p past lt waits
+                ];
+              }

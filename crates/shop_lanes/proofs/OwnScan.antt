@@ -35,18 +35,16 @@ module _ {count : ℕ} {hs ts qs : List ℕ} {all : List Lane} (cols : AreColumn
       ends_are = ends_eight 1 cols works_are begins_told most_are ends_told
 
       pub first_loads : {before : List ℕ} → before ≡ greatest_before 0 ends
-          → before ≡ eight (λ k. span 1 0 (take (k * count + 0) all))
+          → before ≡ eight (λ k. span 1 0 (take (k * count) all))
       first_loads before_is =
           before_is ∙ ap (greatest_before 0) ends_are
           ∙ as_eight (greatest_before 0 (eight (finish 1 cols))) refl
           ∙ eight_same (λ k. get_or (greatest_before 0 (eight (finish 1 cols))) k 0)
-          (λ k. span 1 0 (take (k * count + 0) all))
+          (λ k. span 1 0 (take (k * count) all))
           (λ k lt.
           let got = greatest_before-get 0 (eight (finish 1 cols)) k (omega (arith, lt))
           in let before_k = ends_before 1 cols k (omega (arith, lt))
-          in let place : span 1 0 (take (k * count + 0) all) ≡ span 1 0 (take (k * count) all) =
-          ap (λ n. span 1 0 (take n all)) (omega arith)
-          in omega (arith, got, before_k, place))
+          in omega (arith, got, before_k))
 
       pub last_loads : {B : Type 0} (numbers : B → List ℕ) (behind : B) → numbers behind ≡ maxima_behind 0 ends
           → AreLoadsBehind numbers count all count behind

@@ -1,56 +1,55 @@
 // The own span of each waiting operation of a machine: how late the operation, and the others with their tails, end if
-// it goes first. Takes three passes: one sums up each column, one goes down the columns, one goes back up.
+// it goes first. Takes two passes: one goes down the columns and sums each up by itself, one goes back up.
 ghost use Rattle.std.specs.Prelude.{◌≡◌, ◌%◌, ◌/◌, length, max};
 ghost use Rattle.std.specs.Simd.Lanes.{zip2};
 ghost use Rattle.shop_lanes.specs.Eights.{added, lessened, AddsFit};
 ghost use Rattle.shop_lanes.specs.Spans.{FitsSpan, FitOwnSpans};
-ghost use Rattle.shop_lanes.specs.inner.Passes.{lanes_by};
+ghost use Rattle.shop_lanes.specs.inner.Passes.{lanes_by, AreColumns};
 ghost use Rattle.shop_lanes.specs.inner.OwnSpans.{AreNoted, AreOwnSpansOf, AreClocks, AreLoadsBefore};
 ghost use Rattle.shop_lanes.specs.inner.OwnSpans.{AreLoadsBehind};
 
 use crate::blocks::Block;
 use crate::folds::{greatest_before, greatest_behind, sums_before};
-use crate::passes::serve_columns;
-use crate::served_blocks::tailed_ends;
+use crate::served_blocks::serve;
 
-/// Goes down the columns and writes into `owns`, for each position, the greatest end, tail included, of the waiting
-/// operations of lesser rank. All are served by rank from time 0 on. `clocks` holds the time when each column begins,
-/// and `most` the greatest end, tail included, in the columns before each column.
+/// Serves all waiting operations as `serve_columns` does, down each of eight columns from time 0 on. Writes into `owns`,
+/// for each position, the greatest end, tail included, of the operations before it in its column.
 #[inline(always)]
-fn note<B: Block>(
+fn note_columns<B: Block>(
     count: usize,
     heads: &[B::Number],
     times: &[B::Number],
     tails: &[B::Number],
-    clocks: B,
-    most: B,
     owns: &mut [B::Number],
-)
+) -> (B, B)
     requires count { length heads.now ≡ count }
     requires whole_blocks { count % 8 ≡ 0 }
     requires times { length times.now ≡ length heads.now }
     requires tails { length tails.now ≡ length heads.now }
     requires owns { length owns.old ≡ length heads.now }
     requires fits { FitsSpan B.GREATEST 0 (lanes_by B.value heads.now times.now tails.now) }
-    requires clocks { AreClocks B.numbers (count / 8)
-        (lanes_by B.value heads.now times.now tails.now) 0 clocks }
-    requires most { AreLoadsBefore B.numbers (count / 8)
-        (lanes_by B.value heads.now times.now tails.now) 0 most }
     ensures long { length owns.new ≡ length owns.old }
     ensures noted { AreNoted B.value heads.now times.now tails.now owns.new }
+    ensures columns { AreColumns B.numbers (count / 8)
+        (lanes_by B.value heads.now times.now tails.now) 1 result }
 {
     let one = B::splat(1);
-    let mut clocks = clocks;
-    let mut most = most;
+    let mut clocks = B::splat(0);
+    let mut most = B::splat(0);
     for block in 0..count / 8 {
-        let head = B::load(heads, block);
-        let time = B::load(times, block);
-        let tail = B::load(tails, block);
         B::store(most, owns, block);
-        let (after, late) = tailed_ends(head, time, tail, one, clocks);
-        most = B::greater(most, late);
+        let (after, later) = serve(
+            B::load(heads, block),
+            B::load(times, block),
+            B::load(tails, block),
+            one,
+            clocks,
+            most,
+        );
         clocks = after;
+        most = later;
     }
+    (clocks, most)
 }
 
 /// Answers in each lane the own span of its operation: how late it, and the others with their tails, end if it goes
@@ -72,15 +71,18 @@ fn own_ends<B: Block>(heads: B, times: B, before: B, behind: B) -> B
     B::sum(B::sum(heads, times), rest)
 }
 
-/// Goes back up the columns and replaces what `note` wrote into `owns` by own spans: how late each operation, and the
-/// others with their tails, end if it goes first. `clocks` holds the time when each column ends, and `behind` the
-/// greatest end, tail included, in the columns behind each column.
+/// Goes back up the columns and replaces what `note_columns` wrote into `owns` by own spans: how late each operation, and
+/// the others with their tails, end if it goes first. With all waiting operations served by rank from time 0 on,
+/// `begins` and `clocks` hold the time when each column begins and ends, and `before` and `behind` the greatest end, tail
+/// included, in the columns before and behind each column.
 #[inline(always)]
 fn write_back<B: Block>(
     count: usize,
     heads: &[B::Number],
     times: &[B::Number],
     tails: &[B::Number],
+    begins: B,
+    before: B,
     clocks: B,
     behind: B,
     owns: &mut [B::Number],
@@ -92,6 +94,10 @@ fn write_back<B: Block>(
     requires owns { length owns.old ≡ length heads.now }
     requires fits { FitOwnSpans B.GREATEST (lanes_by B.value heads.now times.now tails.now) }
     requires noted { AreNoted B.value heads.now times.now tails.now owns.old }
+    requires begins { AreClocks B.numbers (count / 8)
+        (lanes_by B.value heads.now times.now tails.now) 0 begins }
+    requires before { AreLoadsBefore B.numbers (count / 8)
+        (lanes_by B.value heads.now times.now tails.now) before }
     requires clocks { AreClocks B.numbers (count / 8)
         (lanes_by B.value heads.now times.now tails.now) (count / 8) clocks }
     requires behind { AreLoadsBehind B.numbers (count / 8)
@@ -108,15 +114,16 @@ fn write_back<B: Block>(
         let head = B::load(heads, block);
         let time = B::load(times, block);
         let tail = B::load(tails, block);
-        let before = B::load(owns, block);
-        let late = B::waiting(B::sum(clocks, tail), head, one);
-        B::store(own_ends(head, time, before, behind), owns, block);
+        let noted = B::load(owns, block);
+        let first = B::greater(before, B::sum(begins, noted));
+        let late = B::sum(clocks, B::waiting(tail, head, one));
+        B::store(own_ends(head, time, first, behind), owns, block);
         behind = B::greater(behind, late);
         clocks = B::less(clocks, B::waiting(time, head, one));
     }
 }
 
-/// Does `own_spans` in three passes. A literal `count`, the number of positions, unrolls the loops over blocks.
+/// Does `own_spans` in two passes. A literal `count`, the number of positions, unrolls the loops over blocks.
 #[inline(always)]
 fn own_spans_of<B: Block>(
     count: usize,
@@ -134,27 +141,14 @@ fn own_spans_of<B: Block>(
     ensures long { length owns.new ≡ length owns.old }
     ensures owns { AreOwnSpansOf B.value heads.now times.now tails.now owns.new }
 {
-    let (work, most) = serve_columns::<B>(count, heads, times, tails, 1);
+    let (work, most) = note_columns::<B>(count, heads, times, tails, owns);
     let begins = sums_before(work);
     let ends = B::sum(begins, most);
-    note::<B>(
-        count,
-        heads,
-        times,
-        tails,
-        begins,
-        greatest_before(ends),
-        owns,
-    );
+    let before = greatest_before(ends);
     let clocks = B::sum(begins, work);
+    let behind = greatest_behind(ends);
     write_back::<B>(
-        count,
-        heads,
-        times,
-        tails,
-        clocks,
-        greatest_behind(ends),
-        owns,
+        count, heads, times, tails, begins, before, clocks, behind, owns,
     );
 }
 

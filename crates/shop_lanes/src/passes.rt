@@ -16,7 +16,7 @@ use crate::served_blocks::serve;
 /// Serves, down each of eight columns from time 0 on, the operations with a head of at least `least`. Answers when each
 /// column ends, and the greatest end in it, tail included. A literal `count` of positions unrolls the loop over blocks.
 #[inline(always)]
-pub(crate) fn serve_columns<B: Block>(
+fn serve_columns<B: Block>(
     count: usize,
     heads: &[B::Number],
     times: &[B::Number],

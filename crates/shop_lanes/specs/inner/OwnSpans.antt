@@ -2,7 +2,8 @@
 --     rank_of count p                  the rank of place p in `count` blocks
 --     AreClocks .. count xs j          the clock in each column before j blocks down, with all served
 --                                      by rank from 0 on
---     AreLoadsBefore, AreLoadsBehind   the loads before and behind j blocks down each column
+--     AreLoadsBefore                   the loads before each column
+--     AreLoadsBehind                   the loads behind j blocks down each column
 use Rattle.std.specs.Prelude.{◌≡◌, ℕ, ◌+◌, ◌*◌, ◌/◌, ◌%◌, ◌<◌, max, List, length, map, take, drop}
 use Rattle.std.specs.Prelude.{slice_index, slice_set, get_or}
 use Rattle.shop_lanes.specs.Rows.{Lane, lanes, by_columns}
@@ -16,9 +17,9 @@ abbrev pub AreClocks : {B : Type 0} → (B → List ℕ) → ℕ → List Lane �
 AreClocks numbers count xs j clocks =
     numbers clocks ≡ eight (λ k. clock_after 1 0 (take (k * count + j) xs))
 
-abbrev pub AreLoadsBefore : {B : Type 0} → (B → List ℕ) → ℕ → List Lane → ℕ → B → Type 0
-AreLoadsBefore numbers count xs j most =
-    numbers most ≡ eight (λ k. span 1 0 (take (k * count + j) xs))
+abbrev pub AreLoadsBefore : {B : Type 0} → (B → List ℕ) → ℕ → List Lane → B → Type 0
+AreLoadsBefore numbers count xs most =
+    numbers most ≡ eight (λ k. span 1 0 (take (k * count) xs))
 
 -- `end` is the greatest end behind rank r; any number up to the clock if nothing waits there
 abbrev pub IsLoadBehind : List Lane → ℕ → ℕ → Type 0
@@ -30,11 +31,12 @@ pub record AreLoadsBehind {B : Type 0} (numbers : B → List ℕ) (count : ℕ) 
   pub long : length (numbers behind) ≡ 8
   pub each : (k : ℕ) → k < 8 → IsLoadBehind xs (k * count + j) (get_or (numbers behind) k 0)
 
--- each position has the load of the lanes before it in order of rank
+-- each position has the load of the lanes before it in its column
 abbrev pub AreNoted : {A : Type 0} → (A → ℕ) → List A → List A → List A → List A → Type 0
 AreNoted value heads times tails noted =
-    (p : ℕ) → p < length heads → slice_index (map value noted) p
-    ≡ span 1 0 (take (rank_of (length heads / 8) p) (lanes_by value heads times tails))
+    let count = length heads / 8
+    in (p : ℕ) → p < length heads → slice_index (map value noted) p
+    ≡ span 1 0 (take (p / 8) (drop (p % 8 * count) (lanes_by value heads times tails)))
 
 -- the own span of place p of `count` blocks
 abbrev pub own_span_at : ℕ → List ℕ → List ℕ → List ℕ → ℕ → ℕ

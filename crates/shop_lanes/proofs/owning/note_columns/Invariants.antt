@@ -1,7 +1,7 @@
 use Rattle.std.proofs.Common.{◌/◌, map}
 use Rattle.shop_lanes.specs.inner.Passes.{lanes_by}
 use Rattle.shop_lanes.proofs.OwnColumns.{IsNotedTo}
-use Rattle.shop_lanes.proofs.owning.note.Given as goal
+use Rattle.shop_lanes.proofs.owning.note_columns.Given as goal
 
 abbrev pub invariant-loop-block : goal.invariant-loop-block
 invariant-loop-block g l =
