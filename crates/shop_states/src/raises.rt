@@ -1,5 +1,6 @@
 // Raises heads after an operation is dispatched.
 ghost use Rattle.std.specs.Prelude.{◌≡◌, ◌+◌, ◌*◌, ◌≤◌, ◌<◌, ◌^◌, [], length, slice_index};
+ghost use Rattle.shop_layout.specs.Positions.{AreEven};
 ghost use Rattle.shop_layout.specs.Lanes.{rows_of};
 ghost use Rattle.shop_states.specs.inner.HeadRaises.{raises_in};
 ghost use Rattle.shop_states.specs.inner.Raises.{HasBlocks, IsInBlocks, IsPosition, IsRaisable};
@@ -154,6 +155,85 @@ fn raise_blocks<L: StateLanes>(
     }
 }
 
+/// Does what `raise` does, where each machine has `each` blocks. A literal `each` lets the compiler unroll the pass over
+/// the machine's heads.
+#[inline(always)]
+fn raise_even<L: StateLanes>(
+    each: usize,
+    lanes: &mut L,
+    raises: &mut [LaneRaise<L::Number>],
+    raised: &mut MachineSet,
+    grid: &Grid<L>,
+    routes: &Routes,
+    next: &[u32],
+    machine: usize,
+    end: u64,
+)
+    requires even { AreEven grid.now.blocks each }
+    requires some { 0 < each }
+    requires few { each ≤ 8 }
+    requires routes { routes.now ≡ grid.now }
+    requires machine { HasBlocks grid.now (length (L.heads lanes.old)) machine }
+    requires fits { end ≤ L.GREATEST }
+    requires raisable { IsRaisable L.GREATEST grid.now next.now
+        (rows_of grid.now (L.heads lanes.old) (L.ends lanes.old)) (IsOnMachine grid.now machine)
+        end }
+    requires jobs { length grid.now.places ≤ length next.now }
+    requires known { AreKnown grid.now.machines (length raises.old) }
+    requires listed { AreListed (raises_in L.value raises.old) raised.old }
+    ensures raises { Raises L.GREATEST grid.now next.now (IsOnMachine grid.now machine) end
+        (rows_of grid.now (L.heads lanes.old) (L.ends lanes.old))
+        (rows_of grid.now (L.heads lanes.new) (L.ends lanes.new)) }
+    ensures seen { Sees grid.now.machines (IsOnMachine grid.now machine) end
+        (L.heads lanes.old) (L.heads lanes.new) (raises_in L.value raises.old)
+        (raises_in L.value raises.new) }
+    ensures listed { AreListed (raises_in L.value raises.new) raised.new }
+    ensures machines { length raises.new ≡ length raises.old }
+{
+    let (from, to) = grid.blocks_of(each, machine);
+    raise_blocks(lanes, raises, raised, routes, next, from, to, end);
+}
+
+/// Does what `raise` does, for machines of four or more blocks, or of different numbers of blocks. Stays out of line, so
+/// that the code inlined for short machines stays small, and looks its routes up itself, so that theirs need no place in
+/// memory.
+#[inline(never)]
+fn raise_longer<L: StateLanes>(
+    lanes: &mut L,
+    raises: &mut [LaneRaise<L::Number>],
+    raised: &mut MachineSet,
+    grid: &Grid<L>,
+    next: &[u32],
+    machine: usize,
+    end: u64,
+)
+    requires machine { HasBlocks grid.now (length (L.heads lanes.old)) machine }
+    requires fits { end ≤ L.GREATEST }
+    requires raisable { IsRaisable L.GREATEST grid.now next.now
+        (rows_of grid.now (L.heads lanes.old) (L.ends lanes.old)) (IsOnMachine grid.now machine)
+        end }
+    requires jobs { length grid.now.places ≤ length next.now }
+    requires known { AreKnown grid.now.machines (length raises.old) }
+    requires listed { AreListed (raises_in L.value raises.old) raised.old }
+    ensures raises { Raises L.GREATEST grid.now next.now (IsOnMachine grid.now machine) end
+        (rows_of grid.now (L.heads lanes.old) (L.ends lanes.old))
+        (rows_of grid.now (L.heads lanes.new) (L.ends lanes.new)) }
+    ensures seen { Sees grid.now.machines (IsOnMachine grid.now machine) end
+        (L.heads lanes.old) (L.heads lanes.new) (raises_in L.value raises.old)
+        (raises_in L.value raises.new) }
+    ensures listed { AreListed (raises_in L.value raises.new) raised.new }
+    ensures machines { length raises.new ≡ length raises.old }
+{
+    let routes = grid.routes();
+    let behind = grid.block(machine + 1);
+    let mut from = grid.block(machine);
+    while from < behind {
+        let to = from + (behind - from).min(8);
+        raise_blocks(lanes, raises, raised, &routes, next, from, to, end);
+        from = to;
+    }
+}
+
 /// Raises each head below `end` on `machine` to `end`, then every later head on its route that is now too early. Notes
 /// how far these later heads rose, and updates the ends of next operations.
 #[inline(always)]
@@ -185,11 +265,10 @@ pub(crate) fn raise<L: StateLanes>(
     ensures listed { AreListed (raises_in L.value raises.new) raised.new }
     ensures machines { length raises.new ≡ length raises.old }
 {
-    let behind = grid.block(machine + 1);
-    let mut from = grid.block(machine);
-    while from < behind {
-        let to = from + (behind - from).min(8);
-        raise_blocks(lanes, raises, raised, routes, next, from, to, end);
-        from = to;
+    match grid.blocks_each() {
+        1 => raise_even(1, lanes, raises, raised, grid, routes, next, machine, end),
+        2 => raise_even(2, lanes, raises, raised, grid, routes, next, machine, end),
+        3 => raise_even(3, lanes, raises, raised, grid, routes, next, machine, end),
+        _ => raise_longer(lanes, raises, raised, grid, next, machine, end),
     }
 }

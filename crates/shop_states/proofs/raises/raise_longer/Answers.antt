@@ -6,7 +6,7 @@ use Rattle.shop_states.specs.inner.Raises.{Raises, IsInBlocks, IsOnMachine, IsRa
 use Rattle.shop_states.specs.inner.Watchers.{AreKnown, Sees}
 use Rattle.shop_states.proofs.RaiseLoops.{blocks_raisable, more_blocks, no_blocks, all_blocks}
 use Rattle.shop_states.proofs.Watching.{sees_both, sees_none}
-use Rattle.shop_states.proofs.raises.raise.Goals as goal
+use Rattle.shop_states.proofs.raises.raise_longer.Goals as goal
 
 pub overflow_add-machine : goal.overflow_add-machine
 overflow_add-machine g c = let a = c.requires.machine.small in omega arith
@@ -33,17 +33,17 @@ raise_blocks-requires-clause-raisable g c =
     let a = c.min.ensures in let b = c.block-behind.ensures in let d = c.loop-from-test.true
     in subst (λ (l : LayoutState). IsRaisable g.L.StateLanes.GREATEST l c.args.next.now
     (rows_of l (g.L.StateLanes.heads c.loop-from.lanes) (g.L.StateLanes.ends c.loop-from.lanes))
-    (IsInBlocks c.loop-from.from (c.loop-from.from + c.min.result)) c.args.end) (sym c.requires.routes)
+    (IsInBlocks c.loop-from.from (c.loop-from.from + c.min.result)) c.args.end) (sym c.routes-routes.ensures)
     (blocks_raisable (c.loop-from.from + c.min.result) (get_or c.args.grid.now.blocks (c.args.machine + 1) 0)
     c.loop-from.invariant.raises c.loop-from.invariant.ordered (omega arith) (omega arith) c.requires.raisable)
 
 pub raise_blocks-requires-clause-jobs : goal.raise_blocks-requires-clause-jobs
 raise_blocks-requires-clause-jobs g c =
-    subst (λ (l : LayoutState). length l.places ≤ length c.args.next.now) (sym c.requires.routes) c.requires.jobs
+    subst (λ (l : LayoutState). length l.places ≤ length c.args.next.now) (sym c.routes-routes.ensures) c.requires.jobs
 
 pub raise_blocks-requires-clause-known : goal.raise_blocks-requires-clause-known
 raise_blocks-requires-clause-known g c =
-    subst (λ (l : LayoutState). AreKnown l.machines (length c.loop-from.raises)) (sym c.requires.routes) (λ q here.
+    subst (λ (l : LayoutState). AreKnown l.machines (length c.loop-from.raises)) (sym c.routes-routes.ensures) (λ q here.
     let long = c.loop-from.invariant.machines in let known = c.requires.known q here in omega arith)
 
 pub loop-from-preserved : goal.loop-from-preserved
@@ -54,12 +54,12 @@ loop-from-preserved g c =
     (IsInBlocks c.loop-from.from (c.loop-from.from + c.min.result)) c.args.end
     (rows_of l (g.L.StateLanes.heads c.loop-from.lanes) (g.L.StateLanes.ends c.loop-from.lanes))
     (rows_of l (g.L.StateLanes.heads c.raise_blocks.new.lanes) (g.L.StateLanes.ends c.raise_blocks.new.lanes)))
-    c.requires.routes c.raise_blocks.ensures.raises
+    c.routes-routes.ensures c.raise_blocks.ensures.raises
     in let seen = subst (λ (l : LayoutState). Sees l.machines
     (IsInBlocks c.loop-from.from (c.loop-from.from + c.min.result)) c.args.end
     (g.L.StateLanes.heads c.loop-from.lanes) (g.L.StateLanes.heads c.raise_blocks.new.lanes)
     (raises_in g.L.StateLanes.value c.loop-from.raises)
-    (raises_in g.L.StateLanes.value c.raise_blocks.new.raises)) c.requires.routes c.raise_blocks.ensures.seen
+    (raises_in g.L.StateLanes.value c.raise_blocks.new.raises)) c.routes-routes.ensures c.raise_blocks.ensures.seen
     in record {
       ordered = omega arith;
       within = omega arith;
