@@ -16,6 +16,10 @@ use shop_model::{SharedWord, Word};
 use shop_states::Dispatching;
 use std::alloc::{AllocError as NoMemory, Global};
 
+/// So many states are taken back for the children of a word: up to three candidates are tried, and each child has a
+/// state. Of more candidates most are settled, and only the child on top has one.
+const MOST_WANTED: usize = 3;
+
 impl<'l, 'a, D: Dispatching<S>, S: Drop> Walker<'l, 'a, D, S> {
     /// Lists the candidates with `own` below the best makespan. Answers how many other children there are, all closed.
     #[inline(always)]
@@ -136,7 +140,6 @@ impl<'l, 'a, D: Dispatching<S>, S: Drop> Walker<'l, 'a, D, S> {
     }
 
     /// Takes the state, if any, from entry `stripped` of the stack, keeps it as a spare, and adds 1 to `stripped`.
-    #[inline(never)]
     fn strip_next(&mut self) -> Result<(), NoMemory>
         requires within { self.old.stripped < length self.old.stack.items }
         requires states { HasStates self.old }
@@ -149,15 +152,29 @@ impl<'l, 'a, D: Dispatching<S>, S: Drop> Walker<'l, 'a, D, S> {
         self.states.give_back(state)
     }
 
-    /// Takes states from the lowest entries of the stack until there are enough for all candidates, spare and new ones
-    /// counted together, or no entry has a state left. Fails with `NoMemory` if memory runs out.
+    /// Takes states from the lowest entries of the stack until so many as are `wanted` are free, or no entry has a
+    /// state left. Fails with `NoMemory` if memory runs out.
+    #[inline(never)]
+    fn strip_lowest(&mut self, wanted: usize) -> Result<(), NoMemory>
+        requires states { HasStates self.old }
+        ensures stands { OnOk result (StandsAs self.old self.new) }
+    {
+        while self.states.free() < wanted && self.stripped < self.stack.len() {
+            self.strip_next()?;
+        }
+        Ok(())
+    }
+
+    /// Takes states from the lowest entries of the stack if fewer are free than the children of this word want. Fails
+    /// with `NoMemory` if memory runs out.
     #[inline(always)]
     fn reclaim(&mut self) -> Result<(), NoMemory>
         requires states { HasStates self.old }
         ensures stands { OnOk result (StandsAs self.old self.new) }
     {
-        while self.states.free() < self.candidates.len() && self.stripped < self.stack.len() {
-            self.strip_next()?;
+        let children = self.candidates.len();
+        if self.states.free() < children {
+            return self.strip_lowest(children.min(MOST_WANTED));
         }
         Ok(())
     }
