@@ -10,7 +10,7 @@ ghost use Rattle.shop_tree.specs.inner.StateWalkers.{HasGoneOn, HasReached, IsAt
 ghost use Rattle.shop_tree.specs.inner.StateWalkers.{StandsAt};
 ghost use Rattle.shop_tree.specs.inner.Walkers.{gone_on, HasBranched, HasExpanded, IsInOrder};
 
-use crate::closed_children::{put_rest, raise_rest};
+use crate::closed_children::{put_rest, set_rest_below};
 use crate::walkers::Walker;
 use shop_model::{SharedWord, Word};
 use shop_states::Dispatching;
@@ -37,7 +37,7 @@ impl<'l, 'a, D: Dispatching<S>, S: Drop> Walker<'l, 'a, D, S> {
 
     /// Tells whether exactly one candidate is listed and the budget lasts for its child.
     #[inline(always)]
-    fn goes_on(&self) -> bool
+    fn can_go_on(&self) -> bool
         ensures { IsTrue result
             → (length self.now.candidates.items ≡ 1) × (0 < self.now.progress.budget) }
     {
@@ -202,7 +202,7 @@ impl<'l, 'a, D: Dispatching<S>, S: Drop> Walker<'l, 'a, D, S> {
             bound,
             self.progress.best,
         )?;
-        raise_rest(&mut self.stack, below, depth, closed, all)
+        set_rest_below(&mut self.stack, below, depth, closed, all)
     }
 
     /// Branches on the current word: leaves it if no candidate is listed, else puts its children on the stack. Takes
@@ -249,7 +249,7 @@ impl<'l, 'a, D: Dispatching<S>, S: Drop> Walker<'l, 'a, D, S> {
         let mut bound = bound;
         while self.path.len() < self.progress.operations {
             let closed = self.list_candidates();
-            if !self.goes_on() {
+            if !self.can_go_on() {
                 return self.branch(alloc, bound, closed);
             }
             let Some(next) = self.go_on(bound, closed)? else {
