@@ -9,6 +9,8 @@ pub mod TurnCounts
 pub mod Turns
 pub mod QueueTurns
 pub mod MachineRows
+pub mod LeapTurns
+pub mod MachineListTurns
 pub mod BoundLaw
 pub mod BoundsRise
 pub mod DeskTurns

@@ -151,8 +151,3 @@ rest_small free ready rest can =
 pub rest_is : (route whole : List Op) (n m : ℕ) → route ≡ whole → n ≡ m
     → take (length route - n) (drop n route) ≡ drop m whole
 rest_is route whole n m e f = grind (arith, take_all, length-drop)
-
--- and it is no longer than the route
-pub rest_short : (route whole : List Op) (n : ℕ) → route ≡ whole
-    → length (take (length route - n) (drop n route)) ≤ length whole
-rest_short route whole n e = grind (arith, rest_is, length-drop)

@@ -3,6 +3,7 @@ pub mod NonincreasingTails
 pub mod Queues
 pub mod Serving
 pub mod Thresholds
+pub mod MachineLists
 pub mod BoundRooms
 pub mod HeadRows
 pub mod PlacedWords

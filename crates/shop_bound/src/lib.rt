@@ -5,7 +5,9 @@
 mod desks;
 mod head_rows;
 mod laws;
+mod leaps;
 mod lower;
+mod machine_lists;
 mod queues;
 mod schedules;
 mod tail_rows;

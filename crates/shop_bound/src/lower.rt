@@ -1,23 +1,41 @@
 // The lower bound of a word: the greatest of the ends of its operations and of the machines' one-machine bounds.
-ghost use Rattle.std.specs.Prelude.{◌≡◌, ℕ, ◌<◌, ◌^◌, IfOk};
+ghost use Rattle.std.specs.Prelude.{◌≡◌, ℕ, ◌<◌, ◌≤◌, ◌^◌, max, length, IfOk};
 ghost use Rattle.shop_model.specs.Word.{IsWord};
 ghost use Rattle.shop_bound.specs.Bound.{lb};
 ghost use Rattle.shop_bound.specs.Laws.{IsLower, EndsThereIfFull};
+ghost use Rattle.shop_bound.specs.OneMachine.{one, IsSmall};
 ghost use Rattle.shop_bound.specs.inner.BoundRooms.{IsRoomFor};
 ghost use Rattle.shop_bound.specs.inner.PlacedWords.{IsOfWord};
 ghost use Rattle.shop_bound.specs.inner.Unplaced.{IsGreatestBound};
 
+use crate::leaps::may_exceed;
+use crate::machine_lists::{count_visits, greatest, lists_with_room};
 use crate::schedules::Jackson;
 use crate::triples::Triple;
 use crate::unplaced::list_unplaced;
 use shop_model::{Instance, Placement, Word};
 use std::alloc::{AllocError as NoMemory, Global};
 
-/// Memory to bound words of an instance: for the waiting operations of a machine, and for their preemptive schedule.
+/// Memory to bound words of an instance: for the waiting operations of each machine, and for the preemptive schedule of
+/// any machine.
 #[derive(Drop)]
 pub(crate) struct BoundRoom {
-    triples: Vec<Triple>,
+    lists: Vec<Vec<Triple>>,
     jackson: Jackson,
+}
+
+/// Answers the greater of `bound` and of the one-machine bound of `triples`, whose order it may change. Makes Jackson's
+/// schedule only where a few passes don't tell that `bound` is the greater one.
+fn raise(jackson: &mut Jackson, triples: &mut [Triple], bound: u64) -> u64
+    requires room { length triples.old ≤ jackson.old.room }
+    requires small { IsSmall triples.old }
+    ensures bound { result ≡ max bound (one triples.old) }
+    ensures room { jackson.new.room ≡ jackson.old.room }
+{
+    if may_exceed(triples, bound) {
+        return jackson.bound(triples).max(bound);
+    }
+    bound
 }
 
 impl BoundRoom {
@@ -25,10 +43,10 @@ impl BoundRoom {
     pub(crate) fn of(alloc: Global, instance: &Instance) -> Result<BoundRoom, NoMemory>
         ensures { IfOk result (IsRoomFor instance.now) }
     {
-        let operations = instance.operations();
-        let triples = Vec::with_capacity(alloc, operations)?;
-        let jackson = Jackson::with_room(alloc, operations)?;
-        Ok(BoundRoom { triples, jackson })
+        let counts = count_visits(alloc, instance)?;
+        let lists = lists_with_room(alloc, counts.as_slice())?;
+        let jackson = Jackson::with_room(alloc, greatest(counts.as_slice()))?;
+        Ok(BoundRoom { lists, jackson })
     }
 
     /// Answers the lower bound of the word in `placement`: the greatest of the times when machines are free and of the
@@ -40,11 +58,12 @@ impl BoundRoom {
         ensures room { IsRoomFor instance.now self.new }
     {
         instance.keeps_limits();
+        list_unplaced(self.lists.as_mut_slice(), instance, placement);
         let mut bound = 0;
         for machine in 0..instance.machines() {
-            list_unplaced(&mut self.triples, instance, placement, machine);
-            let left = self.jackson.bound(self.triples.as_slice());
-            bound = bound.max(placement.free(machine).max(left));
+            bound = bound.max(placement.free(machine));
+            let triples = self.lists[machine].as_mut_slice();
+            bound = raise(&mut self.jackson, triples, bound);
         }
         bound
     }

@@ -7,7 +7,7 @@ use Rattle.std.proofs.lemmas.List.Elements.{All-append, All-map, All-from_recurs
 use Rattle.shop_nodes.specs.declared.halts.Waiting.{Waiting}
 use Rattle.shop_nodes.specs.declared.halts.Waiting.TheVariants.{Child, Rest}
 use Rattle.shop_tree.specs.declared.held.Held.{Held}
-use Rattle.shop_tree.specs.inner.Held.{IsHeld, IsKept, Kept, held, opens_in, waiting_in, with_held_rest, HasRaisedRest}
+use Rattle.shop_tree.specs.inner.Held.{IsHeld, IsKept, Kept, held, opens_in, waiting_in, with_held_rest, HasSetRestBelow}
 use Rattle.shop_tree.specs.inner.Pushing.{with_opens, with_rest}
 
 children_moved : {S : Type 0} (ks : List (Kept S)) → waiting_in (map held ks) ≡ map (λ o. Child o) (opens_in ks)
@@ -28,7 +28,7 @@ module _ {S : Type 0} (old : List (Held S)) (kids : List (Kept S)) where
 
 pub some_raised : {S : Type 0} (place depth known count : ℕ) (stack : List (Held S)) (d h : Held S) → 0 < known
     → known ≤ count → h ≡ get_or stack place d
-    → HasRaisedRest place depth known count stack
+    → HasSetRestBelow place depth known count stack
     (set stack place (record { waiting = Rest depth count; state = h.state }))
 some_raised {S} place depth zero count stack d h some more read below kids at is = absurd (omega arith)
 some_raised {S} place depth (suc known) zero stack d h some more read below kids at is = absurd (omega arith)

@@ -1,6 +1,6 @@
 // Entries of the stack that count a word's closed children, below the entries of its open ones.
 ghost use Rattle.std.specs.Prelude.{◌≡◌, ◌+◌, ◌≤◌, ◌<◌, ◌^◌, length, min, OnOk};
-ghost use Rattle.shop_tree.specs.inner.Held.{with_held_rest, HasRaisedRest};
+ghost use Rattle.shop_tree.specs.inner.Held.{with_held_rest, HasSetRestBelow};
 
 use crate::held::Held;
 use shop_nodes::Waiting;
@@ -27,9 +27,10 @@ pub(crate) fn put_rest<S: Drop>(
     Ok(())
 }
 
-/// Raises the number of closed children of a word of `depth` jobs from `known` to `count` in their entry at `place`.
-/// Inserts that entry if `known` is 0. Fails with `NoMemory` if memory runs out.
-pub(crate) fn raise_rest<S: Drop>(
+/// Sets the number of closed children of a word of `depth` jobs, of which `known` were counted, to `count`, in their
+/// entry at `place`, below the open children. Inserts that entry if `known` is 0. Fails with `NoMemory` if memory runs
+/// out.
+pub(crate) fn set_rest_below<S: Drop>(
     stack: &mut Vec<Held<S>>,
     place: usize,
     depth: usize,
@@ -40,7 +41,7 @@ pub(crate) fn raise_rest<S: Drop>(
     requires depth { depth < 2 ^ 32 }
     requires more { known ≤ count }
     requires count { count < 2 ^ 32 }
-    ensures { OnOk result (HasRaisedRest place depth known count stack.old.items stack.new.items) }
+    ensures { OnOk result (HasSetRestBelow place depth known count stack.old.items stack.new.items) }
 {
     if count == known {
         return Ok(());

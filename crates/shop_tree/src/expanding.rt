@@ -10,11 +10,15 @@ ghost use Rattle.shop_tree.specs.inner.StateWalkers.{HasGoneOn, HasReached, IsAt
 ghost use Rattle.shop_tree.specs.inner.StateWalkers.{StandsAt};
 ghost use Rattle.shop_tree.specs.inner.Walkers.{gone_on, HasBranched, HasExpanded, IsInOrder};
 
-use crate::closed_children::{put_rest, raise_rest};
+use crate::closed_children::{put_rest, set_rest_below};
 use crate::walkers::Walker;
 use shop_model::{SharedWord, Word};
 use shop_states::Dispatching;
 use std::alloc::{AllocError as NoMemory, Global};
+
+/// So many states are taken back for the children of a word: up to three candidates are tried, and each child has a
+/// state. Of more candidates most are settled, and only the child on top has one.
+const MOST_WANTED: usize = 3;
 
 impl<'l, 'a, D: Dispatching<S>, S: Drop> Walker<'l, 'a, D, S> {
     /// Lists the candidates with `own` below the best makespan. Answers how many other children there are, all closed.
@@ -33,7 +37,7 @@ impl<'l, 'a, D: Dispatching<S>, S: Drop> Walker<'l, 'a, D, S> {
 
     /// Tells whether exactly one candidate is listed and the budget lasts for its child.
     #[inline(always)]
-    fn goes_on(&self) -> bool
+    fn can_go_on(&self) -> bool
         ensures { IsTrue result
             → (length self.now.candidates.items ≡ 1) × (0 < self.now.progress.budget) }
     {
@@ -136,7 +140,6 @@ impl<'l, 'a, D: Dispatching<S>, S: Drop> Walker<'l, 'a, D, S> {
     }
 
     /// Takes the state, if any, from entry `stripped` of the stack, keeps it as a spare, and adds 1 to `stripped`.
-    #[inline(never)]
     fn strip_next(&mut self) -> Result<(), NoMemory>
         requires within { self.old.stripped < length self.old.stack.items }
         requires states { HasStates self.old }
@@ -149,15 +152,29 @@ impl<'l, 'a, D: Dispatching<S>, S: Drop> Walker<'l, 'a, D, S> {
         self.states.give_back(state)
     }
 
-    /// Takes states from the lowest entries of the stack until there are enough for all candidates, spare and new ones
-    /// counted together, or no entry has a state left. Fails with `NoMemory` if memory runs out.
+    /// Takes states from the lowest entries of the stack until so many as are `wanted` are free, or no entry has a
+    /// state left. Fails with `NoMemory` if memory runs out.
+    #[inline(never)]
+    fn strip_lowest(&mut self, wanted: usize) -> Result<(), NoMemory>
+        requires states { HasStates self.old }
+        ensures stands { OnOk result (StandsAs self.old self.new) }
+    {
+        while self.states.free() < wanted && self.stripped < self.stack.len() {
+            self.strip_next()?;
+        }
+        Ok(())
+    }
+
+    /// Takes states from the lowest entries of the stack if fewer are free than the children of this word want. Fails
+    /// with `NoMemory` if memory runs out.
     #[inline(always)]
     fn reclaim(&mut self) -> Result<(), NoMemory>
         requires states { HasStates self.old }
         ensures stands { OnOk result (StandsAs self.old self.new) }
     {
-        while self.states.free() < self.candidates.len() && self.stripped < self.stack.len() {
-            self.strip_next()?;
+        let children = self.candidates.len();
+        if self.states.free() < children {
+            return self.strip_lowest(children.min(MOST_WANTED));
         }
         Ok(())
     }
@@ -185,7 +202,7 @@ impl<'l, 'a, D: Dispatching<S>, S: Drop> Walker<'l, 'a, D, S> {
             bound,
             self.progress.best,
         )?;
-        raise_rest(&mut self.stack, below, depth, closed, all)
+        set_rest_below(&mut self.stack, below, depth, closed, all)
     }
 
     /// Branches on the current word: leaves it if no candidate is listed, else puts its children on the stack. Takes
@@ -232,7 +249,7 @@ impl<'l, 'a, D: Dispatching<S>, S: Drop> Walker<'l, 'a, D, S> {
         let mut bound = bound;
         while self.path.len() < self.progress.operations {
             let closed = self.list_candidates();
-            if !self.goes_on() {
+            if !self.can_go_on() {
                 return self.branch(alloc, bound, closed);
             }
             let Some(next) = self.go_on(bound, closed)? else {

@@ -1,9 +1,10 @@
 -- Room for the bounds of an instance.
-use Rattle.std.specs.Prelude.{◌≤◌, vec_capacity}
-use Rattle.shop_model.specs.Shop.{Shop, operation_count}
+use Rattle.std.specs.Prelude.{ℕ, ◌≤◌, ◌<◌}
+use Rattle.shop_model.specs.Shop.{Shop}
 use Rattle.shop_bound.specs.declared.lower.BoundRoom.{BoundRoom}
+use Rattle.shop_bound.specs.inner.MachineLists.{visits_in, HaveRoom}
 
--- all operations could be of one machine
+-- for all operations of each machine, and for the schedule of any machine
 pub record IsRoomFor (shop : Shop) (r : BoundRoom) : Type 0 where
-  pub triples : operation_count shop ≤ vec_capacity r.triples
-  pub schedule : operation_count shop ≤ r.jackson.room
+  pub lists : HaveRoom shop r.lists.items
+  pub schedule : (m : ℕ) → m < shop.machines → visits_in shop m ≤ r.jackson.room

@@ -1,5 +1,5 @@
 -- The operations of a machine that a word leaves, as a program lists them.
-use Rattle.std.specs.Prelude.{◌≡◌, ℕ, ◌≤◌, ◌<◌, max, List, ◌++◌, length, slice_index, slice_index_or}
+use Rattle.std.specs.Prelude.{◌≡◌, ℕ, ◌≤◌, ◌<◌, max, List, [], ◌++◌, length, slice_index, slice_index_or}
 use Rattle.shop_model.specs.declared.limits.TheConstants.{MAX_START, MAX_STEPS, MAX_TIME}
 use Rattle.shop_model.specs.declared.ops.Op.{Op}
 use Rattle.shop_model.specs.Shop.{Shop, no_op, greatest_below}
@@ -13,13 +13,15 @@ use Rattle.shop_bound.specs.declared.triples.Triple.{Triple}
 abbrev pub unplaced_from : ℕ → List ℕ → ℕ → List Op → List Triple
 unplaced_from m free ready rest = triples_on m (waiting_from (slice_index free) 0 0 ready rest)
 
--- ys is xs with the triples of the rest of the route at its end
-abbrev pub Adds : List Triple → List Triple → ℕ → List ℕ → ℕ → List Op → Type 0
-Adds xs ys m free ready rest = ys ≡ xs ++ unplaced_from m free ready rest
+-- each machine's list has the triples of the rest of the route added at its end
+abbrev pub Adds : List (List Triple) → List (List Triple) → List ℕ → ℕ → List Op → Type 0
+Adds xs ys free ready rest = (m : ℕ) → m < length xs
+    → slice_index_or ys m [] ≡ slice_index_or xs m [] ++ unplaced_from m free ready rest
 
--- for every placing with these ends, the triples are the operations that wait for m
-abbrev pub AreUnplaced : Shop → PlacementState → ℕ → List Triple → Type 0
-AreUnplaced shop s m ts = (p : Placing) → IsPlacement shop p s → ts ≡ triples_on m (waiting shop p)
+-- for every placing with these ends, each machine's list has the operations that wait for it
+abbrev pub AreUnplaced : Shop → PlacementState → List (List Triple) → Type 0
+AreUnplaced shop s lists = (p : Placing) → IsPlacement shop p s → (m : ℕ) → m < shop.machines
+    → slice_index_or lists m [] ≡ triples_on m (waiting shop p)
 
 -- the rest of a route is on machines that are there and takes times that can be added to all that
 -- is ready and free

@@ -9,7 +9,8 @@
 --     bound_of x                     the bound of an open child that waits, and 0 of closed ones
 --     with_held_rest stack depth n   the stack with n closed children of a word of `depth` entries on
 --                                    top, if there are any
---     HasRaisedRest i depth n m ..   n closed children at place i, below some kids, become m
+--     HasSetRestBelow i depth n m ..
+--                                    n closed children at place i, below some kids, become m
 --     AreStates slot is_scratch ..   what the states of a walk hold is room for states, and what a
 --                                    dispatch needs
 use Rattle.std.specs.Prelude.{◌≡◌, ℕ, zero, suc, [], ◌∷◌, ◌++◌, Option, Some, None, List, length, map, All}
@@ -43,8 +44,8 @@ module _ {S : Type 0} where
   with_held_rest stack depth (suc n) =
       stack ++ record { waiting = Rest depth (suc n); state = None } ∷ []
 
-abbrev pub HasRaisedRest : {S : Type 0} → ℕ → ℕ → ℕ → ℕ → List (Held S) → List (Held S) → Type 0
-HasRaisedRest {S} place depth known count old new = (below kids : List (Held S))
+abbrev pub HasSetRestBelow : {S : Type 0} → ℕ → ℕ → ℕ → ℕ → List (Held S) → List (Held S) → Type 0
+HasSetRestBelow {S} place depth known count old new = (below kids : List (Held S))
     → place ≡ length below → old ≡ with_held_rest below depth known ++ kids
     → new ≡ with_held_rest below depth count ++ kids
 

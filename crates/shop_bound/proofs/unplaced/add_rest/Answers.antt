@@ -1,45 +1,43 @@
-use Rattle.std.proofs.Common.{◌≡◌, ◌-◌, arith, get_or, refl, vec_capacity, vec_len}
+use Rattle.std.proofs.Common.{◌-◌, ◌<◌, ap, arith, get_or, length, refl, vec_capacity}
 use Rattle.shop_model.specs.Shop.{no_op}
+use Rattle.shop_bound.proofs.MachineListTurns.{has_room, one_added}
 use Rattle.shop_bound.proofs.TimeSums.{times_from}
-use Rattle.shop_bound.proofs.UnplacedTurns.{added_off, added_on, rest_small}
+use Rattle.shop_bound.proofs.UnplacedTurns.{rest_small}
 use Rattle.shop_bound.proofs.unplaced.add_rest.Goals as goal
-use Rattle.shop_bound.proofs.unplaced.add_rest.Goals.{then-op-machine, else-op-machine}
 
 pub total_time-tail-requires : goal.total_time-tail-requires
 total_time-tail-requires c = rest_small c.args.free.now c.args.ready c.args.rest.now c.requires.rest
 
+pub here : (c : goal.After-push) → (get_or c.args.rest.now c.loop-op.op-index no_op).machine < length c.loop-op.lists
+here c =
+    let long = c.loop-op.invariant.added.long in let machines = c.requires.machines
+    in let on = c.requires.rest.on_machines c.loop-op.op-index c.loop-op-test.true in omega arith
+
+pub unwrap-requires : goal.unwrap-requires
+unwrap-requires c =
+    let rest = c.args.rest.now in let k = c.loop-op.op-index in let i = (get_or rest k no_op).machine
+    in let list = get_or c.loop-op.lists i c.index-lists-op.result
+    in let room : length list.items < vec_capacity list = has_room rest k c.loop-op-test.true c.loop-op.lists i list
+    c.loop-op.invariant.added.room refl (here c) (ap (λ v. get_or c.loop-op.lists i v) c.index-lists-op.is)
+    in let full = list.ok.0 in c.push.ensures.succeeds (omega arith)
+
 pub loop-op-preserved : goal.loop-op-preserved
 loop-op-preserved c =
-    let rest = c.args.rest.now in let k = c.loop-op.op-index in let free = c.args.free.now
-    in let here = times_from rest k c.loop-op-test.true
-    in let v = c.loop-op.invariant in let before = v.tail in let so_far = v.small in let few = v.few in let room = v.room
+    let rest = c.args.rest.now in let k = c.loop-op.op-index
     in let op = get_or rest k no_op
-    in let a = c.requires.rest.times k
-    in let m = c.requires.rest.free_small op.machine (c.requires.rest.on_machines k c.loop-op-test.true)
-    in let b = c.max-head.ensures
-    in elim c.if-op-machine.branch [
-      | then-op-machine w ↦ (let l : vec_len c.if-op-machine.triples ≡ vec_len w.push.new.self = rw w.triples-is refl
-          in let p : vec_capacity c.if-op-machine.triples ≡ vec_capacity w.push.new.self = rw w.triples-is refl
-          in let n = rw w.unwrap.ensures at w.push.ensures.len in let g = w.push.ensures.capacity
-          in record {
-            added = added_on c.args.machine free c.loop-op.ready rest k c.loop-op-test.true c.loop-op.triples.items
-                c.if-op-machine.triples.items _ c.max-head.result c.max-head.ensures v.added w.if-op-machine.true
-                (c.loop-op.tail - op.time) (omega arith)
-                (rw w.triples-is (rw w.unwrap.ensures at w.push.ensures.items));
-            tail = omega arith;
-            small = omega arith;
-            few = omega arith;
-            room = omega arith;
-          })
-      | else-op-machine w ↦ (let l : vec_len c.if-op-machine.triples ≡ vec_len c.loop-op.triples = rw w.triples-is refl
-          in let p : vec_capacity c.if-op-machine.triples ≡ vec_capacity c.loop-op.triples = rw w.triples-is refl
-          in record {
-            added = added_off c.args.machine free c.loop-op.ready rest k c.loop-op-test.true c.loop-op.triples.items
-                c.if-op-machine.triples.items _ c.max-head.result c.max-head.ensures v.added w.if-op-machine.false
-                (rw w.triples-is refl);
-            tail = omega arith;
-            small = omega arith;
-            few = omega arith;
-            room = omega arith;
-          })
-    ]
+    in let times = times_from rest k c.loop-op-test.true
+    in let before = c.loop-op.invariant in let tail = before.tail in let small = before.small
+    in let time = c.requires.rest.times k
+    in let on = c.requires.rest.on_machines k c.loop-op-test.true
+    in let free = c.requires.rest.free_small op.machine on
+    in let head = c.max-head.ensures
+    in let long = before.added.long in let machines = c.requires.machines
+    in record {
+      added = one_added rest k c.loop-op-test.true c.args.lists.now c.loop-op.lists c.args.free.now c.args.ready
+          c.loop-op.ready c.max-head.result (c.loop-op.tail - op.time) op.machine
+          (get_or c.loop-op.lists op.machine c.index-lists-op.result) c.push.new.self before.added refl (omega arith)
+          (ap (λ v. get_or c.loop-op.lists op.machine v) c.index-lists-op.is) head (omega arith)
+          (rw c.unwrap.ensures at c.push.ensures.items) c.push.ensures.capacity;
+      tail = omega arith;
+      small = omega arith;
+    }

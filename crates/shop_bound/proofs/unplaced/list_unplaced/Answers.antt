@@ -1,10 +1,11 @@
-use Rattle.std.proofs.Common.{◌≡◌, ◌∙◌, ◌+◌, ℕ, List, length, ◌<◌, ap, arith, rules}
+use Rattle.std.proofs.Common.{◌≡◌, ◌∙◌, ℕ, List, length, ◌<◌, ap, arith, rules}
 use Rattle.std.specs.List.{flat_map, range_with_len}
+use Rattle.std.proofs.lemmas.List.Sums.{sum_by-take-le}
 use Rattle.shop_bound.specs.Bound.{waiting_of, triples_on}
 use Rattle.shop_model.specs.declared.ops.Op.{Op}
-use Rattle.shop_model.specs.Shop.{route_of}
-use Rattle.shop_bound.proofs.UnplacedTurns.{steps_within, can_go_on, unplaced_of_job, job_listed, rest_is, rest_short}
-use Rattle.shop_bound.proofs.Routes.{before_at_most, before_more}
+use Rattle.shop_bound.specs.inner.MachineLists.{visits}
+use Rattle.shop_bound.proofs.MachineListTurns.{none_listed, one_listed, room_for_rest}
+use Rattle.shop_bound.proofs.UnplacedTurns.{steps_within, can_go_on, unplaced_of_job, rest_is}
 use Rattle.shop_bound.proofs.unplaced.list_unplaced.Goals as goal
 
 pub offset_bounds-route-steps : goal.offset_bounds-route-steps
@@ -39,36 +40,42 @@ add_rest-requires-clause-rest c =
     c.machines_free-free.ensures
     c.ready.result c.ready.ensures _ (rest_is _ _ _ _ c.route.ensures.route c.steps.ensures)
 
+pub add_rest-requires-clause-machines : goal.add_rest-requires-clause-machines
+add_rest-requires-clause-machines c =
+    let free = ap (λ (xs : List ℕ). length xs) c.machines_free-free.ensures
+    in let places = c.requires.word.placed.places.free in let lists = c.loop-j.invariant.room.machines in omega arith
+
 pub add_rest-requires-clause-room : goal.add_rest-requires-clause-room
 add_rest-requires-clause-room c =
     let shop = c.args.instance.now in let j = c.loop-j.j
     in let job : j < length shop.jobs = (let a = c.loop-j-test.true in let b = c.jobs-j-end.ensures in omega arith)
-    in let most = rest_short c.route.result.now (route_of shop j) c.steps.result c.route.ensures.route
-    in let more = before_more shop j job in let all = before_at_most shop (j + 1)
-    in let few = c.loop-j.invariant.few in let room = c.loop-j.invariant.room in let had = c.requires.room in omega arith
+    in room_for_rest shop c.args.placement.now j c.loop-j.lists c.loop-j.invariant job _ _
+    (rest_is _ _ _ _ c.route.ensures.route c.steps.ensures)
+
+pub loop-j-init : goal.loop-j-init
+loop-j-init c = none_listed c.args.instance.now c.args.placement.now c.args.lists.now c.clear.new.lists c.requires.room
+    c.clear.ensures.empty c.clear.ensures.room c.clear.auto.lists
 
 pub loop-j-preserved : goal.loop-j-preserved
 loop-j-preserved c =
     let shop = c.args.instance.now in let s = c.args.placement.now in let j = c.loop-j.j
     in let job : j < length shop.jobs = (let a = c.loop-j-test.true in let b = c.jobs-j-end.ensures in omega arith)
-    in let most = rest_short c.route.result.now (route_of shop j) c.steps.result c.route.ensures.route
-    in let more = before_more shop j job in let v = c.loop-j.invariant in let r = c.add_rest.ensures
-    in let few = v.few in let room = v.room in let fewer = r.few in let grown = r.room
-    in record {
-      listed = λ p is. job_listed c.args.machine shop p j c.loop-j.triples.items c.add_rest.new.triples.items _
-          (v.listed p is)
-          (unplaced_of_job c.args.machine shop c.route.ensures.limits s j job c.machines_free-free.result.now
-          c.machines_free-free.ensures
-          c.ready.result c.ready.ensures _ (rest_is _ _ _ _ c.route.ensures.route c.steps.ensures) p is)
-          r.added;
-      few = omega arith;
-      room = omega arith;
-    }
+    in let rest = rest_is _ _ _ _ c.route.ensures.route c.steps.ensures
+    in one_listed shop s j c.loop-j.lists c.loop-j.invariant job c.add_rest.new.lists c.machines_free-free.result.now
+    c.ready.result _ _ rest
+    (λ m p is. unplaced_of_job m shop c.route.ensures.limits s j job c.machines_free-free.result.now
+    c.machines_free-free.ensures c.ready.result c.ready.ensures _ rest p is)
+    c.add_rest.ensures.added c.add_rest.ensures.room c.add_rest.auto.lists
 
-pub returns-clause-triples : goal.returns-clause-triples
-returns-clause-triples c =
+pub returns-clause-unplaced : goal.returns-clause-unplaced
+returns-clause-unplaced c =
     let shop = c.args.instance.now
     in let e : c.loop-j.j ≡ length shop.jobs =
     (let a = c.loop-j.auto.j-end in let b = c.loop-j-test.false in let d = c.jobs-j-end.ensures in omega arith)
-    in λ p is. c.loop-j.invariant.listed p is
-    ∙ ap (λ (n : ℕ). triples_on c.args.machine (flat_map (λ j. waiting_of shop p j) (range_with_len 0 n))) e
+    in λ p is m known. c.loop-j.invariant.listed p is m known
+    ∙ ap (λ (n : ℕ). triples_on m (flat_map (λ j. waiting_of shop p j) (range_with_len 0 n))) e
+
+pub returns-clause-few : goal.returns-clause-few
+returns-clause-few c = λ m known.
+    let few = c.loop-j.invariant.few m known
+    in let most = sum_by-take-le (λ job. visits m job.route) c.args.instance.now.jobs c.loop-j.j in omega arith

@@ -35,8 +35,8 @@ branch-self-requires-clause-at g c =
     still_at c.list_candidates-closed.new.self c.loop-self.invariant.at c.list_candidates-closed.ensures.stage
     c.list_candidates-closed.ensures.states c.list_candidates-closed.ensures.state
 
-pub returns-then-not-goes_on-clause-expanded : goal.returns-then-not-goes_on-clause-expanded
-returns-then-not-goes_on-clause-expanded g c =
+pub returns-then-not-can_go_on-clause-expanded : goal.returns-then-not-can_go_on-clause-expanded
+returns-then-not-can_go_on-clause-expanded g c =
     let s = stage_of c.args.self.now
     in let new = stage_of c.branch-self.new.self
     in on_ok _ (HasExpanded s new)

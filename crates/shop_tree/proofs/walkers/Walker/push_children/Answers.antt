@@ -28,8 +28,8 @@ put_rest-requires g c =
     in let jobs = limits.jobs in let b = c.len-depth.ensures in let e = self.path.ok.0
     in record { depth = omega arith; count = omega arith }
 
-pub raise_rest-requires : goal.raise_rest-requires
-raise_rest-requires g c =
+pub set_rest_below-requires : goal.set_rest_below-requires
+set_rest_below-requires g c =
     let self = c.args.self.now
     in let d = self.states.dispatcher.now
     in let word = self.path.items
@@ -75,12 +75,12 @@ returns-clause-branched g c =
     in let b = self.stack.ok.0 in omega arith)
     in let before = put.stack ∙ ap (λ (hs : List (Held g.row.S.Denot)). hs ++ map held put.kids)
     c.in_ok-put_rest.ensures
-    in let stack = c.raise_rest.new.stack.items
+    in let stack = c.set_rest_below.new.stack.items
     in on_ok _ (HasBranched (stage_of self) (record (stage_of self) { stack = waiting_in stack }))
     (λ e. branched (stage_of self) opens n c.len-depth.result (waiting_in stack) is short kids depth
     (waiting_put self.stack.items put.kids stack c.len-depth.result n
     (e self.stack.items (map held put.kids) place before)))
-    c.raise_rest.result c.raise_rest.ensures
+    c.set_rest_below.result c.set_rest_below.ensures
 
 pub returns-clause-states : goal.returns-clause-states
 returns-clause-states g c =
@@ -94,7 +94,7 @@ returns-clause-states g c =
     in let b = self.stack.ok.0 in omega arith)
     in let before = put.stack ∙ ap (λ (hs : List (Held g.row.S.Denot)). hs ++ map held put.kids)
     c.in_ok-put_rest.ensures
-    in let stack = c.raise_rest.new.stack.items
+    in let stack = c.set_rest_below.new.stack.items
     in on_ok _ (KeepsStates g.D.Dispatching word stack c.try_candidates.new.self) (λ e. record {
       held = subst (λ x. AreHeld (g.D.Dispatching.IsStateOf x) word stack)
           (sym c.in_ok-all.ensures.dispatcher)
@@ -102,4 +102,4 @@ returns-clause-states g c =
           (subst (λ (w : List ℕ). All (IsKept is w) put.kids) c.as_slice-2.ensures.value put.states)
           (e self.stack.items (map held put.kids) place before));
       states = c.in_ok-all.ensures.sound;
-    }) c.raise_rest.result c.raise_rest.ensures
+    }) c.set_rest_below.result c.set_rest_below.ensures

@@ -1,5 +1,5 @@
 use Rattle.shop_tree.proofs.StateSteps.{stands_then, stands_where}
-use Rattle.shop_tree.proofs.walkers.Walker.reclaim.Goals as goal
+use Rattle.shop_tree.proofs.walkers.Walker.strip_lowest.Goals as goal
 
 pub loop-self-init : goal.loop-self-init
 loop-self-init g c = stands_where c.args.self.now c.requires.states

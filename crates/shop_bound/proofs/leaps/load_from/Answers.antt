@@ -1,0 +1,34 @@
+use Rattle.std.proofs.Common.{◌≡◌, ◌+◌, max, List, get_or, take, sym, subst, arith, rules}
+use Rattle.std.proofs.lemmas.List.{take_more}
+use Rattle.std.proofs.lemmas.List.Sums.{sum_by_more_le}
+use Rattle.shop_bound.specs.declared.triples.Triple.{Triple}
+use Rattle.shop_bound.specs.inner.Thresholds.{no_triple}
+use Rattle.shop_bound.proofs.LeapTurns.{IsLoadOf, earlier, later}
+use Rattle.shop_bound.proofs.Lists.{get_or-le-greatest_of}
+use Rattle.shop_bound.proofs.leaps.load_from.Goals as goal
+use Rattle.shop_bound.proofs.leaps.load_from.Goals.{then-from-t, else-from-t}
+
+pub overflow_add-time-then-from-t : goal.overflow_add-time-then-from-t
+overflow_add-time-then-from-t c =
+    let ts = c.args.triples.now in let few = c.loop-t.invariant.few
+    in let small = c.requires
+    in omega (
+      arith,
+      sum_by_more_le (λ (t : Triple). t.time) ts c.loop-t.t-index no_triple c.loop-t-test.true,
+      get_or-le-greatest_of (λ (t : Triple). t.tail) ts c.loop-t.t-index no_triple c.loop-t-test.true,
+    )
+
+pub loop-t-preserved : goal.loop-t-preserved
+loop-t-preserved c =
+    let ts = c.args.triples.now in let k = c.loop-t.t-index
+    in let x = get_or ts k no_triple
+    in let us = take k ts
+    in let is = c.loop-t.invariant
+    in subst (λ (ys : List Triple). IsLoadOf ys c.args.from c.if-from-t.time c.if-from-t.load)
+    (sym (take_more ts k no_triple c.loop-t-test.true))
+    (elim c.if-from-t.branch [
+      | then-from-t w ↦ (let more : w.max-load.result ≡ max c.loop-t.load (c.loop-t.time + x.time + x.tail) = search rules
+          in rw (w.time-is, w.load-is) (later us x c.args.from c.loop-t.time c.loop-t.load w.max-load.result is more))
+      | else-from-t w ↦ rw (w.time-is, w.load-is)
+          (earlier us x c.args.from c.loop-t.time c.loop-t.load is (let a = w.if-from-t.false in omega arith))
+    ])
