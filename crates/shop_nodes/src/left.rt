@@ -10,18 +10,21 @@ ghost use Rattle.shop_nodes.specs.Left.{left_words, open_nodes, AreLeft};
 use crate::child_nodes::children;
 use crate::halts::{Halt, Waiting};
 use crate::nodes::Node;
+use crate::shared_nodes::SharedNode;
 use shop_model::{Instance, SharedWord, Word};
 use std::alloc::{AllocError as NoMemory, Global};
 use std::marker::Model;
 use std::sync::ArcSlice;
 
 /// The nodes that the search of a piece left, in order: the children that wait where the walk halted, if it did, then
-/// the nodes of the piece that weren't taken. Contracts see the instance, the makespan and the nodes' words.
+/// the nodes of the piece that weren't taken. Who searched the piece also made the open ones among them, those with
+/// bounds below the makespan. Contracts see the instance, the makespan and the words of all nodes left.
 pub struct Left<'r> {
     instance: &'r Instance,
     makespan: u64,
     halt: Option<Halt>,
     untaken: &'r [Node],
+    shared: Vec<SharedNode>,
 }
 
 impl Drop for Left<'_> {
@@ -31,12 +34,14 @@ impl Drop for Left<'_> {
             makespan: _,
             halt: _,
             untaken: _,
+            shared: _,
         } = self;
     }
 }
 
 impl<'r> Model for Left<'r> {
-    ghost use Rattle.shop_nodes.specs.Left.{Leaving, left_words, AreLeft};
+    ghost use Rattle.std.specs.Prelude.{◌≡◌};
+    ghost use Rattle.shop_nodes.specs.Left.{Leaving, left_words, open_nodes, AreLeft};
 
     ghost Value = { Leaving };
 
@@ -46,42 +51,64 @@ impl<'r> Model for Left<'r> {
       words = left_words l.instance.now l.halt l.untaken.now;
     } };
 
-    ghost invariant = { λ l. AreLeft l.instance.now l.makespan l.halt l.untaken.now };
+    ghost invariant = { λ l. AreLeft l.instance.now l.makespan l.halt l.untaken.now
+        × (l.shared.items ≡ open_nodes l.instance.now l.makespan
+        (left_words l.instance.now l.halt l.untaken.now)) };
 }
 
 impl<'r> Left<'r> {
     /// Makes the record of a search that ended with `makespan` and left the children at `halt`, if any, then `untaken`.
+    /// Fails with `NoMemory` if memory runs out.
     pub fn new(
+        alloc: Global,
         instance: &'r Instance,
         makespan: u64,
         halt: Option<Halt>,
         untaken: &'r [Node],
-    ) -> Left<'r>
+    ) -> Result<Left<'r>, NoMemory>
         requires { AreLeft instance.now makespan halt untaken.now }
-        ensures { result ≡ record {
+        ensures { IfOk result (λ l. l ≡ record {
           shop = instance.now;
           makespan = makespan;
           words = left_words instance.now halt untaken.now;
-        } }
+        }) }
     {
-        Left {
+        let mut shared = match &halt {
+            Some(halt) => open_waiting(alloc, instance, makespan, halt)?,
+            None => Vec::new(alloc),
+        };
+        add_open_nodes(alloc, instance, makespan, untaken, &mut shared)?;
+        Ok(Left {
             instance,
             makespan,
             halt,
             untaken,
-        }
+            shared,
+        })
     }
 
     /// Adds the open nodes to `nodes`, in order: the nodes left with bounds below the makespan. Fails with `NoMemory`
     /// if memory runs out.
-    pub fn add_open(&self, alloc: Global, nodes: &mut Vec<Node>) -> Result<(), NoMemory>
+    pub fn add_open(&self, _alloc: Global, nodes: &mut Vec<Node>) -> Result<(), NoMemory>
         ensures { OnOk result (nodes.new.items ≡ nodes.old.items
             ++ open_nodes self.now.shop self.now.makespan self.now.words) }
     {
-        if let Some(halt) = &self.halt {
-            add_open_waiting(self.instance, self.makespan, halt, nodes)?;
-        }
-        add_open_nodes(alloc, self.instance, self.makespan, self.untaken, nodes)
+        add_shared(self.shared.as_slice(), nodes)
+    }
+
+    /// Answers the open nodes, in order: the nodes left with bounds below the makespan. They were made with the record,
+    /// so whoever takes them over makes nothing.
+    pub fn into_open(self) -> Vec<SharedNode>
+        ensures { result.items ≡ open_nodes self.entry.shop self.entry.makespan self.entry.words }
+    {
+        let Left {
+            instance: _,
+            makespan: _,
+            halt: _,
+            untaken: _,
+            shared,
+        } = self;
+        shared
     }
 
     /// Lists all nodes left, in order. Fails with `NoMemory` if memory runs out.
@@ -105,7 +132,7 @@ fn add_if_open(
     makespan: u64,
     path: &ArcSlice<u16, Global>,
     waiting: Waiting,
-    nodes: &mut Vec<Node>,
+    nodes: &mut Vec<SharedNode>,
 ) -> Result<(), NoMemory>
     requires { IsWaiting instance.now makespan (arc_slice_items path.now) waiting }
     ensures { OnOk result (nodes.new.items ≡ nodes.old.items ++ open_nodes instance.now makespan
@@ -117,49 +144,62 @@ fn add_if_open(
     if child.bound >= makespan {
         return Ok(());
     }
-    let word = Word::of_shared(SharedWord::along(path, child.depth, child.job)?);
-    let bound = child.bound;
-    nodes.push(Node { word, bound })?;
+    let word = SharedWord::along(path, child.depth, child.job)?;
+    nodes.push(SharedNode::new(word, child.bound))?;
     Ok(())
 }
 
-/// Adds a node for each child that waits at `halt` with a bound below `makespan`, from the last entry of `halt.waiting`
-/// to the first. Fails with `NoMemory` if memory runs out.
-fn add_open_waiting(
+/// Makes a node for each child that waits at `halt` with a bound below `makespan`, from the last entry of
+/// `halt.waiting` to the first. Fails with `NoMemory` if memory runs out.
+fn open_waiting(
+    alloc: Global,
     instance: &Instance,
     makespan: u64,
     halt: &Halt,
-    nodes: &mut Vec<Node>,
-) -> Result<(), NoMemory>
+) -> Result<Vec<SharedNode>, NoMemory>
     requires { IsHalt instance.now makespan halt.now }
-    ensures { OnOk result (nodes.new.items ≡ nodes.old.items ++ open_nodes instance.now makespan
+    ensures { IfOk result (λ v. v.items ≡ open_nodes instance.now makespan
         (stack_words instance.now (arc_slice_items halt.now.path) halt.now.waiting.items)) }
 {
     let waiting = halt.waiting.as_slice();
     let mut left = waiting.len();
+    let mut nodes = Vec::with_capacity(alloc, left)?;
     while left > 0 {
         left -= 1;
-        add_if_open(instance, makespan, &halt.path, waiting[left], nodes)?;
+        add_if_open(instance, makespan, &halt.path, waiting[left], &mut nodes)?;
     }
-    Ok(())
+    Ok(nodes)
 }
 
-/// Adds copies of the nodes in `left` with bounds below `makespan`, in order. Fails with `NoMemory` if memory runs out.
+/// Adds the nodes in `left` with bounds below `makespan`, in order; their words share the jobs of those in `left`.
+/// Fails with `NoMemory` if memory runs out.
 fn add_open_nodes(
     alloc: Global,
     instance: &Instance,
     makespan: u64,
     left: &[Node],
-    nodes: &mut Vec<Node>,
+    nodes: &mut Vec<SharedNode>,
 ) -> Result<(), NoMemory>
     requires { AreNodes instance.now left.now }
     ensures { OnOk result (nodes.new.items ≡ nodes.old.items
         ++ open_nodes instance.now makespan (words_of left.now)) }
 {
+    instance.keeps_limits();
     for node in left {
         if node.bound < makespan {
-            nodes.push(node.copied(alloc)?)?;
+            nodes.push(SharedNode::of(alloc, node.copied(alloc)?)?)?;
         }
+    }
+    Ok(())
+}
+
+/// Adds the nodes of `shared` to `nodes`, in order; their words share the same jobs. Fails with `NoMemory` if memory
+/// runs out.
+fn add_shared(shared: &[SharedNode], nodes: &mut Vec<Node>) -> Result<(), NoMemory>
+    ensures { OnOk result (nodes.new.items ≡ nodes.old.items ++ shared.now) }
+{
+    for node in shared {
+        nodes.push(node.node()?)?;
     }
     Ok(())
 }

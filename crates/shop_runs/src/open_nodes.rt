@@ -1,18 +1,16 @@
 // The store of a run's open nodes, in the order in which the next round takes them.
 ghost use Rattle.std.specs.Prelude.{◌≡◌, ◌==◌, ◌^◌, ◌≤◌, [], length, IfOk, OnOk, OnErr};
-ghost use Rattle.shop_model.specs.SharedWords.{CanBeShared};
 ghost use Rattle.shop_runs.specs.inner.NodeLists.{least_of_bounds, nodes_below};
 ghost use Rattle.shop_runs.specs.inner.OpenNodes.{AreBelow, AreSharable};
 ghost use Rattle.shop_runs.specs.inner.Outcomes.{left_open};
 
 use crate::bound_rows::BoundRow;
-use crate::kept_nodes::KeptNode;
 use crate::kept_stacks::KeptStack;
 use crate::plans::Order;
 use crate::stacks::{
     Stack, count_by_bound, keep_by_bound, least_by_bound, pop_by_bound, put_by_bound,
 };
-use shop_nodes::{Left, Node};
+use shop_nodes::{Left, Node, SharedNode};
 use std::alloc::{AllocError as NoMemory, Global};
 use std::collections::BTreeMap;
 
@@ -52,12 +50,11 @@ impl OpenNodes {
 
     /// Puts `node` in its place: for `Kept` before all others, for `Bound` before the nodes of an equal or a greater
     /// bound. Fails with `NoMemory` if memory runs out.
-    pub(crate) fn put(&mut self, alloc: Global, node: Node) -> Result<(), NoMemory>
-        requires { CanBeShared node.word }
+    fn put(&mut self, alloc: Global, node: SharedNode) -> Result<(), NoMemory>
         ensures { OnOk result (IsPut node self.old self.new) }
     {
         match self {
-            OpenNodes::AsKept(nodes) => nodes.push(KeptNode::of(alloc, node)?),
+            OpenNodes::AsKept(nodes) => nodes.push(node),
             OpenNodes::InRow(nodes) => nodes.put(alloc, node),
             OpenNodes::ByBound(stacks) => put_by_bound(alloc, stacks, node),
         }
@@ -79,6 +76,25 @@ impl OpenNodes {
             if node.bound >= makespan {
                 continue;
             }
+            self.put(alloc, SharedNode::of(alloc, node)?)?;
+        }
+        Ok(())
+    }
+
+    /// Puts each of `nodes` whose bound is below `makespan` into the store, from the last one to the first. Fails with
+    /// `NoMemory` if memory runs out.
+    fn put_open(
+        &mut self,
+        alloc: Global,
+        makespan: u64,
+        mut nodes: Vec<SharedNode>,
+    ) -> Result<(), NoMemory>
+        ensures { OnOk result (ArePut (nodes_below makespan nodes.items) self.old self.new) }
+    {
+        while let Some(node) = nodes.pop() {
+            if node.bound() >= makespan {
+                continue;
+            }
             self.put(alloc, node)?;
         }
         Ok(())
@@ -92,14 +108,11 @@ impl OpenNodes {
         makespan: u64,
         mut left: Vec<Left>,
     ) -> Result<(), NoMemory>
-        requires { AreSharable (left_open left.items) }
         ensures { OnOk result
             (ArePut (nodes_below makespan (left_open left.entry.items)) self.old self.new) }
     {
-        let mut nodes = Vec::new(alloc);
         while let Some(of_sheet) = left.pop() {
-            of_sheet.add_open(alloc, &mut nodes)?;
-            self.put_below(alloc, makespan, &mut nodes)?;
+            self.put_open(alloc, makespan, of_sheet.into_open())?;
         }
         Ok(())
     }

@@ -94,7 +94,6 @@ impl OpenRun {
         ensures next { IfOk result (λ p. IsNextSearch instance.now plan.now self p.0) }
         ensures layout { IfOk result (λ p. p.1 ≡ instance.now) }
     {
-        instance.keeps_limits();
         let opening = self.standing.makespan;
         let layout = kept_or_new(alloc, instance, kept)?;
         let (round, mut open) = self.cut(alloc, instance, layout, plan)?;

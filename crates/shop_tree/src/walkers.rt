@@ -221,13 +221,14 @@ impl<'l, 'a, D: Dispatching<S>, S: Drop> Walker<'l, 'a, D, S> {
         let halt = self.halt(alloc)?;
         let instance = self.progress.instance;
         let makespan = self.progress.best;
+        let left = Left::new(alloc, instance, makespan, halt, &nodes[index..])?;
         let taken = budget - self.progress.budget;
         let found = self.progress.take_found();
         Ok(Sheet {
             number: piece.number,
             found,
             makespan,
-            left: Left::new(instance, makespan, halt, &nodes[index..]),
+            left,
             taken,
             instance,
             piece,
