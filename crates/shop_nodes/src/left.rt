@@ -17,14 +17,12 @@ use std::marker::Model;
 use std::sync::ArcSlice;
 
 /// The nodes that the search of a piece left, in order: the children that wait where the walk halted, if it did, then
-/// the nodes of the piece that weren't taken. Who searched the piece also made the open ones among them, those with
-/// bounds below the makespan. Contracts see the instance, the makespan and the words of all nodes left.
+/// the nodes of the piece that weren't taken. Contracts see the instance, the makespan and the nodes' words.
 pub struct Left<'r> {
     instance: &'r Instance,
     makespan: u64,
     halt: Option<Halt>,
     untaken: &'r [Node],
-    shared: Vec<SharedNode>,
 }
 
 impl Drop for Left<'_> {
@@ -34,14 +32,12 @@ impl Drop for Left<'_> {
             makespan: _,
             halt: _,
             untaken: _,
-            shared: _,
         } = self;
     }
 }
 
 impl<'r> Model for Left<'r> {
-    ghost use Rattle.std.specs.Prelude.{◌≡◌};
-    ghost use Rattle.shop_nodes.specs.Left.{Leaving, left_words, open_nodes, AreLeft};
+    ghost use Rattle.shop_nodes.specs.Left.{Leaving, left_words, AreLeft};
 
     ghost Value = { Leaving };
 
@@ -51,64 +47,53 @@ impl<'r> Model for Left<'r> {
       words = left_words l.instance.now l.halt l.untaken.now;
     } };
 
-    ghost invariant = { λ l. AreLeft l.instance.now l.makespan l.halt l.untaken.now
-        × (l.shared.items ≡ open_nodes l.instance.now l.makespan
-        (left_words l.instance.now l.halt l.untaken.now)) };
+    ghost invariant = { λ l. AreLeft l.instance.now l.makespan l.halt l.untaken.now };
 }
 
 impl<'r> Left<'r> {
     /// Makes the record of a search that ended with `makespan` and left the children at `halt`, if any, then `untaken`.
-    /// Fails with `NoMemory` if memory runs out.
     pub fn new(
-        alloc: Global,
         instance: &'r Instance,
         makespan: u64,
         halt: Option<Halt>,
         untaken: &'r [Node],
-    ) -> Result<Left<'r>, NoMemory>
+    ) -> Left<'r>
         requires { AreLeft instance.now makespan halt untaken.now }
-        ensures { IfOk result (λ l. l ≡ record {
+        ensures { result ≡ record {
           shop = instance.now;
           makespan = makespan;
           words = left_words instance.now halt untaken.now;
-        }) }
+        } }
     {
-        let mut shared = match &halt {
-            Some(halt) => open_waiting(alloc, instance, makespan, halt)?,
-            None => Vec::new(alloc),
-        };
-        add_open_nodes(alloc, instance, makespan, untaken, &mut shared)?;
-        Ok(Left {
+        Left {
             instance,
             makespan,
             halt,
             untaken,
-            shared,
-        })
+        }
     }
 
     /// Adds the open nodes to `nodes`, in order: the nodes left with bounds below the makespan. Fails with `NoMemory`
     /// if memory runs out.
-    pub fn add_open(&self, _alloc: Global, nodes: &mut Vec<Node>) -> Result<(), NoMemory>
+    pub fn add_open(&self, alloc: Global, nodes: &mut Vec<Node>) -> Result<(), NoMemory>
         ensures { OnOk result (nodes.new.items ≡ nodes.old.items
             ++ open_nodes self.now.shop self.now.makespan self.now.words) }
     {
-        add_shared(self.shared.as_slice(), nodes)
+        let mut shared = Vec::new(alloc);
+        self.add_shared(alloc, &mut shared)?;
+        add_nodes_of(shared.as_slice(), nodes)
     }
 
-    /// Answers the open nodes, in order: the nodes left with bounds below the makespan. They were made with the record,
-    /// so whoever takes them over makes nothing.
-    pub fn into_open(self) -> Vec<SharedNode>
-        ensures { result.items ≡ open_nodes self.entry.shop self.entry.makespan self.entry.words }
+    /// Adds the open nodes to `nodes` as `add_open` does, but in the form in which a run stores them. Fails with
+    /// `NoMemory` if memory runs out.
+    pub fn add_shared(&self, alloc: Global, nodes: &mut Vec<SharedNode>) -> Result<(), NoMemory>
+        ensures { OnOk result (nodes.new.items ≡ nodes.old.items
+            ++ open_nodes self.now.shop self.now.makespan self.now.words) }
     {
-        let Left {
-            instance: _,
-            makespan: _,
-            halt: _,
-            untaken: _,
-            shared,
-        } = self;
-        shared
+        if let Some(halt) = &self.halt {
+            add_open_waiting(self.instance, self.makespan, halt, nodes)?;
+        }
+        add_open_nodes(alloc, self.instance, self.makespan, self.untaken, nodes)
     }
 
     /// Lists all nodes left, in order. Fails with `NoMemory` if memory runs out.
@@ -149,26 +134,25 @@ fn add_if_open(
     Ok(())
 }
 
-/// Makes a node for each child that waits at `halt` with a bound below `makespan`, from the last entry of
-/// `halt.waiting` to the first. Fails with `NoMemory` if memory runs out.
-fn open_waiting(
-    alloc: Global,
+/// Adds a node for each child that waits at `halt` with a bound below `makespan`, from the last entry of `halt.waiting`
+/// to the first. Fails with `NoMemory` if memory runs out.
+fn add_open_waiting(
     instance: &Instance,
     makespan: u64,
     halt: &Halt,
-) -> Result<Vec<SharedNode>, NoMemory>
+    nodes: &mut Vec<SharedNode>,
+) -> Result<(), NoMemory>
     requires { IsHalt instance.now makespan halt.now }
-    ensures { IfOk result (λ v. v.items ≡ open_nodes instance.now makespan
+    ensures { OnOk result (nodes.new.items ≡ nodes.old.items ++ open_nodes instance.now makespan
         (stack_words instance.now (arc_slice_items halt.now.path) halt.now.waiting.items)) }
 {
     let waiting = halt.waiting.as_slice();
     let mut left = waiting.len();
-    let mut nodes = Vec::with_capacity(alloc, left)?;
     while left > 0 {
         left -= 1;
-        add_if_open(instance, makespan, &halt.path, waiting[left], &mut nodes)?;
+        add_if_open(instance, makespan, &halt.path, waiting[left], nodes)?;
     }
-    Ok(nodes)
+    Ok(())
 }
 
 /// Adds the nodes in `left` with bounds below `makespan`, in order; their words share the jobs of those in `left`.
@@ -195,7 +179,7 @@ fn add_open_nodes(
 
 /// Adds the nodes of `shared` to `nodes`, in order; their words share the same jobs. Fails with `NoMemory` if memory
 /// runs out.
-fn add_shared(shared: &[SharedNode], nodes: &mut Vec<Node>) -> Result<(), NoMemory>
+fn add_nodes_of(shared: &[SharedNode], nodes: &mut Vec<Node>) -> Result<(), NoMemory>
     ensures { OnOk result (nodes.new.items ≡ nodes.old.items ++ shared.now) }
 {
     for node in shared {

@@ -17,6 +17,15 @@ use std::collections::BTreeMap;
 /// Bounds up to here may stand in a row, which then takes some 5 MB.
 const MOST_IN_ROW: u64 = 65_536;
 
+/// A row may be so many times as long as the instance has operations. A round goes through the empty places between two
+/// stacks in some instructions each, and through all operations for each piece in some dozens.
+const MOST_FOR_AN_OPERATION: u64 = 128;
+
+/// Tells whether open nodes of bounds below `makespan` may stand in a row, for an instance of `operations` operations.
+fn fits_row(makespan: u64, operations: usize) -> bool {
+    makespan <= MOST_IN_ROW && makespan / MOST_FOR_AN_OPERATION <= operations as u64
+}
+
 /// Open nodes in the order in which the next round takes them: one stack for `Kept`, and one stack of words per bound
 /// for `Bound`, in a row where the bounds are small and else in a map. The time to put or take a node hardly grows with
 /// the number of open nodes.
@@ -31,15 +40,16 @@ impl OpenNodes {
     ghost use Rattle.shop_runs.specs.inner.Stores.{open_list, order_of, IsPut, ArePut, IsTaken};
     ghost use Rattle.shop_runs.specs.inner.Stores.{IsKeptBelow, HasPopped};
 
-    /// Makes an empty store, which will hold open nodes of bounds below `makespan` in `order`.
-    pub(crate) fn new(alloc: Global, order: Order, makespan: u64) -> OpenNodes
+    /// Makes an empty store, which will hold open nodes of bounds below `makespan` in `order`, of an instance of
+    /// `operations` operations.
+    pub(crate) fn new(alloc: Global, order: Order, makespan: u64, operations: usize) -> OpenNodes
         ensures none { open_list result ≡ [] }
         ensures order { order_of result ≡ order }
     {
         match order {
             Order::Kept => OpenNodes::AsKept(KeptStack::new(alloc)),
             Order::Bound => {
-                if makespan <= MOST_IN_ROW {
+                if fits_row(makespan, operations) {
                     OpenNodes::InRow(BoundRow::new(alloc))
                 } else {
                     OpenNodes::ByBound(BTreeMap::new(alloc))
@@ -50,6 +60,7 @@ impl OpenNodes {
 
     /// Puts `node` in its place: for `Kept` before all others, for `Bound` before the nodes of an equal or a greater
     /// bound. Fails with `NoMemory` if memory runs out.
+    #[inline(always)]
     fn put(&mut self, alloc: Global, node: SharedNode) -> Result<(), NoMemory>
         ensures { OnOk result (IsPut node self.old self.new) }
     {
@@ -81,15 +92,16 @@ impl OpenNodes {
         Ok(())
     }
 
-    /// Puts each of `nodes` whose bound is below `makespan` into the store, from the last one to the first. Fails with
-    /// `NoMemory` if memory runs out.
+    /// Empties the list `nodes` from its end, as `put_below` does, of nodes in the form in which they are stored. Fails
+    /// with `NoMemory` if memory runs out.
     fn put_open(
         &mut self,
         alloc: Global,
         makespan: u64,
-        mut nodes: Vec<SharedNode>,
+        nodes: &mut Vec<SharedNode>,
     ) -> Result<(), NoMemory>
-        ensures { OnOk result (ArePut (nodes_below makespan nodes.items) self.old self.new) }
+        ensures put { OnOk result (ArePut (nodes_below makespan nodes.old.items) self.old self.new) }
+        ensures moved { OnOk result (nodes.new.items ≡ []) }
     {
         while let Some(node) = nodes.pop() {
             if node.bound() >= makespan {
@@ -111,8 +123,10 @@ impl OpenNodes {
         ensures { OnOk result
             (ArePut (nodes_below makespan (left_open left.entry.items)) self.old self.new) }
     {
+        let mut nodes = Vec::new(alloc);
         while let Some(of_sheet) = left.pop() {
-            self.put_open(alloc, makespan, of_sheet.into_open())?;
+            of_sheet.add_shared(alloc, &mut nodes)?;
+            self.put_open(alloc, makespan, &mut nodes)?;
         }
         Ok(())
     }

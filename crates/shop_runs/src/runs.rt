@@ -38,7 +38,7 @@ impl OpenRun {
         ensures { IfOk result (λ t. IsSearchAt instance.now order (stands standing) t) }
     {
         instance.keeps_limits();
-        let mut open = OpenNodes::new(alloc, order, standing.makespan);
+        let mut open = OpenNodes::new(alloc, order, standing.makespan, instance.operations());
         open.put_below(alloc, standing.makespan, &mut standing.open)?;
         Ok(OpenRun { standing, open })
     }

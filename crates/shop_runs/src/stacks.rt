@@ -81,12 +81,20 @@ impl Stack {
     }
 
     /// Puts `word` on top. Fails with `NoMemory` if memory runs out; the stack has then lost words.
+    #[inline(always)]
     pub(crate) fn push(&mut self, alloc: Global, word: SharedWord) -> Result<(), NoMemory>
         ensures { OnOk result (words_on self.new ≡ word ∷ words_on self.old) }
     {
         if self.topmost.below.len() < BLOCK {
             return self.topmost.push(word);
         }
+        self.cover(alloc, word)
+    }
+
+    /// Puts `word` on top, in a chunk of its own. Fails with `NoMemory` if memory runs out; the stack has then lost words.
+    fn cover(&mut self, alloc: Global, word: SharedWord) -> Result<(), NoMemory>
+        ensures { OnOk result (words_on self.new ≡ word ∷ words_on self.old) }
+    {
         let full = mem::replace(&mut self.topmost, Chunk::of(alloc, word));
         self.covered.push(full)?;
         Ok(())

@@ -221,14 +221,13 @@ impl<'l, 'a, D: Dispatching<S>, S: Drop> Walker<'l, 'a, D, S> {
         let halt = self.halt(alloc)?;
         let instance = self.progress.instance;
         let makespan = self.progress.best;
-        let left = Left::new(alloc, instance, makespan, halt, &nodes[index..])?;
         let taken = budget - self.progress.budget;
         let found = self.progress.take_found();
         Ok(Sheet {
             number: piece.number,
             found,
             makespan,
-            left,
+            left: Left::new(instance, makespan, halt, &nodes[index..]),
             taken,
             instance,
             piece,

@@ -8,7 +8,7 @@ abbrev pub invariant-loop-node : goal.invariant-loop-node
 invariant-loop-node l = record {
   order : order_of l.self ≡ order_of l.fn.self;
   put : put_all_before (order_of l.fn.self) (nodes_below l.makespan l.nodes.items) (open_list l.self)
-      ≡ put_all_before (order_of l.fn.self) (nodes_below l.makespan l.fn.nodes.items) (open_list l.fn.self);
+      ≡ put_all_before (order_of l.fn.self) (nodes_below l.makespan l.initial.nodes.items) (open_list l.fn.self);
 }
 
 abbrev pub decreases-loop-node : goal.decreases-loop-node

@@ -29,7 +29,7 @@ returns-clause-keeps g c =
       walk = walked c.begin.new.self;
       stack = waiting_in c.clear.new.self.stack.items;
     }
-    in let left = ap (λ (l : Leaving). l.words) c.in_ok-left.ensures
+    in let left = ap (λ (l : Leaving). l.words) c.new.ensures
     in subst (KeepsPiece shop (words_of nodes) c.args.best)
     (sym (sheet_told begun (stage_of t) c.as_slice-nodes.result.now k same c.begin.ensures.walk refl
     c.in_ok-index.ensures.walked c.in_ok-index.ensures.ended c.as_slice-nodes.ensures.value (take_rest
@@ -51,15 +51,15 @@ invariant_of-result g c =
       walk = walked c.begin.new.self;
       stack = waiting_in c.clear.new.self.stack.items;
     }
-    in let left = ap (λ (l : Leaving). l.words) c.in_ok-left.ensures
+    in let left = ap (λ (l : Leaving). l.words) c.new.ensures
     in let told = sheet_told begun (stage_of t) c.as_slice-nodes.result.now k (sym c.in_ok-index.ensures.walked.shop)
     c.begin.ensures.walk refl c.in_ok-index.ensures.walked c.in_ok-index.ensures.ended c.as_slice-nodes.ensures.value
     (take_rest c.as_slice-nodes.result.now k) c.take_found-found.ensures.found c.in_ok-halt.ensures.words left
     in record {
       of_piece = refl;
       spent = omega arith;
-      left_of = ap (λ (l : Leaving). l.shop) c.in_ok-left.ensures;
-      left_below = ap (λ (l : Leaving). l.makespan) c.in_ok-left.ensures;
+      left_of = ap (λ (l : Leaving). l.shop) c.new.ensures;
+      left_below = ap (λ (l : Leaving). l.makespan) c.new.ensures;
       words_left = subst (AreWords shop) (sym (ap (λ (w : Walk). w.left) told))
           (searches_keep shop (words_of nodes) c.args.best c.args.budget
           (are_words shop nodes (subst (λ (x : Shop). AreNodes x nodes) (sym same) c.requires.nodes))).left;
