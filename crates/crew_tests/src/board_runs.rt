@@ -1,7 +1,7 @@
 // Runs of many rounds by workers on a board, beside runs by one thread alone.
 ghost use Rattle.std.specs.Thread.{IsSync};
 
-use crate::instances::{FT06, instance_of};
+use crate::instances::{FT06, FT06_STRETCHED, instance_of};
 use crate::telling::{assert_told, told_of};
 use shop_board::{BoardCrew, WorkerCrew};
 use shop_model::Instance;
@@ -69,15 +69,35 @@ fn assert_by_workers<R: Abort + Threads + Sync>(
     assert_run(rt, alloc, instance, plan, &mut crew, wanted);
 }
 
-// Pieces of a node with a budget of two: the search takes 31 rounds in one order and 19 in the other.
+// Asserts that a plan's rounds by several workers come to what one thread alone comes to: the least makespan.
+fn assert_many_rounds<R: Abort + Threads + Sync>(
+    rt: &R,
+    alloc: Global,
+    text: &str,
+    plan: &Plan,
+    least: u64,
+)
+    requires { IsSync R.row }
+{
+    let instance = instance_of(rt, alloc, text);
+    let alone = run_alone(alloc, &instance, plan).expect(rt, "memory");
+    assert!(rt; alone.makespan == least && alone.bound == least && alone.open_nodes == 0);
+    let wanted = told_of(rt, alloc, &alone);
+    assert_by_workers(rt, alloc, &instance, plan, wanted.as_str());
+}
+
+// Pieces of a node with a budget of two: the search takes 31 rounds in one order and 19 in the other, and none of them is
+// worth a second worker. With a budget of 400, rounds of five pieces and more are.
 #[test]
 fn many_rounds_by_any_number_of_workers(rt: HostRuntime) {
-    let instance = instance_of(&rt, rt.alloc(), FT06);
-    for order in [Order::Kept, Order::Bound] {
-        let plan = Plan::ordered(1_000, 2, 1, order).expect(&rt, "a plan");
-        let alone = run_alone(rt.alloc(), &instance, &plan).expect(&rt, "memory");
-        assert!(&rt; alone.makespan == 55 && alone.bound == 55 && alone.open_nodes == 0);
-        let wanted = told_of(&rt, rt.alloc(), &alone);
-        assert_by_workers(&rt, rt.alloc(), &instance, &plan, wanted.as_str());
+    for (budget, order) in [
+        (2, Order::Kept),
+        (2, Order::Bound),
+        (400, Order::Kept),
+        (400, Order::Bound),
+    ] {
+        let plan = Plan::ordered(1_000, budget, 1, order).expect(&rt, "a plan");
+        assert_many_rounds(&rt, rt.alloc(), FT06, &plan, 55);
+        assert_many_rounds(&rt, rt.alloc(), FT06_STRETCHED, &plan, 66_000);
     }
 }

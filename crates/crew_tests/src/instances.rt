@@ -22,6 +22,15 @@ pub const FT06: &str = "6 6\n\
     0 2 9 1 3 4 5 5 4 0 3 3 1\n\
     0 1 3 3 3 5 9 0 10 4 4 2 1\n";
 
+/// `FT06` with each time 1,200 times as long: its bounds are too great for a row of stacks. Its least makespan is 66,000.
+pub const FT06_STRETCHED: &str = "6 6\n\
+    0 2 1200 0 3600 1 7200 3 8400 5 3600 4 7200\n\
+    0 1 9600 2 6000 4 12000 5 12000 0 12000 3 4800\n\
+    0 2 6000 3 4800 5 9600 0 10800 1 1200 4 8400\n\
+    0 1 6000 0 6000 2 6000 3 3600 4 9600 5 10800\n\
+    0 2 10800 1 3600 4 6000 5 4800 0 3600 3 1200\n\
+    0 1 3600 3 3600 5 10800 0 12000 4 4800 2 1200\n";
+
 /// The two orders of open nodes find different schedules.
 pub const SHORT_JOBS: &str = "4 3\n0 0 5 1 3\n1 0 1 2 6\n0 1 1\n0 1 1\n";
 

@@ -4,7 +4,7 @@ use crate::telling::{assert_told, told_of};
 use shop_board::LockCrew;
 use shop_model::Instance;
 use shop_round::{Alone, run_alone};
-use shop_runs::{Crew, Entry, Plan, Round, run};
+use shop_runs::{Crew, Entry, Order, Plan, Round, run};
 use shop_workers::OpenGate;
 use std::alloc::{AllocError as NoMemory, Global};
 use std::process::Abort;
@@ -37,6 +37,23 @@ fn answers_by_one_thread(rt: HostRuntime) {
         let instance = instance_of(&rt, rt.alloc(), text);
         let plan = Plan::new(*rounds, *budget, 1).expect(&rt, "a plan");
         assert_alone(&rt, rt.alloc(), &instance, &plan, wanted);
+    }
+}
+
+/// Two jobs on two machines, and the least makespan. Their times sum up to the greatest opening makespan for which open
+/// nodes by bound stand in a row of stacks, and to one more.
+static AT_THE_LONGEST_ROW: [(&'static str, u64); 2] = [
+    ("2 2\n0 0 3 1 2\n0 1 2 0 65529\n", 65_532),
+    ("2 2\n0 0 3 1 2\n0 1 2 0 65530\n", 65_533),
+];
+
+#[test]
+fn open_nodes_by_bound_in_a_row_and_in_a_map(rt: HostRuntime) {
+    for (text, least) in &AT_THE_LONGEST_ROW {
+        let instance = instance_of(&rt, rt.alloc(), text);
+        let plan = Plan::ordered(1_000, 1, 1, Order::Bound).expect(&rt, "a plan");
+        let answer = run_alone(rt.alloc(), &instance, &plan).expect(&rt, "memory");
+        assert!(&rt; answer.makespan == *least && answer.bound == *least && answer.open_nodes == 0);
     }
 }
 

@@ -1,5 +1,5 @@
 -- One turn of a walk.
-use Rattle.std.proofs.Common.{◌≡◌, ℕ, zero, suc, ◌+◌, ◌-◌, ◌≤◌, inl, inr, Option, List, []}
+use Rattle.std.proofs.Common.{◌≡◌, ℕ, zero, suc, ◌≤◌, inl, inr, Option, List, []}
 use Rattle.std.proofs.Common.{◌∷◌, ◌++◌, length, map, refl, ◌∙◌, ap, arith, leb}
 use Rattle.std.specs.List.{range_with_len}
 use Rattle.std.proofs.lemmas.Bool.{cases_Bool, le-leb}
@@ -12,7 +12,7 @@ use Rattle.shop_bound.specs.Bound.{lb}
 use Rattle.shop_model.specs.Word.{placing}
 use Rattle.shop_nodes.specs.Branching.{branch, conflict, conflict_among, open_jobs, sort_by, insert_by, conflicts_with}
 use Rattle.shop_nodes.specs.Branching.{chosen_of}
-use Rattle.shop_nodes.specs.Walking.{Walk, walk, walk_within, operations_left}
+use Rattle.shop_nodes.specs.Walking.{walk, walk_within, operations_left}
 
 module _ (shop : Shop) (found : Option (List ℕ)) (best : ℕ) (left : List (List ℕ)) (w : List ℕ) where
   within-left : (n : ℕ) → walk_within shop n (record { found = found; best = best; left = left; budget = 0 }) w

@@ -10,6 +10,7 @@ ghost use Rattle.shop_nodes.specs.Left.{left_words, open_nodes, AreLeft};
 use crate::child_nodes::children;
 use crate::halts::{Halt, Waiting};
 use crate::nodes::Node;
+use crate::shared_nodes::SharedNode;
 use shop_model::{Instance, SharedWord, Word};
 use std::alloc::{AllocError as NoMemory, Global};
 use std::marker::Model;
@@ -78,6 +79,17 @@ impl<'r> Left<'r> {
         ensures { OnOk result (nodes.new.items ≡ nodes.old.items
             ++ open_nodes self.now.shop self.now.makespan self.now.words) }
     {
+        let mut shared = Vec::new(alloc);
+        self.add_shared(alloc, &mut shared)?;
+        add_nodes_of(shared.as_slice(), nodes)
+    }
+
+    /// Adds the open nodes to `nodes` as `add_open` does, but in the form in which a run stores them. Fails with
+    /// `NoMemory` if memory runs out.
+    pub fn add_shared(&self, alloc: Global, nodes: &mut Vec<SharedNode>) -> Result<(), NoMemory>
+        ensures { OnOk result (nodes.new.items ≡ nodes.old.items
+            ++ open_nodes self.now.shop self.now.makespan self.now.words) }
+    {
         if let Some(halt) = &self.halt {
             add_open_waiting(self.instance, self.makespan, halt, nodes)?;
         }
@@ -105,7 +117,7 @@ fn add_if_open(
     makespan: u64,
     path: &ArcSlice<u16, Global>,
     waiting: Waiting,
-    nodes: &mut Vec<Node>,
+    nodes: &mut Vec<SharedNode>,
 ) -> Result<(), NoMemory>
     requires { IsWaiting instance.now makespan (arc_slice_items path.now) waiting }
     ensures { OnOk result (nodes.new.items ≡ nodes.old.items ++ open_nodes instance.now makespan
@@ -117,9 +129,8 @@ fn add_if_open(
     if child.bound >= makespan {
         return Ok(());
     }
-    let word = Word::of_shared(SharedWord::along(path, child.depth, child.job)?);
-    let bound = child.bound;
-    nodes.push(Node { word, bound })?;
+    let word = SharedWord::along(path, child.depth, child.job)?;
+    nodes.push(SharedNode::new(word, child.bound))?;
     Ok(())
 }
 
@@ -129,7 +140,7 @@ fn add_open_waiting(
     instance: &Instance,
     makespan: u64,
     halt: &Halt,
-    nodes: &mut Vec<Node>,
+    nodes: &mut Vec<SharedNode>,
 ) -> Result<(), NoMemory>
     requires { IsHalt instance.now makespan halt.now }
     ensures { OnOk result (nodes.new.items ≡ nodes.old.items ++ open_nodes instance.now makespan
@@ -144,22 +155,35 @@ fn add_open_waiting(
     Ok(())
 }
 
-/// Adds copies of the nodes in `left` with bounds below `makespan`, in order. Fails with `NoMemory` if memory runs out.
+/// Adds the nodes in `left` with bounds below `makespan`, in order; their words share the jobs of those in `left`.
+/// Fails with `NoMemory` if memory runs out.
 fn add_open_nodes(
     alloc: Global,
     instance: &Instance,
     makespan: u64,
     left: &[Node],
-    nodes: &mut Vec<Node>,
+    nodes: &mut Vec<SharedNode>,
 ) -> Result<(), NoMemory>
     requires { AreNodes instance.now left.now }
     ensures { OnOk result (nodes.new.items ≡ nodes.old.items
         ++ open_nodes instance.now makespan (words_of left.now)) }
 {
+    instance.keeps_limits();
     for node in left {
         if node.bound < makespan {
-            nodes.push(node.copied(alloc)?)?;
+            nodes.push(SharedNode::of(alloc, node.copied(alloc)?)?)?;
         }
+    }
+    Ok(())
+}
+
+/// Adds the nodes of `shared` to `nodes`, in order; their words share the same jobs. Fails with `NoMemory` if memory
+/// runs out.
+fn add_nodes_of(shared: &[SharedNode], nodes: &mut Vec<Node>) -> Result<(), NoMemory>
+    ensures { OnOk result (nodes.new.items ≡ nodes.old.items ++ shared.now) }
+{
+    for node in shared {
+        nodes.push(node.node()?)?;
     }
     Ok(())
 }

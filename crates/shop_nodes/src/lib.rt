@@ -9,6 +9,7 @@ mod left;
 mod next_operations;
 mod nodes;
 mod pieces;
+mod shared_nodes;
 mod sheets;
 
 pub use child_nodes::children;
@@ -18,4 +19,5 @@ pub use laws::{branching_loses_no_table, searches_lose_no_table};
 pub use left::Left;
 pub use nodes::Node;
 pub use pieces::Piece;
+pub use shared_nodes::SharedNode;
 pub use sheets::Sheet;

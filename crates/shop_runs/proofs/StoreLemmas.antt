@@ -1,20 +1,17 @@
 -- Open nodes in the order of the next cut, through what is put, taken and let go.
 use Rattle.std.proofs.Common.{◌≡◌, ℕ, suc, ◌≤◌, ◌<◌, min, Bool, true, false, List, [], ◌∷◌, ◌++◌, length}
-use Rattle.std.proofs.Common.{append-nil, ltb, reverse, refl, sym, ◌∙◌, ap, subst, arith, eqb, filter, inl, inr, cond}
+use Rattle.std.proofs.Common.{append-nil, ltb, reverse, refl, sym, ◌∙◌, ap, arith, eqb, filter, inl, inr, cond}
 use Rattle.std.specs.Prelude.{IsTrue, ◌↔◌}
 use Rattle.std.proofs.lemmas.Bool.{cases_Bool, ne_eqb, lt-ltb, le-ltb}
-use Rattle.std.proofs.lemmas.List.Elements.{filter-append, recursion_from_All, All-from_recursion}
+use Rattle.std.proofs.lemmas.List.Elements.{filter-append}
 use Rattle.std.proofs.lemmas.List.{reverse-append, flat_map_more}
-use Rattle.shop_model.specs.SharedWords.{CanBeShared}
 use Rattle.shop_nodes.specs.Left.{Leaving}
 use Rattle.shop_nodes.specs.declared.nodes.Node.{Node}
 use Rattle.shop_runs.specs.declared.stacks.Stack.{Stack}
 use Rattle.shop_runs.specs.declared.plans.Order.{Order}
 use Rattle.shop_runs.specs.inner.NodeLists.{least_of_bounds, nodes_below}
-use Rattle.shop_runs.specs.inner.OpenNodes.{AreSharable}
 use Rattle.shop_runs.specs.inner.Outcomes.{open_of, left_open}
 use Rattle.shop_runs.specs.inner.Stacks.{nodes_by_bound, put_before, put_all_before}
-use Rattle.shop_runs.proofs.Cutting.{all_front, all_back}
 
 pub reverse-cons : {A : Type 0} (x : A) (xs : List A) → reverse (x ∷ xs) ≡ reverse xs ++ x ∷ []
 reverse-cons x xs = reverse-append (x ∷ []) xs
@@ -77,14 +74,3 @@ put_last_left o c ls l nodes =
     let e = ap (nodes_below c) (sym (flat_map_more open_of [] ls l))
     ∙ filter-append (λ (m : Node). ltb m.bound c) (left_open ls) (open_of l)
     in ap (λ ms. put_all_before o ms nodes) e ∙ put_append o (nodes_below c (left_open ls)) (nodes_below c (open_of l)) nodes
-
-pub last_left_sharable : (ls : List Leaving) (l : Leaving) → AreSharable (left_open (ls ++ l ∷ []))
-    → AreSharable (left_open ls) × AreSharable (open_of l)
-last_left_sharable ls l all =
-    let ok : Node → Type 0 = (λ n. CanBeShared n.word)
-    in let both = recursion_from_All ok (left_open ls ++ open_of l)
-    (subst AreSharable (sym (flat_map_more open_of [] ls l)) all)
-    in (
-      All-from_recursion ok (left_open ls) (all_front ok (left_open ls) (open_of l) both),
-      All-from_recursion ok (open_of l) (all_back ok (left_open ls) (open_of l) both),
-    )

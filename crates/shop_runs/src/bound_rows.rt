@@ -1,14 +1,13 @@
 // Open nodes for the order `Bound` where bounds are small: a row of stacks of words, one for each bound.
 ghost use Rattle.std.specs.Prelude.{◌≡◌, ◌==◌, ◌^◌, ◌<◌, ◌≤◌, ◌∷◌, [], length, vec_len, IfOk, OnOk, OnErr};
-ghost use Rattle.shop_model.specs.SharedWords.{CanBeShared};
 ghost use Rattle.shop_nodes.specs.Branching.{insert_by};
 ghost use Rattle.shop_runs.specs.inner.NodeLists.{least_of_bounds, nodes_below};
-ghost use Rattle.shop_runs.specs.inner.Stacks.{words_left, nodes_in_row, IsNextOf};
+ghost use Rattle.shop_runs.specs.inner.Stacks.{words_left, nodes_in_row, IsNextOf, IsTopIfAny};
 ghost use Rattle.shop_runs.specs.inner.BoundRows.{IsFirstFrom, StaysEmpty, TakesTop};
 
 use crate::stacks::Stack;
 use shop_model::{SharedWord, Word};
-use shop_nodes::Node;
+use shop_nodes::{Node, SharedNode};
 use std::alloc::{AllocError as NoMemory, Global};
 use std::marker::Model;
 
@@ -26,10 +25,25 @@ fn push_at(alloc: Global, place: &mut Option<Stack>, word: SharedWord) -> Result
     }
 }
 
-/// Takes the top word off the stack at a place, or answers `None` if there is no stack. Leaves no empty stack.
+/// Takes the top word off the stack at a place, if the topmost chunk has another word. Else answers `None` and changes
+/// nothing.
+fn pop_in_chunk_at(place: &mut Option<Stack>) -> Option<SharedWord>
+    ensures { IsTopIfAny result (words_left place.old) (words_left place.new) }
+{
+    match place {
+        Some(stack) => stack.pop_in_chunk(),
+        None => None,
+    }
+}
+
+/// Takes the top word off the stack at a place, or answers `None` if there is no stack. Leaves no empty stack. Nearly
+/// all words are taken from where they lie; where a chunk ends, the stack is moved out and back.
 fn pop_at(place: &mut Option<Stack>) -> Option<SharedWord>
     ensures { TakesTop result place.old place.new }
 {
+    if let Some(word) = pop_in_chunk_at(place) {
+        return Some(word);
+    }
     let stack = place.take()?;
     let (word, others) = stack.pop();
     *place = others;
@@ -107,12 +121,10 @@ impl BoundRow {
     }
 
     /// Puts `node` before all other nodes of its bound. Fails with `NoMemory` if memory runs out.
-    pub(crate) fn put(&mut self, alloc: Global, node: Node) -> Result<(), NoMemory>
-        requires { CanBeShared node.word }
+    pub(crate) fn put(&mut self, alloc: Global, node: SharedNode) -> Result<(), NoMemory>
         ensures { OnOk result (self.new ≡ insert_by (λ n. n.bound) node self.old) }
     {
-        let Node { word, bound } = node;
-        let word = word.into_shared(alloc)?;
+        let (word, bound) = node.into_parts();
         let index = bound as usize;
         reach(&mut self.stacks, index)?;
         self.first = self.first.min(index);
@@ -130,6 +142,7 @@ impl BoundRow {
         let word = pop_at(&mut self.stacks[self.first])?;
         let word = Word::of_shared(word);
         let bound = self.first as u64;
+        self.first = first_from(self.stacks.as_slice(), self.first);
         Some(Node { word, bound })
     }
 

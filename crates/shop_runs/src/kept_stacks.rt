@@ -4,15 +4,14 @@ ghost use Rattle.shop_runs.specs.inner.NodeLists.{least_of_bounds, nodes_below};
 ghost use Rattle.shop_runs.specs.inner.KeptStacks.{AreLeasts, nodes_of};
 ghost use Rattle.shop_runs.specs.inner.Stacks.{IsNextOf};
 
-use crate::kept_nodes::KeptNode;
-use shop_nodes::Node;
+use shop_nodes::{Node, SharedNode};
 use std::alloc::{AllocError as NoMemory, Global};
 use std::marker::Model;
 
 /// A node on a stack, and the least bound among it and the nodes below it on the stack. It takes 32 bytes.
 #[derive(Drop)]
 pub(crate) struct StackedNode {
-    pub(crate) node: KeptNode,
+    pub(crate) node: SharedNode,
     pub(crate) least: u64,
 }
 
@@ -58,7 +57,7 @@ impl KeptStack {
 
     /// Puts `node` on top. A full stack gets room for only a quarter more nodes plus 4, as open nodes take most of a
     /// run's memory. Fails with `NoMemory` if memory runs out.
-    pub(crate) fn push(&mut self, node: KeptNode) -> Result<(), NoMemory>
+    pub(crate) fn push(&mut self, node: SharedNode) -> Result<(), NoMemory>
         ensures { OnOk result (self.new ≡ node ∷ self.old) }
     {
         let least = self.least_bound(node.bound());

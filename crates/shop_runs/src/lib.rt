@@ -4,7 +4,6 @@
 mod bound_rows;
 mod crews;
 mod entries;
-mod kept_nodes;
 mod kept_stacks;
 mod open_nodes;
 mod outcomes;

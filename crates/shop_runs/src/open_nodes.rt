@@ -1,23 +1,30 @@
 // The store of a run's open nodes, in the order in which the next round takes them.
 ghost use Rattle.std.specs.Prelude.{◌≡◌, ◌==◌, ◌^◌, ◌≤◌, [], length, IfOk, OnOk, OnErr};
-ghost use Rattle.shop_model.specs.SharedWords.{CanBeShared};
 ghost use Rattle.shop_runs.specs.inner.NodeLists.{least_of_bounds, nodes_below};
 ghost use Rattle.shop_runs.specs.inner.OpenNodes.{AreBelow, AreSharable};
 ghost use Rattle.shop_runs.specs.inner.Outcomes.{left_open};
 
 use crate::bound_rows::BoundRow;
-use crate::kept_nodes::KeptNode;
 use crate::kept_stacks::KeptStack;
 use crate::plans::Order;
 use crate::stacks::{
     Stack, count_by_bound, keep_by_bound, least_by_bound, pop_by_bound, put_by_bound,
 };
-use shop_nodes::{Left, Node};
+use shop_nodes::{Left, Node, SharedNode};
 use std::alloc::{AllocError as NoMemory, Global};
 use std::collections::BTreeMap;
 
 /// Bounds up to here may stand in a row, which then takes some 5 MB.
 const MOST_IN_ROW: u64 = 65_536;
+
+/// A row may be so many times as long as the instance has operations. A round goes through the empty places between two
+/// stacks in some instructions each, and through all operations for each piece in some dozens.
+const MOST_FOR_AN_OPERATION: u64 = 128;
+
+/// Tells whether open nodes of bounds below `makespan` may stand in a row, for an instance of `operations` operations.
+fn fits_row(makespan: u64, operations: usize) -> bool {
+    makespan <= MOST_IN_ROW && makespan / MOST_FOR_AN_OPERATION <= operations as u64
+}
 
 /// Open nodes in the order in which the next round takes them: one stack for `Kept`, and one stack of words per bound
 /// for `Bound`, in a row where the bounds are small and else in a map. The time to put or take a node hardly grows with
@@ -33,15 +40,16 @@ impl OpenNodes {
     ghost use Rattle.shop_runs.specs.inner.Stores.{open_list, order_of, IsPut, ArePut, IsTaken};
     ghost use Rattle.shop_runs.specs.inner.Stores.{IsKeptBelow, HasPopped};
 
-    /// Makes an empty store, which will hold open nodes of bounds below `makespan` in `order`.
-    pub(crate) fn new(alloc: Global, order: Order, makespan: u64) -> OpenNodes
+    /// Makes an empty store, which will hold open nodes of bounds below `makespan` in `order`, of an instance of
+    /// `operations` operations.
+    pub(crate) fn new(alloc: Global, order: Order, makespan: u64, operations: usize) -> OpenNodes
         ensures none { open_list result ≡ [] }
         ensures order { order_of result ≡ order }
     {
         match order {
             Order::Kept => OpenNodes::AsKept(KeptStack::new(alloc)),
             Order::Bound => {
-                if makespan <= MOST_IN_ROW {
+                if fits_row(makespan, operations) {
                     OpenNodes::InRow(BoundRow::new(alloc))
                 } else {
                     OpenNodes::ByBound(BTreeMap::new(alloc))
@@ -52,12 +60,12 @@ impl OpenNodes {
 
     /// Puts `node` in its place: for `Kept` before all others, for `Bound` before the nodes of an equal or a greater
     /// bound. Fails with `NoMemory` if memory runs out.
-    pub(crate) fn put(&mut self, alloc: Global, node: Node) -> Result<(), NoMemory>
-        requires { CanBeShared node.word }
+    #[inline(always)]
+    fn put(&mut self, alloc: Global, node: SharedNode) -> Result<(), NoMemory>
         ensures { OnOk result (IsPut node self.old self.new) }
     {
         match self {
-            OpenNodes::AsKept(nodes) => nodes.push(KeptNode::of(alloc, node)?),
+            OpenNodes::AsKept(nodes) => nodes.push(node),
             OpenNodes::InRow(nodes) => nodes.put(alloc, node),
             OpenNodes::ByBound(stacks) => put_by_bound(alloc, stacks, node),
         }
@@ -79,6 +87,26 @@ impl OpenNodes {
             if node.bound >= makespan {
                 continue;
             }
+            self.put(alloc, SharedNode::of(alloc, node)?)?;
+        }
+        Ok(())
+    }
+
+    /// Empties the list `nodes` from its end, as `put_below` does, of nodes in the form in which they are stored. Fails
+    /// with `NoMemory` if memory runs out.
+    fn put_open(
+        &mut self,
+        alloc: Global,
+        makespan: u64,
+        nodes: &mut Vec<SharedNode>,
+    ) -> Result<(), NoMemory>
+        ensures put { OnOk result (ArePut (nodes_below makespan nodes.old.items) self.old self.new) }
+        ensures moved { OnOk result (nodes.new.items ≡ []) }
+    {
+        while let Some(node) = nodes.pop() {
+            if node.bound() >= makespan {
+                continue;
+            }
             self.put(alloc, node)?;
         }
         Ok(())
@@ -92,14 +120,13 @@ impl OpenNodes {
         makespan: u64,
         mut left: Vec<Left>,
     ) -> Result<(), NoMemory>
-        requires { AreSharable (left_open left.items) }
         ensures { OnOk result
             (ArePut (nodes_below makespan (left_open left.entry.items)) self.old self.new) }
     {
         let mut nodes = Vec::new(alloc);
         while let Some(of_sheet) = left.pop() {
-            of_sheet.add_open(alloc, &mut nodes)?;
-            self.put_below(alloc, makespan, &mut nodes)?;
+            of_sheet.add_shared(alloc, &mut nodes)?;
+            self.put_open(alloc, makespan, &mut nodes)?;
         }
         Ok(())
     }

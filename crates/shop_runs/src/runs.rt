@@ -38,7 +38,7 @@ impl OpenRun {
         ensures { IfOk result (λ t. IsSearchAt instance.now order (stands standing) t) }
     {
         instance.keeps_limits();
-        let mut open = OpenNodes::new(alloc, order, standing.makespan);
+        let mut open = OpenNodes::new(alloc, order, standing.makespan, instance.operations());
         open.put_below(alloc, standing.makespan, &mut standing.open)?;
         Ok(OpenRun { standing, open })
     }
@@ -94,7 +94,6 @@ impl OpenRun {
         ensures next { IfOk result (λ p. IsNextSearch instance.now plan.now self p.0) }
         ensures layout { IfOk result (λ p. p.1 ≡ instance.now) }
     {
-        instance.keeps_limits();
         let opening = self.standing.makespan;
         let layout = kept_or_new(alloc, instance, kept)?;
         let (round, mut open) = self.cut(alloc, instance, layout, plan)?;

@@ -1,13 +1,12 @@
 // Open nodes for the order `Bound`: one stack of words for each bound.
 ghost use Rattle.std.specs.Prelude.{◌≡◌, ◌^◌, ◌≤◌, ◌∷◌, [], length, IfOk, OnOk, OnErr};
-ghost use Rattle.shop_model.specs.SharedWords.{CanBeShared};
 ghost use Rattle.shop_runs.specs.inner.NodeLists.{least_of_bounds};
 ghost use Rattle.shop_runs.specs.inner.Stacks.{words_in, words_in_rest, words_on, words_left};
 ghost use Rattle.shop_runs.specs.inner.Stacks.{nodes_in_stacks, IsPutByBound, IsNextByBound};
-ghost use Rattle.shop_runs.specs.inner.Stacks.{KeepsBelow};
+ghost use Rattle.shop_runs.specs.inner.Stacks.{KeepsBelow, IsTopIfAny};
 
 use shop_model::{SharedWord, Word};
-use shop_nodes::Node;
+use shop_nodes::{Node, SharedNode};
 use std::alloc::{AllocError as NoMemory, Global};
 use std::collections::BTreeMap;
 use std::collections::btree_map::Entry;
@@ -82,12 +81,20 @@ impl Stack {
     }
 
     /// Puts `word` on top. Fails with `NoMemory` if memory runs out; the stack has then lost words.
+    #[inline(always)]
     pub(crate) fn push(&mut self, alloc: Global, word: SharedWord) -> Result<(), NoMemory>
         ensures { OnOk result (words_on self.new ≡ word ∷ words_on self.old) }
     {
         if self.topmost.below.len() < BLOCK {
             return self.topmost.push(word);
         }
+        self.cover(alloc, word)
+    }
+
+    /// Puts `word` on top, in a chunk of its own. Fails with `NoMemory` if memory runs out; the stack has then lost words.
+    fn cover(&mut self, alloc: Global, word: SharedWord) -> Result<(), NoMemory>
+        ensures { OnOk result (words_on self.new ≡ word ∷ words_on self.old) }
+    {
         let full = mem::replace(&mut self.topmost, Chunk::of(alloc, word));
         self.covered.push(full)?;
         Ok(())
@@ -108,6 +115,15 @@ impl Stack {
             count = sum;
         }
         Ok(count)
+    }
+
+    /// Takes the top word off the topmost chunk where it lies, if there is another word in this chunk. Else answers
+    /// `None` and changes nothing.
+    pub(crate) fn pop_in_chunk(&mut self) -> Option<SharedWord>
+        ensures { IsTopIfAny result (words_on self.old) (words_on self.new) }
+    {
+        let next = self.topmost.below.pop()?;
+        Some(mem::replace(&mut self.topmost.top, next))
     }
 
     /// Answers the top word, and the stack of the other words, or `None` if there are no others.
@@ -133,13 +149,11 @@ impl Stack {
 pub(crate) fn put_by_bound(
     alloc: Global,
     stacks: &mut BTreeMap<u64, Stack>,
-    node: Node,
+    node: SharedNode,
 ) -> Result<(), NoMemory>
-    requires { CanBeShared node.word }
     ensures { OnOk result (IsPutByBound node stacks.old stacks.new) }
 {
-    let Node { word, bound } = node;
-    let word = word.into_shared(alloc)?;
+    let (word, bound) = node.into_parts();
     match stacks.entry(bound)? {
         Entry::Occupied(stack) => stack.into_mut().push(alloc, word)?,
         Entry::Vacant(place) => {

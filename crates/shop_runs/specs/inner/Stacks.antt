@@ -10,6 +10,7 @@
 --     put_all_before order ns nodes   each node of ns before those that the order has behind it,
 --                                     the last one put first
 --     IsNextOf node before after      the first node is taken from the list, if there is one
+--     IsTopIfAny word before after    the first word is taken from the list, or nothing is
 use Rattle.std.specs.Prelude.{◌≡◌, ℕ, suc, Option, Some, None, List, [], ◌∷◌, ◌++◌}
 use Rattle.std.specs.Prelude.{map, flat_map, reverse}
 use Rattle.std.specs.BTreeMap.{BTreeMap}
@@ -61,6 +62,10 @@ put_all_before order (n ∷ ns) nodes = put_before order n (put_all_before order
 abbrev pub IsNextOf : Option Node → List Node → List Node → Type 0
 IsNextOf None before after = (before ≡ []) × (after ≡ [])
 IsNextOf (Some node) before after = before ≡ node ∷ after
+
+abbrev pub IsTopIfAny : Option (List ℕ) → List (List ℕ) → List (List ℕ) → Type 0
+IsTopIfAny None before after = after ≡ before
+IsTopIfAny (Some word) before after = before ≡ word ∷ after
 
 -- of stacks by bound: a node is put, one is taken, those below a makespan are kept
 abbrev pub IsPutByBound : Node → BTreeMap ℕ Stack → BTreeMap ℕ Stack → Type 0

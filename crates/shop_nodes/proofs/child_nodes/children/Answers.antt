@@ -1,7 +1,5 @@
 use Rattle.std.proofs.Common.{◌≡◌, [], ◌∷◌, ◌++◌, ◌∙◌, ℕ, List, map, sym, ap, subst, arith, append-nil, append_assoc}
 use Rattle.std.proofs.Common.{length}
-use Rattle.std.specs.Arc.{arc_slice_items}
-use Rattle.std.specs.List.{insert}
 use Rattle.shop_bound.specs.Bound.{lb}
 use Rattle.shop_model.specs.Word.{IsWord}
 use Rattle.shop_nodes.specs.Branching.{branch, conflict, insert_by, sort_by}

@@ -13,26 +13,31 @@ invariant_of-self-2 c =
     let first = c.self.inside.first
     in let low = c.min-self-inside.result
     in let os = c.reach.new.stacks.items
+    in let bound = c.into_parts-word.result.1
     in let at : AreEmptyBelow first os = c.in_ok-reach.ensures.empty first c.self.invariant
     in let less : low ≤ first = search rules
-    in let before : low ≤ c.args.node.bound = search rules
+    in let before : low ≤ bound = search rules
     in (
       search rules,
-      still_empty 0 low c.args.node.bound os c.push_at.new.place before (lower_empty 0 first low os less at.1),
+      still_empty 0 low bound os c.push_at.new.place before (lower_empty 0 first low os less at.1),
     )
 
 pub returns : goal.returns
 returns c =
     let os = c.reach.new.stacks.items
-    in let bound = c.args.node.bound
+    in let parts = c.into_parts-word
+    in let bound = parts.result.1
+    in let word = parts.result.0
     in let o = c.push_at.new.place
     in let now = c.index_mut.result.now
     in let there : slice_index_or os bound now ≡ now = search rules
     in let same : 0 + bound ≡ bound = omega arith
     in on_ok_weaker c.push_at.result (λ pushed.
-    let top : words_left o ≡ c.args.node.word ∷ words_left (slice_index_or os bound now) =
-    pushed ∙ (λ i. c.in_ok-word.ensures i ∷ words_left (sym there i))
-    in put_at 0 bound os c.args.node.word o now (search rules) top
-    ∙ (ap (λ b. insert_by (λ (n : Node). n.bound) (record { word = c.args.node.word; bound = b }) (nodes_in_row 0 os)) same
-    ∙ ap (insert_by (λ (n : Node). n.bound) c.args.node) (c.in_ok-reach.ensures.nodes ∙ c.self.view_is)))
+    let top : words_left o ≡ word ∷ words_left (slice_index_or os bound now) =
+    pushed ∙ ap (λ x. word ∷ words_left x) (sym there)
+    in put_at 0 bound os word o now (search rules) top
+    ∙ (ap (λ b. insert_by (λ (n : Node). n.bound) (record { word = word; bound = b }) (nodes_in_row 0 os)) same
+    ∙ ((λ i. insert_by (λ (n : Node). n.bound)
+    (record { word = parts.ensures.word i; bound = parts.ensures.bound i }) (nodes_in_row 0 os))
+    ∙ ap (insert_by (λ (n : Node). n.bound) c.args.node) (c.in_ok-reach.ensures.nodes ∙ c.self.view_is))))
     c.push_at.ensures

@@ -7,8 +7,8 @@ use Rattle.shop_runs.specs.inner.Stores.{open_list, order_of}
 use Rattle.shop_runs.proofs.StoreLemmas.{put_last, skip_last}
 use Rattle.shop_runs.proofs.open_nodes.OpenNodes.put_below.Goals as goal
 
-pub put-requires : goal.put-requires
-put-requires c =
+pub of-requires : goal.of-requires
+of-requires c =
     let left = c.pop.new.self.items
     in let was : c.loop-node.nodes.items ≡ left ++ c.in-Some.node ∷ [] = search rules
     in (All-pop (λ n. CanBeShared n.word) c.loop-node.nodes.items left (Some c.in-Some.node) was
@@ -37,7 +37,7 @@ loop-node-preserved c =
     in let was : c.loop-node.nodes.items ≡ left ++ c.in-Some.node ∷ [] = search rules
     in let put = c.in_ok-put.ensures
     in let here : open_list c.put.new.self ≡ put_before order c.in-Some.node nodes =
-    put.1 ∙ ap (λ o. put_before o c.in-Some.node nodes) now.order
+    put.1 ∙ (λ j. put_before (now.order j) (c.in_ok-of.ensures j) nodes)
     in record {
       sharable = (All-pop (λ n. CanBeShared n.word) c.loop-node.nodes.items left (Some c.in-Some.node) was
           now.sharable).0;

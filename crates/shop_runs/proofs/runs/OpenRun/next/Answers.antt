@@ -1,20 +1,10 @@
-use Rattle.std.proofs.Common.{◌∙◌, ap, refl, subst}
-use Rattle.shop_nodes.specs.Nodes.{AreNodes}
+use Rattle.std.proofs.Common.{◌∙◌, refl}
 use Rattle.shop_runs.specs.Plans.{planned}
-use Rattle.shop_runs.specs.Round.{Told}
 use Rattle.shop_runs.specs.inner.NodeLists.{nodes_below}
 use Rattle.shop_runs.specs.inner.Outcomes.{left_open}
 use Rattle.shop_runs.specs.inner.Stacks.{put_all_before}
 use Rattle.shop_runs.proofs.Answering.{next_round}
-use Rattle.shop_runs.proofs.KeptBelow.{all_sharable}
 use Rattle.shop_runs.proofs.runs.OpenRun.next.Goals as goal
-
-pub put_left-requires : goal.put_left-requires
-put_left-requires g c =
-    let all = left_open c.in_ok-found.field-0.left.items
-    in let same = ap (λ (t : Told). t.shop) c.in_ok-round.ensures.round
-    in all_sharable c.args.instance.now c.keeps_limits.ensures all
-    (subst (λ shop. AreNodes shop all) same c.in_ok-found.ensures.nodes_left)
 
 pub returns-clause-next : goal.returns-clause-next
 returns-clause-next g c =
