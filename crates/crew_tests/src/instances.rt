@@ -7,7 +7,7 @@ use std::process::Abort;
 /// Two jobs that cross two machines.
 pub const CROSSING: &str = "2 2\n0 0 3 1 2\n0 1 2 0 4\n";
 
-/// The first bound is below the least makespan; a last step takes no time.
+/// Two jobs on three machines, whose first bound is below the least makespan; a last step takes no time.
 pub const GAP: &str = "2 3\n0 0 5 1 3 2 0\n0 1 1 0 1 2 6\n";
 
 /// Two jobs with several steps of time 0.
@@ -22,10 +22,10 @@ pub const FT06: &str = "6 6\n\
     0 2 9 1 3 4 5 5 4 0 3 3 1\n\
     0 1 3 3 3 5 9 0 10 4 4 2 1\n";
 
-/// The two orders of open nodes find different schedules.
+/// Four jobs on three machines, on which the two orders of open nodes find different schedules.
 pub const SHORT_JOBS: &str = "4 3\n0 0 5 1 3\n1 0 1 2 6\n0 1 1\n0 1 1\n";
 
-/// The instance of a text.
+/// Reads the instance of a text.
 pub fn instance_of(rt: &impl Abort, alloc: Global, text: &str) -> Instance {
     let mut named = read_routes(alloc, text.as_bytes()).expect(rt, "an instance");
     named.pop().expect(rt, "an instance").instance
