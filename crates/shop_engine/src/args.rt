@@ -8,16 +8,14 @@ pub struct ListArgs {
     pub format: Format,
 }
 
-/// Tells `check` how the text is written, and which instance to take: the first of the name, or without a name the
-/// first of the text.
+/// Tells `check` the format of the text, and which instance to take: the first of the name, or the first of all.
 #[derive(Drop)]
 pub struct CheckArgs {
     pub format: Format,
     pub name: Option<String>,
 }
 
-/// Tells `solve` how the text is written, which instance to take (the first of the name, or without a name the first of
-/// the text), how to search, and whether to add a Gantt text.
+/// Tells `solve` the format of the text, the instance (without a name the first), the plan, and whether to add a chart.
 #[derive(Drop)]
 pub struct SolveArgs {
     pub format: Format,
