@@ -26,7 +26,7 @@ pub struct Instance {
     pub routes: Vec<Vec<Step>>,
 }
 
-/// A route over all machines in a random order.
+/// Makes a route over all machines in a random order. Fails with `AllocError` if memory runs out.
 fn random_route(
     alloc: Global,
     numbers: &mut Numbers,
@@ -40,7 +40,7 @@ fn random_route(
     Ok(route)
 }
 
-/// An instance of this size with random routes.
+/// Makes an instance of this size with random routes. Fails with `AllocError` if memory runs out.
 pub fn random_instance(
     alloc: Global,
     numbers: &mut Numbers,
@@ -53,7 +53,7 @@ pub fn random_instance(
     Ok(Instance { size, routes })
 }
 
-/// Writes the lines that begin an instance.
+/// Writes the lines that begin an instance. Fails with `AllocError` if memory runs out.
 fn write_head(text: &mut String, name: usize, size: Size) -> Result<(), AllocError> {
     write!(
         text,
@@ -62,7 +62,7 @@ fn write_head(text: &mut String, name: usize, size: Size) -> Result<(), AllocErr
     )
 }
 
-/// Writes the text of an instance in the format `orlib`, named by a number.
+/// Writes the text of an instance in the format `orlib`, named by a number. Fails with `AllocError` if memory runs out.
 pub fn write_instance(
     text: &mut String,
     name: usize,
@@ -78,7 +78,8 @@ pub fn write_instance(
     Ok(())
 }
 
-/// The text of fresh random instances of this size, in the format `orlib`.
+/// Makes the text of fresh random instances of this size, in the format `orlib`. Fails with `AllocError` if memory runs
+/// out.
 pub fn random_text(
     alloc: Global,
     numbers: &mut Numbers,
@@ -92,8 +93,8 @@ pub fn random_text(
     Ok(text)
 }
 
-/// The text of an instance in the format `routes`: jobs of 90 to 100 steps on three machines, each for 0 to 3, so that
-/// each route comes back to each machine some thirty times.
+/// Makes the text of an instance in the format `routes`: jobs of 90 to 100 steps on three machines, each for 0 to 3, so
+/// that each route comes back to each machine some thirty times. Fails with `AllocError` if memory runs out.
 pub fn text_of_long_routes(
     alloc: Global,
     numbers: &mut Numbers,

@@ -40,8 +40,8 @@ impl Draft {
         Ok(Draft { rows, free })
     }
 
-    /// Places the next step of a job as early as its job and its machine let it; the start that is written is that of
-    /// only one of them where `is_early`.
+    /// Places the next step of a job as early as the job and the machine allow. If `is_early`, writes a start for which
+    /// only one of the two is ready, unless both are ready together. Fails with `AllocError` if memory runs out.
     fn place(&mut self, job: usize, step: Step, is_early: bool) -> Result<(), AllocError> {
         let (Some(row), Some(free)) = (self.rows.get_mut(job), self.free.get_mut(step.machine))
         else {
@@ -114,7 +114,7 @@ fn late_jobs(instance: &Instance) -> Option<(usize, usize)> {
 }
 
 /// Makes the text of a schedule that places the first steps of all jobs, then the second ones, and so on, each time
-/// with the jobs in a random order.
+/// with the jobs in a random order. Fails with `AllocError` if memory runs out.
 pub fn random_schedule(
     alloc: Global,
     numbers: &mut Numbers,

@@ -20,6 +20,7 @@ struct Workload {
 
 impl Workload {
     /// Adds the report on an instance text, by a plan of `rounds`, `budget` and `order`, with one node in a piece.
+    /// Fails with the fault of the engine, or if memory runs out.
     fn solve(
         &mut self,
         alloc: Global,
@@ -39,7 +40,8 @@ impl Workload {
         Ok(())
     }
 
-    /// Adds the reports on `count` random instances of `size`.
+    /// Adds the reports on `count` random instances of `size`. Fails with the fault of the engine, or if memory runs
+    /// out.
     fn solve_random(
         &mut self,
         alloc: Global,
@@ -54,7 +56,7 @@ impl Workload {
         Ok(())
     }
 
-    /// Adds the reports on `count` instances of long routes.
+    /// Adds the reports on `count` instances of long routes. Fails with the fault of the engine, or if memory runs out.
     fn solve_long_routes(
         &mut self,
         alloc: Global,
@@ -69,7 +71,8 @@ impl Workload {
         Ok(())
     }
 
-    /// Adds the verdicts on `count` schedules of a random instance of `size`.
+    /// Adds the verdicts on `count` schedules of a random instance of `size`. Fails with the fault of the engine, or if
+    /// memory runs out.
     fn check(&mut self, alloc: Global, size: Size, count: usize, fault: Fault) -> Result<()> {
         let instance = random_instance(alloc, &mut self.numbers, size)?;
         let mut text = String::new(alloc);
@@ -88,7 +91,7 @@ impl Workload {
         Ok(())
     }
 
-    /// Adds the list of `count` random instances of `size`.
+    /// Adds the list of `count` random instances of `size`. Fails with the fault of the engine, or if memory runs out.
     fn list(&mut self, alloc: Global, size: Size, count: usize) -> Result<()> {
         let text = random_text(alloc, &mut self.numbers, size, count)?;
         let args = ListArgs {

@@ -78,7 +78,7 @@ fn a_worker_passes_behind_the_mark_of_another_seat(rt: HostRuntime) {
     in_third_round(&rt, rt.alloc(), &Marked);
 }
 
-// Three seats for one that has won nothing.
+// Makes three seats of one that has won nothing.
 fn three_seats(rt: &impl Abort, alloc: Global, board: &Board, seat: Seat) -> Vec<Seat>
     requires { HasServedOf board.now seat 0 }
     ensures { All (λ s. HasServedOf board.now s 0) result.items }
@@ -99,7 +99,7 @@ fn claim_all(board: &Board, mut seat: Seat) -> [bool; 3]
     won
 }
 
-// The same by a thread for each seat.
+// Lets each seat claim all pieces on a thread of its own.
 fn claim_by_threads<R: Threads + Sync>(
     rt: &R,
     board: &Board,
@@ -113,7 +113,7 @@ fn claim_by_threads<R: Threads + Sync>(
     thread::map_vec(rt, seats, &worker)
 }
 
-// How many seats won a piece.
+// Counts the seats that won a piece.
 fn winners(lists: &[[bool; 3]], number: usize) -> usize {
     let mut count: usize = 0;
     for won in lists {
@@ -167,7 +167,7 @@ fn work_one<'r>(alloc: Global, board: &Board, seat: Seat, round: &'r Round<'r>) 
     }
 }
 
-// By a thread for each seat.
+// Lets each seat work on a thread of its own.
 fn work_by_threads<'r, R: Threads + Sync>(
     rt: &R,
     alloc: Global,

@@ -76,8 +76,8 @@ impl SeatGate for Noting {
     }
 }
 
-// What so many workers of either crew bring of a round, and one of what their gate notes: how many met, and who
-// searched piece 0 and piece 1.
+// What a number of workers of either crew bring of a round, and one of the two things that their gate may note: how
+// many met, and who searched piece 0 and piece 1.
 #[derive(Drop)]
 struct Searched {
     workers: usize,

@@ -7,7 +7,7 @@ use std::process::Abort;
 /// Two jobs that cross two machines.
 pub const CROSSING: &str = "2 2\n0 0 3 1 2\n0 1 2 0 4\n";
 
-/// The first bound is below the least makespan; a last step takes no time.
+/// Two jobs on three machines, whose first bound is below the least makespan; a last step takes no time.
 pub const GAP: &str = "2 3\n0 0 5 1 3 2 0\n0 1 1 0 1 2 6\n";
 
 /// Two jobs with several steps of time 0.
@@ -31,10 +31,10 @@ pub const FT06_STRETCHED: &str = "6 6\n\
     0 2 10800 1 3600 4 6000 5 4800 0 3600 3 1200\n\
     0 1 3600 3 3600 5 10800 0 12000 4 4800 2 1200\n";
 
-/// The two orders of open nodes find different schedules.
+/// Four jobs on three machines, on which the two orders of open nodes find different schedules.
 pub const SHORT_JOBS: &str = "4 3\n0 0 5 1 3\n1 0 1 2 6\n0 1 1\n0 1 1\n";
 
-/// The instance of a text.
+/// Reads the instance of a text.
 pub fn instance_of(rt: &impl Abort, alloc: Global, text: &str) -> Instance {
     let mut named = read_routes(alloc, text.as_bytes()).expect(rt, "an instance");
     named.pop().expect(rt, "an instance").instance

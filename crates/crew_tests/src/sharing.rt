@@ -86,7 +86,7 @@ impl SeatGate for Counting {
     }
 }
 
-// So many workers share a round of at least as many pieces, none of which ends at the opening bound.
+// A number of workers that share a round of at least as many pieces, none of which ends at the opening bound.
 #[derive(Drop)]
 struct Shared {
     workers: usize,
@@ -131,7 +131,7 @@ fn all_workers_begin_and_each_piece_is_searched_once(rt: HostRuntime) {
     }
 }
 
-// What nobody brought, here all pieces of the third round, is claimed and searched.
+// Pieces that no worker brought, here all of the third round, are claimed and searched.
 struct NothingBrought;
 
 impl<R: Abort> RoundTest<R> for NothingBrought {

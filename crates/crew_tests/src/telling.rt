@@ -8,12 +8,12 @@ use std::alloc::Global;
 use std::fmt::Write;
 use std::process::Abort;
 
-/// Asserts what is told of a case.
+/// Asserts that `told` is what is wanted of a case.
 pub fn assert_told(rt: &impl Abort, case: &str, told: &str, wanted: &str) {
     assert_eq!(rt; told, wanted, "{case}");
 }
 
-/// Asserts a number.
+/// Asserts that `number` is the one that is wanted.
 pub fn assert_number(rt: &impl Abort, number: usize, wanted: usize)
     ensures { number ≡ wanted }
 {
@@ -27,7 +27,7 @@ fn tell_table(rt: &impl Abort, text: &mut String, table: &Table) {
     }
 }
 
-/// The makespan, the bound, the open nodes, the rounds and the nodes of an answer, and its schedule.
+/// Tells an answer: its makespan, its bound, the open nodes, the rounds, the nodes, and its schedule.
 pub fn told_of(rt: &impl Abort, alloc: Global, answer: &Answer) -> String {
     let (makespan, bound, open) = (answer.makespan, answer.bound, answer.open_nodes);
     let (rounds, nodes) = (answer.rounds, answer.nodes);
@@ -45,7 +45,7 @@ fn tell_node(rt: &impl Abort, text: &mut String, node: &Node) {
     write!(text, ":{} ", node.bound).expect(rt, "memory");
 }
 
-/// The jobs and the bound of each node.
+/// Tells the jobs and the bound of each node.
 pub fn told_of_nodes(rt: &impl Abort, alloc: Global, nodes: &[Node]) -> String {
     let mut told = String::new(alloc);
     for node in nodes {
@@ -54,8 +54,8 @@ pub fn told_of_nodes(rt: &impl Abort, alloc: Global, nodes: &[Node]) -> String {
     told
 }
 
-/// Adds the makespan, the nodes taken and the number of those left of a piece that is searched, or by which piece it is
-/// passed.
+/// Adds what is told of an entry: the makespan, the nodes taken and the number of nodes left of a piece that was
+/// searched, or the piece that lets this one pass.
 fn tell_entry(rt: &impl Abort, alloc: Global, text: &mut String, entry: &Entry) {
     match &entry.kind {
         Kind::Done(sheet) => {

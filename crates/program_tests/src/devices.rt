@@ -162,8 +162,8 @@ fn room(rt: &impl Abort, alloc: Global) -> Memory {
     Memory::with_room(alloc, 1_024).expect(rt, "memory")
 }
 
-/// Answers what is wanted of a source that fails at call `call` and is at its end after `calls` calls: a failed read,
-/// or what is written.
+/// Answers what an engine has to answer where its source fails at call `call`, and is at its end after `calls` calls: a
+/// failed read, or what is written.
 fn read_answer(call: u64, calls: u64, written: &'static str) -> Answer<'static> {
     if call <= calls {
         (Err(Fault::ReadFailed), b"".as_slice())

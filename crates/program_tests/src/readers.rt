@@ -153,7 +153,7 @@ fn texts_of_each_format(rt: HostRuntime) {
     assert_each_read(&rt, rt.alloc(), Format::Routes, &ROUTES);
 }
 
-/// Asserts what is read of an instance of one operation, whose time is 9,999 of one digit and then another.
+/// Asserts what is read of an instance of one operation, whose time is 9,999 times a digit and then `last`.
 fn assert_long(rt: &impl Abort, alloc: Global, digit: &str, last: &str, wanted: &str) {
     let digits = digit.repeat(alloc, 9_999).expect(rt, "memory");
     let text = format!(in alloc; "1 1\n0 {digits}{last}\n").expect(rt, "memory");
@@ -168,8 +168,8 @@ fn long_numbers_and_a_text_too_long(rt: HostRuntime) {
     assert_read(&rt, rt.alloc(), Format::Orlib, blanks.as_slice(), "TooLong");
 }
 
-/// What stands behind some zeros as the time of the one operation, and what is then read. The last two values are above
-/// 2^64 by 7 and by 1,000,000,000.
+/// Texts that stand behind some zeros in the place of the only time, and what is then read. The last two values are
+/// above 2^64 by 7 and by 1,000,000,000.
 static BEHIND_ZEROS: [(&str, &str); 18] = [
     ("7", "[1 1 | 0 0:7]"),
     ("7\t", "[1 1 | 0 0:7]"),

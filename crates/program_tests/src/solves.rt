@@ -131,7 +131,7 @@ static ROUNDS: [Report; 4] = [
 /// Four jobs, of which two are short, in the format `routes`.
 const SHORT_JOBS: &str = "4 3\n0 0 5 1 3\n1 0 1 2 6\n0 1 1\n0 1 1\n";
 
-/// The start schedule of `SHORT_JOBS`. Those below it are found in the order kept and by bound.
+/// The start schedule of `SHORT_JOBS`. The next two constants are the schedules found in the order kept and by bound.
 const IN_TURN: &str = ": 0 5\n: 5 6\n: 8\n: 9";
 
 const KEPT: &str = ": 2 7\n: 1 2\n: 0\n: 1";

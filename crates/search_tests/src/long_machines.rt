@@ -13,8 +13,9 @@ use std::process::Abort;
 /// How many jobs, machines, operations of each job, and the greatest time.
 type Shape = (usize, u32, usize, u32);
 
-/// From 58 to 90 operations a machine, with wide lanes too; three jobs and five, whose conflict sets have from two to
-/// five candidates; many jobs on few machines, to which routes come back; and equal times, or none.
+/// Shapes with 58 to 90 operations a machine, with wide lanes too; of three and of five jobs, whose conflict sets have
+/// two to five candidates; of many jobs on few machines, to which routes come back; and with times of 0 and 1, or all
+/// 0.
 static SHAPES: [Shape; 12] = [
     (10, 12, 70, 9),
     (10, 12, 88, 9),
@@ -33,8 +34,8 @@ static SHAPES: [Shape; 12] = [
 /// The latest releases.
 static LATEST: [u32; 3] = [0, 5, 60];
 
-/// An instance of this shape, each operation on any machine and for any time up to the greatest, each job released at
-/// any time up to `latest`.
+/// Makes an instance of this shape, each operation on any machine and for any time up to the greatest, each job
+/// released at any time up to `latest`.
 fn made(
     rt: &impl Abort,
     alloc: Global,
@@ -90,7 +91,7 @@ fn bounds_of_nodes_left(rt: HostRuntime) {
     }
 }
 
-/// Of a walk to the end of 270 operations, also closed children that lie deep are listed.
+/// A walk to the end of 270 operations also lists the closed children that lie deep.
 #[test]
 fn bounds_of_nodes_left_deep(rt: HostRuntime) {
     let mut numbers = Numbers { state: 5 };

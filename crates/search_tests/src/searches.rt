@@ -60,8 +60,8 @@ type Search = (
     &'static str,
 );
 
-/// Among those of `GAP` the children of `1` have bounds of 10 and 12, so none is below a best of 10; the bound of `10`
-/// reaches the makespan found, whether or not it is below the opening best.
+/// Searches of pieces. In `GAP` the children of word `1` have bounds 10 and 12, so neither is below an opening best of
+/// 10. The bound of word `10`, 12, is not below the makespan found, also where it is below the opening best.
 static SEARCHES: [Search; 20] = [
     (CROSSING, &[""], 11, 100, "7 6 1001"),
     (CROSSING, &[""], 11, 5, "7 5 1001 11:11"),

@@ -31,7 +31,7 @@ pub fn tell_nodes(rt: &impl Abort, text: &mut String, nodes: &[Node]) {
     }
 }
 
-/// Asserts what is told of a case, and names the case if it is another.
+/// Asserts that `told` is what is wanted of a case, and names the case if not.
 pub fn assert_told(rt: &impl Abort, case: &str, told: &str, wanted: &str) {
     assert_eq!(rt; told, wanted, "{case}");
 }

@@ -39,7 +39,8 @@ impl<G> BoardCrew<G> {
         BoardCrew { workers, gate }
     }
 
-    /// Answers a reference to the gate, for reading what it recorded. For library callers: the program doesn't use it.
+    /// Answers a reference to the gate, for reading what it recorded. For library callers: the program doesn't use
+    /// `gate`.
     pub fn gate(&self) -> &G
         ensures { result.now ≡ self.now.gate }
     {
@@ -48,9 +49,9 @@ impl<G> BoardCrew<G> {
 }
 
 impl<G: SeatGate + Sync> BoardCrew<G> {
-    /// Does what `Crew::search` does, for a crew with a gate of any type, and by all its workers however short `round`
-    /// is: answers one entry for each piece, in number order. Fails with `NoMemory` if memory runs out. Joins all
-    /// workers before it returns or fails.
+    /// Does what `Crew::search` does, for a crew with a gate of any type: answers one entry for each piece of `round`,
+    /// in number order. Uses all workers of the crew, however short the round is. Fails with `NoMemory` if memory runs
+    /// out. Joins all workers before it returns or fails.
     pub fn search_round<'r, R: Threads + Sync>(
         &self,
         rt: &R,
@@ -63,12 +64,12 @@ impl<G: SeatGate + Sync> BoardCrew<G> {
     }
 }
 
-// For each further worker a round has to hold as much work as this: nodes times operations of the instance.
+// The work that a round has to hold for each further worker: nodes times operations of the instance.
 const WORK_OF_A_WORKER: u64 = 64_000;
 
-// Answers how many of `workers` workers are worth their threads in `round`. To start a thread and to wait for it takes
-// some 50 microseconds. A piece whose budget is small takes a few nanoseconds for each of its nodes and each operation of
-// the instance, since it fills a state with all operations before it searches.
+// Answers how many of `workers` workers are worth their threads in `round`. To start a thread and wait for its end
+// takes some 50 microseconds. In a piece of small budget a node takes a few nanoseconds for each operation of the
+// instance, since the search first fills a state with all operations.
 fn worth_starting(round: &Round, workers: usize) -> usize
     ensures { result ≤ workers }
 {

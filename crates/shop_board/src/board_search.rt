@@ -62,9 +62,9 @@ fn work_all<'r, R: Threads + Sync, G: SeatGate + Sync>(
 }
 
 /// Searches `round` by `workers` workers (fewer if it has fewer pieces) that claim its pieces on a board. Answers one
-/// entry for each piece, in number order. Each worker has a thread of its own, for which the calling thread waits; a lone
-/// worker, and one whose thread can't start, works on the calling thread. That one also claims and searches the pieces
-/// for which no worker brought an entry. Fails with `NoMemory` if memory runs out.
+/// entry for each piece, in number order. Each worker has a thread of its own, for which the calling thread waits; a
+/// lone worker, and one whose thread can't start, works on the calling thread. The calling thread also claims and
+/// searches each piece for which no worker brought an entry. Fails with `NoMemory` if memory runs out.
 pub fn search_claimed<'r, R: Threads + Sync, G: SeatGate + Sync>(
     rt: &R,
     alloc: Global,

@@ -15,7 +15,7 @@ use std::thread;
 use std::thread::Threads;
 
 /// A crew whose workers take piece numbers from one locked pool. Worker 0 is the calling thread. A search may wait for
-/// the other workers, and joins all of them before it returns. For library callers: the program doesn't use it.
+/// the other workers, and joins all of them before it returns. For library callers: the program doesn't use `LockCrew`.
 #[derive(Drop)]
 pub struct LockCrew<G> {
     workers: Workers,

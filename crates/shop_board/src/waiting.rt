@@ -46,12 +46,12 @@ fn start_each<R: Threads + Sync, J: Send + Drop, X: Send + Drop, F: Fn(J) -> X +
     Ok(all)
 }
 
-/// Calls `f` at each of `jobs`, on a thread of its own where one can start, and answers the results in order. A lone job
-/// is done on the calling thread. Else the calling thread starts one thread after the other, and then waits for all of
-/// them. It computes nothing meanwhile: a new thread may be laid on the processor of the one that starts it, and begins
-/// late where that one goes on. A job for which no thread can start is done on the calling thread, once those threads
-/// have ended that it started after it. Each job takes some of the calling thread's stack. Fails with `NoMemory` if
-/// memory runs out.
+/// Calls `f` at each of `jobs`, on a thread of its own where one can start, and answers the results in order. A lone
+/// job is done on the calling thread. Else the calling thread starts one thread after the other, and then waits for all
+/// of them. It computes nothing meanwhile: the system may lay a new thread on the processor of the one that starts it,
+/// where it begins late if that one goes on. If no thread can start for a job, the calling thread does the job, once
+/// the threads that it started afterwards have ended. Each job takes some of the calling thread's stack. Fails with
+/// `NoMemory` if memory runs out.
 pub fn map_waiting<R: Threads + Sync, J: Send + Drop, X: Send + Drop, F: Fn(J) -> X + Sync>(
     rt: &R,
     alloc: Global,

@@ -13,6 +13,7 @@ use std::alloc::{AllocError as NoMemory, Global};
 use std::marker::Model;
 
 /// Computes the head of each operation of job `j`, in order of its route; `None` for each operation that is placed.
+/// Fails with `NoMemory` if memory runs out.
 fn heads_of_job(
     alloc: Global,
     instance: &Instance,
@@ -39,7 +40,8 @@ fn heads_of_job(
     Ok(heads)
 }
 
-/// Computes the heads of all operations, one row for each job; `None` for each operation that is placed.
+/// Computes the heads of all operations, one row for each job; `None` for each operation that is placed. Fails with
+/// `NoMemory` if memory runs out.
 fn heads_of_jobs(
     alloc: Global,
     instance: &Instance,

@@ -19,7 +19,7 @@ pub fn total_time(route: &[Op]) -> u64
     total
 }
 
-/// Computes the tail of each operation of `route`, in order.
+/// Computes the tail of each operation of `route`, in order. Fails with `NoMemory` if memory runs out.
 fn tails_of_route(alloc: Global, route: &[Op]) -> Result<Vec<u64>, NoMemory>
     requires { AreTimesSmall route.now }
     ensures { IfOk result (λ v. v.items ≡ tails_in route.now) }

@@ -1,6 +1,6 @@
 -- What waits at the beginning of a search, counted by hand.
-use Rattle.std.proofs.Common.{◌≡◌, ℕ, zero, suc, ◌+◌, ◌≤◌, ◌<◌, max, inl, inr, List, [], ◌∷◌, ◌++◌, length, get_or, take}
-use Rattle.std.proofs.Common.{drop, map, refl, sym, ap, ◌∙◌, subst, arith, add-one, eqb, ltb}
+use Rattle.std.proofs.Common.{◌≡◌, ℕ, zero, suc, ◌+◌, ◌≤◌, ◌<◌, max, inl, inr, List, [], ◌∷◌, ◌++◌, length}
+use Rattle.std.proofs.Common.{get_or, take, drop, map, refl, sym, ap, ◌∙◌, subst, arith, add-one, eqb, ltb}
 use Rattle.std.specs.List.{AllByRecursion, filter, flat_map, sum_by, range_with_len}
 use Rattle.std.proofs.lemmas.Bool.{cases_Bool, eq-eqb, eqb-true}
 use Rattle.std.proofs.lemmas.List.{map-append, length-append}

@@ -103,7 +103,8 @@ not_listed format known e same bad h =
 pub listing_refuses : ListingRefuses
 listing_refuses args s s' k k' (Ok done) h text e same bad = not_listed args.format text e same bad h
 listing_refuses args s s' k k' (Err told) (inl h) text e same bad =
-    refused (Unit {0}) (IsTextFault (grammar_of args.format)) s s' text e told ((one_reading args.format).one_fault text)
+    refused (Unit {0}) (IsTextFault (grammar_of args.format)) s s' text e told
+    ((one_reading args.format).one_fault text)
     (too_long args.format text) same bad h.0
 listing_refuses args s s' k k' (Err told) (inr h) text e same bad = absurd (not_listed args.format text e same bad h.1)
 

@@ -183,5 +183,6 @@ pub relaxations_ask_no_more : RelaxationsAskNoMore
 relaxations_ask_no_more = record {
   relaxed = relaxed;
   job_left_out = job_left_out;
-  step_left_out = λ machines release front back before after op. step_left_out release before after op back machines front;
+  step_left_out = λ machines release front back before after op.
+      step_left_out release before after op back machines front;
 }

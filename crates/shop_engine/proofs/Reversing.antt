@@ -3,7 +3,8 @@ use Rattle.std.proofs.Common.{◌≡◌, ℕ, zero, suc, ◌+◌, ◌-◌, ◌�
 use Rattle.std.proofs.Common.{sym, ap, ◌∙◌, subst, arith, reverse}
 use Rattle.std.proofs.lemmas.List.{get_or-reverse, length-reverse, reverse-reverse}
 use Rattle.shop_model.specs.declared.ops.Op.{Op}
-use Rattle.shop_model.specs.Shop.{Shop, ShopJob, Starts, no_job, no_op, release_of, route_of, op_of, machine_of, time_of}
+use Rattle.shop_model.specs.Shop.{Shop, ShopJob, Starts, no_job, no_op, release_of, route_of, op_of}
+use Rattle.shop_model.specs.Shop.{machine_of, time_of}
 use Rattle.shop_model.specs.Shop.{IsOperation, IsFeasible, finish_of}
 use Rattle.shop_model.proofs.Ends.{AreDifferent}
 use Rattle.shop_model.proofs.Ends.{le-end_of, end_of-le}
@@ -16,7 +17,8 @@ route_at [] j = refl
 route_at (x ∷ js) zero = refl
 route_at (x ∷ js) (suc j) = route_at js j
 
-release_at : (js : List ShopJob) (j : ℕ) → (get_or (map reversed_job js) j no_job).release ≡ (get_or js j no_job).release
+release_at : (js : List ShopJob) (j : ℕ)
+    → (get_or (map reversed_job js) j no_job).release ≡ (get_or js j no_job).release
 release_at [] j = refl
 release_at (x ∷ js) zero = refl
 release_at (x ∷ js) (suc j) = release_at js j

@@ -1,6 +1,6 @@
 -- Tables of an instance and of the scaled one.
-use Rattle.std.proofs.Common.{◌≡◌, ℕ, zero, suc, ◌+◌, ◌*◌, ◌/◌, ◌≤◌, ◌<◌, inl, inr, List, [], ◌∷◌, length, get_or, map, refl}
-use Rattle.std.proofs.Common.{sym, ap, ◌∙◌, arith}
+use Rattle.std.proofs.Common.{◌≡◌, ℕ, zero, suc, ◌+◌, ◌*◌, ◌/◌, ◌≤◌, ◌<◌, inl, inr, List, [], ◌∷◌, length}
+use Rattle.std.proofs.Common.{get_or, map, refl, sym, ap, ◌∙◌, arith}
 use Rattle.std.proofs.lemmas.Bool.{cases_lt}
 use Rattle.std.proofs.lemmas.Nat.{le-div}
 use Rattle.std.proofs.lemmas.List.{length-map}
@@ -67,7 +67,9 @@ module _ (k : ℕ) (shop : Shop) where
   longer_feasible : (starts : Starts) → IsFeasible shop starts → IsFeasible (scaled k shop) (longer starts)
   unfolding longer
   longer_feasible starts f = record {
-    released = λ j op. let e = scaled_release j in let h = mul-le-mul_left k (f.released j (into j 0 op)) in omega arith;
+    released = λ j op. let e = scaled_release j
+        in let h = mul-le-mul_left k (f.released j (into j 0 op))
+        in omega arith;
     in_order = λ j l op. let e = scaled_time j l
         in let h = longer_by (starts j l) (time_of shop j l) (starts j (l + 1)) (f.in_order j l (into j (l + 1) op))
         in omega arith;
@@ -83,7 +85,8 @@ module _ (k : ℕ) (shop : Shop) where
   unfolding longer
   longer_end starts = end_of-le (scaled k shop) (longer starts) (k * end_of shop starts)
       (λ i l op. let e = scaled_time i l
-      in let m = longer_by (starts i l) (time_of shop i l) (end_of shop starts) (le-end_of shop starts i l (into i l op))
+      in let m = longer_by (starts i l) (time_of shop i l) (end_of shop starts)
+      (le-end_of shop starts i l (into i l op))
       in omega arith)
 
   -- ---- a table of the scaled instance, in whole units

@@ -95,8 +95,8 @@ some_one : (a b : NamedShop) (o : Option NamedShop) → o ≡ Some a → o ≡ S
 some_one a b o e f = cc
 
 -- a text has one instance of the name
-pub one_asked : (format : Format) (name : Option (List ℕ)) (text : List ℕ) (a b : NamedShop) → IsAsked format name text a
-    → IsAsked format name text b → a ≡ b
+pub one_asked : (format : Format) (name : Option (List ℕ)) (text : List ℕ) (a b : NamedShop)
+    → IsAsked format name text a → IsAsked format name text b → a ≡ b
 one_asked format name text a b had other =
     let same = (one_reading format).one_list text had.shops other.shops had.is_text other.is_text
     in some_one a b (first_named other.shops name)

@@ -10,7 +10,7 @@ pub fn reports_tell_the_answer()
 {}
 
 /// The makespan of a report whose status is optimal is least. A schedule that `check` finds feasible has a least
-/// makespan if a report on the instance has this makespan as its bound.
+/// makespan if a report that is right for the same text, format and name has this makespan as its bound.
 #[tactic(auto, using(crate::proofs::MetBounds::met_bounds_are_least))]
 pub fn met_bounds_are_least()
     ensures { MetBoundsAreLeast }

@@ -2,20 +2,20 @@
 use shop_runs::Plan;
 use shop_text::Format;
 
-/// The arguments of `list`: how the text is written.
+/// Tells `list` how the text is written.
 #[derive(Clone, Copy)]
 pub struct ListArgs {
     pub format: Format,
 }
 
-/// The arguments of `check`. Without a name it takes the first instance of the text.
+/// Tells `check` the format of the text, and which instance to take: the first of the name, or the first of all.
 #[derive(Drop)]
 pub struct CheckArgs {
     pub format: Format,
     pub name: Option<String>,
 }
 
-/// The arguments of `solve`. Without a name it takes the first instance of the text.
+/// Tells `solve` the format of the text, the instance (without a name the first), the plan, and whether to add a chart.
 #[derive(Drop)]
 pub struct SolveArgs {
     pub format: Format,

@@ -10,8 +10,8 @@
 //     let (is_feasible, line) = check_bytes(alloc, text, Some(report.as_slice()), &asked)?;
 //
 // `Alone`, the crew of one worker, is of `shop_round`. A report of at most 16,777,216 bytes is proved feasible by
-// `check_bytes`. `list_text`, `check_text` and `solve_text` go from a `Source` to a `Sink`: `Reading` and `Writing` make
-// these of any reader and writer, and `Memory` is a sink that takes no memory while it is written.
+// `check_bytes`. `list_text`, `check_text` and `solve_text` go from a `Source` to a `Sink`: `Reading` and `Writing`
+// make these of any reader and writer, and `Memory` is a sink that takes no memory while it is written.
 #![tactic(auto)]
 
 mod answer_laws;

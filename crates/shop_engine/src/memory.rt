@@ -5,7 +5,7 @@ use crate::devices::{DeviceFailed, Sink};
 use std::alloc::{AllocError as NoMemory, Global};
 
 /// A sink that holds its bytes in memory, in room that `with_room` made. Writing takes no memory, and fails only if the
-/// room is full. For library callers: the program doesn't use it.
+/// room is full. For library callers: the program doesn't use `Memory`.
 #[derive(Drop)]
 pub struct Memory {
     held: Vec<u8>,

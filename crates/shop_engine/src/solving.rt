@@ -102,8 +102,8 @@ pub fn solve_instance<R, C: Crew<R>>(
     Ok((text, answer))
 }
 
-/// Makes the report that `solve_bytes` gives. The answer of the run comes beside it, and nothing is claimed of that.
-/// Fails as `solve_bytes` does.
+/// Makes the report that `solve_bytes` gives, and hands over the answer of the run beside it, of which nothing is
+/// claimed. Fails as `solve_bytes` does.
 fn solve<R, C: Crew<R>>(
     rt: &R,
     alloc: Global,

@@ -64,7 +64,8 @@ fn clear_heads<B: Block>(row: &mut [B::Number], positions: usize)
     row[positions] = B::narrowed(B::GREATEST);
 }
 
-/// Makes a row with head 0 at each of `positions` positions, and `GREATEST` behind the last position.
+/// Makes a row with head 0 at each of `positions` positions, and `GREATEST` behind the last position. Fails with
+/// `NoMemory` if memory runs out.
 fn no_heads<B: Block>(alloc: Global, positions: usize) -> Result<Vec<B::Number>, NoMemory>
     ensures room { IfOk result (λ _. positions + 64 ≤ 2 ^ 64) }
     ensures none { IfOk result (λ v. map B.value v.items ≡ replicate positions 0 ++ B.GREATEST ∷ []) }
@@ -78,6 +79,7 @@ fn no_heads<B: Block>(alloc: Global, positions: usize) -> Result<Vec<B::Number>,
 }
 
 /// Makes the ends of `jobs` jobs that have no next operation: `GREATEST` for each job, and for padding to whole blocks.
+/// Fails with `NoMemory` if memory runs out.
 fn no_ends<B: Block>(alloc: Global, jobs: usize) -> Result<Vec<B::Number>, NoMemory>
     ensures room { IfOk result (λ v. length v.items + 64 ≤ 2 ^ 64) }
     ensures whole { IfOk result (λ v. length v.items ≡ 8 * (jobs / 8 + 1)) }

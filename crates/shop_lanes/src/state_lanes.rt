@@ -42,6 +42,7 @@ pub trait StateLanes: Drop {
         ensures tails { IfOk result (λ made. tails made ≡ all_tails.now) };
 
     /// Makes a state with each head 0, as no operation waits, and each end `GREATEST`, as no job has a next operation.
+    /// Fails with `NoMemory` if memory runs out.
     fn new(alloc: Global, positions: usize, jobs: usize) -> Result<Self, NoMemory>
         ensures heads { IfOk result (λ made. heads made ≡ replicate positions 0) }
         ensures ends { IfOk result (λ made. ends made ≡ replicate jobs GREATEST) };

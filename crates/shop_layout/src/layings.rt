@@ -38,7 +38,8 @@ fn rank_of(count: usize, place: usize) -> usize
     place % 8 * count + place / 8
 }
 
-/// Adds `count` blocks to `slots`, with the operations of `list` down their columns and padding behind.
+/// Adds `count` blocks to `slots`, with the operations of `list` down their columns and padding behind. Fails with
+/// `NoMemory` if memory runs out.
 fn add_blocks(slots: &mut Vec<Slot>, list: &[Slot], count: usize) -> Result<(), NoMemory>
     requires { 8 * count < 2 ^ 32 }
     ensures { OnOk result (AreAdded list.now count (8 * count) slots.old.items slots.new.items) }
@@ -75,7 +76,7 @@ pub(crate) fn cells_of(alloc: Global, lists: &[Vec<Slot>]) -> Result<Cells, NoMe
     Ok(Cells { slots, blocks })
 }
 
-/// The job of each slot, in order of position.
+/// Lists the job of each slot, in order of position. Fails with `NoMemory` if memory runs out.
 pub(crate) fn jobs_of(alloc: Global, slots: &[Slot]) -> Result<Vec<u32>, NoMemory>
     requires { All (λ s. s.job < 2 ^ 32) slots.now }
     ensures { IfOk result (λ v. v.items ≡ map (λ s. s.job) slots.now) }
@@ -87,7 +88,7 @@ pub(crate) fn jobs_of(alloc: Global, slots: &[Slot]) -> Result<Vec<u32>, NoMemor
     Ok(jobs)
 }
 
-/// The step of each slot, in order of position.
+/// Lists the step of each slot, in order of position. Fails with `NoMemory` if memory runs out.
 pub(crate) fn steps_of(alloc: Global, slots: &[Slot]) -> Result<Vec<u32>, NoMemory>
     requires { All (λ s. s.step < 2 ^ 32) slots.now }
     ensures { IfOk result (λ v. v.items ≡ map (λ s. s.step) slots.now) }
@@ -99,21 +100,21 @@ pub(crate) fn steps_of(alloc: Global, slots: &[Slot]) -> Result<Vec<u32>, NoMemo
     Ok(steps)
 }
 
-/// The time of each slot, in order of position.
+/// Lists the time of each slot, in order of position. Fails with `NoMemory` if memory runs out.
 pub(crate) fn times_of(alloc: Global, slots: &[Slot]) -> Result<Vec<u64>, NoMemory>
     ensures { IfOk result (λ v. v.items ≡ map (λ s. s.time) slots.now) }
 {
     slots.iter().map(|s| s.time).collect(alloc)
 }
 
-/// The tail of each slot, in order of position.
+/// Lists the tail of each slot, in order of position. Fails with `NoMemory` if memory runs out.
 pub(crate) fn tails_of(alloc: Global, slots: &[Slot]) -> Result<Vec<u64>, NoMemory>
     ensures { IfOk result (λ v. v.items ≡ map (λ s. s.tail) slots.now) }
 {
     slots.iter().map(|s| s.tail).collect(alloc)
 }
 
-/// Makes a row of zeros for each job, as long as the job's route.
+/// Makes a row of zeros for each job, as long as the job's route. Fails with `NoMemory` if memory runs out.
 fn empty_places(alloc: Global, instance: &Instance) -> Result<Vec<Vec<u32>>, NoMemory>
     ensures { IfOk result (λ v. HasRoutes instance.now (items_in v.items)) }
 {
@@ -150,7 +151,8 @@ fn note_places(places: &mut [Vec<u32>], slots: &[Slot], first: usize, count: usi
     }
 }
 
-/// Answers the position of each step of each job. The operations of `lists[m]` are in the blocks of machine m.
+/// Answers the position of each step of each job. The operations of `lists[m]` are in the blocks of machine m. Fails
+/// with `NoMemory` if memory runs out.
 pub(crate) fn places_of(
     alloc: Global,
     instance: &Instance,
@@ -178,7 +180,8 @@ pub(crate) fn places_of(
     Ok(places)
 }
 
-/// For each slot, the position of the next step on its job's route, or the number of all positions if the route ends.
+/// Lists, for each slot, the position of the next step on its job's route, or the number of all positions if the route
+/// ends. Fails with `NoMemory` if memory runs out.
 pub(crate) fn following_of(
     alloc: Global,
     slots: &[Slot],
@@ -203,7 +206,8 @@ pub(crate) fn following_of(
     Ok(following)
 }
 
-/// The machine of each position. `blocks` holds the first block of each machine, then the number of all blocks.
+/// Lists the machine of each position. `blocks` holds the first block of each machine, then the number of all blocks.
+/// Fails with `NoMemory` if memory runs out.
 pub(crate) fn machines_of(alloc: Global, blocks: &[u32]) -> Result<Vec<u32>, NoMemory>
     requires from_0 { slice_index blocks.now 0 ≡ 0 }
     requires some { 0 < length blocks.now }

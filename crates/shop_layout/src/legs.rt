@@ -6,9 +6,9 @@ ghost use Rattle.shop_layout.specs.inner.Vectors.{items_in};
 
 use std::alloc::{AllocError as NoMemory, Global};
 
-/// A step of a route, its position, its machine and its time; or the end of a route, at the position behind all others.
-/// A walk along a route reads its legs side by side in memory, where rows by position would have it look up each step at
-/// another place.
+/// A step of a route: its position, its machine and its time; or the end of a route, at the position behind all others.
+/// A walk along a route reads its legs side by side in memory; rows by position would be read at another place for each
+/// step.
 #[derive(Clone, Copy)]
 pub struct Leg {
     pub position: u32,

@@ -7,8 +7,8 @@ use crate::legs::Leg;
 use crate::positions::Positions;
 use std::marker::Model;
 
-/// The rows of a layout that a walk along a route reads, looked up once: a walk that writes at each step would
-/// otherwise look them up anew at each step. Contracts see the layout.
+/// The rows of a layout that a walk along a route reads. Each row is looked up once, since a walk that writes would
+/// look it up again at each step. Contracts see the layout.
 #[derive(Drop)]
 pub struct Routes<'a> {
     /// the layout, which only proofs read
@@ -100,8 +100,8 @@ impl<'a> Routes<'a> {
         following[position] as usize
     }
 
-    /// The index of the leg behind the operation at `position`, or of the end of its route if it is the last one. Later
-    /// legs of the route follow it.
+    /// The index of the leg behind the operation at `position`, or of the end of its route if no operation is behind
+    /// it. Later legs of the route follow.
     #[inline(always)]
     pub fn behind(&self, position: usize) -> usize
         requires job { position < length self.now.jobs }

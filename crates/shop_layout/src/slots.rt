@@ -21,7 +21,8 @@ pub struct Slot {
     pub tail: u64,
 }
 
-/// Adds the operations of `route`, the route of `job`, to the lists of their machines.
+/// Adds the operations of `route`, the route of `job`, to the lists of their machines. Fails with `NoMemory` if memory
+/// runs out.
 fn add_operations(lists: &mut [Vec<Slot>], route: &[Op], job: usize) -> Result<(), NoMemory>
     requires times { AreTimesSmall route.now }
     requires machines { (k : ℕ) → (slice_index_or route.now k no_op).machine < length lists.old }
@@ -43,7 +44,8 @@ fn add_operations(lists: &mut [Vec<Slot>], route: &[Op], job: usize) -> Result<(
     Ok(())
 }
 
-/// Makes an empty list for each machine, with room for one operation of each job.
+/// Makes an empty list for each machine, with room for one operation of each job. Fails with `NoMemory` if memory runs
+/// out.
 fn empty_lists(alloc: Global, instance: &Instance) -> Result<Vec<Vec<Slot>>, NoMemory>
     ensures { IfOk result (λ v. items_in v.items ≡ replicate instance.now.machines []) }
 {
@@ -56,7 +58,7 @@ fn empty_lists(alloc: Global, instance: &Instance) -> Result<Vec<Vec<Slot>>, NoM
     Ok(lists)
 }
 
-/// Lists the operations of each machine, job by job.
+/// Lists the operations of each machine, job by job. Fails with `NoMemory` if memory runs out.
 fn operations_by_machine(alloc: Global, instance: &Instance) -> Result<Vec<Vec<Slot>>, NoMemory>
     ensures { IfOk result (λ v. AreOperations instance.now (map (λ slots. slots.items) v.items)) }
 {

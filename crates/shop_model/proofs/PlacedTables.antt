@@ -79,7 +79,8 @@ full_under shop w full =
     }
 
 -- what lies under a word lies under its beginnings
-pub under_beginning : (shop : Shop) (w v later : List ℕ) (s : Starts) → w ≡ v ++ later → IsUnder shop w s → IsUnder shop v s
+pub under_beginning : (shop : Shop) (w v later : List ℕ) (s : Starts) → w ≡ v ++ later → IsUnder shop w s
+    → IsUnder shop v s
 under_beginning shop w v later s e u = record {
   feasible = u.feasible;
   first = λ x j rest g. u.first x j (rest ++ later)

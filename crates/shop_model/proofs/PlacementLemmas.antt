@@ -1,6 +1,6 @@
 -- Placements kept as lists.
-use Rattle.std.proofs.Common.{◌≡◌, ℕ, ◌<◌, ◌≤◌, ◌+◌, ◌^◌, max, inl, inr, List, [], ◌∷◌, ◌++◌, length, map, take, replicate, get_or}
-use Rattle.std.proofs.Common.{set, sym, ◌∙◌, ap, subst, arith, cond, eqb}
+use Rattle.std.proofs.Common.{◌≡◌, ℕ, ◌<◌, ◌≤◌, ◌+◌, ◌^◌, max, inl, inr, List, [], ◌∷◌, ◌++◌, length, map}
+use Rattle.std.proofs.Common.{take, replicate, get_or, set, sym, ◌∙◌, ap, subst, arith, cond, eqb}
 use Rattle.std.proofs.lemmas.Bool.{cases_eq}
 use Rattle.std.proofs.lemmas.Grind.{get_or_default_zero, get_or-set_at}
 use Rattle.std.proofs.lemmas.List.{get_or-replicate, length-replicate, take_more, get_or-set_other, length-set}

@@ -55,7 +55,8 @@ impl SharedWord {
         SharedWord::of_path(alloc, path.as_slice())
     }
 
-    /// The word of the first `depth` jobs of a path and of `last`. Takes no memory.
+    /// Makes the word of the first `depth` jobs of a path and of `last`. Copies no job and takes no memory; fails only
+    /// if the path is shared more often than can be counted.
     pub fn along(
         path: &ArcSlice<u16, Global>,
         depth: u32,
@@ -71,7 +72,8 @@ impl SharedWord {
         })
     }
 
-    /// The same word once more, over the same jobs. Takes no memory.
+    /// Answers a second word over the path of this one. Copies no job and takes no memory; fails only if the path is
+    /// shared more often than can be counted.
     pub fn shared(&self) -> Result<SharedWord, NoMemory>
         ensures { IfOk result (λ w. w ≡ self.now) }
     {

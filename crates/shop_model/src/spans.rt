@@ -69,7 +69,7 @@ pub(crate) fn are_in_turn(spans: &[Occupied]) -> bool
     true
 }
 
-/// Answers which of two spans is on the higher machine; of one machine, which ends last.
+/// Answers the span on the higher machine; if both are on one machine, the span that ends last.
 fn last_to_end(one: &Occupied, other: &Occupied) -> Occupied
     ensures choice { (result ≡ one.now) ⊎ (result ≡ other.now) }
     ensures one { EndsNotAfter one.now result }
@@ -93,7 +93,7 @@ fn is_clear(latest: &Occupied, spans: &[Occupied], k: usize) -> bool
 
 /// Keeps those of the sorted `spans` that overlap with no other, in one pass and in place. A span overlaps with an
 /// earlier one if it begins before the latest end so far on its machine, and with a later one if the next span of its
-/// machine begins before it ends. Both tests are exact, since of spans that begin at once those of time 0 come first.
+/// machine begins before it ends. Both tests are exact, since of spans that begin together those of time 0 come first.
 pub(crate) fn keep_clear(spans: &mut Vec<Occupied>)
     requires { AreInOrder spans.old.items }
     ensures { AreClearOf spans.old.items spans.new.items }

@@ -27,7 +27,8 @@ fn choose(placed: &Placed) -> Option<NextOperation>
     chosen
 }
 
-/// Lists the jobs whose next operations conflict with `chosen`, including the job of `chosen`.
+/// Lists the jobs whose next operations conflict with `chosen`, including the job of `chosen`. Fails with `NoMemory` if
+/// memory runs out.
 fn conflicting(
     alloc: Global,
     placed: &Placed,

@@ -28,7 +28,7 @@ fn described<'a>(alloc: Global, name: &'a str, help: &Help) -> Command<'a>
         .after_help(help.end)
 }
 
-/// Adds an argument to a command, unless memory has run out.
+/// Adds an argument to a command. Fails with `NoMemory` if memory runs out or `command` has failed so.
 fn add_arg<'a>(
     command: Result<Command<'a>, NoMemory>,
     arg: Arg<'a>,
@@ -39,7 +39,7 @@ fn add_arg<'a>(
     command?.arg(arg)
 }
 
-/// Adds a subcommand to a command, unless memory has run out.
+/// Adds a subcommand to a command. Fails with `NoMemory` if memory runs out or either has failed so.
 fn add_subcommand<'a>(
     command: Result<Command<'a>, NoMemory>,
     subcommand: Result<Command<'a>, NoMemory>,
@@ -167,7 +167,7 @@ fn check<'a>(alloc: Global, formats: &'a [&'a str]) -> Result<Command<'a>, NoMem
     add_arg(filed, schedule)
 }
 
-/// Adds the options of a plan to a command: rounds, budget, piece and order.
+/// Adds the options of a plan to a command: rounds, budget, piece and order. Fails with `NoMemory` if memory runs out.
 fn with_plan<'a>(
     alloc: Global,
     command: Result<Command<'a>, NoMemory>,

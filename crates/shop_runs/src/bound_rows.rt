@@ -11,8 +11,8 @@ use shop_nodes::{Node, SharedNode};
 use std::alloc::{AllocError as NoMemory, Global};
 use std::marker::Model;
 
-/// Puts `word` on top of the stack at a place, or makes a stack of it where there is none. Fails with `NoMemory` if
-/// memory runs out; the stack has then lost words.
+/// Puts `word` on top of the stack at a place, or makes a stack of `word` if the place is empty. Fails with `NoMemory`
+/// if memory runs out; the stack has then lost words.
 fn push_at(alloc: Global, place: &mut Option<Stack>, word: SharedWord) -> Result<(), NoMemory>
     ensures { OnOk result (words_left place.new ≡ word ∷ words_left place.old) }
 {
@@ -87,9 +87,9 @@ fn reach(stacks: &mut Vec<Option<Stack>>, index: usize) -> Result<(), NoMemory>
     Ok(())
 }
 
-/// Open nodes by bound: the stack at an index has the words of the open nodes of this bound. There are none below
-/// `first`. No place is made behind the greatest bound that was put, and one takes some 70 bytes. Contracts see the list
-/// of nodes, from the least bound up.
+/// Open nodes by bound: `stacks[b]` has the words of the open nodes of bound b. No node has a bound below `first`. The
+/// row ends at the greatest bound that was put, and takes some 70 bytes for each place. Contracts see the list of
+/// nodes, from the least bound up.
 #[derive(Drop)]
 pub(crate) struct BoundRow {
     stacks: Vec<Option<Stack>>,

@@ -14,7 +14,7 @@ use shop_nodes::{Left, Node, SharedNode};
 use std::alloc::{AllocError as NoMemory, Global};
 use std::collections::BTreeMap;
 
-/// Bounds up to here may stand in a row, which then takes some 5 MB.
+/// The greatest opening makespan at which open nodes are kept in a row by bound, which then takes some 5 MB at most.
 const MOST_IN_ROW: u64 = 65_536;
 
 /// A row may be so many times as long as the instance has operations. A round goes through the empty places between two
@@ -27,8 +27,8 @@ fn fits_row(makespan: u64, operations: usize) -> bool {
 }
 
 /// Open nodes in the order in which the next round takes them: one stack for `Kept`, and one stack of words per bound
-/// for `Bound`, in a row where the bounds are small and else in a map. The time to put or take a node hardly grows with
-/// the number of open nodes.
+/// for `Bound`, in a row if bounds are small, else in a map. The time to put or take a node hardly grows with the
+/// number of open nodes.
 #[derive(Drop)]
 pub(crate) enum OpenNodes {
     AsKept(KeptStack),

@@ -42,8 +42,8 @@ pub(crate) fn go_on<L: StateLanes>(
 
 /// Dispatches the next operation of `job`. Answers the bound of the extended word if it is below `limit`, else `None`.
 /// `least` is at most that bound, and at least the former word's bound and the operation's own span: how late the
-/// operation, and the others of its machine with their tails, end if it goes first. `ceilings` has, by machine, one more
-/// than what the extended word's operations there bound at most, or is empty.
+/// operation, and the others of its machine with their tails, end if it goes first. `ceilings` is empty, or has for
+/// each machine one more than a number that the extended word's bound there doesn't exceed.
 #[inline(always)]
 pub(crate) fn advance_below<L: StateLanes>(
     lanes: &mut L,

@@ -17,7 +17,7 @@ use std::alloc::{AllocError as NoMemory, Global};
 /// A number that is above the bound of every word of an instance within the limits.
 const BOUNDS: u64 = 1 << 50;
 
-/// From so many candidates on their children are bounded together first: of fewer, the trials take less.
+/// The least number of candidates whose children are bounded together. With fewer, to try each child takes less time.
 const MANY: usize = 4;
 
 impl<'a, L: StateLanes> Dispatching<State<L>> for LaidOut<'a, L> {

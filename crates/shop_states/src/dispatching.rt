@@ -116,10 +116,10 @@ pub trait Dispatching<S: Drop> {
         ensures kept { (w : List ℕ) (j : ℕ) → KnowsChild self.now scratch.old w j
             → KnowsChild self.now scratch.new w j };
 
-    /// Bounds the children of the word of `state` by `candidates`, as `list_candidates` lists them, before any of them
-    /// is dispatched. Answers a number such that each child of a candidate with `own` or `bound`, the word's bound, no
-    /// less has the greater of these two as its bound; or `None` where this isn't worth while. `room` is used up. What
-    /// is found stays in `scratch`, for `dispatch_child_below`.
+    /// Bounds all children of the word of `state` together, before any candidate is dispatched. `bound` is the bound of
+    /// that word, and `list_candidates` listed the candidates. Answers a number: if `bound` or the `own` of a candidate
+    /// is at least this number, the bound of the child is the greater of the two. Answers `None` where each child is to
+    /// be bounded alone. Uses up `room`, and leaves in `scratch` what `dispatch_child_below` needs.
     fn bound_children(
         &self,
         _scratch: &mut Self::Scratch,
@@ -148,7 +148,7 @@ pub trait Dispatching<S: Drop> {
         None
     }
 
-    /// Does what `dispatch_below` does, after `bound_children` told something of the word's children.
+    /// Does what `dispatch_below` does, in fewer steps, with what `bound_children` left in `scratch`.
     fn dispatch_child_below(
         &self,
         scratch: &mut Self::Scratch,

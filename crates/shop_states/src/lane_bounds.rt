@@ -122,8 +122,8 @@ fn take_longer_spans<L: StateLanes>(
 }
 
 /// Answers the greatest of `least` and the spans, explained at `span_by_raise`, of the machines in `raised` from the
-/// heads within their raises. May stop once the bound reaches `limit`. Empties the raises. A machine whose ceiling, if
-/// it has one, is no more than the bound so far is passed. `ceilings`, `least`, `limit` and the answer are one more than
+/// heads within their raises. May stop once the bound reaches `limit`. Empties the raises. Skips a machine whose
+/// ceiling, if it has one, is at most the bound so far. `ceilings`, `least`, `limit` and the answer are one more than
 /// the bounds that they stand for, like heads in lanes.
 #[inline(always)]
 pub(crate) fn take_spans<L: StateLanes>(
@@ -150,7 +150,7 @@ pub(crate) fn take_spans<L: StateLanes>(
     }
 }
 
-/// Does what `span_by_raise` does, for any number of blocks: a literal one where that is small.
+/// Does what `span_by_raise` does, for any number of blocks. A literal number, for few blocks, unrolls the loops.
 #[inline(always)]
 fn span_of_machine<L: StateLanes>(
     lanes: &L,
@@ -184,7 +184,7 @@ fn span_of_machine<L: StateLanes>(
     }
 }
 
-/// The span, or the greatest number where it reaches `limit` and so may not be the greatest of its machine.
+/// Answers `span`, or the greatest number if `span` reaches `limit`, since the pass may then have stopped early.
 #[inline(always)]
 fn kept_ceiling(span: u64, limit: u64) -> u64
     ensures { ((span < limit) × (result ≡ span)) ⊎ ((limit ≤ span) × (result ≡ 2 ^ 64 - 1)) }

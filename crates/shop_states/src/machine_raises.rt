@@ -102,8 +102,8 @@ impl<L: StateLanes> MachineRaises<L> {
 
     /// Answers the greatest of `least` and the spans of the machines in `raised` from their raised heads. The span from
     /// a head is the greatest end, tail included, of the machine's operations with no lesser head, served by rank from
-    /// that head on. May stop once the bound reaches `limit`. Empties the raises. A machine whose ceiling, if it has one,
-    /// is at most one more than the bound so far is passed.
+    /// that head on. May stop once the bound reaches `limit`. Empties the raises. Skips a machine whose ceiling, if it
+    /// has one, is at most one more than the bound so far.
     #[inline(always)]
     pub fn take_bound(
         &mut self,
@@ -141,8 +141,8 @@ impl<L: StateLanes> MachineRaises<L> {
         least.max(spans.saturating_sub(1))
     }
 
-    /// Raises heads behind what waits at positions `from` up to `to` (excluded), as `siblings::raise_late` does. Answers
-    /// the set of machines on which heads rose.
+    /// Raises heads on the routes behind the operations that wait at positions `from` up to `to` (excluded), as
+    /// `siblings::raise_late` does. Answers the set of machines on which heads rose.
     #[inline(always)]
     pub(crate) fn raise_late(
         &mut self,

@@ -1,8 +1,7 @@
-// What bounds the children of a word before any of them is dispatched. The children dispatch operations of one machine,
-// and each delays what else waits there until its operation ends, at most until the latest of these ends. So heads that
-// are raised as if all of these operations had to wait until then are no lower than those of any child, and neither are
-// spans from them: one pass over the machines whose heads rose tells of nearly all children what each would be told
-// anew.
+// Bounds the children of a word before any of them is dispatched. All candidates wait on one machine, and each delays
+// the other operations that wait there until its own ends, at the latest until the latest of these ends. So if heads
+// are raised as if every operation there had to wait until then, no head of a child is higher, and no span is greater.
+// One pass over the machines whose heads rose thus bounds nearly all children.
 ghost use Rattle.std.specs.Prelude.{◌≡◌, ℕ, ◌+◌, ◌*◌, ◌^◌, ◌≤◌, ◌<◌, ◌⊎◌, List, ◌∷◌, ◌++◌, [], IsTrue, false, length, slice_index};
 ghost use Rattle.shop_model.specs.Shop.{Shop};
 ghost use Rattle.shop_bound.specs.Bound.{lb};
@@ -25,8 +24,9 @@ use crate::raises::raise_route;
 use shop_lanes::StateLanes;
 use shop_layout::{Grid, Routes};
 
-/// Of some candidates, all on one machine: the job whose operation ends last, when that ends, and when the last of the
-/// other jobs' operations ends, or 0 if there are no other jobs. Ends are one higher, like heads in lanes.
+/// When the operations of some candidates, all on one machine, end if each goes first: `end` is the latest end, `job`
+/// has that operation, and `second` is the latest end of the other jobs, or 0 if there are none. Ends are one higher,
+/// like heads in lanes.
 #[derive(Clone, Copy)]
 pub(crate) struct Latest {
     pub job: usize,
@@ -34,7 +34,7 @@ pub(crate) struct Latest {
     pub second: u64,
 }
 
-/// When the next operation of `job` ends if it goes first, one higher like heads in lanes.
+/// Answers when the next operation of `job` ends if it goes first. The end is one higher, like heads in lanes.
 #[inline(always)]
 fn end_of<L: StateLanes>(lanes: &L, routes: &Routes, next: &[u32], job: usize) -> u64
     requires { CanEnd L.GREATEST routes.now (L.heads lanes.now) next.now job }
@@ -45,7 +45,7 @@ fn end_of<L: StateLanes>(lanes: &L, routes: &Routes, next: &[u32], job: usize) -
     lanes.head(position) + routes.time(position)
 }
 
-/// The candidate whose operation ends last, by its job, and when it ends.
+/// Finds the candidate whose operation ends last, and answers its job and that end.
 fn last_of<L: StateLanes>(
     candidates: &[Candidate],
     lanes: &L,
@@ -73,7 +73,7 @@ fn last_of<L: StateLanes>(
     (last, end)
 }
 
-/// When the last of the operations of other jobs than `last` ends, or 0 if there are no others.
+/// Answers the latest end of the candidates' operations but that of job `last`, or 0 if there are no others.
 fn second_of<L: StateLanes>(
     candidates: &[Candidate],
     lanes: &L,
@@ -101,7 +101,8 @@ fn second_of<L: StateLanes>(
     second
 }
 
-/// Finds which of `candidates`, one at least, ends last, and when the others end.
+/// Finds the latest end of the operations of `candidates`, of which there is at least one, and the latest end of the
+/// others.
 fn latest_of<L: StateLanes>(
     candidates: &[Candidate],
     lanes: &L,
@@ -118,8 +119,8 @@ fn latest_of<L: StateLanes>(
     Latest { job, end, second }
 }
 
-/// Raises each later head on the route of the operation at `position` that is too early if its machine is free from
-/// `free` on and not before. Notes how far these heads rose. The operation's own head stays.
+/// Raises the heads behind the operation at `position` on its route, as far as they are too early if the operation
+/// begins at `free`. Notes how far these heads rose. The operation's own head stays.
 #[inline(always)]
 fn raise_behind<L: StateLanes>(
     lanes: &mut L,
@@ -153,7 +154,7 @@ fn raise_behind<L: StateLanes>(
     raise_route(lanes, raises, raised, routes, first, ready);
 }
 
-/// Tells whether something waits with this head, and would begin before `end`.
+/// Tells whether an operation with this head waits and can begin before `end`.
 #[inline(always)]
 fn is_delayed(head: u64, end: u64) -> bool
     ensures yes { IsTrue result → (0 < head) × (head < end) }
@@ -162,7 +163,8 @@ fn is_delayed(head: u64, end: u64) -> bool
     head > 0 && head < end
 }
 
-/// Until when a candidate may keep the machine from what waits at `position`.
+/// Answers until when the candidates can delay the operation at `position`: until the latest end, or the second latest
+/// for the operation that ends last, at `last`, since it doesn't delay itself.
 #[inline(always)]
 fn free_at(position: usize, last: usize, latest: Latest) -> u64
     ensures { ((position ≡ last) × (result ≡ latest.second))
@@ -174,9 +176,9 @@ fn free_at(position: usize, last: usize, latest: Latest) -> u64
     latest.end
 }
 
-/// Raises the heads behind all that waits at positions `from` up to `to` (excluded), those of one machine, as far as any
-/// candidate delays it: until the latest end, and what waits at `last`, which is that of the candidate that ends last,
-/// until the second. Notes how far heads rose. No head of a child is higher, but where its own operation delays it.
+/// Raises the heads behind each operation that waits at positions `from` up to `to` (excluded), those of one machine,
+/// as if the operation began at the latest time until which candidates can delay it, see `free_at`. Notes how far heads
+/// rose. No head of a child is then higher, except on that machine, where heads stay.
 pub(crate) fn raise_late<L: StateLanes>(
     lanes: &mut L,
     raises: &mut [LaneRaise<L::Number>],
@@ -210,7 +212,7 @@ pub(crate) fn raise_late<L: StateLanes>(
     }
 }
 
-/// The first position of `machine`, and the position behind its last one. No block lies behind the last position.
+/// Answers the first position of `machine`, and the position behind its last one.
 fn positions_of<L: StateLanes>(grid: &Grid<L>, machine: usize) -> (usize, usize)
     requires small { machine + 1 < 2 ^ 64 }
     requires known { machine + 1 < length grid.now.blocks }
@@ -225,7 +227,7 @@ fn positions_of<L: StateLanes>(grid: &Grid<L>, machine: usize) -> (usize, usize)
     (8 * first, 8 * behind)
 }
 
-/// The greatest bound by the own machine of a candidate alone, no less than `bound`.
+/// Answers the greatest of `bound` and the `own` of each candidate.
 fn greatest_own(candidates: &[Candidate], bound: u64) -> u64 {
     candidates
         .iter()
@@ -233,10 +235,10 @@ fn greatest_own(candidates: &[Candidate], bound: u64) -> u64 {
         .fold(bound, u64::max)
 }
 
-/// Finds for each machine a number that bounds what any child of a word by one of `candidates` comes to there, and
-/// answers the greatest of them, or one above all that the candidates' own numbers tell. `lanes` holds the word's heads
-/// and is used up; `next` has the word's next operations, and `bound` is its bound. The numbers, one higher, go into
-/// `ceilings`.
+/// Finds a ceiling for each machine: a number that no child of the word exceeds there, whichever of `candidates` is
+/// dispatched. Writes one more than each ceiling into `ceilings`. Answers the greatest ceiling, or a number above the
+/// `own` of each candidate. `lanes` holds the heads of the word and is used up; `next` has its next operations, and
+/// `bound` is its bound.
 #[inline(never)]
 pub(crate) fn bound_children<L: StateLanes>(
     lanes: &mut L,

@@ -24,6 +24,6 @@ pub struct Scratch<L: StateLanes> {
     pub(crate) raises: MachineRaises<L>,
     /// owns[i]: how late a machine's operations end, tails included, if the one at its place `i` goes first
     pub(crate) owns: Vec<L::Number>,
-    /// ceilings[machine]: one more than a bound that no child of the word looked at last exceeds on that machine
+    /// ceilings[machine]: one more than a bound on that machine that no child exceeds, for the word bounded last
     pub(crate) ceilings: Vec<u64>,
 }

@@ -98,7 +98,8 @@ shown_step shop starts machine unit c j k some same =
     ap (λ (b : Bool). b && leb (starts j k) (c * unit) && ltb (c * unit) (finish_of shop starts j k))
     (eq-eqb (machine_of shop j k) machine same)
     ∙ ap (λ (b : Bool). b && ltb (c * unit) (finish_of shop starts j k)) (sym (from_column (starts j k) unit c some))
-    ∙ ap (λ (b : Bool). leb (div_ceil (starts j k) unit) c && b) (sym (to_column (finish_of shop starts j k) unit c some))
+    ∙ ap (λ (b : Bool). leb (div_ceil (starts j k) unit) c && b)
+    (sym (to_column (finish_of shop starts j k) unit c some))
 
 -- and one of another machine nowhere
 skipped_step : (shop : Shop) (starts : Starts) (machine instant j k : ℕ) → (machine_of shop j k ≡ machine → ⊥)

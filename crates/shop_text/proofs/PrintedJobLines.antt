@@ -34,7 +34,8 @@ starts_read (s ∷ row) small =
     in let start : is_start (decimal s) ≡ true =
     and_from (is_number (decimal s)) (leb (value_of (decimal s)) 1000000000000000) (decimal_is_number s fits)
     (ap (λ (v : ℕ). leb v 1000000000000000) (decimal_value s fits) ∙ le-leb s 1000000000000000 (small 0))
-    in and_from (is_start (decimal s)) (list_all is_start (map decimal row)) start (starts_read row (λ k. small (suc k)))
+    in and_from (is_start (decimal s)) (list_all is_start (map decimal row)) start
+    (starts_read row (λ k. small (suc k)))
 
 pub values_read : (row : List ℕ) → AreSmallStarts row → map value_of (map decimal row) ≡ row
 values_read [] small = refl

@@ -17,7 +17,8 @@ use Rattle.shop_text.specs.Lines.{is_line_feed, tokens_of}
 use Rattle.shop_text.specs.Formats.{is_visible}
 use Rattle.shop_text.specs.Schedules.{Tokens, is_counted, counted_lines}
 use Rattle.shop_text.specs.Schedules.{IsTable}
-use Rattle.shop_text.specs.Writing.{report_text, Reported, printed_line, text_of, number_line, status_word, answer_lines, job_line}
+use Rattle.shop_text.specs.Writing.{report_text, Reported, printed_line, text_of, number_line, status_word}
+use Rattle.shop_text.specs.Writing.{answer_lines, job_line}
 use Rattle.shop_text.specs.Writing.{job_lines, report_lines, unit_of, columns_of, character_of, serves}
 use Rattle.shop_text.specs.Writing.{shown_at, columns, cells_line, machine_line, gantt_lines}
 use Rattle.shop_text.specs.RoundTrip.{ReportsAreSchedules}
@@ -189,7 +190,8 @@ read_back r others visible shape small lines other short =
       short = subst (λ (text : List ℕ). length text ≤ 16777216) (sym joined) short;
       lines =
           (let jobs = jobs_from 0 r.table
-          in let cut : counted_lines (text_of (report_lines r ++ others)) ≡ read_from 9 (jobs_from 0 r.table ++ others) =
+          in let cut : counted_lines (text_of (report_lines r ++ others))
+          ≡ read_from 9 (jobs_from 0 r.table ++ others) =
           ap (λ (ls : List (List ℕ)). filter is_counted (enumerate_from 1 (map tokens_of ls)))
           (lines_of_text (report_lines r ++ others) (are_lines_append (report_lines r) others
           (are_lines_append (answer_lines r) jobs (answer_is_lines r visible) (job_lines_are_lines 0 r.table)) lines))

@@ -11,8 +11,8 @@ pub(crate) struct Grammar {
     pub(crate) most_in_size: usize,
     /// Whether a text line `instance NAME` names an instance; else it is a text line like others.
     pub(crate) has_headers: bool,
-    /// Whether the rows are two matrices, of times and of machines counted from 1, a row for each job in each, and text
-    /// lines are skipped before both. Else the row of a job has pairs of machine and time, machines counted from 0.
+    /// Whether an instance has two matrices, of times and of machines counted from 1, each with a row for each job and
+    /// with text lines before it skipped. Else a job has one row of pairs of machine and time, machines counted from 0.
     pub(crate) has_matrices: bool,
     /// Whether a job's row of pairs begins with its release and has any number of pairs. Else it has one for each
     /// machine.

@@ -10,8 +10,8 @@ use shop_model::{Instance, Job};
 use std::alloc::Global;
 use std::mem;
 
-/// What is read of an instance so far: its size, its jobs and, in `taillard`, its rows of times. Before the size line no
-/// jobs are wanted.
+/// What is read of an instance so far: its size, its jobs and, in `taillard`, its rows of times. Before the size line
+/// no jobs are wanted.
 #[derive(Drop)]
 pub(crate) struct Draft {
     jobs_wanted: usize,

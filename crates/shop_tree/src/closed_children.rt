@@ -6,7 +6,8 @@ use crate::held::Held;
 use shop_nodes::Waiting;
 use std::alloc::AllocError as NoMemory;
 
-/// Puts an entry on the stack for `count` closed children of a word of `depth` jobs, unless `count` is 0.
+/// Puts an entry on the stack for `count` closed children of a word of `depth` jobs, unless `count` is 0. Fails with
+/// `NoMemory` if memory runs out.
 #[inline(always)]
 pub(crate) fn put_rest<S: Drop>(
     stack: &mut Vec<Held<S>>,

@@ -122,7 +122,8 @@ impl<'l, 'a, D: Dispatching<S>, S: Drop> Walker<'l, 'a, D, S> {
     }
 
     /// Follows the one listed candidate to its child and answers the child's bound, or `None` if the child is closed.
-    /// If `closed`, the number of other children, is 0, the child keeps `bound`.
+    /// If `closed`, the number of other children, is 0, the child keeps `bound`. Fails with `NoMemory` if memory runs
+    /// out.
     #[inline(always)]
     fn go_on(&mut self, bound: u64, closed: usize) -> Result<Option<u64>, NoMemory>
         requires one { length self.old.candidates.items ≡ 1 }
@@ -140,6 +141,7 @@ impl<'l, 'a, D: Dispatching<S>, S: Drop> Walker<'l, 'a, D, S> {
     }
 
     /// Takes the state, if any, from entry `stripped` of the stack, keeps it as a spare, and adds 1 to `stripped`.
+    /// Fails with `NoMemory` if memory runs out.
     fn strip_next(&mut self) -> Result<(), NoMemory>
         requires within { self.old.stripped < length self.old.stack.items }
         requires states { HasStates self.old }
@@ -181,6 +183,7 @@ impl<'l, 'a, D: Dispatching<S>, S: Drop> Walker<'l, 'a, D, S> {
 
     /// Puts the children of the current word on the stack: one entry for the closed ones, above it the open ones by
     /// bound, the least on top. `bound` is the word's bound; `closed` counts the children without a listed candidate.
+    /// Fails with `NoMemory` if memory runs out.
     fn push_children(&mut self, alloc: Global, bound: u64, closed: usize) -> Result<(), NoMemory>
         requires bound { bound ≡ lb self.old.progress.instance.now self.old.path.items }
         requires short { length self.old.path.items < self.old.progress.operations }
@@ -221,7 +224,8 @@ impl<'l, 'a, D: Dispatching<S>, S: Drop> Walker<'l, 'a, D, S> {
         self.push_children(alloc, bound, closed)
     }
 
-    /// Keeps the current word, which is full, as the word found, and its bound `bound` as the best makespan.
+    /// Keeps the current word, which is full, as the word found, and its bound `bound` as the best makespan. Fails with
+    /// `NoMemory` if memory runs out.
     #[inline(never)]
     fn find(&mut self, alloc: Global, bound: u64) -> Result<(), NoMemory>
         requires full { self.old.progress.operations ≤ length self.old.path.items }

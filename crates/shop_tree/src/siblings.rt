@@ -1,4 +1,4 @@
-// Children of a word of which most are bounded at once: those that are settled are put on the stack without a trial.
+// Puts the children of a word on the stack once most of them are bounded: settled ones without a trial.
 ghost use Rattle.std.specs.Prelude.{◌≡◌, ℕ, ◌≤◌, List, [], ◌∷◌, ◌++◌, All, IfOk, OnOk};
 ghost use Rattle.shop_bound.specs.Bound.{lb};
 ghost use Rattle.shop_states.specs.States.{CanDispatch, ListsBelow, Settles};
@@ -14,10 +14,10 @@ use shop_states::{Candidate, Dispatching};
 use std::alloc::{AllocError as NoMemory, Global};
 
 impl<'l, D: Dispatching<S>, S: Drop> WalkStates<'l, D, S> {
-    /// Gives the child on top of the stack its state, if it lies from index `from` on and has none: dispatches it in
-    /// the current state itself, which nobody else wants any more. Where no other state can be had to take the place of
-    /// the current one, the child stays without. `bound` is the bound of the current word, and the child's bound is
-    /// below `limit`. Fails with `NoMemory` if memory runs out.
+    /// Gives the child on top of the stack a state, if the child lies from index `from` on and has none: dispatches its
+    /// job in the current state, which the walk no longer needs. The child stays without a state if no other one can
+    /// take the place of the current state. `bound` is the bound of the current word; the child's bound is below
+    /// `limit`. Fails with `NoMemory` if memory runs out.
     fn give_current(
         &mut self,
         alloc: Global,
@@ -51,10 +51,11 @@ impl<'l, D: Dispatching<S>, S: Drop> WalkStates<'l, D, S> {
     }
 
     /// Does what `try_candidates` does, after `bound_children` answered `top`. A child is settled if `bound` or its own
-    /// number reaches `top`: the greater of the two is its bound then, as a trial would find. So it is put on the stack
-    /// without a trial, and without a state: its turn may never come, and if it comes, its state is filled from its
-    /// word. Only the child that ends on top, which is walked next, is given one, by a dispatch in the current state.
-    /// The children that aren't settled are tried in copies, since the current state is needed to the end.
+    /// number reaches `top`: the greater of the two is then its bound, as a trial would find. A settled child goes on
+    /// the stack without a trial and without a state. Only the child that ends on top, which is walked next, gets a
+    /// state, by a dispatch in the current one; if another settled child's turn comes, its state is filled from its
+    /// word. The children that aren't settled are tried in copies, since the current state is needed to the end. Fails
+    /// with `NoMemory` if memory runs out.
     #[inline(never)]
     pub(crate) fn settle_candidates(
         &mut self,

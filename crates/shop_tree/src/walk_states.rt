@@ -163,7 +163,8 @@ impl<'l, D: Dispatching<S>, S: Drop> WalkStates<'l, D, S> {
         Ok(())
     }
 
-    /// Answers a spare state, else a new one, else `None` if the walk may allocate no more.
+    /// Answers a spare state, else a new one, else `None` if the walk may allocate no more. Fails with `NoMemory` if
+    /// memory runs out.
     #[inline(always)]
     fn spare_state(&mut self, alloc: Global) -> Result<Option<Box<S>>, NoMemory>
         requires sound { HoldSlots D.IsSlot D.IsScratch self.old }
@@ -199,6 +200,7 @@ impl<'l, D: Dispatching<S>, S: Drop> WalkStates<'l, D, S> {
     }
 
     /// Takes out the trial's state, and puts a spare or new one in its place. Answers `None` if neither can be had.
+    /// Fails with `NoMemory` if memory runs out.
     pub(crate) fn take_trial(&mut self, alloc: Global) -> Result<Option<Box<S>>, NoMemory>
         requires sound { HoldSlots D.IsSlot D.IsScratch self.old }
         ensures sound { OnOk result (HoldSlots D.IsSlot D.IsScratch self.new) }
@@ -214,6 +216,7 @@ impl<'l, D: Dispatching<S>, S: Drop> WalkStates<'l, D, S> {
     }
 
     /// Takes out the current state, and puts a spare or new one in its place. Answers `None` if neither can be had.
+    /// Fails with `NoMemory` if memory runs out.
     pub(crate) fn take_current(&mut self, alloc: Global) -> Result<Option<Box<S>>, NoMemory>
         requires sound { HoldSlots D.IsSlot D.IsScratch self.old }
         ensures sound { OnOk result (HoldSlots D.IsSlot D.IsScratch self.new) }

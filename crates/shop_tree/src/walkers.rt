@@ -59,6 +59,7 @@ impl<'l, 'a, D: Dispatching<S>, S: Drop> Walker<'l, 'a, D, S> {
     }
 
     /// Takes `child`, which lay on top of the stack, and expands its word if its bound is below the best makespan.
+    /// Fails with `NoMemory` if memory runs out.
     fn walk_open(
         &mut self,
         alloc: Global,
@@ -84,6 +85,7 @@ impl<'l, 'a, D: Dispatching<S>, S: Drop> Walker<'l, 'a, D, S> {
     }
 
     /// Spends the budget on `count` closed children, one unit each. Puts the children left over back on the stack.
+    /// Fails with `NoMemory` if memory runs out.
     fn count_closed(&mut self, depth: u32, count: u32) -> Result<(), NoMemory>
         requires some { 0 < self.old.progress.budget }
         requires on { IsInOrder (on_top (stage_of self.old) (Rest depth count)) }
@@ -105,7 +107,8 @@ impl<'l, 'a, D: Dispatching<S>, S: Drop> Walker<'l, 'a, D, S> {
         Ok(())
     }
 
-    /// Walks the waiting children on the stack, depth first, as long as the budget lasts.
+    /// Walks the waiting children on the stack, depth first, as long as the budget lasts. Fails with `NoMemory` if
+    /// memory runs out.
     fn walk_stack(&mut self, alloc: Global) -> Result<(), NoMemory>
         requires in_order { IsInOrder (stage_of self.old) }
         requires states { HasStates self.old }
@@ -146,7 +149,8 @@ impl<'l, 'a, D: Dispatching<S>, S: Drop> Walker<'l, 'a, D, S> {
         self.walk_stack(alloc)
     }
 
-    /// Walks the tree below each of `nodes` in order, as long as the budget lasts. Answers how many were taken.
+    /// Walks the tree below each of `nodes` in order, as long as the budget lasts. Answers how many were taken. Fails
+    /// with `NoMemory` if memory runs out.
     fn walk_nodes(&mut self, alloc: Global, nodes: &[Node]) -> Result<usize, NoMemory>
         requires nodes { AreNodes self.old.progress.instance.now nodes.now }
         requires empty { self.old.stack.items ≡ [] }
@@ -179,6 +183,7 @@ impl<'l, 'a, D: Dispatching<S>, S: Drop> Walker<'l, 'a, D, S> {
     }
 
     /// Answers where the walk halted: the path to its current word and the waiting children; `None` if no child waits.
+    /// Fails with `NoMemory` if memory runs out.
     fn halt(&self, alloc: Global) -> Result<Option<Halt>, NoMemory>
         requires in_order { IsInOrder (stage_of self.now) }
         ensures words { IfOk result (λ h. halted_words self.now.progress.instance.now h

@@ -142,7 +142,7 @@ impl<'r> Board<'r> {
 
     /// Answers the least number of a piece whose sheet's makespan equals the opening bound, or the number of pieces if
     /// there is none. `seat` must have won all pieces, and marked each such piece, except those above the least number
-    /// that it read or marked. For library callers: the program doesn't use it.
+    /// that it read or marked. For library callers: the program doesn't use `close`.
     pub fn close(self, seat: Seat) -> usize
         requires seat { IsSeatOf self seat }
         requires all { HasAll (knows seat) }

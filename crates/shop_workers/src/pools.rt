@@ -2,7 +2,7 @@
 ghost use Rattle.std.specs.Prelude.{◌≡◌, ◌+◌, ◌<◌, ◌≤◌, IfSome, IfNone};
 
 /// The piece numbers that no worker has taken yet: those from `next` up to `pieces` (excluded). For library callers:
-/// the program doesn't use it.
+/// the program doesn't use `Pool`.
 #[derive(Drop)]
 pub struct Pool {
     pieces: usize,

@@ -20,7 +20,8 @@ no_order f none order has = no_value f (codes "order") (order_word order) (sym n
 
 pub returns-in-kept-clause-ok : goal.returns-in-kept-clause-ok
 returns-in-kept-clause-ok c =
-    has_text (found_of c.args.found.now) (codes "order") c.in-Some.word.now (codes "kept") c.in-Some.ensures c.in-kept.is
+    has_text (found_of c.args.found.now) (codes "order") c.in-Some.word.now (codes "kept") c.in-Some.ensures
+    c.in-kept.is
 
 pub returns-in-bound-clause-ok : goal.returns-in-bound-clause-ok
 returns-in-bound-clause-ok c =

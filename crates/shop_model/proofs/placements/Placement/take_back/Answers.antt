@@ -40,6 +40,7 @@ returns c = λ p is ready free.
     ap (λ (xs : List Op). get_or xs k no_op) c.route.ensures.route
     in let machine : (get_or c.route.result.now k no_op).machine ≡ machine_of shop j k =
     ap (λ (o : Op). o.machine) operation
-    in taken_back shop j _ a k (get_or c.route.result.now k no_op).machine c.args.ready c.args.free (omega arith) machine
+    in taken_back shop j _ a k (get_or c.route.result.now k no_op).machine c.args.ready c.args.free (omega arith)
+    machine
     (rw machine (c.route.ensures.limits.on_machines j k)) p
     (subst (λ (s : PlacementState). IsPlacement shop (place_next shop p j) s) (sym c.self.view_is) is) ready free
