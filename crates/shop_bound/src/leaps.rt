@@ -52,8 +52,9 @@ fn load_from(triples: &[Triple], from: u64) -> u64
     load
 }
 
-/// Answers `true` only if the one-machine bound of `triples` is at most `bound`. The load never rises with the head from
-/// which on it is taken, so one load settles all heads up to `bound` less that load: the next one is taken behind these.
+/// Answers `true` only if the one-machine bound of `triples` is at most `bound`. The load never rises with the head
+/// from which on it is taken, so one load settles all heads up to `bound` less that load: the next one is taken behind
+/// these.
 fn is_settled(triples: &[Triple], bound: u64) -> bool
     requires { IsSmall triples.now }
     ensures { IsTrue result → one triples.now ≤ bound }

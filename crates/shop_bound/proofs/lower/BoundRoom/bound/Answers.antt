@@ -13,7 +13,8 @@ raise-bound-requires-clause-room c =
     in omega arith)
     in let row = row_of_machine shop c.args.placement.now m _ c.loop-machine.self c.loop-machine.invariant known
     c.index_mut.result.now c.index_mut.ensures.value
-    in let long = ap (λ (ts : List Triple). length ts) row in let given = ap (λ (ts : List Triple). length ts) c.as_mut_slice-triples.ensures.value
+    in let long = ap (λ (ts : List Triple). length ts) row
+    in let given = ap (λ (ts : List Triple). length ts) c.as_mut_slice-triples.ensures.value
     in let few = c.loop-machine.invariant.few m (omega arith) known
     in let room = c.loop-machine.invariant.room.schedule m known in omega arith
 

@@ -1,0 +1,238 @@
+// Trials of a word's children: each in a copy of the state of the word, or in this state itself.
+ghost use Rattle.std.specs.Prelude.{◌≡◌, ℕ, ◌≤◌, false, IsTrue, List, [], ◌∷◌, ◌++◌, All, IfOk, IfSome, OnOk};
+ghost use Rattle.std.specs.Prelude.{OnSome};
+ghost use Rattle.shop_bound.specs.Bound.{lb};
+ghost use Rattle.shop_states.specs.States.{ListsBelow, CanDispatch, HasListed, Settles, TellsBoundBelow};
+ghost use Rattle.shop_nodes.specs.Branching.{conflict};
+ghost use Rattle.shop_tree.specs.inner.Slots.{HoldSlots};
+ghost use Rattle.shop_tree.specs.inner.Tried.{AreSlotsFrom, HasMadeRoom, HasPutChildren};
+
+use super::WalkStates;
+use crate::held::Held;
+use crate::open_children::{put, strip_top};
+use shop_nodes::Open;
+use shop_states::{Candidate, Dispatching};
+use std::alloc::{AllocError as NoMemory, Global};
+use std::mem;
+
+impl<'l, D: Dispatching<S>, S: Drop> WalkStates<'l, D, S> {
+    /// Makes the trial's state that of the current word: a copy of the current state or, for the last trial, the
+    /// current state itself, which the walk no longer needs.
+    fn begin_trial(&mut self, is_last: bool)
+        requires sound { HoldSlots D.IsSlot D.IsScratch self.old }
+        ensures sound { HoldSlots D.IsSlot D.IsScratch self.new }
+        ensures trial { (w : List ℕ) → D.IsStateOf self.old.dispatcher.now w self.old.current.value
+            → D.IsStateOf self.old.dispatcher.now w self.new.trial.value }
+        ensures current { is_last ≡ false → self.new.current.value ≡ self.old.current.value }
+        ensures dispatcher { self.new.dispatcher.now ≡ self.old.dispatcher.now }
+    {
+        if is_last {
+            mem::swap(&mut self.current, &mut self.trial);
+            return;
+        }
+        self.dispatcher.copy(&self.current, &mut self.trial);
+    }
+
+    /// Dispatches `candidate` in the trial's state, and answers the child's bound if it is below `limit`. The last
+    /// trial uses up the current state. `bound` is the bound of the current word.
+    fn try_candidate(
+        &mut self,
+        candidate: Candidate,
+        is_last: bool,
+        bound: u64,
+        limit: u64,
+    ) -> Option<u64>
+        requires sound { HoldSlots D.IsSlot D.IsScratch self.old }
+        requires can { CanDispatch (D.shop self.old.dispatcher.now)
+            (λ w. D.IsStateOf self.old.dispatcher.now w self.old.current.value
+            × D.IsCandidate self.old.dispatcher.now w candidate) candidate.job bound }
+        ensures sound { HoldSlots D.IsSlot D.IsScratch self.new }
+        ensures told { (w : List ℕ) → D.IsStateOf self.old.dispatcher.now w self.old.current.value
+            → D.IsCandidate self.old.dispatcher.now w candidate → bound ≡ lb (D.shop self.old.dispatcher.now) w
+            → TellsBoundBelow limit (lb (D.shop self.old.dispatcher.now) (w ++ candidate.job ∷ [])) result }
+        ensures state { (w : List ℕ) → D.IsStateOf self.old.dispatcher.now w self.old.current.value
+            → D.IsCandidate self.old.dispatcher.now w candidate
+            → OnSome result (D.IsStateOf self.old.dispatcher.now (w ++ candidate.job ∷ [])
+            self.new.trial.value) }
+        ensures current { is_last ≡ false → self.new.current.value ≡ self.old.current.value }
+        ensures dispatcher { self.new.dispatcher.now ≡ self.old.dispatcher.now }
+    {
+        self.begin_trial(is_last);
+        self.dispatcher.dispatch_below(&mut self.scratch, &mut self.trial, candidate, bound, limit)
+    }
+
+    /// Bounds the children of the current word by `candidates`, as `Dispatching::bound_children` does. Uses up the
+    /// trial's state. `bound` is the bound of the current word.
+    #[inline(always)]
+    fn bound_children(&mut self, candidates: &[Candidate], bound: u64) -> Option<u64>
+        requires sound { HoldSlots D.IsSlot D.IsScratch self.old }
+        requires can { HasListed (D.shop self.old.dispatcher.now)
+            (λ w. D.IsStateOf self.old.dispatcher.now w self.old.current.value)
+            (D.IsCandidate self.old.dispatcher.now) candidates.now bound }
+        ensures sound { HoldSlots D.IsSlot D.IsScratch self.new }
+        ensures settled { IfSome result (λ top. (w : List ℕ) (limit others : ℕ)
+            → D.IsStateOf self.old.dispatcher.now w self.old.current.value
+            → bound ≡ lb (D.shop self.old.dispatcher.now) w
+            → ListsBelow (D.shop self.old.dispatcher.now) w limit (D.IsCandidate self.old.dispatcher.now w)
+            (conflict (D.shop self.old.dispatcher.now) w) candidates.now others
+            → Settles (D.shop self.old.dispatcher.now) w bound top candidates.now) }
+        ensures known { IfSome result (λ top. (w : List ℕ) (limit others : ℕ)
+            → D.IsStateOf self.old.dispatcher.now w self.old.current.value
+            → bound ≡ lb (D.shop self.old.dispatcher.now) w
+            → ListsBelow (D.shop self.old.dispatcher.now) w limit (D.IsCandidate self.old.dispatcher.now w)
+            (conflict (D.shop self.old.dispatcher.now) w) candidates.now others
+            → All (λ c. D.KnowsChild self.old.dispatcher.now self.new.scratch w c.job) candidates.now) }
+        ensures current { self.new.current.value ≡ self.old.current.value }
+        ensures dispatcher { self.new.dispatcher.now ≡ self.old.dispatcher.now }
+    {
+        self.dispatcher.bound_children(
+            &mut self.scratch,
+            &self.current,
+            &mut self.trial,
+            candidates,
+            bound,
+        )
+    }
+
+    /// Dispatches `candidate` in a copy of the current state, the trial's, after `bound_children`. Answers the child's
+    /// bound if it is below `limit`. `bound` is the bound of the current word.
+    pub(crate) fn try_child(&mut self, candidate: Candidate, bound: u64, limit: u64) -> Option<u64>
+        requires sound { HoldSlots D.IsSlot D.IsScratch self.old }
+        requires can { CanDispatch (D.shop self.old.dispatcher.now)
+            (λ w. D.IsStateOf self.old.dispatcher.now w self.old.current.value
+            × D.IsCandidate self.old.dispatcher.now w candidate
+            × D.KnowsChild self.old.dispatcher.now self.old.scratch w candidate.job) candidate.job bound }
+        ensures sound { HoldSlots D.IsSlot D.IsScratch self.new }
+        ensures told { (w : List ℕ) → D.IsStateOf self.old.dispatcher.now w self.old.current.value
+            → D.IsCandidate self.old.dispatcher.now w candidate → bound ≡ lb (D.shop self.old.dispatcher.now) w
+            → TellsBoundBelow limit (lb (D.shop self.old.dispatcher.now) (w ++ candidate.job ∷ [])) result }
+        ensures state { (w : List ℕ) → D.IsStateOf self.old.dispatcher.now w self.old.current.value
+            → D.IsCandidate self.old.dispatcher.now w candidate
+            → OnSome result (D.IsStateOf self.old.dispatcher.now (w ++ candidate.job ∷ [])
+            self.new.trial.value) }
+        ensures kept { (w : List ℕ) (j : ℕ)
+            → D.KnowsChild self.old.dispatcher.now self.old.scratch w j
+            → D.KnowsChild self.old.dispatcher.now self.new.scratch w j }
+        ensures current { self.new.current.value ≡ self.old.current.value }
+        ensures dispatcher { self.new.dispatcher.now ≡ self.old.dispatcher.now }
+    {
+        self.dispatcher.copy(&self.current, &mut self.trial);
+        self.dispatcher.dispatch_child_below(
+            &mut self.scratch,
+            &mut self.trial,
+            candidate,
+            bound,
+            limit,
+        )
+    }
+
+    /// Dispatches the candidate with this `job` in the current state itself, after `bound_children`. Answers whether
+    /// the child's bound is below `limit`; else the current state may be no word's state any more. `bound` is the bound
+    /// of the word before the dispatch.
+    pub(crate) fn advance_to(
+        &mut self,
+        job: u16,
+        candidates: &[Candidate],
+        bound: u64,
+        limit: u64,
+    ) -> bool
+        requires sound { HoldSlots D.IsSlot D.IsScratch self.old }
+        requires can { All (λ c. CanDispatch (D.shop self.old.dispatcher.now)
+            (λ w. D.IsStateOf self.old.dispatcher.now w self.old.current.value
+            × D.IsCandidate self.old.dispatcher.now w c
+            × D.KnowsChild self.old.dispatcher.now self.old.scratch w c.job) c.job bound) candidates.now }
+        ensures sound { HoldSlots D.IsSlot D.IsScratch self.new }
+        ensures state { IsTrue result → (w : List ℕ)
+            → D.IsStateOf self.old.dispatcher.now w self.old.current.value
+            → All (D.IsCandidate self.old.dispatcher.now w) candidates.now
+            → D.IsStateOf self.old.dispatcher.now (w ++ job ∷ []) self.new.current.value }
+        ensures dispatcher { self.new.dispatcher.now ≡ self.old.dispatcher.now }
+    {
+        for index in 0..candidates.len() {
+            let candidate = candidates[index];
+            if candidate.job == job {
+                let (scratch, state) = (&mut self.scratch, &mut self.current);
+                return self
+                    .dispatcher
+                    .dispatch_child_below(scratch, state, candidate, bound, limit)
+                    .is_some();
+            }
+        }
+        false
+    }
+
+    /// If no state is spare and none may be allocated, takes the state of the topmost sibling, for a child of the bound
+    /// `bound` that goes above that sibling. So at least the child that is walked next keeps a state. Siblings lie from
+    /// index `from` of the stack on. Fails with `NoMemory` if memory runs out.
+    #[inline(always)]
+    pub(crate) fn make_room(
+        &mut self,
+        stack: &mut Vec<Held<S>>,
+        from: usize,
+        bound: u64,
+    ) -> Result<(), NoMemory>
+        requires sound { HoldSlots D.IsSlot D.IsScratch self.old }
+        requires slots { AreSlotsFrom (D.IsSlot self.old.dispatcher.now) from stack.old.items }
+        ensures sound { OnOk result (HoldSlots D.IsSlot D.IsScratch self.new) }
+        ensures stripped { HasMadeRoom from stack.old.items stack.new.items }
+        ensures current { OnOk result (self.new.current.value ≡ self.old.current.value) }
+        ensures trial { OnOk result (self.new.trial.value ≡ self.old.trial.value) }
+        ensures scratch { OnOk result (self.new.scratch ≡ self.old.scratch) }
+        ensures dispatcher { self.new.dispatcher.now ≡ self.old.dispatcher.now }
+    {
+        if self.free() > 0 {
+            return Ok(());
+        }
+        let state = strip_top(stack, from, bound);
+        self.give_back(state)
+    }
+
+    /// Tries each of `candidates`, and puts the children of `word` with bounds below `limit` on the stack: by bound,
+    /// then by job, the first on top, each with its state while there is room. Answers how many children are closed:
+    /// those tried in vain, and `closed` others without a listed candidate. Where the dispatcher bounds all children at
+    /// once, `settle_candidates` goes on in place of the trials. Fails with `NoMemory` if memory runs out.
+    pub(crate) fn try_candidates(
+        &mut self,
+        alloc: Global,
+        stack: &mut Vec<Held<S>>,
+        candidates: &[Candidate],
+        closed: usize,
+        word: &[u16],
+        bound: u64,
+        limit: u64,
+    ) -> Result<usize, NoMemory>
+        requires sound { HoldSlots D.IsSlot D.IsScratch self.old }
+        requires state { D.IsStateOf self.old.dispatcher.now word.now self.old.current.value }
+        requires bound { bound ≡ lb (D.shop self.old.dispatcher.now) word.now }
+        requires listed { ListsBelow (D.shop self.old.dispatcher.now) word.now limit
+            (D.IsCandidate self.old.dispatcher.now word.now)
+            (conflict (D.shop self.old.dispatcher.now) word.now) candidates.now closed }
+        ensures sound { OnOk result (HoldSlots D.IsSlot D.IsScratch self.new) }
+        ensures children { IfOk result (λ n. HasPutChildren (D.IsStateOf self.old.dispatcher.now)
+            (D.shop self.old.dispatcher.now) limit word.now stack.old.items stack.new.items n) }
+        ensures more { IfOk result (λ n. closed ≤ n) }
+        ensures dispatcher { self.new.dispatcher.now ≡ self.old.dispatcher.now }
+    {
+        if let Some(top) = self.bound_children(candidates, bound) {
+            return self.settle_candidates(
+                alloc, stack, candidates, closed, word, bound, limit, top,
+            );
+        }
+        let (from, depth) = (stack.len(), word.len() as u32);
+        let mut others = closed;
+        // Tries the last job first, so that of equal bounds the lower job lies above.
+        for index in (0..candidates.len()).rev() {
+            let candidate = candidates[index];
+            let is_last = index == 0;
+            let Some(bound) = self.try_candidate(candidate, is_last, bound, limit) else {
+                others += 1;
+                continue;
+            };
+            let job = candidate.job;
+            self.make_room(stack, from, bound)?;
+            let state = self.take_trial(alloc)?;
+            put(stack, from, Open { depth, job, bound }, state)?;
+        }
+        Ok(others)
+    }
+}
