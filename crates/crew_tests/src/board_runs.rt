@@ -86,15 +86,16 @@ fn assert_many_rounds<R: Abort + Threads + Sync>(
     assert_by_workers(rt, alloc, &instance, plan, wanted.as_str());
 }
 
-// Pieces of a node with a budget of two: the search takes 31 rounds in one order and 19 in the other, and none of them is
-// worth a second worker. With a budget of 400, rounds of five pieces and more are.
+// Pieces of a node with a budget of two: the search takes 31 rounds in one order and 19 in the other, and none of them
+// is worth a second worker. With a budget of ten, rounds of 178 pieces and more are, and others aren't. Open nodes of
+// one instance stand in a row of stacks by bound, those of the other in a map.
 #[test]
 fn many_rounds_by_any_number_of_workers(rt: HostRuntime) {
     for (budget, order) in [
         (2, Order::Kept),
         (2, Order::Bound),
-        (400, Order::Kept),
-        (400, Order::Bound),
+        (10, Order::Kept),
+        (10, Order::Bound),
     ] {
         let plan = Plan::ordered(1_000, budget, 1, order).expect(&rt, "a plan");
         assert_many_rounds(&rt, rt.alloc(), FT06, &plan, 55);

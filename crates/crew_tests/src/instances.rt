@@ -22,7 +22,7 @@ pub const FT06: &str = "6 6\n\
     0 2 9 1 3 4 5 5 4 0 3 3 1\n\
     0 1 3 3 3 5 9 0 10 4 4 2 1\n";
 
-/// `FT06` with each time 1,200 times as long: its bounds are too great for a row of stacks. Its least makespan is 66,000.
+/// `FT06` with each time 1,200 times as long, too long for a row of stacks by bound. Its least makespan is 66,000.
 pub const FT06_STRETCHED: &str = "6 6\n\
     0 2 1200 0 3600 1 7200 3 8400 5 3600 4 7200\n\
     0 1 9600 2 6000 4 12000 5 12000 0 12000 3 4800\n\

@@ -40,11 +40,11 @@ fn answers_by_one_thread(rt: HostRuntime) {
     }
 }
 
-/// Two jobs on two machines, and the least makespan. Their times sum up to the greatest opening makespan for which open
-/// nodes by bound stand in a row of stacks, and to one more.
+/// Two jobs on two machines, and the least makespan. Their times sum up to 639, the greatest opening makespan for which
+/// open nodes of four operations by bound stand in a row of stacks, and to 640.
 static AT_THE_LONGEST_ROW: [(&'static str, u64); 2] = [
-    ("2 2\n0 0 3 1 2\n0 1 2 0 65529\n", 65_532),
-    ("2 2\n0 0 3 1 2\n0 1 2 0 65530\n", 65_533),
+    ("2 2\n0 0 3 1 2\n0 1 2 0 632\n", 635),
+    ("2 2\n0 0 3 1 2\n0 1 2 0 633\n", 636),
 ];
 
 #[test]
