@@ -6,8 +6,8 @@ ghost use Rattle.shop_bound.specs.inner.Thresholds.{span_above};
 use crate::triples::Triple;
 use std::cmp::Reverse;
 
-/// So many leaps are tried: on random instances, one to three settle a machine that has no more to do than another one.
-/// Where they don't, Jackson's schedule is made, so a machine of n operations takes n log n steps.
+/// The most leaps that are tried. On random instances, one to three settle a machine that has no more to do than
+/// another one. Where they don't, Jackson's schedule is made, so a machine of n operations takes n log n steps.
 const LEAPS: usize = 4;
 
 /// Adds up the times of `triples`.

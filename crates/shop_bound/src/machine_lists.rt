@@ -31,7 +31,7 @@ pub(crate) fn count_visits(alloc: Global, instance: &Instance) -> Result<Vec<usi
     Ok(counts)
 }
 
-/// Makes an empty list for each of `counts`, with room for so many operations. Fails with `NoMemory` if memory runs
+/// Makes an empty list for each of `counts`, with room for that many operations. Fails with `NoMemory` if memory runs
 /// out.
 pub(crate) fn lists_with_room(alloc: Global, counts: &[usize]) -> Result<Vec<Vec<Triple>>, NoMemory>
     ensures { IfOk result (λ v. rooms_in v.items ≡ counts.now) }

@@ -12,8 +12,8 @@ use crate::blocks::Block;
 use crate::folds::{greatest_before, greatest_behind, sums_before};
 use crate::served_blocks::serve;
 
-/// Serves all waiting operations as `serve_columns` does, down each of eight columns from time 0 on. Writes into `owns`,
-/// for each position, the greatest end, tail included, of the operations before it in its column.
+/// Serves all waiting operations as `serve_columns` does, down each of eight columns from time 0 on. Writes into
+/// `owns`, for each position, the greatest end, tail included, of the operations before it in its column.
 #[inline(always)]
 fn note_columns<B: Block>(
     count: usize,
@@ -71,10 +71,10 @@ fn own_ends<B: Block>(heads: B, times: B, before: B, behind: B) -> B
     B::sum(B::sum(heads, times), rest)
 }
 
-/// Goes back up the columns and replaces what `note_columns` wrote into `owns` by own spans: how late each operation, and
-/// the others with their tails, end if it goes first. With all waiting operations served by rank from time 0 on,
-/// `begins` and `clocks` hold the time when each column begins and ends, and `before` and `behind` the greatest end, tail
-/// included, in the columns before and behind each column.
+/// Goes back up the columns and replaces what `note_columns` wrote into `owns` by own spans: how late each operation,
+/// and the others with their tails, end if it goes first. With all waiting operations served by rank from time 0 on,
+/// `begins` and `clocks` hold the time when each column begins and ends, and `before` and `behind` the greatest end,
+/// tail included, in the columns before and behind each column.
 #[inline(always)]
 fn write_back<B: Block>(
     count: usize,

@@ -17,7 +17,7 @@ use std::collections::BTreeMap;
 /// The greatest opening makespan at which open nodes are kept in a row by bound, which then takes some 5 MB at most.
 const MOST_IN_ROW: u64 = 65_536;
 
-/// A row may be so many times as long as the instance has operations. A round goes through the empty places between two
+/// The most places of a row for each operation of the instance. A round goes through the empty places between two
 /// stacks in some instructions each, and through all operations for each piece in some dozens.
 const MOST_FOR_AN_OPERATION: u64 = 128;
 

@@ -16,8 +16,8 @@ use shop_model::{SharedWord, Word};
 use shop_states::Dispatching;
 use std::alloc::{AllocError as NoMemory, Global};
 
-/// So many states are taken back for the children of a word: up to three candidates are tried, and each child has a
-/// state. Of more candidates most are settled, and only the child on top has one.
+/// The most states that are taken back for the children of a word. Up to three candidates are tried, and each child has
+/// a state; of more candidates most are settled, and only the child on top has one.
 const MOST_WANTED: usize = 3;
 
 impl<'l, 'a, D: Dispatching<S>, S: Drop> Walker<'l, 'a, D, S> {
@@ -154,8 +154,8 @@ impl<'l, 'a, D: Dispatching<S>, S: Drop> Walker<'l, 'a, D, S> {
         self.states.give_back(state)
     }
 
-    /// Takes states from the lowest entries of the stack until so many as are `wanted` are free, or no entry has a
-    /// state left. Fails with `NoMemory` if memory runs out.
+    /// Takes states from the lowest entries of the stack until `wanted` states are free, or no entry has a state left.
+    /// Fails with `NoMemory` if memory runs out.
     #[inline(never)]
     fn strip_lowest(&mut self, wanted: usize) -> Result<(), NoMemory>
         requires states { HasStates self.old }
