@@ -7,6 +7,7 @@ use Rattle.shop_model.specs.Shop.{Shop}
 use Rattle.shop_bound.specs.Conflicts.{conflict}
 use Rattle.shop_layout.specs.Lanes.{rows_of}
 use Rattle.shop_layout.specs.Positions.{LayoutState}
+use Rattle.shop_states.specs.declared.candidate_lists.FirstEnd.{FirstEnd}
 use Rattle.shop_states.specs.declared.dispatching.Candidate.{Candidate}
 use Rattle.shop_states.specs.inner.Candidates.{AreCandidatesOf, CanList, IsChosenBy, ListsGathered, told_at}
 use Rattle.shop_states.specs.inner.LaneChoices.{AreNextPlaced, IsJobBelow}
@@ -23,56 +24,69 @@ module _ {greatest : ℕ} {shop : Shop} {w : List ℕ} {l : LayoutState} {heads 
   pub placed : AreNextPlaced l heads nexts
   placed = next_placed (choosable kept).at
 
-  module _ {job machine end : ℕ} (chosen : IsChosenBy greatest shop w l heads nexts job machine end)
-      {from behind : ℕ} (from_is : from ≡ get_or l.blocks machine 0)
-      (behind_is : behind ≡ get_or l.blocks (machine + 1) 0) where
-    set_is : (js : List ℕ) → IsGatheredWith job (IsJobBelow l heads (IsInBlocks from behind) end) js
-        → js ≡ conflict shop w
+  module _ {first : FirstEnd} (chosen : IsChosenBy greatest shop w l heads nexts first)
+      {from behind : ℕ} (from_is : from ≡ get_or l.blocks first.machine 0)
+      (behind_is : behind ≡ get_or l.blocks (first.machine + 1) 0) where
+    -- what is gathered with the chosen job between these blocks
+    abbrev pub AreGathered : ℕ → ℕ → List ℕ → Type 0
+    AreGathered x y = IsGatheredWith first.chosen (IsJobBelow l heads (IsInBlocks x y) first.end)
+
+    set_is : (js : List ℕ) → AreGathered from behind js → js ≡ conflict shop w
     set_is js is = chosen.set js
-        (subst (λ (x : ℕ). IsGatheredWith job
-        (IsJobBelow l heads (IsInBlocks (get_or l.blocks machine 0) x) end) js) behind_is
-        (subst (λ (x : ℕ). IsGatheredWith job (IsJobBelow l heads (IsInBlocks x behind) end) js) from_is is))
+        (subst (λ (x : ℕ). AreGathered (get_or l.blocks first.machine 0) x js) behind_is
+        (subst (λ (x : ℕ). AreGathered x behind js) from_is is))
 
     -- nothing else waits there
     pub sole : {to : ℕ} → to ≡ behind
-        → All (λ p. p ≡ get_or nexts job 0) (positions_below (rows_of l heads ends) from to end)
-        → (limit : ℕ) {cs : List Candidate} → cs ≡ record { job = job; own = 0 } ∷ []
+        → All (λ p. p ≡ get_or nexts first.chosen 0) (positions_below (rows_of l heads ends) from to first.end)
+        → (limit : ℕ) {cs : List Candidate} → cs ≡ record { job = first.chosen; own = 0 } ∷ []
         → AreCandidatesOf shop w l limit cs 0
     sole {to} whole nothing limit {cs} are =
         let ordered = chosen.blocks.ordered
         in let within = chosen.blocks.within
-        in let is = alone_with l nexts (rows_of l heads ends) placed from to end job (omega arith) (omega arith)
-        chosen.known nothing
+        in let is = alone_with l nexts (rows_of l heads ends) placed from to first.end first.chosen (omega arith)
+        (omega arith) chosen.known nothing
         in alone kept
-        (set_is (job ∷ []) (subst (λ (x : ℕ). IsGatheredWith job (IsJobBelow l heads (IsInBlocks from x) end)
-        (job ∷ [])) whole is)) limit job refl cs are
+        (set_is (first.chosen ∷ []) (subst (λ (x : ℕ). AreGathered from x (first.chosen ∷ [])) whole is)) limit
+        first.chosen refl cs are
 
-    pub tells : CanTell greatest (rows_of l heads ends) nexts job from behind
-    tells = can_tell kept refl job chosen.has chosen.machine_is from_is behind_is
+    pub tells : CanTell greatest (rows_of l heads ends) nexts first.chosen from behind
+    tells = can_tell kept refl first.chosen chosen.has chosen.machine_is from_is behind_is
 
     -- it can be listed
-    pub can_list : {to : ℕ} → from ≤ to → to ≤ behind → get_or nexts job 0 < 2 ^ 64 → {count : ℕ}
-        → count ≡ length heads → CanList greatest l heads nexts job from to behind end count
-    can_list {to} ordered last small {count} many =
+    pub can_list : {to : ℕ} → from ≤ to → to ≤ behind → {below : List ℕ}
+        → below ≡ positions_below (rows_of l heads ends) from to first.end → {count : ℕ} → count ≡ length heads
+        → count < 2 ^ 64 → CanList greatest l (rows_of l heads ends) nexts (record {
+          chosen = first.chosen;
+          end = first.end;
+          from = from;
+          to = to;
+          behind = behind;
+          below = below;
+        }) count
+    can_list {to} ordered last {below} marks {count} many small =
         let low = tells.low
         in let within = tells.blocks.within
         in record {
-          ordered = ordered;
-          last = last;
-          within = within;
+          blocks_are = record {
+            ordered = ordered;
+            last = last;
+            within = within;
+            fits = chosen.fits;
+            marks = marks;
+          };
           computable = omega arith;
-          fits = chosen.fits;
           placed = placed;
           few = (let few = kept.kept.limits.jobs in let jobs = kept.are_next.jobs in omega arith);
           known = chosen.known;
-          told = λ js is. told_all kept (set_is js is) job chosen.has chosen.machine_is from_is behind_is count many;
+          told = λ js is. told_all kept (set_is js is) first.chosen chosen.has chosen.machine_is from_is behind_is count
+              many;
         }
 
     pub all_told : (owns : List ℕ) → AreOwnSpans heads l.times l.tails from behind owns
         → {limit : ℕ} {cs : List Candidate} {others : ℕ}
-        → ListsGathered limit (told_at nexts (8 * from) owns)
-        (IsGatheredWith job (IsJobBelow l heads (IsInBlocks from behind) end)) cs others
+        → ListsGathered limit (told_at nexts (8 * from) owns) (AreGathered from behind) cs others
         → AreCandidatesOf shop w l limit cs others
     all_told owns spans {limit} {cs} {others} are =
-        told kept (set_is are.jobs are.gathered) job chosen.has chosen.machine_is from_is behind_is owns spans limit cs
-        others are.listed
+        told kept (set_is are.jobs are.gathered) first.chosen chosen.has chosen.machine_is from_is behind_is owns spans
+        limit cs others are.listed

@@ -4,70 +4,53 @@ use Rattle.std.proofs.Common.{subst, arith}
 use Rattle.std.specs.List.{All, AllByRecursion}
 use Rattle.std.proofs.lemmas.List.Elements.{recursion_from_All}
 use Rattle.std.proofs.lemmas.Bool.{cases_lt}
-use Rattle.std.proofs.lemmas.List.{get_or_past}
 use Rattle.shop_lanes.specs.Rows.{Rows}
 use Rattle.shop_lanes.specs.Marks.{positions_below}
 use Rattle.shop_layout.specs.Positions.{LayoutState}
-use Rattle.shop_states.specs.inner.LaneChoices.{AreNextPlaced, IsJobBelow}
+use Rattle.shop_states.specs.inner.LaneChoices.{AreNextPlaced, HaveJobs, IsJobAt, IsJobBelow}
 use Rattle.shop_states.specs.inner.Raises.{IsInBlocks}
 use Rattle.shop_states.specs.inner.JobSets.{HasPut}
 use Rattle.shop_states.specs.inner.RisingLists.{IsIn, Rises, HasGathered, IsGatheredWith}
 use Rattle.shop_states.proofs.MarkedPositions.{IsBelow, below_is_in, in_is_below}
 
--- what is gathered while some positions are still to come
-pub record AreGathering (l : LayoutState) (heads : List ℕ) (from to limit : ℕ) (todo old now : List ℕ) : Type 0
-  where
-    pub to_come : (q : ℕ) → IsIn todo q → IsBelow heads from to limit q
-    pub kept : (j : ℕ) → IsIn old j → IsIn now j
-    pub gathered : (q : ℕ) → IsBelow heads from to limit q → IsIn now (get_or l.jobs q 0) ⊎ IsIn todo q
-    pub only : (j : ℕ) → IsIn now j → IsIn old j ⊎ IsJobBelow l heads (IsInBlocks from to) limit j
+-- what is gathered while some of the marked positions are still to come
+pub record AreGathering (l : LayoutState) (marks todo old now : List ℕ) : Type 0 where
+  pub to_come : (q : ℕ) → IsIn todo q → IsIn marks q
+  pub kept : (j : ℕ) → IsIn old j → IsIn now j
+  pub gathered : (q : ℕ) → IsIn marks q → IsIn now (get_or l.jobs q 0) ⊎ IsIn todo q
+  pub only : (j : ℕ) → IsIn now j → IsIn old j ⊎ IsJobAt l marks j
 
-module _ {l : LayoutState} {heads : List ℕ} {from to limit : ℕ} where
-  pub gathering_begins : (rows : Rows) → rows.heads ≡ heads → from ≤ to → 8 * to ≤ length heads
-      → {todo old : List ℕ} → todo ≡ positions_below rows from to limit
-      → AreGathering l heads from to limit todo old old
-  gathering_begins rows are ordered within is =
-      let high : 8 * to ≤ length rows.heads = (let a = ap (λ (xs : List ℕ). length xs) are in omega arith)
-      in record {
-        to_come = λ q h. subst (λ (xs : List ℕ). IsBelow xs from to limit q) are
-            (in_is_below rows from to limit ordered high q (subst (λ (xs : List ℕ). IsIn xs q) is h));
-        kept = λ j h. h;
-        gathered = λ q below. inr (subst (λ (xs : List ℕ). IsIn xs q) (sym is)
-            (below_is_in rows from to limit ordered high q
-            (subst (λ (xs : List ℕ). IsBelow xs from to limit q) (sym are) below)));
-        only = λ j h. inl h;
-      }
+pub gathering_begins : (l : LayoutState) (marks old : List ℕ) → AreGathering l marks marks old old
+gathering_begins l marks old = record {
+  to_come = λ q h. h;
+  kept = λ j h. h;
+  gathered = λ q h. inr h;
+  only = λ j h. inl h;
+}
 
-  pub gathering_ends : {todo old now : List ℕ} → AreGathering l heads from to limit todo old now → todo ≡ []
-      → HasGathered (IsJobBelow l heads (IsInBlocks from to) limit) old now
+module _ {l : LayoutState} {marks : List ℕ} where
+  pub gathering_ends : {todo old now : List ℕ} → AreGathering l marks todo old now → todo ≡ []
+      → HasGathered (IsJobAt l marks) old now
   gathering_ends {now} are nothing = record {
     kept = are.kept;
-    gathered = λ j next. elim (are.gathered next.position
-        (record { there = next.there; waits = next.waits; below = next.below })) [
-          | inl h ↦ subst (IsIn now) next.job h
-          | inr h ↦ absurd (subst (λ (xs : List ℕ). IsIn xs next.position) nothing h)
-        ];
+    gathered = λ j at. elim (are.gathered at.0 at.1) [
+      | inl h ↦ subst (IsIn now) at.2 h
+      | inr h ↦ absurd (subst (λ (xs : List ℕ). IsIn xs at.0) nothing h)
+    ];
     only = are.only;
   }
 
-  module _ {todo old now : List ℕ} (so_far : AreGathering l heads from to limit todo old now) {q : ℕ}
+  module _ {todo old now : List ℕ} (so_far : AreGathering l marks todo old now) {q : ℕ}
       {rest : List ℕ} (popped : todo ≡ q ∷ rest) where
-    popped_below : IsBelow heads from to limit q
-    popped_below = so_far.to_come q (subst (λ (xs : List ℕ). IsIn xs q) (sym popped) (inl refl))
-
-    pub popped_within : q < length heads
-    popped_within = elim (cases_lt q (length heads)) [
-      | inl here ↦ here
-      | inr past ↦ absurd (let a = popped_below.waits in let b = get_or_past heads q 0 past in omega arith)
-    ]
+    pub popped_marked : IsIn marks q
+    popped_marked = so_far.to_come q (subst (λ (xs : List ℕ). IsIn xs q) (sym popped) (inl refl))
 
     -- its job is put in
-    pub gathering_on : {new : List ℕ} → HasPut (get_or l.jobs q 0) now new
-        → AreGathering l heads from to limit rest old new
+    pub gathering_on : {new : List ℕ} → HasPut (get_or l.jobs q 0) now new → AreGathering l marks rest old new
     gathering_on put = record {
       to_come = λ r h. so_far.to_come r (subst (λ (xs : List ℕ). IsIn xs r) (sym popped) (inr h));
       kept = λ j h. put.kept j (so_far.kept j h);
-      gathered = λ r below. elim (so_far.gathered r below) [
+      gathered = λ r marked. elim (so_far.gathered r marked) [
         | inl h ↦ inl (put.kept (get_or l.jobs r 0) h)
         | inr h ↦ elim (subst (λ (xs : List ℕ). IsIn xs r) popped h) [
           | inl e ↦ inl (put.gathered (get_or l.jobs r 0) (ap (λ (x : ℕ). get_or l.jobs x 0) e))
@@ -76,15 +59,48 @@ module _ {l : LayoutState} {heads : List ℕ} {from to limit : ℕ} where
       ];
       only = λ j h. elim (put.only j h) [
         | inl g ↦ so_far.only j g
-        | inr e ↦ inr (record {
-          position = q;
-          there = popped_below.there;
-          waits = popped_below.waits;
-          below = popped_below.below;
-          job = sym e;
-        })
+        | inr e ↦ inr (q, popped_marked, sym e)
       ];
     }
+
+-- of all positions
+pub have_all : {l : LayoutState} {n most : ℕ} → HaveJobs l n most → HaveJobs l (length l.jobs) most
+have_all have = record {
+  many = refl;
+  below = λ q here. have.below q (let many = have.many in omega arith);
+}
+
+-- the marks are of the heads below a limit in some blocks
+module _ (rows : Rows) (from to limit : ℕ) (ordered : from ≤ to) (within : 8 * to ≤ length rows.heads)
+    {marks : List ℕ} (are : marks ≡ positions_below rows from to limit) where
+  marked_below : (q : ℕ) → IsIn marks q → IsBelow rows.heads from to limit q
+  marked_below q h = in_is_below rows from to limit ordered within q (subst (λ (xs : List ℕ). IsIn xs q) are h)
+
+  pub marked_within : (q : ℕ) → IsIn marks q → q < length rows.heads
+  marked_within q h = let at = (marked_below q h).there in let high = at.1 in omega arith
+
+  pub gathered_below : {l : LayoutState} {old now : List ℕ} → HasGathered (IsJobAt l marks) old now
+      → HasGathered (IsJobBelow l rows.heads (IsInBlocks from to) limit) old now
+  gathered_below {l} {old} {now} gathered = record {
+    kept = gathered.kept;
+    gathered = λ j next. gathered.gathered j (
+      next.position,
+      subst (λ (xs : List ℕ). IsIn xs next.position) (sym are)
+          (below_is_in rows from to limit ordered within next.position
+          (record { there = next.there; waits = next.waits; below = next.below })),
+      next.job,
+    );
+    only = λ j h. elim (gathered.only j h) [
+      | inl g ↦ inl g
+      | inr at ↦ (let is = marked_below at.0 at.1 in inr (record {
+        position = at.0;
+        there = is.there;
+        waits = is.waits;
+        below = is.below;
+        job = at.2;
+      }))
+    ];
+  }
 
 -- some blocks, and those behind them
 module _ (l : LayoutState) (heads : List ℕ) (limit : ℕ) where

@@ -5,6 +5,7 @@ pub mod LaneChoices
 pub mod LaneEnds
 pub mod LaneHeads
 pub mod MachineRaises
+pub mod RaiseCalls
 pub mod Raises
 pub mod RisingLists
 pub mod Watchers

@@ -1,7 +1,6 @@
 // Lists a word's candidates: the jobs of its conflict set, each with a lower bound of the word extended by that job.
 ghost use Rattle.std.specs.Prelude.{◌≡◌, ℕ, ◌+◌, ◌*◌, ◌≤◌, ◌<◌, List, [], ◌∷◌, ◌++◌, length, map};
 ghost use Rattle.std.specs.Prelude.{slice_index, vec_capacity};
-ghost use Rattle.shop_lanes.specs.Marks.{positions_below};
 ghost use Rattle.shop_model.specs.Shop.{Shop};
 ghost use Rattle.shop_states.specs.inner.Candidates.{AreCandidatesOf, CanGather, CanList, IsChosenBy};
 ghost use Rattle.shop_states.specs.inner.Candidates.{IsTold, ListsGathered, ListsOwn, told_at};
@@ -14,7 +13,8 @@ ghost use Rattle.shop_layout.specs.Lanes.{rows_of};
 
 use crate::dispatching::Candidate;
 use crate::job_sets::BITS;
-use crate::lane_choices::conflict_set;
+use crate::lane_choices::{ConflictBlocks, conflict_set};
+use crate::states::State;
 use shop_lanes::{Marks, StateLanes};
 use shop_layout::Grid;
 
@@ -125,85 +125,98 @@ fn list_words<L: StateLanes>(
     others
 }
 
-/// Fills the empty list with the candidates of the conflict set whose `own` is below `limit`, and answers how many jobs
-/// are left out. `owns` holds the own spans, see `own_at`, from block `from` on. `conflict_set` explains the other
-/// parameters. For up to 64 jobs the set is one number of 64 bits, for more jobs sixteen.
+/// Of all next operations that of job `chosen` can end first: at `end`, one higher like heads in lanes, on `machine`.
+#[derive(Clone, Copy)]
+pub(crate) struct FirstEnd {
+    pub chosen: usize,
+    pub machine: usize,
+    pub end: u64,
+}
+
+/// Fills the empty list with the candidates of the conflict set in `blocks` whose `own` is below `limit`, and answers
+/// how many jobs are left out. `owns` holds the own spans, see `own_at`, from the first of these blocks on. For up to 64
+/// jobs the set is one number of 64 bits, for more jobs sixteen.
 #[inline(always)]
 fn list_conflict_set<L: StateLanes>(
     candidates: &mut Vec<Candidate>,
-    below: Marks,
     owns: &[L::Number],
-    lanes: &L,
+    state: &State<L>,
     grid: &Grid<L>,
-    next: &[u32],
-    chosen: usize,
-    from: usize,
-    to: usize,
-    behind: usize,
-    end: u64,
+    blocks: ConflictBlocks,
     limit: u64,
 ) -> usize
-    requires can { CanList L.GREATEST grid.now (L.heads lanes.now) next.now chosen from to behind end
-        (length owns.now) }
-    requires marks { below
-        ≡ positions_below (rows_of grid.now (L.heads lanes.now) (L.ends lanes.now)) from to end }
+    requires can { CanList L.GREATEST grid.now
+        (rows_of grid.now (L.heads state.now.lanes) (L.ends state.now.lanes)) state.now.next.items
+        blocks (length owns.now) }
     requires none { candidates.old.items ≡ [] }
-    requires room { length next.now ≤ vec_capacity candidates.old }
-    ensures listed { ListsGathered limit (told_at next.now (8 * from) (map L.value owns.now))
-        (IsGatheredWith chosen (IsJobBelow grid.now (L.heads lanes.now) (IsInBlocks from behind) end))
-        candidates.new.items result }
+    requires room { length state.now.next.items ≤ vec_capacity candidates.old }
+    ensures listed { ListsGathered limit
+        (told_at state.now.next.items (8 * blocks.from) (map L.value owns.now))
+        (IsGatheredWith blocks.chosen (IsJobBelow grid.now (L.heads state.now.lanes)
+        (IsInBlocks blocks.from blocks.behind) blocks.end)) candidates.new.items result }
     ensures room { vec_capacity candidates.new ≡ vec_capacity candidates.old }
 {
+    let (lanes, next) = (&state.lanes, state.next.as_slice());
+    let first = 8 * blocks.from;
     if next.len() <= BITS {
-        let jobs = conflict_set::<1, L>(below, lanes, grid, chosen, from, to, behind, end);
-        return list_words::<L>(candidates, jobs.words(), next, 8 * from, owns, limit);
+        let jobs = conflict_set::<1, L>(blocks, lanes, grid);
+        return list_words::<L>(candidates, jobs.words(), next, first, owns, limit);
     }
-    let jobs = conflict_set::<16, L>(below, lanes, grid, chosen, from, to, behind, end);
-    list_words::<L>(candidates, jobs.words(), next, 8 * from, owns, limit)
+    let jobs = conflict_set::<16, L>(blocks, lanes, grid);
+    list_words::<L>(candidates, jobs.words(), next, first, owns, limit)
 }
 
 /// Fills the empty list with the word's candidates whose `own` is below `limit`, and answers how many jobs are left
-/// out. Of all next operations that of `chosen` can end first, at `end` on `machine`. On a machine of at most eight
-/// blocks, lists a sole candidate with `own` 0, whatever `limit` is.
+/// out. The conflict set lies on the machine of `first`. On a machine of at most eight blocks, lists a sole candidate
+/// with `own` 0, whatever `limit` is.
 #[inline(always)]
 fn list_on_machine<L: StateLanes>(
     candidates: &mut Vec<Candidate>,
     owns: &mut [L::Number],
-    lanes: &L,
+    state: &State<L>,
     grid: &Grid<L>,
-    next: &[u32],
-    chosen: usize,
-    machine: usize,
-    end: u64,
+    first: FirstEnd,
     limit: u64,
 ) -> usize
     requires can { CanGather L.GREATEST grid.now
-        (rows_of grid.now (L.heads lanes.now) (L.ends lanes.now)) next.now }
+        (rows_of grid.now (L.heads state.now.lanes) (L.ends state.now.lanes)) state.now.next.items }
     requires chosen { (shop : Shop) (w : List ℕ) → IsKeptInLanes L.GREATEST shop w grid.now
-        (rows_of grid.now (L.heads lanes.now) (L.ends lanes.now)) next.now
-        → IsChosenBy L.GREATEST shop w grid.now (L.heads lanes.now) next.now chosen machine end }
+        (rows_of grid.now (L.heads state.now.lanes) (L.ends state.now.lanes)) state.now.next.items
+        → IsChosenBy L.GREATEST shop w grid.now (L.heads state.now.lanes) state.now.next.items first }
     requires none { candidates.old.items ≡ [] }
-    requires owns { length owns.old ≡ length (L.heads lanes.now) }
-    requires room { length next.now ≤ vec_capacity candidates.old }
+    requires owns { length owns.old ≡ length (L.heads state.now.lanes) }
+    requires room { length state.now.next.items ≤ vec_capacity candidates.old }
     ensures are { (shop : Shop) (w : List ℕ) → IsKeptInLanes L.GREATEST shop w grid.now
-        (rows_of grid.now (L.heads lanes.now) (L.ends lanes.now)) next.now
+        (rows_of grid.now (L.heads state.now.lanes) (L.ends state.now.lanes)) state.now.next.items
         → AreCandidatesOf shop w grid.now limit candidates.new.items result }
     ensures long { length owns.new ≡ length owns.old }
     ensures room { vec_capacity candidates.old ≤ vec_capacity candidates.new }
 {
+    let FirstEnd {
+        chosen,
+        machine,
+        end,
+    } = first;
+    let next = state.next.as_slice();
     let (from, behind) = (grid.block(machine), grid.block(machine + 1));
     let to = from + (behind - from).min(8);
-    let below = lanes.below(from, to, end);
+    let below = state.lanes.below(from, to, end);
     // dispatching a sole candidate keeps the word's bound
     if to == behind && below.has_no_other(next[chosen] as usize) {
         let job = chosen as u16;
         candidates.push_reserved(Candidate { job, own: 0 });
         return 0;
     }
-    grid.own_spans(lanes, from, behind, owns);
-    list_conflict_set(
-        candidates, below, owns, lanes, grid, next, chosen, from, to, behind, end, limit,
-    )
+    grid.own_spans(&state.lanes, from, behind, owns);
+    let blocks = ConflictBlocks {
+        chosen,
+        end,
+        from,
+        to,
+        behind,
+        below,
+    };
+    list_conflict_set(candidates, owns, state, grid, blocks, limit)
 }
 
 /// Replaces `candidates` by the jobs of the conflict set whose `own` is below `limit`. Answers how many are left out.
@@ -211,29 +224,32 @@ fn list_on_machine<L: StateLanes>(
 pub(crate) fn list_candidates<L: StateLanes>(
     candidates: &mut Vec<Candidate>,
     owns: &mut [L::Number],
-    lanes: &L,
+    state: &State<L>,
     grid: &Grid<L>,
-    next: &[u32],
     limit: u64,
 ) -> usize
     requires can { CanGather L.GREATEST grid.now
-        (rows_of grid.now (L.heads lanes.now) (L.ends lanes.now)) next.now }
-    requires owns { length owns.old ≡ length (L.heads lanes.now) }
-    requires room { length next.now ≤ vec_capacity candidates.old }
+        (rows_of grid.now (L.heads state.now.lanes) (L.ends state.now.lanes)) state.now.next.items }
+    requires owns { length owns.old ≡ length (L.heads state.now.lanes) }
+    requires room { length state.now.next.items ≤ vec_capacity candidates.old }
     ensures are { (shop : Shop) (w : List ℕ) → IsKeptInLanes L.GREATEST shop w grid.now
-        (rows_of grid.now (L.heads lanes.now) (L.ends lanes.now)) next.now
+        (rows_of grid.now (L.heads state.now.lanes) (L.ends state.now.lanes)) state.now.next.items
         → AreCandidatesOf shop w grid.now limit candidates.new.items result }
     ensures long { length owns.new ≡ length owns.old }
     ensures room { vec_capacity candidates.old ≤ vec_capacity candidates.new }
 {
     candidates.clear();
-    let (chosen, end) = lanes.first_least_end();
+    let next = state.next.as_slice();
+    let (chosen, end) = state.lanes.first_least_end();
     let position = next[chosen] as usize;
     if position >= grid.positions() {
         return 0;
     }
     let machine = grid.machines()[position] as usize;
-    list_on_machine(
-        candidates, owns, lanes, grid, next, chosen, machine, end, limit,
-    )
+    let first = FirstEnd {
+        chosen,
+        machine,
+        end,
+    };
+    list_on_machine(candidates, owns, state, grid, first, limit)
 }

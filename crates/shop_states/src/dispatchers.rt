@@ -95,9 +95,8 @@ impl<'a, L: StateLanes> Dispatching<State<L>> for LaidOut<'a, L> {
         list_candidates(
             candidates,
             scratch.owns.as_mut_slice(),
-            &state.lanes,
+            state,
             self.grid(),
-            state.next.as_slice(),
             limit,
         )
     }

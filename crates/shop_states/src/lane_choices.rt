@@ -1,38 +1,41 @@
 // Finds the conflict set from the heads in lanes.
-ghost use Rattle.std.specs.Prelude.{◌≡◌, ◌*◌, ◌≤◌, ◌<◌, length};
+ghost use Rattle.std.specs.Prelude.{◌≡◌, ℕ, ◌*◌, ◌≤◌, ◌<◌, length};
 ghost use Rattle.shop_lanes.specs.Marks.{positions_below};
-ghost use Rattle.shop_states.specs.inner.LaneChoices.{HaveJobs, IsJobBelow};
+ghost use Rattle.shop_states.specs.inner.LaneChoices.{AreConflictBlocks, HaveJobs, IsJobAt, IsJobBelow};
 ghost use Rattle.shop_layout.specs.Lanes.{rows_of};
 ghost use Rattle.shop_states.specs.inner.Raises.{IsInBlocks};
-ghost use Rattle.shop_states.specs.inner.RisingLists.{HasGathered, IsGatheredWith};
+ghost use Rattle.shop_states.specs.inner.RisingLists.{HasGathered, IsGatheredWith, IsIn};
 
 use crate::job_sets::JobSet;
 use shop_lanes::{Marks, StateLanes};
 use shop_layout::Grid;
 
-/// Puts the job of each position in `below` into `jobs`. `below` has the positions of the waiting operations in blocks
-/// `from` up to `to` (excluded) with heads below `limit`.
+/// Where a conflict set lies: in blocks `from` up to `behind` (excluded), those of one machine. Of all next operations
+/// that of `chosen`, which is there, can end first, at `end`, one higher like heads in lanes. `below` marks the heads
+/// below `end` in the blocks before `to`.
+#[derive(Drop)]
+pub(crate) struct ConflictBlocks {
+    pub chosen: usize,
+    pub end: u64,
+    pub from: usize,
+    pub to: usize,
+    pub behind: usize,
+    pub below: Marks,
+}
+
+/// Puts the job of each position in `marked` into `jobs`.
 #[inline(always)]
 fn gather_marked<const WORDS: usize, L: StateLanes>(
     jobs: &mut JobSet<WORDS>,
-    below: Marks,
-    lanes: &L,
+    marked: Marks,
     grid: &Grid<L>,
-    from: usize,
-    to: usize,
-    limit: u64,
 )
-    requires ordered { from ≤ to }
-    requires within { 8 * to ≤ length (L.heads lanes.now) }
-    requires marks { below
-        ≡ positions_below (rows_of grid.now (L.heads lanes.now) (L.ends lanes.now)) from to limit }
-    requires jobs { HaveJobs grid.now (length (L.heads lanes.now)) (64 * WORDS) }
-    ensures { HasGathered
-        (IsJobBelow grid.now (L.heads lanes.now) (IsInBlocks from to) limit)
-        jobs.old jobs.new }
+    requires known { (q : ℕ) → IsIn marked q → q < length grid.now.jobs }
+    requires jobs { HaveJobs grid.now (length grid.now.jobs) (64 * WORDS) }
+    ensures { HasGathered (IsJobAt grid.now marked) jobs.old jobs.new }
 {
-    let mut below = below;
-    while let Some(position) = below.pop_first() {
+    let mut left = marked;
+    while let Some(position) = left.pop_first() {
         jobs.put(grid.job(position));
     }
 }
@@ -60,40 +63,38 @@ fn gather_in_blocks<const WORDS: usize, L: StateLanes>(
     while from < behind {
         let to = from + (behind - from).min(8);
         let below = lanes.below(from, to, limit);
-        gather_marked(jobs, below, lanes, grid, from, to, limit);
+        gather_marked(jobs, below, grid);
         from = to;
     }
 }
 
-/// Answers the conflict set: the job `chosen`, whose next operation can end first, at `end`, and each job with an
-/// operation that waits on the same machine with a head below `end`. Each of these operations is its job's next one,
-/// since no next operation can end before `end`. The machine has blocks `from` up to `behind` (excluded). `below` marks
-/// its heads below `end` in blocks `from` up to `to` (excluded).
+/// Answers the conflict set that lies in `blocks`: the chosen job, and each job with an operation that waits there with
+/// a head below the end of the chosen one. Each of these operations is its job's next one, since no next operation can
+/// end earlier.
 #[inline(always)]
 pub(crate) fn conflict_set<const WORDS: usize, L: StateLanes>(
-    below: Marks,
+    blocks: ConflictBlocks,
     lanes: &L,
     grid: &Grid<L>,
-    chosen: usize,
-    from: usize,
-    to: usize,
-    behind: usize,
-    end: u64,
 ) -> JobSet<WORDS>
-    requires ordered { from ≤ to }
-    requires last { to ≤ behind }
-    requires within { 8 * behind ≤ length (L.heads lanes.now) }
-    requires marks { below
-        ≡ positions_below (rows_of grid.now (L.heads lanes.now) (L.ends lanes.now)) from to end }
-    requires fits { end ≤ L.GREATEST }
+    requires blocks { AreConflictBlocks L.GREATEST
+        (rows_of grid.now (L.heads lanes.now) (L.ends lanes.now)) blocks }
     requires jobs { HaveJobs grid.now (length (L.heads lanes.now)) (64 * WORDS) }
-    requires chosen { chosen < 64 * WORDS }
-    ensures { IsGatheredWith chosen
-        (IsJobBelow grid.now (L.heads lanes.now) (IsInBlocks from behind) end) result }
+    requires chosen { blocks.chosen < 64 * WORDS }
+    ensures { IsGatheredWith blocks.chosen (IsJobBelow grid.now (L.heads lanes.now)
+        (IsInBlocks blocks.from blocks.behind) blocks.end) result }
 {
+    let ConflictBlocks {
+        chosen,
+        end,
+        to,
+        behind,
+        below,
+        ..
+    } = blocks;
     let mut jobs = JobSet::new();
     jobs.put(chosen);
-    gather_marked(&mut jobs, below, lanes, grid, from, to, end);
+    gather_marked(&mut jobs, below, grid);
     gather_in_blocks(&mut jobs, lanes, grid, to, behind, end);
     jobs.rises();
     jobs

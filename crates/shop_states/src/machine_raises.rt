@@ -5,10 +5,11 @@ ghost use Rattle.shop_states.specs.inner.Ceilings.{AreUnder};
 ghost use Rattle.shop_states.specs.inner.HeadRaises.{nothing_raised, raise_of, raises_in};
 ghost use Rattle.shop_layout.specs.Lanes.{lanes_on, rows_of};
 ghost use Rattle.shop_states.specs.inner.MachineRaises.{AreEmpty, AreListed, AreRaisesFit, CanTakeSpans};
-ghost use Rattle.shop_states.specs.inner.Raises.{HasBlocks, IsOnMachine, IsRaisable, Raises};
+ghost use Rattle.shop_states.specs.inner.RaiseCalls.{CanRaise, HasRaised};
+ghost use Rattle.shop_states.specs.inner.Raises.{HasBlocks, IsOnMachine};
 ghost use Rattle.shop_states.specs.inner.Siblings.{BoundsRaises, CanRaiseBehind, IsLateIn};
 ghost use Rattle.shop_states.specs.inner.Siblings.{RaisesBehind};
-ghost use Rattle.shop_states.specs.inner.Watchers.{AreKnown, Sees, Watches, no_floor};
+ghost use Rattle.shop_states.specs.inner.Watchers.{AreKnown, Watches, no_floor};
 
 use crate::head_raises::{LaneRaise, no_raise};
 use crate::lane_bounds::{take_ceilings, take_spans};
@@ -80,19 +81,11 @@ impl<L: StateLanes> MachineRaises<L> {
         requires at_rest { AreEmpty self.old }
         requires routes { routes.now ≡ grid.now }
         requires machine { HasBlocks grid.now (length (L.heads lanes.old)) machine }
-        requires fits { end ≤ L.GREATEST }
-        requires raisable { IsRaisable L.GREATEST grid.now next.now
+        requires can { CanRaise L.GREATEST grid.now next.now (IsOnMachine grid.now machine) end
+            (rows_of grid.now (L.heads lanes.old) (L.ends lanes.old)) (length self.old) }
+        ensures { HasRaised L.GREATEST grid.now next.now (IsOnMachine grid.now machine) end
             (rows_of grid.now (L.heads lanes.old) (L.ends lanes.old))
-            (IsOnMachine grid.now machine) end }
-        requires jobs { length grid.now.places ≤ length next.now }
-        requires known { AreKnown grid.now.machines (length self.old) }
-        ensures raises { Raises L.GREATEST grid.now next.now (IsOnMachine grid.now machine) end
-            (rows_of grid.now (L.heads lanes.old) (L.ends lanes.old))
-            (rows_of grid.now (L.heads lanes.new) (L.ends lanes.new)) }
-        ensures seen { Sees grid.now.machines (IsOnMachine grid.now machine) end
-            (L.heads lanes.old) (L.heads lanes.new) self.old self.new }
-        ensures machines { length self.new ≡ length self.old }
-        ensures listed { AreListed self.new result }
+            (rows_of grid.now (L.heads lanes.new) (L.ends lanes.new)) self.old self.new result }
     {
         let mut raised = MachineSet::none();
         let raises = self.raises.as_mut_slice();

@@ -3,6 +3,7 @@ ghost use Rattle.std.specs.Prelude.{◌≡◌, ◌+◌, ◌*◌, ◌≤◌, ◌<
 ghost use Rattle.shop_layout.specs.Positions.{AreEven};
 ghost use Rattle.shop_layout.specs.Lanes.{rows_of};
 ghost use Rattle.shop_states.specs.inner.HeadRaises.{raises_in};
+ghost use Rattle.shop_states.specs.inner.RaiseCalls.{CanRaise, HasRaised};
 ghost use Rattle.shop_states.specs.inner.Raises.{HasBlocks, IsInBlocks, IsPosition, IsRaisable};
 ghost use Rattle.shop_states.specs.inner.Raises.{IsOnMachine, Raises, SetsEndAt};
 ghost use Rattle.shop_states.specs.inner.Watchers.{AreKnown, Notes, Sees, Watches, no_floor};
@@ -99,18 +100,13 @@ fn raise_from<L: StateLanes>(
 )
     requires waits { 0 < slice_index (L.heads lanes.old) position }
     requires below { slice_index (L.heads lanes.old) position ≤ end }
-    requires raisable { IsRaisable L.GREATEST routes.now next.now
-        (rows_of routes.now (L.heads lanes.old) (L.ends lanes.old)) (IsPosition position) end }
-    requires jobs { length routes.now.places ≤ length next.now }
-    requires known { AreKnown routes.now.machines (length raises.old) }
+    requires can { CanRaise L.GREATEST routes.now next.now (IsPosition position) end
+        (rows_of routes.now (L.heads lanes.old) (L.ends lanes.old)) (length raises.old) }
     requires listed { AreListed (raises_in L.value raises.old) raised.old }
-    ensures raises { Raises L.GREATEST routes.now next.now (IsPosition position) end
+    ensures { HasRaised L.GREATEST routes.now next.now (IsPosition position) end
         (rows_of routes.now (L.heads lanes.old) (L.ends lanes.old))
-        (rows_of routes.now (L.heads lanes.new) (L.ends lanes.new)) }
-    ensures seen { Sees routes.now.machines (IsPosition position) end
-        (L.heads lanes.old) (L.heads lanes.new) (raises_in L.value raises.old)
-        (raises_in L.value raises.new) }
-    ensures listed { AreListed (raises_in L.value raises.new) raised.new }
+        (rows_of routes.now (L.heads lanes.new) (L.ends lanes.new))
+        (raises_in L.value raises.old) (raises_in L.value raises.new) raised.new }
 {
     set_end_at(lanes, routes, next, position, end);
     raise_route(lanes, raises, raised, routes, position, end);
@@ -132,20 +128,13 @@ fn raise_blocks<L: StateLanes>(
     requires few { to ≤ from + 8 }
     requires ordered { from ≤ to }
     requires within { 8 * to ≤ length (L.heads lanes.old) }
-    requires fits { end ≤ L.GREATEST }
-    requires raisable { IsRaisable L.GREATEST routes.now next.now
-        (rows_of routes.now (L.heads lanes.old) (L.ends lanes.old)) (IsInBlocks from to) end }
-    requires jobs { length routes.now.places ≤ length next.now }
-    requires known { AreKnown routes.now.machines (length raises.old) }
+    requires can { CanRaise L.GREATEST routes.now next.now (IsInBlocks from to) end
+        (rows_of routes.now (L.heads lanes.old) (L.ends lanes.old)) (length raises.old) }
     requires listed { AreListed (raises_in L.value raises.old) raised.old }
-    ensures raises { Raises L.GREATEST routes.now next.now (IsInBlocks from to) end
+    ensures { HasRaised L.GREATEST routes.now next.now (IsInBlocks from to) end
         (rows_of routes.now (L.heads lanes.old) (L.ends lanes.old))
-        (rows_of routes.now (L.heads lanes.new) (L.ends lanes.new)) }
-    ensures seen { Sees routes.now.machines (IsInBlocks from to) end
-        (L.heads lanes.old) (L.heads lanes.new) (raises_in L.value raises.old)
-        (raises_in L.value raises.new) }
-    ensures listed { AreListed (raises_in L.value raises.new) raised.new }
-    ensures machines { length raises.new ≡ length raises.old }
+        (rows_of routes.now (L.heads lanes.new) (L.ends lanes.new))
+        (raises_in L.value raises.old) (raises_in L.value raises.new) raised.new }
 {
     let mut below = lanes.below(from, to, end);
     while let Some(position) = below.pop_first() {
@@ -174,21 +163,13 @@ fn raise_even<L: StateLanes>(
     requires few { each ≤ 8 }
     requires routes { routes.now ≡ grid.now }
     requires machine { HasBlocks grid.now (length (L.heads lanes.old)) machine }
-    requires fits { end ≤ L.GREATEST }
-    requires raisable { IsRaisable L.GREATEST grid.now next.now
-        (rows_of grid.now (L.heads lanes.old) (L.ends lanes.old)) (IsOnMachine grid.now machine)
-        end }
-    requires jobs { length grid.now.places ≤ length next.now }
-    requires known { AreKnown grid.now.machines (length raises.old) }
+    requires can { CanRaise L.GREATEST grid.now next.now (IsOnMachine grid.now machine) end
+        (rows_of grid.now (L.heads lanes.old) (L.ends lanes.old)) (length raises.old) }
     requires listed { AreListed (raises_in L.value raises.old) raised.old }
-    ensures raises { Raises L.GREATEST grid.now next.now (IsOnMachine grid.now machine) end
+    ensures { HasRaised L.GREATEST grid.now next.now (IsOnMachine grid.now machine) end
         (rows_of grid.now (L.heads lanes.old) (L.ends lanes.old))
-        (rows_of grid.now (L.heads lanes.new) (L.ends lanes.new)) }
-    ensures seen { Sees grid.now.machines (IsOnMachine grid.now machine) end
-        (L.heads lanes.old) (L.heads lanes.new) (raises_in L.value raises.old)
-        (raises_in L.value raises.new) }
-    ensures listed { AreListed (raises_in L.value raises.new) raised.new }
-    ensures machines { length raises.new ≡ length raises.old }
+        (rows_of grid.now (L.heads lanes.new) (L.ends lanes.new))
+        (raises_in L.value raises.old) (raises_in L.value raises.new) raised.new }
 {
     let (from, to) = grid.blocks_of(each, machine);
     raise_blocks(lanes, raises, raised, routes, next, from, to, end);
@@ -208,21 +189,13 @@ fn raise_longer<L: StateLanes>(
     end: u64,
 )
     requires machine { HasBlocks grid.now (length (L.heads lanes.old)) machine }
-    requires fits { end ≤ L.GREATEST }
-    requires raisable { IsRaisable L.GREATEST grid.now next.now
-        (rows_of grid.now (L.heads lanes.old) (L.ends lanes.old)) (IsOnMachine grid.now machine)
-        end }
-    requires jobs { length grid.now.places ≤ length next.now }
-    requires known { AreKnown grid.now.machines (length raises.old) }
+    requires can { CanRaise L.GREATEST grid.now next.now (IsOnMachine grid.now machine) end
+        (rows_of grid.now (L.heads lanes.old) (L.ends lanes.old)) (length raises.old) }
     requires listed { AreListed (raises_in L.value raises.old) raised.old }
-    ensures raises { Raises L.GREATEST grid.now next.now (IsOnMachine grid.now machine) end
+    ensures { HasRaised L.GREATEST grid.now next.now (IsOnMachine grid.now machine) end
         (rows_of grid.now (L.heads lanes.old) (L.ends lanes.old))
-        (rows_of grid.now (L.heads lanes.new) (L.ends lanes.new)) }
-    ensures seen { Sees grid.now.machines (IsOnMachine grid.now machine) end
-        (L.heads lanes.old) (L.heads lanes.new) (raises_in L.value raises.old)
-        (raises_in L.value raises.new) }
-    ensures listed { AreListed (raises_in L.value raises.new) raised.new }
-    ensures machines { length raises.new ≡ length raises.old }
+        (rows_of grid.now (L.heads lanes.new) (L.ends lanes.new))
+        (raises_in L.value raises.old) (raises_in L.value raises.new) raised.new }
 {
     let routes = grid.routes();
     let behind = grid.block(machine + 1);
@@ -249,21 +222,13 @@ pub(crate) fn raise<L: StateLanes>(
 )
     requires routes { routes.now ≡ grid.now }
     requires machine { HasBlocks grid.now (length (L.heads lanes.old)) machine }
-    requires fits { end ≤ L.GREATEST }
-    requires raisable { IsRaisable L.GREATEST grid.now next.now
-        (rows_of grid.now (L.heads lanes.old) (L.ends lanes.old)) (IsOnMachine grid.now machine)
-        end }
-    requires jobs { length grid.now.places ≤ length next.now }
-    requires known { AreKnown grid.now.machines (length raises.old) }
+    requires can { CanRaise L.GREATEST grid.now next.now (IsOnMachine grid.now machine) end
+        (rows_of grid.now (L.heads lanes.old) (L.ends lanes.old)) (length raises.old) }
     requires listed { AreListed (raises_in L.value raises.old) raised.old }
-    ensures raises { Raises L.GREATEST grid.now next.now (IsOnMachine grid.now machine) end
+    ensures { HasRaised L.GREATEST grid.now next.now (IsOnMachine grid.now machine) end
         (rows_of grid.now (L.heads lanes.old) (L.ends lanes.old))
-        (rows_of grid.now (L.heads lanes.new) (L.ends lanes.new)) }
-    ensures seen { Sees grid.now.machines (IsOnMachine grid.now machine) end
-        (L.heads lanes.old) (L.heads lanes.new) (raises_in L.value raises.old)
-        (raises_in L.value raises.new) }
-    ensures listed { AreListed (raises_in L.value raises.new) raised.new }
-    ensures machines { length raises.new ≡ length raises.old }
+        (rows_of grid.now (L.heads lanes.new) (L.ends lanes.new))
+        (raises_in L.value raises.old) (raises_in L.value raises.new) raised.new }
 {
     match grid.blocks_each() {
         1 => raise_even(1, lanes, raises, raised, grid, routes, next, machine, end),

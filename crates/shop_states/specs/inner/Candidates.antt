@@ -13,9 +13,9 @@
 --     AreCandidatesOf shop w l ..    the candidates of the conflict set, but for some jobs with which
 --                                    the bound reaches the limit
 --     CanGather greatest l ..        lanes and next operations are those of some word
---     IsChosenBy .. job machine end  the next operation of the job can end first, before `end`, on this
---                                    machine, and what waits there with a head below the end is in the
---                                    conflict set
+--     IsChosenBy .. first            the next operation of the chosen job can end first, on this
+--                                    machine, and what waits there with a head below its end is in
+--                                    the conflict set
 use Rattle.std.specs.Prelude.{◌≡◌, ℕ, zero, suc, ◌+◌, ◌-◌, ◌*◌, ◌^◌, ◌≤◌, ◌<◌, max, List, []}
 use Rattle.std.specs.Prelude.{◌∷◌, ◌++◌, length, slice_index}
 use Rattle.shop_lanes.specs.Rows.{Rows}
@@ -25,13 +25,15 @@ use Rattle.shop_model.specs.Word.{IsWord, placing}
 use Rattle.shop_bound.specs.Bound.{lb}
 use Rattle.shop_bound.specs.Conflicts.{conflict}
 use Rattle.shop_states.specs.States.{ListsBelow}
-use Rattle.shop_states.specs.inner.LaneChoices.{AreNextPlaced, IsJobBelow}
+use Rattle.shop_states.specs.inner.LaneChoices.{AreConflictBlocks, AreNextPlaced, IsJobBelow}
 use Rattle.shop_states.specs.inner.LaneHeads.{AreHeadsAt}
 use Rattle.shop_states.specs.inner.LaneStates.{IsKeptInLanes}
 use Rattle.shop_states.specs.inner.Raises.{HasBlocks, IsInBlocks, IsOnMachine}
 use Rattle.shop_states.specs.inner.RisingLists.{IsGatheredWith, IsIn}
 use Rattle.shop_layout.specs.Positions.{LayoutState, place}
 use Rattle.shop_states.specs.declared.dispatching.Candidate.{Candidate}
+use Rattle.shop_states.specs.declared.lane_choices.ConflictBlocks.{ConflictBlocks}
+use Rattle.shop_states.specs.declared.candidate_lists.FirstEnd.{FirstEnd}
 
 abbrev pub own_at : LayoutState → List ℕ → ℕ → ℕ
 own_at l heads q =
@@ -66,19 +68,16 @@ pub record ListsGathered (limit : ℕ) (own : ℕ → ℕ) (IsGathered : List �
   pub listed : ListsOwn limit own jobs cs others
 
 -- the conflict set lies in these blocks, and the own span of each of its jobs is told
-pub record CanList (greatest : ℕ) (l : LayoutState) (heads nexts : List ℕ)
-    (chosen from to behind end count : ℕ) : Type 0 where
-  pub ordered : from ≤ to
-  pub last : to ≤ behind
-  pub within : 8 * behind ≤ length heads
-  pub computable : 8 * from < 2 ^ 64
-  pub fits : end ≤ greatest
-  pub placed : AreNextPlaced l heads nexts
+pub record CanList (greatest : ℕ) (l : LayoutState) (rows : Rows) (nexts : List ℕ)
+    (blocks : ConflictBlocks) (count : ℕ) : Type 0 where
+  pub blocks_are : AreConflictBlocks greatest rows blocks
+  pub computable : 8 * blocks.from < 2 ^ 64
+  pub placed : AreNextPlaced l rows.heads nexts
   pub few : length nexts < 1024
-  pub known : chosen < length nexts
-  pub told : (js : List ℕ)
-      → IsGatheredWith chosen (IsJobBelow l heads (IsInBlocks from behind) end) js
-      → (j : ℕ) → IsIn js j → IsTold nexts (8 * from) count j
+  pub known : blocks.chosen < length nexts
+  pub told : (js : List ℕ) → IsGatheredWith blocks.chosen
+      (IsJobBelow l rows.heads (IsInBlocks blocks.from blocks.behind) blocks.end) js
+      → (j : ℕ) → IsIn js j → IsTold nexts (8 * blocks.from) count j
 
 abbrev pub AreCandidatesOf : Shop → List ℕ → LayoutState → ℕ → List Candidate → ℕ → Type 0
 AreCandidatesOf shop w l limit cs others =
@@ -90,11 +89,11 @@ pub record CanGather (greatest : ℕ) (l : LayoutState) (rows : Rows) (nexts : L
   pub kept : IsKeptInLanes greatest shop word l rows nexts
 
 pub record IsChosenBy (greatest : ℕ) (shop : Shop) (w : List ℕ) (l : LayoutState)
-    (heads nexts : List ℕ) (job machine end : ℕ) : Type 0 where
-  pub known : job < length nexts
-  pub machine_is : machine ≡ slice_index l.machines (slice_index nexts job)
-  pub blocks : HasBlocks l (length heads) machine
-  pub fits : end ≤ greatest
-  pub has : IsIn (conflict shop w) job
-  pub set : (js : List ℕ) → IsGatheredWith job (IsJobBelow l heads (IsOnMachine l machine) end) js
-      → js ≡ conflict shop w
+    (heads nexts : List ℕ) (first : FirstEnd) : Type 0 where
+  pub known : first.chosen < length nexts
+  pub machine_is : first.machine ≡ slice_index l.machines (slice_index nexts first.chosen)
+  pub blocks : HasBlocks l (length heads) first.machine
+  pub fits : first.end ≤ greatest
+  pub has : IsIn (conflict shop w) first.chosen
+  pub set : (js : List ℕ) → IsGatheredWith first.chosen
+      (IsJobBelow l heads (IsOnMachine l first.machine) first.end) js → js ≡ conflict shop w

@@ -3,18 +3,24 @@
 --                                    of all positions
 --     IsJobBelow l heads among ..    an operation of job j waits among some positions with a head
 --                                    below a limit
+--     IsJobAt l ps j                 job j has the operation at one of these positions
+--     AreConflictBlocks greatest ..  blocks in which a conflict set can lie, and in some of them the
+--                                    positions of heads below an end
 --     HaveJobs l positions most      each position has a job, all jobs being below a number
 --     AreNextPlaced l heads nexts    each position has a job, and the next operations have theirs
 --     AreEndsAt greatest shop p ..   when the next operations can end
 --     AreNextsAt shop p l nexts ..   heads and next operations are those of placing p
 --     AreChoosable greatest ..       all that the choice by lanes stands on
-use Rattle.std.specs.Prelude.{◌≡◌, ℕ, ◌+◌, ◌≤◌, ◌<◌, ◌^◌, List, length, slice_index}
+use Rattle.std.specs.Prelude.{◌≡◌, ℕ, ◌+◌, ◌*◌, ◌≤◌, ◌<◌, ◌^◌, List, length, slice_index}
+use Rattle.shop_lanes.specs.Marks.{positions_below}
 use Rattle.shop_lanes.specs.Rows.{Rows}
 use Rattle.shop_model.specs.Limits.{IsWithinLimits}
 use Rattle.shop_model.specs.Shop.{Shop, route_of, IsOperation}
 use Rattle.shop_model.specs.Word.{Placing}
 use Rattle.shop_bound.specs.Conflicts.{next_end}
+use Rattle.shop_states.specs.declared.lane_choices.ConflictBlocks.{ConflictBlocks}
 use Rattle.shop_states.specs.inner.LaneHeads.{AreHeadsAt}
+use Rattle.shop_states.specs.inner.RisingLists.{IsIn}
 use Rattle.shop_layout.specs.Positions.{place_or, LayoutState, IsLaidOut, first_position}
 
 pub record AreNextsOf (shop : Shop) (p : Placing) (l : LayoutState)
@@ -30,6 +36,16 @@ pub record IsJobBelow (l : LayoutState) (heads : List ℕ) (among : ℕ → Type
     pub waits : 0 < slice_index heads position
     pub below : slice_index heads position < limit
     pub job : slice_index l.jobs position ≡ j
+
+abbrev pub IsJobAt : LayoutState → List ℕ → ℕ → Type 0
+IsJobAt l ps j = (q : ℕ) × IsIn ps q × (slice_index l.jobs q ≡ j)
+
+pub record AreConflictBlocks (greatest : ℕ) (rows : Rows) (b : ConflictBlocks) : Type 0 where
+  pub ordered : b.from ≤ b.to
+  pub last : b.to ≤ b.behind
+  pub within : 8 * b.behind ≤ length rows.heads
+  pub fits : b.end ≤ greatest
+  pub marks : b.below ≡ positions_below rows b.from b.to b.end
 
 pub record HaveJobs (l : LayoutState) (positions most : ℕ) : Type 0 where
   pub many : length l.jobs ≡ positions

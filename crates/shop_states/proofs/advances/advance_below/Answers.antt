@@ -14,24 +14,18 @@ raise-raised-requires-clause-machine g c = trial_blocks c.requires.can.is.kept c
     c.routes-routes.ensures c.machine-machine.ensures c.head.ensures c.time.ensures
     c.set_head.ensures.heads c.set_head.ensures.ends
 
-pub raise-raised-requires-clause-fits : goal.raise-raised-requires-clause-fits
-raise-raised-requires-clause-fits g c = its_end c.requires.can.is.kept c.args.job c.requires.can.is.fits
-    c.routes-routes.ensures c.machine-machine.ensures c.head.ensures c.time.ensures
-
-pub raise-raised-requires-clause-raisable : goal.raise-raised-requires-clause-raisable
-raise-raised-requires-clause-raisable g c = trial_raisable c.requires.can.is.kept c.args.job c.requires.can.is.fits
-    c.routes-routes.ensures c.machine-machine.ensures c.head.ensures c.time.ensures
-    c.set_head.ensures.heads c.set_head.ensures.ends
-
-pub raise-raised-requires-clause-jobs : goal.raise-raised-requires-clause-jobs
-raise-raised-requires-clause-jobs g c =
-    let nexts = c.requires.can.is.kept.are_next.jobs in let routes = c.requires.can.is.kept.kept.laid.jobs in omega
-    arith
-
-pub raise-raised-requires-clause-known : goal.raise-raised-requires-clause-known
-raise-raised-requires-clause-known g c = λ q here.
-    let a = c.requires.can.is.kept.kept.laid.machines_at.known q here in let b = c.requires.can.machines_are in
-    omega arith
+pub raise-raised-requires-clause-can : goal.raise-raised-requires-clause-can
+raise-raised-requires-clause-can g c = record {
+  fits = its_end c.requires.can.is.kept c.args.job c.requires.can.is.fits
+      c.routes-routes.ensures c.machine-machine.ensures c.head.ensures c.time.ensures;
+  raisable = trial_raisable c.requires.can.is.kept c.args.job c.requires.can.is.fits
+      c.routes-routes.ensures c.machine-machine.ensures c.head.ensures c.time.ensures
+      c.set_head.ensures.heads c.set_head.ensures.ends;
+  jobs = (let nexts = c.requires.can.is.kept.are_next.jobs in let routes = c.requires.can.is.kept.kept.laid.jobs
+      in omega arith);
+  known = λ q here. let a = c.requires.can.is.kept.kept.laid.machines_at.known q here
+      in let b = c.requires.can.machines_are in omega arith;
+}
 
 pub take_bound-bound-requires-clause-fits : goal.take_bound-bound-requires-clause-fits
 take_bound-bound-requires-clause-fits g c = trial_raises_fit c.requires.can.is.kept c.args.job c.requires.can.is.fits

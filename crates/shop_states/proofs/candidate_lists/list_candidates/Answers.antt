@@ -9,16 +9,19 @@ use Rattle.shop_states.proofs.candidate_lists.list_candidates.Goals as goal
 pub list_on_machine-requires-clause-chosen : goal.list_on_machine-requires-clause-chosen
 list_on_machine-requires-clause-chosen g c = λ shop w kept.
     let l = c.args.grid.now
-    in let nexts = c.args.next.now
-    in let heads = g.L.StateLanes.heads c.args.lanes.now
-    in let ends = g.L.StateLanes.ends c.args.lanes.now
+    in let nexts = c.args.state.now.next.items
+    in let heads = g.L.StateLanes.heads c.args.state.now.lanes
+    in let ends = g.L.StateLanes.ends c.args.state.now.lanes
     in let rows = rows_of l heads ends
     in let r = c.first_least_end-chosen.result.0
     in let is = c.first_least_end-chosen.ensures.job
     in let can = choosable kept
-    in let at = chosen_at can r is c.positions.ensures c.if-position-positions.false
-    in let read : get_or c.machines.result.now (get_or nexts r 0) 0 ≡ get_or l.machines (get_or nexts r 0) 0 =
-    ap (λ (xs : List ℕ). get_or xs (get_or nexts r 0) 0) c.machines.ensures
+    in let next = ap (λ (xs : List ℕ). get_or xs r 0) c.as_slice-next.ensures.value
+    in let at = chosen_at can r is c.positions.ensures (let below = c.if-position-positions.false in omega arith)
+    in let read : get_or c.machines.result.now (get_or c.as_slice-next.result.now r 0) 0
+    ≡ get_or l.machines (get_or nexts r 0) 0 =
+    ap (λ (xs : List ℕ). get_or xs (get_or c.as_slice-next.result.now r 0) 0) c.machines.ensures
+    ∙ ap (λ (x : ℕ). get_or l.machines x 0) next
     in let end = kept.ends.next r at.operation in let told = c.first_least_end-chosen.ensures.end in let fits = at.fits
     in record {
       known = (let a = chosen_job can r is
@@ -33,5 +36,6 @@ list_on_machine-requires-clause-chosen g c = λ shop w kept.
 pub returns-then-position-positions-clause-are : goal.returns-then-position-positions-clause-are
 returns-then-position-positions-clause-are g c = λ shop w kept.
     let can = choosable kept
+    in let next = ap (λ (xs : List ℕ). get_or xs c.first_least_end-chosen.result.0 0) c.as_slice-next.ensures.value
     in nobody kept (none_open can c.first_least_end-chosen.result.0 c.first_least_end-chosen.ensures.job
-    c.positions.ensures c.if-position-positions.true) c.args.limit refl c.clear.new.self.items c.clear.ensures.items
+    c.positions.ensures (let past = c.if-position-positions.true in omega arith)) c.args.limit refl c.clear.new.self.items c.clear.ensures.items

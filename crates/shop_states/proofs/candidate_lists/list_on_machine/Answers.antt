@@ -1,4 +1,4 @@
-use Rattle.std.proofs.Common.{◌≡◌, List, [], ◌∷◌, ◌∙◌, ℕ, get_or, map, refl, subst, arith}
+use Rattle.std.proofs.Common.{◌≡◌, List, [], ◌∷◌, ◌∙◌, ℕ, ap, get_or, length, map, refl, subst, arith}
 use Rattle.std.specs.List.{All}
 use Rattle.shop_states.proofs.ConflictSets.{all_told, can_list, sole, tells}
 use Rattle.shop_states.proofs.candidate_lists.list_on_machine.Goals as goal
@@ -39,7 +39,9 @@ offset_bounds-next-chosen g c =
     in let few = c.requires.can.kept.kept.limits.jobs in let many = c.requires.can.kept.are_next.jobs in omega arith
 
 pub bounds-next-chosen : goal.bounds-next-chosen
-bounds-next-chosen g c = (c.requires.chosen c.requires.can.shop c.requires.can.word c.requires.can.kept).known
+bounds-next-chosen g c =
+    let known = (c.requires.chosen c.requires.can.shop c.requires.can.word c.requires.can.kept).known
+    in let same = ap (λ (xs : List ℕ). length xs) c.as_slice-next.ensures.value in omega arith
 
 pub overflow_cast-job : goal.overflow_cast-job
 overflow_cast-job g c =
@@ -66,18 +68,19 @@ pub list_conflict_set-requires-clause-can : goal.list_conflict_set-requires-clau
 list_conflict_set-requires-clause-can g c =
     let chosen = c.requires.chosen c.requires.can.shop c.requires.can.word c.requires.can.kept
     in let a = c.block-from.ensures in let b = c.block-behind.ensures in let d = chosen.blocks.ordered
-    in let f = c.min.ensures in let small = c.type_inv.next c.args.chosen
-    in can_list c.requires.can.kept chosen a b (omega arith) (omega arith) (omega arith)
-    (c.own_spans.ensures.long ∙ c.requires.owns)
+    in let f = c.min.ensures
+    in can_list c.requires.can.kept chosen a b (omega arith) (omega arith) c.below-below.ensures
+    (c.own_spans.ensures.long ∙ c.requires.owns) (let few = c.own_spans.auto.owns in omega arith)
 
 pub returns-then-has_no_other-clause-are : goal.returns-then-has_no_other-clause-are
 returns-then-has_no_other-clause-are g c = λ shop w kept.
-    let items : c.push_reserved.new.self.items ≡ record { job = c.args.chosen; own = 0 } ∷ [] =
+    let items : c.push_reserved.new.self.items ≡ record { job = c.args.first.chosen; own = 0 } ∷ [] =
     rw c.requires.none at c.push_reserved.ensures.items
     in sole kept (c.requires.chosen shop w kept) c.block-from.ensures c.block-behind.ensures
     (let t = c.if-to-behind.true in omega arith)
-    (subst (λ (ps : List ℕ). All (λ p. p ≡ get_or c.args.next.now c.args.chosen 0) ps) c.below-below.ensures
-    (c.if-has_no_other.ensures refl)) c.args.limit items
+    (subst (λ (ps : List ℕ). All (λ p. p ≡ get_or c.args.state.now.next.items c.args.first.chosen 0) ps) c.below-below.ensures
+    (subst (λ (xs : List ℕ). All (λ p. p ≡ get_or xs c.args.first.chosen 0) c.below-below.result) c.as_slice-next.ensures.value
+    (c.if-has_no_other.ensures refl))) c.args.limit items
 
 pub returns-clause-are : goal.returns-clause-are
 returns-clause-are g c = λ shop w kept. all_told kept (c.requires.chosen shop w kept) c.block-from.ensures

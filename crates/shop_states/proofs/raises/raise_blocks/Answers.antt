@@ -3,14 +3,14 @@ use Rattle.shop_states.specs.inner.Raises.{IsInBlocks, IsPosition}
 use Rattle.shop_states.proofs.RaisedMachines.{lengths_in}
 use Rattle.shop_states.proofs.RaiseLoops.{blocks_begin, popped_here, popped_within, popped_waits}
 use Rattle.shop_states.proofs.RaiseLoops.{popped_raisable, blocks_on, blocks_past, blocks_end}
-use Rattle.shop_states.proofs.Watching.{sees_both, sees_long, sees_none}
+use Rattle.shop_states.proofs.Watching.{sees_both, sees_none}
 use Rattle.shop_states.proofs.raises.raise_blocks.Goals as goal
 
 pub loop-position-init : goal.loop-position-init
 loop-position-init g c =
     record {
       raised =
-          blocks_begin c.requires.raisable c.requires.ordered c.requires.within c.below-below.ensures;
+          blocks_begin c.requires.can.raisable c.requires.ordered c.requires.within c.below-below.ensures;
       seen = sees_none;
       machines = refl;
       listed = c.requires.listed;
@@ -18,32 +18,33 @@ loop-position-init g c =
 
 pub head-requires : goal.head-requires
 head-requires g c =
-    popped_within c.requires.raisable c.loop-position.invariant.raised c.in-Some.ensures
+    popped_within c.requires.can.raisable c.loop-position.invariant.raised c.in-Some.ensures
 
 pub raise_from-requires-clause-waits : goal.raise_from-requires-clause-waits
 raise_from-requires-clause-waits g c =
-    popped_waits c.requires.raisable c.loop-position.invariant.raised c.in-Some.ensures
+    popped_waits c.requires.can.raisable c.loop-position.invariant.raised c.in-Some.ensures
 
-pub raise_from-requires-clause-raisable : goal.raise_from-requires-clause-raisable
-raise_from-requires-clause-raisable g c =
-    popped_raisable c.requires.raisable c.loop-position.invariant.raised c.in-Some.ensures
-
-pub raise_from-requires-clause-known : goal.raise_from-requires-clause-known
-raise_from-requires-clause-known g c = λ q here.
-    let long = c.loop-position.invariant.machines in let known = c.requires.known q here in omega arith
+pub raise_from-requires-clause-can : goal.raise_from-requires-clause-can
+raise_from-requires-clause-can g c = record {
+  fits = c.requires.can.fits;
+  raisable =
+      popped_raisable c.requires.can.raisable c.loop-position.invariant.raised c.in-Some.ensures;
+  jobs = c.requires.can.jobs;
+  known = λ q here. let long = lengths_in g.L.StateLanes.value c.args.raises.now c.loop-position.raises
+      c.loop-position.invariant.machines in let known = c.requires.can.known q here in omega arith;
+}
 
 pub loop-position-preserved-then-head-end : goal.loop-position-preserved-then-head-end
 loop-position-preserved-then-head-end g c =
     record {
       raised =
-          blocks_on c.requires.raisable c.loop-position.invariant.raised c.in-Some.ensures c.raise_from.ensures.raises;
+          blocks_on c.requires.can.raisable c.loop-position.invariant.raised c.in-Some.ensures c.raise_from.ensures.raises;
       seen = sees_both (IsInBlocks c.args.from c.args.to) (IsPosition c.in-Some.position) (IsInBlocks c.args.from
           c.args.to) (λ q here. here)
           (λ q e. subst (IsInBlocks c.args.from c.args.to) (sym e)
-          (popped_here c.requires.raisable c.loop-position.invariant.raised c.in-Some.ensures)) c.raise_from.ensures.raises.raised.raised.rises
+          (popped_here c.requires.can.raisable c.loop-position.invariant.raised c.in-Some.ensures)) c.raise_from.ensures.raises.raised.raised.rises
           c.loop-position.invariant.seen c.raise_from.ensures.seen;
-      machines = lengths_in g.L.StateLanes.value c.loop-position.raises c.raise_from.new.raises
-          (sees_long c.raise_from.ensures.seen) ∙ c.loop-position.invariant.machines;
+      machines = c.raise_from.ensures.machines ∙ c.loop-position.invariant.machines;
       listed = c.raise_from.ensures.listed;
     }
 
@@ -51,13 +52,17 @@ pub loop-position-preserved : goal.loop-position-preserved
 loop-position-preserved g c =
     record {
       raised =
-          blocks_past c.requires.raisable c.loop-position.invariant.raised c.in-Some.ensures (let a = c.head.ensures in
+          blocks_past c.requires.can.raisable c.loop-position.invariant.raised c.in-Some.ensures (let a = c.head.ensures in
           let b = c.if-head-end.false in omega arith);
       seen = c.loop-position.invariant.seen;
       machines = c.loop-position.invariant.machines;
       listed = c.loop-position.invariant.listed;
     }
 
-pub returns-clause-raises : goal.returns-clause-raises
-returns-clause-raises g c =
-    blocks_end c.requires.raisable c.in_default.ensures.0 c.loop-position.invariant.raised
+pub returns : goal.returns
+returns g c = record {
+  raises = blocks_end c.requires.can.raisable c.in_default.ensures.0 c.loop-position.invariant.raised;
+  seen = c.loop-position.invariant.seen;
+  listed = c.loop-position.invariant.listed;
+  machines = c.loop-position.invariant.machines;
+}

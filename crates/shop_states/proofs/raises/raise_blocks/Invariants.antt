@@ -15,7 +15,8 @@ invariant-loop-position g l = record {
   seen : Sees l.routes.machines (IsInBlocks l.from l.to) l.end (g.L.StateLanes.heads l.fn.lanes)
       (g.L.StateLanes.heads l.lanes) (raises_in g.L.StateLanes.value l.fn.raises)
       (raises_in g.L.StateLanes.value l.raises);
-  machines : length l.raises ≡ length l.fn.raises;
+  machines : length (raises_in g.L.StateLanes.value l.raises)
+      ≡ length (raises_in g.L.StateLanes.value l.fn.raises);
   listed : AreListed (raises_in g.L.StateLanes.value l.raises) l.raised;
 }
 

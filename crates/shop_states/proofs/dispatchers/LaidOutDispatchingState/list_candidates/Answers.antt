@@ -1,4 +1,4 @@
-use Rattle.std.proofs.Common.{◌≡◌, ℕ, List, subst}
+use Rattle.std.proofs.Common.{◌≡◌, ℕ, List, refl, subst}
 use Rattle.shop_model.specs.Shop.{Shop}
 use Rattle.shop_layout.specs.Lanes.{rows_of}
 use Rattle.shop_layout.specs.Positions.{LayoutState}
@@ -8,18 +8,18 @@ use Rattle.shop_states.specs.inner.LaneStates.{IsKeptInLanes}
 use Rattle.shop_states.proofs.ReadStates.{kept_read}
 use Rattle.shop_states.proofs.dispatchers.LaidOutDispatchingState.list_candidates.Goals as goal
 
-gathered : (greatest : ℕ) (shop : Shop) (l read : LayoutState) → read ≡ l → (heads ends nexts given : List ℕ)
-    → given ≡ nexts → (limit : ℕ) (cs : List Candidate) (others : ℕ)
-    → ((s : Shop) (w : List ℕ) → IsKeptInLanes greatest s w read (rows_of read heads ends) given
+gathered : (greatest : ℕ) (shop : Shop) (l read : LayoutState) → read ≡ l → (heads ends nexts : List ℕ)
+    → (limit : ℕ) (cs : List Candidate) (others : ℕ)
+    → ((s : Shop) (w : List ℕ) → IsKeptInLanes greatest s w read (rows_of read heads ends) nexts
     → AreCandidatesOf s w read limit cs others)
     → (w : List ℕ) → IsKeptInLanes greatest shop w l (rows_of l heads ends) nexts
     → AreCandidatesOf shop w l limit cs others
-gathered greatest shop l read is heads ends nexts given same limit cs others are w kept =
+gathered greatest shop l read is heads ends nexts limit cs others are w kept =
     subst (λ (x : LayoutState). AreCandidatesOf shop w x limit cs others) is
-    (are shop w (kept_read is same kept))
+    (are shop w (kept_read is refl kept))
 
 pub returns-clause-listed : goal.returns-clause-listed
 returns-clause-listed g c = λ w kept. gathered g.L.StateLanes.GREATEST c.args.self.now.shop c.args.self.now.layout
     c.grid.result.now c.grid.ensures.grid (g.L.StateLanes.heads c.args.state.now.lanes)
-    (g.L.StateLanes.ends c.args.state.now.lanes) c.args.state.now.next.items c.as_slice.result.now
-    c.as_slice.ensures.value c.args.limit c.list_candidates.new.candidates.items c.list_candidates.result c.list_candidates.ensures.are w kept
+    (g.L.StateLanes.ends c.args.state.now.lanes) c.args.state.now.next.items c.args.limit
+    c.list_candidates.new.candidates.items c.list_candidates.result c.list_candidates.ensures.are w kept

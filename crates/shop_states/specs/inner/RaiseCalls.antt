@@ -1,0 +1,27 @@
+-- What a raise of heads asks for, and what it leaves.
+--     CanRaise greatest l nexts ..   the heads at some positions can be raised, and each machine has
+--                                    a place for a raise
+--     HasRaised greatest l nexts ..  these heads are raised, and so is every later head on their
+--                                    routes that was too early; how far later heads rose is noted
+--                                    for their machines, which are all in a list
+use Rattle.std.specs.Prelude.{◌≡◌, ℕ, ◌≤◌, List, length}
+use Rattle.shop_lanes.specs.Rows.{Rows}
+use Rattle.shop_layout.specs.Positions.{LayoutState}
+use Rattle.shop_states.specs.inner.HeadRaises.{Raise}
+use Rattle.shop_states.specs.inner.MachineRaises.{AreListed}
+use Rattle.shop_states.specs.inner.Raises.{IsRaisable, Raises}
+use Rattle.shop_states.specs.inner.Watchers.{AreKnown, Sees}
+
+pub record CanRaise (greatest : ℕ) (l : LayoutState) (nexts : List ℕ) (among : ℕ → Type 0) (e : ℕ)
+    (rows : Rows) (machines : ℕ) : Type 0 where
+  pub fits : e ≤ greatest
+  pub raisable : IsRaisable greatest l nexts rows among e
+  pub jobs : length l.places ≤ length nexts
+  pub known : AreKnown l.machines machines
+
+pub record HasRaised (greatest : ℕ) (l : LayoutState) (nexts : List ℕ) (among : ℕ → Type 0) (e : ℕ)
+    (old new : Rows) (before after : List Raise) (listed_machines : List ℕ) : Type 0 where
+  pub raises : Raises greatest l nexts among e old new
+  pub seen : Sees l.machines among e old.heads new.heads before after
+  pub listed : AreListed after listed_machines
+  pub machines : length after ≡ length before
