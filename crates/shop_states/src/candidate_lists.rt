@@ -134,8 +134,8 @@ pub(crate) struct FirstEnd {
 }
 
 /// Fills the empty list with the candidates of the conflict set in `blocks` whose `own` is below `limit`, and answers
-/// how many jobs are left out. `owns` holds the own spans, see `own_at`, from the first of these blocks on. For up to 64
-/// jobs the set is one number of 64 bits, for more jobs sixteen.
+/// how many jobs are left out. `owns` holds the own spans, see `own_at`, from the first of these blocks on. For up to
+/// 64 jobs the set is one number of 64 bits, for more jobs sixteen.
 #[inline(always)]
 fn list_conflict_set<L: StateLanes>(
     candidates: &mut Vec<Candidate>,

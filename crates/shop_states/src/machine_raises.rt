@@ -151,7 +151,8 @@ impl<L: StateLanes> MachineRaises<L> {
         requires within { to ≤ length (L.heads lanes.old) }
         requires second { latest.second ≤ latest.end }
         requires can { CanRaiseBehind L.GREATEST routes.now
-            (rows_of routes.now (L.heads lanes.old) (L.ends lanes.old)) (IsLateIn from to last latest.end latest.second) }
+            (rows_of routes.now (L.heads lanes.old) (L.ends lanes.old))
+            (IsLateIn from to last latest.end latest.second) }
         requires known { AreKnown routes.now.machines (length self.old) }
         ensures raises { RaisesBehind routes.now (IsLateIn from to last latest.end latest.second)
             (rows_of routes.now (L.heads lanes.old) (L.ends lanes.old))

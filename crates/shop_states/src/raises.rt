@@ -144,8 +144,8 @@ fn raise_blocks<L: StateLanes>(
     }
 }
 
-/// Does what `raise` does, where each machine has `each` blocks. A literal `each` lets the compiler unroll the pass over
-/// the machine's heads.
+/// Does what `raise` does, where each machine has `each` blocks. A literal `each` lets the compiler unroll the pass
+/// over the machine's heads.
 #[inline(always)]
 fn raise_even<L: StateLanes>(
     each: usize,
@@ -175,9 +175,9 @@ fn raise_even<L: StateLanes>(
     raise_blocks(lanes, raises, raised, routes, next, from, to, end);
 }
 
-/// Does what `raise` does, for machines of four or more blocks, or of different numbers of blocks. Stays out of line, so
-/// that the code inlined for short machines stays small, and looks its routes up itself, so that theirs need no place in
-/// memory.
+/// Does what `raise` does, for machines of four or more blocks, or of different numbers of blocks. Stays out of line,
+/// so that the code inlined for short machines stays small, and looks its routes up itself, so that theirs need no
+/// place in memory.
 #[inline(never)]
 fn raise_longer<L: StateLanes>(
     lanes: &mut L,

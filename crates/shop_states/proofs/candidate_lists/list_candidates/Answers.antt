@@ -38,4 +38,5 @@ returns-then-position-positions-clause-are g c = λ shop w kept.
     let can = choosable kept
     in let next = ap (λ (xs : List ℕ). get_or xs c.first_least_end-chosen.result.0 0) c.as_slice-next.ensures.value
     in nobody kept (none_open can c.first_least_end-chosen.result.0 c.first_least_end-chosen.ensures.job
-    c.positions.ensures (let past = c.if-position-positions.true in omega arith)) c.args.limit refl c.clear.new.self.items c.clear.ensures.items
+    c.positions.ensures (let past = c.if-position-positions.true in omega arith)) c.args.limit refl
+    c.clear.new.self.items c.clear.ensures.items

@@ -78,9 +78,10 @@ returns-then-has_no_other-clause-are g c = λ shop w kept.
     rw c.requires.none at c.push_reserved.ensures.items
     in sole kept (c.requires.chosen shop w kept) c.block-from.ensures c.block-behind.ensures
     (let t = c.if-to-behind.true in omega arith)
-    (subst (λ (ps : List ℕ). All (λ p. p ≡ get_or c.args.state.now.next.items c.args.first.chosen 0) ps) c.below-below.ensures
-    (subst (λ (xs : List ℕ). All (λ p. p ≡ get_or xs c.args.first.chosen 0) c.below-below.result) c.as_slice-next.ensures.value
-    (c.if-has_no_other.ensures refl))) c.args.limit items
+    (subst (λ (ps : List ℕ). All (λ p. p ≡ get_or c.args.state.now.next.items c.args.first.chosen 0) ps)
+    c.below-below.ensures
+    (subst (λ (xs : List ℕ). All (λ p. p ≡ get_or xs c.args.first.chosen 0) c.below-below.result)
+    c.as_slice-next.ensures.value (c.if-has_no_other.ensures refl))) c.args.limit items
 
 pub returns-clause-are : goal.returns-clause-are
 returns-clause-are g c = λ shop w kept. all_told kept (c.requires.chosen shop w kept) c.block-from.ensures

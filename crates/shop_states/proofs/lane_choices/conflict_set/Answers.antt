@@ -10,13 +10,9 @@ pub gather_marked-requires : goal.gather_marked-requires
 gather_marked-requires g c =
     let are = c.requires.blocks in let last = are.last in let high = are.within in let many = c.requires.jobs.many
     in let rows = rows_of c.args.grid.now (g.L.StateLanes.heads c.args.lanes.now) (g.L.StateLanes.ends c.args.lanes.now)
-    in (
-      search rules,
-      (
-        λ q h. let within = marked_within rows c.args.blocks.from c.args.blocks.to c.args.blocks.end are.ordered (omega arith) are.marks q h in omega arith,
-        have_all c.requires.jobs,
-      ),
-    )
+    in let within = marked_within rows c.args.blocks.from c.args.blocks.to c.args.blocks.end are.ordered (omega arith)
+    are.marks
+    in (search rules, (λ q h. let here = within q h in omega arith, have_all c.requires.jobs))
 
 pub returns : goal.returns
 returns g c =
@@ -30,5 +26,6 @@ returns g c =
     in gathered_with blocks.chosen (IsJobBelow l heads (IsInBlocks blocks.from blocks.behind) blocks.end) one js
     (subst (λ (old : List ℕ). HasPut blocks.chosen old one) c.new-jobs.ensures c.put.ensures)
     (more_gathered l heads blocks.end blocks.from blocks.to blocks.behind one c.gather_marked.new.jobs js
-    are.ordered are.last (gathered_below rows blocks.from blocks.to blocks.end are.ordered (omega arith) are.marks c.gather_marked.ensures)
+    are.ordered are.last (gathered_below rows blocks.from blocks.to blocks.end are.ordered (omega arith) are.marks
+    c.gather_marked.ensures)
     c.gather_in_blocks.ensures) c.rises.ensures

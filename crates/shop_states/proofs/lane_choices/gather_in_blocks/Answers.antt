@@ -15,14 +15,9 @@ pub gather_marked-requires : goal.gather_marked-requires
 gather_marked-requires g c =
     let a = c.min.ensures in let d = c.loop-from-test.true in let many = c.requires.jobs.many
     in let rows = rows_of c.args.grid.now (g.L.StateLanes.heads c.args.lanes.now) (g.L.StateLanes.ends c.args.lanes.now)
-    in (
-      search rules,
-      (
-        λ q h. let within = marked_within rows c.loop-from.from (c.loop-from.from + c.min.result) c.args.limit (omega arith) (omega arith) c.below-below.ensures q h in omega
-            arith,
-        have_all c.requires.jobs,
-      ),
-    )
+    in let within = marked_within rows c.loop-from.from (c.loop-from.from + c.min.result) c.args.limit (omega arith)
+    (omega arith) c.below-below.ensures
+    in (search rules, (λ q h. let here = within q h in omega arith, have_all c.requires.jobs))
 
 pub loop-from-preserved : goal.loop-from-preserved
 loop-from-preserved g c =
@@ -36,5 +31,6 @@ loop-from-preserved g c =
       gathered = more_gathered c.args.grid.now (g.L.StateLanes.heads c.args.lanes.now) c.args.limit c.args.first
           c.loop-from.from (c.loop-from.from + c.min.result) c.args.jobs.now c.loop-from.jobs
           c.gather_marked.new.jobs o (omega arith) now.gathered
-          (gathered_below rows c.loop-from.from (c.loop-from.from + c.min.result) c.args.limit (omega arith) (omega arith) c.below-below.ensures c.gather_marked.ensures);
+          (gathered_below rows c.loop-from.from (c.loop-from.from + c.min.result) c.args.limit (omega arith)
+          (omega arith) c.below-below.ensures c.gather_marked.ensures);
     }

@@ -38,11 +38,13 @@ pub loop-position-preserved-then-head-end : goal.loop-position-preserved-then-he
 loop-position-preserved-then-head-end g c =
     record {
       raised =
-          blocks_on c.requires.can.raisable c.loop-position.invariant.raised c.in-Some.ensures c.raise_from.ensures.raises;
+          blocks_on c.requires.can.raisable c.loop-position.invariant.raised c.in-Some.ensures
+          c.raise_from.ensures.raises;
       seen = sees_both (IsInBlocks c.args.from c.args.to) (IsPosition c.in-Some.position) (IsInBlocks c.args.from
           c.args.to) (λ q here. here)
           (λ q e. subst (IsInBlocks c.args.from c.args.to) (sym e)
-          (popped_here c.requires.can.raisable c.loop-position.invariant.raised c.in-Some.ensures)) c.raise_from.ensures.raises.raised.raised.rises
+          (popped_here c.requires.can.raisable c.loop-position.invariant.raised c.in-Some.ensures))
+          c.raise_from.ensures.raises.raised.raised.rises
           c.loop-position.invariant.seen c.raise_from.ensures.seen;
       machines = c.raise_from.ensures.machines ∙ c.loop-position.invariant.machines;
       listed = c.raise_from.ensures.listed;
@@ -52,8 +54,8 @@ pub loop-position-preserved : goal.loop-position-preserved
 loop-position-preserved g c =
     record {
       raised =
-          blocks_past c.requires.can.raisable c.loop-position.invariant.raised c.in-Some.ensures (let a = c.head.ensures in
-          let b = c.if-head-end.false in omega arith);
+          blocks_past c.requires.can.raisable c.loop-position.invariant.raised c.in-Some.ensures
+          (let a = c.head.ensures in let b = c.if-head-end.false in omega arith);
       seen = c.loop-position.invariant.seen;
       machines = c.loop-position.invariant.machines;
       listed = c.loop-position.invariant.listed;

@@ -38,8 +38,9 @@ raise_blocks-requires-clause-can g c =
     (length c.loop-from.raises)) (sym c.routes-routes.ensures)
     (record {
       fits = c.requires.can.fits;
-      raisable = blocks_raisable (c.loop-from.from + c.min.result) (get_or c.args.grid.now.blocks (c.args.machine + 1) 0)
-          c.loop-from.invariant.raises c.loop-from.invariant.ordered (omega arith) (omega arith) c.requires.can.raisable;
+      raisable = blocks_raisable (c.loop-from.from + c.min.result)
+          (get_or c.args.grid.now.blocks (c.args.machine + 1) 0) c.loop-from.invariant.raises
+          c.loop-from.invariant.ordered (omega arith) (omega arith) c.requires.can.raisable;
       jobs = c.requires.can.jobs;
       known = λ q here. let long = lengths_in g.L.StateLanes.value c.args.raises.now c.loop-from.raises
           c.loop-from.invariant.machines in let known = c.requires.can.known q here in omega arith;
