@@ -16,7 +16,6 @@ pub struct Routes<'a> {
     jobs: &'a [u32],
     machines: &'a [u32],
     times: &'a [u64],
-    following: &'a [u32],
     legs: &'a [Leg],
     behind: &'a [usize],
 }
@@ -34,7 +33,6 @@ impl<'a> Model for Routes<'a> {
     ghost invariant = { λ r. (r.jobs.now ≡ r.positions.now.jobs)
         × (r.machines.now ≡ r.positions.now.machines)
         × (r.times.now ≡ r.positions.now.times)
-        × (r.following.now ≡ r.positions.now.following)
         × (r.legs.now ≡ all_legs r.positions.now)
         × IsBehind r.positions.now r.behind.now
         × AreSmallRows r.positions.now };
@@ -54,7 +52,6 @@ impl<'a> Routes<'a> {
             jobs: positions.jobs.as_slice(),
             machines: positions.machines.as_slice(),
             times: positions.times.as_slice(),
-            following: positions.following.as_slice(),
             legs,
             behind,
         }
@@ -88,16 +85,6 @@ impl<'a> Routes<'a> {
     {
         let times = self.times;
         times[position]
-    }
-
-    /// The next position on the route of the operation at `position`; the number of all positions at the route's end.
-    #[inline(always)]
-    pub fn following(&self, position: usize) -> usize
-        requires { position < length self.now.following }
-        ensures { result ≡ slice_index self.now.following position }
-    {
-        let following = self.following;
-        following[position] as usize
     }
 
     /// The index of the leg behind the operation at `position`, or of the end of its route if no operation is behind

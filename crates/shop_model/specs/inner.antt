@@ -3,5 +3,4 @@ pub mod Spans
 pub mod ClearSpans
 pub mod FirstFaults
 pub mod NonePlaced
-pub mod ClearPlacements
 pub mod Entries

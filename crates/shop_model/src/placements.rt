@@ -1,9 +1,8 @@
 // Placements: how far each job is placed, and when jobs and machines are free for more.
 ghost use Rattle.std.specs.Prelude.{◌≡◌, ◌<◌, IfOk, length, slice_index};
-ghost use Rattle.shop_model.specs.Placements.{HasLast, HasNext, HasPlaces, IsPlacement, PlacesNext};
+ghost use Rattle.shop_model.specs.Placements.{HasLast, HasNext, IsPlacement, PlacesNext};
 ghost use Rattle.shop_model.specs.Placements.{TakesBack, TellsNextStart};
 ghost use Rattle.shop_model.specs.Word.{IsWord, none_placed, placing};
-ghost use Rattle.shop_model.specs.inner.ClearPlacements.{IsClearUpTo};
 
 use crate::instances::Instance;
 use crate::words::Word;
@@ -51,49 +50,6 @@ impl Placement {
         let mut placement = Placement::none(alloc, instance)?;
         placement.place_word(instance, word);
         Ok(placement)
-    }
-
-    /// Replaces the placement by that of `jobs`, a word of `instance`, whatever was placed before. Takes no memory.
-    pub fn set_to(&mut self, instance: &Instance, jobs: &[u16])
-        requires places { HasPlaces instance.now self.old }
-        requires word { IsWord instance.now jobs.now }
-        ensures { IsPlacement instance.now (placing instance.now jobs.now) self.new }
-    {
-        self.clear_jobs(instance);
-        self.clear_machines(instance);
-        self.place_all(instance, jobs);
-    }
-
-    /// Takes back the steps of all jobs.
-    fn clear_jobs(&mut self, instance: &Instance)
-        requires { HasPlaces instance.now self.old }
-        ensures { IsClearUpTo instance.now (length instance.now.jobs) 0 self.new }
-    {
-        for j in 0..instance.jobs() {
-            self.steps[j] = 0;
-            self.ready[j] = instance.release(j);
-        }
-    }
-
-    /// Frees all machines, once the steps of all jobs are taken back.
-    fn clear_machines(&mut self, instance: &Instance)
-        requires { IsClearUpTo instance.now (length instance.now.jobs) 0 self.old }
-        ensures { IsPlacement instance.now (none_placed instance.now) self.new }
-    {
-        for m in 0..instance.machines() {
-            self.free[m] = 0;
-        }
-    }
-
-    /// Places the operations of a list of jobs that fits the instance, where nothing is placed.
-    fn place_all(&mut self, instance: &Instance, jobs: &[u16])
-        requires none { IsPlacement instance.now (none_placed instance.now) self.old }
-        requires word { IsWord instance.now jobs.now }
-        ensures { IsPlacement instance.now (placing instance.now jobs.now) self.new }
-    {
-        for &j in jobs {
-            let _start = self.place_next(instance, j as usize);
-        }
     }
 
     /// Places the operations of a word that fits the instance, where nothing is placed.

@@ -14,7 +14,6 @@ pub record AreSmallRows (l : LayoutState) : Type 0 where
   pub jobs : 4 * length l.jobs < 2 ^ 64
   pub machines : 4 * length l.machines < 2 ^ 64
   pub times : 8 * length l.times < 2 ^ 64
-  pub following : 4 * length l.following < 2 ^ 64
 
 abbrev pub AreBelow : ℕ → List ℕ → Type 0
 AreBelow n places = All (λ p. p < n) places
