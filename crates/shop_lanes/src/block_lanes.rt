@@ -19,8 +19,9 @@ pub struct FixedBlocks<B: Block> {
 }
 
 /// The rows of a word's state: the head of the operation at each position, and the end of each job's next operation.
+/// Each machine has `EACH` blocks, or any number if `EACH` is 0.
 #[derive(Drop)]
-pub struct BlockLanes<B: Block> {
+pub struct BlockLanes<B: Block, const EACH: usize> {
     /// the head at each position, and `GREATEST` behind the last position
     heads: Vec<B::Number>,
     positions: usize,
@@ -92,7 +93,7 @@ fn no_ends<B: Block>(alloc: Global, jobs: usize) -> Result<Vec<B::Number>, NoMem
     Ok(B::row_of(alloc, B::GREATEST, 8 * (jobs / 8 + 1))?)
 }
 
-impl<B: Block> BlockLanes<B> {
+impl<B: Block, const EACH: usize> BlockLanes<B, EACH> {
     /// The head at each position.
     #[inline(always)]
     fn heads(&self) -> &[B::Number]
@@ -102,7 +103,7 @@ impl<B: Block> BlockLanes<B> {
     }
 }
 
-impl<B: Block> StateLanes for BlockLanes<B> {
+impl<B: Block, const EACH: usize> StateLanes for BlockLanes<B, EACH> {
     type Fixed = FixedBlocks<B>;
 
     type Number = B::Number;
@@ -110,6 +111,10 @@ impl<B: Block> StateLanes for BlockLanes<B> {
     ghost GREATEST = { B.GREATEST };
 
     const GREATEST: u64 = B::GREATEST;
+
+    ghost EACH = { EACH };
+
+    const EACH: usize = EACH;
 
     ghost value = { B.value };
 

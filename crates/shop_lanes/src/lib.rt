@@ -21,11 +21,12 @@ use plain_blocks::PlainBlock;
 pub use state_lanes::StateLanes;
 use wide_blocks::WideBlock;
 
-/// The heads and ends of a word's state in lanes of 16 bits.
-pub type NarrowLanes = BlockLanes<NarrowBlock>;
+/// The heads and ends of a word's state in lanes of 16 bits, where each machine has `EACH` blocks, or any number if
+/// `EACH` is 0.
+pub type NarrowLanes<const EACH: usize> = BlockLanes<NarrowBlock, EACH>;
 
 /// The heads and ends of a word's state in lanes of 32 bits.
-pub type WideLanes = BlockLanes<WideBlock>;
+pub type WideLanes = BlockLanes<WideBlock, 0>;
 
 /// The heads and ends of a word's state in lanes of 64 bits.
-pub type PlainLanes = BlockLanes<PlainBlock>;
+pub type PlainLanes = BlockLanes<PlainBlock, 0>;

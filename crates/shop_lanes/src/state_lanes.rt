@@ -25,6 +25,11 @@ pub trait StateLanes: Drop {
     /// The greatest number that a lane holds.
     const GREATEST: u64;
 
+    ghost EACH: { ℕ };
+
+    /// The number of blocks of each machine, where code is made for that number alone; else 0.
+    const EACH: usize;
+
     ghost value: { Self.Number → ℕ };
 
     ghost times: { Self.Fixed → List ℕ };

@@ -41,12 +41,13 @@ impl<L: StateLanes> Model for Grid<L> {
     ghost invariant = { λ g. (L.times g.fixed ≡ g.positions.times)
         × (L.tails g.fixed ≡ g.positions.tails)
         × AreEven g.positions.blocks g.blocks_each
+        × AreEven g.positions.blocks L.EACH
         × (g.legs.items ≡ all_legs g.positions)
         × IsBehind g.positions g.behind.items };
 }
 
 /// Answers the number of blocks of each machine, or 0 if not all machines have equally many.
-fn even_blocks(blocks: &[u32]) -> usize
+pub(crate) fn even_blocks(blocks: &[u32]) -> usize
     ensures { AreEven blocks.now result }
 {
     if blocks.len() < 2 {
@@ -73,6 +74,7 @@ impl<L: StateLanes> Grid<L> {
         requires timed { All (AreBelow (length positions.times)) positions.places }
         requires known { AreBelow (length positions.places) positions.jobs }
         requires steps { length positions.steps ≡ length positions.jobs }
+        requires even { AreEven positions.blocks L.EACH }
         ensures { IfOk result (λ g. g ≡ positions) }
     {
         let fixed = L::fixed(alloc, positions.times(), positions.tails())?;
@@ -146,12 +148,14 @@ impl<L: StateLanes> Grid<L> {
         self.positions.blocks[machine] as usize
     }
 
-    /// The number of blocks of each machine, or 0 if not all machines have equally many.
+    /// The number of blocks of each machine, or 0 if not all machines have equally many. A constant of the code where
+    /// the lanes fix it.
     #[inline(always)]
     pub fn blocks_each(&self) -> usize
         ensures { AreEven self.now.blocks result }
     {
-        self.blocks_each
+        let found = self.blocks_each;
+        if L::EACH > 0 { L::EACH } else { found }
     }
 
     /// The first block of `machine`, and the block behind its last block. `each` is the number of blocks of each

@@ -1,6 +1,7 @@
 // `LaidOut`: an instance with its layout in lanes of one width.
 ghost use Rattle.std.specs.Prelude.{◌≡◌, IfOk};
 ghost use Rattle.shop_layout.specs.LaidOuts.{IsReady};
+ghost use Rattle.shop_layout.specs.Positions.{AreEven};
 
 use crate::grid::Grid;
 use crate::positions::Positions;
@@ -42,7 +43,8 @@ impl<'a, L: StateLanes> LaidOut<'a, L> {
         instance: &'a Instance,
         positions: Positions,
     ) -> Result<LaidOut<'a, L>, NoMemory>
-        requires { IsReady L.GREATEST instance.now positions }
+        requires ready { IsReady L.GREATEST instance.now positions }
+        requires even { AreEven positions.blocks L.EACH }
         ensures { IfOk result (λ l. l.shop ≡ instance.now) }
     {
         let grid = Grid::of(alloc, positions)?;

@@ -20,7 +20,7 @@ fn bytes_of_number(layout: &Layout) -> usize
     ensures some { 0 < result }
 {
     match layout.lanes() {
-        LaneLayout::Narrow(_) => 2,
+        LaneLayout::Narrow2(_) | LaneLayout::Narrow3(_) | LaneLayout::Narrow(_) => 2,
         LaneLayout::Wide(_) => 4,
         LaneLayout::Plain(_) => 8,
     }
@@ -81,6 +81,12 @@ impl<'l, 'a> Searcher<'l, 'a> {
         ensures { IfOk result (λ s. s ≡ instance.now) }
     {
         let widths = match layout.lanes() {
+            LaneLayout::Narrow2(laid_out) => {
+                Widths::Narrow2(LaidSearcher::new(alloc, instance, laid_out, most)?)
+            }
+            LaneLayout::Narrow3(laid_out) => {
+                Widths::Narrow3(LaidSearcher::new(alloc, instance, laid_out, most)?)
+            }
             LaneLayout::Narrow(laid_out) => {
                 Widths::Narrow(LaidSearcher::new(alloc, instance, laid_out, most)?)
             }
@@ -112,6 +118,8 @@ impl<'l, 'a> Searcher<'l, 'a> {
         ensures instance { OnOk result (self.new ≡ self.old) }
     {
         match &mut self.widths {
+            Widths::Narrow2(searcher) => searcher.search(alloc, piece, best, budget),
+            Widths::Narrow3(searcher) => searcher.search(alloc, piece, best, budget),
             Widths::Narrow(searcher) => searcher.search(alloc, piece, best, budget),
             Widths::Wide(searcher) => searcher.search(alloc, piece, best, budget),
             Widths::Plain(searcher) => searcher.search(alloc, piece, best, budget),
