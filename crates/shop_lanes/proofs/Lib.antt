@@ -21,4 +21,5 @@ pub mod MarkLemmas
 pub mod BlockMasks
 pub mod Padding
 pub mod RowValues
+pub mod EmptyRows
 pub mod Rows

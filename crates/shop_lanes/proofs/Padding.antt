@@ -1,11 +1,11 @@
 -- Rows that are filled up to whole blocks, and what of them is seen.
 use Rattle.std.proofs.Common.{◌≡◌, ℕ, zero, suc, ◌+◌, ◌-◌, ◌*◌, ◌/◌, ◌<◌, ◌≤◌, Bool}
 use Rattle.std.proofs.Common.{inl, inr, List, [], ◌∷◌, length, map, take, set, replicate, get_or, refl, ap, sym}
-use Rattle.std.proofs.Common.{◌∙◌, ◌++◌, arith, length-set}
+use Rattle.std.proofs.Common.{◌∙◌, arith, length-set}
 use Rattle.std.proofs.lemmas.Bool.{cases_lt}
 use Rattle.std.proofs.lemmas.Bool.Decides.{nat_tests}
 use Rattle.std.proofs.lemmas.List.{length-replicate, length-take, get_or-replicate, get_or-take, get_or-drop}
-use Rattle.std.proofs.lemmas.List.{take-replicate, drop-replicate, drop-set-lt, length-append}
+use Rattle.std.proofs.lemmas.List.{take-replicate, drop-replicate, drop-set-lt}
 use lib.Lanes.{mask_l}
 use Rattle.shop_lanes.specs.Rows.{blocks}
 use Rattle.shop_lanes.specs.Marks.{marked, waits_below}
@@ -21,25 +21,6 @@ take-set zero xs i x = refl
 take-set (suc n) [] i x = refl
 take-set (suc n) (y ∷ xs) zero x = refl
 take-set (suc n) (y ∷ xs) (suc i) x = ap (λ l. y ∷ l) (take-set n xs i x)
-
--- behind so many of one number another one
-set_last : (n x y : ℕ) → set (replicate (suc n) x) n y ≡ replicate n x ++ y ∷ []
-set_last zero x y = refl
-set_last (suc n) x y = ap (λ l. x ∷ l) (set_last n x y)
-
-pub last_written : (n x y : ℕ) → set (replicate (n + 1) x) n y ≡ replicate n x ++ y ∷ []
-last_written n x y = ap (λ k. set (replicate k x) n y) {x = n + 1} {y = suc n} (omega arith) ∙ set_last n x y
-
-pub take_seen : (n x : ℕ) (rest : List ℕ) → take n (replicate n x ++ rest) ≡ replicate n x
-take_seen zero x rest = refl
-take_seen (suc n) x rest = ap (λ l. x ∷ l) (take_seen n x rest)
-
-pub last_seen : (n x y : ℕ) → get_or (replicate n x ++ y ∷ []) n 0 ≡ y
-last_seen zero x y = refl
-last_seen (suc n) x y = last_seen n x y
-
-pub one_more : (n x y : ℕ) → length (replicate n x ++ y ∷ []) ≡ n + 1
-one_more n x y = length-append (replicate n x) (y ∷ []) ∙ ap (λ k. k + 1) (length-replicate n x)
 
 replicate_le : (none n k : ℕ) → get_or (replicate n none) k 0 ≤ none
 replicate_le none zero k = omega arith

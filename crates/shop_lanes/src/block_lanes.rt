@@ -1,6 +1,6 @@
 // The heads and ends of a word's state in lanes of one width, read in blocks of eight.
-ghost use Rattle.std.specs.Prelude.{◌≡◌, ℕ, ◌+◌, ◌-◌, ◌*◌, ◌/◌, ◌^◌, ◌<◌, ◌≤◌, ◌++◌, ◌∷◌, [], length};
-ghost use Rattle.std.specs.Prelude.{map, take, replicate, slice_index, All, IfOk};
+ghost use Rattle.std.specs.Prelude.{◌≡◌, ℕ, ◌+◌, ◌-◌, ◌*◌, ◌/◌, ◌^◌, ◌<◌, ◌≤◌, ◌++◌, length};
+ghost use Rattle.std.specs.Prelude.{map, take, drop, replicate, slice_index, All, IfOk};
 ghost use Rattle.shop_lanes.specs.inner.Passes.{IsPadded};
 
 use crate::blocks::Block;
@@ -19,20 +19,19 @@ pub struct FixedBlocks<B: Block> {
 }
 
 /// The rows of a word's state: the head of the operation at each position, and the end of each job's next operation.
-/// Each machine has `EACH` blocks, or any number if `EACH` is 0.
+/// They lie in one row, so that a copy of a state is one copy of memory. Each machine has `EACH` blocks, or any number
+/// if `EACH` is 0.
 #[derive(Drop)]
 pub struct BlockLanes<B: Block, const EACH: usize> {
-    /// the head at each position, and `GREATEST` behind the last position
-    heads: Vec<B::Number>,
+    /// the head at each position, then `GREATEST` eight times, then the end of each job's next operation, then
+    /// `GREATEST` as padding to whole blocks
+    row: Vec<B::Number>,
     positions: usize,
-    ends: Vec<B::Number>,
     jobs: usize,
-    ghost one_head_more: { length heads.items ≡ positions + 1 },
-    ghost last_is_greatest: { slice_index (map B.value heads.items) positions ≡ B.GREATEST },
-    ghost room_for_heads: { positions + 64 ≤ 2 ^ 64 },
-    ghost room_for_ends: { length ends.items + 64 ≤ 2 ^ 64 },
-    ghost whole_blocks: { length ends.items ≡ 8 * (jobs / 8 + 1) },
-    ghost ends_are_padded: { IsPadded B.GREATEST jobs (map B.value ends.items) },
+    ghost room: { length row.items + 64 ≤ 2 ^ 64 },
+    ghost long: { length row.items ≡ positions + 8 + 8 * (jobs / 8 + 1) },
+    ghost greatest_behind: { slice_index (map B.value row.items) positions ≡ B.GREATEST },
+    ghost ends_are_padded: { IsPadded B.GREATEST jobs (drop (positions + 8) (map B.value row.items)) },
 }
 
 fn copied<B: Block>(alloc: Global, numbers: &[u64]) -> Result<Vec<B::Number>, NoMemory>
@@ -46,60 +45,54 @@ fn copied<B: Block>(alloc: Global, numbers: &[u64]) -> Result<Vec<B::Number>, No
     Ok(copy)
 }
 
-/// Writes `number` at every place of `row`.
-fn set_all<B: Block>(row: &mut [B::Number], number: u64)
-    requires { number ≤ B.GREATEST }
-    ensures { map B.value row.new ≡ replicate (length row.old) number }
+/// Writes head 0 at each of the first `positions` places of `row`, and `GREATEST` at all places behind them.
+fn clear_row<B: Block>(row: &mut [B::Number], positions: usize)
+    requires { positions ≤ length row.old }
+    ensures { map B.value row.new
+        ≡ replicate positions 0 ++ replicate (length row.old - positions) B.GREATEST }
 {
-    for i in 0..row.len() {
-        row[i] = B::narrowed(number);
+    for position in 0..positions {
+        row[position] = B::narrowed(0);
+    }
+    for place in positions..row.len() {
+        row[place] = B::narrowed(B::GREATEST);
     }
 }
 
-/// Writes head 0 at each position of `row`, and `GREATEST` behind the last position.
-fn clear_heads<B: Block>(row: &mut [B::Number], positions: usize)
-    requires { length row.old ≡ positions + 1 }
-    ensures { map B.value row.new ≡ replicate positions 0 ++ B.GREATEST ∷ [] }
-{
-    set_all::<B>(row, 0);
-    row[positions] = B::narrowed(B::GREATEST);
-}
-
-/// Makes a row with head 0 at each of `positions` positions, and `GREATEST` behind the last position. Fails with
-/// `NoMemory` if memory runs out.
-fn no_heads<B: Block>(alloc: Global, positions: usize) -> Result<Vec<B::Number>, NoMemory>
-    ensures room { IfOk result (λ _. positions + 64 ≤ 2 ^ 64) }
-    ensures none { IfOk result (λ v. map B.value v.items ≡ replicate positions 0 ++ B.GREATEST ∷ []) }
-{
-    if positions > usize::MAX - 128 {
-        return Err(NoMemory);
-    }
-    let mut heads = B::row_of(alloc, 0, positions + 1)?;
-    heads[positions] = B::narrowed(B::GREATEST);
-    Ok(heads)
-}
-
-/// Makes the ends of `jobs` jobs that have no next operation: `GREATEST` for each job, and for padding to whole blocks.
-/// Fails with `NoMemory` if memory runs out.
-fn no_ends<B: Block>(alloc: Global, jobs: usize) -> Result<Vec<B::Number>, NoMemory>
+/// Makes the row of a state of `positions` positions and `jobs` jobs with each head 0, and each end `GREATEST`. Fails
+/// with `NoMemory` if memory runs out.
+fn empty_row<B: Block>(
+    alloc: Global,
+    positions: usize,
+    jobs: usize,
+) -> Result<Vec<B::Number>, NoMemory>
     ensures room { IfOk result (λ v. length v.items + 64 ≤ 2 ^ 64) }
-    ensures whole { IfOk result (λ v. length v.items ≡ 8 * (jobs / 8 + 1)) }
-    ensures padded { IfOk result (λ v. IsPadded B.GREATEST jobs (map B.value v.items)) }
-    ensures none { IfOk result (λ v. take jobs (map B.value v.items) ≡ replicate jobs B.GREATEST) }
+    ensures empty { IfOk result (λ v. map B.value v.items
+        ≡ replicate positions 0 ++ replicate (8 + 8 * (jobs / 8 + 1)) B.GREATEST) }
 {
-    if jobs > usize::MAX - 128 {
+    if positions > usize::MAX / 4 || jobs > usize::MAX / 4 {
         return Err(NoMemory);
     }
-    Ok(B::row_of(alloc, B::GREATEST, 8 * (jobs / 8 + 1))?)
+    let mut row = B::row_of(alloc, 0, positions + 8 + 8 * (jobs / 8 + 1))?;
+    clear_row::<B>(&mut row, positions);
+    Ok(row)
 }
 
 impl<B: Block, const EACH: usize> BlockLanes<B, EACH> {
     /// The head at each position.
     #[inline(always)]
     fn heads(&self) -> &[B::Number]
-        ensures { result.now ≡ take self.now.positions self.now.heads.items }
+        ensures { result.now ≡ take self.now.positions self.now.row.items }
     {
-        &self.heads[..self.positions]
+        &self.row[..self.positions]
+    }
+
+    /// The end of each job's next operation, and the padding behind the last one.
+    #[inline(always)]
+    fn ends(&self) -> &[B::Number]
+        ensures { result.now ≡ drop (self.now.positions + 8) self.now.row.items }
+    {
+        &self.row[self.positions + 8..]
     }
 }
 
@@ -122,9 +115,9 @@ impl<B: Block, const EACH: usize> StateLanes for BlockLanes<B, EACH> {
 
     ghost tails = { λ fixed. map B.value fixed.tails.items };
 
-    ghost heads = { λ s. map B.value (take s.positions s.heads.items) };
+    ghost heads = { λ s. map B.value (take s.positions s.row.items) };
 
-    ghost ends = { λ s. take s.jobs (map B.value s.ends.items) };
+    ghost ends = { λ s. take s.jobs (drop (s.positions + 8) (map B.value s.row.items)) };
 
     fn fixed(
         alloc: Global,
@@ -139,22 +132,19 @@ impl<B: Block, const EACH: usize> StateLanes for BlockLanes<B, EACH> {
 
     fn new(alloc: Global, positions: usize, jobs: usize) -> Result<Self, NoMemory> {
         Ok(BlockLanes {
-            heads: no_heads::<B>(alloc, positions)?,
+            row: empty_row::<B>(alloc, positions, jobs)?,
             positions,
-            ends: no_ends::<B>(alloc, jobs)?,
             jobs,
         })
     }
 
     fn clear(&mut self) {
-        clear_heads::<B>(&mut self.heads, self.positions);
-        set_all::<B>(&mut self.ends, B::GREATEST);
+        clear_row::<B>(&mut self.row, self.positions);
     }
 
     #[inline(always)]
     fn copy_from(&mut self, other: &Self) {
-        self.heads.copy_from_slice(&other.heads);
-        self.ends.copy_from_slice(&other.ends);
+        self.row.copy_from_slice(&other.row);
     }
 
     #[inline(always)]
@@ -164,27 +154,27 @@ impl<B: Block, const EACH: usize> StateLanes for BlockLanes<B, EACH> {
 
     #[inline(always)]
     fn head(&self, position: usize) -> u64 {
-        B::widened(self.heads[position])
+        B::widened(self.row[position])
     }
 
     #[inline(always)]
     fn head_or_greatest(&self, position: usize) -> u64 {
-        B::widened(self.heads[position])
+        B::widened(self.row[position])
     }
 
     #[inline(always)]
     fn set_head(&mut self, position: usize, head: u64) {
-        self.heads[position] = B::narrowed(head);
+        self.row[position] = B::narrowed(head);
     }
 
     #[inline(always)]
     fn set_end(&mut self, job: usize, end: u64) {
-        self.ends[job] = B::narrowed(end);
+        self.row[self.positions + 8 + job] = B::narrowed(end);
     }
 
     #[inline(always)]
     fn first_least_end(&self) -> (usize, u64) {
-        first_least::<B>(&self.ends)
+        first_least::<B>(self.ends())
     }
 
     #[inline(always)]

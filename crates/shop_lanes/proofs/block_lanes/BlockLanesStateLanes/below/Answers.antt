@@ -7,10 +7,10 @@ use Rattle.shop_lanes.proofs.block_lanes.BlockLanesStateLanes.below.Goals as goa
 
 pub returns : goal.returns
 returns g c =
-    let row = map g.B.Block.value (take c.args.self.now.positions c.args.self.now.heads.items)
+    let row = map g.B.Block.value (take c.args.self.now.positions c.args.self.now.row.items)
     in let within = c.requires.within
     in marks_below row c.args.from c.args.to c.args.limit c.saturating_sub.result c.bits_up_to.result c.new.result
     within c.requires.few c.saturating_sub.ensures c.new.ensures
     (c.bits_up_to.ensures ∙ ap (λ l. mask_l (map (is_between 0 c.saturating_sub.result) l))
     (values_of_blocks g.B.Block.value c.heads.result.now
-    (take c.args.self.now.positions c.args.self.now.heads.items) c.args.from c.args.to c.heads.ensures))
+    (take c.args.self.now.positions c.args.self.now.row.items) c.args.from c.args.to c.heads.ensures))

@@ -1,17 +1,23 @@
-use Rattle.std.proofs.Common.{arith, subst, map}
-use Rattle.std.proofs.lemmas.List.{get_or-take, length-take}
+use Rattle.std.proofs.Common.{◌≡◌, ◌∙◌, ◌+◌, arith, ap, sym, subst, map, drop}
+use Rattle.std.proofs.lemmas.List.{drop-map, get_or-take, length-take}
 use Rattle.shop_lanes.specs.Ends.{IsFirstLeast}
 use Rattle.shop_lanes.proofs.Padding.{first_least_seen}
 use Rattle.shop_lanes.proofs.block_lanes.BlockLanesStateLanes.first_least_end.Goals as goal
 
 pub first_least-requires-clause-fits : goal.first_least-requires-clause-fits
-first_least-requires-clause-fits g c k = rw c.deref.ensures.value (c.args.self.now.ends_are_padded.least k)
+first_least-requires-clause-fits g c k =
+    let self = c.args.self.now
+    in rw (c.ends.ensures, ← drop-map g.B.Block.value (self.positions + 8) self.row.items)
+    (self.ends_are_padded.least k)
 
 pub returns-clause-job : goal.returns-clause-job
-returns-clause-job g c = first_least_seen g.B.Block.GREATEST c.args.self.now.jobs
-    (map g.B.Block.value c.args.self.now.ends.items) c.first_least.result.0 c.args.self.now.ends_are_padded c.requires
-    (subst (λ l. IsFirstLeast (map g.B.Block.value l) c.first_least.result.0) c.deref.ensures.value
-    c.first_least.ensures.first)
+returns-clause-job g c =
+    let self = c.args.self.now
+    in let same = ap (map g.B.Block.value) c.ends.ensures
+    ∙ sym (drop-map g.B.Block.value (self.positions + 8) self.row.items)
+    in first_least_seen g.B.Block.GREATEST self.jobs (drop (self.positions + 8) (map g.B.Block.value self.row.items))
+    c.first_least.result.0 self.ends_are_padded c.requires
+    (subst (λ l. IsFirstLeast l c.first_least.result.0) same c.first_least.ensures.first)
 
 pub returns-clause-end : goal.returns-clause-end
-returns-clause-end g c = grind (arith, (returns-clause-job g c), length-take, get_or-take)
+returns-clause-end g c = grind (arith, (returns-clause-job g c), length-take, get_or-take, drop-map)

@@ -1,11 +1,21 @@
-use Rattle.std.proofs.Common.{◌∙◌, ◌∷◌, [], sym, ap, take}
-use Rattle.std.proofs.lemmas.List.{take-map}
-use Rattle.shop_lanes.proofs.Padding.{take_seen}
+use Rattle.shop_lanes.proofs.EmptyRows.{is_empty}
 use Rattle.shop_lanes.proofs.block_lanes.BlockLanesStateLanes.new.Goals as goal
 
 pub returns-clause-heads : goal.returns-clause-heads
-returns-clause-heads g c =
-    let positions = c.args.positions
-    in sym (take-map g.B.Block.value positions c.in_ok-no_heads.field-0.items)
-    ∙ ap (take positions) c.in_ok-no_heads.ensures.none
-    ∙ take_seen positions 0 (g.B.Block.GREATEST ∷ [])
+returns-clause-heads g c = (is_empty g.B.Block.value g.B.Block.GREATEST c.args.positions c.args.jobs
+    c.in_ok-empty_row.field-0.items c.in_ok-empty_row.ensures.empty).heads
+
+pub returns-clause-ends : goal.returns-clause-ends
+returns-clause-ends g c = (is_empty g.B.Block.value g.B.Block.GREATEST c.args.positions c.args.jobs
+    c.in_ok-empty_row.field-0.items c.in_ok-empty_row.ensures.empty).ends
+
+pub invariant_of-result : goal.invariant_of-result
+invariant_of-result g c =
+    let empty = is_empty g.B.Block.value g.B.Block.GREATEST c.args.positions c.args.jobs
+    c.in_ok-empty_row.field-0.items c.in_ok-empty_row.ensures.empty
+    in record {
+      room = c.in_ok-empty_row.ensures.room;
+      long = empty.long;
+      greatest_behind = empty.behind;
+      ends_are_padded = empty.padded;
+    }
