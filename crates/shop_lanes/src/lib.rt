@@ -3,30 +3,30 @@
 
 mod block_lanes;
 mod blocks;
+mod blocks_of_16;
+mod blocks_of_32;
+mod blocks_of_64;
 mod folds;
 mod leaps;
 mod marking;
-mod narrow_blocks;
 mod owning;
 mod passes;
-mod plain_blocks;
 mod served_blocks;
 mod state_lanes;
-mod wide_blocks;
 
 use block_lanes::BlockLanes;
+use blocks_of_16::Block16;
+use blocks_of_32::Block32;
+use blocks_of_64::Block64;
 pub use marking::Marks;
-use narrow_blocks::NarrowBlock;
-use plain_blocks::PlainBlock;
 pub use state_lanes::StateLanes;
-use wide_blocks::WideBlock;
 
 /// The heads and ends of a word's state in lanes of 16 bits, where each machine has `EACH` blocks, or any number if
 /// `EACH` is 0.
-pub type NarrowLanes<const EACH: usize> = BlockLanes<NarrowBlock, EACH>;
+pub type Lanes16<const EACH: usize> = BlockLanes<Block16, EACH>;
 
 /// The heads and ends of a word's state in lanes of 32 bits.
-pub type WideLanes = BlockLanes<WideBlock, 0>;
+pub type Lanes32 = BlockLanes<Block32, 0>;
 
 /// The heads and ends of a word's state in lanes of 64 bits.
-pub type PlainLanes = BlockLanes<PlainBlock, 0>;
+pub type Lanes64 = BlockLanes<Block64, 0>;

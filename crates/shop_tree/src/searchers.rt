@@ -20,9 +20,9 @@ fn bytes_of_number(layout: &Layout) -> usize
     ensures some { 0 < result }
 {
     match layout.lanes() {
-        LaneLayout::Narrow2(_) | LaneLayout::Narrow3(_) | LaneLayout::Narrow(_) => 2,
-        LaneLayout::Wide(_) => 4,
-        LaneLayout::Plain(_) => 8,
+        LaneLayout::In16By2(_) | LaneLayout::In16By3(_) | LaneLayout::In16(_) => 2,
+        LaneLayout::In32(_) => 4,
+        LaneLayout::In64(_) => 8,
     }
 }
 
@@ -81,20 +81,20 @@ impl<'l, 'a> Searcher<'l, 'a> {
         ensures { IfOk result (λ s. s ≡ instance.now) }
     {
         let widths = match layout.lanes() {
-            LaneLayout::Narrow2(laid_out) => {
-                Widths::Narrow2(LaidSearcher::new(alloc, instance, laid_out, most)?)
+            LaneLayout::In16By2(laid_out) => {
+                Widths::In16By2(LaidSearcher::new(alloc, instance, laid_out, most)?)
             }
-            LaneLayout::Narrow3(laid_out) => {
-                Widths::Narrow3(LaidSearcher::new(alloc, instance, laid_out, most)?)
+            LaneLayout::In16By3(laid_out) => {
+                Widths::In16By3(LaidSearcher::new(alloc, instance, laid_out, most)?)
             }
-            LaneLayout::Narrow(laid_out) => {
-                Widths::Narrow(LaidSearcher::new(alloc, instance, laid_out, most)?)
+            LaneLayout::In16(laid_out) => {
+                Widths::In16(LaidSearcher::new(alloc, instance, laid_out, most)?)
             }
-            LaneLayout::Wide(laid_out) => {
-                Widths::Wide(LaidSearcher::new(alloc, instance, laid_out, most)?)
+            LaneLayout::In32(laid_out) => {
+                Widths::In32(LaidSearcher::new(alloc, instance, laid_out, most)?)
             }
-            LaneLayout::Plain(laid_out) => {
-                Widths::Plain(LaidSearcher::new(alloc, instance, laid_out, most)?)
+            LaneLayout::In64(laid_out) => {
+                Widths::In64(LaidSearcher::new(alloc, instance, laid_out, most)?)
             }
         };
         Ok(Searcher { widths })
@@ -118,11 +118,11 @@ impl<'l, 'a> Searcher<'l, 'a> {
         ensures instance { OnOk result (self.new ≡ self.old) }
     {
         match &mut self.widths {
-            Widths::Narrow2(searcher) => searcher.search(alloc, piece, best, budget),
-            Widths::Narrow3(searcher) => searcher.search(alloc, piece, best, budget),
-            Widths::Narrow(searcher) => searcher.search(alloc, piece, best, budget),
-            Widths::Wide(searcher) => searcher.search(alloc, piece, best, budget),
-            Widths::Plain(searcher) => searcher.search(alloc, piece, best, budget),
+            Widths::In16By2(searcher) => searcher.search(alloc, piece, best, budget),
+            Widths::In16By3(searcher) => searcher.search(alloc, piece, best, budget),
+            Widths::In16(searcher) => searcher.search(alloc, piece, best, budget),
+            Widths::In32(searcher) => searcher.search(alloc, piece, best, budget),
+            Widths::In64(searcher) => searcher.search(alloc, piece, best, budget),
         }
     }
 }
