@@ -14,8 +14,9 @@
  *     REFUSE_HOLD=N         nothing, but a thread that is about to end waits until the first N threads have begun, or
  *                           the next N where it is one of these, and so on; none once one waited two seconds in vain
  *     REFUSE_LOG=FILE       the file gets one line: the allocations, how many of them were refused, the same of
- *                           threads, which the system may refuse too, the bytes that were asked for in all, the most
- *                           started threads alive at a time, the calls of read and of write, and the peak in KB
+ *                           threads, which the system may refuse too, the bytes that were asked for in all and at
+ *                           most at a time, the most started threads alive at a time, the calls of read and of
+ *                           write, and the peak in KB
  */
 #define _GNU_SOURCE
 #include <dlfcn.h>
@@ -44,7 +45,7 @@ struct kind {
 static struct kind allocations, threads;
 static unsigned per_thousand, seed;
 static size_t least_size, greatest_size;
-static atomic_long bytes, alive, most_alive, begun;
+static atomic_long bytes, greatest, alive, most_alive, begun;
 static long held;
 static atomic_int is_in_vain;
 static atomic_long reads, writes;
@@ -80,6 +81,12 @@ static int refuses_at_random(long number) {
     return (x ^ (x >> 16)) % 1000 < per_thousand;
 }
 
+static void raise_to(atomic_long *most, long now) {
+    long before = atomic_load(most);
+    while (now > before && !atomic_compare_exchange_weak(most, &before, now)) {
+    }
+}
+
 static int is_named(struct kind *kind, long number) {
     return number == kind->at || (kind->from && number >= kind->from);
 }
@@ -88,6 +95,7 @@ static int refuses_memory(size_t size) {
     if (!is_ready) return 0;
     long number = atomic_fetch_add(&allocations.count, 1) + 1;
     atomic_fetch_add(&bytes, (long)size);
+    raise_to(&greatest, (long)size);
     if (greatest_size && (size < least_size || size > greatest_size)) return 0;
     int is_refused = is_next || refuses_all_sizes || is_named(&allocations, number) || refuses_at_random(number);
     is_next = refuses_next && number == allocations.at;
@@ -132,9 +140,7 @@ static void wait_for_others(long number) {
 }
 
 static void note_begin(void) {
-    long now = atomic_fetch_add(&alive, 1) + 1, most = atomic_load(&most_alive);
-    while (now > most && !atomic_compare_exchange_weak(&most_alive, &most, now)) {
-    }
+    raise_to(&most_alive, atomic_fetch_add(&alive, 1) + 1);
     atomic_fetch_add(&begun, 1);
 }
 
@@ -188,9 +194,10 @@ static void write_log(void) {
     if (!log_name) return;
     is_ready = 0;
     char line[200];
-    int length = snprintf(line, sizeof line, "%ld %ld %ld %ld %ld %ld %ld %ld %ld\n", (long)allocations.count,
-                          (long)allocations.refused, (long)threads.count, (long)threads.refused, (long)bytes,
-                          (long)most_alive, (long)reads, (long)writes, peak());
+    int length = snprintf(line, sizeof line, "%ld %ld %ld %ld %ld %ld %ld %ld %ld %ld\n",
+                          (long)allocations.count, (long)allocations.refused, (long)threads.count,
+                          (long)threads.refused, (long)bytes, (long)greatest, (long)most_alive, (long)reads,
+                          (long)writes, peak());
     int file = open(log_name, O_WRONLY | O_CREAT | O_TRUNC, 0644);
     if (file < 0) return;
     ssize_t written = write(file, line, (size_t)length);

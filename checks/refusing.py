@@ -17,6 +17,7 @@ class Counted(NamedTuple):
     threads: int
     refused_threads: int
     bytes: int
+    greatest_request: int
     most_threads_alive: int
     reads: int
     writes: int

@@ -7,11 +7,9 @@ schedule, which `jobshop check` judges. No machine waits while a step could begi
 several could, the step of the job with most work remaining begins, of equal ones that of the lowest job.
 """
 
-import sys
 from heapq import heapify, heappop, heappush
-from pathlib import Path
 
-from texts import instance
+from given import instance_given
 
 
 def schedule_of(jobs):
@@ -42,12 +40,6 @@ def schedule_of(jobs):
     return starts
 
 
-if len(sys.argv) not in (3, 4) or sys.argv[1] not in ("orlib", "taillard", "routes"):
-    sys.exit(__doc__)
-form, path, *name = sys.argv[1:]
-try:
-    jobs = instance(form, Path(path).read_bytes(), *name)
-except (OSError, ValueError) as fault:
-    sys.exit(f"{path}: {fault}")
+_, jobs = instance_given(__doc__)
 for job, row in enumerate(schedule_of(jobs)):
     print(f"job {job}:", *row)

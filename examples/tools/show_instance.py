@@ -7,18 +7,9 @@ the job's release stands above its steps. Without NAME the first instance is pri
 its report is about this instance: compare it with where your numbers come from.
 """
 
-import sys
-from pathlib import Path
+from given import instance_given
 
-from texts import instance
-
-if len(sys.argv) not in (3, 4) or sys.argv[1] not in ("orlib", "taillard", "routes"):
-    sys.exit(__doc__)
-form, path, *name = sys.argv[1:]
-try:
-    jobs = instance(form, Path(path).read_bytes(), *name)
-except (OSError, ValueError) as fault:
-    sys.exit(f"{path}: {fault}")
+form, jobs = instance_given(__doc__)
 for job, (release, route) in enumerate(jobs):
     if form == "routes":
         print(f"job {job} release {release}")
