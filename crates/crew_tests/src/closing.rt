@@ -5,8 +5,7 @@ ghost use Rattle.shop_runs.specs.Crews.{OneForEach};
 use crate::rounds::{RoundTest, in_third_round};
 use crate::telling::assert_entries;
 use shop_round::{Alone, PieceSearcher};
-use shop_runs::{Crew, Entry, Round, gather};
-use shop_workers::PieceSearch;
+use shop_runs::{Crew, Entry, PieceSearch, Round, gather};
 use std::alloc::Global;
 use std::process::Abort;
 

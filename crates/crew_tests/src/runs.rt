@@ -7,6 +7,7 @@ use shop_round::{Alone, run_alone};
 use shop_runs::{Crew, Entry, Order, Plan, Round, run};
 use shop_workers::OpenGate;
 use std::alloc::{AllocError as NoMemory, Global};
+use std::fmt::Write;
 use std::process::Abort;
 
 /// An instance, the rounds and the budget of a plan with pieces of one node, and the answer: makespan, bound, open
@@ -40,17 +41,34 @@ fn answers_by_one_thread(rt: HostRuntime) {
     }
 }
 
-/// Two jobs on two machines, and the least makespan. Their times sum up to 639, the greatest opening makespan for which
-/// open nodes of four operations by bound stand in a row of stacks, and to 640.
-static AT_THE_LONGEST_ROW: [(&'static str, u64); 2] = [
-    ("2 2\n0 0 3 1 2\n0 1 2 0 632\n", 635),
-    ("2 2\n0 0 3 1 2\n0 1 2 0 633\n", 636),
+/// The last time of two jobs on two machines, whether six idle jobs of 85 steps stand beside them, and the least
+/// makespan. All times sum up to 7 more than the last one: to 639, the greatest opening makespan for which open nodes of
+/// four operations stand in a row of stacks by bound, and to 640; with 514 operations to 65,536, the greatest one for
+/// which any do, and to 65,537.
+static AT_THE_LONGEST_ROW: [(u64, bool, u64); 4] = [
+    (632, false, 635),
+    (633, false, 636),
+    (65_529, true, 65_532),
+    (65_530, true, 65_533),
 ];
+
+// The text of such an instance.
+fn text_with_last(rt: &impl Abort, alloc: Global, time: u64, is_beside_idle: bool) -> String {
+    let jobs = if is_beside_idle { 8 } else { 2 };
+    let text = format!(in alloc; "{jobs} 2\n0 0 3 1 2\n0 1 2 0 {time}\n");
+    let mut text = text.expect(rt, "memory");
+    let steps = " 0 0".repeat(alloc, 85).expect(rt, "memory");
+    for _ in 2..jobs {
+        write!(text, "0{steps}\n").expect(rt, "memory");
+    }
+    text
+}
 
 #[test]
 fn open_nodes_by_bound_in_a_row_and_in_a_map(rt: HostRuntime) {
-    for (text, least) in &AT_THE_LONGEST_ROW {
-        let instance = instance_of(&rt, rt.alloc(), text);
+    for (time, is_beside_idle, least) in &AT_THE_LONGEST_ROW {
+        let text = text_with_last(&rt, rt.alloc(), *time, *is_beside_idle);
+        let instance = instance_of(&rt, rt.alloc(), text.as_str());
         let plan = Plan::ordered(1_000, 1, 1, Order::Bound).expect(&rt, "a plan");
         let answer = run_alone(rt.alloc(), &instance, &plan).expect(&rt, "memory");
         assert!(&rt; answer.makespan == *least && answer.bound == *least && answer.open_nodes == 0);

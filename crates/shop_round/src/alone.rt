@@ -3,9 +3,9 @@ ghost use Rattle.std.specs.Prelude.{IfOk};
 ghost use Rattle.shop_runs.specs.Entries.{told};
 ghost use Rattle.shop_runs.specs.Crews.{OneForEach, StopsAtHit};
 
+use crate::hit_search::search_up_to_hit;
 use crate::piece_searchers::PieceSearcher;
-use shop_runs::{Crew, Entry, Round};
-use shop_workers::{PieceSearch, search_up_to_hit};
+use shop_runs::{Crew, Entry, PieceSearch, Round};
 use std::alloc::{AllocError as NoMemory, Global};
 
 /// The crew of the calling thread alone. It searches the pieces of a round in order until one's makespan equals the

@@ -2,6 +2,7 @@
 #![tactic(auto)]
 
 mod alone;
+mod hit_search;
 mod piece_searchers;
 mod runs;
 

@@ -3,9 +3,8 @@ ghost use Rattle.std.specs.Prelude.{◌≡◌, ◌<◌, length, IfOk, OnOk, IfSo
 ghost use Rattle.shop_runs.specs.Entries.{told, IsOf, TellsHit};
 
 use shop_nodes::Sheet;
-use shop_runs::Round;
+use shop_runs::{PieceSearch, Round};
 use shop_tree::Searcher;
-use shop_workers::PieceSearch;
 use std::alloc::{AllocError as NoMemory, Global};
 use std::marker::Model;
 

@@ -1,4 +1,4 @@
-// Plans, rounds and their outcomes, the contract of a crew, and runs of rounds by any crew.
+// Plans, rounds and their outcomes, the contracts of a crew and of a searcher, and runs of rounds by any crew.
 #![tactic(auto)]
 
 mod bound_rows;
@@ -7,6 +7,7 @@ mod entries;
 mod kept_stacks;
 mod open_nodes;
 mod outcomes;
+mod piece_search;
 mod plans;
 mod round_laws;
 mod rounds;
@@ -19,6 +20,7 @@ mod workers;
 pub use crews::{Crew, MakesCrew};
 pub use entries::{Entry, Kind};
 pub use outcomes::gather;
+pub use piece_search::PieceSearch;
 pub use plans::{MAX_BUDGET, MAX_PIECE, MAX_ROUNDS, MAX_WORKERS, Order, Plan};
 pub use round_laws::{
     counts_stay_small, cuts_cover, gathering_covers, opening_covers, pieces_are_all,

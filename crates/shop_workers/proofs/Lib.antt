@@ -1,4 +1,3 @@
-pub mod EntriesUpToHit
 pub mod KeptEntries
 pub mod Places
 pub mod ClaimSteps

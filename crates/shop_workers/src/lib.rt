@@ -2,11 +2,9 @@
 #![tactic(auto)]
 
 mod boards;
-mod hit_search;
 mod lock_search;
 mod open_gates;
 mod ordering;
-mod piece_search;
 mod pool_gates;
 mod pools;
 mod round_hits;
@@ -18,11 +16,9 @@ mod views;
 mod working;
 
 pub use boards::{Board, Seat};
-pub use hit_search::search_up_to_hit;
 pub use lock_search::serve;
 pub use open_gates::OpenGate;
 pub use ordering::in_order;
-pub use piece_search::PieceSearch;
 pub use pool_gates::Gate;
 pub use pools::Pool;
 pub use seat_gates::SeatGate;

@@ -6,10 +6,9 @@ ghost use Rattle.shop_runs.specs.Crews.{IsEntryOf};
 ghost use Rattle.shop_runs.specs.Hits.{hits_of_round, IsHitOrEnd};
 ghost use Rattle.shop_workers.specs.Entries.{OfRound, IsPassed, LetsPass};
 
-use crate::piece_search::PieceSearch;
 use crate::pool_gates::Gate;
 use crate::pools::Pool;
-use shop_runs::{Entry, Round};
+use shop_runs::{Entry, PieceSearch, Round};
 use std::alloc::{AllocError as NoMemory, Global};
 use std::sync::{Mutex, Wait};
 

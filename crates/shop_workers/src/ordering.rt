@@ -7,8 +7,7 @@ ghost use Rattle.shop_workers.specs.Entries.{OfRound};
 ghost use Rattle.shop_workers.specs.inner.Gathered.{AllOfRound, ListsOfRound, Placed, AreFilled, AreKept};
 ghost use Rattle.shop_workers.specs.inner.Gathered.{Fills, StayFilled};
 
-use crate::piece_search::PieceSearch;
-use shop_runs::{Entry, Round};
+use shop_runs::{Entry, PieceSearch, Round};
 use std::alloc::{AllocError as NoMemory, Global};
 
 // Makes an empty place for the entry of each piece of `round`.

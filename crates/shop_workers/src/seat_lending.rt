@@ -11,8 +11,7 @@ ghost use Rattle.shop_workers.specs.inner.Turns.{IsRestKnown};
 
 use crate::boards::{Board, Seat};
 use crate::ordering::{complete, in_places};
-use crate::piece_search::PieceSearch;
-use shop_runs::{Entry, Round};
+use shop_runs::{Entry, PieceSearch, Round};
 use std::alloc::{AllocError as NoMemory, Global};
 
 /// A worker's number, and the seat that the worker borrows.

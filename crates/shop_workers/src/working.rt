@@ -8,9 +8,8 @@ ghost use Rattle.shop_workers.specs.Works.{Grows, IsKnown, IsAllKnown, BringsWon
 ghost use Rattle.shop_workers.specs.inner.Turns.{IsServedEntry, BringsTurn};
 
 use crate::boards::{Board, Seat};
-use crate::piece_search::PieceSearch;
 use crate::seat_gates::SeatGate;
-use shop_runs::{Entry, Round};
+use shop_runs::{Entry, PieceSearch, Round};
 use std::alloc::{AllocError as NoMemory, Global};
 
 // Searches piece `number`, which `seat` won, marks it if its makespan equals the opening bound, and answers its entry.

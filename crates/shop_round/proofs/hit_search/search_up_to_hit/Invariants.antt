@@ -1,8 +1,8 @@
 use Rattle.std.proofs.Common.{◌≡◌}
 use Rattle.shop_runs.specs.Entries.{told}
-use Rattle.shop_workers.specs.inner.Hits.{IsFirstHitBelow}
-use Rattle.shop_workers.proofs.EntriesUpToHit.{AreEntriesUpTo}
-use Rattle.shop_workers.proofs.hit_search.search_up_to_hit.Given as goal
+use Rattle.shop_round.specs.inner.Hits.{IsFirstHitBelow}
+use Rattle.shop_round.proofs.EntriesUpToHit.{AreEntriesUpTo}
+use Rattle.shop_round.proofs.hit_search.search_up_to_hit.Given as goal
 
 abbrev pub invariant-loop-number : goal.invariant-loop-number
 invariant-loop-number g l =

@@ -1,5 +1,5 @@
 -- Entries of pieces in order, up to and with the first that ends at the opening bound.
-use Rattle.std.proofs.Common.{◌≡◌, ℕ, ◌<◌, ◌+◌, ◌++◌, false, List, [], ◌∷◌, length, get_or, sym, ◌∙◌, ap}
+use Rattle.std.proofs.Common.{◌≡◌, ℕ, ◌<◌, ◌+◌, ◌++◌, List, [], ◌∷◌, length, get_or, sym, ◌∙◌, ap}
 use Rattle.std.proofs.Common.{subst, arith, inl, inr}
 use Rattle.std.specs.Prelude.{slice_index_or}
 use Rattle.std.proofs.Math.ListN.{get_or-append}
@@ -8,9 +8,8 @@ use Rattle.std.proofs.lemmas.Bool.{cases_eq}
 use Rattle.std.proofs.lemmas.List.{length_push}
 use Rattle.shop_runs.specs.declared.entries.Entry.{Entry}
 use Rattle.shop_runs.specs.Round.{Told}
-use Rattle.shop_runs.specs.Entries.{is_hit}
-use Rattle.shop_runs.specs.Crews.{OneForEach, IsEntryOf, NoHitBelow, IsUpToHit}
-use Rattle.shop_workers.specs.inner.Hits.{IsEntryUpToHit}
+use Rattle.shop_runs.specs.Crews.{OneForEach, IsEntryOf, IsUpToHit}
+use Rattle.shop_round.specs.inner.Hits.{IsEntryUpToHit}
 
 pub record AreEntriesUpTo (r : Told) (es : List Entry) (n : ℕ) : Type 0 where
   pub count : length es ≡ n
@@ -37,9 +36,3 @@ one_entry_more r es new n e up added is stops = record {
 -- all of them
 pub all_entries : (r : Told) (es : List Entry) (n : ℕ) → AreEntriesUpTo r es n → n ≡ length r.pieces → OneForEach r es
 all_entries r es n up e = (up.count ∙ e, λ k d h. (up.each k d (let a = up.count in omega arith)).0)
-
-pub none_here : (r : Told) (n : ℕ) → NoHitBelow r n → is_hit r n ≡ false → NoHitBelow r (n + 1)
-none_here r n none miss k h = elim (cases_eq k n) [
-  | inl same ↦ subst (λ i. is_hit r i ≡ false) (sym same) miss
-  | inr other ↦ none k (omega arith)
-]

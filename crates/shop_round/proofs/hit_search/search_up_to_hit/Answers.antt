@@ -1,9 +1,9 @@
 use Rattle.std.proofs.Common.{◌≡◌, ◌∙◌, ◌+◌, length, rules, subst, sym}
 use Rattle.std.proofs.lemmas.List.{length-map}
 use Rattle.shop_runs.specs.Entries.{told}
-use Rattle.shop_workers.specs.inner.Hits.{IsEntryUpToHit, IsFirstHitBelow}
-use Rattle.shop_workers.proofs.EntriesUpToHit.{one_entry_more, all_entries}
-use Rattle.shop_workers.proofs.hit_search.search_up_to_hit.Goals as goal
+use Rattle.shop_round.specs.inner.Hits.{IsEntryUpToHit, IsFirstHitBelow}
+use Rattle.shop_round.proofs.EntriesUpToHit.{one_entry_more, all_entries}
+use Rattle.shop_round.proofs.hit_search.search_up_to_hit.Goals as goal
 
 pub loop-number-preserved : goal.loop-number-preserved
 loop-number-preserved g c =

@@ -1,13 +1,13 @@
-// The contract of a searcher, which searches single pieces of a round.
+// The trait of searchers, which search single pieces of a round.
 ghost use Rattle.std.specs.Prelude.{◌≡◌, ◌<◌, length, IfOk};
 ghost use Rattle.shop_runs.specs.Entries.{told, IsOf, TellsHit};
 ghost use Rattle.shop_runs.specs.declared.rounds.Round.{Round};
 
+use crate::rounds::Round;
 use shop_nodes::Sheet;
-use shop_runs::Round;
 use std::alloc::{AllocError as NoMemory, Global};
 
-/// Searches pieces of one round, one after the other. Proofs about workers hold for every implementation.
+/// Searches pieces of one round, one after the other. Proofs about crews hold for every implementation.
 pub trait PieceSearch<'r>: Drop {
     /// The round whose pieces the searcher searches.
     ghost searched: { Self → Round };

@@ -2,10 +2,9 @@
 ghost use Rattle.std.specs.Prelude.{◌≡◌, ◌+◌, ◌<◌, length, IfOk, OnOk};
 ghost use Rattle.shop_runs.specs.Entries.{told};
 ghost use Rattle.shop_runs.specs.Crews.{OneForEach, StopsAtHit};
-ghost use Rattle.shop_workers.specs.inner.Hits.{IsEntryUpToHit, IsFirstHitBelow};
+ghost use Rattle.shop_round.specs.inner.Hits.{IsEntryUpToHit, IsFirstHitBelow};
 
-use crate::piece_search::PieceSearch;
-use shop_runs::Entry;
+use shop_runs::{Entry, PieceSearch};
 use std::alloc::{AllocError as NoMemory, Global};
 
 // Answers the entry of piece `number`. Skips the piece if `hit` holds an earlier one. Otherwise searches it, and sets
