@@ -51,7 +51,7 @@ impl SeatGate for Calls {
 
 // A searcher that memory is refused at the first piece.
 #[derive(Drop)]
-struct Refused<'r> {
+pub struct Refused<'r> {
     round: &'r Round<'r>,
 }
 
@@ -68,6 +68,36 @@ impl<'r> PieceSearch<'r> for Refused<'r> {
 
     fn search(&mut self, _alloc: Global, _number: usize) -> Result<Sheet<'r>, NoMemory> {
         Err(NoMemory)
+    }
+}
+
+// A searcher that memory is refused where it searches a piece twice in a row.
+#[derive(Drop)]
+struct Once<'r> {
+    searcher: PieceSearcher<'r>,
+    last: Option<usize>,
+}
+
+impl<'r> PieceSearch<'r> for Once<'r> {
+    ghost searched = { λ s. s.searcher };
+
+    fn over(round: &'r Round<'r>) -> Once<'r> {
+        Once {
+            searcher: PieceSearcher::over(round),
+            last: None,
+        }
+    }
+
+    fn round(&self) -> &'r Round<'r> {
+        self.searcher.round()
+    }
+
+    fn search(&mut self, alloc: Global, number: usize) -> Result<Sheet<'r>, NoMemory> {
+        if self.last == Some(number) {
+            return Err(NoMemory);
+        }
+        self.last = Some(number);
+        self.searcher.search(alloc, number)
     }
 }
 
@@ -103,14 +133,14 @@ impl<R: Abort + Wait> RoundTest<R> for Called {
     fn run<'r>(&self, rt: &R, alloc: Global, round: &'r Round<'r>) {
         let searched = (3132, true);
         let refused = (31, false);
-        assert!(rt; calls_on_board::<PieceSearcher<'r>>(rt, alloc, round) == searched);
-        assert!(rt; calls_on_pool::<PieceSearcher<'r>, R>(rt, alloc, round) == searched);
+        assert!(rt; calls_on_board::<Once<'r>>(rt, alloc, round) == searched);
+        assert!(rt; calls_on_pool::<Once<'r>, R>(rt, alloc, round) == searched);
         assert!(rt; calls_on_board::<Refused<'r>>(rt, alloc, round) == refused);
         assert!(rt; calls_on_pool::<Refused<'r>, R>(rt, alloc, round) == refused);
     }
 }
 
 #[test]
-fn a_gate_is_called_once_just_before_each_search(rt: HostRuntime) {
+fn a_gate_is_called_once_just_before_the_only_search_of_a_piece(rt: HostRuntime) {
     in_second_round(&rt, rt.alloc(), &Called);
 }

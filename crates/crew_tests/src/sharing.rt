@@ -1,17 +1,20 @@
 // Who is at work and how often a piece is searched, by either crew; and pieces that no worker brought.
 ghost use Rattle.std.specs.Thread.{IsSync};
 
+use crate::gates::Refused;
 use crate::instances::{FT06, instance_of};
 use crate::rounds::{RoundTest, after_round, in_third_round, next_round};
 use crate::telling::{assert_entries, assert_number};
-use shop_board::{BoardCrew, LockCrew};
+use shop_board::{BoardCrew, LockCrew, work};
 use shop_round::PieceSearcher;
 use shop_runs::{Plan, Round, Standing};
-use shop_workers::{Board, Gate, Returned, Seat, SeatGate, complete_returned};
+use shop_workers::{
+    Board, Gate, OpenGate, Pool, Returned, Seat, SeatGate, complete_returned, in_order, serve,
+};
 use std::alloc::Global;
 use std::process::Abort;
-use std::sync::Wait;
 use std::sync::atomic::{AtomicUsize, Ordering};
+use std::sync::{Mutex, Wait};
 use std::thread;
 use std::thread::Threads;
 
@@ -149,10 +152,43 @@ impl<R: Abort> RoundTest<R> for NothingBrought {
         let (first, second) = (board.claim(&mut other, 0), board.claim(&mut other, 1));
         let third = board.claim(&mut other, 2);
         assert!(rt; !first && !second && !third);
+        let brought = vec![in alloc; Ok(Vec::new(alloc))].expect(rt, "memory");
+        let completed = in_order::<PieceSearcher<'r>>(alloc, round, brought);
+        let entries = completed.expect(rt, "memory");
+        assert_entries(rt, alloc, &entries, "10 1 0, 12 2 0, 14 2 0, ");
     }
 }
 
 #[test]
 fn pieces_that_nobody_brought_are_claimed_and_searched(rt: HostRuntime) {
     in_third_round(&rt, rt.alloc(), &NothingBrought);
+}
+
+// Pieces that workers brought, here all of the third round, aren't searched again.
+struct AllBrought;
+
+impl<R: Abort + Wait> RoundTest<R> for AllBrought {
+    ghost ready = { Unit {0} };
+
+    fn run<'r>(&self, rt: &R, alloc: Global, round: &'r Round<'r>) {
+        let (board, seat) = Board::open(alloc, round).expect(rt, "memory");
+        let (seat, entries) = work(alloc, &board, seat, round, 0, &OpenGate);
+        let returned = vec![in alloc; Returned { seat, entries }].expect(rt, "memory");
+        let completed = complete_returned::<Refused<'r>>(alloc, &board, round, returned);
+        let entries = completed.expect(rt, "memory");
+        assert_entries(rt, alloc, &entries, "10 1 0, by 0, by 0, ");
+        let pool = Mutex::new(Pool::open(round.pieces.len()));
+        let entries = serve::<PieceSearcher<'r>, R, OpenGate>(
+            rt, alloc, round, &pool, &OpenGate, 0,
+        );
+        let brought = vec![in alloc; entries].expect(rt, "memory");
+        let completed = in_order::<Refused<'r>>(alloc, round, brought);
+        let entries = completed.expect(rt, "memory");
+        assert_entries(rt, alloc, &entries, "10 1 0, by 0, by 0, ");
+    }
+}
+
+#[test]
+fn pieces_that_workers_brought_are_not_searched_again(rt: HostRuntime) {
+    in_third_round(&rt, rt.alloc(), &AllBrought);
 }
