@@ -11,7 +11,9 @@ ghost use Rattle.shop_workers.specs.inner.Returns.{IsReturned, AreReturned};
 use crate::waiting::map_waiting;
 use shop_round::PieceSearcher;
 use shop_runs::{Entry, Round};
-use shop_workers::{Board, Lent, Returned, Seat, SeatGate, complete_returned, lend, work_by};
+use shop_workers::{
+    Board, Lent, Returned, Seat, SeatGate, complete_returned, seats_for_workers, work_by,
+};
 use std::alloc::{AllocError as NoMemory, Global};
 use std::thread::Threads;
 
@@ -75,7 +77,7 @@ pub fn search_claimed<'r, R: Threads + Sync, G: SeatGate + Sync>(
     ensures { IfOk result (λ v. OneForEach (told round.now) v.items) }
 {
     let (board, seat) = Board::open(alloc, round)?;
-    let lent = lend(alloc, &board, seat, workers.min(round.pieces.len()))?;
+    let lent = seats_for_workers(alloc, &board, seat, workers.min(round.pieces.len()))?;
     let returned = work_all(rt, alloc, &board, lent, round, gate)?;
     complete_returned::<PieceSearcher<'r>>(alloc, &board, round, returned)
 }

@@ -187,9 +187,25 @@ impl<B: Block, const EACH: usize> StateLanes for BlockLanes<B, EACH> {
     }
 
     #[inline(always)]
+    fn head_row(&self) -> &[B::Number] {
+        self.heads()
+    }
+
+    #[inline(always)]
+    fn time_row(fixed: &FixedBlocks<B>) -> &[B::Number] {
+        &fixed.times
+    }
+
+    #[inline(always)]
+    fn tail_row(fixed: &FixedBlocks<B>) -> &[B::Number] {
+        &fixed.tails
+    }
+
+    #[inline(always)]
     fn bound_raised(
-        &self,
-        fixed: &FixedBlocks<B>,
+        head_row: &[B::Number],
+        time_row: &[B::Number],
+        tail_row: &[B::Number],
         count: usize,
         from: usize,
         to: usize,
@@ -199,9 +215,9 @@ impl<B: Block, const EACH: usize> StateLanes for BlockLanes<B, EACH> {
         limit: u64,
     ) -> u64 {
         let (first, end) = (8 * from, 8 * to);
-        let heads = &self.heads()[first..end];
-        let times = &fixed.times[first..end];
-        let tails = &fixed.tails[first..end];
+        let heads = &head_row[first..end];
+        let times = &time_row[first..end];
+        let tails = &tail_row[first..end];
         if count == 0 {
             return leap_over::<B>(heads, times, tails, above, upto, most, limit);
         }

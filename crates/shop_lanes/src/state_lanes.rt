@@ -103,13 +103,27 @@ pub trait StateLanes: Drop {
         requires fits { limit ≤ GREATEST }
         ensures { result ≡ positions_among (heads self.now) from to limit };
 
+    /// The head at each position, as `bound_raised` reads it.
+    fn head_row(&self) -> &[Self::Number]
+        ensures { map value result.now ≡ heads self.now };
+
+    /// The time of the operation at each position, as `bound_raised` reads it.
+    fn time_row(fixed: &Self::Fixed) -> &[Self::Number]
+        ensures { map value result.now ≡ times fixed.now };
+
+    /// The tail of the operation at each position, as `bound_raised` reads it.
+    fn tail_row(fixed: &Self::Fixed) -> &[Self::Number]
+        ensures { map value result.now ≡ tails fixed.now };
+
     /// Answers `most` or, if greater, the greatest span from a head above `above` and at most `upto` in blocks `from`
     /// up to `to` (excluded). The span from a head is the greatest end, tail included, of the operations with no lesser
     /// head, served by rank from that head on. Stops early once the bound reaches `limit`. `count` is `to` - `from`, or
-    /// 0 if unknown; a literal `count` unrolls loops.
+    /// 0 if unknown; a literal `count` unrolls loops. The rows are lent, so that who bounds many machines looks them up
+    /// once.
     fn bound_raised(
-        &self,
-        fixed: &Self::Fixed,
+        head_row: &[Self::Number],
+        time_row: &[Self::Number],
+        tail_row: &[Self::Number],
         count: usize,
         from: usize,
         to: usize,
@@ -118,14 +132,14 @@ pub trait StateLanes: Drop {
         most: u64,
         limit: u64,
     ) -> u64
-        requires blocks { AreBlocksOf (heads self.now) (times fixed.now) (tails fixed.now) from to }
+        requires blocks { AreBlocksOf (map value head_row.now) (map value time_row.now) (map value tail_row.now) from to }
         requires count { 0 < count → to ≡ from + count }
         requires most { most ≤ GREATEST }
         requires below { upto < GREATEST }
         requires fits { FitsSpan GREATEST upto
-            (lanes_of (heads self.now) (times fixed.now) (tails fixed.now) from to) }
+            (lanes_of (map value head_row.now) (map value time_row.now) (map value tail_row.now) from to) }
         ensures { IsRaisedBelow limit (max most (spans_between above upto
-            (lanes_of (heads self.now) (times fixed.now) (tails fixed.now) from to))) result };
+            (lanes_of (map value head_row.now) (map value time_row.now) (map value tail_row.now) from to))) result };
 
     fn narrowed(number: u64) -> Self::Number
         requires { number ≤ GREATEST }

@@ -1,9 +1,8 @@
 // `Grid`: the operations of an instance by position, with their times and tails in lanes.
 ghost use Rattle.std.specs.Prelude.{◌≡◌, ◌<◌, All, IfOk, length, slice_index, slice_index_or, []};
-ghost use Rattle.std.specs.Prelude.{◌≤◌, ◌+◌, ◌-◌, ◌*◌, ◌^◌, map, max};
+ghost use Rattle.std.specs.Prelude.{◌≤◌, ◌+◌, ◌-◌, ◌*◌, ◌^◌, map};
 ghost use Rattle.shop_lanes.specs.Rows.{AreBlocks, lanes_between};
-ghost use Rattle.shop_lanes.specs.Spans.{AreOwnSpans, FitOwnSpans, FitsSpan, IsRaisedBelow};
-ghost use Rattle.shop_lanes.specs.Spans.{spans_between};
+ghost use Rattle.shop_lanes.specs.Spans.{AreOwnSpans, FitOwnSpans};
 ghost use Rattle.shop_layout.specs.Lanes.{rows_of};
 ghost use Rattle.shop_layout.specs.Positions.{AreEven};
 ghost use Rattle.shop_layout.specs.inner.RouteRows.{AreBelow};
@@ -209,35 +208,20 @@ impl<L: StateLanes> Grid<L> {
         self.positions.following.len()
     }
 
-    /// Answers `most` or, if greater, the greatest span from a head above `above` and at most `upto` in blocks `from`
-    /// up to `to` (excluded). The span from a head is the greatest end, tail included, of the operations with no lesser
-    /// head, served by rank from that head on. Stops early once the bound reaches `limit`. `count` is `to` - `from`, or
-    /// 0 if unknown.
+    /// The time of the operation at each position, in lanes.
     #[inline(always)]
-    pub fn bound_raised(
-        &self,
-        lanes: &L,
-        count: usize,
-        from: usize,
-        to: usize,
-        above: u64,
-        upto: u64,
-        most: u64,
-        limit: u64,
-    ) -> u64
-        requires blocks { AreBlocks (rows_of self.now (L.heads lanes.now) (L.ends lanes.now))
-            from to }
-        requires times { length self.now.times ≡ length (L.heads lanes.now) }
-        requires tails { length self.now.tails ≡ length self.now.times }
-        requires count { 0 < count → to ≡ from + count }
-        requires most { most ≤ L.GREATEST }
-        requires below { upto < L.GREATEST }
-        requires fits { FitsSpan L.GREATEST upto (lanes_between
-            (rows_of self.now (L.heads lanes.now) (L.ends lanes.now)) from to) }
-        ensures { IsRaisedBelow limit (max most (spans_between above upto (lanes_between
-            (rows_of self.now (L.heads lanes.now) (L.ends lanes.now)) from to))) result }
+    pub fn time_row(&self) -> &[L::Number]
+        ensures { map L.value result.now ≡ self.now.times }
     {
-        lanes.bound_raised(&self.fixed, count, from, to, above, upto, most, limit)
+        L::time_row(&self.fixed)
+    }
+
+    /// The tail of the operation at each position, in lanes.
+    #[inline(always)]
+    pub fn tail_row(&self) -> &[L::Number]
+        ensures { map L.value result.now ≡ self.now.tails }
+    {
+        L::tail_row(&self.fixed)
     }
 
     /// Writes to the start of `owns` the own span of each waiting operation in blocks `from` up to `to` (excluded): how

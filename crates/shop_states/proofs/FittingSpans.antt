@@ -2,7 +2,7 @@
 use Rattle.std.proofs.Common.{◌≡◌, ℕ, ◌+◌, ◌≤◌, ◌<◌, inl, inr, List, [], ◌∷◌, refl, arith, sum_by}
 use Rattle.std.proofs.lemmas.Bool.{cases_lt}
 use Rattle.std.proofs.lemmas.List.Sums.{sum_by-cons}
-use Rattle.shop_lanes.specs.Rows.{Lane, Rows, lanes_between}
+use Rattle.shop_lanes.specs.Rows.{Lane}
 use Rattle.shop_lanes.specs.Spans.{FitsSpan, greatest_by, span, spans_between, spans_from}
 use Rattle.shop_states.proofs.SpanTurns.{span_left, span_served, spans_counted, spans_high, spans_low}
 
@@ -30,11 +30,6 @@ spans_within limit above upto all fits (x ∷ xs) =
       ]
       | inr low ↦ (let e = spans_low above upto all x xs low in omega arith)
     ]
-
--- in the same blocks
-pub spans_same : (above upto : ℕ) (rows : Rows) (from to a b : ℕ) → from ≡ a → to ≡ b
-    → spans_between above upto (lanes_between rows from to) ≡ spans_between above upto (lanes_between rows a b)
-spans_same above upto rows from to a b e f = rw (e, f) refl
 
 -- what bounds each span that begins between two moments bounds all of them
 spans_each_of : (c above upto : ℕ) (all : List Lane) → ((h : ℕ) → above < h → h ≤ upto → span h h all ≤ c)

@@ -38,6 +38,7 @@ pub mod LeftSlots
 pub mod ListedCandidates
 pub mod Listing
 pub mod LongerBeginnings
+pub mod LookedUpRows
 pub mod MachineLanes
 pub mod MarkedPositions
 pub mod NextOperations

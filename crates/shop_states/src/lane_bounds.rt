@@ -1,6 +1,6 @@
 // One-machine bounds from the heads that a dispatch raised, in lanes.
-ghost use Rattle.std.specs.Prelude.{◌≡◌, ◌+◌, ◌-◌, ◌≤◌, ◌<◌, ◌^◌, ◌⊎◌, IsTrue, length, min, slice_index};
-ghost use Rattle.shop_lanes.specs.Rows.{AreBlocks};
+ghost use Rattle.std.specs.Prelude.{◌≡◌, ◌+◌, ◌-◌, ◌≤◌, ◌<◌, ◌^◌, ◌⊎◌, IsTrue, length, map, min, slice_index};
+ghost use Rattle.shop_lanes.specs.Rows.{lanes_of, AreBlocks, AreBlocksOf};
 ghost use Rattle.shop_lanes.specs.Spans.{FitsSpan};
 ghost use Rattle.shop_layout.specs.Lanes.{lanes_on, rows_of};
 ghost use Rattle.shop_layout.specs.Positions.{AreEven};
@@ -14,11 +14,48 @@ use crate::machine_sets::MachineSet;
 use shop_lanes::StateLanes;
 use shop_layout::Grid;
 
+/// Answers the greatest of `least` and the spans of blocks `from` up to `to` (excluded) from the heads above
+/// `raise.from` and up to `raise.to`. The span from a head is the greatest end, tail included, of the operations with no
+/// lesser head, served by rank from that head on. May stop once the bound reaches `limit`. `each` is `to` - `from`, or 0
+/// if unknown.
+#[inline(always)]
+fn span_of_rows<L: StateLanes>(
+    each: usize,
+    heads: &[L::Number],
+    times: &[L::Number],
+    tails: &[L::Number],
+    from: usize,
+    to: usize,
+    raise: LaneRaise<L::Number>,
+    least: u64,
+    limit: u64,
+) -> u64
+    requires blocks { AreBlocksOf (map L.value heads.now) (map L.value times.now) (map L.value tails.now)
+        from to }
+    requires count { 0 < each → to ≡ from + each }
+    requires least { least ≤ L.GREATEST }
+    requires below { L.value raise.to < L.GREATEST }
+    requires fits { FitsSpan L.GREATEST (L.value raise.to)
+        (lanes_of (map L.value heads.now) (map L.value times.now) (map L.value tails.now) from to) }
+    ensures spans { IsSpanByRaise (raise_in L.value raise)
+        (lanes_of (map L.value heads.now) (map L.value times.now) (map L.value tails.now) from to)
+        limit least result }
+    ensures fits { result ≤ L.GREATEST }
+{
+    if limit <= least {
+        return least;
+    }
+    let (above, upto) = (L::widened(raise.from), L::widened(raise.to));
+    L::bound_raised(
+        heads, times, tails, each, from, to, above, upto, least, limit,
+    )
+}
+
 /// Answers the greatest of `least` and the spans of `machine` from its heads above `raise.from` and up to `raise.to`.
 /// The span from a head is the greatest end, tail included, of the operations with no lesser head, served by rank from
 /// that head on. May stop once the bound reaches `limit`. Each machine has `each` blocks, or any number if `each` is 0.
 #[inline(always)]
-pub(crate) fn span_by_raise<L: StateLanes>(
+fn span_by_raise<L: StateLanes>(
     each: usize,
     lanes: &L,
     grid: &Grid<L>,
@@ -43,12 +80,11 @@ pub(crate) fn span_by_raise<L: StateLanes>(
         limit least result }
     ensures fits { result ≤ L.GREATEST }
 {
-    if limit <= least {
-        return least;
-    }
     let (from, to) = grid.blocks_of(each, machine);
-    let (above, upto) = (L::widened(raise.from), L::widened(raise.to));
-    grid.bound_raised(lanes, each, from, to, above, upto, least, limit)
+    let heads = lanes.head_row();
+    let times = grid.time_row();
+    let tails = grid.tail_row();
+    span_of_rows::<L>(each, heads, times, tails, from, to, raise, least, limit)
 }
 
 /// Tells whether the ceiling of `machine`, if it has one, is at most `most`.
@@ -81,12 +117,17 @@ fn take_spans_of<L: StateLanes>(
     ensures { TakesSpans grid.now (rows_of grid.now (L.heads lanes.now) (L.ends lanes.now))
         (raises_in L.value raises.old) (raises_in L.value raises.new) least limit result }
 {
+    // looked up once: an emptied raise is a write, behind which the rows would be looked up anew
+    let heads = lanes.head_row();
+    let times = grid.time_row();
+    let tails = grid.tail_row();
     let mut most = least;
     let mut left = raised;
     while let Some(machine) = left.pop_first() {
         let raise = take_raise::<L>(raises, machine);
         if !is_under(ceilings, machine, most) {
-            most = span_by_raise(each, lanes, grid, machine, raise, most, limit);
+            let (from, to) = grid.blocks_of(each, machine);
+            most = span_of_rows::<L>(each, heads, times, tails, from, to, raise, most, limit);
         }
     }
     most
@@ -121,12 +162,9 @@ fn take_longer_spans<L: StateLanes>(
     }
 }
 
-/// Answers the greatest of `least` and the spans, explained at `span_by_raise`, of the machines in `raised` from the
-/// heads within their raises. May stop once the bound reaches `limit`. Empties the raises. Skips a machine whose
-/// ceiling, if it has one, is at most the bound so far. `ceilings`, `least`, `limit` and the answer are one more than
-/// the bounds that they stand for, like heads in lanes.
+/// Does what `take_spans` does. Where `ceilings` is a literal empty slice, no loop over machines tests them.
 #[inline(always)]
-pub(crate) fn take_spans<L: StateLanes>(
+fn take_spans_under<L: StateLanes>(
     raises: &mut [LaneRaise<L::Number>],
     raised: MachineSet,
     ceilings: &[u64],
@@ -148,6 +186,33 @@ pub(crate) fn take_spans<L: StateLanes>(
         3 => take_spans_of(3, raises, raised, ceilings, lanes, grid, least, limit),
         _ => take_longer_spans(raises, raised, ceilings, lanes, grid, least, limit),
     }
+}
+
+/// Answers the greatest of `least` and the spans, explained at `span_by_raise`, of the machines in `raised` from the
+/// heads within their raises. May stop once the bound reaches `limit`. Empties the raises. Skips a machine whose
+/// ceiling, if it has one, is at most the bound so far. `ceilings`, `least`, `limit` and the answer are one more than
+/// the bounds that they stand for, like heads in lanes.
+#[inline(always)]
+pub(crate) fn take_spans<L: StateLanes>(
+    raises: &mut [LaneRaise<L::Number>],
+    raised: MachineSet,
+    ceilings: &[u64],
+    lanes: &L,
+    grid: &Grid<L>,
+    least: u64,
+    limit: u64,
+) -> u64
+    requires can { CanTakeSpans L.GREATEST (raises_in L.value raises.old) raised grid.now
+        (rows_of grid.now (L.heads lanes.now) (L.ends lanes.now)) least }
+    requires under { AreUnder ceilings.now (raises_in L.value raises.old) grid.now
+        (rows_of grid.now (L.heads lanes.now) (L.ends lanes.now)) least }
+    ensures { TakesSpans grid.now (rows_of grid.now (L.heads lanes.now) (L.ends lanes.now))
+        (raises_in L.value raises.old) (raises_in L.value raises.new) least limit result }
+{
+    if ceilings.is_empty() {
+        return take_spans_under(raises, raised, &[], lanes, grid, least, limit);
+    }
+    take_spans_under(raises, raised, ceilings, lanes, grid, least, limit)
 }
 
 /// Does what `span_by_raise` does, for any number of blocks. A literal number, for few blocks, unrolls the loops.

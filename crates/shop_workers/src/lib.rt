@@ -23,5 +23,5 @@ pub use pool_gates::Gate;
 pub use pools::Pool;
 pub use seat_gates::SeatGate;
 pub use seat_laws::has_all;
-pub use seat_lending::{Lent, Returned, complete_returned, lend};
+pub use seat_lending::{Lent, Returned, complete_returned, seats_for_workers};
 pub use working::work_by;

@@ -30,7 +30,12 @@ pub struct Returned<'r> {
 
 /// Splits `seat` into one seat for each of `workers` workers. Worker 0 comes last in the list, and gets a seat even if
 /// `workers` is 0. Fails with `NoMemory` if memory runs out.
-pub fn lend(alloc: Global, board: &Board, seat: Seat, workers: usize) -> Result<Vec<Lent>, NoMemory>
+pub fn seats_for_workers(
+    alloc: Global,
+    board: &Board,
+    seat: Seat,
+    workers: usize,
+) -> Result<Vec<Lent>, NoMemory>
     requires { IsSeatOf board.now seat }
     ensures { IfOk result (λ v. All (λ l. IsSeatOf board.now l.seat) v.items) }
 {

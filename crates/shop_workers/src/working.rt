@@ -75,7 +75,7 @@ fn claim_and_search<'r, P: PieceSearch<'r>, G: SeatGate>(
 }
 
 // Claims each piece in order, searches or skips each that the seat wins, and answers the entries of the pieces won.
-fn work_through<'r, P: PieceSearch<'r>, G: SeatGate>(
+fn claim_and_search_all<'r, P: PieceSearch<'r>, G: SeatGate>(
     alloc: Global,
     board: &Board,
     seat: &mut Seat,
@@ -124,6 +124,6 @@ pub fn work_by<'r, P: PieceSearch<'r>, G: SeatGate>(
 {
     let mut seat = seat;
     let mut searcher = P::over(round);
-    let entries = work_through(alloc, board, &mut seat, &mut searcher, worker, gate);
+    let entries = claim_and_search_all(alloc, board, &mut seat, &mut searcher, worker, gate);
     (seat, entries)
 }

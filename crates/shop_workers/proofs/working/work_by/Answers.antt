@@ -12,9 +12,9 @@ returns-clause-served g c =
     let round = c.args.round.now in
     let hits = hits_of c.args.board.now in
     let before = knows c.args.seat in
-    let after = knows c.work_through-entries.new.seat in
-    let done = c.work_through-entries.ensures in
-    on_brought (AreWon (told round) before after) (HasServed before → HasServed after) c.work_through-entries.result
+    let after = knows c.claim_and_search_all-entries.new.seat in
+    let done = c.claim_and_search_all-entries.ensures in
+    on_brought (AreWon (told round) before after) (HasServed before → HasServed after) c.claim_and_search_all-entries.result
     (λ es won. all_served round hits before after es c.requires.round done.seat.1 done.grows won)
-    (subst (λ r. IfOk c.work_through-entries.result (λ v. AreWon (told r) before after v.items))
+    (subst (λ r. IfOk c.claim_and_search_all-entries.result (λ v. AreWon (told r) before after v.items))
     c.over-searcher.ensures done.entries)

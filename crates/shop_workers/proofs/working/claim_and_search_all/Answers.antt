@@ -5,8 +5,8 @@ use Rattle.shop_workers.specs.Seats.{knows}
 use Rattle.shop_workers.specs.Works.{AreWon, numbers_of}
 use Rattle.shop_workers.specs.inner.Turns.{TakesTurn}
 use Rattle.shop_workers.proofs.WonEntries.{grows_twice, still_won, one_won, below_next, below_push, known_next}
-use Rattle.shop_workers.proofs.working.work_through.Goals as goal
-use Rattle.shop_workers.proofs.working.work_through.Goals.{in-Some+in_ok-push, in_default}
+use Rattle.shop_workers.proofs.working.claim_and_search_all.Goals as goal
+use Rattle.shop_workers.proofs.working.claim_and_search_all.Goals.{in-Some+in_ok-push, in_default}
 
 pub loop-number-preserved : goal.loop-number-preserved
 loop-number-preserved g c =

@@ -3,7 +3,7 @@ use Rattle.std.specs.Prelude.{All}
 use Rattle.shop_runs.specs.Entries.{told}
 use Rattle.shop_workers.specs.Seats.{knows, IsSeatOf}
 use Rattle.shop_workers.specs.Works.{Grows, IsAllKnown, AreWon, numbers_of}
-use Rattle.shop_workers.proofs.working.work_through.Given as goal
+use Rattle.shop_workers.proofs.working.claim_and_search_all.Given as goal
 
 abbrev pub invariant-loop-number : goal.invariant-loop-number
 invariant-loop-number g l =
