@@ -42,9 +42,9 @@ fn answers_by_one_thread(rt: HostRuntime) {
 }
 
 /// The last time of two jobs on two machines, whether six idle jobs of 85 steps stand beside them, and the least
-/// makespan. All times sum up to 7 more than the last one: to 639, the greatest opening makespan for which open nodes of
-/// four operations stand in a row of stacks by bound, and to 640; with 514 operations to 65,536, the greatest one for
-/// which any do, and to 65,537.
+/// makespan. All times sum up to 7 more than the last one: to 639, the greatest opening makespan for which open nodes
+/// of four operations stand in a row of stacks by bound, and to 640; with 514 operations to 65,536, the greatest one
+/// for which any do, and to 65,537.
 static AT_THE_LONGEST_ROW: [(u64, bool, u64); 4] = [
     (632, false, 635),
     (633, false, 636),

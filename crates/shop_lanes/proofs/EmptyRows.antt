@@ -12,14 +12,13 @@ take_seen : (n x : ℕ) (rest : List ℕ) → take n (replicate n x ++ rest) ≡
 take_seen zero x rest = refl
 take_seen (suc n) x rest = ap (λ l. x ∷ l) (take_seen n x rest)
 
-pub row_begun : (n x y : ℕ) → replicate n x ≡ replicate n x ++ replicate (n - n) y
-row_begun n x y = sym (append-nil (replicate n x))
-    ∙ ap (λ k. replicate n x ++ replicate k y) {x = 0} {y = n - n} (omega arith)
+pub row_begun : (xs : List ℕ) (n y : ℕ) → xs ≡ xs ++ replicate (n - n) y
+row_begun xs n y = sym (append-nil xs) ∙ ap (λ k. xs ++ replicate k y) {x = 0} {y = n - n} (omega arith)
 
-pub row_more : (n i x y : ℕ) → n ≤ i
-    → (replicate n x ++ replicate (i - n) y) ++ y ∷ [] ≡ replicate n x ++ replicate (i + 1 - n) y
-row_more n i x y le = append_assoc (replicate n x) (replicate (i - n) y) (y ∷ [])
-    ∙ ap (λ l. replicate n x ++ l) (replicate_more (i - n) y
+pub row_more : (xs : List ℕ) (n i y : ℕ) → n ≤ i
+    → (xs ++ replicate (i - n) y) ++ y ∷ [] ≡ xs ++ replicate (i + 1 - n) y
+row_more xs n i y le = append_assoc xs (replicate (i - n) y) (y ∷ [])
+    ∙ ap (λ l. xs ++ l) (replicate_more (i - n) y
     ∙ ap (λ k. replicate k y) {x = i - n + 1} {y = i + 1 - n} (omega arith))
 
 row_long : (n m x y : ℕ) → length (replicate n x ++ replicate m y) ≡ n + m

@@ -45,6 +45,17 @@ fn copied<B: Block>(alloc: Global, numbers: &[u64]) -> Result<Vec<B::Number>, No
     Ok(copy)
 }
 
+/// Writes `GREATEST` at all places of `row` behind the first `positions`.
+fn end_row<B: Block>(row: &mut [B::Number], positions: usize)
+    requires { positions ≤ length row.old }
+    ensures { map B.value row.new
+        ≡ take positions (map B.value row.old) ++ replicate (length row.old - positions) B.GREATEST }
+{
+    for place in positions..row.len() {
+        row[place] = B::narrowed(B::GREATEST);
+    }
+}
+
 /// Writes head 0 at each of the first `positions` places of `row`, and `GREATEST` at all places behind them.
 fn clear_row<B: Block>(row: &mut [B::Number], positions: usize)
     requires { positions ≤ length row.old }
@@ -54,9 +65,7 @@ fn clear_row<B: Block>(row: &mut [B::Number], positions: usize)
     for position in 0..positions {
         row[position] = B::narrowed(0);
     }
-    for place in positions..row.len() {
-        row[place] = B::narrowed(B::GREATEST);
-    }
+    end_row::<B>(row, positions);
 }
 
 /// Makes the row of a state of `positions` positions and `jobs` jobs with each head 0, and each end `GREATEST`. Fails
@@ -74,7 +83,7 @@ fn empty_row<B: Block>(
         return Err(NoMemory);
     }
     let mut row = B::row_of(alloc, 0, positions + 8 + 8 * (jobs / 8 + 1))?;
-    clear_row::<B>(&mut row, positions);
+    end_row::<B>(&mut row, positions);
     Ok(row)
 }
 

@@ -132,7 +132,8 @@ pub trait StateLanes: Drop {
         most: u64,
         limit: u64,
     ) -> u64
-        requires blocks { AreBlocksOf (map value head_row.now) (map value time_row.now) (map value tail_row.now) from to }
+        requires blocks { AreBlocksOf (map value head_row.now) (map value time_row.now)
+            (map value tail_row.now) from to }
         requires count { 0 < count → to ≡ from + count }
         requires most { most ≤ GREATEST }
         requires below { upto < GREATEST }

@@ -7,8 +7,8 @@ use shop_model::{SharedWord, Word};
 use std::alloc::{AllocError as NoMemory, Global};
 use std::marker::Model;
 
-/// A node whose word can share its jobs with other words. Searches leave open nodes in this form, and runs store them in
-/// it. It takes 24 bytes. Contracts see the node.
+/// A node whose word can share its jobs with other words. Searches leave open nodes in this form, and runs store them
+/// in it. It takes 24 bytes. Contracts see the node.
 #[derive(Drop)]
 pub struct SharedNode {
     word: SharedWord,

@@ -15,9 +15,9 @@ use shop_lanes::StateLanes;
 use shop_layout::Grid;
 
 /// Answers the greatest of `least` and the spans of blocks `from` up to `to` (excluded) from the heads above
-/// `raise.from` and up to `raise.to`. The span from a head is the greatest end, tail included, of the operations with no
-/// lesser head, served by rank from that head on. May stop once the bound reaches `limit`. `each` is `to` - `from`, or 0
-/// if unknown.
+/// `raise.from` and up to `raise.to`. The span from a head is the greatest end, tail included, of the operations with
+/// no lesser head, served by rank from that head on. May stop once the bound reaches `limit`. `each` is `to` - `from`,
+/// or 0 if unknown.
 #[inline(always)]
 fn span_of_rows<L: StateLanes>(
     each: usize,
@@ -162,32 +162,6 @@ fn take_longer_spans<L: StateLanes>(
     }
 }
 
-/// Does what `take_spans` does. Where `ceilings` is a literal empty slice, no loop over machines tests them.
-#[inline(always)]
-fn take_spans_under<L: StateLanes>(
-    raises: &mut [LaneRaise<L::Number>],
-    raised: MachineSet,
-    ceilings: &[u64],
-    lanes: &L,
-    grid: &Grid<L>,
-    least: u64,
-    limit: u64,
-) -> u64
-    requires can { CanTakeSpans L.GREATEST (raises_in L.value raises.old) raised grid.now
-        (rows_of grid.now (L.heads lanes.now) (L.ends lanes.now)) least }
-    requires under { AreUnder ceilings.now (raises_in L.value raises.old) grid.now
-        (rows_of grid.now (L.heads lanes.now) (L.ends lanes.now)) least }
-    ensures { TakesSpans grid.now (rows_of grid.now (L.heads lanes.now) (L.ends lanes.now))
-        (raises_in L.value raises.old) (raises_in L.value raises.new) least limit result }
-{
-    match grid.blocks_each() {
-        1 => take_spans_of(1, raises, raised, ceilings, lanes, grid, least, limit),
-        2 => take_spans_of(2, raises, raised, ceilings, lanes, grid, least, limit),
-        3 => take_spans_of(3, raises, raised, ceilings, lanes, grid, least, limit),
-        _ => take_longer_spans(raises, raised, ceilings, lanes, grid, least, limit),
-    }
-}
-
 /// Answers the greatest of `least` and the spans, explained at `span_by_raise`, of the machines in `raised` from the
 /// heads within their raises. May stop once the bound reaches `limit`. Empties the raises. Skips a machine whose
 /// ceiling, if it has one, is at most the bound so far. `ceilings`, `least`, `limit` and the answer are one more than
@@ -209,10 +183,12 @@ pub(crate) fn take_spans<L: StateLanes>(
     ensures { TakesSpans grid.now (rows_of grid.now (L.heads lanes.now) (L.ends lanes.now))
         (raises_in L.value raises.old) (raises_in L.value raises.new) least limit result }
 {
-    if ceilings.is_empty() {
-        return take_spans_under(raises, raised, &[], lanes, grid, least, limit);
+    match grid.blocks_each() {
+        1 => take_spans_of(1, raises, raised, ceilings, lanes, grid, least, limit),
+        2 => take_spans_of(2, raises, raised, ceilings, lanes, grid, least, limit),
+        3 => take_spans_of(3, raises, raised, ceilings, lanes, grid, least, limit),
+        _ => take_longer_spans(raises, raised, ceilings, lanes, grid, least, limit),
     }
-    take_spans_under(raises, raised, ceilings, lanes, grid, least, limit)
 }
 
 /// Does what `span_by_raise` does, for any number of blocks. A literal number, for few blocks, unrolls the loops.

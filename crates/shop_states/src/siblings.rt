@@ -2,7 +2,8 @@
 // the other operations that wait there until its own ends, at the latest until the latest of these ends. So if heads
 // are raised as if every operation there had to wait until then, no head of a child is higher, and no span is greater.
 // One pass over the machines whose heads rose thus bounds nearly all children.
-ghost use Rattle.std.specs.Prelude.{◌≡◌, ℕ, ◌+◌, ◌*◌, ◌^◌, ◌≤◌, ◌<◌, ◌⊎◌, List, ◌∷◌, ◌++◌, [], IsTrue, false, length, slice_index};
+ghost use Rattle.std.specs.Prelude.{◌≡◌, ℕ, ◌+◌, ◌*◌, ◌^◌, ◌≤◌, ◌<◌, ◌⊎◌, List, ◌∷◌, ◌++◌, [], IsTrue, false};
+ghost use Rattle.std.specs.Prelude.{length, slice_index};
 ghost use Rattle.shop_model.specs.Shop.{Shop};
 ghost use Rattle.shop_bound.specs.Bound.{lb};
 ghost use Rattle.shop_layout.specs.Lanes.{rows_of};

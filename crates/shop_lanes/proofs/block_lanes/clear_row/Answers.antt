@@ -1,10 +1,6 @@
-use Rattle.std.proofs.Common.{arith, length-set}
-use Rattle.std.proofs.lemmas.List.{take_more_set, map_push}
-use Rattle.shop_lanes.proofs.EmptyRows.{row_begun, row_more}
+use Rattle.std.proofs.Common.{arith}
+use Rattle.std.proofs.lemmas.List.{take-map}
 use Rattle.shop_lanes.proofs.block_lanes.clear_row.Goals as goal
 
-pub loop-place-init : goal.loop-place-init
-loop-place-init g c = grind (arith, row_begun)
-
-pub loop-place-preserved : goal.loop-place-preserved
-loop-place-preserved g c = (grind (arith, take_more_set, map_push, row_more), grind (arith, length-set))
+pub returns : goal.returns
+returns g c = grind (arith, take-map)
