@@ -198,7 +198,7 @@ fn list_on_machine<L: StateLanes>(
         end,
     } = first;
     let next = state.next.as_slice();
-    let (from, behind) = (grid.block(machine), grid.block(machine + 1));
+    let (from, behind) = grid.blocks_of(grid.blocks_each(), machine);
     let to = from + (behind - from).min(8);
     let below = state.lanes.below(from, to, end);
     // dispatching a sole candidate keeps the word's bound

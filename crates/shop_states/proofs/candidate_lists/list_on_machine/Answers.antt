@@ -3,28 +3,24 @@ use Rattle.std.specs.List.{All}
 use Rattle.shop_states.proofs.ConflictSets.{all_told, can_list, sole, tells}
 use Rattle.shop_states.proofs.candidate_lists.list_on_machine.Goals as goal
 
-pub block-from-requires : goal.block-from-requires
-block-from-requires g c =
-    let known = (c.requires.chosen c.requires.can.shop c.requires.can.word c.requires.can.kept).blocks.known
-    in omega arith
-
-pub overflow_add-machine : goal.overflow_add-machine
-overflow_add-machine g c =
+pub blocks_of-from-requires-clause-small : goal.blocks_of-from-requires-clause-small
+blocks_of-from-requires-clause-small g c =
     let small = (c.requires.chosen c.requires.can.shop c.requires.can.word c.requires.can.kept).blocks.small
     in omega arith
 
-pub block-behind-requires : goal.block-behind-requires
-block-behind-requires g c = (c.requires.chosen c.requires.can.shop c.requires.can.word c.requires.can.kept).blocks.known
+pub blocks_of-from-requires-clause-known : goal.blocks_of-from-requires-clause-known
+blocks_of-from-requires-clause-known g c =
+    (c.requires.chosen c.requires.can.shop c.requires.can.word c.requires.can.kept).blocks.known
 
 pub overflow_sub-behind : goal.overflow_sub-behind
 overflow_sub-behind g c =
-    let a = c.block-from.ensures in let b = c.block-behind.ensures
+    let a = c.blocks_of-from.ensures.first in let b = c.blocks_of-from.ensures.behind
     in let d = (c.requires.chosen c.requires.can.shop c.requires.can.word c.requires.can.kept).blocks.ordered
     in omega arith
 
 pub below-below-requires-clause-within : goal.below-below-requires-clause-within
 below-below-requires-clause-within g c =
-    let a = c.block-from.ensures in let b = c.block-behind.ensures
+    let a = c.blocks_of-from.ensures.first in let b = c.blocks_of-from.ensures.behind
     in let d = (c.requires.chosen c.requires.can.shop c.requires.can.word c.requires.can.kept).blocks.ordered
     in let e = (c.requires.chosen c.requires.can.shop c.requires.can.word c.requires.can.kept).blocks.within
     in let f = c.min.ensures in omega arith
@@ -51,8 +47,8 @@ overflow_cast-job g c =
 pub own_spans-requires : goal.own_spans-requires
 own_spans-requires g c =
     let kept = c.requires.can.kept
-    in let can = tells kept (c.requires.chosen c.requires.can.shop c.requires.can.word kept) c.block-from.ensures
-    c.block-behind.ensures
+    in let can = tells kept (c.requires.chosen c.requires.can.shop c.requires.can.word kept)
+    c.blocks_of-from.ensures.first c.blocks_of-from.ensures.behind
     in let room = can.room in let owns = c.requires.owns
     in let times = kept.kept.laid.positions.times in let tails = kept.kept.laid.positions.tails
     in let heads = kept.kept.heads.positions
@@ -67,8 +63,8 @@ own_spans-requires g c =
 pub list_conflict_set-requires-clause-can : goal.list_conflict_set-requires-clause-can
 list_conflict_set-requires-clause-can g c =
     let chosen = c.requires.chosen c.requires.can.shop c.requires.can.word c.requires.can.kept
-    in let a = c.block-from.ensures in let b = c.block-behind.ensures in let d = chosen.blocks.ordered
-    in let f = c.min.ensures
+    in let a = c.blocks_of-from.ensures.first in let b = c.blocks_of-from.ensures.behind
+    in let d = chosen.blocks.ordered in let f = c.min.ensures
     in can_list c.requires.can.kept chosen a b (omega arith) (omega arith) c.below-below.ensures
     (c.own_spans.ensures.long ∙ c.requires.owns) (let few = c.own_spans.auto.owns in omega arith)
 
@@ -76,7 +72,7 @@ pub returns-then-has_no_other-clause-are : goal.returns-then-has_no_other-clause
 returns-then-has_no_other-clause-are g c = λ shop w kept.
     let items : c.push_reserved.new.self.items ≡ record { job = c.args.first.chosen; own = 0 } ∷ [] =
     rw c.requires.none at c.push_reserved.ensures.items
-    in sole kept (c.requires.chosen shop w kept) c.block-from.ensures c.block-behind.ensures
+    in sole kept (c.requires.chosen shop w kept) c.blocks_of-from.ensures.first c.blocks_of-from.ensures.behind
     (let t = c.if-to-behind.true in omega arith)
     (subst (λ (ps : List ℕ). All (λ p. p ≡ get_or c.args.state.now.next.items c.args.first.chosen 0) ps)
     c.below-below.ensures
@@ -84,6 +80,6 @@ returns-then-has_no_other-clause-are g c = λ shop w kept.
     c.as_slice-next.ensures.value (c.if-has_no_other.ensures refl))) c.args.limit items
 
 pub returns-clause-are : goal.returns-clause-are
-returns-clause-are g c = λ shop w kept. all_told kept (c.requires.chosen shop w kept) c.block-from.ensures
-    c.block-behind.ensures (map g.L.StateLanes.value c.own_spans.new.owns) c.own_spans.ensures.owns
+returns-clause-are g c = λ shop w kept. all_told kept (c.requires.chosen shop w kept) c.blocks_of-from.ensures.first
+    c.blocks_of-from.ensures.behind (map g.L.StateLanes.value c.own_spans.new.owns) c.own_spans.ensures.owns
     c.list_conflict_set.ensures.listed
