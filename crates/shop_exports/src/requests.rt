@@ -9,8 +9,8 @@ ghost use Rattle.shop_exports.specs.Requests.{IsFaultyPlan};
 
 use crate::outcomes::{CallResult, faulty, refused};
 use shop_engine::{CheckArgs, SolveArgs};
-use shop_runs::{Order, Plan};
-use shop_text::{Format, ReadFault};
+use shop_runs::{ORDERS, Order, Plan};
+use shop_text::{FORMATS, Format, ReadFault};
 use std::alloc::Global;
 use std::str::from_utf8;
 
@@ -26,27 +26,18 @@ pub struct Options {
     pub gantt: bool,
 }
 
-/// Answers the format of the number `code`; `None` if there is none.
+/// Answers the format of the number `code`, its place in `FORMATS`; `None` if there is none.
 pub(crate) fn format_of(code: u32) -> Option<Format>
     ensures { MatchOption result (IsNoFormat code) (λ format. format_code format ≡ code) }
 {
-    match code {
-        0 => Some(Format::Orlib),
-        1 => Some(Format::Taillard),
-        2 => Some(Format::Routes),
-        _ => None,
-    }
+    FORMATS.get(code as usize).copied()
 }
 
-/// Answers the order of the number `code`; `None` if there is none.
+/// Answers the order of the number `code`, its place in `ORDERS`; `None` if there is none.
 fn order_of(code: u32) -> Option<Order>
     ensures { MatchOption result (IsNoOrder code) (λ order. order_code order ≡ code) }
 {
-    match code {
-        0 => Some(Order::Kept),
-        1 => Some(Order::Bound),
-        _ => None,
-    }
+    ORDERS.get(code as usize).copied()
 }
 
 /// Makes the plan of `options`; `None` outside the limits.

@@ -2,7 +2,8 @@
 ghost use Rattle.std.specs.Prelude.{◌≡◌, ℕ, ◌↔◌, IsTrue, IfOk};
 ghost use Rattle.shop_model.specs.Shop.{end_of};
 ghost use Rattle.shop_model.specs.Checking.{HasShape, starts_of, EndsAt, IsVerdict, IsChecked};
-ghost use Rattle.shop_model.specs.inner.FirstFaults.{TellsFirstEarly};
+ghost use Rattle.shop_model.specs.Checking.{NoneEarly};
+ghost use Rattle.shop_model.specs.inner.FirstFaults.{TellsFirstEarly, TellsFirstOverlap};
 
 use crate::instances::Instance;
 use crate::ops::OperationId;
@@ -82,6 +83,30 @@ pub fn makespan(instance: &Instance, table: &Table) -> u64
     end
 }
 
+/// Answers the verdict on a table of the right shape in which no operation begins too early. `overlap` is its first pair
+/// of operations that overlap, if there is one.
+fn verdict_of(
+    instance: &Instance,
+    table: &Table,
+    overlap: Option<(OperationId, OperationId)>,
+) -> Verdict
+    requires shape { HasShape instance.now table.now }
+    requires in_time { NoneEarly instance.now (starts_of table.now) }
+    requires overlap { TellsFirstOverlap instance.now (starts_of table.now) overlap }
+    ensures { IsChecked instance.now table.now result }
+{
+    match overlap {
+        Some((first, second)) => Verdict::Overlap {
+            machine: instance.route(first.job)[first.step].machine,
+            first,
+            second,
+        },
+        None => Verdict::Feasible {
+            makespan: makespan(instance, table),
+        },
+    }
+}
+
 /// Judges `table` as a schedule of `instance` (disjunctive model): answers its makespan if it is feasible, else its
 /// first fault. A wrong size comes first, then steps that begin too early, in order of job and step, then overlaps, in
 /// order of the pair. Takes no memory, and time in proportion to the pairs of jobs times the length of a route.
@@ -106,16 +131,7 @@ pub fn check(instance: &Instance, table: &Table) -> Verdict
             }
         };
     }
-    match first_overlap(instance, table) {
-        Some((first, second)) => Verdict::Overlap {
-            machine: instance.route(first.job)[first.step].machine,
-            first,
-            second,
-        },
-        None => Verdict::Feasible {
-            makespan: makespan(instance, table),
-        },
-    }
+    verdict_of(instance, table, first_overlap(instance, table))
 }
 
 /// Gives the verdict of `check` by sorting the operations: n operations take n log n steps, whatever the verdict. Fails
@@ -126,14 +142,6 @@ pub fn check_quickly(alloc: Global, instance: &Instance, table: &Table) -> Resul
     if !has_shape(instance, table) || first_early(instance, table).is_some() {
         return Ok(check(instance, table));
     }
-    Ok(match first_overlap_sorted(alloc, instance, table)? {
-        Some((first, second)) => Verdict::Overlap {
-            machine: instance.route(first.job)[first.step].machine,
-            first,
-            second,
-        },
-        None => Verdict::Feasible {
-            makespan: makespan(instance, table),
-        },
-    })
+    let overlap = first_overlap_sorted(alloc, instance, table)?;
+    Ok(verdict_of(instance, table, overlap))
 }

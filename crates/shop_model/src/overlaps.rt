@@ -5,15 +5,17 @@ ghost use Rattle.shop_model.specs.Checking.{HasShape, starts_of, NoneEarly};
 ghost use Rattle.shop_model.specs.inner.FirstFaults.{IsJobApart};
 ghost use Rattle.shop_model.specs.inner.FirstFaults.{TellsFirstAfter, TellsFirstOverlapOf};
 ghost use Rattle.shop_model.specs.inner.FirstFaults.{TellsFirstOverlap};
+ghost use Rattle.shop_model.specs.inner.ClearSpans.{AreOfApart};
 
 use crate::instances::Instance;
 use crate::ops::OperationId;
+use crate::spans::Occupied;
 use crate::steps::{are_clear, clash_from};
 use crate::tables::Table;
 
 /// Finds the first operation after step `k` of job `j`, by job and step, that overlaps with it; `None` if there is
 /// none.
-pub(crate) fn first_overlap_with(
+fn first_overlap_with(
     instance: &Instance,
     table: &Table,
     j: usize,
@@ -42,6 +44,33 @@ pub(crate) fn first_overlap_with(
     None
 }
 
+/// Finds the first operation after step `k` of job `j` that overlaps with it; `None` if there is none. A binary search
+/// in `clear`, sorted spans that overlap with no other, answers `None` if it finds the operation's span.
+fn first_overlap_unless_clear(
+    instance: &Instance,
+    table: &Table,
+    clear: &[Occupied],
+    j: usize,
+    k: usize,
+) -> Option<OperationId>
+    requires shape { HasShape instance.now table.now }
+    requires apart { AreOfApart instance.now table.now clear.now }
+    requires operation { IsOperation instance.now j k }
+    ensures { TellsFirstAfter instance.now (starts_of table.now) j k result }
+{
+    let operation = instance.route(j)[k];
+    let start = table.row(j)[k];
+    let span = Occupied {
+        machine: operation.machine,
+        start,
+        finish: start + operation.time,
+    };
+    if clear.binary_search(&span).is_ok() {
+        return None;
+    }
+    first_overlap_with(instance, table, j, k)
+}
+
 /// Tells whether no operation of job `j` overlaps with one of a later job. Requires that no operation begins too early.
 fn is_job_apart(instance: &Instance, table: &Table, j: usize) -> bool
     requires shape { HasShape instance.now table.now }
@@ -60,14 +89,20 @@ fn is_job_apart(instance: &Instance, table: &Table, j: usize) -> bool
 }
 
 /// Finds the first step of job `j` that overlaps with a later operation, and the first such operation; `None` if there
-/// is none.
-fn first_overlap_of(instance: &Instance, table: &Table, j: usize) -> Option<(usize, OperationId)>
+/// is none. Passes steps whose spans are in `clear`, sorted spans that overlap with no other.
+pub(crate) fn first_overlap_of(
+    instance: &Instance,
+    table: &Table,
+    clear: &[Occupied],
+    j: usize,
+) -> Option<(usize, OperationId)>
     requires shape { HasShape instance.now table.now }
+    requires apart { AreOfApart instance.now table.now clear.now }
     requires job { j < length instance.now.jobs }
     ensures { TellsFirstOverlapOf instance.now (starts_of table.now) j result }
 {
     for k in 0..instance.route(j).len() {
-        if let Some(second) = first_overlap_with(instance, table, j, k) {
+        if let Some(second) = first_overlap_unless_clear(instance, table, clear, j, k) {
             return Some((k, second));
         }
     }
@@ -88,7 +123,7 @@ pub(crate) fn first_overlap(
         if is_job_apart(instance, table, j) {
             continue;
         }
-        if let Some((k, second)) = first_overlap_of(instance, table, j) {
+        if let Some((k, second)) = first_overlap_of(instance, table, &[], j) {
             return Some((OperationId { job: j, step: k }, second));
         }
     }

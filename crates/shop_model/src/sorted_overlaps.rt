@@ -1,65 +1,15 @@
 // The first operations that overlap, found by sorting.
-ghost use Rattle.std.specs.Prelude.{◌<◌, IfOk, length};
-ghost use Rattle.shop_model.specs.Shop.{IsOperation};
+ghost use Rattle.std.specs.Prelude.{IfOk};
 ghost use Rattle.shop_model.specs.Checking.{HasShape, starts_of};
-ghost use Rattle.shop_model.specs.inner.FirstFaults.{TellsFirstAfter, TellsFirstOverlapOf};
 ghost use Rattle.shop_model.specs.inner.FirstFaults.{TellsFirstOverlap};
 ghost use Rattle.shop_model.specs.inner.ClearSpans.{AreOfApart};
 
 use crate::instances::Instance;
 use crate::ops::OperationId;
-use crate::overlaps::first_overlap_with;
+use crate::overlaps::first_overlap_of;
 use crate::spans::{Occupied, are_in_turn, keep_clear, spans};
 use crate::tables::Table;
 use std::alloc::{AllocError as NoMemory, Global};
-
-/// Finds the first operation after step `k` of job `j` that overlaps with it; `None` if there is none. A binary search
-/// in `clear`, sorted spans that overlap with no other, answers `None` if it finds the operation's span.
-fn first_overlap_unless_clear(
-    instance: &Instance,
-    table: &Table,
-    clear: &[Occupied],
-    j: usize,
-    k: usize,
-) -> Option<OperationId>
-    requires shape { HasShape instance.now table.now }
-    requires apart { AreOfApart instance.now table.now clear.now }
-    requires operation { IsOperation instance.now j k }
-    ensures { TellsFirstAfter instance.now (starts_of table.now) j k result }
-{
-    let operation = instance.route(j)[k];
-    let start = table.row(j)[k];
-    let span = Occupied {
-        machine: operation.machine,
-        start,
-        finish: start + operation.time,
-    };
-    if clear.binary_search(&span).is_ok() {
-        return None;
-    }
-    first_overlap_with(instance, table, j, k)
-}
-
-/// Finds the first step of job `j` that overlaps with a later operation, and the first such operation; `None` if there
-/// is none. Passes steps whose spans are in `clear`.
-fn first_unclear_overlap_of(
-    instance: &Instance,
-    table: &Table,
-    clear: &[Occupied],
-    j: usize,
-) -> Option<(usize, OperationId)>
-    requires shape { HasShape instance.now table.now }
-    requires apart { AreOfApart instance.now table.now clear.now }
-    requires job { j < length instance.now.jobs }
-    ensures { TellsFirstOverlapOf instance.now (starts_of table.now) j result }
-{
-    for k in 0..instance.route(j).len() {
-        if let Some(second) = first_overlap_unless_clear(instance, table, clear, j, k) {
-            return Some((k, second));
-        }
-    }
-    None
-}
 
 /// Finds the first pair of operations that overlap; `None` if there is none. If `clear` has all clear spans, the first
 /// operation whose span it lacks overlaps with another one, which comes later, since all operations before are clear.
@@ -74,7 +24,7 @@ fn first_unclear_overlap(
     ensures { TellsFirstOverlap instance.now (starts_of table.now) result }
 {
     for j in 0..instance.jobs() {
-        if let Some((k, second)) = first_unclear_overlap_of(instance, table, clear, j) {
+        if let Some((k, second)) = first_overlap_of(instance, table, clear, j) {
             return Some((OperationId { job: j, step: k }, second));
         }
     }

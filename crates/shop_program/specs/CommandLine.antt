@@ -15,7 +15,7 @@ use Rattle.clap.specs.declared.builder.value_parser.ValueParser.{ValueParser}
 use Rattle.clap.specs.declared.builder.value_parser.ValueParser.TheVariants.{Unsigned, Names}
 use Rattle.shop_runs.specs.Limits.{IsPlanWithin}
 use Rattle.shop_runs.specs.declared.plans.TheConstants.{MAX_ROUNDS, MAX_BUDGET, MAX_PIECE}
-use Rattle.shop_runs.specs.declared.plans.Order.{Order}
+use Rattle.shop_runs.specs.Plans.{order_word}
 use Rattle.shop_runs.specs.declared.plans.Order.TheVariants.{Kept, Bound}
 use Rattle.shop_runs.specs.declared.plans.Plan.{Plan}
 use Rattle.shop_runs.specs.declared.plans.TheConstants.{MAX_WORKERS}
@@ -111,10 +111,6 @@ IsChoice words parser = ⊥
 
 abbrev pub format_words : List Text
 format_words = map word_of (Orlib ∷ Taillard ∷ Routes ∷ [])
-
-abbrev pub order_word : Order → Text
-order_word Kept = codes "kept"
-order_word Bound = codes "bound"
 
 abbrev pub order_words : List Text
 order_words = map order_word (Kept ∷ Bound ∷ [])

@@ -12,12 +12,9 @@ ghost use Rattle.shop_program.specs.CommandLine.{with_plan_rules, IsChoice, form
 use crate::help::{CHECK, Help, LIST, PROGRAM, SOLVE};
 use clap::builder::ValueParser;
 use clap::{Arg, ArgAction, Command};
-use shop_runs::{MAX_BUDGET, MAX_PIECE, MAX_ROUNDS, MAX_WORKERS};
+use shop_runs::{MAX_BUDGET, MAX_PIECE, MAX_ROUNDS, MAX_WORKERS, ORDER_WORDS};
 use shop_text::FORMAT_WORDS;
 use std::alloc::{AllocError as NoMemory, Global};
-
-/// The words of the orders in which a round takes the open nodes.
-static ORDERS: [&str; 2] = ["kept", "bound"];
 
 /// Makes a command without arguments, with its name and its help.
 fn described<'a>(alloc: Global, name: &'a str, help: &Help) -> Command<'a>
@@ -255,7 +252,7 @@ fn format_choices<'a>() -> &'a [&'a str]
 fn order_choices<'a>() -> &'a [&'a str]
     ensures { IsChoice order_words (Names result) }
 {
-    ORDERS.as_slice()
+    ORDER_WORDS.as_slice()
 }
 
 /// Makes the whole command line. Fails with `NoMemory` if memory runs out.

@@ -2,9 +2,10 @@
 ghost use Rattle.std.specs.Prelude.{◌≡◌, ◌<◌, ◌^◌, ℕ, IfOk, IfErr, option_map, string_bytes};
 ghost use Rattle.clap.specs.Words.{found_of, rows_of};
 ghost use Rattle.shop_text.specs.Formats.{word_of};
-ghost use Rattle.shop_program.specs.CommandLine.{HasText, HasNumber, HasFlag, MayHave, order_word};
+ghost use Rattle.shop_program.specs.CommandLine.{HasText, HasNumber, HasFlag, MayHave};
 ghost use Rattle.shop_program.specs.CommandLine.{UnlessNoMemory};
 ghost use Rattle.shop_text.specs.declared.formats.Format.{Format};
+ghost use Rattle.shop_runs.specs.Plans.{order_word};
 ghost use Rattle.shop_runs.specs.declared.plans.Order.{Order};
 ghost use Rattle.std.specs.Prelude.{codes};
 
@@ -40,10 +41,9 @@ pub fn order_in(alloc: Global, found: &ArgMatches) -> Result<Order, LineFault>
     let Some(word) = found.get_str("order") else {
         return Err(misread(alloc));
     };
-    match word {
-        "kept" => Ok(Order::Kept),
-        "bound" => Ok(Order::Bound),
-        _ => Err(misread(alloc)),
+    match Order::of_word(word) {
+        Some(order) => Ok(order),
+        None => Err(misread(alloc)),
     }
 }
 

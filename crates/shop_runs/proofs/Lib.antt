@@ -29,3 +29,4 @@ pub mod StoreLemmas
 pub mod KeptLemmas
 pub mod FrontLemmas
 pub mod FrontCuts
+mod OrderWords

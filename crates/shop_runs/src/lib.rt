@@ -21,7 +21,9 @@ pub use crews::{Crew, MakesCrew};
 pub use entries::{Entry, Kind};
 pub use outcomes::gather;
 pub use piece_search::PieceSearch;
-pub use plans::{MAX_BUDGET, MAX_PIECE, MAX_ROUNDS, MAX_WORKERS, Order, Plan};
+pub use plans::{
+    MAX_BUDGET, MAX_PIECE, MAX_ROUNDS, MAX_WORKERS, ORDER_WORDS, ORDERS, Order, Plan,
+};
 pub use round_laws::{
     counts_stay_small, cuts_cover, gathering_covers, opening_covers, pieces_are_all,
     rounds_keep_the_cover,

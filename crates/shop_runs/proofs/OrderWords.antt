@@ -1,0 +1,15 @@
+-- A word that is that of no order in the list of all.
+use Rattle.std.proofs.Common.{◌≡◌, ℕ, ◌<◌, List, [], ◌∷◌, false, true, get_or, lit<, refl, subst, sym}
+use Rattle.std.specs.Str.{bytes_eq}
+use Rattle.shop_runs.specs.Plans.{order_word, IsNoOrderWord}
+use Rattle.shop_runs.specs.declared.plans.Order.TheVariants.{Kept, Bound}
+
+not_the_same : (word other : List ℕ) → bytes_eq word word ≡ true → bytes_eq word other ≡ false → word ≡ other → ⊥
+not_the_same word other same differ e =
+    let on_itself : bytes_eq word word ≡ false = subst (λ w. bytes_eq word w ≡ false) (sym e) differ in cc
+
+pub no_word : (word : List ℕ)
+    → ((k : ℕ) → k < 2 → bytes_eq (order_word (get_or (Kept ∷ Bound ∷ []) k Kept)) word ≡ false)
+    → IsNoOrderWord word
+no_word word h Kept e = not_the_same (order_word Kept) word refl (h 0 (lit< tt)) e
+no_word word h Bound e = not_the_same (order_word Bound) word refl (h 1 (lit< tt)) e
