@@ -15,7 +15,7 @@ use Rattle.clap.specs.declared.builder.value_parser.ValueParser.{ValueParser}
 use Rattle.clap.specs.declared.builder.value_parser.ValueParser.TheVariants.{Unsigned, Names}
 use Rattle.shop_runs.specs.Limits.{IsPlanWithin}
 use Rattle.shop_runs.specs.declared.plans.TheConstants.{MAX_ROUNDS, MAX_BUDGET, MAX_PIECE}
-use Rattle.shop_runs.specs.Plans.{order_word}
+use Rattle.shop_runs.specs.Orders.{order_word}
 use Rattle.shop_runs.specs.declared.plans.Order.TheVariants.{Kept, Bound}
 use Rattle.shop_runs.specs.declared.plans.Plan.{Plan}
 use Rattle.shop_runs.specs.declared.plans.TheConstants.{MAX_WORKERS}

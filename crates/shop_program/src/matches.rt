@@ -5,7 +5,7 @@ ghost use Rattle.shop_text.specs.Formats.{word_of};
 ghost use Rattle.shop_program.specs.CommandLine.{HasText, HasNumber, HasFlag, MayHave};
 ghost use Rattle.shop_program.specs.CommandLine.{UnlessNoMemory};
 ghost use Rattle.shop_text.specs.declared.formats.Format.{Format};
-ghost use Rattle.shop_runs.specs.Plans.{order_word};
+ghost use Rattle.shop_runs.specs.Orders.{order_word};
 ghost use Rattle.shop_runs.specs.declared.plans.Order.{Order};
 ghost use Rattle.std.specs.Prelude.{codes};
 

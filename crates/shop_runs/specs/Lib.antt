@@ -1,5 +1,6 @@
 pub mod Limits
 pub mod Plans
+pub mod Orders
 pub mod Round
 pub mod Nodes
 pub mod Laws

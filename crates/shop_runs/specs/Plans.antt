@@ -1,7 +1,6 @@
--- A plan as its numbers and its order, and the words of orders.
-use Rattle.std.specs.Prelude.{◌≡◌, ◌≢◌, ℕ, List, codes}
+-- A plan as its numbers and its order.
+use Rattle.std.specs.Prelude.{◌≡◌, ℕ}
 use Rattle.shop_runs.specs.declared.plans.Order.{Order}
-use Rattle.shop_runs.specs.declared.plans.Order.TheVariants.{Kept, Bound}
 use Rattle.shop_runs.specs.declared.plans.Plan.{Plan}
 
 pub record Planned : Type 0 where
@@ -17,12 +16,3 @@ planned p = record { rounds = p.rounds; budget = p.budget; piece = p.piece; orde
 abbrev pub IsPlanMadeOf : ℕ → ℕ → ℕ → Order → Plan → Type 0
 IsPlanMadeOf rounds budget piece order p =
     planned p ≡ record { rounds = rounds; budget = budget; piece = piece; order = order }
-
--- the word for an order on the command line
-abbrev pub order_word : Order → List ℕ
-order_word Kept = codes "kept"
-order_word Bound = codes "bound"
-
--- no order has this word
-abbrev pub IsNoOrderWord : List ℕ → Type 0
-IsNoOrderWord word = (order : Order) → order_word order ≢ word

@@ -6,6 +6,7 @@ mod crews;
 mod entries;
 mod kept_stacks;
 mod open_nodes;
+mod orders;
 mod outcomes;
 mod piece_search;
 mod plans;
@@ -19,11 +20,10 @@ mod workers;
 
 pub use crews::{Crew, MakesCrew};
 pub use entries::{Entry, Kind};
+pub use orders::{ORDER_WORDS, ORDERS};
 pub use outcomes::gather;
 pub use piece_search::PieceSearch;
-pub use plans::{
-    MAX_BUDGET, MAX_PIECE, MAX_ROUNDS, MAX_WORKERS, ORDER_WORDS, ORDERS, Order, Plan,
-};
+pub use plans::{MAX_BUDGET, MAX_PIECE, MAX_ROUNDS, MAX_WORKERS, Order, Plan};
 pub use round_laws::{
     counts_stay_small, cuts_cover, gathering_covers, opening_covers, pieces_are_all,
     rounds_keep_the_cover,

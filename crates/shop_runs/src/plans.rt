@@ -1,7 +1,5 @@
 // Plans, which say how many rounds a search has and how they are cut, and the limits of plans, rounds and workers.
-ghost use Rattle.std.specs.Prelude.{◌≡◌, MatchOption};
 ghost use Rattle.shop_runs.specs.Limits.{IsPlanWithin};
-ghost use Rattle.shop_runs.specs.Plans.{order_word, IsNoOrderWord};
 
 /// The most rounds that a plan may have.
 pub const MAX_ROUNDS: u64 = 100_000;
@@ -24,36 +22,6 @@ pub const MAX_WORKERS: usize = 64;
 pub enum Order {
     Kept,
     Bound,
-}
-
-/// All orders.
-pub const ORDERS: [Order; 2] = [Order::Kept, Order::Bound];
-
-/// The words of `ORDERS`, in their order.
-pub static ORDER_WORDS: [&str; 2] = ["kept", "bound"];
-
-impl Order {
-    /// Answers the word for the order on a command line.
-    pub fn word(self) -> &'static str
-        ensures { result.now ≡ order_word self }
-    {
-        match self {
-            Order::Kept => ORDER_WORDS[0],
-            Order::Bound => ORDER_WORDS[1],
-        }
-    }
-
-    /// Finds the order whose word is `word`; `None` if there is none.
-    pub fn of_word(word: &str) -> Option<Order>
-        ensures { MatchOption result (IsNoOrderWord word.now) (λ order. order_word order ≡ word.now) }
-    {
-        for order in ORDERS {
-            if order.word() == word {
-                return Some(order);
-            }
-        }
-        None
-    }
 }
 
 /// How a search goes: its rounds (0 to 100,000), the budget of each piece (1 to 10,000,000 nodes), the nodes in a piece

@@ -1,6 +1,6 @@
 use Rattle.std.proofs.Common.{◌≡◌, ℕ, ◌<◌, false, get_or}
 use Rattle.std.specs.Str.{bytes_eq}
-use Rattle.shop_runs.specs.Plans.{order_word}
+use Rattle.shop_runs.specs.Orders.{order_word}
 use Rattle.shop_runs.specs.declared.plans.Order.TheVariants.{Kept}
 use Rattle.shop_runs.proofs.plans.Order.of_word.Given as goal
 
