@@ -26,6 +26,8 @@ COLUMNS = ("job", "machine", "hours")
 MARKS = "\t;,"
 # three digits behind a mark might be meant as thousands
 HOURS = re.compile(r"([0-9]{1,9})(?:[.,]([0-9]{1,2})|:([0-5][0-9]))?")
+# 7.45 might be meant as a quarter to eight
+TIME_OF_DAY = re.compile(r"[0-9]{1,2}:[0-5][0-9]")
 
 
 class Words(argparse.ArgumentParser):
@@ -42,6 +44,13 @@ def hours_in(field):
         raise ValueError(f"{field!r} is no number of hours: write 1000, 1.5, 1,25 or 1:30")
     whole, part, minutes = found.groups(default="0")
     return Fraction(f"{whole}.{part}") + Fraction(int(minutes), 60)
+
+
+def hours_of_day(word):
+    """The hours from midnight to a time of the day."""
+    if not TIME_OF_DAY.fullmatch(word):
+        raise ValueError(f"{word!r} is no time of the day: write 7:45")
+    return hours_in(word)
 
 
 def units(field, units_an_hour):
@@ -177,7 +186,7 @@ def main():
     try:
         if words.units_an_hour < 1:
             raise ValueError("--units-an-hour is at least 1")
-        start = None if words.start is None else hours_in(words.start)
+        start = None if words.start is None else hours_of_day(words.start)
         jobs, machines, columns = read(words.sheet, words.units_an_hour)
         if words.what == "list":
             rows = list(listed(jobs, Path(words.report).read_bytes(), words.units_an_hour, start))

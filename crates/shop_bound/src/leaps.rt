@@ -1,4 +1,4 @@
-// Tells by a few passes, without the schedule, that the one-machine bound of some operations is at most a number.
+// Tells by a few passes, without Jackson's schedule, that the one-machine bound of some operations is at most a number.
 ghost use Rattle.std.specs.Prelude.{◌≡◌, ℕ, ◌+◌, ◌^◌, ◌<◌, ◌≤◌, IsTrue, IsPermutation, false, sum_by};
 ghost use Rattle.shop_bound.specs.OneMachine.{one, greatest_of, IsSmall};
 ghost use Rattle.shop_bound.specs.inner.Thresholds.{span_above};
@@ -53,8 +53,8 @@ fn load_from(triples: &[Triple], from: u64) -> u64
 }
 
 /// Answers `true` only if the one-machine bound of `triples` is at most `bound`. The load never rises with the head
-/// from which on it is taken, so one load settles all heads up to `bound` less that load: the next one is taken behind
-/// these.
+/// from which on it is taken, so one load settles all heads up to `bound` less that load, and the next load is taken
+/// from one above that.
 fn is_settled(triples: &[Triple], bound: u64) -> bool
     requires { IsSmall triples.now }
     ensures { IsTrue result → one triples.now ≤ bound }

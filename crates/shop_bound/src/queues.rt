@@ -68,7 +68,8 @@ impl Queue {
         }
     }
 
-    /// Takes out the next operation to come if it is released by `clock`, and answers its position.
+    /// Takes the operation of least head out of the operations to come if it is released by `clock`, and answers its
+    /// position; `None` if no operation is released by then.
     fn pop_released(&mut self, clock: u64) -> Option<usize>
         ensures taken { TakesReleased clock (heap_items self.old.coming) (heap_items self.new.coming) result }
         ensures fewer { OnSome result (heap_len self.new.coming + 1 ≡ heap_len self.old.coming) }

@@ -14,8 +14,8 @@ pub(crate) struct Grammar {
     /// Whether an instance has two matrices, of times and of machines counted from 1, each with a row for each job and
     /// with text lines before it skipped. Else a job has one row of pairs of machine and time, machines counted from 0.
     pub(crate) has_matrices: bool,
-    /// Whether a job's row of pairs begins with its release and has any number of pairs. Else it has one for each
-    /// machine.
+    /// Whether a job's row of pairs begins with its release and has any number of pairs. Else the row has a pair for
+    /// each machine.
     pub(crate) has_releases: bool,
 }
 
