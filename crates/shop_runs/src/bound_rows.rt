@@ -143,7 +143,6 @@ impl BoundRow {
         let word = pop_at(&mut self.stacks[self.first])?;
         let word = Word::of_shared(word);
         let bound = self.first as u64;
-        self.first = first_from(self.stacks.as_slice(), self.first);
         Some(Node { word, bound })
     }
 
